@@ -1,0 +1,248 @@
+-- Every move brings the game nearer to its end.
+use Rattle.std.proofs.Common.{zero, suc, ◌≡◌, ◌≢◌, ℕ, ◌+◌, ◌-◌, ◌*◌, ◌%◌, ◌<◌, ◌≤◌, ◌⊎◌, inl, inr, List, [], ◌∷◌, zero-le, length, arith, ap, sym, ◌∙◌, refl, add-one}
+use Rattle.std.specs.Prelude.{nat_le, true, Option, Some, None, nat_lt, ◌==◌, slice_set, slice_index, sum, sum_by}
+use Rattle.std.specs.List.{range_with_len}
+use Rattle.std.proofs.Math.Nat.{mod-eq_of_lt}
+use Rattle.std.proofs.lemmas.Nat.{le-div, mul-le}
+use Rattle.std.proofs.lemmas.Bool.{cases_eq, cases_lt, cases_Bool, ltb-true, eqb-true}
+use Rattle.std.proofs.lemmas.Bool.Decides.{nat_tests}
+use Rattle.std.proofs.lemmas.List.{get_or_past, set_past}
+use Rattle.std.proofs.lemmas.List.Sums.{sum_by-set, sum_by-cons}
+use Rattle.kalah_rules.specs.Position.{Position, HasEqualSides, side_length, seeds, seeds_in_houses, opposite, swapped}
+use Rattle.kalah_rules.specs.Sowing.{lap_length, own_distance, gain, store_distance, sow, sown, after, last_house, captured, capture, captures, can_capture}
+use Rattle.kalah_rules.specs.Lap.{HoldsSeeds, with_seed}
+use Rattle.kalah_rules.specs.Measure.{row_distance, distance_to_stores, IsNearerEnd, moves_left}
+use Rattle.kalah_rules.specs.declared.cell.Cell.TheVariants.{Own}
+use Rattle.kalah_rules.proofs.Laps.{own_distance_past}
+use Rattle.kalah_rules.proofs.Rows.{length-slice_set, seeds-set_same, seeds-set_other}
+use Rattle.kalah_rules.proofs.Sown.{sow_none, sow_more, sow_side, sow_keeps}
+
+sum_range_same : (f g : ℕ → ℕ) (a n : ℕ) → ((j : ℕ) → a ≤ j → f j ≡ g j) → sum_by f (range_with_len a n) ≡ sum_by g (range_with_len a n)
+sum_range_same f g a zero same = refl
+sum_range_same f g a (suc n) same =
+    let rest = sum_range_same f g (a + 1) n (λ j j_low. same j (omega arith)) in
+    omega (arith, sum_by-cons f a (range_with_len (a + 1) n), sum_by-cons g a (range_with_len (a + 1) n), same a (omega arith), rest)
+
+-- a sum over a range whose term changes at one place
+sum_range_change : (f g : ℕ → ℕ) (a n i : ℕ) → a ≤ i → i < a + n → ((j : ℕ) → a ≤ j → j ≢ i → f j ≡ g j) →
+    sum_by f (range_with_len a n) + g i ≡ sum_by g (range_with_len a n) + f i
+sum_range_change f g a zero i low high same = absurd (omega arith)
+sum_range_change f g a (suc n) i low high same =
+    let f_cons = sum_by-cons f a (range_with_len (a + 1) n) in
+    let g_cons = sum_by-cons g a (range_with_len (a + 1) n) in
+    elim (cases_eq a i) [
+      | inl e ↦
+          let rest = sum_range_same f g (a + 1) n (λ j j_low. same j (omega arith) (omega arith)) in
+          rw (← e) (omega (arith, f_cons, g_cons, rest))
+      | inr ne ↦
+          let here = same a (omega arith) ne in
+          let rest = sum_range_change f g (a + 1) n i (omega arith) (omega arith) (λ j j_low. same j (omega arith)) in
+          omega (arith, f_cons, g_cons, here, rest)
+    ]
+
+-- a write to one house
+pub row_distance-set : (row : List ℕ) (i v : ℕ) → 1 ≤ i → i ≤ length row →
+    row_distance (slice_set row (i - 1) v) + seeds row i * (length row + 1 - i) ≡ row_distance row + v * (length row + 1 - i)
+unfolding row_distance
+row_distance-set row i v low high =
+    let new = slice_set row (i - 1) v in
+    let change = sum_range_change (λ j. seeds new j * (length row + 1 - j)) (λ j. seeds row j * (length row + 1 - j)) 1 (length row) i low (omega arith)
+    (λ j j_low ne. ap (λ x. x * (length row + 1 - j)) (seeds-set_other row i j v low j_low ne)) in
+    let at : seeds new i * (length row + 1 - i) ≡ v * (length row + 1 - i) = ap (λ x. x * (length row + 1 - i)) (seeds-set_same row i v low high) in
+    rw (length-slice_set row (i - 1) v) (change ∙ ap (λ x. row_distance row + x) at)
+
+swap_last : (a b c : ℕ) → a + b + c ≡ a + c + b
+swap_last a b c = omega arith
+
+more_once : (s d w w' : ℕ) → w' + s * d ≡ w + (s + 1) * d → w' ≡ w + d
+more_once s d w w' e = omega arith
+
+fall_by_one : (w w0 c d : ℕ) → 0 < c → w + c * (d + 1) ≤ w0 + c * d → w < w0
+fall_by_one w w0 c d some falls = omega arith
+
+nat_le_true : (d c : ℕ) → d ≤ c → nat_le d c ≡ true
+nat_le_true d c h = grind (arith, nat_tests)
+
+-- a cell that c seeds reach gets one at least
+gain_some : (n c d : ℕ) → 0 < n → d ≤ c → 1 ≤ gain n c d
+gain_some n c d pos reach = elim (cases_lt c n) [
+  | inl small ↦
+      let rest : c % n ≡ c = mod-eq_of_lt small in
+      rw (rest, nat_le_true d c reach) (omega arith)
+  | inr large ↦ omega (arith, le-div 1 c n pos (omega arith))
+]
+
+store_gains : (p : Position) (h : ℕ) → (sown p h).own_store ≡ p.own_store + gain (lap_length (side_length p)) (seeds p.own h) (store_distance (side_length p) h)
+unfolding sow
+store_gains p h = refl
+
+pub row_distance-more : (row : List ℕ) (i : ℕ) → 1 ≤ i → i ≤ length row → row_distance (slice_set row (i - 1) (seeds row i + 1)) ≡ row_distance row + (length row + 1 - i)
+row_distance-more row i low high = more_once (seeds row i) (length row + 1 - i) _ _ (row_distance-set row i (seeds row i + 1) low high)
+
+fall_all : (w w0 c m h : ℕ) → h ≤ m → 0 < c → w + c * (m + 1 - h) ≤ w0 + c * (m - h) → w < w0
+fall_all w w0 c m h high some falls =
+    let next : m + 1 - h ≡ m - h + 1 = omega arith in
+    let falls' = rw next at falls in
+    fall_by_one w w0 c (m - h) some falls'
+
+way_with_seed : (q : Position) (i : ℕ) → 1 ≤ i → i ≤ length q.own → distance_to_stores (with_seed q (Own i)) ≡ distance_to_stores q + (length q.own + 1 - i)
+way_with_seed q i low high = ap (λ x. x + row_distance q.other) (row_distance-more q.own i low high) ∙ swap_last (row_distance q.own) (length q.own + 1 - i) (row_distance q.other)
+
+-- one seed more that comes no farther than d
+fall_step : (w w' a b k d e : ℕ) → w + a ≤ b + k * d → w' ≡ w + e → e ≤ d → w' + a ≤ b + (k + 1) * d
+fall_step w w' a b k d e before more near = omega arith
+
+-- the cell of the next seed, while sowing has not reached the store
+next_house : (m h k : ℕ) → k + 1 + h ≤ m → own_distance m h (h + (k + 1)) ≡ k % lap_length m + 1
+next_house m h k near =
+    let small : k < 2 * m + 1 = omega arith in
+    let later : h < h + (k + 1) = omega arith in
+    rw (own_distance_past m h (h + (k + 1)) later, mod-eq_of_lt small) (omega arith)
+
+-- sowing that does not reach the store brings each seed nearer
+module _ (p : Position) (h : ℕ) (holds : HoldsSeeds p h) (same : length p.other ≡ side_length p) where
+  way_more : (k : ℕ) → k + 1 + h ≤ side_length p → distance_to_stores (sow p h (k + 1)) ≡ distance_to_stores (sow p h k) + (side_length p + 1 - (h + (k + 1)))
+  way_more k near =
+      let side : length (sow p h k).own ≡ side_length p = (sow_side p h k).0 in
+      let low : 1 ≤ h + (k + 1) = omega arith in
+      let high : h + (k + 1) ≤ side_length p = omega arith in
+      let high' : h + (k + 1) ≤ length (sow p h k).own = omega arith in
+      ap distance_to_stores (sow_more p h holds.first holds.last k (Own (h + (k + 1))) (low, high) (next_house (side_length p) h k near))
+      ∙ way_with_seed (sow p h k) (h + (k + 1)) low high'
+      ∙ ap (λ x. distance_to_stores (sow p h k) + (x + 1 - (h + (k + 1)))) side
+
+  pub way_falls : (k : ℕ) → k + h ≤ side_length p →
+      distance_to_stores (sow p h k) + seeds p.own h * (side_length p + 1 - h) ≤ distance_to_stores p + k * (side_length p - h)
+  way_falls zero near =
+      rw (sow_none p h holds.first holds.last same) (omega (arith, row_distance-set p.own h 0 holds.first holds.last))
+  way_falls (suc k) near =
+      rw (← add-one k) (fall_step _ _ _ _ k (side_length p - h) (side_length p + 1 - (h + (k + 1))) (way_falls k (omega arith)) (way_more k (omega arith)) (omega arith))
+
+  -- all seeds fall before the store
+  pub way_falls_all : seeds p.own h + h ≤ side_length p → distance_to_stores (sown p h) < distance_to_stores p
+  way_falls_all near = fall_all (distance_to_stores (sown p h)) (distance_to_stores p) (seeds p.own h) (side_length p) h holds.last (holds.some) (way_falls (seeds p.own h) near)
+
+  -- a seed that reaches the store leaves fewer in houses
+  pub houses_fall : side_length p < seeds p.own h + h → seeds_in_houses (sown p h) < seeds_in_houses p
+  houses_fall far =
+      let keeps = sow_keeps p h holds.first holds.last same (seeds p.own h) in
+      let some = gain_some (lap_length (side_length p)) (seeds p.own h) (store_distance (side_length p) h) (omega arith) (omega arith) in
+      omega (arith, keeps.play, store_gains p h, some)
+
+-- a house that is emptied
+set_less : (xs : List ℕ) (k : ℕ) → sum (slice_set xs k 0) + slice_index xs k ≡ sum xs
+set_less xs k = elim (cases_lt k (length xs)) [
+  | inl within ↦ sum_by-set (λ x. x) xs k 0 0 within ∙ omega arith
+  | inr past ↦ rw (set_past xs k 0 past, get_or_past xs k 0 past) (omega arith)
+]
+
+captures_fall : (q : Position) (i : ℕ) → seeds q.own i ≡ 1 → seeds_in_houses (capture q i) < seeds_in_houses q
+captures_fall q i one = omega (arith, one, set_less q.own (i - 1), set_less q.other (opposite q i - 1))
+
+-- a capture leaves fewer seeds in houses
+captured_falls : (q : Position) (o : Option ℕ) → (seeds_in_houses (captured q o) < seeds_in_houses q) ⊎ (captured q o ≡ q)
+captured_falls q None = inr refl
+captured_falls q (Some i) = elim (cases_Bool (seeds q.own i == 1)) [
+  | inl one ↦ elim (cases_Bool (captures q.rule (seeds q.other (opposite q i)))) [
+    | inl some ↦ inl (rw (one, some) (captures_fall q i (eqb-true (seeds q.own i) 1 one)))
+    | inr none ↦ inr (rw (one, none) refl)
+  ]
+  | inr more ↦ inr (rw more refl)
+]
+
+sown_nearer : (p : Position) (h : ℕ) → HoldsSeeds p h → length p.other ≡ side_length p → IsNearerEnd (sown p h) p
+sown_nearer p h holds same = elim (cases_lt (side_length p) (seeds p.own h + h)) [
+  | inl far ↦ inl (houses_fall p h holds same far)
+  | inr near ↦
+      let keeps = sow_keeps p h holds.first holds.last same (seeds p.own h) in
+      let fewer : seeds_in_houses (sown p h) ≤ seeds_in_houses p = omega (arith, keeps.houses) in
+      elim (cases_lt (seeds_in_houses (sown p h)) (seeds_in_houses p)) [
+        | inl less ↦ inl less
+        | inr not_less ↦ inr (omega arith, way_falls_all p h holds same near)
+      ]
+]
+
+nearer_by : (p q r : Position) → IsNearerEnd q p → (seeds_in_houses r < seeds_in_houses q) ⊎ (r ≡ q) → IsNearerEnd r p
+nearer_by p q r (inl less) (inl falls) = inl (omega arith)
+nearer_by p q r (inr near) (inl falls) = inl (omega (arith, near.0))
+nearer_by p q r nearer (inr same) = rw same nearer
+
+-- every move
+pub after_nearer : (p : Position) (h : ℕ) → HoldsSeeds p h → HasEqualSides p → IsNearerEnd (after p h) p
+unfolding after
+after_nearer p h holds even = nearer_by p (sown p h) _ (sown_nearer p h holds even.same) (captured_falls (sown p h) (last_house p h))
+
+capture_side : (q : Position) (o : Option ℕ) → (side_length (captured q o) ≡ side_length q) × (length (captured q o).other ≡ length q.other)
+capture_side q None = (refl, refl)
+capture_side q (Some i) = elim (cases_Bool (can_capture q i)) [
+  | inl taken ↦ rw taken (length-slice_set q.own (i - 1) 0, length-slice_set q.other (opposite q i - 1) 0)
+  | inr kept ↦ rw kept (refl, refl)
+]
+
+-- a move keeps the houses of both sides
+pub after_side : (p : Position) (h : ℕ) → side_length (after p h) ≡ side_length p
+unfolding after
+after_side p h = (capture_side (sown p h) (last_house p h)).0 ∙ (sow_side p h (seeds p.own h)).0
+
+pub after_equal_sides : (p : Position) (h : ℕ) → HasEqualSides (after p h)
+unfolding after
+after_equal_sides p h =
+    let kept = capture_side (sown p h) (last_house p h) in
+    let side = sow_side p h (seeds p.own h) in
+    record { same = kept.1 ∙ side.1 ∙ sym side.0 ∙ sym kept.0 }
+
+-- no seed is farther from the store than its row is long
+distance_step : (t fx r n x s sxs : ℕ) → t ≡ fx + r → fx ≤ x * n → r ≤ n * s → sxs ≡ x + s → t ≤ n * sxs
+distance_step t fx r n x s sxs whole first rest sum_is = rw sum_is (omega arith)
+
+slice_index_more : (x : ℕ) (xs : List ℕ) (a j : ℕ) → a + 1 ≤ j → slice_index (x ∷ xs) (j - a) ≡ slice_index xs (j - (a + 1))
+slice_index_more x xs a j low = let e : j - a ≡ suc (j - (a + 1)) = omega arith in rw e refl
+
+distance_range_le : (row : List ℕ) (a n : ℕ) (w : ℕ → ℕ) → ((i : ℕ) → a ≤ i → w i ≤ n) → sum_by (λ i. slice_index row (i - a) * w i) (range_with_len a (length row)) ≤ n * sum row
+distance_range_le [] a n w near = zero-le
+distance_range_le (x ∷ xs) a n w near =
+    let f : ℕ → ℕ = λ i. slice_index (x ∷ xs) (i - a) * w i in
+    let g : ℕ → ℕ = λ i. slice_index xs (i - (a + 1)) * w i in
+    let start : a - a ≡ 0 = omega arith in
+    let first : f a ≤ x * n = rw start (mul-le x (w a) x n (omega arith) (near a (omega arith))) in
+    let rest : sum_by f (range_with_len (a + 1) (length xs)) ≡ sum_by g (range_with_len (a + 1) (length xs)) =
+    sum_range_same f g (a + 1) (length xs) (λ j j_low. ap (λ k. k * w j) (slice_index_more x xs a j j_low)) in
+    let below : sum_by f (range_with_len (a + 1) (length xs)) ≤ n * sum xs = rw rest (distance_range_le xs (a + 1) n w (λ i low. near i (omega arith))) in
+    distance_step _ (f a) _ n x (sum xs) _ (sum_by-cons f a (range_with_len (a + 1) (length xs))) first below (sum_by-cons (λ y. y) x xs)
+
+pub row_distance_le : (row : List ℕ) → row_distance row ≤ length row * sum row
+unfolding row_distance
+row_distance_le row = distance_range_le row 1 (length row) (λ i. length row + 1 - i) (λ i low. omega arith)
+
+add_rows : (m a b u v : ℕ) → u ≤ m * a → v ≤ m * b → u + v ≤ m * (a + b)
+add_rows m a b u v one two = omega arith
+
+lower_by_distance : (a w w' : ℕ) → w < w' → a + w < a + w'
+lower_by_distance a w w' low = omega arith
+
+swap_sums : (m a b u v : ℕ) → (b + a) * (m * (b + a) + 1) + (v + u) ≡ (a + b) * (m * (a + b) + 1) + (u + v)
+swap_sums m a b u v = omega arith
+
+-- fewer seeds outweigh any distance
+lower_by_seeds : (m s s' w w' : ℕ) → s' < s → w' ≤ m * s' → s' * (m * s' + 1) + w' < s * (m * s + 1) + w
+lower_by_seeds m s s' w w' fewer short =
+    let grow : m * (s' + 1) + 1 ≤ m * s + 1 = omega (arith, mul-le m (s' + 1) m s (omega arith) (omega arith)) in
+    let whole = mul-le (s' + 1) (m * (s' + 1) + 1) s (m * s + 1) (omega arith) grow in
+    omega (arith, whole, short)
+
+distance_below : (p : Position) → HasEqualSides p → distance_to_stores p ≤ side_length p * seeds_in_houses p
+distance_below p even =
+    let other = rw even.same at (row_distance_le p.other) in
+    add_rows (side_length p) (sum p.own) (sum p.other) (row_distance p.own) (row_distance p.other) (row_distance_le p.own) other
+
+pub moves_left_falls : (p q : Position) → HasEqualSides q → side_length q ≡ side_length p → IsNearerEnd q p → moves_left q < moves_left p
+moves_left_falls p q even side (inl fewer) =
+    rw side (lower_by_seeds (side_length p) (seeds_in_houses p) (seeds_in_houses q) (distance_to_stores p) (distance_to_stores q) fewer (rw side at (distance_below q even)))
+moves_left_falls p q even side (inr near) = rw (side, near.0) (lower_by_distance (seeds_in_houses p * (side_length p * seeds_in_houses p + 1)) (distance_to_stores q) (distance_to_stores p) near.1)
+
+-- the next position has fewer moves left, whoever moves
+pub after_fewer : (p : Position) (h : ℕ) → HoldsSeeds p h → HasEqualSides p → moves_left (after p h) < moves_left p
+after_fewer p h holds even = moves_left_falls p (after p h) (after_equal_sides p h) (after_side p h) (after_nearer p h holds even)
+
+pub swap_fewer : (p : Position) → HasEqualSides p → moves_left (swapped p) ≡ moves_left p
+swap_fewer p even = rw even.same (swap_sums (side_length p) (sum p.own) (sum p.other) (row_distance p.own) (row_distance p.other))

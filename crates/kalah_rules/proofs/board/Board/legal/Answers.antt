@@ -1,0 +1,23 @@
+use Rattle.std.proofs.Common.{◌≡◌, ◌+◌, ◌-◌, sym, arith, refl, lt-ltb, append-nil}
+use Rattle.std.specs.Prelude.{nat_lt, true, false}
+use Rattle.kalah_rules.specs.Position.{seeds}
+use Rattle.std.proofs.lemmas.Bool.{le-ltb}
+use Rattle.kalah_rules.proofs.Legal.{filter_range_more, length-filter_range}
+use Rattle.kalah_rules.proofs.board.Board.legal.Goals as goal
+use Rattle.kalah_rules.proofs.board.Board.legal.Goals.{then-own-gt0, else-own-gt0}
+
+pub push-requires : goal.push-requires
+push-requires c = rw c.loop-h.invariant (omega (arith, length-filter_range (λ i. nat_lt 0 (seeds c.args.self.now.own i)) 1 (c.loop-h.h - 1), c.m-h-end.ensures.limits.at_most_six, c.m-h-end.ensures.side))
+
+pub loop-h-preserved : goal.loop-h-preserved
+loop-h-preserved c =
+    let at : c.loop-h.h + 1 - 1 ≡ c.loop-h.h - 1 + 1 = omega arith in
+    let more = filter_range_more (λ i. nat_lt 0 (seeds c.args.self.now.own i)) 1 (c.loop-h.h - 1) c.loop-h.h (omega arith) in
+    elim c.if-own-gt0.branch [
+      | then-own-gt0 w ↦
+          let some : nat_lt 0 (seeds c.args.self.now.own c.loop-h.h) ≡ true = lt-ltb _ _ (omega (arith, w.if-own-gt0.true, c.own.ensures)) in
+          rw (w.moves-is, w.push.ensures, c.loop-h.invariant, at, more, some) refl
+      | else-own-gt0 w ↦
+          let none : nat_lt 0 (seeds c.args.self.now.own c.loop-h.h) ≡ false = le-ltb _ _ (omega (arith, w.if-own-gt0.false, c.own.ensures)) in
+          rw (w.moves-is, c.loop-h.invariant, at, more, none) (sym (append-nil _))
+    ]

@@ -1,0 +1,12 @@
+use Rattle.std.proofs.Common.{arith, rules}
+use Rattle.kalah_rules.proofs.Boards.{new_houses}
+use Rattle.kalah_rules.proofs.houses.Houses.new.Goals as goal
+
+pub invariant_of-result : goal.invariant_of-result
+invariant_of-result c = new_houses _ _ _ _ (search rules) (search rules) (record {
+  some_house = omega arith;
+  at_most_six = omega arith;
+  own_past = search rules;
+  other_past = search rules;
+  few_seeds = grind arith;
+})

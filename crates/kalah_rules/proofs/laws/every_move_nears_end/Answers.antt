@@ -1,0 +1,6 @@
+use Rattle.kalah_rules.proofs.Legal.{legal_holds}
+use Rattle.kalah_rules.proofs.Ends.{after_nearer}
+use Rattle.kalah_rules.proofs.laws.every_move_nears_end.Goals as goal
+
+pub returns : goal.returns
+returns c = λ p h even is_legal. after_nearer p h (legal_holds p h is_legal) even

@@ -1,0 +1,183 @@
+//! Boards: positions within the limits, and what is read off them.
+ghost use Rattle.std.specs.Prelude.{◌≡◌, ◌≤◌, ◌↔◌, IsTrue, IsSome, IfSome};
+ghost use Rattle.kalah_rules.specs.Position.{side_length, seeds, is_over, final_margin, IsWithinLimits, rows_of, IsSmallMargin};
+ghost use Rattle.kalah_rules.specs.Cells.{CanStart, position_of};
+
+mod play;
+mod sowing;
+#[cfg(test)]
+mod tests;
+
+use crate::houses::Houses;
+use crate::limits::{MOST_HOUSES, MOST_IN_STORE, MOST_SEEDS};
+use crate::row::{is_empty_past, total};
+use crate::rule::Rule;
+use std::marker::Model;
+
+/// A position, from the side of the player to move.
+///
+/// Houses are numbered 1 to `m`; house 1 is the farthest from its owner's store, and the mover's house `i` lies across
+/// from the other player's house `m + 1 - i`. A board has 1 to 6 houses a side, at most 31 seeds in them, and stores
+/// that hold at most 130 together with all of these.
+#[derive(Clone, Copy, Debug, PartialEq, Eq)]
+pub struct Board {
+    m: u8,
+    own: [u8; 6],
+    own_store: u8,
+    other: [u8; 6],
+    other_store: u8,
+    rule: Rule,
+}
+
+impl Model for Board {
+    ghost use Rattle.std.specs.Prelude.{length};
+    ghost use Rattle.kalah_rules.specs.Position.{Position};
+    ghost use Rattle.kalah_rules.specs.Cells.{position_of, padded, IsBoard, side_length_shown};
+
+    ghost Value = { Position };
+
+    ghost view = { λ b. position_of b.m b.own b.own_store b.other b.other_store b.rule };
+
+    ghost invariant = { λ b. IsBoard b.m b.own b.own_store b.other b.other_store b.rule };
+
+    ghost inverse = { λ p. record {
+      m = length p.own;
+      own = padded p.own;
+      own_store = p.own_store;
+      other = padded p.other;
+      other_store = p.other_store;
+      rule = p.rule;
+    } };
+
+    ghost inverse_ok = { λ b h i. record {
+      m = side_length_shown h i;
+      own = h.own_padded i;
+      own_store = b.own_store;
+      other = h.other_padded i;
+      other_store = b.other_store;
+      rule = b.rule;
+    } };
+}
+
+impl Board {
+    /// The position whose houses are the first `m` cells of each row. None where `m` isn't 1 to 6, a cell past the first
+    /// `m` isn't 0, the houses hold more than 31 seeds together, or a store holds more than 99.
+    pub fn new(
+        m: u8,
+        own: [u8; 6],
+        own_store: u8,
+        other: [u8; 6],
+        other_store: u8,
+        rule: Rule,
+    ) -> Option<Board>
+        ensures valid { IsSome result ↔ CanStart m own own_store other other_store }
+        ensures value { IfSome result (λ b. b ≡ position_of m own own_store other other_store rule) }
+    {
+        if m < 1 || m > MOST_HOUSES || own_store > MOST_IN_STORE || other_store > MOST_IN_STORE {
+            return None;
+        }
+        if !is_empty_past(&own, m) || !is_empty_past(&other, m) {
+            return None;
+        }
+        if total(&own).saturating_add(total(&other)) > MOST_SEEDS {
+            return None;
+        }
+        Some(Board {
+            m,
+            own,
+            own_store,
+            other,
+            other_store,
+            rule,
+        })
+    }
+
+    /// The houses per side, 1 to 6.
+    pub fn m(&self) -> u8
+        ensures side { result ≡ side_length self.now }
+        ensures limits { IsWithinLimits self.now }
+    {
+        self.m
+    }
+
+    /// The seeds in the mover's house `i`, which is 1 to `m`.
+    pub fn own(&self, i: u8) -> u8
+        requires low { 1 ≤ i }
+        requires high { i ≤ side_length self.now }
+        ensures { result ≡ seeds self.now.own i }
+    {
+        self.own[i as usize - 1]
+    }
+
+    /// The seeds in the other player's house `i`, which is 1 to `m`.
+    pub fn other(&self, i: u8) -> u8
+        requires low { 1 ≤ i }
+        requires high { i ≤ side_length self.now }
+        ensures { result ≡ seeds self.now.other i }
+    {
+        self.other[i as usize - 1]
+    }
+
+    /// The seeds in the mover's store, at most 130.
+    pub fn own_store(&self) -> u8
+        ensures { result ≡ self.now.own_store }
+    {
+        self.own_store
+    }
+
+    /// The seeds in the other player's store, at most 130.
+    pub fn other_store(&self) -> u8
+        ensures { result ≡ self.now.other_store }
+    {
+        self.other_store
+    }
+
+    /// The rule of capture that the game is played by.
+    pub fn rule(&self) -> Rule
+        ensures { result ≡ self.now.rule }
+    {
+        self.rule
+    }
+
+    /// The houses and the rule, without the stores.
+    pub fn houses(&self) -> Houses
+        ensures { result ≡ rows_of self.now }
+    {
+        Houses::of_cells(self.m, self.own, self.other, self.rule)
+    }
+
+    // The mover's houses.
+    fn own_houses(&self) -> &[u8]
+        ensures value { result.now ≡ self.now.own }
+        ensures limits { IsWithinLimits self.now }
+    {
+        &self.own[..self.m as usize]
+    }
+
+    // The other player's houses.
+    fn other_houses(&self) -> &[u8]
+        ensures value { result.now ≡ self.now.other }
+        ensures limits { IsWithinLimits self.now }
+    {
+        &self.other[..self.m as usize]
+    }
+
+    /// Whether the game is over: the houses of one of the players are all empty.
+    pub fn is_over(&self) -> bool
+        ensures over { result ≡ is_over self.now }
+        ensures limits { IsWithinLimits self.now }
+    {
+        total(self.own_houses()) == 0 || total(self.other_houses()) == 0
+    }
+
+    /// The margin of a game that is over: what the mover has in houses and store less what the other player has.
+    pub fn returns(&self) -> i32
+        requires { IsTrue (is_over self.now) }
+        ensures margin { result ≡ final_margin self.now }
+        ensures small { IsSmallMargin result }
+    {
+        let own = total(self.own_houses()) + self.own_store as u16;
+        let other = total(self.other_houses()) + self.other_store as u16;
+        own as i32 - other as i32
+    }
+}

@@ -1,0 +1,20 @@
+//! The rules of Kalah: boards, moves, captures and the end of a game.
+#![tactic(auto)]
+
+mod board;
+mod cell;
+mod houses;
+mod laws;
+mod limits;
+mod moves;
+mod row;
+mod rule;
+mod step;
+
+pub use board::Board;
+pub use houses::Houses;
+pub use laws::every_move_nears_end;
+pub use limits::{MOST_HOUSES, MOST_IN_STORE, MOST_SEEDS};
+pub use moves::Moves;
+pub use rule::Rule;
+pub use step::Step;
