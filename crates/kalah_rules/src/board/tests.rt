@@ -1,18 +1,74 @@
-use crate::{Board, Rule, Step};
+use crate::{Board, Houses, Rule, Step};
+use std::process::Abort;
 use std::test::Fail;
 
-fn board(m: u8, own: [u8; 6], other: [u8; 6], rule: Rule) -> Result<Board, Fail> {
-    Ok(Board::new(m, own, 0, other, 0, rule).ok_or("beyond the limits")?)
+// A board of one house a side.
+fn single(own: u8, own_store: u8, other: u8, other_store: u8, rule: Rule) -> Result<Board, Fail> {
+    let own = [own, 0, 0, 0, 0, 0];
+    let other = [other, 0, 0, 0, 0, 0];
+    Ok(Board::new(1, own, own_store, other, other_store, rule).ok_or("beyond the limits")?)
+}
+
+// A board of two houses a side.
+fn double(
+    own: [u8; 2],
+    own_store: u8,
+    other: [u8; 2],
+    other_store: u8,
+    rule: Rule,
+) -> Result<Board, Fail> {
+    let own = [own[0], own[1], 0, 0, 0, 0];
+    let other = [other[0], other[1], 0, 0, 0, 0];
+    Ok(Board::new(2, own, own_store, other, other_store, rule).ok_or("beyond the limits")?)
+}
+
+// The move of house `h` is legal and leads to `step`.
+fn assert_leads(rt: &impl Abort, start: &Board, h: u8, step: Step) {
+    assert!(rt; start.is_legal(h));
+    assert_eq!(rt; start.apply(h), step);
 }
 
 #[test]
-fn lap_captures(rt: HostRuntime) -> Result<(), Fail> {
-    let start = board(1, [3, 0, 0, 0, 0, 0], [3, 0, 0, 0, 0, 0], Rule::Classic)?;
-    assert!(rt; start.is_legal(1));
-    match start.apply(1) {
-        Step::Over(end) => {
-            assert_eq!(rt; end.own_store(), 6);
-            assert_eq!(rt; end.other_store(), 0);
+fn a_lap_ends_in_the_lifted_house_and_captures(rt: HostRuntime) -> Result<(), Fail> {
+    for rule in [Rule::Classic, Rule::EmptyCapture] {
+        assert_leads(
+            &rt,
+            &single(3, 0, 3, 0, rule)?,
+            1,
+            Step::Over(single(0, 6, 0, 0, rule)?),
+        );
+    }
+    Ok(())
+}
+
+#[test]
+fn the_last_seed_in_the_store_moves_again(rt: HostRuntime) -> Result<(), Fail> {
+    let rule = Rule::Classic;
+    assert_leads(
+        &rt,
+        &double([1, 1], 0, [1, 1], 0, rule)?,
+        2,
+        Step::Again(double([1, 0], 1, [1, 1], 0, rule)?),
+    );
+    assert_leads(
+        &rt,
+        &double([1, 1], 0, [1, 1], 0, rule)?,
+        1,
+        Step::Turn(double([1, 1], 0, [0, 2], 0, rule)?),
+    );
+    Ok(())
+}
+
+#[test]
+fn another_move_with_no_seeds_left_ends_the_game(rt: HostRuntime) -> Result<(), Fail> {
+    let end = single(1, 99, 1, 99, Rule::Classic)?;
+    assert!(rt; end.is_legal(1));
+    match end.apply(1) {
+        Step::Over(swept) => {
+            assert_eq!(rt; swept.own_store(), 100);
+            assert_eq!(rt; swept.other_store(), 100);
+            assert!(rt; swept.is_over());
+            assert_eq!(rt; swept.returns(), 0);
         }
         _ => assert!(rt; false),
     }
@@ -20,17 +76,94 @@ fn lap_captures(rt: HostRuntime) -> Result<(), Fail> {
 }
 
 #[test]
-fn store_moves_again(rt: HostRuntime) -> Result<(), Fail> {
-    let start = board(2, [1, 1, 0, 0, 0, 0], [1, 1, 0, 0, 0, 0], Rule::Classic)?;
-    assert!(rt; start.is_legal(2));
-    match start.apply(2) {
-        Step::Again(next) => {
-            assert_eq!(rt; next.m(), 2);
-            assert_eq!(rt; next.own(1), 1);
-            assert_eq!(rt; next.own(2), 0);
-            assert_eq!(rt; next.own_store(), 1);
-        }
-        _ => assert!(rt; false),
-    }
+fn many_laps_are_sown(rt: HostRuntime) -> Result<(), Fail> {
+    let rule = Rule::Classic;
+    assert_leads(
+        &rt,
+        &single(8, 0, 8, 0, rule)?,
+        1,
+        Step::Turn(single(11, 0, 2, 3, rule)?),
+    );
+    Ok(())
+}
+
+#[test]
+fn an_empty_house_across_is_captured_under_one_rule(rt: HostRuntime) -> Result<(), Fail> {
+    assert_leads(
+        &rt,
+        &double([1, 0], 0, [0, 2], 0, Rule::Classic)?,
+        1,
+        Step::Turn(double([0, 2], 0, [0, 1], 0, Rule::Classic)?),
+    );
+    assert_leads(
+        &rt,
+        &double([1, 0], 0, [0, 2], 0, Rule::EmptyCapture)?,
+        1,
+        Step::Over(double([0, 0], 1, [0, 0], 2, Rule::EmptyCapture)?),
+    );
+    Ok(())
+}
+
+#[test]
+fn legal_houses_rise(rt: HostRuntime) -> Result<(), Fail> {
+    let own = [1, 0, 2, 0, 0, 3];
+    let other = [0, 0, 0, 0, 0, 1];
+    let board = Board::new(6, own, 0, other, 0, Rule::Classic).ok_or("beyond the limits")?;
+    let moves = board.legal();
+    assert_eq!(rt; moves.len(), 3);
+    assert_eq!(rt; moves.get(0), 1);
+    assert_eq!(rt; moves.get(1), 3);
+    assert_eq!(rt; moves.get(2), 6);
+    assert!(rt; !board.is_legal(2));
+    assert!(rt; !board.is_legal(0));
+    assert!(rt; !board.is_legal(7));
+    assert_eq!(rt; single(0, 3, 5, 4, Rule::Classic)?.legal().len(), 0);
+    Ok(())
+}
+
+#[test]
+fn margins_count_houses_and_stores(rt: HostRuntime) -> Result<(), Fail> {
+    let end = double([0, 0], 3, [1, 2], 4, Rule::Classic)?;
+    assert!(rt; end.is_over());
+    assert_eq!(rt; end.returns(), -4);
+    let full = single(31, 99, 0, 0, Rule::Classic)?;
+    assert!(rt; full.is_over());
+    assert_eq!(rt; full.returns(), 130);
+    Ok(())
+}
+
+#[test]
+fn limits_are_kept(rt: HostRuntime) -> Result<(), Fail> {
+    let none = [0; 6];
+    let rule = Rule::Classic;
+    assert!(rt; Board::new(0, none, 0, none, 0, rule).is_none());
+    assert!(rt; Board::new(7, none, 0, none, 0, rule).is_none());
+    assert!(rt; Board::new(1, [0, 1, 0, 0, 0, 0], 0, none, 0, rule).is_none());
+    assert!(rt; Board::new(1, none, 0, [0, 1, 0, 0, 0, 0], 0, rule).is_none());
+    assert!(rt; Board::new(6, [31, 1, 0, 0, 0, 0], 0, none, 0, rule).is_none());
+    assert!(rt; Board::new(6, [255; 6], 0, [255; 6], 0, rule).is_none());
+    assert!(rt; Board::new(1, none, 100, none, 0, rule).is_none());
+    assert!(rt; Board::new(1, none, 0, none, 100, rule).is_none());
+    assert!(rt; Board::new(1, none, 99, none, 99, rule).is_some());
+    Ok(())
+}
+
+#[test]
+fn houses_are_those_of_the_board(rt: HostRuntime) -> Result<(), Fail> {
+    let board = double([1, 2], 9, [3, 4], 5, Rule::EmptyCapture)?;
+    let houses = Houses::new(
+        2,
+        [1, 2, 0, 0, 0, 0],
+        [3, 4, 0, 0, 0, 0],
+        Rule::EmptyCapture,
+    )
+    .ok_or("beyond the limits")?;
+    assert_eq!(rt; board.houses(), houses);
+    assert_eq!(rt; houses.m(), 2);
+    assert_eq!(rt; houses.own(2), 2);
+    assert_eq!(rt; houses.other(2), 4);
+    assert_eq!(rt; houses.rule(), Rule::EmptyCapture);
+    assert!(rt; Houses::new(1, [0, 1, 0, 0, 0, 0], [0; 6], Rule::Classic).is_none());
+    assert!(rt; Houses::new(1, [16, 0, 0, 0, 0, 0], [16, 0, 0, 0, 0, 0], Rule::Classic).is_none());
     Ok(())
 }

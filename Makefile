@@ -1,0 +1,25 @@
+# kalah: an exact solver of small positions of Kalah, proved.
+
+PREFIX ?= /usr/local
+
+.PHONY: all test install clean
+
+# Proves the program and all that it stands on, and builds ./kalah.
+all: kalah
+
+kalah: FORCE
+	cd crates/kalah_cli && rt run -- moves '1,1/0 1,1/0' > /dev/null
+	cp crates/kalah_cli/out/kalah_cli kalah
+
+FORCE:
+
+# The gate: every proof from nothing, the must-fail edits, the tests and the program's stored run.
+test:
+	rt ci
+
+install: kalah
+	install -d $(DESTDIR)$(PREFIX)/bin
+	install -m 755 kalah $(DESTDIR)$(PREFIX)/bin/kalah
+
+clean:
+	rm -rf kalah crates/*/out
