@@ -6,6 +6,9 @@ ghost use Rattle.kalah_jobs.specs.Jobs.{jobs_of, job_count, line_count, most_fil
 ghost use Rattle.kalah_jobs.specs.Output.{output_of, tally_of, is_faulty_offer};
 ghost use Rattle.kalah_run.specs.declared.run_fault.RunFault.TheVariants.{TooManyFiles, TooManyLines, OutOfMemory, NoWorker, Write};
 
+#[cfg(test)]
+mod tests;
+
 use crate::desk::Desk;
 use crate::gate::Gate;
 use crate::queue_passes::ResultsQueue;

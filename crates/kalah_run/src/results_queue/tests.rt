@@ -3,6 +3,7 @@ ghost use Rattle.std.specs.Thread.{IsSync};
 
 use crate::{GetPass, PutPass, ResultsQueue};
 use kalah_jobs::{Entry, LineFault, Outcome};
+use kalah_solve::Solver;
 use std::sync::Wait;
 use std::test::Fail;
 use std::thread;
@@ -13,7 +14,7 @@ const LINES: u32 = 200;
 
 // The outcome of an empty line.
 fn outcome_at(file: u32, line: u32) -> Outcome {
-    Outcome::of(file, line, Entry::Bad(LineFault::Empty))
+    Outcome::of(file, line, Entry::Bad(LineFault::Empty), &mut Solver::new())
 }
 
 #[test]
