@@ -1,13 +1,12 @@
 -- Houses put into cells, and read one after the other.
-use Rattle.std.proofs.Common.{◌≡◌, ℕ, suc, ◌+◌, ◌-◌, ◌*◌, ◌<◌, ◌≤◌, List, [], ◌∷◌, ◌++◌, length, get_or, take, replicate, Option, Some, None, refl, sym, ap, subst, ◌∙◌, append_assoc, append-nil, arith, length-take-le}
-use Rattle.std.specs.Prelude.{slice_set, IfSome}
+use Rattle.std.proofs.Common.{◌≡◌, ℕ, suc, ◌+◌, ◌-◌, ◌*◌, ◌<◌, ◌≤◌, List, [], ◌∷◌, ◌++◌, length, get_or, take, replicate, Option, Some, None, refl, sym, ap, ◌∙◌, append_assoc, append-nil, arith, length-take-le}
+use Rattle.std.specs.Prelude.{slice_set}
 use Rattle.std.specs.Option.{option_map, option_map_or}
 use Rattle.std.specs.Borrow.{Bor}
 use Rattle.std.proofs.lemmas.List.{set_at, take_more, take_all, length_push}
 use Rattle.kalah_rules.specs.Cells.{padded}
 use Rattle.kalah_jobs.specs.Line.{comma}
 use Rattle.kalah_jobs.specs.Reading.{◌>>=◌, parts_at, number_of, numbers_of}
-use Rattle.kalah_jobs.proofs.Cuts.{text_of_one}
 
 -- ---- six cells
 

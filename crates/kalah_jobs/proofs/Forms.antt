@@ -1,11 +1,11 @@
 -- What writes a position, and what it is read as.
-use Rattle.std.proofs.Common.{◌≡◌, ◌≢◌, ℕ, ◌<◌, Bool, true, false, ◌==◌, eqb-true, List, [], ◌∷◌, ◌++◌, All, Option, Some, None, refl, sym, ap, ap₂, subst, ◌∙◌, append_assoc, append-nil, lit<}
+use Rattle.std.proofs.Common.{◌≡◌, ℕ, ◌==◌, eqb-true, List, [], ◌∷◌, ◌++◌, Option, Some, refl, sym, ap, ◌∙◌, append_assoc, append-nil, lit<}
 use Rattle.std.specs.Prelude.{codes}
 use Rattle.std.proofs.lemmas.Option.{cond_some}
 use Rattle.kalah_rules.specs.Position.{Position}
 use Rattle.kalah_rules.specs.declared.rule.Rule.{Rule}
 use Rattle.kalah_rules.specs.declared.rule.Rule.TheVariants.{Classic, EmptyCapture}
-use Rattle.kalah_jobs.specs.Line.{space, ending_of, IsSide, IsLineOf}
+use Rattle.kalah_jobs.specs.Line.{space, ending_of, IsLineOf}
 use Rattle.kalah_jobs.specs.Reading.{◌>>=◌, parts_at, side_of, rule_of, position_from, written_of}
 use Rattle.kalah_jobs.proofs.Cuts.{Lacks, parts_of_one, parts_of_more, text_of_two, text_of_three}
 use Rattle.kalah_jobs.proofs.Houses.{bind_some, side_of_is_side, side_is_read, side_lacks}

@@ -1,8 +1,7 @@
 -- What stands at the end of a line.
-use Rattle.std.proofs.Common.{◌≡◌, ◌≢◌, ℕ, ◌≤◌, ◌==◌, List, [], ◌∷◌, ◌++◌, length, Option, Some, None, refl, sym, ap, ◌∙◌, arith, ◌<◌, ◌+◌}
+use Rattle.std.proofs.Common.{◌≡◌, ◌≢◌, ℕ, ◌≤◌, ◌==◌, List, [], ◌∷◌, ◌++◌, length, None, refl, ap, arith, ◌<◌}
 use Rattle.std.proofs.lemmas.List.Splits.{length-slice_split}
 use Rattle.std.proofs.lemmas.Bool.{ne_eqb}
-use Rattle.kalah_rules.specs.declared.rule.Rule.{Rule}
 use Rattle.kalah_jobs.specs.Line.{space, without_cr, IsNumber}
 use Rattle.kalah_jobs.specs.Reading.{parts_at, rule_of}
 use Rattle.kalah_jobs.proofs.Cuts.{text_of_one}

@@ -1,7 +1,7 @@
 -- A line is read as a position, or it has its first fault.
-use Rattle.std.proofs.Common.{◌≡◌, ◌≢◌, ℕ, ◌<◌, ◌≤◌, ◌⊎◌, inl, inr, Bool, true, false, ◌==◌, eq-eqb, List, [], ◌∷◌, length, Option, Some, None, Result, Ok, Err, refl, sym, ap, subst, ◌∙◌, arith, lit<}
-use Rattle.std.specs.Prelude.{nat_lt, not, IfOk, IfErr}
-use Rattle.std.proofs.lemmas.Bool.{cases_lt, ne_eqb, le-ltb, lt-ltb, cond-true, cond-false}
+use Rattle.std.proofs.Common.{◌≡◌, ◌≢◌, ℕ, ◌<◌, ◌≤◌, ◌⊎◌, inl, inr, eq-eqb, List, [], ◌∷◌, length, Option, Some, None, Result, Ok, Err, refl, sym, ap, subst, ◌∙◌, arith, lit<}
+use Rattle.std.specs.Prelude.{IfOk, IfErr}
+use Rattle.std.proofs.lemmas.Bool.{cases_lt, ne_eqb, le-ltb, lt-ltb}
 use Rattle.std.proofs.lemmas.List.{nil_from_length}
 use Rattle.std.proofs.lemmas.Bool.Decides.{eqb_tells}
 use Rattle.kalah_rules.specs.Limits.{most_houses, most_seeds}
@@ -74,6 +74,7 @@ form_is_read text p line = ap admitted_if_written (line_is_written text p line)
 -- ---- what is read of a line, from what holds of it
 
 pub reads_is_reading : (line : List ℕ) (p : Position) → Reads line p → reading_of line ≡ Ok p
+unfolding reading_of
 reads_is_reading line p reads =
     written_is_read (without_cr line) reads.few_bytes (λ empty. is_not_read_if_empty (without_cr line) p empty reads.form)
     ∙ form_is_read (without_cr line) p reads.form ∙ is_admitted p reads.sides reads.few_seeds
@@ -85,6 +86,7 @@ sides_from_not_houses : (text : List ℕ) (p : Position) → IsLineOf text p →
 sides_from_not_houses text p line fit = elim (has_sides_in_limits p) [ inl sides ↦ sides | inr none ↦ absurd (fit (p, (line, none))) ]
 
 pub fault_is_reading : (line : List ℕ) (fault : LineFault) → HasFault line fault → reading_of line ≡ Err fault
+unfolding reading_of
 fault_is_reading line Long has = long_is_read (without_cr line) has.holds
 fault_is_reading line Empty has = empty_is_read (without_cr line) has.holds
 fault_is_reading line Shape has =
@@ -135,10 +137,13 @@ with_bytes line few some =
     let text : List ℕ = without_cr line in
     let not_long : ¬ Holds Long text = λ long. omega (arith, few, long) in
     (elim (written_of text) as (λ (r : Option Position). written_of text ≡ r → IsReadOrFaulty line) [
-      | None ↦ λ e. inr (Shape, record {
+      | None ↦ λ e. inr (
+        Shape,
+        record {
           holds = λ p form. let read : ◌≡◌ {A = Option Position} None (Some p) = sym e ∙ line_is_written text p form in cc;
           first = no_fault_before text 3 (omega arith) (λ _. not_long) (λ _. some) (λ lt. absurd (omega (arith, lt))) (λ lt. absurd (omega (arith, lt)));
-        })
+        },
+      )
       | Some p ↦ λ e. with_form line p few some (written_is_line text p e)
     ]) refl
 

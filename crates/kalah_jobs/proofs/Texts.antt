@@ -1,17 +1,17 @@
 -- The text of a position is the line that writes it.
-use Rattle.std.proofs.Common.{◌≡◌, ◌≢◌, ℕ, suc, ◌+◌, ◌-◌, ◌*◌, ◌^◌, ◌<◌, ◌≤◌, ◌==◌, List, [], ◌∷◌, ◌++◌, length, map, Result, Ok, Err, refl, sym, ap, ap₂, subst, ◌∙◌, append_assoc, append-nil, length-append, arith, lit<, lit≤}
+use Rattle.std.proofs.Common.{◌≡◌, ℕ, ◌+◌, ◌*◌, ◌≤◌, List, [], ◌∷◌, ◌++◌, length, map, Result, Ok, Err, refl, sym, ap, ap₂, subst, ◌∙◌, append-nil, length-append, arith, lit<}
 use Rattle.std.specs.Prelude.{codes, decimal, sum, IfOk}
 use Rattle.std.specs.List.{join_with_byte}
 use Rattle.std.proofs.lemmas.Fmt.{length-decimal-le}
 use Rattle.std.proofs.lemmas.List.Sums.{sum_by-cons}
-use Rattle.kalah_rules.specs.Limits.{most_houses, most_seeds}
-use Rattle.kalah_rules.specs.Position.{Position, side_length, seeds_in_houses, IsWithinLimits}
+use Rattle.kalah_rules.specs.Limits.{most_in_store}
+use Rattle.kalah_rules.specs.Position.{Position, IsWithinLimits}
 use Rattle.kalah_rules.specs.declared.rule.Rule.{Rule}
 use Rattle.kalah_rules.specs.declared.rule.Rule.TheVariants.{Classic, EmptyCapture}
-use Rattle.kalah_jobs.specs.Line.{comma, slash, space, most_bytes, without_cr, ending_of, IsNumber, AreHouses, IsSide, IsLineOf, HasSidesInLimits, Reads, side_text, line_text_of}
+use Rattle.kalah_jobs.specs.Line.{comma, slash, space, most_bytes, without_cr, ending_of, AreHouses, IsSide, IsLineOf, Reads, side_text, line_text_of}
 use Rattle.kalah_jobs.specs.Reading.{reading_of}
 use Rattle.kalah_jobs.specs.declared.line_fault.LineFault.{LineFault}
-use Rattle.kalah_jobs.proofs.Numbers.{number_text, decimal_is_number}
+use Rattle.kalah_jobs.proofs.Numbers.{number_text, number_low, decimal_is_number}
 use Rattle.kalah_jobs.proofs.LineEnds.{without_cr-append, number_ends_without_cr}
 use Rattle.kalah_jobs.proofs.Readings.{reading_reads}
 
@@ -28,6 +28,7 @@ is_side_text text houses store side =
     side.parts ∙ ap₂ (λ (a b : List ℕ). a ++ slash ∷ b) (houses_text side.houses_text houses side.houses_written) (number_text side.store_text store side.store_written)
 
 pub is_line_text : (text : List ℕ) (p : Position) → IsLineOf text p → text ≡ line_text_of p
+unfolding line_text_of
 is_line_text text p line =
     line.parts
     ∙ ap₂ (λ (a b : List ℕ). a ++ space ∷ b ++ ending_of p.rule) (is_side_text line.own_text p.own p.own_store line.own_side) (is_side_text line.other_text p.other p.other_store line.other_side)
@@ -35,6 +36,13 @@ is_line_text text p line =
 pub text_if_ok : (line : List ℕ) (r : Result Position LineFault) → r ≡ reading_of line → IfOk r (λ p. without_cr line ≡ line_text_of p)
 text_if_ok line (Ok p) e = is_line_text (without_cr line) p (reading_reads line p (sym e)).form
 text_if_ok line (Err fault) e = tt
+
+-- stores that are written have at most two digits
+pub stores_if_ok : (line : List ℕ) (r : Result Position LineFault) → r ≡ reading_of line → IfOk r (λ p. (p.own_store ≤ most_in_store) × (p.other_store ≤ most_in_store))
+stores_if_ok line (Ok p) e =
+    let form = (reading_reads line p (sym e)).form in
+    (number_low form.own_side.store_text p.own_store form.own_side.store_written, number_low form.other_side.store_text p.other_store form.other_side.store_written)
+stores_if_ok line (Err fault) e = tt
 
 -- ---- the text of a position writes it
 
@@ -65,6 +73,7 @@ text_is_side houses store some short low = record {
 }
 
 text_is_line : (p : Position) → IsWithinLimits p → p.own_store ≤ 99 → p.other_store ≤ 99 → IsLineOf (line_text_of p) p
+unfolding line_text_of
 text_is_line p limits own_low other_low = record {
   own_text = side_text p.own p.own_store;
   other_text = side_text p.other p.other_store;
@@ -94,15 +103,18 @@ ending_length EmptyCapture = omega arith
 -- ---- the text of a position is read back
 
 text_has_few_bytes : (p : Position) → IsWithinLimits p → p.own_store ≤ 99 → p.other_store ≤ 99 → length (line_text_of p) ≤ most_bytes
+unfolding line_text_of
 text_has_few_bytes p limits own_low other_low =
     let own = side_text p.own p.own_store in
     let other = side_text p.other p.other_store in
-    omega (arith,
-    side_text_length p.own p.own_store limits.at_most_six (short_from_sum p.own (omega (arith, limits.few_seeds))) own_low,
-    side_text_length p.other p.other_store (omega (arith, limits.at_most_six, limits.same_side)) (short_from_sum p.other (omega (arith, limits.few_seeds))) other_low,
-    ending_length p.rule,
-    length-append (own ++ space ∷ other) (ending_of p.rule),
-    length-append own (space ∷ other))
+    omega (
+      arith,
+      side_text_length p.own p.own_store limits.at_most_six (short_from_sum p.own (omega (arith, limits.few_seeds))) own_low,
+      side_text_length p.other p.other_store (omega (arith, limits.at_most_six, limits.same_side)) (short_from_sum p.other (omega (arith, limits.few_seeds))) other_low,
+      ending_length p.rule,
+      length-append (own ++ space ∷ other) (ending_of p.rule),
+      length-append own (space ∷ other),
+    )
 
 -- it does not end in a CR
 text_without_cr : (front houses : List ℕ) (store : ℕ) (rule : Rule) → store ≤ 99 →
@@ -116,6 +128,7 @@ text_without_cr front houses store Classic low =
 text_without_cr front houses store EmptyCapture low = without_cr-append (front ++ space ∷ side_text houses store) space (codes "e")
 
 pub text_is_read_back : (p : Position) → IsWithinLimits p → p.own_store ≤ 99 → p.other_store ≤ 99 → Reads (line_text_of p) p
+unfolding line_text_of
 text_is_read_back p limits own_low other_low =
     let same : without_cr (line_text_of p) ≡ line_text_of p = text_without_cr (side_text p.own p.own_store) p.other p.other_store p.rule other_low in
     record {

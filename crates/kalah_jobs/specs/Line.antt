@@ -1,5 +1,5 @@
 -- How a position is written in a line, as `1,1/0 1,1/0`, and which lines are read.
-use Rattle.std.specs.Prelude.{◌≡◌, ◌≢◌, ℕ, ◌+◌, ◌-◌, ◌*◌, ◌<◌, ◌≤◌, ◌⊎◌, ◌==◌, if◌then◌else◌, List, [], ◌∷◌, ◌++◌, length, map, codes, decimal}
+use Rattle.std.specs.Prelude.{◌≡◌, ◌≢◌, ℕ, ◌+◌, ◌-◌, ◌*◌, ◌<◌, ◌≤◌, ◌==◌, if◌then◌else◌, List, [], ◌∷◌, ◌++◌, length, map, codes, decimal}
 use Rattle.std.specs.Char.{IsAsciiDigit}
 use Rattle.std.specs.List.{join_with_byte}
 use Rattle.kalah_rules.specs.Limits.{most_houses, most_seeds}
@@ -16,6 +16,14 @@ use Rattle.kalah_jobs.specs.declared.line_fault.LineFault.TheVariants.{Long, Emp
 abbrev pub most_bytes : ℕ
 most_bytes = 80
 
+-- the byte of `0`, after which come those of the other digits
+abbrev pub zero_digit : ℕ
+zero_digit = 48
+
+-- the byte that may end a line
+abbrev pub carriage_return : ℕ
+carriage_return = 13
+
 -- the bytes that stand between the parts of a line
 abbrev pub comma : ℕ
 comma = 44
@@ -31,14 +39,14 @@ space = 32
 -- the line without one CR at its end, if it has one
 abbrev pub without_cr : List ℕ → List ℕ
 without_cr [] = []
-without_cr (byte ∷ []) = if byte == 13 then [] else byte ∷ []
+without_cr (byte ∷ []) = if byte == carriage_return then [] else byte ∷ []
 without_cr (byte ∷ more ∷ rest) = byte ∷ without_cr (more ∷ rest)
 
 -- the text writes the number: `0`, or one or two digits of which the first is not `0`
 abbrev pub IsNumber : List ℕ → ℕ → Type 0
 IsNumber [] n = ⊥
-IsNumber (ones ∷ []) n = IsAsciiDigit ones × (n ≡ ones - 48)
-IsNumber (tens ∷ ones ∷ []) n = IsAsciiDigit tens × (tens ≢ 48) × IsAsciiDigit ones × (n ≡ 10 * (tens - 48) + (ones - 48))
+IsNumber (ones ∷ []) n = IsAsciiDigit ones × (n ≡ ones - zero_digit)
+IsNumber (tens ∷ ones ∷ []) n = IsAsciiDigit tens × (tens ≢ zero_digit) × IsAsciiDigit ones × (n ≡ 10 * (tens - zero_digit) + (ones - zero_digit))
 IsNumber (_ ∷ _ ∷ _ ∷ _) n = ⊥
 
 -- the text writes the houses: one number or more, with a comma between each two
@@ -103,7 +111,7 @@ abbrev pub side_text : List ℕ → ℕ → List ℕ
 side_text houses store = join_with_byte comma (map decimal houses) ++ slash ∷ decimal store
 
 -- the line that writes the position, with each number in full
-abbrev pub line_text_of : Position → List ℕ
+unfoldable pub line_text_of : Position → List ℕ
 line_text_of p = side_text p.own p.own_store ++ space ∷ side_text p.other p.other_store ++ ending_of p.rule
 
 -- ---- the text of a step
@@ -121,5 +129,5 @@ word_of_step (Turn _) = codes "turn"
 word_of_step (Over _) = codes "over"
 
 -- the house that is moved, the position after it and the word
-abbrev pub step_text_of : ℕ → Step → List ℕ
+unfoldable pub step_text_of : ℕ → Step → List ℕ
 step_text_of house step = decimal house ++ space ∷ line_text_of (position_after step) ++ space ∷ word_of_step step

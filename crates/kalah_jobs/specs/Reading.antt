@@ -1,12 +1,12 @@
 -- How a line is read: it is cut at its spaces, each side at its slash, and the houses at their commas.
-use Rattle.std.specs.Prelude.{◌≡◌, ℕ, ◌+◌, ◌-◌, ◌*◌, ◌==◌, ◌&&◌, not, nat_lt, if◌then◌else◌, List, [], ◌∷◌, length, Option, Some, None, Result, Ok, Err}
+use Rattle.std.specs.Prelude.{ℕ, ◌+◌, ◌-◌, ◌*◌, ◌==◌, ◌&&◌, not, nat_lt, if◌then◌else◌, List, [], ◌∷◌, length, Option, Some, None, Result, Ok, Err}
 use Rattle.std.specs.Char.{is_ascii_digit}
 use Rattle.std.specs.List.{slice_split}
 use Rattle.kalah_rules.specs.Limits.{most_houses, most_seeds}
 use Rattle.kalah_rules.specs.Position.{Position, side_length, seeds_in_houses}
 use Rattle.kalah_rules.specs.declared.rule.Rule.{Rule}
 use Rattle.kalah_rules.specs.declared.rule.Rule.TheVariants.{Classic, EmptyCapture}
-use Rattle.kalah_jobs.specs.Line.{comma, slash, space, most_bytes, without_cr}
+use Rattle.kalah_jobs.specs.Line.{zero_digit, comma, slash, space, most_bytes, without_cr}
 use Rattle.kalah_jobs.specs.declared.line_fault.LineFault.{LineFault}
 use Rattle.kalah_jobs.specs.declared.line_fault.LineFault.TheVariants.{Long, Empty, Shape, Houses, Seeds}
 
@@ -22,9 +22,9 @@ parts_at byte text = slice_split (λ b. b == byte) text
 -- the number that the text writes, if it writes one
 abbrev pub number_of : List ℕ → Option ℕ
 number_of [] = None
-number_of (ones ∷ []) = if is_ascii_digit ones then Some (ones - 48) else None
+number_of (ones ∷ []) = if is_ascii_digit ones then Some (ones - zero_digit) else None
 number_of (tens ∷ ones ∷ []) =
-    if is_ascii_digit tens && not (tens == 48) && is_ascii_digit ones then Some (10 * (tens - 48) + (ones - 48)) else None
+    if is_ascii_digit tens && not (tens == zero_digit) && is_ascii_digit ones then Some (10 * (tens - zero_digit) + (ones - zero_digit)) else None
 number_of (_ ∷ _ ∷ _ ∷ _) = None
 
 -- the numbers of all the texts
@@ -46,7 +46,7 @@ side_from _ = None
 abbrev pub side_of : List ℕ → Option (List ℕ × ℕ)
 side_of text = side_from (parts_at slash text)
 
--- the rule that the part after the second side names
+-- the rule that the parts after the second side name: none of them is Classic, and the one part `e` is EmptyCapture
 abbrev pub rule_of : List (List ℕ) → Option Rule
 rule_of [] = Some Classic
 rule_of ((byte ∷ []) ∷ []) = if byte == 101 then Some EmptyCapture else None
@@ -82,5 +82,5 @@ reading_of_text text =
     if nat_lt most_bytes (length text) then Err Long
     else (if length text == 0 then Err Empty else admitted_if_written (written_of text))
 
-abbrev pub reading_of : List ℕ → Result Position LineFault
+unfoldable pub reading_of : List ℕ → Result Position LineFault
 reading_of line = reading_of_text (without_cr line)

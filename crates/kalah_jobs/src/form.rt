@@ -1,7 +1,7 @@
 //! The form of a position line.
 ghost use Rattle.std.specs.Prelude.{◌≡◌, ◌≤◌, [], length};
 ghost use Rattle.std.specs.Option.{option_map, option_map_or};
-ghost use Rattle.kalah_jobs.specs.Line.{space};
+ghost use Rattle.kalah_jobs.specs.Line.{space, most_bytes};
 ghost use Rattle.kalah_jobs.specs.Reading.{rule_of, parts_at};
 
 use crate::line_fault::LineFault;
@@ -36,7 +36,7 @@ impl Form {
 
     // The two sides of a text, with one space between them, and the rule that its ending names.
     pub(crate) fn read(text: &[u8]) -> Option<Form>
-        requires { length text.now ≤ 80 }
+        requires { length text.now ≤ most_bytes }
         ensures { option_map position_shown result ≡ written_of text.now }
     {
         let (own, rest) = cut(text, b' ');
@@ -57,7 +57,7 @@ impl Form {
         }
         let own = self.own.houses.six_cells();
         let other = self.other.houses.six_cells();
-        Board::new(m, own, self.own.store, other, self.other.store, self.rule)
-            .ok_or(LineFault::Seeds)
+        let board = Board::new(m, own, self.own.store, other, self.other.store, self.rule);
+        board.ok_or(LineFault::Seeds)
     }
 }

@@ -1,8 +1,12 @@
 //! Positions and steps as text.
 ghost use Rattle.std.specs.Prelude.{◌≡◌, ◌≤◌, ◌++◌, OnOk, IfOk, decimal, string_bytes};
+ghost use Rattle.kalah_rules.specs.Limits.{most_in_store};
 ghost use Rattle.kalah_rules.specs.Position.{IsWithinLimits};
 ghost use Rattle.kalah_jobs.specs.Line.{Reads, ending_of, side_text, line_text_of, position_after, word_of_step, step_text_of};
 ghost use Rattle.kalah_jobs.specs.Player.{houses_of, store_of};
+
+#[cfg(test)]
+mod tests;
 
 use crate::player::Player;
 use itoa::Buffer;
@@ -44,6 +48,7 @@ fn ending(rule: Rule) -> &'static str
 }
 
 // Adds the line that writes a board.
+#[tactic(auto, unfolding(crate::specs::Line::line_text_of))]
 fn push_board(text: &mut String, board: &Board) -> Result<(), AllocError>
     ensures limits { IsWithinLimits board.now }
     ensures text { OnOk result (string_bytes text.new ≡ string_bytes text.old ++ line_text_of board.now) }
@@ -57,8 +62,8 @@ fn push_board(text: &mut String, board: &Board) -> Result<(), AllocError>
 /// The line that writes a board, as `read_line` reads it: `1,1/0 1,1/0`, with ` e` at its end where the rule is
 /// `Rule::EmptyCapture`. Both stores have to be at most 99, as of every board that was read.
 pub fn line_text(alloc: Global, board: &Board) -> Result<String, AllocError>
-    requires own_low { board.now.own_store ≤ 99 }
-    requires other_low { board.now.other_store ≤ 99 }
+    requires own_low { board.now.own_store ≤ most_in_store }
+    requires other_low { board.now.other_store ≤ most_in_store }
     ensures text { IfOk result (λ text. string_bytes text ≡ line_text_of board.now) }
     ensures read_back { IfOk result (λ text. Reads (string_bytes text) board.now) }
 {
@@ -81,6 +86,7 @@ fn parts_of_step(step: &Step) -> (&Board, &'static str)
 
 /// The text of a move: the house, the board after it and `again`, `turn` or `over`, as `1 1,1/0 0,2/0 turn`. The board is
 /// written as by `line_text`, with stores of up to three digits.
+#[tactic(auto, unfolding(crate::specs::Line::step_text_of))]
 pub fn step_text(alloc: Global, h: u8, step: &Step) -> Result<String, AllocError>
     ensures { IfOk result (λ text. string_bytes text ≡ step_text_of h step.now) }
 {

@@ -1,11 +1,15 @@
 //! Position lines read.
-ghost use Rattle.std.specs.Prelude.{◌≡◌, IfOk, IfErr, Ok};
+ghost use Rattle.std.specs.Prelude.{◌≡◌, ◌≤◌, IfOk, IfErr, Ok};
+ghost use Rattle.kalah_rules.specs.Limits.{most_in_store};
 ghost use Rattle.kalah_rules.specs.Position.{Position};
 ghost use Rattle.kalah_jobs.specs.Line.{without_cr, Reads, HasFault, line_text_of};
-ghost use Rattle.kalah_jobs.specs.Reading.{reading_of, reading_of_text};
+ghost use Rattle.kalah_jobs.specs.Reading.{reading_of_text, reading_of};
 
-use crate::line_fault::LineFault;
+#[cfg(test)]
+mod tests;
+
 use crate::form::Form;
+use crate::line_fault::LineFault;
 use kalah_rules::Board;
 
 /// The most bytes of a line, after its CR is dropped.
@@ -46,6 +50,8 @@ pub fn read_line(bytes: &[u8]) -> Result<Board, LineFault>
     // A position that is read is the one that the line writes, within the limits, and the line is its text.
     ensures reads { IfOk result (λ p. Reads bytes.now p) }
     ensures text { IfOk result (λ p. without_cr bytes.now ≡ line_text_of p) }
+    // Both stores have at most two digits, so the board may be written by `line_text`.
+    ensures stores { IfOk result (λ p. (p.own_store ≤ most_in_store) × (p.other_store ≤ most_in_store)) }
     // Every line that writes such a position is read.
     ensures every { (p : Position) → Reads bytes.now p → result ≡ Ok p }
     // Any other line has a first fault, and that is the answer.

@@ -27,7 +27,7 @@ impl Model for Row {
 }
 
 impl Row {
-    ghost use Rattle.kalah_jobs.specs.Line.{comma};
+    ghost use Rattle.kalah_jobs.specs.Line.{comma, most_bytes};
     ghost use Rattle.kalah_jobs.specs.Reading.{parts_at, numbers_of};
 
     // No houses.
@@ -42,7 +42,7 @@ impl Row {
 
     // The numbers of a text, with a comma between each two.
     pub(crate) fn read(text: &[u8]) -> Option<Row>
-        requires { length text.now ≤ 80 }
+        requires { length text.now ≤ most_bytes }
         ensures { result ≡ numbers_of (parts_at comma text.now) }
     {
         let mut row = Row::new();
@@ -57,7 +57,7 @@ impl Row {
 
     // One more house.
     pub(crate) fn push(&mut self, seeds: u8)
-        requires { length self.old < 40 }
+        requires { length self.old < MOST_NUMBERS }
         ensures { self.new ≡ self.old ++ seeds ∷ [] }
     {
         self.cells[self.count as usize] = seeds;

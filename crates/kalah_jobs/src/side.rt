@@ -16,11 +16,12 @@ pub(crate) struct Side {
 
 impl Side {
     ghost use Rattle.std.specs.Option.{option_map};
+    ghost use Rattle.kalah_jobs.specs.Line.{most_bytes};
     ghost use Rattle.kalah_jobs.specs.Reading.{side_of};
 
     // The houses before the one slash of a text, and the store after it.
     pub(crate) fn read(text: &[u8]) -> Option<Side>
-        requires { length text.now ≤ 80 }
+        requires { length text.now ≤ most_bytes }
         ensures { option_map (λ side. (side.houses, side.store)) result ≡ side_of text.now }
     {
         let (houses, store) = cut(text, b'/');

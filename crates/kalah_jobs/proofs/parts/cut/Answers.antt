@@ -1,4 +1,4 @@
-use Rattle.std.proofs.Common.{◌∙◌, sym, ap, take_all, All}
+use Rattle.std.proofs.Common.{take_all}
 use Rattle.std.proofs.lemmas.List.{take_rest}
 use Rattle.kalah_jobs.proofs.Cuts.{parts_from_place, parts_of_one, lacks_more}
 use Rattle.kalah_jobs.proofs.parts.cut.Goals as goal

@@ -1,5 +1,5 @@
-use Rattle.std.proofs.Common.{◌≡◌, sym, ◌∙◌, subst}
-use Rattle.kalah_jobs.proofs.Cells.{IsReading, IsCut, begins, is_shorter, has_room, stops, goes_on, ends}
+use Rattle.std.proofs.Common.{sym, ◌∙◌}
+use Rattle.kalah_jobs.proofs.Cells.{IsCut, begins, is_shorter, has_room, stops, goes_on, ends}
 use Rattle.kalah_jobs.proofs.row.Row.read.Goals as goal
 
 pub loop-rest-init : goal.loop-rest-init

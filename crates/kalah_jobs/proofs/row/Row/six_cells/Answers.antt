@@ -1,4 +1,4 @@
-use Rattle.std.proofs.Common.{◌≡◌, ◌<◌, ℕ, get_or, length, arith, sym, ap, ◌∙◌, length-take-le}
+use Rattle.std.proofs.Common.{◌≡◌, get_or, length, arith, sym, ap, ◌∙◌, length-take-le}
 use Rattle.std.proofs.lemmas.List.{get_or-take}
 use Rattle.kalah_jobs.proofs.Cells.{one_more_cell, all_cells}
 use Rattle.kalah_jobs.proofs.row.Row.six_cells.Goals as goal

@@ -1,8 +1,7 @@
-use Rattle.std.proofs.Common.{◌≡◌, ◌∷◌, sym, ap, ◌∙◌, Some}
-use Rattle.std.specs.Option.{option_map, option_map_or}
+use Rattle.std.proofs.Common.{◌≡◌, ◌∷◌, sym, ◌∙◌}
 use Rattle.kalah_jobs.specs.Line.{slash}
 use Rattle.kalah_jobs.specs.Reading.{parts_at}
-use Rattle.kalah_jobs.proofs.Houses.{houses_are_some, numbers_of_are_houses, no_store_no_side, store_makes_side}
+use Rattle.kalah_jobs.proofs.Houses.{houses_are_some, numbers_of_are_houses, no_store_no_side}
 use Rattle.kalah_jobs.proofs.side.Side.read.Goals as goal
 
 pub returns-in_err-store-2 : goal.returns-in_err-store-2
