@@ -1,0 +1,4 @@
+pub mod Kept
+pub mod Subcommands
+pub mod Laws
+pub mod Getters
