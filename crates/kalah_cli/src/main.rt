@@ -2,6 +2,7 @@
 #![tactic(auto)]
 
 mod command;
+mod files;
 mod request;
 
 fn main() {}
