@@ -1,16 +1,23 @@
 //! Files read whole.
-ghost use Rattle.std.specs.Prelude.{◌<◌, ◌≤◌, IfOk, IfSome, IsErrOf, OnOk, length};
+ghost use Rattle.std.specs.Prelude.{◌≡◌, ◌≢◌, ◌<◌, ◌≤◌, IfErr, IfOk, IfSome, IsErrOf, OnOk, length, map};
 ghost use Rattle.std.specs.Io.KnownBytes.{Consumes, IsAtEnd};
 
+use crate::failure::Failure;
+use kalah_jobs::FileText;
 use std::alloc::Global;
+use std::fs;
 use std::io::Read;
+use std::rt::Files;
+
+/// The most bytes of a file.
+const MOST_BYTES: usize = 67_108_864;
 
 /// How many bytes are asked for at once.
 const CHUNK: usize = 4096;
 
 /// Why a file was not read.
 #[derive(Clone, Copy, Debug, PartialEq, Eq)]
-pub enum ReadFault {
+pub(crate) enum ReadFault {
     /// It can't be opened, or a read answered an error, of whatever kind.
     Unreadable,
     /// It has more bytes than the limit.
@@ -48,6 +55,55 @@ pub(crate) fn read_limited<F: Read>(
         }
     }
     Err(ReadFault::TooLong)
+}
+
+// All that the file of this name holds.
+fn read_bytes<R: Files>(rt: &R, alloc: Global, name: &str) -> Result<Vec<u8>, ReadFault>
+    ensures within { IfOk result (λ v. length v.items ≤ 67108864) }
+{
+    match fs::open(rt, name) {
+        Ok(file) => {
+            let mut file = file;
+            read_limited(alloc, &mut file, MOST_BYTES)
+        }
+        Err(_) => Err(ReadFault::Unreadable),
+    }
+}
+
+// The file of this name.
+fn read_file<'a, R: Files>(rt: &R, alloc: Global, name: &'a str) -> Result<FileText, Failure<'a>>
+    ensures named { IfOk result (λ file. file.name ≡ name.now) }
+    ensures not_written { IfErr result (λ failure. failure ≢ Failure.Write) }
+{
+    let bytes = match read_bytes(rt, alloc, name) {
+        Ok(bytes) => bytes,
+        Err(ReadFault::OutOfMemory) => return Err(Failure::OutOfMemory),
+        Err(_) => return Err(Failure::Unreadable(name)),
+    };
+    match String::from_str(alloc, name) {
+        Ok(name) => Ok(FileText { name, bytes }),
+        Err(_) => Err(Failure::OutOfMemory),
+    }
+}
+
+/// The files of these names, in order, up to the first that is not read.
+pub(crate) fn read_files<'a, R: Files>(
+    rt: &R,
+    alloc: Global,
+    names: &[&'a str],
+) -> Result<Vec<FileText>, Failure<'a>>
+    ensures named { IfOk result
+        (λ files. map (λ file. file.name) files.items ≡ map (λ name. name.now) names.now) }
+    ensures not_written { IfErr result (λ failure. failure ≢ Failure.Write) }
+{
+    let mut files = Vec::new(alloc);
+    for name in names {
+        let file = read_file(rt, alloc, *name)?;
+        if files.push(file).is_err() {
+            return Err(Failure::OutOfMemory);
+        }
+    }
+    Ok(files)
 }
 
 #[cfg(test)]

@@ -1,8 +1,42 @@
-//! Solves small positions of Kalah.
+//! Solves small positions of Kalah: `kalah moves LINE` and `kalah solve FILE..`.
 #![tactic(auto)]
 
 mod command;
+mod failure;
 mod files;
+mod moves;
 mod request;
+mod run;
+mod solve;
+mod status;
 
-fn main() {}
+use failure::Failure;
+use kalah_jobs::Stream;
+use run::run_words;
+use std::io::{ErrorKind, LineWriter};
+use std::process::ExitCode;
+use std::{env, io};
+
+// The program's words, of which the first is its name.
+fn words_of(rt: &HostRuntime) -> io::Result<Vec<String>> {
+    Ok(env::args(rt)?.collect(rt.alloc())?)
+}
+
+fn main(rt: HostRuntime) -> ExitCode {
+    let mut err = rt.stderr();
+    let words = match words_of(&rt) {
+        Ok(words) => words,
+        Err(error) if error.kind() == ErrorKind::OutOfMemory => {
+            return ExitCode::from(Failure::OutOfMemory.report(&mut err).code());
+        }
+        Err(_) => return ExitCode::from(2),
+    };
+    if words.is_empty() {
+        return ExitCode::from(2);
+    }
+    let Ok(out) = LineWriter::new(rt.alloc(), io::writer(&rt)) else {
+        return ExitCode::from(Failure::OutOfMemory.report(&mut err).code());
+    };
+    let mut out = Stream::new(out);
+    ExitCode::from(run_words(&rt, rt.alloc(), words, &mut out, &mut err).code())
+}

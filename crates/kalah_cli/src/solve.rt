@@ -1,0 +1,73 @@
+//! `kalah solve FILE..`.
+ghost use Rattle.std.specs.Prelude.{◌≡◌, ◌≢◌, ◌↔◌, ◌≤◌, IfErr, IfOk, IsErrOf, false, map, true};
+ghost use Rattle.kalah_run.specs.Tally.{counts_of};
+ghost use Rattle.kalah_cli.specs.Solve.{AnswersFiles, CountsFiles};
+
+use crate::failure::Failure;
+use crate::files::read_files;
+use crate::status::ExitStatus;
+use kalah_jobs::Sink;
+use kalah_run::{OpenGate, Tally, solve_batch};
+use std::alloc::Global;
+use std::io::Write;
+use std::rt::Files;
+use std::sync::Wait;
+use std::thread::Threads;
+
+// Whether a name can't be told from another line of the output.
+fn has_line_feed(name: &str) -> bool {
+    name.as_bytes().contains(&b'\n')
+}
+
+// Reads the files that are named and writes the answer to each line of them.
+fn solve_files<'a, R: Files + Threads + Wait + Sync, O: Sink>(
+    rt: &R,
+    alloc: Global,
+    names: &[&'a str],
+    workers: u32,
+    table: u32,
+    out: &mut O,
+) -> Result<Tally, Failure<'a>>
+    requires workers { (1 ≤ workers) × (workers ≤ 64) }
+    requires table { (1 ≤ table) × (table ≤ 1048576) }
+    requires sink { O.has_failed out.old ≡ false }
+    ensures solved { IfOk result (λ tally. CountsFiles (map (λ name. name.now) names.now)
+        (O.written out.old) (O.written out.new) (counts_of tally)) }
+    ensures failed { O.has_failed out.new ≡ true ↔ IsErrOf result Failure.Write }
+    ensures unchanged { IfErr result (λ failure. failure ≢ Failure.Write → out.new ≡ out.old) }
+{
+    if names.iter().any(|name| has_line_feed(*name)) {
+        return Err(Failure::LineFeed);
+    }
+    let files = read_files(rt, alloc, names)?;
+    match solve_batch(rt, alloc, files.as_slice(), workers, table, &OpenGate, out) {
+        Ok(tally) => Ok(tally),
+        Err(fault) => Err(Failure::from(fault)),
+    }
+}
+
+/// Answers each line of the files that are named.
+pub(crate) fn run_solve<R: Files + Threads + Wait + Sync, O: Sink, E: Write>(
+    rt: &R,
+    alloc: Global,
+    names: &[&str],
+    workers: u32,
+    table: u32,
+    out: &mut O,
+    err: &mut E,
+) -> ExitStatus
+    requires workers { (1 ≤ workers) × (workers ≤ 64) }
+    requires table { (1 ≤ table) × (table ≤ 1048576) }
+    requires sink { O.has_failed out.old ≡ false }
+    ensures solved { result ≢ ExitStatus.Failed → AnswersFiles (map (λ name. name.now) names.now)
+        (O.written out.old) (O.written out.new) result }
+    ensures failed { O.has_failed out.new ≡ true → result ≡ ExitStatus.Failed }
+    ensures unchanged { result ≡ ExitStatus.Failed → O.has_failed out.new ≡ false
+        → out.new ≡ out.old }
+{
+    match solve_files(rt, alloc, names, workers, table, out) {
+        Ok(tally) if tally.faults == 0 => ExitStatus::Clean,
+        Ok(_) => ExitStatus::LineFaults,
+        Err(failure) => failure.report(err),
+    }
+}
