@@ -1,11 +1,11 @@
 -- What the getters give, by the rows of the matches.
-use Rattle.std.proofs.Common.{◌≡◌, ◌∙◌, ◌+◌, ◌<◌, ◌≤◌, ◌^◌, ℕ, true, refl, sym, ap, subst, List, [], Option, Some, None, Result, Ok, Err, is_some, arith, codes, map, length, inl, inr, ◌⊎◌}
+use Rattle.std.proofs.Common.{◌≡◌, ◌∙◌, ◌<◌, ◌≤◌, ℕ, true, refl, sym, ap, subst, List, [], Option, Some, None, Result, Ok, Err, is_some, arith, codes, map, length, inl, inr}
 use Rattle.std.specs.Prelude.{option_map, option_and_then, IfErr, IsErrAnd, MatchResult}
 use Rattle.clap.specs.Values.{kind_of}
 use Rattle.clap.specs.declared.error.kind.ErrorKind.TheVariants.{OutOfMemory}
 use Rattle.clap.specs.Kinds.{HasKind}
 use Rattle.clap.specs.declared.error.Error.{Error}
-use Rattle.std.specs.Str.Parse.{ParsesUnsigned, digits_value, without_leading_plus}
+use Rattle.std.specs.Str.Parse.{ParsesUnsigned}
 use Rattle.clap.specs.Values.{IsUnsignedIn}
 use Rattle.clap.specs.Matches.{ReadsOne, one_text}
 use Rattle.std.proofs.lemmas.List.{length-map}

@@ -1,6 +1,6 @@
 -- What the command line makes of words, as laws over the definitions.
-use Rattle.std.proofs.Common.{◌≡◌, ℕ, true, false, refl, List, [], ◌∷◌, Option, Some, None, codes, ◌==◌, ◌∙◌, ◌⊎◌, inl, inr, ap, subst}
-use Rattle.clap.specs.Words.{Row, Text, is_simple, subcommand_of, takes}
+use Rattle.std.proofs.Common.{◌≡◌, ℕ, true, false, refl, List, [], ◌∷◌, Some, None, codes, ◌==◌, ◌∙◌, inl, inr, ap, subst}
+use Rattle.clap.specs.Words.{Row, Text, subcommand_of}
 use Rattle.clap.specs.Faults.{fault_of, is_simple_and_free}
 use Rattle.clap.proofs.OnLiterals.{clap_on_literals}
 use Rattle.kalah_cli.specs.Command.{kalah_app}
@@ -10,7 +10,6 @@ use Rattle.std.proofs.lemmas.Bool.{ne_eqb}
 use Rattle.clap.specs.Values.{kind_of}
 use Rattle.clap.specs.Kinds.{HasKind}
 use Rattle.clap.specs.declared.error.Error.{Error}
-use Rattle.std.specs.Str.{bytes_eq}
 use Rattle.clap.specs.declared.builder.value_parser.Reading.TheVariants.{AsWritten}
 use Rattle.clap.specs.declared.parser.matches.ValueSource.TheVariants.{CommandLine}
 use Rattle.clap.specs.declared.error.kind.ErrorKind.TheVariants.{MissingSubcommand, OutOfMemory}

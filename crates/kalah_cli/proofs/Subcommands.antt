@@ -1,6 +1,6 @@
 -- What the matches of the two subcommands hold, where the words are taken.
-use Rattle.std.proofs.Common.{◌≡◌, ◌⊎◌, ◌∙◌, ◌++◌, ◌<◌, ℕ, Bool, cond, true, false, refl, sym, ap, subst, inl, inr, List, [], ◌∷◌, Option, Some, None, arith, length, is_some, ◌&&◌, ◌||◌, not, codes, length-append}
-use Rattle.std.specs.Prelude.{find, option_map, slice_get, option_and_then}
+use Rattle.std.proofs.Common.{◌≡◌, ◌⊎◌, ◌∙◌, ◌++◌, ◌<◌, ℕ, Bool, cond, true, false, refl, ap, subst, inl, inr, List, [], ◌∷◌, Option, Some, None, arith, length, is_some, ◌||◌, not, codes, length-append}
+use Rattle.std.specs.Prelude.{find, option_map}
 use Rattle.std.specs.List.{fold, list_any}
 use Rattle.std.specs.Option.{option_map_or}
 use Rattle.std.specs.Str.{bytes_eq}
@@ -9,8 +9,8 @@ use Rattle.clap.specs.Values.{Accepts, IsUnsignedIn, refused_kind}
 use Rattle.clap.specs.ValueTests.{accepts}
 use Rattle.clap.proofs.ValueTestLemmas.{accepts-Accepts}
 use Rattle.clap.specs.Facts.{explicit_source}
-use Rattle.clap.specs.Kinds.{Kinds, check_kinds, or_else, value_kinds, values_kinds}
-use Rattle.clap.specs.Walk.{Row, Rule, Text, all_of, answers_to, at_row, default_rows, first_of, has_row, more_values, nothing_held, one_of, reading_by, rows_after, settled, stronger, walk, with_default, with_values}
+use Rattle.clap.specs.Kinds.{check_kinds, or_else, values_kinds}
+use Rattle.clap.specs.Walk.{Row, Rule, Text, answers_to, at_row, default_rows, first_of, has_row, more_values, nothing_held, reading_by, rows_after, settled, stronger, walk, with_default}
 use Rattle.clap.specs.Simple.{App, Shape, argument_words, built, built_leaf, entered, filled, help_rule, inherited, label_of, marked_built, names_of, rows_at, subcommand_of, with_index, with_leaf_noted}
 use Rattle.clap.specs.Takes.{is_given}
 use Rattle.clap.specs.Faults.{check_fault, entered_fault, fault_of, level_fault}

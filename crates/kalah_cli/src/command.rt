@@ -14,23 +14,32 @@ const MOST_ENTRIES: u64 = 1_048_576;
 
 // What a newcomer has to know, at the end of the help.
 const ABOUT_POSITIONS: &str = "\
-A position is written in one line, from the side of the player to move:
-  his houses, a slash, his store, a space, and the same of the other player, as in 1,1/0 1,1/0.
-Houses are numbered from 1 and sown rising; the last one lies next to its owner's store. A side has
-1 to 6 houses, all houses together hold at most 31 seeds, and a store at most 99.
+A position is one line, seen by the player to move: the seeds in that player's houses, a slash, the
+seeds in that player's store, one space, and the same for the other player, as in
+    1,1/0 1,1/0
+Houses count from 1, and the last one lies next to its owner's store. A side has 1 to 6 houses; all
+houses together hold at most 31 seeds, and a store at most 99.
 
-Where the last seed falls into an empty own house, it captures the seeds across together with
-itself. Where there are none across, nothing is captured; in a position that ends in ` e`, as in
-1,1/0 1,1/0 e, that seed alone is captured.
+A move lifts the seeds of an own house and sows them one by one: the own houses after it, the own
+store, the other player's houses, and round again, never the other player's store. Who sows the last
+seed into the own store moves again. A last seed that is alone in an own house is captured together
+with the seeds in the house across, if there are any there. The game is over once the houses of one
+player are all empty; what is left in houses goes to their owner's store.
+A line that ends in ` e`, as 1,1/0 1,1/0 e, is played under the empty-capture rule: a last seed that
+is alone in an own house is captured also where the house across is empty.
 
-`kalah solve FILE..` answers each line of each file, in order, with one of:
-  FILE:LINE MARGIN house H    the margin of best play, and the first house that attains it
-  FILE:LINE MARGIN over       the game is over, with this margin
-  FILE:LINE fault WORD        the line is no position: long, empty, shape, houses or seeds
+`kalah moves LINE` prints a line for each house H that may be moved, with the position after it:
+    H POSITION again        the player to move has another move
+    H POSITION turn         the other player is to move, and the position is seen by that player
+    H POSITION over         the game is over
+`kalah solve FILE..` prints a line for each line of each file, in order:
+    FILE:LINE MARGIN house H        the margin of best play, and the first house that attains it
+    FILE:LINE MARGIN over           the game is over, with this margin
+    FILE:LINE fault WORD            not a position: long, empty, shape, houses or seeds
 A margin is what the player to move ends with less what the other player ends with.
 
-Exit status: 0 if every line was read or help was asked for, 1 if some line was not read, 2 if the
-command line, a file, memory, a worker or the output failed; standard error says which.";
+Exit status: 0 if every line was read or help was asked for; 1 if some line was not read; 2 if the
+words, a file, memory, a worker or the output failed, and standard error says which.";
 
 // The line of `moves`.
 fn line_arg<'a>(alloc: Global) -> Arg<'a>

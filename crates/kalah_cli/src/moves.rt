@@ -41,11 +41,7 @@ fn write_lines<O: Sink>(out: &mut O, texts: &[String]) -> Result<(), io::Error>
 }
 
 // Prints the moves of a board: all texts are made before the first is written.
-fn print_moves<O: Sink>(
-    alloc: Global,
-    board: &Board,
-    out: &mut O,
-) -> Result<(), Failure<'static>>
+fn print_moves<O: Sink>(alloc: Global, board: &Board, out: &mut O) -> Result<(), Failure<'static>>
     requires { O.has_failed out.old ≡ false }
     ensures printed { OnOk result
         (Appends (O.written out.old) (O.written out.new) (moves_output board.now)) }
@@ -72,7 +68,7 @@ pub(crate) fn run_moves<O: Sink, E: Write>(
     requires { O.has_failed out.old ≡ false }
     ensures read { (p : Position) → Reads line.now p → (result ≢ ExitStatus.LineFaults)
         × (result ≡ ExitStatus.Clean
-            → Appends (O.written out.old) (O.written out.new) (moves_output p)) }
+        → Appends (O.written out.old) (O.written out.new) (moves_output p)) }
     ensures unread { ((p : Position) → Reads line.now p → ⊥)
         → (result ≡ ExitStatus.LineFaults) × (out.new ≡ out.old) }
     ensures failed { O.has_failed out.new ≡ true → result ≡ ExitStatus.Failed }

@@ -82,7 +82,7 @@ pub fn run_words<R: Files + Threads + Wait + Sync, O: Sink, E: Write>(
         → map string_bytes words.items ≡ name ∷ codes "moves" ∷ line ∷ [] → Reads line p
         → (result ≢ ExitStatus.LineFaults)
         × (result ≡ ExitStatus.Clean
-            → Appends (O.written out.old) (O.written out.new) (moves_output p)) }
+        → Appends (O.written out.old) (O.written out.new) (moves_output p)) }
 
     // `moves` and a line that is not read, but is no flag.
     ensures unread { (name line : List ℕ)

@@ -54,9 +54,15 @@ fn a_byte_more_than_the_limit_is_too_long(rt: HostRuntime) {
         let mut reader = TEN;
         let read = read_limited(rt.alloc(), &mut reader, limit);
         if limit < 10 {
-            assert!(rt; read.is_err_and(|fault| fault == ReadFault::TooLong), "at {limit}");
+            assert!(rt;
+                read.is_err_and(|fault| fault == ReadFault::TooLong),
+                "at {limit}"
+            );
         } else {
-            assert!(rt; read.is_ok_and(|bytes| bytes.as_slice() == TEN), "at {limit}");
+            assert!(rt;
+                read.is_ok_and(|bytes| bytes.as_slice() == TEN),
+                "at {limit}"
+            );
         }
     }
 }

@@ -1,4 +1,4 @@
-use Rattle.std.proofs.Common.{◌≡◌, ◌∙◌, ℕ, List, Some, ap, is_some, sym}
+use Rattle.std.proofs.Common.{◌≡◌, ◌∙◌, ap, is_some}
 use Rattle.std.specs.Str.Parse.{ExplainsUnsignedError, HasUnsignedDigitsIfOk, ParsesUnsigned}
 use Rattle.clap.specs.Words.{found_of}
 use Rattle.kalah_cli.proofs.Getters.{number_read}

@@ -1,4 +1,4 @@
-use Rattle.std.proofs.Common.{◌≡◌, map}
+use Rattle.std.proofs.Common.{map}
 use Rattle.kalah_cli.proofs.Getters.{asked_is, by_memory_alone, failed_as, failed_err, taken_fault, taken_is, taken_none}
 use Rattle.kalah_cli.proofs.Laws.{moves_by_memory, moves_given}
 use Rattle.kalah_cli.proofs.request.parse.Goals as goal

@@ -1,6 +1,5 @@
-use Rattle.std.proofs.Common.{◌≡◌, ◌∙◌, List, Some, ap, codes, map, sym}
+use Rattle.std.proofs.Common.{◌≡◌, ◌∙◌, Some, ap, codes, map, sym}
 use Rattle.std.specs.Prelude.{option_map}
-use Rattle.clap.specs.Matches.{matched_of, raw_values}
 use Rattle.clap.specs.Walk.{all_of, rows_of}
 use Rattle.clap.specs.Words.{found_of}
 use Rattle.clap.proofs.WalkLemmas.{raw_values-rows}

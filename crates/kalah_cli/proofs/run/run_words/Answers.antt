@@ -1,8 +1,8 @@
-use Rattle.std.proofs.Common.{◌≡◌, ◌≢◌, ◌∙◌, map, sym, subst}
+use Rattle.std.proofs.Common.{◌≢◌, map, sym, subst}
 use Rattle.clap.specs.Values.{kind_of}
 use Rattle.clap.specs.declared.error.kind.ErrorKind.TheVariants.{DisplayHelp}
 use Rattle.kalah_jobs.specs.Line.{Reads}
-use Rattle.kalah_cli.specs.Request.{Asked, IsTakenAs, asked_for, moves, solve}
+use Rattle.kalah_cli.specs.Request.{Asked, IsTakenAs, moves, solve}
 use Rattle.kalah_cli.specs.declared.request.Request.TheVariants.{Moves, Solve}
 use Rattle.kalah_cli.specs.Solve.{AnswersFiles}
 use Rattle.kalah_cli.proofs.Plain.{read_is_plain}
