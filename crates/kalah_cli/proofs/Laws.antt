@@ -14,6 +14,7 @@ use Rattle.clap.specs.declared.builder.value_parser.Reading.TheVariants.{AsWritt
 use Rattle.clap.specs.declared.parser.matches.ValueSource.TheVariants.{CommandLine}
 use Rattle.clap.specs.declared.error.kind.ErrorKind.TheVariants.{MissingSubcommand, OutOfMemory}
 
+-- the parse of the program is exact, in both outcomes
 pub app_is_simple : is_simple_and_free kalah_app ≡ true
 unfolding clap_on_literals
 app_is_simple = refl
@@ -28,29 +29,29 @@ line_row line = record {
   reading = AsWritten;
 }
 
+-- `moves` and a plain word have no fault
 pub moves_passes : (name : Text) (x : ℕ) (xs : Text) → (x == 45) ≡ false
     → fault_of kalah_app (name ∷ codes "moves" ∷ (x ∷ xs) ∷ []) ≡ []
 unfolding clap_on_literals
 moves_passes name x xs e = simp e refl
 
+-- and their match is that word
 pub moves_matches : (name : Text) (x : ℕ) (xs : Text) → (x == 45) ≡ false
     → subcommand_of kalah_app (name ∷ codes "moves" ∷ (x ∷ xs) ∷ []) ≡ Some (codes "moves", line_row (x ∷ xs) ∷ [])
 unfolding clap_on_literals
 moves_matches name x xs e = simp e refl
-
-pub none_fails : (name : Text) → fault_of kalah_app (name ∷ []) ≡ MissingSubcommand ∷ []
-unfolding clap_on_literals
-none_fails name = refl
 
 -- what `moves` asks for
 pub moves_asked_for : (name line : Text) → IsPlainWord line → asked (name ∷ codes "moves" ∷ line ∷ []) ≡ Some (moves line)
 moves_asked_for name [] plain = absurd plain
 moves_asked_for name (x ∷ xs) plain = ap (option_and_then asked_by) (moves_matches name x xs (ne_eqb _ _ plain))
 
+-- and have no fault
 pub moves_no_fault : (name line : Text) → IsPlainWord line → fault_of kalah_app (name ∷ codes "moves" ∷ line ∷ []) ≡ []
 moves_no_fault name [] plain = absurd plain
 moves_no_fault name (x ∷ xs) plain = moves_passes name x xs (ne_eqb _ _ plain)
 
+-- what such words ask for is the moves of the word
 pub moves_given : (words : List Text) (a : Asked) → asked words ≡ Some a → (name line : Text) → words ≡ name ∷ codes "moves" ∷ line ∷ []
     → IsPlainWord line → a ≡ moves line
 moves_given words a is name line same plain =
@@ -58,12 +59,14 @@ moves_given words a is name line same plain =
     let known = moves_asked_for name line plain in
     cc
 
+-- they are refused for want of memory alone
 pub moves_by_memory : (words : List Text) (e : Error) → HasKind (fault_of kalah_app words) e → (name line : Text) → words ≡ name ∷ codes "moves" ∷ line ∷ []
     → IsPlainWord line → kind_of e ≡ OutOfMemory
 moves_by_memory words e has name line same plain =
     let none : fault_of kalah_app words ≡ [] = ap (fault_of kalah_app) same ∙ moves_no_fault name line plain in
     elim (subst (λ ks. HasKind ks e) none has) [ inl memory ↦ memory | inr bad ↦ absurd bad ]
 
+-- they are taken
 pub moves_taken : (name line : Text) → IsPlainWord line → IsTakenAs (name ∷ codes "moves" ∷ line ∷ []) (moves line)
 moves_taken name line plain = (moves_no_fault name line plain, moves_asked_for name line plain)
 
@@ -74,7 +77,3 @@ taken_once words a b p q =
     let y = q.1 in
     cc
 
--- an empty LINE is taken too
-pub moves_empty : (name : Text) → fault_of kalah_app (name ∷ codes "moves" ∷ [] ∷ []) ≡ []
-unfolding clap_on_literals
-moves_empty name = refl

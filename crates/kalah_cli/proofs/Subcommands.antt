@@ -25,6 +25,7 @@ use Rattle.kalah_cli.proofs.Kept.{AllOf, Gives, both_all, found_all, kept_level,
 
 -- ---- values
 
+-- values of no fault are accepted by the parser
 pub values_pass : (ignore_case : Bool) (p : ValueParser) (vs : List Text) → values_kinds ignore_case p vs ≡ [] → AllOf (Accepts ignore_case p) vs
 values_pass ignore_case p [] e = tt
 values_pass ignore_case p (v ∷ vs) e =
@@ -35,6 +36,7 @@ values_pass ignore_case p (v ∷ vs) e =
     go true is rest later = (accepts-Accepts ignore_case p v is, later rest)
     go false is bad later = cc
 
+-- a row of the id has numbers from 1 to `high`, read as they are written
 abbrev Ranged : Text → ℕ → Row → Type 0
 Ranged id high r = bytes_eq r.id id ≡ true → (r.reading ≡ AsWritten) × AllOf (IsUnsignedIn 1 high) r.values
 
@@ -42,6 +44,7 @@ Ranged id high r = bytes_eq r.id id ≡ true → (r.reading ≡ AsWritten) × Al
 abbrev Sound : Row → Type 0
 Sound r = (0 < length r.values) × Ranged (codes "workers") 64 r × Ranged (codes "table") 1048576 r
 
+-- a list that has an item has one after more were added
 more_than : (xs ys : List Text) → 0 < length xs → 0 < length (xs ++ ys)
 more_than xs ys h = simp length-append (omega arith)
 
@@ -52,21 +55,19 @@ elsewhere id other high r is differs same =
     let bad : bytes_eq other id ≡ true = subst (λ t. bytes_eq t id ≡ true) named same in
     cc
 
-abbrev subs : List Shape
-subs = (built kalah_app).subs
-
+-- `moves`, as built under the program
 abbrev moves_shape : Shape
 moves_shape = built_leaf (inherited (marked_built (with_leaf_noted kalah_app.top)) moves_app.top)
 
+-- `solve`, as built under the program
 abbrev solve_shape : Shape
 solve_shape = built_leaf (inherited (marked_built (with_leaf_noted kalah_app.top)) solve_app.top)
 
-subs_are : subs ≡ moves_shape ∷ solve_shape ∷ []
-subs_are = refl
-
+-- a row with more values
 abbrev grown : ValueSource → Row → List Text → Row
 grown s r vs = record r { values = r.values ++ vs; source = Some (stronger r.source s) }
 
+-- each argument of `solve` gives rows of that kind
 solve_gives : AllOf (Gives Sound) solve_shape.rules
 solve_gives = (
   record {
@@ -114,6 +115,7 @@ solve_gives = (
   ),
 )
 
+-- each argument of `moves` gives rows with a value
 moves_gives : AllOf (Gives (λ r. 0 < length r.values)) moves_shape.rules
 moves_gives = (
   record {
@@ -133,6 +135,7 @@ moves_gives = (
 
 -- ---- what is there
 
+-- an item that passes is found
 any_found : {X : Type 0} (t : X → Bool) (xs : List X) → list_any t xs ≡ true → (x : X) × (find t xs ≡ Some x) × (t x ≡ true)
 any_found t [] e = cc
 any_found t (x ∷ xs) e = go (t x) refl e (λ rest. any_found t xs rest)
@@ -142,6 +145,7 @@ any_found t (x ∷ xs) e = go (t x) refl e (λ rest. any_found t xs rest)
     go true is h later = (x, refl, is)
     go false is h later = later h
 
+-- a test that holds later holds
 or_later : (a b : Bool) → b ≡ true → (a || b) ≡ true
 or_later true b e = refl
 or_later false b e = e
@@ -164,6 +168,7 @@ row_stays id other s vs missing (r ∷ rs) e =
     go false true h later = refl
     go false false h later = later h
 
+-- a row that is changed and was missing is there
 row_made : (id : Text) (s : ValueSource) (vs : List Text) (missing rows : List Row) → has_row id missing ≡ true
     → has_row id (at_row id (more_values s vs) missing rows) ≡ true
 row_made id s vs missing [] e = e
@@ -174,6 +179,7 @@ row_made id s vs missing (r ∷ rs) e = go (bytes_eq r.id id) refl (row_made id 
     go true is later = rw is refl
     go false is later = or_later _ _ later
 
+-- a row stays there while a default is filled in
 default_stays : (id : Text) (rows : List Row) (a : Rule) → has_row id rows ≡ true → has_row id (with_default rows a) ≡ true
 default_stays id rows a e = go (has_row a.id rows) a.defaults
   where
@@ -182,6 +188,7 @@ default_stays id rows a e = go (has_row a.id rows) a.defaults
     go false [] = e
     go false (d ∷ ds) = row_stays id a.id _ (d ∷ ds) _ rows e
 
+-- a default makes the row of its argument
 default_made : (rows : List Row) (a : Rule) (d : Text) (ds : List Text) → a.defaults ≡ d ∷ ds → bytes_eq a.id a.id ≡ true
     → has_row a.id (with_default rows a) ≡ true
 default_made rows a d ds is same =
@@ -191,6 +198,7 @@ default_made rows a d ds is same =
     go true e = e
     go false e = rw is (row_made a.id _ (d ∷ ds) _ rows (rw same refl))
 
+-- an argument that was given has a row
 given_row : (id : Text) (rows : List Row) → is_given id rows ≡ true → (r : Row) × (find (λ r. bytes_eq r.id id) rows ≡ Some r)
 given_row id rows e = go (find (λ r. bytes_eq r.id id) rows) refl e
   where
@@ -199,9 +207,11 @@ given_row id rows e = go (find (λ r. bytes_eq r.id id) rows) refl e
     go None is f = cc
     go (Some r) is f = (r, is)
 
+-- what holds of all rows holds of the row of an id
 found_row : (P : Row → Type 0) (id : Text) (rows : List Row) (r : Row) → AllOf P rows → find (λ r. bytes_eq r.id id) rows ≡ Some r → P r
 found_row P id rows r all found = found_all P (λ r. bytes_eq r.id id) rows r all found
 
+-- a row of numbers in range has a number in range
 number_in : (id : Text) (high : ℕ) (rows : List Row) (r : Row) → find (λ r. bytes_eq r.id id) rows ≡ Some r → 0 < length r.values
     → (r.reading ≡ AsWritten) × AllOf (IsUnsignedIn 1 high) r.values → HasNumber id high rows
 number_in id high rows r found some ranged = go r.values r.reading refl refl some ranged.1 ranged.0
@@ -211,15 +221,18 @@ number_in id high rows r found some ranged = go r.values r.reading refl refl som
     go [] how e f lt all is = absurd (omega arith)
     go (v ∷ vs) how e f lt all is = (v, rw (found, e, f, is) refl, all.0)
 
+-- a row stays there while all defaults are filled in
 rows_stay : (id : Text) (c : List Rule) (rows : List Row) → has_row id rows ≡ true → has_row id (fold with_default rows c) ≡ true
 rows_stay id [] rows e = e
 rows_stay id (a ∷ rest) rows e = rows_stay id rest (with_default rows a) (default_stays id rows a e)
 
+-- a row that is there is found
 row_in : (id : Text) (rows : List Row) → has_row id rows ≡ true → (r : Row) × (find (λ r. bytes_eq r.id id) rows ≡ Some r)
 row_in id rows e =
     let got = any_found (λ r. bytes_eq r.id id) rows e in
     (got.0, got.1)
 
+-- the arguments of `solve`, as built
 abbrev workers_built : Rule
 workers_built = with_index 1 (filled workers_rule)
 
@@ -232,9 +245,7 @@ file_built = with_index 1 (filled file_rule)
 abbrev help_built : Rule
 help_built = with_index 2 (filled help_rule)
 
-solve_rules : solve_shape.rules ≡ workers_built ∷ table_built ∷ file_built ∷ help_built ∷ []
-solve_rules = refl
-
+-- a row that is found has the id
 found_named : (id : Text) (rows : List Row) (r : Row) → find (λ r. bytes_eq r.id id) rows ≡ Some r → bytes_eq r.id id ≡ true
 found_named id [] r e = cc
 found_named id (x ∷ xs) r e = go (bytes_eq x.id id) refl e (λ rest. found_named id xs r rest)
@@ -246,6 +257,7 @@ found_named id (x ∷ xs) r e = go (bytes_eq x.id id) refl e (λ rest. found_nam
         subst (λ y. bytes_eq y.id id ≡ true) one is
     go false is rest later = later rest
 
+-- the last checks of `solve` pass only where a file is given
 file_given : (rows : List Row) → check_fault solve_shape rows false ≡ [] → is_given (codes "file") rows ≡ true
 file_given rows e = go (is_given (codes "file") rows) e
   where
@@ -253,6 +265,7 @@ file_given rows e = go (is_given (codes "file") rows) e
     go true f = refl
     go false f = cc
 
+-- the last checks of `moves` pass only where a line is given
 line_given : (rows : List Row) → check_fault moves_shape rows false ≡ [] → is_given (codes "line") rows ≡ true
 line_given rows e = go (is_given (codes "line") rows) e
   where
@@ -260,6 +273,7 @@ line_given rows e = go (is_given (codes "line") rows) e
     go true f = refl
     go false f = cc
 
+-- matches of `solve` without a fault have what it needs
 pub solve_holds : (words : List Text) → level_fault solve_shape [] nothing_held words false [] ≡ []
     → IsSolve (rows_after solve_shape.rules [] words)
 solve_holds words e =
@@ -280,6 +294,7 @@ solve_holds words e =
       (file.0.values, ap (option_map (λ (r : Row). r.values)) file.1, file_sound.0),
     )
 
+-- a row with a value has a first value
 first_in : (id : Text) (rows : List Row) (r : Row) → find (λ r. bytes_eq r.id id) rows ≡ Some r → 0 < length r.values
     → (t : Text) × (first_of id rows ≡ Some t)
 first_in id rows r found some = go r.values refl some
@@ -288,6 +303,7 @@ first_in id rows r found some = go r.values refl some
     go [] e lt = absurd (omega arith)
     go (v ∷ vs) e lt = (v, rw (found, e) refl)
 
+-- matches of `moves` without a fault have what it needs
 pub moves_holds : (words : List Text) → level_fault moves_shape [] nothing_held words false [] ≡ []
     → IsMoves (rows_after moves_shape.rules [] words)
 moves_holds words e =
@@ -298,9 +314,11 @@ moves_holds words e =
 
 -- ---- the subcommand that the words name
 
+-- matches of a subcommand without a fault have the fact
 abbrev Level : (Text → List Row → Type 0) → Shape → Type 0
 Level G s = (words : List Text) → level_fault s [] nothing_held words false [] ≡ [] → G s.name (rows_after s.rules [] words)
 
+-- so have the matches of the subcommand that was entered
 entered_holds : (G : Text → List Row → Type 0) (a : App) (stop : Option (Text × List Text)) → AllOf (Level G) a.subs
     → is_some (entered a stop) ≡ true → entered_fault a stop ≡ []
     → (name : Text) × (rows : List Row) × (entered a stop ≡ Some (name, rows)) × G name rows
@@ -317,6 +335,7 @@ entered_holds G a (Some p) all some e = go (find (λ s. answers_to p.0 (label_of
 abbrev pub Holds : Text → List Row → Type 0
 Holds name rows = ((name ≡ codes "moves") × IsMoves rows) ⊎ ((name ≡ codes "solve") × IsSolve rows)
 
+-- the last checks of the program pass only where a subcommand is met
 needs_subcommand : (rows : List Row) (b : Bool) → check_fault (built kalah_app).top rows b ≡ [] → b ≡ true
 needs_subcommand rows true e = refl
 needs_subcommand rows false e = cc

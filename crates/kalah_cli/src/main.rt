@@ -13,7 +13,8 @@ mod status;
 use failure::Failure;
 use kalah_jobs::Stream;
 use run::run_words;
-use std::io::{ErrorKind, LineWriter};
+use status::ExitStatus;
+use std::io::{ErrorKind, LineWriter, Write};
 use std::process::ExitCode;
 use std::{env, io};
 
@@ -29,10 +30,13 @@ fn main(rt: HostRuntime) -> ExitCode {
         Err(error) if error.kind() == ErrorKind::OutOfMemory => {
             return ExitCode::from(Failure::OutOfMemory.report(&mut err).code());
         }
-        Err(_) => return ExitCode::from(2),
+        Err(_) => {
+            let _ = writeln!(err, "kalah: a word is not UTF-8");
+            return ExitCode::from(ExitStatus::Failed.code());
+        }
     };
     if words.is_empty() {
-        return ExitCode::from(2);
+        return ExitCode::from(ExitStatus::Failed.code());
     }
     let Ok(out) = LineWriter::new(rt.alloc(), io::writer(&rt)) else {
         return ExitCode::from(Failure::OutOfMemory.report(&mut err).code());

@@ -101,6 +101,11 @@ pub fn run_words<R: Files + Threads + Wait + Sync, O: Sink, E: Write>(
         → (IsAmong DisplayHelp (fault_of kalah_app (map string_bytes words.items)) → ⊥)
         → (result ≡ ExitStatus.Failed) × (out.new ≡ out.old) }
 
+    // Words that are not taken have no line.
+    ensures no_line { fault_of kalah_app (map string_bytes words.items) ≢ []
+        → result ≢ ExitStatus.LineFaults }
+
+    // Where a write failed the program failed, and where it failed for another cause nothing was written.
     ensures failed { O.has_failed out.new ≡ true → result ≡ ExitStatus.Failed }
     ensures unchanged { result ≡ ExitStatus.Failed → O.has_failed out.new ≡ false
         → out.new ≡ out.old }

@@ -31,6 +31,10 @@ returns-in-Ok-Moves-clause-solved g c = λ w t names asked_solve not_failed.
     let taken = carried _ c.args.words.items _ (Moves c.in-Ok-Moves.line) c.as_slice.ensures.value c.in-Ok-Moves.field-0-is c.in-Ok-Moves.ensures.taken in
     absurd (not_moves (texts_of c.args.words.items) c.in-Ok-Moves.line.now w t names taken asked_solve)
 
+pub returns-in-Ok-Moves-clause-no_line : goal.returns-in-Ok-Moves-clause-no_line
+returns-in-Ok-Moves-clause-no_line g c = λ faulty.
+    absurd (faulty (fault_at _ c.args.words.items c.as_slice.ensures.value c.in-Ok-Moves.ensures.kinds))
+
 pub returns-in-Ok-Moves-clause-usage : goal.returns-in-Ok-Moves-clause-usage
 returns-in-Ok-Moves-clause-usage g c = λ faulty unasked.
     absurd (faulty (fault_at _ c.args.words.items c.as_slice.ensures.value c.in-Ok-Moves.ensures.kinds))
@@ -56,6 +60,10 @@ returns-in-Ok-Solve-clause-solved g c = λ w t names asked_solve not_failed.
     subst (λ ns. AnswersFiles ns (g.O.Sink.written c.args.out.now) (g.O.Sink.written c.run_solve.new.out) c.run_solve.result) named
     (subst (λ xs. AnswersFiles (map (λ n. n.now) xs) (g.O.Sink.written c.args.out.now) (g.O.Sink.written c.run_solve.new.out) c.run_solve.result)
     c.as_slice-in-Ok-Solve.ensures.value ends)
+
+pub returns-in-Ok-Solve-clause-no_line : goal.returns-in-Ok-Solve-clause-no_line
+returns-in-Ok-Solve-clause-no_line g c = λ faulty.
+    absurd (faulty (fault_at _ c.args.words.items c.as_slice.ensures.value c.in-Ok-Solve.ensures.kinds))
 
 pub returns-in-Ok-Solve-clause-usage : goal.returns-in-Ok-Solve-clause-usage
 returns-in-Ok-Solve-clause-usage g c = λ faulty unasked.
