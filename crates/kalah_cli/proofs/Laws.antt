@@ -12,7 +12,7 @@ use Rattle.clap.specs.Kinds.{HasKind}
 use Rattle.clap.specs.declared.error.Error.{Error}
 use Rattle.clap.specs.declared.builder.value_parser.Reading.TheVariants.{AsWritten}
 use Rattle.clap.specs.declared.parser.matches.ValueSource.TheVariants.{CommandLine}
-use Rattle.clap.specs.declared.error.kind.ErrorKind.TheVariants.{MissingSubcommand, OutOfMemory}
+use Rattle.clap.specs.declared.error.kind.ErrorKind.TheVariants.{OutOfMemory}
 
 -- the parse of the program is exact, in both outcomes
 pub app_is_simple : is_simple_and_free kalah_app ≡ true
@@ -76,4 +76,3 @@ taken_once words a b p q =
     let x = p.1 in
     let y = q.1 in
     cc
-

@@ -2,13 +2,13 @@
 use Rattle.std.specs.Prelude.{◌≡◌, ◌↔◌, ℕ, List, Option, map}
 use Rattle.std.specs.Io.KnownBytes.{Appends}
 use Rattle.kalah_jobs.specs.NamedBytes.{NamedBytes}
-use Rattle.kalah_jobs.specs.Output.{Counts, output_of, tally_of}
+use Rattle.kalah_jobs.specs.Output.{LineCounts, output_of, tally_of}
 use Rattle.kalah_cli.specs.declared.status.ExitStatus.{ExitStatus}
 use Rattle.kalah_cli.specs.declared.status.ExitStatus.TheVariants.{Clean}
 
 -- files of these names, in order, hold bytes whose output was written between the two states, and nothing else was;
 -- their lines and faults were counted
-pub record CountsFiles (names : List (List ℕ)) (old new : Option (List ℕ)) (counts : Counts) : Type 0 where
+pub record CountsFiles (names : List (List ℕ)) (old new : Option (List ℕ)) (counts : LineCounts) : Type 0 where
   pub files : List NamedBytes
   pub named : map (λ file. file.name) files ≡ names
   pub written : Appends old new (output_of files)

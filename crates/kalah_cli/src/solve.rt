@@ -1,6 +1,5 @@
 //! `kalah solve FILE..`.
 ghost use Rattle.std.specs.Prelude.{◌≡◌, ◌≢◌, ◌↔◌, ◌≤◌, IfErr, IfOk, IsErrOf, false, map, true};
-ghost use Rattle.kalah_run.specs.Tally.{counts_of};
 ghost use Rattle.kalah_cli.specs.Solve.{AnswersFiles, CountsFiles};
 
 use crate::failure::Failure;
@@ -32,9 +31,10 @@ fn solve_files<'a, R: Files + Threads + Wait + Sync, O: Sink>(
     requires table { (1 ≤ table) × (table ≤ 1048576) }
     requires sink { O.has_failed out.old ≡ false }
     ensures solved { IfOk result (λ tally. CountsFiles (map (λ name. name.now) names.now)
-        (O.written out.old) (O.written out.new) (counts_of tally)) }
+        (O.written out.old) (O.written out.new) tally) }
     ensures failed { O.has_failed out.new ≡ true ↔ IsErrOf result Failure.Write }
-    ensures unchanged { IfErr result (λ failure. failure ≢ Failure.Write → out.new ≡ out.old) }
+    ensures unchanged { IfErr result
+        (λ failure. failure ≢ Failure.Write → O.written out.new ≡ O.written out.old) }
 {
     if names.iter().any(|name| has_line_feed(*name)) {
         return Err(Failure::LineFeed);
@@ -63,7 +63,7 @@ pub(crate) fn run_solve<R: Files + Threads + Wait + Sync, O: Sink, E: Write>(
         (O.written out.old) (O.written out.new) result }
     ensures failed { O.has_failed out.new ≡ true → result ≡ ExitStatus.Failed }
     ensures unchanged { result ≡ ExitStatus.Failed → O.has_failed out.new ≡ false
-        → out.new ≡ out.old }
+        → O.written out.new ≡ O.written out.old }
 {
     match solve_files(rt, alloc, names, workers, table, out) {
         Ok(tally) if tally.faults == 0 => ExitStatus::Clean,
