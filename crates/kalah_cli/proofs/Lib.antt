@@ -4,3 +4,4 @@ pub mod Laws
 pub mod Getters
 pub mod Taken
 pub mod Plain
+pub mod Names

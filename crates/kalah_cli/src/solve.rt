@@ -1,6 +1,7 @@
 //! `kalah solve FILE..`.
-ghost use Rattle.std.specs.Prelude.{◌≡◌, ◌≢◌, ◌↔◌, ◌≤◌, IfErr, IfOk, IsErrOf, false, map, true};
-ghost use Rattle.kalah_cli.specs.Solve.{AnswersFiles, CountsFiles};
+ghost use Rattle.std.specs.Prelude.{◌≡◌, ◌≢◌, ◌↔◌, ◌≤◌, IfErr, IfOk, IsErrOf, OnOk, false, map, true};
+ghost use Rattle.std.specs.List.{list_any};
+ghost use Rattle.kalah_cli.specs.Solve.{AnswersFiles, CountsFiles, has_line_feed};
 
 use crate::failure::Failure;
 use crate::files::read_files;
@@ -13,12 +14,22 @@ use std::rt::Files;
 use std::sync::Wait;
 use std::thread::Threads;
 
-// Whether a name can't be told from another line of the output.
-fn has_line_feed(name: &str) -> bool {
+// Whether the name has a line feed in it, so that its answers could be taken for more than one line.
+fn has_line_feed(name: &str) -> bool
+    ensures { result ≡ has_line_feed name.now }
+{
     name.as_bytes().contains(&b'\n')
 }
 
+// Whether one of the names has a line feed in it.
+fn any_has_line_feed(names: &[&str]) -> bool
+    ensures { result ≡ list_any (λ name. has_line_feed name.now) names.now }
+{
+    names.iter().any(|name| has_line_feed(*name))
+}
+
 // Reads the files that are named and writes the answer to each line of them.
+#[tactic(auto, using(crate::proofs::Names::texts_have_line_feed))]
 fn solve_files<'a, R: Files + Threads + Wait + Sync, O: Sink>(
     rt: &R,
     alloc: Global,
@@ -32,11 +43,13 @@ fn solve_files<'a, R: Files + Threads + Wait + Sync, O: Sink>(
     requires sink { O.has_failed out.old ≡ false }
     ensures solved { IfOk result (λ tally. CountsFiles (map (λ name. name.now) names.now)
         (O.written out.old) (O.written out.new) tally) }
+    ensures one_line { OnOk result
+        (list_any has_line_feed (map (λ name. name.now) names.now) ≡ false) }
     ensures failed { O.has_failed out.new ≡ true ↔ IsErrOf result Failure.Write }
     ensures unchanged { IfErr result
         (λ failure. failure ≢ Failure.Write → O.written out.new ≡ O.written out.old) }
 {
-    if names.iter().any(|name| has_line_feed(*name)) {
+    if any_has_line_feed(names) {
         return Err(Failure::LineFeed);
     }
     let files = read_files(rt, alloc, names)?;

@@ -1,5 +1,7 @@
 ghost use Rattle.std.specs.Prelude.{◌≡◌, ◌<◌, IfOk, Some, vec_len};
 
+mod solving;
+
 use super::run_words;
 use crate::status::ExitStatus;
 use kalah_jobs::{Sink, Stream};
