@@ -20,3 +20,4 @@ pub mod SharedOnce
 pub mod SameOffer
 pub mod JobOrders
 pub mod BatchWay
+pub mod RefusalLaw

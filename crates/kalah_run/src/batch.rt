@@ -55,6 +55,7 @@ fn answer_jobs<R: Threads + Wait + Sync, G: Gate, W: Sink>(
     out: &mut W,
 ) -> Result<u32, RunFault>
     requires workers { (0 < workers) × (workers ≤ 64) }
+    requires table { (0 < table) × (table ≤ 1048576) }
     requires jobs { jobs.now ≡ jobs_of files.now }
     requires fresh { W.has_failed out.old ≡ false }
     ensures written { OnOk result (W.has_failed out.new ≡ false → Appends (W.written out.old) (W.written out.new) (output_of files.now)) }

@@ -1,11 +1,11 @@
 //! The results queue: outcomes on their way from many workers to one collector.
 ghost use Rattle.std.specs.Prelude.{◌≡◌, ◌≤◌, ◌<◌, ℕ, List, [], ◌∷◌, ◌++◌, length, All, IfOk, vec_len};
-ghost use Rattle.crossbeam_queue.specs.Passes.{view, IsPassOf, ruled_capacity};
+ghost use Rattle.crossbeam_queue.specs.Passes.{view, IsPassOf};
 ghost use Rattle.kalah_jobs.specs.Offer.{Offer};
 ghost use Rattle.kalah_run.specs.declared.queue_rule.QueueView.TheVariants.{Getting, Putting};
 ghost use Rattle.kalah_run.specs.QueueLists.{Accounts};
-ghost use Rattle.kalah_run.specs.QueueStates.{PutState, ArePassesFrom, sent_by};
-ghost use Rattle.kalah_run.specs.QueueSteps.{sent_in, got_in, made_in, known_in, as_getting, after_get};
+ghost use Rattle.kalah_run.specs.QueueStates.{ArePassesFrom, sent_by};
+ghost use Rattle.kalah_run.specs.QueueSteps.{sent_in, got_in, made_in, as_getting, after_get};
 
 use crate::queue_passes::{ClosedQueue, GetPass, PutPass, ResultsQueue};
 use crate::queue_rule::{

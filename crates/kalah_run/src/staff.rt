@@ -1,5 +1,5 @@
 //! The shifts of a batch: put together before it, and taken apart after it.
-ghost use Rattle.std.specs.Prelude.{◌≡◌, ◌≤◌, [], length, vec_len, vec_capacity, IfOk};
+ghost use Rattle.std.specs.Prelude.{◌≡◌, ◌<◌, ◌≤◌, [], length, vec_len, vec_capacity, IfOk};
 ghost use Rattle.std.specs.List.{All};
 ghost use Rattle.kalah_run.specs.Shifts.{passes_of, puts_of, HaveJobs};
 
@@ -7,15 +7,8 @@ use crate::pass::Pass;
 use crate::queue_passes::PutPass;
 use crate::shift::Shift;
 use kalah_jobs::Jobs;
-use kalah_solve::Solver;
+use kalah_solve::{Solver, Table};
 use std::alloc::{AllocError, Global};
-
-// A solver with a table of its own.
-fn new_solver(alloc: Global, table: u32) -> Result<Solver, AllocError> {
-    let _ = alloc;
-    let _ = table;
-    Ok(Solver::new())
-}
 
 /// A shift for each pair of passes, in their order, each with a solver of its own.
 pub(crate) fn put_together<'a>(
@@ -28,6 +21,7 @@ pub(crate) fn put_together<'a>(
     requires as_many { length passes.items ≡ length puts.items }
     requires drawn { All (λ p. p.row.numbers ≡ []) passes.items }
     requires sent { All (λ p. p.sent ≡ []) puts.items }
+    requires table { (0 < table) × (table ≤ 1048576) }
     ensures passes { IfOk result (λ shifts. passes_of shifts.items ≡ passes.items) }
     ensures puts { IfOk result (λ shifts. puts_of shifts.items ≡ puts.items) }
     ensures jobs { IfOk result (λ shifts. HaveJobs jobs.now shifts.items) }
@@ -38,7 +32,7 @@ pub(crate) fn put_together<'a>(
         let Some(put) = puts.next() else {
             unreachable!()
         };
-        let solver = new_solver(alloc, table)?;
+        let solver = Solver::new(Table::new(alloc, table)?);
         shifts.push(Shift {
             jobs,
             pass,

@@ -107,7 +107,18 @@ fn more_lines_than_the_queue_holds(rt: HostRuntime) -> Result<(), Fail> {
     for line in 1..201u32 {
         text.push_str(format!(in alloc; "n:{line} 0 house 1\n")?.as_str())?;
     }
-    assert!(rt; answers(&rt, alloc, files.as_slice(), 64, 1, &OpenGate, text.as_str(), 0));
+    assert!(rt;
+        answers(
+            &rt,
+            alloc,
+            files.as_slice(),
+            64,
+            1,
+            &OpenGate,
+            text.as_str(),
+            0
+        )
+    );
     Ok(())
 }
 
@@ -134,9 +145,15 @@ fn too_many_files_and_lines_are_refused(rt: HostRuntime) -> Result<(), Fail> {
     }
     let line_feeds = vec![in alloc; b'\n'; 1_000_001]?;
     files.push(file_of(alloc, "b", line_feeds.as_slice())?)?;
-    assert_eq!(rt; fault_of(&rt, alloc, files.as_slice()), Some(RunFault::TooManyFiles));
+    assert_eq!(rt;
+        fault_of(&rt, alloc, files.as_slice()),
+        Some(RunFault::TooManyFiles)
+    );
     let mut one = Vec::new(alloc);
     one.push(file_of(alloc, "b", line_feeds.as_slice())?)?;
-    assert_eq!(rt; fault_of(&rt, alloc, one.as_slice()), Some(RunFault::TooManyLines));
+    assert_eq!(rt;
+        fault_of(&rt, alloc, one.as_slice()),
+        Some(RunFault::TooManyLines)
+    );
     Ok(())
 }

@@ -3,98 +3,132 @@ ghost use Rattle.std.specs.Thread.{IsSync};
 
 use crate::{GetPass, PutPass, ResultsQueue};
 use kalah_jobs::{Entry, LineFault, Outcome};
-use kalah_solve::Solver;
+use kalah_solve::{Solver, Table};
+use std::alloc::{AllocError, Global};
 use std::sync::Wait;
 use std::test::Fail;
 use std::thread;
 use std::thread::Threads;
 
-// How many outcomes each of the threads puts.
+// How many lines each of the files has that threads put.
 const LINES: u32 = 200;
 
-// The outcome of an empty line.
-fn outcome_at(file: u32, line: u32) -> Outcome {
-    Outcome::of(file, line, Entry::Bad(LineFault::Empty), &mut Solver::new())
+// The outcomes of the lines of a file, all of them empty, in their order.
+fn outcomes_of(alloc: Global, file: u32) -> Result<Vec<Outcome>, AllocError> {
+    let mut solver = Solver::new(Table::new(alloc, 16)?);
+    let mut outcomes = Vec::new(alloc);
+    for line in 0..LINES {
+        let entry = Entry::Bad(LineFault::Empty);
+        outcomes.push(Outcome::of(file, line, entry, &mut solver))?;
+    }
+    Ok(outcomes)
 }
 
 #[test]
 fn two_workers_outcomes_are_got(rt: HostRuntime) -> Result<(), Fail> {
+    let mut solver = Solver::new(Table::new(rt.alloc(), 16)?);
+    let first = Outcome::of(0, 3, Entry::Bad(LineFault::Long), &mut solver);
+    let second = Outcome::of(1, 4, Entry::Bad(LineFault::Seeds), &mut solver);
     let (queue, mut puts, mut pass) = ResultsQueue::open(rt.alloc(), 2, 2)?;
-    queue.put(&rt, &mut puts[0], outcome_at(0, 3));
-    queue.put(&rt, &mut puts[1], outcome_at(1, 4));
-    assert_eq!(rt; queue.get(&rt, &mut pass), outcome_at(0, 3));
-    assert_eq!(rt; queue.get(&rt, &mut pass), outcome_at(1, 4));
+    queue.put(&rt, &mut puts[0], first);
+    queue.put(&rt, &mut puts[1], second);
+    assert_eq!(rt; queue.get(&rt, &mut pass), first);
+    assert_eq!(rt; queue.get(&rt, &mut pass), second);
     assert_eq!(rt; queue.close(&rt, puts, pass).left(), 0);
     Ok(())
 }
 
 #[test]
 fn one_of_two_is_left(rt: HostRuntime) -> Result<(), Fail> {
+    let mut solver = Solver::new(Table::new(rt.alloc(), 16)?);
+    let first = Outcome::of(0, 3, Entry::Bad(LineFault::Long), &mut solver);
+    let second = Outcome::of(1, 4, Entry::Bad(LineFault::Seeds), &mut solver);
     let (queue, mut puts, mut pass) = ResultsQueue::open(rt.alloc(), 2, 2)?;
-    queue.put(&rt, &mut puts[0], outcome_at(0, 3));
-    queue.put(&rt, &mut puts[1], outcome_at(1, 4));
-    assert_eq!(rt; queue.get(&rt, &mut pass), outcome_at(0, 3));
+    queue.put(&rt, &mut puts[0], first);
+    queue.put(&rt, &mut puts[1], second);
+    assert_eq!(rt; queue.get(&rt, &mut pass), first);
     assert_eq!(rt; queue.close(&rt, puts, pass).left(), 1);
     Ok(())
 }
 
-// Puts the outcomes of all lines of the file, in their order.
-fn put_file<R: Wait>(rt: &R, queue: &ResultsQueue, mut pass: PutPass, file: u32)
+// Puts all the outcomes, in their order.
+fn put_all<R: Wait>(rt: &R, queue: &ResultsQueue, mut pass: PutPass, outcomes: &[Outcome])
     requires { pass.queue ≡ queue.now.id }
 {
-    for line in 0..LINES {
-        queue.put(rt, &mut pass, outcome_at(file, line));
+    for outcome in outcomes {
+        queue.put(rt, &mut pass, *outcome);
     }
 }
 
-// Gets the outcomes of all lines of two files, and says whether those of each file came in their order.
-fn come_in_order<R: Wait>(rt: &R, queue: &ResultsQueue, mut pass: GetPass) -> bool
+// Gets the outcomes of two files, and gives those of the first file and those of the second, each as they came.
+fn get_both<R: Wait>(
+    rt: &R,
+    alloc: Global,
+    queue: &ResultsQueue,
+    mut pass: GetPass,
+) -> Result<(Vec<Outcome>, Vec<Outcome>), AllocError>
     requires { pass.queue ≡ queue.now.id }
 {
-    let (mut first, mut second) = (0, 0);
+    let (mut first, mut second) = (Vec::new(alloc), Vec::new(alloc));
     for _ in 0..2 * LINES {
         let outcome = queue.get(rt, &mut pass);
-        if outcome == outcome_at(0, first) && first < LINES {
-            first += 1;
-        } else if outcome == outcome_at(1, second) && second < LINES {
-            second += 1;
+        if outcome.file() == 0 {
+            first.push(outcome)?;
         } else {
-            return false;
+            second.push(outcome)?;
         }
     }
-    first == LINES && second == LINES
+    Ok((first, second))
 }
 
-// Two threads put while this one gets.
-fn come_from_threads<R: Threads + Wait + Sync>(
+// Two threads put the outcomes of a file each, while this one gets.
+fn through_threads<R: Threads + Wait + Sync>(
     rt: &R,
+    alloc: Global,
     queue: &ResultsQueue,
-    first: PutPass,
-    second: PutPass,
+    puts: (PutPass, PutPass),
     pass: GetPass,
-) -> bool
-    requires first { first.queue ≡ queue.now.id }
-    requires second { second.queue ≡ queue.now.id }
+    sent: (&[Outcome], &[Outcome]),
+) -> Result<(Vec<Outcome>, Vec<Outcome>), AllocError>
+    requires first { puts.0.queue ≡ queue.now.id }
+    requires second { puts.1.queue ≡ queue.now.id }
     requires pass { pass.queue ≡ queue.now.id }
 {
+    let (first, second) = puts;
+    let (sent_first, sent_second) = sent;
     thread::scope(
         thread::scope_env(),
         rt,
-        move |scope| -> bool
+        move |scope| -> Result<(Vec<Outcome>, Vec<Outcome>), AllocError>
             requires { IsSync R.row × (first.queue ≡ queue.now.id) × (second.queue ≡ queue.now.id) × (pass.queue ≡ queue.now.id) }
         {
-            let puts_first = scope.spawn(move || put_file(rt, queue, first, 0));
-            let puts_second = scope.spawn(move || put_file(rt, queue, second, 1));
-            puts_first.is_ok() && puts_second.is_ok() && come_in_order(rt, queue, pass)
+            let puts_first = scope.spawn(move || put_all(rt, queue, first, sent_first));
+            let puts_second = scope.spawn(move || put_all(rt, queue, second, sent_second));
+            if puts_first.is_err() || puts_second.is_err() {
+                return Err(AllocError);
+            }
+            get_both(rt, alloc, queue, pass)
         },
     )
 }
 
 #[test]
 fn two_threads_outcomes_come_in_order(rt: HostRuntime) -> Result<(), Fail> {
+    let sent_first = outcomes_of(rt.alloc(), 0)?;
+    let sent_second = outcomes_of(rt.alloc(), 1)?;
+    let sent = (sent_first.as_slice(), sent_second.as_slice());
     let (queue, mut puts, pass) = ResultsQueue::open(rt.alloc(), 2, 2)?;
     let second = puts.pop().ok_or("two passes")?;
     let first = puts.pop().ok_or("two passes")?;
-    assert!(rt; come_from_threads(&rt, &queue, first, second, pass));
+    let (got_first, got_second) = through_threads(
+        &rt,
+        rt.alloc(),
+        &queue,
+        (first, second),
+        pass,
+        sent,
+    )?;
+    assert_eq!(rt; got_first.as_slice(), sent.0);
+    assert_eq!(rt; got_second.as_slice(), sent.1);
     Ok(())
 }

@@ -3,11 +3,10 @@
 use super::{answers, same_lines};
 use crate::{Gate, Tally, solve_batch};
 use kalah_jobs::Stream;
-use std::io;
 use std::io::Write;
 use std::sync::atomic::{AtomicBool, Ordering};
 use std::test::Fail;
-use std::thread;
+use std::{io, thread};
 
 // How often a gate looks for what it waits for.
 const TURNS: u32 = 10_000_000;
@@ -210,7 +209,13 @@ fn a_line_is_written_before_the_next_job_begins(rt: HostRuntime) -> Result<(), F
         written: &written,
     });
     let tally = solve_batch(&rt, alloc, files.as_slice(), 1, 16, &gate, &mut out);
-    assert_eq!(rt; tally, Ok(Tally { lines: 2, faults: 0 }));
+    assert_eq!(rt;
+        tally,
+        Ok(Tally {
+            lines: 2,
+            faults: 0
+        })
+    );
     assert_eq!(rt; out.into_inner().bytes.as_slice(), TWO.as_bytes());
     assert!(rt; written.came());
     Ok(())

@@ -107,7 +107,12 @@ fn every_failing_call_ends_the_writing_and_nothing_else(rt: HostRuntime) -> Resu
         let run = run_with(&rt, alloc, files.as_slice(), calls);
         assert_eq!(rt; run.done, 7);
         assert_eq!(rt; run.writer.later_calls, 0);
-        if run.tally == Ok(Tally { lines: 7, faults: 2 }) {
+        if run.tally
+            == Ok(Tally {
+                lines: 7,
+                faults: 2,
+            })
+        {
             break;
         }
         assert_eq!(rt; run.tally, Err(RunFault::Write));
