@@ -147,6 +147,7 @@ wrote_file text jobs past files f begun out failed low ended all way =
       written = λ sound. subst (λ (l : List ℕ). Appends begun out l) text_is (way.written sound);
     }
 
+-- an accepted offer leaves what was written
 way_accepted : (text : ℕ → Taken → List ℕ) (jobs : List (List Entry)) (past : List Offer) (o : Offer) (files : List FileState) (f : ℕ) (begun out : Option (List ℕ)) (failed : Bool)
     → IsWanted jobs files o → IsUnderWay text jobs past files f begun out failed → IsUnderWay text jobs (past ++ o ∷ []) (after_offer files o.file o.line (answer_of o.entry)) f begun out failed
 way_accepted text jobs past o files f begun out failed wanted way =
@@ -169,6 +170,7 @@ way_accepted text jobs past o files f begun out failed wanted way =
       written = λ sound. subst (λ n. Appends begun out (written_upto text jobs f n)) (sym (taken f)) (way.written sound);
     }
 
+-- so does a refused one
 way_refused : (text : ℕ → Taken → List ℕ) (jobs : List (List Entry)) (past : List Offer) (o : Offer) (r : Refusal) (files : List FileState) (f : ℕ) (begun out : Option (List ℕ)) (failed : Bool)
     → IsRefusedFor jobs files o r → IsUnderWay text jobs past files f begun out failed → IsUnderWay text jobs (past ++ o ∷ []) files f begun out failed
 way_refused text jobs past o r files f begun out failed refused way = record {

@@ -26,37 +26,46 @@ pub record HoldsTaken (jobs : List (List Entry)) (events : List Event) (files : 
   pub taken : (f : ℕ) → takes f events ≡ take (state_of files f).taken (answered_lines (entries_of jobs f))
   pub within : (f : ℕ) → (state_of files f).taken ≤ front (state_of files f)
 
+-- what the events say of the collector
 pub record Kept (jobs : List (List Entry)) (events : List Event) (files : List FileState) : Type 0 where
   pub offered : Holds jobs (offers events) files
   pub took : HoldsTaken jobs events files
 
+-- the offers of two lists of events
 pub offers_append : (xs ys : List Event) → offers (xs ++ ys) ≡ offers xs ++ offers ys
 offers_append [] ys = refl
 offers_append (Offered o gave ∷ xs) ys = ap (λ l. o ∷ l) (offers_append xs ys)
 offers_append (Took f gave ∷ xs) ys = offers_append xs ys
 
+-- a choice of a first element, and then more
 if_append : (b : Bool) (t : Taken) (xs ys : List Taken) → (if b then t ∷ (xs ++ ys) else (xs ++ ys)) ≡ (if b then t ∷ xs else xs) ++ ys
 if_append true t xs ys = refl
 if_append false t xs ys = refl
 
+-- what a take gave, and then more
 with_taken_append : (f g : ℕ) (gave : Option Taken) (xs ys : List Taken) → with_taken f g gave (xs ++ ys) ≡ with_taken f g gave xs ++ ys
 with_taken_append f g None xs ys = refl
 with_taken_append f g (Some t) xs ys = if_append (g == f) t xs ys
 
+-- the takes of two lists of events
 pub takes_append : (f : ℕ) (xs ys : List Event) → takes f (xs ++ ys) ≡ takes f xs ++ takes f ys
 takes_append f [] ys = refl
 takes_append f (Offered o gave ∷ xs) ys = takes_append f xs ys
 takes_append f (Took g gave ∷ xs) ys = ap (λ l. with_taken f g gave l) (takes_append f xs ys) ∙ with_taken_append f g gave (takes f xs) (takes f ys)
 
+-- an offer takes nothing
 takes_offered : (f : ℕ) (xs : List Event) (o : Offer) (gave : Result ℕ Refusal) → takes f (xs ++ Offered o gave ∷ []) ≡ takes f xs
 takes_offered f xs o gave = takes_append f xs (Offered o gave ∷ []) ∙ append-nil (takes f xs)
 
+-- nor does a take that gave nothing
 takes_none : (f g : ℕ) (xs : List Event) → takes f (xs ++ Took g None ∷ []) ≡ takes f xs
 takes_none f g xs = takes_append f xs (Took g None ∷ []) ∙ append-nil (takes f xs)
 
+-- a line that was taken of this file
 takes_same : (f g : ℕ) (xs : List Event) (t : Taken) → f ≡ g → takes f (xs ++ Took g (Some t) ∷ []) ≡ takes f xs ++ t ∷ []
 takes_same f g xs t p = takes_append f xs (Took g (Some t) ∷ []) ∙ ap (λ (b : Bool). takes f xs ++ (if b then t ∷ [] else [])) (eq-eqb g f (sym p))
 
+-- a line that was taken of another file
 takes_other : (f g : ℕ) (xs : List Event) (t : Taken) → (f ≡ g → ⊥) → takes f (xs ++ Took g (Some t) ∷ []) ≡ takes f xs
 takes_other f g xs t np = takes_append f xs (Took g (Some t) ∷ []) ∙ ap (λ (b : Bool). takes f xs ++ (if b then t ∷ [] else [])) (ne_eqb g f (λ q. np (sym q))) ∙ append-nil (takes f xs)
 
@@ -68,6 +77,7 @@ taken_after_offer files o a low f =
     (λ (np : f ≡ o.file → ⊥). ap (λ (s : FileState). s.taken) (state_other files o.file f (with_answer (state_of files o.file) o.line a) np))
     (cases_eq f o.file)
 
+-- and moves no front back
 pub front_after_offer : (files : List FileState) (o : Offer) (a : Answer) → o.file < length files → (f : ℕ) → front (state_of files f) ≤ front (state_of (after_offer files o.file o.line a) f)
 front_after_offer files o a low f =
     ⊎_elim
@@ -81,6 +91,7 @@ front_after_offer files o a low f =
     omega arith)
     (cases_eq f o.file)
 
+-- a line that was taken, by its parts
 pub taken_is : (t : Taken) (k : ℕ) (e : Entry) → t.line ≡ k → t.answer ≡ answer_of e → t ≡ answered_line (k, e)
 taken_is t k e p q = ap (λ x. let r : Taken = record { line = x; answer = t.answer } in r) p ∙ ap (λ y. let r : Taken = record { line = k; answer = y } in r) q
 
@@ -96,9 +107,11 @@ answered_at entries n e d is =
     let pair : get_or xs n p ≡ (n, e) = at ∙ ap (λ m. let r : ℕ × Entry = (m, get_or entries n e) in r) (let z : 0 + n ≡ n = omega arith in z) ∙ ap (λ x. let r : ℕ × Entry = (n, x) in r) here in
     get_or-map answered_line xs n p d (omega arith) ∙ ap answered_line pair
 
+-- there are as many answered lines as entries
 pub answered_many : (entries : List Entry) → length (answered_lines entries) ≡ length entries
 answered_many entries = length-map (enumerate_from 0 entries) answered_line ∙ length-enumerate_from 0 entries
 
+-- an accepted offer keeps what the events say
 offered_ok : (jobs : List (List Entry)) (events : List Event) (files : List FileState) (o : Offer) (ready : ℕ) → IsWanted jobs files o → Kept jobs events files
     → Kept jobs (events ++ Offered o (Ok ready) ∷ []) (after_offer files o.file o.line (answer_of o.entry))
 offered_ok jobs events files o ready wanted kept =
@@ -116,6 +129,7 @@ offered_ok jobs events files o ready wanted kept =
       };
     }
 
+-- so does a refused one
 offered_err : (jobs : List (List Entry)) (events : List Event) (files : List FileState) (o : Offer) (r : Refusal) → IsRefusedFor jobs files o r → Kept jobs events files
     → Kept jobs (events ++ Offered o (Err r) ∷ []) files
 offered_err jobs events files o r refused kept = record {
@@ -126,9 +140,11 @@ offered_err jobs events files o r refused kept = record {
   };
 }
 
+-- a take offers nothing
 offers_took : (events : List Event) (f : ℕ) (gave : Option Taken) → offers (events ++ Took f gave ∷ []) ≡ offers events
 offers_took events f gave = offers_append events (Took f gave ∷ []) ∙ append-nil (offers events)
 
+-- a take that gave nothing keeps what the events say
 took_none : (jobs : List (List Entry)) (events : List Event) (files : List FileState) (f : ℕ) → Kept jobs events files → Kept jobs (events ++ Took f None ∷ []) files
 took_none jobs events files f kept = record {
   offered = subst (λ (l : List Offer). Holds jobs l files) (sym (offers_took events f None)) kept.offered;
@@ -150,6 +166,7 @@ first_lines_more jobs past files f t holds is_next =
     let low : n < length xs = (let a = slice_get_within (entries_of jobs f) n w.entry at in let b = answered_many (entries_of jobs f) in omega arith) in
     ap (λ x. take n xs ++ x ∷ []) (sym here) ∙ sym (take_more xs n t low)
 
+-- so does one that gave a line
 took_some : (jobs : List (List Entry)) (events : List Event) (files : List FileState) (f : ℕ) (t : Taken) → f < length files → IsNext (state_of files f) t
     → Kept jobs events files → Kept jobs (events ++ Took f (Some t) ∷ []) (after_take files f)
 took_some jobs events files f t low is_next kept =
@@ -184,6 +201,7 @@ took_some jobs events files f t low is_next kept =
       };
     }
 
+-- any offer
 offered_step : (jobs : List (List Entry)) (events : List Event) (files after : List FileState) (o : Offer) (gave : Result ℕ Refusal) → Offers jobs files o gave after
     → Kept jobs events files → Kept jobs (events ++ Offered o gave ∷ []) after
 offered_step jobs events files after o (Ok ready) step kept =
@@ -191,15 +209,18 @@ offered_step jobs events files after o (Ok ready) step kept =
 offered_step jobs events files after o (Err r) step kept =
     subst (λ (s : List FileState). Kept jobs (events ++ Offered o (Err r) ∷ []) s) (sym step.unchanged) (offered_err jobs events files o r step.cause kept)
 
+-- any take
 took_step : (jobs : List (List Entry)) (events : List Event) (files after : List FileState) (f : ℕ) (gave : Option Taken) → Takes files f gave after → Kept jobs events files → Kept jobs (events ++ Took f gave ∷ []) after
 took_step jobs events files after f None step kept = subst (λ (s : List FileState). Kept jobs (events ++ Took f None ∷ []) s) (sym step.unchanged) (took_none jobs events files f kept)
 took_step jobs events files after f (Some t) step kept =
     subst (λ (s : List FileState). Kept jobs (events ++ Took f (Some t) ∷ []) s) (sym step.kept) (took_some jobs events files f t step.file_there step.next_line kept)
 
+-- any event
 pub happens : (jobs : List (List Entry)) (events : List Event) (files after : List FileState) (e : Event) → Happens jobs files e after → Kept jobs events files → Kept jobs (events ++ e ∷ []) after
 happens jobs events files after (Offered o gave) step kept = offered_step jobs events files after o gave step kept
 happens jobs events files after (Took f gave) step kept = took_step jobs events files after f gave step kept
 
+-- any list of events
 pub runs : (jobs : List (List Entry)) (past events : List Event) (files after : List FileState) → Runs jobs files events after → Kept jobs past files → Kept jobs (past ++ events) after
 runs jobs past [] files after run kept = subst (λ (l : List Event). Kept jobs l after) (sym (append-nil past)) (subst (λ (s : List FileState). Kept jobs past s) run kept)
 runs jobs past (e ∷ events) files after run kept =
@@ -212,20 +233,24 @@ none_replicate zero k = refl
 none_replicate (suc n) zero = refl
 none_replicate (suc n) (suc k) = none_replicate n k
 
+-- nothing has come of new files
 new_none : (jobs : List (List Entry)) (f k : ℕ) → came_for (state_of (new_files jobs) f) k ≡ None
 new_none [] f k = refl
 new_none (entries ∷ jobs) zero k = none_replicate (length entries) k
 new_none (entries ∷ jobs) (suc f) k = new_none jobs f k
 
+-- new files have the jobs' lines
 pub new_lines : (jobs : List (List Entry)) → HasLinesOf jobs (new_files jobs)
 new_lines [] = refl
 new_lines (entries ∷ jobs) = ap (λ n. n ∷ map line_count (new_files jobs)) (length-replicate (length entries) (let x : Option Answer = None in x)) ∙ ap (λ l. length entries ∷ l) (new_lines jobs)
 
+-- nothing was taken of new files
 pub new_taken : (jobs : List (List Entry)) (f : ℕ) → (state_of (new_files jobs) f).taken ≡ 0
 new_taken [] f = refl
 new_taken (entries ∷ jobs) zero = refl
 new_taken (entries ∷ jobs) (suc f) = new_taken jobs f
 
+-- what the empty list of events says of new files
 pub start : (jobs : List (List Entry)) → Kept jobs [] (new_files jobs)
 start jobs = record {
   offered = record {
@@ -243,10 +268,12 @@ start jobs = record {
 and_from : {X : Type 0} (o : Option X) (P : X → Type 0) (x : X) → o ≡ Some x → P x → IsSomeAnd o P
 and_from {X} o P x e p = subst (λ (y : Option X). IsSomeAnd y P) (sym e) p
 
+-- the value, and the fact of it
 and_parts : {X : Type 0} (o : Option X) (P : X → Type 0) → IsSomeAnd o P → (x : X) × (o ≡ Some x) × P x
 and_parts None P h = absurd h
 and_parts (Some x) P h = (x, refl, h)
 
+-- what the events say is what the law says
 pub meets : (jobs : List (List Entry)) (events : List Event) (files : List FileState) → Kept jobs events files → Meets jobs events files
 meets jobs events files kept =
     let came : (f k : ℕ) → Came jobs events f k → IsSome (came_for (state_of files f) k) =
@@ -279,6 +306,7 @@ counts_offered jobs files after o (Ok ready) step counts =
     ∙ counts
 counts_offered jobs files after o (Err r) step counts = ap (λ (l : List FileState). map line_count l) step.unchanged ∙ counts
 
+-- so does a take
 pub counts_taken : (files after : List FileState) (f : ℕ) (gave : Option Taken) → Takes files f gave after → map line_count after ≡ map line_count files
 counts_taken files after f None step = ap (λ (l : List FileState). map line_count l) step.unchanged
 counts_taken files after f (Some t) step = ap (λ (l : List FileState). map line_count l) step.kept ∙ counts_set files f (with_one_taken (state_of files f)) refl

@@ -21,6 +21,7 @@ use Rattle.kalah_jobs.proofs.Fronts.{front_came}
 pub state_same : (files : List FileState) (f : ℕ) (s : FileState) → f < length files → state_of (set files f s) f ≡ s
 state_same files f s low = get_or-set_same files f s no_file low
 
+-- and any other file is as it was
 pub state_other : (files : List FileState) (f g : ℕ) (s : FileState) → g ≢ f → state_of (set files f s) g ≡ state_of files g
 state_other files f g s ne = get_or-set_other files f g s no_file ne
 
@@ -28,6 +29,7 @@ state_other files f g s ne = get_or-set_other files f g s no_file ne
 pub files_many : (jobs : List (List Entry)) (files : List FileState) → HasLinesOf jobs files → length files ≡ length jobs
 files_many jobs files h = sym (length-map files line_count) ∙ ap (λ (l : List ℕ). length l) h ∙ length-map jobs (λ (entries : List Entry). length entries)
 
+-- each file has as many lines as its jobs, also where there is no such file
 pub lines_are : (jobs : List (List Entry)) (files : List FileState) → HasLinesOf jobs files → (f : ℕ) → line_count (state_of files f) ≡ length (entries_of jobs f)
 lines_are [] [] h f = refl
 lines_are [] (s ∷ files) h f = cc
@@ -45,22 +47,32 @@ counts_set (x ∷ files) (suc f) s same = ap (λ l. line_count x ∷ l) (counts_
 pub wanted_file : (jobs : List (List Entry)) (files : List FileState) (o : Offer) → IsWanted jobs files o → o.file < length files
 wanted_file jobs files o w = w.0.0.0.0
 
+-- of a line that the file has
 pub wanted_line : (jobs : List (List Entry)) (files : List FileState) (o : Offer) → IsWanted jobs files o → o.line < line_count (state_of files o.file)
 wanted_line jobs files o w = w.0.0.1
 
+-- with that line's entry
 pub wanted_entry : (jobs : List (List Entry)) (files : List FileState) (o : Offer) → IsWanted jobs files o → entry_at jobs o.file o.line ≡ Some o.entry
 wanted_entry jobs files o w = w.0.1
 
+-- the value of what is Some
 pub some_value : {X : Type 0} (x : Option X) → IsSome x → (a : X) × (x ≡ Some a)
 some_value None h = absurd (false≢true h)
 some_value (Some a) h = (a, refl)
 
+-- what is equal to a Some is Some
 pub is_some_of : {X : Type 0} (x : Option X) (a : X) → x ≡ Some a → IsSome x
 is_some_of {X} x a e = ap (λ (o : Option X). is_some o) e
 
+-- a line has one entry
+pub one_entry : (o : Option Entry) (x y : Entry) → o ≡ Some x → o ≡ Some y → x ≡ y
+one_entry o x y p q = cc
+
+-- an offer by its parts
 offer_is : (o : Offer) (f k : ℕ) → f ≡ o.file → k ≡ o.line → o ≡ offer f k o.entry
 offer_is o f k p q = ap (λ x. offer x o.line o.entry) (sym p) ∙ ap (λ x. offer f x o.entry) (sym q)
 
+-- the entry of an equal place
 entry_moves : (jobs : List (List Entry)) (f g k l : ℕ) → f ≡ g → k ≡ l → entry_at jobs f k ≡ entry_at jobs g l
 entry_moves jobs f g k l p q = ap (λ x. entry_at jobs x k) p ∙ ap (λ y. entry_at jobs g y) q
 
@@ -70,10 +82,12 @@ record IsHere (files : List FileState) (o : Offer) (a : Answer) (f k : ℕ) : Ty
   line_is : k ≡ o.line
   came : came_for (state_of (after_offer files o.file o.line a) f) k ≡ Some a
 
+-- or it is another line, and has what it had
 record IsElsewhere (files : List FileState) (o : Offer) (a : Answer) (f k : ℕ) : Type 0 where
   apart : (f ≡ o.file) × (k ≡ o.line) → ⊥
   kept : came_for (state_of (after_offer files o.file o.line a) f) k ≡ came_for (state_of files f) k
 
+-- one of the two holds of each line
 after_cases : (files : List FileState) (o : Offer) (a : Answer) → o.file < length files → o.line < line_count (state_of files o.file) → (f k : ℕ)
     → IsHere files o a f k ⊎ IsElsewhere files o a f k
 after_cases files o a file_low line_low f k =
@@ -108,8 +122,7 @@ holds_accepted jobs past files o holds wanted =
       came = λ f k e is has.
           ⊎_elim {C = came_for (state_of now f) k ≡ Some (answer_of e)}
           (λ (x : IsHere files o a f k).
-          let same : Some o.entry ≡ Some e = sym entry_is ∙ sym (entry_moves jobs f o.file k o.line x.file_is x.line_is) ∙ is in
-          let e_is : o.entry ≡ e = cc in
+          let e_is : o.entry ≡ e = one_entry (entry_at jobs f k) o.entry e (entry_moves jobs f o.file k o.line x.file_is x.line_is ∙ entry_is) is in
           x.came ∙ ap (λ y. Some (answer_of y)) e_is)
           (λ (x : IsElsewhere files o a f k).
           x.kept ∙ ⊎_elim
@@ -138,6 +151,7 @@ holds_accepted jobs past files o holds wanted =
 line_there : (jobs : List (List Entry)) (files : List FileState) (f k : ℕ) (e : Entry) → HasLinesOf jobs files → entry_at jobs f k ≡ Some e → k < line_count (state_of files f)
 line_there jobs files f k e h is = let m = lines_are jobs files h f in let low = slice_get_within (entries_of jobs f) k e is in omega arith
 
+-- a file with a line is there
 file_there : (files : List FileState) (f k : ℕ) → k < line_count (state_of files f) → f < length files
 file_there [] f k low = absurd (omega arith)
 file_there (s ∷ files) zero k low = omega arith
@@ -165,8 +179,7 @@ holds_refused jobs past files o r holds refused = record {
       let full = refused_came jobs files f k e r holds.counts is (subst (λ (u : Offer). IsRefusedFor jobs files u r) new refused) in
       let v = some_value (came_for (state_of files f) k) full in
       let w = holds.only f k v.0 v.1 in
-      let same : Some w.entry ≡ Some e = sym w.at ∙ is in
-      let e_is : w.entry ≡ e = cc in
+      let e_is : w.entry ≡ e = one_entry (entry_at jobs f k) w.entry e w.at is in
       v.1 ∙ ap (λ x. Some x) (w.is ∙ ap answer_of e_is))
       (Contains-push_cases past o (offer f k e) has);
   only = λ f k a is.
@@ -182,6 +195,7 @@ came_after_take files f low g =
     (λ (np : g ≡ f → ⊥). ap (λ (s : FileState). s.arrived) (state_other files f g (with_one_taken (state_of files f)) np))
     (cases_eq g f)
 
+-- so a take keeps what holds
 pub holds_take : (jobs : List (List Entry)) (past : List Offer) (files : List FileState) (f : ℕ) → f < length files → Holds jobs past files → Holds jobs past (after_take files f)
 holds_take jobs past files f low holds = record {
   counts = counts_set files f (with_one_taken (state_of files f)) refl ∙ holds.counts;

@@ -6,23 +6,27 @@ use Rattle.std.proofs.lemmas.Bool.{cases_lt}
 use Rattle.kalah_jobs.specs.declared.answer.Answer.{Answer}
 use Rattle.kalah_jobs.specs.CollectorState.{front_of}
 
+-- the front is within the lines
 pub front_within : (xs : List (Option Answer)) → front_of xs ≤ length xs
 front_within [] = omega arith
 front_within (None ∷ xs) = omega arith
 front_within (Some a ∷ xs) = omega (arith, front_within xs)
 
+-- each line below the front has come
 pub front_came : (xs : List (Option Answer)) (k : ℕ) → k < front_of xs → is_some (get_or xs k None) ≡ true
 front_came [] k low = absurd (omega arith)
 front_came (None ∷ xs) k low = absurd (omega arith)
 front_came (Some a ∷ xs) zero low = refl
 front_came (Some a ∷ xs) (suc k) low = front_came xs k (omega arith)
 
+-- the front does not pass a gap
 pub front_stops : (xs : List (Option Answer)) (k : ℕ) → is_some (get_or xs k None) ≡ false → front_of xs ≤ k
 front_stops [] k gap = omega arith
 front_stops (None ∷ xs) k gap = omega arith
 front_stops (Some a ∷ xs) zero gap = cc
 front_stops (Some a ∷ xs) (suc k) gap = omega (arith, front_stops xs k gap)
 
+-- a line that has come at the front moves it on
 pub front_more : (xs : List (Option Answer)) (k : ℕ) → k ≤ front_of xs → is_some (get_or xs k None) ≡ true → k + 1 ≤ front_of xs
 front_more [] k low here = cc
 front_more (None ∷ xs) zero low here = cc
@@ -30,16 +34,19 @@ front_more (None ∷ xs) (suc k) low here = absurd (omega arith)
 front_more (Some a ∷ xs) zero low here = omega arith
 front_more (Some a ∷ xs) (suc k) low here = omega (arith, front_more xs k (omega arith) here)
 
+-- an answer more does not move the front back
 pub front_set : (xs : List (Option Answer)) (k : ℕ) (a : Answer) → front_of xs ≤ front_of (set xs k (Some a))
 front_set [] k a = omega arith
 front_set (None ∷ xs) k a = omega arith
 front_set (Some b ∷ xs) zero a = omega arith
 front_set (Some b ∷ xs) (suc k) a = omega (arith, front_set xs k a)
 
+-- where nothing came the front is at the first line
 pub front_none : (n : ℕ) → front_of (replicate n None) ≡ 0
 front_none zero = refl
 front_none (suc n) = refl
 
+-- where all lines came the front is at the end
 pub front_full : (xs : List (Option Answer)) → ((k : ℕ) → k < length xs → is_some (get_or xs k None) ≡ true) → front_of xs ≡ length xs
 front_full [] all = refl
 front_full (None ∷ xs) all = let h = all 0 (omega arith) in cc

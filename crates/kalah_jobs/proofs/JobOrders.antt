@@ -22,11 +22,12 @@ use Rattle.kalah_jobs.specs.Shares.{AreShared}
 use Rattle.kalah_jobs.specs.Batch.{job, AreJobsInSomeOrder}
 use Rattle.kalah_jobs.specs.UnderWay.{Holds}
 use Rattle.kalah_jobs.proofs.Fronts.{front_full, front_came}
-use Rattle.kalah_jobs.proofs.CollectorSteps.{lines_are, files_many, some_value, refused_came}
+use Rattle.kalah_jobs.proofs.CollectorSteps.{lines_are, some_value, one_entry, refused_came}
 use Rattle.kalah_jobs.proofs.CollectorRuns.{runs, start}
-use Rattle.kalah_jobs.proofs.SharedOnce.{total_rows, count_below, got_all_once, nothing_left}
+use Rattle.kalah_jobs.proofs.SharedOnce.{total_rows, count_below, count_true, got_all_once, nothing_left}
 use Rattle.kalah_jobs.proofs.SameOffer.{same_offer, same_itself, same_means}
 
+-- another offer does not pass the test
 is_other : (a b : Offer) → (b ≡ a → ⊥) → same_offer a b ≡ false
 is_other a b ne =
     ⊎_elim
@@ -34,9 +35,11 @@ is_other a b ne =
     (λ (h : same_offer a b ≡ false). h)
     (cases_Bool (same_offer a b))
 
+-- nor one of another file
 differ_file : (a b : Offer) → (b.file ≡ a.file → ⊥) → same_offer a b ≡ false
 differ_file a b ne = is_other a b (λ e. ne (ap (λ (u : Offer). u.file) e))
 
+-- nor one of another line
 differ_line : (a b : Offer) → (b.line ≡ a.line → ⊥) → same_offer a b ≡ false
 differ_line a b ne = is_other a b (λ e. ne (ap (λ (u : Offer). u.line) e))
 
@@ -44,30 +47,38 @@ differ_line a b ne = is_other a b (λ e. ne (ap (λ (u : Offer). u.line) e))
 times : Offer → List Offer → ℕ
 times o xs = count_by (λ x. same_offer o x) xs
 
+-- one offer more
 times_cons : (o x : Offer) (xs : List Offer) → times o (x ∷ xs) ≡ cond (same_offer o x) 1 0 + times o xs
 unfolding times
 times_cons o x xs = sum_by-cons (λ x. cond (same_offer o x) 1 0) x xs
 
+-- two lists
 times_append : (o : Offer) (xs ys : List Offer) → times o (xs ++ ys) ≡ times o xs + times o ys
 unfolding times
 times_append o xs ys = sum_by-append (λ x. cond (same_offer o x) 1 0) xs ys
 
+-- one more where it is the offer
 times_yes : (o x : Offer) (xs : List Offer) → same_offer o x ≡ true → times o (x ∷ xs) ≡ times o xs + 1
 times_yes o x xs h = times_cons o x xs ∙ ap (λ (b : Bool). cond b 1 0 + times o xs) h ∙ omega arith
 
+-- as often where it is another
 times_no : (o x : Offer) (xs : List Offer) → same_offer o x ≡ false → times o (x ∷ xs) ≡ times o xs
 times_no o x xs h = times_cons o x xs ∙ ap (λ (b : Bool). cond b 1 0 + times o xs) h ∙ omega arith
 
+-- never in the empty list
 times_nil : (o : Offer) → times o [] ≡ 0
 unfolding times
 times_nil o = refl
 
+-- a list has its first element
 contains_first : (x : Offer) (xs : List Offer) → Contains (x ∷ xs) x
 contains_first x xs = (0, omega arith, refl)
 
+-- and each later one
 contains_later : (x y : Offer) (xs : List Offer) → Contains xs y → Contains (x ∷ xs) y
 contains_later x y xs h = (suc h.0, (let low = h.1 in omega arith), h.2)
 
+-- what stands in a list is found in it
 contains_from_times : (o : Offer) (xs : List Offer) → 0 < times o xs → Contains xs o
 contains_from_times o [] h = absurd (let z = times_nil o in omega arith)
 contains_from_times o (x ∷ xs) h =
@@ -76,6 +87,7 @@ contains_from_times o (x ∷ xs) h =
     (λ (no : same_offer o x ≡ false). contains_later x o xs (contains_from_times o xs (let a = times_no o x xs no in omega arith)))
     (cases_Bool (same_offer o x))
 
+-- and the other way round
 times_from_contains : (o : Offer) (xs : List Offer) → Contains xs o → 0 < times o xs
 times_from_contains o [] h = absurd (let low = h.1 in omega arith)
 times_from_contains o (x ∷ xs) (zero, low, is) =
@@ -91,10 +103,12 @@ lines_before : (o : Offer) (f k : ℕ) (entries : List Entry) → o.line < k →
 lines_before o f k [] low = times_nil o
 lines_before o f k (e ∷ entries) low = times_no o (offer f k e) (file_jobs f (suc k) entries) (differ_line o (offer f k e) (λ q. omega arith)) ∙ lines_before o f (suc k) entries (omega arith)
 
+-- an offer of another file does not stand among a file's lines
 lines_elsewhere : (o : Offer) (f k : ℕ) (entries : List Entry) → (f ≡ o.file → ⊥) → times o (file_jobs f k entries) ≡ 0
 lines_elsewhere o f k [] ne = times_nil o
 lines_elsewhere o f k (e ∷ entries) ne = times_no o (offer f k e) (file_jobs f (suc k) entries) (differ_file o (offer f k e) ne) ∙ lines_elsewhere o f (suc k) entries ne
 
+-- an offer stands among a file's lines at most once
 lines_once : (o : Offer) (f k : ℕ) (entries : List Entry) → times o (file_jobs f k entries) ≤ 1
 lines_once o f k [] = let z = times_nil o in omega arith
 lines_once o f k (e ∷ entries) =
@@ -110,6 +124,7 @@ lines_once o f k (e ∷ entries) =
     omega arith)
     (cases_Bool (same_offer o (offer f k e)))
 
+-- an offer of an earlier file does not stand among later files
 files_before : (o : Offer) (f : ℕ) (jobs : List (List Entry)) → o.file < f → times o (jobs_from f jobs) ≡ 0
 files_before o f [] low = times_nil o
 files_before o f (entries ∷ jobs) low =
@@ -118,6 +133,7 @@ files_before o f (entries ∷ jobs) low =
     let c = files_before o (suc f) jobs (omega arith) in
     omega arith
 
+-- an offer stands among the jobs at most once
 files_once : (o : Offer) (f : ℕ) (jobs : List (List Entry)) → times o (jobs_from f jobs) ≤ 1
 files_once o f [] = let z = times_nil o in omega arith
 files_once o f (entries ∷ jobs) =
@@ -140,6 +156,7 @@ record IsLineFrom (f k : ℕ) (entries : List Entry) (o : Offer) : Type 0 where
   line_is : o.line ≡ k + place
   entry_is : slice_get entries place ≡ Some o.entry
 
+-- an offer among a file's lines is one of them
 line_from : (o : Offer) (f k : ℕ) (entries : List Entry) → Contains (file_jobs f k entries) o → IsLineFrom f k entries o
 line_from o f k [] has = absurd (let low = has.1 in omega arith)
 line_from o f k (e ∷ entries) (zero, low, is) = record {
@@ -157,11 +174,13 @@ line_from o f k (e ∷ entries) (suc i, low, is) =
       entry_is = h.entry_is;
     }
 
+-- an offer among the files from f on is that of a line, with its entry
 record IsJobFrom (f : ℕ) (jobs : List (List Entry)) (o : Offer) : Type 0 where
   place : ℕ
   file_is : o.file ≡ f + place
   entry_is : entry_at jobs place o.line ≡ Some o.entry
 
+-- an offer among the jobs is one of them
 job_from : (o : Offer) (f : ℕ) (jobs : List (List Entry)) → Contains (jobs_from f jobs) o → IsJobFrom f jobs o
 job_from o f [] has = absurd (let low = has.1 in omega arith)
 job_from o f (entries ∷ jobs) has =
@@ -192,6 +211,7 @@ line_has f k l zero e (x ∷ entries) at is =
     (subst (λ m. Contains (file_jobs f k (x ∷ entries)) (offer f m x)) (omega arith) (contains_first (offer f k x) (file_jobs f (suc k) entries)))
 line_has f k l (suc j) e (x ∷ entries) at is = contains_later (offer f k x) (offer f l e) (file_jobs f (suc k) entries) (line_has f (suc k) l j e entries (omega arith) is)
 
+-- each line of each file is among the jobs
 job_has : (f g i k : ℕ) (e : Entry) (jobs : List (List Entry)) → g ≡ f + i → entry_at jobs i k ≡ Some e → Contains (jobs_from f jobs) (offer g k e)
 job_has f g i k e [] at is = absurd (let bad : None ≡ Some e = is in cc)
 job_has f g zero k e (entries ∷ jobs) at is =
@@ -205,6 +225,7 @@ same_times : (jobs : List (List Entry)) (got : List Offer) → AreJobsInSomeOrde
 unfolding times
 same_times jobs got h o = h.same_counts (λ x. same_offer o x)
 
+-- so each line was offered with its entry
 pub each_came : (jobs : List (List Entry)) (got : List Offer) → AreJobsInSomeOrder jobs got → (f k : ℕ) (e : Entry) → entry_at jobs f k ≡ Some e → Contains got (offer f k e)
 each_came jobs got h f k e is =
     let o : Offer = offer f k e in
@@ -227,17 +248,18 @@ not_refused jobs past o rest files r h holds refused =
     let full = refused_came jobs files o.file o.line o.entry r holds.counts entry_is refused in
     let v = some_value (came_for (state_of files o.file) o.line) full in
     let w = holds.only o.file o.line v.0 v.1 in
-    let same : Some w.entry ≡ Some o.entry = sym w.at ∙ entry_is in
-    let e_is : w.entry ≡ o.entry = cc in
+    let e_is : w.entry ≡ o.entry = one_entry (entry_at jobs o.file o.line) w.entry o.entry w.at entry_is in
     let has : Contains past o = subst (λ x. Contains past (offer o.file o.line x)) e_is w.offered in
     let z = times_from_contains o past has in
     omega arith
 
+-- it is accepted
 pub each_accepted : (jobs : List (List Entry)) (past : List Offer) (o : Offer) (rest : List Offer) (files after : List FileState) (gave : Result ℕ Refusal) → AreJobsInSomeOrder jobs (past ++ o ∷ rest) → Holds jobs past files
     → Offers jobs files o gave after → IsOk gave
 each_accepted jobs past o rest files after (Ok ready) h holds step = refl
 each_accepted jobs past o rest files after (Err r) h holds step = absurd (not_refused jobs past o rest files r h holds step.cause)
 
+-- where each job was offered, each file has ended
 pub fronts_full : (jobs : List (List Entry)) (past : List Offer) (files : List FileState) → AreJobsInSomeOrder jobs past → Holds jobs past files → (f : ℕ) → HasEnded (state_of files f)
 fronts_full jobs past files h holds f =
     front_full (state_of files f).arrived (λ k low.
@@ -245,6 +267,10 @@ fronts_full jobs past files h holds f =
     let e : Entry = get_or (entries_of jobs f) k (Bad Empty) in
     let is : entry_at jobs f k ≡ Some e = slice_get-get_or (entries_of jobs f) k (Bad Empty) (omega arith) in
     ap (λ (x : Option Answer). is_some x) (holds.came f k e is (each_came jobs past h f k e is)))
+
+-- as many were got as there are jobs
+pub as_many : (jobs : List (List Entry)) (got : List Offer) → AreJobsInSomeOrder jobs got → length got ≡ length (job_list jobs)
+as_many jobs got h = sym (count_true got) ∙ h.same_counts (λ o. true) ∙ count_true (job_list jobs)
 
 -- the three laws
 pub shares_law : (jobs : List (List Entry)) (rows : List (List ℕ)) (got rest : List (ℕ × Offer)) → AreShared (length (job_list jobs)) (job jobs) rows (got ++ rest)
@@ -260,10 +286,12 @@ shares_law jobs rows got rest shared whole =
           ∙ total_rows (λ (o : Offer). cond (p o) 1 0) (offer 0 0 (Bad Empty)) (job_list jobs);
     }
 
+-- the law of offers
 pub offers_law : (jobs : List (List Entry)) (past : List Event) (o : Offer) (rest : List Offer) (files after : List FileState) (gave : Result ℕ Refusal) → AreJobsInSomeOrder jobs (offers past ++ o ∷ rest)
     → Runs jobs (new_files jobs) past files → Offers jobs files o gave after → IsOk gave
 offers_law jobs past o rest files after gave h run step = each_accepted jobs (offers past) o rest files after gave h (runs jobs [] past (new_files jobs) files run (start jobs)).offered step
 
+-- the law of fronts
 pub fronts_law : (jobs : List (List Entry)) (events : List Event) (files : List FileState) → AreJobsInSomeOrder jobs (offers events)
     → Runs jobs (new_files jobs) events files → (f : ℕ) → HasEnded (state_of files f)
 fronts_law jobs events files h run = fronts_full jobs (offers events) files h (runs jobs [] events (new_files jobs) files run (start jobs)).offered

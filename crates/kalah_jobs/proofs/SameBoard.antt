@@ -24,6 +24,7 @@ unpadded xs ys long same =
     ∙ ap (λ l. take (length ys) l) same
     ∙ take-append_seam ys (replicate (6 - length ys) 0)
 
+-- boards that are equal by `==` show the same position, where both sides have as many houses
 pub same_board_means : (p q : Position) → length p.other ≡ length p.own → length q.other ≡ length q.own → same_board p q ≡ true → p ≡ q
 same_board_means p q p_sides q_sides h =
     let x_own : Bool = pointwise ◌==◌ (padded p.own) (padded q.own) in
@@ -42,5 +43,6 @@ same_board_means p q p_sides q_sides h =
     let rule : p.rule ≡ q.rule = same_true the_type (search rules) p.rule q.rule e.1 in
     λ i. record { own = own i; own_store = own_store i; other = other i; other_store = other_store i; rule = rule i }
 
+-- a board is equal to itself
 pub same_board_itself : (p : Position) → same_board p p ≡ true
 same_board_itself p = laws-law.refl p

@@ -5,6 +5,7 @@ use Rattle.std.specs.Coded.{Coded, codes}
 use base.Stored.{Gv, gnil, gnum, gcons}
 use Rattle.kalah_jobs.specs.Offer.{Offer}
 
+-- offers told apart by a code
 coded_offer : Coded Offer
 coded_offer = hlevel codes
 
@@ -20,6 +21,7 @@ same_code (gcons a b) gnil = false
 same_code (gcons a b) (gnum n) = false
 same_code (gcons a b) (gcons c d) = same_code a c && same_code b d
 
+-- which are then equal
 same_code_means : (x y : Gv) → same_code x y ≡ true → x ≡ y
 unfolding same_code
 same_code_means gnil gnil h = refl
@@ -34,19 +36,23 @@ same_code_means (gcons a b) (gcons c d) h =
     let parts = and_parts (same_code a c) (same_code b d) h in
     ap (λ x. gcons x b) (same_code_means a c parts.0) ∙ ap (λ x. gcons c x) (same_code_means b d parts.1)
 
+-- a code is the same as itself
 same_code_itself : (x : Gv) → same_code x x ≡ true
 unfolding same_code
 same_code_itself gnil = refl
 same_code_itself (gnum n) = eq-eqb n n refl
 same_code_itself (gcons a b) = and_from (same_code a a) (same_code b b) (same_code_itself a) (same_code_itself b)
 
+-- the test
 pub same_offer : Offer → Offer → Bool
 same_offer a b = same_code (coded_offer.code b) (coded_offer.code a)
 
+-- an offer passes its own test
 pub same_itself : (o : Offer) → same_offer o o ≡ true
 unfolding same_offer
 same_itself o = same_code_itself (coded_offer.code o)
 
+-- and no other does
 pub same_means : (a b : Offer) → same_offer a b ≡ true → b ≡ a
 unfolding same_offer
 same_means a b h = coded_offer.inj b a (same_code_means (coded_offer.code b) (coded_offer.code a) h)

@@ -15,6 +15,7 @@ pub total : ℕ → (ℕ → ℕ) → ℕ
 total zero f = 0
 total (suc n) f = total n f + f n
 
+-- the same terms
 pub total_same : (n : ℕ) (f g : ℕ → ℕ) → ((w : ℕ) → w < n → f w ≡ g w) → total n f ≡ total n g
 unfolding total
 total_same zero f g h = refl
@@ -37,6 +38,7 @@ total_one (suc n) f g k d lt e h =
     omega arith)
     (eqb_tells n k)
 
+-- no terms but zeros
 pub total_none : (n : ℕ) (f : ℕ → ℕ) → ((w : ℕ) → w < n → f w ≡ 0) → total n f ≡ 0
 unfolding total
 total_none zero f h = refl
@@ -74,6 +76,7 @@ counted {X} p n (t ∷ ts) below =
     let b : count_by p (map (λ (u : ℕ × X). u.1) ts) ≡ total n g = counted p n ts (All-tail P t ts below) in
     omega (arith, sum_by-cons (λ (x : X). cond (p x) 1 0) t.1 (map (λ (u : ℕ × X). u.1) ts))
 
+-- a test of what f gives
 pub count_map : {X : Type 0} (p : X → Bool) (f : ℕ → X) (xs : List ℕ) → count_by p (map f xs) ≡ count_by (λ x. p (f x)) xs
 count_map p f [] = refl
 count_map {X} p f (x ∷ xs) = omega (arith, count_map p f xs, sum_by-cons (λ (y : X). cond (p y) 1 0) (f x) (map f xs), sum_by-cons (λ y. cond (p (f y)) 1 0) x xs)
@@ -82,6 +85,7 @@ count_map {X} p f (x ∷ xs) = omega (arith, count_map p f xs, sum_by-cons (λ (
 chosen : Bool → ℕ → ℕ
 chosen b c = cond b c 0
 
+-- as many pass as there are numbers that pass, each as often as it stands in the list
 count_split : (q : ℕ → Bool) (m : ℕ) (xs : List ℕ) → All (λ x. x < m) xs → count_by q xs ≡ total m (λ x. chosen (q x) (count_by (λ y. y == x) xs))
 unfolding chosen
 count_split q m [] below = sym (total_none m (λ x. chosen (q x) 0) (λ x lt. elim (q x) as (λ (b : Bool). chosen b 0 ≡ 0) [ true ↦ refl | false ↦ refl ]))
@@ -106,6 +110,7 @@ count_split q m (z ∷ zs) below =
 unfoldable pub count_below : ℕ → (ℕ → Bool) → ℕ
 count_below n q = total n (λ x. cond (q x) 1 0)
 
+-- where no number from n on stands in the list, all are below n
 all_below : (n : ℕ) (xs : List ℕ) → ((x : ℕ) → n ≤ x → count_by (λ y. y == x) xs ≡ 0) → All (λ x. x < n) xs
 all_below n [] none = All-nil (λ x. x < n)
 all_below n (z ∷ zs) none =
@@ -114,6 +119,7 @@ all_below n (z ∷ zs) none =
     let low : z < n = ⊎_elim (λ (l : z < n). l) (λ (g : n ≤ z). absurd (let h = none z g in omega arith)) (cases_lt z n) in
     All-cons (λ x. x < n) z zs low (all_below n zs (λ x g. let h = none x g in omega (arith, step x)))
 
+-- rows counted in one list
 count_flat : (q : ℕ → Bool) (rows : List (List ℕ)) → count_by q (flat_map (λ r. r) rows) ≡ sum_by (λ r. count_by q r) rows
 count_flat q [] = refl
 count_flat q (r ∷ rs) = omega (arith, count_flat q rs, sum_by-cons (λ r. count_by q r) r rs, sum_by-append (λ x. cond (q x) 1 0) r (flat_map (λ r. r) rs))
@@ -140,10 +146,12 @@ got_all_once {X} p n f rows got s =
     ∙ total_rows (λ r. count_by q r) [] rows
     ∙ rows_count n rows q s.each_once
 
-count_true : {X : Type 0} (xs : List X) → count_by (λ (x : X). true) xs ≡ length xs
+-- each passes a test that all pass
+pub count_true : {X : Type 0} (xs : List X) → count_by (λ (x : X). true) xs ≡ length xs
 count_true [] = refl
 count_true {X} (x ∷ xs) = omega (arith, count_true xs, sum_by-cons (λ (y : X). cond true 1 0) x xs)
 
+-- each number below n passes a test that all pass
 below_true : (n : ℕ) → count_below n (λ x. true) ≡ n
 unfolding count_below total
 below_true zero = refl

@@ -51,6 +51,7 @@ offers [] = []
 offers (Offered o gave ∷ events) = o ∷ offers events
 offers (Took f gave ∷ events) = offers events
 
+-- what a take of file g gave, put before `rest` where it is file f that is asked for
 abbrev pub with_taken : ℕ → ℕ → Option Taken → List Taken → List Taken
 with_taken f g None rest = rest
 with_taken f g (Some t) rest = if g == f then t ∷ rest else rest

@@ -39,6 +39,7 @@ new_file n = record { arrived = replicate n None; taken = 0 }
 abbrev pub no_file : FileState
 no_file = record { arrived = []; taken = 0 }
 
+-- the state of file f
 abbrev pub state_of : List FileState → ℕ → FileState
 state_of files f = slice_index_or files f no_file
 

@@ -1,6 +1,7 @@
 //! What has come for one file.
 ghost use Rattle.std.specs.Prelude.{◌≡◌, ◌+◌, ◌<◌, ◌≤◌, ◌↔◌, ◌==◌, IfOk, IsTrue, IsSome, MatchOption, MatchBool, None, length};
 ghost use Rattle.kalah_jobs.specs.CollectorState.{new_file, line_count, front, front_of, came_for, with_answer, HasEnded, with_one_taken, IsNext, HasNoNext};
+ghost use Rattle.kalah_jobs.specs.Jobs.{most_lines};
 
 use crate::answer::{Answer, Taken};
 use std::alloc::{AllocError, Global};
@@ -17,19 +18,20 @@ pub(crate) struct Arrivals {
 impl Model for Arrivals {
     ghost use Rattle.std.specs.Prelude.{◌≡◌, ◌≤◌, length};
     ghost use Rattle.kalah_jobs.specs.CollectorState.{FileState, front_of};
+    ghost use Rattle.kalah_jobs.specs.Jobs.{most_lines};
 
     ghost Value = { FileState };
 
     ghost view = { λ a. record { arrived = a.slots.items; taken = a.taken } };
 
-    ghost invariant = { λ a. (a.ready ≡ front_of a.slots.items) × (a.taken ≤ a.ready) × (length a.slots.items ≤ 1000000) };
+    ghost invariant = { λ a. (a.ready ≡ front_of a.slots.items) × (a.taken ≤ a.ready) × (length a.slots.items ≤ most_lines) };
 }
 
 // The first slot with nothing in it, where those below `from` are full.
 #[tactic(auto, using(crate::proofs::Fronts::front_within, crate::proofs::Fronts::front_more, crate::proofs::Fronts::front_stops))]
 fn first_gap(slots: &[Option<Answer>], from: u32) -> u32
     requires full { from ≤ front_of slots.now }
-    requires short { length slots.now ≤ 1000000 }
+    requires short { length slots.now ≤ most_lines }
     ensures { result ≡ front_of slots.now }
 {
     let mut gap = from;
@@ -43,7 +45,7 @@ impl Arrivals {
     // A file of so many lines, of which none has come.
     #[tactic(auto, using(crate::proofs::Fronts::front_none))]
     pub(crate) fn new(alloc: Global, lines: u32) -> Result<Arrivals, AllocError>
-        requires { lines ≤ 1000000 }
+        requires { lines ≤ most_lines }
         ensures { IfOk result (λ a. a ≡ new_file lines) }
     {
         let slots = vec![in alloc; None; lines as usize]?;

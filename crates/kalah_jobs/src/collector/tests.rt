@@ -1,9 +1,11 @@
 //! Offers in each order, with doubles and strangers between them, and what is taken.
-ghost use Rattle.std.specs.Prelude.{IfOk};
+ghost use Rattle.std.specs.Prelude.{◌≡◌, IfOk};
+ghost use Rattle.kalah_jobs.specs.JobList.{offer};
 ghost use Rattle.kalah_jobs.specs.CollectorState.{HasLinesOf};
 
-use crate::{Answer, Collector, Entry, FileJobs, Jobs, LineFault, Outcome, Refusal};
+use crate::{Answer, Collector, Entry, FileText, Jobs, LineFault, Outcome, Refusal};
 use kalah_rules::{Board, Rule};
+use kalah_solve::Solver;
 use std::alloc::Global;
 use std::process::Abort;
 use std::test::Fail;
@@ -17,14 +19,24 @@ fn one_house(seeds: u8, rule: Rule) -> Result<Entry, Fail> {
 
 // A file of three lines, with one, two and three seeds, and an empty file.
 fn two_files(alloc: Global) -> Result<Jobs, Fail> {
-    let mut lines = Vec::new(alloc);
-    lines.push(one_house(1, Rule::Classic)?)?;
-    lines.push(one_house(2, Rule::Classic)?)?;
-    lines.push(one_house(3, Rule::Classic)?)?;
     let mut files = Vec::new(alloc);
-    files.push(FileJobs::new(lines))?;
-    files.push(FileJobs::new(Vec::new(alloc)))?;
-    Ok(Jobs::of_rows(files))
+    files.push(FileText {
+        name: "a".to_string(alloc)?,
+        bytes: b"1/0 1/0\n2/0 2/0\n3/0 3/0".to_vec(alloc)?,
+    })?;
+    files.push(FileText {
+        name: "b".to_string(alloc)?,
+        bytes: Vec::new(alloc),
+    })?;
+    Ok(Jobs::of_files(alloc, files.as_slice())?)
+}
+
+// The outcome of a line.
+fn outcome(place: (u32, u32), entry: Entry) -> Outcome
+    ensures { result ≡ offer place.0 place.1 entry }
+{
+    let mut solver = Solver::new();
+    Outcome::of(place.0, place.1, entry, &mut solver)
 }
 
 // What is answered to the offer of a line with so many seeds.
@@ -38,7 +50,7 @@ fn offered(
     ensures { IfOk result (λ _. HasLinesOf jobs.now collector.new) }
 {
     let entry = one_house(seeds, Rule::Classic)?;
-    Ok(collector.offer(jobs, Outcome::of(place.0, place.1, entry)))
+    Ok(collector.offer(jobs, outcome(place, entry)))
 }
 
 // What is answered to the offer of a line that is not read.
@@ -51,7 +63,7 @@ fn offered_fault(
     ensures { HasLinesOf jobs.now collector.new }
 {
     let entry = Entry::Bad(LineFault::Empty);
-    collector.offer(jobs, Outcome::of(place.0, place.1, entry))
+    collector.offer(jobs, outcome(place, entry))
 }
 
 // Takes a line of the first file, and tests which it is.
@@ -59,6 +71,18 @@ fn take(rt: &impl Abort, collector: &mut Collector, line: u32, answer: Answer) {
     let taken = collector.take(0);
     assert_eq!(rt; taken.map(|t| t.line), Some(line));
     assert_eq!(rt; taken.map(|t| t.answer), Some(answer));
+}
+
+// Takes the three lines of the first file, each once, and nothing else.
+fn take_all(rt: &impl Abort, collector: &mut Collector) {
+    assert!(rt; !collector.all_taken());
+    take(rt, collector, 0, Answer::Best { margin: 0, house: 1 });
+    take(rt, collector, 1, Answer::Best { margin: -2, house: 1 });
+    take(rt, collector, 2, Answer::Best { margin: 6, house: 1 });
+    assert!(rt; collector.take(0).is_none());
+    assert!(rt; collector.take(1).is_none());
+    assert!(rt; collector.take(9).is_none());
+    assert!(rt; collector.all_taken());
 }
 
 #[test]
@@ -80,6 +104,7 @@ fn answers_each_offer(rt: HostRuntime) -> Result<(), Fail> {
     assert_eq!(rt; offered(c, &jobs, (0, 1), 2)?, Err(FileEnded));
     assert_eq!(rt; offered(c, &jobs, (0, 7), 1)?, Err(FileEnded));
     assert_eq!(rt; offered(c, &jobs, (1, 0), 1)?, Err(FileEnded));
+    take_all(&rt, c);
     Ok(())
 }
 
@@ -93,14 +118,7 @@ fn gives_each_line_once(rt: HostRuntime) -> Result<(), Fail> {
     assert_eq!(rt; offered(c, &jobs, (0, 0), 1)?, Ok(2));
     assert_eq!(rt; offered(c, &jobs, (0, 2), 3)?, Ok(1));
     assert!(rt; c.ended(0));
-    assert!(rt; !c.all_taken());
-    take(&rt, c, 0, Answer::Best { margin: 0, house: 1 });
-    take(&rt, c, 1, Answer::Best { margin: 0, house: 1 });
-    take(&rt, c, 2, Answer::Best { margin: 0, house: 1 });
-    assert!(rt; c.take(0).is_none());
-    assert!(rt; c.take(1).is_none());
-    assert!(rt; c.take(9).is_none());
-    assert!(rt; c.all_taken());
+    take_all(&rt, c);
     Ok(())
 }
 
@@ -152,9 +170,9 @@ fn refuses_a_line_that_was_taken(rt: HostRuntime) -> Result<(), Fail> {
 fn refuses_a_position_under_the_other_rule(rt: HostRuntime) -> Result<(), Fail> {
     let jobs = two_files(rt.alloc())?;
     let mut collector = Collector::new(rt.alloc(), &jobs)?;
-    let other = Outcome::of(0, 0, one_house(1, Rule::EmptyCapture)?);
+    let other = outcome((0, 0), one_house(1, Rule::EmptyCapture)?);
     assert_eq!(rt; collector.offer(&jobs, other), Err(Refusal::WrongPosition));
-    let own = Outcome::of(0, 0, one_house(1, Rule::Classic)?);
+    let own = outcome((0, 0), one_house(1, Rule::Classic)?);
     assert_eq!(rt; collector.offer(&jobs, own), Ok(1));
     Ok(())
 }
@@ -199,9 +217,6 @@ fn strangers_change_nothing(rt: HostRuntime) -> Result<(), Fail> {
     assert_eq!(rt; offered_after_strangers(&rt, c, &jobs, (0, 1), 2)?, (ended, ended, ended));
     assert_eq!(rt; offered_after_strangers(&rt, c, &jobs, (0, 7), 1)?, (ended, ended, ended));
     assert_eq!(rt; offered_after_strangers(&rt, c, &jobs, (1, 0), 1)?, (ended, ended, ended));
-    take(&rt, c, 0, Answer::Best { margin: 0, house: 1 });
-    take(&rt, c, 1, Answer::Best { margin: 0, house: 1 });
-    take(&rt, c, 2, Answer::Best { margin: 0, house: 1 });
-    assert!(rt; c.all_taken());
+    take_all(&rt, c);
     Ok(())
 }
