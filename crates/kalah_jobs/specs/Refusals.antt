@@ -34,3 +34,8 @@ IsRefusedFor jobs files o FileEnded = HasFile files o × HasEnded (state_of file
 IsRefusedFor jobs files o NoSuchLine = HasOpenFile files o × (line_count (state_of files o.file) ≤ o.line)
 IsRefusedFor jobs files o WrongPosition = HasLine files o × (entry_at jobs o.file o.line ≢ Some o.entry)
 IsRefusedFor jobs files o Double = HasEntry jobs files o × IsSome (came_for (state_of files o.file) o.line)
+
+-- An offer that is wanted meets no refusal, and no offer meets two: so each is answered in one way only.
+pub record RefusalsLaw : Type 0 where
+  pub wanted : (jobs : List (List Entry)) (files : List FileState) (o : Offer) (r : Refusal) → IsWanted jobs files o → IsRefusedFor jobs files o r → ⊥
+  pub one : (jobs : List (List Entry)) (files : List FileState) (o : Offer) (q r : Refusal) → IsRefusedFor jobs files o q → IsRefusedFor jobs files o r → q ≡ r

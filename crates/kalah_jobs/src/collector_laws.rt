@@ -1,6 +1,12 @@
 //! Laws of the collector and of the jobs of a batch, each on a function of its own.
+ghost use Rattle.kalah_jobs.specs.Refusals.{RefusalsLaw};
 ghost use Rattle.kalah_jobs.specs.CollectorLaw.{CollectorLaw};
 ghost use Rattle.kalah_jobs.specs.Batch.{SharesLaw, OffersLaw, FrontsLaw};
+
+/// An offer is accepted or meets one refusal, the first that holds, and never both.
+pub fn answers_in_one_way()
+    ensures { RefusalsLaw }
+{}
 
 /// After any list of offers and takes, what came, how far each file has come and what was taken are what the list says.
 pub fn keeps_its_law()

@@ -32,7 +32,9 @@ mod written;
 
 pub use answer::{Answer, Taken};
 pub use collector::Collector;
-pub use collector_laws::{accepts_each_job_once, gets_each_job_once, keeps_its_law};
+pub use collector_laws::{
+    accepts_each_job_once, answers_in_one_way, gets_each_job_once, keeps_its_law,
+};
 pub use entry::Entry;
 pub use file_laws::{entries_are_one, files_are_their_jobs, lines_are_one};
 pub use file_text::FileText;
