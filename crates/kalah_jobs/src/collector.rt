@@ -69,7 +69,10 @@ impl Collector {
         if !file.has_line(outcome.line()) {
             return Err(Refusal::NoSuchLine);
         }
-        if !is_same_entry(&jobs.entry(outcome.file(), outcome.line()), &outcome.entry()) {
+        if !is_same_entry(
+            &jobs.entry(outcome.file(), outcome.line()),
+            &outcome.entry(),
+        ) {
             return Err(Refusal::WrongPosition);
         }
         if file.has_come(outcome.line()) {

@@ -54,11 +54,7 @@ fn offered(
 }
 
 // What is answered to the offer of a line that is not read.
-fn offered_fault(
-    collector: &mut Collector,
-    jobs: &Jobs,
-    place: (u32, u32),
-) -> Result<u32, Refusal>
+fn offered_fault(collector: &mut Collector, jobs: &Jobs, place: (u32, u32)) -> Result<u32, Refusal>
     requires { HasLinesOf jobs.now collector.old }
     ensures { HasLinesOf jobs.now collector.new }
 {
@@ -76,9 +72,33 @@ fn take(rt: &impl Abort, collector: &mut Collector, line: u32, answer: Answer) {
 // Takes the three lines of the first file, each once, and nothing else.
 fn take_all(rt: &impl Abort, collector: &mut Collector) {
     assert!(rt; !collector.all_taken());
-    take(rt, collector, 0, Answer::Best { margin: 0, house: 1 });
-    take(rt, collector, 1, Answer::Best { margin: -2, house: 1 });
-    take(rt, collector, 2, Answer::Best { margin: 6, house: 1 });
+    take(
+        rt,
+        collector,
+        0,
+        Answer::Best {
+            margin: 0,
+            house: 1,
+        },
+    );
+    take(
+        rt,
+        collector,
+        1,
+        Answer::Best {
+            margin: -2,
+            house: 1,
+        },
+    );
+    take(
+        rt,
+        collector,
+        2,
+        Answer::Best {
+            margin: 6,
+            house: 1,
+        },
+    );
     assert!(rt; collector.take(0).is_none());
     assert!(rt; collector.take(1).is_none());
     assert!(rt; collector.take(9).is_none());
@@ -123,7 +143,11 @@ fn gives_each_line_once(rt: HostRuntime) -> Result<(), Fail> {
 }
 
 // How many lines became ready by each of three offers, of the lines in this order.
-fn ready_counts(jobs: &Jobs, alloc: Global, order: (u32, u32, u32)) -> Result<(u32, u32, u32), Fail> {
+fn ready_counts(
+    jobs: &Jobs,
+    alloc: Global,
+    order: (u32, u32, u32),
+) -> Result<(u32, u32, u32), Fail> {
     let mut collector = Collector::new(alloc, jobs)?;
     let first = ready_count(&mut collector, jobs, order.0)?;
     let second = ready_count(&mut collector, jobs, order.1)?;
@@ -136,7 +160,10 @@ fn ready_count(collector: &mut Collector, jobs: &Jobs, line: u32) -> Result<u32,
     requires { HasLinesOf jobs.now collector.old }
     ensures { IfOk result (λ _. HasLinesOf jobs.now collector.new) }
 {
-    let seeds = u8::try_from(line).ok().ok_or("no such line")?.saturating_add(1);
+    let seeds = u8::try_from(line)
+        .ok()
+        .ok_or("no such line")?
+        .saturating_add(1);
     let ready = offered(collector, jobs, (0, line), seeds)?;
     Ok(ready.ok().ok_or("refused")?)
 }
@@ -185,7 +212,14 @@ fn offered_after_strangers(
     jobs: &Jobs,
     place: (u32, u32),
     seeds: u8,
-) -> Result<(Result<u32, Refusal>, Result<u32, Refusal>, Result<u32, Refusal>), Fail>
+) -> Result<
+    (
+        Result<u32, Refusal>,
+        Result<u32, Refusal>,
+        Result<u32, Refusal>,
+    ),
+    Fail,
+>
     requires { HasLinesOf jobs.now collector.old }
     ensures { IfOk result (λ _. HasLinesOf jobs.now collector.new) }
 {
@@ -207,16 +241,46 @@ fn strangers_change_nothing(rt: HostRuntime) -> Result<(), Fail> {
     let nowhere = Err(Refusal::NoSuchFile);
     let double = Err(Refusal::Double);
     let ended = Err(Refusal::FileEnded);
-    assert_eq!(rt; offered_after_strangers(&rt, c, &jobs, (0, 2), 3)?, (past, wrong, Ok(0)));
-    assert_eq!(rt; offered_after_strangers(&rt, c, &jobs, (0, 0), 1)?, (past, wrong, Ok(1)));
-    assert_eq!(rt; offered_after_strangers(&rt, c, &jobs, (0, 0), 1)?, (past, wrong, double));
-    assert_eq!(rt; offered_after_strangers(&rt, c, &jobs, (0, 0), 2)?, (past, wrong, wrong));
-    assert_eq!(rt; offered_after_strangers(&rt, c, &jobs, (0, 3), 1)?, (past, past, past));
-    assert_eq!(rt; offered_after_strangers(&rt, c, &jobs, (2, 0), 1)?, (past, nowhere, nowhere));
-    assert_eq!(rt; offered_after_strangers(&rt, c, &jobs, (0, 1), 2)?, (past, wrong, Ok(2)));
-    assert_eq!(rt; offered_after_strangers(&rt, c, &jobs, (0, 1), 2)?, (ended, ended, ended));
-    assert_eq!(rt; offered_after_strangers(&rt, c, &jobs, (0, 7), 1)?, (ended, ended, ended));
-    assert_eq!(rt; offered_after_strangers(&rt, c, &jobs, (1, 0), 1)?, (ended, ended, ended));
+    assert_eq!(rt;
+        offered_after_strangers(&rt, c, &jobs, (0, 2), 3)?,
+        (past, wrong, Ok(0))
+    );
+    assert_eq!(rt;
+        offered_after_strangers(&rt, c, &jobs, (0, 0), 1)?,
+        (past, wrong, Ok(1))
+    );
+    assert_eq!(rt;
+        offered_after_strangers(&rt, c, &jobs, (0, 0), 1)?,
+        (past, wrong, double)
+    );
+    assert_eq!(rt;
+        offered_after_strangers(&rt, c, &jobs, (0, 0), 2)?,
+        (past, wrong, wrong)
+    );
+    assert_eq!(rt;
+        offered_after_strangers(&rt, c, &jobs, (0, 3), 1)?,
+        (past, past, past)
+    );
+    assert_eq!(rt;
+        offered_after_strangers(&rt, c, &jobs, (2, 0), 1)?,
+        (past, nowhere, nowhere)
+    );
+    assert_eq!(rt;
+        offered_after_strangers(&rt, c, &jobs, (0, 1), 2)?,
+        (past, wrong, Ok(2))
+    );
+    assert_eq!(rt;
+        offered_after_strangers(&rt, c, &jobs, (0, 1), 2)?,
+        (ended, ended, ended)
+    );
+    assert_eq!(rt;
+        offered_after_strangers(&rt, c, &jobs, (0, 7), 1)?,
+        (ended, ended, ended)
+    );
+    assert_eq!(rt;
+        offered_after_strangers(&rt, c, &jobs, (1, 0), 1)?,
+        (ended, ended, ended)
+    );
     take_all(&rt, c);
     Ok(())
 }
