@@ -1,27 +1,25 @@
 -- The loop that writes each line once it is ready and all before it were written.
-use Rattle.std.proofs.Common.{◌≡◌, ◌≢◌, ℕ, ◌+◌, ◌<◌, ◌≤◌, ⊎_elim, List, [], ◌∷◌, ◌++◌, length, get_or, take, Bool, true, false, refl, sym, ap, ◌∙◌, subst, arith}
-use Rattle.std.specs.Prelude.{Option, Some, None, Result, Ok, Err, All, slice_get}
+use Rattle.std.proofs.Common.{◌≡◌, ℕ, ◌+◌, ◌<◌, ◌≤◌, ⊎_elim, List, [], ◌∷◌, ◌++◌, length, get_or, take, Bool, false, refl, sym, ap, ◌∙◌, subst, arith}
+use Rattle.std.specs.Prelude.{Option, Some, None, Result, Ok, Err, All}
 use Rattle.std.specs.List.{flat_map, enumerate_from}
 use Rattle.std.specs.Io.KnownBytes.{Appends}
 use Rattle.std.proofs.KnownBytes.{Appends-nil, Appends-trans}
 use Rattle.std.proofs.lemmas.Bool.{cases_eq, cases_lt}
-use Rattle.std.proofs.lemmas.List.{append-nil, append_assoc, get_or_past, get_or_default, take_all, take_more, flat_map_more}
+use Rattle.std.proofs.lemmas.List.{append-nil, get_or_past, get_or_default, take_all, take_more, flat_map_more}
 use Rattle.std.proofs.lemmas.List.FromFn.{length-enumerate_from, get_or-enumerate_from}
 use Rattle.std.proofs.lemmas.Option.{slice_get_within, get_or_from_slice_get}
 use Rattle.kalah_jobs.specs.declared.entry.Entry.{Entry}
-use Rattle.kalah_jobs.specs.declared.entry.Entry.TheVariants.{Bad}
-use Rattle.kalah_jobs.specs.declared.line_fault.LineFault.TheVariants.{Empty}
 use Rattle.kalah_jobs.specs.declared.answer.Taken.{Taken}
 use Rattle.kalah_jobs.specs.declared.refusal.Refusal.{Refusal}
 use Rattle.kalah_jobs.specs.Answer.{answer_of}
 use Rattle.kalah_jobs.specs.Offer.{Offer}
 use Rattle.kalah_jobs.specs.JobList.{entries_of, entry_at}
-use Rattle.kalah_jobs.specs.CollectorState.{FileState, no_file, state_of, line_count, front, HasEnded, IsNext, with_one_taken, new_files, after_offer, after_take}
+use Rattle.kalah_jobs.specs.CollectorState.{FileState, no_file, state_of, line_count, front, HasEnded, with_one_taken, new_files, after_offer, after_take}
 use Rattle.kalah_jobs.specs.Refusals.{IsWanted, IsRefusedFor}
 use Rattle.kalah_jobs.specs.CollectorEvents.{Offers, Takes, answered_line}
 use Rattle.kalah_jobs.specs.Batch.{AreJobsInSomeOrder}
 use Rattle.kalah_jobs.specs.Output.{text_of_line, text_of_file, text_of_jobs}
-use Rattle.kalah_jobs.specs.UnderWay.{Holds, written_upto, IsUnderWay}
+use Rattle.kalah_jobs.specs.UnderWay.{written_upto, IsUnderWay}
 use Rattle.kalah_jobs.proofs.CollectorSteps.{state_same, state_other, files_many, lines_are, wanted_file, holds_accepted, holds_refused, holds_take}
 use Rattle.kalah_jobs.proofs.CollectorRuns.{start, taken_is, taken_after_offer, front_after_offer, new_taken}
 use Rattle.kalah_jobs.proofs.JobOrders.{fronts_full}

@@ -1,11 +1,11 @@
 -- After any list of offers and takes a collector has what the list says.
 use Rattle.std.proofs.Common.{◌≡◌, ℕ, zero, suc, ◌+◌, ◌<◌, ◌≤◌, ◌==◌, ⊎_elim, List, [], ◌∷◌, ◌++◌, length, map, set, get_or, take, replicate, true, false, if◌then◌else◌, Bool, refl, sym, ap, ◌∙◌, subst, arith, eq-eqb, ne_eqb, length-set}
-use Rattle.std.specs.Prelude.{Option, Some, None, is_some, IsSome, IsSomeAnd, Contains, Result, Ok, Err, slice_get}
+use Rattle.std.specs.Prelude.{Option, Some, None, IsSome, IsSomeAnd, Contains, Result, Ok, Err, slice_get}
 use Rattle.std.specs.List.{enumerate_from}
 use Rattle.std.proofs.lemmas.Bool.{cases_eq}
 use Rattle.std.proofs.lemmas.List.{length-map, length-replicate, append-nil, append_assoc, take_more, get_or-map}
 use Rattle.std.proofs.lemmas.List.FromFn.{length-enumerate_from, get_or-enumerate_from}
-use Rattle.std.proofs.lemmas.Option.{slice_get_within, slice_get-get_or, slice_get-map, get_or_from_slice_get}
+use Rattle.std.proofs.lemmas.Option.{slice_get_within, get_or_from_slice_get}
 use Rattle.kalah_jobs.specs.declared.entry.Entry.{Entry}
 use Rattle.kalah_jobs.specs.declared.answer.Answer.{Answer}
 use Rattle.kalah_jobs.specs.declared.answer.Taken.{Taken}
@@ -13,9 +13,9 @@ use Rattle.kalah_jobs.specs.declared.refusal.Refusal.{Refusal}
 use Rattle.kalah_jobs.specs.Answer.{answer_of}
 use Rattle.kalah_jobs.specs.Offer.{Offer}
 use Rattle.kalah_jobs.specs.JobList.{entries_of, entry_at, offer}
-use Rattle.kalah_jobs.specs.CollectorState.{FileState, no_file, state_of, new_file, new_files, line_count, front, front_of, came_for, HasLinesOf, IsNext, with_answer, with_one_taken, after_offer, after_take}
+use Rattle.kalah_jobs.specs.CollectorState.{FileState, state_of, new_files, line_count, front, front_of, came_for, HasLinesOf, IsNext, with_answer, with_one_taken, after_offer, after_take}
 use Rattle.kalah_jobs.specs.Refusals.{IsWanted, IsRefusedFor}
-use Rattle.kalah_jobs.specs.CollectorEvents.{Event, Offered, Took, offers, takes, with_taken, Offers, Takes, Came, IsFront, answered_line, answered_lines}
+use Rattle.kalah_jobs.specs.CollectorEvents.{Event, Offered, Took, offers, takes, with_taken, Offers, Takes, Came, answered_line, answered_lines}
 use Rattle.kalah_jobs.specs.CollectorLaw.{Happens, Runs, Meets}
 use Rattle.kalah_jobs.specs.UnderWay.{Holds}
 use Rattle.kalah_jobs.proofs.Fronts.{front_within, front_came, front_set, front_least}

@@ -1,6 +1,6 @@
 -- Each offer and each take keeps what the offers say of the collector.
-use Rattle.std.proofs.Common.{◌≡◌, ◌≢◌, ℕ, zero, suc, ◌<◌, ◌≤◌, ◌⊎◌, ⊎_elim, inl, inr, List, [], ◌∷◌, ◌++◌, length, map, set, get_or, true, false, Bool, refl, sym, ap, ◌∙◌, subst, arith, length-set, get_or-set_other, get_or-set_same}
-use Rattle.std.specs.Prelude.{Option, Some, None, is_some, IsSome, IsSomeAnd, Contains, slice_get}
+use Rattle.std.proofs.Common.{◌≡◌, ◌≢◌, ℕ, zero, suc, ◌<◌, ◌⊎◌, ⊎_elim, inl, inr, List, [], ◌∷◌, ◌++◌, length, map, set, get_or, refl, sym, ap, ◌∙◌, subst, arith, length-set, get_or-set_other, get_or-set_same}
+use Rattle.std.specs.Prelude.{Option, Some, None, is_some, IsSome, Contains}
 use Rattle.std.proofs.lemmas.Bool.{cases_eq, false≢true}
 use Rattle.std.proofs.lemmas.List.{length-map}
 use Rattle.std.proofs.lemmas.Option.{slice_get_within}
@@ -12,7 +12,7 @@ use Rattle.kalah_jobs.specs.declared.refusal.Refusal.TheVariants.{NoSuchFile, Fi
 use Rattle.kalah_jobs.specs.Answer.{answer_of}
 use Rattle.kalah_jobs.specs.Offer.{Offer}
 use Rattle.kalah_jobs.specs.JobList.{entries_of, entry_at, offer}
-use Rattle.kalah_jobs.specs.CollectorState.{FileState, no_file, state_of, line_count, front, front_of, came_for, HasLinesOf, with_answer, with_one_taken, after_offer, after_take}
+use Rattle.kalah_jobs.specs.CollectorState.{FileState, no_file, state_of, line_count, came_for, HasLinesOf, with_answer, with_one_taken, after_offer, after_take}
 use Rattle.kalah_jobs.specs.Refusals.{IsWanted, IsRefusedFor}
 use Rattle.kalah_jobs.specs.UnderWay.{IsAnswered, Holds}
 use Rattle.kalah_jobs.proofs.Fronts.{front_came}

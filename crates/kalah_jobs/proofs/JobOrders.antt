@@ -1,27 +1,26 @@
 -- Offers of each job once, in any order.
 use Rattle.std.proofs.Common.{◌≡◌, ℕ, zero, suc, ◌+◌, ◌<◌, ◌≤◌, ⊎_elim, List, [], ◌∷◌, ◌++◌, length, map, get_or, true, false, cond, Bool, refl, sym, ap, ◌∙◌, subst, arith}
 use Rattle.std.specs.Prelude.{Option, Some, None, is_some, Result, Ok, Err, IsOk, Contains, count_by, slice_get}
-use Rattle.std.proofs.lemmas.Bool.{cases_eq, cases_Bool, false≢true}
+use Rattle.std.proofs.lemmas.Bool.{cases_eq, cases_Bool}
 use Rattle.std.proofs.lemmas.List.{append-nil}
 use Rattle.std.proofs.lemmas.List.Sums.{sum_by-cons, sum_by-append}
 use Rattle.std.proofs.lemmas.List.Elements.{Contains-append_left, Contains-append_right, Contains-append_cases}
-use Rattle.std.proofs.lemmas.Option.{slice_get_within, slice_get-get_or}
+use Rattle.std.proofs.lemmas.Option.{slice_get-get_or}
 use Rattle.kalah_jobs.specs.declared.entry.Entry.{Entry}
 use Rattle.kalah_jobs.specs.declared.entry.Entry.TheVariants.{Bad}
 use Rattle.kalah_jobs.specs.declared.line_fault.LineFault.TheVariants.{Empty}
 use Rattle.kalah_jobs.specs.declared.answer.Answer.{Answer}
 use Rattle.kalah_jobs.specs.declared.refusal.Refusal.{Refusal}
-use Rattle.kalah_jobs.specs.declared.refusal.Refusal.TheVariants.{NoSuchFile, FileEnded, NoSuchLine, WrongPosition, Double}
 use Rattle.kalah_jobs.specs.Offer.{Offer}
 use Rattle.kalah_jobs.specs.JobList.{entries_of, entry_at, offer, file_jobs, jobs_from, job_list}
-use Rattle.kalah_jobs.specs.CollectorState.{FileState, state_of, line_count, front, came_for, HasEnded, new_files}
-use Rattle.kalah_jobs.specs.Refusals.{IsWanted, IsRefusedFor}
+use Rattle.kalah_jobs.specs.CollectorState.{FileState, state_of, came_for, HasEnded, new_files}
+use Rattle.kalah_jobs.specs.Refusals.{IsRefusedFor}
 use Rattle.kalah_jobs.specs.CollectorEvents.{Event, offers, Offers}
 use Rattle.kalah_jobs.specs.CollectorLaw.{Runs}
 use Rattle.kalah_jobs.specs.Shares.{AreShared}
 use Rattle.kalah_jobs.specs.Batch.{job, AreJobsInSomeOrder}
 use Rattle.kalah_jobs.specs.UnderWay.{Holds}
-use Rattle.kalah_jobs.proofs.Fronts.{front_full, front_came}
+use Rattle.kalah_jobs.proofs.Fronts.{front_full}
 use Rattle.kalah_jobs.proofs.CollectorSteps.{lines_are, some_value, one_entry, refused_came}
 use Rattle.kalah_jobs.proofs.CollectorRuns.{runs, start}
 use Rattle.kalah_jobs.proofs.SharedOnce.{total_rows, count_below, count_true, got_all_once, nothing_left}
@@ -233,6 +232,10 @@ each_came jobs got h f k e is =
     let b = same_times jobs got h o in
     contains_from_times o got (omega arith)
 
+-- a list that has an offer's line with an equal entry has the offer
+contains_by_entry : (past : List Offer) (o : Offer) (e : Entry) → e ≡ o.entry → Contains past (offer o.file o.line e) → Contains past o
+contains_by_entry past o e is has = subst (λ x. Contains past (offer o.file o.line x)) is has
+
 -- an offer among the jobs that was not offered before is refused for nothing
 not_refused : (jobs : List (List Entry)) (past : List Offer) (o : Offer) (rest : List Offer) (files : List FileState) (r : Refusal) → AreJobsInSomeOrder jobs (past ++ o ∷ rest) → Holds jobs past files
     → IsRefusedFor jobs files o r → ⊥
@@ -249,7 +252,7 @@ not_refused jobs past o rest files r h holds refused =
     let v = some_value (came_for (state_of files o.file) o.line) full in
     let w = holds.only o.file o.line v.0 v.1 in
     let e_is : w.entry ≡ o.entry = one_entry (entry_at jobs o.file o.line) w.entry o.entry w.at entry_is in
-    let has : Contains past o = subst (λ x. Contains past (offer o.file o.line x)) e_is w.offered in
+    let has : Contains past o = contains_by_entry past o w.entry e_is w.offered in
     let z = times_from_contains o past has in
     omega arith
 

@@ -13,6 +13,7 @@ pub mod JobCounts
 pub mod JobOutput
 pub mod OneEntry
 pub mod Fronts
+pub mod RefusalLaw
 pub mod CollectorSteps
 pub mod CollectorRuns
 pub mod SameBoard

@@ -1,6 +1,6 @@
 -- An offer is accepted or meets one refusal, and never both.
-use Rattle.std.proofs.Common.{◌≡◌, ◌<◌, ◌≤◌, List, length, true, refl, sym, ap, ◌∙◌, arith}
-use Rattle.std.specs.Prelude.{Option, Some, None, is_some, IsSome}
+use Rattle.std.proofs.Common.{◌≡◌, ◌≤◌, List, length, refl, sym, ap, ◌∙◌, arith}
+use Rattle.std.specs.Prelude.{Option, None, is_some, IsSome}
 use Rattle.std.proofs.lemmas.Bool.{false≢true}
 use Rattle.kalah_jobs.specs.declared.entry.Entry.{Entry}
 use Rattle.kalah_jobs.specs.declared.answer.Answer.{Answer}

@@ -1,11 +1,9 @@
 -- Two boards are equal by `==` just where they show the same position.
-use Rattle.std.proofs.Common.{◌≡◌, ℕ, ◌-◌, List, ◌++◌, length, take, replicate, true, Bool, ◌&&◌, ◌==◌, rules, refl, ap, sym, ◌∙◌, subst}
+use Rattle.std.proofs.Common.{◌≡◌, ℕ, ◌-◌, List, length, take, replicate, true, Bool, ◌&&◌, ◌==◌, rules, ap, sym, ◌∙◌}
 use Rattle.std.proofs.lemmas.Bool.{and_parts, eqb-true}
 use Rattle.std.proofs.Math.Seq.{take-append_seam}
-use Rattle.std.specs.Bool.{Decides}
 use lib.Pointwise.{pointwise, bytes_decides}
 use denote.Enum.Bare.{sameb, same_true}
-use Rattle.kalah_rules.specs.declared.rule.Rule.{Rule}
 use Rattle.kalah_rules.specs.contracts.rule.Rule.{the_type}
 use Rattle.kalah_rules.specs.Position.{Position}
 use Rattle.kalah_rules.specs.Cells.{padded}

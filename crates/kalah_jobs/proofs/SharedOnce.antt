@@ -7,7 +7,7 @@ use Rattle.std.proofs.lemmas.List.Elements.{All-nil, All-cons, All-head, All-tai
 use Rattle.std.proofs.lemmas.Bool.{lt-ltb, le-ltb, cases_lt}
 use Rattle.std.proofs.lemmas.Bool.Decides.{eqb_tells}
 use Rattle.std.specs.Prelude.{◌++◌}
-use Rattle.std.proofs.lemmas.List.{length-map, length-append, nil_from_length, append-nil}
+use Rattle.std.proofs.lemmas.List.{length-map, length-append, nil_from_length}
 use Rattle.kalah_jobs.specs.Shares.{times_in, of, AreShared}
 
 -- f of each number below n, added up

@@ -1,5 +1,5 @@
 -- What offers and takes do, and what a list of them says without the collector.
-use Rattle.std.specs.Prelude.{◌≡◌, ℕ, ◌+◌, ◌<◌, ◌≤◌, ◌==◌, if◌then◌else◌, List, [], ◌∷◌, length, map, take, Option, Some, None, Result, MatchOption, MatchResult, IsSomeAnd, Contains}
+use Rattle.std.specs.Prelude.{◌≡◌, ℕ, ◌+◌, ◌<◌, ◌≤◌, ◌==◌, if◌then◌else◌, List, [], ◌∷◌, length, map, Option, Some, None, Result, MatchOption, MatchResult, IsSomeAnd, Contains}
 use Rattle.std.specs.List.{enumerate_from}
 use Rattle.kalah_jobs.specs.declared.entry.Entry.{Entry}
 use Rattle.kalah_jobs.specs.declared.answer.Taken.{Taken}

@@ -1,5 +1,5 @@
 -- The law of a collector: after any list of offers and takes it has what the list says, and nothing else.
-use Rattle.std.specs.Prelude.{◌≡◌, ℕ, ◌≤◌, ◌↔◌, List, [], ◌∷◌, length, take, IsSome}
+use Rattle.std.specs.Prelude.{◌≡◌, ℕ, ◌≤◌, ◌↔◌, List, [], ◌∷◌, take, IsSome}
 use Rattle.kalah_jobs.specs.declared.entry.Entry.{Entry}
 use Rattle.kalah_jobs.specs.JobList.{entries_of}
 use Rattle.kalah_jobs.specs.CollectorState.{FileState, state_of, new_files, front, came_for, HasLinesOf}

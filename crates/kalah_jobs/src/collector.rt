@@ -69,10 +69,8 @@ impl Collector {
         if !file.has_line(outcome.line()) {
             return Err(Refusal::NoSuchLine);
         }
-        if !is_same_entry(
-            &jobs.entry(outcome.file(), outcome.line()),
-            &outcome.entry(),
-        ) {
+        let own = jobs.entry(outcome.file(), outcome.line());
+        if !is_same_entry(&own, &outcome.entry()) {
             return Err(Refusal::WrongPosition);
         }
         if file.has_come(outcome.line()) {

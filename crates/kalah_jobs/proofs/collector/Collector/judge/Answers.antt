@@ -1,11 +1,11 @@
-use Rattle.std.proofs.Common.{◌≡◌, ◌<◌, ◌∙◌, length, List, ap, sym, subst, arith}
+use Rattle.std.proofs.Common.{◌≡◌, ◌<◌, ◌∙◌, length, List, ap, sym, arith}
 use Rattle.std.proofs.lemmas.List.{get_or_default}
 use Rattle.kalah_jobs.specs.CollectorState.{FileState, no_file, state_of, line_count}
 use Rattle.kalah_jobs.proofs.CollectorSteps.{lines_are}
 use Rattle.kalah_jobs.proofs.collector.Collector.judge.Goals as goal
 
-pub entry-requires-clause-line : goal.entry-requires-clause-line
-entry-requires-clause-line c =
+pub entry-own-requires-clause-line : goal.entry-own-requires-clause-line
+entry-own-requires-clause-line c =
     let files : List FileState = c.self.inside.files.items in
     let many = lines_are c.args.jobs.now c.args.self.now c.requires c.file-3.result in
     let low = c.has_line.ensures.0 c.if-not-has_line.false in
