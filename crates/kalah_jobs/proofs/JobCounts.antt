@@ -39,12 +39,13 @@ length-file_jobs f k (e ∷ entries) = ap suc (length-file_jobs f (suc k) entrie
 length-jobs_from : (f : ℕ) (jobs : List (List Entry)) → length (jobs_from f jobs) ≡ job_count jobs
 length-jobs_from f [] = refl
 length-jobs_from f (entries ∷ jobs) =
-    omega
-    (arith,
-    length-append (file_jobs f 0 entries) (jobs_from (suc f) jobs),
-    length-file_jobs f 0 entries,
-    length-jobs_from (suc f) jobs,
-    job_count-cons entries jobs)
+    omega (
+      arith,
+      length-append (file_jobs f 0 entries) (jobs_from (suc f) jobs),
+      length-file_jobs f 0 entries,
+      length-jobs_from (suc f) jobs,
+      job_count-cons entries jobs,
+    )
 
 -- there are as many jobs as lines
 pub length-job_list : (jobs : List (List Entry)) → length (job_list jobs) ≡ job_count jobs
@@ -142,12 +143,13 @@ length-entries_in bytes = length-map (lines_of bytes) entry_of
 pub job_count-jobs_of : (files : List NamedBytes) → job_count (jobs_of files) ≡ line_count files
 job_count-jobs_of [] = refl
 job_count-jobs_of (file ∷ files) =
-    omega
-    (arith,
-    job_count-cons (entries_in file.bytes) (jobs_of files),
-    sum_by-cons lines_in file files,
-    length-entries_in file.bytes,
-    job_count-jobs_of files)
+    omega (
+      arith,
+      job_count-cons (entries_in file.bytes) (jobs_of files),
+      sum_by-cons lines_in file files,
+      length-entries_in file.bytes,
+      job_count-jobs_of files,
+    )
 
 -- the lines of one file more are no more than those of all files
 pub counted_low : (files : List NamedBytes) (jobs : List (List Entry)) (starts : List ℕ) (total i : ℕ) (file : NamedBytes)

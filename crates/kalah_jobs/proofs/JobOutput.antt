@@ -39,13 +39,13 @@ files_told text n [] under = refl
 files_told text n (file ∷ files) under =
     ap (λ bytes. bytes ++ flat_map file_output files) (file_told text n file (under n 0 (omega arith) (omega arith)))
     ∙ ap (λ bytes. text_of_file text (n, entries_in file.bytes) ++ bytes)
-        (files_told text (n + 1) files (λ m i is low. under m (suc i) (omega arith) (omega arith)))
+    (files_told text (n + 1) files (λ m i is low. under m (suc i) (omega arith) (omega arith)))
 
 same_output : (files : List NamedBytes) → output_of files ≡ output_of_jobs (names_of files) (jobs_of files)
 unfolding output_of
 same_output files =
     files_told (answer_text_of (names_of files)) 0 files
-        (λ m i is low taken. ap (λ j. answer_line (get_or (names_of files) j []) taken ++ line_feed ∷ []) (let e : m ≡ i = omega arith in e))
+    (λ m i is low taken. ap (λ j. answer_line (get_or (names_of files) j []) taken ++ line_feed ∷ []) (let e : m ≡ i = omega arith in e))
 
 same_lines : (files : List NamedBytes) → (tally_of files).lines ≡ length (job_list (jobs_of files))
 unfolding tally_of

@@ -18,8 +18,8 @@ whole_after_byte byte [] not whole =
     All-cons HasNoLineFeed (byte ∷ []) [] (All-cons IsNoFeed byte [] not (All-nil IsNoFeed)) (All-nil HasNoLineFeed)
 whole_after_byte byte (line ∷ lines) not whole =
     All-cons HasNoLineFeed (byte ∷ line) lines
-        (All-cons IsNoFeed byte line not (All-head HasNoLineFeed line lines whole))
-        (All-tail HasNoLineFeed line lines whole)
+    (All-cons IsNoFeed byte line not (All-head HasNoLineFeed line lines whole))
+    (All-tail HasNoLineFeed line lines whole)
 
 -- a byte before closed lines stands in a closed line, if there is a line
 parts_after_byte : (byte : ℕ) (bytes : List ℕ) (lines : List (List ℕ)) → bytes ≡ with_line_feeds lines
@@ -86,10 +86,10 @@ are_lines_of (byte ∷ bytes) =
     ⊎_elim
     (λ (is : byte ≡ line_feed).
     subst (λ lines. AreLines (byte ∷ bytes) lines) (sym (lines_of-feed byte bytes is))
-        (subst (λ b. AreLines (b ∷ bytes) ([] ∷ lines_of bytes)) (sym is) (are_lines_after_feed bytes (lines_of bytes) (are_lines_of bytes))))
+    (subst (λ b. AreLines (b ∷ bytes) ([] ∷ lines_of bytes)) (sym is) (are_lines_after_feed bytes (lines_of bytes) (are_lines_of bytes))))
     (λ (not : byte ≡ line_feed → ⊥).
     subst (λ lines. AreLines (byte ∷ bytes) lines) (sym (lines_of-byte byte bytes not))
-        (are_lines_after_byte byte bytes (lines_of bytes) not (are_lines_of bytes)))
+    (are_lines_after_byte byte bytes (lines_of bytes) not (are_lines_of bytes)))
     (cases_eq byte line_feed)
 
 -- ---- and no others are

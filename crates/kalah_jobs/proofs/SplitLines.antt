@@ -47,7 +47,7 @@ unfolding lines_of
 lines_of-last_cut [] n some none = absurd (omega arith)
 lines_of-last_cut (byte ∷ bytes) n some none =
     let nothing : take n (drop (suc (length bytes)) (byte ∷ bytes)) ≡ [] =
-        ap (λ rest. take n rest) (drop_all (suc (length bytes)) (byte ∷ bytes) (omega arith)) ∙ take-nil n in
+    ap (λ rest. take n rest) (drop_all (suc (length bytes)) (byte ∷ bytes) (omega arith)) ∙ take-nil n in
     lines_of-last byte bytes none ∙ ap (λ rest. (byte ∷ bytes) ∷ lines_of rest) (sym nothing)
 
 length-onto_first : (byte : ℕ) (lines : List (List ℕ)) → length (onto_first byte lines) ≤ suc (length lines)

@@ -172,3 +172,6 @@ fn has_few_lines(files: &[FileText]) -> bool
     }
     true
 }
+
+#[cfg(test)]
+mod tests;

@@ -100,3 +100,6 @@ fn answered_position(board: &Board, solver: &mut Solver) -> Answer
         Verdict::Over { margin } => Answer::Over { margin },
     }
 }
+
+#[cfg(test)]
+mod tests;

@@ -22,3 +22,6 @@ pub fn answer_text(alloc: Global, name: &str, taken: &Taken) -> Result<String, A
         }
     }
 }
+
+#[cfg(test)]
+mod tests;

@@ -83,3 +83,6 @@ fn write_margin<W: Sink>(out: &mut W, margin: i32) -> Result<(), io::Error>
     let mut buffer = Buffer::new();
     out.write_all(buffer.format(margin).as_bytes())
 }
+
+#[cfg(test)]
+mod tests;

@@ -10,8 +10,8 @@ use Rattle.kalah_jobs.proofs.jobs.last_started.Goals as goal
 parted : (c : goal.After-partition_point) → IsPartitionPoint (λ y. leb y c.args.n ≡ true) (λ y. leb y c.args.n ≡ false) c.args.starts.now c.partition_point.result
 parted c =
     IsPartitionPoint-from_clause (λ y. leb y c.args.n) c.args.starts.now c.partition_point.result c.partition_point.ensures.partitioned
-        (IsPartitionedBy-leb (λ x. x) c.args.starts.now c.args.n c.requires.rising)
-        (λ a r f' k. search rules)
+    (IsPartitionedBy-leb (λ x. x) c.args.starts.now c.args.n c.requires.rising)
+    (λ a r f' k. search rules)
 
 pub overflow_sub-result : goal.overflow_sub-result
 overflow_sub-result c =
@@ -24,7 +24,7 @@ overflow_sub-result c =
 pub returns-clause-started : goal.returns-clause-started
 returns-clause-started c =
     leb-true (get_or c.args.starts.now (c.partition_point.result - 1) 0) c.args.n
-        ((parted c).0 (c.partition_point.result - 1) 0 (omega arith) (omega (arith, overflow_sub-result c)))
+    ((parted c).0 (c.partition_point.result - 1) 0 (omega arith) (omega (arith, overflow_sub-result c)))
 
 pub returns-clause-last : goal.returns-clause-last
 returns-clause-last c = λ f after low. leb-false (get_or c.args.starts.now f 0) c.args.n ((parted c).1 f 0 (omega arith) low)

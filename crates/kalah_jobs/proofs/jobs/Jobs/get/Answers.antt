@@ -10,7 +10,7 @@ use Rattle.kalah_jobs.proofs.jobs.Jobs.get.Goals as goal
 pub last_started-file-requires-clause-rising : goal.last_started-file-requires-clause-rising
 last_started-file-requires-clause-rising c =
     subst (λ starts. IsNonDecreasing starts) (sym c.deref.ensures.value)
-        (starts_rise c.self.inside.files.items c.self.inside.starts.items c.self.invariant.as_many c.self.invariant.before)
+    (starts_rise c.self.inside.files.items c.self.inside.starts.items c.self.invariant.as_many c.self.invariant.before)
 
 -- the file is there
 within : (c : goal.After-entry) → c.last_started-file.result < length c.self.inside.starts.items
@@ -28,7 +28,7 @@ started c = read c ∙ c.self.invariant.before c.last_started-file.result (omega
 low : (c : goal.After-entry) → c.index.result.now ≤ c.args.n
 low c =
     subst (λ m. m ≤ c.args.n) (sym (read c))
-        (subst (λ starts. get_or starts c.last_started-file.result 0 ≤ c.args.n) c.deref.ensures.value c.last_started-file.ensures.started)
+    (subst (λ starts. get_or starts c.last_started-file.result 0 ≤ c.args.n) c.deref.ensures.value c.last_started-file.ensures.started)
 
 pub returns : goal.returns
 returns c =
@@ -36,8 +36,8 @@ returns c =
     let f : ℕ = c.last_started-file.result in
     let k : ℕ = c.args.n - c.index.result.now in
     let there : slice_get (entries_of jobs f) k ≡ Some c.entry.result =
-        ap (λ entries. slice_get entries k)
-            (get_or_any jobs f [] c.index-2.result.now (omega (arith, within c, c.self.invariant.as_many)) ∙ sym c.index-2.ensures)
-        ∙ c.entry.ensures in
+    ap (λ entries. slice_get entries k)
+    (get_or_any jobs f [] c.index-2.result.now (omega (arith, within c, c.self.invariant.as_many)) ∙ sym c.index-2.ensures)
+    ∙ c.entry.ensures in
     subst (λ jobs. slice_get (job_list jobs) c.args.n ≡ Some (offer f k c.entry.result)) c.self.view_is
-        (slice_get-job_list jobs f k c.args.n c.entry.result (omega (arith, started c, low c)) there)
+    (slice_get-job_list jobs f k c.args.n c.entry.result (omega (arith, started c, low c)) there)

@@ -1,0 +1,100 @@
+ghost use Rattle.std.specs.Prelude.{Some};
+
+use crate::{Answer, LineFault, Sink, Stream, Taken, answer_text, write_answer};
+use std::alloc::Global;
+use std::io;
+use std::io::{ErrorKind, Write};
+use std::process::Abort;
+use std::test::Fail;
+
+/// Answers an error at its `fails_at`th write, counted from 1, and at any later one.
+#[derive(Drop)]
+struct FailingFrom {
+    bytes: Vec<u8>,
+    calls: u32,
+    fails_at: u32,
+}
+
+impl Write for FailingFrom {
+    ghost contents = { λ w. Some w.bytes.items };
+
+    fn write(&mut self, buf: &[u8]) -> io::Result<usize> {
+        self.calls = self.calls.saturating_add(1);
+        if self.calls >= self.fails_at {
+            return Err(io::Error::from(ErrorKind::BrokenPipe));
+        }
+        self.bytes.write(buf)
+    }
+
+    fn flush(&mut self) -> io::Result<()> {
+        Ok(())
+    }
+}
+
+// `margin house house`.
+fn best(margin: i32, house: u8) -> Answer {
+    Answer::Best { margin, house }
+}
+
+// What is written is the answer line as text, and a line feed.
+fn assert_written(rt: &impl Abort, alloc: Global, taken: &Taken, text: &str) -> Result<(), Fail> {
+    let mut out = Stream::new(Vec::<u8>::new(alloc));
+    write_answer(&mut out, "a.txt", taken)?;
+    assert!(rt; !out.failed());
+    assert_eq!(rt; out.into_inner().as_slice(), text.as_bytes());
+    let mut printed = answer_text(alloc, "a.txt", taken)?;
+    printed.push_str("\n")?;
+    assert_eq!(rt; printed.as_str(), text);
+    Ok(())
+}
+
+#[test]
+fn an_answer_is_written_as_it_is_printed(rt: HostRuntime) -> Result<(), Fail> {
+    let best = Taken {
+        line: 1,
+        answer: best(-2, 1),
+    };
+    assert_written(&rt, rt.alloc(), &best, "a.txt:2 -2 house 1\n")?;
+    let over = Taken {
+        line: 0,
+        answer: Answer::Over { margin: 114 },
+    };
+    assert_written(&rt, rt.alloc(), &over, "a.txt:1 114 over\n")?;
+    let fault = Taken {
+        line: u32::MAX,
+        answer: Answer::Fault(LineFault::Seeds),
+    };
+    assert_written(&rt, rt.alloc(), &fault, "a.txt:4294967296 fault seeds\n")
+}
+
+#[test]
+fn answers_follow_one_another(rt: HostRuntime) -> Result<(), Fail> {
+    let mut out = Stream::new(Vec::<u8>::new(rt.alloc()));
+    let (over, best) = (Answer::Over { margin: 0 }, best(-1, 2));
+    write_answer(&mut out, "b", &Taken { line: 0, answer: over })?;
+    write_answer(&mut out, "b", &Taken { line: 1, answer: best })?;
+    assert_eq!(rt; out.into_inner().as_slice(), b"b:1 0 over\nb:2 -1 house 2\n".as_slice());
+    Ok(())
+}
+
+#[test]
+fn each_write_that_fails_is_an_error(rt: HostRuntime) -> Result<(), Fail> {
+    let taken = Taken {
+        line: 0,
+        answer: best(0, 1),
+    };
+    for fails_at in 1..10 {
+        let mut out = Stream::new(FailingFrom {
+            bytes: Vec::with_capacity(rt.alloc(), 64)?,
+            calls: 0,
+            fails_at,
+        });
+        let written = write_answer(&mut out, "a.txt", &taken);
+        assert_eq!(rt; out.failed(), written.is_err());
+        let writer = out.into_inner();
+        // No call after the first error, and few calls for a line.
+        assert_eq!(rt; writer.calls, fails_at.min(8));
+        assert_eq!(rt; written.is_err(), fails_at <= 8);
+    }
+    Ok(())
+}
