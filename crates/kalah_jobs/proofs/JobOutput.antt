@@ -1,18 +1,16 @@
 -- What is told of files and what is told of their jobs is the same.
-use Rattle.std.proofs.Common.{◌≡◌, ℕ, zero, suc, ◌+◌, ◌<◌, List, [], ◌∷◌, ◌++◌, length, map, get_or, cond, refl, ap, sym, ◌∙◌, arith}
+use Rattle.std.proofs.Common.{◌≡◌, ℕ, suc, ◌+◌, ◌<◌, List, [], ◌∷◌, ◌++◌, length, map, get_or, cond, refl, ap, sym, ◌∙◌, arith}
 use Rattle.std.specs.Prelude.{sum_by, count_by, Bool}
 use Rattle.std.specs.List.{flat_map, enumerate_from}
 use Rattle.std.proofs.lemmas.List.Sums.{sum_by-cons, sum_by-append}
-use Rattle.kalah_jobs.specs.declared.entry.Entry.{Entry}
 use Rattle.kalah_jobs.specs.declared.answer.Taken.{Taken}
 use Rattle.kalah_jobs.specs.NamedBytes.{NamedBytes}
 use Rattle.kalah_jobs.specs.Lines.{line_feed, lines_of}
 use Rattle.kalah_jobs.specs.Entry.{entry_of}
-use Rattle.kalah_jobs.specs.Answer.{answer_of, is_fault, answer_line}
-use Rattle.kalah_jobs.specs.Offer.{Offer}
+use Rattle.kalah_jobs.specs.Answer.{answer_of, answer_line}
 use Rattle.kalah_jobs.specs.JobList.{offer, file_jobs, jobs_from, job_list}
-use Rattle.kalah_jobs.specs.Jobs.{entries_in, jobs_of, job_count}
-use Rattle.kalah_jobs.specs.Output.{line_output, file_output, output_of, is_faulty, tally_of, text_of_line, text_of_file, text_of_jobs, answer_text_of, output_of_jobs, names_of, is_faulty_offer, FilesAreTheirJobs}
+use Rattle.kalah_jobs.specs.Jobs.{entries_in, jobs_of}
+use Rattle.kalah_jobs.specs.Output.{line_output, file_output, output_of, is_faulty, tally_of, text_of_line, text_of_file, answer_text_of, output_of_jobs, names_of, is_faulty_offer, FilesAreTheirJobs}
 use Rattle.kalah_jobs.proofs.JobCounts.{length-job_list, job_count-jobs_of}
 
 -- the text of what is taken of file n is the answer line under this name

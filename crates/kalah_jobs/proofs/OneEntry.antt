@@ -1,5 +1,5 @@
 -- Each line says one thing.
-use Rattle.std.proofs.Common.{◌≡◌, ℕ, List, Result, Ok, Err, refl, ap, sym, ◌∙◌}
+use Rattle.std.proofs.Common.{◌≡◌, ℕ, List, Result, Ok, Err, refl, ap, sym}
 use Rattle.kalah_rules.specs.Position as position
 use Rattle.kalah_jobs.specs.Reading.{reading_of}
 use Rattle.kalah_jobs.specs.declared.line_fault.LineFault.{LineFault}

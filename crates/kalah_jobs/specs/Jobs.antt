@@ -1,5 +1,5 @@
 -- The jobs of a batch, from its files.
-use Rattle.std.specs.Prelude.{◌≡◌, ◌<◌, ◌≤◌, ◌+◌, ℕ, List, length, map, take, sum_by, slice_index}
+use Rattle.std.specs.Prelude.{◌≡◌, ◌<◌, ◌≤◌, ℕ, List, length, map, take, sum_by, slice_index}
 use Rattle.kalah_jobs.specs.declared.entry.Entry.{Entry}
 use Rattle.kalah_jobs.specs.NamedBytes.{NamedBytes}
 use Rattle.kalah_jobs.specs.Lines.{lines_of}

@@ -9,7 +9,7 @@ use Rattle.kalah_jobs.specs.Entry.{entry_of}
 use Rattle.kalah_jobs.specs.Answer.{answer_of, is_fault, answer_line}
 use Rattle.kalah_jobs.specs.Offer.{Offer}
 use Rattle.kalah_jobs.specs.JobList.{job_list}
-use Rattle.kalah_jobs.specs.Jobs.{jobs_of, job_count}
+use Rattle.kalah_jobs.specs.Jobs.{jobs_of}
 
 -- the answer line of a line with this entry, followed by a line feed; the number counts from 0
 abbrev pub answered : List ℕ → ℕ → Entry → List ℕ

@@ -1,10 +1,10 @@
-use Rattle.std.proofs.Common.{◌≡◌, ℕ, ◌+◌, ◌-◌, ◌<◌, ◌≤◌, List, [], length, get_or, take, ap, sym, subst, ◌∙◌, arith}
+use Rattle.std.proofs.Common.{◌≡◌, ℕ, ◌-◌, ◌<◌, ◌≤◌, List, [], length, get_or, take, ap, sym, subst, ◌∙◌, arith}
 use Rattle.std.specs.Prelude.{Some, slice_get}
 use Rattle.std.specs.List.Sorted.{IsNonDecreasing}
 use Rattle.kalah_jobs.specs.declared.entry.Entry.{Entry}
 use Rattle.kalah_jobs.specs.JobList.{entries_of, offer, job_list}
 use Rattle.kalah_jobs.specs.Jobs.{job_count}
-use Rattle.kalah_jobs.proofs.JobCounts.{get_or_any, starts_rise, some_files, line_below, slice_get-job_list}
+use Rattle.kalah_jobs.proofs.JobCounts.{get_or_any, starts_rise, slice_get-job_list}
 use Rattle.kalah_jobs.proofs.jobs.Jobs.get.Goals as goal
 
 pub last_started-file-requires-clause-rising : goal.last_started-file-requires-clause-rising

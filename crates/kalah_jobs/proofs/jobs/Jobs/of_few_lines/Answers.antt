@@ -1,7 +1,7 @@
-use Rattle.std.proofs.Common.{◌≡◌, ℕ, ◌+◌, ◌<◌, ◌≤◌, List, [], ◌∷◌, ◌++◌, length, get_or, take, ap, sym, subst, ◌∙◌, arith}
+use Rattle.std.proofs.Common.{◌≡◌, ℕ, ◌+◌, List, [], ◌∷◌, ◌++◌, length, take, ap, sym, subst, ◌∙◌, arith}
 use Rattle.kalah_jobs.specs.declared.entry.Entry.{Entry}
 use Rattle.kalah_jobs.specs.NamedBytes.{NamedBytes}
-use Rattle.kalah_jobs.specs.Jobs.{entries_in, line_count}
+use Rattle.kalah_jobs.specs.Jobs.{entries_in}
 use Rattle.kalah_jobs.proofs.JobCounts.{AreCountedUpto, counted_low, counted_more, counted_all}
 use Rattle.kalah_jobs.proofs.jobs.Jobs.of_few_lines.Goals as goal
 

@@ -1,5 +1,4 @@
-use Rattle.std.proofs.Common.{take, length}
-use Rattle.kalah_jobs.specs.Jobs.{jobs_of}
+use Rattle.std.proofs.Common.{take}
 use Rattle.kalah_jobs.proofs.JobCounts.{AreCountedUpto}
 use Rattle.kalah_jobs.proofs.jobs.Jobs.of_few_lines.Given as goal
 
