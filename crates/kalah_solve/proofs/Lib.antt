@@ -1,0 +1,3 @@
+pub mod Worths
+pub mod Stores
+pub mod Bests

@@ -1,0 +1,11 @@
+use Rattle.kalah_solve.proofs.Worths.{worth_of_over, worth_of_going, legal_some}
+use Rattle.kalah_solve.proofs.laws.worth_is_greatest_value.Goals as goal
+
+pub returns-clause-over : goal.returns-clause-over
+returns-clause-over c = worth_of_over
+
+pub returns-clause-going : goal.returns-clause-going
+returns-clause-going c = worth_of_going
+
+pub returns-clause-moves : goal.returns-clause-moves
+returns-clause-moves c = legal_some

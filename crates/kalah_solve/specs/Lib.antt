@@ -1,0 +1,3 @@
+pub mod Worth
+pub mod Verdict
+pub mod Laws

@@ -1,0 +1,50 @@
+-- The margin of best play, and the house that attains it.
+use Rattle.std.specs.Prelude.{ℕ, zero, suc, if◌then◌else◌, List, [], ◌∷◌, map, fold, find, unwrap_or, ℤ, pos, neg_ℤ}
+use Rattle.std.specs.Int.{int_max}
+use Rattle.std.specs.Ordering.{int_eq}
+use Rattle.kalah_rules.specs.Position.{Position, Rows, is_over, final_margin, swapped}
+use Rattle.kalah_rules.specs.Sowing.{after, is_again}
+use Rattle.kalah_rules.specs.Play.{legal_houses}
+use Rattle.kalah_rules.specs.Measure.{moves_left}
+
+-- the margin that the mover gets by house h, where `worth` is the margin of best play of what follows
+abbrev pub value_by : (Position → ℤ) → Position → ℕ → ℤ
+value_by worth p h =
+    let q = after p h in
+    if is_over q then final_margin q else (if is_again p h then worth q else neg_ℤ (worth (swapped q)))
+
+-- the greatest of some numbers
+abbrev pub greatest : List ℤ → ℤ
+greatest [] = pos 0
+greatest (x ∷ xs) = fold int_max x xs
+
+-- the margin of best play, where at most n moves are left. A law shows that n plays no part once it is high enough
+unfoldable pub worth_within : ℕ → Position → ℤ
+worth_within zero p = final_margin p
+worth_within (suc n) p = if is_over p then final_margin p else greatest (map (value_by (worth_within n) p) (legal_houses p))
+
+-- the margin of best play
+unfoldable pub worth : Position → ℤ
+worth p = worth_within (moves_left p) p
+
+-- the margin of best play after the move of house h
+abbrev pub value_of_move : Position → ℕ → ℤ
+value_of_move p h = value_by worth p h
+
+-- the lowest house that attains the margin of best play
+abbrev pub best_house : Position → ℕ
+best_house p = unwrap_or (find (λ h. int_eq (value_of_move p h) (worth p)) (legal_houses p)) 0
+
+-- the position of these houses, with both stores empty
+abbrev pub bare : Rows → Position
+bare a = record {
+  own = a.own;
+  own_store = 0;
+  other = a.other;
+  other_store = 0;
+  rule = a.rule;
+}
+
+-- the margin of best play of houses without their stores
+abbrev pub houses_worth : Rows → ℤ
+houses_worth a = worth (bare a)

@@ -1,0 +1,11 @@
+//! The margin of best play of a position of Kalah, and the lowest house that attains it.
+#![tactic(auto)]
+
+mod laws;
+mod plain;
+mod solver;
+mod verdict;
+
+pub use laws::{stores_only_shift, worth_is_greatest_value};
+pub use solver::Solver;
+pub use verdict::Verdict;
