@@ -1,3 +1,9 @@
 pub mod Worths
 pub mod Stores
 pub mod Bests
+pub mod Finds
+pub mod Values
+pub mod Games
+pub mod Secured
+pub mod BestMoves
+pub mod Verdicts

@@ -1,3 +1,4 @@
 pub mod Worth
+pub mod BestPlay
 pub mod Verdict
 pub mod Laws

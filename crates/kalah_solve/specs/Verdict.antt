@@ -1,8 +1,9 @@
 -- What a position is worth, and by which house.
-use Rattle.std.specs.Prelude.{ℕ, ◌≤◌, ℤ, if◌then◌else◌}
+use Rattle.std.specs.Prelude.{◌≡◌, ℕ, ◌≤◌, true, false, ℤ, if◌then◌else◌}
 use Rattle.kalah_rules.specs.Limits.{most_houses}
 use Rattle.kalah_rules.specs.Position.{Position, is_over, final_margin, IsSmallMargin}
 use Rattle.kalah_solve.specs.Worth.{worth, best_house}
+use Rattle.kalah_solve.specs.BestPlay.{IsBestPlay, IsBestMove}
 use Rattle.kalah_solve.specs.declared.verdict.Verdict.{Verdict}
 use Rattle.kalah_solve.specs.declared.verdict.Verdict.TheVariants.{Best, Over}
 
@@ -19,3 +20,20 @@ pub record IsSmallBest (margin : ℤ) (house : ℕ) : Type 0 where
 abbrev pub IsSmallVerdict : Verdict → Type 0
 IsSmallVerdict (Best margin house) = IsSmallBest margin house
 IsSmallVerdict (Over margin) = IsSmallMargin margin
+
+-- the game goes on, and the house is the lowest best move, which secures the margin of best play
+pub record TellsBestMove (p : Position) (margin : ℤ) (house : ℕ) : Type 0 where
+  pub going : is_over p ≡ false
+  pub best : IsBestMove p house margin
+  pub lowest : (h : ℕ) → IsBestMove p h margin → house ≤ h
+
+-- the game is over with the margin
+pub record TellsEnd (p : Position) (margin : ℤ) : Type 0 where
+  pub over : is_over p ≡ true
+  pub final : margin ≡ final_margin p
+  pub best_play : IsBestPlay p margin
+
+-- the verdict tells the margin of best play and the lowest best move, or the margin of a game that is over
+abbrev pub TellsBestPlay : Position → Verdict → Type 0
+TellsBestPlay p (Best margin house) = TellsBestMove p margin house
+TellsBestPlay p (Over margin) = TellsEnd p margin

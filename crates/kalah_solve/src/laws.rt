@@ -1,19 +1,38 @@
-//! Laws over all positions.
-ghost use Rattle.kalah_solve.specs.Laws.{WorthOfOver, WorthIsGreatestValue, GameThatGoesOnHasMove, StoresShiftWorth, StoresKeepBestHouse};
+//! Laws over all positions, all strategies and both rules of capture.
+ghost use Rattle.kalah_solve.specs.Laws.{WorthOfOver, WorthIsGreatestValue, GameThatGoesOnHasMove, StoresShiftWorth, StoresKeepBestHouse, StrategiesPlayAGame, StrategiesPlayOneGame, GamesEnd, WorthIsBestPlay, BestPlayIsOne, BestHouseIsBestPlay, BestPlayAgainstStrategies, BestMovesAttain, BestVerdictIsOne};
 
-/// What the worth of a position is. A law over the rules, for all positions and both rules of capture: the worth of a
-/// game that is over is its final margin, and that of any other position is the greatest value of a legal move, of
-/// which there is one at least.
+/// What the worth of a position is: that of a game that is over is its final margin, and that of any other position is
+/// the greatest value of a legal move, of which there is one at least.
 pub fn worth_is_greatest_value()
     ensures over { WorthOfOver }
     ensures going { WorthIsGreatestValue }
     ensures moves { GameThatGoesOnHasMove }
 {}
 
-/// Stores do not influence play. A law over the rules, for all positions and both rules of capture: the worth of a
-/// position is what the stores differ by and the worth of its houses with empty stores, and the best house is the same
-/// for any stores.
+/// Stores do not influence play: the worth of a position is what the stores differ by and the worth of its houses with
+/// empty stores, and the best house is the same for any stores.
 pub fn stores_only_shift()
     ensures worth { StoresShiftWorth }
     ensures house { StoresKeepBestHouse }
+{}
+
+/// Two players that follow strategies play a game to its end, and only one. No game by the rules has more moves than
+/// were left, and each ends in a position that is over.
+pub fn players_play_one_game()
+    ensures game { StrategiesPlayAGame }
+    ensures one { StrategiesPlayOneGame }
+    ensures end { GamesEnd }
+{}
+
+/// The worth of a position is the margin of best play: the player to move has a strategy that gets at least as much
+/// whatever the other player moves, the other player has one that allows no more, and no other margin is both. Always
+/// moving the lowest best house is such a strategy for either player. The best moves are the legal houses whose value
+/// is the worth, and one verdict alone tells all this.
+pub fn worth_is_best_play()
+    ensures worth { WorthIsBestPlay }
+    ensures one { BestPlayIsOne }
+    ensures house { BestHouseIsBestPlay }
+    ensures strategies { BestPlayAgainstStrategies }
+    ensures moves { BestMovesAttain }
+    ensures verdict { BestVerdictIsOne }
 {}

@@ -6,6 +6,8 @@ mod plain;
 mod solver;
 mod verdict;
 
-pub use laws::{stores_only_shift, worth_is_greatest_value};
+pub use laws::{
+    players_play_one_game, stores_only_shift, worth_is_best_play, worth_is_greatest_value,
+};
 pub use solver::Solver;
 pub use verdict::Verdict;

@@ -4,7 +4,7 @@ ghost use Rattle.std.specs.Prelude.{◌≡◌, Contains};
 ghost use Rattle.kalah_rules.specs.Position.{IsSmallMargin};
 ghost use Rattle.kalah_rules.specs.Play.{legal_houses};
 ghost use Rattle.kalah_solve.specs.Worth.{worth, value_of_move};
-ghost use Rattle.kalah_solve.specs.Verdict.{verdict_of, IsSmallVerdict};
+ghost use Rattle.kalah_solve.specs.Verdict.{verdict_of, TellsBestPlay, IsSmallVerdict};
 
 use crate::verdict::Verdict;
 use kalah_rules::{Board, Step};
@@ -44,6 +44,7 @@ fn value_of_move(board: &Board, h: u8) -> i32
 /// best play with the lowest house that attains it.
 pub(crate) fn solve(board: &Board) -> Verdict
     ensures verdict { result ≡ verdict_of board.now }
+    ensures best_play { TellsBestPlay board.now result }
     ensures small { IsSmallVerdict result }
 {
     if board.is_over() {

@@ -1,6 +1,6 @@
 //! The solver.
 ghost use Rattle.std.specs.Prelude.{◌≡◌};
-ghost use Rattle.kalah_solve.specs.Verdict.{verdict_of, IsSmallVerdict};
+ghost use Rattle.kalah_solve.specs.Verdict.{verdict_of, TellsBestPlay, IsSmallVerdict};
 
 use crate::plain;
 use crate::verdict::Verdict;
@@ -20,6 +20,7 @@ impl Solver {
     /// of best play with the lowest house that attains it.
     pub fn solve(&mut self, board: &Board) -> Verdict
         ensures verdict { result ≡ verdict_of board.now }
+        ensures best_play { TellsBestPlay board.now result }
         ensures small { IsSmallVerdict result }
     {
         plain::solve(board)

@@ -8,7 +8,9 @@ use Rattle.std.proofs.lemmas.List.Elements.{Contains-get_or}
 use Rattle.kalah_rules.specs.Play.{legal_houses}
 use Rattle.kalah_solve.specs.Worth.{value_of_move}
 use Rattle.kalah_solve.proofs.Worths.{board_equal_sides, legal_some}
-use Rattle.kalah_solve.proofs.Bests.{best_first_of, step_better, step_kept, verdict_of_best, small_best}
+use Rattle.kalah_solve.proofs.Bests.{best_first_of, step_better, step_kept, verdict_of_best, verdict_of_over, small_best}
+use Rattle.kalah_solve.proofs.Verdicts.{verdict_tells}
+use Rattle.kalah_solve.specs.declared.verdict.Verdict.TheVariants.{Best, Over}
 use Rattle.kalah_solve.proofs.plain.solve.Goals as goal
 use Rattle.kalah_solve.proofs.plain.solve.Goals.{then-value-margin, else-value-margin}
 
@@ -62,3 +64,17 @@ returns-clause-verdict c =
     let all = take_all c.loop-i.i c.legal-moves.result (omega arith) ∙ c.legal-moves.ensures in
     let best = rw all at c.loop-i.invariant.best in
     verdict_of_best c.args.board.now _ c.loop-i.house (board_equal_sides c.args.board.now c.is_over.ensures.limits) (sym c.if-is_over.ensures.over) best
+
+pub returns-clause-best_play : goal.returns-clause-best_play
+returns-clause-best_play c =
+    let all = take_all c.loop-i.i c.legal-moves.result (omega arith) ∙ c.legal-moves.ensures in
+    let best = rw all at c.loop-i.invariant.best in
+    let even = board_equal_sides c.args.board.now c.is_over.ensures.limits in
+    verdict_tells c.args.board.now (Best _ c.loop-i.house) even
+    (verdict_of_best c.args.board.now _ c.loop-i.house even (sym c.if-is_over.ensures.over) best)
+
+pub returns-then-is_over-clause-best_play : goal.returns-then-is_over-clause-best_play
+returns-then-is_over-clause-best_play c =
+    let fits : SFits w32 c.returns.result = search rules in
+    simp to_z-of_z (verdict_tells c.args.board.now (Over c.returns.result) (board_equal_sides c.args.board.now c.is_over.ensures.limits)
+    (verdict_of_over c.args.board.now c.returns.result (sym c.if-is_over.ensures.over) c.returns.ensures.margin))

@@ -1,0 +1,50 @@
+-- What best play is: strategies, the games that are played, and the margin that each side can secure.
+use Rattle.std.specs.Prelude.{◌≡◌, ℕ, true, false, List, [], ◌∷◌, Contains, ℤ, ◌≤ℤ◌}
+use Rattle.kalah_rules.specs.Position.{Position, HasEqualSides, is_over, final_margin, swapped}
+use Rattle.kalah_rules.specs.Sowing.{after, is_again}
+use Rattle.kalah_rules.specs.Play.{legal_houses}
+
+-- a strategy: the house that a player moves at each position in which it is that player's turn
+abbrev pub Strategy : Type 0
+Strategy = Position → ℕ
+
+-- it keeps to the rules: it moves a legal house wherever the game goes on
+pub record IsStrategy (s : Strategy) : Type 0 where
+  pub moves : (p : Position) → HasEqualSides p → is_over p ≡ false → Contains (legal_houses p) (s p)
+
+-- a way to play: the houses that a player may choose from at each position. A player whom the rules alone bind chooses
+-- from `legal_houses`, may remember and change his mind, and one who follows a strategy has no choice
+abbrev pub Way : Type 0
+Way = Position → List ℕ
+
+abbrev pub follow : Strategy → Way
+follow s p = s p ∷ []
+
+-- a game from p, in which the player to move plays the way `mine` and the opponent the way `theirs`: the houses that are
+-- moved, in turn, and the position at the end, seen by the player who is to move at p
+pub data Game : Way → Way → Position → List ℕ → Position → Type 0 where
+  is_at_end : {mine theirs : Way} {p : Position} → is_over p ≡ true → Game mine theirs p [] p
+  moves_on : {mine theirs : Way} {p : Position} {h : ℕ} {houses : List ℕ} {final : Position} →
+      is_over p ≡ false → Contains (mine p) h → is_again p h ≡ true →
+      Game mine theirs (after p h) houses final → Game mine theirs p (h ∷ houses) final
+  passes_turn : {mine theirs : Way} {p : Position} {h : ℕ} {houses : List ℕ} {final : Position} →
+      is_over p ≡ false → Contains (mine p) h → is_again p h ≡ false →
+      Game theirs mine (swapped (after p h)) houses final → Game mine theirs p (h ∷ houses) (swapped final)
+
+-- each game in which the player to move follows `mine` ends with at least v for that player, whatever the opponent moves
+abbrev pub Secures : Strategy → Position → ℤ → Type 0
+Secures mine p v = (houses : List ℕ) (final : Position) → Game (follow mine) legal_houses p houses final → v ≤ℤ final_margin final
+
+-- each game in which the opponent follows `theirs` ends with at most v for the player to move, whatever that player moves
+abbrev pub HoldsTo : Strategy → Position → ℤ → Type 0
+HoldsTo theirs p v = (houses : List ℕ) (final : Position) → Game legal_houses (follow theirs) p houses final → final_margin final ≤ℤ v
+
+-- v is the margin of best play: the player to move has a strategy that secures it, and the opponent one that allows no more
+pub record IsBestPlay (p : Position) (v : ℤ) : Type 0 where
+  pub secured : (mine : Strategy) × IsStrategy mine × Secures mine p v
+  pub held : (theirs : Strategy) × IsStrategy theirs × HoldsTo theirs p v
+
+-- house h is a best move: a strategy that begins with it secures the margin of best play
+pub record IsBestMove (p : Position) (h : ℕ) (v : ℤ) : Type 0 where
+  pub best_play : IsBestPlay p v
+  pub begins : (mine : Strategy) × IsStrategy mine × (mine p ≡ h) × Secures mine p v
