@@ -1,28 +1,21 @@
 -- Which moves are best.
-use Rattle.std.proofs.Common.{zero, suc, ◌≡◌, ℕ, ◌+◌, ◌<◌, ◌≤◌, ◌⊎◌, inl, inr, List, [], ◌∷◌, length, get_or, arith, ap, sym, subst, ◌∙◌, refl, eq-eqb}
-use Rattle.std.specs.Prelude.{Bool, true, false, if◌then◌else◌, ◌&&◌, ◌||◌, ◌==◌, Contains, map, filter, fold, find, nat_lt, unwrap_or, sum, ℤ, neg_ℤ, ◌≤ℤ◌}
+use Rattle.std.proofs.Common.{◌≡◌, ℕ, ◌≤◌, List, [], arith, ap, sym, ◌∙◌, refl, eq-eqb}
+use Rattle.std.specs.Prelude.{Bool, true, false, if◌then◌else◌, ◌&&◌, ◌==◌, Contains, filter, find, nat_lt, unwrap_or, ℤ, ◌≤ℤ◌}
 use Rattle.std.specs.List.{range_with_len}
-use Rattle.std.specs.Int.{int_max}
 use Rattle.std.specs.Ordering.{int_eq}
-use Rattle.std.proofs.lemmas.Bool.{cases_Bool, eqb-true}
+use Rattle.std.proofs.lemmas.Bool.{eqb-true}
 use Rattle.std.proofs.lemmas.Int.{ints}
 use Rattle.std.proofs.lemmas.Bool.Decides.{Decides-int_eq}
-use Rattle.std.proofs.lemmas.List.Elements.{All-contains, All-from_get_or}
 use Rattle.kalah_rules.specs.Position.{Position, HasEqualSides, side_length, seeds, is_over, final_margin, swapped}
-use Rattle.kalah_rules.specs.Sowing.{after, is_again}
+use Rattle.kalah_rules.specs.Sowing.{after}
 use Rattle.kalah_rules.specs.Play.{legal_houses}
-use Rattle.kalah_rules.specs.Measure.{moves_left}
-use Rattle.kalah_rules.proofs.Legal.{legal_holds}
-use Rattle.kalah_rules.proofs.Ends.{after_equal_sides, after_fewer, swap_fewer}
-use Rattle.kalah_solve.specs.Worth.{greatest, worth, value_of_move, best_house}
-use Rattle.kalah_solve.specs.BestPlay.{Strategy, IsStrategy, Way, follow, Game, Secures, HoldsTo, IsBestPlay, IsBestMove}
+use Rattle.kalah_rules.proofs.Ends.{after_equal_sides}
+use Rattle.kalah_solve.specs.Worth.{worth, value_of_move, best_house}
+use Rattle.kalah_solve.specs.BestPlay.{Strategy, IsStrategy, Way, follow, Game, IsBestMove}
 use Rattle.kalah_solve.specs.BestPlay.Game.{is_at_end, moves_on, passes_turn}
-use Rattle.kalah_solve.specs.Laws.{StrategiesPlayAGame, StrategiesPlayOneGame, GamesEnd, WorthIsBestPlay, BestPlayIsOne, BestHouseIsBestPlay, EndsWithAtLeast, EndsWithAtMost, BestPlayAgainstStrategies, BestMovesAttain, BestVerdictIsOne}
-use Rattle.kalah_solve.specs.Verdict.{verdict_of, TellsBestPlay}
-use Rattle.kalah_solve.specs.declared.verdict.Verdict.{Verdict}
-use Rattle.kalah_solve.specs.declared.verdict.Verdict.TheVariants.{Best, Over}
-use Rattle.kalah_solve.proofs.Worths.{swapped_equal_sides, worth_of_over, worth_of_going, legal_some, over_at_end}
-use Rattle.kalah_solve.proofs.Bests.{value_le, eq_yes, verdict_of_over}
+use Rattle.kalah_solve.specs.Laws.{BestHouseIsLowest, BestMovesAttain}
+use Rattle.kalah_solve.proofs.Worths.{swapped_equal_sides}
+use Rattle.kalah_solve.proofs.Bests.{eq_yes}
 use Rattle.kalah_solve.proofs.Finds.{find_is, found_or, lowest_of}
 use Rattle.kalah_solve.proofs.Values.{final_swapped, value_going_on, value_passing, best_found, best_attains, value_most}
 use Rattle.kalah_solve.proofs.Games.{KeepsRules, legal_keeps, followed, strategy_keeps}
@@ -63,12 +56,24 @@ best_moves_attain p h even going is =
     let most = value_most p h even going (best_moves_legal p h (worth p) even going is) in
     between (worth p) (final_margin game.1) (value_of_move p h) game.3 (rw is_h at first.2) most
 
-pub best_house_lowest : (p : Position) (h : ℕ) → HasEqualSides p → is_over p ≡ false → IsBestMove p h (worth p) → best_house p ≤ h
-best_house_lowest p h even going is =
+-- the best house is the lowest legal house that attains the worth
+pub best_lowest : (p : Position) (h : ℕ) → is_over p ≡ false → Contains (legal_houses p) h → value_of_move p h ≡ worth p → best_house p ≤ h
+best_lowest p h going is_legal attains =
     let rising : legal_houses p ≡ filter (λ i. nat_lt 0 (seeds p.own i)) (range_with_len 1 (side_length p)) =
     ap (λ (b : Bool). if b then [] else filter (λ i. nat_lt 0 (seeds p.own i)) (range_with_len 1 (side_length p))) going in
     lowest_of (λ k. int_eq (value_of_move p k) (worth p)) (λ i. nat_lt 0 (seeds p.own i)) 1 (side_length p) h (legal_houses p) rising
-    (best_moves_legal p h (worth p) even going is) (eq_yes (value_of_move p h) (worth p) (best_moves_attain p h even going is))
+    is_legal (eq_yes (value_of_move p h) (worth p) attains)
+
+pub best_is_lowest : BestHouseIsLowest
+best_is_lowest p even going = record {
+  is_legal = (best_found p even going).0;
+  attains = best_attains p even going;
+  lowest = λ h is_legal attains. best_lowest p h going is_legal attains;
+}
+
+-- and the lowest best move
+pub best_house_lowest : (p : Position) (h : ℕ) → HasEqualSides p → is_over p ≡ false → IsBestMove p h (worth p) → best_house p ≤ h
+best_house_lowest p h even going is = best_lowest p h going (best_moves_legal p h (worth p) even going is) (best_moves_attain p h even going is)
 
 -- the strategy that moves house h wherever it is a best move, and the lowest best house elsewhere
 pub prefers : ℕ → Position → ℕ → Bool

@@ -1,13 +1,10 @@
 -- What a search in a list finds.
-use Rattle.std.proofs.Common.{zero, suc, ◌≡◌, ℕ, ◌+◌, ◌<◌, ◌≤◌, ◌⊎◌, inl, inr, List, [], ◌∷◌, length, get_or, arith, ap, sym, subst, ◌∙◌, refl, eq-eqb}
-use Rattle.std.specs.Prelude.{Bool, true, false, if◌then◌else◌, ◌&&◌, ◌||◌, ◌==◌, Contains, map, filter, fold, find, nat_lt, unwrap_or, sum, ℤ, neg_ℤ, ◌≤ℤ◌}
+use Rattle.std.proofs.Common.{zero, suc, ◌≡◌, ℕ, ◌+◌, ◌<◌, ◌≤◌, ◌⊎◌, inl, inr, List, [], ◌∷◌, length, get_or, arith, sym, ◌∙◌, refl}
+use Rattle.std.specs.Prelude.{Bool, true, false, Contains, map, filter, fold, find, unwrap_or, ℤ}
 use Rattle.std.specs.List.{range_with_len}
 use Rattle.std.specs.Int.{int_max}
-use Rattle.std.specs.Ordering.{int_eq}
-use Rattle.std.proofs.lemmas.Bool.{cases_Bool, eqb-true}
+use Rattle.std.proofs.lemmas.Bool.{cases_Bool}
 use Rattle.std.proofs.lemmas.Int.{ints}
-use Rattle.std.proofs.lemmas.Bool.Decides.{Decides-int_eq}
-use Rattle.std.proofs.lemmas.List.Elements.{All-contains, All-from_get_or}
 use Rattle.kalah_solve.specs.Worth.{greatest}
 
 pub contains_first : (x : ℕ) (xs : List ℕ) → Contains (x ∷ xs) x

@@ -1,22 +1,18 @@
 -- The value of a move and the worth of what follows.
-use Rattle.std.proofs.Common.{zero, suc, ◌≡◌, ℕ, ◌+◌, ◌<◌, ◌≤◌, ◌⊎◌, inl, inr, List, [], ◌∷◌, length, get_or, arith, ap, sym, subst, ◌∙◌, refl, eq-eqb}
-use Rattle.std.specs.Prelude.{Bool, true, false, if◌then◌else◌, ◌&&◌, ◌||◌, ◌==◌, Contains, map, filter, fold, find, nat_lt, unwrap_or, sum, ℤ, neg_ℤ, ◌≤ℤ◌}
-use Rattle.std.specs.List.{range_with_len}
-use Rattle.std.specs.Int.{int_max}
+use Rattle.std.proofs.Common.{◌≡◌, ℕ, inl, inr, arith, ap, sym, ◌∙◌, refl}
+use Rattle.std.specs.Prelude.{Bool, true, false, ◌||◌, ◌==◌, Contains, map, sum, neg_ℤ, ◌≤ℤ◌}
 use Rattle.std.specs.Ordering.{int_eq}
-use Rattle.std.proofs.lemmas.Bool.{cases_Bool, eqb-true}
+use Rattle.std.proofs.lemmas.Bool.{cases_Bool}
 use Rattle.std.proofs.lemmas.Int.{ints}
 use Rattle.std.proofs.lemmas.Bool.Decides.{Decides-int_eq}
 use Rattle.std.proofs.lemmas.List.Elements.{All-contains, All-from_get_or}
-use Rattle.kalah_rules.specs.Position.{Position, HasEqualSides, side_length, seeds, is_over, final_margin, swapped}
+use Rattle.kalah_rules.specs.Position.{Position, HasEqualSides, is_over, final_margin, swapped}
 use Rattle.kalah_rules.specs.Sowing.{after, is_again}
 use Rattle.kalah_rules.specs.Play.{legal_houses}
-use Rattle.kalah_rules.specs.Measure.{moves_left}
-use Rattle.kalah_rules.proofs.Legal.{legal_holds}
-use Rattle.kalah_rules.proofs.Ends.{after_equal_sides, after_fewer, swap_fewer}
+use Rattle.kalah_solve.specs.Laws.{WorthIsMostOfMoves}
 use Rattle.kalah_solve.specs.Worth.{greatest, worth, value_of_move, best_house}
-use Rattle.kalah_solve.proofs.Worths.{swapped_equal_sides, worth_of_over, worth_of_going, legal_some, over_at_end}
-use Rattle.kalah_solve.proofs.Bests.{value_le, eq_yes, verdict_of_over}
+use Rattle.kalah_solve.proofs.Worths.{worth_of_over, worth_of_going, legal_some}
+use Rattle.kalah_solve.proofs.Bests.{value_le, eq_yes}
 use Rattle.kalah_solve.proofs.Finds.{greatest_is_one, find_passes}
 
 -- a game that is over is over from the other side, with the opposite margin
@@ -62,3 +58,9 @@ value_most p h even going has =
     All-contains (λ x. value_of_move p x ≤ℤ greatest (map (value_of_move p) (legal_houses p))) (legal_houses p) h
     (All-from_get_or (λ x. value_of_move p x ≤ℤ greatest (map (value_of_move p) (legal_houses p))) (legal_houses p) 0 (λ i within. value_le (value_of_move p) (legal_houses p) i within)) has in
     rw (worth_of_going p even going) most
+
+pub worth_is_most : WorthIsMostOfMoves
+worth_is_most p even going = record {
+  reached = (best_house p, (best_found p even going).0, best_attains p even going);
+  most = λ h has. value_most p h even going has;
+}

@@ -1,28 +1,15 @@
 -- The verdict tells best play, and no other does.
-use Rattle.std.proofs.Common.{zero, suc, ◌≡◌, ℕ, ◌+◌, ◌<◌, ◌≤◌, ◌⊎◌, inl, inr, List, [], ◌∷◌, length, get_or, arith, ap, sym, subst, ◌∙◌, refl, eq-eqb}
-use Rattle.std.specs.Prelude.{Bool, true, false, if◌then◌else◌, ◌&&◌, ◌||◌, ◌==◌, Contains, map, filter, fold, find, nat_lt, unwrap_or, sum, ℤ, neg_ℤ, ◌≤ℤ◌}
-use Rattle.std.specs.List.{range_with_len}
-use Rattle.std.specs.Int.{int_max}
-use Rattle.std.specs.Ordering.{int_eq}
-use Rattle.std.proofs.lemmas.Bool.{cases_Bool, eqb-true}
-use Rattle.std.proofs.lemmas.Int.{ints}
-use Rattle.std.proofs.lemmas.Bool.Decides.{Decides-int_eq}
-use Rattle.std.proofs.lemmas.List.Elements.{All-contains, All-from_get_or}
-use Rattle.kalah_rules.specs.Position.{Position, HasEqualSides, side_length, seeds, is_over, final_margin, swapped}
-use Rattle.kalah_rules.specs.Sowing.{after, is_again}
-use Rattle.kalah_rules.specs.Play.{legal_houses}
-use Rattle.kalah_rules.specs.Measure.{moves_left}
-use Rattle.kalah_rules.proofs.Legal.{legal_holds}
-use Rattle.kalah_rules.proofs.Ends.{after_equal_sides, after_fewer, swap_fewer}
-use Rattle.kalah_solve.specs.Worth.{greatest, worth, value_of_move, best_house}
-use Rattle.kalah_solve.specs.BestPlay.{Strategy, IsStrategy, Way, follow, Game, Secures, HoldsTo, IsBestPlay, IsBestMove}
-use Rattle.kalah_solve.specs.BestPlay.Game.{is_at_end, moves_on, passes_turn}
-use Rattle.kalah_solve.specs.Laws.{StrategiesPlayAGame, StrategiesPlayOneGame, GamesEnd, WorthIsBestPlay, BestPlayIsOne, BestHouseIsBestPlay, EndsWithAtLeast, EndsWithAtMost, BestPlayAgainstStrategies, BestMovesAttain, BestVerdictIsOne}
+use Rattle.std.proofs.Common.{◌≡◌, ◌≤◌, arith, ap, sym, subst, ◌∙◌, refl}
+use Rattle.std.specs.Prelude.{Bool, true, false, if◌then◌else◌}
+use Rattle.kalah_rules.specs.Position.{Position, HasEqualSides, is_over, final_margin}
+use Rattle.kalah_solve.specs.Worth.{worth, best_house}
+use Rattle.kalah_solve.specs.BestPlay.{IsBestMove}
+use Rattle.kalah_solve.specs.Laws.{BestVerdictIsOne}
 use Rattle.kalah_solve.specs.Verdict.{verdict_of, TellsBestPlay}
 use Rattle.kalah_solve.specs.declared.verdict.Verdict.{Verdict}
 use Rattle.kalah_solve.specs.declared.verdict.Verdict.TheVariants.{Best, Over}
-use Rattle.kalah_solve.proofs.Worths.{swapped_equal_sides, worth_of_over, worth_of_going, legal_some, over_at_end}
-use Rattle.kalah_solve.proofs.Bests.{value_le, eq_yes, verdict_of_over}
+use Rattle.kalah_solve.proofs.Worths.{worth_of_over}
+use Rattle.kalah_solve.proofs.Bests.{verdict_of_over}
 use Rattle.kalah_solve.proofs.Secured.{worth_is_best, best_play_is_one}
 use Rattle.kalah_solve.proofs.BestMoves.{best_move, best_house_lowest}
 
@@ -50,5 +37,5 @@ verdict_told p (Best margin house) even tells =
     cc (margin_is, house_is) ∙ ap (λ (b : Bool). if b then Over (final_margin p) else Best (worth p) (best_house p)) (sym tells.going)
 verdict_told p (Over margin) even tells = verdict_of_over p margin tells.over tells.final
 
-pub best_verdict_is_one : BestVerdictIsOne
-best_verdict_is_one p v w even one other = verdict_told p v even one ∙ sym (verdict_told p w even other)
+pub verdict_is_one : BestVerdictIsOne
+verdict_is_one p v w even one other = verdict_told p v even one ∙ sym (verdict_told p w even other)

@@ -15,6 +15,7 @@ use Rattle.kalah_rules.specs.declared.step.Step.TheVariants.{Again, Turn, Over}
 use Rattle.kalah_rules.proofs.Legal.{legal_holds, holds_legal}
 use Rattle.kalah_rules.proofs.Boards.{sum-zeros}
 use Rattle.kalah_rules.proofs.Ends.{after_equal_sides, after_fewer, swap_fewer}
+use Rattle.kalah_solve.specs.Laws.{CountPlaysNoPart}
 use Rattle.kalah_solve.specs.Worth.{value_by, greatest, worth_within, worth, value_of_move}
 
 none_left : (s m w : ℕ) → s * (m * s + 1) + w ≡ 0 → s ≡ 0
@@ -72,6 +73,10 @@ worth_same (suc n) (suc k) p even n_high k_high = elim (cases_Bool (is_over p)) 
       (worth_same n k (after p h) next_even (omega arith) (omega arith))
       (worth_same n k (swapped (after p h)) (swapped_equal_sides (after p h) next_even) (omega arith) (omega arith)))) ∙ sym (worth_more k p going)
 ]
+
+pub worth_count : CountPlaysNoPart
+unfolding worth
+worth_count p n even high = worth_same n (moves_left p) p even high (omega arith)
 
 -- the margin of a position that is over
 pub worth_of_over : (p : Position) → is_over p ≡ true → worth p ≡ final_margin p

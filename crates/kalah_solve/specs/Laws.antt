@@ -3,7 +3,7 @@ use Rattle.std.specs.Prelude.{◌≡◌, ◌↔◌, ℕ, ◌<◌, ◌≤◌, tru
 use Rattle.kalah_rules.specs.Position.{Position, HasEqualSides, is_over, final_margin, rows_of}
 use Rattle.kalah_rules.specs.Play.{legal_houses}
 use Rattle.kalah_rules.specs.Measure.{moves_left}
-use Rattle.kalah_solve.specs.Worth.{greatest, worth, value_of_move, best_house, bare, houses_worth}
+use Rattle.kalah_solve.specs.Worth.{greatest, worth_within, worth, value_of_move, best_house, bare, houses_worth}
 use Rattle.kalah_solve.specs.BestPlay.{Strategy, IsStrategy, follow, Game, Secures, HoldsTo, IsBestPlay, IsBestMove}
 use Rattle.kalah_solve.specs.Verdict.{TellsBestPlay}
 use Rattle.kalah_solve.specs.declared.verdict.Verdict.{Verdict}
@@ -19,6 +19,27 @@ WorthIsGreatestValue = (p : Position) → HasEqualSides p → is_over p ≡ fals
 -- and has one at least
 abbrev pub GameThatGoesOnHasMove : Type 0
 GameThatGoesOnHasMove = (p : Position) → is_over p ≡ false → 0 < length (legal_houses p)
+
+-- in plain words: some legal move gets the worth, and none gets more
+pub record IsMostOfMoves (p : Position) (v : ℤ) : Type 0 where
+  pub reached : (h : ℕ) × Contains (legal_houses p) h × (value_of_move p h ≡ v)
+  pub most : (h : ℕ) → Contains (legal_houses p) h → value_of_move p h ≤ℤ v
+
+abbrev pub WorthIsMostOfMoves : Type 0
+WorthIsMostOfMoves = (p : Position) → HasEqualSides p → is_over p ≡ false → IsMostOfMoves p (worth p)
+
+-- the count of moves in the definition of worth plays no part, once it is as high as the moves that are left
+abbrev pub CountPlaysNoPart : Type 0
+CountPlaysNoPart = (p : Position) (n : ℕ) → HasEqualSides p → moves_left p ≤ n → worth_within n p ≡ worth p
+
+-- the best house is the lowest legal house whose value is the worth
+pub record IsLowestBest (p : Position) (house : ℕ) : Type 0 where
+  pub is_legal : Contains (legal_houses p) house
+  pub attains : value_of_move p house ≡ worth p
+  pub lowest : (h : ℕ) → Contains (legal_houses p) h → value_of_move p h ≡ worth p → house ≤ h
+
+abbrev pub BestHouseIsLowest : Type 0
+BestHouseIsLowest = (p : Position) → HasEqualSides p → is_over p ≡ false → IsLowestBest p (best_house p)
 
 -- the worth of a position is what the stores differ by, and the worth of its houses with empty stores
 abbrev pub StoresShiftWorth : Type 0

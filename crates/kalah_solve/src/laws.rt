@@ -1,12 +1,19 @@
 //! Laws over all positions, all strategies and both rules of capture.
-ghost use Rattle.kalah_solve.specs.Laws.{WorthOfOver, WorthIsGreatestValue, GameThatGoesOnHasMove, StoresShiftWorth, StoresKeepBestHouse, StrategiesPlayAGame, StrategiesPlayOneGame, GamesEnd, WorthIsBestPlay, BestPlayIsOne, BestHouseIsBestPlay, BestPlayAgainstStrategies, BestMovesAttain, BestVerdictIsOne};
+ghost use Rattle.kalah_solve.specs.Laws.{WorthOfOver, WorthIsGreatestValue, WorthIsMostOfMoves, GameThatGoesOnHasMove, CountPlaysNoPart, BestHouseIsLowest, StoresShiftWorth, StoresKeepBestHouse, StrategiesPlayAGame, StrategiesPlayOneGame, GamesEnd, WorthIsBestPlay, BestPlayIsOne, BestHouseIsBestPlay, BestPlayAgainstStrategies, BestMovesAttain, BestVerdictIsOne};
 
 /// What the worth of a position is: that of a game that is over is its final margin, and that of any other position is
 /// the greatest value of a legal move, of which there is one at least.
 pub fn worth_is_greatest_value()
     ensures over { WorthOfOver }
     ensures going { WorthIsGreatestValue }
+    ensures most { WorthIsMostOfMoves }
     ensures moves { GameThatGoesOnHasMove }
+    ensures count { CountPlaysNoPart }
+{}
+
+/// The best house of a game that goes on is the lowest legal house whose value is the worth of the position.
+pub fn best_house_is_lowest()
+    ensures { BestHouseIsLowest }
 {}
 
 /// Stores do not influence play: the worth of a position is what the stores differ by and the worth of its houses with
@@ -26,13 +33,20 @@ pub fn players_play_one_game()
 
 /// The worth of a position is the margin of best play: the player to move has a strategy that gets at least as much
 /// whatever the other player moves, the other player has one that allows no more, and no other margin is both. Always
-/// moving the lowest best house is such a strategy for either player. The best moves are the legal houses whose value
-/// is the worth, and one verdict alone tells all this.
+/// moving the lowest best house is such a strategy, for either player and in every position.
 pub fn worth_is_best_play()
     ensures worth { WorthIsBestPlay }
     ensures one { BestPlayIsOne }
     ensures house { BestHouseIsBestPlay }
     ensures strategies { BestPlayAgainstStrategies }
-    ensures moves { BestMovesAttain }
-    ensures verdict { BestVerdictIsOne }
+{}
+
+/// The moves that best play can begin with are the legal houses whose value is the worth of the position.
+pub fn best_moves_attain_worth()
+    ensures { BestMovesAttain }
+{}
+
+/// What the solver says of best play leaves no second verdict.
+pub fn best_verdict_is_one()
+    ensures { BestVerdictIsOne }
 {}

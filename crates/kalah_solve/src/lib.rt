@@ -7,7 +7,8 @@ mod solver;
 mod verdict;
 
 pub use laws::{
-    players_play_one_game, stores_only_shift, worth_is_best_play, worth_is_greatest_value,
+    best_house_is_lowest, best_moves_attain_worth, best_verdict_is_one, players_play_one_game,
+    stores_only_shift, worth_is_best_play, worth_is_greatest_value,
 };
 pub use solver::Solver;
 pub use verdict::Verdict;

@@ -6,6 +6,9 @@ ghost use Rattle.kalah_rules.specs.Play.{legal_houses};
 ghost use Rattle.kalah_solve.specs.Worth.{worth, value_of_move};
 ghost use Rattle.kalah_solve.specs.Verdict.{verdict_of, TellsBestPlay, IsSmallVerdict};
 
+#[cfg(test)]
+mod tests;
+
 use crate::verdict::Verdict;
 use kalah_rules::{Board, Step};
 

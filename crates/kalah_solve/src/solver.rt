@@ -26,3 +26,33 @@ impl Solver {
         plain::solve(board)
     }
 }
+
+#[cfg(test)]
+mod tests {
+    use super::*;
+    use kalah_rules::Rule;
+    use std::test::Fail;
+
+    #[test]
+    fn one_solver_tells_one_position_after_another(rt: HostRuntime) -> Result<(), Fail> {
+        let cells = [1, 1, 0, 0, 0, 0];
+        let bare = Board::new(2, cells, 0, cells, 0, Rule::Classic).ok_or("beyond the limits")?;
+        let rich = Board::new(2, cells, 9, cells, 4, Rule::Classic).ok_or("beyond the limits")?;
+        let mut solver = Solver::new();
+        assert_eq!(rt;
+            solver.solve(&bare),
+            Verdict::Best {
+                margin: 2,
+                house: 2
+            }
+        );
+        assert_eq!(rt;
+            solver.solve(&rich),
+            Verdict::Best {
+                margin: 7,
+                house: 2
+            }
+        );
+        Ok(())
+    }
+}

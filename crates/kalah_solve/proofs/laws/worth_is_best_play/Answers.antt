@@ -1,6 +1,4 @@
 use Rattle.kalah_solve.proofs.Secured.{worth_is_best, best_play_is_one, best_house_is_best_play, best_against_strategies}
-use Rattle.kalah_solve.proofs.BestMoves.{best_moves}
-use Rattle.kalah_solve.proofs.Verdicts.{best_verdict_is_one}
 use Rattle.kalah_solve.proofs.laws.worth_is_best_play.Goals as goal
 
 pub returns-clause-worth : goal.returns-clause-worth
@@ -14,9 +12,3 @@ returns-clause-house c = best_house_is_best_play
 
 pub returns-clause-strategies : goal.returns-clause-strategies
 returns-clause-strategies c = best_against_strategies
-
-pub returns-clause-moves : goal.returns-clause-moves
-returns-clause-moves c = best_moves
-
-pub returns-clause-verdict : goal.returns-clause-verdict
-returns-clause-verdict c = best_verdict_is_one

@@ -1,4 +1,5 @@
-use Rattle.kalah_solve.proofs.Worths.{worth_of_over, worth_of_going, legal_some}
+use Rattle.kalah_solve.proofs.Worths.{worth_count, worth_of_over, worth_of_going, legal_some}
+use Rattle.kalah_solve.proofs.Values.{worth_is_most}
 use Rattle.kalah_solve.proofs.laws.worth_is_greatest_value.Goals as goal
 
 pub returns-clause-over : goal.returns-clause-over
@@ -9,3 +10,9 @@ returns-clause-going c = worth_of_going
 
 pub returns-clause-moves : goal.returns-clause-moves
 returns-clause-moves c = legal_some
+
+pub returns-clause-most : goal.returns-clause-most
+returns-clause-most c = worth_is_most
+
+pub returns-clause-count : goal.returns-clause-count
+returns-clause-count c = worth_count
