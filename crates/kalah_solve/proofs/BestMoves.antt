@@ -21,6 +21,7 @@ use Rattle.kalah_solve.proofs.Values.{final_swapped, value_going_on, value_passi
 use Rattle.kalah_solve.proofs.Games.{KeepsRules, legal_keeps, followed, strategy_keeps}
 use Rattle.kalah_solve.proofs.Secured.{PlaysBest, bounds, high_passed, le_of_eq, ends_at_least, best_is_strategy, best_plays, best_secures, worth_is_best}
 
+-- the best house is a best move
 pub best_move : (p : Position) → HasEqualSides p → IsBestMove p (best_house p) (worth p)
 best_move p even = record { best_play = worth_is_best p even; begins = (best_house, best_is_strategy, refl, best_secures p even) }
 
@@ -40,6 +41,7 @@ first_bound {p = p} m t even going best (passes_turn {h = h} {final = final} goi
           (high_passed (value_of_move p h) (value_of_move p h) (worth (swapped (after p h))) (final_margin final) (le_of_eq _ _ refl) value (inner.low best)),
     )
 
+-- a margin between two that are equal or the other way round
 pub between : (w z v : ℤ) → w ≤ℤ z → z ≤ℤ v → v ≤ℤ w → v ≡ w
 between w z v one two three = omega (arith, ints)
 
@@ -47,6 +49,7 @@ between w z v one two three = omega (arith, ints)
 pub best_moves_legal : (p : Position) (h : ℕ) (v : ℤ) → HasEqualSides p → is_over p ≡ false → IsBestMove p h v → Contains (legal_houses p) h
 best_moves_legal p h v even going is = rw (← is.begins.2) (is.begins.1.moves p even going)
 
+-- and attains the worth
 pub best_moves_attain : (p : Position) (h : ℕ) → HasEqualSides p → is_over p ≡ false → IsBestMove p h (worth p) → value_of_move p h ≡ worth p
 best_moves_attain p h even going is =
     let mine = is.begins.0 in
@@ -64,6 +67,7 @@ best_lowest p h going is_legal attains =
     lowest_of (λ k. int_eq (value_of_move p k) (worth p)) (λ i. nat_lt 0 (seeds p.own i)) 1 (side_length p) h (legal_houses p) rising
     is_legal (eq_yes (value_of_move p h) (worth p) attains)
 
+-- the law on the best house
 pub best_is_lowest : BestHouseIsLowest
 best_is_lowest p even going = record {
   is_legal = (best_found p even going).0;
@@ -79,23 +83,28 @@ best_house_lowest p h even going is = best_lowest p h going (best_moves_legal p 
 pub prefers : ℕ → Position → ℕ → Bool
 prefers h p k = (k == h) && int_eq (value_of_move p k) (worth p)
 
+-- this strategy
 pub prefer : ℕ → Strategy
 prefer h p = unwrap_or (find (prefers h p) (legal_houses p)) (best_house p)
 
+-- two tests that both pass
 pub both_true : (a b : Bool) → (a && b) ≡ true → (a ≡ true) × (b ≡ true)
 both_true true true is = (refl, refl)
 both_true true false is = absurd (cc)
 both_true false b is = absurd (cc)
 
+-- and the other way round
 pub and_true : (a b : Bool) → a ≡ true → b ≡ true → (a && b) ≡ true
 and_true a b one two = rw (one, two) refl
 
+-- only house h is preferred, and only where it is a best move
 pub prefers_is : (h : ℕ) (p : Position) (k : ℕ) → prefers h p k ≡ true → (k ≡ h) × (value_of_move p k ≡ worth p)
 unfolding prefers
 prefers_is h p k is =
     let both = both_true (k == h) (int_eq (value_of_move p k) (worth p)) is in
     (eqb-true k h both.0, (Decides-int_eq (value_of_move p k) (worth p)).0 both.1)
 
+-- house h is preferred where it attains the worth
 pub prefers_best : (h : ℕ) (p : Position) → value_of_move p h ≡ worth p → prefers h p h ≡ true
 unfolding prefers
 prefers_best h p attains =
@@ -103,27 +112,33 @@ prefers_best h p attains =
     let best : int_eq (value_of_move p h) (worth p) ≡ true = eq_yes (value_of_move p h) (worth p) attains in
     and_true (h == h) (int_eq (value_of_move p h) (worth p)) same best
 
+-- it keeps to the rules
 pub prefer_strategy : (h : ℕ) → IsStrategy (prefer h)
 unfolding prefer
 prefer_strategy h = record { moves = λ p even going. found_or (λ k. Contains (legal_houses p) k) (prefers h p) (legal_houses p) (best_house p) (best_found p even going).0 (λ k has passes. has) }
 
+-- it moves a house that attains the worth, in every position
 pub prefer_attains : (h : ℕ) (p : Position) → HasEqualSides p → is_over p ≡ false → value_of_move p (prefer h p) ≡ worth p
 unfolding prefer
 prefer_attains h p even going = found_or (λ k. value_of_move p k ≡ worth p) (prefers h p) (legal_houses p) (best_house p) (best_attains p even going) (λ k has passes. (prefers_is h p k passes).1)
 
+-- it moves house h where that attains the worth
 pub prefer_is : (h : ℕ) (p : Position) → Contains (legal_houses p) h → value_of_move p h ≡ worth p → prefer h p ≡ h
 unfolding prefer
 prefer_is h p has attains = find_is (prefers h p) (legal_houses p) h (best_house p) has (prefers_best h p attains) (λ j passes. (prefers_is h p j passes).0)
 
+-- so it plays best
 pub prefer_plays : (h : ℕ) → PlaysBest (follow (prefer h))
 prefer_plays h = record { attains = λ p k even going has. rw (← followed (prefer h) p k has) (prefer_attains h p even going) }
 
+-- a legal house that attains the worth is a best move
 pub attaining_is_best : (p : Position) (h : ℕ) → HasEqualSides p → Contains (legal_houses p) h → value_of_move p h ≡ worth p → IsBestMove p h (worth p)
 attaining_is_best p h even has attains = record {
   best_play = worth_is_best p even;
   begins = (prefer h, prefer_strategy h, prefer_is h p has attains, λ houses final game. (bounds (strategy_keeps (prefer h) (prefer_strategy h)) legal_keeps even game).low (prefer_plays h));
 }
 
+-- the law on best moves
 pub best_moves : BestMovesAttain
 best_moves p h even going = (
   λ is. (best_moves_legal p h (worth p) even going is, best_moves_attain p h even going is),

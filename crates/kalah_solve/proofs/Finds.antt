@@ -7,12 +7,15 @@ use Rattle.std.proofs.lemmas.Bool.{cases_Bool}
 use Rattle.std.proofs.lemmas.Int.{ints}
 use Rattle.kalah_solve.specs.Worth.{greatest}
 
+-- a list contains its first number
 pub contains_first : (x : ℕ) (xs : List ℕ) → Contains (x ∷ xs) x
 contains_first x xs = (0, omega arith, refl)
 
+-- and what the rest contains
 pub contains_later : (x : ℕ) (xs : List ℕ) (k : ℕ) → Contains xs k → Contains (x ∷ xs) k
 contains_later x xs k has = (suc has.0, omega (arith, has.1), has.2)
 
+-- and nothing else
 pub contains_cases : (x k : ℕ) (xs : List ℕ) (i : ℕ) → i < length (x ∷ xs) → get_or (x ∷ xs) i k ≡ k → (x ≡ k) ⊎ Contains xs k
 contains_cases x k xs zero within at = inl at
 contains_cases x k xs (suc i) within at = inr (i, omega arith, at)
@@ -22,6 +25,7 @@ pub max_is_one : (a b : ℤ) → (int_max a b ≡ a) ⊎ (int_max a b ≡ b)
 max_is_one a b = grind (arith, ints)
 
 module _ (f : ℕ → ℤ) where
+  -- the greatest is the number that the search began with, or a value
   fold_is_one : (a : ℤ) (xs : List ℕ) → (fold int_max a (map f xs) ≡ a) ⊎ ((k : ℕ) × Contains xs k × (f k ≡ fold int_max a (map f xs)))
   fold_is_one a [] = inl refl
   fold_is_one a (x ∷ xs) = elim (fold_is_one (int_max a (f x)) xs) [
@@ -32,6 +36,7 @@ module _ (f : ℕ → ℤ) where
     | inr later ↦ inr (later.0, contains_later x xs later.0 later.1, later.2)
   ]
 
+  -- so the greatest value is the value of a house
   pub greatest_is_one : (xs : List ℕ) → 0 < length xs → (k : ℕ) × Contains xs k × (f k ≡ greatest (map f xs))
   greatest_is_one [] some = absurd (omega arith)
   greatest_is_one (x ∷ xs) some = elim (fold_is_one (f x) xs) [
@@ -65,6 +70,7 @@ filter_low g a (suc n) h has = elim (cases_Bool (g a)) [
   | inr dropped ↦ let low = filter_low g (a + 1) n h (rw dropped at has) in omega arith
 ]
 
+-- so the first that is found is the lowest that passes
 pub find_lowest : (t g : ℕ → Bool) (a n h : ℕ) → Contains (filter g (range_with_len a n)) h → t h ≡ true → unwrap_or (find t (filter g (range_with_len a n))) 0 ≤ h
 find_lowest t g a zero h has passes = absurd (omega (arith, has.1))
 find_lowest t g a (suc n) h has passes = elim (cases_Bool (g a)) [
@@ -81,6 +87,7 @@ find_lowest t g a (suc n) h has passes = elim (cases_Bool (g a)) [
   | inr dropped ↦ rw dropped (find_lowest t g (a + 1) n h (rw dropped at has) passes)
 ]
 
+-- also where the list is given by its equation
 pub lowest_of : (t g : ℕ → Bool) (a n h : ℕ) (xs : List ℕ) → xs ≡ filter g (range_with_len a n) → Contains xs h → t h ≡ true → unwrap_or (find t xs) 0 ≤ h
 lowest_of t g a n h xs is has passes = rw is (find_lowest t g a n h (rw is at has) passes)
 
@@ -92,6 +99,7 @@ found_or P t (x ∷ xs) d default passes = elim (cases_Bool (t x)) [
   | inr later ↦ rw later (found_or P t xs d default (λ k has. passes k (contains_later x xs k has)))
 ]
 
+-- where only one number passes, that one is found
 pub find_is : (t : ℕ → Bool) (xs : List ℕ) (k d : ℕ) → Contains xs k → t k ≡ true → ((j : ℕ) → t j ≡ true → j ≡ k) → unwrap_or (find t xs) d ≡ k
 find_is t [] k d has passes only = absurd (omega (arith, has.1))
 find_is t (x ∷ xs) k d has passes only = elim (cases_Bool (t x)) [

@@ -40,6 +40,7 @@ ends_within (suc n) mine theirs m t p even few = elim (cases_Bool (is_over p)) [
       ]
 ]
 
+-- the law on games that end
 pub game_ends : StrategiesPlayAGame
 game_ends mine theirs m t p even = ends_within (moves_left p) mine theirs m t p even (omega arith)
 
@@ -57,26 +58,32 @@ ends_in_time {mine} {theirs} {p} m t even (passes_turn {h = h} {final = final} g
     let inner = ends_in_time t m (swapped_equal_sides (after p h) (after_equal_sides p h)) rest in
     record { over = over_swapped final inner.over; short = omega (arith, inner.short) }
 
+-- a player whom only the rules bind keeps to them
 pub legal_keeps : KeepsRules legal_houses
 legal_keeps = record { legal_only = λ p h even going has. has }
 
+-- the law on how games end
 pub games_end : GamesEnd
 games_end p houses final even game = ends_in_time legal_keeps legal_keeps even game
 
--- where no way has a choice, there is one game
+-- a way that has one house at most
 pub record HasNoChoice (way : Way) : Type 0 where
   pub one : (p : Position) (h k : ℕ) → Contains (way p) h → Contains (way p) k → h ≡ k
 
+-- a list of one number contains only that
 pub contains_only : (x h i : ℕ) → i < length (x ∷ []) → get_or (x ∷ []) i h ≡ h → x ≡ h
 contains_only x h zero within at = at
 contains_only x h (suc i) within at = absurd (omega arith)
 
+-- who follows a strategy moves its house
 pub followed : (s : Strategy) (p : Position) (h : ℕ) → Contains (follow s p) h → s p ≡ h
 followed s p h has = contains_only (s p) h has.0 has.1 has.2
 
+-- so there is no choice
 pub follow_one : (s : Strategy) → HasNoChoice (follow s)
 follow_one s = record { one = λ p h k has also. sym (followed s p h has) ∙ followed s p k also }
 
+-- two games without a choice are the same
 pub game_is_one : {mine theirs : Way} {p : Position} {houses others : List ℕ} {final other : Position} → HasNoChoice mine → HasNoChoice theirs →
     Game mine theirs p houses final → Game mine theirs p others other → (houses ≡ others) × (final ≡ other)
 game_is_one m t (is_at_end over) (is_at_end over') = (refl, refl)
@@ -99,24 +106,29 @@ game_is_one {mine} {theirs} {p} m t (passes_turn {h = h} going has turn rest) (p
     let same = game_is_one t m rest (subst (λ x. Game theirs mine (swapped (after p x)) houses final) e rest') in
     (cc (same.0, e), ap swapped same.1)
 
+-- the law on one game
 pub the_game_is_one : StrategiesPlayOneGame
 the_game_is_one mine theirs p houses others final other one two = game_is_one (follow_one mine) (follow_one theirs) one two
 
--- a game is one of wider ways, too
+-- a way whose houses are all of a wider way
 pub record IsWithin (way wider : Way) : Type 0 where
   pub widens : (p : Position) (h : ℕ) → HasEqualSides p → is_over p ≡ false → Contains (way p) h → Contains (wider p) h
 
+-- a game is one of wider ways, too
 pub widened : {mine theirs mine' theirs' : Way} {p : Position} {houses : List ℕ} {final : Position} → IsWithin mine mine' → IsWithin theirs theirs' → HasEqualSides p →
     Game mine theirs p houses final → Game mine' theirs' p houses final
 widened m t even (is_at_end over) = is_at_end over
 widened {mine} {theirs} {mine'} {theirs'} {p} m t even (moves_on {h = h} going has again rest) = moves_on going (m.widens p h even going has) again (widened m t (after_equal_sides p h) rest)
 widened {mine} {theirs} {mine'} {theirs'} {p} m t even (passes_turn {h = h} going has turn rest) = passes_turn going (m.widens p h even going has) turn (widened t m (swapped_equal_sides (after p h) (after_equal_sides p h)) rest)
 
+-- a way is as wide as itself
 pub same_way : (way : Way) → IsWithin way way
 same_way way = record { widens = λ p h even going has. has }
 
+-- a strategy is within the rules
 pub strategy_within : (s : Strategy) → IsStrategy s → IsWithin (follow s) legal_houses
 strategy_within s ok = record { widens = λ p h even going has. rw (← followed s p h has) (ok.moves p even going) }
 
+-- so it keeps to them
 pub strategy_keeps : (s : Strategy) → IsStrategy s → KeepsRules (follow s)
 strategy_keeps s ok = record { legal_only = (strategy_within s ok).widens }

@@ -22,6 +22,7 @@ pub record IsBounded (mine theirs : Way) (p : Position) (z : ℤ) : Type 0 where
   pub low : PlaysBest mine → worth p ≤ℤ z
   pub high : PlaysBest theirs → z ≤ℤ worth p
 
+-- equal margins
 pub le_of_eq : (a b : ℤ) → a ≡ b → a ≤ℤ b
 le_of_eq a b e = omega (arith, ints)
 
@@ -29,15 +30,19 @@ le_of_eq a b e = omega (arith, ints)
 pub low_on : (w v u z : ℤ) → v ≡ w → v ≡ u → u ≤ℤ z → w ≤ℤ z
 low_on w v u z best value more = omega (arith, ints)
 
+-- with another move, at most
 pub high_on : (w v u z : ℤ) → v ≤ℤ w → v ≡ u → z ≤ℤ u → z ≤ℤ w
 high_on w v u z most value less = omega (arith, ints)
 
+-- with the turn passed, at least
 pub low_passed : (w v u z : ℤ) → v ≡ w → v ≡ neg_ℤ u → z ≤ℤ u → w ≤ℤ neg_ℤ z
 low_passed w v u z best value less = omega (arith, ints)
 
+-- and at most
 pub high_passed : (w v u z : ℤ) → v ≤ℤ w → v ≡ neg_ℤ u → u ≤ℤ z → neg_ℤ z ≤ℤ w
 high_passed w v u z most value more = omega (arith, ints)
 
+-- along a whole game, for both players at once
 pub bounds : {mine theirs : Way} {p : Position} {houses : List ℕ} {final : Position} → KeepsRules mine → KeepsRules theirs → HasEqualSides p →
     Game mine theirs p houses final → IsBounded mine theirs p (final_margin final)
 bounds {p = p} m t even (is_at_end over) = record {
@@ -66,18 +71,23 @@ bounds {p = p} m t even (passes_turn {h = h} {final = final} going has turn rest
 pub best_is_strategy : IsStrategy best_house
 best_is_strategy = record { moves = λ p even going. (best_found p even going).0 }
 
+-- the best house has the greatest value
 pub best_plays : PlaysBest (follow best_house)
 best_plays = record { attains = λ p h even going has. rw (← followed best_house p h has) (best_attains p even going) }
 
+-- it gets the mover at least the worth
 pub best_secures : (p : Position) → HasEqualSides p → Secures best_house p (worth p)
 best_secures p even = λ houses final game. (bounds (strategy_keeps best_house best_is_strategy) legal_keeps even game).low best_plays
 
+-- and holds the mover to it when the other player moves so
 pub best_holds : (p : Position) → HasEqualSides p → HoldsTo best_house p (worth p)
 best_holds p even = λ houses final game. (bounds legal_keeps (strategy_keeps best_house best_is_strategy) even game).high best_plays
 
+-- the law on the best house
 pub best_house_is_best_play : BestHouseIsBestPlay
 best_house_is_best_play = record { is_strategy = best_is_strategy; secures = best_secures; holds = best_holds }
 
+-- the law on the worth
 pub worth_is_best : WorthIsBestPlay
 worth_is_best p even = record {
   secured = (best_house, best_is_strategy, best_secures p even);
@@ -86,16 +96,19 @@ worth_is_best p even = record {
 
 -- a game of two strategies is one of either against any play
 module _ (mine theirs : Strategy) (m : IsStrategy mine) (t : IsStrategy theirs) (p : Position) (even : HasEqualSides p) (v : ℤ) where
+  -- so what a strategy secures, the game brings
   pub ends_at_least : Secures mine p v → EndsWithAtLeast mine theirs p v
   ends_at_least secures =
       let game = game_ends mine theirs m t p even in
       (game.0, game.1, game.2, secures game.0 game.1 (widened (same_way (follow mine)) (strategy_within theirs t) even game.2))
 
+  -- and what a strategy of the opponent allows is the most
   pub ends_at_most : HoldsTo theirs p v → EndsWithAtMost mine theirs p v
   ends_at_most holds =
       let game = game_ends mine theirs m t p even in
       (game.0, game.1, game.2, holds game.0 game.1 (widened (strategy_within mine m) (same_way (follow theirs)) even game.2))
 
+-- the law on two strategies
 pub best_against_strategies : BestPlayAgainstStrategies
 best_against_strategies = record {
   secured = λ p even. (best_house, best_is_strategy, λ theirs t. ends_at_least best_house theirs best_is_strategy t p even (worth p) (best_secures p even));
@@ -106,14 +119,17 @@ best_against_strategies = record {
 pub at_most : (v w z z' : ℤ) → v ≤ℤ z → z' ≤ℤ w → z ≡ z' → v ≤ℤ w
 at_most v w z z' low high same = omega (arith, ints)
 
+-- so of two margins of best play neither is above the other
 pub secured_at_most : (p : Position) (v w : ℤ) → HasEqualSides p → IsBestPlay p v → IsBestPlay p w → v ≤ℤ w
 secured_at_most p v w even a b =
     let low = ends_at_least a.secured.0 b.held.0 a.secured.1 b.held.1 p even v a.secured.2 in
     let high = ends_at_most a.secured.0 b.held.0 a.secured.1 b.held.1 p even w b.held.2 in
     at_most v w (final_margin low.1) (final_margin high.1) low.3 high.3 (ap final_margin (the_game_is_one a.secured.0 b.held.0 p low.0 high.0 low.1 high.1 low.2 high.2).1)
 
+-- and they are equal
 pub same_margin : (v w : ℤ) → v ≤ℤ w → w ≤ℤ v → v ≡ w
 same_margin v w one two = omega (arith, ints)
 
+-- the law on one margin
 pub best_play_is_one : BestPlayIsOne
 best_play_is_one p v w even a b = same_margin v w (secured_at_most p v w even a b) (secured_at_most p w v even b a)

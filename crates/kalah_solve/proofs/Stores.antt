@@ -14,57 +14,66 @@ use Rattle.kalah_solve.proofs.Worths.{worth_over, worth_more, legal_some}
 use Rattle.kalah_solve.specs.Worth.{best_house, value_by, greatest, worth_within, worth, value_of_move, bare, houses_worth}
 
 -- a and b more in the stores
-abbrev pub richer : ℕ → ℕ → Position → Position
-richer a b p = record p {
+abbrev pub with_more : ℕ → ℕ → Position → Position
+with_more a b p = record p {
   own_store = p.own_store + a;
   other_store = p.other_store + b;
 }
 
+-- sums in another order
 swap_last : (a b c : ℕ) → a + b + c ≡ a + c + b
 swap_last a b c = omega arith
 
+-- sums in another order
 regroup : (s a x y : ℕ) → s + a + x + y ≡ s + x + y + a
 regroup s a x y = omega arith
 
-sow_richer : (a b : ℕ) (p : Position) (h c : ℕ) → sow (richer a b p) h c ≡ richer a b (sow p h c)
+-- sowing keeps what was added
+sow_with_more : (a b : ℕ) (p : Position) (h c : ℕ) → sow (with_more a b p) h c ≡ with_more a b (sow p h c)
 unfolding sow
-sow_richer a b p h c = same_position refl (swap_last _ _ _) refl refl refl
+sow_with_more a b p h c = same_position refl (swap_last _ _ _) refl refl refl
 
-captured_richer : (a b : ℕ) (q : Position) (o : Option ℕ) → captured (richer a b q) o ≡ richer a b (captured q o)
-captured_richer a b q None = refl
-captured_richer a b q (Some i) = elim (cases_Bool (can_capture q i)) [
+-- a capture keeps what was added
+captured_with_more : (a b : ℕ) (q : Position) (o : Option ℕ) → captured (with_more a b q) o ≡ with_more a b (captured q o)
+captured_with_more a b q None = refl
+captured_with_more a b q (Some i) = elim (cases_Bool (can_capture q i)) [
   | inl taken ↦ rw taken (same_position refl (regroup q.own_store a (seeds q.own i) (seeds q.other (opposite q i))) refl refl refl)
   | inr kept ↦ rw kept refl
 ]
 
-pub after_richer : (a b : ℕ) (p : Position) (h : ℕ) → after (richer a b p) h ≡ richer a b (after p h)
+-- a move keeps what was added
+pub after_with_more : (a b : ℕ) (p : Position) (h : ℕ) → after (with_more a b p) h ≡ with_more a b (after p h)
 unfolding after
-after_richer a b p h = ap (λ q. captured q (last_house p h)) (sow_richer a b p h (seeds p.own h)) ∙ captured_richer a b (sown p h) (last_house p h)
+after_with_more a b p h = ap (λ q. captured q (last_house p h)) (sow_with_more a b p h (seeds p.own h)) ∙ captured_with_more a b (sown p h) (last_house p h)
 
-shift : ℕ → ℕ → ℤ
-shift a b = pos a -ℤ pos b
+-- the final margin is shifted by what was added
+final_with_more : (a b : ℕ) (p : Position) → final_margin (with_more a b p) ≡ final_margin p +ℤ (pos a -ℤ pos b)
+final_with_more a b p = omega (arith, ints)
 
-final_richer : (a b : ℕ) (p : Position) → final_margin (richer a b p) ≡ final_margin p +ℤ (pos a -ℤ pos b)
-final_richer a b p = omega (arith, ints)
-
+-- the greater of two shifted numbers
 max_shift : (d x y : ℤ) → int_max (x +ℤ d) (y +ℤ d) ≡ int_max x y +ℤ d
 max_shift d x y = grind (arith, ints)
 
+-- the greatest of shifted numbers
 fold_shift : (d x : ℤ) (xs : List ℤ) → fold int_max (x +ℤ d) (map (λ y. y +ℤ d) xs) ≡ fold int_max x xs +ℤ d
 fold_shift d x [] = refl
 fold_shift d x (y ∷ ys) = ap (λ z. fold int_max z (map (λ t. t +ℤ d) ys)) (max_shift d x y) ∙ fold_shift d (int_max x y) ys
 
+-- for the other player the shift is the other way round
 neg_shift : (x : ℤ) (a b : ℕ) → neg_ℤ (x +ℤ (pos b -ℤ pos a)) ≡ neg_ℤ x +ℤ (pos a -ℤ pos b)
 neg_shift x a b = omega (arith, ints)
 
+-- values that are all shifted
 map_shift : (f g : ℕ → ℤ) (d : ℤ) (xs : List ℕ) → ((h : ℕ) → f h ≡ g h +ℤ d) → map f xs ≡ map (λ y. y +ℤ d) (map g xs)
 map_shift f g d [] same = refl
 map_shift f g d (x ∷ xs) same = cc (same x, map_shift f g d xs same)
 
+-- the greatest of them is shifted
 greatest_shift : (f g : ℕ → ℤ) (d : ℤ) (xs : List ℕ) → 0 < length xs → ((h : ℕ) → f h ≡ g h +ℤ d) → greatest (map f xs) ≡ greatest (map g xs) +ℤ d
 greatest_shift f g d [] some same = absurd (omega arith)
 greatest_shift f g d (x ∷ xs) some same = rw (same x, map_shift f g d xs same) (fold_shift d (g x) (map g xs))
 
+-- a move with each of its three ends shifted
 shift_by_step : (over more : Bool) (f v u f' v' u' : ℤ) (a b : ℕ) → f ≡ f' +ℤ (pos a -ℤ pos b) → v ≡ v' +ℤ (pos a -ℤ pos b) → u ≡ u' +ℤ (pos b -ℤ pos a) →
     (if over then f else (if more then v else neg_ℤ u)) ≡ (if over then f' else (if more then v' else neg_ℤ u')) +ℤ (pos a -ℤ pos b)
 shift_by_step true more f v u f' v' u' a b one two three = one
@@ -72,59 +81,67 @@ shift_by_step false true f v u f' v' u' a b one two three = two
 shift_by_step false false f v u f' v' u' a b one two three = rw three (neg_shift u' a b)
 
 -- a value by a worth that stores shift is shifted
-value_richer : (v w : Position → ℤ) (a b : ℕ) (p : Position) (h : ℕ) →
-    v (richer a b (after p h)) ≡ w (after p h) +ℤ (pos a -ℤ pos b) → v (richer b a (swapped (after p h))) ≡ w (swapped (after p h)) +ℤ (pos b -ℤ pos a) →
-    value_by v (richer a b p) h ≡ value_by w p h +ℤ (pos a -ℤ pos b)
-value_richer v w a b p h again turn =
+value_with_more : (v w : Position → ℤ) (a b : ℕ) (p : Position) (h : ℕ) →
+    v (with_more a b (after p h)) ≡ w (after p h) +ℤ (pos a -ℤ pos b) → v (with_more b a (swapped (after p h))) ≡ w (swapped (after p h)) +ℤ (pos b -ℤ pos a) →
+    value_by v (with_more a b p) h ≡ value_by w p h +ℤ (pos a -ℤ pos b)
+value_with_more v w a b p h again turn =
     let q = after p h in
-    rw (after_richer a b p h) (shift_by_step (is_over q) (is_again p h) (final_margin (richer a b q)) (v (richer a b q)) (v (richer b a (swapped q))) (final_margin q) (w q) (w (swapped q)) a b
-    (final_richer a b q) again turn)
+    rw (after_with_more a b p h) (shift_by_step (is_over q) (is_again p h) (final_margin (with_more a b q)) (v (with_more a b q)) (v (with_more b a (swapped q))) (final_margin q) (w q) (w (swapped q)) a b
+    (final_with_more a b q) again turn)
 
+-- with no move left the worth is the final margin
 worth_zero : (p : Position) → worth_within zero p ≡ final_margin p
 unfolding worth_within
 worth_zero p = refl
 
-worth_richer : (n a b : ℕ) (p : Position) → worth_within n (richer a b p) ≡ worth_within n p +ℤ (pos a -ℤ pos b)
-worth_richer zero a b p = worth_zero (richer a b p) ∙ final_richer a b p ∙ ap (λ z. z +ℤ (pos a -ℤ pos b)) (sym (worth_zero p))
-worth_richer (suc n) a b p = elim (cases_Bool (is_over p)) [
-  | inl over ↦ worth_over (suc n) (richer a b p) over ∙ final_richer a b p ∙ ap (λ z. z +ℤ (pos a -ℤ pos b)) (sym (worth_over (suc n) p over))
+-- the worth is shifted by what was added, whatever the count of moves
+worth_with_more : (n a b : ℕ) (p : Position) → worth_within n (with_more a b p) ≡ worth_within n p +ℤ (pos a -ℤ pos b)
+worth_with_more zero a b p = worth_zero (with_more a b p) ∙ final_with_more a b p ∙ ap (λ z. z +ℤ (pos a -ℤ pos b)) (sym (worth_zero p))
+worth_with_more (suc n) a b p = elim (cases_Bool (is_over p)) [
+  | inl over ↦ worth_over (suc n) (with_more a b p) over ∙ final_with_more a b p ∙ ap (λ z. z +ℤ (pos a -ℤ pos b)) (sym (worth_over (suc n) p over))
   | inr going ↦
-      worth_more n (richer a b p) going
-      ∙ greatest_shift (value_by (worth_within n) (richer a b p)) (value_by (worth_within n) p) (pos a -ℤ pos b) (legal_houses p) (legal_some p going)
-      (λ h. value_richer (worth_within n) (worth_within n) a b p h (worth_richer n a b (after p h)) (worth_richer n b a (swapped (after p h))))
+      worth_more n (with_more a b p) going
+      ∙ greatest_shift (value_by (worth_within n) (with_more a b p)) (value_by (worth_within n) p) (pos a -ℤ pos b) (legal_houses p) (legal_some p going)
+      (λ h. value_with_more (worth_within n) (worth_within n) a b p h (worth_with_more n a b (after p h)) (worth_with_more n b a (swapped (after p h))))
       ∙ ap (λ z. z +ℤ (pos a -ℤ pos b)) (sym (worth_more n p going))
 ]
 
-worth_shift : (a b : ℕ) (p : Position) → worth (richer a b p) ≡ worth p +ℤ (pos a -ℤ pos b)
+-- the worth is shifted by what was added
+worth_shift : (a b : ℕ) (p : Position) → worth (with_more a b p) ≡ worth p +ℤ (pos a -ℤ pos b)
 unfolding worth
-worth_shift a b p = worth_richer (moves_left p) a b p
+worth_shift a b p = worth_with_more (moves_left p) a b p
 
 -- a position is its houses, with what the stores hold added
-with_stores : (p : Position) → p ≡ richer p.own_store p.other_store (bare (rows_of p))
+with_stores : (p : Position) → p ≡ with_more p.own_store p.other_store (bare (rows_of p))
 with_stores p = same_position refl (omega arith) refl (omega arith) refl
 
 -- the margin of best play is that of the houses, moved by the stores
 pub worth_of_rows : (p : Position) → worth p ≡ houses_worth (rows_of p) +ℤ (pos p.own_store -ℤ pos p.other_store)
 worth_of_rows p = ap worth (with_stores p) ∙ worth_shift p.own_store p.other_store (bare (rows_of p))
 
+-- the difference of the stores first
 apart : (z : ℤ) (own other : ℕ) → z +ℤ (pos own -ℤ pos other) ≡ pos own -ℤ pos other +ℤ z
 apart z own other = omega (arith, ints)
 
+-- the law on the worth
 pub worth_by_stores : (p : Position) → worth p ≡ pos p.own_store -ℤ pos p.other_store +ℤ houses_worth (rows_of p)
 worth_by_stores p = worth_of_rows p ∙ apart (houses_worth (rows_of p)) p.own_store p.other_store
 
+-- the same search by tests that agree
 find_same : (p q : ℕ → Bool) (xs : List ℕ) → ((h : ℕ) → p h ≡ q h) → find p xs ≡ find q xs
 find_same p q [] same = refl
 find_same p q (x ∷ xs) same = rw (same x, find_same p q xs same) refl
 
+-- two shifted numbers are equal where the two were
 int_eq_shift : (x y d : ℤ) → int_eq (x +ℤ d) (y +ℤ d) ≡ int_eq x y
 int_eq_shift x y d = grind (arith, ints)
 
-best_richer : (a b : ℕ) (p : Position) → best_house (richer a b p) ≡ best_house p
-best_richer a b p = ap (λ o. unwrap_or o 0) (find_same _ _ (legal_houses p) (λ h.
-    let value = value_richer worth worth a b p h (worth_shift a b (after p h)) (worth_shift b a (swapped (after p h))) in
+-- the best house is the same, whatever was added
+best_with_more : (a b : ℕ) (p : Position) → best_house (with_more a b p) ≡ best_house p
+best_with_more a b p = ap (λ o. unwrap_or o 0) (find_same _ _ (legal_houses p) (λ h.
+    let value = value_with_more worth worth a b p h (worth_shift a b (after p h)) (worth_shift b a (swapped (after p h))) in
     rw (value, worth_shift a b p) (int_eq_shift (value_of_move p h) (worth p) (pos a -ℤ pos b))))
 
 -- the best house is that of the houses
 pub best_of_rows : (p : Position) → best_house p ≡ best_house (bare (rows_of p))
-best_of_rows p = ap best_house (with_stores p) ∙ best_richer p.own_store p.other_store (bare (rows_of p))
+best_of_rows p = ap best_house (with_stores p) ∙ best_with_more p.own_store p.other_store (bare (rows_of p))

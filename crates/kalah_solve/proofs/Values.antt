@@ -15,16 +15,18 @@ use Rattle.kalah_solve.proofs.Worths.{worth_of_over, worth_of_going, legal_some}
 use Rattle.kalah_solve.proofs.Bests.{value_le, eq_yes}
 use Rattle.kalah_solve.proofs.Finds.{greatest_is_one, find_passes}
 
--- a game that is over is over from the other side, with the opposite margin
+-- one of two tests passes, in either order
 pub or_swapped : (a b : Bool) → (a || b) ≡ true → (b || a) ≡ true
 or_swapped true true is = refl
 or_swapped true false is = refl
 or_swapped false true is = refl
 or_swapped false false is = is
 
+-- a game that is over is over from the other side
 pub over_swapped : (q : Position) → is_over q ≡ true → is_over (swapped q) ≡ true
 over_swapped q over = or_swapped (sum q.own == 0) (sum q.other == 0) over
 
+-- with the opposite margin
 pub final_swapped : (q : Position) → neg_ℤ (final_margin (swapped q)) ≡ final_margin q
 final_swapped q = omega (arith, ints)
 
@@ -35,6 +37,7 @@ value_going_on p h again = elim (cases_Bool (is_over (after p h))) [
   | inr going ↦ rw (going, again) refl
 ]
 
+-- and with the turn passed, its negative
 pub value_passing : (p : Position) (h : ℕ) → is_again p h ≡ false → value_of_move p h ≡ neg_ℤ (worth (swapped (after p h)))
 value_passing p h turn = elim (cases_Bool (is_over (after p h))) [
   | inl over ↦ rw over (sym (ap neg_ℤ (worth_of_over (swapped (after p h)) (over_swapped (after p h) over)) ∙ final_swapped (after p h)))
@@ -48,6 +51,7 @@ best_found p even going =
     let attains : value_of_move p best.0 ≡ worth p = best.2 ∙ sym (worth_of_going p even going) in
     find_passes (λ h. int_eq (value_of_move p h) (worth p)) (legal_houses p) best.0 best.1 (eq_yes (value_of_move p best.0) (worth p) attains)
 
+-- so its value is the worth
 pub best_attains : (p : Position) → HasEqualSides p → is_over p ≡ false → value_of_move p (best_house p) ≡ worth p
 best_attains p even going = (Decides-int_eq (value_of_move p (best_house p)) (worth p)).0 (best_found p even going).1
 
@@ -59,6 +63,7 @@ value_most p h even going has =
     (All-from_get_or (λ x. value_of_move p x ≤ℤ greatest (map (value_of_move p) (legal_houses p))) (legal_houses p) 0 (λ i within. value_le (value_of_move p) (legal_houses p) i within)) has in
     rw (worth_of_going p even going) most
 
+-- the law on the worth in plain words
 pub worth_is_most : WorthIsMostOfMoves
 worth_is_most p even going = record {
   reached = (best_house p, (best_found p even going).0, best_attains p even going);

@@ -13,6 +13,7 @@ use Rattle.kalah_solve.proofs.Bests.{verdict_of_over}
 use Rattle.kalah_solve.proofs.Secured.{worth_is_best, best_play_is_one}
 use Rattle.kalah_solve.proofs.BestMoves.{best_move, best_house_lowest}
 
+-- the two verdicts, by whether the game is over
 pub tells_either : (p : Position) (over : Bool) → (over ≡ true → TellsBestPlay p (Over (final_margin p))) → (over ≡ false → TellsBestPlay p (Best (worth p) (best_house p))) →
     TellsBestPlay p (if over then Over (final_margin p) else Best (worth p) (best_house p))
 tells_either p true at_end going = at_end refl
@@ -37,5 +38,6 @@ verdict_told p (Best margin house) even tells =
     cc (margin_is, house_is) ∙ ap (λ (b : Bool). if b then Over (final_margin p) else Best (worth p) (best_house p)) (sym tells.going)
 verdict_told p (Over margin) even tells = verdict_of_over p margin tells.over tells.final
 
+-- the law on one verdict
 pub verdict_is_one : BestVerdictIsOne
 verdict_is_one p v w even one other = verdict_told p v even one ∙ sym (verdict_told p w even other)

@@ -18,6 +18,7 @@ use Rattle.kalah_rules.proofs.Ends.{after_equal_sides, after_fewer, swap_fewer}
 use Rattle.kalah_solve.specs.Laws.{CountPlaysNoPart}
 use Rattle.kalah_solve.specs.Worth.{value_by, greatest, worth_within, worth, value_of_move}
 
+-- where no moves are left there are no seeds in houses
 none_left : (s m w : ℕ) → s * (m * s + 1) + w ≡ 0 → s ≡ 0
 none_left s m w none = omega arith
 
@@ -28,10 +29,11 @@ over_at_end p none =
     let empty : sum p.own ≡ 0 = omega arith in
     rw empty refl
 
--- both sides of a board have as many houses, from either side
+-- both sides of a board have as many houses
 pub board_equal_sides : (p : Position) → IsWithinLimits p → HasEqualSides p
 board_equal_sides p limits = record { same = limits.same_side }
 
+-- and from the other side
 pub swapped_equal_sides : (p : Position) → HasEqualSides p → HasEqualSides (swapped p)
 swapped_equal_sides p even = record { same = sym even.same }
 
@@ -47,15 +49,18 @@ map_same f g (x ∷ xs) same =
 value_same : (v w : Position → ℤ) (p : Position) (h : ℕ) → v (after p h) ≡ w (after p h) → v (swapped (after p h)) ≡ w (swapped (after p h)) → value_by v p h ≡ value_by w p h
 value_same v w p h again turn = rw (again, turn) refl
 
+-- one move more, where the game goes on
 pub worth_more : (n : ℕ) (p : Position) → is_over p ≡ false → worth_within (suc n) p ≡ greatest (map (value_by (worth_within n) p) (legal_houses p))
 unfolding worth_within
 worth_more n p going = ap (λ (b : Bool). if b then final_margin p else greatest (map (value_by (worth_within n) p) (legal_houses p))) going
 
+-- the final margin, where it does not
 pub worth_over : (n : ℕ) (p : Position) → is_over p ≡ true → worth_within n p ≡ final_margin p
 unfolding worth_within
 worth_over zero p over = refl
 worth_over (suc n) p over = ap (λ (b : Bool). if b then final_margin p else greatest (map (value_by (worth_within n) p) (legal_houses p))) over
 
+-- two counts that are high enough give the same
 pub worth_same : (n k : ℕ) (p : Position) → HasEqualSides p → moves_left p ≤ n → moves_left p ≤ k → worth_within n p ≡ worth_within k p
 worth_same zero k p even n_high k_high =
     let over = over_at_end p (omega arith) in
@@ -74,6 +79,7 @@ worth_same (suc n) (suc k) p even n_high k_high = elim (cases_Bool (is_over p)) 
       (worth_same n k (swapped (after p h)) (swapped_equal_sides (after p h) next_even) (omega arith) (omega arith)))) ∙ sym (worth_more k p going)
 ]
 
+-- the law on the count
 pub worth_count : CountPlaysNoPart
 unfolding worth
 worth_count p n even high = worth_same n (moves_left p) p even high (omega arith)
@@ -109,16 +115,19 @@ final_margin-swept q =
 abbrev step_by : Bool → Bool → Position → Step
 step_by b a q = if b then Over (swept q) else (if a then Again q else Turn (swapped q))
 
+-- it says that the game is over only where it is, with the houses swept
 over_step : (b a : Bool) (q e : Position) → Over e ≡ step_by b a q → (b ≡ true) × (e ≡ swept q)
 over_step true a q e is = (refl, cc)
 over_step false true q e is = cc
 over_step false false q e is = cc
 
+-- it says that the mover moves again only where that is so
 again_step : (b a : Bool) (q e : Position) → Again e ≡ step_by b a q → (b ≡ false) × (a ≡ true) × (e ≡ q)
 again_step true a q e is = cc
 again_step false true q e is = (refl, refl, cc)
 again_step false false q e is = cc
 
+-- it says that the turn passes only where that is so, with the sides swapped
 turn_step : (b a : Bool) (q e : Position) → Turn e ≡ step_by b a q → (b ≡ false) × (a ≡ false) × (e ≡ swapped q)
 turn_step true a q e is = cc
 turn_step false true q e is = cc
@@ -130,11 +139,13 @@ value_of_over p h e is =
     let step = over_step (is_over (after p h)) (is_again p h) (after p h) e is in
     rw (step.1, step.0) (final_margin-swept (after p h))
 
+-- and where the mover moves again
 pub value_of_again : (p : Position) (h : ℕ) (e : Position) → Again e ≡ step_of p h → worth e ≡ value_of_move p h
 value_of_again p h e is =
     let step = again_step (is_over (after p h)) (is_again p h) (after p h) e is in
     rw (step.2, step.0, step.1) refl
 
+-- where the turn passes
 pub value_of_turn : (p : Position) (h : ℕ) (e : Position) → Turn e ≡ step_of p h → neg_ℤ (worth e) ≡ value_of_move p h
 value_of_turn p h e is =
     let step = turn_step (is_over (after p h)) (is_again p h) (after p h) e is in
@@ -146,6 +157,7 @@ again_fewer p h e even is_legal is =
     let step = again_step (is_over (after p h)) (is_again p h) (after p h) e is in
     rw step.2 (after_fewer p h (legal_holds p h is_legal) even)
 
+-- where the turn passes
 pub turn_fewer : (p : Position) (h : ℕ) (e : Position) → HasEqualSides p → Contains (legal_houses p) h → Turn e ≡ step_of p h → moves_left e < moves_left p
 turn_fewer p h e even is_legal is =
     let step = turn_step (is_over (after p h)) (is_again p h) (after p h) e is in
@@ -163,6 +175,7 @@ row_empty p going none =
     ]) in
     omega (arith, sum_by-le (λ x. x) 0 p.own each)
 
+-- so one has a legal house
 pub legal_some : (p : Position) → is_over p ≡ false → 0 < length (legal_houses p)
 legal_some p going = elim (cases_lt 0 (length (legal_houses p))) [
   | inl some ↦ some
@@ -180,16 +193,20 @@ greatest_more f (x ∷ xs) (suc i) low high =
     rw (add-one (suc i)) (ap (fold int_max (f x)) (ap (map f) (rw (add-one i) at (take_more xs i 0 within)) ∙ map_push f (take i xs) (get_or xs i 0))
     ∙ fold_push int_max (f x) (map f (take i xs)) (f (get_or xs i 0)))
 
+-- the greatest of one number
 pub greatest_first : (f : ℕ → ℤ) (xs : List ℕ) → 0 < length xs → greatest (map f (take 1 xs)) ≡ f (get_or xs 0 0)
 greatest_first f [] some = absurd (omega arith)
 greatest_first f (x ∷ xs) some = refl
 
+-- one of two small margins is small
 small_cond : (b : Bool) (x y : ℤ) → IsSmallMargin x → IsSmallMargin y → IsSmallMargin (cond b x y)
 small_cond true x y x_small y_small = x_small
 small_cond false x y x_small y_small = y_small
 
+-- so is the greater
 pub small_max : (x y : ℤ) → IsSmallMargin x → IsSmallMargin y → IsSmallMargin (int_max x y)
 small_max x y = small_cond (int_lt y x) x y
 
+-- the greater of equal numbers
 pub int_max_same : {a b c d : ℤ} → a ≡ c → b ≡ d → int_max a b ≡ int_max c d
 int_max_same {a} {b} {c} {d} one other = rw (one, other) refl
