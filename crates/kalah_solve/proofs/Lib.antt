@@ -7,3 +7,12 @@ pub mod Games
 pub mod Secured
 pub mod BestMoves
 pub mod Verdicts
+mod Keys
+mod Packing
+mod PackedMoves
+mod HousesSteps
+mod HousesWorth
+mod Entries
+mod Ranked
+mod Windows
+mod Roots

@@ -1,14 +1,21 @@
 //! The margin of best play of a position of Kalah, and the lowest house that attains it.
 #![tactic(auto)]
 
+mod key;
 mod laws;
+mod packed;
 mod plain;
+mod ranks;
+mod search;
 mod solver;
+mod table;
 mod verdict;
 
+pub use key::{pack, unpack};
 pub use laws::{
     best_house_is_lowest, best_moves_attain_worth, best_verdict_is_one, players_play_one_game,
     stores_only_shift, worth_is_best_play, worth_is_greatest_value,
 };
 pub use solver::Solver;
+pub use table::{Interval, Table};
 pub use verdict::Verdict;

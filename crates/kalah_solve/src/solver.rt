@@ -1,58 +1,75 @@
 //! The solver.
-ghost use Rattle.std.specs.Prelude.{◌≡◌};
+ghost use Rattle.std.specs.Prelude.{◌≡◌, false, Contains, pos, negsuc, ◌≤ℤ◌};
+ghost use Rattle.kalah_rules.specs.Position.{is_over};
+ghost use Rattle.kalah_rules.specs.Play.{legal_houses};
+ghost use Rattle.kalah_solve.specs.Worth.{bare, houses_worth, best_house};
 ghost use Rattle.kalah_solve.specs.Verdict.{verdict_of, TellsBestPlay, IsSmallVerdict};
 
-use crate::plain;
+#[cfg(test)]
+mod tests;
+
+use crate::packed::PackedHouses;
+use crate::search::Search;
+use crate::table::Table;
 use crate::verdict::Verdict;
-use kalah_rules::Board;
+use kalah_rules::{Board, Moves};
+use std::alloc::{Allocator, Global};
 
-/// Tells what positions are worth.
-#[derive(Debug, Drop)]
-pub struct Solver {}
+/// Tells what positions are worth, by a search that keeps what it learns in a table.
+#[derive(Drop)]
+pub struct Solver<A: Allocator + Clone = Global> {
+    search: Search<A>,
+}
 
-impl Solver {
-    /// A solver.
-    pub fn new() -> Solver {
-        Solver {}
+impl<A: Allocator + Clone> Solver<A> {
+    /// A solver with this table. The table decides how long an answer takes, and never what it is.
+    pub fn new(table: Table<A>) -> Solver<A> {
+        Solver {
+            search: Search::new(table),
+        }
     }
 
     /// What the position is worth to the player to move: the final margin of a game that is over, and else the margin
-    /// of best play with the lowest house that attains it.
+    /// of best play with the lowest house that attains it. What the table learns on the way is kept for later
+    /// positions; where there is no memory for an entry, it is left out.
     pub fn solve(&mut self, board: &Board) -> Verdict
         ensures verdict { result ≡ verdict_of board.now }
         ensures best_play { TellsBestPlay board.now result }
         ensures small { IsSmallVerdict result }
     {
-        plain::solve(board)
+        if board.is_over() {
+            return Verdict::Over {
+                margin: board.returns(),
+            };
+        }
+        let houses = PackedHouses::of(&board.houses());
+        let (best, house) = self.best_move(&houses, &board.legal());
+        let margin = best + (board.own_store() as i32 - board.other_store() as i32);
+        Verdict::Best { margin, house }
     }
-}
 
-#[cfg(test)]
-mod tests {
-    use super::*;
-    use kalah_rules::Rule;
-    use std::test::Fail;
-
-    #[test]
-    fn one_solver_tells_one_position_after_another(rt: HostRuntime) -> Result<(), Fail> {
-        let cells = [1, 1, 0, 0, 0, 0];
-        let bare = Board::new(2, cells, 0, cells, 0, Rule::Classic).ok_or("beyond the limits")?;
-        let rich = Board::new(2, cells, 9, cells, 4, Rule::Classic).ok_or("beyond the limits")?;
-        let mut solver = Solver::new();
-        assert_eq!(rt;
-            solver.solve(&bare),
-            Verdict::Best {
-                margin: 2,
-                house: 2
+    // The margin of best play of the houses, and the lowest house that attains it: the first house is searched in the
+    // whole window, and each later one from the best so far, which only a better one replaces.
+    fn best_move(&mut self, houses: &PackedHouses, moves: &Moves) -> (i32, u8)
+        requires moves { moves.now ≡ legal_houses (bare houses.now) }
+        requires going { is_over (bare houses.now) ≡ false }
+        ensures margin { result.0 ≡ houses_worth houses.now }
+        ensures house { result.1 ≡ best_house (bare houses.now) }
+        ensures legal { Contains (legal_houses (bare houses.now)) result.1 }
+        ensures low { negsuc 30 ≤ℤ result.0 }
+        ensures high { result.0 ≤ℤ pos 31 }
+    {
+        let _seeds = houses.seeds();
+        let mut house = moves.get(0);
+        let mut best = self.search.attempt(houses, house as u32, false, -31, 31);
+        for i in 1..moves.len() {
+            let h = moves.get(i);
+            let found = self.search.attempt(houses, h as u32, true, best, 31);
+            if found > best {
+                best = found;
+                house = h;
             }
-        );
-        assert_eq!(rt;
-            solver.solve(&rich),
-            Verdict::Best {
-                margin: 7,
-                house: 2
-            }
-        );
-        Ok(())
+        }
+        (best, house)
     }
 }

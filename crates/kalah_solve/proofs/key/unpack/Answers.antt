@@ -1,0 +1,15 @@
+use Rattle.std.proofs.Common.{arith, rules, ◌∙◌, sym, ap}
+use Rattle.kalah_solve.proofs.Keys.{unpacks_same, unpacks_found}
+use Rattle.kalah_solve.proofs.key.unpack.Goals as goal
+
+pub returns-clause-same : goal.returns-clause-same
+returns-clause-same c =
+    let valid = rw (c.row_of.ensures, c.row_of-2.ensures) at c.new.ensures.valid in
+    let value = rw (c.row_of.ensures, c.row_of-2.ensures) at c.new.ensures.value in
+    unpacks_same c.args.key _ (search rules) c.new.result valid value
+
+pub returns-clause-found : goal.returns-clause-found
+returns-clause-found c =
+    let valid = rw (c.row_of.ensures, c.row_of-2.ensures) at c.new.ensures.valid in
+    let value = rw (c.row_of.ensures, c.row_of-2.ensures) at c.new.ensures.value in
+    unpacks_found c.args.key _ (search rules) c.new.result valid value

@@ -1,0 +1,6 @@
+use Rattle.std.proofs.Common.{arith}
+use Rattle.std.proofs.lemmas.Int.{ints, clamps}
+use Rattle.kalah_solve.proofs.table.Interval.learned.Goals as goal
+
+pub returns-else-answer-hi : goal.returns-else-answer-hi
+returns-else-answer-hi c = λ z low high e. record { low = omega (arith, ints, clamps); high = omega (arith, ints, clamps) }

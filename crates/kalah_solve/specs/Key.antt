@@ -1,0 +1,41 @@
+-- One number for each value of houses.
+use Rattle.std.specs.Prelude.{ℕ, zero, suc, ◌+◌, ◌*◌, ◌/◌, ◌%◌, ◌^◌, ◌==◌, List, [], ◌∷◌, length, if◌then◌else◌}
+use Rattle.kalah_rules.specs.declared.rule.Rule.{Rule}
+use Rattle.kalah_rules.specs.declared.rule.Rule.TheVariants.{Classic, EmptyCapture}
+use Rattle.kalah_rules.specs.Position.{Rows}
+use Rattle.kalah_rules.specs.Cells.{CanBeHouses, rows_from}
+
+-- a row as a number, with five bits for each house, house 1 lowest
+abbrev pub number_of : List ℕ → ℕ
+number_of [] = 0
+number_of (x ∷ xs) = x + 32 * number_of xs
+
+-- the lowest n cells of a number, of five bits each
+abbrev pub cells : ℕ → ℕ → List ℕ
+cells zero k = []
+cells (suc n) k = (k % 32) ∷ cells n (k / 32)
+
+-- the bit that stands for a rule
+abbrev pub rule_bit : Rule → ℕ
+rule_bit Classic = 0
+rule_bit EmptyCapture = 1
+
+-- own houses from bit 0, other houses from bit 30, the houses per side from bit 60, the rule at bit 63
+abbrev pub key_of : Rows → ℕ
+key_of a = number_of a.own + 2 ^ 30 * number_of a.other + 2 ^ 60 * length a.own + 2 ^ 63 * rule_bit a.rule
+
+-- the houses per side that a key names
+abbrev pub side_at : ℕ → ℕ
+side_at k = k / 2 ^ 60 % 8
+
+-- the rule that a key names
+abbrev pub rule_at : ℕ → Rule
+rule_at k = if k / 2 ^ 63 == 0 then Classic else EmptyCapture
+
+-- the number is a key: it names 1 to 6 houses a side, its cells past the last house are 0, and they hold few seeds
+abbrev pub IsKey : ℕ → Type 0
+IsKey k = CanBeHouses (side_at k) (cells 6 k) (cells 6 (k / 2 ^ 30))
+
+-- the houses whose key the number is
+abbrev pub rows_at : ℕ → Rows
+rows_at k = rows_from (side_at k) (cells 6 k) (cells 6 (k / 2 ^ 30)) (rule_at k)

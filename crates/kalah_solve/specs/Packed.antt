@@ -1,0 +1,27 @@
+-- Houses in one number, and a move on houses alone.
+use Rattle.std.specs.Prelude.{◌≡◌, ℕ, ◌+◌, ◌*◌, ◌^◌, ◌<◌, Bool, if◌then◌else◌, nat_le, ℤ, pos, ◌+ℤ◌, ◌-ℤ◌}
+use Rattle.kalah_rules.specs.Position.{Position, Rows, rows_of, seeds_in_houses, is_over, final_margin, swapped}
+use Rattle.kalah_rules.specs.Sowing.{after, is_again, row_of}
+use Rattle.kalah_solve.specs.Key.{number_of, IsKey, rows_at}
+use Rattle.kalah_solve.specs.Worth.{bare}
+use Rattle.kalah_solve.specs.declared.packed.RowNumbers.{RowNumbers}
+
+-- a key, beside the seeds in its houses
+pub record IsPacked (key seeds : ℕ) : Type 0 where
+  pub fits : key < 2 ^ 64
+  pub is_key : IsKey key
+  pub seeds_are : seeds ≡ seeds_in_houses (bare (rows_at key))
+
+-- the numbers show a position: both rows, and what its own store holds
+pub record Shows (r : RowNumbers) (p : Position) : Type 0 where
+  pub own : r.own ≡ number_of p.own
+  pub other : r.other ≡ number_of p.other
+  pub store : r.store ≡ p.own_store
+
+-- one seed in each of n houses
+abbrev pub ones : ℕ → ℕ
+ones n = number_of (row_of n (λ i. 1))
+
+-- one seed in house i, for the houses up to x
+abbrev pub up_to : ℕ → ℕ → ℕ
+up_to x i = if nat_le i x then 1 else 0

@@ -1,0 +1,24 @@
+-- What a table of intervals keeps, and what a window asks.
+use Rattle.std.specs.Prelude.{◌≡◌, ℕ, List, Contains, ℤ, ◌≤ℤ◌}
+use Rattle.std.specs.Int.{int_max, int_min}
+use Rattle.kalah_rules.specs.Position.{Rows, IsWithinHouses}
+use Rattle.kalah_solve.specs.Key.{key_of}
+use Rattle.kalah_solve.specs.Worth.{houses_worth}
+use Rattle.kalah_solve.specs.declared.table.Interval.{Interval}
+
+-- the number is in the interval
+pub record Holds (i : Interval) (z : ℤ) : Type 0 where
+  pub low : i.lo ≤ℤ z
+  pub high : z ≤ℤ i.hi
+
+-- the number, raised to lo and lowered to hi
+abbrev pub within : ℤ → ℤ → ℤ → ℤ
+within lo hi z = int_max lo (int_min z hi)
+
+-- the key is the key of houses whose worth is in the interval
+abbrev pub IsTrueEntry : ℕ × Interval → Type 0
+IsTrueEntry e = (a : Rows) × IsWithinHouses a × (key_of a ≡ e.0) × Holds e.1 (houses_worth a)
+
+-- each entry of the table is true of its key
+abbrev pub AreTrue : List (ℕ × Interval) → Type 0
+AreTrue es = (e : ℕ × Interval) → Contains es e → IsTrueEntry e

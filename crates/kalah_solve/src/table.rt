@@ -1,0 +1,122 @@
+//! A bounded table of what is known of houses.
+ghost use Rattle.std.specs.Prelude.{◌≡◌, ◌≤◌, ℕ, [], nat_eq, IfOk, IfSome, ◌≤ℤ◌, ℤ, pos, negsuc, ◌<ℤ◌};
+ghost use Rattle.std.specs.Map.{lookup};
+ghost use Rattle.kalah_solve.specs.Key.{key_of};
+ghost use Rattle.kalah_solve.specs.Worth.{houses_worth};
+
+use crate::packed::PackedHouses;
+use lru::{DefaultHasher, LruCache};
+use std::alloc::{AllocError, Allocator, Global};
+use std::marker::Model;
+use std::num::NonZeroUsize;
+
+/// The numbers from `lo` to `hi`.
+#[derive(Clone, Copy, Debug, PartialEq, Eq)]
+pub struct Interval {
+    /// The least.
+    pub lo: i8,
+    /// The greatest.
+    pub hi: i8,
+}
+
+impl Interval {
+    ghost use Rattle.kalah_solve.specs.Table.{Holds, within};
+
+    // All that houses can be worth.
+    pub(crate) fn whole() -> Interval
+        ensures { (z : ℤ) → negsuc 30 ≤ℤ z → z ≤ℤ pos 31 → Holds result z }
+    {
+        Interval { lo: -31, hi: 31 }
+    }
+
+    // What the answer of a search in a window from `lo` to `hi` tells: an answer inside the window is the worth, one at
+    // its lower end is an upper bound, and one at its upper end a lower bound.
+    pub(crate) fn learned(lo: i32, hi: i32, answer: i32) -> Interval
+        requires low { negsuc 30 ≤ℤ lo }
+        requires ordered { lo <ℤ hi }
+        requires high { hi ≤ℤ pos 31 }
+        requires least { lo ≤ℤ answer }
+        requires most { answer ≤ℤ hi }
+        ensures { (z : ℤ) → negsuc 30 ≤ℤ z → z ≤ℤ pos 31 → answer ≡ within lo hi z → Holds result z }
+    {
+        let answer_there = answer as i8;
+        if answer <= lo {
+            Interval {
+                lo: -31,
+                hi: answer_there,
+            }
+        } else if answer >= hi {
+            Interval {
+                lo: answer_there,
+                hi: 31,
+            }
+        } else {
+            Interval {
+                lo: answer_there,
+                hi: answer_there,
+            }
+        }
+    }
+
+    // What both intervals share.
+    pub(crate) fn shared(self, with: Interval) -> Interval
+        ensures { (z : ℤ) → Holds self z → Holds with z → Holds result z }
+    {
+        Interval {
+            lo: self.lo.max(with.lo),
+            hi: self.hi.min(with.hi),
+        }
+    }
+}
+
+/// Intervals that hold the worth of houses, under their keys. When it is full, the entry that was not used for the
+/// longest time makes room for a new one.
+#[derive(Drop)]
+pub struct Table<A: Allocator + Clone = Global> {
+    entries: LruCache<u64, Interval, DefaultHasher, A>,
+}
+
+impl<A: Allocator + Clone> Model for Table<A> {
+    ghost use Rattle.std.specs.Prelude.{ℕ, List};
+    ghost use Rattle.kalah_solve.specs.declared.table.Interval.{Interval};
+    ghost use Rattle.kalah_solve.specs.Table.{AreTrue};
+
+    ghost Value = { List (ℕ × Interval) };
+
+    ghost view = { λ t. t.entries.entries };
+
+    ghost invariant = { λ t. AreTrue t.entries.entries };
+}
+
+impl<A: Allocator + Clone> Table<A> {
+    ghost use Rattle.kalah_solve.specs.Table.{Holds, AreTrue};
+
+    /// An empty table with room for `capacity` entries, which is 1 to 1,048,576. It fails where there is no memory for
+    /// its index.
+    pub fn new(alloc: A, capacity: u32) -> Result<Table<A>, AllocError>
+        requires low { 1 ≤ capacity }
+        requires high { capacity ≤ 1048576 }
+        ensures { IfOk result (λ t. t ≡ []) }
+    {
+        let capacity = NonZeroUsize::new(capacity as usize).unwrap();
+        let entries = LruCache::new(alloc, capacity)?;
+        Ok(Table { entries })
+    }
+
+    // What is known of the houses, which become the most recently used.
+    pub(crate) fn look_up(&mut self, houses: &PackedHouses) -> Option<Interval>
+        ensures found { result ≡ lookup (nat_eq (key_of houses.now)) self.old }
+        ensures holds { IfSome result (λ i. Holds i (houses_worth houses.now)) }
+    {
+        let key = houses.key();
+        self.entries.get(&key).copied()
+    }
+
+    // Keeps that the worth of the houses is in the interval, unless there is no memory for it.
+    pub(crate) fn keep(&mut self, houses: &PackedHouses, interval: Interval)
+        requires { Holds interval (houses_worth houses.now) }
+    {
+        let key = houses.key();
+        let _ = self.entries.put(key, interval);
+    }
+}
