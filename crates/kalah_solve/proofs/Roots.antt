@@ -1,5 +1,5 @@
 -- The best house so far, at the root.
-use Rattle.std.proofs.Common.{◌≡◌, ℕ, ◌+◌, ◌-◌, ◌<◌, ◌≤◌, List, length, get_or, arith, ap, sym, ◌∙◌, refl, take, subst}
+use Rattle.std.proofs.Common.{◌≡◌, ℕ, ◌+◌, ◌-◌, ◌<◌, ◌≤◌, List, length, get_or, arith, ap, sym, ◌∙◌, refl, take, subst, w32, to_z, of_z}
 use Rattle.std.specs.Prelude.{Bool, true, false, Contains, if◌then◌else◌, int_lt, unwrap_or, ℤ, pos, negsuc, ◌+ℤ◌, ◌-ℤ◌, ◌≤ℤ◌, ◌<ℤ◌}
 use Rattle.std.proofs.lemmas.Int.{ints, clamps}
 use Rattle.std.proofs.lemmas.List.Elements.{Contains-get_or}
@@ -118,3 +118,8 @@ margin_small p best margin limits best_is e =
       low = omega (arith, ints, e, best_is, bounds.low, limits.other_store_low);
       high = omega (arith, ints, e, best_is, bounds.high, limits.own_store_low);
     }
+
+-- the sum that is told fits thirty-two bits
+pub sum_is : (best : ℤ) (own other : ℕ) → negsuc 30 ≤ℤ best → best ≤ℤ pos 31 → own ≤ 130 → other ≤ 130 →
+    to_z w32 (of_z w32 (to_z w32 (of_z w32 best) +ℤ to_z w32 (of_z w32 (to_z w32 own -ℤ to_z w32 other)))) ≡ best +ℤ (pos own -ℤ pos other)
+sum_is best own other low high own_low other_low = omega (arith, ints, low, high, own_low, other_low)
