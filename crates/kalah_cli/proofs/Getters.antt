@@ -1,0 +1,110 @@
+-- What the getters give, by the rows of the matches.
+use Rattle.std.proofs.Common.{◌≡◌, ◌∙◌, ◌<◌, ◌≤◌, ℕ, true, refl, sym, ap, subst, List, [], Option, Some, None, Result, Ok, Err, is_some, arith, codes, map, length, inl, inr}
+use Rattle.std.specs.Prelude.{option_map, option_and_then, IfErr, IsErrAnd, MatchResult}
+use Rattle.clap.specs.Values.{kind_of}
+use Rattle.clap.specs.declared.error.kind.ErrorKind.TheVariants.{OutOfMemory}
+use Rattle.clap.specs.Kinds.{HasKind}
+use Rattle.clap.specs.declared.error.Error.{Error}
+use Rattle.std.specs.Str.Parse.{ParsesUnsigned}
+use Rattle.clap.specs.Values.{IsUnsignedIn}
+use Rattle.clap.specs.Matches.{ReadsOne, one_text}
+use Rattle.std.proofs.lemmas.List.{length-map}
+use Rattle.std.specs.Borrow.{Bor}
+use Rattle.clap.specs.Walk.{Row, Text, all_of, one_of, rows_of}
+use Rattle.clap.specs.Simple.{App, is_simple, subcommand_of}
+use Rattle.clap.specs.Faults.{fault_of, is_simple_and_free}
+use Rattle.clap.specs.declared.parser.matches.Found.{Found}
+use Rattle.clap.proofs.OnLiterals.{clap_on_literals}
+use Rattle.clap.proofs.WalkLemmas.{one_text-rows}
+use Rattle.kalah_cli.specs.Request.{Asked, HasNumber, IsSolve, IsTaken, asked, asked_by, number_of, solve, solve_asked}
+use Rattle.kalah_cli.specs.Command.{kalah_app}
+use Rattle.kalah_cli.proofs.Laws.{app_is_simple}
+use Rattle.kalah_cli.proofs.Subcommands.{taken_holds}
+
+-- an option that maps to a value has one
+pub is_there : {A B : Type 0} (f : A → B) (o : Option A) (t : B) → option_map f o ≡ Some t → is_some o ≡ true
+is_there f None t e = cc
+is_there f (Some x) t e = refl
+
+-- a text in range is read as its number
+pub number_reads : (E : Type 0) (G : List ℕ → Result ℕ E → Type 0) (t : List ℕ) (r : Option ℕ) → ReadsOne G t r
+    → ((u : List ℕ) (x : Result ℕ E) → G u x → ParsesUnsigned 32 10 u x) → IsUnsignedIn 1 1048576 t
+    → (n : ℕ) × (r ≡ Some n) × (n ≡ number_of t)
+number_reads E G t (Some v) h only p = (v, refl, (only t (Ok v) h).1)
+number_reads E G t None h only p = absurd (only t (Err h.0) h.1 (p.0, omega arith))
+
+-- the typed getter gives the number of the id
+pub number_read : (E : Type 0) (G : List ℕ → Result ℕ E → Type 0) (f : Found) (id : List ℕ) (r : Option ℕ)
+    → ((t : List ℕ) → one_text f id ≡ Some t → ReadsOne G t r)
+    → ((u : List ℕ) (x : Result ℕ E) → G u x → ParsesUnsigned 32 10 u x) → HasNumber id 1048576 (rows_of f)
+    → (n : ℕ) × (r ≡ Some n) × ((t : List ℕ) → one_of id (rows_of f) ≡ Some t → n ≡ number_of t)
+number_read E G f id r reads only has =
+    let got = number_reads E G has.0 r (reads has.0 (one_text-rows f id ∙ has.1)) only has.2 in
+    (got.0, got.1, λ t e. let same : t ≡ has.0 = cc in rw same got.2)
+
+-- the parse of the program is exact
+kalah_is_simple : is_simple kalah_app ≡ true
+unfolding clap_on_literals
+kalah_is_simple = refl
+
+-- a parse that succeeds has no fault
+pub taken_none : (a : App) (words : List Text) → a ≡ kalah_app → (is_simple_and_free a ≡ true → fault_of a words ≡ []) → fault_of kalah_app words ≡ []
+taken_none a words is none = subst (λ b. fault_of b words ≡ []) is (none (ap is_simple_and_free is ∙ app_is_simple))
+
+-- a parse that succeeds has what its subcommand needs
+pub taken_is : (a : App) (words : List Text) (o : Option (Text × List Row)) → a ≡ kalah_app → (is_simple_and_free a ≡ true → fault_of a words ≡ [])
+    → (is_simple a ≡ true → o ≡ subcommand_of a words) → IsTaken o
+taken_is a words o is none rows =
+    let got = taken_holds words (taken_none a words is none) in
+    (got.0, got.1, rows (ap is_simple is ∙ kalah_is_simple) ∙ ap (λ b. subcommand_of b words) is ∙ got.2, got.3)
+
+-- the number is that of the text of the id
+abbrev Reads : Text → List Row → ℕ → Type 0
+Reads id rows n = (t : List ℕ) → one_of id rows ≡ Some t → n ≡ number_of t
+
+-- what the getters give is what the matches of `solve` ask for
+pub solve_is : (rows : List Row) (has : IsSolve rows) (workers table : ℕ) (files : List Text) → Reads (codes "workers") rows workers
+    → Reads (codes "table") rows table → Some files ≡ all_of (codes "file") rows → solve_asked rows ≡ Some (solve workers table files)
+solve_is rows has workers table files is_workers is_table is_files =
+    rw (has.0.1, has.1.1, ← is_files, is_workers has.0.0 has.0.1, is_table has.1.0 has.1.1) refl
+
+-- and it is in range
+pub solve_in_range : (rows : List Row) (has : IsSolve rows) (workers table : ℕ) (files : List (Bor Text)) → Reads (codes "workers") rows workers
+    → Reads (codes "table") rows table → Some (map (λ f. f.now) files) ≡ all_of (codes "file") rows
+    → (1 ≤ workers) × (workers ≤ 64) × (1 ≤ table) × (table ≤ 1048576) × (0 < length files)
+solve_in_range rows has workers table files is_workers is_table is_files =
+    let w = is_workers has.0.0 has.0.1 in
+    let t = is_table has.1.0 has.1.1 in
+    let same : map (λ f. f.now) files ≡ has.2.0 = cc in
+    let len : length (map (λ f. f.now) files) ≡ length files = simp length-map in
+    let some : 0 < length (map (λ f. f.now) files) = rw same has.2.2 in
+    let a = has.0.2 in
+    let b = has.1.2 in
+    (rw w a.2, rw w a.3, rw t b.2, rw t b.3, omega arith)
+
+-- what the matches ask for is what the words ask for
+pub asked_is : (a : App) (words : List Text) (o : Option (Text × List Row)) (x : Asked) → a ≡ kalah_app
+    → (is_simple a ≡ true → o ≡ subcommand_of a words) → option_and_then asked_by o ≡ Some x → asked words ≡ Some x
+asked_is a words o x is rows e =
+    let same : o ≡ subcommand_of kalah_app words =
+    rows (ap is_simple is ∙ kalah_is_simple) ∙ ap (λ b. subcommand_of b words) is in
+    ap (option_and_then asked_by) (sym same) ∙ e
+
+-- an error of the parse has a kind of the words' fault
+pub taken_fault : (a : App) (words : List Text) (e : Error) → a ≡ kalah_app → (is_simple_and_free a ≡ true → HasKind (fault_of a words) e)
+    → HasKind (fault_of kalah_app words) e
+taken_fault a words e is has = subst (λ b. HasKind (fault_of b words) e) is (has (ap is_simple_and_free is ∙ app_is_simple))
+
+-- `?` passes an error up as it is
+pub failed_as : {T E : Type 0} (r : Result T E) (e : E) (P : T → Type 0) (Q : E → Type 0) → IsErrAnd r (λ y. y ≡ e) → Q e → MatchResult r P Q
+failed_as (Ok x) e P Q is h = absurd is
+failed_as (Err y) e P Q is h = subst Q (sym is) h
+
+pub failed_err : {T E : Type 0} (r : Result T E) (e : E) (Q : E → Type 0) → IsErrAnd r (λ y. y ≡ e) → Q e → IfErr r Q
+failed_err (Ok x) e Q is h = absurd is
+failed_err (Err y) e Q is h = subst Q (sym is) h
+
+-- an error of words without a fault is want of memory
+pub by_memory_alone : (words : List Text) (e : Error) → HasKind (fault_of kalah_app words) e → fault_of kalah_app words ≡ [] → kind_of e ≡ OutOfMemory
+by_memory_alone words e has none =
+    elim (subst (λ ks. HasKind ks e) none has) [ inl memory ↦ memory | inr bad ↦ absurd bad ]

@@ -1,0 +1,353 @@
+-- What the matches of the two subcommands hold, where the words are taken.
+use Rattle.std.proofs.Common.{◌≡◌, ◌⊎◌, ◌∙◌, ◌++◌, ◌<◌, ℕ, Bool, cond, true, false, refl, ap, subst, inl, inr, List, [], ◌∷◌, Option, Some, None, arith, length, is_some, ◌||◌, not, codes, length-append}
+use Rattle.std.specs.Prelude.{find, option_map}
+use Rattle.std.specs.List.{fold, list_any}
+use Rattle.std.specs.Option.{option_map_or}
+use Rattle.std.specs.Str.{bytes_eq}
+use Rattle.std.proofs.lemmas.Slice.Eq.{bytes_eq-Decides}
+use Rattle.clap.specs.Values.{Accepts, IsUnsignedIn, refused_kind}
+use Rattle.clap.specs.ValueTests.{accepts}
+use Rattle.clap.proofs.ValueTestLemmas.{accepts-Accepts}
+use Rattle.clap.specs.Facts.{explicit_source}
+use Rattle.clap.specs.Kinds.{check_kinds, or_else, values_kinds}
+use Rattle.clap.specs.Walk.{Row, Rule, Text, answers_to, at_row, default_rows, first_of, has_row, more_values, nothing_held, reading_by, rows_after, settled, stronger, walk, with_default}
+use Rattle.clap.specs.Simple.{App, Shape, argument_words, built, built_leaf, entered, filled, help_rule, inherited, label_of, marked_built, names_of, rows_at, subcommand_of, with_index, with_leaf_noted}
+use Rattle.clap.specs.Takes.{is_given}
+use Rattle.clap.specs.Faults.{check_fault, entered_fault, fault_of, level_fault}
+use Rattle.clap.specs.declared.builder.value_parser.Reading.{Reading}
+use Rattle.clap.specs.declared.builder.value_parser.Reading.TheVariants.{AsWritten}
+use Rattle.clap.specs.declared.builder.value_parser.ValueParser.{ValueParser}
+use Rattle.clap.specs.declared.builder.value_parser.ValueParser.TheVariants.{Unsigned}
+use Rattle.clap.specs.declared.parser.matches.ValueSource.{ValueSource}
+use Rattle.kalah_cli.specs.Command.{file_rule, kalah_app, moves_app, solve_app, table_rule, workers_rule}
+use Rattle.kalah_cli.specs.Request.{HasNumber, IsMoves, IsSolve}
+use Rattle.kalah_cli.proofs.Kept.{AllOf, Gives, both_all, found_all, kept_level, level_parts}
+
+-- ---- values
+
+-- values of no fault are accepted by the parser
+pub values_pass : (ignore_case : Bool) (p : ValueParser) (vs : List Text) → values_kinds ignore_case p vs ≡ [] → AllOf (Accepts ignore_case p) vs
+values_pass ignore_case p [] e = tt
+values_pass ignore_case p (v ∷ vs) e =
+    go (accepts ignore_case p v) refl e (λ rest. values_pass ignore_case p vs rest)
+  where
+    go : (b : Bool) → accepts ignore_case p v ≡ b → or_else (cond b [] (refused_kind p ∷ [])) (values_kinds ignore_case p vs) ≡ []
+        → (values_kinds ignore_case p vs ≡ [] → AllOf (Accepts ignore_case p) vs) → AllOf (Accepts ignore_case p) (v ∷ vs)
+    go true is rest later = (accepts-Accepts ignore_case p v is, later rest)
+    go false is bad later = cc
+
+-- a row of the id has numbers from 1 to `high`, read as they are written
+abbrev Ranged : Text → ℕ → Row → Type 0
+Ranged id high r = bytes_eq r.id id ≡ true → (r.reading ≡ AsWritten) × AllOf (IsUnsignedIn 1 high) r.values
+
+-- what holds of each row of `solve`
+abbrev Sound : Row → Type 0
+Sound r = (0 < length r.values) × Ranged (codes "workers") 64 r × Ranged (codes "table") 1048576 r
+
+-- a list that has an item has one after more were added
+more_than : (xs ys : List Text) → 0 < length xs → 0 < length (xs ++ ys)
+more_than xs ys h = simp length-append (omega arith)
+
+-- a row of another id
+elsewhere : (id other : Text) (high : ℕ) (r : Row) → bytes_eq r.id other ≡ true → bytes_eq other id ≡ false → Ranged id high r
+elsewhere id other high r is differs same =
+    let named : r.id ≡ other = (bytes_eq-Decides r.id other).0 is in
+    let bad : bytes_eq other id ≡ true = subst (λ t. bytes_eq t id ≡ true) named same in
+    cc
+
+-- `moves`, as built under the program
+abbrev moves_shape : Shape
+moves_shape = built_leaf (inherited (marked_built (with_leaf_noted kalah_app.top)) moves_app.top)
+
+-- `solve`, as built under the program
+abbrev solve_shape : Shape
+solve_shape = built_leaf (inherited (marked_built (with_leaf_noted kalah_app.top)) solve_app.top)
+
+-- a row with more values
+abbrev grown : ValueSource → Row → List Text → Row
+grown s r vs = record r { values = r.values ++ vs; source = Some (stronger r.source s) }
+
+-- each argument of `solve` gives rows of that kind
+solve_gives : AllOf (Gives Sound) solve_shape.rules
+solve_gives = (
+  record {
+    action = inr (inl refl, refl);
+    first = λ s v vs e. (omega arith, λ same. (refl, values_pass false (Unsigned 1 64) (v ∷ vs) e), λ bad. cc);
+    more = λ s r vs is p e. (
+      more_than r.values vs p.0,
+      λ same. ((p.1 same).0, both_all _ r.values vs (p.1 same).1 (values_pass false (Unsigned 1 64) vs e)),
+      elsewhere (codes "table") (codes "workers") 1048576 (grown s r vs) is refl,
+    );
+  },
+  (
+    record {
+      action = inr (inl refl, refl);
+      first = λ s v vs e. (omega arith, λ bad. cc, λ same. (refl, values_pass false (Unsigned 1 1048576) (v ∷ vs) e));
+      more = λ s r vs is p e. (
+        more_than r.values vs p.0,
+        elsewhere (codes "workers") (codes "table") 64 (grown s r vs) is refl,
+        λ same. ((p.2 same).0, both_all _ r.values vs (p.2 same).1 (values_pass false (Unsigned 1 1048576) vs e)),
+      );
+    },
+    (
+      record {
+        action = inr (inr refl, refl);
+        first = λ s v vs e. (omega arith, λ bad. cc, λ bad. cc);
+        more = λ s r vs is p e. (
+          more_than r.values vs p.0,
+          elsewhere (codes "workers") (codes "file") 64 (grown s r vs) is refl,
+          elsewhere (codes "table") (codes "file") 1048576 (grown s r vs) is refl,
+        );
+      },
+      (
+        record {
+          action = inl refl;
+          first = λ s v vs e. (omega arith, λ bad. cc, λ bad. cc);
+          more = λ s r vs is p e. (
+            more_than r.values vs p.0,
+            elsewhere (codes "workers") (codes "help") 64 (grown s r vs) is refl,
+            elsewhere (codes "table") (codes "help") 1048576 (grown s r vs) is refl,
+          );
+        },
+        tt,
+      ),
+    ),
+  ),
+)
+
+-- each argument of `moves` gives rows with a value
+moves_gives : AllOf (Gives (λ r. 0 < length r.values)) moves_shape.rules
+moves_gives = (
+  record {
+    action = inr (inl refl, refl);
+    first = λ s v vs e. omega arith;
+    more = λ s r vs is p e. more_than r.values vs p;
+  },
+  (
+    record {
+      action = inl refl;
+      first = λ s v vs e. omega arith;
+      more = λ s r vs is p e. more_than r.values vs p;
+    },
+    tt,
+  ),
+)
+
+-- ---- what is there
+
+-- an item that passes is found
+any_found : {X : Type 0} (t : X → Bool) (xs : List X) → list_any t xs ≡ true → (x : X) × (find t xs ≡ Some x) × (t x ≡ true)
+any_found t [] e = cc
+any_found t (x ∷ xs) e = go (t x) refl e (λ rest. any_found t xs rest)
+  where
+    go : (b : Bool) → t x ≡ b → (b || list_any t xs) ≡ true → (list_any t xs ≡ true → (y : _) × (find t xs ≡ Some y) × (t y ≡ true))
+        → (y : _) × (cond b (Some x) (find t xs) ≡ Some y) × (t y ≡ true)
+    go true is h later = (x, refl, is)
+    go false is h later = later h
+
+-- a test that holds later holds
+or_later : (a b : Bool) → b ≡ true → (a || b) ≡ true
+or_later true b e = refl
+or_later false b e = e
+
+-- a row stays there while rows are changed
+row_stays : (id other : Text) (s : ValueSource) (vs : List Text) (missing rows : List Row) → has_row id rows ≡ true
+    → has_row id (at_row other (more_values s vs) missing rows) ≡ true
+row_stays id other s vs missing [] e = cc
+row_stays id other s vs missing (r ∷ rs) e =
+    has_cond (bytes_eq r.id other) (more_values s vs r ++ rs) (r ∷ at_row other (more_values s vs) missing rs)
+    ∙ go (bytes_eq r.id other) (bytes_eq r.id id) e (λ rest. row_stays id other s vs missing rs rest)
+  where
+    has_cond : (b : Bool) (xs ys : List Row) → has_row id (cond b xs ys) ≡ cond b (has_row id xs) (has_row id ys)
+    has_cond true xs ys = refl
+    has_cond false xs ys = refl
+
+    go : (b here : Bool) → (here || has_row id rs) ≡ true → (has_row id rs ≡ true → has_row id (at_row other (more_values s vs) missing rs) ≡ true)
+        → cond b (here || has_row id rs) (here || has_row id (at_row other (more_values s vs) missing rs)) ≡ true
+    go true here h later = h
+    go false true h later = refl
+    go false false h later = later h
+
+-- a row that is changed and was missing is there
+row_made : (id : Text) (s : ValueSource) (vs : List Text) (missing rows : List Row) → has_row id missing ≡ true
+    → has_row id (at_row id (more_values s vs) missing rows) ≡ true
+row_made id s vs missing [] e = e
+row_made id s vs missing (r ∷ rs) e = go (bytes_eq r.id id) refl (row_made id s vs missing rs e)
+  where
+    go : (b : Bool) → bytes_eq r.id id ≡ b → has_row id (at_row id (more_values s vs) missing rs) ≡ true
+        → has_row id (cond b (more_values s vs r ++ rs) (r ∷ at_row id (more_values s vs) missing rs)) ≡ true
+    go true is later = rw is refl
+    go false is later = or_later _ _ later
+
+-- a row stays there while a default is filled in
+default_stays : (id : Text) (rows : List Row) (a : Rule) → has_row id rows ≡ true → has_row id (with_default rows a) ≡ true
+default_stays id rows a e = go (has_row a.id rows) a.defaults
+  where
+    go : (b : Bool) (ds : List Text) → has_row id (cond b rows (default_rows a.id (reading_by a) ds rows)) ≡ true
+    go true ds = e
+    go false [] = e
+    go false (d ∷ ds) = row_stays id a.id _ (d ∷ ds) _ rows e
+
+-- a default makes the row of its argument
+default_made : (rows : List Row) (a : Rule) (d : Text) (ds : List Text) → a.defaults ≡ d ∷ ds → bytes_eq a.id a.id ≡ true
+    → has_row a.id (with_default rows a) ≡ true
+default_made rows a d ds is same =
+    go (has_row a.id rows) refl
+  where
+    go : (b : Bool) → has_row a.id rows ≡ b → has_row a.id (cond b rows (default_rows a.id (reading_by a) a.defaults rows)) ≡ true
+    go true e = e
+    go false e = rw is (row_made a.id _ (d ∷ ds) _ rows (rw same refl))
+
+-- an argument that was given has a row
+given_row : (id : Text) (rows : List Row) → is_given id rows ≡ true → (r : Row) × (find (λ r. bytes_eq r.id id) rows ≡ Some r)
+given_row id rows e = go (find (λ r. bytes_eq r.id id) rows) refl e
+  where
+    go : (o : Option Row) → find (λ r. bytes_eq r.id id) rows ≡ o → option_map_or (λ r. explicit_source r.source) o false ≡ true
+        → (r : Row) × (find (λ r. bytes_eq r.id id) rows ≡ Some r)
+    go None is f = cc
+    go (Some r) is f = (r, is)
+
+-- what holds of all rows holds of the row of an id
+found_row : (P : Row → Type 0) (id : Text) (rows : List Row) (r : Row) → AllOf P rows → find (λ r. bytes_eq r.id id) rows ≡ Some r → P r
+found_row P id rows r all found = found_all P (λ r. bytes_eq r.id id) rows r all found
+
+-- a row of numbers in range has a number in range
+number_in : (id : Text) (high : ℕ) (rows : List Row) (r : Row) → find (λ r. bytes_eq r.id id) rows ≡ Some r → 0 < length r.values
+    → (r.reading ≡ AsWritten) × AllOf (IsUnsignedIn 1 high) r.values → HasNumber id high rows
+number_in id high rows r found some ranged = go r.values r.reading refl refl some ranged.1 ranged.0
+  where
+    go : (vs : List Text) (how : Reading) → r.values ≡ vs → r.reading ≡ how → 0 < length vs → AllOf (IsUnsignedIn 1 high) vs → how ≡ AsWritten
+        → HasNumber id high rows
+    go [] how e f lt all is = absurd (omega arith)
+    go (v ∷ vs) how e f lt all is = (v, rw (found, e, f, is) refl, all.0)
+
+-- a row stays there while all defaults are filled in
+rows_stay : (id : Text) (c : List Rule) (rows : List Row) → has_row id rows ≡ true → has_row id (fold with_default rows c) ≡ true
+rows_stay id [] rows e = e
+rows_stay id (a ∷ rest) rows e = rows_stay id rest (with_default rows a) (default_stays id rows a e)
+
+-- a row that is there is found
+row_in : (id : Text) (rows : List Row) → has_row id rows ≡ true → (r : Row) × (find (λ r. bytes_eq r.id id) rows ≡ Some r)
+row_in id rows e =
+    let got = any_found (λ r. bytes_eq r.id id) rows e in
+    (got.0, got.1)
+
+-- the arguments of `solve`, as built
+abbrev workers_built : Rule
+workers_built = with_index 1 (filled workers_rule)
+
+abbrev table_built : Rule
+table_built = with_index 1 (filled table_rule)
+
+abbrev file_built : Rule
+file_built = with_index 1 (filled file_rule)
+
+abbrev help_built : Rule
+help_built = with_index 2 (filled help_rule)
+
+-- a row that is found has the id
+found_named : (id : Text) (rows : List Row) (r : Row) → find (λ r. bytes_eq r.id id) rows ≡ Some r → bytes_eq r.id id ≡ true
+found_named id [] r e = cc
+found_named id (x ∷ xs) r e = go (bytes_eq x.id id) refl e (λ rest. found_named id xs r rest)
+  where
+    go : (b : Bool) → bytes_eq x.id id ≡ b → cond b (Some x) (find (λ r. bytes_eq r.id id) xs) ≡ Some r
+        → (find (λ r. bytes_eq r.id id) xs ≡ Some r → bytes_eq r.id id ≡ true) → bytes_eq r.id id ≡ true
+    go true is same later =
+        let one : x ≡ r = cc in
+        subst (λ y. bytes_eq y.id id ≡ true) one is
+    go false is rest later = later rest
+
+-- the last checks of `solve` pass only where a file is given
+file_given : (rows : List Row) → check_fault solve_shape rows false ≡ [] → is_given (codes "file") rows ≡ true
+file_given rows e = go (is_given (codes "file") rows) e
+  where
+    go : (b : Bool) → check_kinds false false (not b || (false || false)) ≡ [] → b ≡ true
+    go true f = refl
+    go false f = cc
+
+-- the last checks of `moves` pass only where a line is given
+line_given : (rows : List Row) → check_fault moves_shape rows false ≡ [] → is_given (codes "line") rows ≡ true
+line_given rows e = go (is_given (codes "line") rows) e
+  where
+    go : (b : Bool) → check_kinds false false (not b || (false || false)) ≡ [] → b ≡ true
+    go true f = refl
+    go false f = cc
+
+-- matches of `solve` without a fault have what it needs
+pub solve_holds : (words : List Text) → level_fault solve_shape [] nothing_held words false [] ≡ []
+    → IsSolve (rows_after solve_shape.rules [] words)
+solve_holds words e =
+    let level = kept_level Sound solve_shape solve_gives [] words false [] e in
+    let rows = rows_after solve_shape.rules [] words in
+    let start = (settled solve_shape.rules (walk solve_shape.rules [] nothing_held words).held).rows in
+    let workers = row_in (codes "workers") rows (rows_stay (codes "workers") (table_built ∷ file_built ∷ help_built ∷ [])
+    (with_default start workers_built) (default_made start workers_built (codes "4") [] refl refl)) in
+    let table = row_in (codes "table") rows (rows_stay (codes "table") (file_built ∷ help_built ∷ [])
+    (with_default (with_default start workers_built) table_built)
+    (default_made (with_default start workers_built) table_built (codes "65536") [] refl refl)) in
+    let file = given_row (codes "file") rows (file_given rows level.1) in
+    let workers_sound = found_row Sound (codes "workers") rows workers.0 level.0 workers.1 in
+    let table_sound = found_row Sound (codes "table") rows table.0 level.0 table.1 in
+    let file_sound = found_row Sound (codes "file") rows file.0 level.0 file.1 in (
+      number_in (codes "workers") 64 rows workers.0 workers.1 workers_sound.0 (workers_sound.1 (found_named (codes "workers") rows workers.0 workers.1)),
+      number_in (codes "table") 1048576 rows table.0 table.1 table_sound.0 (table_sound.2 (found_named (codes "table") rows table.0 table.1)),
+      (file.0.values, ap (option_map (λ (r : Row). r.values)) file.1, file_sound.0),
+    )
+
+-- a row with a value has a first value
+first_in : (id : Text) (rows : List Row) (r : Row) → find (λ r. bytes_eq r.id id) rows ≡ Some r → 0 < length r.values
+    → (t : Text) × (first_of id rows ≡ Some t)
+first_in id rows r found some = go r.values refl some
+  where
+    go : (vs : List Text) → r.values ≡ vs → 0 < length vs → (t : Text) × (first_of id rows ≡ Some t)
+    go [] e lt = absurd (omega arith)
+    go (v ∷ vs) e lt = (v, rw (found, e) refl)
+
+-- matches of `moves` without a fault have what it needs
+pub moves_holds : (words : List Text) → level_fault moves_shape [] nothing_held words false [] ≡ []
+    → IsMoves (rows_after moves_shape.rules [] words)
+moves_holds words e =
+    let level = kept_level (λ r. 0 < length r.values) moves_shape moves_gives [] words false [] e in
+    let rows = rows_after moves_shape.rules [] words in
+    let line = given_row (codes "line") rows (line_given rows level.1) in
+    first_in (codes "line") rows line.0 line.1 (found_row (λ r. 0 < length r.values) (codes "line") rows line.0 level.0 line.1)
+
+-- ---- the subcommand that the words name
+
+-- matches of a subcommand without a fault have the fact
+abbrev Level : (Text → List Row → Type 0) → Shape → Type 0
+Level G s = (words : List Text) → level_fault s [] nothing_held words false [] ≡ [] → G s.name (rows_after s.rules [] words)
+
+-- so have the matches of the subcommand that was entered
+entered_holds : (G : Text → List Row → Type 0) (a : App) (stop : Option (Text × List Text)) → AllOf (Level G) a.subs
+    → is_some (entered a stop) ≡ true → entered_fault a stop ≡ []
+    → (name : Text) × (rows : List Row) × (entered a stop ≡ Some (name, rows)) × G name rows
+entered_holds G a None all some e = cc
+entered_holds G a (Some p) all some e = go (find (λ s. answers_to p.0 (label_of s)) a.subs) refl some e
+  where
+    go : (o : Option Shape) → find (λ s. answers_to p.0 (label_of s)) a.subs ≡ o → is_some (option_map (λ s. rows_at s p.1) o) ≡ true
+        → option_map_or (λ s. level_fault s [] nothing_held p.1 false []) o [] ≡ []
+        → (name : Text) × (rows : List Row) × (option_map (λ s. rows_at s p.1) o ≡ Some (name, rows)) × G name rows
+    go None is f g = cc
+    go (Some s) is f g = (s.name, rows_after s.rules [] p.1, refl, found_all (Level G) (λ s. answers_to p.0 (label_of s)) a.subs s all is p.1 g)
+
+-- the matches of a subcommand have what it asks for
+abbrev pub Holds : Text → List Row → Type 0
+Holds name rows = ((name ≡ codes "moves") × IsMoves rows) ⊎ ((name ≡ codes "solve") × IsSolve rows)
+
+-- the last checks of the program pass only where a subcommand is met
+needs_subcommand : (rows : List Row) (b : Bool) → check_fault (built kalah_app).top rows b ≡ [] → b ≡ true
+needs_subcommand rows true e = refl
+needs_subcommand rows false e = cc
+
+-- words that fail by no kind name a subcommand, whose matches have what it asks for
+pub taken_holds : (words : List Text) → fault_of kalah_app words ≡ []
+    → (name : Text) × (rows : List Row) × (subcommand_of kalah_app words ≡ Some (name, rows)) × Holds name rows
+taken_holds words e =
+    let rest = argument_words kalah_app words in
+    let stop = (walk (built kalah_app).top.rules (names_of (built kalah_app)) nothing_held rest).stopped in
+    let parts = level_parts (built kalah_app).top (names_of (built kalah_app)) rest (is_some (entered (built kalah_app) stop))
+    (entered_fault (built kalah_app) stop) e in
+    entered_holds Holds (built kalah_app) stop
+    (λ words f. inl (refl, moves_holds words f), (λ words f. inr (refl, solve_holds words f), tt))
+    (needs_subcommand (rows_after (built kalah_app).top.rules (names_of (built kalah_app)) rest) (is_some (entered (built kalah_app) stop)) parts.1) parts.0

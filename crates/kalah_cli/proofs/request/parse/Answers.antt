@@ -1,0 +1,32 @@
+use Rattle.std.proofs.Common.{map}
+use Rattle.kalah_cli.proofs.Getters.{asked_is, by_memory_alone, failed_as, failed_err, taken_fault, taken_is, taken_none}
+use Rattle.kalah_cli.proofs.Laws.{moves_by_memory, moves_given}
+use Rattle.kalah_cli.proofs.request.parse.Goals as goal
+
+pub requested-requires : goal.requested-requires
+requested-requires g c =
+    taken_is _ _ _ c.in_ok-command.ensures c.in_ok-matches.ensures.kinds (λ simple. (c.in_ok-matches.ensures.matches simple).1)
+
+pub returns-clause-taken : goal.returns-clause-taken
+returns-clause-taken g c = (
+  taken_none _ _ c.in_ok-command.ensures c.in_ok-matches.ensures.kinds,
+  asked_is _ _ _ _ c.in_ok-command.ensures (λ simple. (c.in_ok-matches.ensures.matches simple).1) c.in_ok-requested.ensures.asked,
+)
+
+pub returns-clause-kinds : goal.returns-clause-kinds
+returns-clause-kinds g c = taken_none _ _ c.in_ok-command.ensures c.in_ok-matches.ensures.kinds
+
+pub returns-in_err-matches-clause-refused : goal.returns-in_err-matches-clause-refused
+returns-in_err-matches-clause-refused g c =
+    failed_err c.from_residual-in_err-matches.result c.in_err-matches.field-0.0 _ c.from_residual-in_err-matches.ensures.1
+    (λ a taken. by_memory_alone (map g.S.AsStr.text c.args.words.now) c.in_err-matches.field-0.0 (taken_fault _ _ c.in_err-matches.field-0.0 c.in_ok-command.ensures c.in_err-matches.ensures.kinds) taken.0)
+
+pub returns-clause-moves : goal.returns-clause-moves
+returns-clause-moves g c =
+    moves_given _ _ (asked_is _ _ _ _ c.in_ok-command.ensures (λ simple. (c.in_ok-matches.ensures.matches simple).1) c.in_ok-requested.ensures.asked)
+
+pub returns-in_err-matches-clause-moves : goal.returns-in_err-matches-clause-moves
+returns-in_err-matches-clause-moves g c =
+    λ name line same plain.
+    failed_as c.from_residual-in_err-matches.result c.in_err-matches.field-0.0 _ _ c.from_residual-in_err-matches.ensures.1
+    (moves_by_memory _ c.in_err-matches.field-0.0 (taken_fault _ _ c.in_err-matches.field-0.0 c.in_ok-command.ensures c.in_err-matches.ensures.kinds) name line same plain)

@@ -1,0 +1,28 @@
+use Rattle.std.proofs.Common.{◌≡◌, ◌∙◌, Some, ap, codes, map, sym}
+use Rattle.std.specs.Prelude.{option_map}
+use Rattle.clap.specs.Walk.{all_of, rows_of}
+use Rattle.clap.specs.Words.{found_of}
+use Rattle.clap.proofs.WalkLemmas.{raw_values-rows}
+use Rattle.kalah_cli.proofs.Getters.{is_there, solve_in_range, solve_is}
+use Rattle.kalah_cli.proofs.request.solve_request.Goals as goal
+
+pub unwrap-requires : goal.unwrap-requires
+unwrap-requires c =
+    is_there _ c.get_strs.result _ (c.get_strs.ensures ∙ raw_values-rows (found_of c.args.found.now) (codes "file") ∙ c.requires.2.1)
+
+-- the files are those of the matches
+files_are : (c : goal.In_ok-files) → Some (map (λ f. f.now) c.in_ok-files.files.items) ≡ all_of (codes "file") (rows_of (found_of c.args.found.now))
+files_are c =
+    let copied : c.in_ok-files.files.items ≡ c.unwrap.result.now = c.in_ok-files.ensures.items_if_clones_equal (λ x y h. h) in
+    ap (λ xs. Some (map (λ f. f.now) xs)) copied ∙ ap (option_map (λ s. map (λ v. v.now) s.now)) (sym c.unwrap.ensures)
+    ∙ c.get_strs.ensures ∙ raw_values-rows (found_of c.args.found.now) (codes "file")
+
+pub returns-clause-asked : goal.returns-clause-asked
+returns-clause-asked c =
+    solve_is (rows_of (found_of c.args.found.now)) c.requires c.option_number-workers.result c.option_number-table.result _
+    c.option_number-workers.ensures c.option_number-table.ensures (files_are c)
+
+pub returns-clause-range : goal.returns-clause-range
+returns-clause-range c =
+    solve_in_range (rows_of (found_of c.args.found.now)) c.requires c.option_number-workers.result c.option_number-table.result c.in_ok-files.files.items
+    c.option_number-workers.ensures c.option_number-table.ensures (files_are c)

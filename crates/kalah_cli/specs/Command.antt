@@ -1,0 +1,57 @@
+-- The command line of the program, as data that a parse reads.
+use Rattle.std.specs.Prelude.{true, [], ◌∷◌, Some, codes}
+use Rattle.clap.specs.Words.{App, Rule, new_app, new_rule, with_rule, with_subcommand}
+use Rattle.clap.specs.Simple.{on_top}
+use Rattle.clap.specs.declared.builder.action.ArgAction.TheVariants.{Append, Set}
+use Rattle.clap.specs.declared.builder.value_parser.ValueParser.TheVariants.{Unsigned}
+
+-- LINE: one value, which must be there
+abbrev pub line_rule : Rule
+line_rule = record (new_rule (codes "line")) {
+  required = true;
+  value_names = 1;
+  action = Some Set;
+}
+
+-- `--workers N`: a number from 1 to 64, and 4 where it isn't given
+abbrev pub workers_rule : Rule
+workers_rule = record (new_rule (codes "workers")) {
+  long = Some (codes "workers");
+  value_names = 1;
+  action = Some Set;
+  parser = Some (Unsigned 1 64);
+  defaults = codes "4" ∷ [];
+}
+
+-- `--table N`: a number from 1 to 1048576, and 65536 where it isn't given
+abbrev pub table_rule : Rule
+table_rule = record (new_rule (codes "table")) {
+  long = Some (codes "table");
+  value_names = 1;
+  action = Some Set;
+  parser = Some (Unsigned 1 1048576);
+  defaults = codes "65536" ∷ [];
+}
+
+-- FILE..: at least one
+abbrev pub file_rule : Rule
+file_rule = record (new_rule (codes "file")) {
+  required = true;
+  value_names = 1;
+  action = Some Append;
+}
+
+-- `moves LINE`
+abbrev pub moves_app : App
+moves_app = with_rule (new_app (codes "moves")) line_rule
+
+-- `solve [--workers N] [--table N] FILE..`
+abbrev pub solve_app : App
+solve_app =
+    with_rule (with_rule (with_rule (new_app (codes "solve")) workers_rule) table_rule) file_rule
+
+-- the program, which is always given one of the two subcommands
+abbrev pub kalah_app : App
+kalah_app = with_subcommand
+    (with_subcommand (on_top (λ s. record s { subcommand_required = true; disable_help_subcommand = true }) (new_app (codes "kalah")))
+    moves_app.top) solve_app.top

@@ -1,0 +1,6 @@
+pub mod Command
+pub mod Request
+pub mod Status
+pub mod Failure
+pub mod Moves
+pub mod Solve

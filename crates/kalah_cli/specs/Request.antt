@@ -1,0 +1,74 @@
+-- What the words of a command line ask the program to do.
+use Rattle.std.specs.Prelude.{ℕ, List, [], ◌∷◌, Option, Some, codes, ◌<◌, ◌≤◌, ◌≡◌, ◌≢◌, ◌⊎◌, length, map, option_map, option_and_then, if◌then◌else◌, ⊤}
+use Rattle.std.specs.Str.{bytes_eq}
+use Rattle.std.specs.Str.Parse.{digits_value, without_leading_plus}
+use Rattle.clap.specs.Faults.{fault_of}
+use Rattle.clap.specs.Values.{IsUnsignedIn}
+use Rattle.clap.specs.Words.{Row, Text, all_of, first_of, one_of, subcommand_of}
+use Rattle.kalah_cli.specs.Command.{kalah_app}
+use Rattle.kalah_cli.specs.declared.request.Request.{Request}
+use Rattle.kalah_cli.specs.declared.request.Request.TheVariants.{Moves, Solve}
+
+-- what can be asked: the moves of a line; or to solve files, by so many workers with tables of so many entries
+pub data Asked : Type 0 where
+  moves : Text → Asked
+  solve : ℕ → ℕ → List Text → Asked
+
+-- the number that a text of digits writes
+abbrev pub number_of : Text → ℕ
+number_of text = digits_value 10 (without_leading_plus text)
+
+-- what the matches of `moves` ask for
+abbrev pub moves_asked : List Row → Option Asked
+moves_asked rows = option_map moves (first_of (codes "line") rows)
+
+-- what the matches of `solve` ask for
+abbrev pub solve_asked : List Row → Option Asked
+solve_asked rows = option_and_then (λ w. option_and_then (λ t. option_map (λ fs. solve (number_of w) (number_of t) fs)
+    (all_of (codes "file") rows)) (one_of (codes "table") rows)) (one_of (codes "workers") rows)
+
+-- what a subcommand with its matches asks for
+abbrev pub asked_by : Text × List Row → Option Asked
+asked_by p = if bytes_eq p.0 (codes "moves") then moves_asked p.1 else solve_asked p.1
+
+-- what the words ask for, read by the command line
+abbrev pub asked : List Text → Option Asked
+asked words = option_and_then asked_by (subcommand_of kalah_app words)
+
+-- the command line takes the words, without a fault, as asking for this
+abbrev pub IsTakenAs : List Text → Asked → Type 0
+IsTakenAs words a = (fault_of kalah_app words ≡ []) × (asked words ≡ Some a)
+
+-- what a request asks for
+abbrev pub asked_for : Request → Asked
+asked_for (Moves line) = moves line.now
+asked_for (Solve workers table files) = solve workers table (map (λ f. f.now) files.items)
+
+-- workers and entries are in their ranges, and there is a file
+abbrev pub IsInRange : Request → Type 0
+IsInRange (Moves line) = ⊤
+IsInRange (Solve workers table files) =
+    (1 ≤ workers) × (workers ≤ 64) × (1 ≤ table) × (table ≤ 1048576) × (0 < length files.items)
+
+-- a word that is no flag: it isn't empty and doesn't begin with `-` (45)
+abbrev pub IsPlainWord : Text → Type 0
+IsPlainWord [] = ⊥
+IsPlainWord (x ∷ xs) = x ≢ 45
+
+-- the matches have a number from 1 to `high` under the name
+abbrev pub HasNumber : Text → ℕ → List Row → Type 0
+HasNumber id high rows = (t : Text) × (one_of id rows ≡ Some t) × IsUnsignedIn 1 high t
+
+-- the matches have what `solve` needs
+abbrev pub IsSolve : List Row → Type 0
+IsSolve rows = HasNumber (codes "workers") 64 rows × HasNumber (codes "table") 1048576 rows
+    × ((fs : List Text) × (all_of (codes "file") rows ≡ Some fs) × (0 < length fs))
+
+-- the matches have what `moves` needs
+abbrev pub IsMoves : List Row → Type 0
+IsMoves rows = (t : Text) × (first_of (codes "line") rows ≡ Some t)
+
+-- a subcommand was met, and its matches have what it needs
+abbrev pub IsTaken : Option (Text × List Row) → Type 0
+IsTaken o = (name : Text) × (rows : List Row) × (o ≡ Some (name, rows))
+    × (((name ≡ codes "moves") × IsMoves rows) ⊎ ((name ≡ codes "solve") × IsSolve rows))

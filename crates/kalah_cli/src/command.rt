@@ -1,0 +1,131 @@
+//! The command line of the program.
+ghost use Rattle.std.specs.Prelude.{◌≡◌, IfOk, false};
+ghost use Rattle.clap.specs.Words.{app_of, rule_of};
+ghost use Rattle.clap.specs.declared.builder.command.Command.TheViews.{out-Command as fields_of};
+ghost use Rattle.kalah_cli.specs.Command.{file_rule, kalah_app, line_rule, moves_app, solve_app, table_rule, workers_rule};
+
+use clap::builder::ValueParser;
+use clap::{Arg, ArgAction, Command};
+use std::alloc::{AllocError, Global};
+
+const MOST_WORKERS: u64 = 64;
+
+const MOST_ENTRIES: u64 = 1_048_576;
+
+// What a newcomer has to know, at the end of the help.
+const ABOUT_POSITIONS: &str = "\
+A position is one line, seen by the player to move: the seeds in that player's houses, a slash, the
+seeds in that player's store, one space, and the same for the other player, as in
+    1,1/0 1,1/0
+Houses count from 1, and the last one lies next to its owner's store. A side has 1 to 6 houses; all
+houses together hold at most 31 seeds, and a store at most 99.
+
+A move lifts the seeds of an own house and sows them one by one: the own houses after it, the own
+store, the other player's houses, and round again, never the other player's store. Who sows the last
+seed into the own store moves again. A last seed that is alone in an own house is captured together
+with the seeds in the house across, if there are any there. The game is over once the houses of one
+player are all empty; what is left in houses goes to their owner's store.
+A line that ends in ` e`, as 1,1/0 1,1/0 e, is played under the empty-capture rule: a last seed that
+is alone in an own house is captured also where the house across is empty.
+
+`kalah moves LINE` prints a line for each house H that may be moved, with the position after it:
+    H POSITION again        the player to move has another move
+    H POSITION turn         the other player is to move, and the position is seen by that player
+    H POSITION over         the game is over
+`kalah solve FILE..` prints a line for each line of each file, in order:
+    FILE:LINE MARGIN house H        the margin of best play, and the first house that attains it
+    FILE:LINE MARGIN over           the game is over, with this margin
+    FILE:LINE fault WORD            not a position: long, empty, shape, houses or seeds
+A margin is what the player to move ends with less what the other player ends with.
+
+Exit status: 0 if every line was read or help was asked for; 1 if some line was not read; 2 if the
+words, a file, memory, a worker or the output failed, and standard error says which.";
+
+// The line of `moves`.
+fn line_arg<'a>(alloc: Global) -> Arg<'a>
+    ensures rule { rule_of result ≡ line_rule }
+    ensures local { result.global ≡ false }
+{
+    Arg::new(alloc, "line")
+        .value_name("LINE")
+        .help("a position, as 1,1/0 1,1/0")
+        .action(ArgAction::Set)
+        .required(true)
+}
+
+// `moves LINE`.
+fn moves_command<'a>(alloc: Global) -> Result<Command<'a>, AllocError>
+    ensures app { IfOk result (λ c. app_of c ≡ moves_app) }
+    ensures local { IfOk result (λ c. (fields_of c).has_globals ≡ false) }
+{
+    Command::new(alloc, "moves")
+        .about("Prints each legal move of a position, and the position after it")
+        .arg(line_arg(alloc))
+}
+
+// How many workers.
+fn workers_arg<'a>(alloc: Global) -> Arg<'a>
+    ensures rule { rule_of result ≡ workers_rule }
+    ensures local { result.global ≡ false }
+{
+    Arg::new(alloc, "workers")
+        .long("workers")
+        .value_name("N")
+        .help("how many workers solve side by side, 1 to 64")
+        .action(ArgAction::Set)
+        .value_parser(ValueParser::unsigned(1, MOST_WORKERS))
+        .default_value("4")
+}
+
+// How large the table of each worker is.
+fn table_arg<'a>(alloc: Global) -> Arg<'a>
+    ensures rule { rule_of result ≡ table_rule }
+    ensures local { result.global ≡ false }
+{
+    Arg::new(alloc, "table")
+        .long("table")
+        .value_name("N")
+        .help("how many solved positions each worker remembers, 1 to 1048576")
+        .action(ArgAction::Set)
+        .value_parser(ValueParser::unsigned(1, MOST_ENTRIES))
+        .default_value("65536")
+}
+
+// The files of `solve`.
+fn file_arg<'a>(alloc: Global) -> Arg<'a>
+    ensures rule { rule_of result ≡ file_rule }
+    ensures local { result.global ≡ false }
+{
+    Arg::new(alloc, "file")
+        .value_name("FILE")
+        .help("files of positions, one a line")
+        .action(ArgAction::Append)
+        .required(true)
+}
+
+// `solve [--workers N] [--table N] FILE..`.
+fn solve_command<'a>(alloc: Global) -> Result<Command<'a>, AllocError>
+    ensures app { IfOk result (λ c. app_of c ≡ solve_app) }
+    ensures local { IfOk result (λ c. (fields_of c).has_globals ≡ false) }
+{
+    Command::new(alloc, "solve")
+        .about("Prints the margin of best play and the best house of each position in files")
+        .arg(workers_arg(alloc))?
+        .arg(table_arg(alloc))?
+        .arg(file_arg(alloc))
+}
+
+/// The command line of the program: `moves LINE`, and `solve [--workers N] [--table N] FILE..` with 1
+/// to 64 workers, 4 by default, and 1 to 1,048,576 entries in the table of each, 65,536 by default.
+/// One of the two is always asked for. It is complete: nothing is added to it before a parse.
+pub fn command<'a>(alloc: Global) -> Result<Command<'a>, AllocError>
+    ensures { IfOk result (λ c. app_of c ≡ kalah_app) }
+{
+    Command::new(alloc, "kalah")
+        .about("Solves small positions of Kalah: the best house and the margin of best play")
+        .after_help(ABOUT_POSITIONS)
+        .subcommand_required(true)
+        .disable_help_subcommand(true)
+        .subcommand(moves_command(alloc)?)?
+        .subcommand(solve_command(alloc)?)
+}

@@ -1,0 +1,61 @@
+//! What makes the program fail, and what it says then.
+ghost use Rattle.std.specs.Prelude.{◌≡◌};
+ghost use Rattle.kalah_cli.specs.Failure.{failure_of};
+
+use crate::status::ExitStatus;
+use kalah_run::RunFault;
+use std::fmt;
+use std::io::Write;
+
+/// What makes the program fail, apart from a mistake in its words.
+#[derive(Clone, Copy, Debug)]
+pub(crate) enum Failure<'a> {
+    /// The name of a file has a line feed in it.
+    LineFeed,
+    /// The file of this name can't be opened or read, or is too long.
+    Unreadable(&'a str),
+    TooManyFiles,
+    TooManyLines,
+    OutOfMemory,
+    NoWorker,
+    /// A write to the standard output failed.
+    Write,
+}
+
+impl Failure<'_> {
+    /// Says on `err` what failed. Where that can't be written, nothing is said.
+    pub(crate) fn report<E: Write>(self, err: &mut E) -> ExitStatus
+        ensures { result ≡ ExitStatus.Failed }
+    {
+        let _ = writeln!(err, "kalah: {self}");
+        ExitStatus::Failed
+    }
+}
+
+impl From<RunFault> for Failure<'_> {
+    ghost from_gives = { λ fault failure. failure ≡ failure_of fault };
+
+    fn from(fault: RunFault) -> Self {
+        match fault {
+            RunFault::TooManyFiles => Failure::TooManyFiles,
+            RunFault::TooManyLines => Failure::TooManyLines,
+            RunFault::OutOfMemory => Failure::OutOfMemory,
+            RunFault::NoWorker => Failure::NoWorker,
+            RunFault::Write => Failure::Write,
+        }
+    }
+}
+
+impl fmt::Display for Failure<'_> {
+    fn fmt<W: fmt::Write>(&self, f: &mut fmt::Formatter<W>) -> fmt::Result {
+        match self {
+            Failure::LineFeed => f.write_str("line feed in a file name"),
+            Failure::Unreadable(name) => write!(f, "cannot read {name}"),
+            Failure::TooManyFiles => f.write_str("too many files"),
+            Failure::TooManyLines => f.write_str("too many lines"),
+            Failure::OutOfMemory => f.write_str("out of memory"),
+            Failure::NoWorker => f.write_str("no worker could be started"),
+            Failure::Write => f.write_str("write failed"),
+        }
+    }
+}

@@ -1,0 +1,110 @@
+//! Files read whole.
+ghost use Rattle.std.specs.Prelude.{◌≡◌, ◌≢◌, ◌<◌, ◌≤◌, IfErr, IfOk, IfSome, IsErrOf, OnOk, length, map};
+ghost use Rattle.std.specs.Io.KnownBytes.{Consumes, IsAtEnd};
+
+use crate::failure::Failure;
+use kalah_jobs::FileText;
+use std::alloc::Global;
+use std::fs;
+use std::io::Read;
+use std::rt::Files;
+
+/// The most bytes of a file.
+const MOST_BYTES: usize = 67_108_864;
+
+/// How many bytes are asked for at once.
+const CHUNK: usize = 4096;
+
+/// Why a file was not read.
+#[derive(Clone, Copy, Debug, PartialEq, Eq)]
+pub(crate) enum ReadFault {
+    /// It can't be opened, or a read answered an error, of whatever kind.
+    Unreadable,
+    /// It has more bytes than the limit.
+    TooLong,
+    /// Memory ran out.
+    OutOfMemory,
+}
+
+/// All that the reader has left, where that is at most `limit` bytes. The reader is asked again until
+/// it answers the end, an error, or more bytes than the limit. Any error is the file's fault, also one
+/// of an interrupted call.
+pub(crate) fn read_limited<F: Read>(
+    alloc: Global,
+    reader: &mut F,
+    limit: usize,
+) -> Result<Vec<u8>, ReadFault>
+    ensures whole { IfOk result
+        (λ v. Consumes (F.remaining reader.old) (F.remaining reader.new) v.items) }
+    ensures end { OnOk result (IsAtEnd (F.remaining reader.new)) }
+    ensures within { IfOk result (λ v. length v.items ≤ limit) }
+    ensures long { IsErrOf result ReadFault.TooLong
+        → IfSome (F.remaining reader.old) (λ bytes. limit < length bytes) }
+{
+    let mut bytes = Vec::new(alloc);
+    let mut chunk = [0u8; CHUNK];
+    while bytes.len() <= limit {
+        match reader.read(&mut chunk) {
+            Ok(0) => return Ok(bytes),
+            Ok(n) => {
+                if bytes.extend_from_slice(&chunk[..n]).is_err() {
+                    return Err(ReadFault::OutOfMemory);
+                }
+            }
+            Err(_) => return Err(ReadFault::Unreadable),
+        }
+    }
+    Err(ReadFault::TooLong)
+}
+
+// All that the file of this name holds.
+fn read_bytes<R: Files>(rt: &R, alloc: Global, name: &str) -> Result<Vec<u8>, ReadFault>
+    ensures within { IfOk result (λ v. length v.items ≤ 67108864) }
+{
+    match fs::open(rt, name) {
+        Ok(file) => {
+            let mut file = file;
+            read_limited(alloc, &mut file, MOST_BYTES)
+        }
+        Err(_) => Err(ReadFault::Unreadable),
+    }
+}
+
+// The file of this name.
+fn read_file<'a, R: Files>(rt: &R, alloc: Global, name: &'a str) -> Result<FileText, Failure<'a>>
+    ensures named { IfOk result (λ file. file.name ≡ name.now) }
+    ensures not_written { IfErr result (λ failure. failure ≢ Failure.Write) }
+{
+    let bytes = match read_bytes(rt, alloc, name) {
+        Ok(bytes) => bytes,
+        Err(ReadFault::OutOfMemory) => return Err(Failure::OutOfMemory),
+        Err(_) => return Err(Failure::Unreadable(name)),
+    };
+    match String::from_str(alloc, name) {
+        Ok(name) => Ok(FileText { name, bytes }),
+        Err(_) => Err(Failure::OutOfMemory),
+    }
+}
+
+/// The files of these names, in order, up to the first that is not read.
+pub(crate) fn read_files<'a, R: Files>(
+    rt: &R,
+    alloc: Global,
+    names: &[&'a str],
+) -> Result<Vec<FileText>, Failure<'a>>
+    ensures named { IfOk result
+        (λ files. map (λ file. file.name) files.items ≡ map (λ name. name.now) names.now) }
+    ensures not_written { IfErr result (λ failure. failure ≢ Failure.Write) }
+{
+    let mut files = Vec::new(alloc);
+    for name in names {
+        let file = read_file(rt, alloc, *name)?;
+        if files.push(file).is_err() {
+            return Err(Failure::OutOfMemory);
+        }
+    }
+    Ok(files)
+}
+
+#[cfg(test)]
+mod tests;

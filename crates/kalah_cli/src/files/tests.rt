@@ -1,0 +1,81 @@
+use super::{ReadFault, read_limited};
+use std::io;
+use std::io::{ErrorKind, Read};
+use std::test::Fail;
+
+/// Gives its bytes three at a time, and answers an error of its kind at its `fails_at`th call, counted
+/// from 1, and at no other.
+#[derive(Drop)]
+struct FailingOnce<'a> {
+    rest: &'a [u8],
+    calls: u32,
+    fails_at: u32,
+    kind: ErrorKind,
+}
+
+impl Read for FailingOnce<'_> {
+    fn read(&mut self, buf: &mut [u8]) -> io::Result<usize> {
+        self.calls = self.calls.saturating_add(1);
+        if self.calls == self.fails_at {
+            return Err(io::Error::from(self.kind));
+        }
+        let most = buf.len().min(3);
+        self.rest.read(&mut buf[..most])
+    }
+}
+
+const TEN: &[u8] = b"0123456789";
+
+// The reader is asked five times, the last of which answers the end.
+#[test]
+fn any_error_is_the_files_fault(rt: HostRuntime) {
+    for kind in [ErrorKind::Interrupted, ErrorKind::BrokenPipe] {
+        for k in 1..8u32 {
+            let mut reader = FailingOnce {
+                rest: TEN,
+                calls: 0,
+                fails_at: k,
+                kind,
+            };
+            match read_limited(rt.alloc(), &mut reader, 10) {
+                Ok(bytes) => assert!(rt; k > 5 && bytes.as_slice() == TEN, "at {k}"),
+                Err(fault) => {
+                    assert!(rt; k <= 5 && fault == ReadFault::Unreadable, "at {k}");
+                    assert_eq!(rt; reader.calls, k);
+                }
+            }
+        }
+    }
+}
+
+#[test]
+fn a_byte_more_than_the_limit_is_too_long(rt: HostRuntime) {
+    for limit in 0..12usize {
+        let mut reader = TEN;
+        let read = read_limited(rt.alloc(), &mut reader, limit);
+        if limit < 10 {
+            assert!(rt;
+                read.is_err_and(|fault| fault == ReadFault::TooLong),
+                "at {limit}"
+            );
+        } else {
+            assert!(rt;
+                read.is_ok_and(|bytes| bytes.as_slice() == TEN),
+                "at {limit}"
+            );
+        }
+    }
+}
+
+#[test]
+fn reads_more_than_one_chunk(rt: HostRuntime) -> Result<(), Fail> {
+    let bytes = [7u8; 10_000];
+    let mut reader = bytes.as_slice();
+    match read_limited(rt.alloc(), &mut reader, 10_000) {
+        Ok(read) => assert!(rt; read.as_slice() == bytes.as_slice()),
+        Err(_) => assert!(rt; false),
+    }
+    let mut empty = b"".as_slice();
+    assert!(rt; read_limited(rt.alloc(), &mut empty, 0).is_ok_and(|read| read.is_empty()));
+    Ok(())
+}

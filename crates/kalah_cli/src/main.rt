@@ -1,0 +1,46 @@
+//! Solves small positions of Kalah: `kalah moves LINE` and `kalah solve FILE..`.
+#![tactic(auto)]
+
+mod command;
+mod failure;
+mod files;
+mod moves;
+mod request;
+mod run;
+mod solve;
+mod status;
+
+use failure::Failure;
+use kalah_jobs::Stream;
+use run::run_words;
+use status::ExitStatus;
+use std::io::{ErrorKind, LineWriter, Write};
+use std::process::ExitCode;
+use std::{env, io};
+
+// The program's words, of which the first is its name.
+fn words_of(rt: &HostRuntime) -> io::Result<Vec<String>> {
+    Ok(env::args(rt)?.collect(rt.alloc())?)
+}
+
+fn main(rt: HostRuntime) -> ExitCode {
+    let mut err = rt.stderr();
+    let words = match words_of(&rt) {
+        Ok(words) => words,
+        Err(error) if error.kind() == ErrorKind::OutOfMemory => {
+            return ExitCode::from(Failure::OutOfMemory.report(&mut err).code());
+        }
+        Err(_) => {
+            let _ = writeln!(err, "kalah: a word is not UTF-8");
+            return ExitCode::from(ExitStatus::Failed.code());
+        }
+    };
+    if words.is_empty() {
+        return ExitCode::from(ExitStatus::Failed.code());
+    }
+    let Ok(out) = LineWriter::new(rt.alloc(), io::writer(&rt)) else {
+        return ExitCode::from(Failure::OutOfMemory.report(&mut err).code());
+    };
+    let mut out = Stream::new(out);
+    ExitCode::from(run_words(&rt, rt.alloc(), words, &mut out, &mut err).code())
+}

@@ -1,0 +1,103 @@
+//! What the words of a command line ask for.
+ghost use Rattle.std.specs.Prelude.{◌≡◌, ℕ, List, [], ◌∷◌, IfErr, IfOk, MatchResult, Some, codes, map, option_and_then};
+ghost use Rattle.clap.specs.Faults.{fault_of};
+ghost use Rattle.clap.specs.Kinds.{FailsBy};
+ghost use Rattle.clap.specs.Simple.{subcommand_rows_of};
+ghost use Rattle.clap.specs.Walk.{one_of, rows_of};
+ghost use Rattle.clap.specs.Words.{found_of, kind_of};
+ghost use Rattle.clap.specs.declared.error.kind.ErrorKind.TheVariants.{OutOfMemory};
+ghost use Rattle.kalah_cli.specs.Command.{kalah_app};
+ghost use Rattle.kalah_cli.specs.Request.{Asked, HasNumber, IsInRange, IsMoves, IsPlainWord, IsSolve, IsTaken, IsTakenAs, asked_by, asked_for, moves, moves_asked, number_of, solve_asked};
+
+use crate::command::command;
+use clap::{ArgMatches, Error};
+use std::alloc::{AllocError, Global};
+use std::convert::AsStr;
+
+/// What the words ask the program to do.
+#[derive(Debug, Drop)]
+pub enum Request<'a> {
+    /// To print the moves of the position that this line writes.
+    Moves(&'a str),
+    /// To solve the positions of the files that are named.
+    Solve {
+        /// How many workers, 1 to 64.
+        workers: u32,
+        /// How many entries the table of each worker has, 1 to 1,048,576.
+        table: u32,
+        /// The names of the files, at least one.
+        files: Vec<&'a str>,
+    },
+}
+
+// The number of an option, which has one.
+fn option_number(found: &ArgMatches<'_>, id: &str) -> u32
+    requires { HasNumber id.now 1048576 (rows_of (found_of found.now)) }
+    ensures { (t : List ℕ) → one_of id.now (rows_of (found_of found.now)) ≡ Some t
+        → result ≡ number_of t }
+{
+    found.get_one::<u32>(id).unwrap()
+}
+
+// What the matches of `moves` ask for.
+fn moves_request<'a>(found: &ArgMatches<'a>) -> Request<'a>
+    requires { IsMoves (rows_of (found_of found.now)) }
+    ensures asked { moves_asked (rows_of (found_of found.now)) ≡ Some (asked_for result) }
+    ensures range { IsInRange result }
+{
+    Request::Moves(found.get_str("line").unwrap())
+}
+
+// What the matches of `solve` ask for.
+fn solve_request<'a>(alloc: Global, found: &ArgMatches<'a>) -> Result<Request<'a>, AllocError>
+    requires { IsSolve (rows_of (found_of found.now)) }
+    ensures asked { IfOk result
+        (λ r. solve_asked (rows_of (found_of found.now)) ≡ Some (asked_for r)) }
+    ensures range { IfOk result IsInRange }
+{
+    let workers = option_number(found, "workers");
+    let table = option_number(found, "table");
+    let files = found.get_strs("file").unwrap().to_vec(alloc)?;
+    Ok(Request::Solve {
+        workers,
+        table,
+        files,
+    })
+}
+
+// What the matches of a subcommand, which have what it needs, ask for.
+fn requested<'a>(alloc: Global, matches: &ArgMatches<'a>) -> Result<Request<'a>, AllocError>
+    requires { IsTaken (subcommand_rows_of matches.now) }
+    ensures asked { IfOk result
+        (λ r. option_and_then asked_by (subcommand_rows_of matches.now) ≡ Some (asked_for r)) }
+    ensures range { IfOk result IsInRange }
+{
+    if let Some(found) = matches.subcommand_matches("moves") {
+        return Ok(moves_request(found));
+    }
+    solve_request(alloc, matches.subcommand_matches("solve").unwrap())
+}
+
+/// What the words ask for, of which the first is the program's name. An error is the command line's
+/// own, with its text: help that was asked for, a mistake in the words, or want of memory.
+pub(crate) fn parse<'a, S: AsStr>(alloc: Global, words: &'a [S]) -> Result<Request<'a>, Error>
+    ensures taken { IfOk result
+        (λ r. IsTakenAs (map S.text words.entry.now) (asked_for r)) }
+    ensures range { IfOk result IsInRange }
+    ensures kinds { FailsBy (fault_of kalah_app (map S.text words.entry.now)) result }
+
+    // Words that the command line takes are refused for want of memory alone.
+    ensures refused { IfErr result (λ e. (a : Asked)
+        → IsTakenAs (map S.text words.entry.now) a → kind_of e ≡ OutOfMemory) }
+
+    // `moves` and a word that is no flag are always taken, as the moves of that word.
+    ensures moves { (name line : List ℕ)
+        → map S.text words.entry.now ≡ name ∷ codes "moves" ∷ line ∷ [] → IsPlainWord line
+        → MatchResult result (λ r. asked_for r ≡ moves line) (λ e. kind_of e ≡ OutOfMemory) }
+{
+    let matches = command(alloc)?.try_get_matches_from(words)?;
+    Ok(requested(alloc, &matches)?)
+}
+
+#[cfg(test)]
+mod tests;

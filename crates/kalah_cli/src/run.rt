@@ -1,0 +1,127 @@
+//! The program, run on its words.
+ghost use Rattle.std.specs.Prelude.{◌≡◌, ◌≢◌, ◌<◌, ℕ, List, [], ◌∷◌, codes, false, true, map, string_bytes, vec_len};
+ghost use Rattle.std.specs.Io.KnownBytes.{Appends};
+ghost use Rattle.clap.specs.Faults.{fault_of};
+ghost use Rattle.clap.specs.Kinds.{IsAmong};
+ghost use Rattle.clap.specs.Values.{kind_of};
+ghost use Rattle.clap.specs.declared.error.kind.ErrorKind.TheVariants.{DisplayHelp};
+ghost use Rattle.kalah_rules.specs.Position.{Position};
+ghost use Rattle.kalah_jobs.specs.Line.{Reads};
+ghost use Rattle.kalah_cli.specs.Command.{kalah_app};
+ghost use Rattle.kalah_cli.specs.Moves.{moves_output};
+ghost use Rattle.kalah_cli.specs.Request.{IsPlainWord, IsTakenAs, solve};
+ghost use Rattle.kalah_cli.specs.Solve.{AnswersFiles};
+
+use crate::failure::Failure;
+use crate::moves::run_moves;
+use crate::request::{Request, parse};
+use crate::solve::run_solve;
+use crate::status::ExitStatus;
+use clap::Error;
+use clap::error::ErrorKind;
+use kalah_jobs::Sink;
+use std::alloc::Global;
+use std::io::Write;
+use std::rt::Files;
+use std::sync::Wait;
+use std::thread::Threads;
+
+// Shows the help that was asked for.
+fn show_help<O: Sink, E: Write>(text: &str, out: &mut O, err: &mut E) -> ExitStatus
+    requires { O.has_failed out.old ≡ false }
+    ensures failed { O.has_failed out.new ≡ true → result ≡ ExitStatus.Failed }
+    ensures failed_only { result ≡ ExitStatus.Failed → O.has_failed out.new ≡ true }
+    ensures no_line { result ≢ ExitStatus.LineFaults }
+    ensures shown { result ≡ ExitStatus.Clean
+        → Appends (O.written out.old) (O.written out.new) text.now }
+{
+    if out.write_all(text.as_bytes()).is_err() || out.flush().is_err() {
+        return Failure::Write.report(err);
+    }
+    ExitStatus::Clean
+}
+
+// Shows the text of a parse that gave no request: help on `out`, a mistake in the words on `err`.
+fn refuse<O: Sink, E: Write>(alloc: Global, error: &Error, out: &mut O, err: &mut E) -> ExitStatus
+    requires { O.has_failed out.old ≡ false }
+    ensures mistake { kind_of error.now ≢ DisplayHelp
+        → (result ≡ ExitStatus.Failed) × (out.new ≡ out.old) }
+    ensures failed { O.has_failed out.new ≡ true → result ≡ ExitStatus.Failed }
+    ensures unchanged { result ≡ ExitStatus.Failed → O.has_failed out.new ≡ false
+        → out.new ≡ out.old }
+    ensures no_line { result ≢ ExitStatus.LineFaults }
+{
+    let Ok(text) = error.to_string(alloc) else {
+        return Failure::OutOfMemory.report(err);
+    };
+    match error.kind() {
+        ErrorKind::DisplayHelp => show_help(text.as_str(), out, err),
+        ErrorKind::OutOfMemory => Failure::OutOfMemory.report(err),
+        _ => {
+            let _ = err.write_all(text.as_bytes());
+            ExitStatus::Failed
+        }
+    }
+}
+
+/// Runs the program on its words, of which the first, whatever it is, is the program's name: `moves LINE`
+/// prints the moves of a position, `solve FILE..` answers each line of files. Answers and help go to
+/// `out`, and what fails or is not read is said on `err`; a failing write to `err` changes nothing.
+pub fn run_words<R: Files + Threads + Wait + Sync, O: Sink, E: Write>(
+    rt: &R,
+    alloc: Global,
+    words: Vec<String>,
+    out: &mut O,
+    err: &mut E,
+) -> ExitStatus
+    requires sink { O.has_failed out.old ≡ false }
+    requires named { 0 < vec_len words }
+
+    // `moves` and a line that is read: its moves are written, where nothing fails.
+    ensures moves { (name line : List ℕ) (p : Position)
+        → map string_bytes words.items ≡ name ∷ codes "moves" ∷ line ∷ [] → Reads line p
+        → (result ≢ ExitStatus.LineFaults)
+        × (result ≡ ExitStatus.Clean
+        → Appends (O.written out.old) (O.written out.new) (moves_output p)) }
+
+    // `moves` and a line that is not read, but is no flag.
+    ensures unread { (name line : List ℕ)
+        → map string_bytes words.items ≡ name ∷ codes "moves" ∷ line ∷ [] → IsPlainWord line
+        → ((p : Position) → Reads line p → ⊥)
+        → (result ≢ ExitStatus.Clean) × (out.new ≡ out.old) }
+
+    // Words that are taken as `solve`.
+    ensures solved { (workers table : ℕ) (names : List (List ℕ))
+        → IsTakenAs (map string_bytes words.items) (solve workers table names)
+        → result ≢ ExitStatus.Failed
+        → AnswersFiles names (O.written out.old) (O.written out.new) result }
+
+    // Words that the command line refuses for another reason than a request for help.
+    ensures usage { fault_of kalah_app (map string_bytes words.items) ≢ []
+        → (IsAmong DisplayHelp (fault_of kalah_app (map string_bytes words.items)) → ⊥)
+        → (result ≡ ExitStatus.Failed) × (out.new ≡ out.old) }
+
+    // Words that are not taken have no line.
+    ensures no_line { fault_of kalah_app (map string_bytes words.items) ≢ []
+        → result ≢ ExitStatus.LineFaults }
+
+    // Where a write failed the program failed, and where it failed for another cause nothing was written.
+    ensures failed { O.has_failed out.new ≡ true → result ≡ ExitStatus.Failed }
+    ensures unchanged { result ≡ ExitStatus.Failed → O.has_failed out.new ≡ false
+        → O.written out.new ≡ O.written out.old }
+{
+    match parse(alloc, words.as_slice()) {
+        Ok(Request::Moves(line)) => run_moves(alloc, line, out, err),
+        Ok(
+            Request::Solve {
+                workers,
+                table,
+                files,
+            },
+        ) => run_solve(rt, alloc, files.as_slice(), workers, table, out, err),
+        Err(error) => refuse(alloc, &error, out, err),
+    }
+}
+
+#[cfg(test)]
+mod tests;

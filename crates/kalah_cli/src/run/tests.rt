@@ -1,0 +1,301 @@
+ghost use Rattle.std.specs.Prelude.{◌≡◌, ◌<◌, IfOk, Some, vec_len};
+
+mod solving;
+
+use super::run_words;
+use crate::status::ExitStatus;
+use kalah_jobs::{Sink, Stream};
+use std::alloc::{AllocError, Global};
+use std::io::{ErrorKind, Write};
+use std::rt::Files;
+use std::sync::Wait;
+use std::test::Fail;
+use std::thread::Threads;
+use std::{fs, io};
+
+/// Answers an error at its `fails_at`th call, counted from 1, and at each later one.
+#[derive(Drop)]
+struct Failing {
+    bytes: Vec<u8>,
+    calls: u32,
+    fails_at: u32,
+}
+
+impl Failing {
+    fn new(rt: &HostRuntime, fails_at: u32) -> Failing {
+        Failing {
+            bytes: Vec::new(rt.alloc()),
+            calls: 0,
+            fails_at,
+        }
+    }
+
+    fn count_call(&mut self) -> Result<(), io::Error>
+        ensures { self.new.bytes ≡ self.old.bytes }
+    {
+        self.calls = self.calls.saturating_add(1);
+        if self.calls >= self.fails_at {
+            return Err(io::Error::from(ErrorKind::BrokenPipe));
+        }
+        Ok(())
+    }
+}
+
+impl Write for Failing {
+    ghost contents = { λ w. Some w.bytes.items };
+
+    fn write(&mut self, buf: &[u8]) -> io::Result<usize> {
+        self.count_call()?;
+        self.bytes.write(buf)
+    }
+
+    fn flush(&mut self) -> io::Result<()> {
+        self.count_call()
+    }
+}
+
+fn words_of(alloc: Global, texts: &[&str]) -> Result<Vec<String>, AllocError>
+    ensures { IfOk result (λ words. 0 < vec_len words) }
+{
+    let mut words = Vec::new(alloc);
+    for text in texts {
+        words.push(String::from_str(alloc, *text)?)?;
+    }
+    words.insert(0, String::from_str(alloc, "kalah")?)?;
+    Ok(words)
+}
+
+/// What the program writes for the words after its name, and its status.
+#[derive(Drop)]
+struct Run {
+    status: ExitStatus,
+    out: Vec<u8>,
+    err: Vec<u8>,
+}
+
+fn run_on<R: Files + Threads + Wait + Sync>(
+    rt: &R,
+    alloc: Global,
+    texts: &[&str],
+) -> Result<Run, AllocError> {
+    let words = words_of(alloc, texts)?;
+    let mut out = Stream::new(Vec::<u8>::new(alloc));
+    let mut err = Vec::<u8>::new(alloc);
+    let status = run_words(rt, alloc, words, &mut out, &mut err);
+    Ok(Run {
+        status,
+        out: out.into_inner(),
+        err,
+    })
+}
+
+// The run ended with this status and these bytes on both outputs.
+fn answers(run: &Run, status: ExitStatus, out: &str, err: &str) -> bool {
+    run.status == status
+        && run.out.as_slice() == out.as_bytes()
+        && run.err.as_slice() == err.as_bytes()
+}
+
+// A mistake in the words ended the run with a text on standard error alone.
+fn is_usage(run: &Run) -> bool {
+    run.status == ExitStatus::Failed && run.out.is_empty() && run.err.starts_with(b"error: ")
+}
+
+#[test]
+fn shows_the_moves_of_a_position(rt: HostRuntime) -> Result<(), Fail> {
+    let alloc = rt.alloc();
+    let clean = ExitStatus::Clean;
+    let two = "1 1,1/0 0,2/0 turn\n2 1,0/1 1,1/0 again\n";
+    assert!(rt;
+        answers(
+            &run_on(&rt, alloc, &["moves", "1,1/0 1,1/0"])?,
+            clean,
+            two,
+            ""
+        )
+    );
+    assert!(rt;
+        answers(
+            &run_on(&rt, alloc, &["moves", "3/0 3/0"])?,
+            clean,
+            "1 0/6 0/0 over\n",
+            ""
+        )
+    );
+    assert!(rt;
+        answers(
+            &run_on(&rt, alloc, &["moves", "1/99 1/99"])?,
+            clean,
+            "1 0/100 0/100 over\n",
+            ""
+        )
+    );
+    assert!(rt; answers(&run_on(&rt, alloc, &["moves", "0/0 1/0"])?, clean, "", ""));
+    Ok(())
+}
+
+#[test]
+fn a_line_that_is_not_read_is_answered_by_its_fault(rt: HostRuntime) -> Result<(), Fail> {
+    let alloc = rt.alloc();
+    let faults = ExitStatus::LineFaults;
+    assert!(rt;
+        answers(
+            &run_on(&rt, alloc, &["moves", "1/0"])?,
+            faults,
+            "",
+            "fault shape\n"
+        )
+    );
+    assert!(rt;
+        answers(
+            &run_on(&rt, alloc, &["moves", ""])?,
+            faults,
+            "",
+            "fault empty\n"
+        )
+    );
+    assert!(rt;
+        answers(
+            &run_on(&rt, alloc, &["moves", "1,1/0 1/0"])?,
+            faults,
+            "",
+            "fault houses\n"
+        )
+    );
+    assert!(rt;
+        answers(
+            &run_on(&rt, alloc, &["moves", "16/0 16/0"])?,
+            faults,
+            "",
+            "fault seeds\n"
+        )
+    );
+    Ok(())
+}
+
+#[test]
+fn mistakes_in_the_words(rt: HostRuntime) -> Result<(), Fail> {
+    let alloc = rt.alloc();
+    assert!(rt; is_usage(&run_on(&rt, alloc, &[])?));
+    for word in ["stop", "solve", "moves", "help", "-x", "--version"] {
+        assert!(rt;
+            is_usage(&run_on(&rt, alloc, [word].as_slice())?),
+            "at {word}"
+        );
+    }
+    for number in ["0", "65", "four", "-1", ""] {
+        let words = ["solve", "--workers", number, "a.txt"];
+        assert!(rt;
+            is_usage(&run_on(&rt, alloc, words.as_slice())?),
+            "at {number}"
+        );
+    }
+    for number in ["0", "1048577"] {
+        let words = ["solve", "--table", number, "a.txt"];
+        assert!(rt;
+            is_usage(&run_on(&rt, alloc, words.as_slice())?),
+            "at {number}"
+        );
+    }
+    assert!(rt; is_usage(&run_on(&rt, alloc, &["moves", "-1/0 1/0"])?));
+    assert!(rt; is_usage(&run_on(&rt, alloc, &["moves", "1/0 1/0", "1/0 1/0"])?));
+    Ok(())
+}
+
+#[test]
+fn help_goes_to_the_output(rt: HostRuntime) -> Result<(), Fail> {
+    let alloc = rt.alloc();
+    let calls = [
+        ["--help"].as_slice(),
+        ["-h"].as_slice(),
+        ["moves", "--help"].as_slice(),
+        ["solve", "--help"].as_slice(),
+    ];
+    for words in calls {
+        let shown = run_on(&rt, alloc, words)?;
+        assert_eq!(rt; shown.status, ExitStatus::Clean);
+        assert!(rt; !shown.out.is_empty() && shown.err.is_empty());
+    }
+    Ok(())
+}
+
+#[test]
+fn a_file_that_is_not_read(rt: HostRuntime) -> Result<(), Fail> {
+    let alloc = rt.alloc();
+    let failed = ExitStatus::Failed;
+    fs::write(&rt, "kalah_run_one.txt", "1/0 1/0\n")?;
+    let none = "kalah: cannot read kalah_run_none.txt\n";
+    let words = ["solve", "kalah_run_one.txt", "kalah_run_none.txt", "/"];
+    assert!(rt; answers(&run_on(&rt, alloc, words.as_slice())?, failed, "", none));
+    assert!(rt;
+        answers(
+            &run_on(&rt, alloc, &["solve", "/"])?,
+            failed,
+            "",
+            "kalah: cannot read /\n"
+        )
+    );
+    let feed = "kalah: line feed in a file name\n";
+    let words = ["solve", "kalah_run_none.txt", "x\ny"];
+    assert!(rt; answers(&run_on(&rt, alloc, words.as_slice())?, failed, "", feed));
+    Ok(())
+}
+
+// Each move is written in two calls, and a flush ends them: five calls in all.
+#[test]
+fn stops_at_a_failed_write(rt: HostRuntime) -> Result<(), Fail> {
+    for k in 1..8u32 {
+        let words = words_of(rt.alloc(), &["moves", "1,1/0 1,1/0"])?;
+        let mut out = Stream::new(Failing::new(&rt, k));
+        let mut err = Vec::<u8>::new(rt.alloc());
+        assert!(rt; !out.failed());
+        let status = run_words(&rt, rt.alloc(), words, &mut out, &mut err);
+        assert_eq!(rt; out.failed(), k <= 5, "at {k}");
+        let writer = out.into_inner();
+        if k <= 5 {
+            assert_eq!(rt; status, ExitStatus::Failed, "at {k}");
+            assert_eq!(rt; writer.calls, k);
+            assert_eq!(rt; err.as_slice(), b"kalah: write failed\n".as_slice());
+        } else {
+            assert_eq!(rt; status, ExitStatus::Clean);
+        }
+    }
+    Ok(())
+}
+
+#[test]
+fn a_failed_write_of_help(rt: HostRuntime) -> Result<(), Fail> {
+    for k in 1..4u32 {
+        let words = words_of(rt.alloc(), &["--help"])?;
+        let mut out = Stream::new(Failing::new(&rt, k));
+        let mut err = Vec::<u8>::new(rt.alloc());
+        assert!(rt; !out.failed());
+        let status = run_words(&rt, rt.alloc(), words, &mut out, &mut err);
+        if k <= 2 {
+            assert_eq!(rt; status, ExitStatus::Failed, "at {k}");
+            assert_eq!(rt; err.as_slice(), b"kalah: write failed\n".as_slice());
+        } else {
+            assert_eq!(rt; status, ExitStatus::Clean);
+        }
+    }
+    Ok(())
+}
+
+#[test]
+fn a_failing_standard_error_changes_no_status(rt: HostRuntime) -> Result<(), Fail> {
+    let calls = [
+        (["moves", "1/0"].as_slice(), ExitStatus::LineFaults),
+        (["moves", "1/0 1/0"].as_slice(), ExitStatus::Clean),
+        (["solve", "/"].as_slice(), ExitStatus::Failed),
+        (["stop"].as_slice(), ExitStatus::Failed),
+    ];
+    for (texts, want) in calls {
+        let words = words_of(rt.alloc(), texts)?;
+        let mut out = Stream::new(Vec::<u8>::new(rt.alloc()));
+        let mut err = Failing::new(&rt, 1);
+        let status = run_words(&rt, rt.alloc(), words, &mut out, &mut err);
+        assert_eq!(rt; status, want);
+        assert!(rt; err.bytes.is_empty());
+    }
+    Ok(())
+}

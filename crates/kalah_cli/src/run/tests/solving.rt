@@ -1,0 +1,133 @@
+//! Runs of `kalah solve` over files that are written first.
+use super::{Failing, answers, run_on, words_of};
+use crate::run::run_words;
+use crate::status::ExitStatus;
+use kalah_jobs::{Sink, Stream};
+use std::alloc::{AllocError, Global};
+use std::fs;
+use std::test::Fail;
+
+const ONE_AND_TWO: &str = "1/0 1/0\n2/0 2/0";
+
+const THREE_AND_FAULTS: &str = "3/0 3/0\r\n\r\n01/0 1/0\r\n";
+
+// The words of `solve` with these options and files.
+fn solve_words<'a>(
+    alloc: Global,
+    options: &[&'a str],
+    files: &[&'a str],
+) -> Result<Vec<&'a str>, AllocError> {
+    let mut words = Vec::new(alloc);
+    words.push("solve")?;
+    words.extend_from_slice(options)?;
+    words.extend_from_slice(files)?;
+    Ok(words)
+}
+
+#[test]
+fn answers_each_line_of_each_file(rt: HostRuntime) -> Result<(), Fail> {
+    let alloc = rt.alloc();
+    fs::write(&rt, "each_a.txt", "")?;
+    fs::write(&rt, "each_b.txt", ONE_AND_TWO)?;
+    fs::write(&rt, "each_c.txt", THREE_AND_FAULTS)?;
+    let files = ["each_a.txt", "each_b.txt", "each_c.txt", "each_b.txt"];
+    let want = "\
+each_b.txt:1 0 house 1
+each_b.txt:2 -2 house 1
+each_c.txt:1 6 house 1
+each_c.txt:2 fault empty
+each_c.txt:3 fault shape
+each_b.txt:1 0 house 1
+each_b.txt:2 -2 house 1
+";
+    let options = [
+        [].as_slice(),
+        ["--workers", "1"].as_slice(),
+        ["--workers=2"].as_slice(),
+        ["--workers", "64"].as_slice(),
+        ["--table", "1"].as_slice(),
+    ];
+    for given in options {
+        let words = solve_words(alloc, given, files.as_slice())?;
+        let run = run_on(&rt, alloc, words.as_slice())?;
+        assert!(rt; answers(&run, ExitStatus::LineFaults, want, ""));
+    }
+    Ok(())
+}
+
+#[test]
+fn files_without_a_fault_are_clean(rt: HostRuntime) -> Result<(), Fail> {
+    let alloc = rt.alloc();
+    fs::write(&rt, "clean_a.txt", "")?;
+    fs::write(&rt, "clean_b.txt", ONE_AND_TWO)?;
+    let empty = run_on(&rt, alloc, &["solve", "clean_a.txt"])?;
+    assert!(rt; answers(&empty, ExitStatus::Clean, "", ""));
+    let two = run_on(&rt, alloc, &["solve", "clean_b.txt"])?;
+    let want = "clean_b.txt:1 0 house 1\nclean_b.txt:2 -2 house 1\n";
+    assert!(rt; answers(&two, ExitStatus::Clean, want, ""));
+    Ok(())
+}
+
+#[test]
+fn both_rules_and_many_seeds(rt: HostRuntime) -> Result<(), Fail> {
+    let alloc = rt.alloc();
+    fs::write(&rt, "rules.txt", "1,0/0 0,2/0\n8/0 8/0\n16/0 16/0\n15/99 0/0\n")?;
+    let run = run_on(&rt, alloc, &["solve", "rules.txt"])?;
+    let want = "\
+rules.txt:1 1 house 1
+rules.txt:2 0 house 1
+rules.txt:3 fault seeds
+rules.txt:4 114 over
+";
+    assert!(rt; answers(&run, ExitStatus::LineFaults, want, ""));
+    Ok(())
+}
+
+#[test]
+fn too_many_files(rt: HostRuntime) -> Result<(), Fail> {
+    let alloc = rt.alloc();
+    fs::write(&rt, "many_a.txt", "")?;
+    let files = vec![in alloc; "many_a.txt"; 257]?;
+    let words = solve_words(alloc, &[], files.as_slice())?;
+    let run = run_on(&rt, alloc, words.as_slice())?;
+    assert!(rt; answers(&run, ExitStatus::Failed, "", "kalah: too many files\n"));
+    Ok(())
+}
+
+#[test]
+fn too_many_lines(rt: HostRuntime) -> Result<(), Fail> {
+    let alloc = rt.alloc();
+    let feeds = vec![in alloc; b'\n'; 1_000_001]?;
+    fs::write(&rt, "feeds.txt", feeds.as_slice())?;
+    let run = run_on(&rt, alloc, &["solve", "feeds.txt"])?;
+    assert!(rt; answers(&run, ExitStatus::Failed, "", "kalah: too many lines\n"));
+    Ok(())
+}
+
+// The last call that can fail is the flush after the last line.
+#[test]
+fn solving_stops_at_a_failed_write(rt: HostRuntime) -> Result<(), Fail> {
+    let alloc = rt.alloc();
+    fs::write(&rt, "failing_b.txt", ONE_AND_TWO)?;
+    let mut ended = false;
+    for k in 1..64u32 {
+        let words = words_of(alloc, &["solve", "failing_b.txt"])?;
+        let mut out = Stream::new(Failing::new(&rt, k));
+        let mut err = Vec::<u8>::new(alloc);
+        assert!(rt; !out.failed());
+        let status = run_words(&rt, alloc, words, &mut out, &mut err);
+        let failed = out.failed();
+        let writer = out.into_inner();
+        assert!(rt; !ended || !failed, "at {k}");
+        if failed {
+            assert_eq!(rt; status, ExitStatus::Failed, "at {k}");
+            assert_eq!(rt; writer.calls, k);
+            assert_eq!(rt; err.as_slice(), b"kalah: write failed\n".as_slice());
+        } else {
+            assert_eq!(rt; status, ExitStatus::Clean);
+            ended = true;
+        }
+    }
+    assert!(rt; ended);
+    Ok(())
+}

@@ -1,0 +1,15 @@
+use Rattle.std.proofs.Common.{◌≡◌, ◌<◌, ◌≤◌, ◌++◌, [], List, ℕ, length, map, ap, sym, ◌∙◌, arith, refl}
+use Rattle.std.proofs.lemmas.List.{append-nil}
+use Rattle.kalah_jobs.specs.Lines.{lines_of}
+use Rattle.kalah_jobs.specs.Entry.{entry_of}
+use Rattle.kalah_jobs.specs.Jobs.{entries_in}
+use Rattle.kalah_jobs.proofs.SplitLines.{lines_of-empty}
+use Rattle.kalah_jobs.proofs.file_jobs.FileJobs.of_bytes.Goals as goal
+
+pub returns : goal.returns
+unfolding entries_in
+returns c =
+    let none : lines_of c.loop-rest.rest.now ≡ [] = lines_of-empty c.loop-rest.rest.now (grind arith) in
+    sym (append-nil c.loop-rest.entries.items)
+    ∙ ap (λ lines. c.loop-rest.entries.items ++ map entry_of lines) (sym none)
+    ∙ c.loop-rest.invariant

@@ -1,0 +1,7 @@
+use Rattle.std.proofs.Common.{take, length}
+use Rattle.kalah_jobs.specs.Jobs.{jobs_of}
+use Rattle.kalah_jobs.proofs.JobCounts.{AreCountedUpto}
+use Rattle.kalah_jobs.proofs.jobs.Jobs.of_few_lines.Given as goal
+
+abbrev pub invariant-loop-file : goal.invariant-loop-file
+invariant-loop-file l = AreCountedUpto (take l.file-index l.files) l.rows.items l.starts.items l.total

@@ -1,0 +1,37 @@
+-- The answer to a line, and how it is printed.
+use Rattle.std.specs.Prelude.{ℕ, ◌+◌, List, [], ◌∷◌, ◌++◌, if◌then◌else◌, Bool, true, false, codes, decimal}
+use Rattle.std.specs.Fmt.{signed_decimal}
+use Rattle.kalah_rules.specs.Position as position
+use Rattle.kalah_rules.specs.Position.{is_over, final_margin}
+use Rattle.kalah_solve.specs.Worth.{worth, best_house}
+use Rattle.kalah_jobs.specs.LineFault.{word_of}
+use Rattle.kalah_jobs.specs.declared.entry.Entry.{Entry}
+use Rattle.kalah_jobs.specs.declared.entry.Entry.TheVariants.{Position, Bad}
+use Rattle.kalah_jobs.specs.declared.answer.Answer.{Answer}
+use Rattle.kalah_jobs.specs.declared.answer.Answer.TheVariants.{Best, Over, Fault}
+use Rattle.kalah_jobs.specs.declared.answer.Taken.{Taken}
+
+-- the final margin of a game that is over, and else the margin of best play and the lowest house that attains it
+abbrev pub answer_of_position : position.Position → Answer
+answer_of_position p = if is_over p then Over (final_margin p) else Best (worth p) (best_house p)
+
+-- the answer to what a line says
+unfoldable pub answer_of : Entry → Answer
+answer_of (Position p) = answer_of_position p
+answer_of (Bad fault) = Fault fault
+
+-- the line was not read
+abbrev pub is_fault : Answer → Bool
+is_fault (Best margin house) = false
+is_fault (Over margin) = false
+is_fault (Fault fault) = true
+
+-- `MARGIN house H`, `MARGIN over` or `fault WORD`
+abbrev pub answer_words : Answer → List ℕ
+answer_words (Best margin house) = signed_decimal margin ++ (codes " house " ++ decimal house)
+answer_words (Over margin) = signed_decimal margin ++ codes " over"
+answer_words (Fault fault) = codes "fault " ++ word_of fault
+
+-- `NAME:LINE ANSWER`, where lines count from 1
+abbrev pub answer_line : List ℕ → Taken → List ℕ
+answer_line name taken = name ++ (codes ":" ++ (decimal (taken.line + 1) ++ (codes " " ++ answer_words taken.answer)))

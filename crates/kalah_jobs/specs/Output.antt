@@ -1,0 +1,79 @@
+-- What a batch writes, and what it counts.
+use Rattle.std.specs.Prelude.{◌≡◌, ℕ, List, [], ◌∷◌, ◌++◌, length, map, sum_by, count_by, slice_index_or, Bool}
+use Rattle.std.specs.List.{flat_map, enumerate_from}
+use Rattle.kalah_jobs.specs.declared.entry.Entry.{Entry}
+use Rattle.kalah_jobs.specs.declared.answer.Taken.{Taken}
+use Rattle.kalah_jobs.specs.NamedBytes.{NamedBytes}
+use Rattle.kalah_jobs.specs.Lines.{line_feed, lines_of}
+use Rattle.kalah_jobs.specs.Entry.{entry_of}
+use Rattle.kalah_jobs.specs.Answer.{answer_of, is_fault, answer_line}
+use Rattle.kalah_jobs.specs.Offer.{Offer}
+use Rattle.kalah_jobs.specs.JobList.{job_list}
+use Rattle.kalah_jobs.specs.Jobs.{jobs_of, job_count}
+
+-- the answer line of a line with this entry, followed by a line feed; the number counts from 0
+abbrev pub answered : List ℕ → ℕ → Entry → List ℕ
+answered name number entry = answer_line name (record { line = number; answer = answer_of entry }) ++ line_feed ∷ []
+
+-- the same for a line of a file, given with its number
+abbrev pub line_output : List ℕ → ℕ × List ℕ → List ℕ
+line_output name p = answered name p.0 (entry_of p.1)
+
+-- for each line of a file in order, its answer line
+abbrev pub file_output : NamedBytes → List ℕ
+file_output file = flat_map (line_output file.name) (enumerate_from 0 (lines_of file.bytes))
+
+-- for each file in order, for each of its lines in order, its answer line
+unfoldable pub output_of : List NamedBytes → List ℕ
+output_of files = flat_map file_output files
+
+-- the line is answered by a fault
+abbrev pub is_faulty : List ℕ → Bool
+is_faulty line = is_fault (answer_of (entry_of line))
+
+-- how many lines were answered, and how many of them by a fault
+pub record LineCounts : Type 0 where
+  pub lines : ℕ
+  pub faults : ℕ
+
+unfoldable pub tally_of : List NamedBytes → LineCounts
+tally_of files = record {
+  lines = sum_by (λ file. length (lines_of file.bytes)) files;
+  faults = sum_by (λ file. count_by is_faulty (lines_of file.bytes)) files;
+}
+
+-- ---- the same, told by jobs
+
+-- the text of a line, given with its number and entry, where `text` gives the text of what is taken of a file
+abbrev pub text_of_line : (ℕ → Taken → List ℕ) → ℕ → ℕ × Entry → List ℕ
+text_of_line text f p = text f (record { line = p.0; answer = answer_of p.1 })
+
+-- the texts of the lines of a file, given with its number
+abbrev pub text_of_file : (ℕ → Taken → List ℕ) → ℕ × List Entry → List ℕ
+text_of_file text p = flat_map (text_of_line text p.0) (enumerate_from 0 p.1)
+
+-- for each file in order, for each of its lines in order, its text
+abbrev pub text_of_jobs : (ℕ → Taken → List ℕ) → List (List Entry) → List ℕ
+text_of_jobs text jobs = flat_map (text_of_file text) (enumerate_from 0 jobs)
+
+-- the answer line of what is taken of file f, followed by a line feed
+abbrev pub answer_text_of : List (List ℕ) → ℕ → Taken → List ℕ
+answer_text_of names f taken = answer_line (slice_index_or names f []) taken ++ line_feed ∷ []
+
+-- for each job in order its answer line, where the files have these names
+abbrev pub output_of_jobs : List (List ℕ) → List (List Entry) → List ℕ
+output_of_jobs names jobs = text_of_jobs (answer_text_of names) jobs
+
+-- the names of files
+abbrev pub names_of : List NamedBytes → List (List ℕ)
+names_of files = map (λ file. file.name) files
+
+-- the offer is answered by a fault
+abbrev pub is_faulty_offer : Offer → Bool
+is_faulty_offer o = is_fault (answer_of o.entry)
+
+-- what is told of files and what is told of their jobs is the same
+pub record FilesAreTheirJobs : Type 0 where
+  pub output : (files : List NamedBytes) → output_of files ≡ output_of_jobs (names_of files) (jobs_of files)
+  pub lines : (files : List NamedBytes) → (tally_of files).lines ≡ length (job_list (jobs_of files))
+  pub faults : (files : List NamedBytes) → (tally_of files).faults ≡ count_by is_faulty_offer (job_list (jobs_of files))

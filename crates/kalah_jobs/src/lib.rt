@@ -1,0 +1,50 @@
+//! Position lines, and the jobs, outcomes and answers of a batch.
+#![tactic(auto)]
+
+mod answer;
+mod arrivals;
+mod collector;
+mod collector_laws;
+mod entry;
+mod file_jobs;
+mod file_laws;
+mod file_lines;
+mod file_text;
+mod form;
+mod job;
+mod jobs;
+mod line_fault;
+mod line_laws;
+mod number;
+mod outcome;
+mod parts;
+mod player;
+mod position_text;
+mod printed;
+mod reading;
+mod refusal;
+mod row;
+mod same_entry;
+mod side;
+mod sink;
+mod stream;
+mod written;
+
+pub use answer::{Answer, Taken};
+pub use collector::Collector;
+pub use collector_laws::{accepts_each_job_once, gets_each_job_once, keeps_its_law};
+pub use entry::Entry;
+pub use file_laws::{entries_are_one, files_are_their_jobs, lines_are_one};
+pub use file_text::FileText;
+pub use job::Job;
+pub use jobs::{Jobs, JobsFault, MOST_FILES, MOST_LINES};
+pub use line_fault::LineFault;
+pub use line_laws::{every_line_is_its_text, every_text_is_read_back, no_line_reads_twice};
+pub use outcome::Outcome;
+pub use position_text::{line_text, step_text};
+pub use printed::answer_text;
+pub use reading::read_line;
+pub use refusal::Refusal;
+pub use sink::Sink;
+pub use stream::Stream;
+pub use written::write_answer;

@@ -1,0 +1,118 @@
+use crate::{Entry, LineFault, read_line};
+use kalah_rules::{Board, Rule};
+use std::process::Abort;
+use std::test::Fail;
+
+// The line is not read, for this fault.
+fn assert_fault(rt: &impl Abort, line: &[u8], fault: LineFault) {
+    assert_eq!(rt; read_line(line).err(), Some(fault));
+    assert_eq!(rt; Entry::of_line(line), Entry::Bad(fault));
+}
+
+// The line is read as a board of one house a side.
+fn assert_reads(
+    rt: &impl Abort,
+    line: &[u8],
+    own: [u8; 2],
+    other: [u8; 2],
+    rule: Rule,
+) -> Result<(), Fail> {
+    let own_row = [own[0], 0, 0, 0, 0, 0];
+    let other_row = [other[0], 0, 0, 0, 0, 0];
+    let board = Board::new(1, own_row, own[1], other_row, other[1], rule).ok_or(
+        "beyond the limits",
+    )?;
+    assert_eq!(rt; read_line(line).ok(), Some(board));
+    assert_eq!(rt; Entry::of_line(line), Entry::Position(board));
+    Ok(())
+}
+
+#[test]
+fn lines_of_another_shape(rt: HostRuntime) {
+    for line in [
+        b"01/0 1/0".as_slice(),
+        b"1/100 1/0",
+        b"100/0 1/0",
+        b"-1/0 1/0",
+        b"1/0  1/0",
+        b"1/0\t1/0",
+        b"1/0",
+        b"/0 /0",
+        b"1,,1/0 1/0",
+        b"1/0 1/0\0",
+        b"\xef\xbb\xbf1/0 1/0",
+        b"\xff\xfe",
+    ] {
+        assert_fault(&rt, line, LineFault::Shape);
+    }
+}
+
+#[test]
+fn endings_of_another_shape(rt: HostRuntime) {
+    for line in [
+        b"1/0 1/0\r\r".as_slice(),
+        b"1/0 1/0 E",
+        b"1/0 1/0  e",
+        b"1/0 1/0e",
+        b"1/0 1/0 e ",
+        b"1/0 1/0 ",
+    ] {
+        assert_fault(&rt, line, LineFault::Shape);
+    }
+}
+
+#[test]
+fn at_most_eighty_bytes(rt: HostRuntime) {
+    let mut line = [b'x'; 82];
+    assert_fault(&rt, &line[..80], LineFault::Shape);
+    assert_fault(&rt, &line[..81], LineFault::Long);
+    line[80] = b'\r';
+    assert_fault(&rt, &line[..81], LineFault::Shape);
+    assert_fault(&rt, &line, LineFault::Long);
+}
+
+#[test]
+fn lines_of_no_bytes(rt: HostRuntime) {
+    assert_fault(&rt, b"", LineFault::Empty);
+    assert_fault(&rt, b"\r", LineFault::Empty);
+}
+
+#[test]
+fn other_houses_and_too_many_seeds(rt: HostRuntime) {
+    for line in [
+        b"1,1/0 1/0".as_slice(),
+        b"1,1/0 16/0",
+        b"1,0,0,0,0,0,0/0 1,0,0,0,0,0,0/0",
+    ] {
+        assert_fault(&rt, line, LineFault::Houses);
+    }
+    for line in [b"16/0 16/0".as_slice(), b"99/0 99/0"] {
+        assert_fault(&rt, line, LineFault::Seeds);
+    }
+}
+
+#[test]
+fn lines_that_are_read(rt: HostRuntime) -> Result<(), Fail> {
+    assert_reads(&rt, b"8/0 7/0", [8, 0], [7, 0], Rule::Classic)?;
+    assert_reads(&rt, b"8/0 8/0", [8, 0], [8, 0], Rule::Classic)?;
+    assert_reads(&rt, b"16/0 15/0", [16, 0], [15, 0], Rule::Classic)?;
+    assert_reads(&rt, b"31/99 0/0", [31, 99], [0, 0], Rule::Classic)?;
+    assert_reads(&rt, b"1/0 1/0\r", [1, 0], [1, 0], Rule::Classic)?;
+    assert_reads(&rt, b"0/0 0/0 e", [0, 0], [0, 0], Rule::EmptyCapture)?;
+    assert_reads(&rt, b"3/10 3/0 e\r", [3, 10], [3, 0], Rule::EmptyCapture)
+}
+
+#[test]
+fn six_houses_in_their_order(rt: HostRuntime) -> Result<(), Fail> {
+    let board = Board::new(
+        6,
+        [1, 2, 3, 4, 5, 0],
+        7,
+        [0, 0, 0, 0, 0, 9],
+        8,
+        Rule::Classic,
+    )
+    .ok_or("beyond the limits")?;
+    assert_eq!(rt; read_line(b"1,2,3,4,5,0/7 0,0,0,0,0,9/8").ok(), Some(board));
+    Ok(())
+}

@@ -1,0 +1,32 @@
+//! Where answers are written: bytes go out in order until a call fails, and none after that.
+ghost use Rattle.std.specs.Prelude.{◌≡◌, ◌↔◌, ℕ, List, Bool, true, false, Option, OnOk, IsErr};
+ghost use Rattle.std.specs.Io.KnownBytes.{Appends, Keeps};
+
+use std::io;
+
+/// Takes bytes, in order, until a call fails. From then on it isn't written to any more.
+pub trait Sink {
+    /// The bytes written so far, where the sink tells them.
+    ghost written: { Self → Option (List ℕ) };
+
+    /// Whether a call has failed.
+    ghost has_failed: { Self → Bool };
+
+    /// Writes all the bytes, and nothing else. It is an error exactly where the sink has failed
+    /// afterwards; how many of the bytes went out isn't known then.
+    fn write_all(&mut self, bytes: &[u8]) -> Result<(), io::Error>
+        requires { has_failed self.old ≡ false }
+        ensures fails { IsErr result ↔ (has_failed self.new ≡ true) }
+        ensures adds { OnOk result (Appends (written self.old) (written self.new) bytes.now) };
+
+    /// Hands on what is still held back, and writes nothing of its own. It is an error exactly where
+    /// the sink has failed afterwards.
+    fn flush(&mut self) -> Result<(), io::Error>
+        requires { has_failed self.old ≡ false }
+        ensures fails { IsErr result ↔ (has_failed self.new ≡ true) }
+        ensures keeps { OnOk result (Keeps (written self.old) (written self.new)) };
+
+    /// Whether a call has failed.
+    fn failed(&self) -> bool
+        ensures { result ≡ has_failed self.now };
+}

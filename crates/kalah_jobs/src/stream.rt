@@ -1,0 +1,64 @@
+//! The sink over a writer.
+ghost use Rattle.std.specs.Prelude.{◌≡◌, false};
+ghost use Rattle.kalah_jobs.specs.Stream.{stream_failed, stream_writer};
+
+use crate::Sink;
+use std::io;
+use std::io::Write;
+
+/// The sink over a writer, with that writer's bytes. It fails where a call of the writer answers an
+/// error, also because the writer took no byte; an interrupted call is tried again and is no error.
+#[derive(Drop)]
+pub struct Stream<W> {
+    writer: W,
+    has_failed: bool,
+}
+
+impl<W> Stream<W> {
+    /// A stream of which no call has failed.
+    pub fn new(writer: W) -> Stream<W>
+        ensures writer { stream_writer result ≡ writer }
+        ensures fresh { stream_failed result ≡ false }
+    {
+        Stream {
+            writer,
+            has_failed: false,
+        }
+    }
+
+    /// Gives the writer back.
+    pub fn into_inner(self) -> W
+        ensures { result ≡ stream_writer self }
+    {
+        let Stream {
+            writer,
+            has_failed: _,
+        } = self;
+        writer
+    }
+}
+
+impl<W: Write> Sink for Stream<W> {
+    ghost written = { λ s. W.contents (stream_writer s) };
+
+    ghost has_failed = { stream_failed };
+
+    fn write_all(&mut self, bytes: &[u8]) -> Result<(), io::Error> {
+        let written = self.writer.write_all(bytes);
+        self.has_failed = written.is_err();
+        written
+    }
+
+    fn flush(&mut self) -> Result<(), io::Error> {
+        let flushed = self.writer.flush();
+        self.has_failed = flushed.is_err();
+        flushed
+    }
+
+    fn failed(&self) -> bool {
+        self.has_failed
+    }
+}
+
+#[cfg(test)]
+mod tests;

@@ -1,0 +1,129 @@
+ghost use Rattle.std.specs.Prelude.{◌≡◌, [], Some};
+
+use crate::{Sink, Stream};
+use std::io;
+use std::io::{ErrorKind, Write};
+use std::test::Fail;
+
+/// Answers an error of its kind at its `fails_at`th call, counted from 1, and at no other.
+#[derive(Drop)]
+struct FailingOnce {
+    bytes: Vec<u8>,
+    calls: u32,
+    fails_at: u32,
+    kind: ErrorKind,
+}
+
+impl FailingOnce {
+    fn new(rt: &HostRuntime, fails_at: u32, kind: ErrorKind) -> FailingOnce {
+        FailingOnce {
+            bytes: Vec::new(rt.alloc()),
+            calls: 0,
+            fails_at,
+            kind,
+        }
+    }
+
+    fn count_call(&mut self) -> Result<(), io::Error>
+        ensures { self.new.bytes ≡ self.old.bytes }
+    {
+        self.calls = self.calls.saturating_add(1);
+        if self.calls == self.fails_at {
+            return Err(io::Error::from(self.kind));
+        }
+        Ok(())
+    }
+}
+
+impl Write for FailingOnce {
+    ghost contents = { λ w. Some w.bytes.items };
+
+    fn write(&mut self, buf: &[u8]) -> io::Result<usize> {
+        self.count_call()?;
+        self.bytes.write(buf)
+    }
+
+    fn flush(&mut self) -> io::Result<()> {
+        self.count_call()
+    }
+}
+
+/// Takes no byte.
+#[derive(Drop)]
+struct Full {
+    calls: u32,
+}
+
+impl Write for Full {
+    ghost contents = { λ _. Some [] };
+
+    fn write(&mut self, _buf: &[u8]) -> io::Result<usize> {
+        self.calls = self.calls.saturating_add(1);
+        Ok(0)
+    }
+
+    fn flush(&mut self) -> io::Result<()> {
+        Ok(())
+    }
+}
+
+#[test]
+fn gives_the_writer_its_bytes(rt: HostRuntime) -> Result<(), Fail> {
+    let mut out = Stream::new(Vec::<u8>::new(rt.alloc()));
+    assert!(rt; !out.failed());
+    out.write_all(b"1,1/0 ")?;
+    out.write_all(b"")?;
+    out.write_all(b"1,1/0")?;
+    out.flush()?;
+    assert!(rt; !out.failed());
+    assert_eq!(rt; out.into_inner().as_slice(), b"1,1/0 1,1/0".as_slice());
+    Ok(())
+}
+
+#[test]
+fn tries_an_interrupted_call_again(rt: HostRuntime) -> Result<(), Fail> {
+    let mut out = Stream::new(FailingOnce::new(&rt, 1, ErrorKind::Interrupted));
+    out.write_all(b"ab")?;
+    assert!(rt; !out.failed());
+    let writer = out.into_inner();
+    assert_eq!(rt; writer.calls, 2);
+    assert_eq!(rt; writer.bytes.as_slice(), b"ab".as_slice());
+    Ok(())
+}
+
+#[test]
+fn a_writer_that_takes_no_byte_is_an_error(rt: HostRuntime) {
+    let mut out = Stream::new(Full { calls: 0 });
+    assert!(rt; out.write_all(b"a").is_err());
+    assert!(rt; out.failed());
+    assert_eq!(rt; out.into_inner().calls, 1);
+}
+
+#[test]
+fn has_failed_after_an_error(rt: HostRuntime) -> Result<(), Fail> {
+    let mut out = Stream::new(FailingOnce::new(&rt, 2, ErrorKind::BrokenPipe));
+    out.write_all(b"a")?;
+    assert!(rt; !out.failed());
+    assert!(rt; out.write_all(b"b").is_err());
+    assert!(rt; out.failed());
+    assert_eq!(rt; out.into_inner().bytes.as_slice(), b"a".as_slice());
+    Ok(())
+}
+
+#[test]
+fn has_failed_after_a_flush_that_fails(rt: HostRuntime) -> Result<(), Fail> {
+    let mut out = Stream::new(FailingOnce::new(&rt, 2, ErrorKind::StorageFull));
+    out.write_all(b"a")?;
+    assert!(rt; out.flush().is_err());
+    assert!(rt; out.failed());
+    Ok(())
+}
+
+#[test]
+fn writes_to_the_standard_output(rt: HostRuntime) -> Result<(), Fail> {
+    let mut out = Stream::new(io::writer(&rt));
+    out.write_all(b"1,1/0 1,1/0\n")?;
+    out.flush()?;
+    assert!(rt; !out.failed());
+    Ok(())
+}

@@ -1,0 +1,15 @@
+pub mod DeskSums
+pub mod DeskDraws
+pub mod DeskSeats
+pub mod DeskEnds
+pub mod DeskOnce
+pub mod DeskSpent
+pub mod QueueKeeps
+pub mod QueueLists
+pub mod QueuePairs
+pub mod QueueViews
+pub mod Sendings
+pub mod Reports
+pub mod Staffs
+pub mod StaffRuns
+pub mod BatchEnds

@@ -1,0 +1,28 @@
+-- What a report writes, line by line.
+use Rattle.std.proofs.Common.{◌≡◌, ℕ, ◌+◌, ◌<◌, List, [], ◌∷◌, ◌++◌, length, map, get_or, refl, sym, ap, ◌∙◌, subst, arith}
+use Rattle.std.specs.Prelude.{Option, Bool, count_by, if◌then◌else◌}
+use Rattle.std.proofs.lemmas.List.{get_or-map}
+use Rattle.std.proofs.lemmas.List.Sums.{sum_by-append}
+use Rattle.kalah_jobs.specs.declared.answer.Taken.{Taken}
+use Rattle.kalah_jobs.specs.declared.answer.Answer.{Answer}
+use Rattle.kalah_jobs.specs.Answer.{answer_line, answer_of, is_fault}
+use Rattle.kalah_jobs.specs.Offer.{Offer}
+use Rattle.kalah_jobs.specs.Lines.{line_feed}
+use Rattle.kalah_jobs.specs.NamedBytes.{NamedBytes}
+use Rattle.kalah_jobs.specs.Output.{names_of, is_faulty_offer}
+use Rattle.kalah_run.specs.Texts.{text_of}
+
+-- the text of a line of file f begins with that file's name
+pub text_of_file : (files : List NamedBytes) (f : ℕ) (file : NamedBytes) (name : List ℕ) (taken : Taken) → f < length files →
+    file ≡ get_or files f file → name ≡ file.name → text_of files f taken ≡ answer_line name taken ++ line_feed ∷ []
+unfolding text_of
+text_of_file files f file name taken low at is =
+    ap (λ n. answer_line n taken ++ line_feed ∷ []) (get_or-map (λ (x : NamedBytes). x.name) files f file [] low ∙ sym (ap (λ (x : NamedBytes). x.name) at) ∙ sym is)
+
+-- one outcome more
+pub faults_more : (past : List Offer) (o : Offer) (faults more : ℕ) → faults ≡ count_by is_faulty_offer past → more ≡ (if is_faulty_offer o then 1 else 0) →
+    faults + more ≡ count_by is_faulty_offer (past ++ o ∷ [])
+faults_more past o faults more before is =
+    let all = sum_by-append (λ (x : Offer). if is_faulty_offer x then 1 else 0) past (o ∷ []) in
+    let one : count_by is_faulty_offer (o ∷ []) ≡ (if is_faulty_offer o then 1 else 0) = omega arith in
+    omega (arith, all, one, before, is)

@@ -1,0 +1,34 @@
+-- What a worker sends with one job more.
+use Rattle.std.proofs.Common.{◌≡◌, ℕ, List, [], ◌∷◌, ◌++◌, sym, ap, ◌∙◌}
+use Rattle.std.proofs.lemmas.List.{map-append}
+use Rattle.kalah_jobs.specs.declared.entry.Entry.{Entry}
+use Rattle.kalah_jobs.specs.Offer.{Offer}
+use Rattle.std.specs.Prelude.{slice_get, Some}
+use Rattle.std.proofs.lemmas.Option.{get_or_from_slice_get}
+use Rattle.kalah_jobs.specs.JobList.{job_list, offer}
+use Rattle.kalah_jobs.specs.declared.entry.Entry.TheVariants.{Bad}
+use Rattle.kalah_jobs.specs.declared.line_fault.LineFault.TheVariants.{Empty}
+use Rattle.kalah_jobs.specs.Batch.{job}
+use Rattle.kalah_run.specs.declared.desk_rule.Row.{Row}
+use Rattle.kalah_run.specs.Work.{offers_of}
+
+-- job number n is what stands there in the list of jobs
+job_at : (jobs : List (List Entry)) (n : ℕ) (o : Offer) → slice_get (job_list jobs) n ≡ Some o → job jobs n ≡ o
+job_at jobs n o at = get_or_from_slice_get (job_list jobs) n o (offer 0 0 (Bad Empty)) at
+
+-- the outcome of the job that was drawn stands behind those of the row so far
+pub offers_of-more : (jobs : List (List Entry)) (row row' : Row) (n : ℕ) (o : Offer) (sent sent' : List Offer) →
+    sent ≡ offers_of jobs row.numbers → row'.numbers ≡ row.numbers ++ n ∷ [] → slice_get (job_list jobs) n ≡ Some o → sent' ≡ sent ++ o ∷ [] →
+    sent' ≡ offers_of jobs row'.numbers
+unfolding offers_of
+offers_of-more jobs row row' n o sent sent' so_far drawn is more =
+    more
+    ∙ ap (λ x. x ++ o ∷ []) so_far
+    ∙ ap (λ x. offers_of jobs row.numbers ++ x ∷ []) (sym (job_at jobs n o is))
+    ∙ sym (map-append (job jobs) row.numbers (n ∷ []))
+    ∙ ap (λ x. offers_of jobs x) (sym drawn)
+
+-- nothing is drawn and nothing sent
+pub offers_of-none : (jobs : List (List Entry)) (numbers : List ℕ) (sent : List Offer) → numbers ≡ [] → sent ≡ [] → sent ≡ offers_of jobs numbers
+unfolding offers_of
+offers_of-none jobs numbers sent none nothing = nothing ∙ sym (ap (λ x. offers_of jobs x) none)

@@ -1,0 +1,41 @@
+use Rattle.std.proofs.Common.{rules, ◌≡◌, ◌+◌, ◌<◌, ◌≤◌, ℕ, sym, ap, ◌∙◌, subst}
+use Rattle.std.specs.Prelude.{nat_lt, if◌then◌else◌}
+use Rattle.std.proofs.lemmas.List.{length-map}
+use Rattle.kalah_run.specs.DeskRows.{drawn_in, spent_in, AreLawful}
+use Rattle.kalah_run.specs.DeskStates.{rows_of}
+use Rattle.kalah_run.proofs.DeskOnce.{stands_once, stands_nowhere}
+use Rattle.kalah_run.proofs.DeskSeats.{starts_closing}
+use Rattle.kalah_run.proofs.DeskEnds.{ends, drawn_at_end, spent_at_end}
+use Rattle.kalah_run.proofs.desk.Desk.close.Goals as goal
+
+pub load_new_seat-closer-requires : goal.load_new_seat-closer-requires
+load_new_seat-closer-requires c = (search rules, starts_closing _ _)
+
+-- the last word, and the rows
+last : (c : goal.After-min) → (c.word-word.result ≡ drawn_in (rows_of c.args.passes.items) + spent_in (rows_of c.args.passes.items)) × AreLawful c.self.inside.total (rows_of c.args.passes.items)
+last c =
+    let all = length-map c.args.passes.items (λ p. p.row) ∙ c.requires.all ∙ sym (ap (λ d. d.passes) c.self.view_is) in
+    let e = ends c.self.inside.table.shared.key _ _ (rows_of c.args.passes.items) _ _ _ c.take_in-closer.ensures.1 c.close_with-closed.ensures.values.2 all c.word-word.ensures in
+    (e.0, subst (λ (t : ℕ). AreLawful t (rows_of c.args.passes.items)) c.self.invariant.2 e.1)
+
+pub returns-clause-lawful : goal.returns-clause-lawful
+returns-clause-lawful c = subst (λ (t : ℕ). AreLawful t (rows_of c.args.passes.items)) (ap (λ d. d.total) c.self.view_is) (last c).1
+
+-- the count
+drawn : (c : goal.After-min) → c.min.result ≡ drawn_in (rows_of c.args.passes.items)
+drawn c = c.min.ensures ∙ drawn_at_end c.self.inside.total c.word-word.result (rows_of c.args.passes.items) (last c).0 (last c).1
+
+pub returns-clause-each_once : goal.returns-clause-each_once
+returns-clause-each_once c x = (last c).1.each_once x ∙ ap (λ (n : ℕ). if nat_lt x n then 1 else 0) (sym (drawn c))
+
+pub returns-clause-once : goal.returns-clause-once
+returns-clause-once c x low = stands_once _ _ (last c).1 x (subst (λ (n : ℕ). x < n) (drawn c) low)
+
+pub returns-clause-others : goal.returns-clause-others
+returns-clause-others c x high = stands_nowhere _ _ (last c).1 x (subst (λ (n : ℕ). n ≤ x) (drawn c) high)
+
+pub returns-clause-drawn : goal.returns-clause-drawn
+returns-clause-drawn c = drawn c
+
+pub returns-clause-spent : goal.returns-clause-spent
+returns-clause-spent c = spent_at_end c.self.inside.total c.word-word.result (rows_of c.args.passes.items) (last c).0 (last c).1

@@ -1,0 +1,13 @@
+use Rattle.std.proofs.Common.{◌≡◌, ◌-◌, []}
+use Rattle.std.specs.Prelude.{vec_capacity}
+use Rattle.kalah_run.specs.declared.desk_rule.DeskView.TheVariants.{Opening}
+use Rattle.kalah_run.specs.DeskStates.{AreNewPasses}
+use Rattle.kalah_run.proofs.desk.hand_out.Given as goal
+
+abbrev pub invariant-loop : goal.invariant-loop
+invariant-loop l = record {
+  table : l.opener.table_id ≡ l.shared.table_id;
+  opener : l.opener.me ≡ (Opening l.shared.key.total l.counter (l.passes - l.counter), []);
+  room : vec_capacity l.handed_out ≡ l.passes;
+  handed_out : AreNewPasses (record { id = l.shared.table_id; total = l.shared.key.total; passes = l.passes }) l.counter l.handed_out.items;
+}

@@ -1,0 +1,14 @@
+use Rattle.std.proofs.Common.{subst, sym, refl, List, [], ◌≡◌}
+use Rattle.kalah_jobs.specs.CollectorState.{FileState}
+use Rattle.kalah_jobs.specs.UnderWay.{IsUnderWay}
+use Rattle.kalah_jobs.proofs.BatchWay.{way_start}
+use Rattle.kalah_run.specs.Texts.{text_of}
+use Rattle.kalah_run.proofs.report.Report.new.Goals as goal
+
+pub returns : goal.returns
+returns c = λ begun failed. record {
+  of_files = refl;
+  way = subst (λ (s : List FileState). IsUnderWay (text_of c.args.files.now) c.args.jobs.now [] s 0 begun begun failed)
+      (sym c.in_ok-collector.ensures.empty) (way_start (text_of c.args.files.now) c.args.jobs.now begun failed);
+  faults = refl;
+}

@@ -1,0 +1,12 @@
+use Rattle.std.proofs.Common.{◌≡◌, ◌+◌, ◌≤◌, length, vec_len}
+use Rattle.std.specs.Prelude.{vec_capacity}
+use Rattle.kalah_run.specs.Shifts.{passes_of, puts_of}
+use Rattle.kalah_run.proofs.staff.take_apart.Given as goal
+
+abbrev pub invariant-loop-shift : goal.invariant-loop-shift
+invariant-loop-shift l = record {
+  passes : l.passes.items ≡ passes_of l.yielded;
+  puts : l.puts.items ≡ puts_of l.yielded;
+  passes_room : vec_capacity l.passes ≡ vec_capacity l.fn.passes;
+  puts_room : vec_capacity l.puts ≡ vec_capacity l.fn.puts;
+}

@@ -1,0 +1,32 @@
+use Rattle.std.proofs.Common.{◌≡◌, ◌∷◌, ◌++◌, [], ℕ, List, length, refl, sym, ap, subst, ◌∙◌, arith}
+use Rattle.std.proofs.lemmas.List.{map-append, length-append}
+use Rattle.kalah_jobs.specs.Offer.{Offer}
+use Rattle.kalah_run.specs.QueueStates.{GetState}
+use Rattle.kalah_run.specs.Reporting.{IsReporting, Waits, outcomes_in}
+use Rattle.kalah_run.proofs.workers.collect.Goals as goal
+
+pub loop-init : goal.loop-init
+loop-init g c = record {
+  queue = refl;
+  workers = refl;
+  all = ap (λ (l : List (ℕ × Offer)). length l) c.requires.first;
+  few = omega (arith, c.requires.none, c.write.ensures.faults);
+  way = λ files begun reporting.
+      subst (λ (l : List (ℕ × Offer)). IsReporting files (outcomes_in l) begun (g.W.Sink.written c.write.new.out) (g.W.Sink.has_failed c.write.new.out) c.write.new.self × Waits c.write.new.self)
+      (sym c.requires.first) (c.write.ensures.way files [] begun reporting);
+}
+
+pub loop-preserved : goal.loop-preserved
+loop-preserved g c =
+    let worker = c.get-outcome.ensures.0 in
+    let more = ap (λ (p : GetState). p.got) c.get-outcome.ensures.1 in
+    record {
+      queue = ap (λ (p : GetState). p.queue) c.get-outcome.ensures.1 ∙ c.loop.invariant.queue;
+      workers = ap (λ (p : GetState). p.workers) c.get-outcome.ensures.1 ∙ c.loop.invariant.workers;
+      all = ap (λ (l : List (ℕ × Offer)). length l) more ∙ length-append c.loop.pass.got ((worker, c.get-outcome.result) ∷ []) ∙ omega (arith, c.loop.invariant.all);
+      few = omega (arith, c.loop.invariant.few, c.take_in.ensures.faults);
+      way = λ files begun reporting.
+          subst (λ (l : List Offer). IsReporting files l begun (g.W.Sink.written c.take_in.new.out) (g.W.Sink.has_failed c.take_in.new.out) c.take_in.new.self × Waits c.take_in.new.self)
+          (sym (ap (λ (l : List (ℕ × Offer)). outcomes_in l) more ∙ map-append (λ (p : ℕ × Offer). p.1) c.loop.pass.got ((worker, c.get-outcome.result) ∷ [])))
+          (c.take_in.ensures.way files _ begun (c.loop.invariant.way files begun reporting).0);
+    }

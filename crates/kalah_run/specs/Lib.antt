@@ -1,0 +1,13 @@
+pub mod DeskRows
+pub mod DeskKept
+pub mod DeskSteps
+pub mod DeskStates
+pub mod QueueLists
+pub mod QueueRule
+pub mod QueueSteps
+pub mod QueueStates
+pub mod Faults
+pub mod Work
+pub mod Shifts
+pub mod Texts
+pub mod Reporting

@@ -1,0 +1,34 @@
+-- The results queue, its passes and a closed queue, as contracts see them.
+use Rattle.std.specs.Prelude.{◌≡◌, ℕ, suc, List, [], ◌∷◌, map}
+use Rattle.atomic_table.specs.Seated.{TableId}
+use Rattle.kalah_jobs.specs.Offer.{Offer}
+
+-- which queue it is, and how many pairs fill it
+pub record QueueState : Type 0 where
+  pub id : TableId
+  pub capacity : ℕ
+
+-- the queue that the pass puts to, its worker's number, and all that was put through it, in order
+pub record PutState : Type 0 where
+  pub queue : TableId
+  pub number : ℕ
+  pub sent : List Offer
+
+-- the queue that the pass gets from, how many workers there are, and all pairs that were got, in order: a worker's number and its outcome
+pub record GetState : Type 0 where
+  pub queue : TableId
+  pub workers : ℕ
+  pub got : List (ℕ × Offer)
+
+-- how many pairs were put and not got
+pub record ClosedQueueState : Type 0 where
+  pub left : ℕ
+
+-- the passes to put to one queue of worker n, worker n + 1 and so on
+abbrev pub ArePassesFrom : TableId → ℕ → List PutState → Type 0
+ArePassesFrom id n [] = Unit {0}
+ArePassesFrom id n (p ∷ ps) = (p.queue ≡ id) × (p.number ≡ n) × ArePassesFrom id (suc n) ps
+
+-- what each pass has sent
+abbrev pub sent_by : List PutState → List (List Offer)
+sent_by passes = map (λ p. p.sent) passes

@@ -1,0 +1,74 @@
+-- What each step makes of what a pass of the results queue knows.
+use Rattle.std.specs.Prelude.{ℕ, ◌+◌, List, [], ◌∷◌, ◌++◌}
+use Rattle.kalah_jobs.specs.Offer.{Offer}
+use Rattle.kalah_run.specs.declared.queue_rule.QueueView.{QueueView}
+use Rattle.kalah_run.specs.declared.queue_rule.QueueView.TheVariants.{Getting, Putting, Ended}
+use Rattle.kalah_run.specs.QueueLists.{Accounts}
+
+-- the one pass of a new queue is the one to get
+abbrev pub first_view : QueueView
+first_view = Getting 0 [] []
+
+-- what was put through the pass
+abbrev pub sent_in : QueueView → List Offer
+sent_in (Putting number sent) = sent
+sent_in (Getting made got known) = []
+sent_in Ended = []
+
+-- how many passes to put were made
+abbrev pub made_in : QueueView → ℕ
+made_in (Getting made got known) = made
+made_in (Putting number sent) = 0
+made_in Ended = 0
+
+-- what was got through the pass
+abbrev pub got_in : QueueView → List (ℕ × Offer)
+got_in (Getting made got known) = got
+got_in (Putting number sent) = []
+got_in Ended = []
+
+-- what the workers had sent whose passes were taken back in
+abbrev pub known_in : QueueView → List (List Offer)
+known_in (Getting made got known) = known
+known_in (Putting number sent) = []
+known_in Ended = []
+
+-- the view of a pass to get with these three
+abbrev pub as_getting : QueueView → QueueView
+as_getting v = Getting (made_in v) (got_in v) (known_in v)
+
+-- one pass more was made
+abbrev pub after_making_one : QueueView → QueueView
+after_making_one (Getting made got known) = Getting (made + 1) got known
+after_making_one (Putting number sent) = Putting number sent
+after_making_one Ended = Ended
+
+-- the pass that was made: it has sent nothing
+abbrev pub one_made : QueueView → QueueView
+one_made (Getting made got known) = Putting made []
+one_made (Putting number sent) = Ended
+one_made Ended = Ended
+
+-- the outcome is put behind what was sent
+abbrev pub after_put : QueueView → ℕ × Offer → QueueView
+after_put (Putting number sent) pair = Putting number (sent ++ pair.1 ∷ [])
+after_put (Getting made got known) pair = Getting made got known
+after_put Ended pair = Ended
+
+-- the pair stands behind what was got
+abbrev pub after_get : QueueView → ℕ × Offer → QueueView
+after_get (Getting made got known) pair = Getting made (got ++ pair ∷ []) known
+after_get (Putting number sent) pair = Putting number sent
+after_get Ended pair = Ended
+
+-- what the pass taken in has sent is known
+abbrev pub after_taking_in : QueueView → QueueView → QueueView
+after_taking_in (Getting made got known) other = Getting made got (known ++ sent_in other ∷ [])
+after_taking_in (Putting number sent) other = Putting number sent
+after_taking_in Ended other = Ended
+
+-- what was got and then what the queue holds tells all that is known
+abbrev pub Tells : QueueView → List (ℕ × Offer) → Type 0
+Tells (Getting made got known) items = Accounts made known (got ++ items)
+Tells (Putting number sent) items = Unit {0}
+Tells Ended items = Unit {0}

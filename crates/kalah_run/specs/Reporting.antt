@@ -1,0 +1,23 @@
+-- What is known of a report.
+use Rattle.std.specs.Prelude.{◌≡◌, ℕ, ◌<◌, List, Option, Bool, length, count_by, map}
+use Rattle.kalah_jobs.specs.Offer.{Offer}
+use Rattle.kalah_jobs.specs.NamedBytes.{NamedBytes}
+use Rattle.kalah_jobs.specs.Output.{is_faulty_offer}
+use Rattle.kalah_jobs.specs.CollectorState.{state_of, HasEnded}
+use Rattle.kalah_jobs.specs.UnderWay.{IsUnderWay}
+use Rattle.kalah_run.specs.Texts.{text_of}
+use Rattle.kalah_run.specs.declared.report.Report.{Report}
+
+-- With these outcomes taken in, the report of these files has written what is ready of them, in order, behind what the sink had when it began, and counts their faults.
+pub record IsReporting (files : List NamedBytes) (past : List Offer) (begun out : Option (List ℕ)) (failed : Bool) (r : Report) : Type 0 where
+  pub of_files : r.files.now ≡ files
+  pub way : IsUnderWay (text_of files) r.jobs.now past r.collector r.current begun out failed
+  pub faults : r.faults ≡ count_by is_faulty_offer past
+
+-- the current file, if there is one, has a line that is still to come
+abbrev pub Waits : Report → Type 0
+Waits r = r.current < length r.collector → HasEnded (state_of r.collector r.current) → ⊥
+
+-- the outcomes of pairs of a worker and an outcome
+abbrev pub outcomes_in : List (ℕ × Offer) → List Offer
+outcomes_in pairs = map (λ pair. pair.1) pairs

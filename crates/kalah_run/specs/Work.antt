@@ -1,0 +1,9 @@
+-- What a worker is to send.
+use Rattle.std.specs.Prelude.{ℕ, List, map}
+use Rattle.kalah_jobs.specs.declared.entry.Entry.{Entry}
+use Rattle.kalah_jobs.specs.Offer.{Offer}
+use Rattle.kalah_jobs.specs.Batch.{job}
+
+-- the outcomes of the jobs of these numbers, in order
+unfoldable pub offers_of : List (List Entry) → List ℕ → List Offer
+offers_of jobs numbers = map (job jobs) numbers

@@ -1,0 +1,134 @@
+//! A batch: the lines of position files, solved by many workers and answered in order.
+ghost use Rattle.std.specs.Prelude.{◌≡◌, ◌≢◌, ◌↔◌, ◌<◌, ◌≤◌, ◌⊎◌, true, false, Err, length, count_by, IfOk, IfErr, OnOk, OnErr, IsErr};
+ghost use Rattle.std.specs.Io.KnownBytes.{Appends, Keeps};
+ghost use Rattle.kalah_jobs.specs.JobList.{job_list};
+ghost use Rattle.kalah_jobs.specs.Jobs.{jobs_of, job_count, line_count, most_files, most_lines};
+ghost use Rattle.kalah_jobs.specs.Output.{output_of, tally_of, is_faulty_offer};
+ghost use Rattle.kalah_run.specs.declared.run_fault.RunFault.TheVariants.{TooManyFiles, TooManyLines, OutOfMemory, NoWorker, Write};
+
+#[cfg(test)]
+mod tests;
+
+use crate::desk::Desk;
+use crate::gate::Gate;
+use crate::queue_passes::ResultsQueue;
+use crate::report::Report;
+use crate::run_fault::RunFault;
+use crate::shift::Shop;
+use crate::staff::{put_together, take_apart};
+use crate::tally::Tally;
+use crate::workers::run_and_report;
+use kalah_jobs::{FileText, Jobs, Sink};
+use std::alloc::Global;
+use std::sync::Wait;
+use std::thread::Threads;
+
+/// How many outcomes may be on their way to the calling thread.
+const QUEUE_CAPACITY: u32 = 64;
+
+// Flushes the output, unless a write has failed before.
+fn finish<W: Sink>(out: &mut W) -> Result<(), RunFault>
+    ensures fails { IsErr result ↔ (W.has_failed out.new ≡ true) }
+    ensures fault { IfErr result (λ e. e ≡ RunFault.Write) }
+    ensures before { OnOk result (W.has_failed out.old ≡ false) }
+    ensures keeps { OnOk result (Keeps (W.written out.old) (W.written out.new)) }
+{
+    if out.failed() {
+        return Err(RunFault::Write);
+    }
+    match out.flush() {
+        Ok(()) => Ok(()),
+        Err(_) => Err(RunFault::Write),
+    }
+}
+
+// Solves the jobs of the files, of which there are some, and writes each answer line as soon as it is ready and all before
+// it are written. Says how many lines were answered by a fault.
+fn answer_jobs<R: Threads + Wait + Sync, G: Gate, W: Sink>(
+    rt: &R,
+    alloc: Global,
+    files: &[FileText],
+    jobs: &Jobs,
+    workers: u32,
+    table: u32,
+    gate: &G,
+    out: &mut W,
+) -> Result<u32, RunFault>
+    requires workers { (0 < workers) × (workers ≤ 64) }
+    requires jobs { jobs.now ≡ jobs_of files.now }
+    requires fresh { W.has_failed out.old ≡ false }
+    ensures written { OnOk result (W.has_failed out.new ≡ false → Appends (W.written out.old) (W.written out.new) (output_of files.now)) }
+    ensures faults { IfOk result (λ faults. faults ≡ count_by is_faulty_offer (job_list jobs.now)) }
+    ensures fault { IfErr result (λ e. (e ≡ RunFault.OutOfMemory) ⊎ (e ≡ RunFault.NoWorker)) }
+    ensures untouched { OnErr result ((W.written out.new ≡ W.written out.old) × (W.has_failed out.new ≡ false)) }
+{
+    let report = Report::new(alloc, files, jobs)?;
+    let (desk, passes) = Desk::open(alloc, jobs.total(), workers)?;
+    let (queue, puts, pass) = ResultsQueue::open(alloc, QUEUE_CAPACITY, workers)?;
+    let shifts = put_together(alloc, jobs, passes, puts, table)?;
+    let passes = Vec::with_capacity(alloc, workers as usize)?;
+    let puts = Vec::with_capacity(alloc, workers as usize)?;
+    let shop = Shop {
+        desk: &desk,
+        queue: &queue,
+        jobs,
+        gate,
+    };
+    let (shifts, pass, report) = run_and_report(
+        rt,
+        &shop,
+        shifts,
+        pass,
+        report,
+        jobs.total(),
+        out,
+    )?;
+    let (passes, puts) = take_apart(shifts, passes, puts);
+    desk.close(passes);
+    queue.close(rt, puts, pass);
+    Ok(report.faults)
+}
+
+/// Solves every line of the files with so many `workers`, 1 to 64, each with a table of so many entries, 1 to 1,048,576,
+/// and writes an answer line for each, files in order and lines in order, as soon as it is ready and all before it are
+/// written; then it flushes the output. Where it is Ok, just these lines were written, and the tally counts them.
+///
+/// It is an error, the first that holds: `TooManyFiles`, more than 256; `TooManyLines`, more than 1,000,000 over all files;
+/// `OutOfMemory`, where memory was refused before the first worker began; `NoWorker`, where there is a line and no thread
+/// could be started; for these nothing was written. `Write`, where a write or the flush failed: from then on nothing more
+/// is written, and the rest is still solved. The gate is told of each job.
+pub fn solve_batch<R: Threads + Wait + Sync, G: Gate, W: Sink>(
+    rt: &R,
+    alloc: Global,
+    files: &[FileText],
+    workers: u32,
+    table: u32,
+    gate: &G,
+    out: &mut W,
+) -> Result<Tally, RunFault>
+    requires workers { (0 < workers) × (workers ≤ 64) }
+    requires table { (0 < table) × (table ≤ 1048576) }
+    requires fresh { W.has_failed out.old ≡ false }
+
+    // Ok: the output of the files was written, and nothing else.
+    ensures written { OnOk result (Appends (W.written out.old) (W.written out.new) (output_of files.now)) }
+    ensures tally { IfOk result (λ tally. tally ≡ tally_of files.now) }
+
+    ensures too_many_files { (result ≡ Err RunFault.TooManyFiles) ↔ (most_files < length files.now) }
+    ensures too_many_lines { (result ≡ Err RunFault.TooManyLines) ↔ ((length files.now ≤ most_files) × (most_lines < line_count files.now)) }
+    ensures no_worker { result ≡ Err RunFault.NoWorker → 0 < line_count files.now }
+    ensures write { (result ≡ Err RunFault.Write) ↔ (W.has_failed out.new ≡ true) }
+
+    // Any other fault leaves the output as it was.
+    ensures untouched { IfErr result (λ e. e ≢ RunFault.Write → W.written out.new ≡ W.written out.old) }
+{
+    let jobs = Jobs::of_files(alloc, files)?;
+    let lines = jobs.total();
+    let faults = if lines > 0 {
+        answer_jobs(rt, alloc, files, &jobs, workers, table, gate, out)?
+    } else {
+        0
+    };
+    finish(out)?;
+    Ok(Tally { lines, faults })
+}

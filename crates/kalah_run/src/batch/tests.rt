@@ -1,0 +1,142 @@
+ghost use Rattle.std.specs.Prelude.{◌≡◌, ◌<◌, ◌≤◌, Some};
+
+mod gates;
+mod writers;
+
+use crate::{Gate, OpenGate, RunFault, Tally, solve_batch};
+use kalah_jobs::{FileText, Sink, Stream};
+use std::alloc::{AllocError, Global};
+use std::sync::Wait;
+use std::test::Fail;
+use std::thread::Threads;
+
+const ONE_AND_TWO: &str = "1/0 1/0\n2/0 2/0";
+
+const THREE_AND_FAULTS: &str = "3/0 3/0\r\n\r\n01/0 1/0\r\n";
+
+const ANSWERS: &str = "\
+b.txt:1 0 house 1
+b.txt:2 -2 house 1
+c.txt:1 6 house 1
+c.txt:2 fault empty
+c.txt:3 fault shape
+b.txt:1 0 house 1
+b.txt:2 -2 house 1
+";
+
+fn file_of(alloc: Global, name: &str, bytes: &[u8]) -> Result<FileText, AllocError> {
+    Ok(FileText {
+        name: String::from_str(alloc, name)?,
+        bytes: bytes.to_vec(alloc)?,
+    })
+}
+
+// Four files, one of them empty and one named twice, with seven lines and two faults.
+fn four_files(alloc: Global) -> Result<Vec<FileText>, AllocError> {
+    let mut files = Vec::new(alloc);
+    files.push(file_of(alloc, "a.txt", b"")?)?;
+    files.push(file_of(alloc, "b.txt", ONE_AND_TWO.as_bytes())?)?;
+    files.push(file_of(alloc, "c.txt", THREE_AND_FAULTS.as_bytes())?)?;
+    files.push(file_of(alloc, "b.txt", ONE_AND_TWO.as_bytes())?)?;
+    Ok(files)
+}
+
+// One file of so many lines `1/0 1/0`.
+fn same_lines(alloc: Global, count: u32) -> Result<Vec<FileText>, AllocError> {
+    let mut bytes = Vec::new(alloc);
+    for _ in 0..count {
+        bytes.extend_from_slice(b"1/0 1/0\n")?;
+    }
+    let mut files = Vec::new(alloc);
+    files.push(FileText {
+        name: String::from_str(alloc, "n")?,
+        bytes,
+    })?;
+    Ok(files)
+}
+
+// The batch writes these bytes and has this tally.
+fn answers<R: Threads + Wait + Sync, G: Gate>(
+    rt: &R,
+    alloc: Global,
+    files: &[FileText],
+    workers: u32,
+    table: u32,
+    gate: &G,
+    text: &str,
+    faults: u32,
+) -> bool
+    requires workers { (0 < workers) × (workers ≤ 64) }
+    requires table { (0 < table) × (table ≤ 1048576) }
+{
+    let mut out = Stream::new(Vec::<u8>::new(alloc));
+    let tally = solve_batch(rt, alloc, files, workers, table, gate, &mut out);
+    let lines = text.lines().count() as u32;
+    tally == Ok(Tally { lines, faults }) && out.into_inner().as_slice() == text.as_bytes()
+}
+
+#[test]
+fn lines_are_answered_in_order_by_any_number_of_workers(rt: HostRuntime) -> Result<(), Fail> {
+    let alloc = rt.alloc();
+    let files = four_files(alloc)?;
+    let files = files.as_slice();
+    assert!(rt; answers(&rt, alloc, files, 1, 65536, &OpenGate, ANSWERS, 2));
+    assert!(rt; answers(&rt, alloc, files, 2, 65536, &OpenGate, ANSWERS, 2));
+    assert!(rt; answers(&rt, alloc, files, 64, 65536, &OpenGate, ANSWERS, 2));
+    assert!(rt; answers(&rt, alloc, files, 1, 1, &OpenGate, ANSWERS, 2));
+    assert!(rt; answers(&rt, alloc, files, 2, 1, &OpenGate, ANSWERS, 2));
+    assert!(rt; answers(&rt, alloc, files, 64, 1, &OpenGate, ANSWERS, 2));
+    Ok(())
+}
+
+#[test]
+fn no_line_at_all_is_answered_by_nothing(rt: HostRuntime) -> Result<(), Fail> {
+    let alloc = rt.alloc();
+    let mut files = Vec::new(alloc);
+    assert!(rt; answers(&rt, alloc, files.as_slice(), 3, 1, &OpenGate, "", 0));
+    files.push(file_of(alloc, "a.txt", b"")?)?;
+    assert!(rt; answers(&rt, alloc, files.as_slice(), 3, 1, &OpenGate, "", 0));
+    Ok(())
+}
+
+#[test]
+fn more_lines_than_the_queue_holds(rt: HostRuntime) -> Result<(), Fail> {
+    let alloc = rt.alloc();
+    let files = same_lines(alloc, 200)?;
+    let mut text = String::new(alloc);
+    for line in 1..201u32 {
+        text.push_str(format!(in alloc; "n:{line} 0 house 1\n")?.as_str())?;
+    }
+    assert!(rt; answers(&rt, alloc, files.as_slice(), 64, 1, &OpenGate, text.as_str(), 0));
+    Ok(())
+}
+
+// What the batch of these files answers.
+fn fault_of<R: Threads + Wait + Sync>(
+    rt: &R,
+    alloc: Global,
+    files: &[FileText],
+) -> Option<RunFault> {
+    let mut out = Stream::new(Vec::<u8>::new(alloc));
+    let tally = solve_batch(rt, alloc, files, 2, 16, &OpenGate, &mut out);
+    if !out.into_inner().is_empty() {
+        return None;
+    }
+    tally.err()
+}
+
+#[test]
+fn too_many_files_and_lines_are_refused(rt: HostRuntime) -> Result<(), Fail> {
+    let alloc = rt.alloc();
+    let mut files = Vec::new(alloc);
+    for _ in 0..256 {
+        files.push(file_of(alloc, "a", b"")?)?;
+    }
+    let line_feeds = vec![in alloc; b'\n'; 1_000_001]?;
+    files.push(file_of(alloc, "b", line_feeds.as_slice())?)?;
+    assert_eq!(rt; fault_of(&rt, alloc, files.as_slice()), Some(RunFault::TooManyFiles));
+    let mut one = Vec::new(alloc);
+    one.push(file_of(alloc, "b", line_feeds.as_slice())?)?;
+    assert_eq!(rt; fault_of(&rt, alloc, one.as_slice()), Some(RunFault::TooManyLines));
+    Ok(())
+}

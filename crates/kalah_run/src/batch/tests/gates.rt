@@ -1,0 +1,217 @@
+//! Batches in which workers wait for one another: jobs are solved side by side, drawn by whoever is free, and written
+//! while later ones are under way.
+use super::{answers, same_lines};
+use crate::{Gate, Tally, solve_batch};
+use kalah_jobs::Stream;
+use std::io;
+use std::io::Write;
+use std::sync::atomic::{AtomicBool, Ordering};
+use std::test::Fail;
+use std::thread;
+
+// How often a gate looks for what it waits for.
+const TURNS: u32 = 10_000_000;
+
+const TWO: &str = "n:1 0 house 1\nn:2 0 house 1\n";
+
+const FOUR: &str = "n:1 0 house 1\nn:2 0 house 1\nn:3 0 house 1\nn:4 0 house 1\n";
+
+// Looks many times whether the flag is set; false where it gave up.
+fn is_set(flag: &AtomicBool) -> bool {
+    for _ in 0..TURNS {
+        if flag.load(Ordering::SeqCst) {
+            return true;
+        }
+        thread::yield_now();
+    }
+    false
+}
+
+/// A flag for each of four jobs, and whether someone gave up waiting for one.
+#[derive(Drop)]
+struct Flags {
+    jobs: [AtomicBool; 4],
+    gave_up: AtomicBool,
+}
+
+impl Flags {
+    fn none() -> Flags {
+        Flags {
+            jobs: [
+                AtomicBool::new(false),
+                AtomicBool::new(false),
+                AtomicBool::new(false),
+                AtomicBool::new(false),
+            ],
+            gave_up: AtomicBool::new(false),
+        }
+    }
+
+    fn set(&self, job: u32) {
+        if let Some(flag) = self.jobs.get(job as usize) {
+            flag.store(true, Ordering::SeqCst);
+        }
+    }
+
+    fn wait_for(&self, job: u32) {
+        if let Some(flag) = self.jobs.get(job as usize) {
+            if !is_set(flag) {
+                self.gave_up.store(true, Ordering::SeqCst);
+            }
+        }
+    }
+
+    fn came(&self) -> bool {
+        !self.gave_up.load(Ordering::SeqCst)
+    }
+}
+
+/// The first job begins only once the second is done.
+#[derive(Drop)]
+struct SecondFirst {
+    done: Flags,
+}
+
+impl Gate for SecondFirst {
+    fn before(&self, job: u32) {
+        if job == 0 {
+            self.done.wait_for(1);
+        }
+    }
+
+    fn after(&self, job: u32) {
+        self.done.set(job);
+    }
+}
+
+/// Each of two jobs begins only once the other is drawn.
+#[derive(Drop)]
+struct BothDrawn {
+    drawn: Flags,
+}
+
+impl Gate for BothDrawn {
+    fn before(&self, job: u32) {
+        self.drawn.set(job);
+        self.drawn.wait_for(0);
+        self.drawn.wait_for(1);
+    }
+
+    fn after(&self, _job: u32) {}
+}
+
+/// One of four jobs begins only once the three others are done.
+#[derive(Drop)]
+struct OneLast {
+    last: u32,
+    done: Flags,
+}
+
+impl Gate for OneLast {
+    fn before(&self, job: u32) {
+        if job == self.last {
+            for other in 0..4u32 {
+                if other != job {
+                    self.done.wait_for(other);
+                }
+            }
+        }
+    }
+
+    fn after(&self, job: u32) {
+        self.done.set(job);
+    }
+}
+
+/// The second job begins only once the first line is written.
+#[derive(Drop)]
+struct WrittenFirst<'a> {
+    written: &'a Flags,
+}
+
+impl Gate for WrittenFirst<'_> {
+    fn before(&self, job: u32) {
+        if job == 1 {
+            self.written.wait_for(0);
+        }
+    }
+
+    fn after(&self, _job: u32) {}
+}
+
+/// Tells when it has taken a whole line.
+#[derive(Drop)]
+struct Telling<'a> {
+    bytes: Vec<u8>,
+    written: &'a Flags,
+}
+
+impl Write for Telling<'_> {
+    fn write(&mut self, buf: &[u8]) -> io::Result<usize> {
+        let taken = self.bytes.write(buf)?;
+        if self.bytes.contains(&b'\n') {
+            self.written.set(0);
+        }
+        Ok(taken)
+    }
+
+    fn flush(&mut self) -> io::Result<()> {
+        Ok(())
+    }
+}
+
+#[test]
+fn a_later_job_is_done_while_an_earlier_one_waits(rt: HostRuntime) -> Result<(), Fail> {
+    let alloc = rt.alloc();
+    let files = same_lines(alloc, 2)?;
+    let gate = SecondFirst {
+        done: Flags::none(),
+    };
+    assert!(rt; answers(&rt, alloc, files.as_slice(), 2, 16, &gate, TWO, 0));
+    assert!(rt; gate.done.came());
+    Ok(())
+}
+
+#[test]
+fn two_jobs_are_under_way_at_once(rt: HostRuntime) -> Result<(), Fail> {
+    let alloc = rt.alloc();
+    let files = same_lines(alloc, 2)?;
+    let gate = BothDrawn {
+        drawn: Flags::none(),
+    };
+    assert!(rt; answers(&rt, alloc, files.as_slice(), 2, 16, &gate, TWO, 0));
+    assert!(rt; gate.drawn.came());
+    Ok(())
+}
+
+#[test]
+fn a_free_worker_takes_whatever_is_left(rt: HostRuntime) -> Result<(), Fail> {
+    let alloc = rt.alloc();
+    let files = same_lines(alloc, 4)?;
+    for last in 0..4u32 {
+        let gate = OneLast {
+            last,
+            done: Flags::none(),
+        };
+        assert!(rt; answers(&rt, alloc, files.as_slice(), 2, 16, &gate, FOUR, 0));
+        assert!(rt; gate.done.came());
+    }
+    Ok(())
+}
+
+#[test]
+fn a_line_is_written_before_the_next_job_begins(rt: HostRuntime) -> Result<(), Fail> {
+    let alloc = rt.alloc();
+    let files = same_lines(alloc, 2)?;
+    let written = Flags::none();
+    let gate = WrittenFirst { written: &written };
+    let mut out = Stream::new(Telling {
+        bytes: Vec::new(alloc),
+        written: &written,
+    });
+    let tally = solve_batch(&rt, alloc, files.as_slice(), 1, 16, &gate, &mut out);
+    assert_eq!(rt; tally, Ok(Tally { lines: 2, faults: 0 }));
+    assert_eq!(rt; out.into_inner().bytes.as_slice(), TWO.as_bytes());
+    assert!(rt; written.came());
+    Ok(())
+}

@@ -1,0 +1,160 @@
+//! Batches whose writer fails.
+use super::{ANSWERS, four_files, same_lines};
+use crate::{Gate, OpenGate, RunFault, Tally, solve_batch};
+use kalah_jobs::{FileText, Sink, Stream};
+use std::alloc::Global;
+use std::io;
+use std::io::{ErrorKind, Write};
+use std::sync::Wait;
+use std::sync::atomic::{AtomicU32, Ordering};
+use std::test::Fail;
+use std::thread::Threads;
+
+// In so many calls of the writer the answer line of a position goes out.
+const CALLS_OF_A_LINE: u32 = 8;
+
+/// Takes the bytes of so many calls, answers an error at each later one, and counts the calls after the first error.
+#[derive(Drop)]
+struct Failing {
+    bytes: Vec<u8>,
+    calls_left: u32,
+    is_broken: bool,
+    later_calls: u32,
+}
+
+impl Failing {
+    fn after(alloc: Global, calls_left: u32) -> Failing {
+        Failing {
+            bytes: Vec::new(alloc),
+            calls_left,
+            is_broken: false,
+            later_calls: 0,
+        }
+    }
+
+    fn call(&mut self) -> io::Result<()> {
+        if self.is_broken {
+            self.later_calls = self.later_calls.saturating_add(1);
+            return Err(io::Error::from(ErrorKind::BrokenPipe));
+        }
+        if self.calls_left == 0 {
+            self.is_broken = true;
+            return Err(io::Error::from(ErrorKind::BrokenPipe));
+        }
+        self.calls_left -= 1;
+        Ok(())
+    }
+}
+
+impl Write for Failing {
+    fn write(&mut self, buf: &[u8]) -> io::Result<usize> {
+        self.call()?;
+        self.bytes.write(buf)
+    }
+
+    fn flush(&mut self) -> io::Result<()> {
+        self.call()
+    }
+}
+
+/// Counts the jobs that are done.
+#[derive(Drop)]
+struct Counting {
+    done: AtomicU32,
+}
+
+impl Gate for Counting {
+    fn before(&self, _job: u32) {}
+
+    fn after(&self, _job: u32) {
+        self.done.fetch_add(1, Ordering::SeqCst);
+    }
+}
+
+/// What came of a batch with a writer that fails.
+#[derive(Drop)]
+struct Run {
+    tally: Result<Tally, RunFault>,
+    writer: Failing,
+    done: u32,
+}
+
+fn run_with<R: Threads + Wait + Sync>(
+    rt: &R,
+    alloc: Global,
+    files: &[FileText],
+    calls: u32,
+) -> Run {
+    let gate = Counting {
+        done: AtomicU32::new(0),
+    };
+    let mut out = Stream::new(Failing::after(alloc, calls));
+    let tally = solve_batch(rt, alloc, files, 2, 16, &gate, &mut out);
+    let done = gate.done.load(Ordering::SeqCst);
+    Run {
+        tally,
+        writer: out.into_inner(),
+        done,
+    }
+}
+
+#[test]
+fn every_failing_call_ends_the_writing_and_nothing_else(rt: HostRuntime) -> Result<(), Fail> {
+    let alloc = rt.alloc();
+    let files = four_files(alloc)?;
+    let mut failures = 0u32;
+    for calls in 0..100u32 {
+        let run = run_with(&rt, alloc, files.as_slice(), calls);
+        assert_eq!(rt; run.done, 7);
+        assert_eq!(rt; run.writer.later_calls, 0);
+        if run.tally == Ok(Tally { lines: 7, faults: 2 }) {
+            break;
+        }
+        assert_eq!(rt; run.tally, Err(RunFault::Write));
+        failures = failures.saturating_add(1);
+    }
+    assert!(rt; failures > 7 && failures < 100);
+    Ok(())
+}
+
+#[test]
+fn all_jobs_are_done_though_the_writer_takes_one_line(rt: HostRuntime) -> Result<(), Fail> {
+    let alloc = rt.alloc();
+    let files = same_lines(alloc, 200)?;
+    let run = run_with(&rt, alloc, files.as_slice(), CALLS_OF_A_LINE);
+    assert_eq!(rt; run.tally, Err(RunFault::Write));
+    assert_eq!(rt; run.done, 200);
+    assert_eq!(rt; run.writer.later_calls, 0);
+    assert_eq!(rt; run.writer.bytes.as_slice(), b"n:1 0 house 1\n".as_slice());
+    Ok(())
+}
+
+/// Takes all bytes, and answers an error at the flush.
+#[derive(Drop)]
+struct Unflushed {
+    bytes: Vec<u8>,
+}
+
+impl Write for Unflushed {
+    fn write(&mut self, buf: &[u8]) -> io::Result<usize> {
+        self.bytes.write(buf)
+    }
+
+    fn flush(&mut self) -> io::Result<()> {
+        Err(io::Error::from(ErrorKind::BrokenPipe))
+    }
+}
+
+#[test]
+fn a_flush_that_fails_is_a_failed_write(rt: HostRuntime) -> Result<(), Fail> {
+    let alloc = rt.alloc();
+    let files = four_files(alloc)?;
+    let mut out = Stream::new(Unflushed {
+        bytes: Vec::new(alloc),
+    });
+    let tally = solve_batch(&rt, alloc, files.as_slice(), 2, 16, &OpenGate, &mut out);
+    assert_eq!(rt; tally, Err(RunFault::Write));
+    assert!(rt; out.failed());
+    assert_eq!(rt; out.into_inner().bytes.as_slice(), ANSWERS.as_bytes());
+    Ok(())
+}

@@ -1,0 +1,189 @@
+//! The desk: its passes draw the numbers below a total from one word, each number once.
+ghost use Rattle.std.specs.Prelude.{◌≡◌, ℕ, ◌<◌, ◌≤◌, ◌↔◌, [], ◌∷◌, ◌++◌, length, true, false, nat_lt, if◌then◌else◌, All, IfOk, IfSome, IfNone, IsTrue};
+ghost use Rattle.kalah_run.specs.DeskRows.{row, numbers_of, drawn_in, times_in, spent_in, AreLawful, StandsOnce, StandsNowhere};
+ghost use Rattle.kalah_run.specs.DeskKept.{opening_view};
+ghost use Rattle.kalah_run.specs.DeskStates.{IsPassOf, AreNewPasses, rows_of};
+ghost use Rattle.kalah_run.specs.declared.desk_rule.DeskView.TheVariants.{Closing};
+
+use crate::desk_rule::{DeskPlan, DeskRule, DeskView, DrawNumber, HandOut, StartClosing, TakeIn};
+use crate::pass::Pass;
+use atomic_table::{Seat, Shared, Table};
+use std::alloc::{AllocError, Global};
+use std::marker::Model;
+
+#[cfg(test)]
+mod tests;
+
+/// Deals the numbers below a total, each once, to the passes that draw them. It is seen as its
+/// identity, its total and how many passes it has.
+#[derive(Drop)]
+pub struct Desk {
+    table: Table<(), DeskView, DeskPlan, DeskRule, Global>,
+    total: u32,
+}
+
+impl Model for Desk {
+    ghost use Rattle.std.specs.Prelude.{◌≡◌, ◌≤◌};
+    ghost use Rattle.kalah_run.specs.DeskStates.{DeskState};
+
+    ghost Value = { DeskState };
+
+    ghost view = { λ d. record { id = d.table.shared.table_id; total = d.total; passes = d.table.shared.key.passes } };
+
+    ghost invariant = { λ d. (d.table.shared.table_id.words ≡ 1) × (d.table.shared.table_id.slots ≡ 0) × (d.table.shared.key.total ≡ d.total) × (d.total ≤ 1000000) };
+}
+
+/// What was drawn at a desk that is closed.
+#[derive(Clone, Copy, Debug, PartialEq, Eq)]
+pub struct ClosedDesk {
+    drawn: u32,
+    spent: bool,
+}
+
+impl Model for ClosedDesk {
+    ghost use Rattle.kalah_run.specs.DeskStates.{ClosedDeskState};
+
+    ghost Value = { ClosedDeskState };
+
+    ghost view = { λ c. record { drawn = c.drawn; spent = c.spent } };
+
+    ghost inverse = { λ c. record { drawn = c.drawn; spent = c.spent } };
+}
+
+// The passes of a new desk, each with its number.
+fn hand_out(
+    alloc: Global,
+    shared: &Shared<(), DeskView, DeskPlan, DeskRule>,
+    mut opener: Seat<(), DeskView>,
+    passes: u32,
+) -> Result<Vec<Pass>, AllocError>
+    requires table { (opener.table_id ≡ shared.now.table_id) × (0 < shared.now.table_id.words) }
+    requires opener { opener.me ≡ (opening_view shared.now.key, []) }
+    requires passes { shared.now.key.passes ≡ passes }
+    ensures { IfOk result (λ v. AreNewPasses (record { id = shared.now.table_id; total = shared.now.key.total; passes = passes }) passes v.items) }
+{
+    let mut handed_out = Vec::with_capacity(alloc, passes as usize)?;
+    for _ in 0..passes {
+        let seat = shared.split_seat::<HandOut>(&mut opener);
+        handed_out.push_reserved(Pass {
+            seat,
+            is_spent: false,
+        });
+    }
+    Ok(handed_out)
+}
+
+// Takes the passes back in, from the last to the first. The seat ends with the rows of all.
+fn take_in(
+    shared: &Shared<(), DeskView, DeskPlan, DeskRule>,
+    mut closer: Seat<(), DeskView>,
+    mut passes: Vec<Pass>,
+) -> Seat<(), DeskView>
+    requires table { (closer.table_id ≡ shared.now.table_id) × (0 < shared.now.table_id.words) }
+    requires passes { All (λ p. p.desk ≡ shared.now.table_id) passes.items }
+    requires closer { closer.me.0 ≡ Closing [] }
+    ensures { (result.table_id ≡ closer.table_id) × (result.me.0 ≡ Closing (rows_of passes.items)) }
+{
+    while let Some(pass) = passes.pop() {
+        let Pass { seat, is_spent: _ } = pass;
+        shared.join_seat::<TakeIn>(&mut closer, seat);
+    }
+    closer
+}
+
+impl Desk {
+    /// A desk for the numbers below `total`, at most 1,000,000, and its `passes`, 1 to 64 of them:
+    /// each has an empty row, and none is spent. An error only where memory was refused.
+    pub fn open(alloc: Global, total: u32, passes: u32) -> Result<(Desk, Vec<Pass>), AllocError>
+        requires total { total ≤ 1000000 }
+        requires passes { (0 < passes) × (passes ≤ 64) }
+        ensures desk { IfOk result (λ r. (r.0.total ≡ total) × (r.0.passes ≡ passes)) }
+        ensures passes { IfOk result (λ r. AreNewPasses r.0 passes r.1.items) }
+    {
+        let plan = DeskPlan { total, passes };
+        let (table, opener) = Table::of_words(alloc, &[0], &plan)?;
+        let handed_out = hand_out(alloc, &table.shared, opener, passes)?;
+        Ok((Desk { table, total }, handed_out))
+    }
+
+    /// A number below the total, which goes to the end of the pass's row and stands in no other
+    /// row; or None where none is left, and then the pass is spent and its row stays. A spent pass
+    /// steps on the word no more, and is answered None for good. A draw is one step on the word:
+    /// it takes no memory, and waits for nothing.
+    pub fn draw(&self, pass: &mut Pass) -> Option<u32>
+        requires { IsPassOf self.now pass.old }
+
+        // It stays a pass of this desk, under its number.
+        ensures own { IsPassOf self.now pass.new }
+        ensures number { pass.new.number ≡ pass.old.number }
+
+        // Some: the number ends the row, and is above all earlier ones there.
+        ensures unspent { IfSome result (λ n. pass.old.row.spent ≡ false) }
+        ensures drawn { IfSome result (λ n. pass.new.row ≡ row (pass.old.row.numbers ++ n ∷ []) false) }
+        ensures below { IfSome result (λ n. n < self.now.total) }
+        ensures above { IfSome result (λ n. All (λ x. x < n) pass.old.row.numbers) }
+
+        // None: the row stays, and the pass is spent.
+        ensures spent { IfNone result (pass.new.row ≡ row pass.old.row.numbers true) }
+        ensures limit { self.now.total ≤ 1000000 }
+    {
+        let total = self.total;
+        if pass.is_spent {
+            return None;
+        }
+        let found = self
+            .table
+            .shared
+            .fetch_add::<DrawNumber>(&mut pass.seat, 0, 1);
+        if found < total as u64 {
+            return Some(found as u32);
+        }
+        pass.is_spent = true;
+        None
+    }
+
+    /// Ends the desk, which takes all its passes back in. Their rows are lawful: each number below
+    /// the count of those drawn stands in one row and there once, no other stands in any, and each
+    /// row rises. Where some pass is spent, all numbers below the total were drawn.
+    pub fn close(self, passes: Vec<Pass>) -> ClosedDesk
+        requires all { length passes.items ≡ self.passes }
+        requires own { All (IsPassOf self) passes.items }
+
+        // The rows, pass by pass, in the order handed in.
+        ensures lawful { AreLawful self.total (rows_of passes.items) }
+        ensures each_once { (x : ℕ) → times_in x (numbers_of (rows_of passes.items)) ≡ (if nat_lt x result.drawn then 1 else 0) }
+        ensures once { (x : ℕ) → x < result.drawn → StandsOnce x (rows_of passes.items) }
+        ensures others { (x : ℕ) → result.drawn ≤ x → StandsNowhere x (rows_of passes.items) }
+
+        ensures drawn { result.drawn ≡ drawn_in (rows_of passes.items) }
+        ensures spent { IsTrue result.spent ↔ (0 < spent_in (rows_of passes.items)) }
+        ensures whole { IsTrue result.spent → result.drawn ≡ self.total }
+    {
+        let Desk { table, total } = self;
+        let (_, closer) = table.shared.load_new_seat::<StartClosing>(0);
+        let closer = take_in(&table.shared, closer, passes);
+        let closed = table.close_with(closer);
+        let word = closed.word(0);
+        closed.free();
+        ClosedDesk {
+            drawn: word.min(total as u64) as u32,
+            spent: word > total as u64,
+        }
+    }
+}
+
+impl ClosedDesk {
+    /// How many numbers were drawn.
+    pub fn drawn(&self) -> u32
+        ensures { result ≡ self.now.drawn }
+    {
+        self.drawn
+    }
+
+    /// Whether some pass was answered None, so that all numbers below the total were drawn.
+    pub fn spent(&self) -> bool
+        ensures { result ≡ self.now.spent }
+    {
+        self.spent
+    }
+}

@@ -1,0 +1,87 @@
+ghost use Rattle.std.specs.Prelude.{◌≡◌, length, All, IfOk};
+ghost use Rattle.kalah_run.specs.DeskStates.{IsPassOf};
+
+use super::*;
+use std::test::Fail;
+use std::thread;
+
+// Draws with the pass until it is answered None. The answer has the numbers drawn, in order.
+fn draw_all(desk: &Desk, alloc: Global, mut pass: Pass) -> Result<(Pass, Vec<u32>), AllocError>
+    requires { IsPassOf desk.now pass }
+    ensures { IfOk result (λ r. IsPassOf desk.now r.0) }
+{
+    let mut numbers = Vec::new(alloc);
+    while let Some(number) = desk.draw(&mut pass) {
+        numbers.push(number)?;
+    }
+    Ok((pass, numbers))
+}
+
+// The passes that come back from the threads, and all numbers that they drew.
+fn gather(
+    desk: &Desk,
+    alloc: Global,
+    mut answers: Vec<Result<(Pass, Vec<u32>), AllocError>>,
+) -> Result<(Vec<Pass>, Vec<u32>), AllocError>
+    requires { All (λ a. IfOk a (λ r. IsPassOf desk.now r.0)) answers.items }
+    ensures all { IfOk result (λ r. length r.0.items ≡ length answers.items) }
+    ensures own { IfOk result (λ r. All (IsPassOf desk.now) r.0.items) }
+{
+    let mut passes = Vec::new(alloc);
+    let mut all = Vec::new(alloc);
+    while let Some(answer) = answers.pop() {
+        let (pass, numbers) = answer?;
+        passes.push(pass)?;
+        all.extend_from_slice(numbers.as_slice())?;
+    }
+    Ok((passes, all))
+}
+
+#[test]
+fn two_passes_draw_three_numbers(rt: HostRuntime) -> Result<(), Fail> {
+    let (desk, mut passes) = Desk::open(rt.alloc(), 3, 2)?;
+    assert_eq!(rt; passes.len(), 2);
+    assert_eq!(rt; desk.draw(&mut passes[0]), Some(0));
+    assert_eq!(rt; desk.draw(&mut passes[1]), Some(1));
+    assert_eq!(rt; desk.draw(&mut passes[0]), Some(2));
+    assert_eq!(rt; desk.draw(&mut passes[1]), None);
+    assert_eq!(rt; desk.draw(&mut passes[1]), None);
+    let closed = desk.close(passes);
+    assert_eq!(rt; (closed.drawn(), closed.spent()), (3, true));
+    Ok(())
+}
+
+#[test]
+fn a_desk_with_no_number_answers_none(rt: HostRuntime) -> Result<(), Fail> {
+    let (desk, mut passes) = Desk::open(rt.alloc(), 0, 1)?;
+    assert_eq!(rt; passes.len(), 1);
+    assert_eq!(rt; desk.draw(&mut passes[0]), None);
+    let closed = desk.close(passes);
+    assert_eq!(rt; (closed.drawn(), closed.spent()), (0, true));
+    Ok(())
+}
+
+#[test]
+fn a_desk_may_be_closed_before_all_is_drawn(rt: HostRuntime) -> Result<(), Fail> {
+    let (desk, mut passes) = Desk::open(rt.alloc(), 5, 1)?;
+    assert_eq!(rt; passes.len(), 1);
+    assert_eq!(rt; desk.draw(&mut passes[0]), Some(0));
+    let closed = desk.close(passes);
+    assert_eq!(rt; (closed.drawn(), closed.spent()), (1, false));
+    Ok(())
+}
+
+#[test]
+fn threads_draw_each_number_once(rt: HostRuntime) -> Result<(), Fail> {
+    let (desk, passes) = Desk::open(rt.alloc(), 1000, 64)?;
+    let answers = thread::map_vec(&rt, passes, &|pass| draw_all(&desk, rt.alloc(), pass))?;
+    let (passes, mut all) = gather(&desk, rt.alloc(), answers)?;
+    let closed = desk.close(passes);
+    assert_eq!(rt; (closed.drawn(), closed.spent()), (1000, true));
+    all.sort()?;
+    assert_eq!(rt; all.len(), 1000);
+    for (want, number) in all.iter().enumerate() {
+        assert_eq!(rt; *number as usize, want);
+    }
+    Ok(())
+}

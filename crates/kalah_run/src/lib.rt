@@ -1,0 +1,26 @@
+//! Solves the lines of position files on many threads, and writes their answers in order.
+#![tactic(auto)]
+
+mod batch;
+mod desk;
+mod desk_rule;
+mod gate;
+mod pass;
+mod queue_passes;
+mod queue_rule;
+mod report;
+mod results_queue;
+mod run_fault;
+mod shift;
+mod shifts;
+mod staff;
+mod tally;
+mod workers;
+
+pub use batch::solve_batch;
+pub use desk::{ClosedDesk, Desk};
+pub use gate::{Gate, OpenGate};
+pub use pass::Pass;
+pub use queue_passes::{ClosedQueue, GetPass, PutPass, ResultsQueue};
+pub use run_fault::RunFault;
+pub use tally::Tally;

@@ -1,0 +1,137 @@
+//! The answers of a batch, written in the order of its lines.
+ghost use Rattle.std.specs.Prelude.{◌≡◌, ◌+◌, ◌^◌, ◌<◌, ◌++◌, ◌∷◌, [], ℕ, List, Option, Bool, length, map, false, IfOk, if◌then◌else◌};
+ghost use Rattle.std.specs.Io.KnownBytes.{Appends};
+ghost use Rattle.kalah_jobs.specs.Offer.{Offer};
+ghost use Rattle.kalah_jobs.specs.NamedBytes.{NamedBytes};
+ghost use Rattle.kalah_jobs.specs.Lines.{line_feed};
+ghost use Rattle.kalah_jobs.specs.Answer.{answer_line, is_fault};
+ghost use Rattle.kalah_jobs.specs.Jobs.{jobs_of};
+ghost use Rattle.kalah_jobs.specs.CollectorState.{state_of, line_count, HasEnded, HasNoNext, HasLinesOf};
+ghost use Rattle.kalah_jobs.specs.UnderWay.{IsUnderWay};
+ghost use Rattle.kalah_run.specs.Texts.{text_of};
+
+use kalah_jobs::{Answer, Collector, FileText, Jobs, Outcome, Sink, Taken, write_answer};
+use std::alloc::{AllocError, Global};
+
+/// What came of a batch so far, and how far it is written. `current` is the file whose lines are written next: the
+/// files before it are written wholly.
+#[derive(Drop)]
+pub(crate) struct Report<'a> {
+    pub(crate) files: &'a [FileText],
+    pub(crate) jobs: &'a Jobs,
+    pub(crate) collector: Collector,
+    pub(crate) current: u32,
+    pub(crate) faults: u32,
+    ghost jobs_are: { jobs.now ≡ jobs_of files.now },
+    ghost counts: { HasLinesOf jobs.now collector },
+}
+
+// Writes the answer line, unless a write has failed before.
+fn write_line<W: Sink>(name: &str, taken: &Taken, out: &mut W)
+    ensures { W.has_failed out.new ≡ false → (W.has_failed out.old ≡ false) × Appends (W.written out.old) (W.written out.new) (answer_line name.now taken.now ++ line_feed ∷ []) }
+{
+    if !out.failed() {
+        let _ = write_answer(out, name, taken);
+    }
+}
+
+// Takes each line of file `f` that is ready, and writes it unless a write has failed before.
+fn write_lines<W: Sink>(
+    files: &[FileText],
+    jobs: &Jobs,
+    collector: &mut Collector,
+    f: u32,
+    out: &mut W,
+)
+    requires { f < length files.now }
+    ensures way { (past : List Offer) → (begun : Option (List ℕ)) → IsUnderWay (text_of files.now) jobs.now past collector.old f begun (W.written out.old) (W.has_failed out.old) → IsUnderWay (text_of files.now) jobs.now past collector.new f begun (W.written out.new) (W.has_failed out.new) }
+    ensures all { HasNoNext (state_of collector.new f) }
+    ensures counts { map line_count collector.new ≡ map line_count collector.old }
+{
+    let file = &files[f as usize];
+    while let Some(taken) = collector.take(f) {
+        write_line(file.name.as_str(), &taken, out);
+    }
+}
+
+// Writes each line that is ready and before which all is written, and says which file is to be waited for.
+fn write_ready<W: Sink>(
+    files: &[FileText],
+    jobs: &Jobs,
+    collector: &mut Collector,
+    current: u32,
+    out: &mut W,
+) -> u32
+    requires { jobs.now ≡ jobs_of files.now }
+    ensures way { (past : List Offer) → (begun : Option (List ℕ)) → IsUnderWay (text_of files.now) jobs.now past collector.old current begun (W.written out.old) (W.has_failed out.old) → IsUnderWay (text_of files.now) jobs.now past collector.new result begun (W.written out.new) (W.has_failed out.new) }
+    ensures waits { length jobs.now ≡ length collector.new → result < length collector.new → HasEnded (state_of collector.new result) → ⊥ }
+    ensures counts { map line_count collector.new ≡ map line_count collector.old }
+{
+    let mut f = current;
+    while f < jobs.files() {
+        write_lines(files, jobs, collector, f, out);
+        if !collector.ended(f) {
+            return f;
+        }
+        f += 1;
+    }
+    f
+}
+
+// One for a fault, and else none.
+fn faults_in(answer: Answer) -> u32
+    ensures { result ≡ (if is_fault answer then 1 else 0) }
+{
+    match answer {
+        Answer::Fault(_) => 1,
+        _ => 0,
+    }
+}
+
+impl<'a> Report<'a> {
+    ghost use Rattle.kalah_run.specs.Reporting.{IsReporting, Waits};
+
+    /// The report of these files, of which nothing has come. It takes all its memory here.
+    pub(crate) fn new(
+        alloc: Global,
+        files: &'a [FileText],
+        jobs: &'a Jobs,
+    ) -> Result<Report<'a>, AllocError>
+        requires { jobs.now ≡ jobs_of files.now }
+        ensures { IfOk result (λ r. (begun : Option (List ℕ)) → (failed : Bool) → IsReporting files.now [] begun begun failed r) }
+    {
+        let collector = Collector::new(alloc, jobs)?;
+        Ok(Report {
+            files,
+            jobs,
+            collector,
+            current: 0,
+            faults: 0,
+        })
+    }
+
+    /// Writes each line that is ready and before which all is written.
+    pub(crate) fn write<W: Sink>(&mut self, out: &mut W)
+        ensures way { (files : List NamedBytes) → (past : List Offer) → (begun : Option (List ℕ)) → IsReporting files past begun (W.written out.old) (W.has_failed out.old) self.old → IsReporting files past begun (W.written out.new) (W.has_failed out.new) self.new × Waits self.new }
+        ensures faults { self.new.faults ≡ self.old.faults }
+    {
+        self.current = write_ready(
+            self.files,
+            self.jobs,
+            &mut self.collector,
+            self.current,
+            out,
+        );
+    }
+
+    /// Takes an outcome in, and writes each line that is ready by it and before which all is written.
+    pub(crate) fn take_in<W: Sink>(&mut self, outcome: Outcome, out: &mut W)
+        requires { self.old.faults + 1 < 2 ^ 32 }
+        ensures way { (files : List NamedBytes) → (past : List Offer) → (begun : Option (List ℕ)) → IsReporting files past begun (W.written out.old) (W.has_failed out.old) self.old → IsReporting files (past ++ outcome ∷ []) begun (W.written out.new) (W.has_failed out.new) self.new × Waits self.new }
+        ensures faults { self.new.faults < self.old.faults + 2 }
+    {
+        self.faults += faults_in(outcome.answer());
+        let _ = self.collector.offer(self.jobs, outcome);
+        self.write(out);
+    }
+}

@@ -1,0 +1,32 @@
+//! One worker's part of a batch.
+ghost use Rattle.std.specs.Prelude.{◌≡◌};
+ghost use Rattle.kalah_jobs.specs.Jobs.{job_count};
+ghost use Rattle.kalah_run.specs.Work.{offers_of};
+
+use crate::desk::Desk;
+use crate::gate::Gate;
+use crate::pass::Pass;
+use crate::queue_passes::{PutPass, ResultsQueue};
+use kalah_jobs::Jobs;
+use kalah_solve::Solver;
+
+/// One worker's part of a batch: what it draws by, what it sends by, its solver, and the jobs. With no job in hand it has
+/// sent the outcomes of the jobs of its row, in order.
+#[derive(Drop)]
+pub(crate) struct Shift<'a> {
+    pub(crate) jobs: &'a Jobs,
+    pub(crate) pass: Pass,
+    pub(crate) put: PutPass,
+    pub(crate) solver: Solver,
+    ghost sent_so_far: { put.sent ≡ offers_of jobs.now pass.row.numbers },
+}
+
+/// What all workers share.
+#[derive(Drop)]
+pub(crate) struct Shop<'a, G: Gate> {
+    pub(crate) desk: &'a Desk,
+    pub(crate) queue: &'a ResultsQueue,
+    pub(crate) jobs: &'a Jobs,
+    pub(crate) gate: &'a G,
+    ghost each_job: { desk.now.total ≡ job_count jobs.now },
+}

@@ -1,0 +1,133 @@
+//! One thread runs the shifts, while the calling thread takes in what they send.
+ghost use Rattle.std.specs.Prelude.{◌≡◌, ◌≤◌, [], ℕ, List, Option, length, IfOk, OnErr, IfErr, map};
+ghost use Rattle.std.specs.Thread.{IsSync};
+ghost use Rattle.std.specs.Io.KnownBytes.{Keeps};
+ghost use Rattle.kalah_jobs.specs.Jobs.{job_count};
+ghost use Rattle.kalah_jobs.specs.NamedBytes.{NamedBytes};
+ghost use Rattle.kalah_run.specs.Shifts.{AreAtWork, HaveRun};
+ghost use Rattle.kalah_run.specs.Reporting.{IsReporting, Waits, outcomes_in};
+
+use crate::desk::Desk;
+use crate::gate::Gate;
+use crate::queue_passes::{GetPass, ResultsQueue};
+use crate::report::Report;
+use crate::run_fault::RunFault;
+use crate::shift::{Shift, Shop};
+use crate::shifts::run_shifts;
+use kalah_jobs::{Jobs, Sink};
+use std::snapshot::Snapshot;
+use std::sync::Wait;
+use std::thread;
+use std::thread::{Promise, Threads};
+
+// What the thread gives back is the list of shifts that it was given, and each has run.
+#[derive(Drop)]
+struct AllHaveRun<'a, 'b, 'c, 'd> {
+    shifts: Snapshot<Vec<Shift<'a>>>,
+    desk: &'b Desk,
+    queue: &'c ResultsQueue,
+    jobs: &'d Jobs,
+}
+
+impl<'a, 'b, 'c, 'd> Promise<Vec<Shift<'a>>> for AllHaveRun<'a, 'b, 'c, 'd> {
+    ghost use Rattle.kalah_run.specs.Shifts.{HaveRun};
+
+    ghost kept_by = { λ p r. HaveRun p.desk.now p.queue.now.id p.jobs.now p.shifts.value.items r.items };
+}
+
+// Takes in the outcome of each job, and writes each line once it is ready and all before it are written.
+fn collect<R: Wait, W: Sink>(
+    rt: &R,
+    queue: &ResultsQueue,
+    pass: &mut GetPass,
+    report: &mut Report<'_>,
+    total: u32,
+    out: &mut W,
+)
+    requires pass { pass.old.queue ≡ queue.now.id }
+    requires first { pass.old.got ≡ [] }
+    requires few { total ≤ 1000000 }
+    requires none { report.old.faults ≡ 0 }
+    ensures same { (pass.new.queue ≡ pass.old.queue) × (pass.new.workers ≡ pass.old.workers) }
+    ensures all { length pass.new.got ≡ total }
+    ensures way { (files : List NamedBytes) → (begun : Option (List ℕ)) → IsReporting files [] begun (W.written out.old) (W.has_failed out.old) report.old → IsReporting files (outcomes_in pass.new.got) begun (W.written out.new) (W.has_failed out.new) report.new × Waits report.new }
+{
+    report.write(out);
+    for _ in 0..total {
+        let outcome = queue.get(rt, pass);
+        report.take_in(outcome, out);
+    }
+}
+
+/// Runs the shifts on further threads, and takes in and reports the outcome of each of the `total` jobs meanwhile.
+/// `NoWorker` where no thread could be started; then nothing is written.
+pub(crate) fn run_and_report<'a, R: Threads + Wait + Sync, G: Gate, W: Sink>(
+    rt: &R,
+    shop: &Shop<'_, G>,
+    shifts: Vec<Shift<'a>>,
+    pass: GetPass,
+    report: Report<'a>,
+    total: u32,
+    out: &mut W,
+) -> Result<(Vec<Shift<'a>>, GetPass, Report<'a>), RunFault>
+    requires shifts { AreAtWork shop.now.desk.now shop.now.queue.now.id shop.now.jobs.now shifts.items }
+    requires pass { pass.queue ≡ shop.now.queue.now.id }
+    requires first { pass.got ≡ [] }
+    requires few { total ≤ 1000000 }
+    requires none { report.faults ≡ 0 }
+    ensures shifts { IfOk result (λ r. HaveRun shop.now.desk.now shop.now.queue.now.id shop.now.jobs.now shifts.entry.items r.0.items) }
+    ensures pass { IfOk result (λ r. (r.1.queue ≡ pass.queue) × (r.1.workers ≡ pass.workers) × (length r.1.got ≡ total)) }
+    ensures way { IfOk result (λ r. (files : List NamedBytes) → (begun : Option (List ℕ)) → IsReporting files [] begun (W.written out.old) (W.has_failed out.old) report.entry → IsReporting files (outcomes_in r.1.got) begun (W.written out.new) (W.has_failed out.new) r.2 × Waits r.2) }
+    ensures fault { IfErr result (λ e. e ≡ RunFault.NoWorker) }
+    ensures untouched { OnErr result ((W.written out.new ≡ W.written out.old) × (W.has_failed out.new ≡ W.has_failed out.old)) }
+{
+    let (outcome, _out) = thread::scope(
+        thread::scope_env(),
+        rt,
+        move |scope| -> (
+            Result<(Vec<Shift<'_>>, GetPass, Report<'_>), RunFault>,
+            &mut W,
+        )
+            requires { IsSync R.row × IsSync G.row × AreAtWork shop.now.desk.now shop.now.queue.now.id shop.now.jobs.now shifts.items × (pass.queue ≡ shop.now.queue.now.id) × (pass.got ≡ []) × (total ≤ 1000000) × (report.faults ≡ 0) }
+            ensures name { result.1.ghost_name ≡ out.entry.ghost_name }
+            ensures shifts { IfOk result.0 (λ r. HaveRun shop.entry.now.desk.now shop.entry.now.queue.now.id shop.entry.now.jobs.now shifts.entry.items r.0.items) }
+            ensures pass { IfOk result.0 (λ r. (r.1.queue ≡ pass.queue) × (r.1.workers ≡ pass.workers) × (length r.1.got ≡ total)) }
+            ensures way { IfOk result.0 (λ r. (files : List NamedBytes) → (begun : Option (List ℕ)) → IsReporting files [] begun (W.written out.entry.now) (W.has_failed out.entry.now) report.entry → IsReporting files (outcomes_in r.1.got) begun (W.written result.1.now) (W.has_failed result.1.now) r.2 × Waits r.2) }
+            ensures fault { IfErr result.0 (λ e. e ≡ RunFault.NoWorker) }
+            ensures untouched { OnErr result.0 ((W.written result.1.now ≡ W.written out.entry.now) × (W.has_failed result.1.now ≡ W.has_failed out.entry.now)) }
+        {
+            let (desk, queue, jobs, gate) = (shop.desk, shop.queue, shop.jobs, shop.gate);
+            let promise = AllHaveRun {
+                shifts: Snapshot::of(&shifts),
+                desk,
+                queue,
+                jobs,
+            };
+            let started = scope.spawn_with(
+                promise,
+                move || -> Vec<Shift<'_>>
+                    requires { IsSync R.row × IsSync G.row × (desk.now.total ≡ job_count jobs.now) × AreAtWork desk.now queue.now.id jobs.now shifts.items }
+                    ensures { HaveRun desk.entry.now queue.entry.now.id jobs.entry.now shifts.entry.items result.items }
+                {
+                    let shop = Shop {
+                        desk,
+                        queue,
+                        jobs,
+                        gate,
+                    };
+                    run_shifts(rt, &shop, shifts)
+                },
+            );
+            match started {
+                Err(_) => (Err(RunFault::NoWorker), out),
+                Ok(child) => {
+                    let mut pass = pass;
+                    let mut report = report;
+                    collect(rt, queue, &mut pass, &mut report, total, out);
+                    (Ok((child.join(rt), pass, report)), out)
+                }
+            }
+        },
+    );
+    outcome
+}
