@@ -191,12 +191,14 @@ key_of-small b h =
 pub packed_as : (b : Rows) (k s : ℕ) → IsWithinHouses b → k ≡ key_of b → s ≡ sum b.own + sum b.other → IsPacked k s × (rows_at k ≡ b)
 packed_as b k s h e seeds_are =
     let rows : rows_at k ≡ b = ap rows_at e ∙ rows_at_key b h in
-    let small = key_of-small b h in
-    (record {
-      fits = omega arith;
-      is_key = key_holds b k h (sym e);
-      seeds_are = seeds_are ∙ ap (λ (a : Rows). sum a.own + sum a.other) (sym rows);
-    }, rows)
+    let small = key_of-small b h in (
+      record {
+        fits = omega arith;
+        is_key = key_holds b k h (sym e);
+        seeds_are = seeds_are ∙ ap (λ (a : Rows). sum a.own + sum a.other) (sym rows);
+      },
+      rows,
+    )
 
 -- what the fields of packed houses are
 pub key_known : (a : Rows) (k s : ℕ) → IsPacked k s → rows_at k ≡ a → key_of a ≡ k

@@ -27,6 +27,7 @@ impl Model for PackedHouses {
 
     ghost use Rattle.kalah_solve.specs.Key.{rows_at};
     ghost use Rattle.kalah_solve.specs.Packed.{IsPacked};
+
     ghost view = { λ p. rows_at p.key };
 
     ghost invariant = { λ p. IsPacked p.key p.seeds };

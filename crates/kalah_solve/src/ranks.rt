@@ -17,11 +17,14 @@ fn rank(houses: &PackedHouses, h: u32) -> u8
     ensures { 0 < result }
 {
     let m = houses.m();
-    let seeds = houses.own(h);
-    if (h + seeds) % (2 * m + 1) == m + 1 {
-        return AGAIN + h as u8;
+    let lap = 2 * m + 1;
+    let place = h + houses.own(h);
+    let moves_again = place == m + 1 || (place > lap && place % lap == m + 1);
+    if moves_again {
+        AGAIN + h as u8
+    } else {
+        1 + 8 * promise(houses, h, place) + h as u8
     }
-    1 + 8 * promise(houses, h, h + seeds) + h as u8
 }
 
 // What a move of house `h` seems to bring, when its last seed falls at this place: a seed where it reaches the store;

@@ -5,6 +5,7 @@ use crate::search::Search;
 use crate::table::Interval;
 use kalah_rules::{Houses, Rule};
 use linked_list_allocator::LocalHeap;
+use std::process::Abort;
 use std::test::Fail;
 
 // The margin of best play and its house.
@@ -38,36 +39,51 @@ fn same_houses_with_other_stores_share_an_entry(rt: HostRuntime) -> Result<(), F
     Ok(())
 }
 
-// The worked positions in order, on one solver.
-fn tells_worked_positions(rt: &impl std::process::Abort, solver: &mut Solver) -> Result<(), Fail> {
-    assert_eq!(rt; solver.solve(&one(1, 1)?), best(0, 1));
-    assert_eq!(rt; solver.solve(&one(2, 2)?), best(-2, 1));
-    assert_eq!(rt; solver.solve(&one(3, 3)?), best(6, 1));
-    assert_eq!(rt; solver.solve(&one(4, 4)?), best(-2, 1));
-    assert_eq!(rt; solver.solve(&one(5, 5)?), best(2, 1));
-    assert_eq!(rt; solver.solve(&one(6, 6)?), best(0, 1));
-    assert_eq!(rt; solver.solve(&two(Rule::Classic, [1, 1, 0], [1, 1, 0])?), best(2, 2));
-    assert_eq!(rt; solver.solve(&two(Rule::Classic, [5, 0, 0], [1, 0, 0])?), best(2, 1));
-    assert_eq!(rt; solver.solve(&two(Rule::Classic, [1, 1, 0], [0, 1, 0])?), best(1, 1));
-    assert_eq!(rt; solver.solve(&two(Rule::Classic, [1, 0, 0], [0, 2, 0])?), best(1, 1));
-    let over = two(Rule::Classic, [0, 0, 3], [1, 2, 4])?;
-    assert_eq!(rt; solver.solve(&over), Verdict::Over { margin: -4 });
-    assert_eq!(rt; solver.solve(&one(8, 7)?), best(-9, 1));
-    assert_eq!(rt; solver.solve(&one(8, 8)?), best(0, 1));
-    assert_eq!(rt; solver.solve(&one(16, 15)?), best(7, 1));
+// The worked positions with one house a side, in order.
+fn tells_one_house(rt: &impl Abort, solver: &mut Solver) -> Result<(), Fail> {
+    for (own, other, margin) in [
+        (1, 1, 0),
+        (2, 2, -2),
+        (3, 3, 6),
+        (4, 4, -2),
+        (5, 5, 2),
+        (6, 6, 0),
+        (8, 7, -9),
+        (8, 8, 0),
+        (16, 15, 7),
+    ] {
+        assert_eq!(rt; solver.solve(&one(own, other)?), best(margin, 1));
+    }
+    Ok(())
+}
+
+// Those with two houses a side, in order.
+fn tells_two_houses(rt: &impl Abort, solver: &mut Solver) -> Result<(), Fail> {
+    for (own, other, verdict) in [
+        ([1, 1, 0], [1, 1, 0], best(2, 2)),
+        ([5, 0, 0], [1, 0, 0], best(2, 1)),
+        ([1, 1, 0], [0, 1, 0], best(1, 1)),
+        ([1, 0, 0], [0, 2, 0], best(1, 1)),
+        ([0, 0, 3], [1, 2, 4], Verdict::Over { margin: -4 }),
+        ([1, 1, 9], [1, 1, 4], best(7, 2)),
+    ] {
+        assert_eq!(rt; solver.solve(&two(Rule::Classic, own, other)?), verdict);
+    }
     Ok(())
 }
 
 #[test]
 fn tells_worked_positions_with_one_entry(rt: HostRuntime) -> Result<(), Fail> {
     let mut solver = Solver::new(Table::new(rt.alloc(), 1)?);
-    tells_worked_positions(&rt, &mut solver)
+    tells_one_house(&rt, &mut solver)?;
+    tells_two_houses(&rt, &mut solver)
 }
 
 #[test]
 fn tells_worked_positions_with_a_large_table(rt: HostRuntime) -> Result<(), Fail> {
     let mut solver = Solver::new(Table::new(rt.alloc(), 65_536)?);
-    tells_worked_positions(&rt, &mut solver)
+    tells_one_house(&rt, &mut solver)?;
+    tells_two_houses(&rt, &mut solver)
 }
 
 #[test]
@@ -77,7 +93,10 @@ fn rules_have_entries_of_their_own(rt: HostRuntime) -> Result<(), Fail> {
     let empty_capture = two(Rule::EmptyCapture, [1, 0, 0], [0, 2, 0])?;
     assert_eq!(rt; solver.solve(&classic), best(1, 1));
     assert_eq!(rt; solver.solve(&empty_capture), best(-1, 1));
-    assert_eq!(rt; solver.solve(&two(Rule::EmptyCapture, [1, 1, 0], [0, 1, 0])?), best(1, 1));
+    assert_eq!(rt;
+        solver.solve(&two(Rule::EmptyCapture, [1, 1, 0], [0, 1, 0])?),
+        best(1, 1)
+    );
     Ok(())
 }
 
@@ -97,7 +116,7 @@ fn windows_leave_intervals(rt: HostRuntime) -> Result<(), Fail> {
 }
 
 // Each position with two houses a side and at most four seeds has the verdict of the plain recursion.
-fn agrees_with_plain(rt: &impl std::process::Abort, solver: &mut Solver, rule: Rule) -> Result<(), Fail> {
+fn agrees_with_plain(rt: &impl Abort, solver: &mut Solver, rule: Rule) -> Result<(), Fail> {
     for a in 0..5u8 {
         for b in 0..5 - a {
             for c in 0..5 - a - b {
@@ -135,19 +154,24 @@ fn agrees_with_plain_with_every_answer_kept(rt: HostRuntime) -> Result<(), Fail>
     agrees_with_plain(&rt, &mut solver, Rule::EmptyCapture)
 }
 
-// A heap of each small size: the table's index fits into some, and only a few entries do beside it.
+// The verdict on a heap of so many bytes, if the table's index fits into it.
+fn on_a_small_heap(rt: &impl Abort, alloc: Global, size: usize) -> Result<(), Fail> {
+    let heap = LocalHeap::new(alloc, size)?;
+    if let Ok(table) = Table::new(&heap, 16) {
+        let mut solver = Solver {
+            search: Search::with_all_entries(table),
+        };
+        assert_eq!(rt; solver.solve(&one(8, 7)?), best(-9, 1));
+        assert_eq!(rt; solver.solve(&one(16, 15)?), best(7, 1));
+    }
+    Ok(())
+}
+
+// Of these sizes the least has no room for the index, and others have some for a few entries beside it.
 #[test]
 fn refused_entries_change_no_verdict(rt: HostRuntime) -> Result<(), Fail> {
     for size in 1..48usize {
-        let heap = LocalHeap::new(rt.alloc(), 64 * size)?;
-        if let Ok(table) = Table::new(&heap, 16) {
-            let mut solver = Solver {
-                search: Search::with_all_entries(table),
-            };
-            assert_eq!(rt; solver.solve(&one(8, 7)?), best(-9, 1));
-            assert_eq!(rt; solver.solve(&one(16, 15)?), best(7, 1));
-            assert_eq!(rt; solver.solve(&two(Rule::Classic, [1, 1, 9], [1, 1, 4])?), best(7, 2));
-        }
+        on_a_small_heap(&rt, rt.alloc(), 64 * size)?;
     }
     Ok(())
 }
@@ -156,17 +180,26 @@ fn refused_entries_change_no_verdict(rt: HostRuntime) -> Result<(), Fail> {
 fn packs_as_the_layout_says(rt: HostRuntime) -> Result<(), Fail> {
     let ones = [1, 1, 0, 0, 0, 0];
     let eights = [8, 0, 0, 0, 0, 0];
-    let classic = Houses::new(2, ones, ones, Rule::Classic).ok_or("beyond the limits")?;
-    let empty_capture = Houses::new(2, ones, ones, Rule::EmptyCapture).ok_or("beyond the limits")?;
-    let one_house = Houses::new(1, eights, eights, Rule::Classic).ok_or("beyond the limits")?;
-    assert_eq!(rt; pack(&classic), 0x2000_0008_4000_0021);
-    assert_eq!(rt; pack(&empty_capture), 0xa000_0008_4000_0021);
-    assert_eq!(rt; pack(&one_house), 0x1000_0002_0000_0008);
-    assert!(rt; unpack(0x2000_0008_4000_0021) == Some(classic));
-    assert!(rt; unpack(0xa000_0008_4000_0021) == Some(empty_capture));
-    assert!(rt; unpack(0).is_none());
-    assert!(rt; unpack(0x7000_0000_0000_0000).is_none());
-    assert!(rt; unpack(0x1000_0002_0000_0028).is_none());
-    assert!(rt; unpack(0x1000_0004_0000_0010).is_none());
+    for (m, row, rule, key) in [
+        (2, ones, Rule::Classic, 0x2000_0008_4000_0021),
+        (2, ones, Rule::EmptyCapture, 0xa000_0008_4000_0021),
+        (1, eights, Rule::Classic, 0x1000_0002_0000_0008),
+    ] {
+        let houses = Houses::new(m, row, row, rule).ok_or("beyond the limits")?;
+        assert_eq!(rt; pack(&houses), key);
+        assert!(rt; unpack(key) == Some(houses));
+    }
     Ok(())
+}
+
+#[test]
+fn what_is_no_key_has_no_houses(rt: HostRuntime) {
+    for key in [
+        0,
+        0x7000_0000_0000_0000,
+        0x1000_0002_0000_0028,
+        0x1000_0004_0000_0010,
+    ] {
+        assert!(rt; unpack(key).is_none());
+    }
 }

@@ -31,8 +31,16 @@ pub attempt-follow-requires : goal.attempt-follow-requires
 attempt-follow-requires g t c =
     let test = lt_from (pos 2) (to_z w32 (of_z w32 (to_z w32 (of_z w32 c.args.hi) -ℤ to_z w32 (of_z w32 c.args.lo)))) c.if-hi-lo-gt2.true in
     let wide : (c.args.lo +ℤ pos 2) ≤ℤ c.args.hi = omega (arith, ints, test) in
-    λ κs sub. (omega (arith, step_falls c.args.houses.now c.args.h c.play-step.result c.seeds-seeds.ensures.limits c.requires.legal c.play-step.ensures), (sub, (goes_on c.args.houses.now c.args.h c.play-step.result c.seeds-seeds.ensures.limits c.requires.legal c.play-step.ensures,
-    (omega (arith, ints, clamps, c.requires.low, c.follow-found.ensures), (omega (arith, ints, clamps, c.follow-found.ensures, wide), omega (arith, ints, c.requires.high))))))
+    λ κs sub. (
+      omega (arith, step_falls c.args.houses.now c.args.h c.play-step.result c.seeds-seeds.ensures.limits c.requires.legal c.play-step.ensures),
+      (
+        sub,
+        (
+          goes_on c.args.houses.now c.args.h c.play-step.result c.seeds-seeds.ensures.limits c.requires.legal c.play-step.ensures,
+          (omega (arith, ints, clamps, c.requires.low, c.follow-found.ensures), (omega (arith, ints, clamps, c.follow-found.ensures, wide), omega (arith, ints, c.requires.high))),
+        ),
+      ),
+    )
 
 pub attempt-returns-then-hi-lo-gt2 : goal.attempt-returns-then-hi-lo-gt2
 attempt-returns-then-hi-lo-gt2 g t c =
