@@ -21,4 +21,3 @@ pub mod SharedOnce
 pub mod SameOffer
 pub mod JobOrders
 pub mod BatchWay
-pub mod RefusalLaw

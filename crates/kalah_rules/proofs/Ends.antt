@@ -212,7 +212,7 @@ distance_range_le (x ∷ xs) a n w near =
 
 pub row_distance_le : (row : List ℕ) → row_distance row ≤ length row * sum row
 unfolding row_distance
-row_distance_le row = distance_range_le row 1 (length row) (λ i. length row + 1 - i) (λ i low. omega arith)
+row_distance_le houses = distance_range_le houses 1 (length houses) (λ i. length houses + 1 - i) (λ i low. omega arith)
 
 add_rows : (m a b u v : ℕ) → u ≤ m * a → v ≤ m * b → u + v ≤ m * (a + b)
 add_rows m a b u v one two = omega arith

@@ -35,6 +35,46 @@ impl<'a, 'b, 'c, 'd> Promise<Vec<Shift<'a>>> for AllHaveRun<'a, 'b, 'c, 'd> {
     ghost kept_by = { λ p r. HaveRun p.desk.now p.queue.now.id p.jobs.now p.shifts.value.items r.items };
 }
 
+// The promise that these shifts come back and have run.
+fn promise_of<'a, 'b, 'c, 'd>(
+    shifts: &Vec<Shift<'a>>,
+    desk: &'b Desk,
+    queue: &'c ResultsQueue,
+    jobs: &'d Jobs,
+) -> AllHaveRun<'a, 'b, 'c, 'd>
+    ensures shifts { result.shifts.value ≡ shifts.entry.now }
+    ensures desk { result.desk.now ≡ desk.now }
+    ensures queue { result.queue.now ≡ queue.now }
+    ensures jobs { result.jobs.now ≡ jobs.now }
+{
+    AllHaveRun {
+        shifts: Snapshot::of(shifts),
+        desk,
+        queue,
+        jobs,
+    }
+}
+
+// What the workers share.
+fn shop_of<'a, G: Gate>(
+    desk: &'a Desk,
+    queue: &'a ResultsQueue,
+    jobs: &'a Jobs,
+    gate: &'a G,
+) -> Shop<'a, G>
+    requires { desk.now.total ≡ job_count jobs.now }
+    ensures desk { result.desk.now ≡ desk.now }
+    ensures queue { result.queue.now ≡ queue.now }
+    ensures jobs { result.jobs.now ≡ jobs.now }
+{
+    Shop {
+        desk,
+        queue,
+        jobs,
+        gate,
+    }
+}
+
 // Takes in the outcome of each job, and writes each line once it is ready and all before it are written.
 fn collect<R: Wait, W: Sink>(
     rt: &R,
@@ -71,10 +111,8 @@ pub(crate) fn run_and_report<'a, R: Threads + Wait + Sync, G: Gate, W: Sink>(
     out: &mut W,
 ) -> Result<(Vec<Shift<'a>>, GetPass, Report<'a>), RunFault>
     requires shifts { AreAtWork shop.now.desk.now shop.now.queue.now.id shop.now.jobs.now shifts.items }
-    requires pass { pass.queue ≡ shop.now.queue.now.id }
-    requires first { pass.got ≡ [] }
-    requires few { total ≤ 1000000 }
-    requires none { report.faults ≡ 0 }
+    requires pass { (pass.queue ≡ shop.now.queue.now.id) × (pass.got ≡ []) }
+    requires counts { (total ≤ 1000000) × (report.faults ≡ 0) }
     ensures shifts { IfOk result (λ r. HaveRun shop.now.desk.now shop.now.queue.now.id shop.now.jobs.now shifts.entry.items r.0.items) }
     ensures pass { IfOk result (λ r. (r.1.queue ≡ pass.queue) × (r.1.workers ≡ pass.workers) × (length r.1.got ≡ total)) }
     ensures way { IfOk result (λ r. (files : List NamedBytes) → (begun : Option (List ℕ)) → IsReporting files [] begun (W.written out.old) (W.has_failed out.old) report.entry → IsReporting files (outcomes_in r.1.got) begun (W.written out.new) (W.has_failed out.new) r.2 × Waits r.2) }
@@ -97,26 +135,12 @@ pub(crate) fn run_and_report<'a, R: Threads + Wait + Sync, G: Gate, W: Sink>(
             ensures untouched { OnErr result.0 ((W.written result.1.now ≡ W.written out.entry.now) × (W.has_failed result.1.now ≡ W.has_failed out.entry.now)) }
         {
             let (desk, queue, jobs, gate) = (shop.desk, shop.queue, shop.jobs, shop.gate);
-            let promise = AllHaveRun {
-                shifts: Snapshot::of(&shifts),
-                desk,
-                queue,
-                jobs,
-            };
             let started = scope.spawn_with(
-                promise,
+                promise_of(&shifts, desk, queue, jobs),
                 move || -> Vec<Shift<'_>>
                     requires { IsSync R.row × IsSync G.row × (desk.now.total ≡ job_count jobs.now) × AreAtWork desk.now queue.now.id jobs.now shifts.items }
                     ensures { HaveRun desk.entry.now queue.entry.now.id jobs.entry.now shifts.entry.items result.items }
-                {
-                    let shop = Shop {
-                        desk,
-                        queue,
-                        jobs,
-                        gate,
-                    };
-                    run_shifts(rt, &shop, shifts)
-                },
+                { run_shifts(rt, &shop_of(desk, queue, jobs, gate), shifts) },
             );
             match started {
                 Err(_) => (Err(RunFault::NoWorker), out),
