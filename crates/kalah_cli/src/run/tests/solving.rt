@@ -5,7 +5,10 @@ use crate::status::ExitStatus;
 use kalah_jobs::{Sink, Stream};
 use std::alloc::{AllocError, Global};
 use std::fs;
+use std::rt::Files;
+use std::sync::Wait;
 use std::test::Fail;
+use std::thread::Threads;
 
 const ONE_AND_TWO: &str = "1/0 1/0\n2/0 2/0";
 
@@ -24,14 +27,9 @@ fn solve_words<'a>(
     Ok(words)
 }
 
-#[test]
-fn answers_each_line_of_each_file(rt: HostRuntime) -> Result<(), Fail> {
-    let alloc = rt.alloc();
-    fs::write(&rt, "each_a.txt", "")?;
-    fs::write(&rt, "each_b.txt", ONE_AND_TWO)?;
-    fs::write(&rt, "each_c.txt", THREE_AND_FAULTS)?;
-    let files = ["each_a.txt", "each_b.txt", "each_c.txt", "each_b.txt"];
-    let want = "\
+const BATCH: [&str; 4] = ["each_a.txt", "each_b.txt", "each_c.txt", "each_b.txt"];
+
+const BATCH_ANSWERS: &str = "\
 each_b.txt:1 0 house 1
 each_b.txt:2 -2 house 1
 each_c.txt:1 6 house 1
@@ -40,18 +38,29 @@ each_c.txt:3 fault shape
 each_b.txt:1 0 house 1
 each_b.txt:2 -2 house 1
 ";
-    let options = [
-        [].as_slice(),
-        ["--workers", "1"].as_slice(),
-        ["--workers=2"].as_slice(),
-        ["--workers", "64"].as_slice(),
-        ["--table", "1"].as_slice(),
-    ];
-    for given in options {
-        let words = solve_words(alloc, given, files.as_slice())?;
-        let run = run_on(&rt, alloc, words.as_slice())?;
-        assert!(rt; answers(&run, ExitStatus::LineFaults, want, ""));
-    }
+
+// With these options each line of the batch is answered, in order.
+fn answers_batch<R: Files + Threads + Wait + Sync>(
+    rt: &R,
+    alloc: Global,
+    options: &[&str],
+) -> Result<bool, AllocError> {
+    let words = solve_words(alloc, options, BATCH.as_slice())?;
+    let run = run_on(rt, alloc, words.as_slice())?;
+    Ok(answers(&run, ExitStatus::LineFaults, BATCH_ANSWERS, ""))
+}
+
+#[test]
+fn answers_each_line_of_each_file(rt: HostRuntime) -> Result<(), Fail> {
+    let alloc = rt.alloc();
+    fs::write(&rt, "each_a.txt", "")?;
+    fs::write(&rt, "each_b.txt", ONE_AND_TWO)?;
+    fs::write(&rt, "each_c.txt", THREE_AND_FAULTS)?;
+    assert!(rt; answers_batch(&rt, alloc, &[])?);
+    assert!(rt; answers_batch(&rt, alloc, &["--workers", "1"])?);
+    assert!(rt; answers_batch(&rt, alloc, &["--workers=2"])?);
+    assert!(rt; answers_batch(&rt, alloc, &["--workers", "64"])?);
+    assert!(rt; answers_batch(&rt, alloc, &["--table", "1"])?);
     Ok(())
 }
 
@@ -71,7 +80,11 @@ fn files_without_a_fault_are_clean(rt: HostRuntime) -> Result<(), Fail> {
 #[test]
 fn both_rules_and_many_seeds(rt: HostRuntime) -> Result<(), Fail> {
     let alloc = rt.alloc();
-    fs::write(&rt, "rules.txt", "1,0/0 0,2/0\n8/0 8/0\n16/0 16/0\n15/99 0/0\n")?;
+    fs::write(
+        &rt,
+        "rules.txt",
+        "1,0/0 0,2/0\n8/0 8/0\n16/0 16/0\n15/99 0/0\n",
+    )?;
     let run = run_on(&rt, alloc, &["solve", "rules.txt"])?;
     let want = "\
 rules.txt:1 1 house 1
