@@ -1,5 +1,5 @@
 -- What stands written when a batch has ended.
-use Rattle.std.proofs.Common.{◌≡◌, ℕ, ◌≤◌, List, [], ◌∷◌, ◌++◌, length, refl, sym, ap, ◌∙◌, subst, arith, append-nil}
+use Rattle.std.proofs.Common.{◌≡◌, ℕ, List, [], ◌∷◌, ◌++◌, length, refl, sym, ap, ◌∙◌, subst, arith, append-nil}
 use Rattle.std.specs.Prelude.{Option, Some, None, Bool, false, count_by}
 use Rattle.std.specs.Io.KnownBytes.{Appends, Keeps}
 use Rattle.kalah_jobs.specs.declared.entry.Entry.{Entry}
@@ -11,8 +11,7 @@ use Rattle.kalah_jobs.specs.Jobs.{jobs_of, job_count, line_count, lines_in}
 use Rattle.kalah_jobs.proofs.JobCounts.{job_count-jobs_of}
 use Rattle.std.specs.List.{flat_map, enumerate_from}
 use Rattle.std.proofs.lemmas.List.Sums.{sum_by-cons}
-use Rattle.kalah_jobs.specs.Output.{output_of, tally_of, line_output, file_output, LineCounts, names_of, answer_text_of, text_of_jobs, is_faulty_offer}
-use Rattle.kalah_jobs.specs.UnderWay.{IsUnderWay}
+use Rattle.kalah_jobs.specs.Output.{output_of, tally_of, line_output, file_output, LineCounts, text_of_jobs, is_faulty_offer}
 use Rattle.kalah_jobs.specs.Batch.{AreJobsInSomeOrder}
 use Rattle.kalah_jobs.proofs.BatchWay.{way_end}
 use Rattle.kalah_jobs.proofs.JobOutput.{files_are_their_jobs}

@@ -1,15 +1,14 @@
 -- What a report writes, line by line.
-use Rattle.std.proofs.Common.{◌≡◌, ℕ, ◌+◌, ◌<◌, List, [], ◌∷◌, ◌++◌, length, map, get_or, refl, sym, ap, ◌∙◌, subst, arith}
-use Rattle.std.specs.Prelude.{Option, Bool, count_by, if◌then◌else◌}
+use Rattle.std.proofs.Common.{◌≡◌, ℕ, ◌+◌, ◌<◌, List, [], ◌∷◌, ◌++◌, length, get_or, sym, ap, ◌∙◌, arith}
+use Rattle.std.specs.Prelude.{count_by, if◌then◌else◌}
 use Rattle.std.proofs.lemmas.List.{get_or-map}
 use Rattle.std.proofs.lemmas.List.Sums.{sum_by-append}
 use Rattle.kalah_jobs.specs.declared.answer.Taken.{Taken}
-use Rattle.kalah_jobs.specs.declared.answer.Answer.{Answer}
-use Rattle.kalah_jobs.specs.Answer.{answer_line, answer_of, is_fault}
+use Rattle.kalah_jobs.specs.Answer.{answer_line}
 use Rattle.kalah_jobs.specs.Offer.{Offer}
 use Rattle.kalah_jobs.specs.Lines.{line_feed}
 use Rattle.kalah_jobs.specs.NamedBytes.{NamedBytes}
-use Rattle.kalah_jobs.specs.Output.{names_of, is_faulty_offer}
+use Rattle.kalah_jobs.specs.Output.{is_faulty_offer}
 use Rattle.kalah_run.specs.Texts.{text_of}
 
 -- the text of a line of file f begins with that file's name

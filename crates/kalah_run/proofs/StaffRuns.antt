@@ -1,13 +1,13 @@
 -- The shifts of a batch, from their passes to what was got of them.
-use Rattle.std.proofs.Common.{◌≡◌, ℕ, zero, suc, ◌+◌, ◌<◌, ◌≤◌, List, [], ◌∷◌, ◌++◌, length, map, get_or, true, refl, sym, ap, ◌∙◌, subst, arith}
-use Rattle.std.specs.Prelude.{All, nat_lt, if◌then◌else◌, count_by}
+use Rattle.std.proofs.Common.{◌≡◌, ℕ, zero, suc, ◌<◌, List, [], ◌∷◌, ◌++◌, length, map, get_or, refl, sym, ap, ◌∙◌, subst, arith}
+use Rattle.std.specs.Prelude.{All, nat_lt, if◌then◌else◌}
 use Rattle.std.proofs.lemmas.List.{length-map, get_or-map}
 use Rattle.std.proofs.lemmas.List.Elements.{All-map}
 use Rattle.atomic_table.specs.Seated.{TableId}
 use Rattle.kalah_jobs.specs.declared.entry.Entry.{Entry}
 use Rattle.kalah_jobs.specs.Offer.{Offer}
 use Rattle.kalah_jobs.specs.JobList.{job_list}
-use Rattle.kalah_jobs.specs.Shares.{of, AreShared}
+use Rattle.kalah_jobs.specs.Shares.{AreShared}
 use Rattle.kalah_jobs.specs.Batch.{job, AreJobsInSomeOrder}
 use Rattle.kalah_jobs.proofs.JobOrders.{shares_law}
 use Rattle.kalah_run.specs.DeskRows.{numbers_of, times_in, spent_in}
@@ -17,7 +17,7 @@ use Rattle.kalah_run.specs.QueueLists.{Accounts}
 use Rattle.kalah_run.specs.Work.{offers_of}
 use Rattle.kalah_run.specs.Reporting.{outcomes_in}
 use Rattle.kalah_run.specs.declared.shift.Shift.{Shift}
-use Rattle.kalah_run.specs.Shifts.{passes_of, puts_of, HaveJobs, IsAtWork, AreAtWork, HasRun, HaveRun}
+use Rattle.kalah_run.specs.Shifts.{passes_of, puts_of, HaveJobs, AreAtWork, HasRun, HaveRun}
 use Rattle.kalah_run.proofs.DeskSpent.{some_spent, length-numbers_of}
 
 -- each pass to put is of the queue

@@ -1,14 +1,13 @@
-use Rattle.std.proofs.Common.{◌≡◌, ℕ, ◌<◌, List, sym, ap, ◌∙◌, subst, arith, length, ◌++◌, refl, rules, vec_len}
+use Rattle.std.proofs.Common.{◌≡◌, ◌<◌, List, sym, ap, ◌∙◌, subst, arith, length, ◌++◌, rules, vec_len}
 use Rattle.std.specs.Prelude.{None, false, nat_lt, if◌then◌else◌}
 use Rattle.std.specs.List.{All}
 use Rattle.std.proofs.lemmas.List.{length-map}
-use Rattle.kalah_jobs.specs.Offer.{Offer}
 use Rattle.kalah_jobs.specs.JobList.{job_list}
 use Rattle.kalah_jobs.specs.Batch.{AreJobsInSomeOrder}
 use Rattle.kalah_run.specs.DeskRows.{times_in, numbers_of, spent_in}
 use Rattle.kalah_run.specs.QueueStates.{GetState, PutState, ArePassesFrom, sent_by}
 use Rattle.kalah_run.specs.QueueLists.{Accounts}
-use Rattle.kalah_run.specs.DeskStates.{DeskState, PassState, IsPassOf, rows_of}
+use Rattle.kalah_run.specs.DeskStates.{PassState, IsPassOf, rows_of}
 use Rattle.kalah_run.specs.declared.shift.Shift.{Shift}
 use Rattle.kalah_run.specs.Reporting.{outcomes_in}
 use Rattle.kalah_run.proofs.StaffRuns.{new_at_work, puts_after, run_passes, run_jobs, run_spent, each_job_got}
@@ -21,8 +20,8 @@ run_and_report-requires-clause-shifts g c = λ _ _.
     new_at_work c.in_ok-desk.desk c.in_ok-queue.queue.id c.args.jobs.now c.in_ok-shifts.shifts.items c.in_ok-desk.passes.items c.in_ok-queue.puts.items c.args.workers
     c.in_ok-desk.ensures.passes c.in_ok-queue.ensures.puts.1 c.in_ok-shifts.ensures.passes c.in_ok-shifts.ensures.puts c.in_ok-shifts.ensures.jobs
 
-pub run_and_report-requires-clause-none : goal.run_and_report-requires-clause-none
-run_and_report-requires-clause-none g c = λ _ _. (c.in_ok-report.ensures None false).faults
+pub run_and_report-requires-clause-counts : goal.run_and_report-requires-clause-counts
+run_and_report-requires-clause-counts g c = λ _ _. (c.total-2.ensures.low, (c.in_ok-report.ensures None false).faults)
 
 pub close-requires-clause-own : goal.close-requires-clause-own
 close-requires-clause-own g c =

@@ -1,7 +1,7 @@
-use Rattle.std.proofs.Common.{◌≡◌, ◌<◌, sym, ap, ◌∙◌, subst, arith, length, refl}
+use Rattle.std.proofs.Common.{◌≡◌, sym, ap, ◌∙◌, subst, arith, length}
 use Rattle.std.specs.Prelude.{false, count_by}
 use Rattle.std.specs.Io.KnownBytes.{Appends, Keeps}
-use Rattle.kalah_jobs.specs.Jobs.{jobs_of, job_count, line_count}
+use Rattle.kalah_jobs.specs.Jobs.{jobs_of, job_count}
 use Rattle.kalah_jobs.specs.JobList.{job_list}
 use Rattle.kalah_jobs.specs.Output.{output_of, is_faulty_offer}
 use Rattle.kalah_jobs.proofs.JobCounts.{job_count-jobs_of}

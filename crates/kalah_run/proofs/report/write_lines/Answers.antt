@@ -1,8 +1,5 @@
-use Rattle.std.proofs.Common.{◌≡◌, ◌++◌, ◌∷◌, [], ℕ, List, ◌∙◌, sym, subst, ap}
-use Rattle.std.specs.Prelude.{Option}
+use Rattle.std.proofs.Common.{ℕ, List, ◌∙◌, sym, subst, ap}
 use Rattle.std.specs.Io.KnownBytes.{Appends}
-use Rattle.kalah_jobs.specs.Lines.{line_feed}
-use Rattle.kalah_jobs.specs.Answer.{answer_line}
 use Rattle.kalah_jobs.specs.NamedBytes.{NamedBytes}
 use Rattle.kalah_jobs.proofs.BatchWay.{wrote_line, wrote_nothing}
 use Rattle.kalah_run.specs.Texts.{text_of}

@@ -1,4 +1,4 @@
-use Rattle.std.proofs.Common.{◌≡◌, ◌+◌, ◌≤◌, length, vec_len}
+use Rattle.std.proofs.Common.{◌≡◌}
 use Rattle.std.specs.Prelude.{vec_capacity}
 use Rattle.kalah_run.specs.Shifts.{passes_of, puts_of}
 use Rattle.kalah_run.proofs.staff.take_apart.Given as goal

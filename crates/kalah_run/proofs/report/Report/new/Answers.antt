@@ -1,4 +1,4 @@
-use Rattle.std.proofs.Common.{subst, sym, refl, List, [], ◌≡◌}
+use Rattle.std.proofs.Common.{subst, sym, refl, List, []}
 use Rattle.kalah_jobs.specs.CollectorState.{FileState}
 use Rattle.kalah_jobs.specs.UnderWay.{IsUnderWay}
 use Rattle.kalah_jobs.proofs.BatchWay.{way_start}

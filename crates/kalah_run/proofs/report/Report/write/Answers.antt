@@ -1,5 +1,4 @@
 use Rattle.std.proofs.Common.{subst, sym, List}
-use Rattle.std.specs.Prelude.{Option, Bool}
 use Rattle.kalah_jobs.specs.NamedBytes.{NamedBytes}
 use Rattle.kalah_jobs.specs.UnderWay.{IsUnderWay}
 use Rattle.kalah_jobs.proofs.CollectorSteps.{files_many}
