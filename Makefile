@@ -2,7 +2,7 @@
 
 PREFIX ?= /usr/local
 
-.PHONY: all test install clean
+.PHONY: all test install bench clean
 
 # Proves the program and all that it stands on, and builds ./kalah.
 all: kalah
@@ -20,6 +20,10 @@ test:
 install: kalah
 	install -d $(DESTDIR)$(PREFIX)/bin
 	install -m 755 kalah $(DESTDIR)$(PREFIX)/bin/kalah
+
+# How long the program takes on the position files of bench/.
+bench: kalah
+	bench/run.sh ./kalah
 
 clean:
 	rm -rf kalah crates/*/out

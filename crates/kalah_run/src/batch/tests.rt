@@ -1,6 +1,7 @@
 ghost use Rattle.std.specs.Prelude.{◌≡◌, ◌<◌, ◌≤◌, Some};
 
 mod gates;
+mod hostile;
 mod writers;
 
 use crate::{Gate, OpenGate, RunFault, Tally, solve_batch};
