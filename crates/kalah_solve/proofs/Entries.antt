@@ -1,5 +1,5 @@
 -- What a table keeps, over the list of its entries.
-use Rattle.std.proofs.Common.{◌≡◌, ℕ, true, eqb-true, List, Option, Some, None, Result, Ok, Err, Contains, nat_eq, IfSome, OnOk, OnErr, ◌⊎◌, inl, inr, arith, rules, sym, ap, subst, ◌∙◌, refl}
+use Rattle.std.proofs.Common.{◌≡◌, ℕ, true, eqb-true, List, Option, Some, None, Result, Ok, Err, nat_eq, IfSome, OnOk, OnErr, inl, inr, sym, subst, ◌∙◌}
 use Rattle.std.specs.Map.{lookup}
 use Rattle.lru.specs.LruCache.{LruCache, lru_cache, put_entries, promoted}
 use Rattle.lru.proofs.CallerLemmas.{Contains-lookup, Contains-promoted, Contains-put_entries}

@@ -1,17 +1,16 @@
 -- Where a move on houses leads, and what it is worth.
-use Rattle.std.proofs.Common.{◌≡◌, ◌≢◌, ℕ, ◌+◌, ◌-◌, ◌*◌, ◌^◌, ◌/◌, ◌<◌, ◌≤◌, List, length, arith, ap, sym, ◌∙◌, refl, subst, inl, inr}
-use Rattle.std.specs.Prelude.{Bool, true, false, cond, sum, Contains, nat_eq, if◌then◌else◌, ℤ, pos, neg_ℤ, ◌+ℤ◌, ◌-ℤ◌}
+use Rattle.std.proofs.Common.{◌≡◌, ◌≢◌, ℕ, ◌+◌, ◌-◌, ◌*◌, ◌^◌, ◌/◌, ◌<◌, ◌≤◌, arith, ap, sym, ◌∙◌, refl, subst, inl, inr}
+use Rattle.std.specs.Prelude.{Bool, true, false, cond, sum, Contains, if◌then◌else◌, pos, neg_ℤ, ◌+ℤ◌, ◌-ℤ◌}
 use Rattle.std.proofs.lemmas.Int.{ints}
-use Rattle.std.proofs.lemmas.Bool.{cases_Bool, eqb-false}
+use Rattle.std.proofs.lemmas.Bool.{cases_Bool}
 use Rattle.std.proofs.lemmas.Bool.Decides.{nat_tests}
 use Rattle.kalah_rules.specs.Position.{Position, Rows, HasEqualSides, IsWithinHouses, seeds_in_houses, is_over, final_margin, swapped, rows_of}
-use Rattle.kalah_rules.specs.Lap.{HoldsSeeds}
 use Rattle.kalah_rules.specs.Measure.{moves_left}
 use Rattle.kalah_rules.specs.Play.{legal_houses}
 use Rattle.kalah_rules.specs.Sowing.{after, is_again}
 use Rattle.kalah_rules.proofs.Ends.{after_fewer, after_equal_sides, swap_fewer}
 use Rattle.kalah_rules.proofs.Legal.{legal_holds}
-use Rattle.kalah_solve.specs.Key.{number_of, key_of, rows_at, rule_bit}
+use Rattle.kalah_solve.specs.Key.{key_of, rows_at, rule_bit}
 use Rattle.kalah_solve.specs.Packed.{Shows, IsPacked}
 use Rattle.kalah_solve.specs.Worth.{bare, worth, houses_worth, value_of_move}
 use Rattle.kalah_solve.specs.HousesStep.{houses_step_to, houses_step, worth_of_step, IsNext, LeadsOn, GoesOn, moves_after}

@@ -1,22 +1,21 @@
 -- What houses are worth: no less than each move, as much as some move, and no more than their seeds.
-use Rattle.std.proofs.Common.{zero, suc, ◌≡◌, ℕ, ◌+◌, ◌-◌, ◌<◌, ◌≤◌, ◌⊎◌, inl, inr, List, [], ◌∷◌, length, get_or, arith, ap, sym, ◌∙◌, refl, subst}
-use Rattle.std.specs.Prelude.{Bool, true, false, cond, map, fold, Contains, sum, ℤ, pos, negsuc, ◌+ℤ◌, ◌-ℤ◌, ◌≤ℤ◌}
-use Rattle.std.specs.Int.{int_max}
-use Rattle.std.proofs.lemmas.Int.{ints, clamps, fold-int_max_bounds, fold-int_max_reached}
+use Rattle.std.proofs.Common.{zero, suc, ◌≡◌, ℕ, ◌<◌, inl, inr, List, [], ◌∷◌, get_or, arith, sym, ◌∙◌, refl, subst}
+use Rattle.std.specs.Prelude.{Bool, true, false, cond, map, Contains, ℤ, pos, negsuc, ◌-ℤ◌, ◌≤ℤ◌}
+use Rattle.std.proofs.lemmas.Int.{ints, fold-int_max_bounds, fold-int_max_reached}
 use Rattle.std.proofs.lemmas.Bool.{cases_Bool}
 use Rattle.std.proofs.lemmas.List.Elements.{All-contains, Contains-get_or}
 use Rattle.lru.proofs.Splits.{Contains-head, Contains-tail, Contains-cons, Contains-nil}
-use Rattle.kalah_rules.specs.Position.{Position, Rows, HasEqualSides, IsWithinHouses, seeds_in_houses, is_over, final_margin}
+use Rattle.kalah_rules.specs.Position.{Rows, HasEqualSides, IsWithinHouses, seeds_in_houses, is_over}
 use Rattle.kalah_rules.specs.Measure.{moves_left}
 use Rattle.kalah_rules.specs.Play.{legal_houses}
 use Rattle.kalah_rules.specs.Sowing.{after, is_again}
 use Rattle.kalah_rules.proofs.Legal.{legal_going, legal_holds}
-use Rattle.kalah_solve.specs.Worth.{bare, worth, greatest, houses_worth, value_of_move}
-use Rattle.kalah_solve.specs.HousesStep.{houses_step_to, houses_step, worth_of_step, IsNext, LeadsOn}
+use Rattle.kalah_solve.specs.Worth.{bare, greatest, houses_worth, value_of_move}
+use Rattle.kalah_solve.specs.HousesStep.{houses_step, worth_of_step, IsNext, LeadsOn}
 use Rattle.kalah_solve.specs.declared.packed.HousesStep.{HousesStep}
 use Rattle.kalah_solve.specs.declared.packed.HousesStep.TheVariants.{Over, Again, Turn}
 use Rattle.kalah_solve.proofs.Worths.{worth_of_over, worth_of_going, legal_some}
-use Rattle.kalah_solve.proofs.PackedMoves.{KeepsSeeds, after_keeps}
+use Rattle.kalah_solve.proofs.PackedMoves.{after_keeps}
 use Rattle.kalah_solve.proofs.HousesSteps.{value_is, leads_on}
 
 -- ---- the greatest of a list

@@ -5,13 +5,13 @@ use Rattle.std.proofs.lemmas.List.{length-drop, length-replicate, get_or-replica
 use Rattle.std.proofs.lemmas.Grind.{same_number_lists}
 use Rattle.std.proofs.Math.Nat.{pow-succ', mul_assoc}
 use Rattle.std.proofs.Math.Seq.{take-append_seam, drop-append_seam}
-use Rattle.std.proofs.lemmas.List.Sums.{sum_by-cons, sum_by-append, sum_by-take-le}
+use Rattle.std.proofs.lemmas.List.Sums.{sum_by-cons, sum_by-append}
 use Rattle.std.proofs.lemmas.List.Folds.{sum_by-replicate}
 use Rattle.std.proofs.lemmas.List.Elements.{All-replicate}
 use Rattle.kalah_rules.specs.declared.rule.Rule.{Rule}
 use Rattle.kalah_rules.specs.declared.rule.Rule.TheVariants.{Classic, EmptyCapture}
 use Rattle.kalah_rules.specs.Position.{Rows, IsWithinHouses, seeds_in_houses}
-use Rattle.kalah_rules.specs.Cells.{padded, CanBeHouses, rows_from}
+use Rattle.kalah_rules.specs.Cells.{padded, rows_from}
 use Rattle.kalah_solve.specs.Worth.{bare}
 use Rattle.kalah_solve.specs.Packed.{IsPacked}
 use Rattle.kalah_solve.specs.Key.{number_of, cells, rule_bit, key_of, side_at, rule_at, rows_at, IsKey}

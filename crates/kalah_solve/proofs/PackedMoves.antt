@@ -1,6 +1,6 @@
 -- A move on the numbers of two rows.
-use Rattle.std.proofs.Common.{zero, suc, ◌≡◌, ◌≢◌, ℕ, ◌+◌, ◌-◌, ◌*◌, ◌/◌, ◌%◌, ◌^◌, ◌<◌, ◌≤◌, ◌⊎◌, inl, inr, List, length, get_or, arith, ap, sym, ◌∙◌, refl, subst}
-use Rattle.std.specs.Prelude.{Bool, true, false, slice_set, slice_index, sum, nat_lt, nat_eq, nat_le, if◌then◌else◌, ◌==◌, Option, Some, None}
+use Rattle.std.proofs.Common.{◌≡◌, ◌≢◌, ℕ, ◌+◌, ◌-◌, ◌*◌, ◌/◌, ◌%◌, ◌^◌, ◌<◌, ◌≤◌, ◌⊎◌, inl, inr, List, length, arith, ap, sym, ◌∙◌, refl, subst}
+use Rattle.std.specs.Prelude.{true, false, slice_set, slice_index, sum, nat_lt, nat_eq, if◌then◌else◌, ◌==◌, Option, Some, None}
 use Rattle.std.proofs.lemmas.Nat.{mod_below, mul-le}
 use Rattle.std.proofs.Math.Nat.{mul-div-le}
 use Rattle.std.proofs.lemmas.Bool.{cases_Bool, cases_eq, cases_lt, eqb-true}
@@ -9,9 +9,9 @@ use Rattle.std.proofs.lemmas.List.{set_past, get_or_past}
 use Rattle.std.proofs.lemmas.List.Sums.{sum_by-set}
 use Rattle.kalah_rules.specs.declared.rule.Rule.{Rule}
 use Rattle.kalah_rules.specs.declared.rule.Rule.TheVariants.{Classic, EmptyCapture}
-use Rattle.kalah_rules.specs.Position.{Position, Rows, HasEqualSides, IsWithinHouses, side_length, seeds, opposite, seeds_in_houses, is_over, final_margin, swapped, rows_of}
+use Rattle.kalah_rules.specs.Position.{Position, Rows, IsWithinHouses, side_length, seeds, opposite, seeds_in_houses}
 use Rattle.kalah_rules.specs.Lap.{HoldsSeeds}
-use Rattle.kalah_rules.specs.Sowing.{lap_length, gain, row_of, own_distance, other_distance, store_distance, sow, sown, last_distance, last_house, captures, can_capture, capture, captured, after, is_again}
+use Rattle.kalah_rules.specs.Sowing.{lap_length, row_of, own_distance, other_distance, store_distance, sow, sown, last_distance, last_house, captures, can_capture, capture, captured, after}
 use Rattle.kalah_rules.proofs.Rows.{seeds-le-sum, length-slice_set}
 use Rattle.kalah_rules.proofs.Sown.{sow_side, sow_keeps, sow_other_store}
 use Rattle.kalah_rules.proofs.Laps.{own_distance_past, own_distance_back}

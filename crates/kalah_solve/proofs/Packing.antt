@@ -1,6 +1,6 @@
 -- Rows as numbers: houses read and written, and rows of seeds added.
 use Rattle.std.proofs.Common.{zero, suc, ◌≡◌, ℕ, ◌+◌, ◌-◌, ◌*◌, ◌/◌, ◌%◌, ◌^◌, ◌<◌, ◌≤◌, inl, inr, List, [], ◌∷◌, ◌++◌, length, get_or, arith, ap, sym, ◌∙◌, refl, add-one, subst}
-use Rattle.std.specs.Prelude.{slice_set, sum, map, nat_le, if◌then◌else◌, ◌==◌}
+use Rattle.std.specs.Prelude.{slice_set, sum, map, if◌then◌else◌, ◌==◌}
 use Rattle.std.specs.List.{range_with_len}
 use Rattle.std.proofs.lemmas.Nat.{pow-add, mod_below, mul-le}
 use Rattle.std.proofs.Math.Nat.{pow-succ', mul_assoc, div-div-eq-div-mul}

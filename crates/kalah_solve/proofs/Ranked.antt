@@ -1,11 +1,10 @@
 -- Ranks that are given house by house.
-use Rattle.std.proofs.Common.{◌≡◌, ◌≢◌, ℕ, ◌+◌, ◌-◌, ◌<◌, ◌≤◌, inl, inr, List, length, get_or, arith, rules, sym, ◌∙◌}
+use Rattle.std.proofs.Common.{◌≡◌, ◌≢◌, ℕ, ◌+◌, ◌-◌, ◌<◌, ◌≤◌, inl, inr, List, length, get_or, arith, ◌∙◌}
 use Rattle.std.specs.Prelude.{Contains, false, slice_set}
 use Rattle.std.proofs.lemmas.Bool.{cases_eq}
 use Rattle.std.proofs.lemmas.List.{get_or-set_same, get_or-set_other}
 use Rattle.std.proofs.Math.ListN.{length-set}
-use Rattle.kalah_rules.specs.Position.{Position, Rows, seeds, is_over, side_length}
-use Rattle.kalah_rules.specs.Lap.{HoldsSeeds}
+use Rattle.kalah_rules.specs.Position.{Position, seeds, is_over, side_length}
 use Rattle.kalah_rules.specs.Play.{legal_houses}
 use Rattle.kalah_rules.proofs.Legal.{holds_legal, legal_holds}
 

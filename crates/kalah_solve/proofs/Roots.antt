@@ -1,17 +1,17 @@
 -- The best house so far, at the root.
-use Rattle.std.proofs.Common.{◌≡◌, ℕ, ◌+◌, ◌-◌, ◌<◌, ◌≤◌, List, length, get_or, arith, ap, sym, ◌∙◌, refl, take, subst, w32, to_z, of_z}
+use Rattle.std.proofs.Common.{◌≡◌, ℕ, ◌+◌, ◌<◌, ◌≤◌, length, get_or, arith, ap, sym, ◌∙◌, take, subst, w32, to_z, of_z}
 use Rattle.std.specs.Prelude.{Bool, true, false, Contains, if◌then◌else◌, int_lt, unwrap_or, ℤ, pos, negsuc, ◌+ℤ◌, ◌-ℤ◌, ◌≤ℤ◌, ◌<ℤ◌}
 use Rattle.std.proofs.lemmas.Int.{ints, clamps}
 use Rattle.std.proofs.lemmas.List.Elements.{Contains-get_or}
-use Rattle.kalah_rules.specs.Position.{Position, Rows, HasEqualSides, IsWithinHouses, IsWithinLimits, IsSmallMargin, is_over, final_margin, rows_of}
+use Rattle.kalah_rules.specs.Position.{Position, Rows, IsWithinHouses, IsWithinLimits, IsSmallMargin, is_over, final_margin, rows_of}
 use Rattle.kalah_rules.specs.Play.{legal_houses}
 use Rattle.kalah_solve.specs.Table.{within}
 use Rattle.kalah_solve.specs.Worth.{bare, worth, houses_worth, value_of_move, best_house}
 use Rattle.kalah_solve.specs.Verdict.{verdict_of}
 use Rattle.kalah_solve.specs.declared.verdict.Verdict.TheVariants.{Best, Over}
 use Rattle.kalah_solve.proofs.Bests.{IsBestOf, best_first_of, step_better, step_kept}
-use Rattle.kalah_solve.proofs.HousesWorth.{IsUpTo, value_up_to, worth_up_to}
-use Rattle.kalah_solve.proofs.Stores.{worth_of_rows, best_of_rows}
+use Rattle.kalah_solve.proofs.HousesWorth.{value_up_to, worth_up_to}
+use Rattle.kalah_solve.proofs.Stores.{worth_of_rows}
 use Rattle.kalah_solve.proofs.Worths.{worth_of_going}
 
 -- the first i houses have the greatest value `best`, and `house` is the first that attains it

@@ -1,5 +1,5 @@
 -- Windows, and the best of the moves that were tried.
-use Rattle.std.proofs.Common.{◌≡◌, ◌≢◌, ℕ, ◌+◌, ◌-◌, ◌<◌, ◌≤◌, inl, inr, List, length, get_or, arith, rules, ap, sym, ◌∙◌, refl, subst, w32, to_z, of_z, SFits}
+use Rattle.std.proofs.Common.{◌≡◌, ℕ, ◌+◌, ◌-◌, ◌<◌, ◌≤◌, inl, inr, List, length, get_or, arith, sym, ◌∙◌, refl, subst, w32, to_z, of_z, SFits}
 use Rattle.std.specs.Prelude.{true, false, int_lt, slice_set, sum, Contains, ℤ, pos, negsuc, ◌+ℤ◌, ◌-ℤ◌, ◌≤ℤ◌, ◌<ℤ◌}
 use Rattle.std.specs.Int.{int_max, int_min}
 use Rattle.std.proofs.lemmas.Int.{ints, clamps}
