@@ -1,5 +1,5 @@
 -- What a table keeps, over the list of its entries.
-use Rattle.std.proofs.Common.{◌≡◌, ℕ, true, eqb-true, List, Option, Some, None, Result, Ok, Err, Contains, nat_eq, IfSome, OnOk, OnErr, ◌⊎◌, inl, inr, arith, rules, sym, ap, subst, ◌∙◌, refl}
+use Rattle.std.proofs.Common.{◌≡◌, ℕ, true, eqb-true, List, Option, Some, None, Result, Ok, Err, nat_eq, IfSome, OnOk, OnErr, inl, inr, sym, subst, ◌∙◌}
 use Rattle.std.specs.Map.{lookup}
 use Rattle.lru.specs.LruCache.{LruCache, lru_cache, put_entries, promoted}
 use Rattle.lru.proofs.CallerLemmas.{Contains-lookup, Contains-promoted, Contains-put_entries}
@@ -10,6 +10,7 @@ use Rattle.kalah_solve.specs.Worth.{houses_worth}
 use Rattle.kalah_solve.specs.Table.{Holds, IsTrueEntry, AreTrue}
 use Rattle.kalah_solve.proofs.Keys.{same_key}
 
+-- equal numbers
 same_number : (m n : ℕ) → nat_eq m n ≡ true → m ≡ n
 same_number m n h = eqb-true m n h
 
@@ -22,13 +23,16 @@ found_holds es a k entries within key (Some i) h =
     let same : entry.0 ≡ a = same_key entry.0 a entry.1 within (entry.2 ∙ sym (same_number _ _ at.2) ∙ key) in
     subst (λ b. Holds i (houses_worth b)) same entry.3
 
+-- a use changes only the order
 pub true_promoted : (es : List (ℕ × Interval)) (k : ℕ) → AreTrue es → AreTrue (promoted (nat_eq k) es)
 true_promoted es k entries = λ e h. entries e (Contains-promoted (nat_eq k) es e h)
 
 module _ (c : LruCache ℕ Interval) (a : Rows) (k : ℕ) (i : Interval) (entries : AreTrue c.entries) (within : IsWithinHouses a) (key : k ≡ key_of a) (holds : Holds i (houses_worth a)) where
+  -- the new entry is true
   put_entry : (e : ℕ × Interval) → e.1 ≡ i → e.0 ≡ k → IsTrueEntry e
   put_entry e value at = (a, within, sym (at ∙ key), subst (λ j. Holds j (houses_worth a)) (sym value) holds)
 
+  -- and so are all after a put
   pub true_put : AreTrue (put_entries nat_eq c k i)
   true_put = λ e h. elim (Contains-put_entries nat_eq c k i e h) [
     | inl was ↦ entries e was

@@ -1,22 +1,21 @@
 -- What houses are worth: no less than each move, as much as some move, and no more than their seeds.
-use Rattle.std.proofs.Common.{zero, suc, ◌≡◌, ℕ, ◌+◌, ◌-◌, ◌<◌, ◌≤◌, ◌⊎◌, inl, inr, List, [], ◌∷◌, length, get_or, arith, ap, sym, ◌∙◌, refl, subst}
-use Rattle.std.specs.Prelude.{Bool, true, false, cond, map, fold, Contains, sum, ℤ, pos, negsuc, ◌+ℤ◌, ◌-ℤ◌, ◌≤ℤ◌}
-use Rattle.std.specs.Int.{int_max}
-use Rattle.std.proofs.lemmas.Int.{ints, clamps, fold-int_max_bounds, fold-int_max_reached}
+use Rattle.std.proofs.Common.{zero, suc, ◌≡◌, ℕ, ◌<◌, inl, inr, List, [], ◌∷◌, get_or, arith, sym, ◌∙◌, refl, subst}
+use Rattle.std.specs.Prelude.{Bool, true, false, cond, map, Contains, ℤ, pos, negsuc, ◌-ℤ◌, ◌≤ℤ◌}
+use Rattle.std.proofs.lemmas.Int.{ints, fold-int_max_bounds, fold-int_max_reached}
 use Rattle.std.proofs.lemmas.Bool.{cases_Bool}
 use Rattle.std.proofs.lemmas.List.Elements.{All-contains, Contains-get_or}
 use Rattle.lru.proofs.Splits.{Contains-head, Contains-tail, Contains-cons, Contains-nil}
-use Rattle.kalah_rules.specs.Position.{Position, Rows, HasEqualSides, IsWithinHouses, seeds_in_houses, is_over, final_margin}
+use Rattle.kalah_rules.specs.Position.{Rows, HasEqualSides, IsWithinHouses, seeds_in_houses, is_over}
 use Rattle.kalah_rules.specs.Measure.{moves_left}
 use Rattle.kalah_rules.specs.Play.{legal_houses}
 use Rattle.kalah_rules.specs.Sowing.{after, is_again}
 use Rattle.kalah_rules.proofs.Legal.{legal_going, legal_holds}
-use Rattle.kalah_solve.specs.Worth.{bare, worth, greatest, houses_worth, value_of_move}
-use Rattle.kalah_solve.specs.HousesStep.{houses_step_to, houses_step, worth_of_step, IsNext, LeadsOn}
+use Rattle.kalah_solve.specs.Worth.{bare, greatest, houses_worth, value_of_move}
+use Rattle.kalah_solve.specs.HousesStep.{houses_step, worth_of_step, IsNext, LeadsOn}
 use Rattle.kalah_solve.specs.declared.packed.HousesStep.{HousesStep}
 use Rattle.kalah_solve.specs.declared.packed.HousesStep.TheVariants.{Over, Again, Turn}
 use Rattle.kalah_solve.proofs.Worths.{worth_of_over, worth_of_going, legal_some}
-use Rattle.kalah_solve.proofs.PackedMoves.{KeepsSeeds, after_keeps}
+use Rattle.kalah_solve.proofs.PackedMoves.{after_keeps}
 use Rattle.kalah_solve.proofs.HousesSteps.{value_is, leads_on}
 
 -- ---- the greatest of a list
@@ -29,6 +28,7 @@ le_greatest (x ∷ xs) z has =
       | inr rest ↦ All-contains (λ y. y ≤ℤ greatest (x ∷ xs)) xs z bounds.1 rest
     ]
 
+-- it is one of them
 greatest_reached : (zs : List ℤ) (z : ℤ) → Contains zs z → Contains zs (greatest zs)
 greatest_reached [] z has = absurd (Contains-nil z has)
 greatest_reached (x ∷ xs) z has = elim (fold-int_max_reached x xs (greatest (x ∷ xs)) refl) [
@@ -36,6 +36,7 @@ greatest_reached (x ∷ xs) z has = elim (fold-int_max_reached x xs (greatest (x
   | inr rest ↦ Contains-tail x xs (greatest (x ∷ xs)) rest
 ]
 
+-- what a function makes of an element
 map_has : {X Y : Type 0} (f : X → Y) (xs : List X) (x : X) → Contains xs x → Contains (map f xs) (f x)
 map_has f [] x has = absurd (Contains-nil x has)
 map_has f (y ∷ ys) x has = elim (Contains-cons y ys x has) [
@@ -43,6 +44,7 @@ map_has f (y ∷ ys) x has = elim (Contains-cons y ys x has) [
   | inr rest ↦ Contains-tail (f y) (map f ys) (f x) (map_has f ys x rest)
 ]
 
+-- and what it was made of
 from_map : {X Y : Type 0} (f : X → Y) (xs : List X) (y : Y) → Contains (map f xs) y → (x : X) × Contains xs x × (f x ≡ y)
 from_map f [] y has = absurd (Contains-nil y has)
 from_map f (x ∷ xs) y has = elim (Contains-cons (f x) (map f xs) y has) [
@@ -50,6 +52,7 @@ from_map f (x ∷ xs) y has = elim (Contains-cons (f x) (map f xs) y has) [
   | inr rest ↦ let on = from_map f xs y rest in (on.0, Contains-tail x xs on.0 on.1, on.2)
 ]
 
+-- houses have equal sides
 sides : (a : Rows) → IsWithinHouses a → HasEqualSides (bare a)
 sides a w = record { same = w.same_side }
 
@@ -78,10 +81,12 @@ OverUpTo n (Over margin) = IsUpTo n margin
 OverUpTo n (Again gained b) = Unit {0}
 OverUpTo n (Turn gained b) = Unit {0}
 
+-- what holds of both branches
 on_cond : {X : Type 0} (P : X → Type 0) (b : Bool) (s t : X) → P s → P t → P (cond b s t)
 on_cond P true s t h k = h
 on_cond P false s t h k = k
 
+-- a margin at the end is no more than the seeds
 over_up_to : (a : Rows) (h : ℕ) → IsWithinHouses a → Contains (legal_houses (bare a)) h → OverUpTo (seeds_in_houses (bare a)) (houses_step a h)
 over_up_to a h w has =
     let keeps = after_keeps a h w (legal_holds (bare a) h has) in
@@ -91,6 +96,7 @@ over_up_to a h w has =
     (record { low = omega (arith, ints); high = omega (arith, ints) })
     (on_cond (OverUpTo (seeds_in_houses (bare a))) (is_again (bare a) h) _ _ tt tt)
 
+-- nor is what a step is worth
 step_up_to : (a : Rows) (s : HousesStep) → OverUpTo (seeds_in_houses (bare a)) s → LeadsOn a s →
     ((b : Rows) (gained : ℕ) → IsNext a gained b → IsUpTo (seeds_in_houses (bare b)) (houses_worth b)) → IsUpTo (seeds_in_houses (bare a)) (worth_of_step s)
 step_up_to a (Over margin) over leads each = over
@@ -103,6 +109,7 @@ step_up_to a (Turn gained b) over leads each =
     let kept = leads.kept in
     record { low = omega (arith, ints, on.low, on.high); high = omega (arith, ints, on.low, on.high) }
 
+-- nor what houses are worth, by the moves left
 worth_up_to_by : (n : ℕ) (a : Rows) → IsWithinHouses a → moves_left (bare a) < n → IsUpTo (seeds_in_houses (bare a)) (houses_worth a)
 worth_up_to_by zero a w few = absurd (omega arith)
 worth_up_to_by (suc n) a w few = elim (cases_Bool (is_over (bare a))) [
@@ -113,6 +120,7 @@ worth_up_to_by (suc n) a w few = elim (cases_Bool (is_over (bare a))) [
       (λ b gained on. worth_up_to_by n b on.limits (omega (arith, on.fewer))))
 ]
 
+-- whatever they are
 pub worth_up_to : (a : Rows) → IsWithinHouses a → IsUpTo (seeds_in_houses (bare a)) (houses_worth a)
 worth_up_to a w = worth_up_to_by (suc (moves_left (bare a))) a w (omega arith)
 
@@ -120,6 +128,7 @@ worth_up_to a w = worth_up_to_by (suc (moves_left (bare a))) a w (omega arith)
 pub worth_low : (a : Rows) → IsWithinHouses a → negsuc 30 ≤ℤ houses_worth a
 worth_low a w = omega (arith, ints, (worth_up_to a w).low, w.few_seeds)
 
+-- and at its upper end
 pub worth_high : (a : Rows) → IsWithinHouses a → houses_worth a ≤ℤ pos 31
 worth_high a w = omega (arith, ints, (worth_up_to a w).high, w.few_seeds)
 

@@ -5,13 +5,13 @@ use Rattle.std.proofs.lemmas.List.{length-drop, length-replicate, get_or-replica
 use Rattle.std.proofs.lemmas.Grind.{same_number_lists}
 use Rattle.std.proofs.Math.Nat.{pow-succ', mul_assoc}
 use Rattle.std.proofs.Math.Seq.{take-append_seam, drop-append_seam}
-use Rattle.std.proofs.lemmas.List.Sums.{sum_by-cons, sum_by-append, sum_by-take-le}
+use Rattle.std.proofs.lemmas.List.Sums.{sum_by-cons, sum_by-append}
 use Rattle.std.proofs.lemmas.List.Folds.{sum_by-replicate}
 use Rattle.std.proofs.lemmas.List.Elements.{All-replicate}
 use Rattle.kalah_rules.specs.declared.rule.Rule.{Rule}
 use Rattle.kalah_rules.specs.declared.rule.Rule.TheVariants.{Classic, EmptyCapture}
 use Rattle.kalah_rules.specs.Position.{Rows, IsWithinHouses, seeds_in_houses}
-use Rattle.kalah_rules.specs.Cells.{padded, CanBeHouses, rows_from}
+use Rattle.kalah_rules.specs.Cells.{padded, rows_from}
 use Rattle.kalah_solve.specs.Worth.{bare}
 use Rattle.kalah_solve.specs.Packed.{IsPacked}
 use Rattle.kalah_solve.specs.Key.{number_of, cells, rule_bit, key_of, side_at, rule_at, rows_at, IsKey}
@@ -26,10 +26,12 @@ padded_from_zeros m cells long high zeros =
     zeros k 0 h ∙ sym (get_or-replicate (6 - m) k 0 0 within)) in
     rw (shown, ← past) (take-append-drop m cells)
 
+-- empty houses have the number 0
 number_of-zeros : (n : ℕ) → number_of (replicate n 0) ≡ 0
 number_of-zeros zero = refl
 number_of-zeros (suc n) = omega (arith, number_of-zeros n)
 
+-- empty houses at the end of a row do not count
 number_of-append_zeros : (xs : List ℕ) (n : ℕ) → number_of (xs ++ replicate n 0) ≡ number_of xs
 number_of-append_zeros [] n = number_of-zeros n
 number_of-append_zeros (x ∷ xs) n = omega (arith, number_of-append_zeros xs n)
@@ -42,6 +44,7 @@ number_of-shown m cells same = sym (number_of-append_zeros (take m cells) (6 - l
 pub number_of-cells : (k : ℕ) → number_of (cells 6 k) + 2 ^ 30 * (k / 2 ^ 30) ≡ k
 number_of-cells k = omega arith
 
+-- so many cells are read
 pub length-cells : (n k : ℕ) → length (cells n k) ≡ n
 length-cells zero k = refl
 length-cells (suc n) k = omega (arith, length-cells n (k / 32))
@@ -61,15 +64,19 @@ cells-number_of (suc n) (x ∷ xs) rest long few =
     let high : (x + 32 * number_of xs + 32 ^ suc n * rest) / 32 ≡ number_of xs + 32 ^ n * rest = rw power (omega arith) in
     rw (low, high) (ap (λ ys. x ∷ ys) (cells-number_of n xs rest rest_long rest_few))
 
+-- a padded row has six cells
 pub length-padded : (xs : List ℕ) → length xs ≤ 6 → length (padded xs) ≡ 6
 length-padded xs h = omega (arith, length-append xs (replicate (6 - length xs) 0), length-replicate {A = ℕ} (6 - length xs) 0)
 
+-- and no more seeds
 pub sum-padded : (xs : List ℕ) → sum (padded xs) ≡ sum xs
 sum-padded xs = omega (arith, sum_by-append (λ x. x) xs (replicate (6 - length xs) 0), sum_by-replicate (λ x. x) (6 - length xs) 0)
 
+-- its first cells are the row
 pub take-padded : (xs : List ℕ) → take (length xs) (padded xs) ≡ xs
 take-padded xs = take-append_seam xs (replicate (6 - length xs) 0)
 
+-- and the others are empty
 pub drop-padded : (xs : List ℕ) → All (λ x. x ≡ 0) (drop (length xs) (padded xs))
 drop-padded xs = rw (drop-append_seam xs (replicate (6 - length xs) 0)) (All-replicate (λ x. x ≡ 0) (6 - length xs) 0 refl)
 
@@ -80,6 +87,7 @@ pub record KeySays (a : Rows) (k : ℕ) : Type 0 where
   pub side : k / 2 ^ 60 % 8 ≡ length a.own
   pub rule : k / 2 ^ 63 ≡ rule_bit a.rule
 
+-- a row with few seeds has a small number
 number_of-small : (n : ℕ) (xs : List ℕ) → length xs ≤ n → sum xs ≤ 31 → number_of xs < 32 ^ n
 number_of-small zero [] long few = omega arith
 number_of-small zero (x ∷ xs) long few = absurd (omega arith)
@@ -89,10 +97,12 @@ number_of-small (suc n) (x ∷ xs) long few =
     let here = number_of-small n xs (omega arith) (omega arith) in
     omega (arith, pow-succ' 32 n)
 
+-- a rule has one bit
 rule_bit-small : (r : Rule) → rule_bit r ≤ 1
 rule_bit-small Classic = omega arith
 rule_bit-small EmptyCapture = omega arith
 
+-- what the key of houses says
 pub key_says : (a : Rows) (k : ℕ) → IsWithinHouses a → key_of a ≡ k → KeySays a k
 key_says a k h e =
     let other_long : length a.other ≤ 6 = omega (arith, h.at_most_six, h.same_side) in
@@ -126,12 +136,14 @@ key_holds a k h e =
       few_seeds = omega (arith, sum-padded a.own, sum-padded a.other, h.few_seeds);
     })
 
+-- rules with one bit are one
 rule_bit-same : (r s : Rule) → rule_bit r ≡ rule_bit s → r ≡ s
 rule_bit-same Classic Classic e = refl
 rule_bit-same Classic EmptyCapture e = absurd (omega arith)
 rule_bit-same EmptyCapture Classic e = absurd (omega arith)
 rule_bit-same EmptyCapture EmptyCapture e = refl
 
+-- houses with the same parts are the same
 pub same_rows_of : {a b : Rows} → a.own ≡ b.own → a.other ≡ b.other → a.rule ≡ b.rule → a ≡ b
 same_rows_of x y z = λ i. record { own = x i; other = y i; rule = z i }
 
@@ -144,6 +156,7 @@ rows_of_key a k rule h e bit =
     let other_shown : take (side_at k) (cells 6 (k / 2 ^ 30)) ≡ a.other = rw (says.side, says.other_cells, sym h.same_side) (take-padded a.other) in
     same_rows_of own_shown other_shown (rule_bit-same rule a.rule (bit ∙ says.rule))
 
+-- the parts of a key make the key
 key_from_parts : (k side : ℕ) (own other : List ℕ) (rule : Rule) → number_of own + 2 ^ 30 * (k / 2 ^ 30) ≡ k → number_of other + 2 ^ 30 * (k / 2 ^ 30 / 2 ^ 30) ≡ k / 2 ^ 30 →
     padded (take side own) ≡ own → padded (take side other) ≡ other → length (take side own) ≡ side → side ≡ k / 2 ^ 60 % 8 → rule_bit rule ≡ k / 2 ^ 63 →
     key_of (rows_from side own other rule) ≡ k
@@ -180,6 +193,7 @@ rows_at_key a h =
     let bit : key_of a / 2 ^ 63 ≤ 1 = omega (arith, says.rule, rule_bit-small a.rule) in
     rows_of_key a (key_of a) (rule_at (key_of a)) h refl (rule_at-bit (key_of a / 2 ^ 63) bit)
 
+-- a key fits sixty-four bits
 key_of-small : (b : Rows) → IsWithinHouses b → key_of b < 2 ^ 64
 key_of-small b h =
     let own_small : number_of b.own < 2 ^ 30 = number_of-small 6 b.own h.at_most_six (omega (arith, h.few_seeds)) in
@@ -204,6 +218,7 @@ packed_as b k s h e seeds_are =
 pub key_known : (a : Rows) (k s : ℕ) → IsPacked k s → rows_at k ≡ a → key_of a ≡ k
 key_known a k s is e = ap key_of (sym e) ∙ key_of_rows_at k is.fits is.is_key
 
+-- and how many seeds they hold
 pub seeds_known : (a : Rows) (k s : ℕ) → IsPacked k s → rows_at k ≡ a → s ≡ seeds_in_houses (bare a)
 seeds_known a k s is e = is.seeds_are ∙ ap (λ (b : Rows). seeds_in_houses (bare b)) e
 
@@ -216,6 +231,7 @@ pub sum-zero : (xs : List ℕ) → number_of xs ≡ 0 → sum xs ≡ 0
 sum-zero [] e = refl
 sum-zero (x ∷ xs) e = let rest = sum-zero xs (omega arith) in let cons = sum_by-cons (λ (y : ℕ). y) x xs in omega arith
 
+-- a row without seeds has the number 0
 pub number_of-zero : (xs : List ℕ) → sum xs ≡ 0 → number_of xs ≡ 0
 number_of-zero [] e = refl
 number_of-zero (x ∷ xs) e = let cons = sum_by-cons (λ (y : ℕ). y) x xs in let rest = number_of-zero xs (omega arith) in omega arith
@@ -226,6 +242,7 @@ own_number_at k h =
     let shown = number_of-shown (side_at k) (cells 6 k) (padded_from_zeros (side_at k) (cells 6 k) (length-cells 6 k) h.at_most_six h.own_past) in
     omega (arith, number_of-cells k)
 
+-- the other row
 pub other_number_at : (k : ℕ) → IsKey k → number_of (rows_at k).other ≡ k / 2 ^ 30 % 2 ^ 30
 other_number_at k h =
     let shown = number_of-shown (side_at k) (cells 6 (k / 2 ^ 30)) (padded_from_zeros (side_at k) (cells 6 (k / 2 ^ 30)) (length-cells 6 (k / 2 ^ 30)) h.at_most_six h.other_past) in
@@ -237,6 +254,7 @@ number_of-drop [] k h = absurd (omega arith)
 number_of-drop (x ∷ xs) zero h = refl
 number_of-drop (x ∷ xs) (suc k) h = number_of-drop xs k (omega arith)
 
+-- the last houses have no greater number
 number_of-drop-le : (xs : List ℕ) (k : ℕ) → number_of (drop k xs) ≤ number_of xs
 number_of-drop-le [] zero = omega arith
 number_of-drop-le [] (suc k) = omega arith
@@ -248,13 +266,16 @@ pub record IsRead (xs : List ℕ) (k number : ℕ) : Type 0 where
   pub value : number ≡ number_of (drop k xs)
   pub small : number < 2 ^ 30
 
+-- nothing is past a whole row
 drop-all : (xs : List ℕ) → drop (length xs) xs ≡ []
 drop-all [] = refl
 drop-all (x ∷ xs) = drop-all xs
 
+-- nothing is read yet
 pub read_none : (xs : List ℕ) (m : ℕ) → m ≡ length xs → IsRead xs m 0
 read_none xs m long = record { value = rw (long, drop-all xs) refl; small = omega arith }
 
+-- one house more is read
 pub read_more : (xs : List ℕ) (m passed number x : ℕ) → length xs ≤ 6 → sum xs ≤ 31 → m ≡ length xs → passed < m →
     IsRead xs (m - passed) number → x ≡ get_or xs (m - passed - 1) 0 → IsRead xs (m - (passed + 1)) (32 * number + x)
 read_more xs m passed number x few sum_few long more is at =
@@ -276,13 +297,16 @@ read_all xs k number none is = is.value ∙ ap (λ j. number_of (drop j xs)) non
 
 -- what `Houses::new` answers at the parts of a key
 module _ (k : ℕ) (rule : Rule) (bit : rule_bit rule ≡ k / 2 ^ 63) where
+  -- the parts of a key as houses
   abbrev parts : Rows
   parts = rows_from (side_at k) (cells 6 k) (cells 6 (k / 2 ^ 30)) rule
 
+  -- what is found has the key
   pub unpacks_same : (o : Option Rows) → (IsSome o ↔ IsKey k) → IfSome o (λ a. a ≡ parts) → IfSome o (λ a. key_of a ≡ k)
   unpacks_same None valid value = tt
   unpacks_same (Some a) valid value = ap key_of value ∙ key_of_rows k rule (valid.0 (search rules)) bit
 
+  -- and the houses of a key are found
   pub unpacks_found : (o : Option Rows) → (IsSome o ↔ IsKey k) → IfSome o (λ a. a ≡ parts) → (a : Rows) → IsWithinHouses a → key_of a ≡ k → o ≡ Some a
   unpacks_found None valid value a h e = absurd (grind (arith, valid.1 (key_holds a k h e)))
   unpacks_found (Some b) valid value a h e = ap Some (value ∙ rows_of_key a k rule h e bit)

@@ -1,6 +1,6 @@
 -- A move on the numbers of two rows.
-use Rattle.std.proofs.Common.{zero, suc, ◌≡◌, ◌≢◌, ℕ, ◌+◌, ◌-◌, ◌*◌, ◌/◌, ◌%◌, ◌^◌, ◌<◌, ◌≤◌, ◌⊎◌, inl, inr, List, length, get_or, arith, ap, sym, ◌∙◌, refl, subst}
-use Rattle.std.specs.Prelude.{Bool, true, false, slice_set, slice_index, sum, nat_lt, nat_eq, nat_le, if◌then◌else◌, ◌==◌, Option, Some, None}
+use Rattle.std.proofs.Common.{◌≡◌, ◌≢◌, ℕ, ◌+◌, ◌-◌, ◌*◌, ◌/◌, ◌%◌, ◌^◌, ◌<◌, ◌≤◌, ◌⊎◌, inl, inr, List, length, arith, ap, sym, ◌∙◌, refl, subst}
+use Rattle.std.specs.Prelude.{true, false, slice_set, slice_index, sum, nat_lt, nat_eq, if◌then◌else◌, ◌==◌, Option, Some, None}
 use Rattle.std.proofs.lemmas.Nat.{mod_below, mul-le}
 use Rattle.std.proofs.Math.Nat.{mul-div-le}
 use Rattle.std.proofs.lemmas.Bool.{cases_Bool, cases_eq, cases_lt, eqb-true}
@@ -9,9 +9,9 @@ use Rattle.std.proofs.lemmas.List.{set_past, get_or_past}
 use Rattle.std.proofs.lemmas.List.Sums.{sum_by-set}
 use Rattle.kalah_rules.specs.declared.rule.Rule.{Rule}
 use Rattle.kalah_rules.specs.declared.rule.Rule.TheVariants.{Classic, EmptyCapture}
-use Rattle.kalah_rules.specs.Position.{Position, Rows, HasEqualSides, IsWithinHouses, side_length, seeds, opposite, seeds_in_houses, is_over, final_margin, swapped, rows_of}
+use Rattle.kalah_rules.specs.Position.{Position, Rows, IsWithinHouses, side_length, seeds, opposite, seeds_in_houses}
 use Rattle.kalah_rules.specs.Lap.{HoldsSeeds}
-use Rattle.kalah_rules.specs.Sowing.{lap_length, gain, row_of, own_distance, other_distance, store_distance, sow, sown, last_distance, last_house, captures, can_capture, capture, captured, after, is_again}
+use Rattle.kalah_rules.specs.Sowing.{lap_length, row_of, own_distance, other_distance, store_distance, sow, sown, last_distance, last_house, captures, can_capture, capture, captured, after}
 use Rattle.kalah_rules.proofs.Rows.{seeds-le-sum, length-slice_set}
 use Rattle.kalah_rules.proofs.Sown.{sow_side, sow_keeps, sow_other_store}
 use Rattle.kalah_rules.proofs.Laps.{own_distance_past, own_distance_back}
@@ -31,19 +31,23 @@ pub record KeepsSeeds (p q : Position) : Type 0 where
   pub other_side : length q.other ≡ length p.other
   pub rule : q.rule ≡ p.rule
 
+-- a sowing keeps the rule
 sow_rule : (p : Position) (h k : ℕ) → (sow p h k).rule ≡ p.rule
 unfolding sow
 sow_rule p h k = refl
 
+-- an empty house is not captured under the classic rule
 captures_not : (r : Rule) → nat_eq (rule_bit r) 1 ≡ false → captures r 0 ≡ false
 captures_not Classic h = refl
 captures_not EmptyCapture h = cc
 
+-- a house with seeds is, and under the other rule each
 captures_some : (r : Rule) (x : ℕ) → (0 < x) ⊎ (nat_eq (rule_bit r) 1 ≡ true) → captures r x ≡ true
 captures_some EmptyCapture x h = refl
 captures_some Classic x (inl some) = grind (arith, nat_tests)
 captures_some Classic x (inr empty) = cc
 
+-- thirty-one seeds make few laps
 laps_bound : (c m laps : ℕ) → c ≤ 31 → 1 ≤ m → laps ≡ c / (2 * m + 1) → laps ≤ 10
 laps_bound c m laps few some e =
     let whole : (2 * m + 1) * (c / (2 * m + 1)) ≤ c = mul-div-le c (2 * m + 1) in
@@ -51,6 +55,7 @@ laps_bound c m laps few some e =
     let same : (2 * m + 1) * laps ≡ (2 * m + 1) * (c / (2 * m + 1)) = ap (λ x. (2 * m + 1) * x) e in
     omega arith
 
+-- where the rule lets it capture nothing, the rows stay
 kept_by : (q : Position) (i : ℕ) → captures q.rule (seeds q.other (opposite q i)) ≡ false → (r : RowNumbers) → Shows r q → Shows r (captured q (Some i))
 kept_by q i none r shows = elim (cases_Bool (seeds q.own i == 1)) [
   | inl one ↦ rw (one, none) shows
@@ -58,9 +63,11 @@ kept_by q i none r shows = elim (cases_Bool (seeds q.own i == 1)) [
 ]
 
 module _ (a : Rows) (h : ℕ) (w : IsWithinHouses a) (holds : HoldsSeeds (bare a) h) where
+  -- the position after the sowing
   abbrev q : Position
   q = sown (bare a) h
 
+  -- a sowing loses no seed
   pub sown_keeps : KeepsSeeds (bare a) q
   sown_keeps =
       let side = sow_side (bare a) h (seeds a.own h) in
@@ -73,9 +80,11 @@ module _ (a : Rows) (h : ℕ) (w : IsWithinHouses a) (holds : HoldsSeeds (bare a
         rule = sow_rule (bare a) h (seeds a.own h);
       }
 
+  -- the house has few seeds
   pub seeds_few : seeds a.own h ≤ 31
   seeds_few = omega (arith, seeds-le-sum a.own h holds.first holds.last, w.few_seeds)
 
+  -- so there are few whole laps
   pub laps_few : (laps : ℕ) → laps ≡ seeds a.own h / (2 * length a.own + 1) → laps ≤ 10
   laps_few laps e = laps_bound (seeds a.own h) (length a.own) laps seeds_few w.some_house e
 
@@ -87,11 +96,13 @@ module _ (a : Rows) (h : ℕ) (w : IsWithinHouses a) (holds : HoldsSeeds (bare a
   unfolding sow
   own_is = own_sown a.own h (seeds a.own h) holds.first holds.last
 
+  -- the other row
   pub other_is : number_of q.other ≡ number_of a.other + seeds a.own h / lap_length (length a.own) * ones (length a.own)
       + number_of (row_of (length a.own) (up_to (h + seeds a.own h % lap_length (length a.own) - (length a.own + 1))))
   unfolding sow
   other_is = rw w.same_side at (other_sown a.other h (seeds a.own h) holds.first (rw w.same_side holds.last))
 
+  -- and what comes to the store
   pub store_is : q.own_store ≡ seeds a.own h / lap_length (length a.own) + (if nat_lt (length a.own) (h + seeds a.own h % lap_length (length a.own)) then 1 else 0)
   unfolding sow
   store_is = let last = holds.last in let first = holds.first in grind (arith, nat_tests)
@@ -99,18 +110,23 @@ module _ (a : Rows) (h : ℕ) (w : IsWithinHouses a) (holds : HoldsSeeds (bare a
   -- what the code computes of it
   module _ (m row seeds' laps rest : ℕ) (side : m ≡ length a.own) (row_is : row ≡ number_of a.own) (read : seeds' ≡ row / 32 ^ (h - 1) % 32)
       (laps_is : laps ≡ seeds' / (2 * m + 1)) (rest_is : rest ≡ seeds' % (2 * m + 1)) where
+    -- the seeds that are read are those of the house
     pub seeds_is : seeds' ≡ seeds a.own h
     seeds_is = read ∙ ap (λ n. n / 32 ^ (h - 1) % 32) row_is ∙ read_seeds a.own (h - 1) (omega (arith, holds.first, holds.last)) (omega (arith, w.few_seeds))
 
+    -- the whole laps
     laps_at : laps ≡ seeds a.own h / lap_length (length a.own)
     laps_at = rw (seeds_is, side) at laps_is
 
+    -- the seeds of the last lap
     rest_at : rest ≡ seeds a.own h % lap_length (length a.own)
     rest_at = rw (seeds_is, side) at rest_is
 
+    -- there are few laps
     pub few_laps : laps ≤ 10
     few_laps = laps_few laps laps_at
 
+    -- the rows that are computed are those of the sowing
     pub sown_shows : (alone own_more other other_more last : ℕ) → alone ≡ 32 ^ (h - 1) * seeds' →
         own_more + ones h ≡ laps * ones m + number_of (row_of m (up_to (h + rest))) + number_of (row_of m (up_to (h + rest - (2 * m + 1)))) →
         other ≡ number_of a.other → other_more ≡ laps * ones m + number_of (row_of m (up_to (h + rest - (m + 1)))) →
@@ -129,9 +145,11 @@ module _ (a : Rows) (h : ℕ) (w : IsWithinHouses a) (holds : HoldsSeeds (bare a
           store = omega (arith, store_is);
         }
 
+  -- the sowing leaves few seeds
   few : sum q.own + sum q.other ≤ 31
   few = omega (arith, sown_keeps.play, w.few_seeds)
 
+  -- and few in the store
   pub store_few : q.own_store ≤ 31
   store_few = omega (arith, sown_keeps.play, w.few_seeds)
 
@@ -139,6 +157,7 @@ module _ (a : Rows) (h : ℕ) (w : IsWithinHouses a) (holds : HoldsSeeds (bare a
   pub read_own : (r : RowNumbers) (i : ℕ) → Shows r q → 1 ≤ i → i ≤ length a.own → r.own / 32 ^ (i - 1) % 32 ≡ seeds q.own i
   read_own r i shows low high = ap (λ n. n / 32 ^ (i - 1) % 32) shows.own ∙ read_seeds q.own (i - 1) (omega (arith, sown_keeps.side)) (omega (arith, few))
 
+  -- the house across
   pub read_across : (r : RowNumbers) (i : ℕ) → Shows r q → 1 ≤ i → i ≤ length a.own → r.other / 32 ^ (length a.own + 1 - i - 1) % 32 ≡ seeds q.other (opposite q i)
   read_across r i shows low high =
       let side = sown_keeps.side in
@@ -154,6 +173,7 @@ module _ (a : Rows) (h : ℕ) (w : IsWithinHouses a) (holds : HoldsSeeds (bare a
     | inr other ↦ rw other shows
   ]
 
+  -- or the house across is empty
   pub shows_none : (r : RowNumbers) (i : ℕ) → Shows r q → seeds q.other (opposite q i) ≡ 0 → nat_eq (rule_bit a.rule) 1 ≡ false → Shows r (captured q (Some i))
   shows_none r i shows empty classic =
       let none : captures q.rule (seeds q.other (opposite q i)) ≡ false = rw (sown_keeps.rule, empty) (captures_not a.rule classic) in
@@ -190,6 +210,7 @@ set_less xs k = elim (cases_lt k (length xs)) [
   | inr past ↦ rw (set_past xs k 0 past, get_or_past xs k 0 past) (omega arith)
 ]
 
+-- a capture loses no seed
 capture_keeps : (q : Position) (i : ℕ) → KeepsSeeds q (capture q i)
 capture_keeps q i = record {
   play = omega (arith, set_less q.own (i - 1), set_less q.other (opposite q i - 1));
@@ -199,6 +220,7 @@ capture_keeps q i = record {
   rule = refl;
 }
 
+-- nor does the move that may make one
 captured_keeps : (q : Position) (o : Option ℕ) → KeepsSeeds q (captured q o)
 captured_keeps q None = record { play = refl; other_store = refl; side = refl; other_side = refl; rule = refl }
 captured_keeps q (Some i) = elim (cases_Bool (can_capture q i)) [
@@ -206,6 +228,7 @@ captured_keeps q (Some i) = elim (cases_Bool (can_capture q i)) [
   | inr kept ↦ rw kept (record { play = refl; other_store = refl; side = refl; other_side = refl; rule = refl })
 ]
 
+-- one thing after another loses none
 keeps_then : (p q r : Position) → KeepsSeeds p q → KeepsSeeds q r → KeepsSeeds p r
 keeps_then p q r h k = record {
   play = k.play ∙ h.play;
@@ -222,12 +245,15 @@ after_keeps a h w holds = keeps_then (bare a) (sown (bare a) h) _ (sown_keeps a 
 
 -- where the last seed falls, by its place
 module _ (p : Position) (h : ℕ) (holds : HoldsSeeds p h) (r : RowNumbers) where
+  -- the last seed leaves its house
   last_low : 1 ≤ last_distance p h
   last_low = omega arith
 
+  -- and goes no farther than a lap
   last_high : last_distance p h ≤ lap_length (side_length p)
   last_high = let below = mod_below (seeds p.own h - 1) (lap_length (side_length p)) (omega arith) in omega arith
 
+  -- it falls into an own house past its own
   pub after_own : h + last_distance p h ≤ side_length p → Shows r (captured (sown p h) (Some (h + last_distance p h))) → Shows r (after p h)
   after_own within shows =
       let first = holds.first in
@@ -235,6 +261,7 @@ module _ (p : Position) (h : ℕ) (holds : HoldsSeeds p h) (r : RowNumbers) wher
       let at : own_distance (side_length p) h i ≡ last_distance p h = own_distance_past (side_length p) h i (omega (arith, last_low)) ∙ omega arith in
       subst (λ z. Shows r z) (after_at p h (Some i) (last_house_own p h i holds (omega arith) within at)) shows
 
+  -- or goes round to one before
   pub after_round : lap_length (side_length p) < h + last_distance p h → Shows r (captured (sown p h) (Some (h + last_distance p h - lap_length (side_length p)))) → Shows r (after p h)
   after_round round shows =
       let last = holds.last in
@@ -243,6 +270,7 @@ module _ (p : Position) (h : ℕ) (holds : HoldsSeeds p h) (r : RowNumbers) wher
       let at : own_distance (side_length p) h i ≡ last_distance p h = own_distance_back (side_length p) h i back ∙ omega arith in
       subst (λ z. Shows r z) (after_at p h (Some i) (last_house_own p h i holds (omega arith) (omega arith) at)) shows
 
+  -- or falls into the store or beyond
   pub after_past : side_length p < h + last_distance p h → h + last_distance p h ≤ lap_length (side_length p) → Shows r (sown p h) → Shows r (after p h)
   after_past past within shows =
       let last = holds.last in

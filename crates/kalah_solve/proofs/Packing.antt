@@ -1,6 +1,6 @@
 -- Rows as numbers: houses read and written, and rows of seeds added.
 use Rattle.std.proofs.Common.{zero, suc, ◌≡◌, ℕ, ◌+◌, ◌-◌, ◌*◌, ◌/◌, ◌%◌, ◌^◌, ◌<◌, ◌≤◌, inl, inr, List, [], ◌∷◌, ◌++◌, length, get_or, arith, ap, sym, ◌∙◌, refl, add-one, subst}
-use Rattle.std.specs.Prelude.{slice_set, sum, map, nat_le, if◌then◌else◌, ◌==◌}
+use Rattle.std.specs.Prelude.{slice_set, sum, map, if◌then◌else◌, ◌==◌}
 use Rattle.std.specs.List.{range_with_len}
 use Rattle.std.proofs.lemmas.Nat.{pow-add, mod_below, mul-le}
 use Rattle.std.proofs.Math.Nat.{pow-succ', mul_assoc, div-div-eq-div-mul}
@@ -15,15 +15,18 @@ use Rattle.kalah_rules.proofs.Rows.{length-row_of, same_as_row, row_of_same, see
 use Rattle.kalah_solve.specs.Key.{number_of}
 use Rattle.kalah_solve.specs.Packed.{ones, up_to}
 
+-- five bits are a power of 32
 pub pow_five : (k : ℕ) → 2 ^ (5 * k) ≡ 32 ^ k
 pow_five zero = refl
 pow_five (suc k) =
     let e : 5 * suc k ≡ 5 + 5 * k = omega arith in
     rw (e, pow-add 2 5 (5 * k), pow_five k) (sym (pow-succ' 32 k))
 
+-- a power more is thirty-two times as much
 times_power : (k n : ℕ) → 32 ^ suc k * n ≡ 32 * (32 ^ k * n)
 times_power k n = rw pow-succ' (mul_assoc 32 (32 ^ k) n)
 
+-- a row after another counts from its place
 pub number_of-append : (xs ys : List ℕ) → number_of (xs ++ ys) ≡ number_of xs + 32 ^ length xs * number_of ys
 number_of-append [] ys = omega arith
 number_of-append (x ∷ xs) ys = omega (arith, number_of-append xs ys, times_power (length xs) (number_of ys))
@@ -55,15 +58,18 @@ number_of-more n f =
     ap (map f) (range_more 1 n) ∙ map_push f (range_with_len 1 n) (1 + n) ∙ ap (λ i. row_of n f ++ f i ∷ []) at in
     rw row (number_of-append (row_of n f) (f (n + 1) ∷ []) ∙ rw (length-row_of n f, one) refl)
 
+-- one house more at the end
 number_of-suc : (n : ℕ) (f : ℕ → ℕ) → number_of (row_of (suc n) f) ≡ number_of (row_of n f) + 32 ^ n * f (suc n)
 number_of-suc n f = let e : n + 1 ≡ suc n = add-one n in subst (λ k. number_of (row_of k f) ≡ number_of (row_of n f) + 32 ^ n * f k) e (number_of-more n f)
 
+-- rows are added house by house
 pub number_of-plus : (n : ℕ) (f g : ℕ → ℕ) → number_of (row_of n (λ i. f i + g i)) ≡ number_of (row_of n f) + number_of (row_of n g)
 number_of-plus zero f g = refl
 number_of-plus (suc n) f g =
     let before = number_of-plus n f g in
     number_of-suc n (λ i. f i + g i) ∙ omega (arith, number_of-suc n f, number_of-suc n g)
 
+-- a row with as many seeds in each house
 pub number_of-same : (n q : ℕ) → number_of (row_of n (λ i. q)) ≡ q * ones n
 number_of-same zero q = omega arith
 number_of-same (suc n) q =
@@ -71,9 +77,11 @@ number_of-same (suc n) q =
     let times : q * ones (suc n) ≡ q * (ones n + 32 ^ n * 1) = ap (λ z. q * z) (number_of-suc n (λ i. 1)) in
     number_of-suc n (λ i. q) ∙ omega arith ∙ sym times
 
+-- one seed in each house, where x lies past them all
 pub number_of-all : (n x : ℕ) → n ≤ x → number_of (row_of n (up_to x)) ≡ ones n
 number_of-all n x h = ap number_of (row_of_same n (λ i. 1) (up_to x) (λ j low high. grind (arith, nat_tests)))
 
+-- one seed in each house up to x
 pub number_of-up_to : (n x : ℕ) → x ≤ n → number_of (row_of n (up_to x)) ≡ ones x
 number_of-up_to zero x h = let none : x ≡ 0 = omega arith in rw none refl
 number_of-up_to (suc n) x h = elim (cases_eq x (suc n)) [
@@ -100,6 +108,7 @@ pub own_lap : (m h r i : ℕ) → 1 ≤ h → h ≤ m → r < lap_length m → 1
     up_to r (own_distance m h i) + up_to h i ≡ up_to (h + r) i + up_to (h + r - lap_length m) i
 own_lap m h r i low high few i_low i_high = grind (arith, nat_tests)
 
+-- the same for the other houses
 pub other_lap : (m h r j : ℕ) → 1 ≤ h → h ≤ m → 1 ≤ j → up_to r (other_distance m h j) ≡ up_to (h + r - (m + 1)) j
 other_lap m h r j low high j_low = grind (arith, nat_tests)
 
@@ -132,6 +141,7 @@ own_sown xs h c low high =
     let rows = ap number_of each in
     omega arith
 
+-- what it adds to the other row
 pub other_sown : (ys : List ℕ) (h c : ℕ) → 1 ≤ h → h ≤ length ys →
     number_of (row_of (length ys) (λ j. seeds ys j + gain (lap_length (length ys)) c (other_distance (length ys) h j)))
     ≡ number_of ys + c / lap_length (length ys) * ones (length ys) + number_of (row_of (length ys) (up_to (h + c % lap_length (length ys) - (length ys + 1))))
@@ -159,6 +169,7 @@ ones_le a (suc b) h = elim (cases_eq a (suc b)) [
   | inr less ↦ let on = ones_le a b (omega arith) in omega (arith, number_of-suc b (λ i. 1))
 ]
 
+-- six houses hold a small number
 pub ones_small : (n : ℕ) → n ≤ 6 → ones n ≤ 34636833
 ones_small n h = ones_le n 6 h
 
@@ -172,9 +183,11 @@ alone_small (suc (suc (suc (suc zero)))) x h few = omega arith
 alone_small (suc (suc (suc (suc (suc zero))))) x h few = omega arith
 alone_small (suc (suc (suc (suc (suc (suc k)))))) x h few = absurd (omega arith)
 
+-- so do a few times as many
 pub so_many_small : (x y : ℕ) → x ≤ 10 → y ≤ 34636833 → x * y ≤ 346368330
 so_many_small x y h k = omega (arith, mul-le x y 10 34636833 h k)
 
+-- what lies up to x holds what lies up to h
 pub up_to_past : (m h x : ℕ) → h ≤ m → h ≤ x → ones h ≤ number_of (row_of m (up_to x))
 up_to_past m h x within past = elim (cases_lt x m) [
   | inl less ↦ omega (arith, number_of-up_to m x (omega arith), ones_le h x past)

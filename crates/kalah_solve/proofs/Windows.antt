@@ -1,5 +1,5 @@
 -- Windows, and the best of the moves that were tried.
-use Rattle.std.proofs.Common.{◌≡◌, ◌≢◌, ℕ, ◌+◌, ◌-◌, ◌<◌, ◌≤◌, inl, inr, List, length, get_or, arith, rules, ap, sym, ◌∙◌, refl, subst, w32, to_z, of_z, SFits}
+use Rattle.std.proofs.Common.{◌≡◌, ℕ, ◌+◌, ◌-◌, ◌<◌, ◌≤◌, inl, inr, List, length, get_or, arith, sym, ◌∙◌, refl, subst, w32, to_z, of_z, SFits}
 use Rattle.std.specs.Prelude.{true, false, int_lt, slice_set, sum, Contains, ℤ, pos, negsuc, ◌+ℤ◌, ◌-ℤ◌, ◌≤ℤ◌, ◌<ℤ◌}
 use Rattle.std.specs.Int.{int_max, int_min}
 use Rattle.std.proofs.lemmas.Int.{ints, clamps}
@@ -19,6 +19,7 @@ use Rattle.kalah_solve.proofs.HousesWorth.{worth_reached, value_le_worth}
 pub lt_from : (a b : ℤ) → int_lt a b ≡ true → a <ℤ b
 lt_from a b t = grind (arith, ints)
 
+-- and where it fails
 pub le_from : (a b : ℤ) → int_lt a b ≡ false → b ≤ℤ a
 le_from a b t = grind (arith, ints)
 
@@ -27,6 +28,7 @@ abbrev pub cut : ℕ → ℤ → ℤ
 cut n z = within (pos 0 -ℤ pos n) (pos n) z
 
 module _ (lo hi : ℤ) (low : negsuc 30 ≤ℤ lo) (ordered : lo ≤ℤ hi) (high : hi ≤ℤ pos 31) where
+  -- shifted, where the mover moves again
   pub shifted_again : (d n : ℕ) (g : ℤ) → (pos 0 -ℤ pos n) ≤ℤ g → g ≤ℤ pos n →
       within lo hi (pos d +ℤ within (cut n (lo -ℤ pos d)) (cut n (hi -ℤ pos d)) g) ≡ within lo hi (pos d +ℤ g)
   shifted_again d n g g_low g_high = omega (arith, ints, clamps, low, ordered, high)
@@ -36,12 +38,15 @@ module _ (lo hi : ℤ) (low : negsuc 30 ≤ℤ lo) (ordered : lo ≤ℤ hi) (hig
       within lo hi (pos d -ℤ within (cut n (pos d -ℤ hi)) (cut n (pos d -ℤ lo)) g) ≡ within lo hi (pos d -ℤ g)
   shifted_turn d n g g_low g_high = omega (arith, ints, clamps, low, ordered, high)
 
+-- a window that was cut is in the widest one
 pub cut_low : (n : ℕ) (x : ℤ) → n ≤ 31 → negsuc 30 ≤ℤ cut n x
 cut_low n x few = omega (arith, ints, clamps)
 
+-- at both ends
 pub cut_high : (n : ℕ) (x : ℤ) → n ≤ 31 → cut n x ≤ℤ pos 31
 cut_high n x few = omega (arith, ints, clamps)
 
+-- and its ends stay in order
 pub cut_ordered : (n : ℕ) (x y : ℤ) → x ≤ℤ y → cut n x ≤ℤ cut n y
 cut_ordered n x y h = omega (arith, ints, clamps, h)
 
@@ -49,15 +54,19 @@ cut_ordered n x y h = omega (arith, ints, clamps, h)
 pub up_fits : (d n : ℕ) (r : ℤ) → d + n ≤ 31 → (pos 0 -ℤ pos n) ≤ℤ r → r ≤ℤ pos n → SFits w32 (to_z w32 d +ℤ to_z w32 (of_z w32 r))
 up_fits d n r few low high = omega (arith, ints, low, high)
 
+-- what the sum is
 pub up_is : (d n : ℕ) (r : ℤ) → d + n ≤ 31 → (pos 0 -ℤ pos n) ≤ℤ r → r ≤ℤ pos n → to_z w32 (of_z w32 (to_z w32 d +ℤ to_z w32 (of_z w32 r))) ≡ pos d +ℤ r
 up_is d n r few low high = omega (arith, ints, low, high)
 
+-- a difference fits, too
 pub down_fits : (d n : ℕ) (r : ℤ) → d + n ≤ 31 → (pos 0 -ℤ pos n) ≤ℤ r → r ≤ℤ pos n → SFits w32 (to_z w32 d -ℤ to_z w32 (of_z w32 r))
 down_fits d n r few low high = omega (arith, ints, low, high)
 
+-- what it is
 pub down_is : (d n : ℕ) (r : ℤ) → d + n ≤ 31 → (pos 0 -ℤ pos n) ≤ℤ r → r ≤ℤ pos n → to_z w32 (of_z w32 (to_z w32 d -ℤ to_z w32 (of_z w32 r))) ≡ pos d -ℤ r
 down_is d n r few low high = omega (arith, ints, low, high)
 
+-- equal windows and numbers
 pub within_same : {a b c d e f : ℤ} → a ≡ d → b ≡ e → c ≡ f → within a b c ≡ within d e f
 within_same {a} {b} {c} {d} {e} {f} x y z = rw (x, y, z) refl
 
@@ -73,6 +82,7 @@ within_cut n low high r g x y low_is high_is r_is =
 pub known_answers : (lo hi g : ℤ) (k : Interval) → lo ≤ℤ hi → Holds k g → int_min hi k.hi ≤ℤ int_max lo k.lo → within lo hi k.lo ≡ within lo hi g
 known_answers lo hi g k ordered holds none = omega (arith, ints, clamps, ordered, holds.low, holds.high, none)
 
+-- or makes the window smaller
 pub known_narrows : (lo hi g : ℤ) (k : Interval) → lo ≤ℤ hi → Holds k g → int_max lo k.lo ≤ℤ int_min hi k.hi → within (int_max lo k.lo) (int_min hi k.hi) g ≡ within lo hi g
 known_narrows lo hi g k ordered holds some = omega (arith, ints, clamps, ordered, holds.low, holds.high, some)
 
@@ -80,6 +90,7 @@ known_narrows lo hi g k ordered holds some = omega (arith, ints, clamps, ordered
 pub probe_low : (lo hi middle z : ℤ) → lo ≤ℤ middle → middle ≤ℤ hi → within lo middle z <ℤ middle → within lo middle z ≡ within lo hi z
 probe_low lo hi middle z a b c = omega (arith, ints, clamps, a, b, c)
 
+-- an answer at its upper end asks again from there
 pub probe_high : (lo hi middle z : ℤ) → lo ≤ℤ middle → middle ≤ℤ hi → middle ≤ℤ within lo middle z → within (within lo middle z) hi z ≡ within lo hi z
 probe_high lo hi middle z a b c = omega (arith, ints, clamps, a, b, c)
 
@@ -87,6 +98,7 @@ probe_high lo hi middle z a b c = omega (arith, ints, clamps, a, b, c)
 best_tried : (lo hi best x : ℤ) → lo ≤ℤ best → best ≤ℤ hi → within lo hi x ≤ℤ within best hi x
 best_tried lo hi best x least most = omega (arith, ints, clamps, least, most)
 
+-- the best is no more than the worth
 best_reached : (lo hi best x g : ℤ) → lo ≤ℤ hi → lo ≤ℤ best → best ≤ℤ hi → x ≤ℤ g → best ≤ℤ within lo hi g → within best hi x ≤ℤ within lo hi g
 best_reached lo hi best x g ordered least most x_le reached = omega (arith, ints, clamps, ordered, least, most, x_le, reached)
 
@@ -99,6 +111,7 @@ pub record Progress (a : Rows) (lo hi : ℤ) (untried : List ℕ) (best : ℤ) :
   pub tried : (h : ℕ) → Contains (legal_houses (bare a)) h → get_or untried (h - 1) 0 ≡ 0 → within lo hi (value_of_move (bare a) h) ≤ℤ best
   pub reached : best ≤ℤ within lo hi (houses_worth a)
 
+-- before the first move
 pub progress_none : (a : Rows) (lo hi : ℤ) (ranks : List ℕ) → lo ≤ℤ hi → length ranks ≡ 6 →
     ((k : ℕ) → 0 < get_or ranks k 0 → Contains (legal_houses (bare a)) (k + 1)) →
     ((h : ℕ) → Contains (legal_houses (bare a)) h → 0 < get_or ranks (h - 1) 0) → Progress a lo hi ranks lo
@@ -146,6 +159,7 @@ progress_tried a lo hi untried best at best' w ordered p place some e =
 pub untried_falls : (untried : List ℕ) (at : ℕ) → length untried ≡ 6 → at < 6 → 0 < get_or untried at 0 → sum (slice_set untried at 0) < sum untried
 untried_falls untried at cells place some = omega (arith, sum_by-set (λ x. x) untried at 0 0 (omega (arith, cells)))
 
+-- the best is the answer
 answer : (lo hi best g : ℤ) → lo ≤ℤ best → best ≤ℤ hi → best ≤ℤ within lo hi g → within lo hi g ≤ℤ best → best ≡ within lo hi g
 answer lo hi best g a b c d = omega (arith, ints, clamps, a, b, c, d)
 
@@ -157,8 +171,10 @@ progress_all a lo hi untried best at w going p highest none =
     let all : get_or untried (some.0 - 1) 0 ≡ 0 = omega (arith, highest (some.0 - 1)) in
     answer lo hi best (houses_worth a) p.least p.most p.reached (rw (← some.2) at (p.tried some.0 some.1 all))
 
+-- so it is at the upper end
 top : (lo hi best g : ℤ) → lo ≤ℤ hi → best ≤ℤ hi → hi ≤ℤ best → best ≤ℤ within lo hi g → best ≡ within lo hi g
 top lo hi best g a b c d = omega (arith, ints, clamps, a, b, c, d)
 
+-- where the best is at the upper end
 pub progress_top : (a : Rows) (lo hi : ℤ) (untried : List ℕ) (best : ℤ) → lo ≤ℤ hi → Progress a lo hi untried best → hi ≤ℤ best → best ≡ within lo hi (houses_worth a)
 progress_top a lo hi untried best ordered p high = top lo hi best (houses_worth a) ordered p.most high p.reached

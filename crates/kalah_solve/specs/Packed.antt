@@ -1,7 +1,7 @@
 -- Houses in one number, and a move on houses alone.
-use Rattle.std.specs.Prelude.{◌≡◌, ℕ, ◌+◌, ◌*◌, ◌^◌, ◌<◌, Bool, if◌then◌else◌, nat_le, ℤ, pos, ◌+ℤ◌, ◌-ℤ◌}
-use Rattle.kalah_rules.specs.Position.{Position, Rows, rows_of, seeds_in_houses, is_over, final_margin, swapped}
-use Rattle.kalah_rules.specs.Sowing.{after, is_again, row_of}
+use Rattle.std.specs.Prelude.{◌≡◌, ℕ, ◌^◌, ◌<◌, if◌then◌else◌, nat_le}
+use Rattle.kalah_rules.specs.Position.{Position, seeds_in_houses}
+use Rattle.kalah_rules.specs.Sowing.{row_of}
 use Rattle.kalah_solve.specs.Key.{number_of, IsKey, rows_at}
 use Rattle.kalah_solve.specs.Worth.{bare}
 use Rattle.kalah_solve.specs.declared.packed.RowNumbers.{RowNumbers}

@@ -1,4 +1,4 @@
-use Rattle.std.proofs.Common.{arith, rules, ◌∙◌, sym, ap}
+use Rattle.std.proofs.Common.{rules}
 use Rattle.kalah_solve.proofs.Keys.{unpacks_same, unpacks_found}
 use Rattle.kalah_solve.proofs.key.unpack.Goals as goal
 

@@ -1,4 +1,4 @@
-use Rattle.std.proofs.Common.{arith, ◌≡◌, ◌^◌, ◌*◌, ◌%◌, ◌-◌, ◌<◌, ◌≤◌}
+use Rattle.std.proofs.Common.{arith, ◌-◌}
 use Rattle.kalah_solve.proofs.Packing.{pow_five, alone_small}
 use Rattle.kalah_solve.proofs.packed.alone.Goals as goal
 

@@ -1,4 +1,4 @@
-use Rattle.std.proofs.Common.{arith, ◌-◌, refl}
+use Rattle.std.proofs.Common.{◌-◌, refl}
 use Rattle.kalah_solve.proofs.Packing.{pow_five}
 use Rattle.kalah_solve.proofs.packed.seeds_at.Goals as goal
 

@@ -1,4 +1,4 @@
-use Rattle.std.proofs.Common.{arith, rules, ◌≡◌, ◌+◌, ◌-◌, ◌<◌, length}
+use Rattle.std.proofs.Common.{arith}
 use Rattle.kalah_solve.specs.Worth.{bare}
 use Rattle.kalah_solve.proofs.Ranked.{ranked_more, ranked_same, ranked_legal, ranked_all}
 use Rattle.kalah_solve.proofs.ranks.ranks.Goals as goal

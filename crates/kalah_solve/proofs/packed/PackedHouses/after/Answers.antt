@@ -1,6 +1,6 @@
-use Rattle.std.proofs.Common.{arith, ◌≡◌, ◌+◌, ◌-◌, ◌*◌, ℕ, ◌∙◌, ap, rules, subst}
-use Rattle.std.specs.Prelude.{Some, length}
-use Rattle.kalah_rules.specs.Sowing.{sown, captured, last_distance, lap_length}
+use Rattle.std.proofs.Common.{arith, ◌≡◌, ◌+◌, ℕ, subst}
+use Rattle.std.specs.Prelude.{Some}
+use Rattle.kalah_rules.specs.Sowing.{sown, captured, last_distance}
 use Rattle.kalah_solve.specs.Packed.{Shows}
 use Rattle.kalah_solve.specs.Worth.{bare}
 use Rattle.kalah_solve.proofs.PackedMoves.{after_own, after_round, after_past}

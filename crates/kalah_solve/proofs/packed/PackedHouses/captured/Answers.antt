@@ -1,5 +1,5 @@
-use Rattle.std.proofs.Common.{arith, rules, ◌≡◌, ◌<◌, ◌⊎◌, inl, inr, ap, sym, ◌∙◌, subst}
-use Rattle.std.specs.Prelude.{nat_eq, true, false}
+use Rattle.std.proofs.Common.{arith, ◌≡◌, ◌<◌, ◌⊎◌, inl, inr, sym, ◌∙◌}
+use Rattle.std.specs.Prelude.{nat_eq, true}
 use Rattle.kalah_rules.specs.Position.{seeds, opposite}
 use Rattle.kalah_rules.specs.Sowing.{sown}
 use Rattle.kalah_solve.specs.Key.{rule_bit}

@@ -1,4 +1,4 @@
-use Rattle.std.proofs.Common.{rules, sym, ap, ◌∙◌}
+use Rattle.std.proofs.Common.{sym, ap, ◌∙◌}
 use Rattle.kalah_solve.specs.Key.{key_of}
 use Rattle.kalah_solve.proofs.Keys.{key_of_rows_at}
 use Rattle.kalah_solve.proofs.packed.PackedHouses.key.Goals as goal

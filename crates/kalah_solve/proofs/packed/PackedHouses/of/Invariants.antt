@@ -1,4 +1,4 @@
-use Rattle.std.proofs.Common.{◌≡◌, ◌+◌, ◌-◌, ◌≤◌, take}
+use Rattle.std.proofs.Common.{◌≡◌, ◌+◌, ◌-◌, take}
 use Rattle.std.specs.Prelude.{sum}
 use Rattle.kalah_solve.proofs.packed.PackedHouses.of.Given as goal
 

@@ -1,8 +1,8 @@
-use Rattle.std.proofs.Common.{arith, rules, sym, ap, ◌∙◌, ◌≡◌, ◌-◌, ℕ, SFits, w32, w8, to_z, of_z, pos, ◌+ℤ◌, ◌-ℤ◌}
-use Rattle.std.proofs.lemmas.Int.{ints, to_z-of_z}
+use Rattle.std.proofs.Common.{arith, rules, sym, ap, ◌∙◌, ◌≡◌, ◌-◌, w32, to_z, of_z, pos, ◌+ℤ◌, ◌-ℤ◌}
+use Rattle.std.proofs.lemmas.Int.{ints}
 use Rattle.kalah_rules.proofs.Legal.{legal_holds}
 use Rattle.kalah_solve.specs.Worth.{bare}
-use Rattle.kalah_solve.specs.declared.packed.HousesStep.TheVariants.{Over, Again, Turn}
+use Rattle.kalah_solve.specs.declared.packed.HousesStep.TheVariants.{Over}
 use Rattle.kalah_solve.proofs.Keys.{key_known, seeds_known}
 use Rattle.kalah_solve.proofs.HousesSteps.{store_within, seeds_within, store_small, over_own, over_other, again_packed, turn_packed}
 use Rattle.kalah_solve.proofs.packed.PackedHouses.play.Goals as goal

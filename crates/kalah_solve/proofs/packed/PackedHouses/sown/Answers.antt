@@ -1,4 +1,4 @@
-use Rattle.std.proofs.Common.{arith, rules, ap, ◌∙◌, lt-ltb, refl}
+use Rattle.std.proofs.Common.{lt-ltb, refl}
 use Rattle.std.proofs.lemmas.Bool.{le-ltb}
 use Rattle.kalah_solve.proofs.PackedMoves.{sown_shows, few_laps}
 use Rattle.kalah_solve.proofs.packed.PackedHouses.sown.Goals as goal

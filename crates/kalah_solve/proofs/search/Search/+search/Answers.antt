@@ -1,8 +1,8 @@
-use Rattle.std.proofs.Common.{arith, rules, sym, ap, ◌∙◌, ◌≡◌, ◌<◌, ◌≤◌, ℕ, get_or, subst, w32, w8, to_z, of_z, SFits, ◌≤ℤ◌, ◌<ℤ◌, pos, negsuc, ◌+ℤ◌, ◌-ℤ◌, ◌+◌}
+use Rattle.std.proofs.Common.{arith, rules, sym, ap, ◌∙◌, ◌≡◌, ◌≤◌, subst, w32, w8, to_z, of_z, SFits, ◌≤ℤ◌, ◌<ℤ◌, pos, negsuc, ◌+ℤ◌, ◌-ℤ◌, ◌+◌}
 use Rattle.std.proofs.lemmas.Int.{ints, clamps, to_z-of_z}
 use Rattle.kalah_solve.specs.HousesStep.{worth_of_step, moves_after, GoesOn, GoesOnAt}
 use Rattle.kalah_solve.specs.Table.{within}
-use Rattle.kalah_solve.specs.Worth.{bare, houses_worth, value_of_move}
+use Rattle.kalah_solve.specs.Worth.{houses_worth}
 use Rattle.kalah_solve.proofs.HousesSteps.{goes_on, step_falls, step_value}
 use Rattle.kalah_solve.proofs.HousesWorth.{worth_up_to}
 use Rattle.kalah_solve.proofs.Windows.{lt_from, le_from, cut, cut_low, cut_high, cut_ordered, up_fits, up_is, down_fits, down_is, within_same, within_cut, shifted_again, shifted_turn, known_answers, known_narrows, probe_low, probe_high, progress_tried, progress_all}

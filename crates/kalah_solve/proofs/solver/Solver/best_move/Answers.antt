@@ -1,6 +1,6 @@
-use Rattle.std.proofs.Common.{arith, rules, sym, ap, ◌∙◌, ◌≡◌, ◌<◌, ℕ, length, get_or, subst, take, w32, SFits, ◌≤ℤ◌, ◌<ℤ◌, pos, to_z, of_z}
+use Rattle.std.proofs.Common.{arith, rules, sym, ap, ◌∙◌, ◌≡◌, ◌<◌, length, get_or, subst, w32, SFits, ◌≤ℤ◌, ◌<ℤ◌, pos, to_z, of_z}
 use Rattle.std.specs.Prelude.{Contains}
-use Rattle.std.proofs.lemmas.Int.{ints, to_z-of_z}
+use Rattle.std.proofs.lemmas.Int.{to_z-of_z}
 use Rattle.std.proofs.lemmas.List.{take_all}
 use Rattle.std.proofs.lemmas.List.Elements.{Contains-get_or}
 use Rattle.kalah_rules.specs.Play.{legal_houses}

@@ -1,4 +1,4 @@
-use Rattle.std.proofs.Common.{arith, rules, sym, ap, ◌∙◌, ◌≡◌, ◌≤◌, subst, w32, SFits}
+use Rattle.std.proofs.Common.{arith, rules, sym, ap, ◌∙◌, ◌≤◌, subst, w32, SFits}
 use Rattle.std.specs.Prelude.{Contains}
 use Rattle.std.proofs.lemmas.Int.{to_z-of_z}
 use Rattle.kalah_rules.specs.Play.{legal_houses}

@@ -1,4 +1,4 @@
-use Rattle.std.proofs.Common.{rules, ◌∙◌, sym}
+use Rattle.std.proofs.Common.{◌∙◌, sym}
 use Rattle.kalah_solve.proofs.Entries.{found_holds, true_promoted}
 use Rattle.kalah_solve.proofs.table.Table.look_up.Goals as goal
 
