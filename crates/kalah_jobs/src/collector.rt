@@ -1,5 +1,5 @@
 //! The collector: outcomes come in any order, and the answers of each file are given in the order of its lines.
-ghost use Rattle.std.specs.Prelude.{◌≡◌, ◌<◌, ◌↔◌, IfOk, IsTrue, All, List, length, map};
+ghost use Rattle.std.specs.Prelude.{◌≡◌, ◌<◌, ◌↔◌, IfOk, IsTrue, All, length, map};
 ghost use Rattle.kalah_jobs.specs.CollectorState.{state_of, line_count, HasEnded, new_files, HasLinesOf};
 ghost use Rattle.kalah_jobs.specs.CollectorEvents.{Offers, Takes};
 
