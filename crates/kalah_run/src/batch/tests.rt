@@ -4,7 +4,7 @@ mod gates;
 mod hostile;
 mod writers;
 
-use crate::{Gate, OpenGate, RunFault, Tally, solve_batch};
+use crate::{Gate, OpenGate, RunFault, solve_batch};
 use kalah_jobs::{FileText, Sink, Stream};
 use std::alloc::{AllocError, Global};
 use std::sync::Wait;
@@ -71,9 +71,12 @@ fn answers<R: Threads + Wait + Sync, G: Gate>(
     requires table { (0 < table) × (table ≤ 1048576) }
 {
     let mut out = Stream::new(Vec::<u8>::new(alloc));
-    let tally = solve_batch(rt, alloc, files, workers, table, gate, &mut out);
-    let lines = text.lines().count() as u32;
-    tally == Ok(Tally { lines, faults }) && out.into_inner().as_slice() == text.as_bytes()
+    let Ok(tally) = solve_batch(rt, alloc, files, workers, table, gate, &mut out) else {
+        return false;
+    };
+    tally.lines as usize == text.lines().count()
+        && tally.faults == faults
+        && out.into_inner().as_slice() == text.as_bytes()
 }
 
 #[test]
