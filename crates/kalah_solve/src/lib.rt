@@ -1,6 +1,8 @@
 //! The margin of best play of a position of Kalah, and the lowest house that attains it.
 #![tactic(auto)]
 
+#[cfg(test)]
+mod granting;
 mod key;
 mod laws;
 mod packed;

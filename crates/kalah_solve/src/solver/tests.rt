@@ -1,10 +1,11 @@
+mod memory;
+
 use super::*;
 use crate::key::{pack, unpack};
 use crate::plain;
 use crate::search::Search;
 use crate::table::Interval;
 use kalah_rules::{Houses, Rule};
-use linked_list_allocator::LocalHeap;
 use std::process::Abort;
 use std::test::Fail;
 
@@ -40,7 +41,10 @@ fn same_houses_with_other_stores_share_an_entry(rt: HostRuntime) -> Result<(), F
 }
 
 // The worked positions with one house a side, in order.
-fn tells_one_house(rt: &impl Abort, solver: &mut Solver) -> Result<(), Fail> {
+fn tells_one_house<A: Allocator + Clone>(
+    rt: &impl Abort,
+    solver: &mut Solver<A>,
+) -> Result<(), Fail> {
     for (own, other, margin) in [
         (1, 1, 0),
         (2, 2, -2),
@@ -58,7 +62,10 @@ fn tells_one_house(rt: &impl Abort, solver: &mut Solver) -> Result<(), Fail> {
 }
 
 // Those with two houses a side, in order.
-fn tells_two_houses(rt: &impl Abort, solver: &mut Solver) -> Result<(), Fail> {
+fn tells_two_houses<A: Allocator + Clone>(
+    rt: &impl Abort,
+    solver: &mut Solver<A>,
+) -> Result<(), Fail> {
     for (own, other, verdict) in [
         ([1, 1, 0], [1, 1, 0], best(2, 2)),
         ([5, 0, 0], [1, 0, 0], best(2, 1)),
@@ -152,28 +159,6 @@ fn agrees_with_plain_with_every_answer_kept(rt: HostRuntime) -> Result<(), Fail>
     };
     agrees_with_plain(&rt, &mut solver, Rule::Classic)?;
     agrees_with_plain(&rt, &mut solver, Rule::EmptyCapture)
-}
-
-// The verdict on a heap of so many bytes, if the table's index fits into it.
-fn on_a_small_heap(rt: &impl Abort, alloc: Global, size: usize) -> Result<(), Fail> {
-    let heap = LocalHeap::new(alloc, size)?;
-    if let Ok(table) = Table::new(&heap, 16) {
-        let mut solver = Solver {
-            search: Search::with_all_entries(table),
-        };
-        assert_eq!(rt; solver.solve(&one(8, 7)?), best(-9, 1));
-        assert_eq!(rt; solver.solve(&one(16, 15)?), best(7, 1));
-    }
-    Ok(())
-}
-
-// Of these sizes the least has no room for the index, and others have some for a few entries beside it.
-#[test]
-fn refused_entries_change_no_verdict(rt: HostRuntime) -> Result<(), Fail> {
-    for size in 1..48usize {
-        on_a_small_heap(&rt, rt.alloc(), 64 * size)?;
-    }
-    Ok(())
 }
 
 #[test]

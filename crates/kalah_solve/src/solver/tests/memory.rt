@@ -1,0 +1,139 @@
+//! Want of memory: an answer for which there is none is left out of the table, and verdicts stay the same.
+use super::*;
+use crate::granting::Granting;
+
+// A solver with this table, into which the search puts every answer if it `keeps_all`.
+fn solver_with<A: Allocator + Clone>(table: Table<A>, keeps_all: bool) -> Solver<A> {
+    if keeps_all {
+        Solver {
+            search: Search::with_all_entries(table),
+        }
+    } else {
+        Solver::new(table)
+    }
+}
+
+// Positions with so many seeds that some answers are kept.
+fn tells_many_seeds<A: Allocator + Clone>(
+    rt: &impl Abort,
+    solver: &mut Solver<A>,
+) -> Result<(), Fail> {
+    assert_eq!(rt; solver.solve(&one(8, 7)?), best(-9, 1));
+    assert_eq!(rt; solver.solve(&one(16, 15)?), best(7, 1));
+    let fives = two(Rule::Classic, [5, 5, 0], [5, 5, 0])?;
+    assert_eq!(rt; solver.solve(&fives), best(6, 1));
+    Ok(())
+}
+
+// Two positions that differ in their stores alone, with one entry for both, unless there is no memory for the table.
+fn tells_both(rt: &impl Abort, heap: &Granting<Global>, keeps_all: bool) -> Result<(), Fail> {
+    let table = Table::new(heap, 1);
+    assert_eq!(rt; table.is_err(), heap.refused() > 0);
+    if let Ok(table) = table {
+        let mut solver = solver_with(table, keeps_all);
+        let bare = two(Rule::Classic, [1, 1, 0], [1, 1, 0])?;
+        let rich = two(Rule::Classic, [1, 1, 9], [1, 1, 4])?;
+        assert_eq!(rt; solver.solve(&bare), best(2, 2));
+        assert_eq!(rt; solver.solve(&rich), best(7, 2));
+    }
+    Ok(())
+}
+
+#[test]
+fn no_memory_makes_no_table(rt: HostRuntime) {
+    let heap = Granting::new(rt.alloc(), 0);
+    assert!(rt; Table::new(&heap, 1).is_err());
+    assert_eq!(rt; heap.refused(), 1);
+}
+
+// The last run is granted as many requests as there are, and the others fewer.
+#[test]
+fn one_entry_is_granted_some_requests(rt: HostRuntime) -> Result<(), Fail> {
+    for keeps_all in [false, true] {
+        let ample = Granting::new(rt.alloc(), u32::MAX);
+        tells_both(&rt, &ample, keeps_all)?;
+        assert_eq!(rt; ample.refused(), 0);
+        for grants in 0..=ample.made() {
+            let heap = Granting::new(rt.alloc(), grants);
+            tells_both(&rt, &heap, keeps_all)?;
+            assert_eq!(rt; heap.refused() == 0, grants == ample.made());
+        }
+    }
+    Ok(())
+}
+
+// How many requests come for a large table.
+fn requests_of_a_table(alloc: Global) -> Result<u32, Fail> {
+    let heap = Granting::new(alloc, u32::MAX);
+    let _table = Table::new(&heap, 1_024)?;
+    Ok(heap.made())
+}
+
+#[test]
+fn large_table_is_granted_some_entries(rt: HostRuntime) -> Result<(), Fail> {
+    let before = requests_of_a_table(rt.alloc())?;
+    let ample = Granting::new(rt.alloc(), u32::MAX);
+    let mut solver = solver_with(Table::new(&ample, 1_024)?, true);
+    tells_many_seeds(&rt, &mut solver)?;
+    assert_eq!(rt; ample.refused(), 0);
+    assert!(rt; ample.made().saturating_sub(before) > 50);
+    for grants in before..=ample.made() {
+        let heap = Granting::new(rt.alloc(), grants);
+        let mut solver = solver_with(Table::new(&heap, 1_024)?, true);
+        tells_many_seeds(&rt, &mut solver)?;
+        assert_eq!(rt; heap.refused() == 0, grants == ample.made());
+    }
+    Ok(())
+}
+
+#[test]
+fn every_entry_is_refused(rt: HostRuntime) -> Result<(), Fail> {
+    for keeps_all in [false, true] {
+        let heap = Granting::new(rt.alloc(), requests_of_a_table(rt.alloc())?);
+        let mut solver = solver_with(Table::new(&heap, 1_024)?, keeps_all);
+        tells_one_house(&rt, &mut solver)?;
+        tells_two_houses(&rt, &mut solver)?;
+        tells_many_seeds(&rt, &mut solver)?;
+        assert!(rt; heap.refused() > 0);
+        let board = one(16, 15)?;
+        assert!(rt; !board.is_over());
+        let packed = PackedHouses::of(&board.houses());
+        assert_eq!(rt; solver.search.search(&packed, -31, 31), 7);
+        assert!(rt; solver.search.entry(&packed).is_none());
+    }
+    Ok(())
+}
+
+// A table that is asked for again where it was refused.
+fn table_at_last(heap: &Granting<Global>) -> Result<Table<&Granting<Global>>, Fail> {
+    match Table::new(heap, 1_024) {
+        Ok(table) => Ok(table),
+        Err(_) => Ok(Table::new(heap, 1_024)?),
+    }
+}
+
+// The verdicts where one request was refused, after which the table takes an entry.
+fn goes_on_after_a_refusal(rt: &impl Abort, heap: &Granting<Global>) -> Result<(), Fail> {
+    let mut solver = solver_with(table_at_last(heap)?, true);
+    tells_many_seeds(rt, &mut solver)?;
+    let board = one(16, 15)?;
+    assert!(rt; !board.is_over());
+    let packed = PackedHouses::of(&board.houses());
+    assert_eq!(rt; solver.search.search(&packed, -31, 31), 7);
+    assert_eq!(rt; solver.search.search(&packed, -31, 31), 7);
+    assert!(rt; solver.search.entry(&packed) == Some(Interval { lo: 7, hi: 7 }));
+    Ok(())
+}
+
+#[test]
+fn one_request_is_refused(rt: HostRuntime) -> Result<(), Fail> {
+    let ample = Granting::new(rt.alloc(), u32::MAX);
+    goes_on_after_a_refusal(&rt, &ample)?;
+    assert_eq!(rt; ample.refused(), 0);
+    for before in 0..=ample.made() {
+        let heap = Granting::but_one(rt.alloc(), before);
+        goes_on_after_a_refusal(&rt, &heap)?;
+        assert_eq!(rt; heap.refused() == 0, before == ample.made());
+    }
+    Ok(())
+}
