@@ -15,6 +15,8 @@ mod job;
 mod jobs;
 mod line_fault;
 mod line_laws;
+#[cfg(test)]
+mod memory;
 mod number;
 mod outcome;
 mod parts;

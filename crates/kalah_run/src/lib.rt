@@ -5,6 +5,8 @@ mod batch;
 mod desk;
 mod desk_rule;
 mod gate;
+#[cfg(test)]
+mod memory;
 mod pass;
 mod queue_passes;
 mod queue_rule;

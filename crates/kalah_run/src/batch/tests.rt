@@ -2,6 +2,7 @@ ghost use Rattle.std.specs.Prelude.{◌≡◌, ◌<◌, ◌≤◌, Some};
 
 mod gates;
 mod hostile;
+mod memory;
 mod writers;
 
 use crate::{Gate, OpenGate, RunFault, solve_batch};

@@ -1,0 +1,49 @@
+//! Each request for memory refused in turn. With ample memory these tests just pass. The repository's script runs each of
+//! them again and again, with the first request refused, the second, and so on: it has to pass each time, until the request
+//! that is refused is one of its own marks.
+use crate::{Desk, ResultsQueue};
+use kalah_jobs::{Entry, LineFault, Outcome};
+use kalah_solve::{Solver, Table};
+use std::alloc::Global;
+use std::test::Fail;
+
+// A request that is refused only where none before it was.
+pub(crate) fn mark(alloc: Global, place: &'static str) -> Result<(), Fail> {
+    match Box::new(alloc, 0u8) {
+        Ok(_) => Ok(()),
+        Err(_) => Err(Fail::new(place)),
+    }
+}
+
+#[test]
+fn a_desk(rt: HostRuntime) -> Result<(), Fail> {
+    let alloc = rt.alloc();
+    let (desk, mut passes) = Desk::open(alloc, 3, 2).or_else(|_| Desk::open(alloc, 3, 2))?;
+    assert_eq!(rt; passes.len(), 2);
+    mark(alloc, "before the calls without memory")?;
+    assert_eq!(rt; desk.draw(&mut passes[0]), Some(0));
+    assert_eq!(rt; desk.draw(&mut passes[1]), Some(1));
+    assert_eq!(rt; desk.draw(&mut passes[0]), Some(2));
+    assert_eq!(rt; desk.draw(&mut passes[1]), None);
+    assert_eq!(rt; desk.draw(&mut passes[1]), None);
+    let closed = desk.close(passes);
+    assert_eq!(rt; (closed.drawn(), closed.spent()), (3, true));
+    mark(alloc, "after all")
+}
+
+#[test]
+fn a_results_queue(rt: HostRuntime) -> Result<(), Fail> {
+    let alloc = rt.alloc();
+    let table = Table::new(alloc, 16).or_else(|_| Table::new(alloc, 16))?;
+    let mut solver = Solver::new(table);
+    let first = Outcome::of(0, 3, Entry::Bad(LineFault::Long), &mut solver);
+    let second = Outcome::of(1, 4, Entry::Bad(LineFault::Seeds), &mut solver);
+    let opened = ResultsQueue::open(alloc, 2, 2).or_else(|_| ResultsQueue::open(alloc, 2, 2));
+    let (queue, mut puts, mut pass) = opened?;
+    mark(alloc, "before the calls without memory")?;
+    queue.put(&rt, &mut puts[0], first);
+    queue.put(&rt, &mut puts[1], second);
+    assert_eq!(rt; queue.get(&rt, &mut pass), first);
+    assert_eq!(rt; queue.close(&rt, puts, pass).left(), 1);
+    mark(alloc, "after all")
+}
