@@ -13,8 +13,10 @@ kalah: FORCE
 
 FORCE:
 
-# The gate: every proof from nothing, the must-fail edits, the tests and the program's stored run.
+# The gate: each request for memory refused in turn; then every proof from nothing, the must-fail edits, the tests and the
+# program's stored run.
 test:
+	tests/refuse-memory
 	rt ci
 
 install: kalah

@@ -15,8 +15,6 @@ mod job;
 mod jobs;
 mod line_fault;
 mod line_laws;
-#[cfg(test)]
-mod memory;
 mod number;
 mod outcome;
 mod parts;
@@ -30,6 +28,8 @@ mod same_entry;
 mod side;
 mod sink;
 mod stream;
+#[cfg(test)]
+mod want_of_memory;
 mod written;
 
 pub use answer::{Answer, Taken};

@@ -10,6 +10,8 @@ mod moves;
 mod row;
 mod rule;
 mod step;
+#[cfg(test)]
+mod want_of_memory;
 
 pub use board::Board;
 pub use houses::Houses;

@@ -5,8 +5,6 @@ mod batch;
 mod desk;
 mod desk_rule;
 mod gate;
-#[cfg(test)]
-mod memory;
 mod pass;
 mod queue_passes;
 mod queue_rule;
@@ -17,6 +15,8 @@ mod shift;
 mod shifts;
 mod staff;
 mod tally;
+#[cfg(test)]
+mod want_of_memory;
 mod workers;
 
 pub use batch::solve_batch;

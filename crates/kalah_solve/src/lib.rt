@@ -12,6 +12,8 @@ mod search;
 mod solver;
 mod table;
 mod verdict;
+#[cfg(test)]
+mod want_of_memory;
 
 pub use key::{pack, unpack};
 pub use laws::{

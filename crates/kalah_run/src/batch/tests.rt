@@ -2,7 +2,7 @@ ghost use Rattle.std.specs.Prelude.{◌≡◌, ◌<◌, ◌≤◌, Some};
 
 mod gates;
 mod hostile;
-mod memory;
+mod want_of_memory;
 mod writers;
 
 use crate::{Gate, OpenGate, RunFault, solve_batch};

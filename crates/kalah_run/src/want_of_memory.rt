@@ -1,6 +1,6 @@
-//! Each request for memory refused in turn. With ample memory these tests just pass. The repository's script runs each of
-//! them again and again, with the first request refused, the second, and so on: it has to pass each time, until the request
-//! that is refused is one of its own marks.
+//! Each request for memory refused in turn. With ample memory these tests just pass. `tests/refuse-memory` runs each of them
+//! again and again, with the first request refused, the second, and so on: it has to pass each time, until the request that
+//! is refused is one of its own marks.
 use crate::{Desk, ResultsQueue};
 use kalah_jobs::{Entry, LineFault, Outcome};
 use kalah_solve::{Solver, Table};

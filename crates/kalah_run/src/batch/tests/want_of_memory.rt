@@ -2,7 +2,7 @@
 ghost use Rattle.std.specs.Prelude.{◌≡◌};
 
 use super::{ANSWERS, four_files};
-use crate::memory::mark;
+use crate::want_of_memory::mark;
 use crate::{OpenGate, RunFault, Tally, solve_batch};
 use kalah_jobs::{FileText, Sink, Stream};
 use std::alloc::Global;

@@ -1,6 +1,6 @@
-//! Each request for memory refused in turn. With ample memory these tests just pass. The repository's script runs each of
-//! them again and again, with the first request refused, the second, and so on: it has to pass each time, until the request
-//! that is refused is one of its own marks.
+//! Each request for memory refused in turn. With ample memory these tests just pass. `tests/refuse-memory` runs each of them
+//! again and again, with the first request refused, the second, and so on: it has to pass each time, until the request that
+//! is refused is one of its own marks.
 ghost use Rattle.kalah_jobs.specs.CollectorState.{HasLinesOf};
 
 use crate::{

@@ -1,0 +1,42 @@
+//! Each request for memory of the global allocator refused in turn. With ample memory these tests just pass.
+//! `tests/refuse-memory` runs each of them again and again, with the first request refused, the second, and so on: it has to
+//! pass each time, until the request that is refused is one of its own marks.
+use crate::{Solver, Table, Verdict, pack, unpack};
+use kalah_rules::{Board, Houses, Rule};
+use std::alloc::Global;
+use std::test::Fail;
+
+// A request that is refused only where none before it was.
+fn mark(alloc: Global, place: &'static str) -> Result<(), Fail> {
+    match Box::new(alloc, 0u8) {
+        Ok(_) => Ok(()),
+        Err(_) => Err(Fail::new(place)),
+    }
+}
+
+const ONES: [u8; 6] = [1, 1, 0, 0, 0, 0];
+
+#[test]
+fn a_key_and_a_solver_take_no_memory(rt: HostRuntime) -> Result<(), Fail> {
+    let alloc = rt.alloc();
+    let table = Table::new(alloc, 1).or_else(|_| Table::new(alloc, 1))?;
+    mark(alloc, "before the calls without memory")?;
+    let houses = Houses::new(2, ONES, ONES, Rule::Classic).ok_or("beyond the limits")?;
+    assert_eq!(rt; pack(&houses), 0x2000_0008_4000_0021);
+    assert!(rt; unpack(0x2000_0008_4000_0021) == Some(houses));
+    let _solver = Solver::new(table);
+    mark(alloc, "after all")
+}
+
+#[test]
+fn one_table_for_two_positions(rt: HostRuntime) -> Result<(), Fail> {
+    let alloc = rt.alloc();
+    let table = Table::new(alloc, 1).or_else(|_| Table::new(alloc, 1))?;
+    let mut solver = Solver::new(table);
+    for (own_store, other_store, margin) in [(0, 0, 2), (9, 4, 7)] {
+        let board = Board::new(2, ONES, own_store, ONES, other_store, Rule::Classic);
+        let verdict = solver.solve(&board.ok_or("beyond the limits")?);
+        assert_eq!(rt; verdict, Verdict::Best { margin, house: 2 });
+    }
+    mark(alloc, "after all")
+}
