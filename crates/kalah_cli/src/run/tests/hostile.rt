@@ -1,0 +1,91 @@
+//! Files of odd bytes, and names that no file has.
+use super::{answers, run_on};
+use crate::status::ExitStatus;
+use std::alloc::Global;
+use std::fs;
+use std::process::Abort;
+use std::rt::Files;
+use std::sync::Wait;
+use std::test::Fail;
+use std::thread::Threads;
+
+// A file of these bytes is answered by this text.
+fn is_answered<R: Abort + Files + Threads + Wait + Sync>(
+    rt: &R,
+    alloc: Global,
+    bytes: &[u8],
+    text: &str,
+) -> Result<(), Fail> {
+    fs::write(rt, "odd.txt", bytes)?;
+    let run = run_on(rt, alloc, &["solve", "odd.txt"])?;
+    let status = if text.contains("fault") {
+        ExitStatus::LineFaults
+    } else {
+        ExitStatus::Clean
+    };
+    assert!(rt; answers(&run, status, text, ""));
+    Ok(())
+}
+
+#[test]
+fn odd_bytes_are_faults_of_their_line(rt: HostRuntime) -> Result<(), Fail> {
+    let alloc = rt.alloc();
+    for (bytes, text) in [
+        (
+            b"\n\r".as_slice(),
+            "odd.txt:1 fault empty\nodd.txt:2 fault empty\n",
+        ),
+        (b"\xEF\xBB\xBF1/0 1/0", "odd.txt:1 fault shape\n"),
+        (b"1/0 1/0\0\n", "odd.txt:1 fault shape\n"),
+        (b"1/0\t1/0", "odd.txt:1 fault shape\n"),
+        (
+            b"\xFF\xFE\n1/0 1/0",
+            "odd.txt:1 fault shape\nodd.txt:2 0 house 1\n",
+        ),
+        (b"99/0 99/0", "odd.txt:1 fault seeds\n"),
+    ] {
+        is_answered(&rt, alloc, bytes, text)?;
+    }
+    let mut long = vec![in alloc; b'x'; 81]?;
+    long.extend_from_slice(b"\r\n")?;
+    is_answered(&rt, alloc, long.as_slice(), "odd.txt:1 fault long\n")
+}
+
+#[test]
+fn a_file_may_end_anywhere(rt: HostRuntime) -> Result<(), Fail> {
+    let bytes = b"3/0 3/0\r\n\r\n01/0 1/0\r\n";
+    for end in 0..bytes.len() + 1 {
+        let text = match end {
+            0 => "",
+            1..=6 => "odd.txt:1 fault shape\n",
+            7..=9 => "odd.txt:1 6 house 1\n",
+            10..=11 => "odd.txt:1 6 house 1\nodd.txt:2 fault empty\n",
+            _ => "odd.txt:1 6 house 1\nodd.txt:2 fault empty\nodd.txt:3 fault shape\n",
+        };
+        is_answered(&rt, rt.alloc(), &bytes[..end], text)?;
+    }
+    Ok(())
+}
+
+#[test]
+fn a_name_is_any_text_in_one_line(rt: HostRuntime) -> Result<(), Fail> {
+    let alloc = rt.alloc();
+    for name in ["odd name é:1.txt", "odd\t\"$(x)'.txt", "odd\r.txt"] {
+        fs::write(&rt, name, "1/0 1/0")?;
+        let run = run_on(&rt, alloc, &["solve", name])?;
+        let text = format!(in alloc; "{name}:1 0 house 1\n")?;
+        assert!(rt;
+            answers(&run, ExitStatus::Clean, text.as_str(), ""),
+            "{name}"
+        );
+    }
+    for name in ["", "odd\0name", "odd.txt/", "no/odd.txt"] {
+        let run = run_on(&rt, alloc, &["solve", name])?;
+        let text = format!(in alloc; "kalah: cannot read {name}\n")?;
+        assert!(rt;
+            answers(&run, ExitStatus::Failed, "", text.as_str()),
+            "{name}"
+        );
+    }
+    Ok(())
+}
