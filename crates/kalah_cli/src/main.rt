@@ -4,6 +4,7 @@
 mod command;
 mod failure;
 mod files;
+mod fused;
 mod moves;
 mod request;
 mod run;
@@ -11,6 +12,7 @@ mod solve;
 mod status;
 
 use failure::Failure;
+use fused::Fused;
 use kalah_jobs::Stream;
 use run::run_words;
 use status::ExitStatus;
@@ -38,7 +40,7 @@ fn main(rt: HostRuntime) -> ExitCode {
     if words.is_empty() {
         return ExitCode::from(ExitStatus::Failed.code());
     }
-    let Ok(out) = LineWriter::new(rt.alloc(), io::writer(&rt)) else {
+    let Ok(out) = LineWriter::new(rt.alloc(), Fused::new(io::writer(&rt))) else {
         return ExitCode::from(Failure::OutOfMemory.report(&mut err).code());
     };
     let mut out = Stream::new(out);

@@ -1,0 +1,65 @@
+use super::Fused;
+use std::cell::Cell;
+use std::io;
+use std::io::{ErrorKind, LineWriter, Write};
+use std::test::Fail;
+
+/// Counts its calls, and answers an error of its kind at its `fails_at`th call, counted from 1, and at no other.
+#[derive(Drop)]
+struct FailingOnce<'a> {
+    calls: &'a Cell<u32>,
+    fails_at: u32,
+    kind: ErrorKind,
+}
+
+impl Write for FailingOnce<'_> {
+    fn write(&mut self, buf: &[u8]) -> io::Result<usize> {
+        self.flush()?;
+        Ok(buf.len())
+    }
+
+    fn flush(&mut self) -> io::Result<()> {
+        self.calls.set(self.calls.get().saturating_add(1));
+        if self.calls.get() == self.fails_at {
+            return Err(io::Error::from(self.kind));
+        }
+        Ok(())
+    }
+}
+
+// Of three lines the second is not written, and stays in the buffer.
+#[test]
+fn nothing_follows_a_failed_write(rt: HostRuntime) -> Result<(), Fail> {
+    let calls = Cell::new(0);
+    let mut out = LineWriter::new(
+        rt.alloc(),
+        Fused::new(FailingOnce {
+            calls: &calls,
+            fails_at: 2,
+            kind: ErrorKind::StorageFull,
+        }),
+    )?;
+    for (line, is_written) in [("1", true), ("2", false), ("3", false)] {
+        let piece = out.write_all(line.as_bytes());
+        let rest = out.write_all(b"\n");
+        assert_eq!(rt; piece.is_ok() && rest.is_ok(), is_written, "at {line}");
+    }
+    assert!(rt; out.flush().is_err());
+    drop(out);
+    assert_eq!(rt; calls.get(), 2);
+    Ok(())
+}
+
+#[test]
+fn an_interrupted_call_is_tried_again(rt: HostRuntime) -> Result<(), Fail> {
+    let calls = Cell::new(0);
+    let mut out = Fused::new(FailingOnce {
+        calls: &calls,
+        fails_at: 1,
+        kind: ErrorKind::Interrupted,
+    });
+    out.write_all(b"1\n")?;
+    out.flush()?;
+    assert_eq!(rt; calls.get(), 3);
+    Ok(())
+}
