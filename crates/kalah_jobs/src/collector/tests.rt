@@ -1,20 +1,51 @@
 //! Offers in each order, with doubles and strangers between them, and what is taken.
-ghost use Rattle.std.specs.Prelude.{◌≡◌, IfOk};
-ghost use Rattle.kalah_jobs.specs.JobList.{offer};
 ghost use Rattle.kalah_jobs.specs.CollectorState.{HasLinesOf};
 
-use crate::{Answer, Collector, Entry, FileText, Jobs, LineFault, Outcome, Refusal};
+use crate::{Answer, Collector, Entry, FileText, Jobs, LineFault, Outcome, Refusal, Taken};
+use Refusal::{Double, FileEnded, NoSuchFile, NoSuchLine, WrongPosition};
 use kalah_rules::{Board, Rule};
 use kalah_solve::{Solver, Table};
-use std::alloc::{AllocError, Global};
+use std::alloc::Global;
 use std::process::Abort;
 use std::test::Fail;
 
+// What is answered to an offer.
+type Answered = Result<u32, Refusal>;
+
+/// A collector under test, with its jobs and a solver for what is offered to it.
+#[derive(Drop)]
+struct Trial {
+    jobs: Jobs,
+    collector: Collector,
+    solver: Solver,
+    ghost counts: { HasLinesOf jobs collector },
+}
+
+impl Trial {
+    // Of a file of three lines, with one, two and three seeds, and an empty file.
+    fn new(alloc: Global) -> Result<Trial, Fail> {
+        let jobs = two_files(alloc)?;
+        let collector = Collector::new(alloc, &jobs)?;
+        let solver = Solver::new(Table::new(alloc, 16)?);
+        Ok(Trial {
+            jobs,
+            collector,
+            solver,
+        })
+    }
+
+    // Offers a line that says `entry`.
+    fn offer(&mut self, (file, line): (u32, u32), entry: Entry) -> Answered {
+        let outcome = Outcome::of(file, line, entry, &mut self.solver);
+        self.collector.offer(&self.jobs, outcome)
+    }
+}
+
 // A board of one house a side with so many seeds in each, and empty stores.
-fn one_house(seeds: u8, rule: Rule) -> Result<Entry, Fail> {
+fn one_house(rt: &impl Abort, seeds: u8, rule: Rule) -> Entry {
     let cells = [seeds, 0, 0, 0, 0, 0];
-    let board = Board::new(1, cells, 0, cells, 0, rule).ok_or("no board")?;
-    Ok(Entry::Position(board))
+    let board = Board::new(1, cells, 0, cells, 0, rule);
+    Entry::Position(board.expect(rt, "within the limits"))
 }
 
 // A file of three lines, with one, two and three seeds, and an empty file.
@@ -31,282 +62,155 @@ fn two_files(alloc: Global) -> Result<Jobs, Fail> {
     Ok(Jobs::of_files(alloc, files.as_slice())?)
 }
 
-// The outcome of a line.
-fn outcome(solver: &mut Solver, place: (u32, u32), entry: Entry) -> Outcome
-    ensures { result ≡ offer place.0 place.1 entry }
-{
-    Outcome::of(place.0, place.1, entry, solver)
+// Offers lines with so many seeds, one after the other, each of which is answered so.
+fn assert_offers(rt: &impl Abort, trial: &mut Trial, offers: &[((u32, u32), u8, Answered)]) {
+    for (place, seeds, answered) in offers {
+        let entry = one_house(rt, *seeds, Rule::Classic);
+        assert_eq!(rt;
+            trial.offer(*place, entry),
+            *answered,
+            "{place:?} with {seeds} seeds"
+        );
+    }
 }
 
-// A solver with a small table.
-fn small_solver(alloc: Global) -> Result<Solver, AllocError> {
-    Ok(Solver::new(Table::new(alloc, 16)?))
-}
-
-// What is answered to the offer of a line with so many seeds.
-fn offered(
-    solver: &mut Solver,
-    collector: &mut Collector,
-    jobs: &Jobs,
-    place: (u32, u32),
-    seeds: u8,
-) -> Result<Result<u32, Refusal>, Fail>
-    requires { HasLinesOf jobs.now collector.old }
-    ensures { IfOk result (λ _. HasLinesOf jobs.now collector.new) }
-{
-    let entry = one_house(seeds, Rule::Classic)?;
-    Ok(collector.offer(jobs, outcome(solver, place, entry)))
-}
-
-// What is answered to the offer of a line that is not read.
-fn offered_fault(
-    solver: &mut Solver,
-    collector: &mut Collector,
-    jobs: &Jobs,
-    place: (u32, u32),
-) -> Result<u32, Refusal>
-    requires { HasLinesOf jobs.now collector.old }
-    ensures { HasLinesOf jobs.now collector.new }
-{
-    let entry = Entry::Bad(LineFault::Empty);
-    collector.offer(jobs, outcome(solver, place, entry))
-}
-
-// Takes a line of the first file, and tests which it is.
-fn take(rt: &impl Abort, collector: &mut Collector, line: u32, answer: Answer) {
-    let taken = collector.take(0);
-    assert_eq!(rt; taken.map(|t| t.line), Some(line));
-    assert_eq!(rt; taken.map(|t| t.answer), Some(answer));
+// Takes these lines of the first file, with the margins of best play, and then there is no more to take.
+fn assert_takes(rt: &impl Abort, collector: &mut Collector, lines: &[(u32, i32)]) {
+    for (line, margin) in lines {
+        let answer = Answer::Best {
+            margin: *margin,
+            house: 1,
+        };
+        let taken = Taken {
+            line: *line,
+            answer,
+        };
+        assert_eq!(rt; collector.take(0), Some(taken));
+    }
+    for f in [0, 1, 9] {
+        assert!(rt; collector.take(f).is_none(), "of file {f}");
+    }
 }
 
 // Takes the three lines of the first file, each once, and nothing else.
-fn take_all(rt: &impl Abort, collector: &mut Collector) {
+fn assert_takes_all(rt: &impl Abort, collector: &mut Collector) {
     assert!(rt; !collector.all_taken());
-    take(
-        rt,
-        collector,
-        0,
-        Answer::Best {
-            margin: 0,
-            house: 1,
-        },
-    );
-    take(
-        rt,
-        collector,
-        1,
-        Answer::Best {
-            margin: -2,
-            house: 1,
-        },
-    );
-    take(
-        rt,
-        collector,
-        2,
-        Answer::Best {
-            margin: 6,
-            house: 1,
-        },
-    );
-    assert!(rt; collector.take(0).is_none());
-    assert!(rt; collector.take(1).is_none());
-    assert!(rt; collector.take(9).is_none());
+    assert_takes(rt, collector, &[(0, 0), (1, -2), (2, 6)]);
     assert!(rt; collector.all_taken());
 }
 
 #[test]
 fn answers_each_offer(rt: HostRuntime) -> Result<(), Fail> {
-    use Refusal::{Double, FileEnded, NoSuchFile, NoSuchLine, WrongPosition};
-    let jobs = two_files(rt.alloc())?;
-    let mut solver = small_solver(rt.alloc())?;
-    let mut collector = Collector::new(rt.alloc(), &jobs)?;
-    let c = &mut collector;
-    let s = &mut solver;
-    assert!(rt; c.ended(1));
-    assert!(rt; !c.ended(0));
-    assert!(rt; !c.ended(2));
-    assert_eq!(rt; offered(s, c, &jobs, (0, 2), 3)?, Ok(0));
-    assert_eq!(rt; offered(s, c, &jobs, (0, 0), 1)?, Ok(1));
-    assert_eq!(rt; offered(s, c, &jobs, (0, 0), 1)?, Err(Double));
-    assert_eq!(rt; offered(s, c, &jobs, (0, 0), 2)?, Err(WrongPosition));
-    assert_eq!(rt; offered(s, c, &jobs, (0, 3), 1)?, Err(NoSuchLine));
-    assert_eq!(rt; offered(s, c, &jobs, (2, 0), 1)?, Err(NoSuchFile));
-    assert_eq!(rt; offered(s, c, &jobs, (0, 1), 2)?, Ok(2));
-    assert_eq!(rt; offered(s, c, &jobs, (0, 1), 2)?, Err(FileEnded));
-    assert_eq!(rt; offered(s, c, &jobs, (0, 7), 1)?, Err(FileEnded));
-    assert_eq!(rt; offered(s, c, &jobs, (1, 0), 1)?, Err(FileEnded));
-    take_all(&rt, c);
+    let mut trial = Trial::new(rt.alloc())?;
+    for (f, ended) in [(0, false), (1, true), (2, false)] {
+        assert_eq!(rt; trial.collector.ended(f), ended, "of file {f}");
+    }
+    let offers = [
+        ((0, 2), 3, Ok(0)),
+        ((0, 0), 1, Ok(1)),
+        ((0, 0), 1, Err(Double)),
+        ((0, 0), 2, Err(WrongPosition)),
+        ((0, 3), 1, Err(NoSuchLine)),
+        ((2, 0), 1, Err(NoSuchFile)),
+        ((0, 1), 2, Ok(2)),
+        ((0, 1), 2, Err(FileEnded)),
+        ((0, 7), 1, Err(FileEnded)),
+        ((1, 0), 1, Err(FileEnded)),
+    ];
+    assert_offers(&rt, &mut trial, &offers);
+    assert_takes_all(&rt, &mut trial.collector);
     Ok(())
 }
 
 #[test]
 fn gives_each_line_once(rt: HostRuntime) -> Result<(), Fail> {
-    let jobs = two_files(rt.alloc())?;
-    let mut solver = small_solver(rt.alloc())?;
-    let mut collector = Collector::new(rt.alloc(), &jobs)?;
-    let c = &mut collector;
-    let s = &mut solver;
-    assert_eq!(rt; offered(s, c, &jobs, (0, 1), 2)?, Ok(0));
-    assert!(rt; c.take(0).is_none());
-    assert_eq!(rt; offered(s, c, &jobs, (0, 0), 1)?, Ok(2));
-    assert_eq!(rt; offered(s, c, &jobs, (0, 2), 3)?, Ok(1));
-    assert!(rt; c.ended(0));
-    take_all(&rt, c);
+    let mut trial = Trial::new(rt.alloc())?;
+    assert_offers(&rt, &mut trial, &[((0, 1), 2, Ok(0))]);
+    assert!(rt; trial.collector.take(0).is_none());
+    assert_offers(&rt, &mut trial, &[((0, 0), 1, Ok(2)), ((0, 2), 3, Ok(1))]);
+    assert!(rt; trial.collector.ended(0));
+    assert_takes_all(&rt, &mut trial.collector);
     Ok(())
 }
 
-// How many lines became ready by each of three offers, of the lines in this order.
-fn ready_counts(
-    jobs: &Jobs,
-    alloc: Global,
-    order: (u32, u32, u32),
-) -> Result<(u32, u32, u32), Fail> {
-    let mut solver = small_solver(alloc)?;
-    let mut collector = Collector::new(alloc, jobs)?;
-    let first = ready_count(&mut solver, &mut collector, jobs, order.0)?;
-    let second = ready_count(&mut solver, &mut collector, jobs, order.1)?;
-    let third = ready_count(&mut solver, &mut collector, jobs, order.2)?;
-    Ok((first, second, third))
-}
-
-// How many lines became ready by the offer of a line.
-fn ready_count(
-    solver: &mut Solver,
-    collector: &mut Collector,
-    jobs: &Jobs,
-    line: u32,
-) -> Result<u32, Fail>
-    requires { HasLinesOf jobs.now collector.old }
-    ensures { IfOk result (λ _. HasLinesOf jobs.now collector.new) }
-{
-    let seeds = u8::try_from(line)
-        .ok()
-        .ok_or("no such line")?
-        .saturating_add(1);
-    let ready = offered(solver, collector, jobs, (0, line), seeds)?;
-    Ok(ready.ok().ok_or("refused")?)
+// Offers the lines of the first file in this order, and each makes so many lines ready.
+fn assert_ready(rt: &impl Abort, alloc: Global, offers: [((u32, u8), u32); 3]) -> Result<(), Fail> {
+    let mut trial = Trial::new(alloc)?;
+    for ((line, seeds), ready) in offers {
+        assert_offers(rt, &mut trial, &[((0, line), seeds, Ok(ready))]);
+    }
+    Ok(())
 }
 
 #[test]
 fn releases_lines_in_order(rt: HostRuntime) -> Result<(), Fail> {
-    let alloc = rt.alloc();
-    let jobs = two_files(alloc)?;
-    assert_eq!(rt; ready_counts(&jobs, alloc, (0, 1, 2))?, (1, 1, 1));
-    assert_eq!(rt; ready_counts(&jobs, alloc, (0, 2, 1))?, (1, 0, 2));
-    assert_eq!(rt; ready_counts(&jobs, alloc, (1, 0, 2))?, (0, 2, 1));
-    assert_eq!(rt; ready_counts(&jobs, alloc, (1, 2, 0))?, (0, 0, 3));
-    assert_eq!(rt; ready_counts(&jobs, alloc, (2, 0, 1))?, (0, 1, 2));
-    assert_eq!(rt; ready_counts(&jobs, alloc, (2, 1, 0))?, (0, 0, 3));
+    let (one, two, three) = ((0, 1), (1, 2), (2, 3));
+    for offers in [
+        [(one, 1), (two, 1), (three, 1)],
+        [(one, 1), (three, 0), (two, 2)],
+        [(two, 0), (one, 2), (three, 1)],
+        [(two, 0), (three, 0), (one, 3)],
+        [(three, 0), (one, 1), (two, 2)],
+        [(three, 0), (two, 0), (one, 3)],
+    ] {
+        assert_ready(&rt, rt.alloc(), offers)?;
+    }
     Ok(())
 }
 
 #[test]
 fn refuses_a_line_that_was_taken(rt: HostRuntime) -> Result<(), Fail> {
-    let jobs = two_files(rt.alloc())?;
-    let mut solver = small_solver(rt.alloc())?;
-    let mut collector = Collector::new(rt.alloc(), &jobs)?;
-    let c = &mut collector;
-    let s = &mut solver;
-    assert_eq!(rt; offered(s, c, &jobs, (0, 0), 1)?, Ok(1));
-    assert!(rt; c.take(0).is_some());
-    assert_eq!(rt; offered(s, c, &jobs, (0, 0), 1)?, Err(Refusal::Double));
-    assert!(rt; c.take(0).is_none());
+    let mut trial = Trial::new(rt.alloc())?;
+    assert_offers(&rt, &mut trial, &[((0, 0), 1, Ok(1))]);
+    assert!(rt; trial.collector.take(0).is_some());
+    assert_offers(&rt, &mut trial, &[((0, 0), 1, Err(Double))]);
+    assert!(rt; trial.collector.take(0).is_none());
     Ok(())
 }
 
 #[test]
 fn refuses_a_position_under_the_other_rule(rt: HostRuntime) -> Result<(), Fail> {
-    let jobs = two_files(rt.alloc())?;
-    let mut solver = small_solver(rt.alloc())?;
-    let mut collector = Collector::new(rt.alloc(), &jobs)?;
-    let other = outcome(&mut solver, (0, 0), one_house(1, Rule::EmptyCapture)?);
-    assert_eq!(rt; collector.offer(&jobs, other), Err(Refusal::WrongPosition));
-    let own = outcome(&mut solver, (0, 0), one_house(1, Rule::Classic)?);
-    assert_eq!(rt; collector.offer(&jobs, own), Ok(1));
+    let mut trial = Trial::new(rt.alloc())?;
+    let other = one_house(&rt, 1, Rule::EmptyCapture);
+    assert_eq!(rt; trial.offer((0, 0), other), Err(WrongPosition));
+    assert_offers(&rt, &mut trial, &[((0, 0), 1, Ok(1))]);
     Ok(())
 }
 
-// What is answered to an offer after three strangers: one for a file that is not there, one for a line past the last, and
-// one with the offer's own file and line and another entry. With it, what was answered to the last two.
-fn offered_after_strangers(
+// Offers a line after three strangers: one for a file that is not there, one for a line past the last, and one with the
+// offer's own file and line and another entry. The last two and the offer itself are answered so.
+fn assert_after_strangers(
     rt: &impl Abort,
-    solver: &mut Solver,
-    collector: &mut Collector,
-    jobs: &Jobs,
-    place: (u32, u32),
-    seeds: u8,
-) -> Result<
-    (
-        Result<u32, Refusal>,
-        Result<u32, Refusal>,
-        Result<u32, Refusal>,
-    ),
-    Fail,
->
-    requires { HasLinesOf jobs.now collector.old }
-    ensures { IfOk result (λ _. HasLinesOf jobs.now collector.new) }
-{
-    let nowhere = offered(solver, collector, jobs, (5, place.1), seeds)?;
-    assert_eq!(rt; nowhere, Err(Refusal::NoSuchFile));
-    let past = offered(solver, collector, jobs, (0, 3), seeds)?;
-    let other = offered_fault(solver, collector, jobs, place);
-    let own = offered(solver, collector, jobs, place, seeds)?;
-    Ok((past, other, own))
+    trial: &mut Trial,
+    ((file, line), seeds): ((u32, u32), u8),
+    (past, other, own): (Answered, Answered, Answered),
+) {
+    let strangers = [((5, line), seeds, Err(NoSuchFile)), ((0, 3), seeds, past)];
+    assert_offers(rt, trial, &strangers);
+    let fault = Entry::Bad(LineFault::Empty);
+    assert_eq!(rt; trial.offer((file, line), fault), other);
+    assert_offers(rt, trial, &[((file, line), seeds, own)]);
 }
 
 #[test]
 fn strangers_change_nothing(rt: HostRuntime) -> Result<(), Fail> {
-    let jobs = two_files(rt.alloc())?;
-    let mut solver = small_solver(rt.alloc())?;
-    let mut collector = Collector::new(rt.alloc(), &jobs)?;
-    let c = &mut collector;
-    let s = &mut solver;
-    let past = Err(Refusal::NoSuchLine);
-    let wrong = Err(Refusal::WrongPosition);
-    let nowhere = Err(Refusal::NoSuchFile);
-    let double = Err(Refusal::Double);
-    let ended = Err(Refusal::FileEnded);
-    assert_eq!(rt;
-        offered_after_strangers(&rt, s, c, &jobs, (0, 2), 3)?,
-        (past, wrong, Ok(0))
-    );
-    assert_eq!(rt;
-        offered_after_strangers(&rt, s, c, &jobs, (0, 0), 1)?,
-        (past, wrong, Ok(1))
-    );
-    assert_eq!(rt;
-        offered_after_strangers(&rt, s, c, &jobs, (0, 0), 1)?,
-        (past, wrong, double)
-    );
-    assert_eq!(rt;
-        offered_after_strangers(&rt, s, c, &jobs, (0, 0), 2)?,
-        (past, wrong, wrong)
-    );
-    assert_eq!(rt;
-        offered_after_strangers(&rt, s, c, &jobs, (0, 3), 1)?,
-        (past, past, past)
-    );
-    assert_eq!(rt;
-        offered_after_strangers(&rt, s, c, &jobs, (2, 0), 1)?,
-        (past, nowhere, nowhere)
-    );
-    assert_eq!(rt;
-        offered_after_strangers(&rt, s, c, &jobs, (0, 1), 2)?,
-        (past, wrong, Ok(2))
-    );
-    assert_eq!(rt;
-        offered_after_strangers(&rt, s, c, &jobs, (0, 1), 2)?,
-        (ended, ended, ended)
-    );
-    assert_eq!(rt;
-        offered_after_strangers(&rt, s, c, &jobs, (0, 7), 1)?,
-        (ended, ended, ended)
-    );
-    assert_eq!(rt;
-        offered_after_strangers(&rt, s, c, &jobs, (1, 0), 1)?,
-        (ended, ended, ended)
-    );
-    take_all(&rt, c);
+    let mut trial = Trial::new(rt.alloc())?;
+    let (past, wrong) = (Err(NoSuchLine), Err(WrongPosition));
+    let (nowhere, double, ended) = (Err(NoSuchFile), Err(Double), Err(FileEnded));
+    for (offer, answered) in [
+        (((0, 2), 3), (past, wrong, Ok(0))),
+        (((0, 0), 1), (past, wrong, Ok(1))),
+        (((0, 0), 1), (past, wrong, double)),
+        (((0, 0), 2), (past, wrong, wrong)),
+        (((0, 3), 1), (past, past, past)),
+        (((2, 0), 1), (past, nowhere, nowhere)),
+        (((0, 1), 2), (past, wrong, Ok(2))),
+        (((0, 1), 2), (ended, ended, ended)),
+        (((0, 7), 1), (ended, ended, ended)),
+        (((1, 0), 1), (ended, ended, ended)),
+    ] {
+        assert_after_strangers(&rt, &mut trial, offer, answered);
+    }
+    assert_takes_all(&rt, &mut trial.collector);
     Ok(())
 }

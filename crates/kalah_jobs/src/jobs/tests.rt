@@ -12,10 +12,10 @@ fn file(alloc: Global, bytes: &[u8]) -> Result<FileText, Fail> {
     })
 }
 
-// As many files of these bytes.
-fn files(alloc: Global, count: usize, bytes: &[u8]) -> Result<Vec<FileText>, Fail> {
+// Files of these bytes.
+fn files(alloc: Global, texts: &[&[u8]]) -> Result<Vec<FileText>, Fail> {
     let mut files = Vec::new(alloc);
-    for _ in 0..count {
+    for bytes in texts {
         files.push(file(alloc, bytes)?)?;
     }
     Ok(files)
@@ -29,13 +29,15 @@ fn empty_lines(alloc: Global, count: usize) -> Result<FileText, Fail> {
     })
 }
 
+// The fault of these files.
+fn fault(alloc: Global, files: &[FileText]) -> Option<JobsFault> {
+    Jobs::of_files(alloc, files).err()
+}
+
 // The job of this number.
-fn job_at(jobs: &Jobs, n: u32) -> Result<Job, Fail> {
-    if n < jobs.total() {
-        Ok(jobs.get(n))
-    } else {
-        Err("no such job".into())
-    }
+fn job_at(rt: &impl Abort, jobs: &Jobs, n: u32) -> Job {
+    assert!(rt; n < jobs.total());
+    jobs.get(n)
 }
 
 // The jobs of one file of these bytes have these answers, in order.
@@ -45,17 +47,22 @@ fn assert_answers(
     bytes: &[u8],
     answers: &[Answer],
 ) -> Result<(), Fail> {
-    let jobs = Jobs::of_files(alloc, files(alloc, 1, bytes)?.as_slice())?;
+    let files = files(alloc, &[bytes])?;
+    let jobs = Jobs::of_files(alloc, files.as_slice())?;
     assert_eq!(rt; jobs.total() as usize, answers.len());
     let mut solver = Solver::new(Table::new(alloc, 16)?);
     for (n, answer) in answers.iter().enumerate() {
-        let job = job_at(&jobs, n as u32)?;
-        assert_eq!(rt; job.file, 0);
-        assert_eq!(rt; job.line as usize, n);
-        let outcome = Outcome::of(job.file, job.line, job.entry, &mut solver);
-        assert_eq!(rt; outcome.answer(), *answer);
+        assert_answer(rt, &jobs, n as u32, &mut solver, *answer);
     }
     Ok(())
+}
+
+// The job of this number is the line of this number of the first file, and has this answer.
+fn assert_answer(rt: &impl Abort, jobs: &Jobs, n: u32, solver: &mut Solver, answer: Answer) {
+    let job = job_at(rt, jobs, n);
+    assert_eq!(rt; (job.file, job.line), (0, n));
+    let outcome = Outcome::of(job.file, job.line, job.entry, solver);
+    assert_eq!(rt; outcome.answer(), answer);
 }
 
 // `margin house house`.
@@ -66,11 +73,11 @@ fn best(margin: i32, house: u8) -> Answer {
 #[test]
 fn more_than_256_files_are_too_many(rt: HostRuntime) -> Result<(), Fail> {
     let alloc = rt.alloc();
-    let few = files(alloc, 256, b"")?;
-    assert_eq!(rt; Jobs::of_files(alloc, few.as_slice())?.files(), 256);
-    let many = files(alloc, 257, b"")?;
+    let mut files = files(alloc, &[b"".as_slice(); 256])?;
+    assert_eq!(rt; Jobs::of_files(alloc, files.as_slice())?.files(), 256);
+    files.push(file(alloc, b"")?)?;
     assert_eq!(rt;
-        Jobs::of_files(alloc, many.as_slice()).err(),
+        fault(alloc, files.as_slice()),
         Some(JobsFault::TooManyFiles)
     );
     Ok(())
@@ -97,7 +104,7 @@ fn more_than_a_million_lines_are_too_many(rt: HostRuntime) -> Result<(), Fail> {
     let mut files = Vec::new(alloc);
     files.push(empty_lines(alloc, 1_000_001)?)?;
     assert_eq!(rt;
-        Jobs::of_files(alloc, files.as_slice()).err(),
+        fault(alloc, files.as_slice()),
         Some(JobsFault::TooManyLines)
     );
     Ok(())
@@ -113,7 +120,7 @@ fn lines_are_counted_over_all_files(rt: HostRuntime) -> Result<(), Fail> {
     assert_eq!(rt; total, 1_000_000);
     files.push(file(alloc, b"\n")?)?;
     assert_eq!(rt;
-        Jobs::of_files(alloc, files.as_slice()).err(),
+        fault(alloc, files.as_slice()),
         Some(JobsFault::TooManyLines)
     );
     Ok(())
@@ -122,52 +129,43 @@ fn lines_are_counted_over_all_files(rt: HostRuntime) -> Result<(), Fail> {
 #[test]
 fn files_are_counted_before_lines(rt: HostRuntime) -> Result<(), Fail> {
     let alloc = rt.alloc();
-    let mut many = files(alloc, 256, b"")?;
-    many.push(empty_lines(alloc, 1_000_001)?)?;
+    let mut files = files(alloc, &[b"".as_slice(); 256])?;
+    files.push(empty_lines(alloc, 1_000_001)?)?;
     assert_eq!(rt;
-        Jobs::of_files(alloc, many.as_slice()).err(),
+        fault(alloc, files.as_slice()),
         Some(JobsFault::TooManyFiles)
     );
     Ok(())
 }
 
+// The jobs of five files, of which three are empty.
+fn jobs_of_five_files(alloc: Global) -> Result<Jobs, Fail> {
+    let files = files(alloc, &[b"", b"x\n\n", b"", b"\ny", b""])?;
+    Ok(Jobs::of_files(alloc, files.as_slice())?)
+}
+
+#[test]
+fn each_file_has_its_lines(rt: HostRuntime) -> Result<(), Fail> {
+    let jobs = jobs_of_five_files(rt.alloc())?;
+    assert_eq!(rt; (jobs.files(), jobs.total()), (5, 4));
+    for (f, lines) in [(0, 0), (1, 2), (2, 0), (3, 2), (4, 0)] {
+        assert!(rt; f < jobs.files());
+        assert_eq!(rt; jobs.lines(f), lines, "of file {f}");
+    }
+    Ok(())
+}
+
 #[test]
 fn jobs_run_over_files_and_lines_in_order(rt: HostRuntime) -> Result<(), Fail> {
-    let alloc = rt.alloc();
-    let mut files = Vec::new(alloc);
-    for bytes in [
-        b"".as_slice(),
-        b"x\n\n".as_slice(),
-        b"".as_slice(),
-        b"\ny".as_slice(),
-        b"".as_slice(),
+    let jobs = jobs_of_five_files(rt.alloc())?;
+    for (n, file, line, fault) in [
+        (0, 1, 0, LineFault::Shape),
+        (1, 1, 1, LineFault::Empty),
+        (2, 3, 0, LineFault::Empty),
+        (3, 3, 1, LineFault::Shape),
     ] {
-        files.push(file(alloc, bytes)?)?;
-    }
-    let jobs = Jobs::of_files(alloc, files.as_slice())?;
-    assert_eq!(rt; jobs.files(), 5);
-    for (f, lines) in [0, 2, 0, 2, 0].iter().enumerate() {
-        if (f as u32) < jobs.files() {
-            assert_eq!(rt; jobs.lines(f as u32), *lines);
-        }
-    }
-    let places = [
-        (1, 0, LineFault::Shape),
-        (1, 1, LineFault::Empty),
-        (3, 0, LineFault::Empty),
-        (3, 1, LineFault::Shape),
-    ];
-    assert_eq!(rt; jobs.total(), 4);
-    for (n, (file, line, fault)) in places.iter().enumerate() {
-        let entry = Entry::Bad(*fault);
-        assert_eq!(rt;
-            job_at(&jobs, n as u32)?,
-            Job {
-                file: *file,
-                line: *line,
-                entry
-            }
-        );
+        let entry = Entry::Bad(fault);
+        assert_eq!(rt; job_at(&rt, &jobs, n), Job { file, line, entry });
     }
     Ok(())
 }

@@ -9,22 +9,14 @@ fn assert_fault(rt: &impl Abort, line: &[u8], fault: LineFault) {
     assert_eq!(rt; Entry::of_line(line), Entry::Bad(fault));
 }
 
-// The line is read as a board of one house a side.
-fn assert_reads(
-    rt: &impl Abort,
-    line: &[u8],
-    own: [u8; 2],
-    other: [u8; 2],
-    rule: Rule,
-) -> Result<(), Fail> {
-    let own_row = [own[0], 0, 0, 0, 0, 0];
-    let other_row = [other[0], 0, 0, 0, 0, 0];
-    let board = Board::new(1, own_row, own[1], other_row, other[1], rule).ok_or(
-        "beyond the limits",
-    )?;
-    assert_eq!(rt; read_line(line).ok(), Some(board));
+// The line is read as a board of one house a side: its seeds, and what its store holds.
+fn assert_reads(rt: &impl Abort, line: &[u8], own: (u8, u8), other: (u8, u8), rule: Rule) {
+    let own_row = [own.0, 0, 0, 0, 0, 0];
+    let other_row = [other.0, 0, 0, 0, 0, 0];
+    let board = Board::new(1, own_row, own.1, other_row, other.1, rule);
+    let board = board.expect(rt, "within the limits");
+    assert_eq!(rt; read_line(line), Ok(board));
     assert_eq!(rt; Entry::of_line(line), Entry::Position(board));
-    Ok(())
 }
 
 #[test]
@@ -92,14 +84,22 @@ fn other_houses_and_too_many_seeds(rt: HostRuntime) {
 }
 
 #[test]
-fn lines_that_are_read(rt: HostRuntime) -> Result<(), Fail> {
-    assert_reads(&rt, b"8/0 7/0", [8, 0], [7, 0], Rule::Classic)?;
-    assert_reads(&rt, b"8/0 8/0", [8, 0], [8, 0], Rule::Classic)?;
-    assert_reads(&rt, b"16/0 15/0", [16, 0], [15, 0], Rule::Classic)?;
-    assert_reads(&rt, b"31/99 0/0", [31, 99], [0, 0], Rule::Classic)?;
-    assert_reads(&rt, b"1/0 1/0\r", [1, 0], [1, 0], Rule::Classic)?;
-    assert_reads(&rt, b"0/0 0/0 e", [0, 0], [0, 0], Rule::EmptyCapture)?;
-    assert_reads(&rt, b"3/10 3/0 e\r", [3, 10], [3, 0], Rule::EmptyCapture)
+fn lines_that_are_read(rt: HostRuntime) {
+    for (line, own, other) in [
+        (b"8/0 7/0".as_slice(), (8, 0), (7, 0)),
+        (b"8/0 8/0", (8, 0), (8, 0)),
+        (b"16/0 15/0", (16, 0), (15, 0)),
+        (b"31/99 0/0", (31, 99), (0, 0)),
+        (b"1/0 1/0\r", (1, 0), (1, 0)),
+    ] {
+        assert_reads(&rt, line, own, other, Rule::Classic);
+    }
+    for (line, own, other) in [
+        (b"0/0 0/0 e".as_slice(), (0, 0), (0, 0)),
+        (b"3/10 3/0 e\r", (3, 10), (3, 0)),
+    ] {
+        assert_reads(&rt, line, own, other, Rule::EmptyCapture);
+    }
 }
 
 #[test]

@@ -50,21 +50,18 @@ fn assert_written(rt: &impl Abort, alloc: Global, taken: &Taken, text: &str) -> 
 
 #[test]
 fn an_answer_is_written_as_it_is_printed(rt: HostRuntime) -> Result<(), Fail> {
-    let best = Taken {
-        line: 1,
-        answer: best(-2, 1),
-    };
-    assert_written(&rt, rt.alloc(), &best, "a.txt:2 -2 house 1\n")?;
-    let over = Taken {
-        line: 0,
-        answer: Answer::Over { margin: 114 },
-    };
-    assert_written(&rt, rt.alloc(), &over, "a.txt:1 114 over\n")?;
-    let fault = Taken {
-        line: u32::MAX,
-        answer: Answer::Fault(LineFault::Seeds),
-    };
-    assert_written(&rt, rt.alloc(), &fault, "a.txt:4294967296 fault seeds\n")
+    for (line, answer, text) in [
+        (1, best(-2, 1), "a.txt:2 -2 house 1\n"),
+        (0, Answer::Over { margin: 114 }, "a.txt:1 114 over\n"),
+        (
+            u32::MAX,
+            Answer::Fault(LineFault::Seeds),
+            "a.txt:4294967296 fault seeds\n",
+        ),
+    ] {
+        assert_written(&rt, rt.alloc(), &Taken { line, answer }, text)?;
+    }
+    Ok(())
 }
 
 #[test]
