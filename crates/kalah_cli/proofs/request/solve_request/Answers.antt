@@ -10,19 +10,20 @@ pub unwrap-requires : goal.unwrap-requires
 unwrap-requires c =
     is_there _ c.get_strs.result _ (c.get_strs.ensures ∙ raw_values-rows (found_of c.args.found.now) (codes "file") ∙ c.requires.2.1)
 
--- the files are those of the matches
-files_are : (c : goal.In_ok-files) → Some (map (λ f. f.now) c.in_ok-files.files.items) ≡ all_of (codes "file") (rows_of (found_of c.args.found.now))
-files_are c =
-    let copied : c.in_ok-files.files.items ≡ c.unwrap.result.now = c.in_ok-files.ensures.items_if_clones_equal (λ x y h. h) in
-    ap (λ xs. Some (map (λ f. f.now) xs)) copied ∙ ap (option_map (λ s. map (λ v. v.now) s.now)) (sym c.unwrap.ensures)
-    ∙ c.get_strs.ensures ∙ raw_values-rows (found_of c.args.found.now) (codes "file")
-
 pub returns-clause-asked : goal.returns-clause-asked
 returns-clause-asked c =
+    let copied : c.in_ok-files.files.items ≡ c.unwrap.result.now = c.in_ok-files.ensures.items_if_clones_equal (λ x y h. h) in
+    let are : Some (map (λ f. f.now) c.in_ok-files.files.items) ≡ all_of (codes "file") (rows_of (found_of c.args.found.now)) =
+    ap (λ xs. Some (map (λ f. f.now) xs)) copied ∙ ap (option_map (λ s. map (λ v. v.now) s.now)) (sym c.unwrap.ensures)
+    ∙ c.get_strs.ensures ∙ raw_values-rows (found_of c.args.found.now) (codes "file") in
     solve_is (rows_of (found_of c.args.found.now)) c.requires c.option_number-workers.result c.option_number-table.result _
-    c.option_number-workers.ensures c.option_number-table.ensures (files_are c)
+    c.option_number-workers.ensures c.option_number-table.ensures are
 
 pub returns-clause-range : goal.returns-clause-range
 returns-clause-range c =
+    let copied : c.in_ok-files.files.items ≡ c.unwrap.result.now = c.in_ok-files.ensures.items_if_clones_equal (λ x y h. h) in
+    let are : Some (map (λ f. f.now) c.in_ok-files.files.items) ≡ all_of (codes "file") (rows_of (found_of c.args.found.now)) =
+    ap (λ xs. Some (map (λ f. f.now) xs)) copied ∙ ap (option_map (λ s. map (λ v. v.now) s.now)) (sym c.unwrap.ensures)
+    ∙ c.get_strs.ensures ∙ raw_values-rows (found_of c.args.found.now) (codes "file") in
     solve_in_range (rows_of (found_of c.args.found.now)) c.requires c.option_number-workers.result c.option_number-table.result c.in_ok-files.files.items
-    c.option_number-workers.ensures c.option_number-table.ensures (files_are c)
+    c.option_number-workers.ensures c.option_number-table.ensures are
