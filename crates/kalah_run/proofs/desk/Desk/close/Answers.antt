@@ -21,21 +21,17 @@ last c =
 pub returns-clause-lawful : goal.returns-clause-lawful
 returns-clause-lawful c = subst (λ (t : ℕ). AreLawful t (rows_of c.args.passes.items)) (ap (λ d. d.total) c.self.view_is) (last c).1
 
--- the count
-drawn : (c : goal.After-min) → c.min.result ≡ drawn_in (rows_of c.args.passes.items)
-drawn c = c.min.ensures ∙ drawn_at_end c.self.inside.total c.word-word.result (rows_of c.args.passes.items) (last c).0 (last c).1
+pub returns-clause-drawn : goal.returns-clause-drawn
+returns-clause-drawn c = c.min.ensures ∙ drawn_at_end c.self.inside.total c.word-word.result (rows_of c.args.passes.items) (last c).0 (last c).1
 
 pub returns-clause-each_once : goal.returns-clause-each_once
-returns-clause-each_once c x = (last c).1.each_once x ∙ ap (λ (n : ℕ). if nat_lt x n then 1 else 0) (sym (drawn c))
+returns-clause-each_once c x = (last c).1.each_once x ∙ ap (λ (n : ℕ). if nat_lt x n then 1 else 0) (sym (returns-clause-drawn c))
 
 pub returns-clause-once : goal.returns-clause-once
-returns-clause-once c x low = stands_once _ _ (last c).1 x (subst (λ (n : ℕ). x < n) (drawn c) low)
+returns-clause-once c x low = stands_once _ _ (last c).1 x (subst (λ (n : ℕ). x < n) (returns-clause-drawn c) low)
 
 pub returns-clause-others : goal.returns-clause-others
-returns-clause-others c x high = stands_nowhere _ _ (last c).1 x (subst (λ (n : ℕ). n ≤ x) (drawn c) high)
-
-pub returns-clause-drawn : goal.returns-clause-drawn
-returns-clause-drawn c = drawn c
+returns-clause-others c x high = stands_nowhere _ _ (last c).1 x (subst (λ (n : ℕ). n ≤ x) (returns-clause-drawn c) high)
 
 pub returns-clause-spent : goal.returns-clause-spent
 returns-clause-spent c = spent_at_end c.self.inside.total c.word-word.result (rows_of c.args.passes.items) (last c).0 (last c).1
