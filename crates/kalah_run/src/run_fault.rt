@@ -48,3 +48,6 @@ impl From<JobsFault> for RunFault {
         }
     }
 }
+
+#[cfg(test)]
+mod tests;

@@ -2,6 +2,7 @@ ghost use Rattle.std.specs.Prelude.{◌≡◌, ◌<◌, ◌≤◌, Some};
 
 mod gates;
 mod hostile;
+mod told;
 mod want_of_memory;
 mod writers;
 
@@ -25,6 +26,9 @@ c.txt:3 fault shape
 b.txt:1 0 house 1
 b.txt:2 -2 house 1
 ";
+
+// The answers to four lines `1/0 1/0` of a file `n`.
+const FOUR: &str = "n:1 0 house 1\nn:2 0 house 1\nn:3 0 house 1\nn:4 0 house 1\n";
 
 fn file_of(alloc: Global, name: &str, bytes: &[u8]) -> Result<FileText, AllocError> {
     Ok(FileText {

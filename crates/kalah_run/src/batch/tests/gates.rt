@@ -1,6 +1,6 @@
 //! Batches in which workers wait for one another: jobs are solved side by side, drawn by whoever is free, and written
 //! while later ones are under way.
-use super::{answers, same_lines};
+use super::{FOUR, answers, same_lines};
 use crate::{Gate, Tally, solve_batch};
 use kalah_jobs::Stream;
 use std::io::Write;
@@ -12,8 +12,6 @@ use std::{io, thread};
 const TURNS: u32 = 10_000_000;
 
 const TWO: &str = "n:1 0 house 1\nn:2 0 house 1\n";
-
-const FOUR: &str = "n:1 0 house 1\nn:2 0 house 1\nn:3 0 house 1\nn:4 0 house 1\n";
 
 // Looks many times whether the flag is set; false where it gave up.
 fn is_set(flag: &AtomicBool) -> bool {

@@ -1,0 +1,167 @@
+//! What the gate is told: of each job once, and that an outcome is handed on only once there is room for it.
+use super::{FOUR, answers, same_lines};
+use crate::batch::QUEUE_CAPACITY;
+use crate::{Gate, solve_batch};
+use kalah_jobs::Stream;
+use std::io::Write;
+use std::sync::atomic::{AtomicBool, AtomicU32, Ordering};
+use std::test::Fail;
+use std::{io, thread};
+
+// How often the writer looks for what it waits for.
+const TURNS: u32 = 10_000_000;
+
+/// How often each of four jobs began and was handed on, and whether one was told of out of its turn.
+#[derive(Drop)]
+struct Told {
+    begun: [AtomicU32; 4],
+    handed_on: [AtomicU32; 4],
+    out_of_turn: AtomicBool,
+}
+
+// Four counts of none.
+fn no_counts() -> [AtomicU32; 4] {
+    [
+        AtomicU32::new(0),
+        AtomicU32::new(0),
+        AtomicU32::new(0),
+        AtomicU32::new(0),
+    ]
+}
+
+// How often the job was told of; none where there is no such job.
+fn times(counts: &[AtomicU32; 4], job: u32) -> u32 {
+    match counts.get(job as usize) {
+        Some(count) => count.load(Ordering::SeqCst),
+        None => 0,
+    }
+}
+
+// The job was told of once more.
+fn count(counts: &[AtomicU32; 4], job: u32) {
+    if let Some(count) = counts.get(job as usize) {
+        count.fetch_add(1, Ordering::SeqCst);
+    }
+}
+
+impl Gate for Told {
+    fn before(&self, job: u32) {
+        count(&self.begun, job);
+        if times(&self.begun, job) != 1 || times(&self.handed_on, job) != 0 {
+            self.out_of_turn.store(true, Ordering::SeqCst);
+        }
+    }
+
+    fn after(&self, job: u32) {
+        count(&self.handed_on, job);
+        if times(&self.begun, job) != 1 || times(&self.handed_on, job) != 1 {
+            self.out_of_turn.store(true, Ordering::SeqCst);
+        }
+    }
+}
+
+#[test]
+fn the_gate_is_told_of_each_job_once(rt: HostRuntime) -> Result<(), Fail> {
+    let alloc = rt.alloc();
+    let files = same_lines(alloc, 4)?;
+    let gate = Told {
+        begun: no_counts(),
+        handed_on: no_counts(),
+        out_of_turn: AtomicBool::new(false),
+    };
+    assert!(rt; answers(&rt, alloc, files.as_slice(), 2, 16, &gate, FOUR, 0));
+    assert!(rt; !gate.out_of_turn.load(Ordering::SeqCst));
+    for job in 0..4u32 {
+        assert_eq!(rt; times(&gate.begun, job), 1);
+        assert_eq!(rt; times(&gate.handed_on, job), 1);
+    }
+    Ok(())
+}
+
+// So many outcomes are got, or wait in the queue, while the first line is written.
+const ROOM: u32 = QUEUE_CAPACITY + 1;
+
+// How many turns a job is given to be handed on though there is no room.
+const A_WHILE: u32 = 100_000;
+
+/// How many jobs have begun, and how many are handed on.
+#[derive(Drop)]
+struct Counts {
+    begun: AtomicU32,
+    handed_on: AtomicU32,
+}
+
+/// Counts the jobs.
+#[derive(Drop)]
+struct Counting<'a> {
+    counts: &'a Counts,
+}
+
+impl Gate for Counting<'_> {
+    fn before(&self, _job: u32) {
+        self.counts.begun.fetch_add(1, Ordering::SeqCst);
+    }
+
+    fn after(&self, _job: u32) {
+        self.counts.handed_on.fetch_add(1, Ordering::SeqCst);
+    }
+}
+
+/// Takes its first bytes only once a job has begun for whose outcome there is no room, and keeps how many jobs were
+/// handed on by then.
+#[derive(Drop)]
+struct Slow<'a> {
+    bytes: Vec<u8>,
+    counts: &'a Counts,
+    handed_on: Option<u32>,
+}
+
+impl Slow<'_> {
+    // Waits for the job that finds no room, and a while longer.
+    fn wait(&mut self) {
+        for _ in 0..TURNS {
+            if self.counts.begun.load(Ordering::SeqCst) > ROOM {
+                break;
+            }
+            thread::yield_now();
+        }
+        for _ in 0..A_WHILE {
+            thread::yield_now();
+        }
+        self.handed_on = Some(self.counts.handed_on.load(Ordering::SeqCst));
+    }
+}
+
+impl Write for Slow<'_> {
+    fn write(&mut self, buf: &[u8]) -> io::Result<usize> {
+        if self.handed_on.is_none() {
+            self.wait();
+        }
+        self.bytes.write(buf)
+    }
+
+    fn flush(&mut self) -> io::Result<()> {
+        Ok(())
+    }
+}
+
+#[test]
+fn an_outcome_without_room_is_not_handed_on(rt: HostRuntime) -> Result<(), Fail> {
+    let alloc = rt.alloc();
+    let files = same_lines(alloc, 100)?;
+    let counts = Counts {
+        begun: AtomicU32::new(0),
+        handed_on: AtomicU32::new(0),
+    };
+    let gate = Counting { counts: &counts };
+    let mut out = Stream::new(Slow {
+        bytes: Vec::new(alloc),
+        counts: &counts,
+        handed_on: None,
+    });
+    let tally = solve_batch(&rt, alloc, files.as_slice(), 1, 16, &gate, &mut out);
+    assert!(rt; tally.is_ok());
+    assert_eq!(rt; out.into_inner().handed_on, Some(ROOM));
+    assert_eq!(rt; counts.handed_on.load(Ordering::SeqCst), 100);
+    Ok(())
+}
