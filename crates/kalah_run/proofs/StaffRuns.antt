@@ -10,7 +10,8 @@ use Rattle.kalah_jobs.specs.JobList.{job_list}
 use Rattle.kalah_jobs.specs.Shares.{AreShared}
 use Rattle.kalah_jobs.specs.Batch.{job, AreJobsInSomeOrder}
 use Rattle.kalah_jobs.proofs.JobOrders.{shares_law}
-use Rattle.kalah_run.specs.DeskRows.{numbers_of, times_in, spent_in}
+use Rattle.kalah_jobs.specs.Shares.{times_in}
+use Rattle.kalah_run.specs.DeskRows.{numbers_of, spent_in}
 use Rattle.kalah_run.specs.DeskStates.{DeskState, PassState, IsPassOf, AreNewPasses, new_pass, rows_of}
 use Rattle.kalah_run.specs.QueueStates.{PutState, ArePassesFrom, sent_by}
 use Rattle.kalah_run.specs.QueueLists.{Accounts}

@@ -1,5 +1,6 @@
 -- The rows of a desk: for each pass the numbers that it has drawn, and whether it was answered None.
 use Rattle.std.specs.Prelude.{◌≡◌, ◌≢◌, ℕ, ◌+◌, ◌<◌, ◌≤◌, ◌==◌, List, length, map, fold, Bool, nat_lt, if◌then◌else◌, sum_by, count_by, All, AllPairs, slice_index_or}
+use Rattle.kalah_jobs.specs.Shares.{times_in}
 use Rattle.kalah_run.specs.declared.desk_rule.Row.{Row}
 
 abbrev pub row : List ℕ → Bool → Row
@@ -12,10 +13,6 @@ numbers_of rows = map (λ r. r.numbers) rows
 -- how many numbers stand in the rows
 abbrev pub drawn_in : List Row → ℕ
 drawn_in rows = sum_by (λ r. length r.numbers) rows
-
--- how often x stands in lists of numbers
-abbrev pub times_in : ℕ → List (List ℕ) → ℕ
-times_in x lists = sum_by (λ numbers. count_by (λ y. y == x) numbers) lists
 
 -- how many passes were answered None
 abbrev pub spent_in : List Row → ℕ

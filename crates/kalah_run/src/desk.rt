@@ -1,6 +1,7 @@
 //! The desk: its passes draw the numbers below a total from one word, each number once.
 ghost use Rattle.std.specs.Prelude.{◌≡◌, ℕ, ◌<◌, ◌≤◌, ◌↔◌, [], ◌∷◌, ◌++◌, length, true, false, nat_lt, if◌then◌else◌, All, IfOk, IfSome, IfNone, IsTrue};
-ghost use Rattle.kalah_run.specs.DeskRows.{row, numbers_of, drawn_in, times_in, spent_in, AreLawful, StandsOnce, StandsNowhere};
+ghost use Rattle.kalah_jobs.specs.Shares.{times_in};
+ghost use Rattle.kalah_run.specs.DeskRows.{row, numbers_of, drawn_in, spent_in, AreLawful, StandsOnce, StandsNowhere};
 ghost use Rattle.kalah_run.specs.DeskKept.{opening_view};
 ghost use Rattle.kalah_run.specs.DeskStates.{IsPassOf, AreNewPasses, rows_of};
 ghost use Rattle.kalah_run.specs.declared.desk_rule.DeskView.TheVariants.{Closing};

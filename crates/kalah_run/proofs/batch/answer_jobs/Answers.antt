@@ -4,7 +4,8 @@ use Rattle.std.specs.List.{All}
 use Rattle.std.proofs.lemmas.List.{length-map}
 use Rattle.kalah_jobs.specs.JobList.{job_list}
 use Rattle.kalah_jobs.specs.Batch.{AreJobsInSomeOrder}
-use Rattle.kalah_run.specs.DeskRows.{times_in, numbers_of, spent_in}
+use Rattle.kalah_jobs.specs.Shares.{times_in}
+use Rattle.kalah_run.specs.DeskRows.{numbers_of, spent_in}
 use Rattle.kalah_run.specs.QueueStates.{GetState, PutState, ArePassesFrom, sent_by}
 use Rattle.kalah_run.specs.QueueLists.{Accounts}
 use Rattle.kalah_run.specs.DeskStates.{PassState, IsPassOf, rows_of}
