@@ -202,3 +202,24 @@ fn bytes_that_are_no_text_are_a_line(rt: HostRuntime) -> Result<(), Fail> {
     let shape = Answer::Fault(LineFault::Shape);
     assert_answers(&rt, rt.alloc(), b"\xff\xfe\n1/0 1/0", &[shape, best(0, 1)])
 }
+
+#[test]
+fn odd_bytes_are_faults_of_their_line(rt: HostRuntime) -> Result<(), Fail> {
+    let alloc = rt.alloc();
+    for (bytes, fault) in [
+        (b"\xEF\xBB\xBF1/0 1/0".as_slice(), LineFault::Shape),
+        (b"1/0 1/0\0\n", LineFault::Shape),
+        (b"1/0\t1/0", LineFault::Shape),
+        (b"99/0 99/0", LineFault::Seeds),
+    ] {
+        assert_answers(&rt, alloc, bytes, &[Answer::Fault(fault)])?;
+    }
+    let mut long = vec![in alloc; b'x'; 81]?;
+    long.extend_from_slice(b"\r\n")?;
+    assert_answers(
+        &rt,
+        alloc,
+        long.as_slice(),
+        &[Answer::Fault(LineFault::Long)],
+    )
+}

@@ -9,15 +9,16 @@ use std::sync::Wait;
 use std::test::Fail;
 use std::thread::Threads;
 
-// A file of these bytes is answered by this text.
+// The file of this name and these bytes is answered by this text.
 fn is_answered<R: Abort + Files + Threads + Wait + Sync>(
     rt: &R,
     alloc: Global,
+    name: &str,
     bytes: &[u8],
     text: &str,
 ) -> Result<(), Fail> {
-    fs::write(rt, "odd.txt", bytes)?;
-    let run = run_on(rt, alloc, &["solve", "odd.txt"])?;
+    fs::write(rt, name, bytes)?;
+    let run = run_on(rt, alloc, &["solve", name])?;
     let status = if text.contains("fault") {
         ExitStatus::LineFaults
     } else {
@@ -44,11 +45,17 @@ fn odd_bytes_are_faults_of_their_line(rt: HostRuntime) -> Result<(), Fail> {
         ),
         (b"99/0 99/0", "odd.txt:1 fault seeds\n"),
     ] {
-        is_answered(&rt, alloc, bytes, text)?;
+        is_answered(&rt, alloc, "odd.txt", bytes, text)?;
     }
     let mut long = vec![in alloc; b'x'; 81]?;
     long.extend_from_slice(b"\r\n")?;
-    is_answered(&rt, alloc, long.as_slice(), "odd.txt:1 fault long\n")
+    is_answered(
+        &rt,
+        alloc,
+        "odd.txt",
+        long.as_slice(),
+        "odd.txt:1 fault long\n",
+    )
 }
 
 #[test]
@@ -57,12 +64,12 @@ fn a_file_may_end_anywhere(rt: HostRuntime) -> Result<(), Fail> {
     for end in 0..bytes.len() + 1 {
         let text = match end {
             0 => "",
-            1..=6 => "odd.txt:1 fault shape\n",
-            7..=9 => "odd.txt:1 6 house 1\n",
-            10..=11 => "odd.txt:1 6 house 1\nodd.txt:2 fault empty\n",
-            _ => "odd.txt:1 6 house 1\nodd.txt:2 fault empty\nodd.txt:3 fault shape\n",
+            1..=6 => "end.txt:1 fault shape\n",
+            7..=9 => "end.txt:1 6 house 1\n",
+            10..=11 => "end.txt:1 6 house 1\nend.txt:2 fault empty\n",
+            _ => "end.txt:1 6 house 1\nend.txt:2 fault empty\nend.txt:3 fault shape\n",
         };
-        is_answered(&rt, rt.alloc(), &bytes[..end], text)?;
+        is_answered(&rt, rt.alloc(), "end.txt", &bytes[..end], text)?;
     }
     Ok(())
 }
