@@ -108,7 +108,7 @@ pub fn run_words<R: Files + Threads + Wait + Sync, O: Sink, E: Write>(
     // Where a write failed the program failed, and where it failed for another cause nothing was written.
     ensures failed { O.has_failed out.new ≡ true → result ≡ ExitStatus.Failed }
     ensures unchanged { result ≡ ExitStatus.Failed → O.has_failed out.new ≡ false
-        → O.written out.new ≡ O.written out.old }
+        → out.new ≡ out.old }
 {
     match parse(alloc, words.as_slice()) {
         Ok(Request::Moves(line)) => run_moves(alloc, line, out, err),

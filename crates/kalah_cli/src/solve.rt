@@ -47,7 +47,7 @@ fn solve_files<'a, R: Files + Threads + Wait + Sync, O: Sink>(
         (list_any has_line_feed (map (λ name. name.now) names.now) ≡ false) }
     ensures failed { O.has_failed out.new ≡ true ↔ IsErrOf result Failure.Write }
     ensures unchanged { IfErr result
-        (λ failure. failure ≢ Failure.Write → O.written out.new ≡ O.written out.old) }
+        (λ failure. failure ≢ Failure.Write → out.new ≡ out.old) }
 {
     if any_has_line_feed(names) {
         return Err(Failure::LineFeed);
@@ -76,7 +76,7 @@ pub(crate) fn run_solve<R: Files + Threads + Wait + Sync, O: Sink, E: Write>(
         (O.written out.old) (O.written out.new) result }
     ensures failed { O.has_failed out.new ≡ true → result ≡ ExitStatus.Failed }
     ensures unchanged { result ≡ ExitStatus.Failed → O.has_failed out.new ≡ false
-        → O.written out.new ≡ O.written out.old }
+        → out.new ≡ out.old }
 {
     match solve_files(rt, alloc, names, workers, table, out) {
         Ok(tally) if tally.faults == 0 => ExitStatus::Clean,

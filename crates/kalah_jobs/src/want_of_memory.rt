@@ -4,8 +4,8 @@
 ghost use Rattle.kalah_jobs.specs.CollectorState.{HasLinesOf};
 
 use crate::{
-    Answer, Collector, Entry, FileText, Jobs, JobsFault, LineFault, Outcome, Refusal, Taken,
-    answer_text, line_text, read_line, step_text,
+    Answer, Collector, Entry, FileText, Job, Jobs, JobsFault, LineFault, Outcome, Refusal, Sink,
+    Stream, Taken, answer_text, line_text, read_line, step_text, write_answer,
 };
 use kalah_rules::{Board, Rule};
 use kalah_solve::{Solver, Table};
@@ -49,6 +49,18 @@ fn one_house(seeds: u8) -> Result<Entry, Fail> {
     let cells = [seeds, 0, 0, 0, 0, 0];
     let board = Board::new(1, cells, 0, cells, 0, Rule::Classic).ok_or("no board")?;
     Ok(Entry::Position(board))
+}
+
+// The jobs are the lines of the first file.
+fn tells_its_jobs(rt: &impl Abort, jobs: &Jobs) -> Result<(), Fail> {
+    assert_eq!(rt; (jobs.files(), jobs.total()), (2, 3));
+    for (line, seeds) in [(0, 1), (1, 2), (2, 3)] {
+        assert!(rt; line < jobs.total());
+        let entry = one_house(seeds)?;
+        let file = 0;
+        assert_eq!(rt; jobs.get(line), Job { file, line, entry });
+    }
+    Ok(())
 }
 
 // Offers of each kind are answered as ever.
@@ -102,6 +114,7 @@ fn jobs_and_their_collector(rt: HostRuntime) -> Result<(), Fail> {
     let mut collector = collector.or_else(|_| Collector::new(alloc, &jobs))?;
     assert!(rt; collector.ended(1) && !collector.ended(0));
     mark(alloc, "before the calls without memory")?;
+    tells_its_jobs(&rt, &jobs)?;
     answers_offers(&rt, &jobs, &mut collector, &mut solver)?;
     gives_lines(&rt, &mut collector);
     mark(alloc, "after all")
@@ -172,4 +185,42 @@ fn lines_are_read_without_memory(rt: HostRuntime) -> Result<(), Fail> {
         assert_eq!(rt; fault.word(), word);
     }
     mark(alloc, "after all")
+}
+
+// Writes three answer lines into a stream of a writer that has all its room.
+fn write_answers(out: &mut Stream<Vec<u8>>) -> Result<(), Fail> {
+    for (line, answer) in [
+        (
+            0,
+            Answer::Best {
+                margin: -2,
+                house: 1,
+            },
+        ),
+        (1, Answer::Over { margin: 114 }),
+        (2, Answer::Fault(LineFault::Seeds)),
+    ] {
+        if !out.failed() {
+            write_answer(out, "a", &Taken { line, answer })?;
+        }
+    }
+    if !out.failed() {
+        out.flush()?;
+    }
+    Ok(())
+}
+
+#[test]
+fn answers_are_written_without_memory(rt: HostRuntime) -> Result<(), Fail> {
+    let alloc = rt.alloc();
+    let room = Vec::<u8>::with_capacity(alloc, 100);
+    let room = room.or_else(|_| Vec::with_capacity(alloc, 100))?;
+    mark(alloc, "before the calls without memory")?;
+    let mut out = Stream::new(room);
+    write_answers(&mut out)?;
+    mark(alloc, "after all")?;
+    let written = out.into_inner();
+    let want = "a:1 -2 house 1\na:2 114 over\na:3 fault seeds\n";
+    assert_eq!(rt; written.as_slice(), want.as_bytes());
+    Ok(())
 }

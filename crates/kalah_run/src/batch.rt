@@ -61,7 +61,7 @@ fn answer_jobs<R: Threads + Wait + Sync, G: Gate, W: Sink>(
     ensures written { OnOk result (W.has_failed out.new ≡ false → Appends (W.written out.old) (W.written out.new) (output_of files.now)) }
     ensures faults { IfOk result (λ faults. faults ≡ count_by is_faulty_offer (job_list jobs.now)) }
     ensures fault { IfErr result (λ e. (e ≡ RunFault.OutOfMemory) ⊎ (e ≡ RunFault.NoWorker)) }
-    ensures untouched { OnErr result ((W.written out.new ≡ W.written out.old) × (W.has_failed out.new ≡ false)) }
+    ensures untouched { OnErr result (out.new ≡ out.old) }
 {
     let report = Report::new(alloc, files, jobs)?;
     let (desk, passes) = Desk::open(alloc, jobs.total(), workers)?;
@@ -121,7 +121,7 @@ pub fn solve_batch<R: Threads + Wait + Sync, G: Gate, W: Sink>(
     ensures write { (result ≡ Err RunFault.Write) ↔ (W.has_failed out.new ≡ true) }
 
     // Any other fault leaves the output as it was.
-    ensures untouched { IfErr result (λ e. e ≢ RunFault.Write → W.written out.new ≡ W.written out.old) }
+    ensures untouched { IfErr result (λ e. e ≢ RunFault.Write → out.new ≡ out.old) }
 {
     let jobs = Jobs::of_files(alloc, files)?;
     let lines = jobs.total();

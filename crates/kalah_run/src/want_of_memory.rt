@@ -1,7 +1,7 @@
 //! Each request for memory refused in turn. With ample memory these tests just pass. `tests/refuse-memory` runs each of them
 //! again and again, with the first request refused, the second, and so on: it has to pass each time, until the request that
 //! is refused is one of its own marks.
-use crate::{Desk, ResultsQueue};
+use crate::{Desk, Gate, OpenGate, ResultsQueue};
 use kalah_jobs::{Entry, LineFault, Outcome};
 use kalah_solve::{Solver, Table};
 use std::alloc::Global;
@@ -41,7 +41,9 @@ fn a_results_queue(rt: HostRuntime) -> Result<(), Fail> {
     let opened = ResultsQueue::open(alloc, 2, 2).or_else(|_| ResultsQueue::open(alloc, 2, 2));
     let (queue, mut puts, mut pass) = opened?;
     mark(alloc, "before the calls without memory")?;
+    OpenGate.before(0);
     queue.put(&rt, &mut puts[0], first);
+    OpenGate.after(0);
     queue.put(&rt, &mut puts[1], second);
     assert_eq!(rt; queue.get(&rt, &mut pass), first);
     assert_eq!(rt; queue.close(&rt, puts, pass).left(), 1);

@@ -117,7 +117,7 @@ pub(crate) fn run_and_report<'a, R: Threads + Wait + Sync, G: Gate, W: Sink>(
     ensures pass { IfOk result (λ r. (r.1.queue ≡ pass.queue) × (r.1.workers ≡ pass.workers) × (length r.1.got ≡ total)) }
     ensures way { IfOk result (λ r. (files : List NamedBytes) → (begun : Option (List ℕ)) → IsReporting files [] begun (W.written out.old) (W.has_failed out.old) report.entry → IsReporting files (outcomes_in r.1.got) begun (W.written out.new) (W.has_failed out.new) r.2 × Waits r.2) }
     ensures fault { IfErr result (λ e. e ≡ RunFault.NoWorker) }
-    ensures untouched { OnErr result ((W.written out.new ≡ W.written out.old) × (W.has_failed out.new ≡ W.has_failed out.old)) }
+    ensures untouched { OnErr result (out.new ≡ out.old) }
 {
     let (outcome, _out) = thread::scope(
         thread::scope_env(),
@@ -132,7 +132,7 @@ pub(crate) fn run_and_report<'a, R: Threads + Wait + Sync, G: Gate, W: Sink>(
             ensures pass { IfOk result.0 (λ r. (r.1.queue ≡ pass.queue) × (r.1.workers ≡ pass.workers) × (length r.1.got ≡ total)) }
             ensures way { IfOk result.0 (λ r. (files : List NamedBytes) → (begun : Option (List ℕ)) → IsReporting files [] begun (W.written out.entry.now) (W.has_failed out.entry.now) report.entry → IsReporting files (outcomes_in r.1.got) begun (W.written result.1.now) (W.has_failed result.1.now) r.2 × Waits r.2) }
             ensures fault { IfErr result.0 (λ e. e ≡ RunFault.NoWorker) }
-            ensures untouched { OnErr result.0 ((W.written result.1.now ≡ W.written out.entry.now) × (W.has_failed result.1.now ≡ W.has_failed out.entry.now)) }
+            ensures untouched { OnErr result.0 (result.1.now ≡ out.entry.now) }
         {
             let (desk, queue, jobs, gate) = (shop.desk, shop.queue, shop.jobs, shop.gate);
             let started = scope.spawn_with(
