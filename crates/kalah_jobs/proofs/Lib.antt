@@ -7,6 +7,7 @@ pub mod Cells
 pub mod LineEnds
 pub mod Texts
 pub mod SideTexts
+pub mod PlainLines
 pub mod SplitLines
 pub mod OneLines
 pub mod JobCounts

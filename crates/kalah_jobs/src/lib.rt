@@ -43,7 +43,10 @@ pub use file_text::FileText;
 pub use job::Job;
 pub use jobs::{Jobs, JobsFault, MOST_FILES, MOST_LINES};
 pub use line_fault::LineFault;
-pub use line_laws::{every_line_is_its_text, every_text_is_read_back, no_line_reads_twice};
+pub use line_laws::{
+    every_line_is_its_text, every_text_is_read_back, no_line_reads_twice,
+    only_the_ending_names_the_rule, plain_lines_read_the_same,
+};
 pub use outcome::Outcome;
 pub use position_text::{line_text, step_text};
 pub use printed::answer_text;
