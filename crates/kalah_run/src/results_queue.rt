@@ -58,7 +58,7 @@ impl ResultsQueue {
         push_until(rt, &self.pairs, &mut pass.ruled, pair);
     }
 
-    /// Takes the oldest outcome out, of whichever worker, and answers it. Waits while there is none.
+    /// Takes an outcome out, the next of some worker, and answers it. Waits while there is none.
     pub fn get<R: Wait>(&self, rt: &R, pass: &mut GetPass) -> Outcome
         requires { pass.old.queue ≡ self.now.id }
         ensures { (worker : ℕ) × (pass.new ≡ record pass.old { got = pass.old.got ++ (worker, result) ∷ [] }) }
