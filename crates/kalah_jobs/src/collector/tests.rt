@@ -22,7 +22,7 @@ struct Trial {
 }
 
 impl Trial {
-    // Of a file of three lines, with one, two and three seeds, and an empty file.
+    // For the jobs of two files, to which nothing has come.
     fn new(alloc: Global) -> Result<Trial, Fail> {
         let jobs = two_files(alloc)?;
         let collector = Collector::new(alloc, &jobs)?;
@@ -74,28 +74,16 @@ fn assert_offers(rt: &impl Abort, trial: &mut Trial, offers: &[((u32, u32), u8, 
     }
 }
 
-// Takes these lines of the first file, with the margins of best play, and then there is no more to take.
-fn assert_takes(rt: &impl Abort, collector: &mut Collector, lines: &[(u32, i32)]) {
-    for (line, margin) in lines {
-        let answer = Answer::Best {
-            margin: *margin,
-            house: 1,
-        };
-        let taken = Taken {
-            line: *line,
-            answer,
-        };
-        assert_eq!(rt; collector.take(0), Some(taken));
+// Takes the three lines of the first file, each once, with the margins of best play, and nothing else.
+fn assert_takes_all(rt: &impl Abort, collector: &mut Collector) {
+    assert!(rt; !collector.all_taken());
+    for (line, margin) in [(0, 0), (1, -2), (2, 6)] {
+        let answer = Answer::Best { margin, house: 1 };
+        assert_eq!(rt; collector.take(0), Some(Taken { line, answer }));
     }
     for f in [0, 1, 9] {
         assert!(rt; collector.take(f).is_none(), "of file {f}");
     }
-}
-
-// Takes the three lines of the first file, each once, and nothing else.
-fn assert_takes_all(rt: &impl Abort, collector: &mut Collector) {
-    assert!(rt; !collector.all_taken());
-    assert_takes(rt, collector, &[(0, 0), (1, -2), (2, 6)]);
     assert!(rt; collector.all_taken());
 }
 
