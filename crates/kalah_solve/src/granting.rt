@@ -2,8 +2,8 @@
 use std::alloc::{AllocError, Allocator};
 use std::cell::Cell;
 
-// The requests that came so far, and which are refused: those from `refused_from` on and before `granted_from`, counted
-// from 0 in the order in which they come.
+/// The requests that came so far, and which are refused: those from `refused_from` on and before `granted_from`, counted
+/// from 0 in the order in which they come.
 #[derive(Drop)]
 pub struct Requests {
     refused_from: u32,
@@ -25,8 +25,8 @@ impl Requests {
     }
 }
 
-/// An allocator over another that grants some requests and refuses others. A `&` to it can be copied, and counts where
-/// it does.
+/// An allocator that passes some requests on to another, and refuses the others. A `&` to it can be copied, and each copy
+/// counts on.
 #[derive(Drop)]
 pub struct Granting<B: Allocator> {
     inner: B,
