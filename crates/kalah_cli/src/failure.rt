@@ -59,3 +59,6 @@ impl fmt::Display for Failure<'_> {
         }
     }
 }
+
+#[cfg(test)]
+mod tests;

@@ -117,6 +117,28 @@ fn too_many_lines(rt: HostRuntime) -> Result<(), Fail> {
     Ok(())
 }
 
+// A file may have 67,108,864 bytes, and not one more.
+#[test]
+fn a_file_of_the_greatest_size_is_read(rt: HostRuntime) -> Result<(), Fail> {
+    let alloc = rt.alloc();
+    let bytes = vec![in alloc; b'x'; 67_108_865]?;
+    fs::write(&rt, "large.txt", &bytes[1..])?;
+    let run = run_on(&rt, alloc, &["solve", "large.txt"])?;
+    assert!(rt; answers(&run, ExitStatus::LineFaults, "large.txt:1 fault long\n", ""));
+    fs::write(&rt, "large.txt", bytes.as_slice())?;
+    let run = run_on(&rt, alloc, &["solve", "large.txt"])?;
+    assert!(rt;
+        answers(
+            &run,
+            ExitStatus::Failed,
+            "",
+            "kalah: cannot read large.txt\n"
+        )
+    );
+    fs::remove_file(&rt, "large.txt")?;
+    Ok(())
+}
+
 // The last call that can fail is the flush after the last line.
 #[test]
 fn solving_stops_at_a_failed_write(rt: HostRuntime) -> Result<(), Fail> {

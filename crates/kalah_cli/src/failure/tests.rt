@@ -1,0 +1,22 @@
+use super::Failure;
+use crate::status::ExitStatus;
+use std::test::Fail;
+
+#[test]
+fn each_failure_is_said_in_its_words(rt: HostRuntime) -> Result<(), Fail> {
+    let texts = [
+        (Failure::LineFeed, "kalah: line feed in a file name\n"),
+        (Failure::Unreadable("a.txt"), "kalah: cannot read a.txt\n"),
+        (Failure::TooManyFiles, "kalah: too many files\n"),
+        (Failure::TooManyLines, "kalah: too many lines\n"),
+        (Failure::OutOfMemory, "kalah: out of memory\n"),
+        (Failure::NoWorker, "kalah: no worker could be started\n"),
+        (Failure::Write, "kalah: write failed\n"),
+    ];
+    for (failure, text) in texts {
+        let mut err = Vec::<u8>::new(rt.alloc());
+        assert_eq!(rt; failure.report(&mut err), ExitStatus::Failed);
+        assert_eq!(rt; err.as_slice(), text.as_bytes());
+    }
+    Ok(())
+}

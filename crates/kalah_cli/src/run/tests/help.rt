@@ -1,0 +1,95 @@
+//! What the help says.
+use super::run_on;
+use crate::status::ExitStatus;
+use std::alloc::Global;
+use std::rt::Files;
+use std::str;
+use std::sync::Wait;
+use std::test::Fail;
+use std::thread::Threads;
+
+const OF_THE_PROGRAM: [&str; 6] = [
+    "Solves small positions of Kalah: the best house and the margin of best play",
+    "moves",
+    "solve",
+    "Prints each legal move of a position, and the position after it",
+    "Prints the margin of best play and the best house of each position in files",
+    ABOUT_POSITIONS,
+];
+
+const ABOUT_POSITIONS: &str = "\
+A position is one line, seen by the player to move: the seeds in that player's houses, a slash, the
+seeds in that player's store, one space, and the same for the other player, as in
+    1,1/0 1,1/0
+Houses count from 1, and the last one lies next to its owner's store. A side has 1 to 6 houses; all
+houses together hold at most 31 seeds, and a store at most 99.
+
+A move lifts the seeds of an own house and sows them one by one: the own houses after it, the own
+store, the other player's houses, and round again, never the other player's store. Who sows the last
+seed into the own store moves again. A last seed that is alone in an own house is captured together
+with the seeds in the house across, if there are any there. The game is over once the houses of one
+player are all empty; what is left in houses goes to their owner's store.
+A line that ends in ` e`, as 1,1/0 1,1/0 e, is played under the empty-capture rule: a last seed that
+is alone in an own house is captured also where the house across is empty.
+
+`kalah moves LINE` prints a line for each house H that may be moved, with the position after it:
+    H POSITION again        the player to move has another move
+    H POSITION turn         the other player is to move, and the position is seen by that player
+    H POSITION over         the game is over
+`kalah solve FILE..` prints a line for each line of each file, in order:
+    FILE:LINE MARGIN house H        the margin of best play, and the first house that attains it
+    FILE:LINE MARGIN over           the game is over, with this margin
+    FILE:LINE fault WORD            not a position: long, empty, shape, houses or seeds
+A margin is what the player to move ends with less what the other player ends with.
+
+Exit status: 0 if every line was read or help was asked for; 1 if some line was not read; 2 if the
+words, a file, memory, a worker or the output failed, and standard error says which.";
+
+const OF_MOVES: [&str; 3] = [
+    "Prints each legal move of a position, and the position after it",
+    "<LINE>",
+    "a position, as 1,1/0 1,1/0",
+];
+
+const OF_SOLVE: [&str; 9] = [
+    "Prints the margin of best play and the best house of each position in files",
+    "--workers <N>",
+    "how many workers solve side by side, 1 to 64",
+    "[default: 4]",
+    "--table <N>",
+    "how many solved positions each worker remembers, 1 to 1048576",
+    "[default: 65536]",
+    "<FILE>...",
+    "files of positions, one a line",
+];
+
+// The help that these words ask for has this part in it.
+fn says<R: Files + Threads + Wait + Sync>(
+    rt: &R,
+    alloc: Global,
+    words: &[&str],
+    part: &str,
+) -> bool {
+    let Ok(run) = run_on(rt, alloc, words) else {
+        return false;
+    };
+    match str::from_utf8(run.out.as_slice()) {
+        Ok(text) => run.status == ExitStatus::Clean && text.contains(part),
+        Err(_) => false,
+    }
+}
+
+#[test]
+fn the_help_says_what_there_is_to_ask_for(rt: HostRuntime) -> Result<(), Fail> {
+    let alloc = rt.alloc();
+    for part in OF_THE_PROGRAM {
+        assert!(rt; says(&rt, alloc, &["--help"], part), "no {part}");
+    }
+    for part in OF_MOVES {
+        assert!(rt; says(&rt, alloc, &["moves", "--help"], part), "no {part}");
+    }
+    for part in OF_SOLVE {
+        assert!(rt; says(&rt, alloc, &["solve", "--help"], part), "no {part}");
+    }
+    Ok(())
+}
