@@ -106,7 +106,9 @@ fn has_failed_after_an_error(rt: HostRuntime) -> Result<(), Fail> {
     assert!(rt; !out.failed());
     assert!(rt; out.write_all(b"b").is_err());
     assert!(rt; out.failed());
-    assert_eq!(rt; out.into_inner().bytes.as_slice(), b"a".as_slice());
+    let writer = out.into_inner();
+    assert_eq!(rt; writer.calls, 2);
+    assert_eq!(rt; writer.bytes.as_slice(), b"a".as_slice());
     Ok(())
 }
 
@@ -116,6 +118,7 @@ fn has_failed_after_a_flush_that_fails(rt: HostRuntime) -> Result<(), Fail> {
     out.write_all(b"a")?;
     assert!(rt; out.flush().is_err());
     assert!(rt; out.failed());
+    assert_eq!(rt; out.into_inner().calls, 2);
     Ok(())
 }
 
