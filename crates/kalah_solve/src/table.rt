@@ -60,7 +60,8 @@ impl Interval {
 
     // What both intervals share.
     pub(crate) fn shared(self, with: Interval) -> Interval
-        ensures { (z : ℤ) → Holds self z → Holds with z → Holds result z }
+        ensures held { (z : ℤ) → Holds self z → Holds with z → Holds result z }
+        ensures no_more { (z : ℤ) → Holds result z → Holds self z × Holds with z }
     {
         Interval {
             lo: self.lo.max(with.lo),

@@ -256,7 +256,7 @@ search_known-learned-requires-clause-least g t c = omega (arith, ints, clamps, c
 
 pub search_known-keep-requires : goal.search_known-keep-requires
 search_known-keep-requires g t c =
-    c.shared.ensures (houses_worth c.args.houses.now)
+    c.shared.ensures.held (houses_worth c.args.houses.now)
     (c.learned.ensures (houses_worth c.args.houses.now) c.known-known.ensures.least c.known-known.ensures.most (omega (arith, ints, clamps, c.explore-answer.ensures)))
     c.known-known.ensures.holds
 
