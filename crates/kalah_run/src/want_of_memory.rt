@@ -41,11 +41,18 @@ fn a_results_queue(rt: HostRuntime) -> Result<(), Fail> {
     let opened = ResultsQueue::open(alloc, 2, 2).or_else(|_| ResultsQueue::open(alloc, 2, 2));
     let (queue, mut puts, mut pass) = opened?;
     mark(alloc, "before the calls without memory")?;
-    OpenGate.before(0);
     queue.put(&rt, &mut puts[0], first);
-    OpenGate.after(0);
     queue.put(&rt, &mut puts[1], second);
     assert_eq!(rt; queue.get(&rt, &mut pass), first);
     assert_eq!(rt; queue.close(&rt, puts, pass).left(), 1);
+    mark(alloc, "after all")
+}
+
+#[test]
+fn the_open_gate_takes_no_memory(rt: HostRuntime) -> Result<(), Fail> {
+    let alloc = rt.alloc();
+    mark(alloc, "before the calls without memory")?;
+    OpenGate.before(0);
+    OpenGate.after(0);
     mark(alloc, "after all")
 }
