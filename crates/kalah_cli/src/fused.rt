@@ -1,5 +1,5 @@
 //! A writer that is called no more after its first error.
-ghost use Rattle.std.specs.Prelude.{◌≡◌, ◌≢◌, ◌↔◌, true, IfErr, IsErr, IsTrue};
+ghost use Rattle.std.specs.Prelude.{◌≡◌, ◌≢◌, ◌↔◌, [], true, false, IfErr, IfOk, IsErr, IsTrue, OnOk};
 ghost use Rattle.std.specs.IoError.{error_kind};
 ghost use Rattle.std.specs.Io.{WritesAtMost};
 ghost use Rattle.std.specs.Io.KnownBytes.{Keeps, WriteAppends};
@@ -19,7 +19,8 @@ pub(crate) struct Fused<W> {
 impl<W> Fused<W> {
     /// The writer, of which no call has failed.
     pub(crate) fn new(writer: W) -> Fused<W>
-        ensures { result.writer ≡ writer }
+        ensures writer { result.writer ≡ writer }
+        ensures fresh { result.has_failed ≡ false }
     {
         Fused {
             writer,
@@ -29,7 +30,8 @@ impl<W> Fused<W> {
 
     // An error where a call has failed.
     fn check(&self) -> io::Result<()>
-        ensures { IsErr result ↔ (self.now.has_failed ≡ true) }
+        ensures fails { IsErr result ↔ (self.now.has_failed ≡ true) }
+        ensures kind { IfErr result (λ e. error_kind e ≡ ErrorKind.BrokenPipe) }
     {
         if self.has_failed {
             return Err(io::Error::from(ErrorKind::BrokenPipe));
@@ -51,9 +53,9 @@ impl<W: Write> Write for Fused<W> {
     fn write(&mut self, buf: &[u8]) -> io::Result<usize>
         ensures bound { WritesAtMost result buf.now }
         ensures bytes { WriteAppends (W.contents self.old.writer) (W.contents self.new.writer) result buf.now }
-        ensures error { self.old.has_failed ≡ true → IsErr result }
-        ensures quiet { self.old.has_failed ≡ true → self.new ≡ self.old }
-        ensures last { IfErr result (λ e. error_kind e ≢ ErrorKind.Interrupted → self.new.has_failed ≡ true) }
+        ensures quiet { self.old.has_failed ≡ true → IsErr result × (self.new ≡ self.old) }
+        ensures error { IfErr result (λ e. (self.new.has_failed ≡ true) ↔ (error_kind e ≢ ErrorKind.Interrupted)) }
+        ensures taken { IfOk result (λ n. (self.new.has_failed ≡ true) ↔ ((n ≡ 0) × (buf.now ≢ []))) }
     {
         self.check()?;
         let written = self.writer.write(buf);
@@ -66,9 +68,9 @@ impl<W: Write> Write for Fused<W> {
 
     fn flush(&mut self) -> io::Result<()>
         ensures bytes { Keeps (W.contents self.old.writer) (W.contents self.new.writer) }
-        ensures error { self.old.has_failed ≡ true → IsErr result }
-        ensures quiet { self.old.has_failed ≡ true → self.new ≡ self.old }
-        ensures last { IfErr result (λ e. error_kind e ≢ ErrorKind.Interrupted → self.new.has_failed ≡ true) }
+        ensures quiet { self.old.has_failed ≡ true → IsErr result × (self.new ≡ self.old) }
+        ensures error { IfErr result (λ e. (self.new.has_failed ≡ true) ↔ (error_kind e ≢ ErrorKind.Interrupted)) }
+        ensures flushed { OnOk result (self.new.has_failed ≡ false) }
     {
         self.check()?;
         let flushed = self.writer.flush();
