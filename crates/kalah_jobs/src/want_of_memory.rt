@@ -1,123 +1,19 @@
 //! Each request for memory refused in turn. With ample memory these tests just pass. `tests/refuse-memory` runs each of them
 //! again and again, with the first request refused, the second, and so on: it has to pass each time, until the request that
 //! is refused is one of its own marks.
-ghost use Rattle.kalah_jobs.specs.CollectorState.{HasLinesOf};
-
 use crate::{
-    Answer, Collector, Entry, FileText, Job, Jobs, JobsFault, LineFault, Outcome, Refusal, Sink,
-    Stream, Taken, answer_text, line_text, read_line, step_text, write_answer,
+    Answer, LineFault, Sink, Stream, Taken, answer_text, line_text, read_line, step_text,
+    write_answer,
 };
-use kalah_rules::{Board, Rule};
-use kalah_solve::{Solver, Table};
-use std::alloc::{AllocError, Global};
-use std::process::Abort;
+use std::alloc::Global;
 use std::test::Fail;
 
 // A request that is refused only where none before it was.
-fn mark(alloc: Global, place: &'static str) -> Result<(), Fail> {
+pub(crate) fn mark(alloc: Global, place: &'static str) -> Result<(), Fail> {
     match Box::new(alloc, 0u8) {
         Ok(_) => Ok(()),
         Err(_) => Err(Fail::new(place)),
     }
-}
-
-// A file of three lines, and an empty one.
-fn two_files(alloc: Global) -> Result<Vec<FileText>, AllocError> {
-    let mut files = Vec::new(alloc);
-    for (name, bytes) in [("a", b"1/0 1/0\n2/0 2/0\n3/0 3/0".as_slice()), ("b", b"")] {
-        files.push(FileText {
-            name: String::from_str(alloc, name)?,
-            bytes: Vec::from_slice(alloc, bytes)?,
-        })?;
-    }
-    Ok(files)
-}
-
-// The jobs of the files, asked for again where memory was refused.
-fn jobs_of(rt: &impl Abort, alloc: Global, files: &[FileText]) -> Result<Jobs, Fail> {
-    match Jobs::of_files(alloc, files) {
-        Ok(jobs) => Ok(jobs),
-        Err(fault) => {
-            assert_eq!(rt; fault, JobsFault::OutOfMemory);
-            Ok(Jobs::of_files(alloc, files)?)
-        }
-    }
-}
-
-// The position of one house a side with so many seeds in each.
-fn one_house(seeds: u8) -> Result<Entry, Fail> {
-    let cells = [seeds, 0, 0, 0, 0, 0];
-    let board = Board::new(1, cells, 0, cells, 0, Rule::Classic).ok_or("no board")?;
-    Ok(Entry::Position(board))
-}
-
-// The jobs are the lines of the first file.
-fn tells_its_jobs(rt: &impl Abort, jobs: &Jobs) -> Result<(), Fail> {
-    assert_eq!(rt; (jobs.files(), jobs.total()), (2, 3));
-    for (line, seeds) in [(0, 1), (1, 2), (2, 3)] {
-        assert!(rt; line < jobs.total());
-        let entry = one_house(seeds)?;
-        let file = 0;
-        assert_eq!(rt; jobs.get(line), Job { file, line, entry });
-    }
-    Ok(())
-}
-
-// Offers of each kind are answered as ever.
-fn answers_offers(
-    rt: &impl Abort,
-    jobs: &Jobs,
-    collector: &mut Collector,
-    solver: &mut Solver,
-) -> Result<(), Fail>
-    requires { HasLinesOf jobs.now collector.old }
-{
-    for offered in [
-        (0, 2, 3, Ok(0)),
-        (0, 0, 1, Ok(1)),
-        (0, 0, 1, Err(Refusal::Double)),
-        (0, 0, 2, Err(Refusal::WrongPosition)),
-        (0, 3, 1, Err(Refusal::NoSuchLine)),
-        (2, 0, 1, Err(Refusal::NoSuchFile)),
-        (0, 1, 2, Ok(2)),
-        (0, 1, 2, Err(Refusal::FileEnded)),
-        (0, 7, 1, Err(Refusal::FileEnded)),
-        (1, 0, 1, Err(Refusal::FileEnded)),
-    ] {
-        let (file, line, seeds, answer) = offered;
-        let outcome = Outcome::of(file, line, one_house(seeds)?, solver);
-        assert_eq!(rt; collector.offer(jobs, outcome), answer);
-    }
-    Ok(())
-}
-
-// The lines are given in order, each once.
-fn gives_lines(rt: &impl Abort, collector: &mut Collector) {
-    for (line, margin) in [(0, 0), (1, -2), (2, 6)] {
-        let answer = Answer::Best { margin, house: 1 };
-        assert!(rt; collector.take(0) == Some(Taken { line, answer }));
-    }
-    assert!(rt; collector.take(0).is_none() && collector.take(1).is_none());
-    assert!(rt; collector.take(9).is_none());
-    assert!(rt; collector.all_taken());
-}
-
-#[test]
-fn jobs_and_their_collector(rt: HostRuntime) -> Result<(), Fail> {
-    let alloc = rt.alloc();
-    let table = Table::new(alloc, 16).or_else(|_| Table::new(alloc, 16))?;
-    let mut solver = Solver::new(table);
-    let files = two_files(alloc).or_else(|_| two_files(alloc))?;
-    let jobs = jobs_of(&rt, alloc, files.as_slice())?;
-    assert_eq!(rt; jobs.total(), 3);
-    let collector = Collector::new(alloc, &jobs);
-    let mut collector = collector.or_else(|_| Collector::new(alloc, &jobs))?;
-    assert!(rt; collector.ended(1) && !collector.ended(0));
-    mark(alloc, "before the calls without memory")?;
-    tells_its_jobs(&rt, &jobs)?;
-    answers_offers(&rt, &jobs, &mut collector, &mut solver)?;
-    gives_lines(&rt, &mut collector);
-    mark(alloc, "after all")
 }
 
 // The text of the position of a line, asked for again where memory was refused.

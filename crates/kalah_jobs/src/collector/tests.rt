@@ -1,11 +1,13 @@
 //! Offers in each order, with doubles and strangers between them, and what is taken.
 ghost use Rattle.kalah_jobs.specs.CollectorState.{HasLinesOf};
 
+mod want_of_memory;
+
 use crate::{Answer, Collector, Entry, FileText, Jobs, LineFault, Outcome, Refusal, Taken};
 use Refusal::{Double, FileEnded, NoSuchFile, NoSuchLine, WrongPosition};
 use kalah_rules::{Board, Rule};
 use kalah_solve::{Solver, Table};
-use std::alloc::Global;
+use std::alloc::{AllocError, Global};
 use std::process::Abort;
 use std::test::Fail;
 
@@ -49,7 +51,7 @@ fn one_house(rt: &impl Abort, seeds: u8, rule: Rule) -> Entry {
 }
 
 // A file of three lines, with one, two and three seeds, and an empty file.
-fn two_files(alloc: Global) -> Result<Jobs, Fail> {
+fn two_texts(alloc: Global) -> Result<Vec<FileText>, AllocError> {
     let mut files = Vec::new(alloc);
     files.push(FileText {
         name: "a".to_string(alloc)?,
@@ -59,7 +61,12 @@ fn two_files(alloc: Global) -> Result<Jobs, Fail> {
         name: "b".to_string(alloc)?,
         bytes: Vec::new(alloc),
     })?;
-    Ok(Jobs::of_files(alloc, files.as_slice())?)
+    Ok(files)
+}
+
+// Their jobs.
+fn two_files(alloc: Global) -> Result<Jobs, Fail> {
+    Ok(Jobs::of_files(alloc, two_texts(alloc)?.as_slice())?)
 }
 
 // Offers lines with so many seeds, one after the other, each of which is answered so.
@@ -87,25 +94,27 @@ fn assert_takes_all(rt: &impl Abort, collector: &mut Collector) {
     assert!(rt; collector.all_taken());
 }
 
+// An offer of each kind, and its answer.
+const EACH_OFFER: [((u32, u32), u8, Answered); 10] = [
+    ((0, 2), 3, Ok(0)),
+    ((0, 0), 1, Ok(1)),
+    ((0, 0), 1, Err(Double)),
+    ((0, 0), 2, Err(WrongPosition)),
+    ((0, 3), 1, Err(NoSuchLine)),
+    ((2, 0), 1, Err(NoSuchFile)),
+    ((0, 1), 2, Ok(2)),
+    ((0, 1), 2, Err(FileEnded)),
+    ((0, 7), 1, Err(FileEnded)),
+    ((1, 0), 1, Err(FileEnded)),
+];
+
 #[test]
 fn answers_each_offer(rt: HostRuntime) -> Result<(), Fail> {
     let mut trial = Trial::new(rt.alloc())?;
     for (f, ended) in [(0, false), (1, true), (2, false)] {
         assert_eq!(rt; trial.collector.ended(f), ended, "of file {f}");
     }
-    let offers = [
-        ((0, 2), 3, Ok(0)),
-        ((0, 0), 1, Ok(1)),
-        ((0, 0), 1, Err(Double)),
-        ((0, 0), 2, Err(WrongPosition)),
-        ((0, 3), 1, Err(NoSuchLine)),
-        ((2, 0), 1, Err(NoSuchFile)),
-        ((0, 1), 2, Ok(2)),
-        ((0, 1), 2, Err(FileEnded)),
-        ((0, 7), 1, Err(FileEnded)),
-        ((1, 0), 1, Err(FileEnded)),
-    ];
-    assert_offers(&rt, &mut trial, &offers);
+    assert_offers(&rt, &mut trial, &EACH_OFFER);
     assert_takes_all(&rt, &mut trial.collector);
     Ok(())
 }
