@@ -2,7 +2,7 @@
 
 PREFIX ?= /usr/local
 
-.PHONY: all test install bench clean
+.PHONY: all check test install bench clean
 
 # Proves the program and all that it stands on, and builds ./kalah.
 all: kalah
@@ -13,11 +13,14 @@ kalah: FORCE
 
 FORCE:
 
-# The gate: each request for memory refused in turn; then every proof from nothing, the must-fail edits, the tests and the
-# program's stored run.
+# While you work: the proofs and the tests of what has changed, over the work that earlier checks kept.
+check:
+	tests/check
+
+# The gate: every proof from nothing, the must-fail edits, the tests and the program's stored run; then, over what that has built,
+# refused memory. At the end it says what each part took.
 test:
-	tests/refuse-memory
-	rt ci
+	tests/gate
 
 install: kalah
 	install -d $(DESTDIR)$(PREFIX)/bin

@@ -1,4 +1,4 @@
-//! Each request for memory refused in turn. With ample memory these tests just pass. `tests/refuse-memory` runs each of them
+//! Each request for memory refused in turn. With ample memory these tests just pass. `tests/refuse` runs each of them
 //! again and again, with the first request refused, the second, and so on: it has to pass each time, until the request that
 //! is refused is one of its own marks.
 use crate::{

@@ -1,4 +1,4 @@
-//! No call of the rules takes memory. `tests/refuse-memory` runs this test with its first request refused, and then with its
+//! No call of the rules takes memory. `tests/refuse` runs this test with its first request refused, and then with its
 //! second: these have to be its two marks.
 use crate::{Board, Houses, Rule, Step};
 use std::alloc::Global;

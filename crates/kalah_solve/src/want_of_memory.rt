@@ -1,5 +1,5 @@
 //! Each request for memory of the global allocator refused in turn. With ample memory these tests just pass.
-//! `tests/refuse-memory` runs each of them again and again, with the first request refused, the second, and so on: it has to
+//! `tests/refuse` runs each of them again and again, with the first request refused, the second, and so on: it has to
 //! pass each time, until the request that is refused is one of its own marks.
 use crate::{Solver, Table, Verdict, pack, unpack};
 use kalah_rules::{Board, Houses, Rule};

@@ -40,6 +40,6 @@ fn a_batch_of_two_workers(rt: HostRuntime) -> Result<(), Fail> {
         lines: 7,
         faults: 2,
     };
-    assert_eq!(rt; answer, Ok(tally));
+    assert_eq!(rt; answer?, tally);
     mark(alloc, "after all")
 }

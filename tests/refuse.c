@@ -1,0 +1,106 @@
+/* Refuses requests for memory, and calls that open or read a file. Loaded by LD_PRELOAD into a program as users get it, it
+   counts the calls of all threads from the program's start on, and answers some of them by an error:
+
+       REFUSE_MEMORY=5-5    the fifth request for memory alone; REFUSE_MEMORY=5- is the fifth and each later one
+       REFUSE_FILES=3-3     the third call that opens or reads a file
+       REFUSE_TOLD=FILE     a line for each call that failed, refused here or not: `memory`, or `file` and its path
+
+   What stands behind malloc and its kin is called by the C library's own names, so that nothing has to be looked up. */
+#define _GNU_SOURCE
+#include <errno.h>
+#include <fcntl.h>
+#include <limits.h>
+#include <stdarg.h>
+#include <stdatomic.h>
+#include <stdio.h>
+#include <stdlib.h>
+#include <sys/syscall.h>
+#include <unistd.h>
+
+extern void *__libc_malloc(size_t), *__libc_calloc(size_t, size_t), *__libc_realloc(void *, size_t);
+extern void *__libc_memalign(size_t, size_t);
+
+/* The calls of one kind: how many were made, and the first and the last of those that are refused. */
+struct calls {
+    atomic_ulong made;
+    unsigned long first, last;
+};
+
+static struct calls requests, reads;
+static const char *told;
+
+static void read_range(struct calls *calls, const char *text) {
+    char *rest;
+    if (!text) return;
+    calls->first = strtoul(text, &rest, 10);
+    calls->last = rest[0] && rest[1] ? strtoul(rest + 1, NULL, 10) : ULONG_MAX;
+}
+
+__attribute__((constructor)) static void begin(void) {
+    told = getenv("REFUSE_TOLD");
+    read_range(&requests, getenv("REFUSE_MEMORY"));
+    read_range(&reads, getenv("REFUSE_FILES"));
+}
+
+static int refuses_next(struct calls *calls) {
+    unsigned long number = atomic_fetch_add(&calls->made, 1) + 1;
+    return calls->first && calls->first <= number && number <= calls->last;
+}
+
+static void tell(const char *what, const char *path) {
+    char line[PATH_MAX + 8];
+    int file, length = snprintf(line, sizeof line, "%s%s\n", what, path);
+    if (!told) return;
+    file = syscall(SYS_openat, AT_FDCWD, told, O_WRONLY | O_APPEND | O_CREAT | O_CLOEXEC, 0600);
+    if (file < 0 || syscall(SYS_write, file, line, length) != length) abort();
+    syscall(SYS_close, file);
+}
+
+static int refuses_memory(void) {
+    if (!refuses_next(&requests)) return 0;
+    tell("memory", "");
+    errno = ENOMEM;
+    return 1;
+}
+
+void *malloc(size_t size) { return refuses_memory() ? NULL : __libc_malloc(size); }
+
+void *calloc(size_t count, size_t size) { return refuses_memory() ? NULL : __libc_calloc(count, size); }
+
+void *realloc(void *old, size_t size) { return refuses_memory() ? NULL : __libc_realloc(old, size); }
+
+void *memalign(size_t align, size_t size) { return refuses_memory() ? NULL : __libc_memalign(align, size); }
+
+void *aligned_alloc(size_t align, size_t size) { return memalign(align, size); }
+
+int posix_memalign(void **at, size_t align, size_t size) {
+    void *made = memalign(align, size);
+    if (!made) return ENOMEM;
+    *at = made;
+    return 0;
+}
+
+/* What a call gave that opened or read the file of this path; a failure is told. */
+static long done(long gave, const char *path) {
+    int why = errno;
+    if (gave < 0) tell("file ", path);
+    errno = why;
+    return gave;
+}
+
+int open(const char *path, int flags, ...) {
+    va_list rest;
+    va_start(rest, flags);
+    int mode = flags & (O_CREAT | O_TMPFILE) ? va_arg(rest, int) : 0;
+    va_end(rest);
+    errno = EIO;
+    return done(refuses_next(&reads) ? -1 : syscall(SYS_openat, AT_FDCWD, path, flags, mode), path);
+}
+
+ssize_t read(int file, void *to, size_t count) {
+    char link[32], path[PATH_MAX] = "";
+    snprintf(link, sizeof link, "/proc/self/fd/%d", file);
+    if (readlink(link, path, sizeof path - 1) < 0) path[0] = 0;
+    errno = EIO;
+    return done(refuses_next(&reads) ? -1 : syscall(SYS_read, file, to, count), path);
+}
