@@ -1,4 +1,4 @@
-use crate::{Answer, Entry, FileText, Job, Jobs, JobsFault, LineFault, Outcome};
+use crate::{Answer, Collector, Entry, FileText, Job, Jobs, JobsFault, LineFault, Outcome};
 use kalah_solve::{Solver, Table};
 use std::alloc::Global;
 use std::process::Abort;
@@ -80,6 +80,60 @@ fn more_than_256_files_are_too_many(rt: HostRuntime) -> Result<(), Fail> {
         fault(alloc, files.as_slice()),
         Some(JobsFault::TooManyFiles)
     );
+    Ok(())
+}
+
+// The files are a batch of so many lines, and there is a collector for them.
+fn assert_batch(
+    rt: &impl Abort,
+    alloc: Global,
+    files: &[FileText],
+    lines: usize,
+) -> Result<(), Fail> {
+    let jobs = Jobs::of_files(alloc, files)?;
+    assert_eq!(rt;
+        (jobs.files() as usize, jobs.total() as usize),
+        (files.len(), lines)
+    );
+    Collector::new(alloc, &jobs)?;
+    Ok(())
+}
+
+#[test]
+fn there_may_be_any_number_of_files(rt: HostRuntime) -> Result<(), Fail> {
+    let mut files = Vec::new(rt.alloc());
+    for count in 1..257usize {
+        files.push(empty_lines(rt.alloc(), 1)?)?;
+        assert_batch(&rt, rt.alloc(), files.as_slice(), count)?;
+    }
+    Ok(())
+}
+
+// Numbers of lines, from few to the most there may be.
+const LINES: [usize; 16] = [
+    0, 1, 64, 65, 4096, 4097, 65_535, 65_536, 65_537, 100_000, 262_144, 262_145, 524_289, 777_777,
+    999_999, 1_000_000,
+];
+
+#[test]
+fn there_may_be_any_number_of_lines(rt: HostRuntime) -> Result<(), Fail> {
+    for lines in LINES {
+        let files = [empty_lines(rt.alloc(), lines)?];
+        assert_batch(&rt, rt.alloc(), files.as_slice(), lines)?;
+    }
+    Ok(())
+}
+
+#[test]
+fn each_fault_is_told_in_its_words(rt: HostRuntime) -> Result<(), Fail> {
+    let texts = [
+        (JobsFault::TooManyFiles, "too many files"),
+        (JobsFault::TooManyLines, "too many lines"),
+        (JobsFault::OutOfMemory, "out of memory"),
+    ];
+    for (fault, text) in texts {
+        assert_eq!(rt; fault.to_string(rt.alloc())?.as_str(), text);
+    }
     Ok(())
 }
 

@@ -39,3 +39,37 @@ fn steps_with_their_words(rt: HostRuntime) -> Result<(), Fail> {
     }
     Ok(())
 }
+
+// A line is read, and written as it was.
+fn assert_read_back(rt: &impl Abort, alloc: Global, line: &str) -> Result<(), Fail> {
+    let board = read_line(line.as_bytes()).ok().ok_or("not read")?;
+    assert_eq!(rt; line_text(alloc, &board)?.as_str(), line);
+    Ok(())
+}
+
+#[test]
+fn lines_with_each_number_of_seeds_in_a_store(rt: HostRuntime) -> Result<(), Fail> {
+    for seeds in 0..100u8 {
+        let line = format!(in rt.alloc(); "1/{seeds} 1/{}", 99 - seeds)?;
+        assert_read_back(&rt, rt.alloc(), line.as_str())?;
+    }
+    Ok(())
+}
+
+// A capture of all but three seeds, and one seed that ends the game.
+#[test]
+fn steps_that_fill_a_store(rt: HostRuntime) -> Result<(), Fail> {
+    for seeds in 1..29u8 {
+        let line = format!(in rt.alloc(); "3/99 {seeds}/0")?;
+        let written = text_of_move(&rt, rt.alloc(), line.as_bytes(), 1)?;
+        let text = format!(in rt.alloc(); "1 0/{} 0/0 over", 102 + seeds)?;
+        assert_eq!(rt; written.as_str(), text.as_str());
+    }
+    for seeds in 1..31u8 {
+        let line = format!(in rt.alloc(); "1/0 {seeds}/99")?;
+        let written = text_of_move(&rt, rt.alloc(), line.as_bytes(), 1)?;
+        let text = format!(in rt.alloc(); "1 0/1 0/{} over", 99 + seeds)?;
+        assert_eq!(rt; written.as_str(), text.as_str());
+    }
+    Ok(())
+}
