@@ -27,9 +27,6 @@ b.txt:1 0 house 1
 b.txt:2 -2 house 1
 ";
 
-// The answers to four lines `1/0 1/0` of a file `n`.
-const FOUR: &str = "n:1 0 house 1\nn:2 0 house 1\nn:3 0 house 1\nn:4 0 house 1\n";
-
 fn file_of(alloc: Global, name: &str, bytes: &[u8]) -> Result<FileText, AllocError> {
     Ok(FileText {
         name: String::from_str(alloc, name)?,
@@ -61,6 +58,15 @@ fn same_lines(alloc: Global, count: u32) -> Result<Vec<FileText>, AllocError> {
     Ok(files)
 }
 
+// The answers to so many lines `1/0 1/0` of a file `n`.
+fn same_answers(alloc: Global, count: u32) -> Result<String, AllocError> {
+    let mut text = String::new(alloc);
+    for line in 0..count {
+        text.push_str(format!(in alloc; "n:{} 0 house 1\n", line as u64 + 1)?.as_str())?;
+    }
+    Ok(text)
+}
+
 // The batch writes these bytes and has this tally.
 fn answers<R: Threads + Wait + Sync, G: Gate>(
     rt: &R,
@@ -84,17 +90,26 @@ fn answers<R: Threads + Wait + Sync, G: Gate>(
         && out.into_inner().as_slice() == text.as_bytes()
 }
 
+// Entries of a table, from one to the most there may be.
+const TABLES: [u32; 8] = [1, 2, 255, 4096, 65_535, 65_536, 65_537, 1_048_576];
+
 #[test]
 fn lines_are_answered_in_order_by_any_number_of_workers(rt: HostRuntime) -> Result<(), Fail> {
     let alloc = rt.alloc();
     let files = four_files(alloc)?;
     let files = files.as_slice();
-    assert!(rt; answers(&rt, alloc, files, 1, 65536, &OpenGate, ANSWERS, 2));
-    assert!(rt; answers(&rt, alloc, files, 2, 65536, &OpenGate, ANSWERS, 2));
-    assert!(rt; answers(&rt, alloc, files, 64, 65536, &OpenGate, ANSWERS, 2));
-    assert!(rt; answers(&rt, alloc, files, 1, 1, &OpenGate, ANSWERS, 2));
-    assert!(rt; answers(&rt, alloc, files, 2, 1, &OpenGate, ANSWERS, 2));
-    assert!(rt; answers(&rt, alloc, files, 64, 1, &OpenGate, ANSWERS, 2));
+    for workers in 1..65u32 {
+        assert!(rt;
+            answers(&rt, alloc, files, workers, 1, &OpenGate, ANSWERS, 2),
+            "{workers}"
+        );
+    }
+    for table in TABLES {
+        assert!(rt;
+            answers(&rt, alloc, files, 2, table, &OpenGate, ANSWERS, 2),
+            "{table}"
+        );
+    }
     Ok(())
 }
 
@@ -109,25 +124,51 @@ fn no_line_at_all_is_answered_by_nothing(rt: HostRuntime) -> Result<(), Fail> {
 }
 
 #[test]
-fn more_lines_than_the_queue_holds(rt: HostRuntime) -> Result<(), Fail> {
+fn any_number_of_files_is_answered(rt: HostRuntime) -> Result<(), Fail> {
     let alloc = rt.alloc();
-    let files = same_lines(alloc, 200)?;
-    let mut text = String::new(alloc);
-    for line in 1..201u32 {
-        text.push_str(format!(in alloc; "n:{line} 0 house 1\n")?.as_str())?;
+    let (mut files, mut text) = (Vec::new(alloc), String::new(alloc));
+    for count in 1..257u32 {
+        files.push(file_of(alloc, "n", b"1/0 1/0")?)?;
+        text.push_str("n:1 0 house 1\n")?;
+        let files = files.as_slice();
+        assert!(rt;
+            answers(&rt, alloc, files, 3, 1, &OpenGate, text.as_str(), 0),
+            "{count}"
+        );
     }
-    assert!(rt;
-        answers(
-            &rt,
-            alloc,
-            files.as_slice(),
-            64,
-            1,
-            &OpenGate,
-            text.as_str(),
-            0
-        )
-    );
+    Ok(())
+}
+
+// Numbers of lines, few of them and more than the queue has places.
+const LINES: [u32; 7] = [63, 64, 65, 200, 65_535, 65_536, 65_537];
+
+#[test]
+fn any_number_of_lines_is_answered(rt: HostRuntime) -> Result<(), Fail> {
+    let alloc = rt.alloc();
+    for count in LINES {
+        let (files, text) = (same_lines(alloc, count)?, same_answers(alloc, count)?);
+        let files = files.as_slice();
+        assert!(rt;
+            answers(&rt, alloc, files, 64, 1, &OpenGate, text.as_str(), 0),
+            "{count}"
+        );
+    }
+    Ok(())
+}
+
+#[test]
+fn a_name_of_any_length_is_written(rt: HostRuntime) -> Result<(), Fail> {
+    let alloc = rt.alloc();
+    for length in [1, 4095, 4096, 4097, 5000, 65_537, 100_000] {
+        let name = "x".repeat(alloc, length)?;
+        let files = [file_of(alloc, name.as_str(), b"1/0 1/0")?];
+        let text = format!(in alloc; "{name}:1 0 house 1\n")?;
+        let files = files.as_slice();
+        assert!(rt;
+            answers(&rt, alloc, files, 2, 1, &OpenGate, text.as_str(), 0),
+            "{length}"
+        );
+    }
     Ok(())
 }
 

@@ -72,6 +72,20 @@ fn a_desk_may_be_closed_before_all_is_drawn(rt: HostRuntime) -> Result<(), Fail>
 }
 
 #[test]
+fn a_desk_may_have_any_number_of_passes(rt: HostRuntime) -> Result<(), Fail> {
+    for total in [
+        0, 1, 99, 100, 101, 65_535, 65_536, 65_537, 999_999, 1_000_000,
+    ] {
+        for count in 1..65u32 {
+            let (desk, passes) = Desk::open(rt.alloc(), total, count)?;
+            assert_eq!(rt; passes.len(), count as usize);
+            assert_eq!(rt; desk.close(passes).drawn(), 0);
+        }
+    }
+    Ok(())
+}
+
+#[test]
 fn threads_draw_each_number_once(rt: HostRuntime) -> Result<(), Fail> {
     let (desk, passes) = Desk::open(rt.alloc(), 1000, 64)?;
     let answers = thread::map_vec(&rt, passes, &|pass| draw_all(&desk, rt.alloc(), pass))?;

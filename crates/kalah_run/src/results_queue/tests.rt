@@ -1,4 +1,4 @@
-ghost use Rattle.std.specs.Prelude.{◌≡◌};
+ghost use Rattle.std.specs.Prelude.{◌≡◌, ◌<◌, ◌≤◌};
 ghost use Rattle.std.specs.Thread.{IsSync};
 
 use crate::{GetPass, PutPass, ResultsQueue};
@@ -58,6 +58,37 @@ fn put_all<R: Wait>(rt: &R, queue: &ResultsQueue, mut pass: PutPass, outcomes: &
     for outcome in outcomes {
         queue.put(rt, &mut pass, *outcome);
     }
+}
+
+// Puts as many outcomes as the queue has places: none has to wait.
+fn fill<R: Wait>(rt: &R, alloc: Global, capacity: u32, outcome: Outcome) -> Result<(), Fail>
+    requires { (0 < capacity) × (capacity ≤ 1024) }
+{
+    let outcomes = vec![in alloc; outcome; capacity as usize]?;
+    let (queue, mut puts, _) = ResultsQueue::open(alloc, capacity, 1)?;
+    let pass = puts.pop().ok_or("a pass")?;
+    put_all(rt, &queue, pass, outcomes.as_slice());
+    Ok(())
+}
+
+#[test]
+fn a_queue_may_have_any_number_of_places(rt: HostRuntime) -> Result<(), Fail> {
+    let mut solver = Solver::new(Table::new(rt.alloc(), 16)?);
+    let outcome = Outcome::of(0, 3, Entry::Bad(LineFault::Long), &mut solver);
+    for capacity in 1..1025u32 {
+        fill(&rt, rt.alloc(), capacity, outcome)?;
+    }
+    Ok(())
+}
+
+#[test]
+fn a_queue_may_have_any_number_of_workers(rt: HostRuntime) -> Result<(), Fail> {
+    for workers in 1..65u32 {
+        let (queue, puts, pass) = ResultsQueue::open(rt.alloc(), 64, workers)?;
+        assert_eq!(rt; puts.len(), workers as usize);
+        assert_eq!(rt; queue.close(&rt, puts, pass).left(), 0);
+    }
+    Ok(())
 }
 
 // Gets the outcomes of two files, and gives those of the first file and those of the second, each as they came.

@@ -1,10 +1,10 @@
 //! Batches in which workers wait for one another: jobs are solved side by side, drawn by whoever is free, and written
 //! while later ones are under way.
-use super::{FOUR, answers, same_lines};
+use super::{answers, same_answers, same_lines};
 use crate::{Gate, Tally, solve_batch};
 use kalah_jobs::Stream;
 use std::io::Write;
-use std::sync::atomic::{AtomicBool, Ordering};
+use std::sync::atomic::{AtomicBool, AtomicU32, Ordering};
 use std::test::Fail;
 use std::{io, thread};
 
@@ -81,17 +81,24 @@ impl Gate for SecondFirst {
     }
 }
 
-/// Each of two jobs begins only once the other is drawn.
+/// Each of so many jobs begins only once all are drawn.
 #[derive(Drop)]
-struct BothDrawn {
-    drawn: Flags,
+struct AllDrawn {
+    jobs: u32,
+    drawn: AtomicU32,
+    gave_up: AtomicBool,
 }
 
-impl Gate for BothDrawn {
-    fn before(&self, job: u32) {
-        self.drawn.set(job);
-        self.drawn.wait_for(0);
-        self.drawn.wait_for(1);
+impl Gate for AllDrawn {
+    fn before(&self, _job: u32) {
+        self.drawn.fetch_add(1, Ordering::SeqCst);
+        for _ in 0..TURNS {
+            if self.drawn.load(Ordering::SeqCst) >= self.jobs {
+                return;
+            }
+            thread::yield_now();
+        }
+        self.gave_up.store(true, Ordering::SeqCst);
     }
 
     fn after(&self, _job: u32) {}
@@ -170,27 +177,35 @@ fn a_later_job_is_done_while_an_earlier_one_waits(rt: HostRuntime) -> Result<(),
 }
 
 #[test]
-fn two_jobs_are_under_way_at_once(rt: HostRuntime) -> Result<(), Fail> {
+fn as_many_jobs_are_under_way_at_once_as_there_are_workers(rt: HostRuntime) -> Result<(), Fail> {
     let alloc = rt.alloc();
-    let files = same_lines(alloc, 2)?;
-    let gate = BothDrawn {
-        drawn: Flags::none(),
-    };
-    assert!(rt; answers(&rt, alloc, files.as_slice(), 2, 16, &gate, TWO, 0));
-    assert!(rt; gate.drawn.came());
+    for jobs in [2, 3, 16, 64] {
+        let (files, text) = (same_lines(alloc, jobs)?, same_answers(alloc, jobs)?);
+        let gate = AllDrawn {
+            jobs,
+            drawn: AtomicU32::new(0),
+            gave_up: AtomicBool::new(false),
+        };
+        let files = files.as_slice();
+        assert!(rt;
+            answers(&rt, alloc, files, jobs, 16, &gate, text.as_str(), 0),
+            "{jobs}"
+        );
+        assert!(rt; !gate.gave_up.load(Ordering::SeqCst), "{jobs}");
+    }
     Ok(())
 }
 
 #[test]
 fn a_free_worker_takes_whatever_is_left(rt: HostRuntime) -> Result<(), Fail> {
     let alloc = rt.alloc();
-    let files = same_lines(alloc, 4)?;
+    let (files, text) = (same_lines(alloc, 4)?, same_answers(alloc, 4)?);
     for last in 0..4u32 {
         let gate = OneLast {
             last,
             done: Flags::none(),
         };
-        assert!(rt; answers(&rt, alloc, files.as_slice(), 2, 16, &gate, FOUR, 0));
+        assert!(rt; answers(&rt, alloc, files.as_slice(), 2, 16, &gate, text.as_str(), 0));
         assert!(rt; gate.done.came());
     }
     Ok(())

@@ -1,8 +1,9 @@
 //! What the gate is told: of each job once, and that an outcome is handed on only once there is room for it.
-use super::{FOUR, answers, same_lines};
+use super::{answers, same_answers, same_lines};
 use crate::batch::QUEUE_CAPACITY;
 use crate::{Gate, solve_batch};
 use kalah_jobs::Stream;
+use std::alloc::{AllocError, Global};
 use std::io::Write;
 use std::sync::atomic::{AtomicBool, AtomicU32, Ordering};
 use std::test::Fail;
@@ -11,26 +12,25 @@ use std::{io, thread};
 // How often the writer looks for what it waits for.
 const TURNS: u32 = 10_000_000;
 
-/// How often each of four jobs began and was handed on, and whether one was told of out of its turn.
+/// How often each job began and was handed on, and whether one was told of out of its turn.
 #[derive(Drop)]
 struct Told {
-    begun: [AtomicU32; 4],
-    handed_on: [AtomicU32; 4],
+    begun: Vec<AtomicU32>,
+    handed_on: Vec<AtomicU32>,
     out_of_turn: AtomicBool,
 }
 
-// Four counts of none.
-fn no_counts() -> [AtomicU32; 4] {
-    [
-        AtomicU32::new(0),
-        AtomicU32::new(0),
-        AtomicU32::new(0),
-        AtomicU32::new(0),
-    ]
+// So many counts of none.
+fn no_counts(alloc: Global, jobs: u32) -> Result<Vec<AtomicU32>, AllocError> {
+    let mut counts = Vec::new(alloc);
+    for _ in 0..jobs {
+        counts.push(AtomicU32::new(0))?;
+    }
+    Ok(counts)
 }
 
 // How often the job was told of; none where there is no such job.
-fn times(counts: &[AtomicU32; 4], job: u32) -> u32 {
+fn times(counts: &[AtomicU32], job: u32) -> u32 {
     match counts.get(job as usize) {
         Some(count) => count.load(Ordering::SeqCst),
         None => 0,
@@ -38,7 +38,7 @@ fn times(counts: &[AtomicU32; 4], job: u32) -> u32 {
 }
 
 // The job was told of once more.
-fn count(counts: &[AtomicU32; 4], job: u32) {
+fn count(counts: &[AtomicU32], job: u32) {
     if let Some(count) = counts.get(job as usize) {
         count.fetch_add(1, Ordering::SeqCst);
     }
@@ -60,20 +60,23 @@ impl Gate for Told {
     }
 }
 
+// So many jobs, with numbers of one byte, two and three.
+const MANY: u32 = 65_600;
+
 #[test]
 fn the_gate_is_told_of_each_job_once(rt: HostRuntime) -> Result<(), Fail> {
     let alloc = rt.alloc();
-    let files = same_lines(alloc, 4)?;
+    let (files, text) = (same_lines(alloc, MANY)?, same_answers(alloc, MANY)?);
     let gate = Told {
-        begun: no_counts(),
-        handed_on: no_counts(),
+        begun: no_counts(alloc, MANY)?,
+        handed_on: no_counts(alloc, MANY)?,
         out_of_turn: AtomicBool::new(false),
     };
-    assert!(rt; answers(&rt, alloc, files.as_slice(), 2, 16, &gate, FOUR, 0));
+    assert!(rt; answers(&rt, alloc, files.as_slice(), 2, 16, &gate, text.as_str(), 0));
     assert!(rt; !gate.out_of_turn.load(Ordering::SeqCst));
-    for job in 0..4u32 {
-        assert_eq!(rt; times(&gate.begun, job), 1);
-        assert_eq!(rt; times(&gate.handed_on, job), 1);
+    for job in 0..MANY {
+        assert_eq!(rt; times(&gate.begun, job), 1, "{job}");
+        assert_eq!(rt; times(&gate.handed_on, job), 1, "{job}");
     }
     Ok(())
 }

@@ -1,5 +1,5 @@
 //! Batches whose writer fails.
-use super::{ANSWERS, four_files, same_lines};
+use super::{four_files, same_answers, same_lines};
 use crate::{Gate, OpenGate, RunFault, Tally, solve_batch};
 use kalah_jobs::{FileText, Sink, Stream};
 use std::alloc::Global;
@@ -153,13 +153,16 @@ impl Write for Unflushed {
 #[test]
 fn a_flush_that_fails_is_a_failed_write(rt: HostRuntime) -> Result<(), Fail> {
     let alloc = rt.alloc();
-    let files = four_files(alloc)?;
-    let mut out = Stream::new(Unflushed {
-        bytes: Vec::new(alloc),
-    });
-    let tally = solve_batch(&rt, alloc, files.as_slice(), 2, 16, &OpenGate, &mut out);
-    assert_eq!(rt; tally, Err(RunFault::Write));
-    assert!(rt; out.failed());
-    assert_eq!(rt; out.into_inner().bytes.as_slice(), ANSWERS.as_bytes());
+    for lines in [0, 1, 2, 7, 64, 65, 100] {
+        let files = same_lines(alloc, lines)?;
+        let mut out = Stream::new(Unflushed {
+            bytes: Vec::new(alloc),
+        });
+        let tally = solve_batch(&rt, alloc, files.as_slice(), 2, 16, &OpenGate, &mut out);
+        assert_eq!(rt; tally, Err(RunFault::Write), "{lines}");
+        assert!(rt; out.failed());
+        let text = same_answers(alloc, lines)?;
+        assert_eq!(rt; out.into_inner().bytes.as_slice(), text.as_bytes());
+    }
     Ok(())
 }
