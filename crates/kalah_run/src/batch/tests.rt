@@ -103,6 +103,10 @@ fn lines_are_answered_in_order_by_any_number_of_workers(rt: HostRuntime) -> Resu
             answers(&rt, alloc, files, workers, 1, &OpenGate, ANSWERS, 2),
             "{workers}"
         );
+        assert!(rt;
+            answers(&rt, alloc, files, workers, 65_536, &OpenGate, ANSWERS, 2),
+            "{workers}"
+        );
     }
     for table in TABLES {
         assert!(rt;
