@@ -1,0 +1,149 @@
+"""What the program has to answer, read from docs/RULES.md and docs/FORMAT.md and from nothing else.
+
+Best play is a plain recursion with a memory, quick for few seeds. Each subcommand is a function of what its words ask for.
+"""
+
+import re
+from collections import namedtuple
+from functools import lru_cache
+
+MOST_HOUSES = 6
+MOST_SEEDS = 31
+MOST_BYTES_OF_A_LINE = 80
+MOST_BYTES_OF_A_FILE = 67_108_864
+MOST_FILES = 256
+MOST_LINES = 1_000_000
+
+NUMBER = b"(?:0|[1-9][0-9]?)"
+SIDE = b"(%b(?:,%b)*)/(%b)" % (NUMBER, NUMBER, NUMBER)
+FORM = re.compile(b"%b %b( e)?" % (SIDE, SIDE))
+
+# A position is seen by the player to move, and played by the empty-capture rule where `takes_empty`.
+Side = namedtuple("Side", "houses store")
+Position = namedtuple("Position", "own other takes_empty")
+
+# What a run of the program leaves: the bytes of its two outputs, and its status.
+Run = namedtuple("Run", "out err status")
+
+# The margin of best play and the best house of positions with empty stores.
+known = {}
+
+
+def read(line):
+    """The position that a line writes, or the word for what is wrong with it."""
+    line = line.removesuffix(b"\r")
+    if len(line) > MOST_BYTES_OF_A_LINE:
+        return "long"
+    if not line:
+        return "empty"
+    form = FORM.fullmatch(line)
+    if not form:
+        return "shape"
+    own, other = (Side(tuple(map(int, form[houses].split(b","))), int(form[houses + 1])) for houses in (1, 3))
+    if len(own.houses) != len(other.houses) or len(own.houses) > MOST_HOUSES:
+        return "houses"
+    if sum(own.houses + other.houses) > MOST_SEEDS:
+        return "seeds"
+    return Position(own, other, form[5] is not None)
+
+
+def text(position):
+    """The line that writes a position."""
+    own, other = (",".join(map(str, side.houses)) + f"/{side.store}" for side in position[:2])
+    return f"{own} {other}" + " e" * position.takes_empty
+
+
+def is_over(position):
+    return not any(position.own.houses) or not any(position.other.houses)
+
+
+def legal(position):
+    """The houses that may be moved, rising."""
+    return [] if is_over(position) else [house for house, seeds in enumerate(position.own.houses, 1) if seeds]
+
+
+def after(position, house):
+    """The position that a move leads to, and the word for what comes then."""
+    own, other, takes_empty = position
+    m, lap = len(own.houses), 2 * len(own.houses) + 1
+    # The cells of a lap, counted from 0: the own houses, the own store (cell m), the other player's houses.
+    cells = [*own.houses, own.store, *other.houses]
+    seeds, cells[house - 1] = cells[house - 1], 0
+    for cell in range(lap):
+        distance = (cell - house) % lap + 1
+        cells[cell] += seeds // lap + (distance <= seeds % lap)
+    last = (house - 1 + seeds) % lap
+    across = 2 * m - last
+    if last < m and cells[last] == 1 and (cells[across] or takes_empty):
+        cells[m] += 1 + cells[across]
+        cells[last] = cells[across] = 0
+    own, other = Side(tuple(cells[:m]), cells[m]), Side(tuple(cells[m + 1 :]), other.store)
+    if is_over(Position(own, other, takes_empty)):
+        own, other = (Side((0,) * m, sum(side.houses) + side.store) for side in (own, other))
+        return Position(own, other, takes_empty), "over"
+    return (Position(own, other, takes_empty), "again") if last == m else (Position(other, own, takes_empty), "turn")
+
+
+def value(position, house):
+    """The margin that a move leads to, as the player sees it who makes it."""
+    reached, word = after(position, house)
+    margin, _ = best_play(reached)
+    return -margin if word == "turn" else margin
+
+
+def best_play(position):
+    """The margin of best play and the lowest-numbered best house; the final margin and None where the game is over."""
+    own, other, takes_empty = position
+    if is_over(position):
+        return sum(own.houses) + own.store - sum(other.houses) - other.store, None
+    bare = Position(Side(own.houses, 0), Side(other.houses, 0), takes_empty)
+    if bare not in known:
+        values = {house: value(bare, house) for house in legal(bare)}
+        best = max(values, key=values.get)
+        known[bare] = values[best], best
+    margin, house = known[bare]
+    return own.store - other.store + margin, house
+
+
+@lru_cache(1 << 17)
+def answer(line):
+    """The answer to a line of a file, behind the file's name and the line's number."""
+    position = read(line)
+    if isinstance(position, str):
+        return b"fault %b" % position.encode()
+    margin, house = best_play(position)
+    return b"%d over" % margin if house is None else b"%d house %d" % (margin, house)
+
+
+def lines_of(data):
+    return data.removesuffix(b"\n").split(b"\n") if data else []
+
+
+def failed(why):
+    return Run(b"", b"kalah: %b\n" % why, 2)
+
+
+def moves(line):
+    """`kalah moves LINE`."""
+    position = read(line)
+    if isinstance(position, str):
+        return Run(b"", f"fault {position}\n".encode(), 1)
+    steps = ((house, *after(position, house)) for house in legal(position))
+    return Run("".join(f"{house} {text(reached)} {word}\n" for house, reached, word in steps).encode(), b"", 0)
+
+
+def solve(files):
+    """`kalah solve FILE..`, of pairs of a name and the bytes there, which are None where they can't be read."""
+    if any(b"\n" in name for name, _ in files):
+        return failed(b"line feed in a file name")
+    for name, data in files:
+        if data is None or len(data) > MOST_BYTES_OF_A_FILE:
+            return failed(b"cannot read " + name)
+    if len(files) > MOST_FILES:
+        return failed(b"too many files")
+    batch = [(name, lines_of(data)) for name, data in files]
+    if sum(len(lines) for _, lines in batch) > MOST_LINES:
+        return failed(b"too many lines")
+    answers = [(name, number, answer(line)) for name, lines in batch for number, line in enumerate(lines, 1)]
+    has_fault = any(said.startswith(b"fault") for _, _, said in answers)
+    return Run(b"".join([b"%b:%d %b\n" % said for said in answers]), b"", int(has_fault))

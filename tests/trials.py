@@ -1,0 +1,356 @@
+"""What tests/agree tries: runs of the program, and what has to come of them."""
+
+import os
+import pty
+import select
+import shutil
+import subprocess
+import sys
+import tempfile
+import time
+import tty
+from contextlib import suppress
+from itertools import product, zip_longest
+from pathlib import Path
+
+import reference
+from drawn import BYTES, FILES, LINES, LINES_OF_MOVES, NO_FILES, Drawn
+from reference import Run
+
+TESTS = Path(__file__).resolve().parent
+
+# The recursion of the reference goes as deep as a game has moves.
+sys.setrecursionlimit(100_000)
+
+# Words that are not taken, or are no text, where there is a file `a`.
+MISTAKES = [
+    *([], ["stop"], ["help"], ["Solve", "a"], ["--version"], ["-V"], ["-x"], [""], ["--", "solve", "a"], ["--workers", "1", "solve", "a"]),
+    *(["moves"], ["moves", "--"], ["moves", "-1/0 1/0"], ["moves", "1/0 1/0", "1/0 1/0"], ["moves", "--workers", "1", "1/0 1/0"]),
+    *(["solve"], ["solve", "--"], ["solve", "--workers", "1"], ["solve", "--workers", "a"], ["solve", "a", "--table"], ["solve", "a", "-b"]),
+    *(["solve", "--worker", "1", "a"], ["solve", "a", "--workers", "1", "--workers", "1"], ["solve", "a", "--table=1", "--table=1"]),
+    *(["solve", f"--workers={n}", "a"] for n in ("", "0", "65", "-1", "four", "4.0", " 4", "4 ", "1e1", "0x4", "４", 2**32 + 4, 2**64 + 4)),
+    *(["solve", "a", f"--table={n}"] for n in ("", "0", "1048577", "-1", "1_000", 2**32 + 1, 2**64 + 1)),
+    *([b"\xff"], ["moves", b"1/0 1/0\x80"], ["solve", "a", b"\xed\xa0\x80"], ["solve", "a", "--workers", b"4\xc3"]),
+]
+
+HELP = [["--help"], ["-h"], ["moves", "--help"], ["moves", "-h"], ["solve", "--help"], ["solve", "-h"], ["solve", "a", "-h"]]
+
+PROGRAM_NAMES = ["kalah", "./kalah", "/bin/kalah", "k l", "é", "-", "--help"]
+
+# The names that `solve` is given, and the size of the file `a`, which is all there is.
+LIMITS = [
+    (["a"] * 256 + ["./a"], 8),
+    (["a"] * 398 + ["b"], 8),
+    (["a"] * 398 + ["a\na"], 8),
+    (["a\n", "b"], 8),
+    (["./" * 2045 + "a"] * 256, 8),
+    (["a"], reference.MOST_BYTES_OF_A_FILE),
+    (["a"], reference.MOST_BYTES_OF_A_FILE + 1),
+]
+
+# Standard streams as a shell takes them, and those of them that take no answer.
+NO_READER = "a pipe that nobody reads"
+TAKE_NO_ANSWER = [">&-", ">/dev/full", "<&- >&- 2>&-", NO_READER]
+STREAMS = ["<&-", "2>&-", "2>/dev/full", *TAKE_NO_ANSWER]
+
+# Runs that answer, that have a line which isn't read, and that fail, each with each of the standard streams.
+A_AND_FAULT = b"1/0 1/0\n1/0"
+RUNS = [
+    (["moves", "1,1/0 1,1/0"], reference.moves(b"1,1/0 1,1/0")),
+    (["moves", "1/0"], reference.moves(b"1/0")),
+    (["solve", "a", "a"], reference.solve([(b"a", A_AND_FAULT), (b"a", A_AND_FAULT)])),
+    (["solve", "a", "b"], reference.solve([(b"a", A_AND_FAULT), (b"b", None)])),
+]
+STREAMS_OF_RUNS = list(product(STREAMS, RUNS))
+
+# Where answers are read while the run goes on, and how many lines stand before one that takes long.
+FIRST_ANSWERS = list(product(["pipe", "terminal", "file"], [1, 64, 65, 1000]))
+
+# How many workers are seen at work.
+BUSY_WORKERS = [2, 3, 5, 16, 64]
+
+# With a table of one entry each of these lines takes seconds, and there are so many that no run comes to their end.
+HARD = b"2,3,2,3,2,3/0 3,2,3,2,3,3/0\n" * 1000
+
+# The seconds after which a run is taken to have no end.
+PATIENCE = 120
+
+# The seconds after which an answer is taken not to come while the run goes on.
+SOON = 30
+
+
+class Differs(Exception):
+    """A run has left something else than it has to."""
+
+
+def difference(want, got):
+    """What differs first between two runs."""
+    for stream, wanted, found in (("output", want.out, got.out), ("error", want.err, got.err)):
+        for number, (line, other) in enumerate(zip_longest(wanted.split(b"\n"), found.split(b"\n")), 1):
+            if line != other:
+                return f"standard {stream}, line {number}:\n  {shown(line)} is wanted\n  {shown(other)} has come"
+    return f"status {want.status} is wanted, and {got.status} has come"
+
+
+def shown(line):
+    return "no line" if line is None else f"{line[:200]}{' ..' * (len(line) > 200)}"
+
+
+def is_text(word):
+    try:
+        return os.fsencode(word).decode() is not None
+    except UnicodeDecodeError:
+        return False
+
+
+def stored_lines():
+    """The lines of tests/answers.txt, whose answers are known from now on."""
+    rows = [row.split("\t") for row in (TESTS / "answers.txt").read_text().splitlines() if not row.startswith("#")]
+    for line, answer in rows:
+        margin, _, house = answer.split()
+        reference.known[reference.read(line.encode())] = int(margin), int(house)
+    return [line.encode() for line, _ in rows]
+
+
+def printed_help():
+    """The help of the program, as the README prints it."""
+    _, rest = (TESTS.parent / "README.md").read_text().split("    $ kalah --help\n")
+    block, _, _ = rest.partition("\n## ")
+    return "".join(line[4:] + "\n" for line in block.rstrip("\n").split("\n")).encode()
+
+
+def two_ends(place):
+    """The two ends of a pipe, of a terminal or of a new file: what is written into the second is read from the first."""
+    if place == "pipe":
+        return os.pipe()
+    if place == "terminal":
+        reader, writer = pty.openpty()
+        tty.setraw(writer)
+        return reader, writer
+    writer, name = tempfile.mkstemp()
+    reader = os.open(name, os.O_RDONLY)
+    os.remove(name)
+    return reader, writer
+
+
+def read_soon(reader, size):
+    """What can be read soon, of so many bytes."""
+    got, end = b"", time.monotonic() + SOON
+    while len(got) < size and time.monotonic() < end:
+        if select.select([reader], [], [], 0.01)[0]:
+            piece = os.read(reader, size - len(got))
+            got += piece
+            if not piece:
+                # The end of a file, so far.
+                time.sleep(0.01)
+    return got
+
+
+def busy_threads(process):
+    """How many threads of the process, but for its first, were at work for two ticks of the clock or more."""
+    busy = 0
+    for thread in Path(f"/proc/{process.pid}/task").iterdir():
+        with suppress(FileNotFoundError):
+            numbers = (thread / "stat").read_text().rpartition(")")[2].split()
+            busy += thread.name != str(process.pid) and int(numbers[11]) + int(numbers[12]) >= 2
+    return busy
+
+
+class Trials:
+    """Trials of a program, each of which draws words and files, runs the program and compares what it leaves."""
+
+    def __init__(self, program, seed, folder):
+        self.program, self.folder, self.files = program, folder, folder / "files"
+        self.drawn = Drawn(seed)
+        self.stored = stored_lines()
+        self.runs = self.lines = 0
+        self.kind = ""
+
+    def make_one(self):
+        """Makes one trial, of a kind that is drawn."""
+        self.kind = self.drawn.card("kinds", [kind for kind, times in KINDS.items() for _ in range(times)])
+        getattr(self, self.kind)()
+
+    def put(self, files):
+        """Makes a folder that has these files and a folder `folder`, and nothing else."""
+        shutil.rmtree(self.files, ignore_errors=True)
+        (self.files / "folder").mkdir(parents=True)
+        for name, data in files.items():
+            (self.files / name).write_bytes(data)
+
+    def start(self, words, name="kalah", **streams):
+        """Starts the program, and keeps its words, each with a byte of 0 behind it."""
+        (self.folder / "words").write_bytes(b"".join(os.fsencode(word) + b"\0" for word in words))
+        self.runs += 1
+        pipes = {"stdin": subprocess.DEVNULL, "stdout": subprocess.PIPE, "stderr": subprocess.PIPE}
+        return subprocess.Popen([name, *words], cwd=self.files, **{"executable": self.program} | pipes | streams)
+
+    def words(self):
+        """The words of the last run."""
+        return (self.folder / "words").read_bytes().split(b"\0")[:-1]
+
+    def run(self, words, name="kalah", **streams):
+        """What a run leaves."""
+        return self.end_of(self.start(words, name, **streams))
+
+    def end_of(self, process):
+        try:
+            out, err = process.communicate(timeout=PATIENCE)
+        except subprocess.TimeoutExpired:
+            process.kill()
+            raise Differs(f"the run has not ended after {PATIENCE} seconds") from None
+        return Run(out or b"", err or b"", process.returncode)
+
+    def compare(self, want, got):
+        self.lines += want.out.count(b"\n")
+        if want != got:
+            raise Differs(difference(want, got))
+
+    def solve(self, named):
+        """Files of these names are solved. One that has no bytes can't be read."""
+        self.put({os.path.normpath(name): data for name, data in named if data is not None})
+        want = reference.solve([(name.encode(), data) for name, data in named])
+        self.compare(want, self.run(self.drawn.solve_words([name for name, _ in named])))
+
+    # The trials, in the order of KINDS.
+
+    def many_files(self):
+        names = self.drawn.names(self.drawn.card("files", FILES))
+        there = {os.path.normpath(name): self.drawn.file(self.drawn.chance.choice([0, 1, 1, 2, 5])) for name in names}
+        self.solve([(name, there[os.path.normpath(name)]) for name in names])
+
+    def many_bytes(self):
+        size = self.drawn.card("bytes", BYTES)
+        size = self.drawn.chance.randint(1, 300_000) if size is None else size
+        self.solve([("a", self.drawn.file_of_bytes(size)), ("b", self.drawn.file(3))])
+
+    def many_lines(self):
+        lines = self.drawn.card("lines", LINES) or self.drawn.chance.randint(1, 200_000)
+        first = self.drawn.chance.choice([lines, lines - 1, lines // 2])
+        self.solve([("a", self.drawn.file(first)), ("b", self.drawn.file(lines - first))])
+
+    def stored_answers(self):
+        lines = [self.drawn.with_stores(self.drawn.card("stored", self.stored)) for _ in range(60)]
+        self.solve([("a", b"\n".join(lines))])
+
+    def unread_files(self):
+        """The first name that can't be opened is told; files stand before it, and others behind it."""
+        there = ("a", self.drawn.file(2))
+        behind = self.drawn.chance.choices([there, *((name, None) for name in NO_FILES)], k=self.drawn.chance.randint(0, 3))
+        self.solve([there] * self.drawn.chance.randint(0, 10) + [(self.drawn.card("no files", NO_FILES), None), *behind])
+
+    def limits(self):
+        names, size = self.drawn.card("limits", LIMITS)
+        there = {"a": b"0" * size}
+        self.solve([(name, there.get(os.path.normpath(name))) for name in names])
+
+    def a_pipe_as_file(self):
+        """The bytes of a file come piece by piece."""
+        data = rest = self.drawn.file(self.drawn.chance.randint(0, 500))
+        self.put({})
+        process = self.start(self.drawn.solve_words(["/dev/stdin"]), stdin=subprocess.PIPE, bufsize=0)
+        with suppress(BrokenPipeError):
+            while rest:
+                size = self.drawn.chance.randint(1, 6000)
+                process.stdin.write(rest[:size])
+                rest = rest[size:]
+                time.sleep(0.002)
+        self.compare(reference.solve([(b"/dev/stdin", data)]), self.end_of(process))
+
+    def moves(self):
+        line = self.drawn.line_of_moves(self.drawn.card("lines of moves", LINES_OF_MOVES))
+        want = reference.moves(line) if is_text(line) else reference.failed(b"a word is not UTF-8")
+        dashes = ["--"] if line.startswith(b"-") or self.drawn.happens(0.2) else []
+        self.put({})
+        self.compare(want, self.run(["moves", *dashes, line]))
+
+    def mistakes(self):
+        """Of what is said of words that are not taken only the beginning is compared: the rest is the command line's own."""
+        self.put({"a": b"1/0 1/0"})
+        words = self.drawn.card("mistakes", MISTAKES)
+        got = self.run(words, self.drawn.card("program names", PROGRAM_NAMES))
+        if all(map(is_text, words)):
+            self.compare(Run(b"", b"error: ", 2), got._replace(err=got.err[:7]))
+        else:
+            self.compare(reference.failed(b"a word is not UTF-8"), got)
+
+    def help(self):
+        """Help names the program by the last part of its first word. That of the program is in the README."""
+        self.put({"a": b"1/0 1/0"})
+        words, name = self.drawn.card("help", HELP), self.drawn.card("names in help", PROGRAM_NAMES)
+        usage = b"Usage: " + os.path.basename(name).encode() + b" "
+        got = self.run(words, name)
+        want = printed_help().replace(b"Usage: kalah ", usage) if len(words) == 1 else got.out
+        self.compare(Run(want, b"", 0), got)
+        if usage not in got.out:
+            raise Differs(f"no {usage} in {got.out}")
+
+    def streams(self):
+        """Standard streams are closed, or take nothing."""
+        streams, (words, want) = self.drawn.card("streams", STREAMS_OF_RUNS)
+        self.put({"a": A_AND_FAULT})
+        if want.out and streams in TAKE_NO_ANSWER:
+            want = reference.failed(b"write failed")
+        if "2>" in streams:
+            want = want._replace(err=b"")
+        self.compare(want, self.run_without_reader(words) if streams == NO_READER else self.run_in_shell(words, streams))
+
+    def run_without_reader(self, words):
+        reader, writer = os.pipe()
+        os.close(reader)
+        try:
+            return self.run(words, stdout=writer)
+        finally:
+            os.close(writer)
+
+    def run_in_shell(self, words, streams):
+        return self.run(["-c", f'exec "$@" {streams}', "sh", self.program, *words], executable="/bin/sh")
+
+    def first_answers(self):
+        """Answers are read while a later line is being solved."""
+        place, lines = self.drawn.card("first answers", FIRST_ANSWERS)
+        data = self.drawn.file(lines)
+        self.put({"a": data, "b": HARD})
+        want = reference.solve([(b"a", data)]).out
+        reader, writer = two_ends(place)
+        workers = f"{self.drawn.chance.randint(1, 16)}"
+        with self.start(["solve", "--table", "1", "--workers", workers, "a", "b"], stdout=writer) as process:
+            got = read_soon(reader, len(want))
+            has_ended = process.poll() is not None
+            process.kill()
+        os.close(reader)
+        os.close(writer)
+        self.compare(Run(want, b"", 0), Run(got, b"", 0))
+        if has_ended:
+            raise Differs("the run has ended, though its last lines take long")
+
+    def busy_workers(self):
+        """As many threads are at work side by side as workers are asked for."""
+        workers = self.drawn.card("busy workers", BUSY_WORKERS)
+        self.put({"a": HARD})
+        with self.start(["solve", "--table", "1", "--workers", f"{workers}", "a"]) as process:
+            end = time.monotonic() + SOON
+            while busy_threads(process) < workers and time.monotonic() < end:
+                time.sleep(0.05)
+            busy = busy_threads(process)
+            process.kill()
+        if busy < workers:
+            raise Differs(f"{busy} threads are at work")
+
+
+# How often each trial is made before all of them are made again.
+KINDS = {
+    "many_files": len(FILES),
+    "many_bytes": len(BYTES),
+    "many_lines": len(LINES),
+    "stored_answers": 18,
+    "unread_files": len(NO_FILES),
+    "limits": len(LIMITS),
+    "a_pipe_as_file": 10,
+    "moves": len(LINES_OF_MOVES),
+    "mistakes": len(MISTAKES),
+    "help": len(HELP),
+    "streams": len(STREAMS_OF_RUNS),
+    "first_answers": len(FIRST_ANSWERS),
+    "busy_workers": len(BUSY_WORKERS),
+}
