@@ -164,7 +164,7 @@ class Trials:
         self.drawn = Drawn(seed)
         self.stored = stored_lines()
         self.runs = self.lines = 0
-        self.kind = ""
+        self.kind = self.executable = ""
 
     def make_one(self):
         """Makes one trial, of a kind that is drawn."""
@@ -178,12 +178,13 @@ class Trials:
         for name, data in files.items():
             (self.files / name).write_bytes(data)
 
-    def start(self, words, name="kalah", **streams):
+    def start(self, words, name="kalah", executable=None, **streams):
         """Starts the program, and keeps its words, each with a byte of 0 behind it."""
         (self.folder / "words").write_bytes(b"".join(os.fsencode(word) + b"\0" for word in words))
         self.runs += 1
-        pipes = {"stdin": subprocess.DEVNULL, "stdout": subprocess.PIPE, "stderr": subprocess.PIPE}
-        return subprocess.Popen([name, *words], cwd=self.files, **{"executable": self.program} | pipes | streams)
+        self.executable = executable or self.program
+        streams = {"stdin": subprocess.DEVNULL, "stdout": subprocess.PIPE, "stderr": subprocess.PIPE} | streams
+        return subprocess.Popen([name, *words], executable=self.executable, cwd=self.files, **streams)
 
     def words(self):
         """The words of the last run."""
