@@ -18,7 +18,7 @@ check:
 	tests/check
 
 # The gate: every proof from nothing, the must-fail edits, the tests and the program's stored run; then, over what that has built,
-# refused memory. At the end it says what each part took.
+# refused memory, the steps by which threads wait, and trials that are drawn. At the end it says what each part took.
 test:
 	tests/gate
 

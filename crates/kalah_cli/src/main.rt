@@ -6,6 +6,7 @@ mod failure;
 mod files;
 mod fused;
 mod moves;
+mod output;
 mod request;
 mod run;
 mod solve;
@@ -13,10 +14,10 @@ mod status;
 
 use failure::Failure;
 use fused::Fused;
-use kalah_jobs::Stream;
+use output::PromptStream;
 use run::run_words;
 use status::ExitStatus;
-use std::io::{ErrorKind, LineWriter, Write};
+use std::io::{BufWriter, ErrorKind, Write};
 use std::process::ExitCode;
 use std::{env, io};
 
@@ -40,9 +41,9 @@ fn main(rt: HostRuntime) -> ExitCode {
     if words.is_empty() {
         return ExitCode::from(ExitStatus::Failed.code());
     }
-    let Ok(out) = LineWriter::new(rt.alloc(), Fused::new(io::writer(&rt))) else {
+    let Ok(out) = BufWriter::new(rt.alloc(), Fused::new(io::writer(&rt))) else {
         return ExitCode::from(Failure::OutOfMemory.report(&mut err).code());
     };
-    let mut out = Stream::new(out);
+    let mut out = PromptStream::new(out);
     ExitCode::from(run_words(&rt, rt.alloc(), words, &mut out, &mut err).code())
 }

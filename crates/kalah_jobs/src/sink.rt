@@ -26,6 +26,14 @@ pub trait Sink {
         ensures fails { IsErr result ↔ (has_failed self.new ≡ true) }
         ensures keeps { OnOk result (Keeps (written self.old) (written self.new)) };
 
+    /// The caller is about to wait for what it will write next. A sink that holds bytes back may hand them on here; nothing
+    /// is written, and where that fails the sink has failed afterwards. By itself a sink does nothing here.
+    fn before_waiting(&mut self)
+        requires { has_failed self.old ≡ false }
+        ensures keeps { has_failed self.new ≡ false → Keeps (written self.old) (written self.new) }
+    {
+    }
+
     /// Whether a call has failed.
     fn failed(&self) -> bool
         ensures { result ≡ has_failed self.now };

@@ -17,3 +17,9 @@ all_of_one P x p (suc k) d lt = absurd (omega arith)
 -- what holds of all, and of one more
 pub all_and_one : {X : Type 0} (P : X → Type 0) (xs : List X) (x : X) → All P xs → P x → All P (xs ++ x ∷ [])
 all_and_one P xs x h p = All-append P xs (x ∷ []) h (all_of_one P x p)
+
+-- the passes to put to one queue are all of that queue
+pub all_are_of : (id : TableId) (n : ℕ) (ps : List PutState) → ArePassesFrom id n ps → All (λ p. p.queue ≡ id) ps
+all_are_of id n [] h k d lt = absurd (omega arith)
+all_are_of id n (x ∷ xs) h zero d lt = h.0
+all_are_of id n (x ∷ xs) h (suc k) d lt = all_are_of id (suc n) xs h.2 k d (omega arith)

@@ -3,12 +3,17 @@ use Rattle.std.proofs.Common.{◌≡◌, ℕ, ◌+◌, ◌<◌, List, [], ◌∷
 use Rattle.std.specs.Prelude.{count_by, if◌then◌else◌}
 use Rattle.std.proofs.lemmas.List.{get_or-map}
 use Rattle.std.proofs.lemmas.List.Sums.{sum_by-append}
+use Rattle.std.specs.Prelude.{Option, Bool, false}
+use Rattle.std.specs.Io.KnownBytes.{Keeps}
+use Rattle.std.proofs.KnownBytes.{Appends-kept}
 use Rattle.kalah_jobs.specs.declared.answer.Taken.{Taken}
 use Rattle.kalah_jobs.specs.Answer.{answer_line}
 use Rattle.kalah_jobs.specs.Offer.{Offer}
 use Rattle.kalah_jobs.specs.Lines.{line_feed}
 use Rattle.kalah_jobs.specs.NamedBytes.{NamedBytes}
 use Rattle.kalah_jobs.specs.Output.{is_faulty_offer}
+use Rattle.kalah_run.specs.declared.report.Report.{Report}
+use Rattle.kalah_run.specs.Reporting.{IsReporting}
 use Rattle.kalah_run.specs.Texts.{text_of}
 
 -- the text of a line of file f begins with that file's name
@@ -25,3 +30,18 @@ faults_more past o faults more before is =
     let all = sum_by-append (λ (x : Offer). if is_faulty_offer x then 1 else 0) past (o ∷ []) in
     let one : count_by is_faulty_offer (o ∷ []) ≡ (if is_faulty_offer o then 1 else 0) = omega arith in
     omega (arith, all, one, before, is)
+
+-- a report stands where what was written is handed on
+pub still_reports : (files : List NamedBytes) (past : List Offer) (begun out later : Option (List ℕ)) (failed fails : Bool) (r : Report) →
+    (fails ≡ false → (failed ≡ false) × Keeps out later) → IsReporting files past begun out failed r → IsReporting files past begun later fails r
+still_reports files past begun out later failed fails r keeps is = record {
+  of_files = is.of_files;
+  way = record {
+    holds = is.way.holds;
+    within = is.way.within;
+    before = is.way.before;
+    behind = is.way.behind;
+    written = λ sound. let kept = keeps sound in Appends-kept begun out later _ (is.way.written kept.0) kept.1;
+  };
+  faults = is.faults;
+}

@@ -4,6 +4,8 @@
 mod batch;
 mod desk;
 mod desk_rule;
+#[cfg(test)]
+mod drawn;
 mod gate;
 mod pass;
 mod queue_passes;
@@ -15,6 +17,7 @@ mod shift;
 mod shifts;
 mod staff;
 mod tally;
+mod waiting;
 #[cfg(test)]
 mod want_of_memory;
 mod workers;

@@ -1,5 +1,6 @@
 //! The results queue and its passes: what each keeps, and what contracts see of it.
 use crate::queue_rule::{RuledPass, RuledQueue};
+use crate::waiting::Waiters;
 use std::marker::Model;
 
 /// What workers put and one collector gets, in turn: a queue of a fixed capacity that threads share. It is seen as its
@@ -7,6 +8,9 @@ use std::marker::Model;
 #[derive(Drop)]
 pub struct ResultsQueue {
     pub(crate) pairs: RuledQueue,
+    // Who waits for an outcome, and who waits for room.
+    pub(crate) getters: Waiters,
+    pub(crate) putters: Waiters,
 }
 
 impl Model for ResultsQueue {

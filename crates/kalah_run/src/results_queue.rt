@@ -1,5 +1,5 @@
 //! The results queue: outcomes on their way from many workers to one collector.
-ghost use Rattle.std.specs.Prelude.{◌≡◌, ◌≤◌, ◌<◌, ℕ, List, [], ◌∷◌, ◌++◌, length, All, IfOk, vec_len};
+ghost use Rattle.std.specs.Prelude.{◌≡◌, ◌≤◌, ◌<◌, ℕ, List, [], ◌∷◌, ◌++◌, length, All, IfOk, MatchOption, vec_len};
 ghost use Rattle.crossbeam_queue.specs.Passes.{view, IsPassOf};
 ghost use Rattle.kalah_jobs.specs.Offer.{Offer};
 ghost use Rattle.kalah_run.specs.declared.queue_rule.QueueView.TheVariants.{Getting, Putting};
@@ -11,13 +11,17 @@ use crate::queue_passes::{ClosedQueue, GetPass, PutPass, ResultsQueue};
 use crate::queue_rule::{
     AnotherWorker, Gets, LeftInside, Puts, RuledPass, RuledQueue, Tagged, TakesIn,
 };
+use crate::waiting::{Waiters, Waiting};
+use crossbeam_utils::Backoff;
 use kalah_jobs::Outcome;
 use std::alloc::{AllocError, Global};
 use std::sync::Wait;
-use std::thread;
 
 #[cfg(test)]
 mod tests;
+
+/// How often an outcome is tried for that may come soon: until the pauses between two tries have grown to their full length.
+const SOON: u32 = 12;
 
 impl ResultsQueue {
     /// A queue that holds up to `capacity` outcomes, 1 to 1024, with a pass to put for each of the `workers`, 1 to 64, in
@@ -43,10 +47,15 @@ impl ResultsQueue {
                 number,
             });
         }
-        Ok((ResultsQueue { pairs }, puts, GetPass { ruled, workers }))
+        let queue = ResultsQueue {
+            pairs,
+            getters: Waiters::new(),
+            putters: Waiters::new(),
+        };
+        Ok((queue, puts, GetPass { ruled, workers }))
     }
 
-    /// Puts the outcome behind all that this worker has sent. Waits while the queue is full.
+    /// Puts the outcome behind all that this worker has sent. Waits while the queue is full: after a short spin it sleeps.
     pub fn put<R: Wait>(&self, rt: &R, pass: &mut PutPass, outcome: Outcome)
         requires { pass.old.queue ≡ self.now.id }
         ensures { pass.new ≡ record pass.old { sent = pass.old.sent ++ outcome ∷ [] } }
@@ -55,15 +64,30 @@ impl ResultsQueue {
             worker: pass.number,
             outcome,
         };
-        push_until(rt, &self.pairs, &mut pass.ruled, pair);
+        push_until(rt, &self.pairs, &self.putters, &mut pass.ruled, pair);
+        self.getters.call_one();
     }
 
-    /// Takes an outcome out, the next of some worker, and answers it. Waits while there is none.
+    /// Takes an outcome out, the next of some worker, and answers it. Waits while there is none: after a short spin it
+    /// sleeps.
     pub fn get<R: Wait>(&self, rt: &R, pass: &mut GetPass) -> Outcome
         requires { pass.old.queue ≡ self.now.id }
         ensures { (worker : ℕ) × (pass.new ≡ record pass.old { got = pass.old.got ++ (worker, result) ∷ [] }) }
     {
-        pop_until(rt, &self.pairs, &mut pass.ruled).outcome
+        let pair = pop_until(rt, &self.pairs, &self.getters, &mut pass.ruled);
+        self.putters.call_one();
+        pair.outcome
+    }
+
+    // As `get`, but without sleep: None, with nothing got, where no outcome comes soon.
+    pub(crate) fn get_soon(&self, pass: &mut GetPass) -> Option<Outcome>
+        requires { pass.old.queue ≡ self.now.id }
+        ensures { MatchOption result (pass.new ≡ pass.old)
+            (λ outcome. (worker : ℕ) × (pass.new ≡ record pass.old { got = pass.old.got ++ (worker, outcome) ∷ [] })) }
+    {
+        let pair = pop_soon(&self.pairs, &mut pass.ruled)?;
+        self.putters.call_one();
+        Some(pair.outcome)
     }
 
     /// Ends the queue. Takes all its passes back in, those to put in the order of `open`, and says how many outcomes were
@@ -74,7 +98,11 @@ impl ResultsQueue {
         ensures whole { (rest : List (ℕ × Offer)) × (length rest ≡ result.left) × Accounts pass.workers (sent_by puts.items) (pass.got ++ rest) }
         ensures few { result.left ≤ self.capacity }
     {
-        let ResultsQueue { pairs } = self;
+        let ResultsQueue {
+            pairs,
+            getters: _,
+            putters: _,
+        } = self;
         let GetPass { ruled, workers: _ } = pass;
         let mut ruled = take_in(&pairs, ruled, puts);
         let left = pairs.len_as::<LeftInside, R>(rt, &mut ruled);
@@ -92,37 +120,62 @@ impl ClosedQueue {
 }
 
 // Tries until the pair is in the queue.
-fn push_until<R: Wait>(rt: &R, pairs: &RuledQueue, pass: &mut RuledPass, pair: Tagged)
+fn push_until<R: Wait>(
+    rt: &R,
+    pairs: &RuledQueue,
+    putters: &Waiters,
+    pass: &mut RuledPass,
+    pair: Tagged,
+)
     requires place { IsPassOf pairs.now pass.old }
     requires puts { view pass.old ≡ Putting pair.0 (sent_in (view pass.old)) }
     ensures place { IsPassOf pairs.now pass.new × (pass.new.table_id ≡ pass.old.table_id) }
     ensures put { view pass.new ≡ Putting pair.0 (sent_in (view pass.old) ++ pair.1 ∷ []) }
 {
-    let mut waiting = pair;
+    let mut held_back = pair;
+    let mut waiting = Waiting::new(putters);
     for _ in rt.forever() {
-        match pairs.try_push_as::<Puts>(pass, waiting) {
+        match pairs.try_push_as::<Puts>(pass, held_back) {
             Ok(()) => return,
-            Err(back) => waiting = back,
+            Err(back) => held_back = back,
         }
-        thread::yield_now();
+        waiting.pause(rt);
     }
     unreachable!()
 }
 
 // Tries until there is a pair.
-fn pop_until<R: Wait>(rt: &R, pairs: &RuledQueue, pass: &mut RuledPass) -> Tagged
+fn pop_until<R: Wait>(rt: &R, pairs: &RuledQueue, getters: &Waiters, pass: &mut RuledPass) -> Tagged
     requires place { IsPassOf pairs.now pass.old }
     requires gets { view pass.old ≡ as_getting (view pass.old) }
     ensures place { IsPassOf pairs.now pass.new × (pass.new.table_id ≡ pass.old.table_id) }
     ensures got { view pass.new ≡ after_get (view pass.old) result }
 {
+    let mut waiting = Waiting::new(getters);
     for _ in rt.forever() {
-        match pairs.try_pop_as::<Gets>(pass) {
-            Some(pair) => return pair,
-            None => thread::yield_now(),
+        if let Some(pair) = pairs.try_pop_as::<Gets>(pass) {
+            return pair;
         }
+        waiting.pause(rt);
     }
     unreachable!()
+}
+
+// Tries for a pair for a short while.
+fn pop_soon(pairs: &RuledQueue, pass: &mut RuledPass) -> Option<Tagged>
+    requires place { IsPassOf pairs.now pass.old }
+    requires gets { view pass.old ≡ as_getting (view pass.old) }
+    ensures place { IsPassOf pairs.now pass.new × (pass.new.table_id ≡ pass.old.table_id) }
+    ensures got { MatchOption result (view pass.new ≡ view pass.old) (λ pair. view pass.new ≡ after_get (view pass.old) pair) }
+{
+    let backoff = Backoff::new();
+    for _ in 0..SOON {
+        if let Some(pair) = pairs.try_pop_as::<Gets>(pass) {
+            return Some(pair);
+        }
+        backoff.snooze();
+    }
+    None
 }
 
 // Takes all passes to put back in, in the order of their numbers.

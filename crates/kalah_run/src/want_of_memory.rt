@@ -1,10 +1,14 @@
 //! Each request for memory refused in turn. With ample memory these tests just pass. `tests/refuse` runs each of them
 //! again and again, with the first request refused, the second, and so on: it has to pass each time, until the request that
 //! is refused is one of its own marks.
-use crate::{Desk, Gate, OpenGate, ResultsQueue};
+ghost use Rattle.std.specs.Prelude.{◌≡◌, vec_len};
+ghost use Rattle.kalah_run.specs.QueueStates.{ArePassesFrom};
+
+use crate::{Desk, Gate, GetPass, OpenGate, PutPass, ResultsQueue};
 use kalah_jobs::{Entry, LineFault, Outcome};
 use kalah_solve::{Solver, Table};
 use std::alloc::Global;
+use std::sync::Wait;
 use std::test::Fail;
 
 // A request that is refused only where none before it was.
@@ -31,6 +35,23 @@ fn a_desk(rt: HostRuntime) -> Result<(), Fail> {
     mark(alloc, "after all")
 }
 
+// Whether of two outcomes that two workers put the first is got, and the other is left.
+fn is_first_got<R: Wait>(
+    rt: &R,
+    opened: (ResultsQueue, Vec<PutPass>, GetPass),
+    first: Outcome,
+    second: Outcome,
+) -> bool
+    requires puts { (vec_len opened.1 ≡ 2) × ArePassesFrom opened.0.id 0 opened.1.items }
+    requires gets { (opened.2.queue ≡ opened.0.id) × (opened.2.workers ≡ 2) }
+{
+    let (queue, mut puts, mut pass) = opened;
+    queue.put(rt, &mut puts[0], first);
+    queue.put(rt, &mut puts[1], second);
+    let got = queue.get(rt, &mut pass);
+    queue.close(rt, puts, pass).left() == 1 && got == first
+}
+
 #[test]
 fn a_results_queue(rt: HostRuntime) -> Result<(), Fail> {
     let alloc = rt.alloc();
@@ -38,13 +59,9 @@ fn a_results_queue(rt: HostRuntime) -> Result<(), Fail> {
     let mut solver = Solver::new(table);
     let first = Outcome::of(0, 3, Entry::Bad(LineFault::Long), &mut solver);
     let second = Outcome::of(1, 4, Entry::Bad(LineFault::Seeds), &mut solver);
-    let opened = ResultsQueue::open(alloc, 2, 2).or_else(|_| ResultsQueue::open(alloc, 2, 2));
-    let (queue, mut puts, mut pass) = opened?;
+    let opened = ResultsQueue::open(alloc, 2, 2).or_else(|_| ResultsQueue::open(alloc, 2, 2))?;
     mark(alloc, "before the calls without memory")?;
-    queue.put(&rt, &mut puts[0], first);
-    queue.put(&rt, &mut puts[1], second);
-    assert_eq!(rt; queue.get(&rt, &mut pass), first);
-    assert_eq!(rt; queue.close(&rt, puts, pass).left(), 1);
+    assert!(rt; is_first_got(&rt, opened, first, second));
     mark(alloc, "after all")
 }
 

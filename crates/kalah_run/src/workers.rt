@@ -1,5 +1,5 @@
 //! One thread runs the shifts, while the calling thread takes in what they send.
-ghost use Rattle.std.specs.Prelude.{◌≡◌, ◌≤◌, [], ℕ, List, Option, length, IfOk, OnErr, IfErr, map};
+ghost use Rattle.std.specs.Prelude.{◌≡◌, ◌≤◌, [], ◌∷◌, ◌++◌, ℕ, List, Option, false, length, IfOk, OnErr, IfErr, map};
 ghost use Rattle.std.specs.Thread.{IsSync};
 ghost use Rattle.std.specs.Io.KnownBytes.{Keeps};
 ghost use Rattle.kalah_jobs.specs.Jobs.{job_count};
@@ -14,7 +14,7 @@ use crate::report::Report;
 use crate::run_fault::RunFault;
 use crate::shift::{Shift, Shop};
 use crate::shifts::run_shifts;
-use kalah_jobs::{Jobs, Sink};
+use kalah_jobs::{Jobs, Outcome, Sink};
 use std::snapshot::Snapshot;
 use std::sync::Wait;
 use std::thread;
@@ -75,6 +75,27 @@ fn shop_of<'a, G: Gate>(
     }
 }
 
+// The outcome that comes next. Where none comes soon, the output may hand on what it holds back before the wait.
+fn next_outcome<R: Wait, W: Sink>(
+    rt: &R,
+    queue: &ResultsQueue,
+    pass: &mut GetPass,
+    out: &mut W,
+) -> Outcome
+    requires { pass.old.queue ≡ queue.now.id }
+    ensures got { (worker : ℕ) × (pass.new ≡ record pass.old { got = pass.old.got ++ (worker, result) ∷ [] }) }
+    ensures keeps { W.has_failed out.new ≡ false
+        → (W.has_failed out.old ≡ false) × Keeps (W.written out.old) (W.written out.new) }
+{
+    if let Some(outcome) = queue.get_soon(pass) {
+        return outcome;
+    }
+    if !out.failed() {
+        out.before_waiting();
+    }
+    queue.get(rt, pass)
+}
+
 // Takes in the outcome of each job, and writes each line once it is ready and all before it are written.
 fn collect<R: Wait, W: Sink>(
     rt: &R,
@@ -94,7 +115,7 @@ fn collect<R: Wait, W: Sink>(
 {
     report.write(out);
     for _ in 0..total {
-        let outcome = queue.get(rt, pass);
+        let outcome = next_outcome(rt, queue, pass, out);
         report.take_in(outcome, out);
     }
 }

@@ -38,20 +38,6 @@ fn gather(
 }
 
 #[test]
-fn two_passes_draw_three_numbers(rt: HostRuntime) -> Result<(), Fail> {
-    let (desk, mut passes) = Desk::open(rt.alloc(), 3, 2)?;
-    assert_eq!(rt; passes.len(), 2);
-    assert_eq!(rt; desk.draw(&mut passes[0]), Some(0));
-    assert_eq!(rt; desk.draw(&mut passes[1]), Some(1));
-    assert_eq!(rt; desk.draw(&mut passes[0]), Some(2));
-    assert_eq!(rt; desk.draw(&mut passes[1]), None);
-    assert_eq!(rt; desk.draw(&mut passes[1]), None);
-    let closed = desk.close(passes);
-    assert_eq!(rt; (closed.drawn(), closed.spent()), (3, true));
-    Ok(())
-}
-
-#[test]
 fn a_desk_with_no_number_answers_none(rt: HostRuntime) -> Result<(), Fail> {
     let (desk, mut passes) = Desk::open(rt.alloc(), 0, 1)?;
     assert_eq!(rt; passes.len(), 1);

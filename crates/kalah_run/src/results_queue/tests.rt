@@ -1,6 +1,8 @@
 ghost use Rattle.std.specs.Prelude.{◌≡◌, ◌<◌, ◌≤◌};
 ghost use Rattle.std.specs.Thread.{IsSync};
 
+mod flow;
+
 use crate::{GetPass, PutPass, ResultsQueue};
 use kalah_jobs::{Entry, LineFault, Outcome};
 use kalah_solve::{Solver, Table};
@@ -35,19 +37,6 @@ fn two_workers_outcomes_are_got(rt: HostRuntime) -> Result<(), Fail> {
     assert_eq!(rt; queue.get(&rt, &mut pass), first);
     assert_eq!(rt; queue.get(&rt, &mut pass), second);
     assert_eq!(rt; queue.close(&rt, puts, pass).left(), 0);
-    Ok(())
-}
-
-#[test]
-fn one_of_two_is_left(rt: HostRuntime) -> Result<(), Fail> {
-    let mut solver = Solver::new(Table::new(rt.alloc(), 16)?);
-    let first = Outcome::of(0, 3, Entry::Bad(LineFault::Long), &mut solver);
-    let second = Outcome::of(1, 4, Entry::Bad(LineFault::Seeds), &mut solver);
-    let (queue, mut puts, mut pass) = ResultsQueue::open(rt.alloc(), 2, 2)?;
-    queue.put(&rt, &mut puts[0], first);
-    queue.put(&rt, &mut puts[1], second);
-    assert_eq!(rt; queue.get(&rt, &mut pass), first);
-    assert_eq!(rt; queue.close(&rt, puts, pass).left(), 1);
     Ok(())
 }
 

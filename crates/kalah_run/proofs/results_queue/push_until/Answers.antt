@@ -7,4 +7,4 @@ use Rattle.kalah_run.proofs.results_queue.push_until.Goals as goal
 
 pub try_push_as-requires-clause-rule : goal.try_push_as-requires-clause-rule
 try_push_as-requires-clause-rule g c =
-    puts _ _ _ _ (sent_in (view c.args.pass.now)) (c.loop.invariant.view ∙ c.requires.puts ∙ ap (λ t. Putting t.0 (sent_in (view c.args.pass.now))) (sym c.loop.invariant.waiting))
+    puts _ _ _ _ (sent_in (view c.args.pass.now)) (c.loop.invariant.view ∙ c.requires.puts ∙ ap (λ t. Putting t.0 (sent_in (view c.args.pass.now))) (sym c.loop.invariant.held_back))

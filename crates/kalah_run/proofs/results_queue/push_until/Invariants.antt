@@ -7,5 +7,5 @@ invariant-loop g l = record {
   place : IsPassOf l.pairs l.pass;
   queue : l.pass.table_id ≡ l.fn.pass.table_id;
   view : view l.pass ≡ view l.fn.pass;
-  waiting : l.waiting ≡ l.fn.pair;
+  held_back : l.held_back ≡ l.fn.pair;
 }

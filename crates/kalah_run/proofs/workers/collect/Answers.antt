@@ -3,6 +3,7 @@ use Rattle.std.proofs.lemmas.List.{map-append, length-append}
 use Rattle.kalah_jobs.specs.Offer.{Offer}
 use Rattle.kalah_run.specs.QueueStates.{GetState}
 use Rattle.kalah_run.specs.Reporting.{IsReporting, Waits, outcomes_in}
+use Rattle.kalah_run.proofs.Reports.{still_reports}
 use Rattle.kalah_run.proofs.workers.collect.Goals as goal
 
 pub loop-init : goal.loop-init
@@ -18,15 +19,15 @@ loop-init g c = record {
 
 pub loop-preserved : goal.loop-preserved
 loop-preserved g c =
-    let worker = c.get-outcome.ensures.0 in
-    let more = ap (λ (p : GetState). p.got) c.get-outcome.ensures.1 in
+    let worker = c.next_outcome-outcome.ensures.got.0 in
+    let more = ap (λ (p : GetState). p.got) c.next_outcome-outcome.ensures.got.1 in
     record {
-      queue = ap (λ (p : GetState). p.queue) c.get-outcome.ensures.1 ∙ c.loop.invariant.queue;
-      workers = ap (λ (p : GetState). p.workers) c.get-outcome.ensures.1 ∙ c.loop.invariant.workers;
-      all = ap (λ (l : List (ℕ × Offer)). length l) more ∙ length-append c.loop.pass.got ((worker, c.get-outcome.result) ∷ []) ∙ omega (arith, c.loop.invariant.all);
+      queue = ap (λ (p : GetState). p.queue) c.next_outcome-outcome.ensures.got.1 ∙ c.loop.invariant.queue;
+      workers = ap (λ (p : GetState). p.workers) c.next_outcome-outcome.ensures.got.1 ∙ c.loop.invariant.workers;
+      all = ap (λ (l : List (ℕ × Offer)). length l) more ∙ length-append c.loop.pass.got ((worker, c.next_outcome-outcome.result) ∷ []) ∙ omega (arith, c.loop.invariant.all);
       few = omega (arith, c.loop.invariant.few, c.take_in.ensures.faults);
       way = λ files begun reporting.
           subst (λ (l : List Offer). IsReporting files l begun (g.W.Sink.written c.take_in.new.out) (g.W.Sink.has_failed c.take_in.new.out) c.take_in.new.self × Waits c.take_in.new.self)
-          (sym (ap (λ (l : List (ℕ × Offer)). outcomes_in l) more ∙ map-append (λ (p : ℕ × Offer). p.1) c.loop.pass.got ((worker, c.get-outcome.result) ∷ [])))
-          (c.take_in.ensures.way files _ begun (c.loop.invariant.way files begun reporting).0);
+          (sym (ap (λ (l : List (ℕ × Offer)). outcomes_in l) more ∙ map-append (λ (p : ℕ × Offer). p.1) c.loop.pass.got ((worker, c.next_outcome-outcome.result) ∷ [])))
+          (c.take_in.ensures.way files _ begun (still_reports files _ begun _ _ _ _ _ c.next_outcome-outcome.ensures.keeps (c.loop.invariant.way files begun reporting).0));
     }

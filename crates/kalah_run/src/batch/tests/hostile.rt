@@ -19,21 +19,33 @@ fn one_file_answers<R: Threads + Wait + Sync>(
     Ok(answers(rt, alloc, files.as_slice(), 2, 16, &OpenGate, text, faults))
 }
 
+// Odd bytes of a file, what a batch writes of it, and how many of its lines are faults.
+const ODD_BYTES: [(&[u8], &str, u32); 6] = [
+    (b"\n\r", "n:1 fault empty\nn:2 fault empty\n", 2),
+    (b"\xEF\xBB\xBF1/0 1/0", "n:1 fault shape\n", 1),
+    (b"1/0 1/0\0\n", "n:1 fault shape\n", 1),
+    (b"1/0\t1/0", "n:1 fault shape\n", 1),
+    (b"\xFF\xFE\n1/0 1/0", "n:1 fault shape\nn:2 0 house 1\n", 1),
+    (b"99/0 99/0", "n:1 fault seeds\n", 1),
+];
+
 #[test]
 fn odd_bytes_are_faults_of_their_line(rt: HostRuntime) -> Result<(), Fail> {
-    let alloc = rt.alloc();
-    let empties = "n:1 fault empty\nn:2 fault empty\n";
-    assert!(rt; one_file_answers(&rt, alloc, b"\n\r", empties, 2)?);
-    let shape = "n:1 fault shape\n";
-    assert!(rt; one_file_answers(&rt, alloc, b"\xEF\xBB\xBF1/0 1/0", shape, 1)?);
-    assert!(rt; one_file_answers(&rt, alloc, b"1/0 1/0\0\n", shape, 1)?);
-    assert!(rt; one_file_answers(&rt, alloc, b"1/0\t1/0", shape, 1)?);
-    let second = "n:1 fault shape\nn:2 0 house 1\n";
-    assert!(rt; one_file_answers(&rt, alloc, b"\xFF\xFE\n1/0 1/0", second, 1)?);
-    assert!(rt; one_file_answers(&rt, alloc, b"99/0 99/0", "n:1 fault seeds\n", 1)?);
-    let mut long = vec![in alloc; b'x'; 81]?;
+    for (bytes, text, faults) in ODD_BYTES {
+        assert!(rt;
+            one_file_answers(&rt, rt.alloc(), bytes, text, faults)?,
+            "{bytes:?}"
+        );
+    }
+    Ok(())
+}
+
+#[test]
+fn a_line_of_over_80_bytes_is_too_long(rt: HostRuntime) -> Result<(), Fail> {
+    let mut long = vec![in rt.alloc(); b'x'; 81]?;
     long.extend_from_slice(b"\r\n")?;
-    assert!(rt; one_file_answers(&rt, alloc, long.as_slice(), "n:1 fault long\n", 1)?);
+    let text = "n:1 fault long\n";
+    assert!(rt; one_file_answers(&rt, rt.alloc(), long.as_slice(), text, 1)?);
     Ok(())
 }
 

@@ -1,10 +1,11 @@
 //! Batches whose writer fails.
-use super::{four_files, same_answers, same_lines};
+use super::{ANSWERS, four_files, same_answers, same_lines};
 use crate::{Gate, OpenGate, RunFault, Tally, solve_batch};
 use kalah_jobs::{FileText, Sink, Stream};
 use std::alloc::Global;
 use std::io;
 use std::io::{ErrorKind, Write};
+use std::process::Abort;
 use std::sync::Wait;
 use std::sync::atomic::{AtomicU32, Ordering};
 use std::test::Fail;
@@ -150,19 +151,29 @@ impl Write for Unflushed {
     }
 }
 
+// All is written, and the flush alone is the write that fails.
+fn assert_all_written<R: Abort + Threads + Wait + Sync>(
+    rt: &R,
+    alloc: Global,
+    files: &[FileText],
+    text: &str,
+) {
+    let mut out = Stream::new(Unflushed {
+        bytes: Vec::new(alloc),
+    });
+    let tally = solve_batch(rt, alloc, files, 2, 16, &OpenGate, &mut out);
+    assert_eq!(rt; tally, Err(RunFault::Write));
+    assert!(rt; out.failed());
+    assert_eq!(rt; out.into_inner().bytes.as_slice(), text.as_bytes());
+}
+
 #[test]
 fn a_flush_that_fails_is_a_failed_write(rt: HostRuntime) -> Result<(), Fail> {
     let alloc = rt.alloc();
+    assert_all_written(&rt, alloc, four_files(alloc)?.as_slice(), ANSWERS);
     for lines in [0, 1, 2, 7, 64, 65, 100] {
-        let files = same_lines(alloc, lines)?;
-        let mut out = Stream::new(Unflushed {
-            bytes: Vec::new(alloc),
-        });
-        let tally = solve_batch(&rt, alloc, files.as_slice(), 2, 16, &OpenGate, &mut out);
-        assert_eq!(rt; tally, Err(RunFault::Write), "{lines}");
-        assert!(rt; out.failed());
-        let text = same_answers(alloc, lines)?;
-        assert_eq!(rt; out.into_inner().bytes.as_slice(), text.as_bytes());
+        let (files, text) = (same_lines(alloc, lines)?, same_answers(alloc, lines)?);
+        assert_all_written(&rt, alloc, files.as_slice(), text.as_str());
     }
     Ok(())
 }
