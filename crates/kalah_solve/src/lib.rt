@@ -6,6 +6,7 @@ mod granting;
 mod key;
 mod laws;
 mod packed;
+#[cfg(test)]
 mod plain;
 mod ranks;
 mod search;
