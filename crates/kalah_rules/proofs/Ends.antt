@@ -10,9 +10,8 @@ use Rattle.std.proofs.lemmas.List.{get_or_past, set_past}
 use Rattle.std.proofs.lemmas.List.Sums.{sum_by-set, sum_by-cons}
 use Rattle.kalah_rules.specs.Position.{Position, HasEqualSides, side_length, seeds, seeds_in_houses, opposite, swapped}
 use Rattle.kalah_rules.specs.Sowing.{lap_length, own_distance, gain, store_distance, sow, sown, after, last_house, captured, capture, captures, can_capture}
-use Rattle.kalah_rules.specs.Lap.{HoldsSeeds, with_seed}
+use Rattle.kalah_rules.specs.Lap.{Own, HoldsSeeds, with_seed}
 use Rattle.kalah_rules.specs.Measure.{row_distance, distance_to_stores, IsNearerEnd, moves_left}
-use Rattle.kalah_rules.specs.declared.cell.Cell.TheVariants.{Own}
 use Rattle.kalah_rules.proofs.Laps.{own_distance_past}
 use Rattle.kalah_rules.proofs.Rows.{length-slice_set, seeds-set_same, seeds-set_other}
 use Rattle.kalah_rules.proofs.Sown.{sow_none, sow_more, sow_side, sow_keeps}

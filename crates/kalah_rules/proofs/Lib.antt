@@ -3,4 +3,9 @@ pub mod Rows
 pub mod Sown
 pub mod Boards
 pub mod Legal
+pub mod Stores
+pub mod Keys
+pub mod Packing
+pub mod PackedMoves
+pub mod HousesSteps
 pub mod Ends

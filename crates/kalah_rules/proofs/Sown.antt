@@ -4,11 +4,9 @@ use Rattle.std.specs.Prelude.{slice_set}
 use Rattle.std.proofs.lemmas.Nat.{mod_below}
 use Rattle.std.proofs.lemmas.Bool.{cases_lt, cases_eq}
 use Rattle.std.proofs.lemmas.Bool.Decides.{nat_tests}
-use Rattle.kalah_rules.specs.Position.{Position, side_length, seeds, seeds_in_houses, IsWithinLimits}
+use Rattle.kalah_rules.specs.Position.{Position, side_length, seeds, seeds_in_houses}
 use Rattle.kalah_rules.specs.Sowing.{lap_length, own_distance, store_distance, other_distance, gain, sow}
-use Rattle.kalah_rules.specs.Lap.{distance, IsCellOf, with_seed, lifted, HoldsSeeds, HasRoom}
-use Rattle.kalah_rules.specs.declared.cell.Cell.{Cell}
-use Rattle.kalah_rules.specs.declared.cell.Cell.TheVariants.{Own, Store, Other}
+use Rattle.kalah_rules.specs.Lap.{Cell, Own, Store, Other, distance, IsCellOf, with_seed, lifted}
 use Rattle.kalah_rules.proofs.Laps.{gain_more, gain_same, gain_none, own_distance_past, own_distance_back}
 use Rattle.kalah_rules.proofs.Rows.{same_position, length-row_of, same_as_row, seeds-set_same, seeds-set_other, length-slice_set, row_of_same, row_of_more, sum-slice_set}
 
@@ -172,25 +170,3 @@ sow_keeps p h low high same (suc k) =
       play = omega (arith, before.play, adds.play);
     } in
     rw add-one at step
-
--- every cell lies at most a lap away
-pub distance_low : (m h : ℕ) → 1 ≤ h → h ≤ m → (cell : Cell) → IsCellOf m cell → 1 ≤ distance m h cell
-distance_low m h low high (Own i) is_cell = own_distance_low m h low high i is_cell.0 is_cell.1
-distance_low m h low high Store is_cell = omega arith
-distance_low m h low high (Other j) is_cell = omega arith
-
-pub distance_high : (m h : ℕ) → 1 ≤ h → h ≤ m → (cell : Cell) → IsCellOf m cell → distance m h cell ≤ lap_length m
-distance_high m h low high (Own i) is_cell = own_distance_high m h low high i is_cell.0 is_cell.1
-distance_high m h low high Store is_cell = omega arith
-distance_high m h low high (Other j) is_cell = omega (arith, is_cell.1)
-
--- while seeds are in hand, one more fits
-pub has_room : (p : Position) (h k : ℕ) → HoldsSeeds p h → IsWithinLimits p → k < seeds p.own h → HasRoom (sow p h k)
-has_room p h k holds limits more =
-    let keeps = sow_keeps p h holds.first holds.last limits.same_side k in
-    let kept = sow_other_store p h k in
-    record {
-      houses = omega (arith, keeps.houses, limits.few_seeds);
-      own_store = omega (arith, keeps.play, limits.own_store_low);
-      other_store = omega (arith, keeps.houses, kept, limits.other_store_low);
-    }

@@ -2,7 +2,7 @@
 use Rattle.std.specs.Prelude.{◌≡◌, ℕ, ◌+◌, ◌-◌, ◌≤◌, List, ◌++◌, length, take, drop, replicate, All, sum}
 use Rattle.std.proofs.Common.{arith, length-take-le}
 use Rattle.kalah_rules.specs.Limits.{most_houses, most_seeds, most_in_store}
-use Rattle.kalah_rules.specs.Position.{Position, IsWithinLimits, Rows, IsWithinHouses}
+use Rattle.kalah_rules.specs.Position.{Position, Rows}
 use Rattle.kalah_rules.specs.declared.rule.Rule.{Rule}
 
 -- the position of sides of m houses, whose houses are the first m of six cells
@@ -37,36 +37,9 @@ pub record CanStart (m : ℕ) (own : List ℕ) (own_store : ℕ) (other : List �
 abbrev pub padded : List ℕ → List ℕ
 padded row = row ++ replicate (most_houses - length row) 0
 
--- the six cells of each row are the position's houses and zeros
-pub record IsBoard (m : ℕ) (own : List ℕ) (own_store : ℕ) (other : List ℕ) (other_store : ℕ) (rule : Rule) : Type 0 where
-  pub own_cells : length own ≡ most_houses
-  pub other_cells : length other ≡ most_houses
-  pub own_padded : padded (take m own) ≡ own
-  pub other_padded : padded (take m other) ≡ other
-  pub side_low : 1 ≤ m
-  pub side_high : m ≤ most_houses
-  pub limits : IsWithinLimits (position_of m own own_store other other_store rule)
-
--- the houses that a board shows are as many as it says
-pub side_length_shown : {m : ℕ} {own : List ℕ} {own_store : ℕ} {other : List ℕ} {other_store : ℕ} {rule : Rule} →
-    IsBoard m own own_store other other_store rule → length (take m own) ≡ m
-side_length_shown {m} {own} h = length-take-le m own (omega (arith, h.own_cells, h.side_high))
-
+-- the rows of m houses, which are the first of six cells
 abbrev pub rows_from : ℕ → List ℕ → List ℕ → Rule → Rows
 rows_from m own other rule = record { own = take m own; other = take m other; rule = rule }
-
--- the six cells of each row are the houses and zeros
-pub record IsHouses (m : ℕ) (own : List ℕ) (other : List ℕ) (rule : Rule) : Type 0 where
-  pub own_cells : length own ≡ most_houses
-  pub other_cells : length other ≡ most_houses
-  pub own_padded : padded (take m own) ≡ own
-  pub other_padded : padded (take m other) ≡ other
-  pub side_low : 1 ≤ m
-  pub side_high : m ≤ most_houses
-  pub limits : IsWithinHouses (rows_from m own other rule)
-
-pub rows_length_shown : {m : ℕ} {own other : List ℕ} {rule : Rule} → IsHouses m own other rule → length (take m own) ≡ m
-rows_length_shown {m} {own} h = length-take-le m own (omega (arith, h.own_cells, h.side_high))
 
 -- at most six numbers, in six cells
 pub record IsSixAtMost (len : ℕ) (cells : List ℕ) : Type 0 where

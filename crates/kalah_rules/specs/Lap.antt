@@ -1,10 +1,13 @@
 -- The cells of a lap as the sowing walks them.
 use Rattle.std.specs.Prelude.{ℕ, ◌+◌, ◌-◌, ◌<◌, ◌≤◌, slice_set}
-use Rattle.kalah_rules.specs.Position.{Position, side_length, seeds, seeds_in_houses}
+use Rattle.kalah_rules.specs.Position.{Position, side_length, seeds}
 use Rattle.kalah_rules.specs.Sowing.{own_distance, store_distance, other_distance}
-use Rattle.kalah_rules.specs.Limits.{most_seeds, most_in_play}
-use Rattle.kalah_rules.specs.declared.cell.Cell.{Cell}
-use Rattle.kalah_rules.specs.declared.cell.Cell.TheVariants.{Own, Store, Other}
+
+-- a cell that a move can sow: the houses of both players and the mover's store
+pub data Cell : Type 0 where
+  Own : ℕ → Cell
+  Store : Cell
+  Other : ℕ → Cell
 
 -- how far a cell lies from own house h, where a side has m houses
 abbrev pub distance : ℕ → ℕ → Cell → ℕ
@@ -27,12 +30,6 @@ with_seed p (Other j) = record p { other = slice_set p.other (j - 1) (seeds p.ot
 -- house h without its seeds
 abbrev pub lifted : Position → ℕ → Position
 lifted p h = record p { own = slice_set p.own (h - 1) 0 }
-
--- a seed more fits
-pub record HasRoom (p : Position) : Type 0 where
-  pub houses : seeds_in_houses p < most_seeds
-  pub own_store : p.own_store + seeds_in_houses p < most_in_play
-  pub other_store : p.other_store + seeds_in_houses p < most_in_play
 
 -- h is an own house with seeds
 pub record HoldsSeeds (p : Position) (h : ℕ) : Type 0 where

@@ -1,8 +1,11 @@
 pub mod Limits
 pub mod Position
 pub mod Cells
+pub mod Key
+pub mod Packed
 pub mod Sowing
 pub mod Lap
 pub mod Play
+pub mod HousesStep
 pub mod Measure
 pub mod Laws

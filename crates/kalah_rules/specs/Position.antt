@@ -80,6 +80,20 @@ pub record Rows : Type 0 where
 abbrev pub rows_of : Position → Rows
 rows_of p = record { own = p.own; other = p.other; rule = p.rule }
 
+-- the position of these houses, with so much in the stores
+abbrev pub with_stores : Rows → ℕ → ℕ → Position
+with_stores a own_store other_store = record {
+  own = a.own;
+  own_store = own_store;
+  other = a.other;
+  other_store = other_store;
+  rule = a.rule;
+}
+
+-- the position of these houses, with both stores empty
+abbrev pub bare : Rows → Position
+bare a = with_stores a 0 0
+
 -- what the houses of every board keep
 pub record IsWithinHouses (a : Rows) : Type 0 where
   pub some_house : 1 ≤ length a.own

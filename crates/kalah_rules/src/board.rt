@@ -4,13 +4,11 @@ ghost use Rattle.kalah_rules.specs.Position.{side_length, seeds, is_over, final_
 ghost use Rattle.kalah_rules.specs.Cells.{CanStart, position_of};
 
 mod play;
-mod sowing;
 #[cfg(test)]
 mod tests;
 
 use crate::houses::Houses;
-use crate::limits::{MOST_HOUSES, MOST_IN_STORE, MOST_SEEDS};
-use crate::row::{is_empty_past, total};
+use crate::limits::MOST_IN_STORE;
 use crate::rule::Rule;
 use std::marker::Model;
 
@@ -21,42 +19,21 @@ use std::marker::Model;
 /// that hold at most 130 together with all of these.
 #[derive(Clone, Copy, Debug, PartialEq, Eq)]
 pub struct Board {
-    m: u8,
-    own: [u8; 6],
+    houses: Houses,
     own_store: u8,
-    other: [u8; 6],
     other_store: u8,
-    rule: Rule,
 }
 
 impl Model for Board {
-    ghost use Rattle.std.specs.Prelude.{length};
-    ghost use Rattle.kalah_rules.specs.Position.{Position};
-    ghost use Rattle.kalah_rules.specs.Cells.{position_of, padded, IsBoard, side_length_shown};
+    ghost use Rattle.kalah_rules.specs.Position.{Position, with_stores, rows_of, IsWithinLimits};
 
     ghost Value = { Position };
 
-    ghost view = { λ b. position_of b.m b.own b.own_store b.other b.other_store b.rule };
+    ghost view = { λ b. with_stores b.houses b.own_store b.other_store };
 
-    ghost invariant = { λ b. IsBoard b.m b.own b.own_store b.other b.other_store b.rule };
+    ghost invariant = { λ b. IsWithinLimits (with_stores b.houses b.own_store b.other_store) };
 
-    ghost inverse = { λ p. record {
-      m = length p.own;
-      own = padded p.own;
-      own_store = p.own_store;
-      other = padded p.other;
-      other_store = p.other_store;
-      rule = p.rule;
-    } };
-
-    ghost inverse_ok = { λ b h i. record {
-      m = side_length_shown h i;
-      own = h.own_padded i;
-      own_store = b.own_store;
-      other = h.other_padded i;
-      other_store = b.other_store;
-      rule = b.rule;
-    } };
+    ghost inverse = { λ p. record { houses = rows_of p; own_store = p.own_store; other_store = p.other_store } };
 }
 
 impl Board {
@@ -73,22 +50,14 @@ impl Board {
         ensures valid { IsSome result ↔ CanStart m own own_store other other_store }
         ensures value { IfSome result (λ b. b ≡ position_of m own own_store other other_store rule) }
     {
-        if m < 1 || m > MOST_HOUSES || own_store > MOST_IN_STORE || other_store > MOST_IN_STORE {
+        if own_store > MOST_IN_STORE || other_store > MOST_IN_STORE {
             return None;
         }
-        if !is_empty_past(&own, m) || !is_empty_past(&other, m) {
-            return None;
-        }
-        if total(&own).saturating_add(total(&other)) > MOST_SEEDS {
-            return None;
-        }
+        let houses = Houses::new(m, own, other, rule)?;
         Some(Board {
-            m,
-            own,
+            houses,
             own_store,
-            other,
             other_store,
-            rule,
         })
     }
 
@@ -97,7 +66,7 @@ impl Board {
         ensures side { result ≡ side_length self.now }
         ensures limits { IsWithinLimits self.now }
     {
-        self.m
+        self.houses.m()
     }
 
     /// The seeds in the mover's house `i`, which is 1 to `m`.
@@ -106,7 +75,7 @@ impl Board {
         requires high { i ≤ side_length self.now }
         ensures { result ≡ seeds self.now.own i }
     {
-        self.own[i as usize - 1]
+        self.houses.own(i)
     }
 
     /// The seeds in the other player's house `i`, which is 1 to `m`.
@@ -115,7 +84,7 @@ impl Board {
         requires high { i ≤ side_length self.now }
         ensures { result ≡ seeds self.now.other i }
     {
-        self.other[i as usize - 1]
+        self.houses.other(i)
     }
 
     /// The seeds in the mover's store, at most 130.
@@ -136,30 +105,14 @@ impl Board {
     pub fn rule(&self) -> Rule
         ensures { result ≡ self.now.rule }
     {
-        self.rule
+        self.houses.rule()
     }
 
     /// The houses and the rule, without the stores.
     pub fn houses(&self) -> Houses
         ensures { result ≡ rows_of self.now }
     {
-        Houses::of_cells(self.m, self.own, self.other, self.rule)
-    }
-
-    // The mover's houses.
-    fn own_houses(&self) -> &[u8]
-        ensures value { result.now ≡ self.now.own }
-        ensures limits { IsWithinLimits self.now }
-    {
-        &self.own[..self.m as usize]
-    }
-
-    // The other player's houses.
-    fn other_houses(&self) -> &[u8]
-        ensures value { result.now ≡ self.now.other }
-        ensures limits { IsWithinLimits self.now }
-    {
-        &self.other[..self.m as usize]
+        self.houses
     }
 
     /// Whether the game is over: the houses of one of the players are all empty.
@@ -167,7 +120,7 @@ impl Board {
         ensures over { result ≡ is_over self.now }
         ensures limits { IsWithinLimits self.now }
     {
-        total(self.own_houses()) == 0 || total(self.other_houses()) == 0
+        self.houses.is_over()
     }
 
     /// The margin of a game that is over: what the mover has in houses and store less what the other player has.
@@ -176,8 +129,7 @@ impl Board {
         ensures margin { result ≡ final_margin self.now }
         ensures small { IsSmallMargin result }
     {
-        let own = total(self.own_houses()) + self.own_store as u16;
-        let other = total(self.other_houses()) + self.other_store as u16;
-        own as i32 - other as i32
+        let (own, other) = self.houses.left();
+        (own + self.own_store) as i32 - (other + self.other_store) as i32
     }
 }

@@ -1,8 +1,15 @@
-//! The houses of a board, without the stores.
-ghost use Rattle.std.specs.Prelude.{◌≡◌, ◌≤◌, ◌↔◌, length, IsSome, IfSome};
-ghost use Rattle.kalah_rules.specs.Position.{seeds, IsWithinHouses};
-ghost use Rattle.kalah_rules.specs.Cells.{CanBeHouses, IsHouses, rows_from};
+//! The houses of a board, without the stores, in one number.
+ghost use Rattle.std.specs.Prelude.{◌≡◌, ◌<◌, ◌≤◌, ◌^◌, ◌↔◌, length, sum, replicate, IsSome, IfSome, IsTrue, Some};
+ghost use Rattle.kalah_rules.specs.Position.{Rows, seeds, seeds_in_houses, is_over, bare, IsWithinHouses};
+ghost use Rattle.kalah_rules.specs.Cells.{CanBeHouses, rows_from};
+ghost use Rattle.kalah_rules.specs.Key.{number_of, key_of, IsKey};
 
+mod numbers;
+mod play;
+
+use crate::houses::numbers::{
+    OTHER_ROW, RULE, SIDE, cells_of, number_of, rule_number, rule_of, seeds_at,
+};
 use crate::limits::{MOST_HOUSES, MOST_SEEDS};
 use crate::row::{is_empty_past, total};
 use crate::rule::Rule;
@@ -10,28 +17,30 @@ use std::marker::Model;
 
 /// The houses of a board and the rule it is played by, without the stores. Stores change neither the legal moves nor
 /// what they do, so this is what a solver needs to look at.
+///
+/// They are kept as their key, beside the count of seeds in them.
 #[derive(Clone, Copy, Debug, PartialEq, Eq)]
 pub struct Houses {
-    m: u8,
-    own: [u8; 6],
-    other: [u8; 6],
-    rule: Rule,
+    key: u64,
+    seeds: u8,
 }
 
 impl Model for Houses {
-    ghost use Rattle.std.specs.Prelude.{length};
     ghost use Rattle.kalah_rules.specs.Position.{Rows};
-    ghost use Rattle.kalah_rules.specs.Cells.{rows_from, padded, IsHouses, rows_length_shown};
 
     ghost Value = { Rows };
 
-    ghost view = { λ b. rows_from b.m b.own b.other b.rule };
+    ghost use Rattle.kalah_rules.specs.Position.{bare, seeds_in_houses};
+    ghost use Rattle.kalah_rules.specs.Key.{key_of, rows_at};
+    ghost use Rattle.kalah_rules.specs.Packed.{IsPacked};
 
-    ghost invariant = { λ b. IsHouses b.m b.own b.other b.rule };
+    ghost view = { λ a. rows_at a.key };
 
-    ghost inverse = { λ a. record { m = length a.own; own = padded a.own; other = padded a.other; rule = a.rule } };
+    ghost invariant = { λ a. IsPacked a.key a.seeds };
 
-    ghost inverse_ok = { λ b h i. record { m = rows_length_shown h i; own = h.own_padded i; other = h.other_padded i; rule = b.rule } };
+    ghost inverse = { λ rows. record { key = key_of rows; seeds = seeds_in_houses (bare rows) } };
+
+    ghost inverse_ok = { λ a h i. record { key = h.key_is i; seeds = h.seeds_are i } };
 }
 
 impl Houses {
@@ -47,15 +56,50 @@ impl Houses {
         if !is_empty_past(&own, m) || !is_empty_past(&other, m) {
             return None;
         }
-        if total(&own).saturating_add(total(&other)) > MOST_SEEDS {
+        let seeds = total(&own).saturating_add(total(&other));
+        if seeds > MOST_SEEDS {
             return None;
         }
+        let key = number_of(&own)
+            + OTHER_ROW * number_of(&other)
+            + SIDE * (m as u64 + 8 * rule_number(rule));
         Some(Houses {
-            m,
-            own,
-            other,
-            rule,
+            key,
+            seeds: seeds as u8,
         })
+    }
+
+    /// The houses of a key. None where the number is no key: exactly where its houses per side aren't 1 to 6, a house past
+    /// the last isn't 0, or the houses hold more than 31 seeds together.
+    pub fn of_key(key: u64) -> Option<Houses>
+        ensures valid { IsSome result ↔ IsKey key }
+        ensures same { IfSome result (λ a. key_of a ≡ key) }
+        ensures found { (a : Rows) → IsWithinHouses a → key_of a ≡ key → result ≡ Some a }
+    {
+        Houses::new(
+            (key / SIDE % 8) as u8,
+            cells_of(key),
+            cells_of(key / OTHER_ROW),
+            rule_of(key / RULE),
+        )
+    }
+
+    /// Their key. Own house i stands in the five bits from 5(i - 1), the other player's house i in those from
+    /// 30 + 5(i - 1), the houses per side in bits 60 to 62, and bit 63 is set for the empty-capture rule. Two values of
+    /// houses have one key exactly where they are equal.
+    pub fn key(&self) -> u64
+        ensures key { result ≡ key_of self.now }
+        ensures limits { IsWithinHouses self.now }
+    {
+        self.key
+    }
+
+    /// The seeds in them.
+    pub fn seeds(&self) -> u8
+        ensures seeds { result ≡ seeds_in_houses (bare self.now) }
+        ensures limits { IsWithinHouses self.now }
+    {
+        self.seeds
     }
 
     /// The houses per side, 1 to 6.
@@ -63,44 +107,81 @@ impl Houses {
         ensures side { result ≡ length self.now.own }
         ensures limits { IsWithinHouses self.now }
     {
-        self.m
-    }
-
-    /// The seeds in the mover's house `i`, which is 1 to `m`.
-    pub fn own(&self, i: u8) -> u8
-        requires low { 1 ≤ i }
-        requires high { i ≤ length self.now.own }
-        ensures { result ≡ seeds self.now.own i }
-    {
-        self.own[i as usize - 1]
-    }
-
-    /// The seeds in the other player's house `i`, which is 1 to `m`.
-    pub fn other(&self, i: u8) -> u8
-        requires low { 1 ≤ i }
-        requires high { i ≤ length self.now.own }
-        ensures { result ≡ seeds self.now.other i }
-    {
-        self.other[i as usize - 1]
+        (self.key / SIDE % 8) as u8
     }
 
     /// The rule of capture.
     pub fn rule(&self) -> Rule
         ensures { result ≡ self.now.rule }
     {
-        self.rule
+        rule_of(self.key / RULE)
     }
 
-    // The houses of a board's cells.
-    pub(crate) fn of_cells(m: u8, own: [u8; 6], other: [u8; 6], rule: Rule) -> Houses
-        requires { IsHouses m own other rule }
-        ensures { result ≡ rows_from m own other rule }
+    // The mover's houses as a number.
+    fn own_row(&self) -> u64
+        ensures value { result ≡ number_of self.now.own }
+        ensures small { result < 2 ^ 30 }
+        ensures limits { IsWithinHouses self.now }
+    {
+        self.key % OTHER_ROW
+    }
+
+    // The other player's houses as a number.
+    fn other_row(&self) -> u64
+        ensures value { result ≡ number_of self.now.other }
+        ensures small { result < 2 ^ 30 }
+        ensures limits { IsWithinHouses self.now }
+    {
+        self.key / OTHER_ROW % OTHER_ROW
+    }
+
+    /// The seeds in the mover's house `i`, which is 1 to `m`.
+    pub fn own(&self, i: u8) -> u8
+        requires low { 1 ≤ i }
+        requires high { i ≤ length self.now.own }
+        ensures value { result ≡ seeds self.now.own i }
+        ensures small { result < 32 }
+    {
+        seeds_at(self.own_row(), i as u32) as u8
+    }
+
+    /// The seeds in the other player's house `i`, which is 1 to `m`.
+    pub fn other(&self, i: u8) -> u8
+        requires low { 1 ≤ i }
+        requires high { i ≤ length self.now.own }
+        ensures value { result ≡ seeds self.now.other i }
+        ensures small { result < 32 }
+    {
+        seeds_at(self.other_row(), i as u32) as u8
+    }
+
+    /// Whether the game is over: the houses of one of the players are all empty.
+    pub fn is_over(&self) -> bool
+        ensures { result ≡ is_over (bare self.now) }
+    {
+        self.own_row() == 0 || self.other_row() == 0
+    }
+
+    // What each player has in houses when the game is over.
+    pub(crate) fn left(&self) -> (u8, u8)
+        requires { IsTrue (is_over (bare self.now)) }
+        ensures own { result.0 ≡ sum self.now.own }
+        ensures other { result.1 ≡ sum self.now.other }
+    {
+        if self.own_row() == 0 {
+            (0, self.seeds)
+        } else {
+            (self.seeds, 0)
+        }
+    }
+
+    // The same with no seeds in them.
+    pub(crate) fn emptied(&self) -> Houses
+        ensures { result ≡ record { own = replicate (length self.now.own) 0; other = replicate (length self.now.own) 0; rule = self.now.rule } }
     {
         Houses {
-            m,
-            own,
-            other,
-            rule,
+            key: self.key / SIDE * SIDE,
+            seeds: 0,
         }
     }
 }

@@ -2,7 +2,6 @@
 #![tactic(auto)]
 
 mod board;
-mod cell;
 mod houses;
 mod laws;
 mod limits;
@@ -15,8 +14,8 @@ mod want_of_memory;
 
 pub use board::Board;
 pub use houses::Houses;
-pub use laws::every_move_nears_end;
+pub use laws::{every_move_nears_end, sowing_is_seed_by_seed};
 pub use limits::{MOST_HOUSES, MOST_IN_STORE, MOST_SEEDS};
 pub use moves::Moves;
 pub use rule::Rule;
-pub use step::Step;
+pub use step::{HousesStep, Step};

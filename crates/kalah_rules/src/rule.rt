@@ -13,8 +13,8 @@ pub enum Rule {
 impl Rule {
     ghost use Rattle.kalah_rules.specs.Sowing.{captures};
 
-    // Whether a last seed alone in its house captures, with so many seeds across from it.
-    pub(crate) fn captures(self, across: u8) -> bool
+    /// Whether a last seed alone in its house captures, with so many seeds across from it.
+    pub fn captures(self, across: u8) -> bool
         ensures { result ≡ captures self across }
     {
         match self {

@@ -5,10 +5,10 @@ use Rattle.lru.specs.LruCache.{LruCache, lru_cache, put_entries, promoted}
 use Rattle.lru.proofs.CallerLemmas.{Contains-lookup, Contains-promoted, Contains-put_entries}
 use Rattle.kalah_solve.specs.declared.table.Interval.{Interval}
 use Rattle.kalah_rules.specs.Position.{Rows, IsWithinHouses}
-use Rattle.kalah_solve.specs.Key.{key_of}
+use Rattle.kalah_rules.specs.Key.{key_of}
 use Rattle.kalah_solve.specs.Worth.{houses_worth}
 use Rattle.kalah_solve.specs.Table.{Holds, IsTrueEntry, AreTrue}
-use Rattle.kalah_solve.proofs.Keys.{same_key}
+use Rattle.kalah_rules.proofs.Keys.{same_key}
 
 -- equal numbers
 same_number : (m n : ℕ) → nat_eq m n ≡ true → m ≡ n

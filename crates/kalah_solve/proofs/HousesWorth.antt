@@ -1,22 +1,21 @@
 -- What houses are worth: no less than each move, as much as some move, and no more than their seeds.
 use Rattle.std.proofs.Common.{zero, suc, ◌≡◌, ℕ, ◌<◌, inl, inr, List, [], ◌∷◌, get_or, arith, sym, ◌∙◌, refl, subst}
-use Rattle.std.specs.Prelude.{Bool, true, false, cond, map, Contains, ℤ, pos, negsuc, ◌-ℤ◌, ◌≤ℤ◌}
+use Rattle.std.specs.Prelude.{false, map, Contains, ℤ, pos, negsuc, ◌-ℤ◌, ◌≤ℤ◌}
 use Rattle.std.proofs.lemmas.Int.{ints, fold-int_max_bounds, fold-int_max_reached}
 use Rattle.std.proofs.lemmas.Bool.{cases_Bool}
 use Rattle.std.proofs.lemmas.List.Elements.{All-contains, Contains-get_or}
 use Rattle.lru.proofs.Splits.{Contains-head, Contains-tail, Contains-cons, Contains-nil}
-use Rattle.kalah_rules.specs.Position.{Rows, HasEqualSides, IsWithinHouses, seeds_in_houses, is_over}
+use Rattle.kalah_rules.specs.Position.{Rows, HasEqualSides, IsWithinHouses, seeds_in_houses, is_over, bare}
 use Rattle.kalah_rules.specs.Measure.{moves_left}
 use Rattle.kalah_rules.specs.Play.{legal_houses}
-use Rattle.kalah_rules.specs.Sowing.{after, is_again}
-use Rattle.kalah_rules.proofs.Legal.{legal_going, legal_holds}
-use Rattle.kalah_solve.specs.Worth.{bare, greatest, houses_worth, value_of_move}
-use Rattle.kalah_solve.specs.HousesStep.{houses_step, worth_of_step, IsNext, LeadsOn}
-use Rattle.kalah_solve.specs.declared.packed.HousesStep.{HousesStep}
-use Rattle.kalah_solve.specs.declared.packed.HousesStep.TheVariants.{Over, Again, Turn}
+use Rattle.kalah_rules.proofs.Legal.{legal_going}
+use Rattle.kalah_solve.specs.Worth.{greatest, houses_worth, value_of_move}
+use Rattle.kalah_rules.specs.HousesStep.{houses_step}
+use Rattle.kalah_solve.specs.StepWorth.{worth_of_step, IsNext, LeadsOn}
+use Rattle.kalah_rules.specs.declared.step.HousesStep.{HousesStep}
+use Rattle.kalah_rules.specs.declared.step.HousesStep.TheVariants.{Over, Again, Turn}
 use Rattle.kalah_solve.proofs.Worths.{worth_of_over, worth_of_going, legal_some}
-use Rattle.kalah_solve.proofs.PackedMoves.{after_keeps}
-use Rattle.kalah_solve.proofs.HousesSteps.{value_is, leads_on}
+use Rattle.kalah_solve.proofs.StepWorths.{value_is, leads_on}
 
 -- ---- the greatest of a list
 le_greatest : (zs : List ℤ) (z : ℤ) → Contains zs z → z ≤ℤ greatest zs
@@ -75,36 +74,15 @@ pub record IsUpTo (n : ℕ) (z : ℤ) : Type 0 where
   pub low : (pos 0 -ℤ pos n) ≤ℤ z
   pub high : z ≤ℤ pos n
 
--- the margin of a step that ends the game
-abbrev OverUpTo : ℕ → HousesStep → Type 0
-OverUpTo n (Over margin) = IsUpTo n margin
-OverUpTo n (Again gained b) = Unit {0}
-OverUpTo n (Turn gained b) = Unit {0}
-
--- what holds of both branches
-on_cond : {X : Type 0} (P : X → Type 0) (b : Bool) (s t : X) → P s → P t → P (cond b s t)
-on_cond P true s t h k = h
-on_cond P false s t h k = k
-
--- a margin at the end is no more than the seeds
-over_up_to : (a : Rows) (h : ℕ) → IsWithinHouses a → Contains (legal_houses (bare a)) h → OverUpTo (seeds_in_houses (bare a)) (houses_step a h)
-over_up_to a h w has =
-    let keeps = after_keeps a h w (legal_holds (bare a) h has) in
-    let play = keeps.play in
-    let none = keeps.other_store in
-    on_cond (OverUpTo (seeds_in_houses (bare a))) (is_over (after (bare a) h)) _ _
-    (record { low = omega (arith, ints); high = omega (arith, ints) })
-    (on_cond (OverUpTo (seeds_in_houses (bare a))) (is_again (bare a) h) _ _ tt tt)
-
--- nor is what a step is worth
-step_up_to : (a : Rows) (s : HousesStep) → OverUpTo (seeds_in_houses (bare a)) s → LeadsOn a s →
+-- so is what a step is worth
+step_up_to : (a : Rows) (s : HousesStep) → LeadsOn a s →
     ((b : Rows) (gained : ℕ) → IsNext a gained b → IsUpTo (seeds_in_houses (bare b)) (houses_worth b)) → IsUpTo (seeds_in_houses (bare a)) (worth_of_step s)
-step_up_to a (Over margin) over leads each = over
-step_up_to a (Again gained b) over leads each =
+step_up_to a (Over own other) leads each = record { low = omega (arith, ints, leads); high = omega (arith, ints, leads) }
+step_up_to a (Again gained b) leads each =
     let on = each b gained leads in
     let kept = leads.kept in
     record { low = omega (arith, ints, on.low, on.high); high = omega (arith, ints, on.low, on.high) }
-step_up_to a (Turn gained b) over leads each =
+step_up_to a (Turn gained b) leads each =
     let on = each b gained leads in
     let kept = leads.kept in
     record { low = omega (arith, ints, on.low, on.high); high = omega (arith, ints, on.low, on.high) }
@@ -116,7 +94,7 @@ worth_up_to_by (suc n) a w few = elim (cases_Bool (is_over (bare a))) [
   | inl over ↦ rw (worth_of_over (bare a) over) (record { low = omega (arith, ints); high = omega (arith, ints) })
   | inr going ↦
       let at = worth_reached a w going in
-      rw (at.2, value_is a at.0 w at.1) (step_up_to a (houses_step a at.0) (over_up_to a at.0 w at.1) (leads_on a at.0 w at.1)
+      rw (at.2, value_is a at.0 w at.1) (step_up_to a (houses_step a at.0) (leads_on a at.0 w at.1)
       (λ b gained on. worth_up_to_by n b on.limits (omega (arith, on.fewer))))
 ]
 
@@ -134,4 +112,4 @@ worth_high a w = omega (arith, ints, (worth_up_to a w).high, w.few_seeds)
 
 -- and so does what a move is worth
 pub value_up_to : (a : Rows) (h : ℕ) → IsWithinHouses a → Contains (legal_houses (bare a)) h → IsUpTo (seeds_in_houses (bare a)) (value_of_move (bare a) h)
-value_up_to a h w has = rw (value_is a h w has) (step_up_to a (houses_step a h) (over_up_to a h w has) (leads_on a h w has) (λ b gained on. worth_up_to b on.limits))
+value_up_to a h w has = rw (value_is a h w has) (step_up_to a (houses_step a h) (leads_on a h w has) (λ b gained on. worth_up_to b on.limits))

@@ -7,10 +7,7 @@ pub mod Games
 pub mod Secured
 pub mod BestMoves
 pub mod Verdicts
-mod Keys
-mod Packing
-mod PackedMoves
-mod HousesSteps
+mod StepWorths
 mod HousesWorth
 mod Entries
 mod Ranked

@@ -3,10 +3,10 @@ use Rattle.std.proofs.Common.{◌≡◌, ℕ, ◌+◌, ◌<◌, ◌≤◌, lengt
 use Rattle.std.specs.Prelude.{Bool, true, false, Contains, if◌then◌else◌, int_lt, unwrap_or, ℤ, pos, negsuc, ◌+ℤ◌, ◌-ℤ◌, ◌≤ℤ◌, ◌<ℤ◌}
 use Rattle.std.proofs.lemmas.Int.{ints, clamps}
 use Rattle.std.proofs.lemmas.List.Elements.{Contains-get_or}
-use Rattle.kalah_rules.specs.Position.{Position, Rows, IsWithinHouses, IsWithinLimits, IsSmallMargin, is_over, final_margin, rows_of}
+use Rattle.kalah_rules.specs.Position.{Position, Rows, IsWithinHouses, IsWithinLimits, IsSmallMargin, is_over, final_margin, rows_of, bare}
 use Rattle.kalah_rules.specs.Play.{legal_houses}
 use Rattle.kalah_solve.specs.Table.{within}
-use Rattle.kalah_solve.specs.Worth.{bare, worth, houses_worth, value_of_move, best_house}
+use Rattle.kalah_solve.specs.Worth.{worth, houses_worth, value_of_move, best_house}
 use Rattle.kalah_solve.specs.Verdict.{verdict_of}
 use Rattle.kalah_solve.specs.declared.verdict.Verdict.TheVariants.{Best, Over}
 use Rattle.kalah_solve.proofs.Bests.{IsBestOf, best_first_of, step_better, step_kept}

@@ -1,50 +1,17 @@
 -- Stores do not influence play.
-use Rattle.std.proofs.Common.{zero, suc, ◌≡◌, ℕ, ◌+◌, ◌<◌, inl, inr, List, [], ◌∷◌, length, arith, ap, sym, ◌∙◌, refl}
-use Rattle.std.specs.Prelude.{Bool, true, false, if◌then◌else◌, map, ℤ, pos, ◌+ℤ◌, ◌-ℤ◌, neg_ℤ, fold, Option, Some, None, find, unwrap_or}
+use Rattle.std.proofs.Common.{zero, suc, ◌≡◌, ℕ, ◌<◌, inl, inr, List, [], ◌∷◌, length, arith, ap, sym, ◌∙◌, refl}
+use Rattle.std.specs.Prelude.{Bool, true, false, if◌then◌else◌, map, ℤ, pos, ◌+ℤ◌, ◌-ℤ◌, neg_ℤ, fold, find, unwrap_or}
 use Rattle.std.specs.Int.{int_max}
 use Rattle.std.proofs.lemmas.Bool.{cases_Bool}
 use Rattle.std.proofs.lemmas.Int.{ints}
-use Rattle.kalah_rules.specs.Position.{Position, rows_of, seeds, is_over, final_margin, swapped, opposite}
-use Rattle.kalah_rules.specs.Sowing.{sow, sown, after, is_again, last_house, captured, can_capture}
+use Rattle.kalah_rules.specs.Position.{Position, rows_of, is_over, final_margin, swapped, bare}
+use Rattle.kalah_rules.specs.Sowing.{after, is_again}
 use Rattle.kalah_rules.specs.Play.{legal_houses}
 use Rattle.kalah_rules.specs.Measure.{moves_left}
-use Rattle.kalah_rules.proofs.Rows.{same_position}
+use Rattle.kalah_rules.proofs.Stores.{with_more, after_with_more, is_with_more}
 use Rattle.std.specs.Ordering.{int_eq}
 use Rattle.kalah_solve.proofs.Worths.{worth_over, worth_more, legal_some}
-use Rattle.kalah_solve.specs.Worth.{best_house, value_by, greatest, worth_within, worth, value_of_move, bare, houses_worth}
-
--- a and b more in the stores
-abbrev pub with_more : ℕ → ℕ → Position → Position
-with_more a b p = record p {
-  own_store = p.own_store + a;
-  other_store = p.other_store + b;
-}
-
--- sums in another order
-swap_last : (a b c : ℕ) → a + b + c ≡ a + c + b
-swap_last a b c = omega arith
-
--- sums in another order
-regroup : (s a x y : ℕ) → s + a + x + y ≡ s + x + y + a
-regroup s a x y = omega arith
-
--- sowing keeps what was added
-sow_with_more : (a b : ℕ) (p : Position) (h c : ℕ) → sow (with_more a b p) h c ≡ with_more a b (sow p h c)
-unfolding sow
-sow_with_more a b p h c = same_position refl (swap_last _ _ _) refl refl refl
-
--- a capture keeps what was added
-captured_with_more : (a b : ℕ) (q : Position) (o : Option ℕ) → captured (with_more a b q) o ≡ with_more a b (captured q o)
-captured_with_more a b q None = refl
-captured_with_more a b q (Some i) = elim (cases_Bool (can_capture q i)) [
-  | inl taken ↦ rw taken (same_position refl (regroup q.own_store a (seeds q.own i) (seeds q.other (opposite q i))) refl refl refl)
-  | inr kept ↦ rw kept refl
-]
-
--- a move keeps what was added
-pub after_with_more : (a b : ℕ) (p : Position) (h : ℕ) → after (with_more a b p) h ≡ with_more a b (after p h)
-unfolding after
-after_with_more a b p h = ap (λ q. captured q (last_house p h)) (sow_with_more a b p h (seeds p.own h)) ∙ captured_with_more a b (sown p h) (last_house p h)
+use Rattle.kalah_solve.specs.Worth.{best_house, value_by, greatest, worth_within, worth, value_of_move, houses_worth}
 
 -- the final margin is shifted by what was added
 final_with_more : (a b : ℕ) (p : Position) → final_margin (with_more a b p) ≡ final_margin p +ℤ (pos a -ℤ pos b)
@@ -111,13 +78,9 @@ worth_shift : (a b : ℕ) (p : Position) → worth (with_more a b p) ≡ worth p
 unfolding worth
 worth_shift a b p = worth_with_more (moves_left p) a b p
 
--- a position is its houses, with what the stores hold added
-with_stores : (p : Position) → p ≡ with_more p.own_store p.other_store (bare (rows_of p))
-with_stores p = same_position refl (omega arith) refl (omega arith) refl
-
 -- the margin of best play is that of the houses, moved by the stores
 pub worth_of_rows : (p : Position) → worth p ≡ houses_worth (rows_of p) +ℤ (pos p.own_store -ℤ pos p.other_store)
-worth_of_rows p = ap worth (with_stores p) ∙ worth_shift p.own_store p.other_store (bare (rows_of p))
+worth_of_rows p = ap worth (is_with_more p) ∙ worth_shift p.own_store p.other_store (bare (rows_of p))
 
 -- the difference of the stores first
 apart : (z : ℤ) (own other : ℕ) → z +ℤ (pos own -ℤ pos other) ≡ pos own -ℤ pos other +ℤ z
@@ -144,4 +107,4 @@ best_with_more a b p = ap (λ o. unwrap_or o 0) (find_same _ _ (legal_houses p) 
 
 -- the best house is that of the houses
 pub best_of_rows : (p : Position) → best_house p ≡ best_house (bare (rows_of p))
-best_of_rows p = ap best_house (with_stores p) ∙ best_with_more p.own_store p.other_store (bare (rows_of p))
+best_of_rows p = ap best_house (is_with_more p) ∙ best_with_more p.own_store p.other_store (bare (rows_of p))

@@ -7,12 +7,12 @@ use Rattle.std.proofs.lemmas.Bool.{cases_eq}
 use Rattle.std.proofs.lemmas.List.{get_or-set_same, get_or-set_other}
 use Rattle.std.proofs.lemmas.List.Sums.{sum_by-set}
 use Rattle.std.proofs.Math.ListN.{length-set}
-use Rattle.kalah_rules.specs.Position.{Rows, IsWithinHouses, is_over}
+use Rattle.kalah_rules.specs.Position.{Rows, IsWithinHouses, is_over, bare}
 use Rattle.kalah_rules.specs.Play.{legal_houses}
 use Rattle.kalah_rules.proofs.Legal.{legal_holds}
 use Rattle.kalah_solve.specs.declared.table.Interval.{Interval}
 use Rattle.kalah_solve.specs.Table.{Holds, within}
-use Rattle.kalah_solve.specs.Worth.{bare, houses_worth, value_of_move}
+use Rattle.kalah_solve.specs.Worth.{houses_worth, value_of_move}
 use Rattle.kalah_solve.proofs.HousesWorth.{worth_reached, value_le_worth}
 
 -- ---- what a test of order says

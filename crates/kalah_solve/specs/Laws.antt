@@ -1,9 +1,9 @@
 -- Laws over all positions and strategies.
 use Rattle.std.specs.Prelude.{◌≡◌, ◌↔◌, ℕ, ◌<◌, ◌≤◌, true, false, List, length, map, Contains, ℤ, pos, ◌+ℤ◌, ◌-ℤ◌, ◌≤ℤ◌}
-use Rattle.kalah_rules.specs.Position.{Position, HasEqualSides, is_over, final_margin, rows_of}
+use Rattle.kalah_rules.specs.Position.{Position, HasEqualSides, is_over, final_margin, rows_of, bare}
 use Rattle.kalah_rules.specs.Play.{legal_houses}
 use Rattle.kalah_rules.specs.Measure.{moves_left}
-use Rattle.kalah_solve.specs.Worth.{greatest, worth_within, worth, value_of_move, best_house, bare, houses_worth}
+use Rattle.kalah_solve.specs.Worth.{greatest, worth_within, worth, value_of_move, best_house, houses_worth}
 use Rattle.kalah_solve.specs.BestPlay.{Strategy, IsStrategy, follow, Game, Secures, HoldsTo, IsBestPlay, IsBestMove}
 use Rattle.kalah_solve.specs.Verdict.{TellsBestPlay}
 use Rattle.kalah_solve.specs.declared.verdict.Verdict.{Verdict}

@@ -2,7 +2,5 @@ pub mod Worth
 pub mod BestPlay
 pub mod Verdict
 pub mod Laws
-pub mod Key
-pub mod Packed
-pub mod HousesStep
+pub mod StepWorth
 pub mod Table

@@ -2,7 +2,7 @@
 use Rattle.std.specs.Prelude.{◌≡◌, ℕ, List, Contains, ℤ, ◌≤ℤ◌}
 use Rattle.std.specs.Int.{int_max, int_min}
 use Rattle.kalah_rules.specs.Position.{Rows, IsWithinHouses}
-use Rattle.kalah_solve.specs.Key.{key_of}
+use Rattle.kalah_rules.specs.Key.{key_of}
 use Rattle.kalah_solve.specs.Worth.{houses_worth}
 use Rattle.kalah_solve.specs.declared.table.Interval.{Interval}
 

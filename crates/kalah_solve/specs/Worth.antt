@@ -2,7 +2,7 @@
 use Rattle.std.specs.Prelude.{ℕ, zero, suc, if◌then◌else◌, List, [], ◌∷◌, map, fold, find, unwrap_or, ℤ, pos, neg_ℤ}
 use Rattle.std.specs.Int.{int_max}
 use Rattle.std.specs.Ordering.{int_eq}
-use Rattle.kalah_rules.specs.Position.{Position, Rows, is_over, final_margin, swapped}
+use Rattle.kalah_rules.specs.Position.{Position, Rows, bare, is_over, final_margin, swapped}
 use Rattle.kalah_rules.specs.Sowing.{after, is_again}
 use Rattle.kalah_rules.specs.Play.{legal_houses}
 use Rattle.kalah_rules.specs.Measure.{moves_left}
@@ -34,16 +34,6 @@ value_of_move p h = value_by worth p h
 -- the lowest house that attains the margin of best play
 abbrev pub best_house : Position → ℕ
 best_house p = unwrap_or (find (λ h. int_eq (value_of_move p h) (worth p)) (legal_houses p)) 0
-
--- the position of these houses, with both stores empty
-abbrev pub bare : Rows → Position
-bare a = record {
-  own = a.own;
-  own_store = 0;
-  other = a.other;
-  other_store = 0;
-  rule = a.rule;
-}
 
 -- the margin of best play of houses without their stores
 abbrev pub houses_worth : Rows → ℤ

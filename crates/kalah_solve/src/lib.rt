@@ -5,7 +5,6 @@
 mod granting;
 mod key;
 mod laws;
-mod packed;
 #[cfg(test)]
 mod plain;
 mod ranks;

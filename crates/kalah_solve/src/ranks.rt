@@ -1,17 +1,16 @@
 //! Which moves are tried first. No answer rests on it, but the search is far shorter in a good order.
 ghost use Rattle.std.specs.Prelude.{◌≡◌, ℕ, ◌+◌, ◌-◌, ◌<◌, ◌≤◌, false, length, Contains, slice_index};
-ghost use Rattle.kalah_rules.specs.Position.{is_over};
+ghost use Rattle.kalah_rules.specs.Position.{is_over, bare};
 ghost use Rattle.kalah_rules.specs.Play.{legal_houses};
-ghost use Rattle.kalah_solve.specs.Worth.{bare};
 
-use crate::packed::PackedHouses;
+use kalah_rules::Houses;
 
 // The rank of a move that moves again, before the number of its house.
 const AGAIN: u8 = 240;
 
 // How soon the mover's house `h` should be tried: moves that move again first, the one nearest the store before the
 // others; and else by what the move seems to bring to the store at once.
-fn rank(houses: &PackedHouses, h: u32) -> u8
+fn rank(houses: &Houses, h: u8) -> u8
     requires first { 1 ≤ h }
     requires last { h ≤ length houses.now.own }
     ensures { 0 < result }
@@ -21,15 +20,15 @@ fn rank(houses: &PackedHouses, h: u32) -> u8
     let place = h + houses.own(h);
     let moves_again = place == m + 1 || (place > lap && place % lap == m + 1);
     if moves_again {
-        AGAIN + h as u8
+        AGAIN + h
     } else {
-        1 + 8 * promise(houses, h, place) + h as u8
+        1 + 8 * promise(houses, h, place) + h
     }
 }
 
 // What a move of house `h` seems to bring, when its last seed falls at this place: a seed where it reaches the store;
 // the capture where that seed falls into an empty house; and else nothing.
-fn promise(houses: &PackedHouses, h: u32, place: u32) -> u8
+fn promise(houses: &Houses, h: u8, place: u8) -> u8
     requires first { 1 ≤ h }
     requires last { h ≤ length houses.now.own }
     requires past { h ≤ place }
@@ -43,15 +42,15 @@ fn promise(houses: &PackedHouses, h: u32, place: u32) -> u8
         return 0;
     }
     let taken = houses.other(m + 1 - place);
-    if taken > 0 || houses.captures_empty() {
-        (taken as u8 + 1).min(25)
+    if houses.rule().captures(taken) {
+        (taken + 1).min(25)
     } else {
         0
     }
 }
 
 /// For each house of the mover a rank, the higher the sooner it should be tried, and 0 where it may not be moved.
-pub fn ranks(houses: &PackedHouses) -> [u8; 6]
+pub fn ranks(houses: &Houses) -> [u8; 6]
     requires { is_over (bare houses.now) ≡ false }
     ensures legal { (k : ℕ) → 0 < slice_index result k → Contains (legal_houses (bare houses.now)) (k + 1) }
     ensures all { (h : ℕ) → Contains (legal_houses (bare houses.now)) h → 0 < slice_index result (h - 1) }

@@ -1,14 +1,14 @@
 //! The search in a window: what houses are worth, raised to the window's lower end and lowered to its upper end.
 ghost use Rattle.std.specs.Prelude.{◌≡◌, ℕ, ◌+◌, ◌≤◌, ◌<◌, false, length, Contains, slice_index, ℤ, pos, negsuc, ◌≤ℤ◌};
-ghost use Rattle.kalah_rules.specs.Position.{is_over, seeds_in_houses, IsWithinHouses};
+ghost use Rattle.kalah_rules.specs.Position.{is_over, seeds_in_houses, IsWithinHouses, bare};
 ghost use Rattle.kalah_rules.specs.Play.{legal_houses};
-ghost use Rattle.kalah_solve.specs.Worth.{bare, houses_worth, value_of_move};
-ghost use Rattle.kalah_solve.specs.HousesStep.{worth_of_step, GoesOn};
+ghost use Rattle.kalah_solve.specs.Worth.{houses_worth, value_of_move};
+ghost use Rattle.kalah_solve.specs.StepWorth.{worth_of_step, GoesOn};
 ghost use Rattle.kalah_solve.specs.Table.{within, Holds};
 
-use crate::packed::{HousesStep, PackedHouses};
 use crate::ranks::{highest, ranks};
 use crate::table::{Interval, Table};
+use kalah_rules::{Houses, HousesStep};
 use std::alloc::{Allocator, Global};
 
 /// Houses with fewer seeds than this are not looked up: to search them takes no longer.
@@ -49,13 +49,13 @@ impl<A: Allocator + Clone> Search<A> {
     }
 
     #[cfg(test)]
-    pub fn entry(&mut self, houses: &PackedHouses) -> Option<Interval> {
+    pub fn entry(&mut self, houses: &Houses) -> Option<Interval> {
         self.table.look_up(houses)
     }
 
     /// The worth of the houses, raised to `lo` and lowered to `hi`.
     #[cycle(search)]
-    pub fn search(&mut self, houses: &PackedHouses, lo: i32, hi: i32) -> i32
+    pub fn search(&mut self, houses: &Houses, lo: i32, hi: i32) -> i32
         requires going { is_over (bare houses.now) ≡ false }
         requires low { negsuc 30 ≤ℤ lo }
         requires ordered { lo ≤ℤ hi }
@@ -74,7 +74,7 @@ impl<A: Allocator + Clone> Search<A> {
 
     // The same, by what the table knows of the houses.
     #[cycle(search)]
-    fn search_known(&mut self, houses: &PackedHouses, lo: i32, hi: i32) -> i32
+    fn search_known(&mut self, houses: &Houses, lo: i32, hi: i32) -> i32
         requires going { is_over (bare houses.now) ≡ false }
         requires low { negsuc 30 ≤ℤ lo }
         requires ordered { lo ≤ℤ hi }
@@ -97,7 +97,7 @@ impl<A: Allocator + Clone> Search<A> {
     }
 
     // An interval that holds the worth of the houses.
-    fn known(&mut self, houses: &PackedHouses) -> Interval
+    fn known(&mut self, houses: &Houses) -> Interval
         ensures holds { Holds result (houses_worth houses.now) }
         ensures least { negsuc 30 ≤ℤ houses_worth houses.now }
         ensures most { houses_worth houses.now ≤ℤ pos 31 }
@@ -111,7 +111,7 @@ impl<A: Allocator + Clone> Search<A> {
 
     // The same, by trying the moves, the best ranked first.
     #[cycle(search)]
-    fn explore(&mut self, houses: &PackedHouses, lo: i32, hi: i32) -> i32
+    fn explore(&mut self, houses: &Houses, lo: i32, hi: i32) -> i32
         requires going { is_over (bare houses.now) ≡ false }
         requires low { negsuc 30 ≤ℤ lo }
         requires ordered { lo ≤ℤ hi }
@@ -125,7 +125,7 @@ impl<A: Allocator + Clone> Search<A> {
         let mut at = highest(&untried);
         while untried[at] > 0 && best < hi {
             untried[at] = 0;
-            best = self.attempt(houses, at as u32 + 1, !first, best, hi);
+            best = self.attempt(houses, at as u8 + 1, !first, best, hi);
             first = false;
             at = highest(&untried);
         }
@@ -135,7 +135,7 @@ impl<A: Allocator + Clone> Search<A> {
     /// What house `h` is worth, raised to `lo` and lowered to `hi`. With `probe`, the search first asks whether it is
     /// worth more than `lo`, in a window two wide.
     #[cycle(search)]
-    pub fn attempt(&mut self, houses: &PackedHouses, h: u32, probe: bool, lo: i32, hi: i32) -> i32
+    pub fn attempt(&mut self, houses: &Houses, h: u8, probe: bool, lo: i32, hi: i32) -> i32
         requires legal { Contains (legal_houses (bare houses.now)) h }
         requires low { negsuc 30 ≤ℤ lo }
         requires ordered { lo ≤ℤ hi }
@@ -165,7 +165,7 @@ impl<A: Allocator + Clone> Search<A> {
         ensures { result ≡ within lo hi (worth_of_step step.now) }
     {
         match step {
-            HousesStep::Over(margin) => (*margin).clamp(lo, hi),
+            HousesStep::Over { own, other } => (*own as i32 - *other as i32).clamp(lo, hi),
             HousesStep::Again(gained, next) => {
                 let shift = *gained as i32;
                 let seeds = next.seeds() as i32;

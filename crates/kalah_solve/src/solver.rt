@@ -1,18 +1,17 @@
 //! The solver.
 ghost use Rattle.std.specs.Prelude.{◌≡◌, false, Contains, pos, negsuc, ◌≤ℤ◌};
-ghost use Rattle.kalah_rules.specs.Position.{is_over};
+ghost use Rattle.kalah_rules.specs.Position.{is_over, bare};
 ghost use Rattle.kalah_rules.specs.Play.{legal_houses};
-ghost use Rattle.kalah_solve.specs.Worth.{bare, houses_worth, best_house};
+ghost use Rattle.kalah_solve.specs.Worth.{houses_worth, best_house};
 ghost use Rattle.kalah_solve.specs.Verdict.{verdict_of, TellsBestPlay, IsSmallVerdict};
 
 #[cfg(test)]
 mod tests;
 
-use crate::packed::PackedHouses;
 use crate::search::Search;
 use crate::table::Table;
 use crate::verdict::Verdict;
-use kalah_rules::{Board, Moves};
+use kalah_rules::{Board, Houses, Moves};
 use std::alloc::{Allocator, Global};
 
 /// Tells what positions are worth, by a search that keeps what it learns in a table.
@@ -42,7 +41,7 @@ impl<A: Allocator + Clone> Solver<A> {
                 margin: board.returns(),
             };
         }
-        let houses = PackedHouses::of(&board.houses());
+        let houses = board.houses();
         let (best, house) = self.best_move(&houses, &board.legal());
         let margin = best + (board.own_store() as i32 - board.other_store() as i32);
         Verdict::Best { margin, house }
@@ -50,7 +49,7 @@ impl<A: Allocator + Clone> Solver<A> {
 
     // The margin of best play of the houses, and the lowest house that attains it: the first house is searched in the
     // whole window, and each later one from the best so far, which only a better one replaces.
-    fn best_move(&mut self, houses: &PackedHouses, moves: &Moves) -> (i32, u8)
+    fn best_move(&mut self, houses: &Houses, moves: &Moves) -> (i32, u8)
         requires moves { moves.now ≡ legal_houses (bare houses.now) }
         requires going { is_over (bare houses.now) ≡ false }
         ensures margin { result.0 ≡ houses_worth houses.now }
@@ -61,10 +60,10 @@ impl<A: Allocator + Clone> Solver<A> {
     {
         let _seeds = houses.seeds();
         let mut house = moves.get(0);
-        let mut best = self.search.attempt(houses, house as u32, false, -31, 31);
+        let mut best = self.search.attempt(houses, house, false, -31, 31);
         for i in 1..moves.len() {
             let h = moves.get(i);
-            let found = self.search.attempt(houses, h as u32, true, best, 31);
+            let found = self.search.attempt(houses, h, true, best, 31);
             if found > best {
                 best = found;
                 house = h;

@@ -1,10 +1,10 @@
 //! A bounded table of what is known of houses.
 ghost use Rattle.std.specs.Prelude.{◌≡◌, ◌≤◌, ℕ, [], nat_eq, IfOk, IfSome, ◌≤ℤ◌, ℤ, pos, negsuc, ◌<ℤ◌};
 ghost use Rattle.std.specs.Map.{lookup};
-ghost use Rattle.kalah_solve.specs.Key.{key_of};
+ghost use Rattle.kalah_rules.specs.Key.{key_of};
 ghost use Rattle.kalah_solve.specs.Worth.{houses_worth};
 
-use crate::packed::PackedHouses;
+use kalah_rules::Houses;
 use lru::{DefaultHasher, LruCache};
 use std::alloc::{AllocError, Allocator, Global};
 use std::marker::Model;
@@ -105,7 +105,7 @@ impl<A: Allocator + Clone> Table<A> {
     }
 
     // What is known of the houses, which become the most recently used.
-    pub(crate) fn look_up(&mut self, houses: &PackedHouses) -> Option<Interval>
+    pub(crate) fn look_up(&mut self, houses: &Houses) -> Option<Interval>
         ensures found { result ≡ lookup (nat_eq (key_of houses.now)) self.old }
         ensures holds { IfSome result (λ i. Holds i (houses_worth houses.now)) }
     {
@@ -114,7 +114,7 @@ impl<A: Allocator + Clone> Table<A> {
     }
 
     // Keeps that the worth of the houses is in the interval, unless there is no memory for it.
-    pub(crate) fn keep(&mut self, houses: &PackedHouses, interval: Interval)
+    pub(crate) fn keep(&mut self, houses: &Houses, interval: Interval)
         requires { Holds interval (houses_worth houses.now) }
     {
         let key = houses.key();

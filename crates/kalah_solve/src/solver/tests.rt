@@ -111,7 +111,7 @@ fn rules_have_entries_of_their_own(rt: HostRuntime) -> Result<(), Fail> {
 fn windows_leave_intervals(rt: HostRuntime) -> Result<(), Fail> {
     let board = one(3, 3)?;
     assert!(rt; !board.is_over());
-    let packed = PackedHouses::of(&board.houses());
+    let packed = board.houses();
     let mut search = Search::with_all_entries(Table::new(rt.alloc(), 100)?);
     assert_eq!(rt; search.search(&packed, -2, 2), 2);
     assert!(rt; search.entry(&packed) == Some(Interval { lo: 2, hi: 31 }));

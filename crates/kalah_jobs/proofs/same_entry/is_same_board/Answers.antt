@@ -8,6 +8,6 @@ returns-then-m c =
     let p : Position = c.args.p.now in
     let q : Position = c.args.q.now in
     let h : c.eq.result ≡ same_board p q = c.eq.ensures in
-    let means : c.eq.result ≡ true → p ≡ q = λ e. same_board_means p q c.m.ensures.limits.same_side c.m-2.ensures.limits.same_side (sym h ∙ e) in
+    let means : c.eq.result ≡ true → p ≡ q = λ e. same_board_means p q c.m.ensures.limits c.m-2.ensures.limits (sym h ∙ e) in
     let holds : p ≡ q → c.eq.result ≡ true = λ e. h ∙ sym (ap (λ x. same_board p x) e) ∙ same_board_itself p in
     (means, holds)

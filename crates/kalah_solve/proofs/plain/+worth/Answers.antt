@@ -1,13 +1,13 @@
-use Rattle.std.proofs.Common.{arith, rules, ◌∙◌, sym, ap}
+use Rattle.std.proofs.Common.{arith, rules, ◌∙◌, sym, ap, ◌≡◌, to_z, of_z, pos, neg_ℤ, ◌-ℤ◌}
 use Rattle.std.specs.Prelude.{map}
 use mir.Val.{SFits}
 use mir.Syntax.{w32}
-use Rattle.std.proofs.lemmas.Int.{to_z-of_z}
+use Rattle.std.proofs.lemmas.Int.{ints, to_z-of_z}
 use Rattle.std.proofs.lemmas.List.{take_all}
 use Rattle.std.proofs.lemmas.List.Elements.{Contains-get_or}
 use Rattle.kalah_rules.specs.Play.{legal_houses}
 use Rattle.kalah_solve.specs.Worth.{value_of_move, greatest}
-use Rattle.kalah_solve.proofs.Worths.{board_equal_sides, again_fewer, turn_fewer, value_of_over, worth_of_over, worth_of_going, legal_some, greatest_more, greatest_first, small_max, int_max_same}
+use Rattle.kalah_solve.proofs.Worths.{board_equal_sides, again_fewer, turn_fewer, value_of_over, value_of_turn, worth_of_over, worth_of_going, legal_some, greatest_more, greatest_first, small_max, int_max_same}
 use Rattle.kalah_solve.proofs.plain.+worth.Goals as goal
 
 pub value_of_move-worth-requires : goal.value_of_move-worth-requires
@@ -20,6 +20,13 @@ pub value_of_move-returns-in-Over-clause-value : goal.value_of_move-returns-in-O
 value_of_move-returns-in-Over-clause-value t c =
     let fits : SFits w32 c.returns.result = search rules in
     simp to_z-of_z (c.returns.ensures.margin ∙ value_of_over c.args.board.now c.args.h c.in-Over.end c.in-Over.ensures.step)
+
+pub value_of_move-returns-in-Turn-clause-value : goal.value_of_move-returns-in-Turn-clause-value
+value_of_move-returns-in-Turn-clause-value t c =
+    let fits : SFits w32 c.worth-in-Turn.result = search rules in
+    let small = c.worth-in-Turn.ensures.small in
+    let turned : to_z w32 (of_z w32 (pos 0 -ℤ to_z w32 (of_z w32 c.worth-in-Turn.result))) ≡ neg_ℤ c.worth-in-Turn.result = omega (arith, ints, small.low, small.high) in
+    turned ∙ ap neg_ℤ c.worth-in-Turn.ensures.worth ∙ value_of_turn c.args.board.now c.args.h c.in-Turn.next c.in-Turn.ensures.step
 
 pub worth-returns-then-is_over-clause-worth : goal.worth-returns-then-is_over-clause-worth
 worth-returns-then-is_over-clause-worth t c =

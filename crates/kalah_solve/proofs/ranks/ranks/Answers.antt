@@ -1,5 +1,5 @@
+use Rattle.kalah_rules.specs.Position.{bare}
 use Rattle.std.proofs.Common.{arith}
-use Rattle.kalah_solve.specs.Worth.{bare}
 use Rattle.kalah_solve.proofs.Ranked.{ranked_more, ranked_same, ranked_legal, ranked_all}
 use Rattle.kalah_solve.proofs.ranks.ranks.Goals as goal
 use Rattle.kalah_solve.proofs.ranks.ranks.Goals.{then-own-gt0, else-own-gt0}

@@ -97,7 +97,7 @@ fn every_entry_is_refused(rt: HostRuntime) -> Result<(), Fail> {
         assert!(rt; heap.refused() > 0);
         let board = one(16, 15)?;
         assert!(rt; !board.is_over());
-        let packed = PackedHouses::of(&board.houses());
+        let packed = board.houses();
         assert_eq!(rt; solver.search.search(&packed, -31, 31), 7);
         assert!(rt; solver.search.entry(&packed).is_none());
     }
@@ -118,7 +118,7 @@ fn goes_on_after_a_refusal(rt: &impl Abort, heap: &Granting<Global>) -> Result<(
     tells_many_seeds(rt, &mut solver)?;
     let board = one(16, 15)?;
     assert!(rt; !board.is_over());
-    let packed = PackedHouses::of(&board.houses());
+    let packed = board.houses();
     assert_eq!(rt; solver.search.search(&packed, -31, 31), 7);
     assert_eq!(rt; solver.search.search(&packed, -31, 31), 7);
     assert!(rt; solver.search.entry(&packed) == Some(Interval { lo: 7, hi: 7 }));

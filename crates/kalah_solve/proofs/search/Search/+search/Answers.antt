@@ -1,9 +1,9 @@
 use Rattle.std.proofs.Common.{arith, rules, sym, ap, ◌∙◌, ◌≡◌, ◌≤◌, subst, w32, w8, to_z, of_z, SFits, ◌≤ℤ◌, ◌<ℤ◌, pos, negsuc, ◌+ℤ◌, ◌-ℤ◌, ◌+◌}
 use Rattle.std.proofs.lemmas.Int.{ints, clamps, to_z-of_z}
-use Rattle.kalah_solve.specs.HousesStep.{worth_of_step, moves_after, GoesOn, GoesOnAt}
+use Rattle.kalah_solve.specs.StepWorth.{worth_of_step, moves_after, GoesOn, GoesOnAt}
 use Rattle.kalah_solve.specs.Table.{within}
 use Rattle.kalah_solve.specs.Worth.{houses_worth}
-use Rattle.kalah_solve.proofs.HousesSteps.{goes_on, step_falls, step_value}
+use Rattle.kalah_solve.proofs.StepWorths.{goes_on, step_falls, step_value}
 use Rattle.kalah_solve.proofs.HousesWorth.{worth_up_to}
 use Rattle.kalah_solve.proofs.Windows.{lt_from, le_from, cut, cut_low, cut_high, cut_ordered, up_fits, up_is, down_fits, down_is, within_same, within_cut, shifted_again, shifted_turn, known_answers, known_narrows, probe_low, probe_high, progress_tried, progress_all}
 use Rattle.kalah_solve.proofs.search.Search.+search.Goals as goal
@@ -96,6 +96,18 @@ explore-returns-after-loop-untried g t c =
     let hi_fits = c.ranges.hi in
     simp to_z-of_z at (progress_all c.args.houses.now _ _ c.loop-untried.untried (to_z w32 c.loop-untried.best-bits) c.loop-untried.at c.seeds-seeds.ensures.limits c.requires.going
     c.loop-untried.invariant.progress c.loop-untried.invariant.highest (omega (arith, c.loop-untried-test.false)))
+
+pub follow-returns-in-Over : goal.follow-returns-in-Over
+follow-returns-in-Over g t c =
+    let own = c.in-Over.own in
+    let other = c.in-Over.other in
+    let few : own + other ≤ 31 = subst GoesOn c.in-Over.is c.requires.on in
+    let lo_is = to_z-of_z w32 c.args.lo c.ranges.lo in
+    let hi_is = to_z-of_z w32 c.args.hi c.ranges.hi in
+    let fits : SFits w32 c.clamp.result = search rules in
+    let margin : to_z w32 (of_z w32 (to_z w32 own -ℤ to_z w32 other)) ≡ pos own -ℤ pos other = omega (arith, ints, few) in
+    let answer_is : c.clamp.result ≡ within c.args.lo c.args.hi (pos own -ℤ pos other) = rw (lo_is, hi_is, margin) at c.clamp.ensures.value in
+    to_z-of_z w32 _ fits ∙ answer_is ∙ ap (λ s. within c.args.lo c.args.hi (worth_of_step s)) (sym c.in-Over.is)
 
 pub follow-search-requires : goal.follow-search-requires
 follow-search-requires g t c =

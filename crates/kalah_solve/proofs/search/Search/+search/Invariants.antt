@@ -1,8 +1,8 @@
+use Rattle.kalah_rules.specs.Position.{bare}
 use Rattle.std.proofs.Common.{◌+◌, ◌*◌, ◌<◌, ◌≤◌, ℕ, get_or}
 use Rattle.std.specs.Prelude.{sum}
 use Rattle.kalah_rules.specs.Measure.{moves_left}
-use Rattle.kalah_solve.specs.HousesStep.{moves_after}
-use Rattle.kalah_solve.specs.Worth.{bare}
+use Rattle.kalah_solve.specs.StepWorth.{moves_after}
 use Rattle.kalah_solve.proofs.Windows.{Progress}
 use Rattle.kalah_solve.proofs.search.Search.+search.Given as goal
 

@@ -5,7 +5,8 @@ use Rattle.std.proofs.lemmas.List.{take_all}
 use Rattle.std.proofs.lemmas.List.Elements.{Contains-get_or}
 use Rattle.kalah_rules.specs.Play.{legal_houses}
 use Rattle.kalah_solve.specs.Table.{within}
-use Rattle.kalah_solve.specs.Worth.{bare, value_of_move}
+use Rattle.kalah_rules.specs.Position.{bare}
+use Rattle.kalah_solve.specs.Worth.{value_of_move}
 use Rattle.kalah_solve.proofs.Worths.{legal_some}
 use Rattle.kalah_solve.proofs.Bests.{IsBestOf}
 use Rattle.kalah_solve.proofs.Windows.{lt_from, le_from}

@@ -2,8 +2,8 @@ use Rattle.std.proofs.Common.{arith, rules, sym, ap, ◌∙◌, ◌≤◌, subst
 use Rattle.std.specs.Prelude.{Contains}
 use Rattle.std.proofs.lemmas.Int.{to_z-of_z}
 use Rattle.kalah_rules.specs.Play.{legal_houses}
-use Rattle.kalah_rules.specs.Position.{Rows}
-use Rattle.kalah_solve.specs.Worth.{bare, houses_worth, best_house}
+use Rattle.kalah_rules.specs.Position.{Rows, bare}
+use Rattle.kalah_solve.specs.Worth.{houses_worth, best_house}
 use Rattle.kalah_solve.specs.declared.verdict.Verdict.TheVariants.{Best, Over}
 use Rattle.kalah_solve.proofs.Bests.{verdict_of_over, small_best}
 use Rattle.kalah_solve.proofs.Roots.{margin_is, verdict_by, margin_small, sum_is}
@@ -22,7 +22,7 @@ pub returns-clause-verdict : goal.returns-clause-verdict
 returns-clause-verdict g c =
     let p = c.args.board.now in
     let limits = c.is_over.ensures.limits in
-    let rows = c.of-houses.ensures ∙ c.houses.ensures in
+    let rows = c.houses-houses.ensures in
     let own : c.own_store.result ≤ 130 = omega (arith, c.own_store.ensures, limits.own_store_low) in
     let other : c.other_store.result ≤ 130 = omega (arith, c.other_store.ensures, limits.other_store_low) in
     let best_is = c.best_move-best.ensures.margin ∙ ap houses_worth rows in
@@ -37,7 +37,7 @@ pub returns-clause-small : goal.returns-clause-small
 returns-clause-small g c =
     let p = c.args.board.now in
     let limits = c.is_over.ensures.limits in
-    let rows = c.of-houses.ensures ∙ c.houses.ensures in
+    let rows = c.houses-houses.ensures in
     let own : c.own_store.result ≤ 130 = omega (arith, c.own_store.ensures, limits.own_store_low) in
     let other : c.other_store.result ≤ 130 = omega (arith, c.other_store.ensures, limits.other_store_low) in
     let best_is = c.best_move-best.ensures.margin ∙ ap houses_worth rows in

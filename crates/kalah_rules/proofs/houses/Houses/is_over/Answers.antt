@@ -1,0 +1,10 @@
+use Rattle.std.proofs.Common.{arith}
+use Rattle.std.proofs.lemmas.Bool.Decides.{nat_tests}
+use Rattle.kalah_rules.proofs.Keys.{no_seeds}
+use Rattle.kalah_rules.proofs.houses.Houses.is_over.Goals as goal
+
+pub returns-then-own_row-eq0 : goal.returns-then-own_row-eq0
+returns-then-own_row-eq0 c = grind (arith, nat_tests, no_seeds c.args.self.now.own, c.own_row.ensures.value, c.if-own_row-eq0.true)
+
+pub returns-else-own_row-eq0 : goal.returns-else-own_row-eq0
+returns-else-own_row-eq0 c = grind (arith, nat_tests, no_seeds c.args.self.now.own, no_seeds c.args.self.now.other, c.own_row.ensures.value, c.other_row.ensures.value, c.if-own_row-eq0.false)

@@ -1,0 +1,11 @@
+use Rattle.std.proofs.Common.{arith, ◌∙◌, ap, sym}
+use Rattle.kalah_rules.specs.Packed.{ones}
+use Rattle.kalah_rules.proofs.Packing.{number_of-all, number_of-up_to}
+use Rattle.kalah_rules.proofs.houses.numbers.one_each_up_to.Goals as goal
+use Rattle.kalah_rules.proofs.houses.numbers.one_each_up_to.Goals.{then-x-m, else-x-m}
+
+pub returns-clause-value : goal.returns-clause-value
+returns-clause-value c = c.one_each.ensures.value ∙ elim c.if-x-m.branch [
+  | then-x-m w ↦ ap (λ k. ones k) w.one_each-is ∙ sym (number_of-up_to c.args.m c.args.x (omega (arith, w.if-x-m.true)))
+  | else-x-m w ↦ ap (λ k. ones k) w.one_each-is ∙ sym (number_of-all c.args.m c.args.x (omega (arith, w.if-x-m.false)))
+]

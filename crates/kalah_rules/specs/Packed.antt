@@ -1,0 +1,26 @@
+-- Houses in one number.
+use Rattle.std.specs.Prelude.{◌≡◌, ℕ, if◌then◌else◌, nat_le}
+use Rattle.kalah_rules.specs.Position.{Position, seeds_in_houses, bare, IsWithinHouses}
+use Rattle.kalah_rules.specs.Sowing.{row_of}
+use Rattle.kalah_rules.specs.Key.{number_of, key_of, rows_at}
+use Rattle.kalah_rules.specs.declared.houses.play.RowNumbers.{RowNumbers}
+
+-- the key of houses of the game, beside the seeds in them
+pub record IsPacked (key seeds : ℕ) : Type 0 where
+  pub limits : IsWithinHouses (rows_at key)
+  pub key_is : key_of (rows_at key) ≡ key
+  pub seeds_are : seeds_in_houses (bare (rows_at key)) ≡ seeds
+
+-- the numbers show a position: both rows, and what its own store holds
+pub record Shows (r : RowNumbers) (p : Position) : Type 0 where
+  pub own : r.own ≡ number_of p.own
+  pub other : r.other ≡ number_of p.other
+  pub store : r.store ≡ p.own_store
+
+-- one seed in each of n houses
+abbrev pub ones : ℕ → ℕ
+ones n = number_of (row_of n (λ i. 1))
+
+-- one seed in house i, for the houses up to x
+abbrev pub up_to : ℕ → ℕ → ℕ
+up_to x i = if nat_le i x then 1 else 0

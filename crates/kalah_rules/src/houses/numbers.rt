@@ -1,0 +1,172 @@
+//! Rows of houses as numbers, five bits a house, house 1 lowest.
+ghost use Rattle.std.specs.Prelude.{◌≡◌, ◌+◌, ◌-◌, ◌*◌, ◌/◌, ◌%◌, ◌^◌, ◌<◌, ◌≤◌, length, sum};
+ghost use Rattle.kalah_rules.specs.Sowing.{row_of};
+ghost use Rattle.kalah_rules.specs.Key.{number_of, cells, rule_bit};
+ghost use Rattle.kalah_rules.specs.Packed.{ones, up_to};
+
+use crate::rule::Rule;
+
+// Where the other player's houses begin in a key.
+pub(super) const OTHER_ROW: u64 = 0x4000_0000;
+
+// Where the count of houses per side begins in a key.
+pub(super) const SIDE: u64 = 0x1000_0000_0000_0000;
+
+// The bit of the rule in a key.
+pub(super) const RULE: u64 = 0x8000_0000_0000_0000;
+
+// A row as a number.
+pub(super) fn number_of(cells: &[u8; 6]) -> u64
+    requires { sum cells.now ≤ 31 }
+    ensures value { result ≡ number_of cells.now }
+    ensures small { result < 2 ^ 30 }
+{
+    let mut number = 0u64;
+    for passed in 0..6usize {
+        number = 32 * number + cells[5 - passed] as u64;
+    }
+    number
+}
+
+// The cells of the lowest thirty bits.
+pub(super) fn cells_of(number: u64) -> [u8; 6]
+    ensures { result ≡ cells 6 number }
+{
+    let second = number / 32;
+    let third = second / 32;
+    let fourth = third / 32;
+    let fifth = fourth / 32;
+    let sixth = fifth / 32;
+    [
+        (number % 32) as u8,
+        (second % 32) as u8,
+        (third % 32) as u8,
+        (fourth % 32) as u8,
+        (fifth % 32) as u8,
+        (sixth % 32) as u8,
+    ]
+}
+
+// The bit that stands for a rule.
+pub(super) fn rule_number(rule: Rule) -> u64
+    ensures value { result ≡ rule_bit rule }
+    ensures small { result ≤ 1 }
+{
+    match rule {
+        Rule::Classic => 0,
+        Rule::EmptyCapture => 1,
+    }
+}
+
+// The rule that a bit stands for.
+pub(super) fn rule_of(bit: u64) -> Rule
+    requires { bit ≤ 1 }
+    ensures { rule_bit result ≡ bit }
+{
+    if bit == 0 {
+        Rule::Classic
+    } else {
+        Rule::EmptyCapture
+    }
+}
+
+// The seeds in house `i` of a row.
+pub(super) fn seeds_at(row: u64, i: u32) -> u64
+    requires low { 1 ≤ i }
+    requires high { i ≤ 6 }
+    ensures { result ≡ row / 32 ^ (i - 1) % 32 }
+{
+    (row >> (5 * (i - 1))) % 32
+}
+
+// A row with so many seeds in house `i`, and none elsewhere.
+pub(super) fn alone(i: u32, seeds: u64) -> u64
+    requires low { 1 ≤ i }
+    requires high { i ≤ 6 }
+    requires few { seeds < 32 }
+    ensures { result ≡ 32 ^ (i - 1) * seeds }
+{
+    seeds << (5 * (i - 1))
+}
+
+static ONES: [u64; 7] = [0, 1, 33, 1057, 33825, 1082401, 34636833];
+
+// A row with one seed in each of the first `n` houses.
+pub(super) fn one_each(n: u32) -> u64
+    requires { n ≤ 6 }
+    ensures value { result ≡ ones n }
+    ensures small { result ≤ 34636833 }
+{
+    ONES[n as usize]
+}
+
+// A row of `m` houses with one seed in each house up to `x`.
+pub(super) fn one_each_up_to(m: u32, x: u32) -> u64
+    requires { m ≤ 6 }
+    ensures value { result ≡ number_of (row_of m (up_to x)) }
+    ensures small { result ≤ 34636833 }
+{
+    one_each(if x < m { x } else { m })
+}
+
+// A row of `m` houses with so many seeds in each.
+pub(super) fn so_many_each(m: u32, seeds: u32) -> u64
+    requires side { m ≤ 6 }
+    requires few { seeds ≤ 10 }
+    ensures value { result ≡ seeds * ones m }
+    ensures small { result ≤ 346368330 }
+{
+    seeds as u64 * one_each(m)
+}
+
+// What a sowing of so many whole laps from house `h` of `m`, and then of one up to the cell at place `reach`, brings to
+// the mover's houses. Places go round from house 1, and the store has place m + 1.
+pub(super) fn own_gains(m: u32, h: u32, laps: u32, reach: u32) -> u64
+    requires first { 1 ≤ h }
+    requires last { h ≤ m }
+    requires side { m ≤ 6 }
+    requires few { laps ≤ 10 }
+    requires past { h ≤ reach }
+    ensures value { result + ones h ≡ laps * ones m + number_of (row_of m (up_to reach)) + number_of (row_of m (up_to (reach - (2 * m + 1)))) }
+    ensures small { result < 2 ^ 32 }
+{
+    let past = one_each_up_to(m, reach) - one_each(h);
+    so_many_each(m, laps) + past + one_each_up_to(m, reach.saturating_sub(2 * m + 1))
+}
+
+// What it brings to the other player's houses.
+pub(super) fn other_gains(m: u32, laps: u32, reach: u32) -> u64
+    requires side { m ≤ 6 }
+    requires few { laps ≤ 10 }
+    ensures value { result ≡ laps * ones m + number_of (row_of m (up_to (reach - (m + 1)))) }
+    ensures small { result < 2 ^ 32 }
+{
+    so_many_each(m, laps) + one_each_up_to(m, reach.saturating_sub(m + 1))
+}
+
+// The whole laps of a sowing, and the seeds that are left for the last.
+pub(super) fn laps_of(seeds: u32, lap: u32) -> (u32, u32)
+    requires { 1 ≤ lap }
+    ensures laps { result.0 ≡ seeds / lap }
+    ensures rest { result.1 ≡ seeds % lap }
+    ensures below { result.1 < lap }
+{
+    if seeds < lap {
+        (0, seeds)
+    } else {
+        (seeds / lap, seeds % lap)
+    }
+}
+
+// How far from its house the last of these seeds falls.
+pub(super) fn last_of(seeds: u32, lap: u32) -> u32
+    requires some { 1 ≤ seeds }
+    requires lap { 1 ≤ lap }
+    ensures { result ≡ (seeds - 1) % lap + 1 }
+{
+    if seeds <= lap {
+        seeds
+    } else {
+        (seeds - 1) % lap + 1
+    }
+}

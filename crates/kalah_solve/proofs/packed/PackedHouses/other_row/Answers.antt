@@ -1,8 +1,0 @@
-use Rattle.std.proofs.Common.{sym, ap, ◌∙◌}
-use Rattle.kalah_rules.specs.Position.{Rows}
-use Rattle.kalah_solve.specs.Key.{number_of}
-use Rattle.kalah_solve.proofs.Keys.{other_number_at}
-use Rattle.kalah_solve.proofs.packed.PackedHouses.other_row.Goals as goal
-
-pub returns-clause-value : goal.returns-clause-value
-returns-clause-value c = sym (other_number_at c.self.inside.key c.self.invariant.is_key) ∙ ap (λ (a : Rows). number_of a.other) c.self.view_is

@@ -1,8 +1,0 @@
-use Rattle.std.proofs.Common.{arith, ◌∙◌, ◌-◌, ◌/◌, ◌%◌, ◌^◌, ap}
-use Rattle.kalah_solve.proofs.Packing.{read_seeds}
-use Rattle.kalah_solve.proofs.packed.PackedHouses.own.Goals as goal
-
-pub returns-clause-value : goal.returns-clause-value
-returns-clause-value c =
-    c.seeds_at.ensures ∙ ap (λ n. n / 32 ^ (c.args.h - 1) % 32) c.own_row.ensures.value
-    ∙ read_seeds c.args.self.now.own (c.args.h - 1) (omega (arith, c.requires.low, c.requires.high)) (omega (arith, c.own_row.ensures.limits.few_seeds))

@@ -1,6 +1,0 @@
-use Rattle.std.proofs.Common.{arith, ◌-◌}
-use Rattle.kalah_solve.proofs.Packing.{pow_five, alone_small}
-use Rattle.kalah_solve.proofs.packed.alone.Goals as goal
-
-pub returns : goal.returns
-returns c = rw (pow_five (c.args.i - 1)) (alone_small (c.args.i - 1) c.args.seeds (omega arith) c.requires.few)

@@ -1,6 +1,0 @@
-use Rattle.std.proofs.Common.{◌-◌, refl}
-use Rattle.kalah_solve.proofs.Packing.{pow_five}
-use Rattle.kalah_solve.proofs.packed.seeds_at.Goals as goal
-
-pub returns : goal.returns
-returns c = rw (pow_five (c.args.i - 1)) refl
