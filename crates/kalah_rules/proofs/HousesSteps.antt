@@ -3,7 +3,7 @@ use Rattle.std.proofs.Common.{◌≡◌, ◌≢◌, ℕ, ◌+◌, ◌-◌, ◌*�
 use Rattle.std.specs.Prelude.{Bool, true, false, cond, sum, replicate, Contains}
 use Rattle.std.proofs.lemmas.Bool.Decides.{nat_tests}
 use Rattle.std.proofs.lemmas.List.{length-replicate}
-use Rattle.kalah_rules.specs.Position.{Position, Rows, IsWithinHouses, IsWithinLimits, side_length, is_over, swapped, rows_of, bare, with_stores}
+use Rattle.kalah_rules.specs.Position.{Position, Rows, IsWithinHouses, IsWithinLimits, side_length, is_over, swapped, rows_of, bare, with_stores, without_seeds}
 use Rattle.kalah_rules.specs.Lap.{HoldsSeeds}
 use Rattle.kalah_rules.specs.Play.{legal_houses, step_to, step_of}
 use Rattle.kalah_rules.specs.Sowing.{after, is_again}
@@ -141,18 +141,15 @@ module _ (a : Rows) (h key seeds : ℕ) (r : RowNumbers) (is : IsPackOf a key se
         (packed.0, rw (shows.store, packed.1) (sym (step_turn q (is_again (bare a) h) going passed)))
 
 -- ---- what a board makes of a step
-abbrev pub emptied : Position → Rows
-emptied p = record { own = replicate (side_length p) 0; other = replicate (side_length p) 0; rule = p.rule }
-
 -- the step of a position whose houses make this one
 abbrev pub step_with : Position → HousesStep → Step
-step_with p (Over own other) = step.Over (with_stores (emptied p) (p.own_store + own) (p.other_store + other))
+step_with p (Over own other) = step.Over (with_stores (without_seeds (rows_of p)) (p.own_store + own) (p.other_store + other))
 step_with p (Again gained b) = step.Again (with_stores b (p.own_store + gained) p.other_store)
 step_with p (Turn gained b) = step.Turn (with_stores b p.other_store (p.own_store + gained))
 
 -- which keeps the limits
 abbrev pub IsStepWithin : Position → HousesStep → Type 0
-IsStepWithin p (Over own other) = IsWithinLimits (with_stores (emptied p) (p.own_store + own) (p.other_store + other))
+IsStepWithin p (Over own other) = IsWithinLimits (with_stores (without_seeds (rows_of p)) (p.own_store + own) (p.other_store + other))
 IsStepWithin p (Again gained b) = IsWithinLimits (with_stores b (p.own_store + gained) p.other_store)
 IsStepWithin p (Turn gained b) = IsWithinLimits (with_stores b p.other_store (p.own_store + gained))
 
@@ -217,12 +214,15 @@ pub record IsStepOf (p : Position) (h : ℕ) (s : HousesStep) : Type 0 where
   pub within : IsStepWithin p s
   pub nearer : IsNearerEnd (after p h) p
 
-pub board_step : (p : Position) (h : ℕ) (s : HousesStep) → IsWithinLimits p → Contains (legal_houses p) h → s ≡ houses_step (rows_of p) h → IsStepOf p h s
-board_step p h s l has is =
-    let holds = legal_holds (bare (rows_of p)) h has in
+pub board_step : {b : Rows} {own_store other_store h : ℕ} {p : Position} {s t : HousesStep} → IsWithinLimits (with_stores b own_store other_store) →
+    with_stores b own_store other_store ≡ p → Contains (legal_houses p) h → t ≡ s → t ≡ houses_step b h → IsStepOf (with_stores b own_store other_store) h s
+board_step {b} {own_store} {other_store} {h} l view has to is =
+    let p = with_stores b own_store other_store in
+    let legal = subst (λ (x : Position). Contains (legal_houses x) h) (sym view) has in
+    let holds = legal_holds (bare b) h legal in
     let w = rows_within p l in
     record {
-      same = ap (step_with p) is ∙ step_is p h w holds;
-      within = subst (IsStepWithin p) (sym is) (step_within p h l holds);
-      nearer = after_nearer p h (legal_holds p h has) (record { same = l.same_side });
+      same = ap (step_with p) (sym to ∙ is) ∙ step_is p h w holds;
+      within = subst (IsStepWithin p) (sym is ∙ to) (step_within p h l holds);
+      nearer = after_nearer p h (legal_holds p h legal) (record { same = l.same_side });
     }

@@ -12,7 +12,7 @@ use Rattle.std.proofs.lemmas.Bool.{cases_eq}
 use Rattle.std.proofs.lemmas.Bool.Decides.{nat_tests}
 use Rattle.kalah_rules.specs.declared.rule.Rule.{Rule}
 use Rattle.kalah_rules.specs.declared.rule.Rule.TheVariants.{Classic, EmptyCapture}
-use Rattle.kalah_rules.specs.Position.{Rows, IsWithinHouses, seeds_in_houses, bare}
+use Rattle.kalah_rules.specs.Position.{Rows, IsWithinHouses, seeds_in_houses, bare, without_seeds}
 use Rattle.kalah_rules.specs.Cells.{padded, rows_from}
 use Rattle.kalah_rules.specs.Packed.{IsPacked}
 use Rattle.kalah_rules.specs.Key.{number_of, cells, rule_bit, key_of, side_at, rule_at, rows_at, IsKey}
@@ -335,12 +335,12 @@ same_key a b ha hb e =
     sym (rows_of_key a (key_of b) a.rule ha e bit) ∙ rows_of_key b (key_of b) a.rule hb refl bit
 
 -- the key without its cells is that of empty houses
-pub emptied_packed : (a : Rows) (k s : ℕ) → IsPackOf a k s →
-    IsPacked (k / 2 ^ 60 * 2 ^ 60) 0 × (rows_at (k / 2 ^ 60 * 2 ^ 60) ≡ record { own = replicate (length a.own) 0; other = replicate (length a.own) 0; rule = a.rule })
-emptied_packed a k s is =
+pub without_seeds_packed : (a : Rows) (k s : ℕ) → IsPackOf a k s →
+    IsPacked (k / 2 ^ 60 * 2 ^ 60) 0 × (rows_at (k / 2 ^ 60 * 2 ^ 60) ≡ without_seeds a)
+without_seeds_packed a k s is =
     let side = length-replicate {A = ℕ} (length a.own) 0 in
     let none : sum (replicate (length a.own) 0) ≡ 0 = sum_by-replicate (λ x. x) (length a.own) 0 ∙ omega arith in
-    packed_as (record { own = replicate (length a.own) 0; other = replicate (length a.own) 0; rule = a.rule }) (k / 2 ^ 60 * 2 ^ 60) 0
+    packed_as (without_seeds a) (k / 2 ^ 60 * 2 ^ 60) 0
     (record {
       some_house = omega (arith, side, is.limits.some_house);
       at_most_six = omega (arith, side, is.limits.at_most_six);

@@ -2,18 +2,16 @@
 use Rattle.std.specs.Prelude.{◌≡◌, ℕ, ◌+◌, ◌-◌, ◌≤◌, List, ◌++◌, length, take, drop, replicate, All, sum}
 use Rattle.std.proofs.Common.{arith, length-take-le}
 use Rattle.kalah_rules.specs.Limits.{most_houses, most_seeds, most_in_store}
-use Rattle.kalah_rules.specs.Position.{Position, Rows}
+use Rattle.kalah_rules.specs.Position.{Position, Rows, with_stores}
 use Rattle.kalah_rules.specs.declared.rule.Rule.{Rule}
 
--- the position of sides of m houses, whose houses are the first m of six cells
+-- the rows of m houses, which are the first of six cells
+abbrev pub rows_from : ℕ → List ℕ → List ℕ → Rule → Rows
+rows_from m own other rule = record { own = take m own; other = take m other; rule = rule }
+
+-- their position, with so much in the stores
 abbrev pub position_of : ℕ → List ℕ → ℕ → List ℕ → ℕ → Rule → Position
-position_of m own own_store other other_store rule = record {
-  own = take m own;
-  own_store = own_store;
-  other = take m other;
-  other_store = other_store;
-  rule = rule;
-}
+position_of m own own_store other other_store rule = with_stores (rows_from m own other rule) own_store other_store
 
 -- the cells hold houses of the game, and nothing past them
 pub record CanBeHouses (m : ℕ) (own : List ℕ) (other : List ℕ) : Type 0 where
@@ -25,21 +23,13 @@ pub record CanBeHouses (m : ℕ) (own : List ℕ) (other : List ℕ) : Type 0 wh
 
 -- what a position that is written down may be
 pub record CanStart (m : ℕ) (own : List ℕ) (own_store : ℕ) (other : List ℕ) (other_store : ℕ) : Type 0 where
-  pub some_house : 1 ≤ m
-  pub at_most_six : m ≤ most_houses
-  pub own_past : All (λ x. x ≡ 0) (drop m own)
-  pub other_past : All (λ x. x ≡ 0) (drop m other)
-  pub few_seeds : sum own + sum other ≤ most_seeds
+  pub houses : CanBeHouses m own other
   pub own_store_low : own_store ≤ most_in_store
   pub other_store_low : other_store ≤ most_in_store
 
 -- a row in six cells, with 0 past the last house
 abbrev pub padded : List ℕ → List ℕ
 padded row = row ++ replicate (most_houses - length row) 0
-
--- the rows of m houses, which are the first of six cells
-abbrev pub rows_from : ℕ → List ℕ → List ℕ → Rule → Rows
-rows_from m own other rule = record { own = take m own; other = take m other; rule = rule }
 
 -- at most six numbers, in six cells
 pub record IsSixAtMost (len : ℕ) (cells : List ℕ) : Type 0 where

@@ -24,3 +24,7 @@ ones n = number_of (row_of n (λ i. 1))
 -- one seed in house i, for the houses up to x
 abbrev pub up_to : ℕ → ℕ → ℕ
 up_to x i = if nat_le i x then 1 else 0
+
+-- one seed in each house up to x, of m houses
+abbrev pub ones_up_to : ℕ → ℕ → ℕ
+ones_up_to m x = number_of (row_of m (up_to x))

@@ -94,6 +94,10 @@ with_stores a own_store other_store = record {
 abbrev pub bare : Rows → Position
 bare a = with_stores a 0 0
 
+-- the same houses with no seeds in them
+abbrev pub without_seeds : Rows → Rows
+without_seeds a = record { own = replicate (length a.own) 0; other = replicate (length a.own) 0; rule = a.rule }
+
 -- what the houses of every board keep
 pub record IsWithinHouses (a : Rows) : Type 0 where
   pub some_house : 1 ≤ length a.own

@@ -1,11 +1,13 @@
 //! The houses of a board, without the stores, in one number.
-ghost use Rattle.std.specs.Prelude.{◌≡◌, ◌<◌, ◌≤◌, ◌^◌, ◌↔◌, length, sum, replicate, IsSome, IfSome, IsTrue, Some};
-ghost use Rattle.kalah_rules.specs.Position.{Rows, seeds, seeds_in_houses, is_over, bare, IsWithinHouses};
+ghost use Rattle.std.specs.Prelude.{◌≡◌, ◌<◌, ◌≤◌, ◌^◌, ◌↔◌, length, sum, IsSome, IfSome, IsTrue, Some};
+ghost use Rattle.kalah_rules.specs.Position.{Rows, seeds, seeds_in_houses, is_over, bare, without_seeds, IsWithinHouses};
 ghost use Rattle.kalah_rules.specs.Cells.{CanBeHouses, rows_from};
 ghost use Rattle.kalah_rules.specs.Key.{number_of, key_of, IsKey};
 
 mod numbers;
 mod play;
+#[cfg(test)]
+mod tests;
 
 use crate::houses::numbers::{
     OTHER_ROW, RULE, SIDE, cells_of, number_of, rule_number, rule_of, seeds_at,
@@ -175,9 +177,9 @@ impl Houses {
         }
     }
 
-    // The same with no seeds in them.
-    pub(crate) fn emptied(&self) -> Houses
-        ensures { result ≡ record { own = replicate (length self.now.own) 0; other = replicate (length self.now.own) 0; rule = self.now.rule } }
+    // The same houses with no seeds in them.
+    pub(crate) fn without_seeds(&self) -> Houses
+        ensures { result ≡ without_seeds self.now }
     {
         Houses {
             key: self.key / SIDE * SIDE,

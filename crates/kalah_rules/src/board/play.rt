@@ -46,7 +46,7 @@ impl Board {
     {
         match self.houses.play(h) {
             HousesStep::Over { own, other } => Step::Over(Board {
-                houses: self.houses.emptied(),
+                houses: self.houses.without_seeds(),
                 own_store: self.own_store + own,
                 other_store: self.other_store + other,
             }),

@@ -1,3 +1,5 @@
+mod walk;
+
 use crate::{Board, Houses, Rule, Step};
 use std::process::Abort;
 use std::test::Fail;

@@ -1,8 +1,7 @@
 //! Rows of houses as numbers, five bits a house, house 1 lowest.
 ghost use Rattle.std.specs.Prelude.{◌≡◌, ◌+◌, ◌-◌, ◌*◌, ◌/◌, ◌%◌, ◌^◌, ◌<◌, ◌≤◌, length, sum};
-ghost use Rattle.kalah_rules.specs.Sowing.{row_of};
 ghost use Rattle.kalah_rules.specs.Key.{number_of, cells, rule_bit};
-ghost use Rattle.kalah_rules.specs.Packed.{ones, up_to};
+ghost use Rattle.kalah_rules.specs.Packed.{ones, ones_up_to};
 
 use crate::rule::Rule;
 
@@ -103,7 +102,7 @@ pub(super) fn one_each(n: u32) -> u64
 // A row of `m` houses with one seed in each house up to `x`.
 pub(super) fn one_each_up_to(m: u32, x: u32) -> u64
     requires { m ≤ 6 }
-    ensures value { result ≡ number_of (row_of m (up_to x)) }
+    ensures value { result ≡ ones_up_to m x }
     ensures small { result ≤ 34636833 }
 {
     one_each(if x < m { x } else { m })
@@ -127,7 +126,7 @@ pub(super) fn own_gains(m: u32, h: u32, laps: u32, reach: u32) -> u64
     requires side { m ≤ 6 }
     requires few { laps ≤ 10 }
     requires past { h ≤ reach }
-    ensures value { result + ones h ≡ laps * ones m + number_of (row_of m (up_to reach)) + number_of (row_of m (up_to (reach - (2 * m + 1)))) }
+    ensures value { result + ones h ≡ laps * ones m + ones_up_to m reach + ones_up_to m (reach - (2 * m + 1)) }
     ensures small { result < 2 ^ 32 }
 {
     let past = one_each_up_to(m, reach) - one_each(h);
@@ -138,7 +137,7 @@ pub(super) fn own_gains(m: u32, h: u32, laps: u32, reach: u32) -> u64
 pub(super) fn other_gains(m: u32, laps: u32, reach: u32) -> u64
     requires side { m ≤ 6 }
     requires few { laps ≤ 10 }
-    ensures value { result ≡ laps * ones m + number_of (row_of m (up_to (reach - (m + 1)))) }
+    ensures value { result ≡ laps * ones m + ones_up_to m (reach - (m + 1)) }
     ensures small { result < 2 ^ 32 }
 {
     so_many_each(m, laps) + one_each_up_to(m, reach.saturating_sub(m + 1))

@@ -24,7 +24,7 @@ impl Houses {
     ghost use Rattle.kalah_rules.specs.HousesStep.{houses_step};
 
     // The rows after house `h` is sown, and what came to the own store.
-    fn sown(&self, h: u32) -> RowNumbers
+    fn sow(&self, h: u32) -> RowNumbers
         requires { HoldsSeeds (bare self.now) h }
         ensures { Shows result (sown (bare self.now) h) }
     {
@@ -41,7 +41,7 @@ impl Houses {
     }
 
     // Those rows, after the last seed fell into the mover's house `i`.
-    fn captured(&self, h: u32, rows: RowNumbers, i: u32) -> RowNumbers
+    fn capture(&self, h: u32, rows: RowNumbers, i: u32) -> RowNumbers
         requires holds { HoldsSeeds (bare self.now) h }
         requires shows { Shows rows (sown (bare self.now) h) }
         requires low { 1 ≤ i }
@@ -73,12 +73,12 @@ impl Houses {
     {
         let m = self.m() as u32;
         let lap = 2 * m + 1;
-        let rows = self.sown(h as u32);
+        let rows = self.sow(h as u32);
         let end = h as u32 + last_of(self.own(h) as u32, lap);
         if end <= m {
-            (self.captured(h as u32, rows, end), false)
+            (self.capture(h as u32, rows, end), false)
         } else if end > lap {
-            (self.captured(h as u32, rows, end - lap), false)
+            (self.capture(h as u32, rows, end - lap), false)
         } else {
             (rows, end == m + 1)
         }

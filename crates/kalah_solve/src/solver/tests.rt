@@ -111,14 +111,14 @@ fn rules_have_entries_of_their_own(rt: HostRuntime) -> Result<(), Fail> {
 fn windows_leave_intervals(rt: HostRuntime) -> Result<(), Fail> {
     let board = one(3, 3)?;
     assert!(rt; !board.is_over());
-    let packed = board.houses();
+    let houses = board.houses();
     let mut search = Search::with_all_entries(Table::new(rt.alloc(), 100)?);
-    assert_eq!(rt; search.search(&packed, -2, 2), 2);
-    assert!(rt; search.entry(&packed) == Some(Interval { lo: 2, hi: 31 }));
-    assert_eq!(rt; search.search(&packed, 7, 9), 7);
-    assert!(rt; search.entry(&packed) == Some(Interval { lo: 2, hi: 7 }));
-    assert_eq!(rt; search.search(&packed, -31, 31), 6);
-    assert!(rt; search.entry(&packed) == Some(Interval { lo: 6, hi: 6 }));
+    assert_eq!(rt; search.search(&houses, -2, 2), 2);
+    assert!(rt; search.entry(&houses) == Some(Interval { lo: 2, hi: 31 }));
+    assert_eq!(rt; search.search(&houses, 7, 9), 7);
+    assert!(rt; search.entry(&houses) == Some(Interval { lo: 2, hi: 7 }));
+    assert_eq!(rt; search.search(&houses, -31, 31), 6);
+    assert!(rt; search.entry(&houses) == Some(Interval { lo: 6, hi: 6 }));
     Ok(())
 }
 

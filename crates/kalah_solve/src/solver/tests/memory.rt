@@ -97,9 +97,9 @@ fn every_entry_is_refused(rt: HostRuntime) -> Result<(), Fail> {
         assert!(rt; heap.refused() > 0);
         let board = one(16, 15)?;
         assert!(rt; !board.is_over());
-        let packed = board.houses();
-        assert_eq!(rt; solver.search.search(&packed, -31, 31), 7);
-        assert!(rt; solver.search.entry(&packed).is_none());
+        let houses = board.houses();
+        assert_eq!(rt; solver.search.search(&houses, -31, 31), 7);
+        assert!(rt; solver.search.entry(&houses).is_none());
     }
     Ok(())
 }
@@ -118,10 +118,10 @@ fn goes_on_after_a_refusal(rt: &impl Abort, heap: &Granting<Global>) -> Result<(
     tells_many_seeds(rt, &mut solver)?;
     let board = one(16, 15)?;
     assert!(rt; !board.is_over());
-    let packed = board.houses();
-    assert_eq!(rt; solver.search.search(&packed, -31, 31), 7);
-    assert_eq!(rt; solver.search.search(&packed, -31, 31), 7);
-    assert!(rt; solver.search.entry(&packed) == Some(Interval { lo: 7, hi: 7 }));
+    let houses = board.houses();
+    assert_eq!(rt; solver.search.search(&houses, -31, 31), 7);
+    assert_eq!(rt; solver.search.search(&houses, -31, 31), 7);
+    assert!(rt; solver.search.entry(&houses) == Some(Interval { lo: 7, hi: 7 }));
     Ok(())
 }
 

@@ -1,8 +1,8 @@
 use Rattle.std.proofs.Common.{lt-ltb, refl}
 use Rattle.std.proofs.lemmas.Bool.{le-ltb}
 use Rattle.kalah_rules.proofs.PackedMoves.{sown_shows, few_laps}
-use Rattle.kalah_rules.proofs.houses.Houses.sown.Goals as goal
-use Rattle.kalah_rules.proofs.houses.Houses.sown.Goals.{then-reach-m, else-reach-m}
+use Rattle.kalah_rules.proofs.houses.Houses.sow.Goals as goal
+use Rattle.kalah_rules.proofs.houses.Houses.sow.Goals.{then-reach-m, else-reach-m}
 
 pub own_gains-requires-clause-few : goal.own_gains-requires-clause-few
 own_gains-requires-clause-few c =

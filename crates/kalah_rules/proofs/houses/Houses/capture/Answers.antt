@@ -2,7 +2,7 @@ use Rattle.std.proofs.Common.{arith, ◌≡◌, sym, ◌∙◌}
 use Rattle.kalah_rules.specs.Position.{seeds, opposite, bare}
 use Rattle.kalah_rules.specs.Sowing.{sown}
 use Rattle.kalah_rules.proofs.PackedMoves.{read_own, read_across, shows_more, shows_none, shows_capture, store_few}
-use Rattle.kalah_rules.proofs.houses.Houses.captured.Goals as goal
+use Rattle.kalah_rules.proofs.houses.Houses.capture.Goals as goal
 
 pub returns-then-seeds_at-ne1 : goal.returns-then-seeds_at-ne1
 returns-then-seeds_at-ne1 c =

@@ -1,0 +1,231 @@
+//! Moves as people make them, seed by seed: the yardstick of the code, which adds whole rows.
+use crate::{Board, Rule, Step};
+use std::process::Abort;
+use std::test::Fail;
+
+// A position in the cells of a lap: the mover's houses, the mover's store, the other player's houses.
+#[derive(Drop)]
+struct Lap {
+    cells: [u8; 13],
+    m: u8,
+    other_store: u8,
+    rule: Rule,
+}
+
+impl Lap {
+    fn of(board: &Board) -> Lap {
+        let m = board.m();
+        let mut cells = [0u8; 13];
+        for i in 1..m + 1 {
+            cells[i as usize - 1] = board.own(i);
+            cells[(m + i) as usize] = board.other(i);
+        }
+        cells[m as usize] = board.own_store();
+        Lap {
+            cells,
+            m,
+            other_store: board.other_store(),
+            rule: board.rule(),
+        }
+    }
+
+    // The place of the mover's store, between the houses of both.
+    fn store(&self) -> usize {
+        self.m as usize
+    }
+
+    fn seeds(&self, place: usize) -> u8 {
+        if place < 13 { self.cells[place] } else { 0 }
+    }
+
+    fn set(&mut self, place: usize, seeds: u8) {
+        if place < 13 {
+            self.cells[place] = seeds;
+        }
+    }
+
+    // Some seeds more in a cell.
+    fn add(&mut self, place: usize, seeds: u8) {
+        let sum = self.seeds(place).wrapping_add(seeds);
+        self.set(place, sum);
+    }
+
+    // The seeds of a cell, which are taken out of it.
+    fn take(&mut self, place: usize) -> u8 {
+        let seeds = self.seeds(place);
+        self.set(place, 0);
+        seeds
+    }
+
+    // Lifts the seeds of house `h` and drops one into each cell that follows. Gives the place of the last.
+    fn sow(&mut self, h: u8) -> usize {
+        let mut place = (h as usize).saturating_sub(1);
+        let hand = self.take(place);
+        for _ in 0..hand {
+            place = if place < 2 * self.store() {
+                place + 1
+            } else {
+                0
+            };
+            self.add(place, 1);
+        }
+        place
+    }
+
+    // The capture, where the last seed fell at this place.
+    fn capture(&mut self, last: usize) {
+        if last >= self.store() || self.seeds(last) != 1 {
+            return;
+        }
+        let across = 2 * self.store() - last;
+        if self.seeds(across) == 0 && self.rule == Rule::Classic {
+            return;
+        }
+        let caught = self.take(last).wrapping_add(self.take(across));
+        self.add(self.store(), caught);
+    }
+
+    // The houses of the mover, or of the other player.
+    fn row(&self, first: usize) -> [u8; 6] {
+        let mut row = [0u8; 6];
+        for i in 0..6usize {
+            if i < self.m as usize {
+                row[i] = self.seeds(first.wrapping_add(i));
+            }
+        }
+        row
+    }
+
+    fn is_empty(&self, first: usize) -> bool {
+        self.row(first) == [0; 6]
+    }
+
+    // The seeds of each player's houses come to that player's store.
+    fn sweep(&mut self) {
+        for i in 0..self.m as usize {
+            let own = self.take(i);
+            self.add(self.store(), own);
+            let other = self.take(self.store() + 1 + i);
+            self.other_store = self.other_store.wrapping_add(other);
+        }
+    }
+
+    // The board of the lap, and as the other player sees it.
+    fn boards(&self) -> (Option<Board>, Option<Board>) {
+        let (own, own_store) = (self.row(0), self.seeds(self.store()));
+        let (other, other_store) = (self.row(self.store() + 1), self.other_store);
+        (
+            Board::new(self.m, own, own_store, other, other_store, self.rule),
+            Board::new(self.m, other, other_store, own, own_store, self.rule),
+        )
+    }
+}
+
+// Where the move of house `h` leads.
+fn walked(board: &Board, h: u8) -> Option<Step> {
+    let mut lap = Lap::of(board);
+    let last = lap.sow(h);
+    lap.capture(last);
+    if lap.is_empty(0) || lap.is_empty(lap.store() + 1) {
+        lap.sweep();
+        return lap.boards().0.map(Step::Over);
+    }
+    if last == lap.store() {
+        lap.boards().0.map(Step::Again)
+    } else {
+        lap.boards().1.map(Step::Turn)
+    }
+}
+
+// Each legal move of the board leads where it leads seed by seed. Gives how many there are.
+fn assert_walked(rt: &impl Abort, board: &Board) -> u8 {
+    let moves = board.legal();
+    for i in 0..moves.len() {
+        let h = moves.get(i);
+        assert!(rt; Some(board.apply(h)) == walked(board, h));
+    }
+    moves.len()
+}
+
+// The lowest six digits of a number to the base of seven, in the first of twelve cells.
+fn digits(number: u32) -> [u8; 12] {
+    let mut digits = [0u8; 12];
+    let mut rest = number;
+    for i in 0..6usize {
+        digits[i] = (rest % 7) as u8;
+        rest = rest / 7;
+    }
+    digits
+}
+
+// The board with these seeds in the houses of the mover, and then in those of the other player.
+fn board_of(m: u8, cells: &[u8; 12], stores: (u8, u8), rule: Rule) -> Option<Board> {
+    let mut own = [0u8; 6];
+    let mut other = [0u8; 6];
+    for i in 0..6usize {
+        if i < m as usize {
+            own[i] = cells[i];
+            other[i] = cells[i + (m as usize).min(6)];
+        }
+    }
+    Board::new(m, own, stores.0, other, stores.1, rule)
+}
+
+#[test]
+fn every_small_board_is_played_seed_by_seed(rt: HostRuntime) -> Result<(), Fail> {
+    let mut boards = 0u32;
+    for (m, numbers) in [(1, 49), (2, 2_401), (3, 117_649)] {
+        for number in 0..numbers {
+            let cells = digits(number);
+            if cells.iter().map(|seeds| *seeds as u16).sum::<u16>() > 6 {
+                continue;
+            }
+            for rule in [Rule::Classic, Rule::EmptyCapture] {
+                let board = board_of(m, &cells, (0, 0), rule).ok_or("beyond the limits")?;
+                assert_walked(&rt, &board);
+                boards = boards.wrapping_add(1);
+            }
+        }
+    }
+    assert_eq!(rt; boards, 2 * (28 + 210 + 924));
+    Ok(())
+}
+
+// The next of numbers that look drawn.
+fn next(state: &mut u64) -> u64 {
+    *state = state
+        .wrapping_mul(0x5851_f42d_4c95_7f2d)
+        .wrapping_add(0x1405_7b7e_f767_814f);
+    *state >> 33
+}
+
+// A board of up to 31 seeds with stores, and one of its rules.
+fn drawn(state: &mut u64) -> Option<Board> {
+    let m = (next(state) % 6) as u8 + 1;
+    let mut cells = [0u8; 12];
+    for _ in 0..7 + next(state) % 25 {
+        let place = (next(state) % (2 * m as u64)) as usize;
+        if place < 12 {
+            cells[place] = cells[place].wrapping_add(1);
+        }
+    }
+    let stores = ((next(state) % 60) as u8, (next(state) % 60) as u8);
+    let rule = if next(state) % 2 == 0 {
+        Rule::Classic
+    } else {
+        Rule::EmptyCapture
+    };
+    board_of(m, &cells, stores, rule)
+}
+
+#[test]
+fn a_thousand_larger_boards_are_played_seed_by_seed(rt: HostRuntime) -> Result<(), Fail> {
+    let mut state = 1u64;
+    let mut moves = 0u32;
+    for _ in 0..1000 {
+        let board = drawn(&mut state).ok_or("beyond the limits")?;
+        moves = moves.wrapping_add(assert_walked(&rt, &board) as u32);
+    }
+    assert!(rt; moves > 2000);
+    Ok(())
+}
