@@ -1,4 +1,5 @@
-use crate::{Houses, HousesStep, Rule};
+use crate::{Board, Houses, HousesStep, Rule};
+use std::process::Abort;
 use std::test::Fail;
 
 // Two houses a side, under the classic rule.
@@ -19,12 +20,19 @@ fn houses_have_the_key_of_the_layout(rt: HostRuntime) -> Result<(), Fail> {
     Ok(())
 }
 
+// The move of house `h` is legal and leads to `step`.
+fn assert_brings(rt: &impl Abort, own: [u8; 2], h: u8, step: HousesStep) -> Result<(), Fail> {
+    let own = [own[0], own[1], 0, 0, 0, 0];
+    let other = [1, 1, 0, 0, 0, 0];
+    let board = Board::new(2, own, 9, other, 4, Rule::Classic).ok_or("beyond the limits")?;
+    assert!(rt; board.is_legal(h));
+    assert_eq!(rt; board.houses().play(h), step);
+    Ok(())
+}
+
 #[test]
 fn moves_of_houses_tell_what_they_bring(rt: HostRuntime) -> Result<(), Fail> {
-    let houses = two([1, 1], [1, 1])?;
-    assert_eq!(rt; houses.play(2), HousesStep::Again(1, two([1, 0], [1, 1])?));
-    assert_eq!(rt; houses.play(1), HousesStep::Turn(0, two([1, 1], [0, 2])?));
-    let last = two([0, 1], [1, 1])?;
-    assert_eq!(rt; last.play(2), HousesStep::Over { own: 1, other: 2 });
-    Ok(())
+    assert_brings(&rt, [1, 1], 2, HousesStep::Again(1, two([1, 0], [1, 1])?))?;
+    assert_brings(&rt, [1, 1], 1, HousesStep::Turn(0, two([1, 1], [0, 2])?))?;
+    assert_brings(&rt, [0, 1], 2, HousesStep::Over { own: 1, other: 2 })
 }

@@ -1,4 +1,7 @@
 //! Moves as people make them, seed by seed: the yardstick of the code, which adds whole rows.
+ghost use Rattle.std.specs.Prelude.{◌≤◌};
+
+use crate::row::total;
 use crate::{Board, Rule, Step};
 use std::process::Abort;
 use std::test::Fail;
@@ -30,8 +33,10 @@ impl Lap {
     }
 
     // The place of the mover's store, between the houses of both.
-    fn store(&self) -> usize {
-        self.m as usize
+    fn store(&self) -> usize
+        ensures { result ≤ 6 }
+    {
+        (self.m as usize).min(6)
     }
 
     fn seeds(&self, place: usize) -> u8 {
@@ -61,12 +66,9 @@ impl Lap {
     fn sow(&mut self, h: u8) -> usize {
         let mut place = (h as usize).saturating_sub(1);
         let hand = self.take(place);
+        let store = self.store();
         for _ in 0..hand {
-            place = if place < 2 * self.store() {
-                place + 1
-            } else {
-                0
-            };
+            place = if place < 2 * store { place + 1 } else { 0 };
             self.add(place, 1);
         }
         place
@@ -74,22 +76,23 @@ impl Lap {
 
     // The capture, where the last seed fell at this place.
     fn capture(&mut self, last: usize) {
-        if last >= self.store() || self.seeds(last) != 1 {
+        let store = self.store();
+        if last >= store || self.seeds(last) != 1 {
             return;
         }
-        let across = 2 * self.store() - last;
+        let across = 2 * store - last;
         if self.seeds(across) == 0 && self.rule == Rule::Classic {
             return;
         }
         let caught = self.take(last).wrapping_add(self.take(across));
-        self.add(self.store(), caught);
+        self.add(store, caught);
     }
 
     // The houses of the mover, or of the other player.
     fn row(&self, first: usize) -> [u8; 6] {
         let mut row = [0u8; 6];
         for i in 0..6usize {
-            if i < self.m as usize {
+            if i < self.store() {
                 row[i] = self.seeds(first.wrapping_add(i));
             }
         }
@@ -102,10 +105,11 @@ impl Lap {
 
     // The seeds of each player's houses come to that player's store.
     fn sweep(&mut self) {
-        for i in 0..self.m as usize {
+        let store = self.store();
+        for i in 0..store {
             let own = self.take(i);
-            self.add(self.store(), own);
-            let other = self.take(self.store() + 1 + i);
+            self.add(store, own);
+            let other = self.take(store + 1 + i);
             self.other_store = self.other_store.wrapping_add(other);
         }
     }
@@ -177,7 +181,7 @@ fn every_small_board_is_played_seed_by_seed(rt: HostRuntime) -> Result<(), Fail>
     for (m, numbers) in [(1, 49), (2, 2_401), (3, 117_649)] {
         for number in 0..numbers {
             let cells = digits(number);
-            if cells.iter().map(|seeds| *seeds as u16).sum::<u16>() > 6 {
+            if total(&cells[..6]) > 6 {
                 continue;
             }
             for rule in [Rule::Classic, Rule::EmptyCapture] {
