@@ -1,6 +1,6 @@
 -- Where a move on houses leads, and what a board makes of it.
 use Rattle.std.proofs.Common.{◌≡◌, ◌≢◌, ℕ, ◌+◌, ◌-◌, ◌*◌, ◌^◌, ◌/◌, ◌≤◌, arith, ap, sym, ◌∙◌, refl, subst}
-use Rattle.std.specs.Prelude.{Bool, true, false, cond, sum, replicate, Contains}
+use Rattle.std.specs.Prelude.{Bool, true, false, cond, sum, Contains}
 use Rattle.std.proofs.lemmas.Bool.Decides.{nat_tests}
 use Rattle.std.proofs.lemmas.List.{length-replicate}
 use Rattle.kalah_rules.specs.Position.{Position, Rows, IsWithinHouses, IsWithinLimits, side_length, is_over, swapped, rows_of, bare, with_stores, without_seeds}

@@ -20,11 +20,11 @@ use std::marker::Model;
 /// The houses of a board and the rule it is played by, without the stores. Stores change neither the legal moves nor
 /// what they do, so this is what a solver needs to look at.
 ///
-/// They are kept as their key, beside the count of seeds in them.
+/// They are kept as their key, beside the count of seeds in them, which is as wide as the key: so a copy has no gap.
 #[derive(Clone, Copy, Debug, PartialEq, Eq)]
 pub struct Houses {
     key: u64,
-    seeds: u8,
+    seeds: u64,
 }
 
 impl Model for Houses {
@@ -67,7 +67,7 @@ impl Houses {
             + SIDE * (m as u64 + 8 * rule_number(rule));
         Some(Houses {
             key,
-            seeds: seeds as u8,
+            seeds: seeds as u64,
         })
     }
 
@@ -101,7 +101,7 @@ impl Houses {
         ensures seeds { result ≡ seeds_in_houses (bare self.now) }
         ensures limits { IsWithinHouses self.now }
     {
-        self.seeds
+        self.seeds as u8
     }
 
     /// The houses per side, 1 to 6.
@@ -171,9 +171,9 @@ impl Houses {
         ensures other { result.1 ≡ sum self.now.other }
     {
         if self.own_row() == 0 {
-            (0, self.seeds)
+            (0, self.seeds())
         } else {
-            (self.seeds, 0)
+            (self.seeds(), 0)
         }
     }
 

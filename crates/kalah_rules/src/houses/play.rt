@@ -97,16 +97,16 @@ impl Houses {
     {
         let (rows, again) = self.after(h);
         let gained = rows.store as u8;
-        let seeds = self.seeds - gained;
+        let seeds = self.seeds - rows.store;
         if rows.own == 0 {
             return HousesStep::Over {
                 own: gained,
-                other: seeds,
+                other: seeds as u8,
             };
         }
         if rows.other == 0 {
             return HousesStep::Over {
-                own: self.seeds,
+                own: self.seeds(),
                 other: 0,
             };
         }

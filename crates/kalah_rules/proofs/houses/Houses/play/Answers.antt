@@ -18,7 +18,9 @@ pub returns-then-rows-eq0 : goal.returns-then-rows-eq0
 returns-then-rows-eq0 c = over_own c.args.self.now c.args.h c.self.inside.key c.self.inside.seeds c.after-again.result.0 (pack_of c.args.self.now c.self.inside.key c.self.inside.seeds c.self.invariant c.self.view_is) c.requires c.after-again.ensures.rows c.if-rows-eq0.true
 
 pub returns-then-rows-eq0-2 : goal.returns-then-rows-eq0-2
-returns-then-rows-eq0-2 c = over_other c.args.self.now c.args.h c.self.inside.key c.self.inside.seeds c.after-again.result.0 (pack_of c.args.self.now c.self.inside.key c.self.inside.seeds c.self.invariant c.self.view_is) c.requires c.after-again.ensures.rows c.if-rows-eq0-2.true
+returns-then-rows-eq0-2 c =
+    let pack = pack_of c.args.self.now c.self.inside.key c.self.inside.seeds c.self.invariant c.self.view_is in
+    rw (c.seeds.ensures.seeds, ← pack.seeds_are) (over_other c.args.self.now c.args.h c.self.inside.key c.self.inside.seeds c.after-again.result.0 pack c.requires c.after-again.ensures.rows c.if-rows-eq0-2.true)
 
 pub overflow_mul-key : goal.overflow_mul-key
 overflow_mul-key c = omega (arith, packed_fits _ _ (again_packed c.args.self.now c.args.h c.self.inside.key c.self.inside.seeds c.after-again.result.0 (pack_of c.args.self.now c.self.inside.key c.self.inside.seeds c.self.invariant c.self.view_is) c.requires c.after-again.ensures.rows c.if-rows-eq0.false c.if-rows-eq0-2.false (sym c.after-again.ensures.again ∙ c.if-again.true)).0)
