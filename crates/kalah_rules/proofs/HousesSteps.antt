@@ -20,7 +20,7 @@ use Rattle.kalah_rules.proofs.Rows.{same_position}
 use Rattle.kalah_rules.proofs.Legal.{legal_holds}
 use Rattle.kalah_rules.proofs.Ends.{after_nearer}
 use Rattle.kalah_rules.proofs.Boards.{sum-zeros}
-use Rattle.kalah_rules.proofs.Keys.{IsPackOf, packed_as, above_cells, sum-zero, number_of-zero}
+use Rattle.kalah_rules.proofs.Keys.{IsPackOf, pack_of, packed_as, above_cells, sum-zero, number_of-zero}
 use Rattle.kalah_rules.proofs.PackedMoves.{KeepsSeeds, after_keeps}
 use Rattle.kalah_rules.proofs.Stores.{with_more, after_of_rows}
 
@@ -70,12 +70,16 @@ swapped_within q w = record {
 }
 
 -- ---- what `play` computes
-pub store_small : (a : Rows) (h : ℕ) (r : RowNumbers) → IsWithinHouses a → Contains (legal_houses (bare a)) h → Shows r (after (bare a) h) → r.store ≤ 31
-store_small a h r w has shows =
+pub store_small : {a : Rows} {h : ℕ} {r : RowNumbers} → IsWithinHouses a → Contains (legal_houses (bare a)) h → Shows r (after (bare a) h) → r.store ≤ 31
+store_small {a} {h} {r} w has shows =
     let keeps = after_keeps a h w (legal_holds (bare a) h has) in
     omega (arith, shows.store, keeps.play, w.few_seeds)
 
-module _ (a : Rows) (h key seeds : ℕ) (r : RowNumbers) (is : IsPackOf a key seeds) (has : Contains (legal_houses (bare a)) h) (shows : Shows r (after (bare a) h)) where
+module _ {a : Rows} {h key seeds : ℕ} {r : RowNumbers} (packed : IsPacked key seeds) (view : rows_at key ≡ a) (has : Contains (legal_houses (bare a)) h) (shows : Shows r (after (bare a) h)) where
+  -- what the fields say
+  is : IsPackOf a key seeds
+  is = pack_of packed view
+
   -- the position after the move
   abbrev q : Position
   q = after (bare a) h
@@ -125,9 +129,9 @@ module _ (a : Rows) (h key seeds : ℕ) (r : RowNumbers) (is : IsPackOf a key se
     again_packed more =
         let above = above_cells a key is.limits is.key_is in
         let rule : rule_bit q.rule ≡ rule_bit a.rule = ap rule_bit keeps.rule in
-        let packed = packed_as (rows_of q) (r.own + 2 ^ 30 * r.other + key / 2 ^ 60 * 2 ^ 60) (seeds - r.store) within
+        let there = packed_as (rows_of q) (r.own + 2 ^ 30 * r.other + key / 2 ^ 60 * 2 ^ 60) (seeds - r.store) within
         (omega (arith, shows.own, shows.other, keeps.side)) (omega (arith, shows.store, keeps.play, is.seeds_are)) in
-        (packed.0, rw (shows.store, packed.1) (sym (step_again q (is_again (bare a) h) going more)))
+        (there.0, rw (shows.store, there.1) (sym (step_again q (is_again (bare a) h) going more)))
 
     -- or with the other player
     pub turn_packed : is_again (bare a) h ≡ false →
@@ -136,9 +140,9 @@ module _ (a : Rows) (h key seeds : ℕ) (r : RowNumbers) (is : IsPackOf a key se
     turn_packed passed =
         let above = above_cells a key is.limits is.key_is in
         let rule : rule_bit q.rule ≡ rule_bit a.rule = ap rule_bit keeps.rule in
-        let packed = packed_as (rows_of (swapped q)) (r.other + 2 ^ 30 * r.own + key / 2 ^ 60 * 2 ^ 60) (seeds - r.store) (swapped_within q within)
+        let there = packed_as (rows_of (swapped q)) (r.other + 2 ^ 30 * r.own + key / 2 ^ 60 * 2 ^ 60) (seeds - r.store) (swapped_within q within)
         (omega (arith, shows.own, shows.other, keeps.other_side, is.limits.same_side)) (omega (arith, shows.store, keeps.play, is.seeds_are)) in
-        (packed.0, rw (shows.store, packed.1) (sym (step_turn q (is_again (bare a) h) going passed)))
+        (there.0, rw (shows.store, there.1) (sym (step_turn q (is_again (bare a) h) going passed)))
 
 -- ---- what a board makes of a step
 -- the step of a position whose houses make this one

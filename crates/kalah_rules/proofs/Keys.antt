@@ -215,8 +215,8 @@ packed_as b k s h e seeds_are =
     )
 
 -- and fits sixty-four bits
-pub packed_fits : (k s : ℕ) → IsPacked k s → k < 2 ^ 64
-packed_fits k s is = omega (arith, is.key_is, key_of-small (rows_at k) is.limits)
+pub packed_fits : {k s : ℕ} → IsPacked k s → k < 2 ^ 64
+packed_fits {k} is = omega (arith, is.key_is, key_of-small (rows_at k) is.limits)
 
 -- what the fields of packed houses say of the houses
 pub record IsPackOf (a : Rows) (key seeds : ℕ) : Type 0 where
@@ -224,8 +224,8 @@ pub record IsPackOf (a : Rows) (key seeds : ℕ) : Type 0 where
   pub key_is : key_of a ≡ key
   pub seeds_are : seeds ≡ seeds_in_houses (bare a)
 
-pub pack_of : (a : Rows) (k s : ℕ) → IsPacked k s → rows_at k ≡ a → IsPackOf a k s
-pack_of a k s is e = record {
+pub pack_of : {a : Rows} {k s : ℕ} → IsPacked k s → rows_at k ≡ a → IsPackOf a k s
+pack_of is e = record {
   limits = subst IsWithinHouses e is.limits;
   key_is = ap key_of (sym e) ∙ is.key_is;
   seeds_are = sym is.seeds_are ∙ ap (λ (b : Rows). seeds_in_houses (bare b)) e;
@@ -335,9 +335,9 @@ same_key a b ha hb e =
     sym (rows_of_key a (key_of b) a.rule ha e bit) ∙ rows_of_key b (key_of b) a.rule hb refl bit
 
 -- the key without its cells is that of empty houses
-pub without_seeds_packed : (a : Rows) (k s : ℕ) → IsPackOf a k s →
+pub without_seeds_packed : {a : Rows} {k s : ℕ} → IsPackOf a k s →
     IsPacked (k / 2 ^ 60 * 2 ^ 60) 0 × (rows_at (k / 2 ^ 60 * 2 ^ 60) ≡ without_seeds a)
-without_seeds_packed a k s is =
+without_seeds_packed {a} {k} is =
     let side = length-replicate {A = ℕ} (length a.own) 0 in
     let none : sum (replicate (length a.own) 0) ≡ 0 = sum_by-replicate (λ x. x) (length a.own) 0 ∙ omega arith in
     packed_as (without_seeds a) (k / 2 ^ 60 * 2 ^ 60) 0

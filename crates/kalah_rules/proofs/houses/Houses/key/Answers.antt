@@ -3,4 +3,4 @@ use Rattle.kalah_rules.proofs.Keys.{pack_of}
 use Rattle.kalah_rules.proofs.houses.Houses.key.Goals as goal
 
 pub returns-clause-key : goal.returns-clause-key
-returns-clause-key c = sym (pack_of c.args.self.now c.self.inside.key c.self.inside.seeds c.self.invariant c.self.view_is).key_is
+returns-clause-key c = sym (pack_of c.self.invariant c.self.view_is).key_is

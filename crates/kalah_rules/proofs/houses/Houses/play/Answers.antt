@@ -9,45 +9,55 @@ pub after-again-requires : goal.after-again-requires
 after-again-requires c = legal_holds (bare c.args.self.now) c.args.h c.requires
 
 pub overflow_sub-seeds : goal.overflow_sub-seeds
-overflow_sub-seeds c = store_within c.args.self.now c.args.h c.self.inside.key c.self.inside.seeds c.after-again.result.0 (pack_of c.args.self.now c.self.inside.key c.self.inside.seeds c.self.invariant c.self.view_is) c.requires c.after-again.ensures.rows
+overflow_sub-seeds c = store_within c.self.invariant c.self.view_is c.requires c.after-again.ensures.rows
 
 pub overflow_cast-gained : goal.overflow_cast-gained
-overflow_cast-gained c = omega (arith, store_small c.args.self.now c.args.h c.after-again.result.0 c.after-again.ensures.limits c.requires c.after-again.ensures.rows)
+overflow_cast-gained c = omega (arith, store_small c.after-again.ensures.limits c.requires c.after-again.ensures.rows)
 
 pub returns-then-rows-eq0 : goal.returns-then-rows-eq0
-returns-then-rows-eq0 c = over_own c.args.self.now c.args.h c.self.inside.key c.self.inside.seeds c.after-again.result.0 (pack_of c.args.self.now c.self.inside.key c.self.inside.seeds c.self.invariant c.self.view_is) c.requires c.after-again.ensures.rows c.if-rows-eq0.true
+returns-then-rows-eq0 c = over_own c.self.invariant c.self.view_is c.requires c.after-again.ensures.rows c.if-rows-eq0.true
 
 pub returns-then-rows-eq0-2 : goal.returns-then-rows-eq0-2
 returns-then-rows-eq0-2 c =
-    let pack = pack_of c.args.self.now c.self.inside.key c.self.inside.seeds c.self.invariant c.self.view_is in
-    rw (c.seeds.ensures.seeds, ← pack.seeds_are) (over_other c.args.self.now c.args.h c.self.inside.key c.self.inside.seeds c.after-again.result.0 pack c.requires c.after-again.ensures.rows c.if-rows-eq0-2.true)
+    let pack = pack_of c.self.invariant c.self.view_is in
+    rw (c.seeds.ensures.seeds, ← pack.seeds_are) (over_other c.self.invariant c.self.view_is c.requires c.after-again.ensures.rows c.if-rows-eq0-2.true)
 
 pub overflow_mul-key : goal.overflow_mul-key
-overflow_mul-key c = omega (arith, packed_fits _ _ (again_packed c.args.self.now c.args.h c.self.inside.key c.self.inside.seeds c.after-again.result.0 (pack_of c.args.self.now c.self.inside.key c.self.inside.seeds c.self.invariant c.self.view_is) c.requires c.after-again.ensures.rows c.if-rows-eq0.false c.if-rows-eq0-2.false (sym c.after-again.ensures.again ∙ c.if-again.true)).0)
+overflow_mul-key c =
+    omega (arith, packed_fits (again_packed c.self.invariant c.self.view_is c.requires c.after-again.ensures.rows c.if-rows-eq0.false c.if-rows-eq0-2.false (sym c.after-again.ensures.again ∙ c.if-again.true)).0)
 
 pub overflow_add-key : goal.overflow_add-key
-overflow_add-key c = omega (arith, packed_fits _ _ (again_packed c.args.self.now c.args.h c.self.inside.key c.self.inside.seeds c.after-again.result.0 (pack_of c.args.self.now c.self.inside.key c.self.inside.seeds c.self.invariant c.self.view_is) c.requires c.after-again.ensures.rows c.if-rows-eq0.false c.if-rows-eq0-2.false (sym c.after-again.ensures.again ∙ c.if-again.true)).0)
+overflow_add-key c =
+    omega (arith, packed_fits (again_packed c.self.invariant c.self.view_is c.requires c.after-again.ensures.rows c.if-rows-eq0.false c.if-rows-eq0-2.false (sym c.after-again.ensures.again ∙ c.if-again.true)).0)
 
 pub overflow_add-key-then-again : goal.overflow_add-key-then-again
-overflow_add-key-then-again c = omega (arith, packed_fits _ _ (again_packed c.args.self.now c.args.h c.self.inside.key c.self.inside.seeds c.after-again.result.0 (pack_of c.args.self.now c.self.inside.key c.self.inside.seeds c.self.invariant c.self.view_is) c.requires c.after-again.ensures.rows c.if-rows-eq0.false c.if-rows-eq0-2.false (sym c.after-again.ensures.again ∙ c.if-again.true)).0)
+overflow_add-key-then-again c =
+    omega (arith, packed_fits (again_packed c.self.invariant c.self.view_is c.requires c.after-again.ensures.rows c.if-rows-eq0.false c.if-rows-eq0-2.false (sym c.after-again.ensures.again ∙ c.if-again.true)).0)
 
 pub overflow_mul-key-else-again : goal.overflow_mul-key-else-again
-overflow_mul-key-else-again c = omega (arith, packed_fits _ _ (turn_packed c.args.self.now c.args.h c.self.inside.key c.self.inside.seeds c.after-again.result.0 (pack_of c.args.self.now c.self.inside.key c.self.inside.seeds c.self.invariant c.self.view_is) c.requires c.after-again.ensures.rows c.if-rows-eq0.false c.if-rows-eq0-2.false (sym c.after-again.ensures.again ∙ c.if-again.false)).0)
+overflow_mul-key-else-again c =
+    omega (arith, packed_fits (turn_packed c.self.invariant c.self.view_is c.requires c.after-again.ensures.rows c.if-rows-eq0.false c.if-rows-eq0-2.false (sym c.after-again.ensures.again ∙ c.if-again.false)).0)
 
 pub overflow_add-key-else-again : goal.overflow_add-key-else-again
-overflow_add-key-else-again c = omega (arith, packed_fits _ _ (turn_packed c.args.self.now c.args.h c.self.inside.key c.self.inside.seeds c.after-again.result.0 (pack_of c.args.self.now c.self.inside.key c.self.inside.seeds c.self.invariant c.self.view_is) c.requires c.after-again.ensures.rows c.if-rows-eq0.false c.if-rows-eq0-2.false (sym c.after-again.ensures.again ∙ c.if-again.false)).0)
+overflow_add-key-else-again c =
+    omega (arith, packed_fits (turn_packed c.self.invariant c.self.view_is c.requires c.after-again.ensures.rows c.if-rows-eq0.false c.if-rows-eq0-2.false (sym c.after-again.ensures.again ∙ c.if-again.false)).0)
 
 pub overflow_add-key-else-again-2 : goal.overflow_add-key-else-again-2
-overflow_add-key-else-again-2 c = omega (arith, packed_fits _ _ (turn_packed c.args.self.now c.args.h c.self.inside.key c.self.inside.seeds c.after-again.result.0 (pack_of c.args.self.now c.self.inside.key c.self.inside.seeds c.self.invariant c.self.view_is) c.requires c.after-again.ensures.rows c.if-rows-eq0.false c.if-rows-eq0-2.false (sym c.after-again.ensures.again ∙ c.if-again.false)).0)
+overflow_add-key-else-again-2 c =
+    omega (arith, packed_fits (turn_packed c.self.invariant c.self.view_is c.requires c.after-again.ensures.rows c.if-rows-eq0.false c.if-rows-eq0-2.false (sym c.after-again.ensures.again ∙ c.if-again.false)).0)
 
 pub invariant_of-result : goal.invariant_of-result
-invariant_of-result c = (again_packed c.args.self.now c.args.h c.self.inside.key c.self.inside.seeds c.after-again.result.0 (pack_of c.args.self.now c.self.inside.key c.self.inside.seeds c.self.invariant c.self.view_is) c.requires c.after-again.ensures.rows c.if-rows-eq0.false c.if-rows-eq0-2.false (sym c.after-again.ensures.again ∙ c.if-again.true)).0
+invariant_of-result c =
+    (again_packed c.self.invariant c.self.view_is c.requires c.after-again.ensures.rows c.if-rows-eq0.false c.if-rows-eq0-2.false (sym c.after-again.ensures.again ∙ c.if-again.true)).0
 
 pub invariant_of-result-else-again : goal.invariant_of-result-else-again
-invariant_of-result-else-again c = (turn_packed c.args.self.now c.args.h c.self.inside.key c.self.inside.seeds c.after-again.result.0 (pack_of c.args.self.now c.self.inside.key c.self.inside.seeds c.self.invariant c.self.view_is) c.requires c.after-again.ensures.rows c.if-rows-eq0.false c.if-rows-eq0-2.false (sym c.after-again.ensures.again ∙ c.if-again.false)).0
+invariant_of-result-else-again c =
+    (turn_packed c.self.invariant c.self.view_is c.requires c.after-again.ensures.rows c.if-rows-eq0.false c.if-rows-eq0-2.false (sym c.after-again.ensures.again ∙ c.if-again.false)).0
 
 pub returns-then-again : goal.returns-then-again
-returns-then-again c = (again_packed c.args.self.now c.args.h c.self.inside.key c.self.inside.seeds c.after-again.result.0 (pack_of c.args.self.now c.self.inside.key c.self.inside.seeds c.self.invariant c.self.view_is) c.requires c.after-again.ensures.rows c.if-rows-eq0.false c.if-rows-eq0-2.false (sym c.after-again.ensures.again ∙ c.if-again.true)).1
+returns-then-again c =
+    (again_packed c.self.invariant c.self.view_is c.requires c.after-again.ensures.rows c.if-rows-eq0.false c.if-rows-eq0-2.false (sym c.after-again.ensures.again ∙ c.if-again.true)).1
 
 pub returns-else-again : goal.returns-else-again
-returns-else-again c = (turn_packed c.args.self.now c.args.h c.self.inside.key c.self.inside.seeds c.after-again.result.0 (pack_of c.args.self.now c.self.inside.key c.self.inside.seeds c.self.invariant c.self.view_is) c.requires c.after-again.ensures.rows c.if-rows-eq0.false c.if-rows-eq0-2.false (sym c.after-again.ensures.again ∙ c.if-again.false)).1
+returns-else-again c =
+    (turn_packed c.self.invariant c.self.view_is c.requires c.after-again.ensures.rows c.if-rows-eq0.false c.if-rows-eq0-2.false (sym c.after-again.ensures.again ∙ c.if-again.false)).1

@@ -2,7 +2,7 @@ use Rattle.kalah_rules.proofs.Keys.{pack_of, without_seeds_packed}
 use Rattle.kalah_rules.proofs.houses.Houses.without_seeds.Goals as goal
 
 pub invariant_of-result : goal.invariant_of-result
-invariant_of-result c = (without_seeds_packed c.args.self.now c.self.inside.key c.self.inside.seeds (pack_of c.args.self.now c.self.inside.key c.self.inside.seeds c.self.invariant c.self.view_is)).0
+invariant_of-result c = (without_seeds_packed (pack_of c.self.invariant c.self.view_is)).0
 
 pub returns : goal.returns
-returns c = (without_seeds_packed c.args.self.now c.self.inside.key c.self.inside.seeds (pack_of c.args.self.now c.self.inside.key c.self.inside.seeds c.self.invariant c.self.view_is)).1
+returns c = (without_seeds_packed (pack_of c.self.invariant c.self.view_is)).1
