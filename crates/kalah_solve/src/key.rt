@@ -5,9 +5,7 @@ ghost use Rattle.kalah_rules.specs.Key.{key_of, IsKey};
 
 use kalah_rules::Houses;
 
-/// The key of houses. Own house i stands in the five bits from 5(i - 1), the other player's house i in those from
-/// 30 + 5(i - 1), the houses per side in bits 60 to 62, and bit 63 is set for the empty-capture rule. Two values of
-/// houses have one key exactly where they are equal.
+/// The key of houses, `Houses::key`, which has its layout. Two values of houses have one key exactly where they are equal.
 pub fn pack(houses: &Houses) -> u64
     ensures key { result ≡ key_of houses.now }
     ensures limits { IsWithinHouses houses.now }
@@ -15,8 +13,7 @@ pub fn pack(houses: &Houses) -> u64
     houses.key()
 }
 
-/// The houses of a key. None where the number is no key: exactly where its houses per side aren't 1 to 6, a house past
-/// the last isn't 0, or the houses hold more than 31 seeds together.
+/// The houses of a key, `Houses::of_key`. None exactly where the number is no key.
 pub fn unpack(key: u64) -> Option<Houses>
     ensures valid { IsSome result ↔ IsKey key }
     ensures same { IfSome result (λ a. key_of a ≡ key) }
