@@ -15,9 +15,9 @@ fn rank(houses: &Houses, h: u8) -> u8
     requires last { h ≤ length houses.now.own }
     ensures { 0 < result }
 {
-    let m = houses.m();
+    let m = houses.m() as u32;
     let lap = 2 * m + 1;
-    let place = h + houses.own(h);
+    let place = h as u32 + houses.own(h) as u32;
     let moves_again = place == m + 1 || (place > lap && place % lap == m + 1);
     if moves_again {
         AGAIN + h
@@ -28,20 +28,20 @@ fn rank(houses: &Houses, h: u8) -> u8
 
 // What a move of house `h` seems to bring, when its last seed falls at this place: a seed where it reaches the store;
 // the capture where that seed falls into an empty house; and else nothing.
-fn promise(houses: &Houses, h: u8, place: u8) -> u8
+fn promise(houses: &Houses, h: u8, place: u32) -> u8
     requires first { 1 ≤ h }
     requires last { h ≤ length houses.now.own }
     requires past { h ≤ place }
     ensures { result ≤ 25 }
 {
-    let m = houses.m();
+    let m = houses.m() as u32;
     if place > m {
         return 1;
     }
-    if houses.own(place) > 0 {
+    if houses.own(place as u8) > 0 {
         return 0;
     }
-    let taken = houses.other(m + 1 - place);
+    let taken = houses.other((m + 1 - place) as u8);
     if houses.rule().captures(taken) {
         (taken + 1).min(25)
     } else {
