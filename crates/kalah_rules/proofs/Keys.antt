@@ -148,7 +148,7 @@ rule_bit-same EmptyCapture EmptyCapture e = refl
 pub same_rows_of : {a b : Rows} → a.own ≡ b.own → a.other ≡ b.other → a.rule ≡ b.rule → a ≡ b
 same_rows_of x y z = λ i. record { own = x i; other = y i; rule = z i }
 
--- the houses of a key are those that it is the key of
+-- the houses that have a key, told by its parts
 pub rows_of_key : (a : Rows) (k : ℕ) (rule : Rule) → IsWithinHouses a → key_of a ≡ k → rule_bit rule ≡ k / 2 ^ 63 →
     rows_from (side_at k) (cells 6 k) (cells 6 (k / 2 ^ 30)) rule ≡ a
 rows_of_key a k rule h e bit =
@@ -184,10 +184,6 @@ rule_at-bit (suc zero) h = refl
 rule_at-bit (suc (suc n)) h = absurd (omega arith)
 
 -- the houses of a key are those whose key it is
-pub key_of_rows_at : (k : ℕ) → k < 2 ^ 64 → IsKey k → key_of (rows_at k) ≡ k
-key_of_rows_at k fits h = key_of_rows k (rule_at k) h (rule_at-bit (k / 2 ^ 63) (omega arith))
-
--- and no others
 pub rows_at_key : (a : Rows) → IsWithinHouses a → rows_at (key_of a) ≡ a
 rows_at_key a h =
     let says = key_says a (key_of a) h refl in
@@ -283,15 +279,6 @@ pub record IsRead (xs : List ℕ) (k number : ℕ) : Type 0 where
   pub value : number ≡ number_of (drop k xs)
   pub small : number < 2 ^ 30
 
--- nothing is past a whole row
-drop-all : (xs : List ℕ) → drop (length xs) xs ≡ []
-drop-all [] = refl
-drop-all (x ∷ xs) = drop-all xs
-
--- nothing is read yet
-pub read_none : (xs : List ℕ) (m : ℕ) → m ≡ length xs → IsRead xs m 0
-read_none xs m long = record { value = rw (long, drop-all xs) refl; small = omega arith }
-
 -- one house more is read
 pub read_more : (xs : List ℕ) (m passed number x : ℕ) → length xs ≤ 6 → sum xs ≤ 31 → m ≡ length xs → passed < m →
     IsRead xs (m - passed) number → x ≡ get_or xs (m - passed - 1) 0 → IsRead xs (m - (passed + 1)) (32 * number + x)
@@ -307,10 +294,6 @@ read_more xs m passed number x few sum_few long more is at =
       value = omega arith;
       small = omega (arith, number_of-small 6 xs few sum_few, number_of-drop-le xs k);
     }
-
--- all houses of a row
-pub read_all : (xs : List ℕ) (k number : ℕ) → k ≡ 0 → IsRead xs k number → number ≡ number_of xs
-read_all xs k number none is = is.value ∙ ap (λ j. number_of (drop j xs)) none
 
 -- what `Houses::new` answers at the parts of a key
 module _ (k : ℕ) (rule : Rule) (bit : rule_bit rule ≡ k / 2 ^ 63) where

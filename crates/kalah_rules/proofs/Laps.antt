@@ -5,10 +5,6 @@ use Rattle.std.proofs.lemmas.Bool.{cases_lt}
 use Rattle.std.proofs.lemmas.Bool.Decides.{nat_tests}
 use Rattle.kalah_rules.specs.Sowing.{own_distance, gain}
 
--- a whole lap is no rest
-mod_whole : (n : ℕ) → 0 < n → n % n ≡ 0
-mod_whole n pos = let e : n ≡ 1 * n + 0 = omega arith in ap (λ x. x % n) e ∙ mod-mul-add 1 n 0 pos
-
 -- a count and its successor, in whole laps and the rest
 pub div-mod-suc : (n k : ℕ) → 0 < n →
     ((k % n + 1 < n) × ((k + 1) % n ≡ k % n + 1) × ((k + 1) / n ≡ k / n))

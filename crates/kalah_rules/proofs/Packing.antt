@@ -169,10 +169,6 @@ ones_le a (suc b) h = elim (cases_eq a (suc b)) [
   | inr less ↦ let on = ones_le a b (omega arith) in omega (arith, number_of-suc b (λ i. 1))
 ]
 
--- six houses hold a small number
-pub ones_small : (n : ℕ) → n ≤ 6 → ones n ≤ 34636833
-ones_small n h = ones_le n 6 h
-
 -- seeds in one house fit sixty-four bits
 pub alone_small : (k x : ℕ) → k ≤ 5 → x < 32 → x * 32 ^ k % 2 ^ 64 ≡ 32 ^ k * x
 alone_small zero x h few = omega arith
