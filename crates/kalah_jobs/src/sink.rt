@@ -31,8 +31,7 @@ pub trait Sink {
     fn before_waiting(&mut self)
         requires { has_failed self.old ≡ false }
         ensures keeps { has_failed self.new ≡ false → Keeps (written self.old) (written self.new) }
-    {
-    }
+    {}
 
     /// Whether a call has failed.
     fn failed(&self) -> bool
