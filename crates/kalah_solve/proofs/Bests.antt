@@ -64,7 +64,7 @@ pub eq_yes : (a b : ℤ) → a ≡ b → int_eq a b ≡ true
 eq_yes a b e = (Decides-int_eq a b).1 e
 
 -- and a lower one fails it
-eq_no : (a b : ℤ) → a <ℤ b → int_eq a b ≡ false
+pub eq_no : (a b : ℤ) → a <ℤ b → int_eq a b ≡ false
 eq_no a b less = elim (cases_Bool (int_eq a b)) [
   | inl same ↦ let e = (Decides-int_eq a b).0 same in absurd (omega (arith, ints))
   | inr differ ↦ differ

@@ -9,7 +9,9 @@ pub mod BestMoves
 pub mod Verdicts
 mod StepWorths
 mod HousesWorth
+mod Shares
+mod Takings
 mod Entries
-mod Ranked
+mod Tries
 mod Windows
 mod Roots

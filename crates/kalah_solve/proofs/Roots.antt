@@ -1,7 +1,10 @@
--- The best house so far, at the root.
-use Rattle.std.proofs.Common.{◌≡◌, ℕ, ◌+◌, ◌<◌, ◌≤◌, length, get_or, arith, ap, sym, ◌∙◌, take, subst, w32, to_z, of_z}
-use Rattle.std.specs.Prelude.{Bool, true, false, Contains, if◌then◌else◌, int_lt, unwrap_or, ℤ, pos, negsuc, ◌+ℤ◌, ◌-ℤ◌, ◌≤ℤ◌, ◌<ℤ◌}
+-- The first house that attains the margin of best play, and the margin with the stores.
+use Rattle.std.proofs.Common.{zero, suc, inl, inr, List, [], ◌∷◌, refl, ◌≡◌, ℕ, ◌+◌, ◌<◌, ◌≤◌, length, get_or, arith, ap, sym, ◌∙◌, w32, to_z, of_z}
+use Rattle.std.specs.Prelude.{Bool, true, false, Contains, if◌then◌else◌, unwrap_or, find, Some, ℤ, pos, negsuc, ◌+ℤ◌, ◌-ℤ◌, ◌≤ℤ◌, ◌<ℤ◌}
 use Rattle.std.proofs.lemmas.Int.{ints, clamps}
+use Rattle.std.specs.Ordering.{int_eq}
+use Rattle.std.proofs.lemmas.Bool.{cases_eq}
+use Rattle.std.proofs.lemmas.List.{get_or_default}
 use Rattle.std.proofs.lemmas.List.Elements.{Contains-get_or}
 use Rattle.kalah_rules.specs.Position.{Position, Rows, IsWithinHouses, IsWithinLimits, IsSmallMargin, is_over, final_margin, rows_of, bare}
 use Rattle.kalah_rules.specs.Play.{legal_houses}
@@ -9,100 +12,75 @@ use Rattle.kalah_solve.specs.Table.{within}
 use Rattle.kalah_solve.specs.Worth.{worth, houses_worth, value_of_move, best_house}
 use Rattle.kalah_solve.specs.Verdict.{verdict_of}
 use Rattle.kalah_solve.specs.declared.verdict.Verdict.TheVariants.{Best, Over}
-use Rattle.kalah_solve.proofs.Bests.{IsBestOf, best_first_of, step_better, step_kept}
-use Rattle.kalah_solve.proofs.HousesWorth.{value_up_to, worth_up_to}
+use Rattle.kalah_rules.specs.HousesStep.{houses_step}
+use Rattle.kalah_solve.specs.Taken.{taken, taken_by_step}
+use Rattle.kalah_solve.proofs.Bests.{eq_yes, eq_no}
+use Rattle.kalah_solve.proofs.Finds.{greatest_is_one}
+use Rattle.kalah_solve.proofs.Takings.{worth_up_to, worth_low, worth_high, taken_share, taken_by_move, taken_most}
 use Rattle.kalah_solve.proofs.Stores.{worth_of_rows}
 use Rattle.kalah_solve.proofs.Worths.{worth_of_going}
 
--- the first i houses have the greatest value `best`, and `house` is the first that attains it
-pub record RootProgress (a : Rows) (i : ℕ) (best : ℤ) (house : ℕ) : Type 0 where
-  pub is : IsBestOf (value_of_move (bare a)) (take i (legal_houses (bare a))) best house
-  pub low : negsuc 30 ≤ℤ best
-  pub high : best ≤ℤ pos 31
-  pub legal : Contains (legal_houses (bare a)) house
-
--- a move is worth no less than the window holds
-value_low : (a : Rows) (h : ℕ) → IsWithinHouses a → Contains (legal_houses (bare a)) h → negsuc 30 ≤ℤ value_of_move (bare a) h
-value_low a h w has = omega (arith, ints, (value_up_to a h w has).low, w.few_seeds)
-
--- and no more
-value_high : (a : Rows) (h : ℕ) → IsWithinHouses a → Contains (legal_houses (bare a)) h → value_of_move (bare a) h ≤ℤ pos 31
-value_high a h w has = omega (arith, ints, (value_up_to a h w has).high, w.few_seeds)
+-- the first number that passes is found
+find_at : (p : ℕ → Bool) (xs : List ℕ) (i : ℕ) → i < length xs → ((k : ℕ) → k < i → p (get_or xs k 0) ≡ false) → p (get_or xs i 0) ≡ true → find p xs ≡ Some (get_or xs i 0)
+find_at p [] i within fails here = absurd (omega arith)
+find_at p (x ∷ xs) zero within fails here = rw here refl
+find_at p (x ∷ xs) (suc i) within fails here =
+    let first : p x ≡ false = fails 0 (omega arith) in
+    rw first (find_at p xs i (omega arith) (λ k low. fails (suc k) (omega arith)) here)
 
 -- the whole window tells the worth
 whole_window : (found z : ℤ) → found ≡ within (negsuc 30) (pos 31) z → negsuc 30 ≤ℤ z → z ≤ℤ pos 31 → found ≡ z
 whole_window found z e low high = omega (arith, ints, clamps, e, low, high)
 
--- an answer above the best is the worth
-better_is : (best found z : ℤ) → found ≡ within best (pos 31) z → z ≤ℤ pos 31 → best <ℤ found → found ≡ z
-better_is best found z e high better = omega (arith, ints, clamps, e, high, better)
+pub root_worth : (a : Rows) (found : ℤ) → IsWithinHouses a → found ≡ within (negsuc 30) (pos 31) (houses_worth a) → found ≡ houses_worth a
+root_worth a found w e = whole_window found _ e (worth_low a w) (worth_high a w)
 
--- and one that is not says that the worth is not
-worse_is : (best found z : ℤ) → found ≡ within best (pos 31) z → z ≤ℤ pos 31 → best ≤ℤ pos 31 → found ≤ℤ best → z ≤ℤ best
-worse_is best found z e high most worse = omega (arith, ints, clamps, e, high, most, worse)
+-- the first i houses are worth less than the margin of best play
+abbrev pub FallShort : Rows → ℕ → Type 0
+FallShort a i = (k : ℕ) → k < i → int_eq (value_of_move (bare a) (get_or (legal_houses (bare a)) k 0)) (houses_worth a) ≡ false
 
--- the test for less
-test_less : (a b : ℤ) → a <ℤ b → int_lt a b ≡ true
-test_less a b h = grind (arith, ints)
+module _ (a : Rows) (w : IsWithinHouses a) where
+  -- a house that takes as many seeds as best play is worth as much
+  enough_is : (h : ℕ) → Contains (legal_houses (bare a)) h → taken a ≤ taken_by_step (houses_step a h) → value_of_move (bare a) h ≡ houses_worth a
+  enough_is h has enough =
+      let most = taken_most a w h has in
+      omega (arith, ints, (taken_by_move a w h has).is, (taken_share a w).is)
 
--- and where it fails
-test_not_less : (a b : ℤ) → b ≤ℤ a → int_lt a b ≡ false
-test_not_less a b h = grind (arith, ints)
+  -- and one that takes fewer is worth less
+  short_is : (h : ℕ) → Contains (legal_houses (bare a)) h → taken_by_step (houses_step a h) < taken a → value_of_move (bare a) h <ℤ houses_worth a
+  short_is h has less = omega (arith, ints, (taken_by_move a w h has).is, (taken_share a w).is)
 
--- the first house, in the whole window
-pub root_first : (a : Rows) (house : ℕ) (best : ℤ) → IsWithinHouses a → 0 < length (legal_houses (bare a)) → house ≡ get_or (legal_houses (bare a)) 0 0 →
-    best ≡ within (negsuc 30) (pos 31) (value_of_move (bare a) house) → RootProgress a 1 best house
-root_first a house best w some at e =
-    let has : Contains (legal_houses (bare a)) house = subst (Contains (legal_houses (bare a))) (sym at) (Contains-get_or (legal_houses (bare a)) 0 0 some) in
-    let low = value_low a house w has in
-    let high = value_high a house w has in
-    let best_is : best ≡ value_of_move (bare a) house = whole_window best _ e low high in
-    record {
-      is = best_first_of (value_of_move (bare a)) (legal_houses (bare a)) best house some at best_is;
-      low = rw best_is low;
-      high = rw best_is high;
-      legal = has;
-    }
+  -- the first house that is worth the margin is the one
+  root_is : (i : ℕ) → i < length (legal_houses (bare a)) → FallShort a i → value_of_move (bare a) (get_or (legal_houses (bare a)) i 0) ≡ houses_worth a →
+      get_or (legal_houses (bare a)) i 0 ≡ best_house (bare a)
+  root_is i inside short is =
+      sym (ap (λ o. unwrap_or o 0) (find_at (λ h. int_eq (value_of_move (bare a) h) (houses_worth a)) (legal_houses (bare a)) i inside short (eq_yes _ _ is)))
 
-module _ (a : Rows) (i : ℕ) (best : ℤ) (house : ℕ) (p : RootProgress a i best house) (w : IsWithinHouses a) (low : 1 ≤ i) (inside : i < length (legal_houses (bare a))) where
-  -- the next house may be moved
-  has_next : Contains (legal_houses (bare a)) (get_or (legal_houses (bare a)) i 0)
-  has_next = Contains-get_or (legal_houses (bare a)) i 0 inside
+  -- a house that takes enough, where those before it fall short
+  pub root_found : (i : ℕ) → i < length (legal_houses (bare a)) → FallShort a i → taken a ≤ taken_by_step (houses_step a (get_or (legal_houses (bare a)) i 0)) →
+      get_or (legal_houses (bare a)) i 0 ≡ best_house (bare a)
+  root_found i inside short enough = root_is i inside short (enough_is _ (Contains-get_or (legal_houses (bare a)) i 0 inside) enough)
 
-  -- the next house is better
-  pub root_better : (h : ℕ) (found : ℤ) → h ≡ get_or (legal_houses (bare a)) i 0 → found ≡ within best (pos 31) (value_of_move (bare a) h) → best <ℤ found → RootProgress a (i + 1) found h
-  root_better h found at e better =
-      let has : Contains (legal_houses (bare a)) h = subst (Contains (legal_houses (bare a))) (sym at) has_next in
-      let high = value_high a h w has in
-      let found_is : found ≡ value_of_move (bare a) h = better_is best found _ e high better in
-      record {
-        is = step_better (value_of_move (bare a)) (legal_houses (bare a)) i best house p.is low inside found h at found_is (test_less best found better);
-        low = rw found_is (value_low a h w has);
-        high = rw found_is high;
-        legal = has;
-      }
+  -- one that falls short, too
+  pub root_short : (i : ℕ) → i < length (legal_houses (bare a)) → FallShort a i → taken_by_step (houses_step a (get_or (legal_houses (bare a)) i 0)) < taken a →
+      FallShort a (i + 1)
+  root_short i inside short less k low = elim (cases_eq k i) [
+    | inl same ↦ rw same (eq_no _ _ (short_is _ (Contains-get_or (legal_houses (bare a)) i 0 inside) less))
+    | inr other ↦ short k (omega arith)
+  ]
 
-  -- it is not
-  pub root_kept : (h : ℕ) (found : ℤ) → h ≡ get_or (legal_houses (bare a)) i 0 → found ≡ within best (pos 31) (value_of_move (bare a) h) → found ≤ℤ best → RootProgress a (i + 1) best house
-  root_kept h found at e worse =
-      let has : Contains (legal_houses (bare a)) h = subst (Contains (legal_houses (bare a))) (sym at) has_next in
-      let less = worse_is best found _ e (value_high a h w has) p.high worse in
-      record {
-        is = step_kept (value_of_move (bare a)) (legal_houses (bare a)) i best house p.is low inside (value_of_move (bare a) h) (ap (value_of_move (bare a)) at) (test_not_less best _ less);
-        low = p.low;
-        high = p.high;
-        legal = p.legal;
-      }
-
--- what the loop ends with
-pub root_margin : (a : Rows) (best : ℤ) (house : ℕ) → IsWithinHouses a → is_over (bare a) ≡ false →
-    IsBestOf (value_of_move (bare a)) (legal_houses (bare a)) best house → best ≡ houses_worth a
-root_margin a best house w going is = is.best_is ∙ sym (worth_of_going (bare a) (record { same = w.same_side }) going)
-
--- and the house
-pub root_house : (a : Rows) (best : ℤ) (house : ℕ) → IsWithinHouses a → is_over (bare a) ≡ false →
-    IsBestOf (value_of_move (bare a)) (legal_houses (bare a)) best house → house ≡ best_house (bare a)
-root_house a best house w going is = sym (ap (λ o. unwrap_or o 0) (rw (root_margin a best house w going is) at is.house_is))
+  -- where all but the last fall short, it is the last
+  pub root_last : (n : ℕ) → is_over (bare a) ≡ false → length (legal_houses (bare a)) ≡ n + 1 → FallShort a n → get_or (legal_houses (bare a)) n 0 ≡ best_house (bare a)
+  root_last n going many short =
+      let one = greatest_is_one (value_of_move (bare a)) (legal_houses (bare a)) (omega (arith, many)) in
+      let worth_is = worth_of_going (bare a) (record { same = w.same_side }) going in
+      let inside : one.1.0 < length (legal_houses (bare a)) = one.1.1 in
+      let place : get_or (legal_houses (bare a)) one.1.0 0 ≡ one.0 = get_or_default (legal_houses (bare a)) one.1.0 0 one.0 inside ∙ one.1.2 in
+      let is : value_of_move (bare a) (get_or (legal_houses (bare a)) one.1.0 0) ≡ houses_worth a = ap (value_of_move (bare a)) place ∙ one.2 ∙ sym worth_is in
+      elim (cases_eq one.1.0 n) [
+        | inl same ↦ root_is n (omega (arith, many)) short (rw same at is)
+        | inr other ↦ absurd (let here = eq_yes _ _ is in let there = short one.1.0 (omega (arith, many)) in cc)
+      ]
 
 -- ---- with the stores
 pub margin_is : (p : Position) (best margin : ℤ) → best ≡ houses_worth (rows_of p) → margin ≡ best +ℤ (pos p.own_store -ℤ pos p.other_store) → margin ≡ worth p

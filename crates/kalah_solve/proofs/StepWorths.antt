@@ -83,7 +83,3 @@ pub step_falls : (a : Rows) (h : ℕ) (s : HousesStep) → IsWithinHouses a → 
 step_falls a h s w has e =
     let fewer = after_fewer (bare a) h (legal_holds (bare a) h has) (record { same = w.same_side }) in
     subst (λ x. moves_after x < moves_left (bare a)) (sym e) (falls_of a (houses_step a h) (omega (arith, fewer)) (leads_on a h w has))
-
--- a step is worth what its move is
-pub step_value : (a : Rows) (h : ℕ) (s : HousesStep) → IsWithinHouses a → Contains (legal_houses (bare a)) h → s ≡ houses_step a h → worth_of_step s ≡ value_of_move (bare a) h
-step_value a h s w has e = ap worth_of_step e ∙ sym (value_is a h w has)

@@ -139,12 +139,6 @@ value_of_over p h e is =
     let step = over_step (is_over (after p h)) (is_again p h) (after p h) e is in
     rw (step.1, step.0) (final_margin-swept (after p h))
 
--- and where the mover moves again
-pub value_of_again : (p : Position) (h : ℕ) (e : Position) → Again e ≡ step_of p h → worth e ≡ value_of_move p h
-value_of_again p h e is =
-    let step = again_step (is_over (after p h)) (is_again p h) (after p h) e is in
-    rw (step.2, step.0, step.1) refl
-
 -- where the turn passes
 pub value_of_turn : (p : Position) (h : ℕ) (e : Position) → Turn e ≡ step_of p h → neg_ℤ (worth e) ≡ value_of_move p h
 value_of_turn p h e is =

@@ -4,3 +4,5 @@ pub mod Verdict
 pub mod Laws
 pub mod StepWorth
 pub mod Table
+pub mod Taken
+pub mod Tried

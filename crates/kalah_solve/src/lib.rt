@@ -5,10 +5,12 @@
 mod granting;
 mod key;
 mod laws;
+mod places;
 #[cfg(test)]
 mod plain;
 mod ranks;
 mod search;
+mod share;
 mod solver;
 mod table;
 mod verdict;

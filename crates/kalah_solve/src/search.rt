@@ -1,18 +1,21 @@
-//! The search in a window: what houses are worth, raised to the window's lower end and lowered to its upper end.
-ghost use Rattle.std.specs.Prelude.{◌≡◌, ℕ, ◌+◌, ◌≤◌, ◌<◌, false, length, Contains, slice_index, ℤ, pos, negsuc, ◌≤ℤ◌};
-ghost use Rattle.kalah_rules.specs.Position.{is_over, seeds_in_houses, IsWithinHouses, bare};
-ghost use Rattle.kalah_rules.specs.Play.{legal_houses};
-ghost use Rattle.kalah_solve.specs.Worth.{houses_worth, value_of_move};
-ghost use Rattle.kalah_solve.specs.StepWorth.{worth_of_step, GoesOn};
+//! The search: what houses are worth in a window, told by one test after another of what the mover takes.
+ghost use Rattle.std.specs.Prelude.{◌≡◌, ◌↔◌, ℕ, ◌+◌, ◌≤◌, ◌<◌, false, IsTrue, ℤ, pos, negsuc, ◌≤ℤ◌, max, min};
+ghost use Rattle.kalah_rules.specs.Position.{is_over, bare};
+ghost use Rattle.kalah_solve.specs.Worth.{houses_worth};
 ghost use Rattle.kalah_solve.specs.Table.{within, Holds};
+ghost use Rattle.kalah_solve.specs.Taken.{taken, IsWithinShare};
 
-use crate::ranks::{highest, ranks};
+mod reaches;
+#[cfg(test)]
+mod tests;
+
+use crate::share::Share;
 use crate::table::{Interval, Table};
-use kalah_rules::{Houses, HousesStep};
+use kalah_rules::Houses;
 use std::alloc::{Allocator, Global};
 
-/// Houses with fewer seeds than this are not looked up: to search them takes no longer.
-const LEAST_SEEDS: u8 = 7;
+/// What is known of houses with at most so many seeds is kept in their place, and of others among the entries.
+const MOST_PLACED: u8 = 20;
 
 /// An answer that took fewer nodes than this is not worth an entry.
 const LEAST_WORK: u64 = 60;
@@ -21,7 +24,7 @@ const LEAST_WORK: u64 = 60;
 #[derive(Drop)]
 pub struct Search<A: Allocator + Clone = Global> {
     table: Table<A>,
-    least_seeds: u8,
+    most_placed: u8,
     least_work: u64,
     nodes: u64,
 }
@@ -31,18 +34,18 @@ impl<A: Allocator + Clone> Search<A> {
     pub fn new(table: Table<A>) -> Search<A> {
         Search {
             table,
-            least_seeds: LEAST_SEEDS,
+            most_placed: MOST_PLACED,
             least_work: LEAST_WORK,
             nodes: 0,
         }
     }
 
-    /// A search that keeps every answer in its table.
+    /// A search that keeps every answer among the entries of its table.
     #[cfg(test)]
     pub fn with_all_entries(table: Table<A>) -> Search<A> {
         Search {
             table,
-            least_seeds: 0,
+            most_placed: 0,
             least_work: 0,
             nodes: 0,
         }
@@ -54,7 +57,6 @@ impl<A: Allocator + Clone> Search<A> {
     }
 
     /// The worth of the houses, raised to `lo` and lowered to `hi`.
-    #[cycle(search)]
     pub fn search(&mut self, houses: &Houses, lo: i32, hi: i32) -> i32
         requires going { is_over (bare houses.now) ≡ false }
         requires low { negsuc 30 ≤ℤ lo }
@@ -62,33 +64,14 @@ impl<A: Allocator + Clone> Search<A> {
         requires high { hi ≤ℤ pos 31 }
         ensures { result ≡ within lo hi (houses_worth houses.now) }
     {
-        if lo == hi {
-            return lo;
-        }
-        self.nodes = self.nodes.wrapping_add(1);
-        if houses.seeds() < self.least_seeds {
-            return self.explore(houses, lo, hi);
-        }
-        self.search_known(houses, lo, hi)
-    }
-
-    // The same, by what the table knows of the houses.
-    #[cycle(search)]
-    fn search_known(&mut self, houses: &Houses, lo: i32, hi: i32) -> i32
-        requires going { is_over (bare houses.now) ≡ false }
-        requires low { negsuc 30 ≤ℤ lo }
-        requires ordered { lo ≤ℤ hi }
-        requires high { hi ≤ℤ pos 31 }
-        ensures { result ≡ within lo hi (houses_worth houses.now) }
-    {
-        let known = self.known(houses);
+        let known = self.known_margins(houses);
         let low = lo.max(known.lo as i32);
         let high = hi.min(known.hi as i32);
         if high <= low {
             return (known.lo as i32).clamp(lo, hi);
         }
         let before = self.nodes;
-        let answer = self.explore(houses, low, high);
+        let answer = self.close_in(houses, low, high);
         if self.nodes.wrapping_sub(before) >= self.least_work {
             self.table
                 .keep(houses, Interval::learned(low, high, answer).shared(known));
@@ -97,7 +80,7 @@ impl<A: Allocator + Clone> Search<A> {
     }
 
     // An interval that holds the worth of the houses.
-    fn known(&mut self, houses: &Houses) -> Interval
+    fn known_margins(&mut self, houses: &Houses) -> Interval
         ensures holds { Holds result (houses_worth houses.now) }
         ensures least { negsuc 30 ≤ℤ houses_worth houses.now }
         ensures most { houses_worth houses.now ≤ℤ pos 31 }
@@ -109,77 +92,66 @@ impl<A: Allocator + Clone> Search<A> {
         }
     }
 
-    // The same, by trying the moves, the best ranked first.
-    #[cycle(search)]
-    fn explore(&mut self, houses: &Houses, lo: i32, hi: i32) -> i32
+    // The worth of the houses in the window, by the seeds that the mover takes.
+    fn close_in(&mut self, houses: &Houses, lo: i32, hi: i32) -> i32
         requires going { is_over (bare houses.now) ≡ false }
         requires low { negsuc 30 ≤ℤ lo }
         requires ordered { lo ≤ℤ hi }
         requires high { hi ≤ℤ pos 31 }
         ensures { result ≡ within lo hi (houses_worth houses.now) }
     {
-        let _seeds = houses.seeds();
-        let mut untried = ranks(houses);
-        let mut best = lo;
-        let mut first = true;
-        let mut at = highest(&untried);
-        while untried[at] > 0 && best < hi {
-            untried[at] = 0;
-            best = self.attempt(houses, at as u8 + 1, !first, best, hi);
-            first = false;
-            at = highest(&untried);
-        }
-        best
+        let seeds = houses.seeds();
+        let asked = Share::of_window(lo, hi, seeds);
+        let taken = self.taken_within(houses, asked);
+        (2 * taken as i32 - seeds as i32).clamp(lo, hi)
     }
 
-    /// What house `h` is worth, raised to `lo` and lowered to `hi`. With `probe`, the search first asks whether it is
-    /// worth more than `lo`, in a window two wide.
-    #[cycle(search)]
-    pub fn attempt(&mut self, houses: &Houses, h: u8, probe: bool, lo: i32, hi: i32) -> i32
-        requires legal { Contains (legal_houses (bare houses.now)) h }
-        requires low { negsuc 30 ≤ℤ lo }
-        requires ordered { lo ≤ℤ hi }
-        requires high { hi ≤ℤ pos 31 }
-        ensures { result ≡ within lo hi (value_of_move (bare houses.now) h) }
+    // The seeds that the mover takes, raised to the least of the share and lowered to its most: tests close in on them.
+    fn taken_within(&mut self, houses: &Houses, asked: Share) -> u8
+        requires going { is_over (bare houses.now) ≡ false }
+        requires ordered { asked.least ≤ asked.most }
+        requires high { asked.most ≤ 31 }
+        ensures { result ≡ max asked.least (min asked.most (taken houses.now)) }
     {
-        let _seeds = houses.seeds();
-        let step = houses.play(h);
-        if probe && hi - lo > 2 {
-            let middle = lo + 2;
-            let found = self.follow(&step, lo, middle);
-            if found < middle {
-                return found;
+        let mut low = asked.least;
+        let mut high = asked.most;
+        let mut bar = houses.seeds() / 2 + 1;
+        while low < high {
+            let asked_bar = bar.clamp(low + 1, high);
+            if self.explore(houses, asked_bar) {
+                low = asked_bar;
+                bar = asked_bar + 1;
+            } else {
+                high = asked_bar - 1;
+                bar = high;
             }
-            return self.follow(&step, found, hi);
         }
-        self.follow(&step, lo, hi)
+        low
     }
 
-    // What a step is worth, raised to `lo` and lowered to `hi`.
-    #[cycle(search)]
-    fn follow(&mut self, step: &HousesStep, lo: i32, hi: i32) -> i32
-        requires on { GoesOn step.now }
-        requires low { negsuc 30 ≤ℤ lo }
-        requires ordered { lo ≤ℤ hi }
-        requires high { hi ≤ℤ pos 31 }
-        ensures { result ≡ within lo hi (worth_of_step step.now) }
+    // What is known of the seeds that the mover takes.
+    fn known(&mut self, houses: &Houses) -> Share
+        ensures { IsWithinShare result (taken houses.now) }
     {
-        match step {
-            HousesStep::Over { own, other } => (*own as i32 - *other as i32).clamp(lo, hi),
-            HousesStep::Again(gained, next) => {
-                let shift = *gained as i32;
-                let seeds = next.seeds() as i32;
-                let low = (lo - shift).clamp(-seeds, seeds);
-                let high = (hi - shift).clamp(-seeds, seeds);
-                (shift + self.search(next, low, high)).clamp(lo, hi)
-            }
-            HousesStep::Turn(gained, next) => {
-                let shift = *gained as i32;
-                let seeds = next.seeds() as i32;
-                let low = (shift - hi).clamp(-seeds, seeds);
-                let high = (shift - lo).clamp(-seeds, seeds);
-                (shift - self.search(next, low, high)).clamp(lo, hi)
-            }
+        let seeds = houses.seeds();
+        if seeds <= self.most_placed {
+            return self.table.look_up_place(houses);
+        }
+        match self.table.look_up(houses) {
+            Some(margins) => Share::of_margins(margins, seeds),
+            None => Share::unknown(houses),
+        }
+    }
+
+    // Keeps what was learned of them, by so much work.
+    fn learn(&mut self, houses: &Houses, share: Share, work: u64)
+        requires { IsWithinShare share (taken houses.now) }
+    {
+        let seeds = houses.seeds();
+        if seeds <= self.most_placed {
+            self.table.keep_place(houses, share);
+        } else if work >= self.least_work {
+            self.table.keep(houses, share.margins(seeds));
         }
     }
 }

@@ -3,12 +3,14 @@ ghost use Rattle.std.specs.Prelude.{◌≡◌, false, Contains, pos, negsuc, ◌
 ghost use Rattle.kalah_rules.specs.Position.{is_over, bare};
 ghost use Rattle.kalah_rules.specs.Play.{legal_houses};
 ghost use Rattle.kalah_solve.specs.Worth.{houses_worth, best_house};
+ghost use Rattle.kalah_solve.specs.Taken.{taken};
 ghost use Rattle.kalah_solve.specs.Verdict.{verdict_of, TellsBestPlay, IsSmallVerdict};
 
 #[cfg(test)]
 mod tests;
 
 use crate::search::Search;
+use crate::share::half;
 use crate::table::Table;
 use crate::verdict::Verdict;
 use kalah_rules::{Board, Houses, Moves};
@@ -47,8 +49,7 @@ impl<A: Allocator + Clone> Solver<A> {
         Verdict::Best { margin, house }
     }
 
-    // The margin of best play of the houses, and the lowest house that attains it: the first house is searched in the
-    // whole window, and each later one from the best so far, which only a better one replaces.
+    // The margin of best play of the houses, and the lowest house that attains it.
     fn best_move(&mut self, houses: &Houses, moves: &Moves) -> (i32, u8)
         requires moves { moves.now ≡ legal_houses (bare houses.now) }
         requires going { is_over (bare houses.now) ≡ false }
@@ -58,17 +59,28 @@ impl<A: Allocator + Clone> Solver<A> {
         ensures low { negsuc 30 ≤ℤ result.0 }
         ensures high { result.0 ≤ℤ pos 31 }
     {
+        let seeds = houses.seeds();
+        let margin = self.search.search(houses, -31, 31);
+        let bar = half(margin + seeds as i32);
+        (margin, self.first_house(houses, moves, bar))
+    }
+
+    // The first house that takes as many seeds as best play. Where all but the last fall short, it is the last.
+    fn first_house(&mut self, houses: &Houses, moves: &Moves, bar: u8) -> u8
+        requires moves { moves.now ≡ legal_houses (bare houses.now) }
+        requires going { is_over (bare houses.now) ≡ false }
+        requires best { bar ≡ taken houses.now }
+        ensures house { result ≡ best_house (bare houses.now) }
+        ensures legal { Contains (legal_houses (bare houses.now)) result }
+    {
         let _seeds = houses.seeds();
-        let mut house = moves.get(0);
-        let mut best = self.search.attempt(houses, house, false, -31, 31);
-        for i in 1..moves.len() {
+        let last = moves.len() - 1;
+        for i in 0..last {
             let h = moves.get(i);
-            let found = self.search.attempt(houses, h, true, best, 31);
-            if found > best {
-                best = found;
-                house = h;
+            if self.search.move_reaches(houses, h, bar) {
+                return h;
             }
         }
-        (best, house)
+        moves.get(last)
     }
 }

@@ -4,6 +4,8 @@ ghost use Rattle.std.specs.Map.{lookup};
 ghost use Rattle.kalah_rules.specs.Key.{key_of};
 ghost use Rattle.kalah_solve.specs.Worth.{houses_worth};
 
+use crate::places::Places;
+use crate::share::Share;
 use kalah_rules::Houses;
 use lru::{DefaultHasher, LruCache};
 use std::alloc::{AllocError, Allocator, Global};
@@ -75,6 +77,7 @@ impl Interval {
 #[derive(Drop)]
 pub struct Table<A: Allocator + Clone = Global> {
     entries: LruCache<u64, Interval, DefaultHasher, A>,
+    places: Places<A>,
 }
 
 impl<A: Allocator + Clone> Model for Table<A> {
@@ -91,6 +94,7 @@ impl<A: Allocator + Clone> Model for Table<A> {
 
 impl<A: Allocator + Clone> Table<A> {
     ghost use Rattle.kalah_solve.specs.Table.{Holds, AreTrue};
+    ghost use Rattle.kalah_solve.specs.Taken.{taken, IsWithinShare};
 
     /// An empty table with room for `capacity` entries, which is 1 to 1,048,576. It fails where there is no memory for
     /// its index.
@@ -99,9 +103,25 @@ impl<A: Allocator + Clone> Table<A> {
         requires high { capacity ≤ 1048576 }
         ensures { IfOk result (λ t. t ≡ []) }
     {
+        let places = Places::new(alloc.clone()?, capacity)?;
         let capacity = NonZeroUsize::new(capacity as usize).unwrap();
         let entries = LruCache::new(alloc, capacity)?;
-        Ok(Table { entries })
+        Ok(Table { entries, places })
+    }
+
+    // What the place of the houses tells of them.
+    pub(crate) fn look_up_place(&self, houses: &Houses) -> Share
+        ensures { IsWithinShare result (taken houses.now) }
+    {
+        self.places.look_up(houses)
+    }
+
+    // Keeps in the place of the houses that the mover's share is within this one.
+    pub(crate) fn keep_place(&mut self, houses: &Houses, share: Share)
+        requires { IsWithinShare share (taken houses.now) }
+        ensures { self.new ≡ self.old }
+    {
+        self.places.keep(houses, share);
     }
 
     // What is known of the houses, which become the most recently used.

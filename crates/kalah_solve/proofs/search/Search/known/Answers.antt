@@ -1,17 +1,10 @@
-use Rattle.kalah_solve.proofs.HousesWorth.{worth_low, worth_high}
+use Rattle.std.proofs.Common.{arith}
+use Rattle.kalah_solve.proofs.Takings.{taken_share, worth_of_taken}
 use Rattle.kalah_solve.proofs.search.Search.known.Goals as goal
 
-pub returns-in-Some-clause-least : goal.returns-in-Some-clause-least
-returns-in-Some-clause-least g c = worth_low c.args.houses.now c.seeds-seeds.ensures.limits
-
-pub returns-in-Some-clause-most : goal.returns-in-Some-clause-most
-returns-in-Some-clause-most g c = worth_high c.args.houses.now c.seeds-seeds.ensures.limits
-
-pub returns-in-None-clause-holds : goal.returns-in-None-clause-holds
-returns-in-None-clause-holds g c = c.whole.ensures _ (worth_low c.args.houses.now c.seeds-seeds.ensures.limits) (worth_high c.args.houses.now c.seeds-seeds.ensures.limits)
-
-pub returns-in-None-clause-least : goal.returns-in-None-clause-least
-returns-in-None-clause-least g c = worth_low c.args.houses.now c.seeds-seeds.ensures.limits
-
-pub returns-in-None-clause-most : goal.returns-in-None-clause-most
-returns-in-None-clause-most g c = worth_high c.args.houses.now c.seeds-seeds.ensures.limits
+pub returns-in-Some : goal.returns-in-Some
+returns-in-Some g c =
+    let seeds = c.seeds-seeds.ensures in
+    let few = (taken_share c.args.houses.now seeds.limits).few in
+    c.of_margins.ensures _ (omega (arith, few, seeds.seeds))
+    (rw (seeds.seeds, ← worth_of_taken c.args.houses.now seeds.limits) (rw c.in-Some.is at c.look_up.ensures.holds))

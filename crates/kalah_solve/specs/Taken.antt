@@ -1,0 +1,32 @@
+-- How many of the seeds in houses a player ends up with.
+use Rattle.std.specs.Prelude.{◌≡◌, ℕ, ◌+◌, ◌-◌, ◌/◌, ◌≤◌, ℤ, pos, negsuc, ◌+ℤ◌}
+use Rattle.kalah_rules.specs.Position.{Rows, IsWithinHouses, bare, seeds_in_houses}
+use Rattle.kalah_rules.specs.Key.{key_of}
+use Rattle.kalah_rules.specs.declared.step.HousesStep.{HousesStep}
+use Rattle.kalah_rules.specs.declared.step.HousesStep.TheVariants.{Over, Again, Turn}
+use Rattle.kalah_solve.specs.Worth.{houses_worth}
+use Rattle.kalah_solve.specs.declared.share.Share.{Share}
+
+-- a number as a count, and none for one below 0
+abbrev pub count : ℤ → ℕ
+count (pos n) = n
+count (negsuc n) = 0
+
+-- the seeds in the houses that the mover takes in best play: the houses are worth these less the others
+unfoldable pub taken : Rows → ℕ
+taken a = count (houses_worth a +ℤ pos (seeds_in_houses (bare a))) / 2
+
+-- what the mover takes by a step, where best play follows; after a turn it is what the other player leaves
+abbrev pub taken_by_step : HousesStep → ℕ
+taken_by_step (Over own other) = own
+taken_by_step (Again gained b) = gained + taken b
+taken_by_step (Turn gained b) = gained + (seeds_in_houses (bare b) - taken b)
+
+-- the number is in the share
+pub record IsWithinShare (s : Share) (t : ℕ) : Type 0 where
+  pub least : s.least ≤ t
+  pub most : t ≤ s.most
+
+-- houses with this key have a share within it
+abbrev pub IsTrueOf : ℕ → Share → Type 0
+IsTrueOf key s = (a : Rows) → IsWithinHouses a → key_of a ≡ key → IsWithinShare s (taken a)

@@ -1,0 +1,98 @@
+//! What is known of the seeds that a player takes.
+ghost use Rattle.std.specs.Prelude.{◌≡◌, ◌↔◌, ◌+◌, ◌*◌, max, min, ◌≤◌, ◌≤ℤ◌, ◌-ℤ◌, ℕ, ℤ, pos, negsuc, IsTrue};
+ghost use Rattle.std.specs.Int.{int_max};
+ghost use Rattle.kalah_solve.specs.Table.{Holds, within};
+ghost use Rattle.kalah_solve.specs.Taken.{taken, IsWithinShare};
+
+use crate::table::Interval;
+use kalah_rules::Houses;
+
+/// At least so many of the seeds in houses, and at most so many.
+#[derive(Clone, Copy, Debug, PartialEq, Eq)]
+pub(crate) struct Share {
+    pub least: u8,
+    pub most: u8,
+}
+
+// Half of a number, rounded down, and 0 for one below 0.
+pub(crate) fn half(number: i32) -> u8
+    requires { number ≤ℤ pos 255 }
+    ensures low { pos (result + result) ≤ℤ int_max (pos 0) number }
+    ensures high { number ≤ℤ pos (result + result + 1) }
+{
+    if number <= 0 { 0 } else { number as u8 / 2 }
+}
+
+impl Share {
+    // What a player can take of so many seeds.
+    pub(crate) fn whole(seeds: u8) -> Share
+        ensures { (t : ℕ) → t ≤ seeds → IsWithinShare result t }
+    {
+        Share {
+            least: 0,
+            most: seeds,
+        }
+    }
+
+    // What the mover can take of the seeds in these houses.
+    pub(crate) fn unknown(houses: &Houses) -> Share
+        ensures { IsWithinShare result (taken houses.now) }
+    {
+        Share::whole(houses.seeds())
+    }
+
+    // The same share, once it is known whether the player takes at least `bar`.
+    pub(crate) fn learned(self, bar: u8, reached: bool) -> Share
+        requires { 1 ≤ bar }
+        ensures { (t : ℕ) → IsWithinShare self t → (IsTrue reached ↔ bar ≤ t) → IsWithinShare result t }
+    {
+        if reached {
+            Share { least: bar, ..self }
+        } else {
+            Share {
+                most: bar - 1,
+                ..self
+            }
+        }
+    }
+
+    // Which shares of so many seeds a window of margins tells apart.
+    pub(crate) fn of_window(lo: i32, hi: i32, seeds: u8) -> Share
+        requires low { negsuc 30 ≤ℤ lo }
+        requires ordered { lo ≤ℤ hi }
+        requires high { hi ≤ℤ pos 31 }
+        requires few { seeds ≤ 31 }
+        ensures ordered { result.least ≤ result.most }
+        ensures high { result.most ≤ 31 }
+        ensures apart { (t : ℕ) → t ≤ seeds → within lo hi (pos (2 * max result.least (min result.most t)) -ℤ pos seeds) ≡ within lo hi (pos (2 * t) -ℤ pos seeds) }
+    {
+        Share {
+            least: half(lo + seeds as i32),
+            most: half(hi + seeds as i32 + 1),
+        }
+    }
+
+    // What a margin in the interval says of the share of so many seeds.
+    pub(crate) fn of_margins(interval: Interval, seeds: u8) -> Share
+        requires { seeds ≤ 31 }
+        ensures { (t : ℕ) → t ≤ seeds → Holds interval (pos (t + t) -ℤ pos seeds) → IsWithinShare result t }
+    {
+        Share {
+            least: half(interval.lo as i32 + seeds as i32 + 1),
+            most: half(interval.hi as i32 + seeds as i32),
+        }
+    }
+
+    // The margins of the shares of so many seeds.
+    pub(crate) fn margins(self, seeds: u8) -> Interval
+        requires { seeds ≤ 31 }
+        ensures { (t : ℕ) → t ≤ seeds → IsWithinShare self t → Holds result (pos (t + t) -ℤ pos seeds) }
+    {
+        let least = 2 * self.least as i32 - seeds as i32;
+        let most = 2 * self.most as i32 - seeds as i32;
+        Interval {
+            lo: least.clamp(-31, 31) as i8,
+            hi: most.clamp(-31, 31) as i8,
+        }
+    }
+}
