@@ -8,6 +8,7 @@ pub mod LineEnds
 pub mod Texts
 pub mod SideTexts
 pub mod PlainLines
+pub mod Endings
 pub mod SplitLines
 pub mod OneLines
 pub mod JobCounts

@@ -5,6 +5,7 @@ mod answer;
 mod arrivals;
 mod collector;
 mod collector_laws;
+mod ending;
 mod entry;
 mod file_jobs;
 mod file_laws;

@@ -97,7 +97,7 @@ fn each_write_that_fails_is_an_error(rt: HostRuntime) -> Result<(), Fail> {
         line: 0,
         answer: best(0, 1),
     };
-    for fails_at in 1..10 {
+    for fails_at in 1..4 {
         let mut out = Stream::new(FailingFrom {
             bytes: Vec::with_capacity(rt.alloc(), 64)?,
             calls: 0,
@@ -107,8 +107,8 @@ fn each_write_that_fails_is_an_error(rt: HostRuntime) -> Result<(), Fail> {
         assert_eq!(rt; out.failed(), written.is_err());
         let writer = out.into_inner();
         // No call after the first error, and few calls for a line.
-        assert_eq!(rt; writer.calls, fails_at.min(8));
-        assert_eq!(rt; written.is_err(), fails_at <= 8);
+        assert_eq!(rt; writer.calls, fails_at.min(2));
+        assert_eq!(rt; written.is_err(), fails_at <= 2);
     }
     Ok(())
 }

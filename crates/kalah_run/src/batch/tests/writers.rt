@@ -12,7 +12,7 @@ use std::test::Fail;
 use std::thread::Threads;
 
 // In so many calls of the writer the answer line of a position goes out.
-const CALLS_OF_A_LINE: u32 = 8;
+const CALLS_OF_A_LINE: u32 = 2;
 
 /// Takes the bytes of so many calls, answers an error at each later one, and counts the calls after the first error.
 #[derive(Drop)]
