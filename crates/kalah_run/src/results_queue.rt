@@ -132,14 +132,16 @@ fn push_until<R: Wait>(
     ensures place { IsPassOf pairs.now pass.new × (pass.new.table_id ≡ pass.old.table_id) }
     ensures put { view pass.new ≡ Putting pair.0 (sent_in (view pass.old) ++ pair.1 ∷ []) }
 {
-    let mut held_back = pair;
+    let Err(mut held_back) = pairs.try_push_as::<Puts>(pass, pair) else {
+        return;
+    };
     let mut waiting = Waiting::new(putters);
     for _ in rt.forever() {
+        waiting.pause(rt);
         match pairs.try_push_as::<Puts>(pass, held_back) {
             Ok(()) => return,
             Err(back) => held_back = back,
         }
-        waiting.pause(rt);
     }
     unreachable!()
 }

@@ -7,6 +7,7 @@ use crate::desk::Desk;
 use crate::gate::Gate;
 use crate::pass::Pass;
 use crate::queue_passes::{PutPass, ResultsQueue};
+use crossbeam_utils::CachePadded;
 use kalah_jobs::Jobs;
 use kalah_solve::Solver;
 
@@ -17,7 +18,8 @@ pub(crate) struct Shift<'a> {
     pub(crate) jobs: &'a Jobs,
     pub(crate) pass: Pass,
     pub(crate) put: PutPass,
-    pub(crate) solver: Solver,
+    // Shifts stand side by side in one list, and each thread changes its own solver all the time.
+    pub(crate) solver: CachePadded<Solver>,
     ghost sent_so_far: { put.sent ≡ offers_of jobs.now pass.row.numbers },
 }
 

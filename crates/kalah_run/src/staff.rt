@@ -6,6 +6,7 @@ ghost use Rattle.kalah_run.specs.Shifts.{passes_of, puts_of, HaveJobs};
 use crate::pass::Pass;
 use crate::queue_passes::PutPass;
 use crate::shift::Shift;
+use crossbeam_utils::CachePadded;
 use kalah_jobs::Jobs;
 use kalah_solve::{Solver, Table};
 use std::alloc::{AllocError, Global};
@@ -37,7 +38,7 @@ pub(crate) fn put_together<'a>(
             jobs,
             pass,
             put,
-            solver,
+            solver: CachePadded::new(solver),
         })?;
     }
     Ok(shifts)

@@ -6,5 +6,8 @@ use Rattle.kalah_run.proofs.QueueKeeps.{puts}
 use Rattle.kalah_run.proofs.results_queue.push_until.Goals as goal
 
 pub try_push_as-requires-clause-rule : goal.try_push_as-requires-clause-rule
-try_push_as-requires-clause-rule g c =
+try_push_as-requires-clause-rule g c = puts _ _ _ _ (sent_in (view c.args.pass.now)) c.requires.puts
+
+pub try_push_as-requires-in-loop-clause-rule : goal.try_push_as-requires-in-loop-clause-rule
+try_push_as-requires-in-loop-clause-rule g c =
     puts _ _ _ _ (sent_in (view c.args.pass.now)) (c.loop.invariant.view ∙ c.requires.puts ∙ ap (λ t. Putting t.0 (sent_in (view c.args.pass.now))) (sym c.loop.invariant.held_back))
