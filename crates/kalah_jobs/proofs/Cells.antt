@@ -1,31 +1,24 @@
 -- Houses put into cells, and read one after the other.
-use Rattle.std.proofs.Common.{◌≡◌, ℕ, suc, ◌+◌, ◌-◌, ◌*◌, ◌<◌, ◌≤◌, List, [], ◌∷◌, ◌++◌, length, get_or, take, replicate, Option, Some, None, refl, sym, ap, ◌∙◌, append_assoc, append-nil, arith, length-take-le}
-use Rattle.std.specs.Prelude.{slice_set}
+use Rattle.std.proofs.Common.{◌≡◌, ℕ, ◌+◌, ◌-◌, ◌*◌, ◌<◌, ◌≤◌, List, [], ◌∷◌, ◌++◌, length, take, replicate, Option, Some, None, refl, sym, ap, ◌∙◌, append_assoc, append-nil, arith}
 use Rattle.std.specs.Option.{option_map, option_map_or}
 use Rattle.std.specs.Borrow.{Bor}
-use Rattle.std.proofs.lemmas.List.{set_at, take_more, take_all, length_push}
+use Rattle.std.proofs.lemmas.List.{take-replicate, length_push}
+use Rattle.std.proofs.Math.Seq.{take-append-add}
 use Rattle.kalah_rules.specs.Cells.{padded}
+use Rattle.kalah_jobs.specs.Row.{IsPadded}
 use Rattle.kalah_jobs.specs.Line.{comma}
 use Rattle.kalah_jobs.specs.Reading.{◌>>=◌, parts_at, number_of, numbers_of}
 
 -- ---- six cells
 
--- one more house in its cell
-pub one_more_cell : (houses cells : List ℕ) (i seeds : ℕ) → i < length houses → length houses ≤ 6 → cells ≡ take i houses ++ replicate (6 - i) 0 → seeds ≡ get_or houses i 0 →
-    slice_set cells i seeds ≡ take (i + 1) houses ++ replicate (6 - (i + 1)) 0
-one_more_cell houses cells i seeds within six so_far read =
-    let empty : 6 - i ≡ suc (6 - (i + 1)) = omega arith in
-    let before : cells ≡ take i houses ++ (0 ∷ replicate (6 - (i + 1)) 0) = so_far ∙ ap (λ n. take i houses ++ replicate n 0) empty in
-    let long : length (take i houses) ≡ i = length-take-le i houses (omega arith) in
-    ap (λ xs. slice_set xs i seeds) before
-    ∙ set_at (take i houses) 0 (replicate (6 - (i + 1)) 0) seeds i long
-    ∙ ap (λ s. take i houses ++ (s ∷ replicate (6 - (i + 1)) 0)) read
-    ∙ sym (append_assoc (take i houses) (get_or houses i 0 ∷ []) (replicate (6 - (i + 1)) 0))
-    ∙ ap (λ xs. xs ++ replicate (6 - (i + 1)) 0) (sym (take_more houses i 0 within))
-
--- all the houses in their cells
-pub all_cells : (houses cells : List ℕ) (i : ℕ) → i ≡ length houses → cells ≡ take i houses ++ replicate (6 - i) 0 → cells ≡ padded houses
-all_cells houses cells i all so_far = so_far ∙ ap (λ n. take n houses ++ replicate (6 - n) 0) all ∙ ap (λ xs. xs ++ replicate (6 - length houses) 0) (take_all (length houses) houses (omega arith))
+-- at most six houses in their cells
+pub first_six : (houses cells : List ℕ) → length houses ≤ 6 → IsPadded houses cells → take 6 cells ≡ padded houses
+first_six houses cells few is =
+    let six : 6 ≡ length houses + (6 - length houses) = omega arith in
+    ap (λ n. take n cells) six
+    ∙ ap (λ xs. take (length houses + (6 - length houses)) xs) is
+    ∙ take-append-add houses (replicate (40 - length houses) 0) (6 - length houses)
+    ∙ ap (λ xs. houses ++ xs) (take-replicate (6 - length houses) (40 - length houses) 0 (omega arith))
 
 -- ---- reading house by house
 

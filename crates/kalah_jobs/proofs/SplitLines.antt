@@ -1,8 +1,11 @@
 -- Where the first line of some bytes ends.
-use Rattle.std.proofs.Common.{◌≡◌, ◌≢◌, ℕ, zero, suc, ◌+◌, ◌<◌, ◌≤◌, List, [], ◌∷◌, length, get_or, take, drop, refl, ap, sym, ◌∙◌, arith, add-one, length-drop}
-use Rattle.std.specs.List.{onto_first}
+use Rattle.std.proofs.Common.{◌≡◌, ◌≢◌, ℕ, zero, suc, ◌+◌, ◌<◌, ◌≤◌, List, [], ◌∷◌, ◌++◌, length, get_or, take, drop, refl, ap, sym, ◌∙◌, arith, add-one, length-drop}
+use Rattle.std.specs.Bool.{◌==◌}
+use Rattle.std.specs.Prelude.{if◌then◌else◌}
+use Rattle.std.specs.List.{onto_first, count_by}
 use Rattle.std.proofs.lemmas.List.{take_all, drop_all}
 use Rattle.std.proofs.Math.Seq.{take-nil}
+use Rattle.std.proofs.lemmas.List.Sums.{sum_by-cons}
 use Rattle.kalah_jobs.specs.Lines.{line_feed, lines_of}
 
 -- a line feed ends an empty line
@@ -50,18 +53,21 @@ lines_of-last_cut (byte ∷ bytes) n some none =
     ap (λ rest. take n rest) (drop_all (suc (length bytes)) (byte ∷ bytes) (omega arith)) ∙ take-nil n in
     lines_of-last byte bytes none ∙ ap (λ rest. (byte ∷ bytes) ∷ lines_of rest) (sym nothing)
 
-length-onto_first : (byte : ℕ) (lines : List (List ℕ)) → length (onto_first byte lines) ≤ suc (length lines)
-length-onto_first byte [] = omega arith
-length-onto_first byte (line ∷ lines) = omega arith
-
--- each line has a byte of its own
-pub length-lines_of-le : (bytes : List ℕ) → length (lines_of bytes) ≤ length bytes
-unfolding lines_of
-length-lines_of-le [] = omega arith
-length-lines_of-le (byte ∷ bytes) = grind (arith, length-lines_of-le bytes, length-onto_first byte (lines_of bytes))
-
 -- no bytes have no lines
 pub lines_of-empty : (bytes : List ℕ) → length bytes ≡ 0 → lines_of bytes ≡ []
 unfolding lines_of
 lines_of-empty [] none = refl
 lines_of-empty (byte ∷ bytes) none = absurd (omega arith)
+
+-- ---- how many lines there are
+
+length-onto_first-same : (byte : ℕ) (lines : List (List ℕ)) → 0 < length lines → length (onto_first byte lines) ≡ length lines
+length-onto_first-same byte [] some = absurd (omega arith)
+length-onto_first-same byte (line ∷ lines) some = refl
+
+-- one for each line feed before the last byte, and one more
+pub length-lines_of : (front : List ℕ) (last : ℕ) → length (lines_of (front ++ last ∷ [])) ≡ count_by (λ byte. byte == line_feed) front + 1
+unfolding lines_of
+length-lines_of [] last = grind arith
+length-lines_of (byte ∷ front) last =
+    grind (arith, length-lines_of front last, length-onto_first-same byte (lines_of (front ++ last ∷ [])), sum_by-cons (λ (b : ℕ). if b == line_feed then 1 else 0) byte front)

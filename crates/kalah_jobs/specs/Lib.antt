@@ -1,3 +1,4 @@
+pub mod Row
 pub mod Line
 pub mod LineFault
 pub mod Reading

@@ -1,6 +1,6 @@
 //! The lines of a file.
-ghost use Rattle.std.specs.Prelude.{◌≡◌, ◌<◌, ◌∷◌, length};
-ghost use Rattle.kalah_jobs.specs.Lines.{lines_of};
+ghost use Rattle.std.specs.Prelude.{◌≡◌, ◌<◌, ◌≤◌, ◌==◌, ◌∷◌, length, count_by};
+ghost use Rattle.kalah_jobs.specs.Lines.{line_feed, lines_of};
 
 // What ends a line.
 const LINE_FEED: u8 = b'\n';
@@ -19,16 +19,26 @@ pub(crate) fn first_line(bytes: &[u8]) -> (&[u8], &[u8])
     (bytes, &bytes[bytes.len()..])
 }
 
-// How many lines there are.
+// How many lines there are. The last byte ends one, or stands in one that is not ended.
 pub(crate) fn count_lines(bytes: &[u8]) -> usize
     ensures { result ≡ length (lines_of bytes.now) }
 {
+    match bytes.split_last() {
+        Some((_, before)) => count_feeds(before) + 1,
+        None => 0,
+    }
+}
+
+// How many line feeds there are.
+fn count_feeds(bytes: &[u8]) -> usize
+    ensures is { result ≡ count_by (λ byte. byte == line_feed) bytes.now }
+    ensures low { result ≤ length bytes.now }
+{
     let mut count = 0;
-    let mut rest = bytes;
-    while !rest.is_empty() {
-        let (_, after) = first_line(rest);
-        count += 1;
-        rest = after;
+    for byte in bytes {
+        if *byte == LINE_FEED {
+            count += 1;
+        }
     }
     count
 }

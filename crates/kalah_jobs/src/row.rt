@@ -9,21 +9,22 @@ use std::marker::Model;
 /// As many numbers as 80 bytes can hold, with a byte between each two.
 const MOST_NUMBERS: usize = 40;
 
-/// The seeds in each house of a side, in the order of the line.
+/// The seeds in each house of a side, in the order of the line. The cells past the last one hold 0.
 #[derive(Drop)]
 pub(crate) struct Row {
     cells: [u8; MOST_NUMBERS],
-    count: u8,
+    count: usize,
 }
 
 impl Model for Row {
     ghost use Rattle.std.specs.Prelude.{◌≡◌, ◌≤◌, ℕ, List, length, take};
+    ghost use Rattle.kalah_jobs.specs.Row.{IsPadded};
 
     ghost Value = { List ℕ };
 
     ghost view = { λ row. take row.count row.cells };
 
-    ghost invariant = { λ row. (length row.cells ≡ 40) × (row.count ≤ 40) };
+    ghost invariant = { λ row. (length row.cells ≡ 40) × (row.count ≤ 40) × IsPadded (take row.count row.cells) row.cells };
 }
 
 impl Row {
@@ -60,7 +61,7 @@ impl Row {
         requires { length self.old < MOST_NUMBERS }
         ensures { self.new ≡ self.old ++ seeds ∷ [] }
     {
-        self.cells[self.count as usize] = seeds;
+        self.cells[self.count] = seeds;
         self.count += 1;
     }
 
@@ -68,7 +69,7 @@ impl Row {
     pub(crate) fn len(&self) -> u8
         ensures { result ≡ length self.now }
     {
-        self.count
+        self.count as u8
     }
 
     // The houses in six cells, with 0 past the last one.
@@ -77,9 +78,7 @@ impl Row {
         ensures { result ≡ padded self.now }
     {
         let mut cells = [0; 6];
-        for i in 0..self.count as usize {
-            cells[i] = self.cells[i];
-        }
+        cells.copy_from_slice(&self.cells[..6]);
         cells
     }
 }

@@ -1,10 +1,10 @@
-use Rattle.std.proofs.Common.{length, arith, ap}
-use Rattle.kalah_jobs.proofs.SplitLines.{length-lines_of-le}
+use Rattle.std.proofs.Common.{sym, ap, length}
+use Rattle.kalah_jobs.proofs.SplitLines.{length-lines_of, lines_of-empty}
 use Rattle.kalah_jobs.proofs.file_lines.count_lines.Goals as goal
 
-pub overflow_add-count : goal.overflow_add-count
-overflow_add-count c =
-    omega (arith, length-lines_of-le c.args.bytes.now, ap length c.first_line.ensures.lines, c.well_formed.0.0, c.loop-rest.invariant)
+pub returns-in-Some : goal.returns-in-Some
+returns-in-Some c =
+    rw (c.in-Some.ensures.cases.0, c.count_feeds.ensures.is) (sym (length-lines_of c.in-Some.before.now c.in-Some.field-0-0.now))
 
-pub returns : goal.returns
-returns c = grind (arith, length-lines_of-le c.loop-rest.rest.now)
+pub returns-in-None : goal.returns-in-None
+returns-in-None c = sym (ap length (lines_of-empty c.args.bytes.now c.in-None.ensures.cases))
