@@ -1,6 +1,7 @@
 //! The results queue and its passes: what each keeps, and what contracts see of it.
 use crate::queue_rule::{RuledPass, RuledQueue};
 use crate::waiting::Waiters;
+use crossbeam_utils::CachePadded;
 use std::marker::Model;
 
 /// What workers put and one collector gets, in turn: a queue of a fixed capacity that threads share. It is seen as its
@@ -8,9 +9,9 @@ use std::marker::Model;
 #[derive(Drop)]
 pub struct ResultsQueue {
     pub(crate) pairs: RuledQueue,
-    // Who waits for an outcome, and who waits for room.
-    pub(crate) getters: Waiters,
-    pub(crate) putters: Waiters,
+    // Who waits for an outcome, and who waits for room. Threads change these all the time, and read what lies beside them.
+    pub(crate) getters: CachePadded<Waiters>,
+    pub(crate) putters: CachePadded<Waiters>,
 }
 
 impl Model for ResultsQueue {

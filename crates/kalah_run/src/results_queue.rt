@@ -12,7 +12,7 @@ use crate::queue_rule::{
     AnotherWorker, Gets, LeftInside, Puts, RuledPass, RuledQueue, Tagged, TakesIn,
 };
 use crate::waiting::{Waiters, Waiting};
-use crossbeam_utils::Backoff;
+use crossbeam_utils::{Backoff, CachePadded};
 use kalah_jobs::Outcome;
 use std::alloc::{AllocError, Global};
 use std::sync::Wait;
@@ -49,8 +49,8 @@ impl ResultsQueue {
         }
         let queue = ResultsQueue {
             pairs,
-            getters: Waiters::new(),
-            putters: Waiters::new(),
+            getters: CachePadded::new(Waiters::new()),
+            putters: CachePadded::new(Waiters::new()),
         };
         Ok((queue, puts, GetPass { ruled, workers }))
     }
