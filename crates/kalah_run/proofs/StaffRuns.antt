@@ -1,6 +1,6 @@
 -- The shifts of a batch, from their passes to what was got of them.
-use Rattle.std.proofs.Common.{◌≡◌, ℕ, zero, suc, ◌<◌, List, [], ◌∷◌, ◌++◌, length, map, get_or, refl, sym, ap, ◌∙◌, subst, arith}
-use Rattle.std.specs.Prelude.{All, nat_lt, if◌then◌else◌}
+use Rattle.std.proofs.Common.{◌≡◌, ℕ, zero, suc, ◌<◌, ◌≤◌, List, [], ◌∷◌, ◌++◌, length, map, get_or, refl, sym, ap, ◌∙◌, subst, arith}
+use Rattle.std.specs.Prelude.{All, nat_lt, if◌then◌else◌, vec_capacity}
 use Rattle.std.proofs.lemmas.List.{length-map, get_or-map}
 use Rattle.std.proofs.lemmas.List.Elements.{All-map}
 use Rattle.atomic_table.specs.Seated.{TableId}
@@ -13,11 +13,13 @@ use Rattle.kalah_jobs.proofs.JobOrders.{shares_law}
 use Rattle.kalah_jobs.specs.Shares.{times_in}
 use Rattle.kalah_run.specs.DeskRows.{numbers_of, spent_in}
 use Rattle.kalah_run.specs.DeskStates.{DeskState, PassState, IsPassOf, AreNewPasses, new_pass, rows_of}
-use Rattle.kalah_run.specs.QueueStates.{PutState, ArePassesFrom, sent_by}
+use Rattle.kalah_run.specs.QueueStates.{GetState, PutState, ArePassesFrom, sent_by}
 use Rattle.kalah_run.specs.QueueLists.{Accounts}
 use Rattle.kalah_run.specs.Work.{offers_of}
 use Rattle.kalah_run.specs.Reporting.{outcomes_in}
 use Rattle.kalah_run.specs.declared.shift.Shift.{Shift}
+use Rattle.kalah_run.specs.declared.staff.Staff.{Staff}
+use Rattle.kalah_run.specs.Staffs.{IsReady, HasWorked}
 use Rattle.kalah_run.specs.Shifts.{passes_of, puts_of, HaveJobs, AreAtWork, HasRun, HaveRun}
 use Rattle.kalah_run.proofs.DeskSpent.{some_spent, length-numbers_of}
 
@@ -76,6 +78,29 @@ pub run_spent : (desk : DeskState) (id : TableId) (jobs : List (List Entry)) (be
     0 < spent_in (rows_of (passes_of after))
 run_spent desk id jobs before [] run some = absurd (let many = run.as_many in omega arith)
 run_spent desk id jobs before (a ∷ others) run some = some_spent (passes_of (a ∷ others)) 0 a.pass (omega arith) (run.each 0 a some).spent
+
+-- the staff has worked, once each of its shifts has run
+pub has_worked : (jobs : List (List Entry)) (before after : Staff) → IsReady jobs (record after { shifts = before.shifts; pass = before.pass }) →
+    HaveRun after.desk after.queue.id jobs before.shifts.items after.shifts.items →
+    (after.pass.queue ≡ before.pass.queue) × (after.pass.workers ≡ before.pass.workers) → HasWorked after
+has_worked jobs before after ready run same =
+    let old : List Shift = before.shifts.items in
+    let new : List Shift = after.shifts.items in
+    record {
+      passes = run.as_many ∙ ready.passes;
+      draws = run_passes after.desk after.queue.id jobs old new run;
+      spent = run_spent after.desk after.queue.id jobs old new run ready.some;
+      puts = puts_after after.desk after.queue.id jobs old new 0 run.as_many run.each ready.puts;
+      pass = (
+        same.0 ∙ ap (λ (p : GetState). p.queue) ready.pass,
+        same.1 ∙ ap (λ (p : GetState). p.workers) ready.pass ∙ sym run.as_many,
+      );
+      room = record {
+        empty = ready.room.empty;
+        passes = subst (λ n. n ≤ vec_capacity after.passes) (sym run.as_many) ready.room.passes;
+        puts = subst (λ n. n ≤ vec_capacity after.puts) (sym run.as_many) ready.room.puts;
+      };
+    }
 
 -- what worker w sent are the outcomes of its row
 pub sent_in_order : (jobs : List (List Entry)) (shifts : List Shift) (w : ℕ) → HaveJobs jobs shifts → w < length shifts →

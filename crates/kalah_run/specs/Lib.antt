@@ -9,5 +9,6 @@ pub mod QueueStates
 pub mod Faults
 pub mod Work
 pub mod Shifts
+pub mod Staffs
 pub mod Texts
 pub mod Reporting

@@ -9,22 +9,17 @@ ghost use Rattle.kalah_run.specs.declared.run_fault.RunFault.TheVariants.{TooMan
 #[cfg(test)]
 mod tests;
 
-use crate::desk::Desk;
 use crate::gate::Gate;
-use crate::queue_passes::ResultsQueue;
 use crate::report::Report;
 use crate::run_fault::RunFault;
 use crate::shift::Shop;
-use crate::staff::{put_together, take_apart};
+use crate::staff::Staff;
 use crate::tally::Tally;
 use crate::workers::run_and_report;
 use kalah_jobs::{FileText, Jobs, Sink};
 use std::alloc::Global;
 use std::sync::Wait;
 use std::thread::Threads;
-
-/// How many outcomes may be on their way to the calling thread.
-const QUEUE_CAPACITY: u32 = 64;
 
 // Flushes the output, unless a write has failed before.
 fn finish<W: Sink>(out: &mut W) -> Result<(), RunFault>
@@ -64,29 +59,31 @@ fn answer_jobs<R: Threads + Wait + Sync, G: Gate, W: Sink>(
     ensures untouched { OnErr result (out.new ≡ out.old) }
 {
     let report = Report::new(alloc, files, jobs)?;
-    let (desk, passes) = Desk::open(alloc, jobs.total(), workers)?;
-    let (queue, puts, pass) = ResultsQueue::open(alloc, QUEUE_CAPACITY, workers)?;
-    let shifts = put_together(alloc, jobs, passes, puts, table)?;
-    let passes = Vec::with_capacity(alloc, workers as usize)?;
-    let puts = Vec::with_capacity(alloc, workers as usize)?;
+    let Staff {
+        desk,
+        queue,
+        shifts,
+        pass,
+        passes,
+        puts,
+    } = Staff::open(alloc, jobs, workers, table)?;
     let shop = Shop {
         desk: &desk,
         queue: &queue,
         jobs,
         gate,
     };
-    let (shifts, pass, report) = run_and_report(
-        rt,
-        &shop,
+    let total = jobs.total();
+    let (shifts, pass, report) = run_and_report(rt, &shop, shifts, pass, report, total, out)?;
+    let staff = Staff {
+        desk,
+        queue,
         shifts,
         pass,
-        report,
-        jobs.total(),
-        out,
-    )?;
-    let (passes, puts) = take_apart(shifts, passes, puts);
-    desk.close(passes);
-    queue.close(rt, puts, pass);
+        passes,
+        puts,
+    };
+    staff.close(rt);
     Ok(report.faults)
 }
 

@@ -1,18 +1,28 @@
-//! The shifts of a batch: put together before it, and taken apart after it.
-ghost use Rattle.std.specs.Prelude.{◌≡◌, ◌<◌, ◌≤◌, [], length, vec_len, vec_capacity, IfOk};
+//! The staff of a batch: its shifts, and where they draw and send. It is put together before the batch, and taken apart after it.
+ghost use Rattle.std.specs.Prelude.{◌≡◌, ◌<◌, ◌≤◌, [], List, length, vec_len, vec_capacity, IfOk};
 ghost use Rattle.std.specs.List.{All};
+ghost use Rattle.kalah_jobs.specs.Batch.{AreJobsInSomeOrder};
+ghost use Rattle.kalah_jobs.specs.JobList.{job_list};
+ghost use Rattle.kalah_jobs.specs.declared.entry.Entry.{Entry};
+ghost use Rattle.kalah_run.specs.Reporting.{outcomes_in};
 ghost use Rattle.kalah_run.specs.Shifts.{passes_of, puts_of, HaveJobs};
+ghost use Rattle.kalah_run.specs.Staffs.{IsReady, HasWorked};
 
+use crate::desk::Desk;
 use crate::pass::Pass;
-use crate::queue_passes::PutPass;
+use crate::queue_passes::{GetPass, PutPass, ResultsQueue};
 use crate::shift::Shift;
 use crossbeam_utils::CachePadded;
 use kalah_jobs::Jobs;
 use kalah_solve::{Solver, Table};
 use std::alloc::{AllocError, Global};
+use std::sync::Wait;
 
-/// A shift for each pair of passes, in their order, each with a solver of its own.
-pub(crate) fn put_together<'a>(
+/// How many outcomes may be on their way to the calling thread.
+pub(crate) const QUEUE_CAPACITY: u32 = 64;
+
+// A shift for each pair of passes, in their order, each with a solver of its own.
+fn put_together<'a>(
     alloc: Global,
     jobs: &'a Jobs,
     passes: Vec<Pass>,
@@ -44,8 +54,8 @@ pub(crate) fn put_together<'a>(
     Ok(shifts)
 }
 
-/// The passes of the shifts, in their order, put into two lists that have room for them.
-pub(crate) fn take_apart(
+// The passes of the shifts, in their order, put into two lists that have room for them.
+fn take_apart(
     shifts: Vec<Shift<'_>>,
     mut passes: Vec<Pass>,
     mut puts: Vec<PutPass>,
@@ -67,4 +77,65 @@ pub(crate) fn take_apart(
         puts.push_reserved(put);
     }
     (passes, puts)
+}
+
+/// The shifts of a batch, the desk at which they draw, the queue through which they send and the pass to get, and two lists
+/// with room for the passes' return.
+#[derive(Drop)]
+pub(crate) struct Staff<'a> {
+    pub(crate) desk: Desk,
+    pub(crate) queue: ResultsQueue,
+    pub(crate) shifts: Vec<Shift<'a>>,
+    pub(crate) pass: GetPass,
+    pub(crate) passes: Vec<Pass>,
+    pub(crate) puts: Vec<PutPass>,
+}
+
+impl<'a> Staff<'a> {
+    /// So many workers for these jobs, each with a table of so many entries. It takes all its memory here.
+    pub(crate) fn open(
+        alloc: Global,
+        jobs: &'a Jobs,
+        workers: u32,
+        table: u32,
+    ) -> Result<Staff<'a>, AllocError>
+        requires workers { (0 < workers) × (workers ≤ 64) }
+        requires table { (0 < table) × (table ≤ 1048576) }
+        ensures { IfOk result (IsReady jobs.now) }
+    {
+        let (desk, passes) = Desk::open(alloc, jobs.total(), workers)?;
+        let (queue, puts, pass) = ResultsQueue::open(alloc, QUEUE_CAPACITY, workers)?;
+        let shifts = put_together(alloc, jobs, passes, puts, table)?;
+        let passes = Vec::with_capacity(alloc, workers as usize)?;
+        let puts = Vec::with_capacity(alloc, workers as usize)?;
+        Ok(Staff {
+            desk,
+            queue,
+            shifts,
+            pass,
+            passes,
+            puts,
+        })
+    }
+
+    /// Ends desk and queue, once all shifts have run: of whatever jobs they had, as many as were got, each one's outcome was
+    /// got once.
+    pub(crate) fn close<R: Wait>(self, rt: &R)
+        requires { HasWorked self }
+        ensures { (jobs : List (List Entry)) → HaveJobs jobs self.entry.shifts.items
+            → self.entry.desk.total ≡ length (job_list jobs) → length self.entry.pass.got ≡ self.entry.desk.total
+            → AreJobsInSomeOrder jobs (outcomes_in self.entry.pass.got) }
+    {
+        let Staff {
+            desk,
+            queue,
+            shifts,
+            pass,
+            passes,
+            puts,
+        } = self;
+        let (passes, puts) = take_apart(shifts, passes, puts);
+        desk.close(passes);
+        queue.close(rt, puts, pass);
+    }
 }

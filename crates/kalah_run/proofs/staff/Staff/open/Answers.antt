@@ -1,0 +1,28 @@
+use Rattle.std.proofs.Common.{◌≡◌, ◌≤◌, List, [], length, sym, ap, ◌∙◌, subst, arith}
+use Rattle.std.specs.Prelude.{vec_capacity}
+use Rattle.std.proofs.lemmas.List.{length-map}
+use Rattle.kalah_run.specs.DeskStates.{PassState}
+use Rattle.kalah_run.specs.QueueStates.{GetState, PutState, ArePassesFrom}
+use Rattle.kalah_run.specs.declared.shift.Shift.{Shift}
+use Rattle.kalah_run.proofs.StaffRuns.{new_at_work}
+use Rattle.kalah_run.proofs.staff.Staff.open.Goals as goal
+
+pub returns : goal.returns
+returns c =
+    let shifts : List Shift = c.in_ok-shifts.shifts.items in
+    let count : length shifts ≡ c.args.workers =
+    sym (length-map shifts (λ (s : Shift). s.pass)) ∙ ap (λ (l : List PassState). length l) c.in_ok-shifts.ensures.passes ∙ c.in_ok-desk.ensures.passes.0 in
+    record {
+      total = c.in_ok-desk.ensures.desk.0 ∙ c.total.ensures.lines;
+      some = omega (arith, count, c.requires.workers.0);
+      passes = count ∙ sym c.in_ok-desk.ensures.desk.1;
+      at_work = new_at_work c.in_ok-desk.desk c.in_ok-queue.queue.id c.args.jobs.now shifts c.in_ok-desk.passes.items c.in_ok-queue.puts.items c.args.workers
+          c.in_ok-desk.ensures.passes c.in_ok-queue.ensures.puts.1 c.in_ok-shifts.ensures.passes c.in_ok-shifts.ensures.puts c.in_ok-shifts.ensures.jobs;
+      puts = subst (λ (l : List PutState). ArePassesFrom c.in_ok-queue.queue.id 0 l) (sym c.in_ok-shifts.ensures.puts) c.in_ok-queue.ensures.puts.1;
+      pass = c.in_ok-queue.ensures.get ∙ ap (λ n. let p : GetState = record { queue = c.in_ok-queue.queue.id; workers = n; got = [] } in p) (sym count);
+      room = record {
+        empty = (c.in_ok-passes.ensures.items, c.in_ok-puts.ensures.items);
+        passes = subst (λ n. n ≤ vec_capacity c.in_ok-passes.passes) (sym count) c.in_ok-passes.ensures.capacity;
+        puts = subst (λ n. n ≤ vec_capacity c.in_ok-puts.puts) (sym count) c.in_ok-puts.ensures.capacity;
+      };
+    }
