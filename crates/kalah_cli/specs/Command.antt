@@ -50,8 +50,10 @@ abbrev pub solve_app : App
 solve_app =
     with_rule (with_rule (with_rule (new_app (codes "solve")) workers_rule) table_rule) file_rule
 
+-- the program with no subcommand yet
+abbrev pub program_app : App
+program_app = on_top (λ s. record s { subcommand_required = true; disable_help_subcommand = true }) (new_app (codes "kalah"))
+
 -- the program, which is always given one of the two subcommands
 abbrev pub kalah_app : App
-kalah_app = with_subcommand
-    (with_subcommand (on_top (λ s. record s { subcommand_required = true; disable_help_subcommand = true }) (new_app (codes "kalah")))
-    moves_app.top) solve_app.top
+kalah_app = with_subcommand (with_subcommand program_app moves_app.top) solve_app.top

@@ -1,8 +1,8 @@
 //! The command line of the program.
 ghost use Rattle.std.specs.Prelude.{◌≡◌, IfOk, false};
-ghost use Rattle.clap.specs.Words.{app_of, rule_of};
+ghost use Rattle.clap.specs.Words.{app_of, new_app, rule_of, with_rule};
 ghost use Rattle.clap.specs.declared.builder.command.Command.TheViews.{out-Command as fields_of};
-ghost use Rattle.kalah_cli.specs.Command.{file_rule, kalah_app, line_rule, moves_app, solve_app, table_rule, workers_rule};
+ghost use Rattle.kalah_cli.specs.Command.{file_rule, kalah_app, line_rule, moves_app, program_app, solve_app, table_rule, workers_rule};
 
 use clap::builder::ValueParser;
 use clap::{Arg, ArgAction, Command};
@@ -41,6 +41,24 @@ A margin is what the player to move ends with less what the other player ends wi
 Exit status: 0 if every line was read or help was asked for; 1 if some line was not read; 2 if the
 words, a file, memory, a worker or the output failed, and standard error says which.";
 
+// A command of this name, with nothing in it.
+fn named<'a>(alloc: Global, name: &'a str, about: &'a str) -> Command<'a>
+    ensures app { app_of result ≡ new_app name.entry.now }
+    ensures local { (fields_of result).has_globals ≡ false }
+{
+    Command::new(alloc, name).about(about)
+}
+
+// The command with one more argument, which is its own alone.
+fn with_arg<'a>(command: Command<'a>, arg: Arg<'a>) -> Result<Command<'a>, AllocError>
+    requires arg { arg.global ≡ false }
+    requires local { (fields_of command).has_globals ≡ false }
+    ensures app { IfOk result (λ c. app_of c ≡ with_rule (app_of command.entry) (rule_of arg.entry)) }
+    ensures local { IfOk result (λ c. (fields_of c).has_globals ≡ false) }
+{
+    command.arg(arg)
+}
+
 // The line of `moves`.
 fn line_arg<'a>(alloc: Global) -> Arg<'a>
     ensures rule { rule_of result ≡ line_rule }
@@ -58,9 +76,8 @@ fn moves_command<'a>(alloc: Global) -> Result<Command<'a>, AllocError>
     ensures app { IfOk result (λ c. app_of c ≡ moves_app) }
     ensures local { IfOk result (λ c. (fields_of c).has_globals ≡ false) }
 {
-    Command::new(alloc, "moves")
-        .about("Prints each legal move of a position, and the position after it")
-        .arg(line_arg(alloc))
+    let about = "Prints each legal move of a position, and the position after it";
+    with_arg(named(alloc, "moves", about), line_arg(alloc))
 }
 
 // How many workers.
@@ -108,11 +125,22 @@ fn solve_command<'a>(alloc: Global) -> Result<Command<'a>, AllocError>
     ensures app { IfOk result (λ c. app_of c ≡ solve_app) }
     ensures local { IfOk result (λ c. (fields_of c).has_globals ≡ false) }
 {
-    Command::new(alloc, "solve")
-        .about("Prints the margin of best play and the best house of each position in files")
-        .arg(workers_arg(alloc))?
-        .arg(table_arg(alloc))?
-        .arg(file_arg(alloc))
+    let about = "Prints the margin of best play and the best house of each position in files";
+    let command = with_arg(named(alloc, "solve", about), workers_arg(alloc))?;
+    let command = with_arg(command, table_arg(alloc))?;
+    with_arg(command, file_arg(alloc))
+}
+
+// The program with no subcommand yet, though it is to be given one.
+fn program<'a>(alloc: Global) -> Command<'a>
+    ensures app { app_of result ≡ program_app }
+    ensures local { (fields_of result).has_globals ≡ false }
+{
+    let about = "Solves small positions of Kalah: the best house and the margin of best play";
+    named(alloc, "kalah", about)
+        .after_help(ABOUT_POSITIONS)
+        .subcommand_required(true)
+        .disable_help_subcommand(true)
 }
 
 /// The command line of the program: `moves LINE`, and `solve [--workers N] [--table N] FILE..` with 1
@@ -121,11 +149,7 @@ fn solve_command<'a>(alloc: Global) -> Result<Command<'a>, AllocError>
 pub fn command<'a>(alloc: Global) -> Result<Command<'a>, AllocError>
     ensures { IfOk result (λ c. app_of c ≡ kalah_app) }
 {
-    Command::new(alloc, "kalah")
-        .about("Solves small positions of Kalah: the best house and the margin of best play")
-        .after_help(ABOUT_POSITIONS)
-        .subcommand_required(true)
-        .disable_help_subcommand(true)
+    program(alloc)
         .subcommand(moves_command(alloc)?)?
         .subcommand(solve_command(alloc)?)
 }
