@@ -25,12 +25,15 @@ fn a_desk(rt: HostRuntime) -> Result<(), Fail> {
     let (desk, mut passes) = Desk::open(alloc, 3, 2).or_else(|_| Desk::open(alloc, 3, 2))?;
     assert_eq!(rt; passes.len(), 2);
     mark(alloc, "before the calls without memory")?;
-    assert_eq!(rt; desk.draw(&mut passes[0]), Some(0));
-    assert_eq!(rt; desk.draw(&mut passes[1]), Some(1));
-    assert_eq!(rt; desk.draw(&mut passes[0]), Some(2));
-    assert_eq!(rt; desk.draw(&mut passes[1]), None);
-    assert_eq!(rt; desk.draw(&mut passes[1]), None);
+    let drawn = [
+        desk.draw(&mut passes[0]),
+        desk.draw(&mut passes[1]),
+        desk.draw(&mut passes[0]),
+        desk.draw(&mut passes[1]),
+        desk.draw(&mut passes[1]),
+    ];
     let closed = desk.close(passes);
+    assert_eq!(rt; drawn, [Some(0), Some(1), Some(2), None, None]);
     assert_eq!(rt; (closed.drawn(), closed.spent()), (3, true));
     mark(alloc, "after all")
 }

@@ -190,24 +190,31 @@ fn fault_of<R: Threads + Wait + Sync>(
     tally.err()
 }
 
-#[test]
-fn too_many_files_and_lines_are_refused(rt: HostRuntime) -> Result<(), Fail> {
-    let alloc = rt.alloc();
+// As many empty files as there may be, and one more, which has too many lines.
+fn too_many_files(alloc: Global) -> Result<Vec<FileText>, AllocError> {
     let mut files = Vec::new(alloc);
     for _ in 0..256 {
         files.push(file_of(alloc, "a", b"")?)?;
     }
-    let line_feeds = vec![in alloc; b'\n'; 1_000_001]?;
-    files.push(file_of(alloc, "b", line_feeds.as_slice())?)?;
-    assert_eq!(rt;
-        fault_of(&rt, alloc, files.as_slice()),
-        Some(RunFault::TooManyFiles)
+    let bytes = vec![in alloc; b'\n'; 1_000_001]?;
+    files.push(FileText {
+        name: String::from_str(alloc, "b")?,
+        bytes,
+    })?;
+    Ok(files)
+}
+
+#[test]
+fn too_many_files_and_lines_are_refused(rt: HostRuntime) -> Result<(), Fail> {
+    let files = too_many_files(rt.alloc())?;
+    let last = files.as_slice().get(256..).unwrap_or(&[]);
+    let faults = (
+        fault_of(&rt, rt.alloc(), files.as_slice()),
+        fault_of(&rt, rt.alloc(), last),
     );
-    let mut one = Vec::new(alloc);
-    one.push(file_of(alloc, "b", line_feeds.as_slice())?)?;
     assert_eq!(rt;
-        fault_of(&rt, alloc, one.as_slice()),
-        Some(RunFault::TooManyLines)
+        faults,
+        (Some(RunFault::TooManyFiles), Some(RunFault::TooManyLines))
     );
     Ok(())
 }

@@ -34,9 +34,9 @@ fn two_workers_outcomes_are_got(rt: HostRuntime) -> Result<(), Fail> {
     let (queue, mut puts, mut pass) = ResultsQueue::open(rt.alloc(), 2, 2)?;
     queue.put(&rt, &mut puts[0], first);
     queue.put(&rt, &mut puts[1], second);
-    assert_eq!(rt; queue.get(&rt, &mut pass), first);
-    assert_eq!(rt; queue.get(&rt, &mut pass), second);
-    assert_eq!(rt; queue.close(&rt, puts, pass).left(), 0);
+    let got = (queue.get(&rt, &mut pass), queue.get(&rt, &mut pass));
+    let left = queue.close(&rt, puts, pass).left();
+    assert_eq!(rt; (got, left), ((first, second), 0));
     Ok(())
 }
 
@@ -132,23 +132,24 @@ fn through_threads<R: Threads + Wait + Sync>(
     )
 }
 
-#[test]
-fn two_threads_outcomes_come_in_order(rt: HostRuntime) -> Result<(), Fail> {
-    let sent_first = outcomes_of(rt.alloc(), 0)?;
-    let sent_second = outcomes_of(rt.alloc(), 1)?;
-    let sent = (sent_first.as_slice(), sent_second.as_slice());
-    let (queue, mut puts, pass) = ResultsQueue::open(rt.alloc(), 2, 2)?;
+// What comes through a queue of two places that is opened for it.
+fn through_queue<R: Threads + Wait + Sync>(
+    rt: &R,
+    alloc: Global,
+    sent: (&[Outcome], &[Outcome]),
+) -> Result<(Vec<Outcome>, Vec<Outcome>), Fail> {
+    let (queue, mut puts, pass) = ResultsQueue::open(alloc, 2, 2)?;
     let second = puts.pop().ok_or("two passes")?;
     let first = puts.pop().ok_or("two passes")?;
-    let (got_first, got_second) = through_threads(
-        &rt,
-        rt.alloc(),
-        &queue,
-        (first, second),
-        pass,
-        sent,
-    )?;
-    assert_eq!(rt; got_first.as_slice(), sent.0);
-    assert_eq!(rt; got_second.as_slice(), sent.1);
+    Ok(through_threads(rt, alloc, &queue, (first, second), pass, sent)?)
+}
+
+#[test]
+fn two_threads_outcomes_come_in_order(rt: HostRuntime) -> Result<(), Fail> {
+    let first = outcomes_of(rt.alloc(), 0)?;
+    let second = outcomes_of(rt.alloc(), 1)?;
+    let sent = (first.as_slice(), second.as_slice());
+    let (got_first, got_second) = through_queue(&rt, rt.alloc(), sent)?;
+    assert_eq!(rt; (got_first.as_slice(), got_second.as_slice()), sent);
     Ok(())
 }

@@ -44,6 +44,16 @@ fn count(counts: &[AtomicU32], job: u32) {
     }
 }
 
+// Whether each job was told of once.
+fn are_once(counts: &[AtomicU32]) -> bool {
+    for count in counts {
+        if count.load(Ordering::SeqCst) != 1 {
+            return false;
+        }
+    }
+    true
+}
+
 impl Gate for Told {
     fn before(&self, job: u32) {
         count(&self.begun, job);
@@ -73,11 +83,8 @@ fn the_gate_is_told_of_each_job_once(rt: HostRuntime) -> Result<(), Fail> {
         out_of_turn: AtomicBool::new(false),
     };
     assert!(rt; answers(&rt, alloc, files.as_slice(), 2, 16, &gate, text.as_str(), 0));
-    assert!(rt; !gate.out_of_turn.load(Ordering::SeqCst));
-    for job in 0..MANY {
-        assert_eq!(rt; times(&gate.begun, job), 1, "{job}");
-        assert_eq!(rt; times(&gate.handed_on, job), 1, "{job}");
-    }
+    let in_turn = !gate.out_of_turn.load(Ordering::SeqCst);
+    assert!(rt; in_turn && are_once(&gate.begun) && are_once(&gate.handed_on));
     Ok(())
 }
 
