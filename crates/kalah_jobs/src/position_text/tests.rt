@@ -56,20 +56,27 @@ fn lines_with_each_number_of_seeds_in_a_store(rt: HostRuntime) -> Result<(), Fai
     Ok(())
 }
 
-// A capture of all but three seeds, and one seed that ends the game.
+// Whether house 1 captures all but three seeds.
+fn captures_all(rt: &impl Abort, alloc: Global, seeds: u8) -> Result<bool, Fail> {
+    let line = format!(in alloc; "3/99 {seeds}/0")?;
+    let text = format!(in alloc; "1 0/{} 0/0 over", 102 + seeds as u32)?;
+    Ok(text_of_move(rt, alloc, line.as_bytes(), 1)?.as_str() == text.as_str())
+}
+
+// Whether one seed ends the game, and the other player keeps all others.
+fn leaves_all(rt: &impl Abort, alloc: Global, seeds: u8) -> Result<bool, Fail> {
+    let line = format!(in alloc; "1/0 {seeds}/99")?;
+    let text = format!(in alloc; "1 0/1 0/{} over", 99 + seeds as u32)?;
+    Ok(text_of_move(rt, alloc, line.as_bytes(), 1)?.as_str() == text.as_str())
+}
+
 #[test]
 fn steps_that_fill_a_store(rt: HostRuntime) -> Result<(), Fail> {
     for seeds in 1..29u8 {
-        let line = format!(in rt.alloc(); "3/99 {seeds}/0")?;
-        let written = text_of_move(&rt, rt.alloc(), line.as_bytes(), 1)?;
-        let text = format!(in rt.alloc(); "1 0/{} 0/0 over", 102 + seeds)?;
-        assert_eq!(rt; written.as_str(), text.as_str());
+        assert!(rt; captures_all(&rt, rt.alloc(), seeds)?, "{seeds}");
     }
     for seeds in 1..31u8 {
-        let line = format!(in rt.alloc(); "1/0 {seeds}/99")?;
-        let written = text_of_move(&rt, rt.alloc(), line.as_bytes(), 1)?;
-        let text = format!(in rt.alloc(); "1 0/1 0/{} over", 99 + seeds)?;
-        assert_eq!(rt; written.as_str(), text.as_str());
+        assert!(rt; leaves_all(&rt, rt.alloc(), seeds)?, "{seeds}");
     }
     Ok(())
 }

@@ -4,7 +4,6 @@ use crate::{Answer, LineFault, Sink, Stream, Taken, answer_text, write_answer};
 use std::alloc::Global;
 use std::io;
 use std::io::{ErrorKind, Write};
-use std::process::Abort;
 use std::test::Fail;
 
 /// Answers an error at its `fails_at`th write, counted from 1, and at any later one.
@@ -36,16 +35,18 @@ fn best(margin: i32, house: u8) -> Answer {
     Answer::Best { margin, house }
 }
 
-// What is written is the answer line as text, and a line feed.
-fn assert_written(rt: &impl Abort, alloc: Global, taken: &Taken, text: &str) -> Result<(), Fail> {
+// Whether this is written.
+fn is_written(alloc: Global, taken: &Taken, text: &str) -> Result<bool, Fail> {
     let mut out = Stream::new(Vec::<u8>::new(alloc));
     write_answer(&mut out, "a.txt", taken)?;
-    assert!(rt; !out.failed());
-    assert_eq!(rt; out.into_inner().as_slice(), text.as_bytes());
+    Ok(!out.failed() && out.into_inner().as_slice() == text.as_bytes())
+}
+
+// Whether this is the answer line as text, and a line feed.
+fn is_printed(alloc: Global, taken: &Taken, text: &str) -> Result<bool, Fail> {
     let mut printed = answer_text(alloc, "a.txt", taken)?;
     printed.push_str("\n")?;
-    assert_eq!(rt; printed.as_str(), text);
-    Ok(())
+    Ok(printed.as_str() == text)
 }
 
 #[test]
@@ -59,7 +60,9 @@ fn an_answer_is_written_as_it_is_printed(rt: HostRuntime) -> Result<(), Fail> {
             "a.txt:4294967296 fault seeds\n",
         ),
     ] {
-        assert_written(&rt, rt.alloc(), &Taken { line, answer }, text)?;
+        let taken = Taken { line, answer };
+        assert!(rt; is_written(rt.alloc(), &taken, text)?, "{text}");
+        assert!(rt; is_printed(rt.alloc(), &taken, text)?, "{text}");
     }
     Ok(())
 }
@@ -103,12 +106,14 @@ fn each_write_that_fails_is_an_error(rt: HostRuntime) -> Result<(), Fail> {
             calls: 0,
             fails_at,
         });
-        let written = write_answer(&mut out, "a.txt", &taken);
-        assert_eq!(rt; out.failed(), written.is_err());
-        let writer = out.into_inner();
+        let fails = write_answer(&mut out, "a.txt", &taken).is_err();
+        let told = (fails, out.failed());
+        let calls = out.into_inner().calls;
         // No call after the first error, and few calls for a line.
-        assert_eq!(rt; writer.calls, fails_at.min(2));
-        assert_eq!(rt; written.is_err(), fails_at <= 2);
+        assert_eq!(rt;
+            (told, calls),
+            ((fails_at <= 2, fails_at <= 2), fails_at.min(2))
+        );
     }
     Ok(())
 }
