@@ -59,6 +59,18 @@ fn solve_files<'a, R: Files + Threads + Wait + Sync, O: Sink>(
     }
 }
 
+// What the program ends with once all lines are answered.
+fn status_of(tally: Tally) -> ExitStatus
+    ensures clean { result ≡ ExitStatus.Clean ↔ tally.faults ≡ 0 }
+    ensures lines { result ≢ ExitStatus.Failed }
+{
+    if tally.faults == 0 {
+        ExitStatus::Clean
+    } else {
+        ExitStatus::LineFaults
+    }
+}
+
 /// Answers each line of the files that are named.
 pub(crate) fn run_solve<R: Files + Threads + Wait + Sync, O: Sink, E: Write>(
     rt: &R,
@@ -79,8 +91,7 @@ pub(crate) fn run_solve<R: Files + Threads + Wait + Sync, O: Sink, E: Write>(
         → out.new ≡ out.old }
 {
     match solve_files(rt, alloc, names, workers, table, out) {
-        Ok(tally) if tally.faults == 0 => ExitStatus::Clean,
-        Ok(_) => ExitStatus::LineFaults,
+        Ok(tally) => status_of(tally),
         Err(failure) => failure.report(err),
     }
 }

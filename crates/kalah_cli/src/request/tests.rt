@@ -54,19 +54,34 @@ fn reads_solve(rt: HostRuntime) {
     );
 }
 
+// Words that give no request, and what kind of error they give.
+const REFUSED: [(&[&str], ErrorKind); 9] = [
+    (&["kalah"], ErrorKind::MissingSubcommand),
+    (&["kalah", "stop"], ErrorKind::InvalidSubcommand),
+    (&["kalah", "solve"], ErrorKind::MissingRequiredArgument),
+    (&["kalah", "--help"], ErrorKind::DisplayHelp),
+    (&["kalah", "solve", "--help"], ErrorKind::DisplayHelp),
+    (
+        &["kalah", "solve", "--workers", "0", "a"],
+        ErrorKind::ValueValidation,
+    ),
+    (
+        &["kalah", "solve", "--table", "0", "a"],
+        ErrorKind::ValueValidation,
+    ),
+    (
+        &["kalah", "solve", "--workers", "65", "a"],
+        ErrorKind::ValueValidation,
+    ),
+    (
+        &["kalah", "solve", "--table", "1048577", "a"],
+        ErrorKind::ValueValidation,
+    ),
+];
+
 #[test]
 fn refuses(rt: HostRuntime) {
-    assert!(rt; fails_with(&rt, &["kalah"], ErrorKind::MissingSubcommand));
-    assert!(rt; fails_with(&rt, &["kalah", "stop"], ErrorKind::InvalidSubcommand));
-    assert!(rt; fails_with(&rt, &["kalah", "solve"], ErrorKind::MissingRequiredArgument));
-    assert!(rt; fails_with(&rt, &["kalah", "--help"], ErrorKind::DisplayHelp));
-    assert!(rt; fails_with(&rt, &["kalah", "solve", "--help"], ErrorKind::DisplayHelp));
-    for option in ["--workers", "--table"] {
-        let zero = ["kalah", "solve", option, "0", "a"];
-        assert!(rt; fails_with(&rt, zero.as_slice(), ErrorKind::ValueValidation));
+    for (words, kind) in REFUSED {
+        assert!(rt; fails_with(&rt, words, kind), "{words:?}");
     }
-    let many = ["kalah", "solve", "--workers", "65", "a"];
-    assert!(rt; fails_with(&rt, many.as_slice(), ErrorKind::ValueValidation));
-    let large = ["kalah", "solve", "--table", "1048577", "a"];
-    assert!(rt; fails_with(&rt, large.as_slice(), ErrorKind::ValueValidation));
 }

@@ -24,9 +24,9 @@ struct Failing {
 }
 
 impl Failing {
-    fn new(rt: &HostRuntime, fails_at: u32) -> Failing {
+    fn new(alloc: Global, fails_at: u32) -> Failing {
         Failing {
-            bytes: Vec::new(rt.alloc()),
+            bytes: Vec::new(alloc),
             calls: 0,
             fails_at,
         }
@@ -103,104 +103,66 @@ fn is_usage(run: &Run) -> bool {
     run.status == ExitStatus::Failed && run.out.is_empty() && run.err.starts_with(b"error: ")
 }
 
+// Lines, and what `moves` prints of them.
+const MOVES: [(&str, &str); 4] = [
+    ("1,1/0 1,1/0", "1 1,1/0 0,2/0 turn\n2 1,0/1 1,1/0 again\n"),
+    ("3/0 3/0", "1 0/6 0/0 over\n"),
+    ("1/99 1/99", "1 0/100 0/100 over\n"),
+    ("0/0 1/0", ""),
+];
+
 #[test]
 fn shows_the_moves_of_a_position(rt: HostRuntime) -> Result<(), Fail> {
-    let alloc = rt.alloc();
-    let clean = ExitStatus::Clean;
-    let two = "1 1,1/0 0,2/0 turn\n2 1,0/1 1,1/0 again\n";
-    assert!(rt;
-        answers(
-            &run_on(&rt, alloc, &["moves", "1,1/0 1,1/0"])?,
-            clean,
-            two,
-            ""
-        )
-    );
-    assert!(rt;
-        answers(
-            &run_on(&rt, alloc, &["moves", "3/0 3/0"])?,
-            clean,
-            "1 0/6 0/0 over\n",
-            ""
-        )
-    );
-    assert!(rt;
-        answers(
-            &run_on(&rt, alloc, &["moves", "1/99 1/99"])?,
-            clean,
-            "1 0/100 0/100 over\n",
-            ""
-        )
-    );
-    assert!(rt; answers(&run_on(&rt, alloc, &["moves", "0/0 1/0"])?, clean, "", ""));
+    for (line, moves) in MOVES {
+        let run = run_on(&rt, rt.alloc(), ["moves", line].as_slice())?;
+        assert!(rt; answers(&run, ExitStatus::Clean, moves, ""), "{line}");
+    }
     Ok(())
 }
+
+// Lines that are not read, and what is said of them.
+const UNREAD: [(&str, &str); 4] = [
+    ("1/0", "fault shape\n"),
+    ("", "fault empty\n"),
+    ("1,1/0 1/0", "fault houses\n"),
+    ("16/0 16/0", "fault seeds\n"),
+];
 
 #[test]
 fn a_line_that_is_not_read_is_answered_by_its_fault(rt: HostRuntime) -> Result<(), Fail> {
-    let alloc = rt.alloc();
-    let faults = ExitStatus::LineFaults;
-    assert!(rt;
-        answers(
-            &run_on(&rt, alloc, &["moves", "1/0"])?,
-            faults,
-            "",
-            "fault shape\n"
-        )
-    );
-    assert!(rt;
-        answers(
-            &run_on(&rt, alloc, &["moves", ""])?,
-            faults,
-            "",
-            "fault empty\n"
-        )
-    );
-    assert!(rt;
-        answers(
-            &run_on(&rt, alloc, &["moves", "1,1/0 1/0"])?,
-            faults,
-            "",
-            "fault houses\n"
-        )
-    );
-    assert!(rt;
-        answers(
-            &run_on(&rt, alloc, &["moves", "16/0 16/0"])?,
-            faults,
-            "",
-            "fault seeds\n"
-        )
-    );
+    for (line, fault) in UNREAD {
+        let run = run_on(&rt, rt.alloc(), ["moves", line].as_slice())?;
+        assert!(rt; answers(&run, ExitStatus::LineFaults, "", fault), "{line}");
+    }
     Ok(())
 }
 
+// Words that the program does not take.
+const MISTAKES: [&[&str]; 16] = [
+    &[],
+    &["stop"],
+    &["solve"],
+    &["moves"],
+    &["help"],
+    &["-x"],
+    &["--version"],
+    &["solve", "--workers", "0", "a.txt"],
+    &["solve", "--workers", "65", "a.txt"],
+    &["solve", "--workers", "four", "a.txt"],
+    &["solve", "--workers", "-1", "a.txt"],
+    &["solve", "--workers", "", "a.txt"],
+    &["solve", "--table", "0", "a.txt"],
+    &["solve", "--table", "1048577", "a.txt"],
+    &["moves", "-1/0 1/0"],
+    &["moves", "1/0 1/0", "1/0 1/0"],
+];
+
 #[test]
 fn mistakes_in_the_words(rt: HostRuntime) -> Result<(), Fail> {
-    let alloc = rt.alloc();
-    assert!(rt; is_usage(&run_on(&rt, alloc, &[])?));
-    for word in ["stop", "solve", "moves", "help", "-x", "--version"] {
-        assert!(rt;
-            is_usage(&run_on(&rt, alloc, [word].as_slice())?),
-            "at {word}"
-        );
+    for words in MISTAKES {
+        let run = run_on(&rt, rt.alloc(), words)?;
+        assert!(rt; is_usage(&run), "{words:?}");
     }
-    for number in ["0", "65", "four", "-1", ""] {
-        let words = ["solve", "--workers", number, "a.txt"];
-        assert!(rt;
-            is_usage(&run_on(&rt, alloc, words.as_slice())?),
-            "at {number}"
-        );
-    }
-    for number in ["0", "1048577"] {
-        let words = ["solve", "--table", number, "a.txt"];
-        assert!(rt;
-            is_usage(&run_on(&rt, alloc, words.as_slice())?),
-            "at {number}"
-        );
-    }
-    assert!(rt; is_usage(&run_on(&rt, alloc, &["moves", "-1/0 1/0"])?));
-    assert!(rt; is_usage(&run_on(&rt, alloc, &["moves", "1/0 1/0", "1/0 1/0"])?));
     Ok(())
 }
 
@@ -243,24 +205,53 @@ fn a_file_that_is_not_read(rt: HostRuntime) -> Result<(), Fail> {
     Ok(())
 }
 
+/// What came of a run whose output failed, or took all.
+#[derive(Drop)]
+struct Stopped {
+    status: ExitStatus,
+    has_failed: bool,
+    calls: u32,
+    err: Vec<u8>,
+}
+
+impl Stopped {
+    // The run ended as it should where its output failed, or took all.
+    fn is_told(&self) -> bool {
+        let (status, err) = if self.has_failed {
+            (ExitStatus::Failed, "kalah: write failed\n")
+        } else {
+            (ExitStatus::Clean, "")
+        };
+        self.status == status && self.err.as_slice() == err.as_bytes()
+    }
+}
+
+// A run whose output fails at its call of this number, and at each later one.
+fn run_failing<R: Files + Threads + Wait + Sync>(
+    rt: &R,
+    alloc: Global,
+    texts: &[&str],
+    fails_at: u32,
+) -> Result<Stopped, AllocError> {
+    let words = words_of(alloc, texts)?;
+    let mut out = Stream::new(Failing::new(alloc, fails_at));
+    let mut err = Vec::<u8>::new(alloc);
+    let status = run_words(rt, alloc, words, &mut out, &mut err);
+    Ok(Stopped {
+        status,
+        has_failed: out.failed(),
+        calls: out.into_inner().calls,
+        err,
+    })
+}
+
 // Each move is written in two calls, and a flush ends them: five calls in all.
 #[test]
 fn stops_at_a_failed_write(rt: HostRuntime) -> Result<(), Fail> {
     for k in 1..8u32 {
-        let words = words_of(rt.alloc(), &["moves", "1,1/0 1,1/0"])?;
-        let mut out = Stream::new(Failing::new(&rt, k));
-        let mut err = Vec::<u8>::new(rt.alloc());
-        assert!(rt; !out.failed());
-        let status = run_words(&rt, rt.alloc(), words, &mut out, &mut err);
-        assert_eq!(rt; out.failed(), k <= 5, "at {k}");
-        let writer = out.into_inner();
-        if k <= 5 {
-            assert_eq!(rt; status, ExitStatus::Failed, "at {k}");
-            assert_eq!(rt; writer.calls, k);
-            assert_eq!(rt; err.as_slice(), b"kalah: write failed\n".as_slice());
-        } else {
-            assert_eq!(rt; status, ExitStatus::Clean);
-        }
+        let run = run_failing(&rt, rt.alloc(), &["moves", "1,1/0 1,1/0"], k)?;
+        assert_eq!(rt; (run.has_failed, run.calls), (k <= 5, k.min(5)), "at {k}");
+        assert!(rt; run.is_told(), "at {k}");
     }
     Ok(())
 }
@@ -268,17 +259,8 @@ fn stops_at_a_failed_write(rt: HostRuntime) -> Result<(), Fail> {
 #[test]
 fn a_failed_write_of_help(rt: HostRuntime) -> Result<(), Fail> {
     for k in 1..4u32 {
-        let words = words_of(rt.alloc(), &["--help"])?;
-        let mut out = Stream::new(Failing::new(&rt, k));
-        let mut err = Vec::<u8>::new(rt.alloc());
-        assert!(rt; !out.failed());
-        let status = run_words(&rt, rt.alloc(), words, &mut out, &mut err);
-        if k <= 2 {
-            assert_eq!(rt; status, ExitStatus::Failed, "at {k}");
-            assert_eq!(rt; err.as_slice(), b"kalah: write failed\n".as_slice());
-        } else {
-            assert_eq!(rt; status, ExitStatus::Clean);
-        }
+        let run = run_failing(&rt, rt.alloc(), &["--help"], k)?;
+        assert!(rt; run.is_told() && run.has_failed == (k <= 2), "at {k}");
     }
     Ok(())
 }
@@ -294,7 +276,7 @@ fn a_failing_standard_error_changes_no_status(rt: HostRuntime) -> Result<(), Fai
     for (texts, want) in calls {
         let words = words_of(rt.alloc(), texts)?;
         let mut out = Stream::new(Vec::<u8>::new(rt.alloc()));
-        let mut err = Failing::new(&rt, 1);
+        let mut err = Failing::new(rt.alloc(), 1);
         let status = run_words(&rt, rt.alloc(), words, &mut out, &mut err);
         assert_eq!(rt; status, want);
         assert!(rt; err.bytes.is_empty());

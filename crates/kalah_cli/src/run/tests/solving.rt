@@ -1,8 +1,6 @@
 //! Runs of `kalah solve` over files that are written first.
-use super::{Failing, answers, run_on, words_of};
-use crate::run::run_words;
+use super::{answers, run_failing, run_on};
 use crate::status::ExitStatus;
-use kalah_jobs::{Sink, Stream};
 use std::alloc::{AllocError, Global};
 use std::fs;
 use std::rt::Files;
@@ -142,26 +140,13 @@ fn a_file_of_the_greatest_size_is_read(rt: HostRuntime) -> Result<(), Fail> {
 // The last call that can fail is the flush after the last line.
 #[test]
 fn solving_stops_at_a_failed_write(rt: HostRuntime) -> Result<(), Fail> {
-    let alloc = rt.alloc();
     fs::write(&rt, "failing_b.txt", ONE_AND_TWO)?;
     let mut ended = false;
     for k in 1..64u32 {
-        let words = words_of(alloc, &["solve", "failing_b.txt"])?;
-        let mut out = Stream::new(Failing::new(&rt, k));
-        let mut err = Vec::<u8>::new(alloc);
-        assert!(rt; !out.failed());
-        let status = run_words(&rt, alloc, words, &mut out, &mut err);
-        let failed = out.failed();
-        let writer = out.into_inner();
-        assert!(rt; !ended || !failed, "at {k}");
-        if failed {
-            assert_eq!(rt; status, ExitStatus::Failed, "at {k}");
-            assert_eq!(rt; writer.calls, k);
-            assert_eq!(rt; err.as_slice(), b"kalah: write failed\n".as_slice());
-        } else {
-            assert_eq!(rt; status, ExitStatus::Clean);
-            ended = true;
-        }
+        let run = run_failing(&rt, rt.alloc(), &["solve", "failing_b.txt"], k)?;
+        assert!(rt; run.is_told(), "at {k}");
+        assert!(rt; !run.has_failed || !ended && run.calls == k, "at {k}");
+        ended = !run.has_failed;
     }
     assert!(rt; ended);
     Ok(())
