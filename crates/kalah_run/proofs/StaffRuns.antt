@@ -80,7 +80,8 @@ run_spent desk id jobs before [] run some = absurd (let many = run.as_many in om
 run_spent desk id jobs before (a ∷ others) run some = some_spent (passes_of (a ∷ others)) 0 a.pass (omega arith) (run.each 0 a some).spent
 
 -- the staff has worked, once each of its shifts has run
-pub has_worked : (jobs : List (List Entry)) (before after : Staff) → IsReady jobs (record after { shifts = before.shifts; pass = before.pass }) →
+pub has_worked : (jobs : List (List Entry)) (before after : Staff) →
+    IsReady jobs (record after { shifts = before.shifts; pass = before.pass }) →
     HaveRun after.desk after.queue.id jobs before.shifts.items after.shifts.items →
     (after.pass.queue ≡ before.pass.queue) × (after.pass.workers ≡ before.pass.workers) → HasWorked after
 has_worked jobs before after ready run same =

@@ -10,16 +10,21 @@ use Rattle.kalah_run.proofs.staff.Staff.open.Goals as goal
 pub returns : goal.returns
 returns c =
     let shifts : List Shift = c.in_ok-shifts.shifts.items in
+    let are = c.in_ok-shifts.ensures in
+    let desk = c.in_ok-desk.ensures in
+    let queue = c.in_ok-queue.queue.id in
+    let puts = c.in_ok-queue.ensures.puts.1 in
     let count : length shifts ≡ c.args.workers =
-    sym (length-map shifts (λ (s : Shift). s.pass)) ∙ ap (λ (l : List PassState). length l) c.in_ok-shifts.ensures.passes ∙ c.in_ok-desk.ensures.passes.0 in
+    sym (length-map shifts (λ (s : Shift). s.pass)) ∙ ap (λ (l : List PassState). length l) are.passes ∙ desk.passes.0 in
     record {
-      total = c.in_ok-desk.ensures.desk.0 ∙ c.total.ensures.lines;
+      total = desk.desk.0 ∙ c.total.ensures.lines;
       some = omega (arith, count, c.requires.workers.0);
-      passes = count ∙ sym c.in_ok-desk.ensures.desk.1;
-      at_work = new_at_work c.in_ok-desk.desk c.in_ok-queue.queue.id c.args.jobs.now shifts c.in_ok-desk.passes.items c.in_ok-queue.puts.items c.args.workers
-          c.in_ok-desk.ensures.passes c.in_ok-queue.ensures.puts.1 c.in_ok-shifts.ensures.passes c.in_ok-shifts.ensures.puts c.in_ok-shifts.ensures.jobs;
-      puts = subst (λ (l : List PutState). ArePassesFrom c.in_ok-queue.queue.id 0 l) (sym c.in_ok-shifts.ensures.puts) c.in_ok-queue.ensures.puts.1;
-      pass = c.in_ok-queue.ensures.get ∙ ap (λ n. let p : GetState = record { queue = c.in_ok-queue.queue.id; workers = n; got = [] } in p) (sym count);
+      passes = count ∙ sym desk.desk.1;
+      at_work = new_at_work c.in_ok-desk.desk queue c.args.jobs.now shifts c.in_ok-desk.passes.items c.in_ok-queue.puts.items
+          c.args.workers desk.passes puts are.passes are.puts are.jobs;
+      puts = subst (λ (l : List PutState). ArePassesFrom queue 0 l) (sym are.puts) puts;
+      pass = c.in_ok-queue.ensures.get
+          ∙ ap (λ n. let p : GetState = record { queue = queue; workers = n; got = [] } in p) (sym count);
       room = record {
         empty = (c.in_ok-passes.ensures.items, c.in_ok-puts.ensures.items);
         passes = subst (λ n. n ≤ vec_capacity c.in_ok-passes.passes) (sym count) c.in_ok-passes.ensures.capacity;
