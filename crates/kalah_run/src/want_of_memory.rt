@@ -1,10 +1,11 @@
 //! Each request for memory refused in turn. With ample memory these tests just pass. `tests/refuse` runs each of them
 //! again and again, with the first request refused, the second, and so on: it has to pass each time, until the request that
 //! is refused is one of its own marks.
-ghost use Rattle.std.specs.Prelude.{◌≡◌, vec_len};
+ghost use Rattle.std.specs.Prelude.{◌≡◌, ◌<◌, All, length, vec_len};
+ghost use Rattle.kalah_run.specs.DeskStates.{IsPassOf};
 ghost use Rattle.kalah_run.specs.QueueStates.{ArePassesFrom};
 
-use crate::{Desk, Gate, GetPass, OpenGate, PutPass, ResultsQueue};
+use crate::{Desk, Gate, GetPass, OpenGate, Pass, PutPass, ResultsQueue};
 use kalah_jobs::{Entry, LineFault, Outcome};
 use kalah_solve::{Solver, Table};
 use std::alloc::Global;
@@ -19,6 +20,16 @@ pub(crate) fn mark(alloc: Global, place: &'static str) -> Result<(), Fail> {
     }
 }
 
+// What one of the passes draws.
+fn draw_by(desk: &Desk, passes: &mut Vec<Pass>, k: usize) -> Option<u32>
+    requires there { k < length passes.old.items }
+    requires own { All (IsPassOf desk.now) passes.old.items }
+    ensures many { length passes.new.items ≡ length passes.old.items }
+    ensures own { All (IsPassOf desk.now) passes.new.items }
+{
+    desk.draw(&mut passes[k])
+}
+
 #[test]
 fn a_desk(rt: HostRuntime) -> Result<(), Fail> {
     let alloc = rt.alloc();
@@ -26,11 +37,11 @@ fn a_desk(rt: HostRuntime) -> Result<(), Fail> {
     assert_eq!(rt; passes.len(), 2);
     mark(alloc, "before the calls without memory")?;
     let drawn = [
-        desk.draw(&mut passes[0]),
-        desk.draw(&mut passes[1]),
-        desk.draw(&mut passes[0]),
-        desk.draw(&mut passes[1]),
-        desk.draw(&mut passes[1]),
+        draw_by(&desk, &mut passes, 0),
+        draw_by(&desk, &mut passes, 1),
+        draw_by(&desk, &mut passes, 0),
+        draw_by(&desk, &mut passes, 1),
+        draw_by(&desk, &mut passes, 1),
     ];
     let closed = desk.close(passes);
     assert_eq!(rt; drawn, [Some(0), Some(1), Some(2), None, None]);
