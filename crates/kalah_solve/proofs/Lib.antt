@@ -15,3 +15,7 @@ mod Entries
 mod Tries
 mod Windows
 mod Roots
+mod RowRanks
+mod Choices
+mod KeptEndings
+mod MostTaken

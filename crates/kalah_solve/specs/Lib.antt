@@ -6,3 +6,5 @@ pub mod StepWorth
 pub mod Table
 pub mod Taken
 pub mod Tried
+pub mod RowRank
+pub mod Endings

@@ -1,6 +1,7 @@
 //! The margin of best play of a position of Kalah, and the lowest house that attains it.
 #![tactic(auto)]
 
+mod endings;
 #[cfg(test)]
 mod granting;
 mod key;

@@ -20,12 +20,23 @@ const MOST_PLACED: u8 = 20;
 /// An answer that took fewer nodes than this is not worth an entry.
 const LEAST_WORK: u64 = 60;
 
-/// A search with its table. What it answers depends on neither of its limits.
+/// The longer a search is, the more of its endings are worth what it takes to know them: those of houses with at most 5
+/// seeds from the start, with 6 from so many nodes on,
+const NODES_FOR_6: u64 = 50_000;
+
+/// with 7 from so many on,
+const NODES_FOR_7: u64 = 100_000;
+
+/// and with 8 from so many on.
+const NODES_FOR_8: u64 = 200_000;
+
+/// A search with its table. What it answers depends on none of its limits.
 #[derive(Drop)]
 pub struct Search<A: Allocator + Clone = Global> {
     table: Table<A>,
     most_placed: u8,
     least_work: u64,
+    knows_endings: bool,
     nodes: u64,
 }
 
@@ -36,6 +47,7 @@ impl<A: Allocator + Clone> Search<A> {
             table,
             most_placed: MOST_PLACED,
             least_work: LEAST_WORK,
+            knows_endings: true,
             nodes: 0,
         }
     }
@@ -47,6 +59,7 @@ impl<A: Allocator + Clone> Search<A> {
             table,
             most_placed: 0,
             least_work: 0,
+            knows_endings: false,
             nodes: 0,
         }
     }
@@ -127,6 +140,23 @@ impl<A: Allocator + Clone> Search<A> {
             }
         }
         low
+    }
+
+    // What is taken of houses with at most so many seeds is looked up among the endings.
+    fn most_at_the_end(&self) -> u8
+        ensures { result ≤ 8 }
+    {
+        if !self.knows_endings {
+            0
+        } else if self.nodes < NODES_FOR_6 {
+            5
+        } else if self.nodes < NODES_FOR_7 {
+            6
+        } else if self.nodes < NODES_FOR_8 {
+            7
+        } else {
+            8
+        }
     }
 
     // What is known of the seeds that the mover takes.

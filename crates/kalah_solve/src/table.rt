@@ -1,9 +1,11 @@
 //! A bounded table of what is known of houses.
-ghost use Rattle.std.specs.Prelude.{◌≡◌, ◌≤◌, ℕ, [], nat_eq, IfOk, IfSome, ◌≤ℤ◌, ℤ, pos, negsuc, ◌<ℤ◌};
+ghost use Rattle.std.specs.Prelude.{◌≡◌, ◌≤◌, ℕ, [], nat_eq, IfOk, IfSome, ◌≤ℤ◌, ℤ, pos, negsuc, ◌<ℤ◌, false};
 ghost use Rattle.std.specs.Map.{lookup};
 ghost use Rattle.kalah_rules.specs.Key.{key_of};
+ghost use Rattle.kalah_rules.specs.Position.{bare, is_over, seeds_in_houses};
 ghost use Rattle.kalah_solve.specs.Worth.{houses_worth};
 
+use crate::endings::Endings;
 use crate::places::Places;
 use crate::share::Share;
 use kalah_rules::Houses;
@@ -78,6 +80,7 @@ impl Interval {
 pub struct Table<A: Allocator + Clone = Global> {
     entries: LruCache<u64, Interval, DefaultHasher, A>,
     places: Places<A>,
+    endings: Endings<A>,
 }
 
 impl<A: Allocator + Clone> Model for Table<A> {
@@ -104,9 +107,14 @@ impl<A: Allocator + Clone> Table<A> {
         ensures { IfOk result (λ t. t ≡ []) }
     {
         let places = Places::new(alloc.clone()?, capacity)?;
+        let endings = Endings::new(alloc.clone()?)?;
         let capacity = NonZeroUsize::new(capacity as usize).unwrap();
         let entries = LruCache::new(alloc, capacity)?;
-        Ok(Table { entries, places })
+        Ok(Table {
+            entries,
+            places,
+            endings,
+        })
     }
 
     // What the place of the houses tells of them.
@@ -122,6 +130,16 @@ impl<A: Allocator + Clone> Table<A> {
         ensures { self.new ≡ self.old }
     {
         self.places.keep(houses, share);
+    }
+
+    // What the mover takes of houses with few seeds.
+    pub(crate) fn taken(&mut self, houses: &Houses) -> u8
+        requires going { is_over (bare houses.now) ≡ false }
+        requires few { seeds_in_houses (bare houses.now) ≤ 8 }
+        ensures taken { result ≡ taken houses.now }
+        ensures kept { self.new ≡ self.old }
+    {
+        self.endings.taken(houses)
     }
 
     // What is known of the houses, which become the most recently used.

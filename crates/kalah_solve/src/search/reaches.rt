@@ -37,6 +37,9 @@ impl<A: Allocator + Clone> Search<A> {
         requires going { is_over (bare houses.now) ≡ false }
         ensures { IsTrue result ↔ bar ≤ taken houses.now }
     {
+        if houses.seeds() <= self.most_at_the_end() {
+            return bar <= self.table.taken(houses);
+        }
         let known = self.known(houses);
         if bar <= known.least {
             return true;

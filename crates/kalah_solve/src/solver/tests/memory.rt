@@ -25,6 +25,20 @@ fn tells_many_seeds<A: Allocator + Clone>(
     Ok(())
 }
 
+// A start with so much to search that an answer is kept, however much of it is known by places.
+fn tells_three_houses<A: Allocator + Clone>(
+    rt: &impl Abort,
+    solver: &mut Solver<A>,
+) -> Result<(), Fail> {
+    let fours = [4, 4, 4, 0, 0, 0];
+    let board = Board::new(3, fours, 0, fours, 0, Rule::Classic);
+    assert_eq!(rt;
+        solver.solve(&board.ok_or("beyond the limits")?),
+        best(2, 1)
+    );
+    Ok(())
+}
+
 // Two positions that differ in their stores alone, with one entry for both, unless there is no memory for the table.
 fn tells_both(rt: &impl Abort, heap: &Granting<Global>, keeps_all: bool) -> Result<(), Fail> {
     let table = Table::new(heap, 1);
@@ -94,6 +108,7 @@ fn every_entry_is_refused(rt: HostRuntime) -> Result<(), Fail> {
         tells_one_house(&rt, &mut solver)?;
         tells_two_houses(&rt, &mut solver)?;
         tells_many_seeds(&rt, &mut solver)?;
+        tells_three_houses(&rt, &mut solver)?;
         assert!(rt; heap.refused() > 0);
         let board = one(16, 15)?;
         assert!(rt; !board.is_over());

@@ -1,0 +1,33 @@
+-- A number for each row of cells with few seeds, so that all such rows can stand in a short list.
+use Rattle.std.specs.Prelude.{ℕ, zero, suc, ◌+◌, ◌*◌, List, [], ◌∷◌, ◌++◌, length, sum, slice_index}
+use Rattle.kalah_rules.specs.Position.{Rows}
+use Rattle.kalah_rules.specs.Key.{rule_bit}
+
+-- in how many ways k of n things can be chosen
+unfoldable pub choose : ℕ → ℕ → ℕ
+choose n zero = 1
+choose zero (suc k) = 0
+choose (suc n) (suc k) = choose n k + choose n (suc k)
+
+-- the rank of a row among all rows of as many cells: first come those with fewer seeds, and of those with as many seeds
+-- the ones with fewer seeds past the first cell
+abbrev pub row_rank : List ℕ → ℕ
+row_rank [] = 0
+row_rank (x ∷ xs) = choose (x + sum xs + length xs) (suc (length xs)) + row_rank xs
+
+-- the rank of the houses of both players in one row
+abbrev pub rank_of_houses : Rows → ℕ
+rank_of_houses a = row_rank (a.own ++ a.other)
+
+-- the game that houses are of: how many there are per side, and 8 more for the empty-capture rule
+abbrev pub game_of : Rows → ℕ
+game_of a = length a.own + 8 * rule_bit a.rule
+
+-- where the places of a game begin, so that no two games share a place among those of houses with at most 8 seeds
+abbrev pub first_place : ℕ → ℕ
+first_place game =
+    slice_index (0 ∷ 0 ∷ 45 ∷ 540 ∷ 3543 ∷ 16413 ∷ 60171 ∷ 0 ∷ 0 ∷ 186141 ∷ 186186 ∷ 186681 ∷ 189684 ∷ 202554 ∷ 246312 ∷ 0 ∷ []) game
+
+-- the place of houses among those of all games
+unfoldable pub place_of : Rows → ℕ
+place_of a = first_place (game_of a) + rank_of_houses a

@@ -1,0 +1,62 @@
+//! What the mover takes of houses with few seeds, by trying each move to the end.
+ghost use Rattle.std.specs.Prelude.{◌≡◌, ◌≤◌, ◌<◌, false, Contains};
+ghost use Rattle.kalah_rules.specs.Position.{bare, seeds_in_houses, is_over};
+ghost use Rattle.kalah_rules.specs.Play.{legal_houses};
+ghost use Rattle.kalah_rules.specs.HousesStep.{houses_step};
+ghost use Rattle.kalah_solve.specs.Taken.{taken, taken_by_step};
+
+use crate::endings::Endings;
+use kalah_rules::{Houses, HousesStep};
+use std::alloc::Allocator;
+
+impl<A: Allocator> Endings<A> {
+    /// How many of the seeds in the houses the mover takes.
+    #[cycle(exact)]
+    pub(crate) fn taken(&mut self, houses: &Houses) -> u8
+        requires going { is_over (bare houses.now) ≡ false }
+        requires few { seeds_in_houses (bare houses.now) ≤ 8 }
+        ensures { result ≡ taken houses.now }
+    {
+        let place = self.place(houses);
+        if let Some(taken) = self.get(place, houses) {
+            return taken;
+        }
+        let taken = self.most_taken(houses);
+        self.keep(place, houses, taken);
+        taken
+    }
+
+    // The same, by trying the moves.
+    #[cycle(exact)]
+    fn most_taken(&mut self, houses: &Houses) -> u8
+        requires going { is_over (bare houses.now) ≡ false }
+        requires few { seeds_in_houses (bare houses.now) ≤ 8 }
+        ensures { result ≡ taken houses.now }
+    {
+        let seeds = houses.seeds();
+        let m = houses.m();
+        let mut most = 0;
+        for passed in 0..m {
+            let h = m - passed;
+            if houses.own(h) > 0 && most < seeds {
+                most = most.max(self.move_takes(houses, h));
+            }
+        }
+        most
+    }
+
+    // What house `h` takes.
+    #[cycle(exact)]
+    fn move_takes(&mut self, houses: &Houses, h: u8) -> u8
+        requires legal { Contains (legal_houses (bare houses.now)) h }
+        requires few { seeds_in_houses (bare houses.now) ≤ 8 }
+        ensures { result ≡ taken_by_step (houses_step houses.now h) }
+    {
+        let _seeds = houses.seeds();
+        match houses.play(h) {
+            HousesStep::Over { own, .. } => own,
+            HousesStep::Again(gained, next) => gained + self.taken(&next),
+            HousesStep::Turn(gained, next) => gained + (next.seeds() - self.taken(&next)),
+        }
+    }
+}

@@ -1,0 +1,86 @@
+use super::*;
+use crate::plain;
+use crate::verdict::Verdict;
+use kalah_rules::{Board, Rule};
+use std::process::Abort;
+use std::test::Fail;
+
+// Three cells of at most 6 seeds each, read off a number.
+fn cells_of(number: u32) -> [u8; 6] {
+    let first = (number % 7) as u8;
+    let second = (number / 7 % 7) as u8;
+    let third = (number / 49 % 7) as u8;
+    [first, second, third, 0, 0, 0]
+}
+
+// What the mover takes, by the plain recursion. None where the game is over.
+fn plainly_taken(board: &Board) -> Option<i32> {
+    match plain::solve(board) {
+        Verdict::Over { .. } => None,
+        Verdict::Best { margin, .. } => Some((margin + board.houses().seeds() as i32) / 2),
+    }
+}
+
+// The board's ending is that of the plain recursion. It tells whether the board has an ending to compare.
+fn agrees_with_plain(rt: &impl Abort, endings: &mut Endings, board: &Board) -> bool {
+    if board.is_over() || board.houses().seeds() > 6 {
+        return false;
+    }
+    let taken = endings.taken(&board.houses());
+    assert!(rt; plainly_taken(board) == Some(taken as i32));
+    true
+}
+
+// Each board with so many houses a side and at most 6 seeds, twice; it tells how many there are.
+fn agrees_with_plain_with(rt: &impl Abort, endings: &mut Endings, m: u8, rule: Rule) -> u32 {
+    let mut boards = 0u32;
+    for number in 0..117_649u32 {
+        let own = cells_of(number % 343);
+        let other = cells_of(number / 343);
+        if let Some(board) = Board::new(m, own, 0, other, 0, rule) {
+            let again = agrees_with_plain(rt, endings, &board);
+            if again && agrees_with_plain(rt, endings, &board) {
+                boards = boards.saturating_add(1);
+            }
+        }
+    }
+    boards
+}
+
+#[test]
+fn endings_agree_with_plain(rt: HostRuntime) -> Result<(), Fail> {
+    let mut endings = Endings::new(rt.alloc())?;
+    for rule in [Rule::Classic, Rule::EmptyCapture] {
+        assert_eq!(rt; agrees_with_plain_with(&rt, &mut endings, 1, rule), 15);
+        assert_eq!(rt; agrees_with_plain_with(&rt, &mut endings, 2, rule), 155);
+        assert_eq!(rt; agrees_with_plain_with(&rt, &mut endings, 3, rule), 757);
+    }
+    Ok(())
+}
+
+// The houses of two a side with at most 4 seeds have the 70 places from this one on.
+fn fill_places(rt: &impl Abort, endings: &Endings, rule: Rule, first: usize) -> Result<(), Fail> {
+    let mut filled = [false; 70];
+    for number in 0..117_649u32 {
+        let own = cells_of(number % 343);
+        let other = cells_of(number / 343);
+        let houses = Houses::new(2, own, other, rule);
+        if let Some(houses) = houses {
+            if houses.seeds() <= 4 {
+                let at = endings.place(&houses).wrapping_sub(first);
+                assert!(rt; at < 70);
+                assert!(rt; !filled[at]);
+                filled[at] = true;
+            }
+        }
+    }
+    assert!(rt; filled == [true; 70]);
+    Ok(())
+}
+
+#[test]
+fn houses_have_places_of_their_own(rt: HostRuntime) -> Result<(), Fail> {
+    let endings = Endings::new(rt.alloc())?;
+    fill_places(&rt, &endings, Rule::Classic, 45)?;
+    fill_places(&rt, &endings, Rule::EmptyCapture, 186_186)
+}
