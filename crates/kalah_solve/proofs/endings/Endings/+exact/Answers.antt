@@ -2,7 +2,8 @@ use Rattle.std.proofs.Common.{arith, rules, ◌∙◌, ◌-◌}
 use Rattle.kalah_solve.proofs.MostTaken.{most_of_none, most_more, most_same, most_all, most_taken, after_again, after_turn}
 use Rattle.kalah_solve.proofs.Tries.{filled_legal}
 use Rattle.kalah_solve.proofs.endings.Endings.+exact.Goals as goal
-use Rattle.kalah_solve.proofs.endings.Endings.+exact.Goals.{most_taken-then-own-gt0+then-most-seeds, most_taken-else-own-gt0, most_taken-else-own-gt0-via-then-own-gt0+else-most-seeds, most_taken-else-own-gt0-via-else-own-gt0}
+use Rattle.kalah_solve.proofs.endings.Endings.+exact.Goals.{most_taken-then-own-gt0+then-most-seeds, most_taken-else-own-gt0}
+use Rattle.kalah_solve.proofs.endings.Endings.+exact.Goals.{most_taken-else-own-gt0-via-then-own-gt0+else-most-seeds, most_taken-else-own-gt0-via-else-own-gt0}
 
 pub most_taken-loop-passed-init : goal.most_taken-loop-passed-init
 most_taken-loop-passed-init g t c = most_of_none c.args.houses.now c.m-m.result c.m-m.ensures.side
