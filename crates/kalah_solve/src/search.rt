@@ -20,14 +20,14 @@ const MOST_PLACED: u8 = 20;
 /// An answer that took fewer nodes than this is not worth an entry.
 const LEAST_WORK: u64 = 60;
 
-/// The longer a search is, the more of its endings are worth what it takes to know them: those of houses with at most 5
-/// seeds from the start, with 6 from so many nodes on,
+/// From so many nodes on the endings of houses with 6 seeds are asked for, and before only those with at most 5: to know
+/// them all costs a short search more than it saves.
 const NODES_FOR_6: u64 = 50_000;
 
-/// with 7 from so many on,
+/// From so many nodes on those with 7.
 const NODES_FOR_7: u64 = 100_000;
 
-/// and with 8 from so many on.
+/// From so many nodes on those with 8.
 const NODES_FOR_8: u64 = 200_000;
 
 /// A search with its table. What it answers depends on none of its limits.
