@@ -119,13 +119,17 @@ impl<A: Allocator + Clone> Search<A> {
         (2 * taken as i32 - seeds as i32).clamp(lo, hi)
     }
 
-    // The seeds that the mover takes, raised to the least of the share and lowered to its most: tests close in on them.
+    // The seeds that the mover takes, raised to the least of the share and lowered to its most: those of an ending are
+    // looked up, and tests close in on others.
     fn taken_within(&mut self, houses: &Houses, asked: Share) -> u8
         requires going { is_over (bare houses.now) ≡ false }
         requires ordered { asked.least ≤ asked.most }
         requires high { asked.most ≤ 31 }
         ensures { result ≡ max asked.least (min asked.most (taken houses.now)) }
     {
+        if houses.seeds() <= self.most_at_the_end() {
+            return self.table.taken(houses).clamp(asked.least, asked.most);
+        }
         let mut low = asked.least;
         let mut high = asked.most;
         let mut bar = houses.seeds() / 2 + 1;
