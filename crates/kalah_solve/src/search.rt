@@ -85,10 +85,12 @@ impl<A: Allocator + Clone> Search<A> {
         }
         let before = self.nodes;
         let answer = self.close_in(houses, low, high);
-        if self.nodes.wrapping_sub(before) >= self.least_work {
-            self.table
-                .keep(houses, Interval::learned(low, high, answer).shared(known));
-        }
+        let work = self.nodes.wrapping_sub(before);
+        self.learn_margins(
+            houses,
+            Interval::learned(low, high, answer).shared(known),
+            work,
+        );
         answer
     }
 
@@ -184,8 +186,17 @@ impl<A: Allocator + Clone> Search<A> {
         let seeds = houses.seeds();
         if seeds <= self.most_placed {
             self.table.keep_place(houses, share);
-        } else if work >= self.least_work {
-            self.table.keep(houses, share.margins(seeds));
+        } else {
+            self.learn_margins(houses, share.margins(seeds), work);
+        }
+    }
+
+    // Makes an entry of what was learned of their worth, unless it took too little work.
+    fn learn_margins(&mut self, houses: &Houses, interval: Interval, work: u64)
+        requires { Holds interval (houses_worth houses.now) }
+    {
+        if work >= self.least_work {
+            self.table.keep(houses, interval);
         }
     }
 }

@@ -84,3 +84,17 @@ fn houses_have_places_of_their_own(rt: HostRuntime) -> Result<(), Fail> {
     fill_places(&rt, &endings, Rule::Classic, 45)?;
     fill_places(&rt, &endings, Rule::EmptyCapture, 186_186)
 }
+
+#[test]
+fn an_ending_is_known_once_it_was_asked_for(rt: HostRuntime) -> Result<(), Fail> {
+    let mut endings = Endings::new(rt.alloc())?;
+    let threes = [3, 0, 0, 0, 0, 0];
+    let houses = Houses::new(1, threes, threes, Rule::Classic).ok_or("beyond the limits")?;
+    assert!(rt; !houses.is_over());
+    assert!(rt; houses.seeds() <= 8);
+    let place = endings.place(&houses);
+    assert_eq!(rt; endings.get(place, &houses), None);
+    assert_eq!(rt; endings.taken(&houses), 6);
+    assert_eq!(rt; endings.get(place, &houses), Some(6));
+    Ok(())
+}

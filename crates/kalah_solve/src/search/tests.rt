@@ -29,6 +29,22 @@ fn games_as_they_begin_take_few_nodes(rt: HostRuntime) -> Result<(), Fail> {
         search.nodes,
         took / (search.nodes as u128).max(1)
     )?;
-    assert!(rt; search.nodes < 200_000);
+    assert!(rt; search.nodes < 120_000);
+    Ok(())
+}
+
+// After house 1 of `5,5` against `5,5` the other player has these.
+#[test]
+fn what_is_learned_of_a_move_is_kept_in_its_place(rt: HostRuntime) -> Result<(), Fail> {
+    let mut search = Search::new(Table::new(rt.alloc(), 65_536)?);
+    let own = [6, 0, 0, 0, 0, 0];
+    let other = [0, 6, 0, 0, 0, 0];
+    let next = Houses::new(2, own, other, Rule::Classic).ok_or("beyond the limits")?;
+    assert!(rt; search.table.look_up_place(&next) == Share::unknown(&next));
+    let houses = begun(2, 5)?;
+    if !houses.is_over() {
+        assert_eq!(rt; search.search(&houses, -31, 31), 6);
+    }
+    assert!(rt; search.table.look_up_place(&next) != Share::unknown(&next));
     Ok(())
 }

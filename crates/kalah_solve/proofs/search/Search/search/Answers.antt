@@ -25,32 +25,14 @@ returns-then-high-low g c =
 pub learned-requires-clause-least : goal.learned-requires-clause-least
 learned-requires-clause-least g c = omega (arith, ints, clamps, c.close_in-answer.ensures)
 
-pub keep-requires : goal.keep-requires
-keep-requires g c =
+pub learn_margins-requires : goal.learn_margins-requires
+learn_margins-requires g c =
     c.shared.ensures.held (houses_worth c.args.houses.now)
     (c.learned.ensures (houses_worth c.args.houses.now) c.known_margins-known.ensures.least c.known_margins-known.ensures.most (omega (arith, ints, clamps, c.close_in-answer.ensures)))
     c.known_margins-known.ensures.holds
 
-pub returns-then-self-before : goal.returns-then-self-before
-returns-then-self-before g c =
-    let lo_fits = c.ranges.lo in
-    let hi_fits = c.ranges.hi in
-    let known_lo : SFits w8 c.known_margins-known.result.lo = search rules in
-    let known_hi : SFits w8 c.known_margins-known.result.hi = search rules in
-    let known_lo_wide : SFits w32 c.known_margins-known.result.lo = search (rules, known_lo) in
-    let known_hi_wide : SFits w32 c.known_margins-known.result.hi = search (rules, known_hi) in
-    let low_fits : SFits w32 c.max-low.result = search rules in
-    let high_fits : SFits w32 c.min-high.result = search rules in
-    let low_is = simp to_z-of_z at c.max-low.ensures.value in
-    let high_is = simp to_z-of_z at c.min-high.ensures.value in
-    let ordered : c.args.lo ≤ℤ c.args.hi = c.requires.ordered in
-    let fits : SFits w32 c.close_in-answer.result = search rules in
-    let e = simp to_z-of_z at c.close_in-answer.ensures in
-    let some : c.max-low.result ≤ℤ c.min-high.result = grind (arith, ints, simp to_z-of_z at c.if-high-low.false) in
-    to_z-of_z w32 _ fits ∙ e ∙ rw (low_is, high_is) (known_narrows c.args.lo c.args.hi (houses_worth c.args.houses.now) c.known_margins-known.result ordered c.known_margins-known.ensures.holds (rw (← low_is, ← high_is) some))
-
-pub returns-else-self-before : goal.returns-else-self-before
-returns-else-self-before g c =
+pub returns : goal.returns
+returns g c =
     let lo_fits = c.ranges.lo in
     let hi_fits = c.ranges.hi in
     let known_lo : SFits w8 c.known_margins-known.result.lo = search rules in
