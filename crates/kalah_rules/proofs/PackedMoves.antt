@@ -2,13 +2,13 @@
 use Rattle.std.proofs.Common.{◌≡◌, ◌≢◌, ℕ, ◌+◌, ◌-◌, ◌*◌, ◌/◌, ◌%◌, ◌^◌, ◌<◌, ◌≤◌, inl, inr, List, length, arith, ap, sym, ◌∙◌, refl, subst, eq-eqb}
 use Rattle.std.specs.Prelude.{true, false, slice_set, slice_index, sum, nat_lt, if◌then◌else◌, ◌==◌, Option, Some, None}
 use Rattle.std.proofs.lemmas.Nat.{mod_below, mul-le}
-use Rattle.std.proofs.Math.Nat.{mul-div-le}
+use Rattle.std.proofs.Math.Nat.{mul-div-le, div-eq_of_lt, mod-eq_of_lt}
 use Rattle.std.proofs.lemmas.Bool.{cases_Bool, cases_eq, cases_lt, eqb-true}
 use Rattle.std.proofs.lemmas.Bool.Decides.{nat_tests}
 use Rattle.std.proofs.lemmas.List.{set_past, get_or_past}
 use Rattle.std.proofs.lemmas.List.Sums.{sum_by-set}
 use Rattle.kalah_rules.specs.Position.{Position, Rows, IsWithinHouses, side_length, seeds, opposite, seeds_in_houses, bare}
-use Rattle.kalah_rules.specs.Lap.{HoldsSeeds}
+use Rattle.kalah_rules.specs.Lap.{HoldsSeeds, lifted}
 use Rattle.kalah_rules.specs.Sowing.{lap_length, row_of, own_distance, other_distance, store_distance, sow, sown, last_distance, last_house, captures, can_capture, capture, captured, after}
 use Rattle.kalah_rules.proofs.Rows.{seeds-le-sum, length-slice_set}
 use Rattle.kalah_rules.proofs.Sown.{sow_side, sow_keeps, sow_other_store}
@@ -17,7 +17,7 @@ use Rattle.kalah_rules.proofs.Legal.{last_house_own, last_house_store, last_hous
 use Rattle.kalah_rules.specs.Key.{number_of}
 use Rattle.kalah_rules.specs.Packed.{Shows, ones, up_to}
 use Rattle.kalah_rules.specs.declared.houses.play.RowNumbers.{RowNumbers}
-use Rattle.kalah_rules.proofs.Packing.{number_of-set, read_seeds, own_sown, other_sown}
+use Rattle.kalah_rules.proofs.Packing.{number_of-set, number_of-up_to, read_seeds, own_sown, other_sown}
 
 -- what a sowing keeps
 pub record KeepsSeeds (p q : Position) : Type 0 where
@@ -96,43 +96,46 @@ module _ (a : Rows) (h : ℕ) (w : IsWithinHouses a) (holds : HoldsSeeds (bare a
   unfolding sow
   store_is = let last = holds.last in let first = holds.first in grind (arith, nat_tests)
 
-  -- what the code computes of it
-  module _ (m row seeds' laps rest : ℕ) (side : m ≡ length a.own) (row_is : row ≡ number_of a.own) (read : seeds' ≡ row / 32 ^ (h - 1) % 32)
-      (laps_is : laps ≡ seeds' / (2 * m + 1)) (rest_is : rest ≡ seeds' % (2 * m + 1)) where
-    -- the seeds that are read are those of the house
-    pub seeds_is : seeds' ≡ seeds a.own h
-    seeds_is = read ∙ ap (λ n. n / 32 ^ (h - 1) % 32) row_is ∙ read_seeds a.own (h - 1) (omega (arith, holds.first, holds.last)) (omega (arith, w.few_seeds))
+  -- the seeds that are read off the row are those of the house
+  pub house_read : (row n : ℕ) → row ≡ number_of a.own → n ≡ row / 32 ^ (h - 1) % 32 → n ≡ seeds a.own h
+  house_read row n row_is read =
+      read ∙ ap (λ n. n / 32 ^ (h - 1) % 32) row_is ∙ read_seeds a.own (h - 1) (omega (arith, holds.first, holds.last)) (omega (arith, w.few_seeds))
 
-    -- the whole laps
-    laps_at : laps ≡ seeds a.own h / lap_length (length a.own)
-    laps_at = rw (seeds_is, side) at laps_is
+  -- the row without the house's seeds
+  pub lifted_is : number_of (lifted (bare a) h).own + 32 ^ (h - 1) * seeds a.own h ≡ number_of a.own
+  lifted_is = omega (arith, number_of-set a.own (h - 1) 0 (omega (arith, holds.first, holds.last)))
 
-    -- the seeds of the last lap
-    rest_at : rest ≡ seeds a.own h % lap_length (length a.own)
-    rest_at = rw (seeds_is, side) at rest_is
+  -- the rows that are computed are those of the sowing
+  pub sown_shows : (m laps rest : ℕ) → m ≡ length a.own → laps ≡ seeds a.own h / (2 * m + 1) → rest ≡ seeds a.own h % (2 * m + 1) →
+      (row own_more other other_more last : ℕ) → row ≡ number_of (lifted (bare a) h).own →
+      own_more + ones h ≡ laps * ones m + number_of (row_of m (up_to (h + rest))) + number_of (row_of m (up_to (h + rest - (2 * m + 1)))) →
+      other ≡ number_of a.other → other_more ≡ laps * ones m + number_of (row_of m (up_to (h + rest - (m + 1)))) →
+      last ≡ (if nat_lt m (h + rest) then 1 else 0) →
+      Shows (record { own = row + own_more; other = other + other_more; store = laps + last }) q
+  sown_shows m laps rest side laps_is rest_is row own_more other other_more last row_is own_more_is other_is' other_more_is last_is =
+      let laps_at = rw side at laps_is in
+      let own_at = rw (side, laps_at, rw side at rest_is) at own_more_is in
+      let other_at = rw (side, laps_at, rw side at rest_is) at other_more_is in
+      let last_at = rw (side, rw side at rest_is) at last_is in
+      record {
+        own = omega (arith, own_is, lifted_is);
+        other = omega (arith, other_is);
+        store = omega (arith, store_is);
+      }
 
-    -- there are few laps
-    pub few_laps : laps ≤ 10
-    few_laps = laps_few laps laps_at
-
-    -- the rows that are computed are those of the sowing
-    pub sown_shows : (alone own_more other other_more last : ℕ) → alone ≡ 32 ^ (h - 1) * seeds' →
-        own_more + ones h ≡ laps * ones m + number_of (row_of m (up_to (h + rest))) + number_of (row_of m (up_to (h + rest - (2 * m + 1)))) →
-        other ≡ number_of a.other → other_more ≡ laps * ones m + number_of (row_of m (up_to (h + rest - (m + 1)))) →
-        last ≡ (if nat_lt m (h + rest) then 1 else 0) →
-        Shows (record { own = row - alone + own_more; other = other + other_more; store = laps + last }) q
-    sown_shows alone own_more other other_more last alone_is own_more_is other_row_is other_more_is last_is =
-        let set = number_of-set a.own (h - 1) 0 (omega (arith, holds.first, holds.last)) in
-        let alone_at : alone ≡ 32 ^ (h - 1) * seeds a.own h = rw seeds_is at alone_is in
-        let own_at = rw (side, laps_at, rest_at) at own_more_is in
-        let other_at = rw (side, laps_at, rest_at) at other_more_is in
-        let last_at = rw (side, rest_at) at last_is in
-        let at = laps_at in
-        record {
-          own = omega (arith, own_is);
-          other = omega (arith, other_is);
-          store = omega (arith, store_is);
-        }
+  -- where they don't come back to the mover's houses
+  pub short_shows : (row own_more other other_more last : ℕ) → h + seeds a.own h ≤ lap_length (length a.own) → row ≡ number_of (lifted (bare a) h).own →
+      own_more + ones h ≡ number_of (row_of (length a.own) (up_to (h + seeds a.own h))) →
+      other ≡ number_of a.other → other_more ≡ number_of (row_of (length a.own) (up_to (h + seeds a.own h - (length a.own + 1)))) →
+      last ≡ (if nat_lt (length a.own) (h + seeds a.own h) then 1 else 0) →
+      Shows (record { own = row + own_more; other = other + other_more; store = last }) q
+  short_shows row own_more other other_more last near row_is own_more_is other_is' other_more_is last_is =
+      let below : seeds a.own h < lap_length (length a.own) = omega (arith, near, holds.first) in
+      let back : h + seeds a.own h - lap_length (length a.own) ≡ 0 = omega (arith, near) in
+      let nothing = number_of-up_to (length a.own) 0 (omega arith) in
+      let no_laps : 0 + last ≡ last = omega arith in
+      rw no_laps at (sown_shows (length a.own) 0 (seeds a.own h) refl (sym (div-eq_of_lt below)) (sym (mod-eq_of_lt below)) row own_more other other_more last row_is
+      (rw back (omega (arith, own_more_is, nothing))) other_is' (omega (arith, other_more_is)) last_is)
 
   -- the sowing leaves few seeds
   few : sum q.own + sum q.other ≤ 31
@@ -239,6 +242,14 @@ module _ (p : Position) (h : ℕ) (holds : HoldsSeeds p h) (r : RowNumbers) wher
   -- and goes no farther than a lap
   last_high : last_distance p h ≤ lap_length (side_length p)
   last_high = let below = mod_below (seeds p.own h - 1) (lap_length (side_length p)) (omega arith) in omega arith
+
+  -- the seeds of less than a lap go as far as there are of them
+  pub short_distance : seeds p.own h ≤ lap_length (side_length p) → last_distance p h ≡ seeds p.own h
+  short_distance few =
+      let below : seeds p.own h - 1 < lap_length (side_length p) = omega (arith, few) in
+      let all : (seeds p.own h - 1) % lap_length (side_length p) ≡ seeds p.own h - 1 = mod-eq_of_lt below in
+      let some = holds.some in
+      omega arith
 
   -- it falls into an own house past its own
   pub after_own : h + last_distance p h ≤ side_length p → Shows r (captured (sown p h) (Some (h + last_distance p h))) → Shows r (after p h)

@@ -142,30 +142,3 @@ pub(super) fn other_gains(m: u32, laps: u32, reach: u32) -> u64
 {
     so_many_each(m, laps) + one_each_up_to(m, reach.saturating_sub(m + 1))
 }
-
-// The whole laps of a sowing, and the seeds that are left for the last.
-pub(super) fn laps_of(seeds: u32, lap: u32) -> (u32, u32)
-    requires { 1 ≤ lap }
-    ensures laps { result.0 ≡ seeds / lap }
-    ensures rest { result.1 ≡ seeds % lap }
-    ensures below { result.1 < lap }
-{
-    if seeds < lap {
-        (0, seeds)
-    } else {
-        (seeds / lap, seeds % lap)
-    }
-}
-
-// How far from its house the last of these seeds falls.
-pub(super) fn last_of(seeds: u32, lap: u32) -> u32
-    requires some { 1 ≤ seeds }
-    requires lap { 1 ≤ lap }
-    ensures { result ≡ (seeds - 1) % lap + 1 }
-{
-    if seeds <= lap {
-        seeds
-    } else {
-        (seeds - 1) % lap + 1
-    }
-}

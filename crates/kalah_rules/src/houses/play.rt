@@ -1,14 +1,13 @@
 //! The one sowing: moves on houses, by whole rows.
-ghost use Rattle.std.specs.Prelude.{◌≡◌, ◌≤◌, length, Some, Contains};
-ghost use Rattle.kalah_rules.specs.Position.{bare, IsWithinHouses};
-ghost use Rattle.kalah_rules.specs.Lap.{HoldsSeeds};
+ghost use Rattle.std.specs.Prelude.{◌≡◌, ◌+◌, ◌^◌, ◌<◌, ◌≤◌, length, Some, Contains};
+ghost use Rattle.kalah_rules.specs.Position.{bare, seeds, IsWithinHouses};
+ghost use Rattle.kalah_rules.specs.Key.{number_of};
+ghost use Rattle.kalah_rules.specs.Lap.{HoldsSeeds, lifted};
 ghost use Rattle.kalah_rules.specs.Play.{legal_houses};
-ghost use Rattle.kalah_rules.specs.Sowing.{sown, captured, after, is_again};
+ghost use Rattle.kalah_rules.specs.Sowing.{lap_length, sown, captured, after, is_again};
 
 use crate::houses::Houses;
-use crate::houses::numbers::{
-    OTHER_ROW, SIDE, alone, laps_of, last_of, other_gains, own_gains, seeds_at,
-};
+use crate::houses::numbers::{OTHER_ROW, SIDE, alone, one_each, other_gains, own_gains, seeds_at};
 use crate::step::HousesStep;
 
 // The rows of a position as numbers, and what its own store holds.
@@ -23,24 +22,65 @@ impl Houses {
     ghost use Rattle.kalah_rules.specs.Packed.{Shows};
     ghost use Rattle.kalah_rules.specs.HousesStep.{houses_step};
 
-    // The rows after house `h` is sown, and what came to the own store.
-    fn sow(&self, h: u32) -> RowNumbers
+    // The mover's row without the seeds of house `h`.
+    fn lifted_row(&self, h: u32) -> u64
         requires { HoldsSeeds (bare self.now) h }
+        ensures row { result ≡ number_of (lifted (bare self.now) h).own }
+        ensures small { result < 2 ^ 30 }
+        ensures limits { IsWithinHouses self.now }
+    {
+        let row = self.own_row();
+        row - alone(h, seeds_at(row, h))
+    }
+
+    // The rows after house `h` is sown, whose last seed falls into the mover's house `reach` before the store.
+    fn sow_in_row(&self, h: u32, reach: u32) -> RowNumbers
+        requires holds { HoldsSeeds (bare self.now) h }
+        requires reach { reach ≡ h + seeds self.now.own h }
+        requires near { reach ≤ length self.now.own }
+        ensures { Shows result (sown (bare self.now) h) }
+    {
+        RowNumbers {
+            own: self.lifted_row(h) + (one_each(reach) - one_each(h)),
+            other: self.other_row(),
+            store: 0,
+        }
+    }
+
+    // The same, where it falls into the store or into a house of the other player, at place `reach`.
+    fn sow_past_row(&self, h: u32, reach: u32) -> RowNumbers
+        requires holds { HoldsSeeds (bare self.now) h }
+        requires reach { reach ≡ h + seeds self.now.own h }
+        requires past { length self.now.own < reach }
+        requires near { reach ≤ lap_length (length self.now.own) }
         ensures { Shows result (sown (bare self.now) h) }
     {
         let m = self.m() as u32;
-        let row = self.own_row();
-        let seeds = seeds_at(row, h);
-        let (laps, rest) = laps_of(seeds as u32, 2 * m + 1);
-        let reach = h + rest;
         RowNumbers {
-            own: row - alone(h, seeds) + own_gains(m, h, laps, reach),
+            own: self.lifted_row(h) + (one_each(m) - one_each(h)),
+            other: self.other_row() + one_each(reach - (m + 1)),
+            store: 1,
+        }
+    }
+
+    // The same, where `count` seeds go round to the mover's houses again.
+    fn sow_laps(&self, h: u32, count: u32) -> RowNumbers
+        requires holds { HoldsSeeds (bare self.now) h }
+        requires count { count ≡ seeds self.now.own h }
+        ensures { Shows result (sown (bare self.now) h) }
+    {
+        let m = self.m() as u32;
+        let lap = 2 * m + 1;
+        let laps = count / lap;
+        let reach = h + count % lap;
+        RowNumbers {
+            own: self.lifted_row(h) + own_gains(m, h, laps, reach),
             other: self.other_row() + other_gains(m, laps, reach),
             store: laps as u64 + if reach > m { 1 } else { 0 },
         }
     }
 
-    // Those rows, after the last seed fell into the mover's house `i`.
+    // The rows of a sowing, after the last seed fell into the mover's house `i`.
     fn capture(&self, h: u32, rows: RowNumbers, i: u32) -> RowNumbers
         requires holds { HoldsSeeds (bare self.now) h }
         requires shows { Shows rows (sown (bare self.now) h) }
@@ -72,9 +112,29 @@ impl Houses {
         ensures limits { IsWithinHouses self.now }
     {
         let m = self.m() as u32;
+        let reach = h as u32 + self.own(h) as u32;
+        if reach <= m {
+            let rows = self.sow_in_row(h as u32, reach);
+            (self.capture(h as u32, rows, reach), false)
+        } else if reach <= 2 * m + 1 {
+            (self.sow_past_row(h as u32, reach), reach == m + 1)
+        } else {
+            self.after_lap(h)
+        }
+    }
+
+    // The same, where its seeds go round to the mover's houses again.
+    fn after_lap(&self, h: u8) -> (RowNumbers, bool)
+        requires { HoldsSeeds (bare self.now) h }
+        ensures rows { Shows result.0 (after (bare self.now) h) }
+        ensures again { result.1 ≡ is_again (bare self.now) h }
+    {
+        let m = self.m() as u32;
         let lap = 2 * m + 1;
-        let rows = self.sow(h as u32);
-        let end = h as u32 + last_of(self.own(h) as u32, lap);
+        let count = self.own(h) as u32;
+        let rows = self.sow_laps(h as u32, count);
+        let far = (count - 1) % lap + 1;
+        let end = h as u32 + far;
         if end <= m {
             (self.capture(h as u32, rows, end), false)
         } else if end > lap {
