@@ -7,30 +7,30 @@ use Rattle.kalah_solve.specs.Endings.{choice_at, AreChoices}
 use Rattle.kalah_solve.proofs.RowRanks.{choose_one, choose_none, choose_next, choose_small}
 
 -- the cells of rows of one cell
-pub choice_first : (i : ℕ) → i < 9 → choice_at i ≡ i
+pub choice_first : (i : ℕ) → i < 10 → choice_at i ≡ i
 choice_first i few =
-    let total : i % 9 + i / 9 ≡ i = omega arith in
-    let one : suc (i / 9) ≡ 1 = omega arith in
+    let total : i % 10 + i / 10 ≡ i = omega arith in
+    let one : suc (i / 10) ≡ 1 = omega arith in
     rw (total, one) (choose_one i)
 
 -- those of no seeds
-pub choice_none : (i : ℕ) → i % 9 ≡ 0 → choice_at i ≡ 0
-choice_none i none = choose_none (i % 9 + i / 9) (suc (i / 9)) (omega (arith, none))
+pub choice_none : (i : ℕ) → i % 10 ≡ 0 → choice_at i ≡ 0
+choice_none i none = choose_none (i % 10 + i / 10) (suc (i / 10)) (omega (arith, none))
 
 -- each other is the sum of two before it
-pub choice_next : (i : ℕ) → 9 ≤ i → i % 9 ≢ 0 → choice_at i ≡ choice_at (i - 9) + choice_at (i - 1)
+pub choice_next : (i : ℕ) → 10 ≤ i → i % 10 ≢ 0 → choice_at i ≡ choice_at (i - 10) + choice_at (i - 1)
 choice_next i past some =
-    let n = i % 9 + i / 9 - 1 in
-    let here : i % 9 + i / 9 ≡ suc n = omega (arith, past) in
-    let left : (i - 9) % 9 + (i - 9) / 9 ≡ n = omega (arith, past) in
-    let left_cells : suc ((i - 9) / 9) ≡ i / 9 = omega (arith, past) in
-    let up : (i - 1) % 9 + (i - 1) / 9 ≡ n = omega (arith, past, some) in
-    let up_cells : suc ((i - 1) / 9) ≡ suc (i / 9) = omega (arith, past, some) in
-    rw (here, left, left_cells, up, up_cells) (choose_next n (i / 9))
+    let n = i % 10 + i / 10 - 1 in
+    let here : i % 10 + i / 10 ≡ suc n = omega (arith, past) in
+    let left : (i - 10) % 10 + (i - 10) / 10 ≡ n = omega (arith, past) in
+    let left_cells : suc ((i - 10) / 10) ≡ i / 10 = omega (arith, past) in
+    let up : (i - 1) % 10 + (i - 1) / 10 ≡ n = omega (arith, past, some) in
+    let up_cells : suc ((i - 1) / 10) ≡ suc (i / 10) = omega (arith, past, some) in
+    rw (here, left, left_cells, up, up_cells) (choose_next n (i / 10))
 
 -- all are small
-pub choice_small : (i : ℕ) → i < 108 → choice_at i ≤ 2 ^ 20
-choice_small i few = choose_small (i % 9 + i / 9) (suc (i / 9)) (omega (arith, few))
+pub choice_small : (i : ℕ) → i < 120 → choice_at i ≤ 2 ^ 20
+choice_small i few = choose_small (i % 10 + i / 10) 20 (suc (i / 10)) (omega (arith, few))
 
 -- one cell more is right
 pub choices_more : (choices : List ℕ) (i v : ℕ) → i < length choices → AreChoices i choices → v ≡ choice_at i → AreChoices (i + 1) (slice_set choices i v)

@@ -6,14 +6,14 @@ use Rattle.std.proofs.lemmas.List.{get_or-set_same, get_or-set_other}
 use Rattle.std.proofs.Math.ListN.{length-set}
 use Rattle.kalah_rules.specs.Position.{Rows, IsWithinHouses}
 use Rattle.kalah_solve.specs.RowRank.{game_of, place_of}
-use Rattle.kalah_solve.specs.Endings.{TellTaken}
+use Rattle.kalah_solve.specs.Endings.{TellTaken, told_game, told_taken}
 use Rattle.kalah_solve.specs.Taken.{taken}
 use Rattle.kalah_solve.specs.declared.endings.Ending.{Ending}
 use Rattle.kalah_solve.proofs.RowRanks.{same_houses}
 
 -- after one more is kept
 pub tell_more : (endings : List Ending) (a : Rows) (place : ℕ) (e : Ending) → TellTaken endings → IsWithinHouses a → place ≡ place_of a → place < length endings →
-    e.game ≡ game_of a → e.taken ≡ taken a → TellTaken (slice_set endings place e)
+    told_game e ≡ game_of a → told_taken e ≡ taken a → TellTaken (slice_set endings place e)
 tell_more endings a place e before within at inside game known b d within_b inside_b game_b = elim (cases_eq (place_of b) place) [
   | inl same ↦
       let here : get_or (slice_set endings place e) (place_of b) d ≡ e = rw same (get_or-set_same endings place e d inside) in
@@ -26,12 +26,12 @@ tell_more endings a place e before within at inside game known b d within_b insi
 ]
 
 -- where nothing is known all places hold game 0, which is no game
-pub tell_nothing : (endings : List Ending) → ((k : ℕ) (d : Ending) → k < length endings → (get_or endings k d).game ≡ 0) → TellTaken endings
+pub tell_nothing : (endings : List Ending) → ((k : ℕ) (d : Ending) → k < length endings → told_game (get_or endings k d) ≡ 0) → TellTaken endings
 tell_nothing endings none a d within inside game = absurd (omega (arith, none (place_of a) d inside, game, within.some_house))
 
 -- so what is found there is right
 pub told : (endings : List Ending) (a : Rows) (place : ℕ) (e : Ending) → TellTaken endings → IsWithinHouses a → place ≡ place_of a → place < length endings →
-    e ≡ get_or endings place e → e.game ≡ game_of a → e.taken ≡ taken a
+    e ≡ get_or endings place e → told_game e ≡ game_of a → told_taken e ≡ taken a
 told endings a place e tells within at inside is game =
     let found : e ≡ get_or endings (place_of a) e = rw at at is in
-    ap (λ f. f.taken) found ∙ tells a e within (rw at at inside) (ap (λ f. f.game) (sym found) ∙ game)
+    ap (λ f. told_taken f) found ∙ tells a e within (rw at at inside) (ap (λ f. told_game f) (sym found) ∙ game)

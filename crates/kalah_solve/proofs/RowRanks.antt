@@ -36,8 +36,8 @@ choose_below n zero = omega (arith, pow_pos n)
 choose_below zero (suc k) = omega arith
 choose_below (suc n) (suc k) = omega (arith, pow-succ' 2 n, choose_below n k, choose_below n (suc k))
 
-pub choose_small : (n k : ℕ) → n ≤ 20 → choose n k ≤ 2 ^ 20
-choose_small n k few = omega (arith, choose_rises n 20 k few, choose_below 20 k)
+pub choose_small : (n b k : ℕ) → n ≤ b → choose n k ≤ 2 ^ b
+choose_small n b k few = omega (arith, choose_rises n b k few, choose_below b k)
 
 -- there are as many ways to choose one as there are things
 pub choose_one : (n : ℕ) → choose n 1 ≡ n
@@ -66,8 +66,8 @@ rank_below (x ∷ xs) =
     let all : sum (x ∷ xs) + suc (length xs) ≡ suc (x + sum xs + length xs) = omega arith in
     rw all (omega (arith, rank_below xs, choose_rises (sum xs + length xs) (x + sum xs + length xs) (length xs) (omega arith)))
 
-rank_small : (xs : List ℕ) → sum xs + length xs ≤ 20 → row_rank xs < 2 ^ 20
-rank_small xs few = omega (arith, rank_below xs, choose_small (sum xs + length xs) (length xs) few)
+rank_small : (xs : List ℕ) → sum xs + length xs ≤ 21 → row_rank xs < 2 ^ 21
+rank_small xs few = omega (arith, rank_below xs, choose_small (sum xs + length xs) 21 (length xs) few)
 
 -- of two rows with as many cells the one with fewer seeds has the lower rank
 rank_apart : (xs ys : List ℕ) → length xs ≡ length ys → sum xs < sum ys → row_rank xs < row_rank ys
@@ -127,12 +127,12 @@ sum-drop-le (x ∷ xs) (suc k) = omega (arith, sum-drop-le xs k, sum_by-cons (λ
 -- the seeds of a row of few, and its rank
 pub record IsRanked (row : List ℕ) (n at : ℕ) : Type 0 where
   pub seeds : n ≡ sum row
-  pub few : n ≤ 8
+  pub few : n ≤ 9
   pub rank : at ≡ row_rank row
-  pub small : at < 2 ^ 20
+  pub small : at < 2 ^ 21
 
 -- the seeds of one house more in front of a row
-module _ (xs ys : List ℕ) (few : sum xs + sum ys ≤ 8) (m passed n at x : ℕ) (long : m ≡ length xs) (more : passed < m)
+module _ (xs ys : List ℕ) (few : sum xs + sum ys ≤ 9) (m passed n at x : ℕ) (long : m ≡ length xs) (more : passed < m)
     (is : IsRanked (drop (m - passed) xs ++ ys) n at) (here : x ≡ get_or xs (m - passed - 1) 0) where
   -- the row with that house
   row_more : drop (m - (passed + 1)) xs ++ ys ≡ x ∷ (drop (m - passed) xs ++ ys)
@@ -147,7 +147,7 @@ module _ (xs ys : List ℕ) (few : sum xs + sum ys ≤ 8) (m passed n at x : ℕ
   seeds_more : n + x ≡ sum (drop (m - (passed + 1)) xs ++ ys)
   seeds_more = rw row_more (omega (arith, is.seeds, sum_by-cons (λ (z : ℕ). z) x (drop (m - passed) xs ++ ys)))
 
-  pub few_more : n + x ≤ 8
+  pub few_more : n + x ≤ 9
   few_more = omega (arith, few, seeds_more, sum_by-append (λ (z : ℕ). z) (drop (m - (passed + 1)) xs) ys, sum-drop-le xs (m - (passed + 1)))
 
   -- and its rank
@@ -165,5 +165,5 @@ module _ (xs ys : List ℕ) (few : sum xs + sum ys ≤ 8) (m passed n at x : ℕ
       let rank : at + c ≡ row_rank (drop (m - (passed + 1)) xs ++ ys) = rw is_c rank_more in
       let row = drop (m - (passed + 1)) xs ++ ys in
       let long_row = length-append (drop (m - (passed + 1)) xs) ys in
-      let below : row_rank row < 2 ^ 20 = rank_small row (omega (arith, few_more, seeds_more, cells, long_row, length-drop (m - (passed + 1)) xs)) in
+      let below : row_rank row < 2 ^ 21 = rank_small row (omega (arith, few_more, seeds_more, cells, long_row, length-drop (m - (passed + 1)) xs)) in
       record { seeds = seeds_more; few = few_more; rank = rank; small = omega (arith, rank, below) }

@@ -23,10 +23,10 @@ rank_of_houses a = row_rank (a.own ++ a.other)
 abbrev pub game_of : Rows → ℕ
 game_of a = length a.own + 8 * rule_bit a.rule
 
--- where the places of a game begin, so that no two games share a place among those of houses with at most 8 seeds
+-- where the places of a game begin, so that no two games share a place among those of houses with at most 9 seeds
 abbrev pub first_place : ℕ → ℕ
 first_place game =
-    slice_index (0 ∷ 0 ∷ 45 ∷ 540 ∷ 3543 ∷ 16413 ∷ 60171 ∷ 0 ∷ 0 ∷ 186141 ∷ 186186 ∷ 186681 ∷ 189684 ∷ 202554 ∷ 246312 ∷ 0 ∷ []) game
+    slice_index (0 ∷ 0 ∷ 55 ∷ 770 ∷ 5775 ∷ 30085 ∷ 122463 ∷ 0 ∷ 0 ∷ 416393 ∷ 416448 ∷ 417163 ∷ 422168 ∷ 446478 ∷ 538856 ∷ 0 ∷ []) game
 
 -- the place of houses among those of all games
 unfoldable pub place_of : Rows → ℕ

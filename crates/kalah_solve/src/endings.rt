@@ -3,7 +3,7 @@ ghost use Rattle.std.specs.Prelude.{◌≡◌, ◌≤◌, ◌<◌, ◌+◌, ◌^
 ghost use Rattle.kalah_rules.specs.Position.{bare, seeds_in_houses, IsWithinHouses};
 ghost use Rattle.kalah_solve.specs.RowRank.{choose, rank_of_houses, game_of, place_of};
 ghost use Rattle.kalah_solve.specs.Taken.{taken};
-ghost use Rattle.kalah_solve.specs.Endings.{AreChoices, choice_at};
+ghost use Rattle.kalah_solve.specs.Endings.{AreChoices, choice_at, told_game, told_taken};
 
 mod exact;
 #[cfg(test)]
@@ -13,28 +13,52 @@ use kalah_rules::Houses;
 use std::alloc::{AllocError, Allocator, Global};
 use std::marker::Model;
 
-// In how many ways the houses of both players can hold at most so many seeds, by both rules, with 1 to 6 houses a side.
-const PLACES: usize = 372_282;
+// In how many ways the houses of both players can hold at most 9 seeds, by both rules, with 1 to 6 houses a side.
+const PLACES: usize = 832_786;
 
 // Where the places of a game begin.
 const FIRST_PLACES: [u32; 16] = [
-    0, 0, 45, 540, 3_543, 16_413, 60_171, 0, 0, 186_141, 186_186, 186_681, 189_684, 202_554,
-    246_312, 0,
+    0, 0, 55, 770, 5_775, 30_085, 122_463, 0, 0, 416_393, 416_448, 417_163, 422_168, 446_478,
+    538_856, 0,
 ];
 
-// What the mover takes of the houses of this game in whose place it stands. There is no game 0, which stands where nothing
-// is known.
+// What the mover takes of the houses of a game in whose place it stands, with the game, in one byte. There is no game 0, which
+// stands where nothing is known.
 #[derive(Clone, Copy)]
 struct Ending {
-    game: u8,
-    taken: u8,
+    told: u8,
 }
 
-/// A place for each value of houses with at most 8 seeds. It is told by how many such houses come before, so no key is kept.
+impl Ending {
+    fn of(game: u8, taken: u8) -> Ending
+        requires game { game < 16 }
+        requires taken { taken < 16 }
+        ensures game { told_game result ≡ game }
+        ensures taken { told_taken result ≡ taken }
+    {
+        Ending {
+            told: 16 * game + taken,
+        }
+    }
+
+    fn game(self) -> u8
+        ensures { result ≡ told_game self }
+    {
+        self.told / 16
+    }
+
+    fn taken(self) -> u8
+        ensures { result ≡ told_taken self }
+    {
+        self.told % 16
+    }
+}
+
+/// A place for each value of houses with at most 9 seeds. It is told by how many such houses come before, so no key is kept.
 #[derive(Drop)]
 pub(crate) struct Endings<A: Allocator = Global> {
     endings: Vec<Ending, A>,
-    choices: [u32; 108],
+    choices: [u32; 120],
 }
 
 impl<A: Allocator> Model for Endings<A> {
@@ -46,30 +70,30 @@ impl<A: Allocator> Model for Endings<A> {
 
     ghost view = { λ e. e.endings.items };
 
-    ghost invariant = { λ e. AreChoices 108 e.choices × TellTaken e.endings.items };
+    ghost invariant = { λ e. AreChoices 120 e.choices × TellTaken e.endings.items };
 }
 
 // What cell `i` of the choices holds, by the cells before it.
-fn choice(choices: &[u32; 108], i: usize) -> u32
-    requires inside { i < 108 }
+fn choice(choices: &[u32; 120], i: usize) -> u32
+    requires inside { i < 120 }
     requires before { AreChoices i choices.now }
     ensures { result ≡ choice_at i }
 {
-    if i < 9 {
+    if i < 10 {
         return i as u32;
     }
-    if i % 9 == 0 {
+    if i % 10 == 0 {
         return 0;
     }
-    choices[i - 9] + choices[i - 1]
+    choices[i - 10] + choices[i - 1]
 }
 
 // The choices.
-fn choices() -> [u32; 108]
-    ensures { AreChoices 108 result }
+fn choices() -> [u32; 120]
+    ensures { AreChoices 120 result }
 {
-    let mut choices = [0u32; 108];
-    for i in 0..108usize {
+    let mut choices = [0u32; 120];
+    for i in 0..120usize {
         choices[i] = choice(&choices, i);
     }
     choices
@@ -89,7 +113,7 @@ impl<A: Allocator> Endings<A> {
     pub(crate) fn new(alloc: A) -> Result<Endings<A>, AllocError> {
         let mut endings = Vec::with_capacity(alloc, PLACES)?;
         for _ in 0..PLACES {
-            endings.push(Ending { game: 0, taken: 0 })?;
+            endings.push(Ending::of(0, 0))?;
         }
         Ok(Endings {
             endings,
@@ -100,18 +124,18 @@ impl<A: Allocator> Endings<A> {
     // In how many ways one thing more than so many cells can be chosen of those and the seeds.
     fn choose(&self, cells: u8, seeds: u8) -> u32
         requires cells { cells < 12 }
-        requires seeds { seeds ≤ 8 }
+        requires seeds { seeds ≤ 9 }
         ensures value { result ≡ choose (seeds + cells) (cells + 1) }
         ensures small { result ≤ 2 ^ 20 }
     {
-        self.choices[9 * cells as usize + seeds as usize]
+        self.choices[10 * cells as usize + seeds as usize]
     }
 
     // The rank of the houses among those of their game.
     fn rank(&self, houses: &Houses) -> u32
-        requires { seeds_in_houses (bare houses.now) ≤ 8 }
+        requires { seeds_in_houses (bare houses.now) ≤ 9 }
         ensures rank { result ≡ rank_of_houses houses.now }
-        ensures small { result < 2 ^ 20 }
+        ensures small { result < 2 ^ 21 }
     {
         let m = houses.m();
         let mut seeds = 0;
@@ -129,7 +153,7 @@ impl<A: Allocator> Endings<A> {
 
     // The place of the houses.
     fn place(&self, houses: &Houses) -> usize
-        requires { seeds_in_houses (bare houses.now) ≤ 8 }
+        requires { seeds_in_houses (bare houses.now) ≤ 9 }
         ensures { result ≡ place_of houses.now }
     {
         FIRST_PLACES[game_of(houses) as usize] as usize + self.rank(houses) as usize
@@ -141,7 +165,7 @@ impl<A: Allocator> Endings<A> {
         ensures { IfSome result (λ t. t ≡ taken houses.now) }
     {
         match self.endings.get(place) {
-            Some(ending) if ending.game == game_of(houses) => Some(ending.taken),
+            Some(ending) if ending.game() == game_of(houses) => Some(ending.taken()),
             _ => None,
         }
     }
@@ -150,10 +174,11 @@ impl<A: Allocator> Endings<A> {
     fn keep(&mut self, place: usize, houses: &Houses, known: u8)
         requires place { place ≡ place_of houses.now }
         requires known { known ≡ taken houses.now }
+        requires few { seeds_in_houses (bare houses.now) ≤ 9 }
     {
-        let game = game_of(houses);
+        let told = Ending::of(game_of(houses), known);
         if let Some(ending) = self.endings.get_mut(place) {
-            *ending = Ending { game, taken: known };
+            *ending = told;
         }
     }
 }

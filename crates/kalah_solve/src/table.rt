@@ -135,7 +135,7 @@ impl<A: Allocator + Clone> Table<A> {
     // What the mover takes of houses with few seeds.
     pub(crate) fn taken(&mut self, houses: &Houses) -> u8
         requires going { is_over (bare houses.now) ≡ false }
-        requires few { seeds_in_houses (bare houses.now) ≤ 8 }
+        requires few { seeds_in_houses (bare houses.now) ≤ 9 }
         ensures taken { result ≡ taken houses.now }
         ensures kept { self.new ≡ self.old }
     {

@@ -14,7 +14,7 @@ impl<A: Allocator> Endings<A> {
     #[cycle(exact)]
     pub(crate) fn taken(&mut self, houses: &Houses) -> u8
         requires going { is_over (bare houses.now) ≡ false }
-        requires few { seeds_in_houses (bare houses.now) ≤ 8 }
+        requires few { seeds_in_houses (bare houses.now) ≤ 9 }
         ensures { result ≡ taken houses.now }
     {
         let place = self.place(houses);
@@ -30,7 +30,7 @@ impl<A: Allocator> Endings<A> {
     #[cycle(exact)]
     fn most_taken(&mut self, houses: &Houses) -> u8
         requires going { is_over (bare houses.now) ≡ false }
-        requires few { seeds_in_houses (bare houses.now) ≤ 8 }
+        requires few { seeds_in_houses (bare houses.now) ≤ 9 }
         ensures { result ≡ taken houses.now }
     {
         let seeds = houses.seeds();
@@ -49,7 +49,7 @@ impl<A: Allocator> Endings<A> {
     #[cycle(exact)]
     fn move_takes(&mut self, houses: &Houses, h: u8) -> u8
         requires legal { Contains (legal_houses (bare houses.now)) h }
-        requires few { seeds_in_houses (bare houses.now) ≤ 8 }
+        requires few { seeds_in_houses (bare houses.now) ≤ 9 }
         ensures { result ≡ taken_by_step (houses_step houses.now h) }
     {
         let _seeds = houses.seeds();

@@ -81,8 +81,8 @@ fn fill_places(rt: &impl Abort, endings: &Endings, rule: Rule, first: usize) -> 
 #[test]
 fn houses_have_places_of_their_own(rt: HostRuntime) -> Result<(), Fail> {
     let endings = Endings::new(rt.alloc())?;
-    fill_places(&rt, &endings, Rule::Classic, 45)?;
-    fill_places(&rt, &endings, Rule::EmptyCapture, 186_186)
+    fill_places(&rt, &endings, Rule::Classic, 55)?;
+    fill_places(&rt, &endings, Rule::EmptyCapture, 416_448)
 }
 
 #[test]
@@ -91,7 +91,7 @@ fn an_ending_is_known_once_it_was_asked_for(rt: HostRuntime) -> Result<(), Fail>
     let threes = [3, 0, 0, 0, 0, 0];
     let houses = Houses::new(1, threes, threes, Rule::Classic).ok_or("beyond the limits")?;
     assert!(rt; !houses.is_over());
-    assert!(rt; houses.seeds() <= 8);
+    assert!(rt; houses.seeds() <= 9);
     let place = endings.place(&houses);
     assert_eq!(rt; endings.get(place, &houses), None);
     assert_eq!(rt; endings.taken(&houses), 6);

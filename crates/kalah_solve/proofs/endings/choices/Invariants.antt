@@ -4,6 +4,6 @@ use Rattle.kalah_solve.proofs.endings.choices.Given as goal
 
 abbrev pub invariant-loop-i : goal.invariant-loop-i
 invariant-loop-i l = record {
-  cells : length l.choices ≡ 108;
+  cells : length l.choices ≡ 120;
   right : AreChoices l.i l.choices;
 }

@@ -4,6 +4,6 @@ use Rattle.kalah_solve.proofs.endings.Endings.choose.Goals as goal
 
 pub returns-clause-small : goal.returns-clause-small
 returns-clause-small g c =
-    let at = 9 * c.args.cells + c.args.seeds in
-    let inside : 9 * c.args.cells + c.args.seeds < 108 = omega (arith, c.requires.cells, c.requires.seeds) in
+    let at = 10 * c.args.cells + c.args.seeds in
+    let inside : 10 * c.args.cells + c.args.seeds < 120 = omega (arith, c.requires.cells, c.requires.seeds) in
     omega (arith, c.self.invariant.0 at inside, choice_small at inside)
