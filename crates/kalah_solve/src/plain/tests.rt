@@ -56,10 +56,9 @@ fn forced_other_move_is_bad(rt: HostRuntime) -> Result<(), Fail> {
 
 #[test]
 fn both_players_sow_laps(rt: HostRuntime) -> Result<(), Fail> {
-    assert_eq!(rt; one(Rule::Classic, [5, 0], [5, 0])?, best(2, 1));
-    assert_eq!(rt; one(Rule::Classic, [8, 0], [7, 0])?, best(-9, 1));
-    assert_eq!(rt; one(Rule::Classic, [8, 0], [8, 0])?, best(0, 1));
-    assert_eq!(rt; one(Rule::Classic, [16, 0], [15, 0])?, best(7, 1));
+    for (own, other, margin) in [(5, 5, 2), (8, 7, -9), (8, 8, 0), (16, 15, 7)] {
+        assert_eq!(rt; one(Rule::Classic, [own, 0], [other, 0])?, best(margin, 1));
+    }
     Ok(())
 }
 
@@ -95,18 +94,20 @@ fn empty_house_across_is_not_captured(rt: HostRuntime) -> Result<(), Fail> {
 
 #[test]
 fn empty_capture_takes_the_last_seed(rt: HostRuntime) -> Result<(), Fail> {
-    assert_eq!(rt; two(Rule::EmptyCapture, [1, 0, 0], [0, 2, 0])?, best(-1, 1));
-    assert_eq!(rt; two(Rule::EmptyCapture, [1, 1, 0], [0, 1, 0])?, best(1, 1));
-    assert_eq!(rt; one(Rule::EmptyCapture, [3, 0], [3, 0])?, best(6, 1));
-    assert_eq!(rt; one(Rule::EmptyCapture, [0, 0], [0, 0])?, over(0));
+    for (own, other, margin) in [([1, 0, 0], [0, 2, 0], -1), ([1, 1, 0], [0, 1, 0], 1)] {
+        assert_eq!(rt; two(Rule::EmptyCapture, own, other)?, best(margin, 1));
+    }
+    for (seeds, verdict) in [(3, best(6, 1)), (0, over(0))] {
+        assert_eq!(rt; one(Rule::EmptyCapture, [seeds, 0], [seeds, 0])?, verdict);
+    }
     Ok(())
 }
 
 #[test]
 fn game_that_is_over_has_its_margin(rt: HostRuntime) -> Result<(), Fail> {
     assert_eq!(rt; two(Rule::Classic, [0, 0, 3], [1, 2, 4])?, over(-4));
-    assert_eq!(rt; one(Rule::Classic, [0, 0], [0, 0])?, over(0));
-    assert_eq!(rt; one(Rule::Classic, [15, 99], [0, 0])?, over(114));
-    assert_eq!(rt; one(Rule::Classic, [31, 99], [0, 0])?, over(130));
+    for (own, margin) in [([0, 0], 0), ([15, 99], 114), ([31, 99], 130)] {
+        assert_eq!(rt; one(Rule::Classic, own, [0, 0])?, over(margin));
+    }
     Ok(())
 }

@@ -13,6 +13,14 @@ fn solver_with<A: Allocator + Clone>(table: Table<A>, keeps_all: bool) -> Solver
     }
 }
 
+// What the houses are worth. None where the game is over.
+fn worth_of<A: Allocator + Clone>(solver: &mut Solver<A>, houses: &Houses) -> Option<i32> {
+    if houses.is_over() {
+        return None;
+    }
+    Some(solver.search.search(houses, -31, 31))
+}
+
 // Positions with so many seeds that some answers are kept.
 fn tells_many_seeds<A: Allocator + Clone>(
     rt: &impl Abort,
@@ -60,17 +68,26 @@ fn no_memory_makes_no_table(rt: HostRuntime) {
     assert_eq!(rt; heap.refused(), 1);
 }
 
+// The same with so many requests granted, of as many as there are. It tells how many came.
+fn tells_both_granted(
+    rt: &impl Abort,
+    alloc: Global,
+    keeps_all: bool,
+    (grants, all): (u32, u32),
+) -> Result<u32, Fail> {
+    let heap = Granting::new(alloc, grants);
+    tells_both(rt, &heap, keeps_all)?;
+    assert!(rt; (heap.refused() == 0) == (grants == all));
+    Ok(heap.made())
+}
+
 // The last run is granted as many requests as there are, and the others fewer.
 #[test]
 fn one_entry_is_granted_some_requests(rt: HostRuntime) -> Result<(), Fail> {
     for keeps_all in [false, true] {
-        let ample = Granting::new(rt.alloc(), u32::MAX);
-        tells_both(&rt, &ample, keeps_all)?;
-        assert_eq!(rt; ample.refused(), 0);
-        for grants in 0..=ample.made() {
-            let heap = Granting::new(rt.alloc(), grants);
-            tells_both(&rt, &heap, keeps_all)?;
-            assert_eq!(rt; heap.refused() == 0, grants == ample.made());
+        let all = tells_both_granted(&rt, rt.alloc(), keeps_all, (u32::MAX, u32::MAX))?;
+        for grants in 0..=all {
+            tells_both_granted(&rt, rt.alloc(), keeps_all, (grants, all))?;
         }
     }
     Ok(())
@@ -83,20 +100,55 @@ fn requests_of_a_table(alloc: Global) -> Result<u32, Fail> {
     Ok(heap.made())
 }
 
+// The verdicts of a large table with so many requests granted, of as many as there are. It tells how many came.
+fn tells_many_granted(
+    rt: &impl Abort,
+    alloc: Global,
+    (grants, all): (u32, u32),
+) -> Result<u32, Fail> {
+    let heap = Granting::new(alloc, grants);
+    tells_many_with(rt, &heap)?;
+    assert!(rt; (heap.refused() == 0) == (grants == all));
+    Ok(heap.made())
+}
+
+// The verdicts of a large table that has to ask for its entries.
+fn tells_many_with(rt: &impl Abort, heap: &Granting<Global>) -> Result<(), Fail> {
+    let mut solver = solver_with(Table::new(heap, 1_024)?, true);
+    tells_many_seeds(rt, &mut solver)
+}
+
 #[test]
 fn large_table_is_granted_some_entries(rt: HostRuntime) -> Result<(), Fail> {
     let before = requests_of_a_table(rt.alloc())?;
-    let ample = Granting::new(rt.alloc(), u32::MAX);
-    let mut solver = solver_with(Table::new(&ample, 1_024)?, true);
-    tells_many_seeds(&rt, &mut solver)?;
-    assert_eq!(rt; ample.refused(), 0);
-    assert!(rt; ample.made().saturating_sub(before) > 50);
-    for grants in before..=ample.made() {
-        let heap = Granting::new(rt.alloc(), grants);
-        let mut solver = solver_with(Table::new(&heap, 1_024)?, true);
-        tells_many_seeds(&rt, &mut solver)?;
-        assert_eq!(rt; heap.refused() == 0, grants == ample.made());
+    let all = tells_many_granted(&rt, rt.alloc(), (u32::MAX, u32::MAX))?;
+    assert!(rt; all.saturating_sub(before) > 50);
+    for grants in before..=all {
+        tells_many_granted(&rt, rt.alloc(), (grants, all))?;
     }
+    Ok(())
+}
+
+// All verdicts, one after another.
+fn tells_all<A: Allocator + Clone>(rt: &impl Abort, solver: &mut Solver<A>) -> Result<(), Fail> {
+    tells_one_house(rt, solver)?;
+    tells_two_houses(rt, solver)?;
+    tells_many_seeds(rt, solver)?;
+    tells_three_houses(rt, solver)
+}
+
+// All verdicts of a table that gets no entry, and no entry is there in the end.
+fn tells_all_without_entries(
+    rt: &impl Abort,
+    heap: &Granting<Global>,
+    keeps_all: bool,
+) -> Result<(), Fail> {
+    let mut solver = solver_with(Table::new(heap, 1_024)?, keeps_all);
+    tells_all(rt, &mut solver)?;
+    assert!(rt; heap.refused() > 0);
+    let houses = one(16, 15)?.houses();
+    assert!(rt; worth_of(&mut solver, &houses) == Some(7));
+    assert!(rt; solver.search.entry(&houses).is_none());
     Ok(())
 }
 
@@ -104,17 +156,7 @@ fn large_table_is_granted_some_entries(rt: HostRuntime) -> Result<(), Fail> {
 fn every_entry_is_refused(rt: HostRuntime) -> Result<(), Fail> {
     for keeps_all in [false, true] {
         let heap = Granting::new(rt.alloc(), requests_of_a_table(rt.alloc())?);
-        let mut solver = solver_with(Table::new(&heap, 1_024)?, keeps_all);
-        tells_one_house(&rt, &mut solver)?;
-        tells_two_houses(&rt, &mut solver)?;
-        tells_many_seeds(&rt, &mut solver)?;
-        tells_three_houses(&rt, &mut solver)?;
-        assert!(rt; heap.refused() > 0);
-        let board = one(16, 15)?;
-        assert!(rt; !board.is_over());
-        let houses = board.houses();
-        assert_eq!(rt; solver.search.search(&houses, -31, 31), 7);
-        assert!(rt; solver.search.entry(&houses).is_none());
+        tells_all_without_entries(&rt, &heap, keeps_all)?;
     }
     Ok(())
 }
@@ -131,11 +173,9 @@ fn table_at_last(heap: &Granting<Global>) -> Result<Table<&Granting<Global>>, Fa
 fn goes_on_after_a_refusal(rt: &impl Abort, heap: &Granting<Global>) -> Result<(), Fail> {
     let mut solver = solver_with(table_at_last(heap)?, true);
     tells_many_seeds(rt, &mut solver)?;
-    let board = one(16, 15)?;
-    assert!(rt; !board.is_over());
-    let houses = board.houses();
-    assert_eq!(rt; solver.search.search(&houses, -31, 31), 7);
-    assert_eq!(rt; solver.search.search(&houses, -31, 31), 7);
+    let houses = one(16, 15)?.houses();
+    assert!(rt; worth_of(&mut solver, &houses) == Some(7));
+    assert!(rt; worth_of(&mut solver, &houses) == Some(7));
     assert!(rt; solver.search.entry(&houses) == Some(Interval { lo: 7, hi: 7 }));
     Ok(())
 }
