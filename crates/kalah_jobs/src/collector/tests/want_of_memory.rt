@@ -1,5 +1,5 @@
 //! Jobs and their collector with each request for memory refused in turn.
-use super::{EACH_OFFER, Trial, assert_offers, assert_takes_all, one_house, two_texts};
+use super::{Trial, assert_each_offer, one_house, two_texts};
 use crate::want_of_memory::mark;
 use crate::{Collector, FileText, Job, Jobs, JobsFault};
 use kalah_rules::Rule;
@@ -50,10 +50,9 @@ fn jobs_and_their_collector(rt: HostRuntime) -> Result<(), Fail> {
     let alloc = rt.alloc();
     let files = two_texts(alloc).or_else(|_| two_texts(alloc))?;
     let jobs = jobs_of(&rt, alloc, files.as_slice())?;
-    let mut trial = trial_of(alloc, jobs)?;
+    let trial = trial_of(alloc, jobs)?;
     mark(alloc, "before the calls without memory")?;
     tells_its_jobs(&rt, &trial.jobs);
-    assert_offers(&rt, &mut trial, &EACH_OFFER);
-    assert_takes_all(&rt, &mut trial.collector);
+    assert_each_offer(&rt, trial);
     mark(alloc, "after all")
 }
