@@ -4,6 +4,7 @@
 use crate::{Solver, Table, Verdict, pack, unpack};
 use kalah_rules::{Board, Houses, Rule};
 use std::alloc::Global;
+use std::process::Abort;
 use std::test::Fail;
 
 // A request that is refused only where none before it was.
@@ -28,15 +29,20 @@ fn a_key_and_a_solver_take_no_memory(rt: HostRuntime) -> Result<(), Fail> {
     mark(alloc, "after all")
 }
 
-#[test]
-fn one_table_for_two_positions(rt: HostRuntime) -> Result<(), Fail> {
-    let alloc = rt.alloc();
-    let table = Table::new(alloc, 1).or_else(|_| Table::new(alloc, 1))?;
-    let mut solver = Solver::new(table);
+// Two positions that differ in their stores alone.
+fn tells_both(rt: &impl Abort, solver: &mut Solver) -> Result<(), Fail> {
     for (own_store, other_store, margin) in [(0, 0, 2), (9, 4, 7)] {
         let board = Board::new(2, ONES, own_store, ONES, other_store, Rule::Classic);
         let verdict = solver.solve(&board.ok_or("beyond the limits")?);
         assert_eq!(rt; verdict, Verdict::Best { margin, house: 2 });
     }
+    Ok(())
+}
+
+#[test]
+fn one_table_for_two_positions(rt: HostRuntime) -> Result<(), Fail> {
+    let alloc = rt.alloc();
+    let table = Table::new(alloc, 1).or_else(|_| Table::new(alloc, 1))?;
+    tells_both(&rt, &mut Solver::new(table))?;
     mark(alloc, "after all")
 }

@@ -87,11 +87,11 @@ fn houses_have_places_of_their_own(rt: HostRuntime) -> Result<(), Fail> {
 
 #[test]
 fn an_ending_is_known_once_it_was_asked_for(rt: HostRuntime) -> Result<(), Fail> {
-    let mut endings = Endings::new(rt.alloc())?;
     let threes = [3, 0, 0, 0, 0, 0];
     let houses = Houses::new(1, threes, threes, Rule::Classic).ok_or("beyond the limits")?;
     assert!(rt; !houses.is_over());
     assert!(rt; houses.seeds() <= 9);
+    let mut endings = Endings::new(rt.alloc())?;
     let place = endings.place(&houses);
     assert_eq!(rt; endings.get(place, &houses), None);
     assert_eq!(rt; endings.taken(&houses), 6);

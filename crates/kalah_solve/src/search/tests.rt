@@ -45,12 +45,13 @@ fn games_as_they_begin_take_few_nodes(rt: HostRuntime) -> Result<(), Fail> {
 // After house 1 of `5,5` against `5,5` the other player has these.
 #[test]
 fn what_is_learned_of_a_move_is_kept_in_its_place(rt: HostRuntime) -> Result<(), Fail> {
-    let mut search = Search::new(Table::new(rt.alloc(), 65_536)?);
+    let houses = begun(2, 5)?;
     let own = [6, 0, 0, 0, 0, 0];
     let other = [0, 6, 0, 0, 0, 0];
     let next = Houses::new(2, own, other, Rule::Classic).ok_or("beyond the limits")?;
+    let mut search = Search::new(Table::new(rt.alloc(), 65_536)?);
     assert!(rt; search.table.look_up_place(&next) == Share::unknown(&next));
-    assert!(rt; worth_of(&mut search, &begun(2, 5)?) == Some(6));
+    assert!(rt; worth_of(&mut search, &houses) == Some(6));
     assert!(rt; search.table.look_up_place(&next) != Share::unknown(&next));
     Ok(())
 }
