@@ -4,8 +4,8 @@ use std::test::Fail;
 
 #[test]
 fn an_outcome_keeps_its_line_and_answers_it(rt: HostRuntime) -> Result<(), Fail> {
-    let mut solver = Solver::new(Table::new(rt.alloc(), 16)?);
     let board = read_line(b"1,1/0 1,1/0").ok().ok_or("not read")?;
+    let mut solver = Solver::new(Table::new(rt.alloc(), 16)?);
     let outcome = Outcome::of(3, 5, Entry::Position(board), &mut solver);
     let answer = Answer::Best {
         margin: 2,
@@ -21,8 +21,8 @@ fn an_outcome_keeps_its_line_and_answers_it(rt: HostRuntime) -> Result<(), Fail>
 
 #[test]
 fn a_game_that_is_over_and_a_fault_are_answered(rt: HostRuntime) -> Result<(), Fail> {
-    let mut solver = Solver::new(Table::new(rt.alloc(), 16)?);
     let board = read_line(b"0,0/3 1,2/4").ok().ok_or("not read")?;
+    let mut solver = Solver::new(Table::new(rt.alloc(), 16)?);
     let over = Outcome::of(0, 0, Entry::Position(board), &mut solver);
     let entry = Entry::Bad(LineFault::Houses);
     let stranger = Outcome::of(u32::MAX, u32::MAX, entry, &mut solver);
