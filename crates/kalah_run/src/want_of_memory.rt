@@ -8,7 +8,7 @@ ghost use Rattle.kalah_run.specs.QueueStates.{ArePassesFrom};
 use crate::{Desk, Gate, GetPass, OpenGate, Pass, PutPass, ResultsQueue};
 use kalah_jobs::{Entry, LineFault, Outcome};
 use kalah_solve::{Solver, Table};
-use std::alloc::Global;
+use std::alloc::{AllocError, Global};
 use std::sync::Wait;
 use std::test::Fail;
 
@@ -49,6 +49,15 @@ fn a_desk(rt: HostRuntime) -> Result<(), Fail> {
     mark(alloc, "after all")
 }
 
+// The outcomes of two lines of two files.
+pub(crate) fn two_outcomes(alloc: Global) -> Result<(Outcome, Outcome), AllocError> {
+    let table = Table::new(alloc, 16).or_else(|_| Table::new(alloc, 16))?;
+    let mut solver = Solver::new(table);
+    let first = Outcome::of(0, 3, Entry::Bad(LineFault::Long), &mut solver);
+    let second = Outcome::of(1, 4, Entry::Bad(LineFault::Seeds), &mut solver);
+    Ok((first, second))
+}
+
 // Whether of two outcomes that two workers put the first is got, and the other is left.
 fn is_first_got<R: Wait>(
     rt: &R,
@@ -69,10 +78,7 @@ fn is_first_got<R: Wait>(
 #[test]
 fn a_results_queue(rt: HostRuntime) -> Result<(), Fail> {
     let alloc = rt.alloc();
-    let table = Table::new(alloc, 16).or_else(|_| Table::new(alloc, 16))?;
-    let mut solver = Solver::new(table);
-    let first = Outcome::of(0, 3, Entry::Bad(LineFault::Long), &mut solver);
-    let second = Outcome::of(1, 4, Entry::Bad(LineFault::Seeds), &mut solver);
+    let (first, second) = two_outcomes(alloc)?;
     let opened = ResultsQueue::open(alloc, 2, 2).or_else(|_| ResultsQueue::open(alloc, 2, 2))?;
     mark(alloc, "before the calls without memory")?;
     assert!(rt; is_first_got(&rt, opened, first, second));

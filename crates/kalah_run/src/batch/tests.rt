@@ -160,16 +160,32 @@ fn any_number_of_lines_is_answered(rt: HostRuntime) -> Result<(), Fail> {
     Ok(())
 }
 
+// Whether the line of a file of this name is answered.
+fn is_written_with<R: Threads + Wait + Sync>(
+    rt: &R,
+    alloc: Global,
+    name: &str,
+) -> Result<bool, AllocError> {
+    let files = [file_of(alloc, name, b"1/0 1/0")?];
+    let text = format!(in alloc; "{name}:1 0 house 1\n")?;
+    Ok(answers(
+        rt,
+        alloc,
+        files.as_slice(),
+        2,
+        1,
+        &OpenGate,
+        text.as_str(),
+        0,
+    ))
+}
+
 #[test]
 fn a_name_of_any_length_is_written(rt: HostRuntime) -> Result<(), Fail> {
-    let alloc = rt.alloc();
     for length in [1, 4095, 4096, 4097, 5000, 65_537, 100_000] {
-        let name = "x".repeat(alloc, length)?;
-        let files = [file_of(alloc, name.as_str(), b"1/0 1/0")?];
-        let text = format!(in alloc; "{name}:1 0 house 1\n")?;
-        let files = files.as_slice();
+        let name = "x".repeat(rt.alloc(), length)?;
         assert!(rt;
-            answers(&rt, alloc, files, 2, 1, &OpenGate, text.as_str(), 0),
+            is_written_with(&rt, rt.alloc(), name.as_str())?,
             "{length}"
         );
     }

@@ -1,8 +1,10 @@
-ghost use Rattle.std.specs.Prelude.{◌≡◌, ◌<◌, ◌≤◌};
+ghost use Rattle.std.specs.Prelude.{◌≡◌, ◌<◌, ◌≤◌, vec_len};
 ghost use Rattle.std.specs.Thread.{IsSync};
+ghost use Rattle.kalah_run.specs.QueueStates.{ArePassesFrom};
 
 mod flow;
 
+use crate::want_of_memory::two_outcomes;
 use crate::{GetPass, PutPass, ResultsQueue};
 use kalah_jobs::{Entry, LineFault, Outcome};
 use kalah_solve::{Solver, Table};
@@ -18,25 +20,41 @@ const LINES: u32 = 200;
 // The outcomes of the lines of a file, all of them empty, in their order.
 fn outcomes_of(alloc: Global, file: u32) -> Result<Vec<Outcome>, AllocError> {
     let mut solver = Solver::new(Table::new(alloc, 16)?);
+    outcomes_by(&mut solver, alloc, file)
+}
+
+// The same, by this solver.
+fn outcomes_by(solver: &mut Solver, alloc: Global, file: u32) -> Result<Vec<Outcome>, AllocError> {
     let mut outcomes = Vec::new(alloc);
     for line in 0..LINES {
-        let entry = Entry::Bad(LineFault::Empty);
-        outcomes.push(Outcome::of(file, line, entry, &mut solver))?;
+        outcomes.push(Outcome::of(file, line, Entry::Bad(LineFault::Empty), solver))?;
     }
     Ok(outcomes)
 }
 
+// What is got of two outcomes that two workers put, and how many are left.
+fn through_one_thread<R: Wait>(
+    rt: &R,
+    opened: (ResultsQueue, Vec<PutPass>, GetPass),
+    sent: (Outcome, Outcome),
+) -> ((Outcome, Outcome), u32)
+    requires puts { (vec_len opened.1 ≡ 2) × ArePassesFrom opened.0.id 0 opened.1.items }
+    requires gets { (opened.2.queue ≡ opened.0.id) × (opened.2.workers ≡ 2) }
+{
+    let (queue, mut puts, mut pass) = opened;
+    queue.put(rt, &mut puts[0], sent.0);
+    queue.put(rt, &mut puts[1], sent.1);
+    let got = (queue.get(rt, &mut pass), queue.get(rt, &mut pass));
+    (got, queue.close(rt, puts, pass).left())
+}
+
 #[test]
 fn two_workers_outcomes_are_got(rt: HostRuntime) -> Result<(), Fail> {
-    let mut solver = Solver::new(Table::new(rt.alloc(), 16)?);
-    let first = Outcome::of(0, 3, Entry::Bad(LineFault::Long), &mut solver);
-    let second = Outcome::of(1, 4, Entry::Bad(LineFault::Seeds), &mut solver);
-    let (queue, mut puts, mut pass) = ResultsQueue::open(rt.alloc(), 2, 2)?;
-    queue.put(&rt, &mut puts[0], first);
-    queue.put(&rt, &mut puts[1], second);
-    let got = (queue.get(&rt, &mut pass), queue.get(&rt, &mut pass));
-    let left = queue.close(&rt, puts, pass).left();
-    assert_eq!(rt; (got, left), ((first, second), 0));
+    let (first, second) = two_outcomes(rt.alloc())?;
+    let opened = ResultsQueue::open(rt.alloc(), 2, 2)?;
+    let (got, left) = through_one_thread(&rt, opened, (first, second));
+    assert_eq!(rt; got, (first, second));
+    assert_eq!(rt; left, 0);
     Ok(())
 }
 
@@ -62,8 +80,7 @@ fn fill<R: Wait>(rt: &R, alloc: Global, capacity: u32, outcome: Outcome) -> Resu
 
 #[test]
 fn a_queue_may_have_any_number_of_places(rt: HostRuntime) -> Result<(), Fail> {
-    let mut solver = Solver::new(Table::new(rt.alloc(), 16)?);
-    let outcome = Outcome::of(0, 3, Entry::Bad(LineFault::Long), &mut solver);
+    let (outcome, _) = two_outcomes(rt.alloc())?;
     for capacity in 1..1025u32 {
         fill(&rt, rt.alloc(), capacity, outcome)?;
     }

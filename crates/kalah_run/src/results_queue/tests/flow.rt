@@ -4,9 +4,9 @@ ghost use Rattle.std.specs.Prelude.{◌≡◌, ◌<◌, ◌≤◌, ◌*◌, All}
 ghost use Rattle.std.specs.Thread.{IsSync};
 
 use crate::drawn::Drawn;
+use crate::want_of_memory::two_outcomes;
 use crate::{GetPass, PutPass, ResultsQueue};
-use kalah_jobs::{Entry, LineFault, Outcome};
-use kalah_solve::{Solver, Table};
+use kalah_jobs::Outcome;
 use std::alloc::{AllocError, Global};
 use std::sync::Wait;
 use std::sync::atomic::AtomicBool;
@@ -138,8 +138,7 @@ fn spin_until(flag: &AtomicBool) {
 
 // A thousand batches, one after another.
 fn run_batches<R: Threads + Wait + Sync>(rt: &R, alloc: Global) -> Result<(), AllocError> {
-    let mut solver = Solver::new(Table::new(alloc, 16)?);
-    let outcome = Outcome::of(0, 3, Entry::Bad(LineFault::Long), &mut solver);
+    let (outcome, _) = two_outcomes(alloc)?;
     let mut drawn = Drawn::new(21);
     for _ in 0..1000 {
         Batch::drawn(&mut drawn).run(rt, alloc, outcome)?;
