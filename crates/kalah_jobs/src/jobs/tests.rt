@@ -52,7 +52,7 @@ fn assert_answers(
 ) -> Result<(), Fail> {
     let files = files(alloc, &[bytes])?;
     let jobs = Jobs::of_files(alloc, files.as_slice())?;
-    assert_eq!(rt; jobs.total() as usize, answers.len());
+    assert!(rt; jobs.total() as usize == answers.len());
     let mut solver = Solver::new(Table::new(alloc, 16)?);
     for (n, answer) in answers.iter().enumerate() {
         assert_answer(rt, &jobs, n as u32, &mut solver, *answer);
@@ -63,9 +63,9 @@ fn assert_answers(
 // The job of this number is the line of this number of the first file, and has this answer.
 fn assert_answer(rt: &impl Abort, jobs: &Jobs, n: u32, solver: &mut Solver, answer: Answer) {
     let job = job_at(rt, jobs, n);
-    assert_eq!(rt; (job.file, job.line), (0, n));
+    assert!(rt; (job.file, job.line) == (0, n));
     let outcome = Outcome::of(job.file, job.line, job.entry, solver);
-    assert_eq!(rt; outcome.answer(), answer);
+    assert!(rt; outcome.answer() == answer);
 }
 
 // `margin house house`.
@@ -91,10 +91,7 @@ fn assert_batch(
     lines: usize,
 ) -> Result<(), Fail> {
     let jobs = Jobs::of_files(alloc, files)?;
-    assert_eq!(rt;
-        (jobs.files() as usize, jobs.total() as usize),
-        (files.len(), lines)
-    );
+    assert!(rt; (jobs.files() as usize, jobs.total() as usize) == (files.len(), lines));
     Collector::new(alloc, &jobs)?;
     Ok(())
 }
@@ -132,7 +129,7 @@ fn each_fault_is_told_in_its_words(rt: HostRuntime) -> Result<(), Fail> {
         (JobsFault::OutOfMemory, "out of memory"),
     ];
     for (fault, text) in texts {
-        assert_eq!(rt; fault.to_string(rt.alloc())?.as_str(), text);
+        assert!(rt; fault.to_string(rt.alloc())?.as_str() == text);
     }
     Ok(())
 }
@@ -143,11 +140,11 @@ fn a_million_lines_are_jobs(rt: HostRuntime) -> Result<(), Fail> {
     let mut files = Vec::new(alloc);
     files.push(empty_lines(alloc, 1_000_000)?)?;
     let jobs = Jobs::of_files(alloc, files.as_slice())?;
-    assert_eq!(rt; jobs.total(), 1_000_000);
+    assert!(rt; jobs.total() == 1_000_000);
     for n in 0..jobs.total() {
         let job = jobs.get(n);
-        assert_eq!(rt; job.line, n);
-        assert_eq!(rt; job.entry, Entry::Bad(LineFault::Empty));
+        assert!(rt; job.line == n);
+        assert!(rt; job.entry == Entry::Bad(LineFault::Empty));
     }
     Ok(())
 }
@@ -191,10 +188,10 @@ fn jobs_of_five_files(alloc: Global) -> Result<Jobs, Fail> {
 #[test]
 fn each_file_has_its_lines(rt: HostRuntime) -> Result<(), Fail> {
     let jobs = jobs_of_five_files(rt.alloc())?;
-    assert_eq!(rt; (jobs.files(), jobs.total()), (5, 4));
+    assert!(rt; (jobs.files(), jobs.total()) == (5, 4));
     for (f, lines) in [(0, 0), (1, 2), (2, 0), (3, 2), (4, 0)] {
         assert!(rt; f < jobs.files());
-        assert_eq!(rt; jobs.lines(f), lines, "of file {f}");
+        assert!(rt; jobs.lines(f) == lines, "of file {f}");
     }
     Ok(())
 }
@@ -209,7 +206,7 @@ fn jobs_run_over_files_and_lines_in_order(rt: HostRuntime) -> Result<(), Fail> {
         (3, 3, 1, LineFault::Shape),
     ] {
         let entry = Entry::Bad(fault);
-        assert_eq!(rt; job_at(&rt, &jobs, n), Job { file, line, entry });
+        assert!(rt; job_at(&rt, &jobs, n) == Job { file, line, entry });
     }
     Ok(())
 }

@@ -19,7 +19,7 @@ fn text_of_move(rt: &impl Abort, alloc: Global, line: &[u8], h: u8) -> Result<St
 fn lines_are_written_as_they_were_read(rt: HostRuntime) -> Result<(), Fail> {
     for line in ["1,1/0 1,1/0", "31/99 0/0", "1,2,3,4,5,0/10 0,0,0,0,0,9/8 e"] {
         let board = read_line(line.as_bytes()).ok().ok_or("not read")?;
-        assert_eq!(rt; line_text(rt.alloc(), &board)?.as_str(), line);
+        assert!(rt; line_text(rt.alloc(), &board)?.as_str() == line);
     }
     Ok(())
 }
@@ -35,7 +35,7 @@ fn steps_with_their_words(rt: HostRuntime) -> Result<(), Fail> {
         ("1,0/0 0,2/0 e", 1, "1 0,0/1 0,0/2 e over"),
     ] {
         let written = text_of_move(&rt, rt.alloc(), line.as_bytes(), h)?;
-        assert_eq!(rt; written.as_str(), text);
+        assert!(rt; written.as_str() == text);
     }
     Ok(())
 }
@@ -43,7 +43,7 @@ fn steps_with_their_words(rt: HostRuntime) -> Result<(), Fail> {
 // A line is read, and written as it was.
 fn assert_read_back(rt: &impl Abort, alloc: Global, line: &str) -> Result<(), Fail> {
     let board = read_line(line.as_bytes()).ok().ok_or("not read")?;
-    assert_eq!(rt; line_text(alloc, &board)?.as_str(), line);
+    assert!(rt; line_text(alloc, &board)?.as_str() == line);
     Ok(())
 }
 

@@ -12,7 +12,7 @@ fn assert_text(
     text: &str,
 ) -> Result<(), Fail> {
     let printed = answer_text(alloc, "a", &Taken { line, answer })?;
-    assert_eq!(rt; printed.as_str(), text);
+    assert!(rt; printed.as_str() == text);
     Ok(())
 }
 
@@ -62,8 +62,8 @@ fn a_name_is_printed_as_it_is(rt: HostRuntime) -> Result<(), Fail> {
         answer: Answer::Over { margin: 1 },
     };
     let printed = answer_text(rt.alloc(), "a b/ü.txt", &taken)?;
-    assert_eq!(rt; printed.as_str(), "a b/ü.txt:10 1 over");
+    assert!(rt; printed.as_str() == "a b/ü.txt:10 1 over");
     let printed = answer_text(rt.alloc(), "", &taken)?;
-    assert_eq!(rt; printed.as_str(), ":10 1 over");
+    assert!(rt; printed.as_str() == ":10 1 over");
     Ok(())
 }

@@ -95,7 +95,7 @@ fn passed_on(piece: &[u8]) -> Option<usize> {
 fn takes_pieces_of_every_size(rt: HostRuntime) -> Result<(), Fail> {
     let bytes = vec![in rt.alloc(); b'x'; 100_000]?;
     for size in 0..bytes.len() + 1 {
-        assert_eq!(rt; passed_on(&bytes[..size]), Some(size));
+        assert!(rt; passed_on(&bytes[..size]) == Some(size));
     }
     Ok(())
 }
@@ -109,7 +109,7 @@ fn gives_the_writer_its_bytes(rt: HostRuntime) -> Result<(), Fail> {
     out.write_all(b"1,1/0")?;
     out.flush()?;
     assert!(rt; !out.failed());
-    assert_eq!(rt; out.into_inner().as_slice(), b"1,1/0 1,1/0".as_slice());
+    assert!(rt; out.into_inner().as_slice() == b"1,1/0 1,1/0".as_slice());
     Ok(())
 }
 
@@ -119,8 +119,8 @@ fn tries_an_interrupted_call_again(rt: HostRuntime) -> Result<(), Fail> {
     out.write_all(b"ab")?;
     assert!(rt; !out.failed());
     let writer = out.into_inner();
-    assert_eq!(rt; writer.calls, 2);
-    assert_eq!(rt; writer.bytes.as_slice(), b"ab".as_slice());
+    assert!(rt; writer.calls == 2);
+    assert!(rt; writer.bytes.as_slice() == b"ab".as_slice());
     Ok(())
 }
 
@@ -129,7 +129,7 @@ fn a_writer_that_takes_no_byte_is_an_error(rt: HostRuntime) {
     let mut out = Stream::new(Full { calls: 0 });
     assert!(rt; out.write_all(b"a").is_err());
     assert!(rt; out.failed());
-    assert_eq!(rt; out.into_inner().calls, 1);
+    assert!(rt; out.into_inner().calls == 1);
 }
 
 #[test]
@@ -140,8 +140,8 @@ fn has_failed_after_an_error(rt: HostRuntime) -> Result<(), Fail> {
     assert!(rt; out.write_all(b"b").is_err());
     assert!(rt; out.failed());
     let writer = out.into_inner();
-    assert_eq!(rt; writer.calls, 2);
-    assert_eq!(rt; writer.bytes.as_slice(), b"a".as_slice());
+    assert!(rt; writer.calls == 2);
+    assert!(rt; writer.bytes.as_slice() == b"a".as_slice());
     Ok(())
 }
 
@@ -151,7 +151,7 @@ fn has_failed_after_a_flush_that_fails(rt: HostRuntime) -> Result<(), Fail> {
     out.write_all(b"a")?;
     assert!(rt; out.flush().is_err());
     assert!(rt; out.failed());
-    assert_eq!(rt; out.into_inner().calls, 2);
+    assert!(rt; out.into_inner().calls == 2);
     Ok(())
 }
 

@@ -13,7 +13,7 @@ fn jobs_of(rt: &impl Abort, alloc: Global, files: &[FileText]) -> Result<Jobs, F
     match Jobs::of_files(alloc, files) {
         Ok(jobs) => Ok(jobs),
         Err(fault) => {
-            assert_eq!(rt; fault, JobsFault::OutOfMemory);
+            assert!(rt; fault == JobsFault::OutOfMemory);
             Ok(Jobs::of_files(alloc, files)?)
         }
     }
@@ -36,12 +36,12 @@ fn trial_of(alloc: Global, jobs: Jobs) -> Result<Trial, Fail> {
 
 // The jobs are the lines of the first file.
 fn tells_its_jobs(rt: &impl Abort, jobs: &Jobs) {
-    assert_eq!(rt; (jobs.files(), jobs.total()), (2, 3));
+    assert!(rt; (jobs.files(), jobs.total()) == (2, 3));
     for (line, seeds) in [(0, 1), (1, 2), (2, 3)] {
         assert!(rt; line < jobs.total());
         let entry = one_house(rt, seeds, Rule::Classic);
         let file = 0;
-        assert_eq!(rt; jobs.get(line), Job { file, line, entry });
+        assert!(rt; jobs.get(line) == Job { file, line, entry });
     }
 }
 
