@@ -23,7 +23,7 @@ fn a_key_and_a_solver_take_no_memory(rt: HostRuntime) -> Result<(), Fail> {
     let table = Table::new(alloc, 1).or_else(|_| Table::new(alloc, 1))?;
     mark(alloc, "before the calls without memory")?;
     let houses = Houses::new(2, ONES, ONES, Rule::Classic).ok_or("beyond the limits")?;
-    assert_eq!(rt; pack(&houses), 0x2000_0008_4000_0021);
+    assert!(rt; pack(&houses) == 0x2000_0008_4000_0021);
     assert!(rt; unpack(0x2000_0008_4000_0021) == Some(houses));
     let _solver = Solver::new(table);
     mark(alloc, "after all")
@@ -34,7 +34,7 @@ fn tells_both(rt: &impl Abort, solver: &mut Solver) -> Result<(), Fail> {
     for (own_store, other_store, margin) in [(0, 0, 2), (9, 4, 7)] {
         let board = Board::new(2, ONES, own_store, ONES, other_store, Rule::Classic);
         let verdict = solver.solve(&board.ok_or("beyond the limits")?);
-        assert_eq!(rt; verdict, Verdict::Best { margin, house: 2 });
+        assert!(rt; verdict == Verdict::Best { margin, house: 2 });
     }
     Ok(())
 }

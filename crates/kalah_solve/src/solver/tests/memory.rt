@@ -26,10 +26,11 @@ fn tells_many_seeds<A: Allocator + Clone>(
     rt: &impl Abort,
     solver: &mut Solver<A>,
 ) -> Result<(), Fail> {
-    assert_eq!(rt; solver.solve(&one(8, 7)?), best(-9, 1));
-    assert_eq!(rt; solver.solve(&one(16, 15)?), best(7, 1));
+    for (own, other, margin) in [(8, 7, -9), (16, 15, 7)] {
+        assert!(rt; solver.solve(&one(own, other)?) == best(margin, 1));
+    }
     let fives = two(Rule::Classic, [5, 5, 0], [5, 5, 0])?;
-    assert_eq!(rt; solver.solve(&fives), best(6, 1));
+    assert!(rt; solver.solve(&fives) == best(6, 1));
     Ok(())
 }
 
@@ -40,32 +41,25 @@ fn tells_three_houses<A: Allocator + Clone>(
 ) -> Result<(), Fail> {
     let fours = [4, 4, 4, 0, 0, 0];
     let board = Board::new(3, fours, 0, fours, 0, Rule::Classic);
-    assert_eq!(rt;
-        solver.solve(&board.ok_or("beyond the limits")?),
-        best(2, 1)
-    );
+    assert!(rt; solver.solve(&board.ok_or("beyond the limits")?) == best(2, 1));
     Ok(())
 }
 
 // Two positions that differ in their stores alone, with one entry for both, unless there is no memory for the table.
 fn tells_both(rt: &impl Abort, heap: &Granting<Global>, keeps_all: bool) -> Result<(), Fail> {
     let table = Table::new(heap, 1);
-    assert_eq!(rt; table.is_err(), heap.refused() > 0);
-    if let Ok(table) = table {
-        let mut solver = solver_with(table, keeps_all);
-        let bare = two(Rule::Classic, [1, 1, 0], [1, 1, 0])?;
-        let rich = two(Rule::Classic, [1, 1, 9], [1, 1, 4])?;
-        assert_eq!(rt; solver.solve(&bare), best(2, 2));
-        assert_eq!(rt; solver.solve(&rich), best(7, 2));
+    assert!(rt; table.is_err() == (heap.refused() > 0));
+    match table {
+        Ok(table) => tells_same_houses(rt, &mut solver_with(table, keeps_all)),
+        Err(_) => Ok(()),
     }
-    Ok(())
 }
 
 #[test]
 fn no_memory_makes_no_table(rt: HostRuntime) {
     let heap = Granting::new(rt.alloc(), 0);
     assert!(rt; Table::new(&heap, 1).is_err());
-    assert_eq!(rt; heap.refused(), 1);
+    assert!(rt; heap.refused() == 1);
 }
 
 // The same with so many requests granted, of as many as there are. It tells how many came.
@@ -184,11 +178,11 @@ fn goes_on_after_a_refusal(rt: &impl Abort, heap: &Granting<Global>) -> Result<(
 fn one_request_is_refused(rt: HostRuntime) -> Result<(), Fail> {
     let ample = Granting::new(rt.alloc(), u32::MAX);
     goes_on_after_a_refusal(&rt, &ample)?;
-    assert_eq!(rt; ample.refused(), 0);
+    assert!(rt; ample.refused() == 0);
     for before in 0..=ample.made() {
         let heap = Granting::but_one(rt.alloc(), before);
         goes_on_after_a_refusal(&rt, &heap)?;
-        assert_eq!(rt; heap.refused() == 0, before == ample.made());
+        assert!(rt; (heap.refused() == 0) == (before == ample.made()));
     }
     Ok(())
 }
