@@ -20,8 +20,8 @@ fn moves_are_as_ever(rt: &impl Abort, rule: Rule) -> Result<(), Fail> {
     let board = Board::new(2, ONES, 0, ONES, 0, rule).ok_or("beyond the limits")?;
     assert!(rt; !board.is_over() && board.is_legal(1) && board.is_legal(2));
     let moves = board.legal();
-    assert_eq!(rt; moves.len(), 2);
-    assert_eq!(rt; (moves.get(0), moves.get(1)), (1, 2));
+    assert!(rt; moves.len() == 2);
+    assert!(rt; (moves.get(0), moves.get(1)) == (1, 2));
     let turn = Board::new(2, ONES, 0, [0, 2, 0, 0, 0, 0], 0, rule);
     assert!(rt; Some(board.apply(1)) == turn.map(Step::Turn));
     let again = Board::new(2, [1, 0, 0, 0, 0, 0], 1, ONES, 0, rule);
@@ -34,9 +34,9 @@ fn moves_are_as_ever(rt: &impl Abort, rule: Rule) -> Result<(), Fail> {
 fn the_end_is_as_ever(rt: &impl Abort, rule: Rule) -> Result<(), Fail> {
     let over = Board::new(2, [0; 6], 3, [1, 2, 0, 0, 0, 0], 4, rule).ok_or("beyond the limits")?;
     assert!(rt; over.is_over());
-    assert_eq!(rt; over.returns(), -4);
-    assert_eq!(rt; over.legal().len(), 0);
-    assert_eq!(rt; (over.own_store(), over.other_store()), (3, 4));
+    assert!(rt; over.returns() == -4);
+    assert!(rt; over.legal().len() == 0);
+    assert!(rt; (over.own_store(), over.other_store()) == (3, 4));
     assert!(rt; Board::new(2, [16; 6], 0, [16; 6], 0, rule).is_none());
     Ok(())
 }

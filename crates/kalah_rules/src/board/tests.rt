@@ -27,7 +27,7 @@ fn double(
 // The move of house `h` is legal and leads to `step`.
 fn assert_leads(rt: &impl Abort, start: &Board, h: u8, step: Step) {
     assert!(rt; start.is_legal(h));
-    assert_eq!(rt; start.apply(h), step);
+    assert!(rt; start.apply(h) == step);
 }
 
 #[test]
@@ -67,10 +67,10 @@ fn another_move_with_no_seeds_left_ends_the_game(rt: HostRuntime) -> Result<(), 
     assert!(rt; end.is_legal(1));
     match end.apply(1) {
         Step::Over(swept) => {
-            assert_eq!(rt; swept.own_store(), 100);
-            assert_eq!(rt; swept.other_store(), 100);
+            assert!(rt; swept.own_store() == 100);
+            assert!(rt; swept.other_store() == 100);
             assert!(rt; swept.is_over());
-            assert_eq!(rt; swept.returns(), 0);
+            assert!(rt; swept.returns() == 0);
         }
         _ => assert!(rt; false),
     }
@@ -112,14 +112,14 @@ fn legal_houses_rise(rt: HostRuntime) -> Result<(), Fail> {
     let other = [0, 0, 0, 0, 0, 1];
     let board = Board::new(6, own, 0, other, 0, Rule::Classic).ok_or("beyond the limits")?;
     let moves = board.legal();
-    assert_eq!(rt; moves.len(), 3);
-    assert_eq!(rt; moves.get(0), 1);
-    assert_eq!(rt; moves.get(1), 3);
-    assert_eq!(rt; moves.get(2), 6);
+    assert!(rt; moves.len() == 3);
+    assert!(rt; moves.get(0) == 1);
+    assert!(rt; moves.get(1) == 3);
+    assert!(rt; moves.get(2) == 6);
     assert!(rt; !board.is_legal(2));
     assert!(rt; !board.is_legal(0));
     assert!(rt; !board.is_legal(7));
-    assert_eq!(rt; single(0, 3, 5, 4, Rule::Classic)?.legal().len(), 0);
+    assert!(rt; single(0, 3, 5, 4, Rule::Classic)?.legal().len() == 0);
     Ok(())
 }
 
@@ -127,10 +127,10 @@ fn legal_houses_rise(rt: HostRuntime) -> Result<(), Fail> {
 fn margins_count_houses_and_stores(rt: HostRuntime) -> Result<(), Fail> {
     let end = double([0, 0], 3, [1, 2], 4, Rule::Classic)?;
     assert!(rt; end.is_over());
-    assert_eq!(rt; end.returns(), -4);
+    assert!(rt; end.returns() == -4);
     let full = single(31, 99, 0, 0, Rule::Classic)?;
     assert!(rt; full.is_over());
-    assert_eq!(rt; full.returns(), 130);
+    assert!(rt; full.returns() == 130);
     Ok(())
 }
 
@@ -160,11 +160,11 @@ fn houses_are_those_of_the_board(rt: HostRuntime) -> Result<(), Fail> {
         Rule::EmptyCapture,
     )
     .ok_or("beyond the limits")?;
-    assert_eq!(rt; board.houses(), houses);
-    assert_eq!(rt; houses.m(), 2);
-    assert_eq!(rt; houses.own(2), 2);
-    assert_eq!(rt; houses.other(2), 4);
-    assert_eq!(rt; houses.rule(), Rule::EmptyCapture);
+    assert!(rt; board.houses() == houses);
+    assert!(rt; houses.m() == 2);
+    assert!(rt; houses.own(2) == 2);
+    assert!(rt; houses.other(2) == 4);
+    assert!(rt; houses.rule() == Rule::EmptyCapture);
     assert!(rt; Houses::new(1, [0, 1, 0, 0, 0, 0], [0; 6], Rule::Classic).is_none());
     assert!(rt; Houses::new(1, [16, 0, 0, 0, 0, 0], [16, 0, 0, 0, 0, 0], Rule::Classic).is_none());
     Ok(())

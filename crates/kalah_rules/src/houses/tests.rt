@@ -12,10 +12,10 @@ fn two(own: [u8; 2], other: [u8; 2]) -> Result<Houses, Fail> {
 #[test]
 fn houses_have_the_key_of_the_layout(rt: HostRuntime) -> Result<(), Fail> {
     let houses = two([1, 1], [1, 1])?;
-    assert_eq!(rt; houses.key(), 0x2000_0008_4000_0021);
+    assert!(rt; houses.key() == 0x2000_0008_4000_0021);
     assert!(rt; Houses::of_key(0x2000_0008_4000_0021) == Some(houses));
     assert!(rt; Houses::of_key(0x2000_0008_4000_8021).is_none());
-    assert_eq!(rt; houses.seeds(), 4);
+    assert!(rt; houses.seeds() == 4);
     assert!(rt; !houses.is_over());
     Ok(())
 }
@@ -26,7 +26,7 @@ fn assert_brings(rt: &impl Abort, own: [u8; 2], h: u8, step: HousesStep) -> Resu
     let other = [1, 1, 0, 0, 0, 0];
     let board = Board::new(2, own, 9, other, 4, Rule::Classic).ok_or("beyond the limits")?;
     assert!(rt; board.is_legal(h));
-    assert_eq!(rt; board.houses().play(h), step);
+    assert!(rt; board.houses().play(h) == step);
     Ok(())
 }
 

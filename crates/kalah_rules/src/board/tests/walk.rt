@@ -191,7 +191,7 @@ fn every_small_board_is_played_seed_by_seed(rt: HostRuntime) -> Result<(), Fail>
             }
         }
     }
-    assert_eq!(rt; boards, 2 * (28 + 210 + 924));
+    assert!(rt; boards == 2 * (28 + 210 + 924));
     Ok(())
 }
 
