@@ -40,20 +40,20 @@ fn gather(
 #[test]
 fn a_desk_with_no_number_answers_none(rt: HostRuntime) -> Result<(), Fail> {
     let (desk, mut passes) = Desk::open(rt.alloc(), 0, 1)?;
-    assert_eq!(rt; passes.len(), 1);
-    assert_eq!(rt; desk.draw(&mut passes[0]), None);
+    assert!(rt; passes.len() == 1);
+    assert!(rt; desk.draw(&mut passes[0]) == None);
     let closed = desk.close(passes);
-    assert_eq!(rt; (closed.drawn(), closed.spent()), (0, true));
+    assert!(rt; (closed.drawn(), closed.spent()) == (0, true));
     Ok(())
 }
 
 #[test]
 fn a_desk_may_be_closed_before_all_is_drawn(rt: HostRuntime) -> Result<(), Fail> {
     let (desk, mut passes) = Desk::open(rt.alloc(), 5, 1)?;
-    assert_eq!(rt; passes.len(), 1);
-    assert_eq!(rt; desk.draw(&mut passes[0]), Some(0));
+    assert!(rt; passes.len() == 1);
+    assert!(rt; desk.draw(&mut passes[0]) == Some(0));
     let closed = desk.close(passes);
-    assert_eq!(rt; (closed.drawn(), closed.spent()), (1, false));
+    assert!(rt; (closed.drawn(), closed.spent()) == (1, false));
     Ok(())
 }
 
@@ -64,8 +64,8 @@ fn a_desk_may_have_any_number_of_passes(rt: HostRuntime) -> Result<(), Fail> {
     ] {
         for count in 1..65u32 {
             let (desk, passes) = Desk::open(rt.alloc(), total, count)?;
-            assert_eq!(rt; passes.len(), count as usize);
-            assert_eq!(rt; desk.close(passes).drawn(), 0);
+            assert!(rt; passes.len() == count as usize);
+            assert!(rt; desk.close(passes).drawn() == 0);
         }
     }
     Ok(())
@@ -89,6 +89,6 @@ fn threads_draw_each_number_once(rt: HostRuntime) -> Result<(), Fail> {
     let closed = desk.close(passes);
     all.sort()?;
     assert!(rt; are_all_below(all.as_slice(), 1000));
-    assert_eq!(rt; (closed.drawn(), closed.spent()), (1000, true));
+    assert!(rt; (closed.drawn(), closed.spent()) == (1000, true));
     Ok(())
 }

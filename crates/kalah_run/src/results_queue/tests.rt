@@ -53,8 +53,8 @@ fn two_workers_outcomes_are_got(rt: HostRuntime) -> Result<(), Fail> {
     let (first, second) = two_outcomes(rt.alloc())?;
     let opened = ResultsQueue::open(rt.alloc(), 2, 2)?;
     let (got, left) = through_one_thread(&rt, opened, (first, second));
-    assert_eq!(rt; got, (first, second));
-    assert_eq!(rt; left, 0);
+    assert!(rt; got == (first, second));
+    assert!(rt; left == 0);
     Ok(())
 }
 
@@ -91,8 +91,8 @@ fn a_queue_may_have_any_number_of_places(rt: HostRuntime) -> Result<(), Fail> {
 fn a_queue_may_have_any_number_of_workers(rt: HostRuntime) -> Result<(), Fail> {
     for workers in 1..65u32 {
         let (queue, puts, pass) = ResultsQueue::open(rt.alloc(), 64, workers)?;
-        assert_eq!(rt; puts.len(), workers as usize);
-        assert_eq!(rt; queue.close(&rt, puts, pass).left(), 0);
+        assert!(rt; puts.len() == workers as usize);
+        assert!(rt; queue.close(&rt, puts, pass).left() == 0);
     }
     Ok(())
 }
@@ -167,6 +167,6 @@ fn two_threads_outcomes_come_in_order(rt: HostRuntime) -> Result<(), Fail> {
     let second = outcomes_of(rt.alloc(), 1)?;
     let sent = (first.as_slice(), second.as_slice());
     let (got_first, got_second) = through_queue(&rt, rt.alloc(), sent)?;
-    assert_eq!(rt; (got_first.as_slice(), got_second.as_slice()), sent);
+    assert!(rt; (got_first.as_slice(), got_second.as_slice()) == sent);
     Ok(())
 }
