@@ -19,3 +19,5 @@ mod RowRanks
 mod Choices
 mod KeptEndings
 mod MostTaken
+mod SixValues
+mod MovesSecured

@@ -93,16 +93,19 @@ verdict_by p margin house going margin_at house_at =
     ∙ ap (λ v. if is_over p then Over (final_margin p) else Best v house) margin_at
     ∙ ap (λ h. if is_over p then Over (final_margin p) else Best (worth p) h) house_at
 
+-- the houses of a board are within the limits
+pub rows_within : (p : Position) → IsWithinLimits p → IsWithinHouses (rows_of p)
+rows_within p limits = record {
+  some_house = limits.some_house;
+  at_most_six = limits.at_most_six;
+  same_side = limits.same_side;
+  few_seeds = limits.few_seeds;
+}
+
 -- the margin is one that a player can have
 pub margin_small : (p : Position) (best margin : ℤ) → IsWithinLimits p → best ≡ houses_worth (rows_of p) → margin ≡ best +ℤ (pos p.own_store -ℤ pos p.other_store) → IsSmallMargin margin
 margin_small p best margin limits best_is e =
-    let within : IsWithinHouses (rows_of p) = record {
-      some_house = limits.some_house;
-      at_most_six = limits.at_most_six;
-      same_side = limits.same_side;
-      few_seeds = limits.few_seeds;
-    } in
-    let bounds = worth_up_to (rows_of p) within in
+    let bounds = worth_up_to (rows_of p) (rows_within p limits) in
     record {
       low = omega (arith, ints, e, best_is, bounds.low, limits.other_store_low);
       high = omega (arith, ints, e, best_is, bounds.high, limits.own_store_low);

@@ -8,3 +8,5 @@ pub mod Taken
 pub mod Tried
 pub mod RowRank
 pub mod Endings
+pub mod SixValues
+pub mod MoveValues

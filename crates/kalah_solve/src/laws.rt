@@ -1,5 +1,6 @@
 //! Laws over all positions, all strategies and both rules of capture.
 ghost use Rattle.kalah_solve.specs.Laws.{WorthOfOver, WorthIsGreatestValue, WorthIsMostOfMoves, GameThatGoesOnHasMove, CountPlaysNoPart, BestHouseIsLowest, StoresShiftWorth, StoresKeepBestHouse, StrategiesPlayAGame, StrategiesPlayOneGame, GamesEnd, WorthIsBestPlay, BestPlayIsOne, BestHouseIsBestPlay, BestPlayAgainstStrategies, BestMovesAttain, BestVerdictIsOne};
+ghost use Rattle.kalah_solve.specs.MoveValues.{ValueIsWorthOfMove, WorthOfMoveIsOne, ValuesTellVerdict};
 
 /// What the worth of a position is: that of a game that is over is its final margin, and that of any other position is
 /// the greatest value of a legal move, of which there is one at least.
@@ -49,4 +50,16 @@ pub fn best_moves_attain_worth()
 /// What the solver says of best play leaves no second verdict.
 pub fn best_verdict_is_one()
     ensures { BestVerdictIsOne }
+{}
+
+/// The value of a move is what it secures, and no more: the player to move has a strategy that begins with it and gets at
+/// least as much, the other player has one that allows no more after it, and no other margin is both.
+pub fn value_is_worth_of_move()
+    ensures worth { ValueIsWorthOfMove }
+    ensures one { WorthOfMoveIsOne }
+{}
+
+/// The greatest of the moves' values and the first house that has it are what the solver tells of a game that goes on.
+pub fn values_tell_verdict()
+    ensures { ValuesTellVerdict }
 {}

@@ -6,6 +6,7 @@ mod endings;
 mod granting;
 mod key;
 mod laws;
+mod move_values;
 mod places;
 #[cfg(test)]
 mod plain;
@@ -21,8 +22,10 @@ mod want_of_memory;
 pub use key::{pack, unpack};
 pub use laws::{
     best_house_is_lowest, best_moves_attain_worth, best_verdict_is_one, players_play_one_game,
-    stores_only_shift, worth_is_best_play, worth_is_greatest_value,
+    stores_only_shift, value_is_worth_of_move, values_tell_verdict, worth_is_best_play,
+    worth_is_greatest_value,
 };
+pub use move_values::{MoveValue, MoveValues};
 pub use solver::Solver;
 pub use table::{Interval, Table};
 pub use verdict::Verdict;

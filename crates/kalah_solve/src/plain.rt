@@ -29,9 +29,9 @@ fn worth(board: &Board) -> i32
     best
 }
 
-// The margin of best play after the move of house `h`, for the player who makes that move.
+/// The margin of best play after the move of house `h`, for the player who makes that move.
 #[cycle(worth)]
-fn value_of_move(board: &Board, h: u8) -> i32
+pub(crate) fn value_of_move(board: &Board, h: u8) -> i32
     requires { Contains (legal_houses board.now) h }
     ensures value { result ≡ value_of_move board.now h }
     ensures small { IsSmallMargin result }

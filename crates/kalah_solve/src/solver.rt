@@ -8,6 +8,7 @@ ghost use Rattle.kalah_solve.specs.Verdict.{verdict_of, TellsBestPlay, IsSmallVe
 
 #[cfg(test)]
 mod tests;
+mod values;
 
 use crate::search::Search;
 use crate::share::half;

@@ -1,4 +1,5 @@
 mod memory;
+mod values;
 
 use super::*;
 use crate::key::{pack, unpack};

@@ -1,0 +1,14 @@
+use Rattle.std.proofs.Common.{sym, ◌∙◌, ap, ◌≡◌, arith, subst}
+use Rattle.std.specs.Prelude.{map}
+use Rattle.std.proofs.lemmas.List.{take_all}
+use Rattle.kalah_solve.specs.MoveValues.{move_value, values_of, TellMoves}
+use Rattle.kalah_solve.proofs.MovesSecured.{values_tell}
+use Rattle.kalah_solve.proofs.Worths.{board_equal_sides}
+use Rattle.kalah_solve.proofs.solver.Solver.values.Goals as goal
+
+pub returns-clause-best_play : goal.returns-clause-best_play
+returns-clause-best_play g c =
+    let p = c.args.board.now in
+    let all = take_all c.loop-i.i c.legal-moves.result (omega arith) ∙ c.legal-moves.ensures in
+    let is : c.loop-i.values ≡ values_of p = c.loop-i.invariant ∙ ap (map (move_value p)) all in
+    subst (TellMoves p) (sym is) (values_tell p (board_equal_sides p c.m-side.ensures.limits))

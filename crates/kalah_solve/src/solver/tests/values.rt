@@ -1,0 +1,87 @@
+//! The values of the moves.
+use super::*;
+use crate::granting::Granting;
+use crate::move_values::MoveValue;
+
+// The houses with their values, in order.
+fn tells_values<A: Allocator + Clone>(
+    rt: &impl Abort,
+    solver: &mut Solver<A>,
+    board: &Board,
+    want: &[(u8, i16)],
+) {
+    let values = solver.values(board);
+    assert_eq!(rt; usize::from(values.len()), want.len());
+    for i in 0..values.len() {
+        let MoveValue { house, value } = values.get(i);
+        assert!(rt; want.get(usize::from(i)) == Some(&(house, value)));
+    }
+}
+
+// Worked positions.
+fn tells_worked_values<A: Allocator + Clone>(
+    rt: &impl Abort,
+    solver: &mut Solver<A>,
+) -> Result<(), Fail> {
+    let ones = two(Rule::Classic, [1, 1, 0], [1, 1, 0])?;
+    tells_values(rt, solver, &ones, &[(1, -2), (2, 2)]);
+    let rich = two(Rule::Classic, [1, 1, 9], [1, 1, 4])?;
+    tells_values(rt, solver, &rich, &[(1, 3), (2, 7)]);
+    tells_values(rt, solver, &one(2, 2)?, &[(1, -2)]);
+    let over = two(Rule::Classic, [0, 0, 3], [1, 2, 4])?;
+    tells_values(rt, solver, &over, &[]);
+    let classic = two(Rule::Classic, [1, 0, 0], [0, 2, 0])?;
+    tells_values(rt, solver, &classic, &[(1, 1)]);
+    let empty_capture = two(Rule::EmptyCapture, [1, 0, 0], [0, 2, 0])?;
+    tells_values(rt, solver, &empty_capture, &[(1, -1)]);
+    Ok(())
+}
+
+#[test]
+fn tells_worked_values_with_each_table(rt: HostRuntime) -> Result<(), Fail> {
+    for entries in [1, 65_536] {
+        let mut solver = Solver::new(Table::new(rt.alloc(), entries)?);
+        tells_worked_values(&rt, &mut solver)?;
+    }
+    Ok(())
+}
+
+#[test]
+fn values_are_told_though_every_entry_is_refused(rt: HostRuntime) -> Result<(), Fail> {
+    let ample = Granting::new(rt.alloc(), u32::MAX);
+    let _table = Table::new(&ample, 1_024)?;
+    let heap = Granting::new(rt.alloc(), ample.made());
+    let mut solver = Solver {
+        search: Search::with_all_entries(Table::new(&heap, 1_024)?),
+    };
+    tells_worked_values(&rt, &mut solver)?;
+    assert!(rt; heap.refused() > 0);
+    Ok(())
+}
+
+// Each value of the position is that of the plain recursion.
+fn agrees_with_plain_values(rt: &impl Abort, solver: &mut Solver, board: &Board) {
+    let moves = board.legal();
+    let values = solver.values(board);
+    assert_eq!(rt; values.len(), moves.len());
+    for i in 0..moves.len() {
+        let house = moves.get(i);
+        let value = plain::value_of_move(board, house);
+        let told = values.get(i);
+        assert_eq!(rt; (told.house, i32::from(told.value)), (house, value));
+    }
+}
+
+#[test]
+fn values_agree_with_plain(rt: HostRuntime) -> Result<(), Fail> {
+    let mut solver = Solver::new(Table::new(rt.alloc(), 16)?);
+    for rule in [Rule::Classic, Rule::EmptyCapture] {
+        for a in 0..4u8 {
+            for b in 0..4u8 {
+                agrees_with_plain_values(&rt, &mut solver, &two(rule, [a, b, 2], [b, a, 0])?);
+                agrees_with_plain_values(&rt, &mut solver, &two(rule, [a, b, 0], [1, 2, 1])?);
+            }
+        }
+    }
+    Ok(())
+}

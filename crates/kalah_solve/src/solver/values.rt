@@ -1,0 +1,65 @@
+//! What each move of a position is worth.
+ghost use Rattle.std.specs.Prelude.{◌≡◌, Contains};
+ghost use Rattle.kalah_rules.specs.Position.{IsSmallMargin};
+ghost use Rattle.kalah_rules.specs.Play.{legal_houses};
+ghost use Rattle.kalah_solve.specs.Worth.{worth, value_of_move};
+ghost use Rattle.kalah_solve.specs.MoveValues.{move_value, values_of, TellMoves};
+
+use super::Solver;
+use crate::move_values::{MoveValue, MoveValues};
+use kalah_rules::{Board, Step};
+use std::alloc::Allocator;
+
+impl<A: Allocator + Clone> Solver<A> {
+    /// What each move of the position is worth to the player to move, as the houses rise: the margin that it gets in best
+    /// play, which is what the move secures and no more. None where the game is over. The moves share what the table
+    /// learns, which is kept for later positions; where there is no memory for an entry, it is left out.
+    pub fn values(&mut self, board: &Board) -> MoveValues
+        ensures values { result ≡ values_of board.now }
+        ensures best_play { TellMoves board.now result }
+    {
+        let _side = board.m();
+        let moves = board.legal();
+        let mut values = MoveValues::none();
+        for i in 0..moves.len() {
+            values.push(self.move_value(board, moves.get(i)));
+        }
+        values
+    }
+
+    // The house `h`, with what its move is worth.
+    fn move_value(&mut self, board: &Board, h: u8) -> MoveValue
+        requires { Contains (legal_houses board.now) h }
+        ensures { result ≡ move_value board.now h }
+    {
+        MoveValue {
+            house: h,
+            value: self.value_of_move(board, h) as i16,
+        }
+    }
+
+    // The margin of best play after the move of house `h`, for the player who makes that move.
+    fn value_of_move(&mut self, board: &Board, h: u8) -> i32
+        requires { Contains (legal_houses board.now) h }
+        ensures value { result ≡ value_of_move board.now h }
+        ensures small { IsSmallMargin result }
+    {
+        match board.apply(h) {
+            Step::Over(end) => end.returns(),
+            Step::Again(next) => self.margin(&next),
+            Step::Turn(next) => -self.margin(&next),
+        }
+    }
+
+    // The margin of best play of the position.
+    fn margin(&mut self, board: &Board) -> i32
+        ensures worth { result ≡ worth board.now }
+        ensures small { IsSmallMargin result }
+    {
+        if board.is_over() {
+            return board.returns();
+        }
+        let best = self.search.search(&board.houses(), -31, 31);
+        best + (board.own_store() as i32 - board.other_store() as i32)
+    }
+}
