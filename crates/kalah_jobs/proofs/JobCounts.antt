@@ -9,9 +9,10 @@ use Rattle.std.proofs.Math.Seq.{get_or-append_seam}
 use Rattle.kalah_jobs.specs.declared.entry.Entry.{Entry}
 use Rattle.kalah_jobs.specs.NamedBytes.{NamedBytes}
 use Rattle.kalah_jobs.specs.JobList.{entries_of, offer, file_jobs, jobs_from, job_list}
-use Rattle.kalah_jobs.specs.Jobs.{most_files, most_lines, line_count, lines_in, entries_in, jobs_of, job_count, AreCounted}
+use Rattle.kalah_jobs.specs.Jobs.{most_files, most_lines, line_count, lines_in, entries_to, jobs_to, job_count, AreCounted}
 use Rattle.kalah_jobs.specs.Lines.{lines_of}
-use Rattle.kalah_jobs.specs.Entry.{entry_of}
+use Rattle.kalah_jobs.specs.Question.{entry_to}
+use Rattle.kalah_jobs.specs.declared.question.Question.{Question}
 
 -- ---- counts
 
@@ -127,51 +128,51 @@ line_below jobs starts f n as_many before within low next =
 -- ---- while the files are read
 
 -- the first files are read, and the jobs before each are counted
-pub record AreCountedUpto (files : List NamedBytes) (jobs : List (List Entry)) (starts : List ℕ) (total : ℕ) : Type 0 where
-  pub are : jobs ≡ jobs_of files
+pub record AreCountedUpto (question : Question) (files : List NamedBytes) (jobs : List (List Entry)) (starts : List ℕ) (total : ℕ) : Type 0 where
+  pub are : jobs ≡ jobs_to question files
   pub all : total ≡ job_count jobs
   pub as_many : length starts ≡ length jobs
   pub before : (f : ℕ) → f < length jobs → get_or starts f 0 ≡ job_count (take f jobs)
 
-length-entries_in : (bytes : List ℕ) → length (entries_in bytes) ≡ length (lines_of bytes)
-unfolding entries_in
-length-entries_in bytes = length-map (lines_of bytes) entry_of
+length-entries_to : (question : Question) (bytes : List ℕ) → length (entries_to question bytes) ≡ length (lines_of bytes)
+unfolding entries_to
+length-entries_to question bytes = length-map (lines_of bytes) (entry_to question)
 
 -- there are as many jobs as the files have lines
-pub job_count-jobs_of : (files : List NamedBytes) → job_count (jobs_of files) ≡ line_count files
-job_count-jobs_of [] = refl
-job_count-jobs_of (file ∷ files) =
+pub job_count-jobs_to : (question : Question) (files : List NamedBytes) → job_count (jobs_to question files) ≡ line_count files
+job_count-jobs_to question [] = refl
+job_count-jobs_to question (file ∷ files) =
     omega (
       arith,
-      job_count-cons (entries_in file.bytes) (jobs_of files),
+      job_count-cons (entries_to question file.bytes) (jobs_to question files),
       sum_by-cons lines_in file files,
-      length-entries_in file.bytes,
-      job_count-jobs_of files,
+      length-entries_to question file.bytes,
+      job_count-jobs_to question files,
     )
 
 -- the lines of one file more are no more than those of all files
-pub counted_low : (files : List NamedBytes) (jobs : List (List Entry)) (starts : List ℕ) (total i : ℕ) (file : NamedBytes)
-    → AreCountedUpto (take i files) jobs starts total → i < length files → file ≡ get_or files i file
-    → total + length (entries_in file.bytes) ≤ line_count files
-counted_low files jobs starts total i file counted low is =
+pub counted_low : (question : Question) (files : List NamedBytes) (jobs : List (List Entry)) (starts : List ℕ) (total i : ℕ) (file : NamedBytes)
+    → AreCountedUpto question (take i files) jobs starts total → i < length files → file ≡ get_or files i file
+    → total + length (entries_to question file.bytes) ≤ line_count files
+counted_low question files jobs starts total i file counted low is =
     let all : line_count (take i files) + lines_in (get_or files i file) ≤ line_count files = sum_by_more_le lines_in files i file low in
     let here : lines_in file ≡ lines_in (get_or files i file) = ap lines_in is in
-    let so_far : job_count jobs ≡ line_count (take i files) = ap job_count counted.are ∙ job_count-jobs_of (take i files) in
-    omega (arith, counted.all, length-entries_in file.bytes, all, here, so_far)
+    let so_far : job_count jobs ≡ line_count (take i files) = ap job_count counted.are ∙ job_count-jobs_to question (take i files) in
+    omega (arith, counted.all, length-entries_to question file.bytes, all, here, so_far)
 
 -- one file more is read
-pub counted_more : (files : List NamedBytes) (jobs : List (List Entry)) (starts : List ℕ) (total i lines : ℕ) (file : NamedBytes)
-    → AreCountedUpto (take i files) jobs starts total → i < length files → file ≡ get_or files i file → lines ≡ length (entries_in file.bytes)
-    → AreCountedUpto (take (i + 1) files) (jobs ++ entries_in file.bytes ∷ []) (starts ++ total ∷ []) (total + lines)
-counted_more files jobs starts total i lines file counted low is many =
-    let row : List Entry = entries_in file.bytes in
+pub counted_more : (question : Question) (files : List NamedBytes) (jobs : List (List Entry)) (starts : List ℕ) (total i lines : ℕ) (file : NamedBytes)
+    → AreCountedUpto question (take i files) jobs starts total → i < length files → file ≡ get_or files i file → lines ≡ length (entries_to question file.bytes)
+    → AreCountedUpto question (take (i + 1) files) (jobs ++ entries_to question file.bytes ∷ []) (starts ++ total ∷ []) (total + lines)
+counted_more question files jobs starts total i lines file counted low is many =
+    let row : List Entry = entries_to question file.bytes in
     let more : take (i + 1) files ≡ take i files ++ file ∷ [] = take_more files i file low ∙ ap (λ x. take i files ++ x ∷ []) (sym is) in
     let as_many : length starts ≡ length jobs = counted.as_many in
     record {
       are =
           ap (λ js. js ++ row ∷ []) counted.are
-          ∙ sym (map-append (λ (f : NamedBytes). entries_in f.bytes) (take i files) (file ∷ []))
-          ∙ ap jobs_of (sym more);
+          ∙ sym (map-append (λ (f : NamedBytes). entries_to question f.bytes) (take i files) (file ∷ []))
+          ∙ ap (jobs_to question) (sym more);
       all = let pushed : job_count (jobs ++ row ∷ []) ≡ job_count jobs + length row = sum_by_push length jobs row in omega (arith, counted.all, pushed, many);
       as_many = omega (arith, as_many, length-append starts (total ∷ []), length-append jobs (row ∷ []));
       before = λ f f_low.
@@ -190,14 +191,14 @@ counted_more files jobs starts total i lines file counted low is many =
     }
 
 -- all files are read
-pub counted_all : (files : List NamedBytes) (jobs : List (List Entry)) (starts : List ℕ) (total i : ℕ)
-    → AreCountedUpto (take i files) jobs starts total → length files ≤ i → length files ≤ most_files → line_count files ≤ most_lines
+pub counted_all : (question : Question) (files : List NamedBytes) (jobs : List (List Entry)) (starts : List ℕ) (total i : ℕ)
+    → AreCountedUpto question (take i files) jobs starts total → length files ≤ i → length files ≤ most_files → line_count files ≤ most_lines
     → AreCounted jobs starts total
-counted_all files jobs starts total i counted all few_files few_lines =
-    let are : jobs ≡ jobs_of files = counted.are ∙ ap jobs_of (take_all i files all) in
+counted_all question files jobs starts total i counted all few_files few_lines =
+    let are : jobs ≡ jobs_to question files = counted.are ∙ ap (jobs_to question) (take_all i files all) in
     record {
-      few_files = omega (arith, few_files, ap length are, length-map files (λ (f : NamedBytes). entries_in f.bytes));
-      few_lines = omega (arith, few_lines, ap job_count are, job_count-jobs_of files);
+      few_files = omega (arith, few_files, ap length are, length-map files (λ (f : NamedBytes). entries_to question f.bytes));
+      few_lines = omega (arith, few_lines, ap job_count are, job_count-jobs_to question files);
       all = counted.all;
       as_many = counted.as_many;
       before = counted.before;

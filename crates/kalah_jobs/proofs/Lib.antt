@@ -23,3 +23,4 @@ pub mod SharedOnce
 pub mod SameOffer
 pub mod JobOrders
 pub mod BatchWay
+mod ValueTexts

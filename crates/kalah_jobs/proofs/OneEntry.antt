@@ -4,7 +4,7 @@ use Rattle.kalah_rules.specs.Position as position
 use Rattle.kalah_jobs.specs.Reading.{reading_of}
 use Rattle.kalah_jobs.specs.declared.line_fault.LineFault.{LineFault}
 use Rattle.kalah_jobs.specs.declared.entry.Entry.{Entry}
-use Rattle.kalah_jobs.specs.declared.entry.Entry.TheVariants.{Position, Bad}
+use Rattle.kalah_jobs.specs.declared.entry.Entry.TheVariants.{Position, ValuesOf, Bad}
 use Rattle.kalah_jobs.specs.Entry.{Says, entry_of_reading, entry_of, EntriesAreOne}
 use Rattle.kalah_jobs.proofs.Readings.{reads_is_reading, fault_is_reading, reading_reads, reading_has_fault}
 
@@ -19,6 +19,7 @@ says line = says_by_case line (reading_of line) refl
 says_once : (line : List ℕ) (entry : Entry) → Says line entry → entry ≡ entry_of line
 unfolding entry_of
 says_once line (Position p) is = ap entry_of_reading (sym (reads_is_reading line p is))
+says_once line (ValuesOf p) is = absurd is
 says_once line (Bad fault) is = ap entry_of_reading (sym (fault_is_reading line fault is))
 
 pub entries_are_one : EntriesAreOne

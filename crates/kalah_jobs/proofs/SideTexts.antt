@@ -13,7 +13,7 @@ pub length-houses_of : (player : Player) (p : Position) → IsWithinLimits p →
 length-houses_of Mover p limits = refl
 length-houses_of Other p limits = limits.same_side
 
-join_with_byte-push : (byte : ℕ) (texts : List (List ℕ)) (last : List ℕ) → 0 < length texts → join_with_byte byte (texts ++ last ∷ []) ≡ join_with_byte byte texts ++ byte ∷ last
+pub join_with_byte-push : (byte : ℕ) (texts : List (List ℕ)) (last : List ℕ) → 0 < length texts → join_with_byte byte (texts ++ last ∷ []) ≡ join_with_byte byte texts ++ byte ∷ last
 join_with_byte-push byte [] last some = absurd (omega arith)
 join_with_byte-push byte (only ∷ []) last some = refl
 join_with_byte-push byte (first ∷ second ∷ texts) last some =

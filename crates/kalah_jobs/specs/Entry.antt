@@ -5,11 +5,13 @@ use Rattle.kalah_jobs.specs.Line.{Reads, HasFault}
 use Rattle.kalah_jobs.specs.Reading.{reading_of}
 use Rattle.kalah_jobs.specs.declared.line_fault.LineFault.{LineFault}
 use Rattle.kalah_jobs.specs.declared.entry.Entry.{Entry}
-use Rattle.kalah_jobs.specs.declared.entry.Entry.TheVariants.{Position, Bad}
+use Rattle.kalah_jobs.specs.declared.entry.Entry.TheVariants.{Position, ValuesOf, Bad}
 
--- the line says this: it is read as the position, or the fault is the first that holds of it
+-- the line says this: it is read as the position, or the fault is the first that holds of it. What is asked of a position no
+-- line says
 abbrev pub Says : List ℕ → Entry → Type 0
 Says line (Position p) = Reads line p
+Says line (ValuesOf p) = ⊥
 Says line (Bad fault) = HasFault line fault
 
 -- the position that was read, or the fault that stood against it

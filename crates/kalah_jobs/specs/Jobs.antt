@@ -3,7 +3,9 @@ use Rattle.std.specs.Prelude.{◌≡◌, ◌<◌, ◌≤◌, ℕ, List, length, 
 use Rattle.kalah_jobs.specs.declared.entry.Entry.{Entry}
 use Rattle.kalah_jobs.specs.NamedBytes.{NamedBytes}
 use Rattle.kalah_jobs.specs.Lines.{lines_of}
-use Rattle.kalah_jobs.specs.Entry.{entry_of}
+use Rattle.kalah_jobs.specs.Question.{entry_to}
+use Rattle.kalah_jobs.specs.declared.question.Question.{Question}
+use Rattle.kalah_jobs.specs.declared.question.Question.TheVariants.{BestMove}
 
 -- files of a batch
 abbrev pub most_files : ℕ
@@ -21,13 +23,17 @@ lines_in file = length (lines_of file.bytes)
 abbrev pub line_count : List NamedBytes → ℕ
 line_count files = sum_by lines_in files
 
--- what the lines of some bytes say, in order
-unfoldable pub entries_in : List ℕ → List Entry
-entries_in bytes = map entry_of (lines_of bytes)
+-- what the lines of some bytes say, in order, with this asked of their positions
+unfoldable pub entries_to : Question → List ℕ → List Entry
+entries_to question bytes = map (entry_to question) (lines_of bytes)
 
--- what the lines of each file say, in order
+-- what the lines of each file say, in order, with this asked of their positions
+abbrev pub jobs_to : Question → List NamedBytes → List (List Entry)
+jobs_to question files = map (λ file. entries_to question file.bytes) files
+
+-- the same, where the best move is asked
 abbrev pub jobs_of : List NamedBytes → List (List Entry)
-jobs_of files = map (λ file. entries_in file.bytes) files
+jobs_of files = jobs_to BestMove files
 
 -- how many jobs there are
 abbrev pub job_count : List (List Entry) → ℕ

@@ -6,6 +6,7 @@ pub mod Form
 pub mod LineLaws
 pub mod Player
 pub mod Entry
+pub mod Question
 pub mod Answer
 pub mod Offer
 pub mod OfferFields

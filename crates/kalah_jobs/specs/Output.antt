@@ -9,25 +9,36 @@ use Rattle.kalah_jobs.specs.Entry.{entry_of}
 use Rattle.kalah_jobs.specs.Answer.{answer_of, is_fault, answer_line}
 use Rattle.kalah_jobs.specs.Offer.{Offer}
 use Rattle.kalah_jobs.specs.JobList.{job_list}
-use Rattle.kalah_jobs.specs.Jobs.{jobs_of}
+use Rattle.kalah_jobs.specs.Question.{entry_to}
+use Rattle.kalah_jobs.specs.Jobs.{jobs_to}
+use Rattle.kalah_jobs.specs.declared.question.Question.{Question}
+use Rattle.kalah_jobs.specs.declared.question.Question.TheVariants.{BestMove, Values}
 
 -- the answer line of a line with this entry, followed by a line feed; the number counts from 0
 abbrev pub answered : List ℕ → ℕ → Entry → List ℕ
 answered name number entry = answer_line name (record { line = number; answer = answer_of entry }) ++ line_feed ∷ []
 
--- the same for a line of a file, given with its number
-abbrev pub line_output : List ℕ → ℕ × List ℕ → List ℕ
-line_output name p = answered name p.0 (entry_of p.1)
+-- the same for a line of a file, given with its number, where this is asked of its position
+abbrev pub line_output : Question → List ℕ → ℕ × List ℕ → List ℕ
+line_output question name p = answered name p.0 (entry_to question p.1)
 
 -- for each line of a file in order, its answer line
-abbrev pub file_output : NamedBytes → List ℕ
-file_output file = flat_map (line_output file.name) (enumerate_from 0 (lines_of file.bytes))
+abbrev pub file_output : Question → NamedBytes → List ℕ
+file_output question file = flat_map (line_output question file.name) (enumerate_from 0 (lines_of file.bytes))
 
 -- for each file in order, for each of its lines in order, its answer line
-unfoldable pub output_of : List NamedBytes → List ℕ
-output_of files = flat_map file_output files
+unfoldable pub output_to : Question → List NamedBytes → List ℕ
+output_to question files = flat_map (file_output question) files
 
--- the line is answered by a fault
+-- where the best move is asked of each position
+abbrev pub output_of : List NamedBytes → List ℕ
+output_of files = output_to BestMove files
+
+-- where the values of its moves are asked
+abbrev pub values_output_of : List NamedBytes → List ℕ
+values_output_of files = output_to Values files
+
+-- the line is answered by a fault, whatever is asked
 abbrev pub is_faulty : List ℕ → Bool
 is_faulty line = is_fault (answer_of (entry_of line))
 
@@ -72,8 +83,8 @@ names_of files = map (λ file. file.name) files
 abbrev pub is_faulty_offer : Offer → Bool
 is_faulty_offer o = is_fault (answer_of o.entry)
 
--- what is told of files and what is told of their jobs is the same
+-- what is told of files and what is told of their jobs is the same, whatever is asked of their positions
 pub record FilesAreTheirJobs : Type 0 where
-  pub output : (files : List NamedBytes) → output_of files ≡ output_of_jobs (names_of files) (jobs_of files)
-  pub lines : (files : List NamedBytes) → (tally_of files).lines ≡ length (job_list (jobs_of files))
-  pub faults : (files : List NamedBytes) → (tally_of files).faults ≡ count_by is_faulty_offer (job_list (jobs_of files))
+  pub output : (question : Question) (files : List NamedBytes) → output_to question files ≡ output_of_jobs (names_of files) (jobs_to question files)
+  pub lines : (question : Question) (files : List NamedBytes) → (tally_of files).lines ≡ length (job_list (jobs_to question files))
+  pub faults : (question : Question) (files : List NamedBytes) → (tally_of files).faults ≡ count_by is_faulty_offer (job_list (jobs_to question files))

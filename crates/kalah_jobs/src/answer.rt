@@ -1,5 +1,6 @@
 //! What is answered to a line.
 use crate::line_fault::LineFault;
+use kalah_solve::MoveValues;
 
 /// What is answered to a line of a file.
 #[derive(Clone, Copy, Debug, PartialEq, Eq)]
@@ -8,6 +9,8 @@ pub enum Answer {
     Best { margin: i32, house: u8 },
     /// The margin of a game that is over.
     Over { margin: i32 },
+    /// Each legal house, rising, with the margin that its move gets in best play.
+    Values(MoveValues),
     /// Why the line is not read.
     Fault(LineFault),
 }

@@ -2,14 +2,15 @@
 ghost use Rattle.std.specs.Prelude.{◌≡◌, ◌+◌, ◌≤◌, ◌∷◌, [], ◌++◌, length, codes, decimal};
 ghost use Rattle.std.specs.Fmt.{signed_decimal};
 ghost use Rattle.kalah_jobs.specs.Lines.{line_feed};
-ghost use Rattle.kalah_jobs.specs.Answer.{answer_words};
+ghost use Rattle.kalah_jobs.specs.Answer.{answer_words, value_words, values_words};
 
 use crate::answer::{Answer, Taken};
 use itoa::write_digits;
+use kalah_solve::{MoveValue, MoveValues};
 use std::marker::Model;
 
 /// More bytes than stand in an answer line behind the name, with its line feed.
-const ROOM: usize = 64;
+const ROOM: usize = 128;
 
 /// What stands in an answer line behind the name, with its line feed. It is put together from its end on: each piece goes
 /// before those that are there. It is seen as its bytes.
@@ -26,7 +27,7 @@ impl Model for Ending {
 
     ghost view = { λ e. drop e.start e.bytes };
 
-    ghost invariant = { λ e. (length e.bytes ≡ 64) × (e.start ≤ 64) };
+    ghost invariant = { λ e. (length e.bytes ≡ 128) × (e.start ≤ 128) };
 }
 
 impl Ending {
@@ -94,12 +95,42 @@ impl Ending {
         }
     }
 
+    // Puts the value of a move, behind its house, before what is there.
+    #[tactic(auto, using(crate::proofs::Endings::house_length))]
+    fn put_value(&mut self, value: MoveValue)
+        requires { length self.old + 15 ≤ ROOM }
+        ensures value { self.new ≡ value_words value ++ self.old }
+        ensures short { length self.new ≤ length self.old + 15 }
+    {
+        self.put_margin(i32::from(value.value));
+        self.put(b":");
+        self.put_number(u64::from(value.house));
+    }
+
+    // Puts the values of the moves, with a space between any two, before what is there.
+    fn put_values(&mut self, values: &MoveValues)
+        requires { length self.old + 96 ≤ ROOM }
+        ensures values { self.new ≡ values_words values.now ++ self.old }
+        ensures short { length self.new ≤ length self.old + 96 }
+    {
+        if values.len() == 0 {
+            return;
+        }
+        let mut i = values.len() - 1;
+        self.put_value(values.get(i));
+        while i > 0 {
+            i -= 1;
+            self.put(b" ");
+            self.put_value(values.get(i));
+        }
+    }
+
     // Puts what stands in an answer line after the number of the line before what is there.
     #[tactic(auto, using(crate::proofs::Endings::house_length, crate::proofs::Endings::word_length))]
     fn put_words(&mut self, answer: &Answer)
-        requires { length self.old + 21 ≤ ROOM }
+        requires { length self.old + 96 ≤ ROOM }
         ensures words { self.new ≡ answer_words answer.now ++ self.old }
-        ensures short { length self.new ≤ length self.old + 21 }
+        ensures short { length self.new ≤ length self.old + 96 }
     {
         match *answer {
             Answer::Best { margin, house } => {
@@ -111,6 +142,7 @@ impl Ending {
                 self.put(b" over");
                 self.put_margin(margin);
             }
+            Answer::Values(values) => self.put_values(&values),
             Answer::Fault(fault) => {
                 self.put(fault.word().as_bytes());
                 self.put(b"fault ");

@@ -1,10 +1,11 @@
 //! What the lines of a file say.
 ghost use Rattle.std.specs.Prelude.{◌≡◌, ◌<◌, ◌≤◌, length, IfOk, slice_get, Some};
 ghost use Rattle.kalah_jobs.specs.Lines.{lines_of};
-ghost use Rattle.kalah_jobs.specs.Jobs.{most_lines, entries_in};
+ghost use Rattle.kalah_jobs.specs.Jobs.{most_lines, entries_to};
 
 use crate::entry::Entry;
 use crate::file_lines::{count_lines, first_line};
+use crate::question::Question;
 use std::alloc::{AllocError, Global};
 use std::marker::Model;
 
@@ -28,16 +29,20 @@ impl Model for FileJobs {
 }
 
 impl FileJobs {
-    // What the lines of some bytes say.
-    pub(crate) fn of_bytes(alloc: Global, bytes: &[u8]) -> Result<FileJobs, AllocError>
+    // What the lines of some bytes say, with this asked of their positions.
+    pub(crate) fn of_bytes(
+        alloc: Global,
+        question: Question,
+        bytes: &[u8],
+    ) -> Result<FileJobs, AllocError>
         requires { length (lines_of bytes.now) ≤ most_lines }
-        ensures { IfOk result (λ jobs. jobs ≡ entries_in bytes.now) }
+        ensures { IfOk result (λ jobs. jobs ≡ entries_to question bytes.now) }
     {
         let mut entries = Vec::with_capacity(alloc, count_lines(bytes))?;
         let mut rest = bytes;
         while !rest.is_empty() {
             let (line, after) = first_line(rest);
-            entries.push(Entry::of_line(line))?;
+            entries.push(Entry::of_line(question, line))?;
             rest = after;
         }
         Ok(FileJobs { entries })

@@ -2,13 +2,14 @@
 ghost use Rattle.std.specs.Prelude.{◌≡◌, ◌<◌, ◌≤◌, ◌↔◌, length, IfOk, IsTrue, slice_get, slice_index, ℕ, Some, Err};
 ghost use Rattle.std.specs.List.Sorted.{IsNonDecreasing};
 ghost use Rattle.kalah_jobs.specs.JobList.{entries_of, offer, job_list};
-ghost use Rattle.kalah_jobs.specs.Jobs.{most_files, most_lines, line_count, jobs_of, job_count};
+ghost use Rattle.kalah_jobs.specs.Jobs.{most_files, most_lines, line_count, jobs_of, jobs_to, job_count};
 
 use crate::entry::Entry;
 use crate::file_jobs::FileJobs;
 use crate::file_lines::count_lines;
 use crate::file_text::FileText;
 use crate::job::Job;
+use crate::question::Question;
 use std::alloc::{AllocError, Global};
 use std::marker::Model;
 use thiserror::Error;
@@ -56,14 +57,24 @@ impl Model for Jobs {
 }
 
 impl Jobs {
-    /// The jobs of these files: each line of each file, with what it says. More than 256 files are refused as
-    /// `TooManyFiles`, then more than 1,000,000 lines as `TooManyLines`, both before any memory is taken. `OutOfMemory`
-    /// comes only where memory was refused.
+    /// The jobs of these files, where the best move is asked of each position: as `asking` gives them.
     pub fn of_files(alloc: Global, files: &[FileText]) -> Result<Jobs, JobsFault>
         ensures too_many_files { (result ≡ Err JobsFault.TooManyFiles) ↔ (most_files < length files.now) }
         ensures too_many_lines { (result ≡ Err JobsFault.TooManyLines)
             ↔ ((length files.now ≤ most_files) × (most_lines < line_count files.now)) }
         ensures value { IfOk result (λ jobs. jobs ≡ jobs_of files.now) }
+    {
+        Jobs::asking(alloc, Question::BestMove, files)
+    }
+
+    /// The jobs of these files: each line of each file, with what it says and what is asked of its position. More than 256
+    /// files are refused as `TooManyFiles`, then more than 1,000,000 lines as `TooManyLines`, both before any memory is
+    /// taken. `OutOfMemory` comes only where memory was refused.
+    pub fn asking(alloc: Global, question: Question, files: &[FileText]) -> Result<Jobs, JobsFault>
+        ensures too_many_files { (result ≡ Err JobsFault.TooManyFiles) ↔ (most_files < length files.now) }
+        ensures too_many_lines { (result ≡ Err JobsFault.TooManyLines)
+            ↔ ((length files.now ≤ most_files) × (most_lines < line_count files.now)) }
+        ensures value { IfOk result (λ jobs. jobs ≡ jobs_to question files.now) }
     {
         if files.len() > MOST_FILES {
             return Err(JobsFault::TooManyFiles);
@@ -71,20 +82,24 @@ impl Jobs {
         if !has_few_lines(files) {
             return Err(JobsFault::TooManyLines);
         }
-        Jobs::of_few_lines(alloc, files).map_err(|_| JobsFault::OutOfMemory)
+        Jobs::of_few_lines(alloc, question, files).map_err(|_| JobsFault::OutOfMemory)
     }
 
     // The jobs of files that are within the limits.
-    fn of_few_lines(alloc: Global, files: &[FileText]) -> Result<Jobs, AllocError>
+    fn of_few_lines(
+        alloc: Global,
+        question: Question,
+        files: &[FileText],
+    ) -> Result<Jobs, AllocError>
         requires few_files { length files.now ≤ most_files }
         requires few_lines { line_count files.now ≤ most_lines }
-        ensures { IfOk result (λ jobs. jobs ≡ jobs_of files.now) }
+        ensures { IfOk result (λ jobs. jobs ≡ jobs_to question files.now) }
     {
         let mut rows = Vec::with_capacity(alloc, files.len())?;
         let mut starts = Vec::with_capacity(alloc, files.len())?;
         let mut total = 0;
         for file in files {
-            let row = FileJobs::of_bytes(alloc, &file.bytes)?;
+            let row = FileJobs::of_bytes(alloc, question, &file.bytes)?;
             starts.push(total)?;
             total += row.lines();
             rows.push(row)?;

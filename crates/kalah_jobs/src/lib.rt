@@ -22,6 +22,7 @@ mod parts;
 mod player;
 mod position_text;
 mod printed;
+mod question;
 mod reading;
 mod refusal;
 mod row;
@@ -51,6 +52,7 @@ pub use line_laws::{
 pub use outcome::Outcome;
 pub use position_text::{line_text, step_text};
 pub use printed::answer_text;
+pub use question::Question;
 pub use reading::read_line;
 pub use refusal::Refusal;
 pub use sink::Sink;

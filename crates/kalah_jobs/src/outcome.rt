@@ -1,6 +1,6 @@
 //! What a worker found for a line of a file.
 ghost use Rattle.std.specs.Prelude.{◌≡◌};
-ghost use Rattle.kalah_jobs.specs.Answer.{answer_of, answer_of_position};
+ghost use Rattle.kalah_jobs.specs.Answer.{answer_of, answer_of_position, answer_of_values};
 
 use crate::answer::Answer;
 use crate::entry::Entry;
@@ -37,8 +37,8 @@ impl Model for Outcome {
 }
 
 impl Outcome {
-    /// The outcome of a line that says `entry`: the solver answers a position, and a line that was not read is answered
-    /// by its fault.
+    /// The outcome of a line that says `entry`: the solver answers what is asked of a position, and a line that was not
+    /// read is answered by its fault.
     pub fn of(file: u32, line: u32, entry: Entry, solver: &mut Solver) -> Outcome
         ensures { result ≡ record { file = file; line = line; entry = entry } }
     {
@@ -87,11 +87,12 @@ fn answered(entry: &Entry, solver: &mut Solver) -> Answer
 {
     match entry {
         Entry::Position(board) => answered_position(board, solver),
+        Entry::ValuesOf(board) => answered_values(board, solver),
         Entry::Bad(fault) => Answer::Fault(*fault),
     }
 }
 
-// The answer to a position.
+// The answer to a position of which the best move is asked.
 fn answered_position(board: &Board, solver: &mut Solver) -> Answer
     ensures { result ≡ answer_of_position board.now }
 {
@@ -99,6 +100,18 @@ fn answered_position(board: &Board, solver: &mut Solver) -> Answer
         Verdict::Best { margin, house } => Answer::Best { margin, house },
         Verdict::Over { margin } => Answer::Over { margin },
     }
+}
+
+// The answer to a position of which the value of each move is asked.
+fn answered_values(board: &Board, solver: &mut Solver) -> Answer
+    ensures { result ≡ answer_of_values board.now }
+{
+    if board.is_over() {
+        return Answer::Over {
+            margin: board.returns(),
+        };
+    }
+    Answer::Values(solver.values(board))
 }
 
 #[cfg(test)]

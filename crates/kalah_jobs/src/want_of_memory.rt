@@ -2,10 +2,11 @@
 //! again and again, with the first request refused, the second, and so on: it has to pass each time, until the request that
 //! is refused is one of its own marks.
 use crate::{
-    Answer, LineFault, Sink, Stream, Taken, answer_text, line_text, read_line, step_text,
-    write_answer,
+    Answer, Entry, LineFault, Outcome, Sink, Stream, Taken, answer_text, line_text, read_line,
+    step_text, write_answer,
 };
 use kalah_rules::Step;
+use kalah_solve::{Solver, Table};
 use std::alloc::{AllocError, Global};
 use std::test::Fail;
 
@@ -66,6 +67,23 @@ fn texts_of_answers(rt: HostRuntime) -> Result<(), Fail> {
         let text = text.or_else(|_| answer_text(alloc, "name of a file", &taken))?;
         assert!(rt; text.as_str() == want);
     }
+    mark(alloc, "after all")
+}
+
+// The values of the moves of the position of a line.
+fn values_of(alloc: Global, line: &[u8]) -> Result<Answer, Fail> {
+    let table = Table::new(alloc, 1).or_else(|_| Table::new(alloc, 1))?;
+    let board = read_line(line).ok().ok_or("not read")?;
+    Ok(Outcome::of(0, 1, Entry::ValuesOf(board), &mut Solver::new(table)).answer())
+}
+
+#[test]
+fn texts_of_values(rt: HostRuntime) -> Result<(), Fail> {
+    let alloc = rt.alloc();
+    let answer = values_of(alloc, b"1,1/0 1,1/0")?;
+    let taken = Taken { line: 1, answer };
+    let text = answer_text(alloc, "a", &taken).or_else(|_| answer_text(alloc, "a", &taken))?;
+    assert_eq!(rt; text.as_str(), "a:2 1:-2 2:2");
     mark(alloc, "after all")
 }
 

@@ -7,6 +7,7 @@ use Rattle.std.specs.Prelude.{Option, Bool, false}
 use Rattle.std.specs.Io.KnownBytes.{Keeps}
 use Rattle.std.proofs.KnownBytes.{Appends-kept}
 use Rattle.kalah_jobs.specs.declared.answer.Taken.{Taken}
+use Rattle.kalah_jobs.specs.declared.entry.Entry.{Entry}
 use Rattle.kalah_jobs.specs.Answer.{answer_line}
 use Rattle.kalah_jobs.specs.Offer.{Offer}
 use Rattle.kalah_jobs.specs.Lines.{line_feed}
@@ -32,10 +33,11 @@ faults_more past o faults more before is =
     omega (arith, all, one, before, is)
 
 -- a report stands where what was written is handed on
-pub still_reports : (files : List NamedBytes) (past : List Offer) (begun out later : Option (List ℕ)) (failed fails : Bool) (r : Report) →
-    (fails ≡ false → (failed ≡ false) × Keeps out later) → IsReporting files past begun out failed r → IsReporting files past begun later fails r
-still_reports files past begun out later failed fails r keeps is = record {
+pub still_reports : (files : List NamedBytes) (jobs : List (List Entry)) (past : List Offer) (begun out later : Option (List ℕ)) (failed fails : Bool) (r : Report) →
+    (fails ≡ false → (failed ≡ false) × Keeps out later) → IsReporting files jobs past begun out failed r → IsReporting files jobs past begun later fails r
+still_reports files jobs past begun out later failed fails r keeps is = record {
   of_files = is.of_files;
+  of_jobs = is.of_jobs;
   way = record {
     holds = is.way.holds;
     within = is.way.within;

@@ -1,5 +1,6 @@
 -- What is known of a report.
 use Rattle.std.specs.Prelude.{◌≡◌, ℕ, ◌<◌, List, Option, Bool, length, count_by, map}
+use Rattle.kalah_jobs.specs.declared.entry.Entry.{Entry}
 use Rattle.kalah_jobs.specs.Offer.{Offer}
 use Rattle.kalah_jobs.specs.NamedBytes.{NamedBytes}
 use Rattle.kalah_jobs.specs.Output.{is_faulty_offer}
@@ -8,9 +9,10 @@ use Rattle.kalah_jobs.specs.UnderWay.{IsUnderWay}
 use Rattle.kalah_run.specs.Texts.{text_of}
 use Rattle.kalah_run.specs.declared.report.Report.{Report}
 
--- With these outcomes taken in, the report of these files has written what is ready of them, in order, behind what the sink had when it began, and counts their faults.
-pub record IsReporting (files : List NamedBytes) (past : List Offer) (begun out : Option (List ℕ)) (failed : Bool) (r : Report) : Type 0 where
+-- With these outcomes taken in, the report of these files and their jobs has written what is ready of them, in order, behind what the sink had when it began, and counts their faults.
+pub record IsReporting (files : List NamedBytes) (jobs : List (List Entry)) (past : List Offer) (begun out : Option (List ℕ)) (failed : Bool) (r : Report) : Type 0 where
   pub of_files : r.files.now ≡ files
+  pub of_jobs : r.jobs.now ≡ jobs
   pub way : IsUnderWay (text_of files) r.jobs.now past r.collector r.current begun out failed
   pub faults : r.faults ≡ count_by is_faulty_offer past
 

@@ -2,8 +2,8 @@
 ghost use Rattle.std.specs.Prelude.{◌≡◌, ◌≢◌, ◌↔◌, ◌<◌, ◌≤◌, ◌⊎◌, true, false, Err, length, count_by, IfOk, IfErr, OnOk, OnErr, IsErr};
 ghost use Rattle.std.specs.Io.KnownBytes.{Appends, Keeps};
 ghost use Rattle.kalah_jobs.specs.JobList.{job_list};
-ghost use Rattle.kalah_jobs.specs.Jobs.{jobs_of, job_count, line_count, most_files, most_lines};
-ghost use Rattle.kalah_jobs.specs.Output.{output_of, tally_of, is_faulty_offer};
+ghost use Rattle.kalah_jobs.specs.Jobs.{job_count, line_count, most_files, most_lines};
+ghost use Rattle.kalah_jobs.specs.Output.{names_of, output_of, output_to, output_of_jobs, values_output_of, tally_of, is_faulty_offer};
 ghost use Rattle.kalah_run.specs.declared.run_fault.RunFault.TheVariants.{TooManyFiles, TooManyLines, OutOfMemory, NoWorker, Write};
 
 #[cfg(test)]
@@ -16,7 +16,7 @@ use crate::shift::Shop;
 use crate::staff::Staff;
 use crate::tally::Tally;
 use crate::workers::run_and_report;
-use kalah_jobs::{FileText, Jobs, Sink};
+use kalah_jobs::{FileText, Jobs, Question, Sink};
 use std::alloc::Global;
 use std::sync::Wait;
 use std::thread::Threads;
@@ -51,9 +51,10 @@ fn answer_jobs<R: Threads + Wait + Sync, G: Gate, W: Sink>(
 ) -> Result<u32, RunFault>
     requires workers { (0 < workers) × (workers ≤ 64) }
     requires table { (0 < table) × (table ≤ 1048576) }
-    requires jobs { jobs.now ≡ jobs_of files.now }
+    requires jobs { length jobs.now ≡ length files.now }
     requires fresh { W.has_failed out.old ≡ false }
-    ensures written { OnOk result (W.has_failed out.new ≡ false → Appends (W.written out.old) (W.written out.new) (output_of files.now)) }
+    ensures written { OnOk result (W.has_failed out.new ≡ false
+        → Appends (W.written out.old) (W.written out.new) (output_of_jobs (names_of files.now) jobs.now)) }
     ensures faults { IfOk result (λ faults. faults ≡ count_by is_faulty_offer (job_list jobs.now)) }
     ensures fault { IfErr result (λ e. (e ≡ RunFault.OutOfMemory) ⊎ (e ≡ RunFault.NoWorker)) }
     ensures untouched { OnErr result (out.new ≡ out.old) }
@@ -85,6 +86,39 @@ fn answer_jobs<R: Threads + Wait + Sync, G: Gate, W: Sink>(
     };
     staff.close(rt);
     Ok(report.faults)
+}
+
+// Answers what is asked of every line of the files, as `solve_batch` and `values_batch` say.
+fn answer_batch<R: Threads + Wait + Sync, G: Gate, W: Sink>(
+    rt: &R,
+    alloc: Global,
+    question: Question,
+    files: &[FileText],
+    workers: u32,
+    table: u32,
+    gate: &G,
+    out: &mut W,
+) -> Result<Tally, RunFault>
+    requires workers { (0 < workers) × (workers ≤ 64) }
+    requires table { (0 < table) × (table ≤ 1048576) }
+    requires fresh { W.has_failed out.old ≡ false }
+    ensures written { OnOk result (Appends (W.written out.old) (W.written out.new) (output_to question files.now)) }
+    ensures tally { IfOk result (λ tally. tally ≡ tally_of files.now) }
+    ensures too_many_files { (result ≡ Err RunFault.TooManyFiles) ↔ (most_files < length files.now) }
+    ensures too_many_lines { (result ≡ Err RunFault.TooManyLines) ↔ ((length files.now ≤ most_files) × (most_lines < line_count files.now)) }
+    ensures no_worker { result ≡ Err RunFault.NoWorker → 0 < line_count files.now }
+    ensures write { (result ≡ Err RunFault.Write) ↔ (W.has_failed out.new ≡ true) }
+    ensures untouched { IfErr result (λ e. e ≢ RunFault.Write → out.new ≡ out.old) }
+{
+    let jobs = Jobs::asking(alloc, question, files)?;
+    let lines = jobs.total();
+    let faults = if lines > 0 {
+        answer_jobs(rt, alloc, files, &jobs, workers, table, gate, out)?
+    } else {
+        0
+    };
+    finish(out)?;
+    Ok(Tally { lines, faults })
 }
 
 /// Solves every line of the files with so many `workers`, 1 to 64, each with a table of so many entries, 1 to 1,048,576,
@@ -120,13 +154,55 @@ pub fn solve_batch<R: Threads + Wait + Sync, G: Gate, W: Sink>(
     // Any other fault leaves the output as it was.
     ensures untouched { IfErr result (λ e. e ≢ RunFault.Write → out.new ≡ out.old) }
 {
-    let jobs = Jobs::of_files(alloc, files)?;
-    let lines = jobs.total();
-    let faults = if lines > 0 {
-        answer_jobs(rt, alloc, files, &jobs, workers, table, gate, out)?
-    } else {
-        0
-    };
-    finish(out)?;
-    Ok(Tally { lines, faults })
+    answer_batch(
+        rt,
+        alloc,
+        Question::BestMove,
+        files,
+        workers,
+        table,
+        gate,
+        out,
+    )
+}
+
+/// Tells the value of every move of each line of the files, with so many `workers`, 1 to 64, each with a table of so many
+/// entries, 1 to 1,048,576, and writes an answer line for each, files in order and lines in order, as soon as it is ready
+/// and all before it are written; then it flushes the output. Where it is Ok, just these lines were written, and the tally
+/// counts them. Its errors are those of `solve_batch`, and come where those do.
+pub fn values_batch<R: Threads + Wait + Sync, G: Gate, W: Sink>(
+    rt: &R,
+    alloc: Global,
+    files: &[FileText],
+    workers: u32,
+    table: u32,
+    gate: &G,
+    out: &mut W,
+) -> Result<Tally, RunFault>
+    requires workers { (0 < workers) × (workers ≤ 64) }
+    requires table { (0 < table) × (table ≤ 1048576) }
+    requires fresh { W.has_failed out.old ≡ false }
+
+    // Ok: the values of all lines were written, and nothing else.
+    ensures written { OnOk result (Appends (W.written out.old) (W.written out.new) (values_output_of files.now)) }
+    ensures tally { IfOk result (λ tally. tally ≡ tally_of files.now) }
+
+    ensures too_many_files { (result ≡ Err RunFault.TooManyFiles) ↔ (most_files < length files.now) }
+    ensures too_many_lines { (result ≡ Err RunFault.TooManyLines) ↔ ((length files.now ≤ most_files) × (most_lines < line_count files.now)) }
+    ensures no_worker { result ≡ Err RunFault.NoWorker → 0 < line_count files.now }
+    ensures write { (result ≡ Err RunFault.Write) ↔ (W.has_failed out.new ≡ true) }
+
+    // Any other fault leaves the output as it was.
+    ensures untouched { IfErr result (λ e. e ≢ RunFault.Write → out.new ≡ out.old) }
+{
+    answer_batch(
+        rt,
+        alloc,
+        Question::Values,
+        files,
+        workers,
+        table,
+        gate,
+        out,
+    )
 }

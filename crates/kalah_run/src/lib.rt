@@ -22,7 +22,7 @@ mod waiting;
 mod want_of_memory;
 mod workers;
 
-pub use batch::solve_batch;
+pub use batch::{solve_batch, values_batch};
 pub use desk::{ClosedDesk, Desk};
 pub use gate::{Gate, OpenGate};
 pub use pass::Pass;

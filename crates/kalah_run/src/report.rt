@@ -1,11 +1,11 @@
 //! The answers of a batch, written in the order of its lines.
 ghost use Rattle.std.specs.Prelude.{◌≡◌, ◌+◌, ◌^◌, ◌<◌, ◌++◌, ◌∷◌, [], ℕ, List, Option, Bool, length, map, false, IfOk, if◌then◌else◌};
 ghost use Rattle.std.specs.Io.KnownBytes.{Appends};
+ghost use Rattle.kalah_jobs.specs.declared.entry.Entry.{Entry};
 ghost use Rattle.kalah_jobs.specs.Offer.{Offer};
 ghost use Rattle.kalah_jobs.specs.NamedBytes.{NamedBytes};
 ghost use Rattle.kalah_jobs.specs.Lines.{line_feed};
 ghost use Rattle.kalah_jobs.specs.Answer.{answer_line, is_fault};
-ghost use Rattle.kalah_jobs.specs.Jobs.{jobs_of};
 ghost use Rattle.kalah_jobs.specs.CollectorState.{state_of, line_count, HasEnded, HasNoNext, HasLinesOf};
 ghost use Rattle.kalah_jobs.specs.UnderWay.{IsUnderWay};
 ghost use Rattle.kalah_run.specs.Texts.{text_of};
@@ -22,7 +22,7 @@ pub(crate) struct Report<'a> {
     pub(crate) collector: Collector,
     pub(crate) current: u32,
     pub(crate) faults: u32,
-    ghost jobs_are: { jobs.now ≡ jobs_of files.now },
+    ghost as_many: { length jobs.now ≡ length files.now },
     ghost counts: { HasLinesOf jobs.now collector },
 }
 
@@ -62,7 +62,7 @@ fn write_ready<W: Sink>(
     current: u32,
     out: &mut W,
 ) -> u32
-    requires { jobs.now ≡ jobs_of files.now }
+    requires { length jobs.now ≡ length files.now }
     ensures way { (past : List Offer) → (begun : Option (List ℕ)) → IsUnderWay (text_of files.now) jobs.now past collector.old current begun (W.written out.old) (W.has_failed out.old) → IsUnderWay (text_of files.now) jobs.now past collector.new result begun (W.written out.new) (W.has_failed out.new) }
     ensures waits { length jobs.now ≡ length collector.new → result < length collector.new → HasEnded (state_of collector.new result) → ⊥ }
     ensures counts { map line_count collector.new ≡ map line_count collector.old }
@@ -97,8 +97,8 @@ impl<'a> Report<'a> {
         files: &'a [FileText],
         jobs: &'a Jobs,
     ) -> Result<Report<'a>, AllocError>
-        requires { jobs.now ≡ jobs_of files.now }
-        ensures { IfOk result (λ r. (begun : Option (List ℕ)) → (failed : Bool) → IsReporting files.now [] begun begun failed r) }
+        requires { length jobs.now ≡ length files.now }
+        ensures { IfOk result (λ r. (begun : Option (List ℕ)) → (failed : Bool) → IsReporting files.now jobs.now [] begun begun failed r) }
     {
         let collector = Collector::new(alloc, jobs)?;
         Ok(Report {
@@ -112,7 +112,7 @@ impl<'a> Report<'a> {
 
     /// Writes each line that is ready and before which all is written.
     pub(crate) fn write<W: Sink>(&mut self, out: &mut W)
-        ensures way { (files : List NamedBytes) → (past : List Offer) → (begun : Option (List ℕ)) → IsReporting files past begun (W.written out.old) (W.has_failed out.old) self.old → IsReporting files past begun (W.written out.new) (W.has_failed out.new) self.new × Waits self.new }
+        ensures way { (files : List NamedBytes) → (jobs : List (List Entry)) → (past : List Offer) → (begun : Option (List ℕ)) → IsReporting files jobs past begun (W.written out.old) (W.has_failed out.old) self.old → IsReporting files jobs past begun (W.written out.new) (W.has_failed out.new) self.new × Waits self.new }
         ensures faults { self.new.faults ≡ self.old.faults }
     {
         self.current = write_ready(
@@ -127,7 +127,7 @@ impl<'a> Report<'a> {
     /// Takes an outcome in, and writes each line that is ready by it and before which all is written.
     pub(crate) fn take_in<W: Sink>(&mut self, outcome: Outcome, out: &mut W)
         requires { self.old.faults + 1 < 2 ^ 32 }
-        ensures way { (files : List NamedBytes) → (past : List Offer) → (begun : Option (List ℕ)) → IsReporting files past begun (W.written out.old) (W.has_failed out.old) self.old → IsReporting files (past ++ outcome ∷ []) begun (W.written out.new) (W.has_failed out.new) self.new × Waits self.new }
+        ensures way { (files : List NamedBytes) → (jobs : List (List Entry)) → (past : List Offer) → (begun : Option (List ℕ)) → IsReporting files jobs past begun (W.written out.old) (W.has_failed out.old) self.old → IsReporting files jobs (past ++ outcome ∷ []) begun (W.written out.new) (W.has_failed out.new) self.new × Waits self.new }
         ensures faults { self.new.faults < self.old.faults + 2 }
     {
         self.faults += faults_in(outcome.answer());

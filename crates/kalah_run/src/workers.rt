@@ -4,6 +4,7 @@ ghost use Rattle.std.specs.Thread.{IsSync};
 ghost use Rattle.std.specs.Io.KnownBytes.{Keeps};
 ghost use Rattle.kalah_jobs.specs.Jobs.{job_count};
 ghost use Rattle.kalah_jobs.specs.NamedBytes.{NamedBytes};
+ghost use Rattle.kalah_jobs.specs.declared.entry.Entry.{Entry};
 ghost use Rattle.kalah_run.specs.Shifts.{AreAtWork, HaveRun};
 ghost use Rattle.kalah_run.specs.Reporting.{IsReporting, Waits, outcomes_in};
 
@@ -111,7 +112,7 @@ fn collect<R: Wait, W: Sink>(
     requires none { report.old.faults ≡ 0 }
     ensures same { (pass.new.queue ≡ pass.old.queue) × (pass.new.workers ≡ pass.old.workers) }
     ensures all { length pass.new.got ≡ total }
-    ensures way { (files : List NamedBytes) → (begun : Option (List ℕ)) → IsReporting files [] begun (W.written out.old) (W.has_failed out.old) report.old → IsReporting files (outcomes_in pass.new.got) begun (W.written out.new) (W.has_failed out.new) report.new × Waits report.new }
+    ensures way { (files : List NamedBytes) → (jobs : List (List Entry)) → (begun : Option (List ℕ)) → IsReporting files jobs [] begun (W.written out.old) (W.has_failed out.old) report.old → IsReporting files jobs (outcomes_in pass.new.got) begun (W.written out.new) (W.has_failed out.new) report.new × Waits report.new }
 {
     report.write(out);
     for _ in 0..total {
@@ -136,7 +137,7 @@ pub(crate) fn run_and_report<'a, R: Threads + Wait + Sync, G: Gate, W: Sink>(
     requires counts { (total ≤ 1000000) × (report.faults ≡ 0) }
     ensures shifts { IfOk result (λ r. HaveRun shop.now.desk.now shop.now.queue.now.id shop.now.jobs.now shifts.entry.items r.0.items) }
     ensures pass { IfOk result (λ r. (r.1.queue ≡ pass.queue) × (r.1.workers ≡ pass.workers) × (length r.1.got ≡ total)) }
-    ensures way { IfOk result (λ r. (files : List NamedBytes) → (begun : Option (List ℕ)) → IsReporting files [] begun (W.written out.old) (W.has_failed out.old) report.entry → IsReporting files (outcomes_in r.1.got) begun (W.written out.new) (W.has_failed out.new) r.2 × Waits r.2) }
+    ensures way { IfOk result (λ r. (files : List NamedBytes) → (jobs : List (List Entry)) → (begun : Option (List ℕ)) → IsReporting files jobs [] begun (W.written out.old) (W.has_failed out.old) report.entry → IsReporting files jobs (outcomes_in r.1.got) begun (W.written out.new) (W.has_failed out.new) r.2 × Waits r.2) }
     ensures fault { IfErr result (λ e. e ≡ RunFault.NoWorker) }
     ensures untouched { OnErr result (out.new ≡ out.old) }
 {
@@ -151,7 +152,7 @@ pub(crate) fn run_and_report<'a, R: Threads + Wait + Sync, G: Gate, W: Sink>(
             ensures name { result.1.ghost_name ≡ out.entry.ghost_name }
             ensures shifts { IfOk result.0 (λ r. HaveRun shop.entry.now.desk.now shop.entry.now.queue.now.id shop.entry.now.jobs.now shifts.entry.items r.0.items) }
             ensures pass { IfOk result.0 (λ r. (r.1.queue ≡ pass.queue) × (r.1.workers ≡ pass.workers) × (length r.1.got ≡ total)) }
-            ensures way { IfOk result.0 (λ r. (files : List NamedBytes) → (begun : Option (List ℕ)) → IsReporting files [] begun (W.written out.entry.now) (W.has_failed out.entry.now) report.entry → IsReporting files (outcomes_in r.1.got) begun (W.written result.1.now) (W.has_failed result.1.now) r.2 × Waits r.2) }
+            ensures way { IfOk result.0 (λ r. (files : List NamedBytes) → (jobs : List (List Entry)) → (begun : Option (List ℕ)) → IsReporting files jobs [] begun (W.written out.entry.now) (W.has_failed out.entry.now) report.entry → IsReporting files jobs (outcomes_in r.1.got) begun (W.written result.1.now) (W.has_failed result.1.now) r.2 × Waits r.2) }
             ensures fault { IfErr result.0 (λ e. e ≡ RunFault.NoWorker) }
             ensures untouched { OnErr result.0 (result.1.now ≡ out.entry.now) }
         {

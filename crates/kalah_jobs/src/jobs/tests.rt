@@ -211,37 +211,38 @@ fn jobs_run_over_files_and_lines_in_order(rt: HostRuntime) -> Result<(), Fail> {
     Ok(())
 }
 
+const EMPTY: Answer = Answer::Fault(LineFault::Empty);
+
+const SHAPE: Answer = Answer::Fault(LineFault::Shape);
+
 #[test]
 fn only_the_last_line_may_lack_its_line_feed(rt: HostRuntime) -> Result<(), Fail> {
     let alloc = rt.alloc();
-    let (one, two, empty) = (best(0, 1), best(-2, 1), Answer::Fault(LineFault::Empty));
+    let two = b"1/0 1/0\n2/0 2/0";
     assert_answers(&rt, alloc, b"", &[])?;
-    assert_answers(&rt, alloc, b"\n", &[empty])?;
-    assert_answers(&rt, alloc, b"1/0 1/0\n2/0 2/0", &[one, two])?;
-    assert_answers(&rt, alloc, b"1/0 1/0\n2/0 2/0\n", &[one, two])?;
-    assert_answers(&rt, alloc, b"1/0 1/0\n2/0 2/0\n\n", &[one, two, empty])
+    assert_answers(&rt, alloc, b"\n", &[EMPTY])?;
+    assert_answers(&rt, alloc, two, &[best(0, 1), best(-2, 1)])?;
+    let two = b"1/0 1/0\n2/0 2/0\n";
+    assert_answers(&rt, alloc, two, &[best(0, 1), best(-2, 1)])?;
+    let three = b"1/0 1/0\n2/0 2/0\n\n";
+    assert_answers(&rt, alloc, three, &[best(0, 1), best(-2, 1), EMPTY])
 }
 
 #[test]
 fn a_carriage_return_before_a_line_feed_is_dropped(rt: HostRuntime) -> Result<(), Fail> {
     let alloc = rt.alloc();
-    let (empty, shape) = (
-        Answer::Fault(LineFault::Empty),
-        Answer::Fault(LineFault::Shape),
-    );
-    assert_answers(&rt, alloc, b"\n\r", &[empty, empty])?;
+    assert_answers(&rt, alloc, b"\n\r", &[EMPTY, EMPTY])?;
     assert_answers(
         &rt,
         alloc,
         b"3/0 3/0\r\n\r\n01/0 1/0\r\n",
-        &[best(6, 1), empty, shape],
+        &[best(6, 1), EMPTY, SHAPE],
     )
 }
 
 #[test]
 fn bytes_that_are_no_text_are_a_line(rt: HostRuntime) -> Result<(), Fail> {
-    let shape = Answer::Fault(LineFault::Shape);
-    assert_answers(&rt, rt.alloc(), b"\xff\xfe\n1/0 1/0", &[shape, best(0, 1)])
+    assert_answers(&rt, rt.alloc(), b"\xff\xfe\n1/0 1/0", &[SHAPE, best(0, 1)])
 }
 
 #[test]

@@ -1,4 +1,4 @@
-use crate::{Entry, LineFault, read_line};
+use crate::{Entry, LineFault, Question, read_line};
 use kalah_rules::{Board, Rule};
 use std::process::Abort;
 use std::test::Fail;
@@ -6,7 +6,7 @@ use std::test::Fail;
 // The line is not read, for this fault.
 fn assert_fault(rt: &impl Abort, line: &[u8], fault: LineFault) {
     assert!(rt; read_line(line).err() == Some(fault));
-    assert!(rt; Entry::of_line(line) == Entry::Bad(fault));
+    assert!(rt; Entry::of_line(Question::BestMove, line) == Entry::Bad(fault));
 }
 
 // The line is read as a board of one house a side: its seeds, and what its store holds.
@@ -16,7 +16,7 @@ fn assert_reads(rt: &impl Abort, line: &[u8], own: (u8, u8), other: (u8, u8), ru
     let board = Board::new(1, own_row, own.1, other_row, other.1, rule);
     let board = board.expect(rt, "within the limits");
     assert!(rt; read_line(line) == Ok(board));
-    assert!(rt; Entry::of_line(line) == Entry::Position(board));
+    assert!(rt; Entry::of_line(Question::BestMove, line) == Entry::Position(board));
 }
 
 #[test]

@@ -1,13 +1,14 @@
-ghost use Rattle.std.specs.Prelude.{◌≡◌, ◌<◌, ◌≤◌, Some};
+ghost use Rattle.std.specs.Prelude.{◌≡◌, ◌<◌, ◌≤◌, Some, false};
 
 mod gates;
 mod hostile;
 mod told;
+mod values;
 mod want_of_memory;
 mod writers;
 
-use crate::{Gate, OpenGate, RunFault, solve_batch};
-use kalah_jobs::{FileText, Sink, Stream};
+use crate::{Gate, OpenGate, RunFault, Tally, solve_batch, values_batch};
+use kalah_jobs::{FileText, Question, Sink, Stream};
 use std::alloc::{AllocError, Global};
 use std::sync::Wait;
 use std::test::Fail;
@@ -88,6 +89,23 @@ fn answers<R: Threads + Wait + Sync, G: Gate>(
     tally.lines as usize == text.lines().count()
         && tally.faults == faults
         && out.into_inner().as_slice() == text.as_bytes()
+}
+
+// A batch of two workers that asks this.
+fn batch_of<R: Threads + Wait + Sync, G: Gate, W: Sink>(
+    rt: &R,
+    alloc: Global,
+    question: Question,
+    files: &[FileText],
+    gate: &G,
+    out: &mut W,
+) -> Result<Tally, RunFault>
+    requires { W.has_failed out.old ≡ false }
+{
+    match question {
+        Question::BestMove => solve_batch(rt, alloc, files, 2, 16, gate, out),
+        Question::Values => values_batch(rt, alloc, files, 2, 16, gate, out),
+    }
 }
 
 // Entries of a table, from one to the most there may be.

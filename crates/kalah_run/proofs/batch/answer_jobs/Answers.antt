@@ -32,9 +32,9 @@ returns-clause-written g c =
     let run = c.in_ok-shifts in
     let begun = g.W.Sink.written c.args.out.now in
     let failed = g.W.Sink.has_failed c.run_and_report.new.out in
-    let reported = run.ensures.way files begun (c.in_ok-report.ensures begun (g.W.Sink.has_failed c.args.out.now)) in
+    let reported = run.ensures.way files c.args.jobs.now begun (c.in_ok-report.ensures begun (g.W.Sink.has_failed c.args.out.now)) in
     all_written files c.args.jobs.now (outcomes_in run.pass.got) begun (g.W.Sink.written c.run_and_report.new.out) failed run.report
-    c.requires.jobs (each_got g c) reported.0 reported.1
+    (each_got g c) reported.0 reported.1
 
 pub returns-clause-faults : goal.returns-clause-faults
 returns-clause-faults g c =
@@ -42,6 +42,6 @@ returns-clause-faults g c =
     let run = c.in_ok-shifts in
     let begun = g.W.Sink.written c.args.out.now in
     let failed = g.W.Sink.has_failed c.run_and_report.new.out in
-    let reported = run.ensures.way files begun (c.in_ok-report.ensures begun (g.W.Sink.has_failed c.args.out.now)) in
+    let reported = run.ensures.way files c.args.jobs.now begun (c.in_ok-report.ensures begun (g.W.Sink.has_failed c.args.out.now)) in
     all_counted files c.args.jobs.now (outcomes_in run.pass.got) begun (g.W.Sink.written c.run_and_report.new.out) failed run.report
-    c.requires.jobs (each_got g c) reported.0 reported.1
+    (each_got g c) reported.0 reported.1

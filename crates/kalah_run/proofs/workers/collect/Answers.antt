@@ -12,9 +12,9 @@ loop-init g c = record {
   workers = refl;
   all = ap (λ (l : List (ℕ × Offer)). length l) c.requires.first;
   few = omega (arith, c.requires.none, c.write.ensures.faults);
-  way = λ files begun reporting.
-      subst (λ (l : List (ℕ × Offer)). IsReporting files (outcomes_in l) begun (g.W.Sink.written c.write.new.out) (g.W.Sink.has_failed c.write.new.out) c.write.new.self × Waits c.write.new.self)
-      (sym c.requires.first) (c.write.ensures.way files [] begun reporting);
+  way = λ files jobs begun reporting.
+      subst (λ (l : List (ℕ × Offer)). IsReporting files jobs (outcomes_in l) begun (g.W.Sink.written c.write.new.out) (g.W.Sink.has_failed c.write.new.out) c.write.new.self × Waits c.write.new.self)
+      (sym c.requires.first) (c.write.ensures.way files jobs [] begun reporting);
 }
 
 pub loop-preserved : goal.loop-preserved
@@ -26,8 +26,8 @@ loop-preserved g c =
       workers = ap (λ (p : GetState). p.workers) c.next_outcome-outcome.ensures.got.1 ∙ c.loop.invariant.workers;
       all = ap (λ (l : List (ℕ × Offer)). length l) more ∙ length-append c.loop.pass.got ((worker, c.next_outcome-outcome.result) ∷ []) ∙ omega (arith, c.loop.invariant.all);
       few = omega (arith, c.loop.invariant.few, c.take_in.ensures.faults);
-      way = λ files begun reporting.
-          subst (λ (l : List Offer). IsReporting files l begun (g.W.Sink.written c.take_in.new.out) (g.W.Sink.has_failed c.take_in.new.out) c.take_in.new.self × Waits c.take_in.new.self)
+      way = λ files jobs begun reporting.
+          subst (λ (l : List Offer). IsReporting files jobs l begun (g.W.Sink.written c.take_in.new.out) (g.W.Sink.has_failed c.take_in.new.out) c.take_in.new.self × Waits c.take_in.new.self)
           (sym (ap (λ (l : List (ℕ × Offer)). outcomes_in l) more ∙ map-append (λ (p : ℕ × Offer). p.1) c.loop.pass.got ((worker, c.next_outcome-outcome.result) ∷ [])))
-          (c.take_in.ensures.way files _ begun (still_reports files _ begun _ _ _ _ _ c.next_outcome-outcome.ensures.keeps (c.loop.invariant.way files begun reporting).0));
+          (c.take_in.ensures.way files jobs _ begun (still_reports files jobs _ begun _ _ _ _ _ c.next_outcome-outcome.ensures.keeps (c.loop.invariant.way files jobs begun reporting).0));
     }

@@ -1,10 +1,11 @@
 //! Batches whose writer fails.
-use super::{ANSWERS, four_files, same_answers, same_lines};
+use super::{ANSWERS, batch_of, four_files, same_answers, same_lines};
 use crate::{Gate, OpenGate, RunFault, Tally, solve_batch};
-use kalah_jobs::{FileText, Sink, Stream};
+use kalah_jobs::{FileText, Question, Sink, Stream};
 use std::alloc::Global;
 use std::io;
 use std::io::{ErrorKind, Write};
+use std::process::Abort;
 use std::sync::Wait;
 use std::sync::atomic::{AtomicU32, Ordering};
 use std::test::Fail;
@@ -88,6 +89,7 @@ struct Run {
 fn run_with<R: Threads + Wait + Sync>(
     rt: &R,
     alloc: Global,
+    question: Question,
     files: &[FileText],
     calls: u32,
 ) -> Run {
@@ -95,7 +97,7 @@ fn run_with<R: Threads + Wait + Sync>(
         done: AtomicU32::new(0),
     };
     let mut out = Stream::new(Failing::after(alloc, calls));
-    let tally = solve_batch(rt, alloc, files, 2, 16, &gate, &mut out);
+    let tally = batch_of(rt, alloc, question, files, &gate, &mut out);
     let done = gate.done.load(Ordering::SeqCst);
     Run {
         tally,
@@ -104,13 +106,16 @@ fn run_with<R: Threads + Wait + Sync>(
     }
 }
 
-#[test]
-fn every_failing_call_ends_the_writing_and_nothing_else(rt: HostRuntime) -> Result<(), Fail> {
-    let alloc = rt.alloc();
+// How many calls of the writer may fail until none does, where each that fails ends the writing and nothing else.
+fn failures<R: Abort + Threads + Wait + Sync>(
+    rt: &R,
+    alloc: Global,
+    question: Question,
+) -> Result<u32, Fail> {
     let files = four_files(alloc)?;
     let mut failures = 0u32;
     for calls in 0..100u32 {
-        let run = run_with(&rt, alloc, files.as_slice(), calls);
+        let run = run_with(rt, alloc, question, files.as_slice(), calls);
         let is_quiet = run.done == 7 && run.writer.later_calls == 0;
         let is_whole = run.tally == Ok(SEVEN_LINES);
         assert!(rt;
@@ -122,7 +127,15 @@ fn every_failing_call_ends_the_writing_and_nothing_else(rt: HostRuntime) -> Resu
         }
         failures = failures.saturating_add(1);
     }
-    assert!(rt; failures > 7 && failures < 100);
+    Ok(failures)
+}
+
+#[test]
+fn every_failing_call_ends_the_writing_and_nothing_else(rt: HostRuntime) -> Result<(), Fail> {
+    for question in [Question::BestMove, Question::Values] {
+        let failures = failures(&rt, rt.alloc(), question)?;
+        assert!(rt; failures > 7 && failures < 100);
+    }
     Ok(())
 }
 
@@ -130,7 +143,8 @@ fn every_failing_call_ends_the_writing_and_nothing_else(rt: HostRuntime) -> Resu
 fn all_jobs_are_done_though_the_writer_takes_one_line(rt: HostRuntime) -> Result<(), Fail> {
     let alloc = rt.alloc();
     let files = same_lines(alloc, 200)?;
-    let run = run_with(&rt, alloc, files.as_slice(), CALLS_OF_A_LINE);
+    let question = Question::BestMove;
+    let run = run_with(&rt, alloc, question, files.as_slice(), CALLS_OF_A_LINE);
     let came = (run.tally, run.done, run.writer.later_calls);
     let line = run.writer.bytes.as_slice() == b"n:1 0 house 1\n".as_slice();
     assert_eq!(rt; (came, line), ((Err(RunFault::Write), 200, 0), true));

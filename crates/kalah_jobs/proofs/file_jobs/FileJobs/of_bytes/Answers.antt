@@ -1,15 +1,15 @@
 use Rattle.std.proofs.Common.{◌≡◌, ◌++◌, [], map, ap, sym, ◌∙◌, arith}
 use Rattle.std.proofs.lemmas.List.{append-nil}
 use Rattle.kalah_jobs.specs.Lines.{lines_of}
-use Rattle.kalah_jobs.specs.Entry.{entry_of}
-use Rattle.kalah_jobs.specs.Jobs.{entries_in}
+use Rattle.kalah_jobs.specs.Question.{entry_to}
+use Rattle.kalah_jobs.specs.Jobs.{entries_to}
 use Rattle.kalah_jobs.proofs.SplitLines.{lines_of-empty}
 use Rattle.kalah_jobs.proofs.file_jobs.FileJobs.of_bytes.Goals as goal
 
 pub returns : goal.returns
-unfolding entries_in
+unfolding entries_to
 returns c =
     let none : lines_of c.loop-rest.rest.now ≡ [] = lines_of-empty c.loop-rest.rest.now (grind arith) in
     sym (append-nil c.loop-rest.entries.items)
-    ∙ ap (λ lines. c.loop-rest.entries.items ++ map entry_of lines) (sym none)
+    ∙ ap (λ lines. c.loop-rest.entries.items ++ map (entry_to c.args.question) lines) (sym none)
     ∙ c.loop-rest.invariant

@@ -1,10 +1,10 @@
 use Rattle.std.proofs.Common.{◌≡◌, ◌++◌, length, map}
 use Rattle.kalah_jobs.specs.Lines.{lines_of}
-use Rattle.kalah_jobs.specs.Entry.{entry_of}
+use Rattle.kalah_jobs.specs.Question.{entry_to}
 use Rattle.kalah_jobs.proofs.file_jobs.FileJobs.of_bytes.Given as goal
 
 abbrev pub invariant-loop-rest : goal.invariant-loop-rest
-invariant-loop-rest l = l.entries.items ++ map entry_of (lines_of l.rest) ≡ map entry_of (lines_of l.fn.bytes)
+invariant-loop-rest l = l.entries.items ++ map (entry_to l.question) (lines_of l.rest) ≡ map (entry_to l.question) (lines_of l.fn.bytes)
 
 abbrev pub decreases-loop-rest : goal.decreases-loop-rest
 decreases-loop-rest l = length l.rest

@@ -8,6 +8,7 @@ use Rattle.kalah_run.proofs.report.Report.new.Goals as goal
 pub returns : goal.returns
 returns c = λ begun failed. record {
   of_files = refl;
+  of_jobs = refl;
   way = subst (λ (s : List FileState). IsUnderWay (text_of c.args.files.now) c.args.jobs.now [] s 0 begun begun failed)
       (sym c.in_ok-collector.ensures.empty) (way_start (text_of c.args.files.now) c.args.jobs.now begun failed);
   faults = refl;

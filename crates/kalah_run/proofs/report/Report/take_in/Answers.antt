@@ -8,9 +8,10 @@ use Rattle.kalah_run.proofs.Reports.{faults_more}
 use Rattle.kalah_run.proofs.report.Report.take_in.Goals as goal
 
 pub returns-clause-way : goal.returns-clause-way
-returns-clause-way g c = λ files past begun reporting.
-    c.write.ensures.way files _ begun (record {
+returns-clause-way g c = λ files jobs past begun reporting.
+    c.write.ensures.way files jobs _ begun (record {
       of_files = reporting.of_files;
+      of_jobs = reporting.of_jobs;
       way = way_offered (text_of files) c.args.self.now.jobs.now past c.args.outcome c.args.self.now.collector c.offer.new.self c.offer.result
           c.args.self.now.current begun (g.W.Sink.written c.args.out.now) (g.W.Sink.has_failed c.args.out.now) c.offer.ensures.offers reporting.way;
       faults = faults_more past c.args.outcome c.args.self.now.faults _ reporting.faults

@@ -6,13 +6,14 @@ use Rattle.kalah_run.specs.Texts.{text_of}
 use Rattle.kalah_run.proofs.report.Report.write.Goals as goal
 
 pub returns-clause-way : goal.returns-clause-way
-returns-clause-way g c = λ files past begun reporting.
+returns-clause-way g c = λ files jobs past begun reporting.
     let same = reporting.of_files in
     let way = c.write_ready-self.ensures.way past begun
     (subst (λ (fs : List NamedBytes). IsUnderWay (text_of fs) c.args.self.now.jobs.now past c.args.self.now.collector c.args.self.now.current begun
     (g.W.Sink.written c.args.out.now) (g.W.Sink.has_failed c.args.out.now)) (sym same) reporting.way) in (
       record {
         of_files = same;
+        of_jobs = reporting.of_jobs;
         way = subst (λ (fs : List NamedBytes). IsUnderWay (text_of fs) c.args.self.now.jobs.now past c.write_ready-self.new.collector c.write_ready-self.result begun
             (g.W.Sink.written c.write_ready-self.new.out) (g.W.Sink.has_failed c.write_ready-self.new.out)) same way;
         faults = reporting.faults;

@@ -1,0 +1,71 @@
+//! Batches that ask for the values of the moves.
+ghost use Rattle.std.specs.Prelude.{◌<◌, ◌≤◌};
+
+use super::file_of;
+use crate::{OpenGate, Tally, values_batch};
+use kalah_jobs::{FileText, Sink, Stream};
+use std::alloc::{AllocError, Global};
+use std::sync::Wait;
+use std::test::Fail;
+use std::thread::Threads;
+
+const LINES: &str = "1,1/0 1,1/0\n2/0 2/0\n0,0/3 1,2/4\n01/0 1/0";
+
+const BOTH_RULES: &str = "1,0/0 0,2/0 e\n1,0/0 0,2/0\n";
+
+const VALUES: &str = "\
+b.txt:1 1:-2 2:2
+b.txt:2 1:-2
+b.txt:3 -4 over
+b.txt:4 fault shape
+c.txt:1 1:-1
+c.txt:2 1:1
+b.txt:1 1:-2 2:2
+b.txt:2 1:-2
+b.txt:3 -4 over
+b.txt:4 fault shape
+";
+
+const TEN_LINES: Tally = Tally {
+    lines: 10,
+    faults: 2,
+};
+
+// Three files, one of them named twice.
+fn three_files(alloc: Global) -> Result<Vec<FileText>, AllocError> {
+    let mut files = Vec::new(alloc);
+    files.push(file_of(alloc, "b.txt", LINES.as_bytes())?)?;
+    files.push(file_of(alloc, "c.txt", BOTH_RULES.as_bytes())?)?;
+    files.push(file_of(alloc, "b.txt", LINES.as_bytes())?)?;
+    Ok(files)
+}
+
+// Whether the batch tells the values of all moves, and counts the lines.
+fn is_told<R: Threads + Wait + Sync>(
+    rt: &R,
+    alloc: Global,
+    files: &[FileText],
+    workers: u32,
+    table: u32,
+) -> bool
+    requires workers { (0 < workers) × (workers ≤ 64) }
+    requires table { (0 < table) × (table ≤ 1048576) }
+{
+    let mut out = Stream::new(Vec::<u8>::new(alloc));
+    let tally = values_batch(rt, alloc, files, workers, table, &OpenGate, &mut out);
+    tally == Ok(TEN_LINES) && out.into_inner().as_slice() == VALUES.as_bytes()
+}
+
+#[test]
+fn the_values_of_all_moves_are_told_in_order(rt: HostRuntime) -> Result<(), Fail> {
+    let files = three_files(rt.alloc())?;
+    for workers in [1, 2, 64] {
+        for table in [1, 65_536] {
+            assert!(rt;
+                is_told(&rt, rt.alloc(), files.as_slice(), workers, table),
+                "{workers} {table}"
+            );
+        }
+    }
+    Ok(())
+}
