@@ -16,7 +16,8 @@ use Rattle.clap.specs.Faults.{fault_of, is_simple_and_free}
 use Rattle.clap.specs.declared.parser.matches.Found.{Found}
 use Rattle.clap.proofs.OnLiterals.{clap_on_literals}
 use Rattle.clap.proofs.WalkLemmas.{one_text-rows}
-use Rattle.kalah_cli.specs.Request.{Asked, HasNumber, IsSolve, IsTaken, asked, asked_by, number_of, solve, solve_asked}
+use Rattle.kalah_jobs.specs.declared.question.Question.{Question}
+use Rattle.kalah_cli.specs.Request.{Asked, HasNumber, IsAnswers, IsTaken, answers, answers_asked, asked, asked_by, number_of}
 use Rattle.kalah_cli.specs.Command.{kalah_app}
 use Rattle.kalah_cli.proofs.Laws.{app_is_simple}
 use Rattle.kalah_cli.proofs.Subcommands.{taken_holds}
@@ -62,17 +63,17 @@ taken_is a words o is none rows =
 abbrev Reads : Text → List Row → ℕ → Type 0
 Reads id rows n = (t : List ℕ) → one_of id rows ≡ Some t → n ≡ number_of t
 
--- what the getters give is what the matches of `solve` ask for
-pub solve_is : (rows : List Row) (has : IsSolve rows) (workers table : ℕ) (files : List Text) → Reads (codes "workers") rows workers
-    → Reads (codes "table") rows table → Some files ≡ all_of (codes "file") rows → solve_asked rows ≡ Some (solve workers table files)
-solve_is rows has workers table files is_workers is_table is_files =
+-- what the getters give is what the matches of `solve` and `values` ask for
+pub answers_are : (question : Question) (rows : List Row) (has : IsAnswers rows) (workers table : ℕ) (files : List Text) → Reads (codes "workers") rows workers
+    → Reads (codes "table") rows table → Some files ≡ all_of (codes "file") rows → answers_asked question rows ≡ Some (answers question workers table files)
+answers_are question rows has workers table files is_workers is_table is_files =
     rw (has.0.1, has.1.1, ← is_files, is_workers has.0.0 has.0.1, is_table has.1.0 has.1.1) refl
 
 -- and it is in range
-pub solve_in_range : (rows : List Row) (has : IsSolve rows) (workers table : ℕ) (files : List (Bor Text)) → Reads (codes "workers") rows workers
+pub answers_in_range : (rows : List Row) (has : IsAnswers rows) (workers table : ℕ) (files : List (Bor Text)) → Reads (codes "workers") rows workers
     → Reads (codes "table") rows table → Some (map (λ f. f.now) files) ≡ all_of (codes "file") rows
     → (1 ≤ workers) × (workers ≤ 64) × (1 ≤ table) × (table ≤ 1048576) × (0 < length files)
-solve_in_range rows has workers table files is_workers is_table is_files =
+answers_in_range rows has workers table files is_workers is_table is_files =
     let w = is_workers has.0.0 has.0.1 in
     let t = is_table has.1.0 has.1.1 in
     let same : map (λ f. f.now) files ≡ has.2.0 = cc in

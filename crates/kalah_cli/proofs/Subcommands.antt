@@ -1,4 +1,4 @@
--- What the matches of the two subcommands hold, where the words are taken.
+-- What the matches of the three subcommands hold, where the words are taken.
 use Rattle.std.proofs.Common.{◌≡◌, ◌⊎◌, ◌∙◌, ◌++◌, ◌<◌, ℕ, Bool, cond, true, false, refl, ap, subst, inl, inr, List, [], ◌∷◌, Option, Some, None, arith, length, is_some, ◌||◌, not, codes, length-append}
 use Rattle.std.specs.Prelude.{find, option_map}
 use Rattle.std.specs.List.{fold, list_any}
@@ -19,8 +19,8 @@ use Rattle.clap.specs.declared.builder.value_parser.Reading.TheVariants.{AsWritt
 use Rattle.clap.specs.declared.builder.value_parser.ValueParser.{ValueParser}
 use Rattle.clap.specs.declared.builder.value_parser.ValueParser.TheVariants.{Unsigned}
 use Rattle.clap.specs.declared.parser.matches.ValueSource.{ValueSource}
-use Rattle.kalah_cli.specs.Command.{file_rule, kalah_app, moves_app, solve_app, table_rule, workers_rule}
-use Rattle.kalah_cli.specs.Request.{HasNumber, IsMoves, IsSolve}
+use Rattle.kalah_cli.specs.Command.{answers_app, file_rule, kalah_app, moves_app, table_rule, workers_rule}
+use Rattle.kalah_cli.specs.Request.{HasNumber, IsAnswers, IsMoves}
 use Rattle.kalah_cli.proofs.Kept.{AllOf, Gives, both_all, found_all, kept_level, level_parts}
 
 -- ---- values
@@ -40,7 +40,7 @@ values_pass ignore_case p (v ∷ vs) e =
 abbrev Ranged : Text → ℕ → Row → Type 0
 Ranged id high r = bytes_eq r.id id ≡ true → (r.reading ≡ AsWritten) × AllOf (IsUnsignedIn 1 high) r.values
 
--- what holds of each row of `solve`
+-- what holds of each row of `solve` and `values`
 abbrev Sound : Row → Type 0
 Sound r = (0 < length r.values) × Ranged (codes "workers") 64 r × Ranged (codes "table") 1048576 r
 
@@ -59,17 +59,17 @@ elsewhere id other high r is differs same =
 abbrev moves_shape : Shape
 moves_shape = built_leaf (inherited (marked_built (with_leaf_noted kalah_app.top)) moves_app.top)
 
--- `solve`, as built under the program
-abbrev solve_shape : Shape
-solve_shape = built_leaf (inherited (marked_built (with_leaf_noted kalah_app.top)) solve_app.top)
+-- `solve` or `values`, as built under the program
+abbrev answers_shape : Text → Shape
+answers_shape name = built_leaf (inherited (marked_built (with_leaf_noted kalah_app.top)) (answers_app name).top)
 
 -- a row with more values
 abbrev grown : ValueSource → Row → List Text → Row
 grown s r vs = record r { values = r.values ++ vs; source = Some (stronger r.source s) }
 
--- each argument of `solve` gives rows of that kind
-solve_gives : AllOf (Gives Sound) solve_shape.rules
-solve_gives = (
+-- each argument of `solve` and `values` gives rows of that kind
+answers_give : (name : Text) → AllOf (Gives Sound) (answers_shape name).rules
+answers_give name = (
   record {
     action = inr (inl refl, refl);
     first = λ s v vs e. (omega arith, λ same. (refl, values_pass false (Unsigned 1 64) (v ∷ vs) e), λ bad. cc);
@@ -232,7 +232,7 @@ row_in id rows e =
     let got = any_found (λ r. bytes_eq r.id id) rows e in
     (got.0, got.1)
 
--- the arguments of `solve`, as built
+-- the arguments of `solve` and `values`, as built
 abbrev workers_built : Rule
 workers_built = with_index 1 (filled workers_rule)
 
@@ -257,9 +257,9 @@ found_named id (x ∷ xs) r e = go (bytes_eq x.id id) refl e (λ rest. found_nam
         subst (λ y. bytes_eq y.id id ≡ true) one is
     go false is rest later = later rest
 
--- the last checks of `solve` pass only where a file is given
-file_given : (rows : List Row) → check_fault solve_shape rows false ≡ [] → is_given (codes "file") rows ≡ true
-file_given rows e = go (is_given (codes "file") rows) e
+-- the last checks of `solve` and `values` pass only where a file is given
+file_given : (name : Text) (rows : List Row) → check_fault (answers_shape name) rows false ≡ [] → is_given (codes "file") rows ≡ true
+file_given name rows e = go (is_given (codes "file") rows) e
   where
     go : (b : Bool) → check_kinds false false (not b || (false || false)) ≡ [] → b ≡ true
     go true f = refl
@@ -273,19 +273,20 @@ line_given rows e = go (is_given (codes "line") rows) e
     go true f = refl
     go false f = cc
 
--- matches of `solve` without a fault have what it needs
-pub solve_holds : (words : List Text) → level_fault solve_shape [] nothing_held words false [] ≡ []
-    → IsSolve (rows_after solve_shape.rules [] words)
-solve_holds words e =
-    let level = kept_level Sound solve_shape solve_gives [] words false [] e in
-    let rows = rows_after solve_shape.rules [] words in
-    let start = (settled solve_shape.rules (walk solve_shape.rules [] nothing_held words).held).rows in
+-- matches of `solve` or `values` without a fault have what it needs
+pub answers_hold : (name : Text) (words : List Text) → level_fault (answers_shape name) [] nothing_held words false [] ≡ []
+    → IsAnswers (rows_after (answers_shape name).rules [] words)
+answers_hold name words e =
+    let shape = answers_shape name in
+    let level = kept_level Sound shape (answers_give name) [] words false [] e in
+    let rows = rows_after shape.rules [] words in
+    let start = (settled shape.rules (walk shape.rules [] nothing_held words).held).rows in
     let workers = row_in (codes "workers") rows (rows_stay (codes "workers") (table_built ∷ file_built ∷ help_built ∷ [])
     (with_default start workers_built) (default_made start workers_built (codes "4") [] refl refl)) in
     let table = row_in (codes "table") rows (rows_stay (codes "table") (file_built ∷ help_built ∷ [])
     (with_default (with_default start workers_built) table_built)
     (default_made (with_default start workers_built) table_built (codes "65536") [] refl refl)) in
-    let file = given_row (codes "file") rows (file_given rows level.1) in
+    let file = given_row (codes "file") rows (file_given name rows level.1) in
     let workers_sound = found_row Sound (codes "workers") rows workers.0 level.0 workers.1 in
     let table_sound = found_row Sound (codes "table") rows table.0 level.0 table.1 in
     let file_sound = found_row Sound (codes "file") rows file.0 level.0 file.1 in (
@@ -333,7 +334,7 @@ entered_holds G a (Some p) all some e = go (find (λ s. answers_to p.0 (label_of
 
 -- the matches of a subcommand have what it asks for
 abbrev pub Holds : Text → List Row → Type 0
-Holds name rows = ((name ≡ codes "moves") × IsMoves rows) ⊎ ((name ≡ codes "solve") × IsSolve rows)
+Holds name rows = ((name ≡ codes "moves") × IsMoves rows) ⊎ (((name ≡ codes "solve") ⊎ (name ≡ codes "values")) × IsAnswers rows)
 
 -- the last checks of the program pass only where a subcommand is met
 needs_subcommand : (rows : List Row) (b : Bool) → check_fault (built kalah_app).top rows b ≡ [] → b ≡ true
@@ -349,5 +350,5 @@ taken_holds words e =
     let parts = level_parts (built kalah_app).top (names_of (built kalah_app)) rest (is_some (entered (built kalah_app) stop))
     (entered_fault (built kalah_app) stop) e in
     entered_holds Holds (built kalah_app) stop
-    (λ words f. inl (refl, moves_holds words f), (λ words f. inr (refl, solve_holds words f), tt))
+    (λ words f. inl (refl, moves_holds words f), (λ words f. inr (inl refl, answers_hold (codes "solve") words f), (λ words f. inr (inr refl, answers_hold (codes "values") words f), tt)))
     (needs_subcommand (rows_after (built kalah_app).top.rules (names_of (built kalah_app)) rest) (is_some (entered (built kalah_app) stop)) parts.1) parts.0

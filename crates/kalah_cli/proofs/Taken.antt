@@ -1,4 +1,4 @@
--- What the words of `moves` and `solve` are taken as.
+-- What the words of `moves`, `solve` and `values` are taken as.
 use Rattle.std.proofs.Common.{◌≡◌, ◌≢◌, ◌∙◌, inl, inr, ℕ, List, [], ◌∷◌, codes, map, string_bytes, subst, sym, String, Global}
 use Rattle.clap.specs.Values.{kind_of}
 use Rattle.clap.specs.Walk.{Text}
@@ -7,8 +7,9 @@ use Rattle.clap.specs.Kinds.{HasKind, IsAmong}
 use Rattle.clap.specs.declared.error.Error.{Error}
 use Rattle.clap.specs.declared.error.kind.ErrorKind.TheVariants.{DisplayHelp, OutOfMemory}
 use Rattle.kalah_cli.specs.Command.{kalah_app}
-use Rattle.kalah_cli.specs.Request.{Asked, IsPlainWord, IsTakenAs, asked_for, moves, solve}
+use Rattle.kalah_cli.specs.Request.{Asked, IsPlainWord, IsTakenAs, answers, asked_for, moves}
 use Rattle.kalah_cli.specs.declared.request.Request.{Request}
+use Rattle.kalah_jobs.specs.declared.question.Question.{Question}
 use Rattle.kalah_cli.proofs.Laws.{moves_taken, taken_once}
 
 -- the text of each word
@@ -26,24 +27,25 @@ same_line words name line got is plain taken =
     let same = taken_once words (moves got) (moves line) taken (words_taken words name line is plain) in
     cc
 
--- they are not taken as `solve`
-pub not_solve : (words : List Text) (name line : Text) (w t : ℕ) (fs : List Text) → words ≡ name ∷ codes "moves" ∷ line ∷ [] → IsPlainWord line
-    → IsTakenAs words (solve w t fs) → ⊥
-not_solve words name line w t fs is plain taken =
-    let same = taken_once words (solve w t fs) (moves line) taken (words_taken words name line is plain) in
+-- they are not taken as `solve` or `values`
+pub not_answers : (words : List Text) (name line : Text) (q : Question) (w t : ℕ) (fs : List Text) → words ≡ name ∷ codes "moves" ∷ line ∷ [] → IsPlainWord line
+    → IsTakenAs words (answers q w t fs) → ⊥
+not_answers words name line q w t fs is plain taken =
+    let same = taken_once words (answers q w t fs) (moves line) taken (words_taken words name line is plain) in
     cc
 
--- words that are taken as the moves of a line are not taken as `solve`
-pub not_moves : (words : List Text) (line : Text) (w t : ℕ) (fs : List Text) → IsTakenAs words (moves line) → IsTakenAs words (solve w t fs) → ⊥
-not_moves words line w t fs p q =
-    let same = taken_once words (moves line) (solve w t fs) p q in
+-- words that are taken as the moves of a line are not taken as `solve` or `values`
+pub not_moves : (words : List Text) (line : Text) (q : Question) (w t : ℕ) (fs : List Text) → IsTakenAs words (moves line) → IsTakenAs words (answers q w t fs) → ⊥
+not_moves words line q w t fs one other =
+    let same = taken_once words (moves line) (answers q w t fs) one other in
     cc
 
--- words that are taken as `solve` name the same files each time
-pub same_files : (words : List Text) (w t w2 t2 : ℕ) (fs gs : List Text) → IsTakenAs words (solve w t fs) → IsTakenAs words (solve w2 t2 gs) → fs ≡ gs
-same_files words w t w2 t2 fs gs p q =
-    let same = taken_once words (solve w t fs) (solve w2 t2 gs) p q in
-    cc
+-- words that are taken as `solve` or `values` ask the same and name the same files each time
+pub same_answers : (words : List Text) (q r : Question) (w t w2 t2 : ℕ) (fs gs : List Text) → IsTakenAs words (answers q w t fs) → IsTakenAs words (answers r w2 t2 gs)
+    → (q ≡ r) × (fs ≡ gs)
+same_answers words q r w t w2 t2 fs gs one other =
+    let same = taken_once words (answers q w t fs) (answers r w2 t2 gs) one other in
+    (cc, cc)
 
 -- equal words are taken as equal requests
 pub carried : (xs ys : List (String Global)) (r s : Request) → xs ≡ ys → r ≡ s → IsTakenAs (texts_of xs) (asked_for r)

@@ -1,6 +1,6 @@
 -- The command line of the program, as data that a parse reads.
 use Rattle.std.specs.Prelude.{true, [], ◌∷◌, Some, codes}
-use Rattle.clap.specs.Words.{App, Rule, new_app, new_rule, with_rule, with_subcommand}
+use Rattle.clap.specs.Words.{App, Rule, Text, new_app, new_rule, with_rule, with_subcommand}
 use Rattle.clap.specs.Simple.{on_top}
 use Rattle.clap.specs.declared.builder.action.ArgAction.TheVariants.{Append, Set}
 use Rattle.clap.specs.declared.builder.value_parser.ValueParser.TheVariants.{Unsigned}
@@ -45,15 +45,20 @@ file_rule = record (new_rule (codes "file")) {
 abbrev pub moves_app : App
 moves_app = with_rule (new_app (codes "moves")) line_rule
 
--- `solve [--workers N] [--table N] FILE..`
+-- `NAME [--workers N] [--table N] FILE..`
+abbrev pub answers_app : Text → App
+answers_app name = with_rule (with_rule (with_rule (new_app name) workers_rule) table_rule) file_rule
+
 abbrev pub solve_app : App
-solve_app =
-    with_rule (with_rule (with_rule (new_app (codes "solve")) workers_rule) table_rule) file_rule
+solve_app = answers_app (codes "solve")
+
+abbrev pub values_app : App
+values_app = answers_app (codes "values")
 
 -- the program with no subcommand yet
 abbrev pub program_app : App
 program_app = on_top (λ s. record s { subcommand_required = true; disable_help_subcommand = true }) (new_app (codes "kalah"))
 
--- the program, which is always given one of the two subcommands
+-- the program, which is always given one of the three subcommands
 abbrev pub kalah_app : App
-kalah_app = with_subcommand (with_subcommand program_app moves_app.top) solve_app.top
+kalah_app = with_subcommand (with_subcommand (with_subcommand program_app moves_app.top) solve_app.top) values_app.top

@@ -5,14 +5,24 @@ use Rattle.std.specs.Str.Parse.{digits_value, without_leading_plus}
 use Rattle.clap.specs.Faults.{fault_of}
 use Rattle.clap.specs.Values.{IsUnsignedIn}
 use Rattle.clap.specs.Words.{Row, Text, all_of, first_of, one_of, subcommand_of}
+use Rattle.kalah_jobs.specs.declared.question.Question.{Question}
+use Rattle.kalah_jobs.specs.declared.question.Question.TheVariants.{BestMove, Values}
 use Rattle.kalah_cli.specs.Command.{kalah_app}
 use Rattle.kalah_cli.specs.declared.request.Request.{Request}
-use Rattle.kalah_cli.specs.declared.request.Request.TheVariants.{Moves, Solve}
+use Rattle.kalah_cli.specs.declared.request.Request.TheVariants.{Moves, Batch}
+use Rattle.kalah_cli.specs.declared.request.Batch as batch
 
--- what can be asked: the moves of a line; or to solve files, by so many workers with tables of so many entries
+-- what can be asked: the moves of a line; or something of each position in files, by so many workers with tables of so many
+-- entries
 pub data Asked : Type 0 where
   moves : Text → Asked
-  solve : ℕ → ℕ → List Text → Asked
+  answers : Question → ℕ → ℕ → List Text → Asked
+
+abbrev pub solve : ℕ → ℕ → List Text → Asked
+solve workers table names = answers BestMove workers table names
+
+abbrev pub values : ℕ → ℕ → List Text → Asked
+values workers table names = answers Values workers table names
 
 -- the number that a text of digits writes
 abbrev pub number_of : Text → ℕ
@@ -22,14 +32,16 @@ number_of text = digits_value 10 (without_leading_plus text)
 abbrev pub moves_asked : List Row → Option Asked
 moves_asked rows = option_map moves (first_of (codes "line") rows)
 
--- what the matches of `solve` ask for
-abbrev pub solve_asked : List Row → Option Asked
-solve_asked rows = option_and_then (λ w. option_and_then (λ t. option_map (λ fs. solve (number_of w) (number_of t) fs)
+-- what the matches of `solve` or `values` ask for
+abbrev pub answers_asked : Question → List Row → Option Asked
+answers_asked question rows = option_and_then (λ w. option_and_then (λ t. option_map (λ fs. answers question (number_of w) (number_of t) fs)
     (all_of (codes "file") rows)) (one_of (codes "table") rows)) (one_of (codes "workers") rows)
 
 -- what a subcommand with its matches asks for
 abbrev pub asked_by : Text × List Row → Option Asked
-asked_by p = if bytes_eq p.0 (codes "moves") then moves_asked p.1 else solve_asked p.1
+asked_by p =
+    if bytes_eq p.0 (codes "moves") then moves_asked p.1
+    else (if bytes_eq p.0 (codes "solve") then answers_asked BestMove p.1 else answers_asked Values p.1)
 
 -- what the words ask for, read by the command line
 abbrev pub asked : List Text → Option Asked
@@ -42,13 +54,15 @@ IsTakenAs words a = (fault_of kalah_app words ≡ []) × (asked words ≡ Some a
 -- what a request asks for
 abbrev pub asked_for : Request → Asked
 asked_for (Moves line) = moves line.now
-asked_for (Solve workers table files) = solve workers table (map (λ f. f.now) files.items)
+asked_for (Batch b) = answers b.question b.workers b.table (map (λ f. f.now) b.files.items)
 
 -- workers and entries are in their ranges, and there is a file
+abbrev pub IsInLimits : batch.Batch → Type 0
+IsInLimits b = (1 ≤ b.workers) × (b.workers ≤ 64) × (1 ≤ b.table) × (b.table ≤ 1048576) × (0 < length b.files.items)
+
 abbrev pub IsInRange : Request → Type 0
 IsInRange (Moves line) = ⊤
-IsInRange (Solve workers table files) =
-    (1 ≤ workers) × (workers ≤ 64) × (1 ≤ table) × (table ≤ 1048576) × (0 < length files.items)
+IsInRange (Batch b) = IsInLimits b
 
 -- a word that is no flag: it isn't empty and doesn't begin with `-` (45)
 abbrev pub IsPlainWord : Text → Type 0
@@ -59,9 +73,9 @@ IsPlainWord (x ∷ xs) = x ≢ 45
 abbrev pub HasNumber : Text → ℕ → List Row → Type 0
 HasNumber id high rows = (t : Text) × (one_of id rows ≡ Some t) × IsUnsignedIn 1 high t
 
--- the matches have what `solve` needs
-abbrev pub IsSolve : List Row → Type 0
-IsSolve rows = HasNumber (codes "workers") 64 rows × HasNumber (codes "table") 1048576 rows
+-- the matches have what `solve` and `values` need
+abbrev pub IsAnswers : List Row → Type 0
+IsAnswers rows = HasNumber (codes "workers") 64 rows × HasNumber (codes "table") 1048576 rows
     × ((fs : List Text) × (all_of (codes "file") rows ≡ Some fs) × (0 < length fs))
 
 -- the matches have what `moves` needs
@@ -71,4 +85,4 @@ IsMoves rows = (t : Text) × (first_of (codes "line") rows ≡ Some t)
 -- a subcommand was met, and its matches have what it needs
 abbrev pub IsTaken : Option (Text × List Row) → Type 0
 IsTaken o = (name : Text) × (rows : List Row) × (o ≡ Some (name, rows))
-    × (((name ≡ codes "moves") × IsMoves rows) ⊎ ((name ≡ codes "solve") × IsSolve rows))
+    × (((name ≡ codes "moves") × IsMoves rows) ⊎ (((name ≡ codes "solve") ⊎ (name ≡ codes "values")) × IsAnswers rows))

@@ -2,7 +2,7 @@
 ghost use Rattle.std.specs.Prelude.{◌≡◌, IfOk, false};
 ghost use Rattle.clap.specs.Words.{app_of, new_app, rule_of, with_rule};
 ghost use Rattle.clap.specs.declared.builder.command.Command.TheViews.{out-Command as fields_of};
-ghost use Rattle.kalah_cli.specs.Command.{file_rule, kalah_app, line_rule, moves_app, program_app, solve_app, table_rule, workers_rule};
+ghost use Rattle.kalah_cli.specs.Command.{answers_app, file_rule, kalah_app, line_rule, moves_app, program_app, table_rule, workers_rule};
 
 use clap::builder::ValueParser;
 use clap::{Arg, ArgAction, Command};
@@ -11,6 +11,11 @@ use std::alloc::{AllocError, Global};
 const MOST_WORKERS: u64 = 64;
 
 const MOST_ENTRIES: u64 = 1_048_576;
+
+const ABOUT_SOLVE: &str =
+    "Prints the margin of best play and the best house of each position in files";
+
+const ABOUT_VALUES: &str = "Prints what each move is worth of each position in files";
 
 // What a newcomer has to know, at the end of the help.
 const ABOUT_POSITIONS: &str = "\
@@ -36,6 +41,11 @@ is alone in an own house is captured also where the house across is empty.
     FILE:LINE MARGIN house H        the margin of best play, and the first house that attains it
     FILE:LINE MARGIN over           the game is over, with this margin
     FILE:LINE fault WORD            not a position: long, empty, shape, houses or seeds
+`kalah values FILE..` prints for each of these lines what each of its moves is worth:
+    FILE:LINE H:V H:V ..            each house H that may be moved, and the margin V that its move
+                                    gets in best play
+    FILE:LINE MARGIN over           as `solve`
+    FILE:LINE fault WORD            as `solve`
 A margin is what the player to move ends with less what the other player ends with.
 
 Exit status: 0 if every line was read or help was asked for; 1 if some line was not read; 2 if the
@@ -108,7 +118,7 @@ fn table_arg<'a>(alloc: Global) -> Arg<'a>
         .default_value("65536")
 }
 
-// The files of `solve`.
+// The files of `solve` and `values`.
 fn file_arg<'a>(alloc: Global) -> Arg<'a>
     ensures rule { rule_of result ≡ file_rule }
     ensures local { result.global ≡ false }
@@ -120,13 +130,16 @@ fn file_arg<'a>(alloc: Global) -> Arg<'a>
         .required(true)
 }
 
-// `solve [--workers N] [--table N] FILE..`.
-fn solve_command<'a>(alloc: Global) -> Result<Command<'a>, AllocError>
-    ensures app { IfOk result (λ c. app_of c ≡ solve_app) }
+// `NAME [--workers N] [--table N] FILE..`.
+fn answers_command<'a>(
+    alloc: Global,
+    name: &'a str,
+    about: &'a str,
+) -> Result<Command<'a>, AllocError>
+    ensures app { IfOk result (λ c. app_of c ≡ answers_app name.entry.now) }
     ensures local { IfOk result (λ c. (fields_of c).has_globals ≡ false) }
 {
-    let about = "Prints the margin of best play and the best house of each position in files";
-    let command = with_arg(named(alloc, "solve", about), workers_arg(alloc))?;
+    let command = with_arg(named(alloc, name, about), workers_arg(alloc))?;
     let command = with_arg(command, table_arg(alloc))?;
     with_arg(command, file_arg(alloc))
 }
@@ -143,13 +156,15 @@ fn program<'a>(alloc: Global) -> Command<'a>
         .disable_help_subcommand(true)
 }
 
-/// The command line of the program: `moves LINE`, and `solve [--workers N] [--table N] FILE..` with 1
-/// to 64 workers, 4 by default, and 1 to 1,048,576 entries in the table of each, 65,536 by default.
-/// One of the two is always asked for. It is complete: nothing is added to it before a parse.
+/// The command line of the program: `moves LINE`, and `solve [--workers N] [--table N] FILE..` and
+/// `values [--workers N] [--table N] FILE..` with 1 to 64 workers, 4 by default, and 1 to 1,048,576
+/// entries in the table of each, 65,536 by default. One of the three is always asked for. It is
+/// complete: nothing is added to it before a parse.
 pub fn command<'a>(alloc: Global) -> Result<Command<'a>, AllocError>
     ensures { IfOk result (λ c. app_of c ≡ kalah_app) }
 {
     program(alloc)
         .subcommand(moves_command(alloc)?)?
-        .subcommand(solve_command(alloc)?)
+        .subcommand(answers_command(alloc, "solve", ABOUT_SOLVE)?)?
+        .subcommand(answers_command(alloc, "values", ABOUT_VALUES)?)
 }

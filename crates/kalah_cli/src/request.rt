@@ -7,10 +7,11 @@ ghost use Rattle.clap.specs.Walk.{one_of, rows_of};
 ghost use Rattle.clap.specs.Words.{found_of, kind_of};
 ghost use Rattle.clap.specs.declared.error.kind.ErrorKind.TheVariants.{OutOfMemory};
 ghost use Rattle.kalah_cli.specs.Command.{kalah_app};
-ghost use Rattle.kalah_cli.specs.Request.{Asked, HasNumber, IsInRange, IsMoves, IsPlainWord, IsSolve, IsTaken, IsTakenAs, asked_by, asked_for, moves, moves_asked, number_of, solve_asked};
+ghost use Rattle.kalah_cli.specs.Request.{Asked, HasNumber, IsAnswers, IsInRange, IsMoves, IsPlainWord, IsTaken, IsTakenAs, answers_asked, asked_by, asked_for, moves, moves_asked, number_of};
 
 use crate::command::command;
 use clap::{ArgMatches, Error};
+use kalah_jobs::Question;
 use std::alloc::{AllocError, Global};
 use std::convert::AsStr;
 
@@ -19,15 +20,21 @@ use std::convert::AsStr;
 pub enum Request<'a> {
     /// To print the moves of the position that this line writes.
     Moves(&'a str),
-    /// To solve the positions of the files that are named.
-    Solve {
-        /// How many workers, 1 to 64.
-        workers: u32,
-        /// How many entries the table of each worker has, 1 to 1,048,576.
-        table: u32,
-        /// The names of the files, at least one.
-        files: Vec<&'a str>,
-    },
+    /// To answer each line of files.
+    Batch(Batch<'a>),
+}
+
+/// What is asked of the positions of files, and how they are to be answered.
+#[derive(Debug, Drop)]
+pub struct Batch<'a> {
+    /// What is asked of each position.
+    pub question: Question,
+    /// How many workers, 1 to 64.
+    pub workers: u32,
+    /// How many entries the table of each worker has, 1 to 1,048,576.
+    pub table: u32,
+    /// The names of the files, at least one.
+    pub files: Vec<&'a str>,
 }
 
 // The number of an option, which has one.
@@ -48,21 +55,26 @@ fn moves_request<'a>(found: &ArgMatches<'a>) -> Request<'a>
     Request::Moves(found.get_str("line").unwrap())
 }
 
-// What the matches of `solve` ask for.
-fn solve_request<'a>(alloc: Global, found: &ArgMatches<'a>) -> Result<Request<'a>, AllocError>
-    requires { IsSolve (rows_of (found_of found.now)) }
+// What the matches of `solve` or `values` ask for.
+fn batch_request<'a>(
+    alloc: Global,
+    question: Question,
+    found: &ArgMatches<'a>,
+) -> Result<Request<'a>, AllocError>
+    requires { IsAnswers (rows_of (found_of found.now)) }
     ensures asked { IfOk result
-        (λ r. solve_asked (rows_of (found_of found.now)) ≡ Some (asked_for r)) }
+        (λ r. answers_asked question (rows_of (found_of found.now)) ≡ Some (asked_for r)) }
     ensures range { IfOk result IsInRange }
 {
     let workers = option_number(found, "workers");
     let table = option_number(found, "table");
     let files = found.get_strs("file").unwrap().to_vec(alloc)?;
-    Ok(Request::Solve {
+    Ok(Request::Batch(Batch {
+        question,
         workers,
         table,
         files,
-    })
+    }))
 }
 
 // What the matches of a subcommand, which have what it needs, ask for.
@@ -75,7 +87,11 @@ fn requested<'a>(alloc: Global, matches: &ArgMatches<'a>) -> Result<Request<'a>,
     if let Some(found) = matches.subcommand_matches("moves") {
         return Ok(moves_request(found));
     }
-    solve_request(alloc, matches.subcommand_matches("solve").unwrap())
+    if let Some(found) = matches.subcommand_matches("solve") {
+        return batch_request(alloc, Question::BestMove, found);
+    }
+    let found = matches.subcommand_matches("values").unwrap();
+    batch_request(alloc, Question::Values, found)
 }
 
 /// What the words ask for, of which the first is the program's name. An error is the command line's

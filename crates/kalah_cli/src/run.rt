@@ -9,13 +9,13 @@ ghost use Rattle.kalah_rules.specs.Position.{Position};
 ghost use Rattle.kalah_jobs.specs.Line.{Reads};
 ghost use Rattle.kalah_cli.specs.Command.{kalah_app};
 ghost use Rattle.kalah_cli.specs.Moves.{moves_output};
-ghost use Rattle.kalah_cli.specs.Request.{IsPlainWord, IsTakenAs, solve};
-ghost use Rattle.kalah_cli.specs.Solve.{AnswersFiles};
+ghost use Rattle.kalah_cli.specs.Request.{IsPlainWord, IsTakenAs, solve, values};
+ghost use Rattle.kalah_cli.specs.Solve.{AnswersFiles, TellsValues};
 
 use crate::failure::Failure;
 use crate::moves::run_moves;
 use crate::request::{Request, parse};
-use crate::solve::run_solve;
+use crate::solve::run_batch;
 use crate::status::ExitStatus;
 use clap::Error;
 use clap::error::ErrorKind;
@@ -65,8 +65,9 @@ fn refuse<O: Sink, E: Write>(alloc: Global, error: &Error, out: &mut O, err: &mu
 }
 
 /// Runs the program on its words, of which the first, whatever it is, is the program's name: `moves LINE`
-/// prints the moves of a position, `solve FILE..` answers each line of files. Answers and help go to
-/// `out`, and what fails or is not read is said on `err`; a failing write to `err` changes nothing.
+/// prints the moves of a position, `solve FILE..` answers each line of files, and `values FILE..` tells
+/// what each move of them is worth. Answers and help go to `out`, and what fails or is not read is said
+/// on `err`; a failing write to `err` changes nothing.
 pub fn run_words<R: Files + Threads + Wait + Sync, O: Sink, E: Write>(
     rt: &R,
     alloc: Global,
@@ -96,6 +97,12 @@ pub fn run_words<R: Files + Threads + Wait + Sync, O: Sink, E: Write>(
         → result ≢ ExitStatus.Failed
         → AnswersFiles names (O.written out.old) (O.written out.new) result }
 
+    // Words that are taken as `values`.
+    ensures valued { (workers table : ℕ) (names : List (List ℕ))
+        → IsTakenAs (map string_bytes words.items) (values workers table names)
+        → result ≢ ExitStatus.Failed
+        → TellsValues names (O.written out.old) (O.written out.new) result }
+
     // Words that the command line refuses for another reason than a request for help.
     ensures usage { fault_of kalah_app (map string_bytes words.items) ≢ []
         → (IsAmong DisplayHelp (fault_of kalah_app (map string_bytes words.items)) → ⊥)
@@ -112,13 +119,7 @@ pub fn run_words<R: Files + Threads + Wait + Sync, O: Sink, E: Write>(
 {
     match parse(alloc, words.as_slice()) {
         Ok(Request::Moves(line)) => run_moves(alloc, line, out, err),
-        Ok(
-            Request::Solve {
-                workers,
-                table,
-                files,
-            },
-        ) => run_solve(rt, alloc, files.as_slice(), workers, table, out, err),
+        Ok(Request::Batch(batch)) => run_batch(rt, alloc, &batch, out, err),
         Err(error) => refuse(alloc, &error, out, err),
     }
 }

@@ -1,13 +1,17 @@
-//! `kalah solve FILE..`.
-ghost use Rattle.std.specs.Prelude.{◌≡◌, ◌≢◌, ◌↔◌, ◌≤◌, IfErr, IfOk, IsErrOf, OnOk, false, map, true};
+//! `kalah solve FILE..` and `kalah values FILE..`.
+ghost use Rattle.std.specs.Prelude.{◌≡◌, ◌≢◌, ◌↔◌, ◌≤◌, Err, IfErr, IfOk, IsErrOf, OnOk, false, map, true};
 ghost use Rattle.std.specs.List.{list_any};
-ghost use Rattle.kalah_cli.specs.Solve.{AnswersFiles, CountsFiles, has_line_feed};
+ghost use Rattle.std.specs.Io.KnownBytes.{Appends};
+ghost use Rattle.kalah_jobs.specs.Output.{output_to, tally_of};
+ghost use Rattle.kalah_cli.specs.Request.{IsInLimits};
+ghost use Rattle.kalah_cli.specs.Solve.{AnswersTo, CountsTo, has_line_feed};
 
 use crate::failure::Failure;
 use crate::files::read_files;
+use crate::request::Batch;
 use crate::status::ExitStatus;
-use kalah_jobs::Sink;
-use kalah_run::{OpenGate, Tally, solve_batch};
+use kalah_jobs::{FileText, Question, Sink};
+use kalah_run::{OpenGate, RunFault, Tally, solve_batch, values_batch};
 use std::alloc::Global;
 use std::io::Write;
 use std::rt::Files;
@@ -28,32 +32,53 @@ fn any_has_line_feed(names: &[&str]) -> bool
     names.iter().any(|name| has_line_feed(*name))
 }
 
-// Reads the files that are named and writes the answer to each line of them.
-#[tactic(auto, using(crate::proofs::Names::texts_have_line_feed))]
-fn solve_files<'a, R: Files + Threads + Wait + Sync, O: Sink>(
+// Writes the answer to what is asked of each line of the files.
+fn answer<R: Threads + Wait + Sync, O: Sink>(
     rt: &R,
     alloc: Global,
-    names: &[&'a str],
-    workers: u32,
-    table: u32,
+    batch: &Batch<'_>,
+    files: &[FileText],
+    out: &mut O,
+) -> Result<Tally, RunFault>
+    requires limits { IsInLimits batch.now }
+    requires sink { O.has_failed out.old ≡ false }
+    ensures written { OnOk result
+        (Appends (O.written out.old) (O.written out.new) (output_to batch.now.question files.now)) }
+    ensures tally { IfOk result (λ tally. tally ≡ tally_of files.now) }
+    ensures write { (result ≡ Err RunFault.Write) ↔ (O.has_failed out.new ≡ true) }
+    ensures untouched { IfErr result (λ fault. fault ≢ RunFault.Write → out.new ≡ out.old) }
+{
+    let (workers, table) = (batch.workers, batch.table);
+    match batch.question {
+        Question::BestMove => solve_batch(rt, alloc, files, workers, table, &OpenGate, out),
+        Question::Values => values_batch(rt, alloc, files, workers, table, &OpenGate, out),
+    }
+}
+
+// Reads the files that are named and writes the answer to what is asked of each line of them.
+#[tactic(auto, using(crate::proofs::Names::texts_have_line_feed))]
+fn answer_files<'a, R: Files + Threads + Wait + Sync, O: Sink>(
+    rt: &R,
+    alloc: Global,
+    batch: &Batch<'a>,
     out: &mut O,
 ) -> Result<Tally, Failure<'a>>
-    requires workers { (1 ≤ workers) × (workers ≤ 64) }
-    requires table { (1 ≤ table) × (table ≤ 1048576) }
+    requires limits { IsInLimits batch.now }
     requires sink { O.has_failed out.old ≡ false }
-    ensures solved { IfOk result (λ tally. CountsFiles (map (λ name. name.now) names.now)
+    ensures solved { IfOk result (λ tally. CountsTo batch.now.question (map (λ name. name.now) batch.now.files.items)
         (O.written out.old) (O.written out.new) tally) }
     ensures one_line { OnOk result
-        (list_any has_line_feed (map (λ name. name.now) names.now) ≡ false) }
+        (list_any has_line_feed (map (λ name. name.now) batch.now.files.items) ≡ false) }
     ensures failed { O.has_failed out.new ≡ true ↔ IsErrOf result Failure.Write }
     ensures unchanged { IfErr result
         (λ failure. failure ≢ Failure.Write → out.new ≡ out.old) }
 {
+    let names = batch.files.as_slice();
     if any_has_line_feed(names) {
         return Err(Failure::LineFeed);
     }
     let files = read_files(rt, alloc, names)?;
-    match solve_batch(rt, alloc, files.as_slice(), workers, table, &OpenGate, out) {
+    match answer(rt, alloc, batch, files.as_slice(), out) {
         Ok(tally) => Ok(tally),
         Err(fault) => Err(Failure::from(fault)),
     }
@@ -71,26 +96,24 @@ fn status_of(tally: Tally) -> ExitStatus
     }
 }
 
-/// Answers each line of the files that are named.
-pub(crate) fn run_solve<R: Files + Threads + Wait + Sync, O: Sink, E: Write>(
+/// Answers what is asked of each line of the files that are named.
+pub(crate) fn run_batch<R: Files + Threads + Wait + Sync, O: Sink, E: Write>(
     rt: &R,
     alloc: Global,
-    names: &[&str],
-    workers: u32,
-    table: u32,
+    batch: &Batch<'_>,
     out: &mut O,
     err: &mut E,
 ) -> ExitStatus
-    requires workers { (1 ≤ workers) × (workers ≤ 64) }
-    requires table { (1 ≤ table) × (table ≤ 1048576) }
+    requires limits { IsInLimits batch.now }
     requires sink { O.has_failed out.old ≡ false }
-    ensures solved { result ≢ ExitStatus.Failed → AnswersFiles (map (λ name. name.now) names.now)
+    ensures solved { result ≢ ExitStatus.Failed
+        → AnswersTo batch.now.question (map (λ name. name.now) batch.now.files.items)
         (O.written out.old) (O.written out.new) result }
     ensures failed { O.has_failed out.new ≡ true → result ≡ ExitStatus.Failed }
     ensures unchanged { result ≡ ExitStatus.Failed → O.has_failed out.new ≡ false
         → out.new ≡ out.old }
 {
-    match solve_files(rt, alloc, names, workers, table, out) {
+    match answer_files(rt, alloc, batch, out) {
         Ok(tally) => status_of(tally),
         Err(failure) => failure.report(err),
     }

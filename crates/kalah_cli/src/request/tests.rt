@@ -1,16 +1,21 @@
 use crate::request::{Request, parse};
 use clap::error::ErrorKind;
+use kalah_jobs::Question;
 use std::test::Fail;
 
-fn asks_solve(rt: &HostRuntime, words: &[&str], workers: u32, table: u32, files: &[&str]) -> bool {
+fn asks(
+    rt: &HostRuntime,
+    words: &[&str],
+    question: Question,
+    numbers: (u32, u32),
+    files: &[&str],
+) -> bool {
     match parse(rt.alloc(), words) {
-        Ok(
-            Request::Solve {
-                workers: w,
-                table: t,
-                files: fs,
-            },
-        ) => w == workers && t == table && fs.as_slice() == files,
+        Ok(Request::Batch(batch)) => {
+            batch.question == question
+                && (batch.workers, batch.table) == numbers
+                && batch.files.as_slice() == files
+        }
         _ => false,
     }
 }
@@ -26,32 +31,21 @@ fn fails_with(rt: &HostRuntime, words: &[&str], kind: ErrorKind) -> bool {
 fn reads_moves(rt: HostRuntime) -> Result<(), Fail> {
     match parse(rt.alloc(), &["kalah", "moves", "1,1/0 1,1/0"])? {
         Request::Moves(line) => assert!(rt; line == "1,1/0 1,1/0"),
-        Request::Solve { .. } => assert!(rt; false),
+        Request::Batch(_) => assert!(rt; false),
     }
     Ok(())
 }
 
 #[test]
-fn reads_solve(rt: HostRuntime) {
-    assert!(rt; asks_solve(&rt, &["kalah", "solve", "a", "b"], 4, 65536, &["a", "b"]));
-    assert!(rt;
-        asks_solve(
-            &rt,
-            &["kalah", "solve", "--workers", "64", "a"],
-            64,
-            65536,
-            &["a"]
-        )
-    );
-    assert!(rt;
-        asks_solve(
-            &rt,
-            &["k", "solve", "a", "--table=1", "b"],
-            4,
-            1,
-            &["a", "b"]
-        )
-    );
+fn reads_solve_and_values(rt: HostRuntime) {
+    for (name, question) in [("solve", Question::BestMove), ("values", Question::Values)] {
+        let words = ["kalah", name, "a", "b"];
+        assert!(rt; asks(&rt, &words, question, (4, 65536), &["a", "b"]));
+        let words = ["kalah", name, "--workers", "64", "a"];
+        assert!(rt; asks(&rt, &words, question, (64, 65536), &["a"]));
+        let words = ["k", name, "a", "--table=1", "b"];
+        assert!(rt; asks(&rt, &words, question, (4, 1), &["a", "b"]));
+    }
 }
 
 // Words that give no request, and what kind of error they give.

@@ -3,6 +3,7 @@ ghost use Rattle.std.specs.Prelude.{◌≡◌, ◌<◌, IfOk, Some, vec_len};
 mod help;
 mod hostile;
 mod solving;
+mod valuing;
 
 use super::run_words;
 use crate::status::ExitStatus;
@@ -138,7 +139,7 @@ fn a_line_that_is_not_read_is_answered_by_its_fault(rt: HostRuntime) -> Result<(
 }
 
 // Words that the program does not take.
-const MISTAKES: [&[&str]; 16] = [
+const MISTAKES: [&[&str]; 21] = [
     &[],
     &["stop"],
     &["solve"],
@@ -153,6 +154,11 @@ const MISTAKES: [&[&str]; 16] = [
     &["solve", "--workers", "", "a.txt"],
     &["solve", "--table", "0", "a.txt"],
     &["solve", "--table", "1048577", "a.txt"],
+    &["values"],
+    &["values", "--workers", "0", "a.txt"],
+    &["values", "--workers", "65", "a.txt"],
+    &["values", "--table", "0", "a.txt"],
+    &["values", "--table", "1048577", "a.txt"],
     &["moves", "-1/0 1/0"],
     &["moves", "1/0 1/0", "1/0 1/0"],
 ];
@@ -174,6 +180,7 @@ fn help_goes_to_the_output(rt: HostRuntime) -> Result<(), Fail> {
         ["-h"].as_slice(),
         ["moves", "--help"].as_slice(),
         ["solve", "--help"].as_slice(),
+        ["values", "--help"].as_slice(),
     ];
     for words in calls {
         let shown = run_on(&rt, alloc, words)?;

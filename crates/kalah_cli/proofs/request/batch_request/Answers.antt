@@ -3,8 +3,8 @@ use Rattle.std.specs.Prelude.{option_map}
 use Rattle.clap.specs.Walk.{all_of, rows_of}
 use Rattle.clap.specs.Words.{found_of}
 use Rattle.clap.proofs.WalkLemmas.{raw_values-rows}
-use Rattle.kalah_cli.proofs.Getters.{is_there, solve_in_range, solve_is}
-use Rattle.kalah_cli.proofs.request.solve_request.Goals as goal
+use Rattle.kalah_cli.proofs.Getters.{answers_are, answers_in_range, is_there}
+use Rattle.kalah_cli.proofs.request.batch_request.Goals as goal
 
 pub unwrap-requires : goal.unwrap-requires
 unwrap-requires c =
@@ -16,7 +16,7 @@ returns-clause-asked c =
     let are : Some (map (λ f. f.now) c.in_ok-files.files.items) ≡ all_of (codes "file") (rows_of (found_of c.args.found.now)) =
     ap (λ xs. Some (map (λ f. f.now) xs)) copied ∙ ap (option_map (λ s. map (λ v. v.now) s.now)) (sym c.unwrap.ensures)
     ∙ c.get_strs.ensures ∙ raw_values-rows (found_of c.args.found.now) (codes "file") in
-    solve_is (rows_of (found_of c.args.found.now)) c.requires c.option_number-workers.result c.option_number-table.result _
+    answers_are c.args.question (rows_of (found_of c.args.found.now)) c.requires c.option_number-workers.result c.option_number-table.result _
     c.option_number-workers.ensures c.option_number-table.ensures are
 
 pub returns-clause-range : goal.returns-clause-range
@@ -25,5 +25,5 @@ returns-clause-range c =
     let are : Some (map (λ f. f.now) c.in_ok-files.files.items) ≡ all_of (codes "file") (rows_of (found_of c.args.found.now)) =
     ap (λ xs. Some (map (λ f. f.now) xs)) copied ∙ ap (option_map (λ s. map (λ v. v.now) s.now)) (sym c.unwrap.ensures)
     ∙ c.get_strs.ensures ∙ raw_values-rows (found_of c.args.found.now) (codes "file") in
-    solve_in_range (rows_of (found_of c.args.found.now)) c.requires c.option_number-workers.result c.option_number-table.result c.in_ok-files.files.items
+    answers_in_range (rows_of (found_of c.args.found.now)) c.requires c.option_number-workers.result c.option_number-table.result c.in_ok-files.files.items
     c.option_number-workers.ensures c.option_number-table.ensures are

@@ -1,12 +1,15 @@
-use Rattle.std.proofs.Common.{◌≢◌, map, sym, subst}
+use Rattle.std.proofs.Common.{◌≢◌, ℕ, List, map, sym, subst}
 use Rattle.clap.specs.Values.{kind_of}
 use Rattle.clap.specs.declared.error.kind.ErrorKind.TheVariants.{DisplayHelp}
 use Rattle.kalah_jobs.specs.Line.{Reads}
-use Rattle.kalah_cli.specs.Request.{Asked, IsTakenAs, moves, solve}
-use Rattle.kalah_cli.specs.declared.request.Request.TheVariants.{Moves, Solve}
-use Rattle.kalah_cli.specs.Solve.{AnswersFiles}
+use Rattle.kalah_jobs.specs.declared.question.Question.{Question}
+use Rattle.kalah_jobs.specs.declared.question.Question.TheVariants.{BestMove, Values}
+use Rattle.kalah_cli.specs.Request.{Asked, IsTakenAs, moves, answers}
+use Rattle.kalah_cli.specs.declared.request.Request.TheVariants.{Moves, Batch}
+use Rattle.kalah_cli.specs.declared.status.ExitStatus.TheVariants.{Failed}
+use Rattle.kalah_cli.specs.Solve.{AnswersTo}
 use Rattle.kalah_cli.proofs.Plain.{read_is_plain}
-use Rattle.kalah_cli.proofs.Taken.{carried, fault_at, no_help, not_moves, not_solve, same_files, same_line, texts_of, words_at, words_taken}
+use Rattle.kalah_cli.proofs.Taken.{carried, fault_at, no_help, not_answers, not_moves, same_answers, same_line, texts_of, words_at, words_taken}
 use Rattle.kalah_cli.proofs.run.run_words.Given.{Over}
 use Rattle.kalah_cli.proofs.run.run_words.Goals as goal
 
@@ -26,10 +29,17 @@ returns-in-Ok-Moves-clause-unread g c = λ name line is plain none.
     let faulty = ends.0 in
     (λ e. cc, ends.1)
 
+-- so they are not taken as a request for answers
+not_asked : (g : Over) (c : goal.After-drop-words g) (q : Question) (w t : ℕ) (names : List (List ℕ)) → IsTakenAs (texts_of c.args.words.items) (answers q w t names) → ⊥
+not_asked g c q w t names asked =
+    not_moves (texts_of c.args.words.items) c.in-Ok-Moves.line.now q w t names
+    (carried _ c.args.words.items _ (Moves c.in-Ok-Moves.line) c.as_slice.ensures.value c.in-Ok-Moves.field-0-is c.in-Ok-Moves.ensures.taken) asked
+
 pub returns-in-Ok-Moves-clause-solved : goal.returns-in-Ok-Moves-clause-solved
-returns-in-Ok-Moves-clause-solved g c = λ w t names asked_solve not_failed.
-    let taken = carried _ c.args.words.items _ (Moves c.in-Ok-Moves.line) c.as_slice.ensures.value c.in-Ok-Moves.field-0-is c.in-Ok-Moves.ensures.taken in
-    absurd (not_moves (texts_of c.args.words.items) c.in-Ok-Moves.line.now w t names taken asked_solve)
+returns-in-Ok-Moves-clause-solved g c = λ w t names asked not_failed. absurd (not_asked g c BestMove w t names asked)
+
+pub returns-in-Ok-Moves-clause-valued : goal.returns-in-Ok-Moves-clause-valued
+returns-in-Ok-Moves-clause-valued g c = λ w t names asked not_failed. absurd (not_asked g c Values w t names asked)
 
 pub returns-in-Ok-Moves-clause-no_line : goal.returns-in-Ok-Moves-clause-no_line
 returns-in-Ok-Moves-clause-no_line g c = λ faulty.
@@ -39,35 +49,46 @@ pub returns-in-Ok-Moves-clause-usage : goal.returns-in-Ok-Moves-clause-usage
 returns-in-Ok-Moves-clause-usage g c = λ faulty unasked.
     absurd (faulty (fault_at _ c.args.words.items c.as_slice.ensures.value c.in-Ok-Moves.ensures.kinds))
 
--- ---- the words are taken as `solve`
+-- ---- the words are taken as a request for answers
 
-pub returns-in-Ok-Solve-clause-moves : goal.returns-in-Ok-Solve-clause-moves
-returns-in-Ok-Solve-clause-moves g c = λ name line p is reads.
-    let taken = carried _ c.args.words.items _ (Solve c.in-Ok-Solve.workers c.in-Ok-Solve.table c.in-Ok-Solve.files) c.as_slice.ensures.value c.in-Ok-Solve.field-0-is c.in-Ok-Solve.ensures.taken in
-    absurd (not_solve (texts_of c.args.words.items) name line _ _ _ is (read_is_plain line p reads) taken)
+-- as those of the request
+asked_as : (g : Over) (c : goal.After-drop-words-in-Ok-Batch g) → IsTakenAs (texts_of c.args.words.items)
+    (answers c.in-Ok-Batch.batch.question c.in-Ok-Batch.batch.workers c.in-Ok-Batch.batch.table (map (λ n. n.now) c.in-Ok-Batch.batch.files.items))
+asked_as g c = carried _ c.args.words.items _ (Batch c.in-Ok-Batch.batch)
+    c.as_slice.ensures.value c.in-Ok-Batch.field-0-is c.in-Ok-Batch.ensures.taken
 
-pub returns-in-Ok-Solve-clause-unread : goal.returns-in-Ok-Solve-clause-unread
-returns-in-Ok-Solve-clause-unread g c = λ name line is plain none.
-    let taken = carried _ c.args.words.items _ (Solve c.in-Ok-Solve.workers c.in-Ok-Solve.table c.in-Ok-Solve.files) c.as_slice.ensures.value c.in-Ok-Solve.field-0-is c.in-Ok-Solve.ensures.taken in
-    absurd (not_solve (texts_of c.args.words.items) name line _ _ _ is plain taken)
+-- so what was asked of the files that were named is answered
+answered : (g : Over) (c : goal.After-drop-words-in-Ok-Batch g) (q : Question) (w t : ℕ) (names : List (List ℕ)) → IsTakenAs (texts_of c.args.words.items) (answers q w t names)
+    → c.run_batch.result ≢ Failed → AnswersTo q names (g.O.Sink.written c.args.out.now) (g.O.Sink.written c.run_batch.new.out) c.run_batch.result
+answered g c q w t names asked not_failed =
+    let same = same_answers (texts_of c.args.words.items) c.in-Ok-Batch.batch.question q c.in-Ok-Batch.batch.workers c.in-Ok-Batch.batch.table w t
+    (map (λ n. n.now) c.in-Ok-Batch.batch.files.items) names (asked_as g c) asked in
+    let old = g.O.Sink.written c.args.out.now in
+    let new = g.O.Sink.written c.run_batch.new.out in
+    let ends = c.run_batch.ensures.solved not_failed in
+    subst (λ r. AnswersTo r names old new c.run_batch.result) same.0 (subst (λ ns. AnswersTo c.in-Ok-Batch.batch.question ns old new c.run_batch.result) same.1 ends)
 
-pub returns-in-Ok-Solve-clause-solved : goal.returns-in-Ok-Solve-clause-solved
-returns-in-Ok-Solve-clause-solved g c = λ w t names asked_solve not_failed.
-    let taken = carried _ c.args.words.items _ (Solve c.in-Ok-Solve.workers c.in-Ok-Solve.table c.in-Ok-Solve.files) c.as_slice.ensures.value c.in-Ok-Solve.field-0-is c.in-Ok-Solve.ensures.taken in
-    let ends = c.run_solve.ensures.solved not_failed in
-    let named = same_files (texts_of c.args.words.items) c.in-Ok-Solve.workers c.in-Ok-Solve.table w t
-    (map (λ n. n.now) c.in-Ok-Solve.files.items) names taken asked_solve in
-    subst (λ ns. AnswersFiles ns (g.O.Sink.written c.args.out.now) (g.O.Sink.written c.run_solve.new.out) c.run_solve.result) named
-    (subst (λ xs. AnswersFiles (map (λ n. n.now) xs) (g.O.Sink.written c.args.out.now) (g.O.Sink.written c.run_solve.new.out) c.run_solve.result)
-    c.as_slice-in-Ok-Solve.ensures.value ends)
+pub returns-in-Ok-Batch-clause-moves : goal.returns-in-Ok-Batch-clause-moves
+returns-in-Ok-Batch-clause-moves g c = λ name line p is reads.
+    absurd (not_answers (texts_of c.args.words.items) name line _ _ _ _ is (read_is_plain line p reads) (asked_as g c))
 
-pub returns-in-Ok-Solve-clause-no_line : goal.returns-in-Ok-Solve-clause-no_line
-returns-in-Ok-Solve-clause-no_line g c = λ faulty.
-    absurd (faulty (fault_at _ c.args.words.items c.as_slice.ensures.value c.in-Ok-Solve.ensures.kinds))
+pub returns-in-Ok-Batch-clause-unread : goal.returns-in-Ok-Batch-clause-unread
+returns-in-Ok-Batch-clause-unread g c = λ name line is plain none.
+    absurd (not_answers (texts_of c.args.words.items) name line _ _ _ _ is plain (asked_as g c))
 
-pub returns-in-Ok-Solve-clause-usage : goal.returns-in-Ok-Solve-clause-usage
-returns-in-Ok-Solve-clause-usage g c = λ faulty unasked.
-    absurd (faulty (fault_at _ c.args.words.items c.as_slice.ensures.value c.in-Ok-Solve.ensures.kinds))
+pub returns-in-Ok-Batch-clause-solved : goal.returns-in-Ok-Batch-clause-solved
+returns-in-Ok-Batch-clause-solved g c = λ w t names asked not_failed. answered g c BestMove w t names asked not_failed
+
+pub returns-in-Ok-Batch-clause-valued : goal.returns-in-Ok-Batch-clause-valued
+returns-in-Ok-Batch-clause-valued g c = λ w t names asked not_failed. answered g c Values w t names asked not_failed
+
+pub returns-in-Ok-Batch-clause-no_line : goal.returns-in-Ok-Batch-clause-no_line
+returns-in-Ok-Batch-clause-no_line g c = λ faulty.
+    absurd (faulty (fault_at _ c.args.words.items c.as_slice.ensures.value c.in-Ok-Batch.ensures.kinds))
+
+pub returns-in-Ok-Batch-clause-usage : goal.returns-in-Ok-Batch-clause-usage
+returns-in-Ok-Batch-clause-usage g c = λ faulty unasked.
+    absurd (faulty (fault_at _ c.args.words.items c.as_slice.ensures.value c.in-Ok-Batch.ensures.kinds))
 
 -- ---- the parse failed
 
@@ -92,7 +113,12 @@ returns-clause-unread g c = λ name line is plain none.
 
 pub returns-clause-solved : goal.returns-clause-solved
 returns-clause-solved g c = λ w t names asked_solve not_failed.
-    let ends = c.refuse.ensures.mistake (fails g c (solve w t names) asked_solve) in
+    let ends = c.refuse.ensures.mistake (fails g c (answers BestMove w t names) asked_solve) in
+    absurd (not_failed ends.0)
+
+pub returns-clause-valued : goal.returns-clause-valued
+returns-clause-valued g c = λ w t names asked_values not_failed.
+    let ends = c.refuse.ensures.mistake (fails g c (answers Values w t names) asked_values) in
     absurd (not_failed ends.0)
 
 pub returns-clause-usage : goal.returns-clause-usage

@@ -8,12 +8,14 @@ use std::sync::Wait;
 use std::test::Fail;
 use std::thread::Threads;
 
-const OF_THE_PROGRAM: [&str; 6] = [
+const OF_THE_PROGRAM: [&str; 8] = [
     "Solves small positions of Kalah: the best house and the margin of best play",
     "moves",
     "solve",
+    "values",
     "Prints each legal move of a position, and the position after it",
     "Prints the margin of best play and the best house of each position in files",
+    "Prints what each move is worth of each position in files",
     ABOUT_POSITIONS,
 ];
 
@@ -40,6 +42,11 @@ is alone in an own house is captured also where the house across is empty.
     FILE:LINE MARGIN house H        the margin of best play, and the first house that attains it
     FILE:LINE MARGIN over           the game is over, with this margin
     FILE:LINE fault WORD            not a position: long, empty, shape, houses or seeds
+`kalah values FILE..` prints for each of these lines what each of its moves is worth:
+    FILE:LINE H:V H:V ..            each house H that may be moved, and the margin V that its move
+                                    gets in best play
+    FILE:LINE MARGIN over           as `solve`
+    FILE:LINE fault WORD            as `solve`
 A margin is what the player to move ends with less what the other player ends with.
 
 Exit status: 0 if every line was read or help was asked for; 1 if some line was not read; 2 if the
@@ -51,8 +58,8 @@ const OF_MOVES: [&str; 3] = [
     "a position, as 1,1/0 1,1/0",
 ];
 
-const OF_SOLVE: [&str; 9] = [
-    "Prints the margin of best play and the best house of each position in files",
+// Of `solve` and of `values`.
+const OF_BATCHES: [&str; 8] = [
     "--workers <N>",
     "how many workers solve side by side, 1 to 64",
     "[default: 4]",
@@ -88,8 +95,13 @@ fn the_help_says_what_there_is_to_ask_for(rt: HostRuntime) -> Result<(), Fail> {
     for part in OF_MOVES {
         assert!(rt; says(&rt, alloc, &["moves", "--help"], part), "no {part}");
     }
-    for part in OF_SOLVE {
-        assert!(rt; says(&rt, alloc, &["solve", "--help"], part), "no {part}");
+    for subcommand in ["solve", "values"] {
+        for part in OF_BATCHES {
+            assert!(rt;
+                says(&rt, alloc, &[subcommand, "--help"], part),
+                "no {part}"
+            );
+        }
     }
     Ok(())
 }

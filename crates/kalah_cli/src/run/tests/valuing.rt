@@ -1,0 +1,105 @@
+//! Runs of `kalah values` over files that are written first.
+use super::{answers, run_failing, run_on};
+use crate::status::ExitStatus;
+use std::alloc::{AllocError, Global};
+use std::fs;
+use std::rt::Files;
+use std::sync::Wait;
+use std::test::Fail;
+use std::thread::Threads;
+
+const FOUR_LINES: &str = "1,1/0 1,1/0\n2/0 2/0\n0,0/3 1,2/4\n01/0 1/0\n";
+
+const FOUR_ANSWERS: &str = "\
+four.txt:1 1:-2 2:2
+four.txt:2 1:-2
+four.txt:3 -4 over
+four.txt:4 fault shape
+";
+
+// With so many workers and entries the values of the four lines are told.
+fn tells_four<R: Files + Threads + Wait + Sync>(
+    rt: &R,
+    alloc: Global,
+    workers: &str,
+    table: &str,
+) -> Result<bool, AllocError> {
+    let words = ["values", "--workers", workers, "four.txt", "--table", table];
+    let run = run_on(rt, alloc, words.as_slice())?;
+    Ok(answers(&run, ExitStatus::LineFaults, FOUR_ANSWERS, ""))
+}
+
+#[test]
+fn tells_the_value_of_each_move(rt: HostRuntime) -> Result<(), Fail> {
+    fs::write(&rt, "four.txt", FOUR_LINES)?;
+    for workers in ["1", "2", "64"] {
+        for table in ["1", "65536"] {
+            assert!(rt;
+                tells_four(&rt, rt.alloc(), workers, table)?,
+                "{workers} {table}"
+            );
+        }
+    }
+    Ok(())
+}
+
+// Files that are answered, and how.
+const ANSWERED: [(&[u8], &str, ExitStatus); 5] = [
+    (b"", "", ExitStatus::Clean),
+    (b"1,1/9 1,1/4", "v.txt:1 1:3 2:7\n", ExitStatus::Clean),
+    (
+        b"1,0/0 0,2/0 e\r\n1,0/0 0,2/0\n",
+        "v.txt:1 1:-1\nv.txt:2 1:1\n",
+        ExitStatus::Clean,
+    ),
+    (
+        b"\xFF\xFE\n1/0 1/0",
+        "v.txt:1 fault shape\nv.txt:2 1:0\n",
+        ExitStatus::LineFaults,
+    ),
+    (
+        b"99/0 99/0",
+        "v.txt:1 fault seeds\n",
+        ExitStatus::LineFaults,
+    ),
+];
+
+#[test]
+fn tells_both_rules_odd_bytes_and_no_line(rt: HostRuntime) -> Result<(), Fail> {
+    for (bytes, text, status) in ANSWERED {
+        fs::write(&rt, "v.txt", bytes)?;
+        let run = run_on(&rt, rt.alloc(), &["values", "v.txt"])?;
+        assert!(rt; answers(&run, status, text, ""), "{bytes:?}");
+    }
+    Ok(())
+}
+
+// Words whose files are not all read, and what is said of it.
+const NOT_READ: [(&[&str], &str); 2] = [
+    (&["values", "/", "x.txt"], "kalah: cannot read /\n"),
+    (
+        &["values", "/", "x\ny"],
+        "kalah: line feed in a file name\n",
+    ),
+];
+
+#[test]
+fn values_of_files_that_are_not_read(rt: HostRuntime) -> Result<(), Fail> {
+    for (words, text) in NOT_READ {
+        let run = run_on(&rt, rt.alloc(), words)?;
+        assert!(rt; answers(&run, ExitStatus::Failed, "", text), "{words:?}");
+    }
+    Ok(())
+}
+
+// Each line is written in two calls, and a flush ends them: five calls in all.
+#[test]
+fn telling_values_stops_at_a_failed_write(rt: HostRuntime) -> Result<(), Fail> {
+    fs::write(&rt, "stops.txt", "1,1/0 1,1/0\n2/0 2/0")?;
+    for k in 1..8u32 {
+        let run = run_failing(&rt, rt.alloc(), &["values", "stops.txt"], k)?;
+        assert_eq!(rt; (run.has_failed, run.calls), (k <= 5, k.min(5)), "at {k}");
+        assert!(rt; run.is_told(), "at {k}");
+    }
+    Ok(())
+}
