@@ -18,13 +18,16 @@ TABLES = [1, 2, 3, 15, 16, 17, 255, 256, 4096, 65_535, 65_536, 65_537, 1_000_000
 # How the lines of a file end, and whether the last one has its line feed.
 ENDINGS = [(ending, last) for ending in ([b"\n"], [b"\r\n"], [b"\n", b"\r\n"]) for last in (True, False)]
 
+# What answers files.
+SUBCOMMANDS = ["solve", "values"]
+
 # How often a name is that of the file before, and how often that of some file before.
 REPEATS = [(0, 0), (0.5, 0), (0, 0.5), (0.3, 0.3), (1, 0)]
 
 NAMES = [
     *(" ", " a", "a ", "  a  ", "a b", "\ta", "a\t", "a\r", "\u00a0a", "a\u2028", "a:1", "a:1 0 house 1", "a.txt", "4", "=", "+4"),
     *("é", "日本語", "🌱", "e\u0301", "\u202ea", "\ufeffa", "%s{}", "$HOME", "*?[a]", "\\", "'\"`", "#", "~", "\x01\x1b[2J\x7f"),
-    *("-", "--", "-a", "--workers", "--table=1", "--help", "-h", "-1", "moves", "solve", "help"),
+    *("-", "--", "-a", "--workers", "--table=1", "--help", "-h", "-1", "moves", "solve", "values", "help"),
     *("./a", "folder/a", "./folder//a", "n" * 255, "./" * 600 + "a", "./" * 2045 + "whole", "folder/" + "../folder/" * 408 + "a"),
 ]
 
@@ -191,7 +194,7 @@ class Drawn:
         return names
 
     def options(self):
-        """Options of `solve`, each as one word or two."""
+        """Options of `solve` and `values`, each as one word or two."""
         table = self.card("tables", TABLES)
         numbers = {"--table": table}
         if self.happens(0.9):
@@ -202,8 +205,8 @@ class Drawn:
                 digits = self.chance.choice(["%d", "%d", "%d", "+%d", "0%d", "000%d"]) % number
                 yield [f"{option}={digits}"] if self.happens(0.5) else [option, digits]
 
-    def solve_words(self, names):
-        """The words of `solve` for these files, in one of the orders that are taken."""
+    def words(self, subcommand, names):
+        """The words of `solve` or `values` for these files, in one of the orders that are taken."""
         flag = next((at for at, name in enumerate(names) if name.startswith("-") and name != "-"), None)
         cut = len(names) if flag is None else flag
         if flag is not None or self.happens(0.3):
@@ -211,4 +214,4 @@ class Drawn:
         pieces = [[name] for name in names[:cut]]
         for option in self.options():
             pieces.insert(self.chance.randint(0, len(pieces)), option)
-        return ["solve", *chain(*pieces), *(["--"] if cut < len(names) else []), *names[cut:]]
+        return [subcommand, *chain(*pieces), *(["--"] if cut < len(names) else []), *names[cut:]]

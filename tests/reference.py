@@ -106,11 +106,13 @@ def best_play(position):
 
 
 @lru_cache(1 << 17)
-def answer(line):
-    """The answer to a line of a file, behind the file's name and the line's number."""
+def answer(subcommand, line):
+    """The answer of `solve` or `values` to a line of a file, behind the file's name and the line's number."""
     position = read(line)
     if isinstance(position, str):
         return b"fault %b" % position.encode()
+    if subcommand == "values" and not is_over(position):
+        return b" ".join(b"%d:%d" % (house, value(position, house)) for house in legal(position))
     margin, house = best_play(position)
     return b"%d over" % margin if house is None else b"%d house %d" % (margin, house)
 
@@ -132,8 +134,9 @@ def moves(line):
     return Run("".join(f"{house} {text(reached)} {word}\n" for house, reached, word in steps).encode(), b"", 0)
 
 
-def solve(files):
-    """`kalah solve FILE..`, of pairs of a name and the bytes there, which are None where they can't be read."""
+def answers(subcommand, files):
+    """`kalah solve FILE..` or `kalah values FILE..`, of pairs of a name and the bytes there, which are None where they can't be
+    read."""
     if any(b"\n" in name for name, _ in files):
         return failed(b"line feed in a file name")
     for name, data in files:
@@ -144,6 +147,6 @@ def solve(files):
     batch = [(name, lines_of(data)) for name, data in files]
     if sum(len(lines) for _, lines in batch) > MOST_LINES:
         return failed(b"too many lines")
-    answers = [(name, number, answer(line)) for name, lines in batch for number, line in enumerate(lines, 1)]
-    has_fault = any(said.startswith(b"fault") for _, _, said in answers)
-    return Run(b"".join([b"%b:%d %b\n" % said for said in answers]), b"", int(has_fault))
+    said = [(name, number, answer(subcommand, line)) for name, lines in batch for number, line in enumerate(lines, 1)]
+    has_fault = any(words.startswith(b"fault") for _, _, words in said)
+    return Run(b"".join([b"%b:%d %b\n" % line for line in said]), b"", int(has_fault))

@@ -14,7 +14,7 @@ from itertools import product, zip_longest
 from pathlib import Path
 
 import reference
-from drawn import BYTES, FILES, LINES, LINES_OF_MOVES, NO_FILES, Drawn
+from drawn import BYTES, FILES, LINES, LINES_OF_MOVES, NO_FILES, SUBCOMMANDS, Drawn
 from reference import Run
 
 TESTS = Path(__file__).resolve().parent
@@ -22,7 +22,7 @@ TESTS = Path(__file__).resolve().parent
 # The recursion of the reference goes as deep as a game has moves.
 sys.setrecursionlimit(100_000)
 
-# Words that are not taken, or are no text, where there is a file `a`.
+# Words that are not taken, or are no text, where there is a file `a`; those of `solve` are none of `values` either.
 MISTAKES = [
     *([], ["stop"], ["help"], ["Solve", "a"], ["--version"], ["-V"], ["-x"], [""], ["--", "solve", "a"], ["--workers", "1", "solve", "a"]),
     *(["moves"], ["moves", "--"], ["moves", "-1/0 1/0"], ["moves", "1/0 1/0", "1/0 1/0"], ["moves", "--workers", "1", "1/0 1/0"]),
@@ -33,11 +33,13 @@ MISTAKES = [
     *([b"\xff"], ["moves", b"1/0 1/0\x80"], ["solve", "a", b"\xed\xa0\x80"], ["solve", "a", "--workers", b"4\xc3"]),
 ]
 
-HELP = [["--help"], ["-h"], ["moves", "--help"], ["moves", "-h"], ["solve", "--help"], ["solve", "-h"], ["solve", "a", "-h"]]
+MISTAKES += [["values", *words[1:]] for words in MISTAKES if words[:1] == ["solve"]]
+
+HELP = [["--help"], ["-h"], ["moves", "--help"], ["moves", "-h"], ["solve", "--help"], ["solve", "-h"], ["solve", "a", "-h"], ["values", "--help"], ["values", "a", "-h"]]
 
 PROGRAM_NAMES = ["kalah", "./kalah", "/bin/kalah", "k l", "é", "-", "--help"]
 
-# The names that `solve` is given, and the size of the file `a`, which is all there is.
+# The names that `solve` or `values` is given, and the size of the file `a`, which is all there is.
 LIMITS = [
     (["a"] * 256 + ["./a"], 8),
     (["a"] * 398 + ["b"], 8),
@@ -58,8 +60,9 @@ A_AND_FAULT = b"1/0 1/0\n1/0"
 RUNS = [
     (["moves", "1,1/0 1,1/0"], reference.moves(b"1,1/0 1,1/0")),
     (["moves", "1/0"], reference.moves(b"1/0")),
-    (["solve", "a", "a"], reference.solve([(b"a", A_AND_FAULT), (b"a", A_AND_FAULT)])),
-    (["solve", "a", "b"], reference.solve([(b"a", A_AND_FAULT), (b"b", None)])),
+    (["solve", "a", "a"], reference.answers("solve", [(b"a", A_AND_FAULT), (b"a", A_AND_FAULT)])),
+    (["solve", "a", "b"], reference.answers("solve", [(b"a", A_AND_FAULT), (b"b", None)])),
+    (["values", "a", "a"], reference.answers("values", [(b"a", A_AND_FAULT), (b"a", A_AND_FAULT)])),
 ]
 STREAMS_OF_RUNS = list(product(STREAMS, RUNS))
 
@@ -207,56 +210,61 @@ class Trials:
         if want != got:
             raise Differs(difference(want, got))
 
-    def solve(self, named):
-        """Files of these names are solved. One that has no bytes can't be read."""
+    def subcommand(self):
+        return self.drawn.card("subcommands", SUBCOMMANDS)
+
+    def answer(self, named, subcommand=None):
+        """Files of these names are answered. One that has no bytes can't be read."""
+        subcommand = subcommand or self.subcommand()
         self.put({os.path.normpath(name): data for name, data in named if data is not None})
-        want = reference.solve([(name.encode(), data) for name, data in named])
-        self.compare(want, self.run(self.drawn.solve_words([name for name, _ in named])))
+        want = reference.answers(subcommand, [(name.encode(), data) for name, data in named])
+        self.compare(want, self.run(self.drawn.words(subcommand, [name for name, _ in named])))
 
     # The trials, in the order of KINDS.
 
     def many_files(self):
         names = self.drawn.names(self.drawn.card("files", FILES))
         there = {os.path.normpath(name): self.drawn.file(self.drawn.chance.choice([0, 1, 1, 2, 5])) for name in names}
-        self.solve([(name, there[os.path.normpath(name)]) for name in names])
+        self.answer([(name, there[os.path.normpath(name)]) for name in names])
 
     def many_bytes(self):
         size = self.drawn.card("bytes", BYTES)
         size = self.drawn.chance.randint(1, 300_000) if size is None else size
-        self.solve([("a", self.drawn.file_of_bytes(size)), ("b", self.drawn.file(3))])
+        self.answer([("a", self.drawn.file_of_bytes(size)), ("b", self.drawn.file(3))])
 
     def many_lines(self):
         lines = self.drawn.card("lines", LINES) or self.drawn.chance.randint(1, 200_000)
         first = self.drawn.chance.choice([lines, lines - 1, lines // 2])
-        self.solve([("a", self.drawn.file(first)), ("b", self.drawn.file(lines - first))])
+        self.answer([("a", self.drawn.file(first)), ("b", self.drawn.file(lines - first))])
 
     def stored_answers(self):
         lines = [self.drawn.with_stores(self.drawn.card("stored", self.stored)) for _ in range(60)]
-        self.solve([("a", b"\n".join(lines))])
+        self.answer([("a", b"\n".join(lines))], "solve")
 
     def unread_files(self):
         """The first name that can't be opened is told; files stand before it, and others behind it."""
         there = ("a", self.drawn.file(2))
         behind = self.drawn.chance.choices([there, *((name, None) for name in NO_FILES)], k=self.drawn.chance.randint(0, 3))
-        self.solve([there] * self.drawn.chance.randint(0, 10) + [(self.drawn.card("no files", NO_FILES), None), *behind])
+        self.answer([there] * self.drawn.chance.randint(0, 10) + [(self.drawn.card("no files", NO_FILES), None), *behind])
 
     def limits(self):
         names, size = self.drawn.card("limits", LIMITS)
         there = {"a": b"0" * size}
-        self.solve([(name, there.get(os.path.normpath(name))) for name in names])
+        self.answer([(name, there.get(os.path.normpath(name))) for name in names])
 
     def a_pipe_as_file(self):
         """The bytes of a file come piece by piece."""
         data = rest = self.drawn.file(self.drawn.chance.randint(0, 500))
         self.put({})
-        process = self.start(self.drawn.solve_words(["/dev/stdin"]), stdin=subprocess.PIPE, bufsize=0)
+        subcommand = self.subcommand()
+        process = self.start(self.drawn.words(subcommand, ["/dev/stdin"]), stdin=subprocess.PIPE, bufsize=0)
         with suppress(BrokenPipeError):
             while rest:
                 size = self.drawn.chance.randint(1, 6000)
                 process.stdin.write(rest[:size])
                 rest = rest[size:]
                 time.sleep(0.002)
-        self.compare(reference.solve([(b"/dev/stdin", data)]), self.end_of(process))
+        self.compare(reference.answers(subcommand, [(b"/dev/stdin", data)]), self.end_of(process))
 
     def moves(self):
         line = self.drawn.line_of_moves(self.drawn.card("lines of moves", LINES_OF_MOVES))
@@ -312,10 +320,11 @@ class Trials:
         place, lines = self.drawn.card("first answers", FIRST_ANSWERS)
         data = self.drawn.file(lines)
         self.put({"a": data, "b": HARD})
-        want = reference.solve([(b"a", data)]).out
+        subcommand = self.subcommand()
+        want = reference.answers(subcommand, [(b"a", data)]).out
         reader, writer = two_ends(place)
         workers = f"{self.drawn.chance.randint(1, 16)}"
-        with self.start(["solve", "--table", "1", "--workers", workers, "a", "b"], stdout=writer) as process:
+        with self.start([subcommand, "--table", "1", "--workers", workers, "a", "b"], stdout=writer) as process:
             got = read_soon(reader, len(want))
             has_ended = process.poll() is not None
             process.kill()
@@ -329,7 +338,7 @@ class Trials:
         """As many threads are at work side by side as workers are asked for."""
         workers = self.drawn.card("busy workers", BUSY_WORKERS)
         self.put({"a": HARD})
-        with self.start(["solve", "--table", "1", "--workers", f"{workers}", "a"]) as process:
+        with self.start([self.subcommand(), "--table", "1", "--workers", f"{workers}", "a"]) as process:
             end = time.monotonic() + SOON
             while busy_threads(process) < workers and time.monotonic() < end:
                 time.sleep(0.05)
