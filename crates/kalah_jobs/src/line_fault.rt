@@ -45,7 +45,7 @@ mod tests {
             (LineFault::Houses, "houses"),
             (LineFault::Seeds, "seeds"),
         ] {
-            assert_eq!(rt; fault.word(), word);
+            assert!(rt; fault.word() == word);
         }
     }
 }

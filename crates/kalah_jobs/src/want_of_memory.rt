@@ -83,7 +83,7 @@ fn texts_of_values(rt: HostRuntime) -> Result<(), Fail> {
     let answer = values_of(alloc, b"1,1/0 1,1/0")?;
     let taken = Taken { line: 1, answer };
     let text = answer_text(alloc, "a", &taken).or_else(|_| answer_text(alloc, "a", &taken))?;
-    assert_eq!(rt; text.as_str(), "a:2 1:-2 2:2");
+    assert!(rt; text.as_str() == "a:2 1:-2 2:2");
     mark(alloc, "after all")
 }
 

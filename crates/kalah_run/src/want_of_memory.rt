@@ -34,7 +34,7 @@ fn draw_by(desk: &Desk, passes: &mut Vec<Pass>, k: usize) -> Option<u32>
 fn a_desk(rt: HostRuntime) -> Result<(), Fail> {
     let alloc = rt.alloc();
     let (desk, mut passes) = Desk::open(alloc, 3, 2).or_else(|_| Desk::open(alloc, 3, 2))?;
-    assert_eq!(rt; passes.len(), 2);
+    assert!(rt; passes.len() == 2);
     mark(alloc, "before the calls without memory")?;
     let drawn = [
         draw_by(&desk, &mut passes, 0),
@@ -44,8 +44,8 @@ fn a_desk(rt: HostRuntime) -> Result<(), Fail> {
         draw_by(&desk, &mut passes, 1),
     ];
     let closed = desk.close(passes);
-    assert_eq!(rt; drawn, [Some(0), Some(1), Some(2), None, None]);
-    assert_eq!(rt; (closed.drawn(), closed.spent()), (3, true));
+    assert!(rt; drawn == [Some(0), Some(1), Some(2), None, None]);
+    assert!(rt; (closed.drawn(), closed.spent()) == (3, true));
     mark(alloc, "after all")
 }
 

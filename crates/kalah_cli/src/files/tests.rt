@@ -41,7 +41,7 @@ fn any_error_is_the_files_fault(rt: HostRuntime) {
                 Ok(bytes) => assert!(rt; k > 5 && bytes.as_slice() == TEN, "at {k}"),
                 Err(fault) => {
                     assert!(rt; k <= 5 && fault == ReadFault::Unreadable, "at {k}");
-                    assert_eq!(rt; reader.calls, k);
+                    assert!(rt; reader.calls == k);
                 }
             }
         }

@@ -41,10 +41,10 @@ fn nothing_follows_a_failed_write(rt: HostRuntime) -> Result<(), Fail> {
     )?;
     for (line, is_written) in [("1\n", true), ("2\n", false), ("3\n", false)] {
         out.write_all(line.as_bytes())?;
-        assert_eq!(rt; out.flush().is_ok(), is_written, "at {line}");
+        assert!(rt; out.flush().is_ok() == is_written, "at {line}");
     }
     drop(out);
-    assert_eq!(rt; calls.get(), 3);
+    assert!(rt; calls.get() == 3);
     Ok(())
 }
 
@@ -58,6 +58,6 @@ fn an_interrupted_call_is_tried_again(rt: HostRuntime) -> Result<(), Fail> {
     });
     out.write_all(b"1\n")?;
     out.flush()?;
-    assert_eq!(rt; calls.get(), 3);
+    assert!(rt; calls.get() == 3);
     Ok(())
 }

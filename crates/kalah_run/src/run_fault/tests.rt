@@ -11,7 +11,7 @@ fn each_fault_is_told_in_its_words(rt: HostRuntime) -> Result<(), Fail> {
         (RunFault::Write, "write failed"),
     ];
     for (fault, text) in texts {
-        assert_eq!(rt; fault.to_string(rt.alloc())?.as_str(), text);
+        assert!(rt; fault.to_string(rt.alloc())?.as_str() == text);
     }
     Ok(())
 }

@@ -89,7 +89,7 @@ fn each_place_that_is_given_is_taken(rt: HostRuntime) -> Result<(), Fail> {
             || thread::for_each_mut(&rt, seats.as_mut_slice(), 64, &|_, _| places.take(&rt)),
             || give_in_bursts(&rt, &places, takers, &mut drawn),
         );
-        assert_eq!(rt; places.free.load(SeqCst), 0);
+        assert!(rt; places.free.load(SeqCst) == 0);
     }
     Ok(())
 }

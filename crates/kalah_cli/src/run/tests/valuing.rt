@@ -98,7 +98,7 @@ fn telling_values_stops_at_a_failed_write(rt: HostRuntime) -> Result<(), Fail> {
     fs::write(&rt, "stops.txt", "1,1/0 1,1/0\n2/0 2/0")?;
     for k in 1..8u32 {
         let run = run_failing(&rt, rt.alloc(), &["values", "stops.txt"], k)?;
-        assert_eq!(rt; (run.has_failed, run.calls), (k <= 5, k.min(5)), "at {k}");
+        assert!(rt; (run.has_failed, run.calls) == (k <= 5, k.min(5)), "at {k}");
         assert!(rt; run.is_told(), "at {k}");
     }
     Ok(())

@@ -171,7 +171,7 @@ fn an_outcome_without_room_is_not_handed_on(rt: HostRuntime) -> Result<(), Fail>
     });
     let tally = solve_batch(&rt, alloc, files.as_slice(), 1, 16, &gate, &mut out);
     assert!(rt; tally.is_ok());
-    assert_eq!(rt; out.into_inner().handed_on, Some(ROOM));
-    assert_eq!(rt; counts.handed_on.load(Ordering::SeqCst), 100);
+    assert!(rt; out.into_inner().handed_on == Some(ROOM));
+    assert!(rt; counts.handed_on.load(Ordering::SeqCst) == 100);
     Ok(())
 }

@@ -36,7 +36,7 @@ fn answer_of<R: Abort + Threads + Wait + Sync>(
         (Ok(_), Question::Values) => VALUES,
         (Err(_), _) => "",
     };
-    assert_eq!(rt; out.into_inner().as_slice(), text.as_bytes());
+    assert!(rt; out.into_inner().as_slice() == text.as_bytes());
     Ok(answer)
 }
 
@@ -56,7 +56,7 @@ fn is_answered<R: Abort + Threads + Wait + Sync>(
         lines: 7,
         faults: 2,
     };
-    assert_eq!(rt; answer?, tally);
+    assert!(rt; answer? == tally);
     mark(alloc, "after all")
 }
 

@@ -11,7 +11,7 @@ fn tells_values<A: Allocator + Clone>(
     want: &[(u8, i16)],
 ) {
     let values = solver.values(board);
-    assert_eq!(rt; usize::from(values.len()), want.len());
+    assert!(rt; usize::from(values.len()) == want.len());
     for i in 0..values.len() {
         let MoveValue { house, value } = values.get(i);
         assert!(rt; want.get(usize::from(i)) == Some(&(house, value)));
@@ -63,12 +63,12 @@ fn values_are_told_though_every_entry_is_refused(rt: HostRuntime) -> Result<(), 
 fn agrees_with_plain_values(rt: &impl Abort, solver: &mut Solver, board: &Board) {
     let moves = board.legal();
     let values = solver.values(board);
-    assert_eq!(rt; values.len(), moves.len());
+    assert!(rt; values.len() == moves.len());
     for i in 0..moves.len() {
         let house = moves.get(i);
         let value = plain::value_of_move(board, house);
         let told = values.get(i);
-        assert_eq!(rt; (told.house, i32::from(told.value)), (house, value));
+        assert!(rt; (told.house, i32::from(told.value)) == (house, value));
     }
 }
 

@@ -23,7 +23,8 @@ loop-i-preserved c = record {
   within = omega (arith, c.loop-i.invariant.within);
   words = before_those c.args.values.now c.loop-i.i c.get-in-loop-i.result c.args.self.now c.put_value-in-loop-i.new.self c.get-in-loop-i.ensures c.loop-i-test.true
       c.loop-i.invariant.within
-      (c.put_value-in-loop-i.ensures.value ∙ ap (λ (ws : List ℕ). value_words c.get-in-loop-i.result ++ ws) (c.put.ensures.piece ∙ ap (λ (ws : List ℕ). codes " " ++ ws) c.loop-i.invariant.words));
+      (c.put_value-in-loop-i.ensures.value
+      ∙ ap (λ (ws : List ℕ). value_words c.get-in-loop-i.result ++ ws) (c.put.ensures.piece ∙ ap (λ (ws : List ℕ). codes " " ++ ws) c.loop-i.invariant.words));
   short = omega (arith, c.put_value-in-loop-i.ensures.short, c.put.ensures.longer, c.loop-i.invariant.short, c.loop-i-test.true);
 }
 
