@@ -25,10 +25,6 @@ tell_more endings a place e before within at inside game known b d within_b insi
       rw there (before b d within_b (rw (length-set endings place e) at inside_b) (rw there at game_b))
 ]
 
--- where nothing is known all places hold game 0, which is no game
-pub tell_nothing : (endings : List Ending) → ((k : ℕ) (d : Ending) → k < length endings → told_game (get_or endings k d) ≡ 0) → TellTaken endings
-tell_nothing endings none a d within inside game = absurd (omega (arith, none (place_of a) d inside, game, within.some_house))
-
 -- so what is found there is right
 pub told : (endings : List Ending) (a : Rows) (place : ℕ) (e : Ending) → TellTaken endings → IsWithinHouses a → place ≡ place_of a → place < length endings →
     e ≡ get_or endings place e → told_game e ≡ game_of a → told_taken e ≡ taken a

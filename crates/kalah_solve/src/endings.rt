@@ -109,16 +109,21 @@ fn game_of(houses: &Houses) -> u8
 }
 
 impl<A: Allocator> Endings<A> {
-    /// With nothing known. It fails where there is no memory for the places.
+    /// With nothing known, and memory for all places. It fails where there is none.
     pub(crate) fn new(alloc: A) -> Result<Endings<A>, AllocError> {
-        let mut endings = Vec::with_capacity(alloc, PLACES)?;
-        for _ in 0..PLACES {
-            endings.push(Ending::of(0, 0))?;
-        }
         Ok(Endings {
-            endings,
+            endings: Vec::with_capacity(alloc, PLACES)?,
             choices: choices(),
         })
+    }
+
+    // Lays out the places up to this one, with nothing known there. So a game whose places nobody asks for takes no time.
+    fn lay_out(&mut self, place: usize) {
+        for _ in self.endings.len()..=place {
+            if self.endings.push(Ending::of(0, 0)).is_err() {
+                return;
+            }
+        }
     }
 
     // In how many ways one thing more than so many cells can be chosen of those and the seeds.
@@ -177,6 +182,7 @@ impl<A: Allocator> Endings<A> {
         requires few { seeds_in_houses (bare houses.now) ≤ 9 }
     {
         let told = Ending::of(game_of(houses), known);
+        self.lay_out(place);
         if let Some(ending) = self.endings.get_mut(place) {
             *ending = told;
         }
