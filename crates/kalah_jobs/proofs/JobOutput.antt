@@ -35,8 +35,8 @@ lines_told question text n name k (line ∷ lines) under =
     ap (λ bytes. bytes ++ flat_map (line_output question name) (enumerate_from (k + 1) lines)) (sym (under (record { line = k; answer = answer_of (entry_to question line) })))
     ∙ ap (λ bytes. text n (record { line = k; answer = answer_of (entry_to question line) }) ++ bytes) (lines_told question text n name (k + 1) lines under)
 
-file_told : (question : Question) (text : ℕ → Taken → List ℕ) (n : ℕ) (file : NamedBytes) → IsUnder text n file.name →
-    file_output question file ≡ text_of_file text (n, entries_to question file.bytes)
+file_told : (question : Question) (text : ℕ → Taken → List ℕ) (n : ℕ) (file : NamedBytes) → IsUnder text n file.name
+    → file_output question file ≡ text_of_file text (n, entries_to question file.bytes)
 unfolding entries_to
 file_told question text n file under = lines_told question text n file.name 0 (lines_of file.bytes) under
 

@@ -73,7 +73,8 @@ kept_nothing (Some xs) None kept = absurd kept
 kept_nothing (Some xs) (Some ys) kept = kept ∙ sym (append-nil xs)
 
 -- the lines and the faults that were counted are the tally of the files
-pub counted_tally : (question : Question) (files : List NamedBytes) (lines faults : ℕ) → lines ≡ length (job_list (jobs_to question files)) → faults ≡ count_by is_faulty_offer (job_list (jobs_to question files)) →
+pub counted_tally : (question : Question) (files : List NamedBytes) (lines faults : ℕ) → lines ≡ length (job_list (jobs_to question files))
+    → faults ≡ count_by is_faulty_offer (job_list (jobs_to question files)) →
     (let counts : LineCounts = record { lines = lines; faults = faults } in counts) ≡ tally_of files
 counted_tally question files lines faults all faulty =
     λ i. record { lines = (all ∙ sym (files_are_their_jobs.lines question files)) i; faults = (faulty ∙ sym (files_are_their_jobs.faults question files)) i }

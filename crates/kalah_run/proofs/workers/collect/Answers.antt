@@ -13,7 +13,8 @@ loop-init g c = record {
   all = ap (λ (l : List (ℕ × Offer)). length l) c.requires.first;
   few = omega (arith, c.requires.none, c.write.ensures.faults);
   way = λ files jobs begun reporting.
-      subst (λ (l : List (ℕ × Offer)). IsReporting files jobs (outcomes_in l) begun (g.W.Sink.written c.write.new.out) (g.W.Sink.has_failed c.write.new.out) c.write.new.self × Waits c.write.new.self)
+      subst (λ (l : List (ℕ × Offer)). IsReporting files jobs (outcomes_in l) begun (g.W.Sink.written c.write.new.out) (g.W.Sink.has_failed c.write.new.out)
+      c.write.new.self × Waits c.write.new.self)
       (sym c.requires.first) (c.write.ensures.way files jobs [] begun reporting);
 }
 

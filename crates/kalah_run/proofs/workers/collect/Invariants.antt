@@ -11,6 +11,7 @@ invariant-loop g l = record {
   workers : l.pass.workers ≡ l.fn.pass.workers;
   all : length l.pass.got ≡ l.counter;
   few : l.report.faults ≤ l.counter;
-  way : (files : List NamedBytes) → (jobs : List (List Entry)) → (begun : Option (List ℕ)) → IsReporting files jobs [] begun (g.W.Sink.written l.fn.out) (g.W.Sink.has_failed l.fn.out) l.fn.report
+  way : (files : List NamedBytes) → (jobs : List (List Entry)) → (begun : Option (List ℕ))
+      → IsReporting files jobs [] begun (g.W.Sink.written l.fn.out) (g.W.Sink.has_failed l.fn.out) l.fn.report
       → IsReporting files jobs (outcomes_in l.pass.got) begun (g.W.Sink.written l.out) (g.W.Sink.has_failed l.out) l.report × Waits l.report;
 }
