@@ -15,7 +15,7 @@ const MOST_ENTRIES: u64 = 1_048_576;
 const ABOUT_SOLVE: &str =
     "Prints the margin of best play and the best house of each position in files";
 
-const ABOUT_VALUES: &str = "Prints what each move is worth of each position in files";
+const ABOUT_VALUES: &str = "Prints what each move of each position in files is worth";
 
 // What a newcomer has to know, at the end of the help.
 const ABOUT_POSITIONS: &str = "\

@@ -15,7 +15,7 @@ const OF_THE_PROGRAM: [&str; 8] = [
     "values",
     "Prints each legal move of a position, and the position after it",
     "Prints the margin of best play and the best house of each position in files",
-    "Prints what each move is worth of each position in files",
+    "Prints what each move of each position in files is worth",
     ABOUT_POSITIONS,
 ];
 
