@@ -6,9 +6,10 @@ pub mod Readings
 pub mod Cells
 pub mod LineEnds
 pub mod Texts
-pub mod SideTexts
+pub mod PlayerHouses
 pub mod PlainLines
-pub mod Endings
+pub mod Lengths
+pub mod AsciiTexts
 pub mod SplitLines
 pub mod OneLines
 pub mod JobCounts
@@ -24,3 +25,5 @@ pub mod SameOffer
 pub mod JobOrders
 pub mod BatchWay
 mod ValueTexts
+mod Joined
+mod Pictures

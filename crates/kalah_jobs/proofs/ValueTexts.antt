@@ -1,5 +1,5 @@
--- The values of the moves in words, one value more at either end.
-use Rattle.std.proofs.Common.{◌≡◌, ℕ, suc, zero, ◌+◌, ◌-◌, ◌<◌, ◌≤◌, List, [], ◌∷◌, ◌++◌, length, get_or, map, take, drop, sym, ap, ◌∙◌, append_assoc, arith, length-take-le}
+-- The values of the moves in words, one value more at the end.
+use Rattle.std.proofs.Common.{◌≡◌, ℕ, ◌+◌, ◌<◌, ◌≤◌, List, [], ◌∷◌, ◌++◌, length, get_or, map, take, refl, sym, ap, ◌∙◌, append_assoc, arith, length-take-le}
 use Rattle.std.specs.Prelude.{Some, slice_get}
 use Rattle.std.specs.List.{join_with_byte}
 use Rattle.std.proofs.lemmas.List.{take_more, map-append, length-map}
@@ -7,34 +7,13 @@ use Rattle.std.proofs.lemmas.Option.{get_or_from_slice_get}
 use Rattle.kalah_solve.specs.declared.move_values.MoveValue.{MoveValue}
 use Rattle.kalah_jobs.specs.Line.{space}
 use Rattle.kalah_jobs.specs.Answer.{value_words, values_words}
-use Rattle.kalah_jobs.proofs.SideTexts.{join_with_byte-push}
 
--- the words from value i on
-abbrev pub words_from : List MoveValue → ℕ → List ℕ
-words_from values i = values_words (drop i values)
-
--- those from the last on
-pub last_words : (values : List MoveValue) (i : ℕ) (v : MoveValue) → slice_get values i ≡ Some v → length values ≡ i + 1 → value_words v ≡ words_from values i
-last_words [] i v is many = cc
-last_words (x ∷ []) zero v is many = ap value_words (let same : v ≡ x = cc in same)
-last_words (x ∷ y ∷ values) zero v is many = absurd (omega arith)
-last_words (x ∷ values) (suc i) v is many = last_words values i v is (omega arith)
-
--- one value more in front
-pub words_before : (values : List MoveValue) (i : ℕ) (v : MoveValue) → slice_get values i ≡ Some v → suc i < length values →
-    value_words v ++ space ∷ words_from values (suc i) ≡ words_from values i
-words_before [] i v is within = cc
-words_before (x ∷ []) zero v is within = absurd (omega arith)
-words_before (x ∷ y ∷ values) zero v is within = ap (λ w. value_words w ++ space ∷ values_words (y ∷ values)) (let same : v ≡ x = cc in same)
-words_before (x ∷ values) (suc i) v is within = words_before values i v is (omega arith)
-
--- a space and one value more before those that stand there
-pub before_those : (values : List MoveValue) (i : ℕ) (v : MoveValue) (old after : List ℕ) → slice_get values (i - 1) ≡ Some v → 0 < i → i < length values →
-    after ≡ value_words v ++ space ∷ (words_from values i ++ old) → after ≡ words_from values (i - 1) ++ old
-before_those values i v old after is low within e =
-    let place : suc (i - 1) ≡ i = omega arith in
-    let more = rw place at (words_before values (i - 1) v is (omega arith)) in
-    e ∙ sym (append_assoc (value_words v) (space ∷ words_from values i) old) ∙ ap (λ ws. ws ++ old) more
+pub join_with_byte-push : (byte : ℕ) (texts : List (List ℕ)) (last : List ℕ) → 0 < length texts → join_with_byte byte (texts ++ last ∷ []) ≡ join_with_byte byte texts ++ byte ∷ last
+join_with_byte-push byte [] last some = absurd (omega arith)
+join_with_byte-push byte (only ∷ []) last some = refl
+join_with_byte-push byte (first ∷ second ∷ texts) last some =
+    ap (λ (t : List ℕ). first ++ byte ∷ t) (join_with_byte-push byte (second ∷ texts) last (omega arith))
+    ∙ sym (append_assoc first (byte ∷ join_with_byte byte (second ∷ texts)) (byte ∷ last))
 
 -- the words of the first i values
 abbrev pub first_words : List MoveValue → ℕ → List ℕ

@@ -23,3 +23,4 @@ pub mod CollectorLaw
 pub mod Shares
 pub mod Batch
 pub mod UnderWay
+pub mod Picture

@@ -19,6 +19,7 @@ mod line_laws;
 mod number;
 mod outcome;
 mod parts;
+mod picture;
 mod player;
 mod position_text;
 mod printed;
@@ -29,6 +30,7 @@ mod row;
 mod same_entry;
 mod side;
 mod sink;
+mod stack_text;
 mod stream;
 #[cfg(test)]
 mod want_of_memory;
@@ -50,7 +52,8 @@ pub use line_laws::{
     only_the_ending_names_the_rule, plain_lines_read_the_same,
 };
 pub use outcome::Outcome;
-pub use position_text::{line_text, step_text};
+pub use picture::{picture_lines_are_short, pictures_tell_positions, write_picture};
+pub use position_text::{line_text, step_text, write_step};
 pub use printed::answer_text;
 pub use question::Question;
 pub use reading::read_line;

@@ -5,7 +5,7 @@ ghost use Rattle.kalah_jobs.specs.Lines.{line_feed};
 ghost use Rattle.kalah_jobs.specs.Answer.{answer_line};
 
 use crate::answer::Taken;
-use crate::ending::Ending;
+use crate::ending::ending_of;
 use crate::sink::Sink;
 use std::io;
 
@@ -18,7 +18,7 @@ pub fn write_answer<W: Sink>(out: &mut W, name: &str, taken: &Taken) -> Result<(
         (Appends (W.written out.old) (W.written out.new) (answer_line name.now taken.now ++ line_feed ∷ [])) }
 {
     out.write_all(name.as_bytes())?;
-    out.write_all(Ending::of(taken).bytes())
+    out.write_all(ending_of(taken).bytes())
 }
 
 #[cfg(test)]

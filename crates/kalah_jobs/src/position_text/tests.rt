@@ -1,4 +1,4 @@
-use crate::{line_text, read_line, step_text};
+use crate::{Stream, line_text, read_line, step_text, write_step};
 use kalah_rules::Board;
 use std::alloc::Global;
 use std::process::Abort;
@@ -24,18 +24,39 @@ fn lines_are_written_as_they_were_read(rt: HostRuntime) -> Result<(), Fail> {
     Ok(())
 }
 
+// Lines, houses that are moved, and the text of these moves.
+const STEPS: [(&str, u8, &str); 6] = [
+    ("1,1/0 1,1/0", 1, "1 1,1/0 0,2/0 turn"),
+    ("1,1/0 1,1/0", 2, "2 1,0/1 1,1/0 again"),
+    ("3/0 3/0", 1, "1 0/6 0/0 over"),
+    ("1/99 1/99", 1, "1 0/100 0/100 over"),
+    ("8/0 8/0", 1, "1 11/0 2/3 turn"),
+    ("1,0/0 0,2/0 e", 1, "1 0,0/1 0,0/2 e over"),
+];
+
 #[test]
 fn steps_with_their_words(rt: HostRuntime) -> Result<(), Fail> {
-    for (line, h, text) in [
-        ("1,1/0 1,1/0", 1, "1 1,1/0 0,2/0 turn"),
-        ("1,1/0 1,1/0", 2, "2 1,0/1 1,1/0 again"),
-        ("3/0 3/0", 1, "1 0/6 0/0 over"),
-        ("1/99 1/99", 1, "1 0/100 0/100 over"),
-        ("8/0 8/0", 1, "1 11/0 2/3 turn"),
-        ("1,0/0 0,2/0 e", 1, "1 0,0/1 0,0/2 e over"),
-    ] {
+    for (line, h, text) in STEPS {
         let written = text_of_move(&rt, rt.alloc(), line.as_bytes(), h)?;
         assert!(rt; written.as_str() == text);
+    }
+    Ok(())
+}
+// Whether the move of house `h` is written so, with a line feed.
+fn is_written(alloc: Global, line: &str, h: u8, text: &str) -> Result<bool, Fail> {
+    let board = board(line.as_bytes())?;
+    let mut out = Stream::new(Vec::<u8>::new(alloc));
+    if board.is_legal(h) {
+        write_step(&mut out, h, &board.apply(h))?;
+    }
+    let bytes = out.into_inner();
+    Ok(bytes.strip_suffix(b"\n") == Some(text.as_bytes()))
+}
+
+#[test]
+fn a_step_is_written_as_it_is_printed(rt: HostRuntime) -> Result<(), Fail> {
+    for (line, h, text) in STEPS {
+        assert!(rt; is_written(rt.alloc(), line, h, text)?, "{line}");
     }
     Ok(())
 }

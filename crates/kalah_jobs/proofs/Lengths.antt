@@ -1,4 +1,4 @@
--- How long the parts of an answer line are at most.
+-- How long the parts of lines are at most.
 use Rattle.std.proofs.Common.{ℕ, ◌<◌, ◌≤◌, ◌^◌, length, arith}
 use Rattle.std.specs.Fmt.{decimal}
 use Rattle.std.proofs.lemmas.Fmt.{length-decimal-le}
@@ -12,12 +12,12 @@ number_length n low = length-decimal-le 20 n (omega arith) (omega arith) low
 pub margin_length : (n : ℕ) → n < 2 ^ 32 → length (decimal n) ≤ 10
 margin_length n low = length-decimal-le 10 n (omega arith) (omega arith) (omega arith)
 
-pub house_length : (n : ℕ) → n < 2 ^ 8 → length (decimal n) ≤ 3
-house_length n low = length-decimal-le 3 n (omega arith) (omega arith) (omega arith)
+pub byte_length : (n : ℕ) → n < 2 ^ 8 → length (decimal n) ≤ 3
+byte_length n low = length-decimal-le 3 n (omega arith) (omega arith) (omega arith)
 
-pub word_length : (fault : LineFault) → length (word_of fault) ≤ 6
-word_length Long = omega arith
-word_length Empty = omega arith
-word_length Shape = omega arith
-word_length Houses = omega arith
-word_length Seeds = omega arith
+pub fault_length : (fault : LineFault) → length (word_of fault) ≤ 6
+fault_length Long = omega arith
+fault_length Empty = omega arith
+fault_length Shape = omega arith
+fault_length Houses = omega arith
+fault_length Seeds = omega arith
