@@ -53,6 +53,9 @@ FAULTS = ["shape", "houses", "seeds", "long shape", "long houses", "long seeds",
 # The lines of `moves`: these, lines with these faults, or any. No word has a byte of 0.
 LINES_OF_MOVES = [*(line for line in LINES_AT_LIMITS if b"\0" not in line), *FULL_STORES, *FAULTS, *[None] * 80]
 
+# How `--boards` stands among the words: not at all, before the line or behind it.
+BOARDS = [None, 0, 1]
+
 # What is put into a line, in place of a byte of it or before one.
 BITS = [b"", b"0", b"1", b"9", b",", b"/", b" ", b" e", b"\r", b"x", b"-", b"\t", b"\0", b"\xff"]
 
@@ -155,6 +158,19 @@ class Drawn:
         if card is None:
             return self.chance.choice([self.position(31), self.mutated(self.position(31))]).replace(b"\0", b"")
         return self.faulty(card) if card in FAULTS else card
+
+    def line_of_play(self, card):
+        """The line that is the card, a line with these faults, or a line that the reference answers quickly."""
+        line = self.line() if card is None else self.line_of_moves(card)
+        return self.line_of_play(card) if b"\0" in line else line
+
+    def words_of_line(self, subcommand, line, options):
+        """The words of `moves` or `play` for this line, and whether boards are drawn."""
+        boards = self.card("boards", BOARDS)
+        flag = [] if boards is None else ["--boards"]
+        dashes = ["--"] if line.startswith(b"-") or self.happens(0.2) else []
+        words = [*flag, *options, *dashes, line] if dashes or not boards else [*options, line, *flag]
+        return [subcommand, *words], bool(flag)
 
     def lines(self, count):
         """So many lines, of which the last is not empty."""

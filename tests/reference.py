@@ -125,13 +125,37 @@ def failed(why):
     return Run(b"", b"kalah: %b\n" % why, 2)
 
 
-def moves(line):
+def picture(position):
+    """The position as a board, with the player to move below: each number at the right of a column of four."""
+    own, other, _ = position
+    above, below = ("".join(f"{seeds:4}" for seeds in houses) for houses in (other.houses[::-1], own.houses))
+    return f"    {above}\n{other.store:4}{' ' * len(below)}{own.store:4}\n    {below}\n"
+
+
+def move_text(house, reached, word, boards):
+    """What `moves` and `play` print of a move, and the board below it where boards are drawn."""
+    return f"{house} {text(reached)} {word}\n" + picture(reached) * boards
+
+
+def moves(line, boards=False):
     """`kalah moves LINE`."""
     position = read(line)
     if isinstance(position, str):
         return Run(b"", f"fault {position}\n".encode(), 1)
-    steps = ((house, *after(position, house)) for house in legal(position))
-    return Run("".join(f"{house} {text(reached)} {word}\n" for house, reached, word in steps).encode(), b"", 0)
+    return Run("".join(move_text(house, *after(position, house), boards) for house in legal(position)).encode(), b"", 0)
+
+
+def play(line, boards=False):
+    """`kalah play LINE`."""
+    position = read(line)
+    if isinstance(position, str):
+        return Run(b"", f"fault {position}\n".encode(), 1)
+    said, word = picture(position) * boards, ""
+    while word != "over" and not is_over(position):
+        _, house = best_play(position)
+        position, word = after(position, house)
+        said += move_text(house, position, word, boards)
+    return Run(said.encode(), b"", 0)
 
 
 def answers(subcommand, files):

@@ -14,7 +14,7 @@ from itertools import product, zip_longest
 from pathlib import Path
 
 import reference
-from drawn import BYTES, FILES, LINES, LINES_OF_MOVES, NO_FILES, SUBCOMMANDS, Drawn
+from drawn import BYTES, FILES, LINES, LINES_OF_MOVES, NO_FILES, SUBCOMMANDS, TABLES, Drawn
 from reference import Run
 
 TESTS = Path(__file__).resolve().parent
@@ -26,6 +26,9 @@ sys.setrecursionlimit(100_000)
 MISTAKES = [
     *([], ["stop"], ["help"], ["Solve", "a"], ["--version"], ["-V"], ["-x"], [""], ["--", "solve", "a"], ["--workers", "1", "solve", "a"]),
     *(["moves"], ["moves", "--"], ["moves", "-1/0 1/0"], ["moves", "1/0 1/0", "1/0 1/0"], ["moves", "--workers", "1", "1/0 1/0"]),
+    *(["moves", "--table", "1", "1/0 1/0"], ["moves", "--boards"], ["moves", "--boards=true", "1/0 1/0"], ["moves", "--boards", "--boards", "1/0 1/0"]),
+    *(["play"], ["play", "--"], ["play", "1/0 1/0", "1/0 1/0"], ["play", "--workers", "1", "1/0 1/0"], ["play", "--table", "1/0 1/0"]),
+    *(["play", "--boards=1", "1/0 1/0"], ["play", "--board", "1/0 1/0"], ["play", "--table=0", "1/0 1/0"], ["play", "--table=1048577", "1/0 1/0"]),
     *(["solve"], ["solve", "--"], ["solve", "--workers", "1"], ["solve", "--workers", "a"], ["solve", "a", "--table"], ["solve", "a", "-b"]),
     *(["solve", "--worker", "1", "a"], ["solve", "a", "--workers", "1", "--workers", "1"], ["solve", "a", "--table=1", "--table=1"]),
     *(["solve", f"--workers={n}", "a"] for n in ("", "0", "65", "-1", "four", "4.0", " 4", "4 ", "1e1", "0x4", "４", 2**32 + 4, 2**64 + 4)),
@@ -35,7 +38,7 @@ MISTAKES = [
 
 MISTAKES += [["values", *words[1:]] for words in MISTAKES if words[:1] == ["solve"]]
 
-HELP = [["--help"], ["-h"], ["moves", "--help"], ["moves", "-h"], ["solve", "--help"], ["solve", "-h"], ["solve", "a", "-h"], ["values", "--help"], ["values", "a", "-h"]]
+HELP = [["--help"], ["-h"], ["moves", "--help"], ["moves", "-h"], ["play", "--help"], ["solve", "--help"], ["solve", "-h"], ["solve", "a", "-h"], ["values", "--help"], ["values", "a", "-h"]]
 
 PROGRAM_NAMES = ["kalah", "./kalah", "/bin/kalah", "k l", "é", "-", "--help"]
 
@@ -60,6 +63,8 @@ A_AND_FAULT = b"1/0 1/0\n1/0"
 RUNS = [
     (["moves", "1,1/0 1,1/0"], reference.moves(b"1,1/0 1,1/0")),
     (["moves", "1/0"], reference.moves(b"1/0")),
+    (["play", "--boards", "3,3/0 3,3/0"], reference.play(b"3,3/0 3,3/0", True)),
+    (["play", "1/0"], reference.play(b"1/0")),
     (["solve", "a", "a"], reference.answers("solve", [(b"a", A_AND_FAULT), (b"a", A_AND_FAULT)])),
     (["solve", "a", "b"], reference.answers("solve", [(b"a", A_AND_FAULT), (b"b", None)])),
     (["values", "a", "a"], reference.answers("values", [(b"a", A_AND_FAULT), (b"a", A_AND_FAULT)])),
@@ -68,6 +73,10 @@ STREAMS_OF_RUNS = list(product(STREAMS, RUNS))
 
 # Where answers are read while the run goes on, and how many lines stand before one that takes long.
 FIRST_ANSWERS = list(product(["pipe", "terminal", "file"], [1, 64, 65, 1000]))
+
+# Where the first position of a game is read, whose first move takes half a minute with a table of one entry.
+FIRST_PICTURES = ["pipe", "terminal", "file"]
+LONG_GAME = b"3,2,1,4,4,3/0 1,0,1,3,4,5/0"
 
 # How many workers are seen at work.
 BUSY_WORKERS = [2, 3, 5, 16, 64]
@@ -268,10 +277,19 @@ class Trials:
 
     def moves(self):
         line = self.drawn.line_of_moves(self.drawn.card("lines of moves", LINES_OF_MOVES))
-        want = reference.moves(line) if is_text(line) else reference.failed(b"a word is not UTF-8")
-        dashes = ["--"] if line.startswith(b"-") or self.drawn.happens(0.2) else []
+        self.run_on_line(line, self.drawn.words_of_line("moves", line, []), reference.moves)
+
+    def play(self):
+        line = self.drawn.line_of_play(self.drawn.card("lines of play", LINES_OF_MOVES))
+        table = self.drawn.card("tables of play", TABLES)
+        options = [] if table is None else [f"--table={table}"]
+        self.run_on_line(line, self.drawn.words_of_line("play", line, options), reference.play)
+
+    def run_on_line(self, line, drawn, answer):
+        words, boards = drawn
         self.put({})
-        self.compare(want, self.run(["moves", *dashes, line]))
+        want = answer(line, boards) if is_text(line) else reference.failed(b"a word is not UTF-8")
+        self.compare(want, self.run(words))
 
     def mistakes(self):
         """Of what is said of words that are not taken only the beginning is compared: the rest is the command line's own."""
@@ -334,6 +352,22 @@ class Trials:
         if has_ended:
             raise Differs("the run has ended, though its last lines take long")
 
+    def first_picture(self):
+        """The first position of a game is read while its first move is being found."""
+        place = self.drawn.card("first pictures", FIRST_PICTURES)
+        want = reference.picture(reference.read(LONG_GAME)).encode()
+        self.put({})
+        reader, writer = two_ends(place)
+        with self.start(["play", "--boards", "--table", "1", LONG_GAME], stdout=writer) as process:
+            got = read_soon(reader, len(want))
+            has_ended = process.poll() is not None
+            process.kill()
+        os.close(reader)
+        os.close(writer)
+        self.compare(Run(want, b"", 0), Run(got, b"", 0))
+        if has_ended:
+            raise Differs("the run has ended, though its first move takes long")
+
     def busy_workers(self):
         """As many threads are at work side by side as workers are asked for."""
         workers = self.drawn.card("busy workers", BUSY_WORKERS)
@@ -358,9 +392,11 @@ KINDS = {
     "limits": len(LIMITS),
     "a_pipe_as_file": 10,
     "moves": len(LINES_OF_MOVES),
+    "play": len(LINES_OF_MOVES),
     "mistakes": len(MISTAKES),
     "help": len(HELP),
     "streams": len(STREAMS_OF_RUNS),
     "first_answers": len(FIRST_ANSWERS),
+    "first_picture": len(FIRST_PICTURES),
     "busy_workers": len(BUSY_WORKERS),
 }

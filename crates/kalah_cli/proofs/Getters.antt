@@ -1,5 +1,5 @@
 -- What the getters give, by the rows of the matches.
-use Rattle.std.proofs.Common.{◌≡◌, ◌∙◌, ◌<◌, ◌≤◌, ℕ, true, refl, sym, ap, subst, List, [], Option, Some, None, Result, Ok, Err, is_some, arith, codes, map, length, inl, inr}
+use Rattle.std.proofs.Common.{◌≡◌, ◌∙◌, ◌<◌, ◌≤◌, ℕ, Bool, true, false, refl, sym, ap, subst, List, [], Option, Some, None, Result, Ok, Err, is_some, arith, codes, map, length, inl, inr}
 use Rattle.std.specs.Prelude.{option_map, option_and_then, IfErr, IsErrAnd, MatchResult}
 use Rattle.clap.specs.Values.{kind_of}
 use Rattle.clap.specs.declared.error.kind.ErrorKind.TheVariants.{OutOfMemory}
@@ -10,14 +10,14 @@ use Rattle.clap.specs.Values.{IsUnsignedIn}
 use Rattle.clap.specs.Matches.{ReadsOne, one_text}
 use Rattle.std.proofs.lemmas.List.{length-map}
 use Rattle.std.specs.Borrow.{Bor}
-use Rattle.clap.specs.Walk.{Row, Text, all_of, one_of, rows_of}
+use Rattle.clap.specs.Walk.{Row, Text, all_of, first_of, one_of, rows_of}
 use Rattle.clap.specs.Simple.{App, is_simple, subcommand_of}
 use Rattle.clap.specs.Faults.{fault_of, is_simple_and_free}
 use Rattle.clap.specs.declared.parser.matches.Found.{Found}
 use Rattle.clap.proofs.OnLiterals.{clap_on_literals}
 use Rattle.clap.proofs.WalkLemmas.{one_text-rows}
 use Rattle.kalah_jobs.specs.declared.question.Question.{Question}
-use Rattle.kalah_cli.specs.Request.{Asked, HasNumber, IsAnswers, IsTaken, answers, answers_asked, asked, asked_by, number_of}
+use Rattle.kalah_cli.specs.Request.{Asked, HasFlag, HasNumber, IsAnswers, IsPlay, IsTaken, answers, answers_asked, asked, asked_by, is_set, number_of, play, play_asked}
 use Rattle.kalah_cli.specs.Command.{kalah_app}
 use Rattle.kalah_cli.proofs.Laws.{app_is_simple}
 use Rattle.kalah_cli.proofs.Subcommands.{taken_holds}
@@ -62,6 +62,30 @@ taken_is a words o is none rows =
 -- the number is that of the text of the id
 abbrev Reads : Text → List Row → ℕ → Type 0
 Reads id rows n = (t : List ℕ) → one_of id rows ≡ Some t → n ≡ number_of t
+
+-- the getter of a flag tells whether it is set
+pub flag_read : (f : Found) (id : Text) (r : Bool) → HasFlag id (rows_of f) → (one_text f id ≡ None → r ≡ false)
+    → (one_text f id ≡ Some (codes "true") → r ≡ true) → (one_text f id ≡ Some (codes "false") → r ≡ false) → r ≡ is_set id (rows_of f)
+flag_read f id r has absent set unset = go (one_of id (rows_of f)) refl
+  where
+    go : (o : Option Text) → one_of id (rows_of f) ≡ o → r ≡ is_set id (rows_of f)
+    go None is = rw (absent (one_text-rows f id ∙ is), is) refl
+    go (Some t) is = elim (has t is) [
+      | inl said ↦ let at : one_of id (rows_of f) ≡ Some (codes "true") = is ∙ ap (λ x. Some x) said in rw (set (one_text-rows f id ∙ at), at) refl
+      | inr said ↦ let at : one_of id (rows_of f) ≡ Some (codes "false") = is ∙ ap (λ x. Some x) said in rw (unset (one_text-rows f id ∙ at), at) refl
+    ]
+
+-- what the getters give is what the matches of `play` ask for
+pub game_is : (rows : List Row) (has : IsPlay rows) (table : ℕ) (boards : Bool) (line : Text) → Reads (codes "table") rows table
+    → boards ≡ is_set (codes "boards") rows → first_of (codes "line") rows ≡ Some line → play_asked rows ≡ Some (play table boards line)
+game_is rows has table boards line is_table is_boards is_line = rw (has.0.1, is_line, is_table has.0.0 has.0.1, is_boards) refl
+
+-- and it is in range
+pub game_in_range : (rows : List Row) (has : IsPlay rows) (table : ℕ) → Reads (codes "table") rows table → (1 ≤ table) × (table ≤ 1048576)
+game_in_range rows has table is_table =
+    let t = is_table has.0.0 has.0.1 in
+    let b = has.0.2 in
+    (rw t b.2, rw t b.3)
 
 -- what the getters give is what the matches of `solve` and `values` ask for
 pub answers_are : (question : Question) (rows : List Row) (has : IsAnswers rows) (workers table : ℕ) (files : List Text) → Reads (codes "workers") rows workers

@@ -4,14 +4,14 @@ use Rattle.clap.specs.Words.{Row, Text, subcommand_of}
 use Rattle.clap.specs.Faults.{fault_of, is_simple_and_free}
 use Rattle.clap.proofs.OnLiterals.{clap_on_literals}
 use Rattle.kalah_cli.specs.Command.{kalah_app}
-use Rattle.kalah_cli.specs.Request.{Asked, IsPlainWord, IsTakenAs, asked, asked_by, moves}
+use Rattle.kalah_cli.specs.Request.{Asked, IsPlainWord, IsTakenAs, asked, asked_by, moves, play}
 use Rattle.std.specs.Prelude.{option_and_then}
 use Rattle.std.proofs.lemmas.Bool.{ne_eqb}
 use Rattle.clap.specs.Values.{kind_of}
 use Rattle.clap.specs.Kinds.{HasKind}
 use Rattle.clap.specs.declared.error.Error.{Error}
 use Rattle.clap.specs.declared.builder.value_parser.Reading.TheVariants.{AsWritten}
-use Rattle.clap.specs.declared.parser.matches.ValueSource.TheVariants.{CommandLine}
+use Rattle.clap.specs.declared.parser.matches.ValueSource.TheVariants.{CommandLine, DefaultValue}
 use Rattle.clap.specs.declared.error.kind.ErrorKind.TheVariants.{OutOfMemory}
 
 -- the parse of the program is exact, in both outcomes
@@ -29,46 +29,68 @@ line_row line = record {
   reading = AsWritten;
 }
 
+-- the row of an option that the words don't give
+abbrev default_row : Text → Text → Row
+default_row id value = record {
+  id = id;
+  values = value ∷ [];
+  count = None;
+  source = Some DefaultValue;
+  reading = AsWritten;
+}
+
 -- `moves` and a plain word have no fault
-pub moves_passes : (name : Text) (x : ℕ) (xs : Text) → (x == 45) ≡ false
+moves_passes : (name : Text) (x : ℕ) (xs : Text) → (x == 45) ≡ false
     → fault_of kalah_app (name ∷ codes "moves" ∷ (x ∷ xs) ∷ []) ≡ []
 unfolding clap_on_literals
 moves_passes name x xs e = simp e refl
 
--- and their match is that word
-pub moves_matches : (name : Text) (x : ℕ) (xs : Text) → (x == 45) ≡ false
-    → subcommand_of kalah_app (name ∷ codes "moves" ∷ (x ∷ xs) ∷ []) ≡ Some (codes "moves", line_row (x ∷ xs) ∷ [])
+-- and their matches are that word, with no boards
+moves_matches : (name : Text) (x : ℕ) (xs : Text) → (x == 45) ≡ false
+    → subcommand_of kalah_app (name ∷ codes "moves" ∷ (x ∷ xs) ∷ [])
+    ≡ Some (codes "moves", line_row (x ∷ xs) ∷ default_row (codes "boards") (codes "false") ∷ [])
 unfolding clap_on_literals
 moves_matches name x xs e = simp e refl
 
--- what `moves` asks for
-pub moves_asked_for : (name line : Text) → IsPlainWord line → asked (name ∷ codes "moves" ∷ line ∷ []) ≡ Some (moves line)
-moves_asked_for name [] plain = absurd plain
-moves_asked_for name (x ∷ xs) plain = ap (option_and_then asked_by) (moves_matches name x xs (ne_eqb _ _ plain))
+-- so they are taken as the moves of that word
+pub moves_taken : (name line : Text) → IsPlainWord line → IsTakenAs (name ∷ codes "moves" ∷ line ∷ []) (moves false line)
+moves_taken name [] plain = absurd plain
+moves_taken name (x ∷ xs) plain =
+    (moves_passes name x xs (ne_eqb _ _ plain), ap (option_and_then asked_by) (moves_matches name x xs (ne_eqb _ _ plain)))
 
--- and have no fault
-pub moves_no_fault : (name line : Text) → IsPlainWord line → fault_of kalah_app (name ∷ codes "moves" ∷ line ∷ []) ≡ []
-moves_no_fault name [] plain = absurd plain
-moves_no_fault name (x ∷ xs) plain = moves_passes name x xs (ne_eqb _ _ plain)
+-- `play` and a plain word have no fault
+play_passes : (name : Text) (x : ℕ) (xs : Text) → (x == 45) ≡ false
+    → fault_of kalah_app (name ∷ codes "play" ∷ (x ∷ xs) ∷ []) ≡ []
+unfolding clap_on_literals
+play_passes name x xs e = simp e refl
+
+-- and their matches are that word, with a table of the default size and no boards
+play_matches : (name : Text) (x : ℕ) (xs : Text) → (x == 45) ≡ false
+    → subcommand_of kalah_app (name ∷ codes "play" ∷ (x ∷ xs) ∷ [])
+    ≡ Some (codes "play", line_row (x ∷ xs) ∷ default_row (codes "table") (codes "65536") ∷ default_row (codes "boards") (codes "false") ∷ [])
+unfolding clap_on_literals
+play_matches name x xs e = simp e refl
+
+-- so they are taken as the game of that word
+pub play_taken : (name line : Text) → IsPlainWord line → IsTakenAs (name ∷ codes "play" ∷ line ∷ []) (play 65536 false line)
+play_taken name [] plain = absurd plain
+play_taken name (x ∷ xs) plain =
+    (play_passes name x xs (ne_eqb _ _ plain), ap (option_and_then asked_by) (play_matches name x xs (ne_eqb _ _ plain)))
 
 -- what such words ask for is the moves of the word
 pub moves_given : (words : List Text) (a : Asked) → asked words ≡ Some a → (name line : Text) → words ≡ name ∷ codes "moves" ∷ line ∷ []
-    → IsPlainWord line → a ≡ moves line
+    → IsPlainWord line → a ≡ moves false line
 moves_given words a is name line same plain =
     let at : asked (name ∷ codes "moves" ∷ line ∷ []) ≡ Some a = subst (λ ws. asked ws ≡ Some a) same is in
-    let known = moves_asked_for name line plain in
+    let known = (moves_taken name line plain).1 in
     cc
 
 -- they are refused for want of memory alone
 pub moves_by_memory : (words : List Text) (e : Error) → HasKind (fault_of kalah_app words) e → (name line : Text) → words ≡ name ∷ codes "moves" ∷ line ∷ []
     → IsPlainWord line → kind_of e ≡ OutOfMemory
 moves_by_memory words e has name line same plain =
-    let none : fault_of kalah_app words ≡ [] = ap (fault_of kalah_app) same ∙ moves_no_fault name line plain in
+    let none : fault_of kalah_app words ≡ [] = ap (fault_of kalah_app) same ∙ (moves_taken name line plain).0 in
     elim (subst (λ ks. HasKind ks e) none has) [ inl memory ↦ memory | inr bad ↦ absurd bad ]
-
--- they are taken
-pub moves_taken : (name line : Text) → IsPlainWord line → IsTakenAs (name ∷ codes "moves" ∷ line ∷ []) (moves line)
-moves_taken name line plain = (moves_no_fault name line plain, moves_asked_for name line plain)
 
 -- words are taken as one thing
 pub taken_once : (words : List Text) (a b : Asked) → IsTakenAs words a → IsTakenAs words b → a ≡ b

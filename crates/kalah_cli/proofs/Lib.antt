@@ -1,7 +1,8 @@
+pub mod Names
+pub mod Laws
 pub mod Kept
 pub mod Subcommands
-pub mod Laws
 pub mod Getters
-pub mod Taken
 pub mod Plain
-pub mod Names
+pub mod Taken
+pub mod Played

@@ -1,16 +1,16 @@
--- What the matches of the three subcommands hold, where the words are taken.
-use Rattle.std.proofs.Common.{◌≡◌, ◌⊎◌, ◌∙◌, ◌++◌, ◌<◌, ℕ, Bool, cond, true, false, refl, ap, subst, inl, inr, List, [], ◌∷◌, Option, Some, None, arith, length, is_some, ◌||◌, not, codes, length-append}
-use Rattle.std.specs.Prelude.{find, option_map}
+-- What the matches of the four subcommands hold, where the words are taken.
+use Rattle.std.proofs.Common.{◌≡◌, ◌⊎◌, ◌∙◌, ◌++◌, ◌<◌, ℕ, Bool, cond, true, false, refl, ap, subst, sym, inl, inr, List, [], ◌∷◌, Option, Some, None, arith, length, is_some, ◌||◌, not, codes, length-append}
+use Rattle.std.specs.Prelude.{find, nat_lt, option_and_then, option_map, slice_get}
 use Rattle.std.specs.List.{fold, list_any}
 use Rattle.std.specs.Option.{option_map_or}
 use Rattle.std.specs.Str.{bytes_eq}
 use Rattle.std.proofs.lemmas.Slice.Eq.{bytes_eq-Decides}
-use Rattle.clap.specs.Values.{Accepts, IsUnsignedIn, refused_kind}
+use Rattle.clap.specs.Values.{Accepts, IsUnsignedIn, read_as, refused_kind}
 use Rattle.clap.specs.ValueTests.{accepts}
 use Rattle.clap.proofs.ValueTestLemmas.{accepts-Accepts}
-use Rattle.clap.specs.Facts.{explicit_source}
+use Rattle.clap.specs.Facts.{explicit_source, unwrap_or_range}
 use Rattle.clap.specs.Kinds.{check_kinds, or_else, values_kinds}
-use Rattle.clap.specs.Walk.{Row, Rule, Text, answers_to, at_row, default_rows, first_of, has_row, more_values, nothing_held, reading_by, rows_after, settled, stronger, walk, with_default}
+use Rattle.clap.specs.Walk.{Row, Rule, Text, action_of, answers_to, at_row, default_rows, first_of, has_row, more_values, nothing_held, reading_by, row_text, rows_after, settled, walk, with_default}
 use Rattle.clap.specs.Simple.{App, Shape, argument_words, built, built_leaf, entered, filled, help_rule, inherited, label_of, marked_built, names_of, rows_at, subcommand_of, with_index, with_leaf_noted}
 use Rattle.clap.specs.Takes.{is_given}
 use Rattle.clap.specs.Faults.{check_fault, entered_fault, fault_of, level_fault}
@@ -18,9 +18,11 @@ use Rattle.clap.specs.declared.builder.value_parser.Reading.{Reading}
 use Rattle.clap.specs.declared.builder.value_parser.Reading.TheVariants.{AsWritten}
 use Rattle.clap.specs.declared.builder.value_parser.ValueParser.{ValueParser}
 use Rattle.clap.specs.declared.builder.value_parser.ValueParser.TheVariants.{Unsigned}
+use Rattle.clap.specs.declared.builder.value_parser.ValueParser.TheVariants as vp
 use Rattle.clap.specs.declared.parser.matches.ValueSource.{ValueSource}
-use Rattle.kalah_cli.specs.Command.{answers_app, file_rule, kalah_app, moves_app, table_rule, workers_rule}
-use Rattle.kalah_cli.specs.Request.{HasNumber, IsAnswers, IsMoves}
+use Rattle.clap.specs.declared.builder.action.ArgAction.TheVariants.{Append, Help, Set, SetTrue}
+use Rattle.kalah_cli.specs.Command.{answers_app, boards_rule, file_rule, kalah_app, line_rule, moves_app, play_app, table_rule, workers_rule}
+use Rattle.kalah_cli.specs.Request.{HasFlag, HasLine, HasNumber, HasWhatItNeeds, IsAnswers, IsMoves, IsPlay}
 use Rattle.kalah_cli.proofs.Kept.{AllOf, Gives, both_all, found_all, kept_level, level_parts}
 
 -- ---- values
@@ -40,98 +42,152 @@ values_pass ignore_case p (v ∷ vs) e =
 abbrev Ranged : Text → ℕ → Row → Type 0
 Ranged id high r = bytes_eq r.id id ≡ true → (r.reading ≡ AsWritten) × AllOf (IsUnsignedIn 1 high) r.values
 
--- what holds of each row of `solve` and `values`
-abbrev Sound : Row → Type 0
-Sound r = (0 < length r.values) × Ranged (codes "workers") 64 r × Ranged (codes "table") 1048576 r
+-- a row of the id says true or false, read as it is written
+abbrev Flagged : Text → Row → Type 0
+Flagged id r = bytes_eq r.id id ≡ true → (r.reading ≡ AsWritten) × AllOf (Accepts false vp.Bool) r.values
+
+-- what holds of each row of a subcommand
+pub record Sound (r : Row) : Type 0 where
+  pub some : 0 < length r.values
+  pub workers : Ranged (codes "workers") 64 r
+  pub table : Ranged (codes "table") 1048576 r
+  pub boards : Flagged (codes "boards") r
 
 -- a list that has an item has one after more were added
 more_than : (xs ys : List Text) → 0 < length xs → 0 < length (xs ++ ys)
 more_than xs ys h = simp length-append (omega arith)
 
 -- a row of another id
-elsewhere : (id other : Text) (high : ℕ) (r : Row) → bytes_eq r.id other ≡ true → bytes_eq other id ≡ false → Ranged id high r
-elsewhere id other high r is differs same =
+elsewhere : {Q : Type 0} (id other : Text) (r : Row) → bytes_eq r.id other ≡ true → bytes_eq other id ≡ false → bytes_eq r.id id ≡ true → Q
+elsewhere id other r is differs same =
     let named : r.id ≡ other = (bytes_eq-Decides r.id other).0 is in
     let bad : bytes_eq other id ≡ true = subst (λ t. bytes_eq t id ≡ true) named same in
-    cc
+    absurd (let both : true ≡ false = sym bad ∙ differs in cc)
 
 -- `moves`, as built under the program
 abbrev moves_shape : Shape
 moves_shape = built_leaf (inherited (marked_built (with_leaf_noted kalah_app.top)) moves_app.top)
 
+-- `play`, as built under the program
+abbrev play_shape : Shape
+play_shape = built_leaf (inherited (marked_built (with_leaf_noted kalah_app.top)) play_app.top)
+
 -- `solve` or `values`, as built under the program
 abbrev answers_shape : Text → Shape
 answers_shape name = built_leaf (inherited (marked_built (with_leaf_noted kalah_app.top)) (answers_app name).top)
 
--- a row with more values
-abbrev grown : ValueSource → Row → List Text → Row
-grown s r vs = record r { values = r.values ++ vs; source = Some (stronger r.source s) }
+-- the arguments, as built
+abbrev workers_built : Rule
+workers_built = with_index 1 (filled workers_rule)
 
--- each argument of `solve` and `values` gives rows of that kind
+abbrev table_built : Rule
+table_built = with_index 1 (filled table_rule)
+
+abbrev boards_built : Rule
+boards_built = with_index 1 (filled boards_rule)
+
+abbrev file_built : Rule
+file_built = with_index 1 (filled file_rule)
+
+abbrev line_built : Rule
+line_built = with_index 1 (filled line_rule)
+
+abbrev help_built : Rule
+help_built = with_index 2 (filled help_rule)
+
+-- each gives rows of that kind: the number of workers
+workers_give : Gives Sound workers_built
+workers_give = record {
+  action = inr (inl (inl refl, refl));
+  first = λ s v vs e. record {
+    some = omega arith;
+    workers = λ same. (refl, values_pass false (Unsigned 1 64) (v ∷ vs) e);
+    table = λ bad. cc;
+    boards = λ bad. cc;
+  };
+  more = λ s r vs is p e. record {
+    some = more_than r.values vs p.some;
+    workers = λ same. ((p.workers same).0, both_all _ r.values vs (p.workers same).1 (values_pass false (Unsigned 1 64) vs e));
+    table = elsewhere (codes "table") (codes "workers") r is refl;
+    boards = elsewhere (codes "boards") (codes "workers") r is refl;
+  };
+}
+
+-- the entries of a table
+table_gives : Gives Sound table_built
+table_gives = record {
+  action = inr (inl (inl refl, refl));
+  first = λ s v vs e. record {
+    some = omega arith;
+    workers = λ bad. cc;
+    table = λ same. (refl, values_pass false (Unsigned 1 1048576) (v ∷ vs) e);
+    boards = λ bad. cc;
+  };
+  more = λ s r vs is p e. record {
+    some = more_than r.values vs p.some;
+    workers = elsewhere (codes "workers") (codes "table") r is refl;
+    table = λ same. ((p.table same).0, both_all _ r.values vs (p.table same).1 (values_pass false (Unsigned 1 1048576) vs e));
+    boards = elsewhere (codes "boards") (codes "table") r is refl;
+  };
+}
+
+-- whether boards are drawn
+boards_give : Gives Sound boards_built
+boards_give = record {
+  action = inr (inr (refl, omega arith));
+  first = λ s v vs e. record {
+    some = omega arith;
+    workers = λ bad. cc;
+    table = λ bad. cc;
+    boards = λ same. (refl, values_pass false vp.Bool (v ∷ vs) e);
+  };
+  more = λ s r vs is p e. record {
+    some = more_than r.values vs p.some;
+    workers = elsewhere (codes "workers") (codes "boards") r is refl;
+    table = elsewhere (codes "table") (codes "boards") r is refl;
+    boards = λ same. ((p.boards same).0, both_all _ r.values vs (p.boards same).1 (values_pass false vp.Bool vs e));
+  };
+}
+
+-- any other argument
+other_gives : (a : Rule) → (action_of a ≡ Help)
+    ⊎ ((((action_of a ≡ Set) ⊎ (action_of a ≡ Append)) × (nat_lt 0 (unwrap_or_range a.range).start_inclusive ≡ true))
+    ⊎ ((action_of a ≡ SetTrue) × (0 < length a.missing)))
+    → bytes_eq a.id (codes "workers") ≡ false → bytes_eq a.id (codes "table") ≡ false → bytes_eq a.id (codes "boards") ≡ false → Gives Sound a
+other_gives a action no_workers no_table no_boards = record {
+  action = action;
+  first = λ s v vs e. record {
+    some = omega arith;
+    workers = λ bad. cc;
+    table = λ bad. cc;
+    boards = λ bad. cc;
+  };
+  more = λ s r vs is p e. record {
+    some = more_than r.values vs p.some;
+    workers = elsewhere (codes "workers") a.id r is no_workers;
+    table = elsewhere (codes "table") a.id r is no_table;
+    boards = elsewhere (codes "boards") a.id r is no_boards;
+  };
+}
+
+file_gives : Gives Sound file_built
+file_gives = other_gives file_built (inr (inl (inr refl, refl))) refl refl refl
+
+line_gives : Gives Sound line_built
+line_gives = other_gives line_built (inr (inl (inl refl, refl))) refl refl refl
+
+help_gives : Gives Sound help_built
+help_gives = other_gives help_built (inl refl) refl refl refl
+
+-- so the arguments of each subcommand do
+moves_give : AllOf (Gives Sound) moves_shape.rules
+moves_give = (boards_give, (line_gives, (help_gives, tt)))
+
+play_gives : AllOf (Gives Sound) play_shape.rules
+play_gives = (table_gives, (boards_give, (line_gives, (help_gives, tt))))
+
 answers_give : (name : Text) → AllOf (Gives Sound) (answers_shape name).rules
-answers_give name = (
-  record {
-    action = inr (inl refl, refl);
-    first = λ s v vs e. (omega arith, λ same. (refl, values_pass false (Unsigned 1 64) (v ∷ vs) e), λ bad. cc);
-    more = λ s r vs is p e. (
-      more_than r.values vs p.0,
-      λ same. ((p.1 same).0, both_all _ r.values vs (p.1 same).1 (values_pass false (Unsigned 1 64) vs e)),
-      elsewhere (codes "table") (codes "workers") 1048576 (grown s r vs) is refl,
-    );
-  },
-  (
-    record {
-      action = inr (inl refl, refl);
-      first = λ s v vs e. (omega arith, λ bad. cc, λ same. (refl, values_pass false (Unsigned 1 1048576) (v ∷ vs) e));
-      more = λ s r vs is p e. (
-        more_than r.values vs p.0,
-        elsewhere (codes "workers") (codes "table") 64 (grown s r vs) is refl,
-        λ same. ((p.2 same).0, both_all _ r.values vs (p.2 same).1 (values_pass false (Unsigned 1 1048576) vs e)),
-      );
-    },
-    (
-      record {
-        action = inr (inr refl, refl);
-        first = λ s v vs e. (omega arith, λ bad. cc, λ bad. cc);
-        more = λ s r vs is p e. (
-          more_than r.values vs p.0,
-          elsewhere (codes "workers") (codes "file") 64 (grown s r vs) is refl,
-          elsewhere (codes "table") (codes "file") 1048576 (grown s r vs) is refl,
-        );
-      },
-      (
-        record {
-          action = inl refl;
-          first = λ s v vs e. (omega arith, λ bad. cc, λ bad. cc);
-          more = λ s r vs is p e. (
-            more_than r.values vs p.0,
-            elsewhere (codes "workers") (codes "help") 64 (grown s r vs) is refl,
-            elsewhere (codes "table") (codes "help") 1048576 (grown s r vs) is refl,
-          );
-        },
-        tt,
-      ),
-    ),
-  ),
-)
-
--- each argument of `moves` gives rows with a value
-moves_gives : AllOf (Gives (λ r. 0 < length r.values)) moves_shape.rules
-moves_gives = (
-  record {
-    action = inr (inl refl, refl);
-    first = λ s v vs e. omega arith;
-    more = λ s r vs is p e. more_than r.values vs p;
-  },
-  (
-    record {
-      action = inl refl;
-      first = λ s v vs e. omega arith;
-      more = λ s r vs is p e. more_than r.values vs p;
-    },
-    tt,
-  ),
-)
+answers_give name = (workers_give, (table_gives, (file_gives, (help_gives, tt))))
 
 -- ---- what is there
 
@@ -232,19 +288,6 @@ row_in id rows e =
     let got = any_found (λ r. bytes_eq r.id id) rows e in
     (got.0, got.1)
 
--- the arguments of `solve` and `values`, as built
-abbrev workers_built : Rule
-workers_built = with_index 1 (filled workers_rule)
-
-abbrev table_built : Rule
-table_built = with_index 1 (filled table_rule)
-
-abbrev file_built : Rule
-file_built = with_index 1 (filled file_rule)
-
-abbrev help_built : Rule
-help_built = with_index 2 (filled help_rule)
-
 -- a row that is found has the id
 found_named : (id : Text) (rows : List Row) (r : Row) → find (λ r. bytes_eq r.id id) rows ≡ Some r → bytes_eq r.id id ≡ true
 found_named id [] r e = cc
@@ -265,9 +308,16 @@ file_given name rows e = go (is_given (codes "file") rows) e
     go true f = refl
     go false f = cc
 
--- the last checks of `moves` pass only where a line is given
+-- the last checks of `moves` and `play` pass only where a line is given
 line_given : (rows : List Row) → check_fault moves_shape rows false ≡ [] → is_given (codes "line") rows ≡ true
 line_given rows e = go (is_given (codes "line") rows) e
+  where
+    go : (b : Bool) → check_kinds false false (not b || (false || false)) ≡ [] → b ≡ true
+    go true f = refl
+    go false f = cc
+
+played_line_given : (rows : List Row) → check_fault play_shape rows false ≡ [] → is_given (codes "line") rows ≡ true
+played_line_given rows e = go (is_given (codes "line") rows) e
   where
     go : (b : Bool) → check_kinds false false (not b || (false || false)) ≡ [] → b ≡ true
     go true f = refl
@@ -290,9 +340,9 @@ answers_hold name words e =
     let workers_sound = found_row Sound (codes "workers") rows workers.0 level.0 workers.1 in
     let table_sound = found_row Sound (codes "table") rows table.0 level.0 table.1 in
     let file_sound = found_row Sound (codes "file") rows file.0 level.0 file.1 in (
-      number_in (codes "workers") 64 rows workers.0 workers.1 workers_sound.0 (workers_sound.1 (found_named (codes "workers") rows workers.0 workers.1)),
-      number_in (codes "table") 1048576 rows table.0 table.1 table_sound.0 (table_sound.2 (found_named (codes "table") rows table.0 table.1)),
-      (file.0.values, ap (option_map (λ (r : Row). r.values)) file.1, file_sound.0),
+      number_in (codes "workers") 64 rows workers.0 workers.1 workers_sound.some (workers_sound.workers (found_named (codes "workers") rows workers.0 workers.1)),
+      number_in (codes "table") 1048576 rows table.0 table.1 table_sound.some (table_sound.table (found_named (codes "table") rows table.0 table.1)),
+      (file.0.values, ap (option_map (λ (r : Row). r.values)) file.1, file_sound.some),
     )
 
 -- a row with a value has a first value
@@ -304,14 +354,63 @@ first_in id rows r found some = go r.values refl some
     go [] e lt = absurd (omega arith)
     go (v ∷ vs) e lt = (v, rw (found, e) refl)
 
+-- a row that says true or false does so in the text that is read
+flag_of : (r : Row) (t : Text) → (r.reading ≡ AsWritten) × AllOf (Accepts false vp.Bool) r.values → row_text r ≡ Some t
+    → (t ≡ codes "true") ⊎ (t ≡ codes "false")
+flag_of r t ok is = go r.values r.reading ok.1 ok.0 is
+  where
+    said : (v : Text) (b : Bool) → bytes_eq v (codes "true") ≡ b → (b || bytes_eq v (codes "false")) ≡ true → (v ≡ codes "true") ⊎ (v ≡ codes "false")
+    said v true e h = inl ((bytes_eq-Decides v (codes "true")).0 e)
+    said v false e h = inr ((bytes_eq-Decides v (codes "false")).0 h)
+
+    go : (vs : List Text) (how : Reading) → AllOf (Accepts false vp.Bool) vs → how ≡ AsWritten → option_map (read_as how) (slice_get vs 0) ≡ Some t
+        → (t ≡ codes "true") ⊎ (t ≡ codes "false")
+    go [] how all as_written e = cc
+    go (v ∷ vs) how all as_written e =
+        let same : v ≡ t = (let read = rw as_written at e in cc) in
+        subst (λ x. (x ≡ codes "true") ⊎ (x ≡ codes "false")) same (said v (bytes_eq v (codes "true")) refl all.0)
+
+-- so the rows say of `--boards` that it is set, that it isn't, or nothing
+boards_flag : (rows : List Row) → AllOf Sound rows → HasFlag (codes "boards") rows
+boards_flag rows all = λ t e. go t (find (λ r. bytes_eq r.id (codes "boards")) rows) refl e
+  where
+    go : (t : Text) (o : Option Row) → find (λ r. bytes_eq r.id (codes "boards")) rows ≡ o → option_and_then row_text o ≡ Some t
+        → (t ≡ codes "true") ⊎ (t ≡ codes "false")
+    go t None is e = cc
+    go t (Some r) is e =
+        flag_of r t ((found_row Sound (codes "boards") rows r all is).boards (found_named (codes "boards") rows r is)) e
+
+-- rows to which a line is given have one
+line_in : (rows : List Row) → AllOf Sound rows → is_given (codes "line") rows ≡ true → HasLine rows
+line_in rows all given =
+    let line = given_row (codes "line") rows given in
+    first_in (codes "line") rows line.0 line.1 (found_row Sound (codes "line") rows line.0 all line.1).some
+
 -- matches of `moves` without a fault have what it needs
-pub moves_holds : (words : List Text) → level_fault moves_shape [] nothing_held words false [] ≡ []
+pub moves_hold : (words : List Text) → level_fault moves_shape [] nothing_held words false [] ≡ []
     → IsMoves (rows_after moves_shape.rules [] words)
-moves_holds words e =
-    let level = kept_level (λ r. 0 < length r.values) moves_shape moves_gives [] words false [] e in
+moves_hold words e =
+    let level = kept_level Sound moves_shape moves_give [] words false [] e in
     let rows = rows_after moves_shape.rules [] words in
-    let line = given_row (codes "line") rows (line_given rows level.1) in
-    first_in (codes "line") rows line.0 line.1 (found_row (λ r. 0 < length r.values) (codes "line") rows line.0 level.0 line.1)
+    (boards_flag rows level.0, line_in rows level.0 (line_given rows level.1))
+
+-- rows with an entry for the table have its number
+table_in : (rows : List Row) → AllOf Sound rows → has_row (codes "table") rows ≡ true → HasNumber (codes "table") 1048576 rows
+table_in rows all has =
+    let table = row_in (codes "table") rows has in
+    let sound = found_row Sound (codes "table") rows table.0 all table.1 in
+    number_in (codes "table") 1048576 rows table.0 table.1 sound.some (sound.table (found_named (codes "table") rows table.0 table.1))
+
+-- matches of `play` without a fault have what it needs
+pub play_holds : (words : List Text) → level_fault play_shape [] nothing_held words false [] ≡ []
+    → IsPlay (rows_after play_shape.rules [] words)
+play_holds words e =
+    let level = kept_level Sound play_shape play_gives [] words false [] e in
+    let rows = rows_after play_shape.rules [] words in
+    let start = (settled play_shape.rules (walk play_shape.rules [] nothing_held words).held).rows in
+    let table = rows_stay (codes "table") (boards_built ∷ line_built ∷ help_built ∷ []) (with_default start table_built)
+    (default_made start table_built (codes "65536") [] refl refl) in
+    (table_in rows level.0 table, boards_flag rows level.0, line_in rows level.0 (played_line_given rows level.1))
 
 -- ---- the subcommand that the words name
 
@@ -332,10 +431,6 @@ entered_holds G a (Some p) all some e = go (find (λ s. answers_to p.0 (label_of
     go None is f g = cc
     go (Some s) is f g = (s.name, rows_after s.rules [] p.1, refl, found_all (Level G) (λ s. answers_to p.0 (label_of s)) a.subs s all is p.1 g)
 
--- the matches of a subcommand have what it asks for
-abbrev pub Holds : Text → List Row → Type 0
-Holds name rows = ((name ≡ codes "moves") × IsMoves rows) ⊎ (((name ≡ codes "solve") ⊎ (name ≡ codes "values")) × IsAnswers rows)
-
 -- the last checks of the program pass only where a subcommand is met
 needs_subcommand : (rows : List Row) (b : Bool) → check_fault (built kalah_app).top rows b ≡ [] → b ≡ true
 needs_subcommand rows true e = refl
@@ -343,12 +438,20 @@ needs_subcommand rows false e = cc
 
 -- words that fail by no kind name a subcommand, whose matches have what it asks for
 pub taken_holds : (words : List Text) → fault_of kalah_app words ≡ []
-    → (name : Text) × (rows : List Row) × (subcommand_of kalah_app words ≡ Some (name, rows)) × Holds name rows
+    → (name : Text) × (rows : List Row) × (subcommand_of kalah_app words ≡ Some (name, rows)) × HasWhatItNeeds name rows
 taken_holds words e =
     let rest = argument_words kalah_app words in
     let stop = (walk (built kalah_app).top.rules (names_of (built kalah_app)) nothing_held rest).stopped in
     let parts = level_parts (built kalah_app).top (names_of (built kalah_app)) rest (is_some (entered (built kalah_app) stop))
     (entered_fault (built kalah_app) stop) e in
-    entered_holds Holds (built kalah_app) stop
-    (λ words f. inl (refl, moves_holds words f), (λ words f. inr (inl refl, answers_hold (codes "solve") words f), (λ words f. inr (inr refl, answers_hold (codes "values") words f), tt)))
+    entered_holds HasWhatItNeeds (built kalah_app) stop (
+      λ words f. inl (refl, moves_hold words f),
+      (
+        λ words f. inr (inl (refl, play_holds words f)),
+        (
+          λ words f. inr (inr (inl refl, answers_hold (codes "solve") words f)),
+          (λ words f. inr (inr (inr refl, answers_hold (codes "values") words f)), tt),
+        ),
+      ),
+    )
     (needs_subcommand (rows_after (built kalah_app).top.rules (names_of (built kalah_app)) rest) (is_some (entered (built kalah_app) stop)) parts.1) parts.0

@@ -1,5 +1,5 @@
--- What the words of `moves`, `solve` and `values` are taken as.
-use Rattle.std.proofs.Common.{◌≡◌, ◌≢◌, ◌∙◌, inl, inr, ℕ, List, [], ◌∷◌, codes, map, string_bytes, subst, sym, String, Global}
+-- What words are taken as, and what is done of it.
+use Rattle.std.proofs.Common.{◌≡◌, ◌≢◌, ◌∙◌, inl, inr, ℕ, false, List, [], ◌∷◌, Option, codes, map, string_bytes, subst, sym, String, Global}
 use Rattle.clap.specs.Values.{kind_of}
 use Rattle.clap.specs.Walk.{Text}
 use Rattle.clap.specs.Faults.{fault_of}
@@ -7,52 +7,36 @@ use Rattle.clap.specs.Kinds.{HasKind, IsAmong}
 use Rattle.clap.specs.declared.error.Error.{Error}
 use Rattle.clap.specs.declared.error.kind.ErrorKind.TheVariants.{DisplayHelp, OutOfMemory}
 use Rattle.kalah_cli.specs.Command.{kalah_app}
-use Rattle.kalah_cli.specs.Request.{Asked, IsPlainWord, IsTakenAs, answers, asked_for, moves}
-use Rattle.kalah_cli.specs.declared.request.Request.{Request}
-use Rattle.kalah_jobs.specs.declared.question.Question.{Question}
-use Rattle.kalah_cli.proofs.Laws.{moves_taken, taken_once}
-
--- the text of each word
-abbrev pub texts_of : List (String Global) → List Text
-texts_of words = map (λ word. string_bytes word) words
+use Rattle.kalah_cli.specs.Request.{Asked, texts_of, IsPlainWord, IsTakenAs, answers, moves, play}
+use Rattle.kalah_cli.specs.Runs.{Does, IsOfLine}
+use Rattle.kalah_cli.specs.declared.status.ExitStatus.{ExitStatus}
+use Rattle.kalah_cli.specs.declared.status.ExitStatus.TheVariants.{Clean, Failed}
+use Rattle.kalah_cli.proofs.Laws.{moves_taken, play_taken, taken_once}
 
 -- `moves` and a plain word are taken as the moves of that word
-pub words_taken : (words : List Text) (name line : Text) → words ≡ name ∷ codes "moves" ∷ line ∷ [] → IsPlainWord line → IsTakenAs words (moves line)
-words_taken words name line is plain = subst (λ ws. IsTakenAs ws (moves line)) (sym is) (moves_taken name line plain)
+pub moves_of : (words : List Text) (name line : Text) → words ≡ name ∷ codes "moves" ∷ line ∷ [] → IsPlainWord line → IsTakenAs words (moves false line)
+moves_of words name line is plain = subst (λ ws. IsTakenAs ws (moves false line)) (sym is) (moves_taken name line plain)
 
--- what they are taken as has that line
-pub same_line : (words : List Text) (name line got : Text) → words ≡ name ∷ codes "moves" ∷ line ∷ [] → IsPlainWord line
-    → IsTakenAs words (moves got) → got ≡ line
-same_line words name line got is plain taken =
-    let same = taken_once words (moves got) (moves line) taken (words_taken words name line is plain) in
-    cc
+-- `play` and a plain word as its game
+pub game_of : (words : List Text) (name line : Text) → words ≡ name ∷ codes "play" ∷ line ∷ [] → IsPlainWord line → IsTakenAs words (play 65536 false line)
+game_of words name line is plain = subst (λ ws. IsTakenAs ws (play 65536 false line)) (sym is) (play_taken name line plain)
 
--- they are not taken as `solve` or `values`
-pub not_answers : (words : List Text) (name line : Text) (q : Question) (w t : ℕ) (fs : List Text) → words ≡ name ∷ codes "moves" ∷ line ∷ [] → IsPlainWord line
-    → IsTakenAs words (answers q w t fs) → ⊥
-not_answers words name line q w t fs is plain taken =
-    let same = taken_once words (answers q w t fs) (moves line) taken (words_taken words name line is plain) in
-    cc
+-- what is done of a request is done of what its words are taken as
+pub done_as : (words : List Text) (a b : Asked) (old new : Option (List ℕ)) (status : ExitStatus) → IsTakenAs words a → IsTakenAs words b
+    → Does a old new status → Does b old new status
+done_as words a b old new status one other done = subst (λ x. Does x old new status) (taken_once words a b one other) done
 
--- words that are taken as the moves of a line are not taken as `solve` or `values`
-pub not_moves : (words : List Text) (line : Text) (q : Question) (w t : ℕ) (fs : List Text) → IsTakenAs words (moves line) → IsTakenAs words (answers q w t fs) → ⊥
-not_moves words line q w t fs one other =
-    let same = taken_once words (moves line) (answers q w t fs) one other in
-    cc
+-- and a line that is asked of is the request's
+pub line_as : (words : List Text) (a b : Asked) (line : Text) → IsTakenAs words a → IsTakenAs words b → IsOfLine b line → IsOfLine a line
+line_as words a b line one other of = subst (λ x. IsOfLine x line) (taken_once words b a other one) of
 
--- words that are taken as `solve` or `values` ask the same and name the same files each time
-pub same_answers : (words : List Text) (q r : Question) (w t w2 t2 : ℕ) (fs gs : List Text) → IsTakenAs words (answers q w t fs) → IsTakenAs words (answers r w2 t2 gs)
-    → (q ≡ r) × (fs ≡ gs)
-same_answers words q r w t w2 t2 fs gs one other =
-    let same = taken_once words (answers q w t fs) (answers r w2 t2 gs) one other in
-    (cc, cc)
+-- where the program failed nothing is owed
+pub failed_does : (a : Asked) (old new : Option (List ℕ)) (status : ExitStatus) → status ≡ Failed → Does a old new status
+failed_does (moves boards line) old new status failed = λ p reads. (λ e. cc, λ e. absurd (let bad : Failed ≡ Clean = sym failed ∙ e in cc))
+failed_does (play table boards line) old new status failed = λ p reads. (λ e. cc, λ e. absurd (let bad : Failed ≡ Clean = sym failed ∙ e in cc))
+failed_does (answers question workers table names) old new status failed = λ went. absurd (went failed)
 
--- equal words are taken as equal requests
-pub carried : (xs ys : List (String Global)) (r s : Request) → xs ≡ ys → r ≡ s → IsTakenAs (texts_of xs) (asked_for r)
-    → IsTakenAs (texts_of ys) (asked_for s)
-carried xs ys r s same is taken =
-    subst (λ q. IsTakenAs (texts_of ys) (asked_for q)) is (subst (λ zs. IsTakenAs (texts_of zs) (asked_for r)) same taken)
-
+-- equal words are taken as the same
 pub words_at : (xs ys : List (String Global)) (a : Asked) → xs ≡ ys → IsTakenAs (texts_of ys) a → IsTakenAs (texts_of xs) a
 words_at xs ys a same taken = subst (λ zs. IsTakenAs (texts_of zs) a) (sym same) taken
 

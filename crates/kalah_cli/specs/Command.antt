@@ -2,7 +2,7 @@
 use Rattle.std.specs.Prelude.{true, [], ◌∷◌, Some, codes}
 use Rattle.clap.specs.Words.{App, Rule, Text, new_app, new_rule, with_rule, with_subcommand}
 use Rattle.clap.specs.Simple.{on_top}
-use Rattle.clap.specs.declared.builder.action.ArgAction.TheVariants.{Append, Set}
+use Rattle.clap.specs.declared.builder.action.ArgAction.TheVariants.{Append, Set, SetTrue}
 use Rattle.clap.specs.declared.builder.value_parser.ValueParser.TheVariants.{Unsigned}
 
 -- LINE: one value, which must be there
@@ -33,6 +33,13 @@ table_rule = record (new_rule (codes "table")) {
   defaults = codes "65536" ∷ [];
 }
 
+-- `--boards`
+abbrev pub boards_rule : Rule
+boards_rule = record (new_rule (codes "boards")) {
+  long = Some (codes "boards");
+  action = Some SetTrue;
+}
+
 -- FILE..: at least one
 abbrev pub file_rule : Rule
 file_rule = record (new_rule (codes "file")) {
@@ -41,9 +48,13 @@ file_rule = record (new_rule (codes "file")) {
   action = Some Append;
 }
 
--- `moves LINE`
+-- `moves [--boards] LINE`
 abbrev pub moves_app : App
-moves_app = with_rule (new_app (codes "moves")) line_rule
+moves_app = with_rule (with_rule (new_app (codes "moves")) boards_rule) line_rule
+
+-- `play [--table N] [--boards] LINE`
+abbrev pub play_app : App
+play_app = with_rule (with_rule (with_rule (new_app (codes "play")) table_rule) boards_rule) line_rule
 
 -- `NAME [--workers N] [--table N] FILE..`
 abbrev pub answers_app : Text → App
@@ -59,6 +70,6 @@ values_app = answers_app (codes "values")
 abbrev pub program_app : App
 program_app = on_top (λ s. record s { subcommand_required = true; disable_help_subcommand = true }) (new_app (codes "kalah"))
 
--- the program, which is always given one of the three subcommands
+-- the program, which is always given one of the four subcommands
 abbrev pub kalah_app : App
-kalah_app = with_subcommand (with_subcommand (with_subcommand program_app moves_app.top) solve_app.top) values_app.top
+kalah_app = with_subcommand (with_subcommand (with_subcommand (with_subcommand program_app moves_app.top) play_app.top) solve_app.top) values_app.top

@@ -3,4 +3,6 @@ pub mod Request
 pub mod Status
 pub mod Failure
 pub mod Moves
+pub mod Play
 pub mod Solve
+pub mod Runs

@@ -1,15 +1,20 @@
--- What `kalah moves` prints.
-use Rattle.std.specs.Prelude.{List, ℕ, [], ◌∷◌, ◌++◌, flat_map, string_bytes}
-use Rattle.std.specs.declared.string.String.{String}
+-- What `kalah moves` and `kalah play` print of a move.
+use Rattle.std.specs.Prelude.{ℕ, List, [], ◌∷◌, ◌++◌, Bool, flat_map, if◌then◌else◌}
 use Rattle.kalah_rules.specs.Position.{Position}
 use Rattle.kalah_rules.specs.Play.{legal_houses, step_of}
-use Rattle.kalah_jobs.specs.Line.{step_text_of}
+use Rattle.kalah_rules.specs.declared.step.Step.{Step}
+use Rattle.kalah_jobs.specs.Line.{position_after, step_text_of}
+use Rattle.kalah_jobs.specs.Lines.{line_feed}
+use Rattle.kalah_jobs.specs.Picture.{picture_of}
 
-module _ {A : Type 0} where
-  -- each text, followed by a line feed
-  abbrev pub lines_of : List (String A) → List ℕ
-  lines_of texts = flat_map (λ text. string_bytes text ++ 10 ∷ []) texts
+-- the picture of a position, where boards are drawn
+abbrev pub drawn : Bool → Position → List ℕ
+drawn boards p = if boards then picture_of p else []
 
--- for each legal house, rising, the move's text and a line feed
-abbrev pub moves_output : Position → List ℕ
-moves_output p = flat_map (λ h. step_text_of h (step_of p h) ++ 10 ∷ []) (legal_houses p)
+-- the line of a move, and below it the position after it, where boards are drawn
+abbrev pub move_lines : Bool → ℕ → Step → List ℕ
+move_lines boards house step = step_text_of house step ++ line_feed ∷ drawn boards (position_after step)
+
+-- the moves of the legal houses, rising
+abbrev pub moves_output : Bool → Position → List ℕ
+moves_output boards p = flat_map (λ h. move_lines boards h (step_of p h)) (legal_houses p)

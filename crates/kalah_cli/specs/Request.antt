@@ -1,5 +1,7 @@
 -- What the words of a command line ask the program to do.
-use Rattle.std.specs.Prelude.{ℕ, List, [], ◌∷◌, Option, Some, codes, ◌<◌, ◌≤◌, ◌≡◌, ◌≢◌, ◌⊎◌, length, map, option_map, option_and_then, if◌then◌else◌, ⊤}
+use Rattle.std.specs.Prelude.{ℕ, Bool, false, List, [], ◌∷◌, Option, Some, codes, ◌<◌, ◌≤◌, ◌≡◌, ◌≢◌, ◌⊎◌, length, map, option_map, string_bytes, option_and_then, if◌then◌else◌, ⊤}
+use Rattle.std.specs.declared.string.String.{String}
+use Rattle.std.specs.Option.{option_map_or}
 use Rattle.std.specs.Str.{bytes_eq}
 use Rattle.std.specs.Str.Parse.{digits_value, without_leading_plus}
 use Rattle.clap.specs.Faults.{fault_of}
@@ -9,13 +11,19 @@ use Rattle.kalah_jobs.specs.declared.question.Question.{Question}
 use Rattle.kalah_jobs.specs.declared.question.Question.TheVariants.{BestMove, Values}
 use Rattle.kalah_cli.specs.Command.{kalah_app}
 use Rattle.kalah_cli.specs.declared.request.Request.{Request}
-use Rattle.kalah_cli.specs.declared.request.Request.TheVariants.{Moves, Batch}
+use Rattle.kalah_cli.specs.declared.request.Request.TheVariants.{Moves, Play, Batch}
 use Rattle.kalah_cli.specs.declared.request.Batch as batch
 
--- what can be asked: the moves of a line; or something of each position in files, by so many workers with tables of so many
--- entries
+module _ {A : Type 0} where
+  -- the text of each word
+  abbrev pub texts_of : List (String A) → List Text
+  texts_of words = map string_bytes words
+
+-- what can be asked: the moves of a line, with boards drawn or not; the game of best play from a line, found with a table of so
+-- many entries; or something of each position in files, by so many workers with such tables
 pub data Asked : Type 0 where
-  moves : Text → Asked
+  moves : Bool → Text → Asked
+  play : ℕ → Bool → Text → Asked
   answers : Question → ℕ → ℕ → List Text → Asked
 
 abbrev pub solve : ℕ → ℕ → List Text → Asked
@@ -28,9 +36,18 @@ values workers table names = answers Values workers table names
 abbrev pub number_of : Text → ℕ
 number_of text = digits_value 10 (without_leading_plus text)
 
+-- whether the matches have the flag
+abbrev pub is_set : Text → List Row → Bool
+is_set id rows = option_map_or (λ t. bytes_eq t (codes "true")) (one_of id rows) false
+
 -- what the matches of `moves` ask for
 abbrev pub moves_asked : List Row → Option Asked
-moves_asked rows = option_map moves (first_of (codes "line") rows)
+moves_asked rows = option_map (moves (is_set (codes "boards") rows)) (first_of (codes "line") rows)
+
+-- what the matches of `play` ask for
+abbrev pub play_asked : List Row → Option Asked
+play_asked rows = option_and_then (λ t. option_map (play (number_of t) (is_set (codes "boards") rows)) (first_of (codes "line") rows))
+    (one_of (codes "table") rows)
 
 -- what the matches of `solve` or `values` ask for
 abbrev pub answers_asked : Question → List Row → Option Asked
@@ -41,7 +58,8 @@ answers_asked question rows = option_and_then (λ w. option_and_then (λ t. opti
 abbrev pub asked_by : Text × List Row → Option Asked
 asked_by p =
     if bytes_eq p.0 (codes "moves") then moves_asked p.1
-    else (if bytes_eq p.0 (codes "solve") then answers_asked BestMove p.1 else answers_asked Values p.1)
+    else (if bytes_eq p.0 (codes "play") then play_asked p.1
+    else (if bytes_eq p.0 (codes "solve") then answers_asked BestMove p.1 else answers_asked Values p.1))
 
 -- what the words ask for, read by the command line
 abbrev pub asked : List Text → Option Asked
@@ -53,7 +71,8 @@ IsTakenAs words a = (fault_of kalah_app words ≡ []) × (asked words ≡ Some a
 
 -- what a request asks for
 abbrev pub asked_for : Request → Asked
-asked_for (Moves line) = moves line.now
+asked_for (Moves line boards) = moves boards line.now
+asked_for (Play line table boards) = play table boards line.now
 asked_for (Batch b) = answers b.question b.workers b.table (map (λ f. f.now) b.files.items)
 
 -- workers and entries are in their ranges, and there is a file
@@ -61,7 +80,8 @@ abbrev pub IsInLimits : batch.Batch → Type 0
 IsInLimits b = (1 ≤ b.workers) × (b.workers ≤ 64) × (1 ≤ b.table) × (b.table ≤ 1048576) × (0 < length b.files.items)
 
 abbrev pub IsInRange : Request → Type 0
-IsInRange (Moves line) = ⊤
+IsInRange (Moves line boards) = ⊤
+IsInRange (Play line table boards) = (1 ≤ table) × (table ≤ 1048576)
 IsInRange (Batch b) = IsInLimits b
 
 -- a word that is no flag: it isn't empty and doesn't begin with `-` (45)
@@ -78,11 +98,28 @@ abbrev pub IsAnswers : List Row → Type 0
 IsAnswers rows = HasNumber (codes "workers") 64 rows × HasNumber (codes "table") 1048576 rows
     × ((fs : List Text) × (all_of (codes "file") rows ≡ Some fs) × (0 < length fs))
 
+-- the matches say of the flag that it is set, that it isn't, or nothing
+abbrev pub HasFlag : Text → List Row → Type 0
+HasFlag id rows = (t : Text) → one_of id rows ≡ Some t → (t ≡ codes "true") ⊎ (t ≡ codes "false")
+
+-- the matches have a line
+abbrev pub HasLine : List Row → Type 0
+HasLine rows = (t : Text) × (first_of (codes "line") rows ≡ Some t)
+
 -- the matches have what `moves` needs
 abbrev pub IsMoves : List Row → Type 0
-IsMoves rows = (t : Text) × (first_of (codes "line") rows ≡ Some t)
+IsMoves rows = HasFlag (codes "boards") rows × HasLine rows
+
+-- the matches have what `play` needs
+abbrev pub IsPlay : List Row → Type 0
+IsPlay rows = HasNumber (codes "table") 1048576 rows × HasFlag (codes "boards") rows × HasLine rows
+
+-- the matches have what the subcommand of this name needs
+abbrev pub HasWhatItNeeds : Text → List Row → Type 0
+HasWhatItNeeds name rows = ((name ≡ codes "moves") × IsMoves rows) ⊎ ((name ≡ codes "play") × IsPlay rows)
+    ⊎ (((name ≡ codes "solve") ⊎ (name ≡ codes "values")) × IsAnswers rows)
 
 -- a subcommand was met, and its matches have what it needs
 abbrev pub IsTaken : Option (Text × List Row) → Type 0
 IsTaken o = (name : Text) × (rows : List Row) × (o ≡ Some (name, rows))
-    × (((name ≡ codes "moves") × IsMoves rows) ⊎ (((name ≡ codes "solve") ⊎ (name ≡ codes "values")) × IsAnswers rows))
+    × HasWhatItNeeds name rows

@@ -1,8 +1,8 @@
 //! The command line of the program.
 ghost use Rattle.std.specs.Prelude.{◌≡◌, IfOk, false};
-ghost use Rattle.clap.specs.Words.{app_of, new_app, rule_of, with_rule};
+ghost use Rattle.clap.specs.Words.{App, app_of, new_app, rule_of, with_rule, with_subcommand};
 ghost use Rattle.clap.specs.declared.builder.command.Command.TheViews.{out-Command as fields_of};
-ghost use Rattle.kalah_cli.specs.Command.{answers_app, file_rule, kalah_app, line_rule, moves_app, program_app, table_rule, workers_rule};
+ghost use Rattle.kalah_cli.specs.Command.{answers_app, boards_rule, file_rule, kalah_app, line_rule, moves_app, play_app, program_app, table_rule, workers_rule};
 
 use clap::builder::ValueParser;
 use clap::{Arg, ArgAction, Command};
@@ -37,6 +37,12 @@ is alone in an own house is captured also where the house across is empty.
     H POSITION again        the player to move has another move
     H POSITION turn         the other player is to move, and the position is seen by that player
     H POSITION over         the game is over
+`kalah play LINE` prints the game in which each player always moves the lowest best house, a line
+for each move, in the form of `moves`. With --boards, each position is drawn below its line, as
+1,2,3/4 5,6,7/8 here: the player to move sits below, with houses from left to right.
+       7   6   5
+   8               4
+       1   2   3
 `kalah solve FILE..` prints a line for each line of each file, in order:
     FILE:LINE MARGIN house H        the margin of best play, and the first house that attains it
     FILE:LINE MARGIN over           the game is over, with this margin
@@ -81,13 +87,25 @@ fn line_arg<'a>(alloc: Global) -> Arg<'a>
         .required(true)
 }
 
-// `moves LINE`.
+// Whether boards are drawn.
+fn boards_arg<'a>(alloc: Global) -> Arg<'a>
+    ensures rule { rule_of result ≡ boards_rule }
+    ensures local { result.global ≡ false }
+{
+    Arg::new(alloc, "boards")
+        .long("boards")
+        .help("draws each position below its line, the player to move at the bottom")
+        .action(ArgAction::SetTrue)
+}
+
+// `moves [--boards] LINE`.
 fn moves_command<'a>(alloc: Global) -> Result<Command<'a>, AllocError>
     ensures app { IfOk result (λ c. app_of c ≡ moves_app) }
     ensures local { IfOk result (λ c. (fields_of c).has_globals ≡ false) }
 {
     let about = "Prints each legal move of a position, and the position after it";
-    with_arg(named(alloc, "moves", about), line_arg(alloc))
+    let command = with_arg(named(alloc, "moves", about), boards_arg(alloc))?;
+    with_arg(command, line_arg(alloc))
 }
 
 // How many workers.
@@ -116,6 +134,17 @@ fn table_arg<'a>(alloc: Global) -> Arg<'a>
         .action(ArgAction::Set)
         .value_parser(ValueParser::unsigned(1, MOST_ENTRIES))
         .default_value("65536")
+}
+
+// `play [--table N] [--boards] LINE`.
+fn play_command<'a>(alloc: Global) -> Result<Command<'a>, AllocError>
+    ensures app { IfOk result (λ c. app_of c ≡ play_app) }
+    ensures local { IfOk result (λ c. (fields_of c).has_globals ≡ false) }
+{
+    let about = "Prints the game that best play leads to from a position, move by move";
+    let command = with_arg(named(alloc, "play", about), table_arg(alloc))?;
+    let command = with_arg(command, boards_arg(alloc))?;
+    with_arg(command, line_arg(alloc))
 }
 
 // The files of `solve` and `values`.
@@ -156,15 +185,29 @@ fn program<'a>(alloc: Global) -> Command<'a>
         .disable_help_subcommand(true)
 }
 
-/// The command line of the program: `moves LINE`, and `solve [--workers N] [--table N] FILE..` and
-/// `values [--workers N] [--table N] FILE..` with 1 to 64 workers, 4 by default, and 1 to 1,048,576
-/// entries in the table of each, 65,536 by default. One of the three is always asked for. It is
-/// complete: nothing is added to it before a parse.
+// The command with one more subcommand, where there is memory for it.
+fn with_command<'a>(
+    command: Command<'a>,
+    subcommand: Result<Command<'a>, AllocError>,
+) -> Result<Command<'a>, AllocError>
+    requires subcommand { IfOk subcommand (λ c. (fields_of c).has_globals ≡ false) }
+    requires local { (fields_of command).has_globals ≡ false }
+    ensures app { IfOk result (λ c. (a : App) → IfOk subcommand.entry (λ s. app_of s ≡ a)
+        → app_of c ≡ with_subcommand (app_of command.entry) a.top) }
+    ensures local { IfOk result (λ c. (fields_of c).has_globals ≡ false) }
+{
+    command.subcommand(subcommand?)
+}
+
+/// The command line of the program: `moves [--boards] LINE`, `play [--table N] [--boards] LINE`,
+/// `solve [--workers N] [--table N] FILE..` and `values [--workers N] [--table N] FILE..`, with 1 to
+/// 64 workers, 4 by default, and 1 to 1,048,576 entries in the table of each, 65,536 by default. One
+/// of the four is always asked for. It is complete: nothing is added to it before a parse.
 pub fn command<'a>(alloc: Global) -> Result<Command<'a>, AllocError>
     ensures { IfOk result (λ c. app_of c ≡ kalah_app) }
 {
-    program(alloc)
-        .subcommand(moves_command(alloc)?)?
-        .subcommand(answers_command(alloc, "solve", ABOUT_SOLVE)?)?
-        .subcommand(answers_command(alloc, "values", ABOUT_VALUES)?)
+    let command = with_command(program(alloc), moves_command(alloc))?;
+    let command = with_command(command, play_command(alloc))?;
+    let command = with_command(command, answers_command(alloc, "solve", ABOUT_SOLVE))?;
+    with_command(command, answers_command(alloc, "values", ABOUT_VALUES))
 }

@@ -1,4 +1,4 @@
-//! Solves small positions of Kalah: `kalah moves LINE` and `kalah solve FILE..`.
+//! Solves small positions of Kalah: `kalah moves LINE`, `kalah play LINE`, `kalah solve FILE..` and `kalah values FILE..`.
 #![tactic(auto)]
 
 mod command;
@@ -7,10 +7,12 @@ mod files;
 mod fused;
 mod moves;
 mod output;
+mod play;
 mod request;
 mod run;
 mod solve;
 mod status;
+mod unread;
 
 use failure::Failure;
 use fused::Fused;

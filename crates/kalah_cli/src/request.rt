@@ -1,13 +1,13 @@
 //! What the words of a command line ask for.
-ghost use Rattle.std.specs.Prelude.{◌≡◌, ℕ, List, [], ◌∷◌, IfErr, IfOk, MatchResult, Some, codes, map, option_and_then};
+ghost use Rattle.std.specs.Prelude.{◌≡◌, ℕ, List, [], ◌∷◌, IfErr, IfOk, MatchResult, Some, codes, false, map, option_and_then};
 ghost use Rattle.clap.specs.Faults.{fault_of};
 ghost use Rattle.clap.specs.Kinds.{FailsBy};
 ghost use Rattle.clap.specs.Simple.{subcommand_rows_of};
-ghost use Rattle.clap.specs.Walk.{one_of, rows_of};
+ghost use Rattle.clap.specs.Walk.{first_of, one_of, rows_of};
 ghost use Rattle.clap.specs.Words.{found_of, kind_of};
 ghost use Rattle.clap.specs.declared.error.kind.ErrorKind.TheVariants.{OutOfMemory};
 ghost use Rattle.kalah_cli.specs.Command.{kalah_app};
-ghost use Rattle.kalah_cli.specs.Request.{Asked, HasNumber, IsAnswers, IsInRange, IsMoves, IsPlainWord, IsTaken, IsTakenAs, answers_asked, asked_by, asked_for, moves, moves_asked, number_of};
+ghost use Rattle.kalah_cli.specs.Request.{Asked, HasFlag, HasLine, HasNumber, IsAnswers, IsInRange, IsMoves, IsPlainWord, IsPlay, IsTaken, IsTakenAs, answers_asked, asked_by, asked_for, is_set, moves, moves_asked, number_of, play_asked};
 
 use crate::command::command;
 use clap::{ArgMatches, Error};
@@ -18,8 +18,17 @@ use std::convert::AsStr;
 /// What the words ask the program to do.
 #[derive(Debug, Drop)]
 pub enum Request<'a> {
-    /// To print the moves of the position that this line writes.
-    Moves(&'a str),
+    /// To print the moves of the position that this line writes, and to draw boards or not.
+    Moves {
+        line: &'a str,
+        boards: bool,
+    },
+    /// To print the game of best play from that position, found with a table of so many entries, 1 to 1,048,576.
+    Play {
+        line: &'a str,
+        table: u32,
+        boards: bool,
+    },
     /// To answer each line of files.
     Batch(Batch<'a>),
 }
@@ -46,13 +55,45 @@ fn option_number(found: &ArgMatches<'_>, id: &str) -> u32
     found.get_one::<u32>(id).unwrap()
 }
 
+// Whether a flag is given.
+fn is_set(found: &ArgMatches<'_>, id: &str) -> bool
+    requires { HasFlag id.now (rows_of (found_of found.now)) }
+    ensures { result ≡ is_set id.now (rows_of (found_of found.now)) }
+{
+    found.get_flag(id)
+}
+
+// The line of `moves` or `play`, which has one.
+fn line_of<'a>(found: &ArgMatches<'a>) -> &'a str
+    requires { HasLine (rows_of (found_of found.now)) }
+    ensures { first_of (codes "line") (rows_of (found_of found.now)) ≡ Some result.now }
+{
+    found.get_str("line").unwrap()
+}
+
 // What the matches of `moves` ask for.
 fn moves_request<'a>(found: &ArgMatches<'a>) -> Request<'a>
     requires { IsMoves (rows_of (found_of found.now)) }
     ensures asked { moves_asked (rows_of (found_of found.now)) ≡ Some (asked_for result) }
     ensures range { IsInRange result }
 {
-    Request::Moves(found.get_str("line").unwrap())
+    Request::Moves {
+        line: line_of(found),
+        boards: is_set(found, "boards"),
+    }
+}
+
+// What the matches of `play` ask for.
+fn play_request<'a>(found: &ArgMatches<'a>) -> Request<'a>
+    requires { IsPlay (rows_of (found_of found.now)) }
+    ensures asked { play_asked (rows_of (found_of found.now)) ≡ Some (asked_for result) }
+    ensures range { IsInRange result }
+{
+    Request::Play {
+        line: line_of(found),
+        table: option_number(found, "table"),
+        boards: is_set(found, "boards"),
+    }
 }
 
 // What the matches of `solve` or `values` ask for.
@@ -87,6 +128,9 @@ fn requested<'a>(alloc: Global, matches: &ArgMatches<'a>) -> Result<Request<'a>,
     if let Some(found) = matches.subcommand_matches("moves") {
         return Ok(moves_request(found));
     }
+    if let Some(found) = matches.subcommand_matches("play") {
+        return Ok(play_request(found));
+    }
     if let Some(found) = matches.subcommand_matches("solve") {
         return batch_request(alloc, Question::BestMove, found);
     }
@@ -106,10 +150,10 @@ pub(crate) fn parse<'a, S: AsStr>(alloc: Global, words: &'a [S]) -> Result<Reque
     ensures refused { IfErr result (λ e. (a : Asked)
         → IsTakenAs (map S.text words.entry.now) a → kind_of e ≡ OutOfMemory) }
 
-    // `moves` and a word that is no flag are always taken, as the moves of that word.
+    // `moves` and a word that is no flag are always taken, as the moves of that word, with no board drawn.
     ensures moves { (name line : List ℕ)
         → map S.text words.entry.now ≡ name ∷ codes "moves" ∷ line ∷ [] → IsPlainWord line
-        → MatchResult result (λ r. asked_for r ≡ moves line) (λ e. kind_of e ≡ OutOfMemory) }
+        → MatchResult result (λ r. asked_for r ≡ moves false line) (λ e. kind_of e ≡ OutOfMemory) }
 {
     let matches = command(alloc)?.try_get_matches_from(words)?;
     Ok(requested(alloc, &matches)?)

@@ -1,5 +1,5 @@
 //! The program, run on its words.
-ghost use Rattle.std.specs.Prelude.{◌≡◌, ◌≢◌, ◌<◌, ℕ, List, [], ◌∷◌, codes, false, true, map, string_bytes, vec_len};
+ghost use Rattle.std.specs.Prelude.{◌≡◌, ◌≢◌, ◌<◌, ◌⊎◌, ℕ, List, [], ◌∷◌, codes, false, true, vec_len};
 ghost use Rattle.std.specs.Io.KnownBytes.{Appends};
 ghost use Rattle.clap.specs.Faults.{fault_of};
 ghost use Rattle.clap.specs.Kinds.{IsAmong};
@@ -9,11 +9,14 @@ ghost use Rattle.kalah_rules.specs.Position.{Position};
 ghost use Rattle.kalah_jobs.specs.Line.{Reads};
 ghost use Rattle.kalah_cli.specs.Command.{kalah_app};
 ghost use Rattle.kalah_cli.specs.Moves.{moves_output};
-ghost use Rattle.kalah_cli.specs.Request.{IsPlainWord, IsTakenAs, solve, values};
+ghost use Rattle.kalah_cli.specs.Play.{PlaysBest};
+ghost use Rattle.kalah_cli.specs.Request.{Asked, IsInRange, IsPlainWord, IsTakenAs, asked_for, solve, texts_of, values};
+ghost use Rattle.kalah_cli.specs.Runs.{Does, IsOfLine, IsUnread};
 ghost use Rattle.kalah_cli.specs.Solve.{AnswersFiles, TellsValues};
 
 use crate::failure::Failure;
 use crate::moves::run_moves;
+use crate::play::run_play;
 use crate::request::{Request, parse};
 use crate::solve::run_batch;
 use crate::status::ExitStatus;
@@ -64,10 +67,38 @@ fn refuse<O: Sink, E: Write>(alloc: Global, error: &Error, out: &mut O, err: &mu
     }
 }
 
+// Does what is asked for.
+fn run_request<R: Files + Threads + Wait + Sync, O: Sink, E: Write>(
+    rt: &R,
+    alloc: Global,
+    request: &Request<'_>,
+    out: &mut O,
+    err: &mut E,
+) -> ExitStatus
+    requires range { IsInRange request.now }
+    requires sink { O.has_failed out.old ≡ false }
+    ensures does { Does (asked_for request.now) (O.written out.old) (O.written out.new) result }
+    ensures unread { (line : List ℕ) → IsOfLine (asked_for request.now) line → IsUnread line
+        → (result ≡ ExitStatus.LineFaults) × (out.new ≡ out.old) }
+    ensures failed { O.has_failed out.new ≡ true → result ≡ ExitStatus.Failed }
+    ensures unchanged { result ≡ ExitStatus.Failed → O.has_failed out.new ≡ false
+        → out.new ≡ out.old }
+{
+    match request {
+        Request::Moves { line, boards } => run_moves(line, *boards, out, err),
+        Request::Play {
+            line,
+            table,
+            boards,
+        } => run_play(alloc, line, *table, *boards, out, err),
+        Request::Batch(batch) => run_batch(rt, alloc, batch, out, err),
+    }
+}
+
 /// Runs the program on its words, of which the first, whatever it is, is the program's name: `moves LINE`
-/// prints the moves of a position, `solve FILE..` answers each line of files, and `values FILE..` tells
-/// what each move of them is worth. Answers and help go to `out`, and what fails or is not read is said
-/// on `err`; a failing write to `err` changes nothing.
+/// prints the moves of a position, `play LINE` the game that best play leads to from it, `solve FILE..`
+/// answers each line of files, and `values FILE..` tells what each move of them is worth. Answers and help
+/// go to `out`, and what fails or is not read is said on `err`; a failing write to `err` changes nothing.
 pub fn run_words<R: Files + Threads + Wait + Sync, O: Sink, E: Write>(
     rt: &R,
     alloc: Global,
@@ -78,38 +109,44 @@ pub fn run_words<R: Files + Threads + Wait + Sync, O: Sink, E: Write>(
     requires sink { O.has_failed out.old ≡ false }
     requires named { 0 < vec_len words }
 
+    // Words that are taken as asking for something: that is done.
+    ensures does { (a : Asked) → IsTakenAs (texts_of words.items) a
+        → Does a (O.written out.old) (O.written out.new) result }
+    // Words that are taken as asking of a line, which is not read.
+    ensures unread_line { (a : Asked) (line : List ℕ) → IsTakenAs (texts_of words.items) a
+        → IsOfLine a line → IsUnread line → (result ≢ ExitStatus.Clean) × (out.new ≡ out.old) }
+
     // `moves` and a line that is read: its moves are written, where nothing fails.
     ensures moves { (name line : List ℕ) (p : Position)
-        → map string_bytes words.items ≡ name ∷ codes "moves" ∷ line ∷ [] → Reads line p
-        → (result ≢ ExitStatus.LineFaults)
-        × (result ≡ ExitStatus.Clean
-        → Appends (O.written out.old) (O.written out.new) (moves_output p)) }
-
-    // `moves` and a line that is not read, but is no flag.
+        → texts_of words.items ≡ name ∷ codes "moves" ∷ line ∷ [] → Reads line p
+        → (result ≢ ExitStatus.LineFaults) × (result ≡ ExitStatus.Clean
+        → Appends (O.written out.old) (O.written out.new) (moves_output false p)) }
+    // `play` and a line that is read: its game of best play is written, where nothing fails.
+    ensures played { (name line : List ℕ) (p : Position)
+        → texts_of words.items ≡ name ∷ codes "play" ∷ line ∷ [] → Reads line p
+        → (result ≢ ExitStatus.LineFaults) × (result ≡ ExitStatus.Clean
+        → PlaysBest false p (O.written out.old) (O.written out.new)) }
+    // `moves` or `play` and a line that is not read, but is no flag.
     ensures unread { (name line : List ℕ)
-        → map string_bytes words.items ≡ name ∷ codes "moves" ∷ line ∷ [] → IsPlainWord line
-        → ((p : Position) → Reads line p → ⊥)
-        → (result ≢ ExitStatus.Clean) × (out.new ≡ out.old) }
+        → (texts_of words.items ≡ name ∷ codes "moves" ∷ line ∷ [])
+        ⊎ (texts_of words.items ≡ name ∷ codes "play" ∷ line ∷ []) → IsPlainWord line
+        → IsUnread line → (result ≢ ExitStatus.Clean) × (out.new ≡ out.old) }
 
     // Words that are taken as `solve`.
     ensures solved { (workers table : ℕ) (names : List (List ℕ))
-        → IsTakenAs (map string_bytes words.items) (solve workers table names)
-        → result ≢ ExitStatus.Failed
+        → IsTakenAs (texts_of words.items) (solve workers table names) → result ≢ ExitStatus.Failed
         → AnswersFiles names (O.written out.old) (O.written out.new) result }
-
     // Words that are taken as `values`.
     ensures valued { (workers table : ℕ) (names : List (List ℕ))
-        → IsTakenAs (map string_bytes words.items) (values workers table names)
-        → result ≢ ExitStatus.Failed
+        → IsTakenAs (texts_of words.items) (values workers table names) → result ≢ ExitStatus.Failed
         → TellsValues names (O.written out.old) (O.written out.new) result }
 
     // Words that the command line refuses for another reason than a request for help.
-    ensures usage { fault_of kalah_app (map string_bytes words.items) ≢ []
-        → (IsAmong DisplayHelp (fault_of kalah_app (map string_bytes words.items)) → ⊥)
+    ensures usage { fault_of kalah_app (texts_of words.items) ≢ []
+        → (IsAmong DisplayHelp (fault_of kalah_app (texts_of words.items)) → ⊥)
         → (result ≡ ExitStatus.Failed) × (out.new ≡ out.old) }
-
     // Words that are not taken have no line.
-    ensures no_line { fault_of kalah_app (map string_bytes words.items) ≢ []
+    ensures no_line { fault_of kalah_app (texts_of words.items) ≢ []
         → result ≢ ExitStatus.LineFaults }
 
     // Where a write failed the program failed, and where it failed for another cause nothing was written.
@@ -118,8 +155,7 @@ pub fn run_words<R: Files + Threads + Wait + Sync, O: Sink, E: Write>(
         → out.new ≡ out.old }
 {
     match parse(alloc, words.as_slice()) {
-        Ok(Request::Moves(line)) => run_moves(alloc, line, out, err),
-        Ok(Request::Batch(batch)) => run_batch(rt, alloc, &batch, out, err),
+        Ok(request) => run_request(rt, alloc, &request, out, err),
         Err(error) => refuse(alloc, &error, out, err),
     }
 }

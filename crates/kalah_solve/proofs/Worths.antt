@@ -116,19 +116,19 @@ abbrev step_by : Bool → Bool → Position → Step
 step_by b a q = if b then Over (swept q) else (if a then Again q else Turn (swapped q))
 
 -- it says that the game is over only where it is, with the houses swept
-over_step : (b a : Bool) (q e : Position) → Over e ≡ step_by b a q → (b ≡ true) × (e ≡ swept q)
+pub over_step : (b a : Bool) (q e : Position) → Over e ≡ step_by b a q → (b ≡ true) × (e ≡ swept q)
 over_step true a q e is = (refl, cc)
 over_step false true q e is = cc
 over_step false false q e is = cc
 
 -- it says that the mover moves again only where that is so
-again_step : (b a : Bool) (q e : Position) → Again e ≡ step_by b a q → (b ≡ false) × (a ≡ true) × (e ≡ q)
+pub again_step : (b a : Bool) (q e : Position) → Again e ≡ step_by b a q → (b ≡ false) × (a ≡ true) × (e ≡ q)
 again_step true a q e is = cc
 again_step false true q e is = (refl, refl, cc)
 again_step false false q e is = cc
 
 -- it says that the turn passes only where that is so, with the sides swapped
-turn_step : (b a : Bool) (q e : Position) → Turn e ≡ step_by b a q → (b ≡ false) × (a ≡ false) × (e ≡ swapped q)
+pub turn_step : (b a : Bool) (q e : Position) → Turn e ≡ step_by b a q → (b ≡ false) × (a ≡ false) × (e ≡ swapped q)
 turn_step true a q e is = cc
 turn_step false true q e is = cc
 turn_step false false q e is = (refl, refl, cc)

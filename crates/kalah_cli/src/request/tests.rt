@@ -27,11 +27,52 @@ fn fails_with(rt: &HostRuntime, words: &[&str], kind: ErrorKind) -> bool {
     }
 }
 
+// Words of `moves`, and whether boards are drawn.
+const MOVES: [(&[&str], bool); 3] = [
+    (&["kalah", "moves", "1,1/0 1,1/0"], false),
+    (&["k", "moves", "--boards", "1,1/0 1,1/0"], true),
+    (&["kalah", "moves", "1,1/0 1,1/0", "--boards"], true),
+];
+
 #[test]
 fn reads_moves(rt: HostRuntime) -> Result<(), Fail> {
-    match parse(rt.alloc(), &["kalah", "moves", "1,1/0 1,1/0"])? {
-        Request::Moves(line) => assert!(rt; line == "1,1/0 1,1/0"),
-        Request::Batch(_) => assert!(rt; false),
+    for (words, is_drawn) in MOVES {
+        let is_read = match parse(rt.alloc(), words)? {
+            Request::Moves { line, boards } => line == "1,1/0 1,1/0" && boards == is_drawn,
+            _ => false,
+        };
+        assert!(rt; is_read, "{words:?}");
+    }
+    Ok(())
+}
+
+// Words of `play`, the entries of the table and whether boards are drawn.
+const GAMES: [(&[&str], u32, bool); 3] = [
+    (&["kalah", "play", "1/0 1/0"], 65536, false),
+    (
+        &["k", "play", "--boards", "1/0 1/0", "--table", "1"],
+        1,
+        true,
+    ),
+    (
+        &["kalah", "play", "--table=1048576", "--", "1/0 1/0"],
+        1048576,
+        false,
+    ),
+];
+
+#[test]
+fn reads_play(rt: HostRuntime) -> Result<(), Fail> {
+    for (words, entries, is_drawn) in GAMES {
+        let is_read = match parse(rt.alloc(), words)? {
+            Request::Play {
+                line,
+                table,
+                boards,
+            } => line == "1/0 1/0" && (table, boards) == (entries, is_drawn),
+            _ => false,
+        };
+        assert!(rt; is_read, "{words:?}");
     }
     Ok(())
 }

@@ -2,6 +2,7 @@ ghost use Rattle.std.specs.Prelude.{◌≡◌, ◌<◌, IfOk, Some, vec_len};
 
 mod help;
 mod hostile;
+mod playing;
 mod solving;
 mod valuing;
 
@@ -139,7 +140,7 @@ fn a_line_that_is_not_read_is_answered_by_its_fault(rt: HostRuntime) -> Result<(
 }
 
 // Words that the program does not take.
-const MISTAKES: [&[&str]; 21] = [
+const MISTAKES: [&[&str]; 26] = [
     &[],
     &["stop"],
     &["solve"],
@@ -161,6 +162,11 @@ const MISTAKES: [&[&str]; 21] = [
     &["values", "--table", "1048577", "a.txt"],
     &["moves", "-1/0 1/0"],
     &["moves", "1/0 1/0", "1/0 1/0"],
+    &["moves", "--boards=yes", "1/0 1/0"],
+    &["play"],
+    &["play", "--workers", "1", "1/0 1/0"],
+    &["play", "--table", "0", "1/0 1/0"],
+    &["play", "--boards", "--boards", "1/0 1/0"],
 ];
 
 #[test]
@@ -179,6 +185,7 @@ fn help_goes_to_the_output(rt: HostRuntime) -> Result<(), Fail> {
         ["--help"].as_slice(),
         ["-h"].as_slice(),
         ["moves", "--help"].as_slice(),
+        ["play", "--help"].as_slice(),
         ["solve", "--help"].as_slice(),
         ["values", "--help"].as_slice(),
     ];
@@ -252,12 +259,12 @@ fn run_failing<R: Files + Threads + Wait + Sync>(
     })
 }
 
-// Each move is written in two calls, and a flush ends them: five calls in all.
+// Each move is written in one call, and a flush ends them: three calls in all.
 #[test]
 fn stops_at_a_failed_write(rt: HostRuntime) -> Result<(), Fail> {
     for k in 1..8u32 {
         let run = run_failing(&rt, rt.alloc(), &["moves", "1,1/0 1,1/0"], k)?;
-        assert!(rt; (run.has_failed, run.calls) == (k <= 5, k.min(5)), "at {k}");
+        assert!(rt; (run.has_failed, run.calls) == (k <= 3, k.min(3)), "at {k}");
         assert!(rt; run.is_told(), "at {k}");
     }
     Ok(())

@@ -1,125 +1,105 @@
-use Rattle.std.proofs.Common.{◌≢◌, ℕ, List, map, sym, subst}
-use Rattle.clap.specs.Values.{kind_of}
-use Rattle.clap.specs.declared.error.kind.ErrorKind.TheVariants.{DisplayHelp}
-use Rattle.kalah_jobs.specs.Line.{Reads}
-use Rattle.kalah_jobs.specs.declared.question.Question.{Question}
+use Rattle.std.proofs.Common.{◌≡◌, ◌≢◌, ℕ, List, false, inl, inr, refl, sym}
 use Rattle.kalah_jobs.specs.declared.question.Question.TheVariants.{BestMove, Values}
-use Rattle.kalah_cli.specs.Request.{Asked, IsTakenAs, moves, answers}
-use Rattle.kalah_cli.specs.declared.request.Request.TheVariants.{Moves, Batch}
-use Rattle.kalah_cli.specs.declared.status.ExitStatus.TheVariants.{Failed}
-use Rattle.kalah_cli.specs.Solve.{AnswersTo}
+use Rattle.kalah_cli.specs.Request.{Asked, IsTakenAs, answers, asked_for, moves, play, texts_of}
+use Rattle.kalah_cli.specs.Runs.{Does, IsOfLine, IsUnread}
+use Rattle.kalah_cli.specs.declared.status.ExitStatus.TheVariants.{Clean, Failed}
 use Rattle.kalah_cli.proofs.Plain.{read_is_plain}
-use Rattle.kalah_cli.proofs.Taken.{carried, fault_at, no_help, not_answers, not_moves, same_answers, same_line, texts_of, words_at, words_taken}
+use Rattle.kalah_cli.proofs.Taken.{done_as, failed_does, fault_at, game_of, line_as, moves_of, no_help, words_at}
+use Rattle.kalah_cli.proofs.run.run_words.Goals.{After-drop-words, After-drop-words-2}
 use Rattle.kalah_cli.proofs.run.run_words.Given.{Over}
 use Rattle.kalah_cli.proofs.run.run_words.Goals as goal
 
--- ---- the words are taken as the moves of a line
+-- ---- the words are taken
 
-pub returns-in-Ok-Moves-clause-moves : goal.returns-in-Ok-Moves-clause-moves
-returns-in-Ok-Moves-clause-moves g c = λ name line p is reads.
-    let taken = carried _ c.args.words.items _ (Moves c.in-Ok-Moves.line) c.as_slice.ensures.value c.in-Ok-Moves.field-0-is c.in-Ok-Moves.ensures.taken in
-    let same = same_line (texts_of c.args.words.items) name line c.in-Ok-Moves.line.now is (read_is_plain line p reads) taken in
-    c.run_moves.ensures.read p (subst (λ t. Reads t p) (sym same) reads)
+-- as the request
+taken_as : (g : Over) (c : After-drop-words g) → IsTakenAs (texts_of c.args.words.items) (asked_for c.in-Ok.request)
+taken_as g c = words_at c.args.words.items _ (asked_for c.in-Ok.request) (sym c.as_slice.ensures.value) c.in-Ok.ensures.taken
 
-pub returns-in-Ok-Moves-clause-unread : goal.returns-in-Ok-Moves-clause-unread
-returns-in-Ok-Moves-clause-unread g c = λ name line is plain none.
-    let taken = carried _ c.args.words.items _ (Moves c.in-Ok-Moves.line) c.as_slice.ensures.value c.in-Ok-Moves.field-0-is c.in-Ok-Moves.ensures.taken in
-    let same = same_line (texts_of c.args.words.items) name line c.in-Ok-Moves.line.now is plain taken in
-    let ends = c.run_moves.ensures.unread (λ p r. none p (subst (λ t. Reads t p) same r)) in
+-- so what they are taken as is done
+done : (g : Over) (c : After-drop-words g) (a : Asked) → IsTakenAs (texts_of c.args.words.items) a
+    → Does a (g.O.Sink.written c.args.out.now) (g.O.Sink.written c.run_request.new.out) c.run_request.result
+done g c a taken = done_as (texts_of c.args.words.items) (asked_for c.in-Ok.request) a _ _ _ (taken_as g c) taken c.run_request.ensures.does
+
+-- and nothing where it is asked of a line that is not read
+undone : (g : Over) (c : After-drop-words g) (a : Asked) (line : List ℕ) → IsTakenAs (texts_of c.args.words.items) a → IsOfLine a line → IsUnread line
+    → (c.run_request.result ≢ Clean) × (c.run_request.new.out ≡ c.args.out.now)
+undone g c a line taken of none =
+    let ends = c.run_request.ensures.unread line (line_as (texts_of c.args.words.items) (asked_for c.in-Ok.request) a line (taken_as g c) taken of) none in
     let faulty = ends.0 in
     (λ e. cc, ends.1)
 
--- so they are not taken as a request for answers
-not_asked : (g : Over) (c : goal.After-drop-words g) (q : Question) (w t : ℕ) (names : List (List ℕ)) → IsTakenAs (texts_of c.args.words.items) (answers q w t names) → ⊥
-not_asked g c q w t names asked =
-    not_moves (texts_of c.args.words.items) c.in-Ok-Moves.line.now q w t names
-    (carried _ c.args.words.items _ (Moves c.in-Ok-Moves.line) c.as_slice.ensures.value c.in-Ok-Moves.field-0-is c.in-Ok-Moves.ensures.taken) asked
+pub returns-in-Ok-clause-does : goal.returns-in-Ok-clause-does
+returns-in-Ok-clause-does g c = done g c
 
-pub returns-in-Ok-Moves-clause-solved : goal.returns-in-Ok-Moves-clause-solved
-returns-in-Ok-Moves-clause-solved g c = λ w t names asked not_failed. absurd (not_asked g c BestMove w t names asked)
+pub returns-in-Ok-clause-unread_line : goal.returns-in-Ok-clause-unread_line
+returns-in-Ok-clause-unread_line g c = undone g c
 
-pub returns-in-Ok-Moves-clause-valued : goal.returns-in-Ok-Moves-clause-valued
-returns-in-Ok-Moves-clause-valued g c = λ w t names asked not_failed. absurd (not_asked g c Values w t names asked)
+pub returns-in-Ok-clause-moves : goal.returns-in-Ok-clause-moves
+returns-in-Ok-clause-moves g c = λ name line p is reads. done g c (moves false line) (moves_of _ name line is (read_is_plain line p reads)) p reads
 
-pub returns-in-Ok-Moves-clause-no_line : goal.returns-in-Ok-Moves-clause-no_line
-returns-in-Ok-Moves-clause-no_line g c = λ faulty.
-    absurd (faulty (fault_at _ c.args.words.items c.as_slice.ensures.value c.in-Ok-Moves.ensures.kinds))
+pub returns-in-Ok-clause-played : goal.returns-in-Ok-clause-played
+returns-in-Ok-clause-played g c = λ name line p is reads. done g c (play 65536 false line) (game_of _ name line is (read_is_plain line p reads)) p reads
 
-pub returns-in-Ok-Moves-clause-usage : goal.returns-in-Ok-Moves-clause-usage
-returns-in-Ok-Moves-clause-usage g c = λ faulty unasked.
-    absurd (faulty (fault_at _ c.args.words.items c.as_slice.ensures.value c.in-Ok-Moves.ensures.kinds))
+pub returns-in-Ok-clause-unread : goal.returns-in-Ok-clause-unread
+returns-in-Ok-clause-unread g c = λ name line is plain none. elim is [
+  | inl moved ↦ undone g c (moves false line) line (moves_of _ name line moved plain) refl none
+  | inr played ↦ undone g c (play 65536 false line) line (game_of _ name line played plain) refl none
+]
 
--- ---- the words are taken as a request for answers
+pub returns-in-Ok-clause-solved : goal.returns-in-Ok-clause-solved
+returns-in-Ok-clause-solved g c = λ w t names taken. done g c (answers BestMove w t names) taken
 
--- as those of the request
-asked_as : (g : Over) (c : goal.After-drop-words-in-Ok-Batch g) → IsTakenAs (texts_of c.args.words.items)
-    (answers c.in-Ok-Batch.batch.question c.in-Ok-Batch.batch.workers c.in-Ok-Batch.batch.table (map (λ n. n.now) c.in-Ok-Batch.batch.files.items))
-asked_as g c = carried _ c.args.words.items _ (Batch c.in-Ok-Batch.batch)
-    c.as_slice.ensures.value c.in-Ok-Batch.field-0-is c.in-Ok-Batch.ensures.taken
+pub returns-in-Ok-clause-valued : goal.returns-in-Ok-clause-valued
+returns-in-Ok-clause-valued g c = λ w t names taken. done g c (answers Values w t names) taken
 
--- so what was asked of the files that were named is answered
-answered : (g : Over) (c : goal.After-drop-words-in-Ok-Batch g) (q : Question) (w t : ℕ) (names : List (List ℕ)) → IsTakenAs (texts_of c.args.words.items) (answers q w t names)
-    → c.run_batch.result ≢ Failed → AnswersTo q names (g.O.Sink.written c.args.out.now) (g.O.Sink.written c.run_batch.new.out) c.run_batch.result
-answered g c q w t names asked not_failed =
-    let same = same_answers (texts_of c.args.words.items) c.in-Ok-Batch.batch.question q c.in-Ok-Batch.batch.workers c.in-Ok-Batch.batch.table w t
-    (map (λ n. n.now) c.in-Ok-Batch.batch.files.items) names (asked_as g c) asked in
-    let old = g.O.Sink.written c.args.out.now in
-    let new = g.O.Sink.written c.run_batch.new.out in
-    let ends = c.run_batch.ensures.solved not_failed in
-    subst (λ r. AnswersTo r names old new c.run_batch.result) same.0 (subst (λ ns. AnswersTo c.in-Ok-Batch.batch.question ns old new c.run_batch.result) same.1 ends)
+pub returns-in-Ok-clause-usage : goal.returns-in-Ok-clause-usage
+returns-in-Ok-clause-usage g c = λ faulty unasked. absurd (faulty (fault_at _ c.args.words.items c.as_slice.ensures.value c.in-Ok.ensures.kinds))
 
-pub returns-in-Ok-Batch-clause-moves : goal.returns-in-Ok-Batch-clause-moves
-returns-in-Ok-Batch-clause-moves g c = λ name line p is reads.
-    absurd (not_answers (texts_of c.args.words.items) name line _ _ _ _ is (read_is_plain line p reads) (asked_as g c))
-
-pub returns-in-Ok-Batch-clause-unread : goal.returns-in-Ok-Batch-clause-unread
-returns-in-Ok-Batch-clause-unread g c = λ name line is plain none.
-    absurd (not_answers (texts_of c.args.words.items) name line _ _ _ _ is plain (asked_as g c))
-
-pub returns-in-Ok-Batch-clause-solved : goal.returns-in-Ok-Batch-clause-solved
-returns-in-Ok-Batch-clause-solved g c = λ w t names asked not_failed. answered g c BestMove w t names asked not_failed
-
-pub returns-in-Ok-Batch-clause-valued : goal.returns-in-Ok-Batch-clause-valued
-returns-in-Ok-Batch-clause-valued g c = λ w t names asked not_failed. answered g c Values w t names asked not_failed
-
-pub returns-in-Ok-Batch-clause-no_line : goal.returns-in-Ok-Batch-clause-no_line
-returns-in-Ok-Batch-clause-no_line g c = λ faulty.
-    absurd (faulty (fault_at _ c.args.words.items c.as_slice.ensures.value c.in-Ok-Batch.ensures.kinds))
-
-pub returns-in-Ok-Batch-clause-usage : goal.returns-in-Ok-Batch-clause-usage
-returns-in-Ok-Batch-clause-usage g c = λ faulty unasked.
-    absurd (faulty (fault_at _ c.args.words.items c.as_slice.ensures.value c.in-Ok-Batch.ensures.kinds))
+pub returns-in-Ok-clause-no_line : goal.returns-in-Ok-clause-no_line
+returns-in-Ok-clause-no_line g c = λ faulty. absurd (faulty (fault_at _ c.args.words.items c.as_slice.ensures.value c.in-Ok.ensures.kinds))
 
 -- ---- the parse failed
 
--- where the words are taken as something, it failed for want of memory
-fails : (g : Over) (c : goal.After-drop-words-2 g) (a : Asked) → IsTakenAs (texts_of c.args.words.items) a
-    → kind_of c.in-Err.error ≢ DisplayHelp
-fails g c a taken = λ help.
+-- where the words are taken as something, for want of memory
+failed : (g : Over) (c : After-drop-words-2 g) (a : Asked) → IsTakenAs (texts_of c.args.words.items) a
+    → (c.refuse.result ≡ Failed) × (c.refuse.new.out ≡ c.args.out.now)
+failed g c a taken = c.refuse.ensures.mistake (λ help.
     let memory = c.in-Err.ensures.refused a (words_at _ c.args.words.items a c.as_slice.ensures.value taken) in
-    cc
+    cc)
+
+-- so nothing is done
+unwritten : (g : Over) (c : After-drop-words-2 g) (a : Asked) → IsTakenAs (texts_of c.args.words.items) a
+    → (c.refuse.result ≢ Clean) × (c.refuse.new.out ≡ c.args.out.now)
+unwritten g c a taken =
+    let ends = failed g c a taken in
+    let status = ends.0 in
+    (λ e. cc, ends.1)
+
+pub returns-clause-does : goal.returns-clause-does
+returns-clause-does g c = λ a taken. failed_does a _ _ _ (failed g c a taken).0
+
+pub returns-clause-unread_line : goal.returns-clause-unread_line
+returns-clause-unread_line g c = λ a line taken of none. unwritten g c a taken
 
 pub returns-clause-moves : goal.returns-clause-moves
 returns-clause-moves g c = λ name line p is reads.
-    let ends = c.refuse.ensures.mistake (fails g c (moves line) (words_taken (texts_of c.args.words.items) name line is (read_is_plain line p reads))) in
-    let failed = ends.0 in
-    (λ e. cc, λ e. cc)
+    failed_does (moves false line) _ _ _ (failed g c (moves false line) (moves_of _ name line is (read_is_plain line p reads))).0 p reads
+
+pub returns-clause-played : goal.returns-clause-played
+returns-clause-played g c = λ name line p is reads.
+    failed_does (play 65536 false line) _ _ _ (failed g c (play 65536 false line) (game_of _ name line is (read_is_plain line p reads))).0 p reads
 
 pub returns-clause-unread : goal.returns-clause-unread
-returns-clause-unread g c = λ name line is plain none.
-    let ends = c.refuse.ensures.mistake (fails g c (moves line) (words_taken (texts_of c.args.words.items) name line is plain)) in
-    let failed = ends.0 in
-    (λ e. cc, ends.1)
+returns-clause-unread g c = λ name line is plain none. elim is [
+  | inl moved ↦ unwritten g c (moves false line) (moves_of _ name line moved plain)
+  | inr played ↦ unwritten g c (play 65536 false line) (game_of _ name line played plain)
+]
 
 pub returns-clause-solved : goal.returns-clause-solved
-returns-clause-solved g c = λ w t names asked_solve not_failed.
-    let ends = c.refuse.ensures.mistake (fails g c (answers BestMove w t names) asked_solve) in
-    absurd (not_failed ends.0)
+returns-clause-solved g c = λ w t names taken. failed_does (answers BestMove w t names) _ _ _ (failed g c (answers BestMove w t names) taken).0
 
 pub returns-clause-valued : goal.returns-clause-valued
-returns-clause-valued g c = λ w t names asked_values not_failed.
-    let ends = c.refuse.ensures.mistake (fails g c (answers Values w t names) asked_values) in
-    absurd (not_failed ends.0)
+returns-clause-valued g c = λ w t names taken. failed_does (answers Values w t names) _ _ _ (failed g c (answers Values w t names) taken).0
 
 pub returns-clause-usage : goal.returns-clause-usage
 returns-clause-usage g c = λ faulty unasked.

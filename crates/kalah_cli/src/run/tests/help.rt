@@ -38,6 +38,12 @@ is alone in an own house is captured also where the house across is empty.
     H POSITION again        the player to move has another move
     H POSITION turn         the other player is to move, and the position is seen by that player
     H POSITION over         the game is over
+`kalah play LINE` prints the game in which each player always moves the lowest best house, a line
+for each move, in the form of `moves`. With --boards, each position is drawn below its line, as
+1,2,3/4 5,6,7/8 here: the player to move sits below, with houses from left to right.
+       7   6   5
+   8               4
+       1   2   3
 `kalah solve FILE..` prints a line for each line of each file, in order:
     FILE:LINE MARGIN house H        the margin of best play, and the first house that attains it
     FILE:LINE MARGIN over           the game is over, with this margin

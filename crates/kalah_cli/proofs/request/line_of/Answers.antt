@@ -2,13 +2,12 @@ use Rattle.std.proofs.Common.{◌∙◌, ap, codes, sym}
 use Rattle.std.specs.Prelude.{option_map}
 use Rattle.clap.specs.Words.{found_of}
 use Rattle.clap.proofs.WalkLemmas.{first_value-rows}
-use Rattle.kalah_cli.specs.Request.{moves}
 use Rattle.kalah_cli.proofs.Getters.{is_there}
-use Rattle.kalah_cli.proofs.request.moves_request.Goals as goal
+use Rattle.kalah_cli.proofs.request.line_of.Goals as goal
 
 pub unwrap-requires : goal.unwrap-requires
 unwrap-requires c = is_there _ c.get_str.result _ (c.get_str.ensures ∙ first_value-rows (found_of c.args.found.now) (codes "line") ∙ c.requires.1)
 
-pub returns-clause-asked : goal.returns-clause-asked
-returns-clause-asked c =
-    ap (option_map moves) (sym (first_value-rows (found_of c.args.found.now) (codes "line")) ∙ sym c.get_str.ensures ∙ ap (option_map (λ s. s.now)) c.unwrap.ensures)
+pub returns : goal.returns
+returns c =
+    sym (first_value-rows (found_of c.args.found.now) (codes "line")) ∙ sym c.get_str.ensures ∙ ap (option_map (λ s. s.now)) c.unwrap.ensures

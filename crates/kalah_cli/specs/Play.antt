@@ -1,0 +1,34 @@
+-- What `kalah play` prints.
+use Rattle.std.specs.Prelude.{◌≡◌, ℕ, List, [], ◌∷◌, ◌++◌, Bool, Option}
+use Rattle.std.specs.Io.KnownBytes.{Appends}
+use Rattle.kalah_rules.specs.Position.{Position, final_margin}
+use Rattle.kalah_rules.specs.Play.{step_of}
+use Rattle.kalah_solve.specs.BestPlay.{Game, follow}
+use Rattle.kalah_solve.specs.Worth.{best_house, worth}
+use Rattle.kalah_jobs.specs.Line.{position_after}
+use Rattle.kalah_cli.specs.Moves.{drawn, move_lines}
+
+-- the moves of these houses, in turn, from a position on
+abbrev pub game_lines : Bool → Position → List ℕ → List ℕ
+game_lines boards p [] = []
+game_lines boards p (h ∷ houses) = move_lines boards h (step_of p h) ++ game_lines boards (position_after (step_of p h)) houses
+
+-- a game from p in which both players always move the lowest best house: the moves of `houses` lead by the rules to the end at
+-- `final`, with the margin of best play for the player who moves first
+pub record IsBestGame (p : Position) (houses : List ℕ) (final : Position) : Type 0 where
+  pub game : Game (follow best_house) (follow best_house) p houses final
+  pub margin : final_margin final ≡ worth p
+
+-- the moves of that game were written between the two states, and nothing else
+pub record WritesGame (boards : Bool) (p : Position) (old new : Option (List ℕ)) : Type 0 where
+  pub houses : List ℕ
+  pub final : Position
+  pub is_best : IsBestGame p houses final
+  pub written : Appends old new (game_lines boards p houses)
+
+-- the first position, where boards are drawn, and the moves of that game were written, and nothing else
+pub record PlaysBest (boards : Bool) (p : Position) (old new : Option (List ℕ)) : Type 0 where
+  pub houses : List ℕ
+  pub final : Position
+  pub is_best : IsBestGame p houses final
+  pub written : Appends old new (drawn boards p ++ game_lines boards p houses)

@@ -1,0 +1,32 @@
+-- What the program does of what it is asked.
+use Rattle.std.specs.Prelude.{◌≡◌, ◌≢◌, ℕ, List, Option}
+use Rattle.std.specs.Io.KnownBytes.{Appends}
+use Rattle.clap.specs.Words.{Text}
+use Rattle.kalah_rules.specs.Position.{Position}
+use Rattle.kalah_jobs.specs.Line.{Reads}
+use Rattle.kalah_cli.specs.Moves.{moves_output}
+use Rattle.kalah_cli.specs.Play.{PlaysBest}
+use Rattle.kalah_cli.specs.Request.{Asked, moves, play, answers}
+use Rattle.kalah_cli.specs.Solve.{AnswersTo}
+use Rattle.kalah_cli.specs.declared.status.ExitStatus.{ExitStatus}
+use Rattle.kalah_cli.specs.declared.status.ExitStatus.TheVariants.{Clean, LineFaults, Failed}
+
+-- the line is read as a position of which this is printed, where nothing fails
+abbrev pub Prints : Text → (Position → Type 0) → ExitStatus → Type 0
+Prints line printed status = (p : Position) → Reads line p → (status ≢ LineFaults) × (status ≡ Clean → printed p)
+
+-- what was asked was written between the two states, where nothing failed
+abbrev pub Does : Asked → Option (List ℕ) → Option (List ℕ) → ExitStatus → Type 0
+Does (moves boards line) old new status = Prints line (λ p. Appends old new (moves_output boards p)) status
+Does (play table boards line) old new status = Prints line (λ p. PlaysBest boards p old new) status
+Does (answers question workers table names) old new status = status ≢ Failed → AnswersTo question names old new status
+
+-- what is asked is asked of this line
+abbrev pub IsOfLine : Asked → Text → Type 0
+IsOfLine (moves boards line) text = text ≡ line
+IsOfLine (play table boards line) text = text ≡ line
+IsOfLine (answers question workers table names) text = ⊥
+
+-- no position is written by the line
+abbrev pub IsUnread : Text → Type 0
+IsUnread line = (p : Position) → Reads line p → ⊥

@@ -1,0 +1,172 @@
+//! Runs of `kalah play`, and of `kalah moves` with boards.
+use super::{answers, run_failing, run_on};
+use crate::status::ExitStatus;
+use std::alloc::{AllocError, Global};
+use std::rt::Files;
+use std::sync::Wait;
+use std::test::Fail;
+use std::thread::Threads;
+
+// Lines, and the games that best play leads to from their positions.
+const GAMES: [(&str, &str); 6] = [
+    ("1,1/0 1,1/0", "2 1,0/1 1,1/0 again\n1 0,0/3 0,0/1 over\n"),
+    (
+        "3,3/0 3,3/0",
+        "\
+1 4,3/0 0,4/1 turn
+1 1,5/1 0,4/1 turn
+2 0,5/1 2,0/4 turn
+2 0,1/4 1,0/6 turn
+2 0,0/5 0,0/7 over
+",
+    ),
+    (
+        "2,0,1/0 1,2,0/0 e",
+        "\
+3 2,0,0/1 1,2,0/0 e again
+1 0,2,0/0 0,1,0/3 e turn
+2 0,0,1/1 0,1,0/3 e again
+3 0,0,0/2 0,0,0/4 e over
+",
+    ),
+    ("3/0 3/0", "1 0/6 0/0 over\n"),
+    ("0,0/3 1,2/4", ""),
+    (
+        "4,4,4/0 4,4,4/0",
+        "\
+1 5,4,4/0 0,5,5/1 turn
+1 1,6,5/1 0,5,5/1 turn
+2 1,6,6/1 2,0,6/2 turn
+2 3,1,7/2 2,0,7/2 turn
+1 0,2,8/3 2,0,7/2 again
+3 1,3,1/5 3,1,8/2 again
+2 4,1,8/2 1,0,2/6 turn
+1 2,0,2/6 0,2,9/3 turn
+1 0,2,9/3 0,1,3/6 turn
+2 0,0,10/4 0,1,3/6 again
+3 2,3,4/6 1,1,1/6 turn
+1 1,1,1/6 0,4,5/6 turn
+1 0,4,5/6 0,2,1/6 turn
+2 1,3,1/6 0,0,6/7 turn
+2 1,0,6/7 1,0,2/7 turn
+3 2,0,3/7 2,0,0/10 turn
+1 2,0,0/10 0,1,4/7 turn
+1 0,1,4/7 0,1,1/10 turn
+2 0,1,1/10 0,0,5/7 turn
+3 0,1,0/11 0,0,5/7 again
+2 0,0,5/7 0,0,1/11 turn
+3 0,0,0/11 0,0,0/13 over
+",
+    ),
+];
+
+// With a table of so many entries this game is played.
+fn plays<R: Files + Threads + Wait + Sync>(
+    rt: &R,
+    alloc: Global,
+    table: &str,
+    line: &str,
+    game: &str,
+) -> Result<bool, AllocError> {
+    let run = run_on(rt, alloc, ["play", "--table", table, line].as_slice())?;
+    Ok(answers(&run, ExitStatus::Clean, game, ""))
+}
+
+#[test]
+fn plays_the_game_of_best_play(rt: HostRuntime) -> Result<(), Fail> {
+    for (line, game) in GAMES {
+        for table in ["1", "65536"] {
+            assert!(rt; plays(&rt, rt.alloc(), table, line, game)?, "{line}");
+        }
+    }
+    Ok(())
+}
+
+// Words, and what they print with boards.
+const DRAWN: [(&[&str], &str); 4] = [
+    (
+        &["play", "--boards", "1,1/0 1,1/0"],
+        "       1   1
+   0           0
+       1   1
+2 1,0/1 1,1/0 again
+       1   1
+   0           1
+       1   0
+1 0,0/3 0,0/1 over
+       0   0
+   1           3
+       0   0
+",
+    ),
+    (
+        &["play", "0/99 5/7", "--boards"],
+        "       5
+   7      99
+       0
+",
+    ),
+    (
+        &["play", "--boards", "--table=1", "1,0,2/98 0,3,1/7 e"],
+        "       1   3   0
+   7              98
+       1   0   2
+1 0,0,1/7 0,0,2/102 e turn
+       2   0   0
+ 102               7
+       0   0   1
+3 0,0,0/8 0,0,0/104 e over
+       0   0   0
+ 104               8
+       0   0   0
+",
+    ),
+    (
+        &["moves", "1/99 1/99", "--boards"],
+        "1 0/100 0/100 over
+       0
+ 100     100
+       0
+",
+    ),
+];
+
+#[test]
+fn draws_boards_below_their_lines(rt: HostRuntime) -> Result<(), Fail> {
+    for (words, text) in DRAWN {
+        let run = run_on(&rt, rt.alloc(), words)?;
+        assert!(rt; answers(&run, ExitStatus::Clean, text, ""), "{words:?}");
+    }
+    Ok(())
+}
+
+// Words of lines that are not read, and what is said of them.
+const UNREAD: [(&[&str], &str); 4] = [
+    (&["play", "01/0 1/0"], "fault shape\n"),
+    (&["play", "--boards", ""], "fault empty\n"),
+    (&["moves", "--boards", "1/0 1,1/0"], "fault houses\n"),
+    (&["play", "--", "-1/0 1/0"], "fault shape\n"),
+];
+
+#[test]
+fn tells_the_fault_of_an_unread_line(rt: HostRuntime) -> Result<(), Fail> {
+    for (words, fault) in UNREAD {
+        let run = run_on(&rt, rt.alloc(), words)?;
+        assert!(rt;
+            answers(&run, ExitStatus::LineFaults, "", fault),
+            "{words:?}"
+        );
+    }
+    Ok(())
+}
+
+// The game is written in two moves, with a flush before each search and at the end: five calls in all.
+#[test]
+fn stops_at_a_failed_write(rt: HostRuntime) -> Result<(), Fail> {
+    for k in 1..8u32 {
+        let run = run_failing(&rt, rt.alloc(), &["play", "1,1/0 1,1/0"], k)?;
+        assert!(rt; (run.has_failed, run.calls) == (k <= 5, k.min(5)), "at {k}");
+        assert!(rt; run.is_told(), "at {k}");
+    }
+    Ok(())
+}
