@@ -3,7 +3,7 @@
 //! is refused is one of its own marks.
 use crate::{
     Answer, Entry, LineFault, Outcome, Sink, Stream, Taken, answer_text, line_text, read_line,
-    step_text, write_answer,
+    step_text, write_answer, write_picture, write_step,
 };
 use kalah_rules::Step;
 use kalah_solve::{Solver, Table};
@@ -147,6 +147,31 @@ fn answers_are_written_without_memory(rt: HostRuntime) -> Result<(), Fail> {
     mark(alloc, "after all")?;
     let written = out.into_inner();
     let want = "a:1 -2 house 1\na:2 114 over\na:3 fault seeds\n";
+    assert!(rt; written.as_slice() == want.as_bytes());
+    Ok(())
+}
+
+// Writes the move of house 2 of a position, and draws the position.
+fn write_move(out: &mut Stream<Vec<u8>>) -> Result<(), Fail> {
+    let board = read_line(b"1,1/0 1,1/0").ok().ok_or("not read")?;
+    if !out.failed() && board.is_legal(2) {
+        write_step(out, 2, &board.apply(2))?;
+        write_picture(out, &board)?;
+    }
+    Ok(())
+}
+
+#[test]
+fn moves_and_boards_are_written_without_memory(rt: HostRuntime) -> Result<(), Fail> {
+    let alloc = rt.alloc();
+    let room = Vec::<u8>::with_capacity(alloc, 100);
+    let room = room.or_else(|_| Vec::with_capacity(alloc, 100))?;
+    mark(alloc, "before the calls without memory")?;
+    let mut out = Stream::new(room);
+    write_move(&mut out)?;
+    mark(alloc, "after all")?;
+    let written = out.into_inner();
+    let want = "2 1,0/1 1,1/0 again\n       1   1\n   0           0\n       1   1\n";
     assert!(rt; written.as_slice() == want.as_bytes());
     Ok(())
 }
