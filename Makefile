@@ -2,7 +2,7 @@
 
 PREFIX ?= /usr/local
 
-.PHONY: all check test install bench clean
+.PHONY: all check test install uninstall bench clean
 
 # Proves the program and all that it stands on, and builds ./kalah.
 all: kalah
@@ -23,8 +23,12 @@ test:
 	tests/gate
 
 install: kalah
-	install -d $(DESTDIR)$(PREFIX)/bin
+	install -d $(DESTDIR)$(PREFIX)/bin $(DESTDIR)$(PREFIX)/share/man/man1
 	install -m 755 kalah $(DESTDIR)$(PREFIX)/bin/kalah
+	install -m 644 docs/kalah.1 $(DESTDIR)$(PREFIX)/share/man/man1/kalah.1
+
+uninstall:
+	rm -f $(DESTDIR)$(PREFIX)/bin/kalah $(DESTDIR)$(PREFIX)/share/man/man1/kalah.1
 
 # How long the program takes on the position files of bench/.
 bench: kalah
