@@ -6,3 +6,4 @@ pub mod Getters
 pub mod Plain
 pub mod Taken
 pub mod Played
+pub mod Begun

@@ -1,8 +1,8 @@
--- The game of best play, written move by move.
-use Rattle.std.proofs.Common.{◌≡◌, ℕ, List, [], ◌∷◌, ◌++◌, Bool, true, false, Option, Some, None, inl, inr, sym, subst, ap, ◌∙◌, arith}
-use Rattle.std.specs.Prelude.{Contains, ℤ, if◌then◌else◌}
+-- The game of best play, move by move, and what is written of it.
+use Rattle.std.proofs.Common.{◌≡◌, ℕ, List, [], ◌∷◌, ◌++◌, Bool, true, false, Option, Some, None, inl, inr, refl, sym, subst, take, ap, ◌∙◌, arith}
+use Rattle.std.specs.Prelude.{Contains, Err, Ok, OnOk, Result, ℤ, if◌then◌else◌}
 use Rattle.std.specs.Io.KnownBytes.{Appends, Keeps}
-use Rattle.std.proofs.KnownBytes.{Appends-kept, Appends-nil, Appends-trans}
+use Rattle.std.proofs.KnownBytes.{Appends-trans}
 use Rattle.std.proofs.lemmas.Bool.{cases_Bool}
 use Rattle.std.proofs.lemmas.Int.{ints}
 use Rattle.kalah_rules.specs.Position.{Position, HasEqualSides, final_margin, is_over, swapped}
@@ -16,13 +16,15 @@ use Rattle.kalah_solve.specs.Verdict.{verdict_of}
 use Rattle.kalah_solve.specs.Worth.{best_house, worth}
 use Rattle.kalah_solve.specs.declared.verdict.Verdict.TheVariants.{Best, Over}
 use Rattle.kalah_solve.proofs.Finds.{contains_first}
-use Rattle.kalah_solve.proofs.Games.{strategy_keeps}
+use Rattle.kalah_solve.proofs.Games.{followed, game_ends, strategy_keeps}
 use Rattle.kalah_solve.proofs.Secured.{best_is_strategy, best_plays, bounds}
 use Rattle.kalah_solve.proofs.Values.{over_swapped}
 use Rattle.kalah_solve.proofs.Worths.{again_step, over_step, turn_step}
 use Rattle.kalah_jobs.specs.Line.{position_after}
-use Rattle.kalah_cli.specs.Moves.{drawn, move_lines}
-use Rattle.kalah_cli.specs.Play.{IsBestGame, PlaysBest, WritesGame, game_lines}
+use Rattle.kalah_jobs.specs.Given.{AppendsStart}
+use Rattle.kalah_jobs.proofs.Starts.{start_longer, start_then}
+use Rattle.kalah_cli.specs.Moves.{move_lines}
+use Rattle.kalah_cli.specs.Play.{IsBestGame, OfBestGame, game_lines}
 
 -- both players always move the lowest best house
 abbrev pub BestGame : Position → List ℕ → Position → Type 0
@@ -79,61 +81,102 @@ over_game p e h going best is =
       | inr turn ↦ (swapped (swapped (after p h)), passes_turn going moved turn (is_at_end (over_swapped (after p h) moved_to.0)))
     ]
 
--- ---- what is written
+-- it begins with the best house
+first_move : (h : ℕ) {p : Position} {houses : List ℕ} {final : Position} → BestGame p houses final → is_over p ≡ false → h ≡ best_house p →
+    (rest : List ℕ) × (houses ≡ h ∷ rest)
+first_move h (is_at_end over) going best = absurd (let both : true ≡ false = sym over ∙ going in cc)
+first_move h {p = p} (moves_on {h = k} {houses = rest} _ has again game) going best = (rest, ap (λ j. j ∷ rest) (sym (followed best_house p k has) ∙ sym best))
+first_move h {p = p} (passes_turn {h = k} {houses = rest} _ has turn game) going best = (rest, ap (λ j. j ∷ rest) (sym (followed best_house p k has) ∙ sym best))
+
+-- ---- what holds of the lines of its moves
+
+-- what holds of any lines
+pub of_any : (boards : Bool) (p : Position) (Holds : List ℕ → Type 0) → HasEqualSides p → ((lines : List ℕ) → Holds lines) → OfBestGame boards p Holds
+of_any boards p Holds even all =
+    let game = game_ends best_house best_house best_is_strategy best_is_strategy p even in
+    record { houses = game.0; final = game.1; is_best = best_game p game.0 game.1 even game.2; holds = all (game_lines boards p game.0) }
+
+-- what holds of the line of the first move with any lines behind it
+pub of_first : (boards : Bool) (p : Position) (h : ℕ) (s : Step) (Holds : List ℕ → Type 0) → HasEqualSides p → is_over p ≡ false → h ≡ best_house p →
+    s ≡ step_of p h → ((lines : List ℕ) → Holds (move_lines boards h s ++ lines)) → OfBestGame boards p Holds
+of_first boards p h s Holds even going best same all =
+    let game = game_ends best_house best_house best_is_strategy best_is_strategy p even in
+    let first = first_move h game.2 going best in
+    let lines = game_lines boards (position_after (step_of p h)) first.0 in
+    record {
+      houses = game.0;
+      final = game.1;
+      is_best = best_game p game.0 game.1 even game.2;
+      holds = subst (λ hs. Holds (game_lines boards p hs)) (sym first.1) (subst (λ x. Holds (move_lines boards h x ++ lines)) same (all lines));
+    }
+
+-- what holds of them behind that line, where the rest is of the game from there on
+of_more : (boards : Bool) (p q : Position) (h : ℕ) (s : Step) (houses : List ℕ) (final : Position) (Rest Holds : List ℕ → Type 0) → HasEqualSides p →
+    BestGame p (h ∷ houses) final → s ≡ step_of p h → q ≡ position_after s → Rest (game_lines boards q houses) →
+    ((lines : List ℕ) → Rest lines → Holds (move_lines boards h s ++ lines)) → OfBestGame boards p Holds
+of_more boards p q h s houses final Rest Holds even game same next rest more = record {
+  houses = h ∷ houses;
+  final = final;
+  is_best = best_game p (h ∷ houses) final even game;
+  holds = subst (λ x. Holds (move_lines boards h x ++ game_lines boards (position_after x) houses)) same
+      (more (game_lines boards (position_after s) houses) (subst (λ r. Rest (game_lines boards r houses)) next rest));
+}
+
+pub of_again : (boards : Bool) (p q : Position) (h : ℕ) (s : Step) (Rest Holds : List ℕ → Type 0) → HasEqualSides p → is_over p ≡ false → h ≡ best_house p →
+    s ≡ step_of p h → s ≡ step.Again q → ((lines : List ℕ) → Rest lines → Holds (move_lines boards h s ++ lines)) → OfBestGame boards q Rest →
+    OfBestGame boards p Holds
+of_again boards p q h s Rest Holds even going best same is more rest =
+    of_more boards p q h s rest.houses rest.final Rest Holds even (again_game p q h rest.houses rest.final going best (sym is ∙ same) rest.is_best.game) same
+    (ap position_after (sym is)) rest.holds more
+
+pub of_turn : (boards : Bool) (p q : Position) (h : ℕ) (s : Step) (Rest Holds : List ℕ → Type 0) → HasEqualSides p → is_over p ≡ false → h ≡ best_house p →
+    s ≡ step_of p h → s ≡ step.Turn q → ((lines : List ℕ) → Rest lines → Holds (move_lines boards h s ++ lines)) → OfBestGame boards q Rest →
+    OfBestGame boards p Holds
+of_turn boards p q h s Rest Holds even going best same is more rest =
+    of_more boards p q h s rest.houses (swapped rest.final) Rest Holds even (turn_game p q h rest.houses rest.final going best (sym is ∙ same) rest.is_best.game)
+    same (ap position_after (sym is)) rest.holds more
+
+-- the last move
+pub of_last : (boards : Bool) (p e : Position) (h : ℕ) (s : Step) (Holds : List ℕ → Type 0) → HasEqualSides p → is_over p ≡ false → h ≡ best_house p →
+    s ≡ step_of p h → s ≡ step.Over e → Holds (move_lines boards h s ++ []) → OfBestGame boards p Holds
+of_last boards p e h s Holds even going best same is holds =
+    let game = over_game p e h going best (sym is ∙ same) in
+    of_more boards p e h s [] game.0 (λ lines. lines ≡ []) Holds even game.1 same (ap position_after (sym is)) refl
+    (λ lines none. subst (λ l. Holds (move_lines boards h s ++ l)) (sym none) holds)
+
+-- of a game that is over there are none
+pub of_end : (boards : Bool) (p : Position) (Holds : List ℕ → Type 0) → HasEqualSides p → is_over p ≡ true → Holds [] → OfBestGame boards p Holds
+of_end boards p Holds even over holds = record { houses = []; final = p; is_best = best_game p [] p even (is_at_end over); holds = holds }
+
+-- ---- what is written of them
 
 -- nothing was, and then these bytes
-kept_appends : (a b c : Option (List ℕ)) (bytes : List ℕ) → Keeps a b → Appends b c bytes → Appends a c bytes
+pub kept_appends : (a b c : Option (List ℕ)) (bytes : List ℕ) → Keeps a b → Appends b c bytes → Appends a c bytes
 kept_appends None b c bytes p q = tt
 kept_appends (Some x) None c bytes p q = absurd p
 kept_appends (Some x) (Some y) None bytes p q = absurd q
 kept_appends (Some x) (Some y) (Some z) bytes p q = q ∙ ap (λ l. l ++ bytes) p
 
--- of a game that is over, nothing
-pub writes_end : (boards : Bool) (p : Position) (old new : Option (List ℕ)) → HasEqualSides p → is_over p ≡ true → Keeps old new → WritesGame boards p old new
-writes_end boards p old new even over keeps = record {
-  houses = [];
-  final = p;
-  is_best = best_game p [] p even (is_at_end over);
-  written = Appends-kept old old new [] (Appends-nil old) keeps;
-}
+-- the line of a move, of which a beginning was written, after nothing was
+pub begins_move : (old ready new : Option (List ℕ)) (move lines : List ℕ) → Keeps old ready → AppendsStart ready new move → AppendsStart old new (move ++ lines)
+begins_move old ready new move lines keeps start = start_longer old new move lines (start.0, kept_appends old ready new (take start.0 move) keeps start.1)
 
--- the first move, and then the moves of the game from there on
-writes_more : (boards : Bool) (p q : Position) (h : ℕ) (houses : List ℕ) (final : Position) (old ready moved new : Option (List ℕ)) → HasEqualSides p →
-    BestGame p (h ∷ houses) final → q ≡ position_after (step_of p h) → Keeps old ready → Appends ready moved (move_lines boards h (step_of p h)) →
-    Appends moved new (game_lines boards q houses) → WritesGame boards p old new
-writes_more boards p q h houses final old ready moved new even game same keeps first rest = record {
-  houses = h ∷ houses;
-  final = final;
-  is_best = best_game p (h ∷ houses) final even game;
-  written = kept_appends old ready new _ keeps
-      (Appends-trans ready moved new _ _ first (subst (λ r. Appends moved new (game_lines boards r houses)) same rest));
-}
+-- all of it, and then a beginning of more lines
+pub begins_on : (old ready moved new : Option (List ℕ)) (move lines : List ℕ) → Keeps old ready → Appends ready moved move → AppendsStart moved new lines
+    → AppendsStart old new (move ++ lines)
+begins_on old ready moved new move lines keeps all rest = start_then old moved new (move ++ lines) move lines refl (kept_appends old ready moved move keeps all) rest
 
-pub writes_again : (boards : Bool) (p q : Position) (h : ℕ) (s : Step) (old ready moved new : Option (List ℕ)) → HasEqualSides p → is_over p ≡ false → h ≡ best_house p →
-    s ≡ step_of p h → s ≡ step.Again q → Keeps old ready → Appends ready moved (move_lines boards h s) → WritesGame boards q moved new → WritesGame boards p old new
-writes_again boards p q h s old ready moved new even going best same is keeps first rest =
-    writes_more boards p q h rest.houses rest.final old ready moved new even (again_game p q h rest.houses rest.final going best (sym is ∙ same) rest.is_best.game)
-    (ap position_after (sym is ∙ same)) keeps (subst (λ x. Appends ready moved (move_lines boards h x)) same first) rest.written
+-- all of both
+pub goes_on : (old ready moved new : Option (List ℕ)) (move lines : List ℕ) → Keeps old ready → Appends ready moved move → Appends moved new lines
+    → Appends old new (move ++ lines)
+goes_on old ready moved new move lines keeps all rest = kept_appends old ready new (move ++ lines) keeps (Appends-trans ready moved new move lines all rest)
 
-pub writes_turn : (boards : Bool) (p q : Position) (h : ℕ) (s : Step) (old ready moved new : Option (List ℕ)) → HasEqualSides p → is_over p ≡ false → h ≡ best_house p →
-    s ≡ step_of p h → s ≡ step.Turn q → Keeps old ready → Appends ready moved (move_lines boards h s) → WritesGame boards q moved new → WritesGame boards p old new
-writes_turn boards p q h s old ready moved new even going best same is keeps first rest =
-    writes_more boards p q h rest.houses (swapped rest.final) old ready moved new even (turn_game p q h rest.houses rest.final going best (sym is ∙ same) rest.is_best.game)
-    (ap position_after (sym is ∙ same)) keeps (subst (λ x. Appends ready moved (move_lines boards h x)) same first) rest.written
+-- what is so is so where a call succeeds
+pub on_ok_always : {A E P : Type 0} (r : Result A E) → P → OnOk r P
+on_ok_always (Ok x) p = p
+on_ok_always (Err e) p = tt
 
-pub writes_last : (boards : Bool) (p e : Position) (h : ℕ) (s : Step) (old ready moved new : Option (List ℕ)) → HasEqualSides p → is_over p ≡ false → h ≡ best_house p →
-    s ≡ step_of p h → s ≡ step.Over e → Keeps old ready → Appends ready moved (move_lines boards h s) → Keeps moved new → WritesGame boards p old new
-writes_last boards p e h s old ready moved new even going best same is keeps first done =
-    let game = over_game p e h going best (sym is ∙ same) in
-    writes_more boards p e h [] game.0 old ready moved new even game.1 (ap position_after (sym is ∙ same)) keeps
-    (subst (λ x. Appends ready moved (move_lines boards h x)) same first)
-    (Appends-kept moved moved new [] (Appends-nil moved) done)
-
--- the first position is drawn before the game
-pub plays_best : (boards : Bool) (p : Position) (old drew new : Option (List ℕ)) → Appends old drew (drawn boards p) → WritesGame boards p drew new → PlaysBest boards p old new
-plays_best boards p old drew new first rest = record {
-  houses = rest.houses;
-  final = rest.final;
-  is_best = rest.is_best;
-  written = Appends-trans old drew new _ _ first rest.written;
-}
+-- what holds of the lines of the game holds of them behind the first picture
+pub of_drawn : (boards : Bool) (p : Position) (Lines Holds : List ℕ → Type 0) → ((lines : List ℕ) → Lines lines → Holds lines) → OfBestGame boards p Lines
+    → OfBestGame boards p Holds
+of_drawn boards p Lines Holds more game = record { houses = game.houses; final = game.final; is_best = game.is_best; holds = more _ game.holds }

@@ -5,6 +5,7 @@ use Rattle.kalah_rules.specs.Position.{Position, final_margin}
 use Rattle.kalah_rules.specs.Play.{step_of}
 use Rattle.kalah_solve.specs.BestPlay.{Game, follow}
 use Rattle.kalah_solve.specs.Worth.{best_house, worth}
+use Rattle.kalah_jobs.specs.Given.{AppendsStart}
 use Rattle.kalah_jobs.specs.Line.{position_after}
 use Rattle.kalah_cli.specs.Moves.{drawn, move_lines}
 
@@ -19,16 +20,25 @@ pub record IsBestGame (p : Position) (houses : List ℕ) (final : Position) : Ty
   pub game : Game (follow best_house) (follow best_house) p houses final
   pub margin : final_margin final ≡ worth p
 
--- the moves of that game were written between the two states, and nothing else
-pub record WritesGame (boards : Bool) (p : Position) (old new : Option (List ℕ)) : Type 0 where
+-- of the lines of the moves of that game, this holds
+pub record OfBestGame (boards : Bool) (p : Position) (Holds : List ℕ → Type 0) : Type 0 where
   pub houses : List ℕ
   pub final : Position
   pub is_best : IsBestGame p houses final
-  pub written : Appends old new (game_lines boards p houses)
+  pub holds : Holds (game_lines boards p houses)
+
+-- the moves of that game were written between the two states, and nothing else
+abbrev pub WritesGame : Bool → Position → Option (List ℕ) → Option (List ℕ) → Type 0
+WritesGame boards p old new = OfBestGame boards p (λ lines. Appends old new lines)
+
+-- a beginning of them was
+abbrev pub BeginsGame : Bool → Position → Option (List ℕ) → Option (List ℕ) → Type 0
+BeginsGame boards p old new = OfBestGame boards p (λ lines. AppendsStart old new lines)
 
 -- the first position, where boards are drawn, and the moves of that game were written, and nothing else
-pub record PlaysBest (boards : Bool) (p : Position) (old new : Option (List ℕ)) : Type 0 where
-  pub houses : List ℕ
-  pub final : Position
-  pub is_best : IsBestGame p houses final
-  pub written : Appends old new (drawn boards p ++ game_lines boards p houses)
+abbrev pub PlaysBest : Bool → Position → Option (List ℕ) → Option (List ℕ) → Type 0
+PlaysBest boards p old new = OfBestGame boards p (λ lines. Appends old new (drawn boards p ++ lines))
+
+-- a beginning of these was
+abbrev pub BeginsBest : Bool → Position → Option (List ℕ) → Option (List ℕ) → Type 0
+BeginsBest boards p old new = OfBestGame boards p (λ lines. AppendsStart old new (drawn boards p ++ lines))

@@ -3,11 +3,12 @@ use Rattle.std.specs.Prelude.{◌≡◌, ◌≢◌, ℕ, List, Option}
 use Rattle.std.specs.Io.KnownBytes.{Appends}
 use Rattle.clap.specs.Words.{Text}
 use Rattle.kalah_rules.specs.Position.{Position}
+use Rattle.kalah_jobs.specs.Given.{AppendsStart}
 use Rattle.kalah_jobs.specs.Line.{Reads}
 use Rattle.kalah_cli.specs.Moves.{moves_output}
-use Rattle.kalah_cli.specs.Play.{PlaysBest}
+use Rattle.kalah_cli.specs.Play.{BeginsBest, PlaysBest}
 use Rattle.kalah_cli.specs.Request.{Asked, moves, play, answers}
-use Rattle.kalah_cli.specs.Solve.{AnswersTo}
+use Rattle.kalah_cli.specs.Solve.{AnswersTo, BeginsTo}
 use Rattle.kalah_cli.specs.declared.status.ExitStatus.{ExitStatus}
 use Rattle.kalah_cli.specs.declared.status.ExitStatus.TheVariants.{Clean, LineFaults, Failed}
 
@@ -20,6 +21,12 @@ abbrev pub Does : Asked → Option (List ℕ) → Option (List ℕ) → ExitStat
 Does (moves boards line) old new status = Prints line (λ p. Appends old new (moves_output boards p)) status
 Does (play table boards line) old new status = Prints line (λ p. PlaysBest boards p old new) status
 Does (answers question workers table names) old new status = status ≢ Failed → AnswersTo question names old new status
+
+-- a beginning of what was asked was written between the two states, and nothing else
+abbrev pub Begins : Asked → Option (List ℕ) → Option (List ℕ) → Type 0
+Begins (moves boards line) old new = (p : Position) → Reads line p → AppendsStart old new (moves_output boards p)
+Begins (play table boards line) old new = (p : Position) → Reads line p → BeginsBest boards p old new
+Begins (answers question workers table names) old new = BeginsTo question names old new
 
 -- what is asked is asked of this line
 abbrev pub IsOfLine : Asked → Text → Type 0

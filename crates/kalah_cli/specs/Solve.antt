@@ -2,6 +2,7 @@
 use Rattle.std.specs.Prelude.{◌≡◌, ◌↔◌, ◌==◌, ℕ, Bool, false, List, Option, map}
 use Rattle.std.specs.List.{list_any}
 use Rattle.std.specs.Io.KnownBytes.{Appends}
+use Rattle.kalah_jobs.specs.Given.{AppendsStart}
 use Rattle.kalah_jobs.specs.NamedBytes.{NamedBytes}
 use Rattle.kalah_jobs.specs.Output.{LineCounts, output_to, tally_of}
 use Rattle.kalah_jobs.specs.declared.question.Question.{Question}
@@ -30,6 +31,13 @@ pub record AnswersTo (question : Question) (names : List (List ℕ)) (old new : 
   pub one_line : list_any has_line_feed names ≡ false
   pub written : Appends old new (output_to question files)
   pub clean : status ≡ Clean ↔ (tally_of files).faults ≡ 0
+
+-- files of these names, in order, hold bytes of whose output, where this is asked of their positions, a beginning was written
+-- between the two states, and nothing else was
+pub record BeginsTo (question : Question) (names : List (List ℕ)) (old new : Option (List ℕ)) : Type 0 where
+  pub files : List NamedBytes
+  pub named : map (λ file. file.name) files ≡ names
+  pub start : AppendsStart old new (output_to question files)
 
 -- where the best move is asked of each position
 abbrev pub AnswersFiles : List (List ℕ) → Option (List ℕ) → Option (List ℕ) → ExitStatus → Type 0

@@ -2,6 +2,7 @@
 ghost use Rattle.std.specs.Prelude.{◌≡◌, ◌≢◌, ◌↔◌, IsErr, OnOk, false, true};
 ghost use Rattle.std.specs.Io.KnownBytes.{Appends};
 ghost use Rattle.kalah_rules.specs.Position.{Position};
+ghost use Rattle.kalah_jobs.specs.Given.{AppendsStart};
 ghost use Rattle.kalah_jobs.specs.Line.{Reads};
 ghost use Rattle.kalah_cli.specs.Moves.{drawn, move_lines, moves_output};
 
@@ -23,6 +24,7 @@ pub(crate) fn write_board<O: Sink>(
     ensures fails { IsErr result ↔ (O.has_failed out.new ≡ true) }
     ensures adds { OnOk result
         (Appends (O.written out.old) (O.written out.new) (drawn boards board.now)) }
+    ensures start { AppendsStart (O.written out.old) (O.written out.new) (drawn boards board.now) }
 {
     if !boards {
         return Ok(());
@@ -41,6 +43,7 @@ pub(crate) fn write_move<O: Sink>(
     ensures fails { IsErr result ↔ (O.has_failed out.new ≡ true) }
     ensures adds { OnOk result
         (Appends (O.written out.old) (O.written out.new) (move_lines boards house step.now)) }
+    ensures start { AppendsStart (O.written out.old) (O.written out.new) (move_lines boards house step.now) }
 {
     write_step(out, house, step)?;
     match step {
@@ -56,6 +59,7 @@ fn write_moves<O: Sink>(board: &Board, boards: bool, out: &mut O) -> Result<(), 
     ensures fails { IsErr result ↔ (O.has_failed out.new ≡ true) }
     ensures adds { OnOk result
         (Appends (O.written out.old) (O.written out.new) (moves_output boards board.now)) }
+    ensures start { AppendsStart (O.written out.old) (O.written out.new) (moves_output boards board.now) }
 {
     let moves = board.legal();
     for i in 0..moves.len() {
@@ -77,6 +81,8 @@ pub(crate) fn run_moves<O: Sink, E: Write>(
     ensures read { (p : Position) → Reads line.now p → (result ≢ ExitStatus.LineFaults)
         × (result ≡ ExitStatus.Clean
         → Appends (O.written out.old) (O.written out.new) (moves_output boards p)) }
+    ensures begins { (p : Position) → Reads line.now p
+        → AppendsStart (O.written out.old) (O.written out.new) (moves_output boards p) }
     ensures unread { ((p : Position) → Reads line.now p → ⊥)
         → (result ≡ ExitStatus.LineFaults) × (out.new ≡ out.old) }
     ensures failed { O.has_failed out.new ≡ true ↔ result ≡ ExitStatus.Failed }

@@ -2,7 +2,7 @@
 ghost use Rattle.std.specs.Prelude.{◌≡◌, ◌≢◌, ◌↔◌, ◌≤◌, IsErr, OnOk, false, true};
 ghost use Rattle.kalah_rules.specs.Position.{Position};
 ghost use Rattle.kalah_jobs.specs.Line.{Reads};
-ghost use Rattle.kalah_cli.specs.Play.{PlaysBest, WritesGame};
+ghost use Rattle.kalah_cli.specs.Play.{BeginsBest, BeginsGame, PlaysBest, WritesGame};
 
 use crate::failure::Failure;
 use crate::moves::{write_board, write_move};
@@ -26,9 +26,10 @@ fn write_game<O: Sink>(
     requires { O.has_failed out.old ≡ false }
     ensures fails { IsErr result ↔ (O.has_failed out.new ≡ true) }
     ensures game { OnOk result (WritesGame boards board.now (O.written out.old) (O.written out.new)) }
+    ensures begins { BeginsGame boards board.now (O.written out.old) (O.written out.new) }
 {
-    out.flush()?;
     let _side = board.m();
+    out.flush()?;
     let house = match solver.solve(board) {
         Verdict::Over { .. } => return Ok(()),
         Verdict::Best { house, .. } => house,
@@ -52,7 +53,9 @@ fn play<O: Sink>(
     requires { O.has_failed out.old ≡ false }
     ensures fails { IsErr result ↔ (O.has_failed out.new ≡ true) }
     ensures game { OnOk result (PlaysBest boards board.now (O.written out.old) (O.written out.new)) }
+    ensures begins { BeginsBest boards board.now (O.written out.old) (O.written out.new) }
 {
+    let _side = board.m();
     write_board(board, boards, out)?;
     write_game(solver, board, boards, out)
 }
@@ -74,6 +77,7 @@ pub(crate) fn run_play<O: Sink, E: Write>(
     ensures read { (p : Position) → Reads line.now p → (result ≢ ExitStatus.LineFaults)
         × (result ≡ ExitStatus.Clean
         → PlaysBest boards p (O.written out.old) (O.written out.new)) }
+    ensures begins { (p : Position) → Reads line.now p → BeginsBest boards p (O.written out.old) (O.written out.new) }
     ensures unread { ((p : Position) → Reads line.now p → ⊥)
         → (result ≡ ExitStatus.LineFaults) × (out.new ≡ out.old) }
     ensures failed { O.has_failed out.new ≡ true → result ≡ ExitStatus.Failed }

@@ -11,7 +11,7 @@ ghost use Rattle.kalah_cli.specs.Command.{kalah_app};
 ghost use Rattle.kalah_cli.specs.Moves.{moves_output};
 ghost use Rattle.kalah_cli.specs.Play.{PlaysBest};
 ghost use Rattle.kalah_cli.specs.Request.{Asked, IsInRange, IsPlainWord, IsTakenAs, asked_for, solve, texts_of, values};
-ghost use Rattle.kalah_cli.specs.Runs.{Does, IsOfLine, IsUnread};
+ghost use Rattle.kalah_cli.specs.Runs.{Begins, Does, IsOfLine, IsUnread};
 ghost use Rattle.kalah_cli.specs.Solve.{AnswersFiles, TellsValues};
 
 use crate::failure::Failure;
@@ -78,6 +78,7 @@ fn run_request<R: Files + Threads + Wait + Sync, O: Sink, E: Write>(
     requires range { IsInRange request.now }
     requires sink { O.has_failed out.old ≡ false }
     ensures does { Does (asked_for request.now) (O.written out.old) (O.written out.new) result }
+    ensures begins { Begins (asked_for request.now) (O.written out.old) (O.written out.new) }
     ensures unread { (line : List ℕ) → IsOfLine (asked_for request.now) line → IsUnread line
         → (result ≡ ExitStatus.LineFaults) × (out.new ≡ out.old) }
     ensures failed { O.has_failed out.new ≡ true → result ≡ ExitStatus.Failed }
@@ -112,6 +113,9 @@ pub fn run_words<R: Files + Threads + Wait + Sync, O: Sink, E: Write>(
     // Words that are taken as asking for something: that is done.
     ensures does { (a : Asked) → IsTakenAs (texts_of words.items) a
         → Does a (O.written out.old) (O.written out.new) result }
+    // Whatever comes of it: a beginning of what is asked for was written, and nothing else.
+    ensures begins { (a : Asked) → IsTakenAs (texts_of words.items) a
+        → Begins a (O.written out.old) (O.written out.new) }
     // Words that are taken as asking of a line, which is not read.
     ensures unread_line { (a : Asked) (line : List ℕ) → IsTakenAs (texts_of words.items) a
         → IsOfLine a line → IsUnread line → (result ≢ ExitStatus.Clean) × (out.new ≡ out.old) }

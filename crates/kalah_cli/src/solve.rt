@@ -2,9 +2,10 @@
 ghost use Rattle.std.specs.Prelude.{◌≡◌, ◌≢◌, ◌↔◌, ◌≤◌, Err, IfErr, IfOk, IsErrOf, OnOk, false, map, true};
 ghost use Rattle.std.specs.List.{list_any};
 ghost use Rattle.std.specs.Io.KnownBytes.{Appends};
+ghost use Rattle.kalah_jobs.specs.Given.{AppendsStart};
 ghost use Rattle.kalah_jobs.specs.Output.{output_to, tally_of};
 ghost use Rattle.kalah_cli.specs.Request.{IsInLimits};
-ghost use Rattle.kalah_cli.specs.Solve.{AnswersTo, CountsTo, has_line_feed};
+ghost use Rattle.kalah_cli.specs.Solve.{AnswersTo, BeginsTo, CountsTo, has_line_feed};
 
 use crate::failure::Failure;
 use crate::files::read_files;
@@ -44,6 +45,7 @@ fn answer<R: Threads + Wait + Sync, O: Sink>(
     requires sink { O.has_failed out.old ≡ false }
     ensures written { OnOk result
         (Appends (O.written out.old) (O.written out.new) (output_to batch.now.question files.now)) }
+    ensures start { AppendsStart (O.written out.old) (O.written out.new) (output_to batch.now.question files.now) }
     ensures tally { IfOk result (λ tally. tally ≡ tally_of files.now) }
     ensures write { (result ≡ Err RunFault.Write) ↔ (O.has_failed out.new ≡ true) }
     ensures untouched { IfErr result (λ fault. fault ≢ RunFault.Write → out.new ≡ out.old) }
@@ -56,7 +58,7 @@ fn answer<R: Threads + Wait + Sync, O: Sink>(
 }
 
 // Reads the files that are named and writes the answer to what is asked of each line of them.
-#[tactic(auto, using(crate::proofs::Names::texts_have_line_feed))]
+#[tactic(auto, using(crate::proofs::Names::texts_have_line_feed, crate::proofs::Begun::begins_nothing))]
 fn answer_files<'a, R: Files + Threads + Wait + Sync, O: Sink>(
     rt: &R,
     alloc: Global,
@@ -67,6 +69,8 @@ fn answer_files<'a, R: Files + Threads + Wait + Sync, O: Sink>(
     requires sink { O.has_failed out.old ≡ false }
     ensures solved { IfOk result (λ tally. CountsTo batch.now.question (map (λ name. name.now) batch.now.files.items)
         (O.written out.old) (O.written out.new) tally) }
+    ensures begins { BeginsTo batch.now.question (map (λ name. name.now) batch.now.files.items)
+        (O.written out.old) (O.written out.new) }
     ensures one_line { OnOk result
         (list_any has_line_feed (map (λ name. name.now) batch.now.files.items) ≡ false) }
     ensures failed { O.has_failed out.new ≡ true ↔ IsErrOf result Failure.Write }
@@ -109,6 +113,8 @@ pub(crate) fn run_batch<R: Files + Threads + Wait + Sync, O: Sink, E: Write>(
     ensures solved { result ≢ ExitStatus.Failed
         → AnswersTo batch.now.question (map (λ name. name.now) batch.now.files.items)
         (O.written out.old) (O.written out.new) result }
+    ensures begins { BeginsTo batch.now.question (map (λ name. name.now) batch.now.files.items)
+        (O.written out.old) (O.written out.new) }
     ensures failed { O.has_failed out.new ≡ true → result ≡ ExitStatus.Failed }
     ensures unchanged { result ≡ ExitStatus.Failed → O.has_failed out.new ≡ false
         → out.new ≡ out.old }

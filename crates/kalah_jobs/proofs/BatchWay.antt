@@ -1,9 +1,7 @@
 -- The loop that writes each line once it is ready and all before it were written.
-use Rattle.std.proofs.Common.{◌≡◌, ℕ, ◌+◌, ◌<◌, ◌≤◌, ⊎_elim, List, [], ◌∷◌, ◌++◌, length, get_or, take, Bool, false, refl, sym, ap, ◌∙◌, subst, arith}
+use Rattle.std.proofs.Common.{◌≡◌, ℕ, ◌+◌, ◌<◌, ◌≤◌, ⊎_elim, List, [], ◌∷◌, ◌++◌, length, get_or, take, Bool, refl, sym, ap, ◌∙◌, subst, arith}
 use Rattle.std.specs.Prelude.{Option, Some, None, Result, Ok, Err, All}
 use Rattle.std.specs.List.{flat_map, enumerate_from}
-use Rattle.std.specs.Io.KnownBytes.{Appends}
-use Rattle.std.proofs.KnownBytes.{Appends-nil, Appends-trans}
 use Rattle.std.proofs.lemmas.Bool.{cases_eq, cases_lt}
 use Rattle.std.proofs.lemmas.List.{append-nil, get_or_past, get_or_default, take_all, take_more, flat_map_more}
 use Rattle.std.proofs.lemmas.List.FromFn.{length-enumerate_from, get_or-enumerate_from}
@@ -19,10 +17,12 @@ use Rattle.kalah_jobs.specs.Refusals.{IsWanted, IsRefusedFor}
 use Rattle.kalah_jobs.specs.CollectorEvents.{Offers, Takes, answered_line}
 use Rattle.kalah_jobs.specs.Batch.{AreJobsInSomeOrder}
 use Rattle.kalah_jobs.specs.Output.{text_of_line, text_of_file, text_of_jobs}
+use Rattle.kalah_jobs.specs.Given.{WasGiven}
 use Rattle.kalah_jobs.specs.UnderWay.{written_upto, IsUnderWay}
 use Rattle.kalah_jobs.proofs.CollectorSteps.{state_same, state_other, files_many, lines_are, wanted_file, holds_accepted, holds_refused, holds_take}
 use Rattle.kalah_jobs.proofs.CollectorRuns.{start, taken_is, taken_after_offer, front_after_offer, new_taken}
 use Rattle.kalah_jobs.proofs.JobOrders.{fronts_full}
+use Rattle.kalah_jobs.proofs.Starts.{given_none}
 
 -- one line more
 written_line : (text : ℕ → Taken → List ℕ) (jobs : List (List Entry)) (f n : ℕ) (e : Entry) → entry_at jobs f n ≡ Some e
@@ -78,12 +78,11 @@ written_none : (text : ℕ → Taken → List ℕ) (jobs : List (List Entry)) �
 unfolding written_upto
 written_none text jobs = refl
 
--- A line is taken. Where the sink hasn't failed now it hadn't failed before, and the line's text was added; so a sink that has
--- failed may be left alone.
+-- A line is taken, and its text given to the sink.
 pub wrote_line : (text : ℕ → Taken → List ℕ) (jobs : List (List Entry)) (past : List Offer) (files after : List FileState) (f : ℕ) (t : Taken) (begun out more : Option (List ℕ)) (failed fails : Bool)
-    → Takes files f (Some t) after → (fails ≡ false → (failed ≡ false) × Appends out more (text f t))
+    → Takes files f (Some t) after → ((given : List ℕ) → WasGiven begun out failed given → WasGiven begun more fails (given ++ text f t))
     → IsUnderWay text jobs past files f begun out failed → IsUnderWay text jobs past after f begun more fails
-wrote_line text jobs past files after f t begun out more failed fails step adds way =
+wrote_line text jobs past files after f t begun out more failed fails step gives way =
     let low : f < length files = step.file_there in
     let n : ℕ = (state_of files f).taken in
     let now : List FileState = after_take files f in
@@ -109,9 +108,7 @@ wrote_line text jobs past files after f t begun out more failed fails step adds 
           (cases_eq g f);
       before = λ g g_low. subst (λ (s : FileState). s.taken ≡ line_count s) (sym (other g (λ q. omega arith))) (way.before g g_low);
       behind = λ g g_high. ap (λ (s : FileState). s.taken) (other g (λ q. omega arith)) ∙ way.behind g g_high;
-      written = λ sound.
-          let h = adds sound in
-          subst (λ (l : List ℕ). Appends begun more l) text_is (Appends-trans begun out more (written_upto text jobs f n) (text f t) (way.written h.0) h.1);
+      written = subst (λ (l : List ℕ). WasGiven begun more fails l) text_is (gives (written_upto text jobs f n) way.written);
     } in
     subst (λ (s : List FileState). IsUnderWay text jobs past s f begun more fails) (sym step.kept) new
 
@@ -142,7 +139,7 @@ wrote_file text jobs past files f begun out failed low ended all way =
           (λ (np : g ≡ f → ⊥). way.before g (omega arith))
           (cases_eq g f);
       behind = λ g g_high. way.behind g (omega arith);
-      written = λ sound. subst (λ (l : List ℕ). Appends begun out l) text_is (way.written sound);
+      written = subst (λ (l : List ℕ). WasGiven begun out failed l) text_is way.written;
     }
 
 -- an accepted offer leaves what was written
@@ -165,7 +162,7 @@ way_accepted text jobs past o files f begun out failed wanted way =
           let b = lines_are jobs now holds.counts g in
           taken g ∙ way.before g g_low ∙ a ∙ sym b;
       behind = λ g g_high. taken g ∙ way.behind g g_high;
-      written = λ sound. subst (λ n. Appends begun out (written_upto text jobs f n)) (sym (taken f)) (way.written sound);
+      written = subst (λ n. WasGiven begun out failed (written_upto text jobs f n)) (sym (taken f)) way.written;
     }
 
 -- so does a refused one
@@ -196,8 +193,8 @@ way_start text jobs begun failed =
       within = kept.took.within;
       before = λ g low. absurd (omega arith);
       behind = λ g high. new_taken jobs g;
-      written = λ sound.
-          subst (λ (l : List ℕ). Appends begun begun l) (sym (ap (λ n. written_upto text jobs 0 n) (new_taken jobs 0) ∙ written_none text jobs)) (Appends-nil begun);
+      written = subst (λ (l : List ℕ). WasGiven begun begun failed l)
+          (sym (ap (λ n. written_upto text jobs 0 n) (new_taken jobs 0) ∙ written_none text jobs)) (given_none begun failed);
     }
 
 -- Each job was offered once, and the file at hand isn't one that has still to be waited for: it is past the last.
@@ -209,12 +206,13 @@ past_all text jobs past files f begun out failed each waits way =
     (λ (high : length files ≤ f). high)
     (cases_lt f (length files))
 
--- so all is written, unless the sink failed
+-- so the sink was given all
 pub way_end : (text : ℕ → Taken → List ℕ) (jobs : List (List Entry)) (past : List Offer) (files : List FileState) (f : ℕ) (begun out : Option (List ℕ)) (failed : Bool)
-    → AreJobsInSomeOrder jobs past → (f < length files → HasEnded (state_of files f) → ⊥) → IsUnderWay text jobs past files f begun out failed → failed ≡ false → Appends begun out (text_of_jobs text jobs)
-way_end text jobs past files f begun out failed each waits way sound =
+    → AreJobsInSomeOrder jobs past → (f < length files → HasEnded (state_of files f) → ⊥) → IsUnderWay text jobs past files f begun out failed → WasGiven begun out failed (text_of_jobs text jobs)
+way_end text jobs past files f begun out failed each waits way =
     let high = past_all text jobs past files f begun out failed each waits way in
-    subst (λ (l : List ℕ). Appends begun out l) (written_all text jobs f (state_of files f).taken (let m = files_many jobs files way.holds.counts in omega arith)) (way.written sound)
+    subst (λ (l : List ℕ). WasGiven begun out failed l)
+    (written_all text jobs f (state_of files f).taken (let m = files_many jobs files way.holds.counts in omega arith)) way.written
 
 -- and all is taken, whether it failed or not
 pub way_takes_all : (text : ℕ → Taken → List ℕ) (jobs : List (List Entry)) (past : List Offer) (files : List FileState) (f : ℕ) (begun out : Option (List ℕ)) (failed : Bool)

@@ -23,6 +23,7 @@ pub mod SameBoard
 pub mod SharedOnce
 pub mod SameOffer
 pub mod JobOrders
+pub mod Starts
 pub mod BatchWay
 mod ValueTexts
 mod Joined

@@ -16,6 +16,7 @@ pub mod Lines
 pub mod Jobs
 pub mod Output
 pub mod Stream
+pub mod Given
 pub mod CollectorState
 pub mod Refusals
 pub mod CollectorEvents

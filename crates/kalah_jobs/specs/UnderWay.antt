@@ -1,7 +1,6 @@
 -- What is known while a batch is under way: what has come, and what was written of it.
-use Rattle.std.specs.Prelude.{◌≡◌, ℕ, ◌<◌, ◌≤◌, List, ◌++◌, take, Bool, false, Option, Some, Contains}
+use Rattle.std.specs.Prelude.{◌≡◌, ℕ, ◌<◌, ◌≤◌, List, ◌++◌, take, Bool, Option, Some, Contains}
 use Rattle.std.specs.List.{flat_map, enumerate_from}
-use Rattle.std.specs.Io.KnownBytes.{Appends}
 use Rattle.kalah_jobs.specs.declared.entry.Entry.{Entry}
 use Rattle.kalah_jobs.specs.declared.answer.Answer.{Answer}
 use Rattle.kalah_jobs.specs.declared.answer.Taken.{Taken}
@@ -10,6 +9,7 @@ use Rattle.kalah_jobs.specs.Offer.{Offer}
 use Rattle.kalah_jobs.specs.JobList.{entries_of, entry_at, offer}
 use Rattle.kalah_jobs.specs.CollectorState.{FileState, state_of, line_count, front, came_for, HasLinesOf}
 use Rattle.kalah_jobs.specs.Output.{text_of_line, text_of_file}
+use Rattle.kalah_jobs.specs.Given.{WasGiven}
 
 -- line k of file f is one of the jobs, the answer is that of its entry, and it was offered with that entry
 pub record IsAnswered (jobs : List (List Entry)) (past : List Offer) (f k : ℕ) (answer : Answer) : Type 0 where
@@ -28,11 +28,11 @@ pub record Holds (jobs : List (List Entry)) (past : List Offer) (files : List Fi
 unfoldable pub written_upto : (ℕ → Taken → List ℕ) → List (List Entry) → ℕ → ℕ → List ℕ
 written_upto text jobs f n = flat_map (text_of_file text) (take f (enumerate_from 0 jobs)) ++ flat_map (text_of_line text f) (take n (enumerate_from 0 (entries_of jobs f)))
 
--- With these offers made, the files before f are taken wholly and those behind it not at all. Unless the sink failed, it has what
--- it had when the batch began, and then the text of each line that was taken, in order.
+-- With these offers made, the files before f are taken wholly and those behind it not at all. The sink was given the text of each
+-- line that was taken, in order.
 pub record IsUnderWay (text : ℕ → Taken → List ℕ) (jobs : List (List Entry)) (past : List Offer) (files : List FileState) (f : ℕ) (begun out : Option (List ℕ)) (failed : Bool) : Type 0 where
   pub holds : Holds jobs past files
   pub within : (g : ℕ) → (state_of files g).taken ≤ front (state_of files g)
   pub before : (g : ℕ) → g < f → (state_of files g).taken ≡ line_count (state_of files g)
   pub behind : (g : ℕ) → f < g → (state_of files g).taken ≡ 0
-  pub written : failed ≡ false → Appends begun out (written_upto text jobs f (state_of files f).taken)
+  pub written : WasGiven begun out failed (written_upto text jobs f (state_of files f).taken)

@@ -1,6 +1,7 @@
 //! Positions drawn as boards.
 ghost use Rattle.std.specs.Prelude.{◌≡◌, ◌↔◌, ◌≤◌, ◌+◌, ◌*◌, ◌++◌, true, false, IsErr, OnOk, length};
 ghost use Rattle.std.specs.Io.KnownBytes.{Appends};
+ghost use Rattle.kalah_jobs.specs.Given.{AppendsStart};
 ghost use Rattle.kalah_rules.specs.Position.{side_length};
 ghost use Rattle.kalah_jobs.specs.Picture.{PictureLinesAreShort, PicturesTellPositions, cell, house_in, houses_line, picture_of};
 
@@ -76,12 +77,13 @@ fn picture(board: &Board) -> StackText
 
 /// Draws a board in three lines: the houses of the other player, from the last to the first; the stores, of which the
 /// mover's stands at the right; and the houses of the mover, from the first to the last. Each number stands at the right of
-/// a column of four bytes. It takes no memory, and is an error exactly where the sink has failed afterwards; how much of
-/// the picture went out isn't known then.
+/// a column of four bytes. It takes no memory, and is an error exactly where the sink has failed afterwards; then a
+/// beginning of the picture was written, and nothing else.
 pub fn write_picture<W: Sink>(out: &mut W, board: &Board) -> Result<(), io::Error>
     requires { W.has_failed out.old ≡ false }
     ensures fails { IsErr result ↔ (W.has_failed out.new ≡ true) }
     ensures adds { OnOk result (Appends (W.written out.old) (W.written out.new) (picture_of board.now)) }
+    ensures start { AppendsStart (W.written out.old) (W.written out.new) (picture_of board.now) }
 {
     out.write_all(picture(board).bytes())
 }

@@ -1,6 +1,7 @@
 //! Positions and steps as text.
 ghost use Rattle.std.specs.Prelude.{◌≡◌, ◌≤◌, ◌+◌, ◌∷◌, [], ◌++◌, ◌↔◌, true, false, IfOk, IsErr, OnOk, length, string_bytes};
 ghost use Rattle.std.specs.Io.KnownBytes.{Appends};
+ghost use Rattle.kalah_jobs.specs.Given.{AppendsStart};
 ghost use Rattle.kalah_rules.specs.Limits.{most_in_store};
 ghost use Rattle.kalah_rules.specs.Position.{IsWithinLimits};
 ghost use Rattle.kalah_jobs.specs.Lines.{line_feed};
@@ -115,12 +116,13 @@ pub fn step_text(alloc: Global, h: u8, step: &Step) -> Result<String, AllocError
 }
 
 /// Writes the text of a move, as `step_text` has it, and a line feed. It takes no memory. It is an error exactly where the
-/// sink has failed afterwards; how much of the line went out isn't known then.
+/// sink has failed afterwards; then a beginning of the line was written, and nothing else.
 pub fn write_step<W: Sink>(out: &mut W, h: u8, step: &Step) -> Result<(), io::Error>
     requires { W.has_failed out.old ≡ false }
     ensures fails { IsErr result ↔ (W.has_failed out.new ≡ true) }
     ensures adds { OnOk result
         (Appends (W.written out.old) (W.written out.new) (step_text_of h step.now ++ line_feed ∷ [])) }
+    ensures start { AppendsStart (W.written out.old) (W.written out.new) (step_text_of h step.now ++ line_feed ∷ []) }
 {
     let mut text = StackText::new();
     text.put(b"\n");

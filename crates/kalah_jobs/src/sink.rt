@@ -1,6 +1,7 @@
 //! Where answers are written: bytes go out in order until a call fails, and none after that.
 ghost use Rattle.std.specs.Prelude.{◌≡◌, ◌↔◌, ℕ, List, Bool, true, false, Option, OnOk, IsErr};
 ghost use Rattle.std.specs.Io.KnownBytes.{Appends, Keeps};
+ghost use Rattle.kalah_jobs.specs.Given.{AppendsStart};
 
 use std::io;
 
@@ -13,24 +14,25 @@ pub trait Sink {
     ghost has_failed: { Self → Bool };
 
     /// Writes all the bytes, and nothing else. It is an error exactly where the sink has failed
-    /// afterwards; how many of the bytes went out isn't known then.
+    /// afterwards; then a beginning of the bytes was written, and nothing else.
     fn write_all(&mut self, bytes: &[u8]) -> Result<(), io::Error>
         requires { has_failed self.old ≡ false }
         ensures fails { IsErr result ↔ (has_failed self.new ≡ true) }
-        ensures adds { OnOk result (Appends (written self.old) (written self.new) bytes.now) };
+        ensures adds { OnOk result (Appends (written self.old) (written self.new) bytes.now) }
+        ensures start { AppendsStart (written self.old) (written self.new) bytes.now };
 
     /// Hands on what is still held back, and writes nothing of its own. It is an error exactly where
     /// the sink has failed afterwards.
     fn flush(&mut self) -> Result<(), io::Error>
         requires { has_failed self.old ≡ false }
         ensures fails { IsErr result ↔ (has_failed self.new ≡ true) }
-        ensures keeps { OnOk result (Keeps (written self.old) (written self.new)) };
+        ensures keeps { Keeps (written self.old) (written self.new) };
 
     /// The caller is about to wait for what it will write next. A sink that holds bytes back may hand them on here; nothing
     /// is written, and where that fails the sink has failed afterwards. By itself a sink does nothing here.
     fn before_waiting(&mut self)
         requires { has_failed self.old ≡ false }
-        ensures keeps { has_failed self.new ≡ false → Keeps (written self.old) (written self.new) }
+        ensures keeps { Keeps (written self.old) (written self.new) }
     {}
 
     /// Whether a call has failed.

@@ -1,10 +1,33 @@
 //! The sink over a writer.
-ghost use Rattle.std.specs.Prelude.{◌≡◌, false};
+ghost use Rattle.std.specs.Prelude.{◌≡◌, false, OnOk};
+ghost use Rattle.std.specs.Io.KnownBytes.{Appends};
+ghost use Rattle.kalah_jobs.specs.Given.{AppendsStart};
 ghost use Rattle.kalah_jobs.specs.Stream.{stream_failed, stream_writer};
 
 use crate::Sink;
 use std::io;
-use std::io::Write;
+use std::io::{ErrorKind, Write};
+
+// Writes all the bytes, in as many calls as the writer needs. A call that was interrupted has taken nothing, and is made again.
+fn write_pieces<W: Write>(writer: &mut W, bytes: &[u8]) -> io::Result<()>
+    ensures adds { OnOk result
+        (Appends (W.contents writer.old) (W.contents writer.new) bytes.now) }
+    ensures start { AppendsStart (W.contents writer.old) (W.contents writer.new) bytes.now }
+{
+    let mut rest = bytes;
+    for _ in 0..u64::MAX {
+        if rest.is_empty() {
+            return Ok(());
+        }
+        match writer.write(rest) {
+            Ok(0) => return Err(io::Error::from(ErrorKind::WriteZero)),
+            Ok(taken) => rest = &rest[taken..],
+            Err(error) if error.kind() == ErrorKind::Interrupted => {}
+            Err(error) => return Err(error),
+        }
+    }
+    Err(io::Error::from(ErrorKind::Interrupted))
+}
 
 /// The sink over a writer, with that writer's bytes. It fails where a call of the writer answers an
 /// error, also because the writer took no byte; an interrupted call is tried again and is no error.
@@ -44,7 +67,7 @@ impl<W: Write> Sink for Stream<W> {
     ghost has_failed = { stream_failed };
 
     fn write_all(&mut self, bytes: &[u8]) -> Result<(), io::Error> {
-        let written = self.writer.write_all(bytes);
+        let written = write_pieces(&mut self.writer, bytes);
         self.has_failed = written.is_err();
         written
     }

@@ -1,20 +1,21 @@
 -- What stands written when a batch has ended.
-use Rattle.std.proofs.Common.{◌≡◌, ℕ, List, [], ◌∷◌, ◌++◌, length, refl, sym, ap, ◌∙◌, subst, arith, append-nil}
-use Rattle.std.specs.Prelude.{Option, Some, None, Bool, false, count_by}
+use Rattle.std.proofs.Common.{◌≡◌, ℕ, List, ◌+◌, [], ◌∷◌, length, refl, sym, ap, ◌∙◌, subst, arith}
+use Rattle.std.specs.Prelude.{Option, Some, None, Bool, count_by}
 use Rattle.std.specs.Io.KnownBytes.{Appends, Keeps}
+use Rattle.kalah_jobs.specs.declared.answer.Taken.{Taken}
 use Rattle.kalah_jobs.specs.declared.entry.Entry.{Entry}
 use Rattle.kalah_jobs.specs.declared.question.Question.{Question}
 use Rattle.kalah_jobs.specs.Offer.{Offer}
 use Rattle.kalah_jobs.specs.NamedBytes.{NamedBytes}
 use Rattle.kalah_jobs.specs.JobList.{job_list}
-use Rattle.kalah_jobs.specs.Lines.{lines_of}
-use Rattle.kalah_jobs.specs.Jobs.{jobs_to, job_count, line_count, lines_in}
-use Rattle.kalah_jobs.proofs.JobCounts.{job_count-jobs_to}
+use Rattle.kalah_jobs.specs.Jobs.{jobs_to, job_count}
 use Rattle.std.specs.List.{flat_map, enumerate_from}
 use Rattle.std.proofs.lemmas.List.Sums.{sum_by-cons}
-use Rattle.kalah_jobs.specs.Output.{output_to, output_of_jobs, names_of, tally_of, line_output, file_output, LineCounts, text_of_jobs, is_faulty_offer}
+use Rattle.kalah_jobs.specs.Output.{answer_text_of, output_to, output_of_jobs, names_of, tally_of, LineCounts, text_of_file, text_of_jobs, is_faulty_offer}
 use Rattle.kalah_jobs.specs.Batch.{AreJobsInSomeOrder}
+use Rattle.kalah_jobs.specs.Given.{WasGiven}
 use Rattle.kalah_jobs.proofs.BatchWay.{way_end}
+use Rattle.kalah_jobs.proofs.Starts.{given_none}
 use Rattle.kalah_jobs.proofs.JobOutput.{files_are_their_jobs}
 use Rattle.kalah_run.specs.Texts.{text_of}
 use Rattle.kalah_run.specs.Reporting.{IsReporting, Waits}
@@ -25,23 +26,23 @@ texts_are_output : (files : List NamedBytes) (jobs : List (List Entry)) → text
 unfolding text_of
 texts_are_output files jobs = refl
 
--- Each job was taken in once, and the report doesn't wait for a line: all is written, unless the sink failed, and all faults are counted.
+-- Each job was taken in once, and the report doesn't wait for a line: the sink was given all, and all faults are counted.
 module _ (files : List NamedBytes) (jobs : List (List Entry)) (past : List Offer) (begun out : Option (List ℕ)) (failed : Bool) (r : Report)
     (each : AreJobsInSomeOrder jobs past) (reporting : IsReporting files jobs past begun out failed r) (waits : Waits r) where
-  pub all_written : failed ≡ false → Appends begun out (output_of_jobs (names_of files) jobs)
-  all_written sound =
+  pub all_given : WasGiven begun out failed (output_of_jobs (names_of files) jobs)
+  all_given =
       let once : AreJobsInSomeOrder r.jobs.now past = subst (λ l. AreJobsInSomeOrder l past) (sym reporting.of_jobs) each in
-      subst (λ l. Appends begun out l) (ap (λ l. text_of_jobs (text_of files) l) reporting.of_jobs ∙ texts_are_output files jobs)
-      (way_end (text_of files) r.jobs.now past r.collector r.current begun out failed once waits reporting.way sound)
+      subst (λ l. WasGiven begun out failed l) (ap (λ l. text_of_jobs (text_of files) l) reporting.of_jobs ∙ texts_are_output files jobs)
+      (way_end (text_of files) r.jobs.now past r.collector r.current begun out failed once waits reporting.way)
 
   pub all_counted : r.faults ≡ count_by is_faulty_offer (job_list jobs)
   all_counted = reporting.faults ∙ each.same_counts is_faulty_offer
 
 -- the output of the jobs of the files is that of the files
-pub written_output : (question : Question) (files : List NamedBytes) (jobs : List (List Entry)) (before after : Option (List ℕ)) → jobs ≡ jobs_to question files
-    → Appends before after (output_of_jobs (names_of files) jobs) → Appends before after (output_to question files)
-written_output question files jobs before after are wrote =
-    subst (λ l. Appends before after l) (ap (output_of_jobs (names_of files)) are ∙ sym (files_are_their_jobs.output question files)) wrote
+pub given_output : (question : Question) (files : List NamedBytes) (jobs : List (List Entry)) (begun out : Option (List ℕ)) (failed : Bool) → jobs ≡ jobs_to question files
+    → WasGiven begun out failed (output_of_jobs (names_of files) jobs) → WasGiven begun out failed (output_to question files)
+given_output question files jobs begun out failed are given =
+    subst (λ l. WasGiven begun out failed l) (ap (output_of_jobs (names_of files)) are ∙ sym (files_are_their_jobs.output question files)) given
 
 -- a flush keeps what was appended
 pub appended_kept : (before between after : Option (List ℕ)) (bytes : List ℕ) → Appends before between bytes → Keeps between after → Appends before after bytes
@@ -50,27 +51,16 @@ appended_kept (Some xs) None after bytes wrote kept = absurd wrote
 appended_kept (Some xs) (Some ys) None bytes wrote kept = absurd kept
 appended_kept (Some xs) (Some ys) (Some zs) bytes wrote kept = kept ∙ wrote
 
-no_line_texts : (question : Question) (name : List ℕ) (lines : List (List ℕ)) → length lines ≡ 0 → flat_map (line_output question name) (enumerate_from 0 lines) ≡ []
-no_line_texts question name [] none = refl
-no_line_texts question name (line ∷ lines) none = absurd (omega arith)
+no_texts : (text : ℕ → Taken → List ℕ) (f : ℕ) (jobs : List (List Entry)) → job_count jobs ≡ 0 → flat_map (text_of_file text) (enumerate_from f jobs) ≡ []
+no_texts text f [] none = refl
+no_texts text f ([] ∷ jobs) none = no_texts text (f + 1) jobs (let all = sum_by-cons (λ (es : List Entry). length es) [] jobs in omega (arith, all, none))
+no_texts text f ((e ∷ es) ∷ jobs) none = absurd (let all = sum_by-cons (λ (es : List Entry). length es) (e ∷ es) jobs in omega (arith, all, none))
 
-no_line_output : (question : Question) (files : List NamedBytes) → line_count files ≡ 0 → output_to question files ≡ []
-unfolding output_to
-no_line_output question [] none = refl
-no_line_output question (file ∷ files) none =
-    let all = sum_by-cons lines_in file files in
-    let here : lines_in file ≡ 0 = omega (arith, all, none) in
-    let behind : line_count files ≡ 0 = omega (arith, all, none) in
-    ap (λ l. l ++ flat_map (file_output question) files) (no_line_texts question file.name (lines_of file.bytes) here) ∙ no_line_output question files behind
-
--- with no line there is no output
-pub no_output : (question : Question) (files : List NamedBytes) → job_count (jobs_to question files) ≡ 0 → output_to question files ≡ []
-no_output question files none = no_line_output question files (sym (job_count-jobs_to question files) ∙ none)
-
-pub kept_nothing : (before after : Option (List ℕ)) → Keeps before after → Appends before after []
-kept_nothing None after kept = tt
-kept_nothing (Some xs) None kept = absurd kept
-kept_nothing (Some xs) (Some ys) kept = kept ∙ sym (append-nil xs)
+-- with no job there is no output, and nothing was written
+pub given_no_output : (files : List NamedBytes) (jobs : List (List Entry)) (begun : Option (List ℕ)) (failed : Bool) → job_count jobs ≡ 0
+    → WasGiven begun begun failed (output_of_jobs (names_of files) jobs)
+given_no_output files jobs begun failed none =
+    subst (λ l. WasGiven begun begun failed l) (sym (no_texts (answer_text_of (names_of files)) 0 jobs none)) (given_none begun failed)
 
 -- the lines and the faults that were counted are the tally of the files
 pub counted_tally : (question : Question) (files : List NamedBytes) (lines faults : ℕ) → lines ≡ length (job_list (jobs_to question files))

@@ -1,11 +1,10 @@
 -- What a report writes, line by line.
-use Rattle.std.proofs.Common.{◌≡◌, ℕ, ◌+◌, ◌<◌, List, [], ◌∷◌, ◌++◌, length, get_or, sym, ap, ◌∙◌, arith}
+use Rattle.std.proofs.Common.{◌≡◌, ℕ, ◌+◌, ◌<◌, List, [], ◌∷◌, ◌++◌, length, get_or, refl, sym, ap, ◌∙◌, arith}
 use Rattle.std.specs.Prelude.{count_by, if◌then◌else◌}
 use Rattle.std.proofs.lemmas.List.{get_or-map}
 use Rattle.std.proofs.lemmas.List.Sums.{sum_by-append}
-use Rattle.std.specs.Prelude.{Option, Bool, false}
+use Rattle.std.specs.Prelude.{Option, Bool, true, false, Result, Ok, Err, IsErr, OnOk}
 use Rattle.std.specs.Io.KnownBytes.{Keeps}
-use Rattle.std.proofs.KnownBytes.{Appends-kept}
 use Rattle.kalah_jobs.specs.declared.answer.Taken.{Taken}
 use Rattle.kalah_jobs.specs.declared.entry.Entry.{Entry}
 use Rattle.kalah_jobs.specs.Answer.{answer_line}
@@ -13,6 +12,7 @@ use Rattle.kalah_jobs.specs.Offer.{Offer}
 use Rattle.kalah_jobs.specs.Lines.{line_feed}
 use Rattle.kalah_jobs.specs.NamedBytes.{NamedBytes}
 use Rattle.kalah_jobs.specs.Output.{is_faulty_offer}
+use Rattle.kalah_jobs.proofs.Starts.{given_kept}
 use Rattle.kalah_run.specs.declared.report.Report.{Report}
 use Rattle.kalah_run.specs.Reporting.{IsReporting}
 use Rattle.kalah_run.specs.Texts.{text_of}
@@ -34,8 +34,8 @@ faults_more past o faults more before is =
 
 -- a report stands where what was written is handed on
 pub still_reports : (files : List NamedBytes) (jobs : List (List Entry)) (past : List Offer) (begun out later : Option (List ℕ)) (failed fails : Bool) (r : Report) →
-    (fails ≡ false → (failed ≡ false) × Keeps out later) → IsReporting files jobs past begun out failed r → IsReporting files jobs past begun later fails r
-still_reports files jobs past begun out later failed fails r keeps is = record {
+    Keeps out later → (fails ≡ false → failed ≡ false) → IsReporting files jobs past begun out failed r → IsReporting files jobs past begun later fails r
+still_reports files jobs past begun out later failed fails r keeps sound is = record {
   of_files = is.of_files;
   of_jobs = is.of_jobs;
   way = record {
@@ -43,7 +43,12 @@ still_reports files jobs past begun out later failed fails r keeps is = record {
     within = is.way.within;
     before = is.way.before;
     behind = is.way.behind;
-    written = λ sound. let kept = keeps sound in Appends-kept begun out later _ (is.way.written kept.0) kept.1;
+    written = given_kept begun out later failed fails _ is.way.written keeps sound;
   };
   faults = is.faults;
 }
+
+-- what a call that wrote all, or failed, did where it has not failed
+pub whole_where_sound : {A E : Type 0} (all : Type 0) (r : Result A E) (failed : Bool) → (IsErr r → failed ≡ true) → OnOk r all → failed ≡ false → all
+whole_where_sound all (Ok x) failed fails wrote sound = wrote
+whole_where_sound all (Err e) failed fails wrote sound = absurd (let both : true ≡ false = sym (fails refl) ∙ sound in cc)

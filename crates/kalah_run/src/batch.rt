@@ -2,6 +2,7 @@
 ghost use Rattle.std.specs.Prelude.{◌≡◌, ◌≢◌, ◌↔◌, ◌<◌, ◌≤◌, ◌⊎◌, true, false, Err, length, count_by, IfOk, IfErr, OnOk, OnErr, IsErr};
 ghost use Rattle.std.specs.Io.KnownBytes.{Appends, Keeps};
 ghost use Rattle.kalah_jobs.specs.JobList.{job_list};
+ghost use Rattle.kalah_jobs.specs.Given.{AppendsStart, WasGiven};
 ghost use Rattle.kalah_jobs.specs.Jobs.{job_count, line_count, most_files, most_lines};
 ghost use Rattle.kalah_jobs.specs.Output.{names_of, output_of, output_to, output_of_jobs, values_output_of, tally_of, is_faulty_offer};
 ghost use Rattle.kalah_run.specs.declared.run_fault.RunFault.TheVariants.{TooManyFiles, TooManyLines, OutOfMemory, NoWorker, Write};
@@ -26,7 +27,7 @@ fn finish<W: Sink>(out: &mut W) -> Result<(), RunFault>
     ensures fails { IsErr result ↔ (W.has_failed out.new ≡ true) }
     ensures fault { IfErr result (λ e. e ≡ RunFault.Write) }
     ensures before { OnOk result (W.has_failed out.old ≡ false) }
-    ensures keeps { OnOk result (Keeps (W.written out.old) (W.written out.new)) }
+    ensures keeps { Keeps (W.written out.old) (W.written out.new) }
 {
     if out.failed() {
         return Err(RunFault::Write);
@@ -37,8 +38,8 @@ fn finish<W: Sink>(out: &mut W) -> Result<(), RunFault>
     }
 }
 
-// Solves the jobs of the files, of which there are some, and writes each answer line as soon as it is ready and all before
-// it are written. Says how many lines were answered by a fault.
+// Answers the jobs of the files, and writes each answer line as soon as it is ready and all before it are written. Says how
+// many lines were answered by a fault. Where there is no job, no worker is started and nothing fails.
 fn answer_jobs<R: Threads + Wait + Sync, G: Gate, W: Sink>(
     rt: &R,
     alloc: Global,
@@ -53,12 +54,17 @@ fn answer_jobs<R: Threads + Wait + Sync, G: Gate, W: Sink>(
     requires table { (0 < table) × (table ≤ 1048576) }
     requires jobs { length jobs.now ≡ length files.now }
     requires fresh { W.has_failed out.old ≡ false }
-    ensures written { OnOk result (W.has_failed out.new ≡ false
-        → Appends (W.written out.old) (W.written out.new) (output_of_jobs (names_of files.now) jobs.now)) }
+    ensures given { OnOk result (WasGiven (W.written out.old) (W.written out.new) (W.has_failed out.new)
+        (output_of_jobs (names_of files.now) jobs.now)) }
     ensures faults { IfOk result (λ faults. faults ≡ count_by is_faulty_offer (job_list jobs.now)) }
     ensures fault { IfErr result (λ e. (e ≡ RunFault.OutOfMemory) ⊎ (e ≡ RunFault.NoWorker)) }
+    ensures some { OnErr result (0 < job_count jobs.now) }
     ensures untouched { OnErr result (out.new ≡ out.old) }
 {
+    let total = jobs.total();
+    if total == 0 {
+        return Ok(0);
+    }
     let report = Report::new(alloc, files, jobs)?;
     let Staff {
         desk,
@@ -74,7 +80,6 @@ fn answer_jobs<R: Threads + Wait + Sync, G: Gate, W: Sink>(
         jobs,
         gate,
     };
-    let total = jobs.total();
     let (shifts, pass, report) = run_and_report(rt, &shop, shifts, pass, report, total, out)?;
     let staff = Staff {
         desk,
@@ -103,6 +108,7 @@ fn answer_batch<R: Threads + Wait + Sync, G: Gate, W: Sink>(
     requires table { (0 < table) × (table ≤ 1048576) }
     requires fresh { W.has_failed out.old ≡ false }
     ensures written { OnOk result (Appends (W.written out.old) (W.written out.new) (output_to question files.now)) }
+    ensures start { AppendsStart (W.written out.old) (W.written out.new) (output_to question files.now) }
     ensures tally { IfOk result (λ tally. tally ≡ tally_of files.now) }
     ensures too_many_files { (result ≡ Err RunFault.TooManyFiles) ↔ (most_files < length files.now) }
     ensures too_many_lines { (result ≡ Err RunFault.TooManyLines) ↔ ((length files.now ≤ most_files) × (most_lines < line_count files.now)) }
@@ -111,14 +117,12 @@ fn answer_batch<R: Threads + Wait + Sync, G: Gate, W: Sink>(
     ensures untouched { IfErr result (λ e. e ≢ RunFault.Write → out.new ≡ out.old) }
 {
     let jobs = Jobs::asking(alloc, question, files)?;
-    let lines = jobs.total();
-    let faults = if lines > 0 {
-        answer_jobs(rt, alloc, files, &jobs, workers, table, gate, out)?
-    } else {
-        0
-    };
+    let faults = answer_jobs(rt, alloc, files, &jobs, workers, table, gate, out)?;
     finish(out)?;
-    Ok(Tally { lines, faults })
+    Ok(Tally {
+        lines: jobs.total(),
+        faults,
+    })
 }
 
 /// Solves every line of the files with so many `workers`, 1 to 64, each with a table of so many entries, 1 to 1,048,576,
@@ -128,7 +132,7 @@ fn answer_batch<R: Threads + Wait + Sync, G: Gate, W: Sink>(
 /// It is an error, the first that holds: `TooManyFiles`, more than 256; `TooManyLines`, more than 1,000,000 over all files;
 /// `OutOfMemory`, where memory was refused before the first worker began; `NoWorker`, where there is a line and no thread
 /// could be started; for these nothing was written. `Write`, where a write or the flush failed: from then on nothing more
-/// is written, and the rest is still solved. The gate is told of each job.
+/// is written, and the rest is still solved; what was written is a beginning of those lines. The gate is told of each job.
 pub fn solve_batch<R: Threads + Wait + Sync, G: Gate, W: Sink>(
     rt: &R,
     alloc: Global,
@@ -145,6 +149,9 @@ pub fn solve_batch<R: Threads + Wait + Sync, G: Gate, W: Sink>(
     // Ok: the output of the files was written, and nothing else.
     ensures written { OnOk result (Appends (W.written out.old) (W.written out.new) (output_of files.now)) }
     ensures tally { IfOk result (λ tally. tally ≡ tally_of files.now) }
+
+    // Whatever comes of it: a beginning of that output was written, and nothing else.
+    ensures start { AppendsStart (W.written out.old) (W.written out.new) (output_of files.now) }
 
     ensures too_many_files { (result ≡ Err RunFault.TooManyFiles) ↔ (most_files < length files.now) }
     ensures too_many_lines { (result ≡ Err RunFault.TooManyLines) ↔ ((length files.now ≤ most_files) × (most_lines < line_count files.now)) }
@@ -186,6 +193,9 @@ pub fn values_batch<R: Threads + Wait + Sync, G: Gate, W: Sink>(
     // Ok: the values of all lines were written, and nothing else.
     ensures written { OnOk result (Appends (W.written out.old) (W.written out.new) (values_output_of files.now)) }
     ensures tally { IfOk result (λ tally. tally ≡ tally_of files.now) }
+
+    // Whatever comes of it: a beginning of that output was written, and nothing else.
+    ensures start { AppendsStart (W.written out.old) (W.written out.new) (values_output_of files.now) }
 
     ensures too_many_files { (result ≡ Err RunFault.TooManyFiles) ↔ (most_files < length files.now) }
     ensures too_many_lines { (result ≡ Err RunFault.TooManyLines) ↔ ((length files.now ≤ most_files) × (most_lines < line_count files.now)) }

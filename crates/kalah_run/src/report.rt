@@ -1,12 +1,12 @@
 //! The answers of a batch, written in the order of its lines.
 ghost use Rattle.std.specs.Prelude.{◌≡◌, ◌+◌, ◌^◌, ◌<◌, ◌++◌, ◌∷◌, [], ℕ, List, Option, Bool, length, map, false, IfOk, if◌then◌else◌};
-ghost use Rattle.std.specs.Io.KnownBytes.{Appends};
 ghost use Rattle.kalah_jobs.specs.declared.entry.Entry.{Entry};
 ghost use Rattle.kalah_jobs.specs.Offer.{Offer};
 ghost use Rattle.kalah_jobs.specs.NamedBytes.{NamedBytes};
 ghost use Rattle.kalah_jobs.specs.Lines.{line_feed};
 ghost use Rattle.kalah_jobs.specs.Answer.{answer_line, is_fault};
 ghost use Rattle.kalah_jobs.specs.CollectorState.{state_of, line_count, HasEnded, HasNoNext, HasLinesOf};
+ghost use Rattle.kalah_jobs.specs.Given.{WasGiven};
 ghost use Rattle.kalah_jobs.specs.UnderWay.{IsUnderWay};
 ghost use Rattle.kalah_run.specs.Texts.{text_of};
 
@@ -28,7 +28,9 @@ pub(crate) struct Report<'a> {
 
 // Writes the answer line, unless a write has failed before.
 fn write_line<W: Sink>(name: &str, taken: &Taken, out: &mut W)
-    ensures { W.has_failed out.new ≡ false → (W.has_failed out.old ≡ false) × Appends (W.written out.old) (W.written out.new) (answer_line name.now taken.now ++ line_feed ∷ []) }
+    ensures { (begun : Option (List ℕ)) (given : List ℕ)
+        → WasGiven begun (W.written out.old) (W.has_failed out.old) given
+        → WasGiven begun (W.written out.new) (W.has_failed out.new) (given ++ (answer_line name.now taken.now ++ line_feed ∷ [])) }
 {
     if !out.failed() {
         let _ = write_answer(out, name, taken);

@@ -85,8 +85,8 @@ fn next_outcome<R: Wait, W: Sink>(
 ) -> Outcome
     requires { pass.old.queue ≡ queue.now.id }
     ensures got { (worker : ℕ) × (pass.new ≡ record pass.old { got = pass.old.got ++ (worker, result) ∷ [] }) }
-    ensures keeps { W.has_failed out.new ≡ false
-        → (W.has_failed out.old ≡ false) × Keeps (W.written out.old) (W.written out.new) }
+    ensures keeps { Keeps (W.written out.old) (W.written out.new) }
+    ensures sound { W.has_failed out.new ≡ false → W.has_failed out.old ≡ false }
 {
     if let Some(outcome) = queue.get_soon(pass) {
         return outcome;

@@ -48,6 +48,22 @@ impl Write for FailingOnce {
     }
 }
 
+/// Takes one byte a call, until one fails.
+#[derive(Drop)]
+struct Narrow {
+    writer: FailingOnce,
+}
+
+impl Write for Narrow {
+    fn write(&mut self, buf: &[u8]) -> io::Result<usize> {
+        self.writer.write(&buf[..buf.len().min(1)])
+    }
+
+    fn flush(&mut self) -> io::Result<()> {
+        self.writer.flush()
+    }
+}
+
 /// Takes no byte.
 #[derive(Drop)]
 struct Full {
@@ -143,6 +159,19 @@ fn has_failed_after_an_error(rt: HostRuntime) -> Result<(), Fail> {
     assert!(rt; writer.calls == 2);
     assert!(rt; writer.bytes.as_slice() == b"a".as_slice());
     Ok(())
+}
+
+#[test]
+fn a_writer_that_fails_has_a_beginning(rt: HostRuntime) {
+    let line = b"1,1/0 1,1/0\n".as_slice();
+    for calls in 0..12u32 {
+        let writer = FailingOnce::new(&rt, calls + 1, ErrorKind::StorageFull);
+        let mut out = Stream::new(Narrow { writer });
+        assert!(rt; out.write_all(line).is_err());
+        let writer = out.into_inner().writer;
+        assert!(rt; writer.calls == calls + 1);
+        assert!(rt; writer.bytes.as_slice() == &line[..calls as usize]);
+    }
 }
 
 #[test]

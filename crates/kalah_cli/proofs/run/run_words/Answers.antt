@@ -1,8 +1,9 @@
-use Rattle.std.proofs.Common.{◌≡◌, ◌≢◌, ℕ, List, false, inl, inr, refl, sym}
+use Rattle.std.proofs.Common.{◌≡◌, ◌≢◌, ℕ, List, false, inl, inr, refl, subst, sym}
 use Rattle.kalah_jobs.specs.declared.question.Question.TheVariants.{BestMove, Values}
 use Rattle.kalah_cli.specs.Request.{Asked, IsTakenAs, answers, asked_for, moves, play, texts_of}
-use Rattle.kalah_cli.specs.Runs.{Does, IsOfLine, IsUnread}
+use Rattle.kalah_cli.specs.Runs.{Begins, Does, IsOfLine, IsUnread}
 use Rattle.kalah_cli.specs.declared.status.ExitStatus.TheVariants.{Clean, Failed}
+use Rattle.kalah_cli.proofs.Begun.{begins_none, begun_as}
 use Rattle.kalah_cli.proofs.Plain.{read_is_plain}
 use Rattle.kalah_cli.proofs.Taken.{done_as, failed_does, fault_at, game_of, line_as, moves_of, no_help, words_at}
 use Rattle.kalah_cli.proofs.run.run_words.Goals.{After-drop-words, After-drop-words-2}
@@ -30,6 +31,10 @@ undone g c a line taken of none =
 
 pub returns-in-Ok-clause-does : goal.returns-in-Ok-clause-does
 returns-in-Ok-clause-does g c = done g c
+
+pub returns-in-Ok-clause-begins : goal.returns-in-Ok-clause-begins
+returns-in-Ok-clause-begins g c = λ a taken.
+    begun_as (texts_of c.args.words.items) (asked_for c.in-Ok.request) a _ _ (taken_as g c) taken c.run_request.ensures.begins
 
 pub returns-in-Ok-clause-unread_line : goal.returns-in-Ok-clause-unread_line
 returns-in-Ok-clause-unread_line g c = undone g c
@@ -77,6 +82,10 @@ unwritten g c a taken =
 
 pub returns-clause-does : goal.returns-clause-does
 returns-clause-does g c = λ a taken. failed_does a _ _ _ (failed g c a taken).0
+
+pub returns-clause-begins : goal.returns-clause-begins
+returns-clause-begins g c = λ a taken.
+    subst (λ o. Begins a (g.O.Sink.written c.args.out.now) (g.O.Sink.written o)) (sym (failed g c a taken).1) (begins_none a (g.O.Sink.written c.args.out.now))
 
 pub returns-clause-unread_line : goal.returns-clause-unread_line
 returns-clause-unread_line g c = λ a line taken of none. unwritten g c a taken

@@ -3,7 +3,7 @@ use Rattle.std.specs.Prelude.{None, false}
 use Rattle.kalah_jobs.specs.Batch.{AreJobsInSomeOrder}
 use Rattle.kalah_run.specs.Reporting.{outcomes_in}
 use Rattle.kalah_run.proofs.StaffRuns.{run_jobs, has_worked}
-use Rattle.kalah_run.proofs.BatchEnds.{all_written, all_counted}
+use Rattle.kalah_run.proofs.BatchEnds.{all_given, all_counted, given_no_output, no_faults}
 use Rattle.kalah_run.proofs.batch.answer_jobs.Given.{Over}
 use Rattle.kalah_run.proofs.batch.answer_jobs.Goals as goal
 
@@ -26,14 +26,22 @@ each_got g c =
     (run_jobs staff.desk staff.queue.id c.args.jobs.now staff.shifts.items run.shifts.items run.ensures.shifts)
     (many ∙ sym total.lines ∙ total.jobs) (run.ensures.pass.2 ∙ total.lines ∙ sym many)
 
-pub returns-clause-written : goal.returns-clause-written
-returns-clause-written g c =
+pub returns-then-total-eq0-clause-given : goal.returns-then-total-eq0-clause-given
+returns-then-total-eq0-clause-given g c =
+    given_no_output c.args.files.now c.args.jobs.now (g.W.Sink.written c.args.out.now) (g.W.Sink.has_failed c.args.out.now)
+    (sym c.total-total.ensures.lines ∙ c.if-total-eq0.true)
+
+pub returns-then-total-eq0-clause-faults : goal.returns-then-total-eq0-clause-faults
+returns-then-total-eq0-clause-faults g c = no_faults c.args.jobs.now (sym c.total-total.ensures.jobs ∙ c.if-total-eq0.true)
+
+pub returns-clause-given : goal.returns-clause-given
+returns-clause-given g c =
     let files = c.args.files.now in
     let run = c.in_ok-shifts in
     let begun = g.W.Sink.written c.args.out.now in
     let failed = g.W.Sink.has_failed c.run_and_report.new.out in
     let reported = run.ensures.way files c.args.jobs.now begun (c.in_ok-report.ensures begun (g.W.Sink.has_failed c.args.out.now)) in
-    all_written files c.args.jobs.now (outcomes_in run.pass.got) begun (g.W.Sink.written c.run_and_report.new.out) failed run.report
+    all_given files c.args.jobs.now (outcomes_in run.pass.got) begun (g.W.Sink.written c.run_and_report.new.out) failed run.report
     (each_got g c) reported.0 reported.1
 
 pub returns-clause-faults : goal.returns-clause-faults

@@ -1,5 +1,5 @@
-use Rattle.std.proofs.Common.{ℕ, List, ◌∙◌, sym, subst, ap}
-use Rattle.std.specs.Io.KnownBytes.{Appends}
+use Rattle.std.proofs.Common.{ℕ, List, ◌++◌, ◌∙◌, sym, subst, ap}
+use Rattle.kalah_jobs.specs.Given.{WasGiven}
 use Rattle.kalah_jobs.specs.NamedBytes.{NamedBytes}
 use Rattle.kalah_jobs.proofs.BatchWay.{wrote_line, wrote_nothing}
 use Rattle.kalah_run.specs.Texts.{text_of}
@@ -14,8 +14,8 @@ loop-taken-preserved g c = record {
       wrote_line (text_of c.args.files.now) c.args.jobs.now past c.loop-taken.collector c.take.new.self c.args.f c.in-Some.taken begun
       (g.W.Sink.written c.loop-taken.out) (g.W.Sink.written c.write_line.new.out) (g.W.Sink.has_failed c.loop-taken.out) (g.W.Sink.has_failed c.write_line.new.out)
       c.in-Some.ensures.takes
-      (λ sound. let h = c.write_line.ensures sound in
-      (h.0, subst (λ (l : List ℕ). Appends (g.W.Sink.written c.loop-taken.out) (g.W.Sink.written c.write_line.new.out) l) (sym text) h.1))
+      (λ given was. subst (λ (l : List ℕ). WasGiven begun (g.W.Sink.written c.write_line.new.out) (g.W.Sink.has_failed c.write_line.new.out) (given ++ l))
+      (sym text) (c.write_line.ensures begun given was))
       (c.loop-taken.invariant.way past begun way);
   counts = c.in-Some.ensures.counts ∙ c.loop-taken.invariant.counts;
 }

@@ -1,0 +1,65 @@
+-- What was begun, of what words ask for.
+use Rattle.std.proofs.Common.{◌≡◌, ◌⊎◌, inl, inr, ℕ, Bool, List, [], ◌∷◌, ◌++◌, Option, ap, append-nil, append_assoc, map, refl, subst, sym}
+use Rattle.std.specs.Io.KnownBytes.{Appends, Keeps}
+use Rattle.kalah_rules.specs.Position.{Position, HasEqualSides}
+use Rattle.kalah_rules.specs.declared.step.Step.{Step}
+use Rattle.kalah_rules.specs.declared.step.Step.TheVariants.{Again, Over, Turn}
+use Rattle.kalah_jobs.specs.Given.{AppendsStart}
+use Rattle.kalah_jobs.specs.Line.{Reads, position_after, step_text_of}
+use Rattle.kalah_jobs.specs.Lines.{line_feed}
+use Rattle.kalah_jobs.specs.NamedBytes.{NamedBytes}
+use Rattle.kalah_jobs.specs.declared.question.Question.{Question}
+use Rattle.kalah_jobs.proofs.Starts.{start_kept_all, start_none, start_then}
+use Rattle.clap.specs.Words.{Text}
+use Rattle.kalah_cli.specs.Moves.{drawn, move_lines}
+use Rattle.kalah_cli.specs.Play.{BeginsBest}
+use Rattle.kalah_cli.specs.Request.{Asked, IsTakenAs, answers, moves, play}
+use Rattle.kalah_cli.specs.Runs.{Begins}
+use Rattle.kalah_cli.specs.Solve.{BeginsTo}
+use Rattle.kalah_cli.proofs.Laws.{taken_once}
+use Rattle.kalah_cli.proofs.Played.{of_any}
+
+-- all was written, and then handed on
+pub begins_all : (old between new : Option (List ℕ)) (bs : List ℕ) → Appends old between bs → Keeps between new → AppendsStart old new bs
+begins_all old between new bs all keeps = start_then old between new bs bs [] (sym (append-nil bs)) all (start_kept_all between new [] keeps)
+
+-- the line of a move, and then the position after it, where boards are drawn
+pub move_parts : (boards : Bool) (h : ℕ) (s : Step) → move_lines boards h s ≡ (step_text_of h s ++ line_feed ∷ []) ++ drawn boards (position_after s)
+move_parts boards h s = sym (append_assoc (step_text_of h s) (line_feed ∷ []) (drawn boards (position_after s)))
+
+-- the position after a step, whatever comes of it
+pub after_step : (s : Step) (p : Position) → (s ≡ Again p) ⊎ ((s ≡ Turn p) ⊎ (s ≡ Over p)) → p ≡ position_after s
+after_step s p (inl again) = sym (ap position_after again)
+after_step s p (inr (inl turn)) = sym (ap position_after turn)
+after_step s p (inr (inr over)) = sym (ap position_after over)
+
+-- files of these names
+empty_files : List (List ℕ) → List NamedBytes
+empty_files names = map (λ name. let file : NamedBytes = record { name = name; bytes = [] } in file) names
+
+their_names : (names : List (List ℕ)) → map (λ (file : NamedBytes). file.name) (empty_files names) ≡ names
+unfolding empty_files
+their_names [] = refl
+their_names (name ∷ names) = ap (λ l. name ∷ l) (their_names names)
+
+-- where nothing was written, it is a beginning of what any files give
+pub begins_nothing : (question : Question) (names : List (List ℕ)) (old : Option (List ℕ)) → BeginsTo question names old old
+begins_nothing question names old = record { files = empty_files names; named = their_names names; start = start_none old _ }
+
+-- and of the game from any position
+pub begins_no_game : (boards : Bool) (p : Position) (old : Option (List ℕ)) → HasEqualSides p → BeginsBest boards p old old
+begins_no_game boards p old even = of_any boards p _ even (λ lines. start_none old _)
+
+-- a position that a line writes has as many houses on each side
+pub even_read : (line : List ℕ) (p : Position) → Reads line p → HasEqualSides p
+even_read line p reads = record { same = reads.sides.same_side }
+
+-- so nothing is a beginning of all that is asked
+pub begins_none : (a : Asked) (old : Option (List ℕ)) → Begins a old old
+begins_none (moves boards line) old = λ p reads. start_none old _
+begins_none (play table boards line) old = λ p reads. begins_no_game boards p old (even_read line p reads)
+begins_none (answers question workers table names) old = begins_nothing question names old
+
+-- what was begun of a request was begun of what its words are taken as
+pub begun_as : (words : List Text) (a b : Asked) (old new : Option (List ℕ)) → IsTakenAs words a → IsTakenAs words b → Begins a old new → Begins b old new
+begun_as words a b old new one other begun = subst (λ x. Begins x old new) (taken_once words a b one other) begun
