@@ -27,7 +27,7 @@ REPEATS = [(0, 0), (0.5, 0), (0, 0.5), (0.3, 0.3), (1, 0)]
 NAMES = [
     *(" ", " a", "a ", "  a  ", "a b", "\ta", "a\t", "a\r", "\u00a0a", "a\u2028", "a:1", "a:1 0 house 1", "a.txt", "4", "=", "+4"),
     *("é", "日本語", "🌱", "e\u0301", "\u202ea", "\ufeffa", "%s{}", "$HOME", "*?[a]", "\\", "'\"`", "#", "~", "\x01\x1b[2J\x7f"),
-    *("-", "--", "-a", "--workers", "--table=1", "--help", "-h", "-1", "moves", "solve", "values", "help"),
+    *("-", "--", "-a", "--workers", "--table=1", "--help", "-h", "--version", "-V", "-1", "moves", "solve", "values", "help"),
     *("./a", "folder/a", "./folder//a", "n" * 255, "./" * 600 + "a", "./" * 2045 + "whole", "folder/" + "../folder/" * 408 + "a"),
 ]
 

@@ -10,7 +10,7 @@ import tempfile
 import time
 import tty
 from contextlib import suppress
-from itertools import product, zip_longest
+from itertools import product, takewhile, zip_longest
 from pathlib import Path
 
 import reference
@@ -24,9 +24,10 @@ sys.setrecursionlimit(100_000)
 
 # Words that are not taken, or are no text, where there is a file `a`; those of `solve` are none of `values` either.
 MISTAKES = [
-    *([], ["stop"], ["help"], ["Solve", "a"], ["--version"], ["-V"], ["-x"], [""], ["--", "solve", "a"], ["--workers", "1", "solve", "a"]),
+    *([], ["stop"], ["help"], ["Solve", "a"], ["--version=1"], ["--versio"], ["-x"], [""], ["--", "solve", "a"], ["--workers", "1", "solve", "a"]),
     *(["moves"], ["moves", "--"], ["moves", "-1/0 1/0"], ["moves", "1/0 1/0", "1/0 1/0"], ["moves", "--workers", "1", "1/0 1/0"]),
     *(["moves", "--table", "1", "1/0 1/0"], ["moves", "--boards"], ["moves", "--boards=true", "1/0 1/0"], ["moves", "--boards", "--boards", "1/0 1/0"]),
+    *(["stop", "-V"], ["moves", "--version"], ["play", "-V", "1/0 1/0"], ["solve", "--version", "a"], ["solve", "a", "-V"]),
     *(["play"], ["play", "--"], ["play", "1/0 1/0", "1/0 1/0"], ["play", "--workers", "1", "1/0 1/0"], ["play", "--table", "1/0 1/0"]),
     *(["play", "--boards=1", "1/0 1/0"], ["play", "--board", "1/0 1/0"], ["play", "--table=0", "1/0 1/0"], ["play", "--table=1048577", "1/0 1/0"]),
     *(["solve"], ["solve", "--"], ["solve", "--workers", "1"], ["solve", "--workers", "a"], ["solve", "a", "--table"], ["solve", "a", "-b"]),
@@ -39,6 +40,9 @@ MISTAKES = [
 MISTAKES += [["values", *words[1:]] for words in MISTAKES if words[:1] == ["solve"]]
 
 HELP = [["--help"], ["-h"], ["moves", "--help"], ["moves", "-h"], ["play", "--help"], ["solve", "--help"], ["solve", "-h"], ["solve", "a", "-h"], ["values", "--help"], ["values", "a", "-h"]]
+
+# Words that ask for the version before anything else.
+VERSION = [["--version"], ["-V"], ["-V", "-h"], ["--version", "stop"], ["-V", "solve", "a"], ["--version", "--version"], ["-V", "--", "a"]]
 
 PROGRAM_NAMES = ["kalah", "./kalah", "/bin/kalah", "k l", "é", "-", "--help"]
 
@@ -124,11 +128,11 @@ def stored_lines():
     return [line.encode() for line, _ in rows]
 
 
-def printed_help():
-    """The help of the program, as the README prints it."""
-    _, rest = (TESTS.parent / "README.md").read_text().split("    $ kalah --help\n")
-    block, _, _ = rest.partition("\n## ")
-    return "".join(line[4:] + "\n" for line in block.rstrip("\n").split("\n")).encode()
+def printed(word):
+    """What the program prints for this word, as the README shows it."""
+    _, rest = (TESTS.parent / "README.md").read_text().split(f"    $ kalah {word}\n")
+    lines = takewhile(lambda line: not line or line.startswith("    ") and line[4:6] != "$ ", rest.split("\n"))
+    return ("\n".join(line[4:] for line in lines).rstrip("\n") + "\n").encode()
 
 
 def two_ends(place):
@@ -307,10 +311,16 @@ class Trials:
         words, name = self.drawn.card("help", HELP), self.drawn.card("names in help", PROGRAM_NAMES)
         usage = b"Usage: " + os.path.basename(name).encode() + b" "
         got = self.run(words, name)
-        want = printed_help().replace(b"Usage: kalah ", usage) if len(words) == 1 else got.out
+        want = printed("--help").replace(b"Usage: kalah ", usage) if len(words) == 1 else got.out
         self.compare(Run(want, b"", 0), got)
         if usage not in got.out:
             raise Differs(f"no {usage} in {got.out}")
+
+    def version(self):
+        """The version names the program `kalah`, whatever its first word is."""
+        self.put({"a": b"1/0 1/0"})
+        words, name = self.drawn.card("version", VERSION), self.drawn.card("names in version", PROGRAM_NAMES)
+        self.compare(Run(printed("--version"), b"", 0), self.run(words, name))
 
     def streams(self):
         """Standard streams are closed, or take nothing."""
@@ -395,6 +405,7 @@ KINDS = {
     "play": len(LINES_OF_MOVES),
     "mistakes": len(MISTAKES),
     "help": len(HELP),
+    "version": len(VERSION),
     "streams": len(STREAMS_OF_RUNS),
     "first_answers": len(FIRST_ANSWERS),
     "first_picture": len(FIRST_PICTURES),

@@ -1,5 +1,5 @@
 -- What the command line makes of words, as laws over the definitions.
-use Rattle.std.proofs.Common.{◌≡◌, ℕ, true, false, refl, List, [], ◌∷◌, Some, None, codes, ◌==◌, ◌∙◌, inl, inr, ap, subst}
+use Rattle.std.proofs.Common.{◌≡◌, ◌⊎◌, ℕ, true, false, refl, List, [], ◌∷◌, Some, None, codes, ◌==◌, ◌∙◌, inl, inr, ap, subst}
 use Rattle.clap.specs.Words.{Row, Text, subcommand_of}
 use Rattle.clap.specs.Faults.{fault_of, is_simple_and_free}
 use Rattle.clap.proofs.OnLiterals.{clap_on_literals}
@@ -12,7 +12,7 @@ use Rattle.clap.specs.Kinds.{HasKind}
 use Rattle.clap.specs.declared.error.Error.{Error}
 use Rattle.clap.specs.declared.builder.value_parser.Reading.TheVariants.{AsWritten}
 use Rattle.clap.specs.declared.parser.matches.ValueSource.TheVariants.{CommandLine, DefaultValue}
-use Rattle.clap.specs.declared.error.kind.ErrorKind.TheVariants.{OutOfMemory}
+use Rattle.clap.specs.declared.error.kind.ErrorKind.TheVariants.{DisplayVersion, OutOfMemory}
 
 -- the parse of the program is exact, in both outcomes
 pub app_is_simple : is_simple_and_free kalah_app ≡ true
@@ -76,6 +76,22 @@ pub play_taken : (name line : Text) → IsPlainWord line → IsTakenAs (name ∷
 play_taken name [] plain = absurd plain
 play_taken name (x ∷ xs) plain =
     (play_passes name x xs (ne_eqb _ _ plain), ap (option_and_then asked_by) (play_matches name x xs (ne_eqb _ _ plain)))
+
+-- the flags of the version ask for it, and for nothing else
+version_asked : (name : Text) → fault_of kalah_app (name ∷ codes "--version" ∷ []) ≡ DisplayVersion ∷ []
+unfolding clap_on_literals
+version_asked name = refl
+
+short_version_asked : (name : Text) → fault_of kalah_app (name ∷ codes "-V" ∷ []) ≡ DisplayVersion ∷ []
+unfolding clap_on_literals
+short_version_asked name = refl
+
+pub version_of : (words : List Text) (name : Text) → (words ≡ name ∷ codes "--version" ∷ []) ⊎ (words ≡ name ∷ codes "-V" ∷ [])
+    → fault_of kalah_app words ≡ DisplayVersion ∷ []
+version_of words name is = elim is [
+  | inl long ↦ ap (fault_of kalah_app) long ∙ version_asked name
+  | inr short ↦ ap (fault_of kalah_app) short ∙ short_version_asked name
+]
 
 -- what such words ask for is the moves of the word
 pub moves_given : (words : List Text) (a : Asked) → asked words ≡ Some a → (name line : Text) → words ≡ name ∷ codes "moves" ∷ line ∷ []

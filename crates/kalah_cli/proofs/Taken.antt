@@ -1,11 +1,12 @@
 -- What words are taken as, and what is done of it.
-use Rattle.std.proofs.Common.{◌≡◌, ◌≢◌, ◌∙◌, inl, inr, ℕ, false, List, [], ◌∷◌, Option, codes, map, string_bytes, subst, sym, String, Global}
+use Rattle.std.proofs.Common.{◌≡◌, ◌≢◌, ◌∙◌, inl, inr, ℕ, false, List, [], ◌∷◌, Option, codes, subst, sym, String, Global}
 use Rattle.clap.specs.Values.{kind_of}
 use Rattle.clap.specs.Walk.{Text}
 use Rattle.clap.specs.Faults.{fault_of}
 use Rattle.clap.specs.Kinds.{HasKind, IsAmong}
 use Rattle.clap.specs.declared.error.Error.{Error}
-use Rattle.clap.specs.declared.error.kind.ErrorKind.TheVariants.{DisplayHelp, OutOfMemory}
+use Rattle.clap.specs.declared.error.kind.ErrorKind.{ErrorKind}
+use Rattle.clap.specs.declared.error.kind.ErrorKind.TheVariants.{OutOfMemory}
 use Rattle.kalah_cli.specs.Command.{kalah_app}
 use Rattle.kalah_cli.specs.Request.{Asked, texts_of, IsPlainWord, IsTakenAs, answers, moves, play}
 use Rattle.kalah_cli.specs.Runs.{Does, IsOfLine}
@@ -44,11 +45,11 @@ words_at xs ys a same taken = subst (λ zs. IsTakenAs (texts_of zs) a) (sym same
 pub fault_at : (xs ys : List (String Global)) → xs ≡ ys → fault_of kalah_app (texts_of xs) ≡ [] → fault_of kalah_app (texts_of ys) ≡ []
 fault_at xs ys same none = subst (λ zs. fault_of kalah_app (texts_of zs) ≡ []) same none
 
--- an error of words that ask for no help is no request for help
-pub no_help : (xs ys : List (String Global)) (e : Error) → xs ≡ ys → HasKind (fault_of kalah_app (texts_of xs)) e
-    → (IsAmong DisplayHelp (fault_of kalah_app (texts_of ys)) → ⊥) → kind_of e ≢ DisplayHelp
-no_help xs ys e same has unasked = λ help.
+-- an error of words that ask for no help, or for no version, is no such request
+pub no_request : (k : ErrorKind) (xs ys : List (String Global)) (e : Error) → OutOfMemory ≢ k → xs ≡ ys
+    → HasKind (fault_of kalah_app (texts_of xs)) e → (IsAmong k (fault_of kalah_app (texts_of ys)) → ⊥) → kind_of e ≢ k
+no_request k xs ys e other same has unasked = λ asked.
     elim (subst (λ zs. HasKind (fault_of kalah_app (texts_of zs)) e) same has) [
-      | inl memory ↦ let bad : OutOfMemory ≡ DisplayHelp = sym memory ∙ help in cc
-      | inr among ↦ unasked (subst (λ k. IsAmong k (fault_of kalah_app (texts_of ys))) help among)
+      | inl memory ↦ other (sym memory ∙ asked)
+      | inr among ↦ unasked (subst (λ x. IsAmong x (fault_of kalah_app (texts_of ys))) asked among)
     ]

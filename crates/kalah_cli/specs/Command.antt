@@ -68,7 +68,7 @@ values_app = answers_app (codes "values")
 
 -- the program with no subcommand yet
 abbrev pub program_app : App
-program_app = on_top (λ s. record s { subcommand_required = true; disable_help_subcommand = true }) (new_app (codes "kalah"))
+program_app = on_top (λ s. record s { has_version = true; subcommand_required = true; disable_help_subcommand = true }) (new_app (codes "kalah"))
 
 -- the program, which is always given one of the four subcommands
 abbrev pub kalah_app : App

@@ -5,6 +5,8 @@ use Rattle.std.specs.Option.{option_map_or}
 use Rattle.std.specs.Str.{bytes_eq}
 use Rattle.std.specs.Str.Parse.{digits_value, without_leading_plus}
 use Rattle.clap.specs.Faults.{fault_of}
+use Rattle.clap.specs.Kinds.{IsAmong}
+use Rattle.clap.specs.declared.error.kind.ErrorKind.{ErrorKind}
 use Rattle.clap.specs.Values.{IsUnsignedIn}
 use Rattle.clap.specs.Words.{Row, Text, all_of, first_of, one_of, subcommand_of}
 use Rattle.kalah_jobs.specs.declared.question.Question.{Question}
@@ -68,6 +70,18 @@ asked words = option_and_then asked_by (subcommand_of kalah_app words)
 -- the command line takes the words, without a fault, as asking for this
 abbrev pub IsTakenAs : List Text → Asked → Type 0
 IsTakenAs words a = (fault_of kalah_app words ≡ []) × (asked words ≡ Some a)
+
+-- the command line refuses the words
+abbrev pub IsRefused : List Text → Type 0
+IsRefused words = fault_of kalah_app words ≢ []
+
+-- the words don't ask for this: help, or the version
+abbrev pub AsksNot : ErrorKind → List Text → Type 0
+AsksNot kind words = IsAmong kind (fault_of kalah_app words) → ⊥
+
+-- behind the program's name stands a flag that asks for the version, and nothing else
+abbrev pub IsVersionWord : Text → List Text → Type 0
+IsVersionWord name words = (words ≡ name ∷ codes "--version" ∷ []) ⊎ (words ≡ name ∷ codes "-V" ∷ [])
 
 -- what a request asks for
 abbrev pub asked_for : Request → Asked

@@ -1,5 +1,5 @@
 -- What the program does of what it is asked.
-use Rattle.std.specs.Prelude.{◌≡◌, ◌≢◌, ℕ, List, Option}
+use Rattle.std.specs.Prelude.{◌≡◌, ◌≢◌, ◌++◌, ◌∷◌, ℕ, List, [], Option, codes}
 use Rattle.std.specs.Io.KnownBytes.{Appends}
 use Rattle.clap.specs.Words.{Text}
 use Rattle.kalah_rules.specs.Position.{Position}
@@ -33,6 +33,10 @@ abbrev pub IsOfLine : Asked → Text → Type 0
 IsOfLine (moves boards line) text = text ≡ line
 IsOfLine (play table boards line) text = text ≡ line
 IsOfLine (answers question workers table names) text = ⊥
+
+-- what is written where the version is asked for: the program's name, its version and a line feed (10)
+abbrev pub version_line : Text
+version_line = codes "kalah 1.0.0" ++ 10 ∷ []
 
 -- no position is written by the line
 abbrev pub IsUnread : Text → Type 0

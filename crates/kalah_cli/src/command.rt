@@ -4,6 +4,7 @@ ghost use Rattle.clap.specs.Words.{App, app_of, new_app, rule_of, with_rule, wit
 ghost use Rattle.clap.specs.declared.builder.command.Command.TheViews.{out-Command as fields_of};
 ghost use Rattle.kalah_cli.specs.Command.{answers_app, boards_rule, file_rule, kalah_app, line_rule, moves_app, play_app, program_app, table_rule, workers_rule};
 
+use crate::version::VERSION_LINE;
 use clap::builder::ValueParser;
 use clap::{Arg, ArgAction, Command};
 use std::alloc::{AllocError, Global};
@@ -173,13 +174,15 @@ fn answers_command<'a>(
     with_arg(command, file_arg(alloc))
 }
 
-// The program with no subcommand yet, though it is to be given one.
+// The program with no subcommand yet, though it is to be given one. Where it is asked for its version it tells so: the line is
+// written by `refuse`.
 fn program<'a>(alloc: Global) -> Command<'a>
     ensures app { app_of result ≡ program_app }
     ensures local { (fields_of result).has_globals ≡ false }
 {
     let about = "Solves small positions of Kalah: the best house and the margin of best play";
     named(alloc, "kalah", about)
+        .version(VERSION_LINE)
         .after_help(ABOUT_POSITIONS)
         .subcommand_required(true)
         .disable_help_subcommand(true)
@@ -202,7 +205,7 @@ fn with_command<'a>(
 /// The command line of the program: `moves [--boards] LINE`, `play [--table N] [--boards] LINE`,
 /// `solve [--workers N] [--table N] FILE..` and `values [--workers N] [--table N] FILE..`, with 1 to
 /// 64 workers, 4 by default, and 1 to 1,048,576 entries in the table of each, 65,536 by default. One
-/// of the four is always asked for. It is complete: nothing is added to it before a parse.
+/// of the four is asked for, or help, or the version. It is complete: nothing is added to it before a parse.
 pub fn command<'a>(alloc: Global) -> Result<Command<'a>, AllocError>
     ensures { IfOk result (λ c. app_of c ≡ kalah_app) }
 {

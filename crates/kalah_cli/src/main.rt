@@ -13,6 +13,7 @@ mod run;
 mod solve;
 mod status;
 mod unread;
+mod version;
 
 use failure::Failure;
 use fused::Fused;

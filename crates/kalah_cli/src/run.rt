@@ -1,17 +1,15 @@
 //! The program, run on its words.
 ghost use Rattle.std.specs.Prelude.{◌≡◌, ◌≢◌, ◌<◌, ◌⊎◌, ℕ, List, [], ◌∷◌, codes, false, true, vec_len};
 ghost use Rattle.std.specs.Io.KnownBytes.{Appends};
-ghost use Rattle.clap.specs.Faults.{fault_of};
-ghost use Rattle.clap.specs.Kinds.{IsAmong};
 ghost use Rattle.clap.specs.Values.{kind_of};
-ghost use Rattle.clap.specs.declared.error.kind.ErrorKind.TheVariants.{DisplayHelp};
+ghost use Rattle.clap.specs.declared.error.kind.ErrorKind.TheVariants.{DisplayHelp, DisplayVersion};
 ghost use Rattle.kalah_rules.specs.Position.{Position};
 ghost use Rattle.kalah_jobs.specs.Line.{Reads};
-ghost use Rattle.kalah_cli.specs.Command.{kalah_app};
 ghost use Rattle.kalah_cli.specs.Moves.{moves_output};
 ghost use Rattle.kalah_cli.specs.Play.{PlaysBest};
-ghost use Rattle.kalah_cli.specs.Request.{Asked, IsInRange, IsPlainWord, IsTakenAs, asked_for, solve, texts_of, values};
-ghost use Rattle.kalah_cli.specs.Runs.{Begins, Does, IsOfLine, IsUnread};
+ghost use Rattle.kalah_cli.specs.Request.{Asked, AsksNot, IsInRange, IsPlainWord, IsRefused, IsTakenAs, IsVersionWord, asked_for};
+ghost use Rattle.kalah_cli.specs.Request.{solve, texts_of, values};
+ghost use Rattle.kalah_cli.specs.Runs.{Begins, Does, IsOfLine, IsUnread, version_line};
 ghost use Rattle.kalah_cli.specs.Solve.{AnswersFiles, TellsValues};
 
 use crate::failure::Failure;
@@ -20,6 +18,7 @@ use crate::play::run_play;
 use crate::request::{Request, parse};
 use crate::solve::run_batch;
 use crate::status::ExitStatus;
+use crate::version::VERSION_LINE;
 use clap::Error;
 use clap::error::ErrorKind;
 use kalah_jobs::Sink;
@@ -29,8 +28,8 @@ use std::rt::Files;
 use std::sync::Wait;
 use std::thread::Threads;
 
-// Shows the help that was asked for.
-fn show_help<O: Sink, E: Write>(text: &str, out: &mut O, err: &mut E) -> ExitStatus
+// Shows the help or the version that was asked for.
+fn show<O: Sink, E: Write>(text: &str, out: &mut O, err: &mut E) -> ExitStatus
     requires { O.has_failed out.old ≡ false }
     ensures failed { O.has_failed out.new ≡ true → result ≡ ExitStatus.Failed }
     ensures failed_only { result ≡ ExitStatus.Failed → O.has_failed out.new ≡ true }
@@ -44,21 +43,24 @@ fn show_help<O: Sink, E: Write>(text: &str, out: &mut O, err: &mut E) -> ExitSta
     ExitStatus::Clean
 }
 
-// Shows the text of a parse that gave no request: help on `out`, a mistake in the words on `err`.
+// Shows what comes of a parse that gave no request: help or the version on `out`, a mistake in the words on `err`.
 fn refuse<O: Sink, E: Write>(alloc: Global, error: &Error, out: &mut O, err: &mut E) -> ExitStatus
     requires { O.has_failed out.old ≡ false }
-    ensures mistake { kind_of error.now ≢ DisplayHelp
+    ensures mistake { kind_of error.now ≢ DisplayHelp → kind_of error.now ≢ DisplayVersion
         → (result ≡ ExitStatus.Failed) × (out.new ≡ out.old) }
     ensures failed { O.has_failed out.new ≡ true → result ≡ ExitStatus.Failed }
     ensures unchanged { result ≡ ExitStatus.Failed → O.has_failed out.new ≡ false
         → out.new ≡ out.old }
     ensures no_line { result ≢ ExitStatus.LineFaults }
+    ensures version { kind_of error.now ≢ DisplayHelp → result ≡ ExitStatus.Clean
+        → Appends (O.written out.old) (O.written out.new) version_line }
 {
     let Ok(text) = error.to_string(alloc) else {
         return Failure::OutOfMemory.report(err);
     };
     match error.kind() {
-        ErrorKind::DisplayHelp => show_help(text.as_str(), out, err),
+        ErrorKind::DisplayHelp => show(text.as_str(), out, err),
+        ErrorKind::DisplayVersion => show(VERSION_LINE, out, err),
         ErrorKind::OutOfMemory => Failure::OutOfMemory.report(err),
         _ => {
             let _ = err.write_all(text.as_bytes());
@@ -98,8 +100,9 @@ fn run_request<R: Files + Threads + Wait + Sync, O: Sink, E: Write>(
 
 /// Runs the program on its words, of which the first, whatever it is, is the program's name: `moves LINE`
 /// prints the moves of a position, `play LINE` the game that best play leads to from it, `solve FILE..`
-/// answers each line of files, and `values FILE..` tells what each move of them is worth. Answers and help
-/// go to `out`, and what fails or is not read is said on `err`; a failing write to `err` changes nothing.
+/// answers each line of files, and `values FILE..` tells what each move of them is worth. `--version` prints
+/// which version this is. Answers, help and that go to `out`, and what fails or is not read is said on
+/// `err`; a failing write to `err` changes nothing.
 pub fn run_words<R: Files + Threads + Wait + Sync, O: Sink, E: Write>(
     rt: &R,
     alloc: Global,
@@ -121,18 +124,15 @@ pub fn run_words<R: Files + Threads + Wait + Sync, O: Sink, E: Write>(
         → IsOfLine a line → IsUnread line → (result ≢ ExitStatus.Clean) × (out.new ≡ out.old) }
 
     // `moves` and a line that is read: its moves are written, where nothing fails.
-    ensures moves { (name line : List ℕ) (p : Position)
-        → texts_of words.items ≡ name ∷ codes "moves" ∷ line ∷ [] → Reads line p
-        → (result ≢ ExitStatus.LineFaults) × (result ≡ ExitStatus.Clean
+    ensures moves { (name line : List ℕ) (p : Position) → texts_of words.items ≡ name ∷ codes "moves" ∷ line ∷ []
+        → Reads line p → (result ≢ ExitStatus.LineFaults) × (result ≡ ExitStatus.Clean
         → Appends (O.written out.old) (O.written out.new) (moves_output false p)) }
     // `play` and a line that is read: its game of best play is written, where nothing fails.
-    ensures played { (name line : List ℕ) (p : Position)
-        → texts_of words.items ≡ name ∷ codes "play" ∷ line ∷ [] → Reads line p
-        → (result ≢ ExitStatus.LineFaults) × (result ≡ ExitStatus.Clean
+    ensures played { (name line : List ℕ) (p : Position) → texts_of words.items ≡ name ∷ codes "play" ∷ line ∷ []
+        → Reads line p → (result ≢ ExitStatus.LineFaults) × (result ≡ ExitStatus.Clean
         → PlaysBest false p (O.written out.old) (O.written out.new)) }
     // `moves` or `play` and a line that is not read, but is no flag.
-    ensures unread { (name line : List ℕ)
-        → (texts_of words.items ≡ name ∷ codes "moves" ∷ line ∷ [])
+    ensures unread { (name line : List ℕ) → (texts_of words.items ≡ name ∷ codes "moves" ∷ line ∷ [])
         ⊎ (texts_of words.items ≡ name ∷ codes "play" ∷ line ∷ []) → IsPlainWord line
         → IsUnread line → (result ≢ ExitStatus.Clean) × (out.new ≡ out.old) }
 
@@ -145,13 +145,17 @@ pub fn run_words<R: Files + Threads + Wait + Sync, O: Sink, E: Write>(
         → IsTakenAs (texts_of words.items) (values workers table names) → result ≢ ExitStatus.Failed
         → TellsValues names (O.written out.old) (O.written out.new) result }
 
-    // Words that the command line refuses for another reason than a request for help.
-    ensures usage { fault_of kalah_app (texts_of words.items) ≢ []
-        → (IsAmong DisplayHelp (fault_of kalah_app (texts_of words.items)) → ⊥)
-        → (result ≡ ExitStatus.Failed) × (out.new ≡ out.old) }
+    // Words that are not taken, and ask for neither help nor the version.
+    ensures usage { IsRefused (texts_of words.items) → AsksNot DisplayHelp (texts_of words.items)
+        → AsksNot DisplayVersion (texts_of words.items) → (result ≡ ExitStatus.Failed) × (out.new ≡ out.old) }
+    // Words that are not taken, and don't ask for help: with status 0 that is the version, and no more.
+    ensures version { IsRefused (texts_of words.items) → AsksNot DisplayHelp (texts_of words.items)
+        → result ≡ ExitStatus.Clean → Appends (O.written out.old) (O.written out.new) version_line }
+    // `--version` or `-V` alone: the version is written, where nothing fails.
+    ensures version_word { (name : List ℕ) → IsVersionWord name (texts_of words.items) → (result ≢ ExitStatus.LineFaults)
+        × (result ≡ ExitStatus.Clean → Appends (O.written out.old) (O.written out.new) version_line) }
     // Words that are not taken have no line.
-    ensures no_line { fault_of kalah_app (texts_of words.items) ≢ []
-        → result ≢ ExitStatus.LineFaults }
+    ensures no_line { IsRefused (texts_of words.items) → result ≢ ExitStatus.LineFaults }
 
     // Where a write failed the program failed, and where it failed for another cause nothing was written.
     ensures failed { O.has_failed out.new ≡ true → result ≡ ExitStatus.Failed }

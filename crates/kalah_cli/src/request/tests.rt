@@ -90,11 +90,13 @@ fn reads_solve_and_values(rt: HostRuntime) {
 }
 
 // Words that give no request, and what kind of error they give.
-const REFUSED: [(&[&str], ErrorKind); 9] = [
+const REFUSED: [(&[&str], ErrorKind); 11] = [
     (&["kalah"], ErrorKind::MissingSubcommand),
     (&["kalah", "stop"], ErrorKind::InvalidSubcommand),
     (&["kalah", "solve"], ErrorKind::MissingRequiredArgument),
     (&["kalah", "--help"], ErrorKind::DisplayHelp),
+    (&["kalah", "--version"], ErrorKind::DisplayVersion),
+    (&["kalah", "-V"], ErrorKind::DisplayVersion),
     (&["kalah", "solve", "--help"], ErrorKind::DisplayHelp),
     (
         &["kalah", "solve", "--workers", "0", "a"],

@@ -140,14 +140,17 @@ fn a_line_that_is_not_read_is_answered_by_its_fault(rt: HostRuntime) -> Result<(
 }
 
 // Words that the program does not take.
-const MISTAKES: [&[&str]; 26] = [
+const MISTAKES: [&[&str]; 29] = [
     &[],
     &["stop"],
     &["solve"],
     &["moves"],
     &["help"],
     &["-x"],
-    &["--version"],
+    &["--version=1"],
+    &["stop", "--version"],
+    &["moves", "-V"],
+    &["solve", "--version", "a.txt"],
     &["solve", "--workers", "0", "a.txt"],
     &["solve", "--workers", "65", "a.txt"],
     &["solve", "--workers", "four", "a.txt"],
@@ -271,10 +274,15 @@ fn stops_at_a_failed_write(rt: HostRuntime) -> Result<(), Fail> {
 }
 
 #[test]
-fn a_failed_write_of_help(rt: HostRuntime) -> Result<(), Fail> {
-    for k in 1..4u32 {
-        let run = run_failing(&rt, rt.alloc(), &["--help"], k)?;
-        assert!(rt; run.is_told() && run.has_failed == (k <= 2), "at {k}");
+fn a_failed_write_of_help_or_of_the_version(rt: HostRuntime) -> Result<(), Fail> {
+    for word in ["--help", "--version", "-V"] {
+        for k in 1..4u32 {
+            let run = run_failing(&rt, rt.alloc(), [word].as_slice(), k)?;
+            assert!(rt;
+                run.is_told() && run.has_failed == (k <= 2),
+                "{word} at {k}"
+            );
+        }
     }
     Ok(())
 }

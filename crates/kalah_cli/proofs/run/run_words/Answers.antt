@@ -1,11 +1,18 @@
-use Rattle.std.proofs.Common.{◌≡◌, ◌≢◌, ℕ, List, false, inl, inr, refl, subst, sym}
+use Rattle.std.proofs.Common.{◌≡◌, ◌≢◌, ◌∙◌, ℕ, List, [], ◌∷◌, false, inl, inr, refl, subst, sym}
+use Rattle.clap.specs.Faults.{fault_of}
+use Rattle.clap.specs.Kinds.{IsAmong, Kinds}
+use Rattle.clap.specs.Values.{kind_of}
+use Rattle.clap.specs.declared.error.kind.ErrorKind.{ErrorKind}
+use Rattle.clap.specs.declared.error.kind.ErrorKind.TheVariants.{DisplayHelp, DisplayVersion, OutOfMemory}
 use Rattle.kalah_jobs.specs.declared.question.Question.TheVariants.{BestMove, Values}
+use Rattle.kalah_cli.specs.Command.{kalah_app}
 use Rattle.kalah_cli.specs.Request.{Asked, IsTakenAs, answers, asked_for, moves, play, texts_of}
 use Rattle.kalah_cli.specs.Runs.{Begins, Does, IsOfLine, IsUnread}
 use Rattle.kalah_cli.specs.declared.status.ExitStatus.TheVariants.{Clean, Failed}
 use Rattle.kalah_cli.proofs.Begun.{begins_none, begun_as}
+use Rattle.kalah_cli.proofs.Laws.{version_of}
 use Rattle.kalah_cli.proofs.Plain.{read_is_plain}
-use Rattle.kalah_cli.proofs.Taken.{done_as, failed_does, fault_at, game_of, line_as, moves_of, no_help, words_at}
+use Rattle.kalah_cli.proofs.Taken.{done_as, failed_does, fault_at, game_of, line_as, moves_of, no_request, words_at}
 use Rattle.kalah_cli.proofs.run.run_words.Goals.{After-drop-words, After-drop-words-2}
 use Rattle.kalah_cli.proofs.run.run_words.Given.{Over}
 use Rattle.kalah_cli.proofs.run.run_words.Goals as goal
@@ -58,7 +65,16 @@ pub returns-in-Ok-clause-valued : goal.returns-in-Ok-clause-valued
 returns-in-Ok-clause-valued g c = λ w t names taken. done g c (answers Values w t names) taken
 
 pub returns-in-Ok-clause-usage : goal.returns-in-Ok-clause-usage
-returns-in-Ok-clause-usage g c = λ faulty unasked. absurd (faulty (fault_at _ c.args.words.items c.as_slice.ensures.value c.in-Ok.ensures.kinds))
+returns-in-Ok-clause-usage g c = λ faulty no_help no_version. absurd (faulty (fault_at _ c.args.words.items c.as_slice.ensures.value c.in-Ok.ensures.kinds))
+
+pub returns-in-Ok-clause-version : goal.returns-in-Ok-clause-version
+returns-in-Ok-clause-version g c = λ faulty. absurd (faulty (fault_at _ c.args.words.items c.as_slice.ensures.value c.in-Ok.ensures.kinds))
+
+pub returns-in-Ok-clause-version_word : goal.returns-in-Ok-clause-version_word
+returns-in-Ok-clause-version_word g c = λ name is.
+    let none = fault_at _ c.args.words.items c.as_slice.ensures.value c.in-Ok.ensures.kinds in
+    let some = version_of _ name is in
+    absurd (let bad : DisplayVersion ∷ [] ≡ [] = sym some ∙ none in cc)
 
 pub returns-in-Ok-clause-no_line : goal.returns-in-Ok-clause-no_line
 returns-in-Ok-clause-no_line g c = λ faulty. absurd (faulty (fault_at _ c.args.words.items c.as_slice.ensures.value c.in-Ok.ensures.kinds))
@@ -69,6 +85,9 @@ returns-in-Ok-clause-no_line g c = λ faulty. absurd (faulty (fault_at _ c.args.
 failed : (g : Over) (c : After-drop-words-2 g) (a : Asked) → IsTakenAs (texts_of c.args.words.items) a
     → (c.refuse.result ≡ Failed) × (c.refuse.new.out ≡ c.args.out.now)
 failed g c a taken = c.refuse.ensures.mistake (λ help.
+    let memory = c.in-Err.ensures.refused a (words_at _ c.args.words.items a c.as_slice.ensures.value taken) in
+    cc)
+    (λ version.
     let memory = c.in-Err.ensures.refused a (words_at _ c.args.words.items a c.as_slice.ensures.value taken) in
     cc)
 
@@ -110,6 +129,22 @@ returns-clause-solved g c = λ w t names taken. failed_does (answers BestMove w 
 pub returns-clause-valued : goal.returns-clause-valued
 returns-clause-valued g c = λ w t names taken. failed_does (answers Values w t names) _ _ _ (failed g c (answers Values w t names) taken).0
 
+-- words that don't ask for this don't get it
+unasked : (g : Over) (c : After-drop-words-2 g) (k : ErrorKind) → OutOfMemory ≢ k
+    → (IsAmong k (fault_of kalah_app (texts_of c.args.words.items)) → ⊥) → kind_of c.in-Err.error ≢ k
+unasked g c k other none = no_request k _ c.args.words.items c.in-Err.error other c.as_slice.ensures.value c.in-Err.ensures.kinds none
+
+-- words that ask for the version alone ask for no help
+no_help_asked : {kinds : Kinds} → kinds ≡ DisplayVersion ∷ [] → IsAmong DisplayHelp kinds → ⊥
+no_help_asked is among = elim (subst (IsAmong DisplayHelp) is among) [ inl bad ↦ absurd (let x : DisplayHelp ≡ DisplayVersion = bad in cc) | inr bad ↦ bad ]
+
 pub returns-clause-usage : goal.returns-clause-usage
-returns-clause-usage g c = λ faulty unasked.
-    c.refuse.ensures.mistake (no_help _ c.args.words.items c.in-Err.error c.as_slice.ensures.value c.in-Err.ensures.kinds unasked)
+returns-clause-usage g c = λ faulty no_help no_version. c.refuse.ensures.mistake (unasked g c DisplayHelp (λ e. cc) no_help)
+    (unasked g c DisplayVersion (λ e. cc) no_version)
+
+pub returns-clause-version : goal.returns-clause-version
+returns-clause-version g c = λ faulty no_help. c.refuse.ensures.version (unasked g c DisplayHelp (λ e. cc) no_help)
+
+pub returns-clause-version_word : goal.returns-clause-version_word
+returns-clause-version_word g c = λ name is.
+    (c.refuse.ensures.no_line, c.refuse.ensures.version (unasked g c DisplayHelp (λ e. cc) (no_help_asked (version_of _ name is))))

@@ -1,5 +1,5 @@
-//! What the help says.
-use super::run_on;
+//! What the help says, and the version.
+use super::{answers, run_on};
 use crate::status::ExitStatus;
 use std::alloc::Global;
 use std::rt::Files;
@@ -8,7 +8,7 @@ use std::sync::Wait;
 use std::test::Fail;
 use std::thread::Threads;
 
-const OF_THE_PROGRAM: [&str; 8] = [
+const OF_THE_PROGRAM: [&str; 9] = [
     "Solves small positions of Kalah: the best house and the margin of best play",
     "moves",
     "solve",
@@ -16,6 +16,7 @@ const OF_THE_PROGRAM: [&str; 8] = [
     "Prints each legal move of a position, and the position after it",
     "Prints the margin of best play and the best house of each position in files",
     "Prints what each move of each position in files is worth",
+    "  -h, --help     Print help\n  -V, --version  Print version\n",
     ABOUT_POSITIONS,
 ];
 
@@ -108,6 +109,27 @@ fn the_help_says_what_there_is_to_ask_for(rt: HostRuntime) -> Result<(), Fail> {
                 "no {part}"
             );
         }
+    }
+    Ok(())
+}
+
+// Words that ask for the version before anything else.
+const OF_THE_VERSION: [&[&str]; 5] = [
+    &["--version"],
+    &["-V"],
+    &["-V", "--help"],
+    &["--version", "stop"],
+    &["--version", "solve", "a.txt"],
+];
+
+#[test]
+fn the_version_is_one_line(rt: HostRuntime) -> Result<(), Fail> {
+    for words in OF_THE_VERSION {
+        let run = run_on(&rt, rt.alloc(), words)?;
+        assert!(rt;
+            answers(&run, ExitStatus::Clean, "kalah 1.0.0\n", ""),
+            "{words:?}"
+        );
     }
     Ok(())
 }
