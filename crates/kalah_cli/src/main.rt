@@ -1,6 +1,8 @@
 //! Solves small positions of Kalah: `kalah moves LINE`, `kalah play LINE`, `kalah solve FILE..` and `kalah values FILE..`.
 #![tactic(auto)]
 
+#[cfg(test)]
+mod calling;
 mod command;
 mod failure;
 mod files;

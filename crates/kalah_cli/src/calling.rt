@@ -1,0 +1,93 @@
+//! The crates, called as docs/CALLING.md shows it.
+ghost use Rattle.std.specs.Prelude.{◌≡◌, IfOk, IfSome, false};
+ghost use Rattle.kalah_rules.specs.Play.{step_of};
+ghost use Rattle.kalah_rules.specs.Position.{is_over};
+ghost use Rattle.kalah_jobs.specs.Output.{tally_of};
+ghost use Rattle.kalah_solve.specs.Worth.{worth};
+
+use kalah_jobs::{FileText, Stream};
+use kalah_rules::{Board, Rule, Step};
+use kalah_run::{OpenGate, RunFault, Tally, solve_batch};
+use kalah_solve::{Solver, Table, Verdict};
+use std::alloc::{AllocError, Global};
+use std::sync::Wait;
+use std::test::Fail;
+use std::thread::Threads;
+
+// Two houses a side, a seed in each, and empty stores.
+fn two_houses() -> Option<Board> {
+    let ones = [1, 1, 0, 0, 0, 0];
+    Board::new(2, ones, 0, ones, 0, Rule::Classic)
+}
+
+// What the move of a house leads to, where that house may be moved.
+fn step(board: &Board, house: u8) -> Option<Step>
+    ensures { IfSome result (λ s. s ≡ step_of board.now house) }
+{
+    if !board.is_legal(house) {
+        return None;
+    }
+    Some(board.apply(house))
+}
+
+#[test]
+fn a_caller_moves(rt: HostRuntime) -> Result<(), Fail> {
+    let board = two_houses().ok_or("beyond the limits")?;
+    assert!(rt; board.legal().len() == 2);
+    assert!(rt; matches!(step(&board, 2), Some(Step::Again(_))));
+    assert!(rt; step(&board, 3).is_none());
+    Ok(())
+}
+
+// The margin of best play of a game that goes on.
+fn margin(solver: &mut Solver, board: &Board) -> i32
+    requires { is_over board.now ≡ false }
+    ensures { result ≡ worth board.now }
+{
+    match solver.solve(board) {
+        Verdict::Best { margin, .. } => margin,
+        Verdict::Over { .. } => 0,
+    }
+}
+
+#[test]
+fn a_caller_solves(rt: HostRuntime) -> Result<(), Fail> {
+    let board = two_houses().ok_or("beyond the limits")?;
+    let mut solver = Solver::new(Table::new(rt.alloc(), 4096)?);
+    assert!(rt; !board.is_over() && margin(&mut solver, &board) == 2);
+    Ok(())
+}
+
+// The file `a` of two lines, of which the second is no position.
+fn one_file(alloc: Global) -> Result<Vec<FileText>, AllocError> {
+    let mut files = Vec::new(alloc);
+    files.push(FileText {
+        name: String::from_str(alloc, "a")?,
+        bytes: b"1,1/0 1,1/0\n1/0".to_vec(alloc)?,
+    })?;
+    Ok(files)
+}
+
+// The answers to files, by two workers, and what they count.
+fn answers<R: Threads + Wait + Sync>(
+    rt: &R,
+    alloc: Global,
+    files: &[FileText],
+) -> Result<(Vec<u8>, Tally), RunFault>
+    ensures { IfOk result (λ r. r.1 ≡ tally_of files.now) }
+{
+    let mut out = Stream::new(Vec::new(alloc));
+    let tally = solve_batch(rt, alloc, files, 2, 4096, &OpenGate, &mut out)?;
+    Ok((out.into_inner(), tally))
+}
+
+#[test]
+fn a_caller_answers_files(rt: HostRuntime) -> Result<(), Fail> {
+    let files = one_file(rt.alloc())?;
+    let Ok((bytes, tally)) = answers(&rt, rt.alloc(), files.as_slice()) else {
+        return Err(Fail::from("no answer"));
+    };
+    assert!(rt; bytes.as_slice() == "a:1 2 house 2\na:2 fault shape\n".as_bytes());
+    assert!(rt; tally.lines == 2 && tally.faults == 1);
+    Ok(())
+}
