@@ -1,7 +1,17 @@
 //! Laws over all files.
+ghost use Rattle.std.specs.Prelude.{◌≡◌};
+ghost use Rattle.kalah_jobs.specs.Jobs.{most_files, most_lines};
 ghost use Rattle.kalah_jobs.specs.Lines.{LinesAreOne};
 ghost use Rattle.kalah_jobs.specs.Entry.{EntriesAreOne};
 ghost use Rattle.kalah_jobs.specs.Output.{FilesAreTheirJobs};
+
+use crate::jobs::{MOST_FILES, MOST_LINES};
+
+/// The most files and lines that the constants tell are the ones that the contracts of a batch are about.
+pub fn constants_tell_a_batch()
+    ensures files { MOST_FILES ≡ most_files }
+    ensures lines { MOST_LINES ≡ most_lines }
+{}
 
 /// Every file has lines, whatever its bytes are, and they are the only ones that it has.
 pub fn lines_are_one()

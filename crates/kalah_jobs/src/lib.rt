@@ -42,7 +42,7 @@ pub use collector_laws::{
     accepts_each_job_once, answers_in_one_way, gets_each_job_once, keeps_its_law,
 };
 pub use entry::Entry;
-pub use file_laws::{entries_are_one, files_are_their_jobs, lines_are_one};
+pub use file_laws::{constants_tell_a_batch, entries_are_one, files_are_their_jobs, lines_are_one};
 pub use file_text::FileText;
 pub use job::Job;
 pub use jobs::{Jobs, JobsFault, MOST_FILES, MOST_LINES};
