@@ -69,6 +69,11 @@ impl<A: Allocator + Clone> Search<A> {
         self.table.look_up(houses)
     }
 
+    #[cfg(test)]
+    pub fn nodes(&self) -> u64 {
+        self.nodes
+    }
+
     /// The worth of the houses, raised to `lo` and lowered to `hi`.
     pub fn search(&mut self, houses: &Houses, lo: i32, hi: i32) -> i32
         requires going { is_over (bare houses.now) ≡ false }

@@ -1,4 +1,5 @@
 mod memory;
+mod tables;
 mod values;
 
 use super::*;
@@ -45,7 +46,9 @@ fn tells_same_houses<A: Allocator + Clone>(
 
 #[test]
 fn same_houses_with_other_stores_share_an_entry(rt: HostRuntime) -> Result<(), Fail> {
-    tells_same_houses(&rt, &mut Solver::new(Table::new(rt.alloc(), 1)?))
+    let mut solver = Solver::new(Table::new(rt.alloc(), 1)?);
+    tells_same_houses(&rt, &mut solver)?;
+    tables::tells_busy_houses(&rt, &mut solver)
 }
 
 // The worked positions with one house a side, in order.
@@ -91,14 +94,16 @@ fn tells_two_houses<A: Allocator + Clone>(
 fn tells_worked_positions_with_one_entry(rt: HostRuntime) -> Result<(), Fail> {
     let mut solver = Solver::new(Table::new(rt.alloc(), 1)?);
     tells_one_house(&rt, &mut solver)?;
-    tells_two_houses(&rt, &mut solver)
+    tells_two_houses(&rt, &mut solver)?;
+    tables::tells_busy_houses(&rt, &mut solver)
 }
 
 #[test]
 fn tells_worked_positions_with_a_large_table(rt: HostRuntime) -> Result<(), Fail> {
     let mut solver = Solver::new(Table::new(rt.alloc(), 65_536)?);
     tells_one_house(&rt, &mut solver)?;
-    tells_two_houses(&rt, &mut solver)
+    tells_two_houses(&rt, &mut solver)?;
+    tables::tells_busy_houses(&rt, &mut solver)
 }
 
 #[test]
@@ -110,7 +115,8 @@ fn rules_have_entries_of_their_own(rt: HostRuntime) -> Result<(), Fail> {
     assert!(rt; solver.solve(&classic) == best(1, 1));
     assert!(rt; solver.solve(&empty_capture) == best(-1, 1));
     assert!(rt; solver.solve(&tie) == best(1, 1));
-    Ok(())
+    tables::tells_busy_houses(&rt, &mut solver)?;
+    tables::keeps_the_last_two(&rt, &mut solver)
 }
 
 #[test]
@@ -147,14 +153,16 @@ fn agrees_with_plain(rt: &impl Abort, solver: &mut Solver, rule: Rule) -> Result
 fn agrees_with_plain_with_one_entry(rt: HostRuntime) -> Result<(), Fail> {
     let mut solver = Solver::new(Table::new(rt.alloc(), 1)?);
     agrees_with_plain(&rt, &mut solver, Rule::Classic)?;
-    agrees_with_plain(&rt, &mut solver, Rule::EmptyCapture)
+    agrees_with_plain(&rt, &mut solver, Rule::EmptyCapture)?;
+    tables::agree_with_plain(&rt, &mut solver)
 }
 
 #[test]
 fn agrees_with_plain_with_a_large_table(rt: HostRuntime) -> Result<(), Fail> {
     let mut solver = Solver::new(Table::new(rt.alloc(), 65_536)?);
     agrees_with_plain(&rt, &mut solver, Rule::Classic)?;
-    agrees_with_plain(&rt, &mut solver, Rule::EmptyCapture)
+    agrees_with_plain(&rt, &mut solver, Rule::EmptyCapture)?;
+    tables::agree_with_plain(&rt, &mut solver)
 }
 
 #[test]
