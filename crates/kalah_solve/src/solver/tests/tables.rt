@@ -1,5 +1,6 @@
 //! Positions of which the tables keep something, as the program has them: with so many seeds, and so much to try.
 use super::*;
+use crate::granting::Granting;
 
 // Three houses a side for which so much is tried that an answer is kept, each with its rule, its margin and its best house.
 const BUSY: [(Rule, [u8; 3], [u8; 3], i8, u8); 6] = [
@@ -122,4 +123,38 @@ fn what_was_learned_of_a_move_serves_the_next_position(rt: HostRuntime) -> Resul
         assert!(rt; after < alone || entries == 1);
     }
     Ok(())
+}
+
+// How many entries a table may have: the fewest, the most, and some between, round a power of two.
+const ENTRIES: [u32; 7] = [1, 2, 65_535, 65_536, 65_537, 524_288, 1_048_576];
+
+// What is told over such a table.
+fn tells_with(rt: &impl Abort, table: Table) -> Result<(), Fail> {
+    let mut solver = Solver::new(table);
+    tells_busy_houses(rt, &mut solver)?;
+    let board = three(Rule::EmptyCapture, [2, 2, 3], [2, 2, 2], (0, 0))?;
+    values::tells_values(rt, &mut solver, &board, &[(1, -5), (2, 3), (3, 5)]);
+    Ok(())
+}
+
+#[test]
+fn a_table_may_have_any_number_of_entries(rt: HostRuntime) -> Result<(), Fail> {
+    for entries in ENTRIES {
+        tells_with(&rt, Table::new(rt.alloc(), entries)?)?;
+    }
+    Ok(())
+}
+
+// A table is refused where one of its requests is, and only there: with all requests granted, and with any number fewer.
+#[test]
+fn a_table_is_refused_only_where_memory_is(rt: HostRuntime) {
+    for entries in ENTRIES {
+        let ample = Granting::new(rt.alloc(), u32::MAX);
+        assert!(rt; Table::new(&ample, entries).is_ok());
+        for grants in 0..=ample.made() {
+            let heap = Granting::new(rt.alloc(), grants);
+            assert!(rt; Table::new(&heap, entries).is_err() == (heap.refused() > 0));
+            assert!(rt; (heap.refused() == 0) == (grants == ample.made()));
+        }
+    }
 }

@@ -4,7 +4,7 @@ use crate::granting::Granting;
 use crate::move_values::MoveValue;
 
 // The houses with their values, in order.
-fn tells_values<A: Allocator + Clone>(
+pub(super) fn tells_values<A: Allocator + Clone>(
     rt: &impl Abort,
     solver: &mut Solver<A>,
     board: &Board,
