@@ -1,8 +1,9 @@
 -- What a table keeps, over the list of its entries.
-use Rattle.std.proofs.Common.{◌≡◌, ℕ, true, eqb-true, List, Option, Some, None, Result, Ok, Err, nat_eq, IfSome, OnOk, OnErr, inl, inr, sym, subst, ◌∙◌}
+use Rattle.std.proofs.Common.{◌≡◌, ℕ, true, eqb-true, List, Option, Some, None, Result, Ok, Err, nat_eq, IfSome, IsSome, IsOk, OnOk, OnErr, ◌⊎◌, inl, inr, sym, ap, subst, ◌∙◌}
 use Rattle.std.specs.Map.{lookup}
 use Rattle.lru.specs.LruCache.{LruCache, lru_cache, put_entries, promoted}
-use Rattle.lru.proofs.CallerLemmas.{Contains-lookup, Contains-promoted, Contains-put_entries}
+use Rattle.std.specs.Cmp.{nat_eq_equiv}
+use Rattle.lru.proofs.CallerLemmas.{lookup-put_entries, Contains-lookup, Contains-promoted, Contains-put_entries}
 use Rattle.kalah_solve.specs.declared.table.Interval.{Interval}
 use Rattle.kalah_rules.specs.Position.{Rows, IsWithinHouses}
 use Rattle.kalah_rules.specs.Key.{key_of}
@@ -46,3 +47,16 @@ module _ (c : LruCache ℕ Interval) (a : Rows) (k : ℕ) (i : Interval) (entrie
   pub true_after : {X E : Type 0} (r : Result X E) (new : LruCache ℕ Interval) → OnOk r (new ≡ lru_cache (put_entries nat_eq c k i) c.cap) → OnErr r (new ≡ c) → AreTrue new.entries
   true_after (Ok x) new ok err = subst (λ (d : LruCache ℕ Interval). AreTrue d.entries) (sym ok) true_put
   true_after (Err x) new ok err = subst (λ (d : LruCache ℕ Interval). AreTrue d.entries) (sym err) entries
+
+-- after a put the entry is there, or all is as before
+pub put_or_same : {X E : Type 0} (r : Result X E) (c new : LruCache ℕ Interval) (k : ℕ) (i : Interval) →
+    OnOk r (new ≡ lru_cache (put_entries nat_eq c k i) c.cap) → OnErr r (new ≡ c) → (lookup (nat_eq k) new.entries ≡ Some i) ⊎ (new.entries ≡ c.entries)
+put_or_same (Ok x) c new k i ok err = inl (rw ok (lookup-put_entries nat_eq c k i nat_eq_equiv))
+put_or_same (Err x) c new k i ok err = inr (ap (λ (d : LruCache ℕ Interval). d.entries) err)
+
+-- where there was one, the put succeeds
+pub put_again : {X E : Type 0} (r : Result X E) (c new : LruCache ℕ Interval) (k : ℕ) (i : Interval) →
+    OnOk r (new ≡ lru_cache (put_entries nat_eq c k i) c.cap) → (IsSome (lookup (nat_eq k) c.entries) → IsOk r) → IsSome (lookup (nat_eq k) c.entries) →
+    lookup (nat_eq k) new.entries ≡ Some i
+put_again (Ok x) c new k i ok succeeds some = rw ok (lookup-put_entries nat_eq c k i nat_eq_equiv)
+put_again (Err x) c new k i ok succeeds some = cc (succeeds some)

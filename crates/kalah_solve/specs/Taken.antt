@@ -22,6 +22,10 @@ taken_by_step (Over own other) = own
 taken_by_step (Again gained b) = gained + taken b
 taken_by_step (Turn gained b) = gained + (seeds_in_houses (bare b) - taken b)
 
+-- at least so many seeds, and at most so many
+abbrev pub between : ℕ → ℕ → Share
+between least most = record { least = least; most = most }
+
 -- the number is in the share
 pub record IsWithinShare (s : Share) (t : ℕ) : Type 0 where
   pub least : s.least ≤ t

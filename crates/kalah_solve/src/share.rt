@@ -1,8 +1,9 @@
 //! What is known of the seeds that a player takes.
-ghost use Rattle.std.specs.Prelude.{◌≡◌, ◌↔◌, ◌+◌, ◌*◌, max, min, ◌≤◌, ◌≤ℤ◌, ◌-ℤ◌, ℕ, ℤ, pos, negsuc, IsTrue};
+ghost use Rattle.std.specs.Prelude.{◌≡◌, ◌↔◌, ◌+◌, ◌-◌, ◌*◌, max, min, ◌≤◌, ◌≤ℤ◌, ◌+ℤ◌, ◌-ℤ◌, ℕ, ℤ, pos, negsuc, IsTrue, false};
 ghost use Rattle.std.specs.Int.{int_max};
+ghost use Rattle.kalah_rules.specs.Position.{bare, seeds_in_houses};
 ghost use Rattle.kalah_solve.specs.Table.{Holds, within};
-ghost use Rattle.kalah_solve.specs.Taken.{taken, IsWithinShare};
+ghost use Rattle.kalah_solve.specs.Taken.{taken, between, IsWithinShare};
 
 use crate::table::Interval;
 use kalah_rules::Houses;
@@ -26,7 +27,8 @@ pub(crate) fn half(number: i32) -> u8
 impl Share {
     // What a player can take of so many seeds.
     pub(crate) fn whole(seeds: u8) -> Share
-        ensures { (t : ℕ) → t ≤ seeds → IsWithinShare result t }
+        ensures is { result ≡ between 0 seeds }
+        ensures held { (t : ℕ) → t ≤ seeds → IsWithinShare result t }
     {
         Share {
             least: 0,
@@ -36,7 +38,8 @@ impl Share {
 
     // What the mover can take of the seeds in these houses.
     pub(crate) fn unknown(houses: &Houses) -> Share
-        ensures { IsWithinShare result (taken houses.now) }
+        ensures is { result ≡ between 0 (seeds_in_houses (bare houses.now)) }
+        ensures held { IsWithinShare result (taken houses.now) }
     {
         Share::whole(houses.seeds())
     }
@@ -44,7 +47,9 @@ impl Share {
     // The same share, once it is known whether the player takes at least `bar`.
     pub(crate) fn learned(self, bar: u8, reached: bool) -> Share
         requires { 1 ≤ bar }
-        ensures { (t : ℕ) → IsWithinShare self t → (IsTrue reached ↔ bar ≤ t) → IsWithinShare result t }
+        ensures at_least { IsTrue reached → result ≡ between bar self.most }
+        ensures at_most { reached ≡ false → result ≡ between self.least (bar - 1) }
+        ensures held { (t : ℕ) → IsWithinShare self t → (IsTrue reached ↔ bar ≤ t) → IsWithinShare result t }
     {
         if reached {
             Share { least: bar, ..self }
@@ -75,7 +80,9 @@ impl Share {
     // What a margin in the interval says of the share of so many seeds.
     pub(crate) fn of_margins(interval: Interval, seeds: u8) -> Share
         requires { seeds ≤ 31 }
-        ensures { (t : ℕ) → t ≤ seeds → Holds interval (pos (t + t) -ℤ pos seeds) → IsWithinShare result t }
+        ensures held { (t : ℕ) → t ≤ seeds → Holds interval (pos (t + t) -ℤ pos seeds) → IsWithinShare result t }
+        ensures no_more { pos 0 ≤ℤ (interval.hi +ℤ pos seeds)
+            → (t : ℕ) → t ≤ seeds → IsWithinShare result t → Holds interval (pos (t + t) -ℤ pos seeds) }
     {
         Share {
             least: half(interval.lo as i32 + seeds as i32 + 1),
@@ -86,7 +93,9 @@ impl Share {
     // The margins of the shares of so many seeds.
     pub(crate) fn margins(self, seeds: u8) -> Interval
         requires { seeds ≤ 31 }
-        ensures { (t : ℕ) → t ≤ seeds → IsWithinShare self t → Holds result (pos (t + t) -ℤ pos seeds) }
+        ensures held { (t : ℕ) → t ≤ seeds → IsWithinShare self t → Holds result (pos (t + t) -ℤ pos seeds) }
+        ensures no_more { self.least ≤ seeds
+            → (t : ℕ) → t ≤ seeds → Holds result (pos (t + t) -ℤ pos seeds) → IsWithinShare self t }
     {
         let least = 2 * self.least as i32 - seeds as i32;
         let most = 2 * self.most as i32 - seeds as i32;

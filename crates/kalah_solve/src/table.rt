@@ -1,5 +1,5 @@
 //! A bounded table of what is known of houses.
-ghost use Rattle.std.specs.Prelude.{◌≡◌, ◌≤◌, ℕ, [], nat_eq, IfOk, IfSome, ◌≤ℤ◌, ℤ, pos, negsuc, ◌<ℤ◌, false};
+ghost use Rattle.std.specs.Prelude.{◌≡◌, ◌≤◌, ◌⊎◌, ℕ, [], nat_eq, IfOk, IfSome, IsSome, Some, ◌≤ℤ◌, ℤ, pos, negsuc, ◌<ℤ◌, false};
 ghost use Rattle.std.specs.Map.{lookup};
 ghost use Rattle.kalah_rules.specs.Key.{key_of};
 ghost use Rattle.kalah_rules.specs.Position.{bare, is_over, seeds_in_houses};
@@ -24,11 +24,12 @@ pub struct Interval {
 }
 
 impl Interval {
-    ghost use Rattle.kalah_solve.specs.Table.{Holds, within};
+    ghost use Rattle.kalah_solve.specs.Table.{Holds, from_to, within};
 
     // All that houses can be worth.
     pub(crate) fn whole() -> Interval
-        ensures { (z : ℤ) → negsuc 30 ≤ℤ z → z ≤ℤ pos 31 → Holds result z }
+        ensures is { result ≡ from_to (negsuc 30) (pos 31) }
+        ensures held { (z : ℤ) → negsuc 30 ≤ℤ z → z ≤ℤ pos 31 → Holds result z }
     {
         Interval { lo: -31, hi: 31 }
     }
@@ -41,7 +42,10 @@ impl Interval {
         requires high { hi ≤ℤ pos 31 }
         requires least { lo ≤ℤ answer }
         requires most { answer ≤ℤ hi }
-        ensures { (z : ℤ) → negsuc 30 ≤ℤ z → z ≤ℤ pos 31 → answer ≡ within lo hi z → Holds result z }
+        ensures at_most { answer ≡ lo → result ≡ from_to (negsuc 30) lo }
+        ensures at_least { answer ≡ hi → result ≡ from_to hi (pos 31) }
+        ensures exact { lo <ℤ answer → answer <ℤ hi → result ≡ from_to answer answer }
+        ensures held { (z : ℤ) → negsuc 30 ≤ℤ z → z ≤ℤ pos 31 → answer ≡ within lo hi z → Holds result z }
     {
         let answer_there = answer as i8;
         if answer <= lo {
@@ -99,8 +103,7 @@ impl<A: Allocator + Clone> Table<A> {
     ghost use Rattle.kalah_solve.specs.Table.{Holds, AreTrue};
     ghost use Rattle.kalah_solve.specs.Taken.{taken, IsWithinShare};
 
-    /// An empty table with room for `capacity` entries, which is 1 to 1,048,576. It fails where there is no memory for
-    /// its index.
+    /// An empty table with room for `capacity` entries, which is 1 to 1,048,576. It fails only where memory was refused.
     pub fn new(alloc: A, capacity: u32) -> Result<Table<A>, AllocError>
         requires low { 1 ≤ capacity }
         requires high { capacity ≤ 1048576 }
@@ -151,9 +154,11 @@ impl<A: Allocator + Clone> Table<A> {
         self.entries.get(&key).copied()
     }
 
-    // Keeps that the worth of the houses is in the interval, unless there is no memory for it.
+    // Keeps that the worth of the houses is in the interval, unless there is no memory for it. An entry that is there takes none.
     pub(crate) fn keep(&mut self, houses: &Houses, interval: Interval)
         requires { Holds interval (houses_worth houses.now) }
+        ensures kept { (lookup (nat_eq (key_of houses.now)) self.new ≡ Some interval) ⊎ (self.new ≡ self.old) }
+        ensures again { IsSome (lookup (nat_eq (key_of houses.now)) self.old) → lookup (nat_eq (key_of houses.now)) self.new ≡ Some interval }
     {
         let key = houses.key();
         let _ = self.entries.put(key, interval);

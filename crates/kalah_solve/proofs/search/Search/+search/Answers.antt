@@ -68,7 +68,7 @@ move_reaches-step_reaches-requires g t c κs within =
     )
 
 pub reaches-learn-requires : goal.reaches-learn-requires
-reaches-learn-requires g t c = c.learned.ensures _ c.known-known.ensures c.explore-reached.ensures
+reaches-learn-requires g t c = c.learned.ensures.held _ c.known-known.ensures c.explore-reached.ensures
 
 pub others_waiting-rank-requires : goal.others_waiting-rank-requires
 others_waiting-rank-requires g t c κs within =

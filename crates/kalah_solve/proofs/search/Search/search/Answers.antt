@@ -28,7 +28,7 @@ learned-requires-clause-least g c = omega (arith, ints, clamps, c.close_in-answe
 pub learn_margins-requires : goal.learn_margins-requires
 learn_margins-requires g c =
     c.shared.ensures.held (houses_worth c.args.houses.now)
-    (c.learned.ensures (houses_worth c.args.houses.now) c.known_margins-known.ensures.least c.known_margins-known.ensures.most (omega (arith, ints, clamps, c.close_in-answer.ensures)))
+    (c.learned.ensures.held (houses_worth c.args.houses.now) c.known_margins-known.ensures.least c.known_margins-known.ensures.most (omega (arith, ints, clamps, c.close_in-answer.ensures)))
     c.known_margins-known.ensures.holds
 
 pub returns : goal.returns

@@ -1,7 +1,17 @@
-use Rattle.kalah_solve.proofs.Entries.{true_after}
+use Rattle.kalah_solve.proofs.Entries.{put_again, put_or_same, true_after}
 use Rattle.kalah_solve.proofs.table.Table.keep.Goals as goal
 
 pub invariant_of-self : goal.invariant_of-self
 invariant_of-self g c =
     true_after c.self.inside.entries c.args.houses.now c.key-key.result c.args.interval c.self.invariant c.key-key.ensures.limits c.key-key.ensures.key c.requires
     c.put.result c.put.new.self c.put.ensures.entries c.put.ensures.err
+
+pub returns-clause-kept : goal.returns-clause-kept
+returns-clause-kept g c =
+    rw (← c.self.view_is, ← c.key-key.ensures.key)
+    (put_or_same c.put.result c.self.inside.entries c.put.new.self c.key-key.result c.args.interval c.put.ensures.entries c.put.ensures.err)
+
+pub returns-clause-again : goal.returns-clause-again
+returns-clause-again g c =
+    rw (← c.self.view_is, ← c.key-key.ensures.key)
+    (put_again c.put.result c.self.inside.entries c.put.new.self c.key-key.result c.args.interval c.put.ensures.entries c.put.ensures.succeeds)
