@@ -158,7 +158,8 @@ impl<A: Allocator + Clone> Table<A> {
     pub(crate) fn keep(&mut self, houses: &Houses, interval: Interval)
         requires { Holds interval (houses_worth houses.now) }
         ensures kept { (lookup (nat_eq (key_of houses.now)) self.new ≡ Some interval) ⊎ (self.new ≡ self.old) }
-        ensures again { IsSome (lookup (nat_eq (key_of houses.now)) self.old) → lookup (nat_eq (key_of houses.now)) self.new ≡ Some interval }
+        ensures again { IsSome (lookup (nat_eq (key_of houses.now)) self.old)
+            → lookup (nat_eq (key_of houses.now)) self.new ≡ Some interval }
     {
         let key = houses.key();
         let _ = self.entries.put(key, interval);
