@@ -28,3 +28,5 @@ pub mod BatchWay
 mod ValueTexts
 mod Joined
 mod Pictures
+mod SplitFiles
+mod AnswerTexts

@@ -25,3 +25,4 @@ pub mod Shares
 pub mod Batch
 pub mod UnderWay
 pub mod Picture
+pub mod Splitting

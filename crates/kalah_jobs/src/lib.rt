@@ -30,6 +30,7 @@ mod row;
 mod same_entry;
 mod side;
 mod sink;
+mod splitting;
 mod stack_text;
 mod stream;
 #[cfg(test)]
@@ -59,5 +60,6 @@ pub use question::Question;
 pub use reading::read_line;
 pub use refusal::Refusal;
 pub use sink::Sink;
+pub use splitting::{answer_lines_tell_answers, files_split_between_lines, output_splits_by_files};
 pub use stream::Stream;
 pub use written::write_answer;

@@ -1,0 +1,19 @@
+//! Laws by which a batch can be split over machines, and its answers told apart.
+ghost use Rattle.kalah_jobs.specs.Splitting.{OutputSplitsByFiles, FilesSplitBetweenLines, AnswerLinesTellAnswers};
+
+/// What is written for a list of files is what is written for the first of them, and then what is written for the others:
+/// whatever is asked, and wherever the list is cut.
+pub fn output_splits_by_files()
+    ensures { OutputSplitsByFiles }
+{}
+
+/// A file can be cut wherever a line ends. Its lines are those of the first part and then those of the second, and so are its
+/// answers, where the lines of the second part are numbered on.
+pub fn files_split_between_lines()
+    ensures { FilesSplitBetweenLines }
+{}
+
+/// Two answers to one line of a file that are printed alike are the same.
+pub fn answer_lines_tell_answers()
+    ensures { AnswerLinesTellAnswers }
+{}
