@@ -114,11 +114,9 @@ pub fn run_words<R: Files + Threads + Wait + Sync, O: Sink, E: Write>(
     requires named { 0 < vec_len words }
 
     // Words that are taken as asking for something: that is done.
-    ensures does { (a : Asked) → IsTakenAs (texts_of words.items) a
-        → Does a (O.written out.old) (O.written out.new) result }
+    ensures does { (a : Asked) → IsTakenAs (texts_of words.items) a → Does a (O.written out.old) (O.written out.new) result }
     // Whatever comes of it: a beginning of what is asked for was written, and nothing else.
-    ensures begins { (a : Asked) → IsTakenAs (texts_of words.items) a
-        → Begins a (O.written out.old) (O.written out.new) }
+    ensures begins { (a : Asked) → IsTakenAs (texts_of words.items) a → Begins a (O.written out.old) (O.written out.new) }
     // Words that are taken as asking of a line, which is not read.
     ensures unread_line { (a : Asked) (line : List ℕ) → IsTakenAs (texts_of words.items) a
         → IsOfLine a line → IsUnread line → (result ≢ ExitStatus.Clean) × (out.new ≡ out.old) }
@@ -159,8 +157,7 @@ pub fn run_words<R: Files + Threads + Wait + Sync, O: Sink, E: Write>(
 
     // Where a write failed the program failed, and where it failed for another cause nothing was written.
     ensures failed { O.has_failed out.new ≡ true → result ≡ ExitStatus.Failed }
-    ensures unchanged { result ≡ ExitStatus.Failed → O.has_failed out.new ≡ false
-        → out.new ≡ out.old }
+    ensures unchanged { result ≡ ExitStatus.Failed → O.has_failed out.new ≡ false → out.new ≡ out.old }
 {
     match parse(alloc, words.as_slice()) {
         Ok(request) => run_request(rt, alloc, &request, out, err),
