@@ -106,10 +106,12 @@ fn is_usage(run: &Run) -> bool {
 }
 
 // Lines, and what `moves` prints of them.
-const MOVES: [(&str, &str); 4] = [
+const MOVES: [(&str, &str); 6] = [
     ("1,1/0 1,1/0", "1 1,1/0 0,2/0 turn\n2 1,0/1 1,1/0 again\n"),
     ("3/0 3/0", "1 0/6 0/0 over\n"),
     ("1/99 1/99", "1 0/100 0/100 over\n"),
+    ("8/0 8/0", "1 11/0 2/3 turn\n"),
+    ("1,0/0 0,2/0 e", "1 0,0/1 0,0/2 e over\n"),
     ("0/0 1/0", ""),
 ];
 

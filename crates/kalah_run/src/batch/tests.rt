@@ -35,6 +35,8 @@ fn file_of(alloc: Global, name: &str, bytes: &[u8]) -> Result<FileText, AllocErr
     })
 }
 
+const BOTH_RULES: &str = "1,0/0 0,2/0 e\n1,0/0 0,2/0\n16/0 0/0\n";
+
 // Four files, one of them empty and one named twice, with seven lines and two faults.
 fn four_files(alloc: Global) -> Result<Vec<FileText>, AllocError> {
     let mut files = Vec::new(alloc);
@@ -132,6 +134,16 @@ fn lines_are_answered_in_order_by_any_number_of_workers(rt: HostRuntime) -> Resu
             "{table}"
         );
     }
+    Ok(())
+}
+
+#[test]
+fn a_line_that_ends_in_e_has_the_other_rule(rt: HostRuntime) -> Result<(), Fail> {
+    let alloc = rt.alloc();
+    let mut files = Vec::new(alloc);
+    files.push(file_of(alloc, "e.txt", BOTH_RULES.as_bytes())?)?;
+    let want = "e.txt:1 -1 house 1\ne.txt:2 1 house 1\ne.txt:3 16 over\n";
+    assert!(rt; answers(&rt, alloc, files.as_slice(), 2, 16, &OpenGate, want, 0));
     Ok(())
 }
 

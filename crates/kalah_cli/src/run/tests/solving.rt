@@ -81,16 +81,20 @@ fn both_rules_and_many_seeds(rt: HostRuntime) -> Result<(), Fail> {
     fs::write(
         &rt,
         "rules.txt",
-        "1,0/0 0,2/0\n8/0 8/0\n16/0 16/0\n15/99 0/0\n",
+        "1,0/0 0,2/0\n8/0 8/0\n16/0 16/0\n15/99 0/0\n1,0/0 0,2/0 e\n16/0 0/0\n",
     )?;
-    let run = run_on(&rt, alloc, &["solve", "rules.txt"])?;
     let want = "\
 rules.txt:1 1 house 1
 rules.txt:2 0 house 1
 rules.txt:3 fault seeds
 rules.txt:4 114 over
+rules.txt:5 -1 house 1
+rules.txt:6 16 over
 ";
-    assert!(rt; answers(&run, ExitStatus::LineFaults, want, ""));
+    for table in ["1", "65536", "65537", "1048576"] {
+        let run = run_on(&rt, alloc, ["solve", "--table", table, "rules.txt"].as_slice())?;
+        assert!(rt; answers(&run, ExitStatus::LineFaults, want, ""), "{table}");
+    }
     Ok(())
 }
 
