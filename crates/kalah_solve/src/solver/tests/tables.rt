@@ -69,12 +69,14 @@ pub(super) fn keeps_the_last_two<A: Allocator + Clone>(
     Ok(())
 }
 
-// Their verdicts are those of the plain recursion.
+// Their verdicts are those of the plain recursion, and so are those of the same houses with other stores, by their entry.
 pub(super) fn agree_with_plain(rt: &impl Abort, solver: &mut Solver) -> Result<(), Fail> {
     for (rule, own, other, _, _) in BUSY {
-        let board = three(rule, own, other, (3, 1))?;
-        assert!(rt; solver.solve(&board) == plain::solve(&board));
-        assert!(rt; solver.search.entry(&board.houses()).is_some());
+        for stores in [(0, 0), (3, 1)] {
+            let board = three(rule, own, other, stores)?;
+            assert!(rt; solver.solve(&board) == plain::solve(&board));
+            assert!(rt; solver.search.entry(&board.houses()).is_some());
+        }
     }
     Ok(())
 }
