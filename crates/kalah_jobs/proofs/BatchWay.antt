@@ -208,7 +208,8 @@ past_all text jobs past files f begun out failed each waits way =
 
 -- so the sink was given all
 pub way_end : (text : ℕ → Taken → List ℕ) (jobs : List (List Entry)) (past : List Offer) (files : List FileState) (f : ℕ) (begun out : Option (List ℕ)) (failed : Bool)
-    → AreJobsInSomeOrder jobs past → (f < length files → HasEnded (state_of files f) → ⊥) → IsUnderWay text jobs past files f begun out failed → WasGiven begun out failed (text_of_jobs text jobs)
+    → AreJobsInSomeOrder jobs past → (f < length files → HasEnded (state_of files f) → ⊥) → IsUnderWay text jobs past files f begun out failed
+    → WasGiven begun out failed (text_of_jobs text jobs)
 way_end text jobs past files f begun out failed each waits way =
     let high = past_all text jobs past files f begun out failed each waits way in
     subst (λ (l : List ℕ). WasGiven begun out failed l)

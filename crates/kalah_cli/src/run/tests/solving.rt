@@ -92,7 +92,11 @@ rules.txt:5 -1 house 1
 rules.txt:6 16 over
 ";
     for table in ["1", "65536", "65537", "1048576"] {
-        let run = run_on(&rt, alloc, ["solve", "--table", table, "rules.txt"].as_slice())?;
+        let run = run_on(
+            &rt,
+            alloc,
+            ["solve", "--table", table, "rules.txt"].as_slice(),
+        )?;
         assert!(rt; answers(&run, ExitStatus::LineFaults, want, ""), "{table}");
     }
     Ok(())

@@ -30,5 +30,6 @@ loop-preserved g c =
       way = λ files jobs begun reporting.
           subst (λ (l : List Offer). IsReporting files jobs l begun (g.W.Sink.written c.take_in.new.out) (g.W.Sink.has_failed c.take_in.new.out) c.take_in.new.self × Waits c.take_in.new.self)
           (sym (ap (λ (l : List (ℕ × Offer)). outcomes_in l) more ∙ map-append (λ (p : ℕ × Offer). p.1) c.loop.pass.got ((worker, c.next_outcome-outcome.result) ∷ [])))
-          (c.take_in.ensures.way files jobs _ begun (still_reports files jobs _ begun _ _ _ _ _ c.next_outcome-outcome.ensures.keeps c.next_outcome-outcome.ensures.sound (c.loop.invariant.way files jobs begun reporting).0));
+          (c.take_in.ensures.way files jobs _ begun (still_reports files jobs _ begun _ _ _ _ _ c.next_outcome-outcome.ensures.keeps
+          c.next_outcome-outcome.ensures.sound (c.loop.invariant.way files jobs begun reporting).0));
     }
