@@ -60,6 +60,7 @@ fn write_moves<O: Sink>(board: &Board, boards: bool, out: &mut O) -> Result<(), 
     ensures adds { OnOk result
         (Appends (O.written out.old) (O.written out.new) (moves_output boards board.now)) }
     ensures start { AppendsStart (O.written out.old) (O.written out.new) (moves_output boards board.now) }
+    ensures handed_on { OnOk result (O.is_handed_on out.new ≡ true) }
 {
     let moves = board.legal();
     for i in 0..moves.len() {
@@ -86,6 +87,7 @@ pub(crate) fn run_moves<O: Sink, E: Write>(
     ensures unread { ((p : Position) → Reads line.now p → ⊥)
         → (result ≡ ExitStatus.LineFaults) × (out.new ≡ out.old) }
     ensures failed { O.has_failed out.new ≡ true ↔ result ≡ ExitStatus.Failed }
+    ensures handed_on { result ≢ ExitStatus.Failed → O.is_handed_on out.old ≡ true → O.is_handed_on out.new ≡ true }
 {
     match read_line(line.as_bytes()) {
         Ok(board) => match write_moves(&board, boards, out) {

@@ -1,48 +1,56 @@
 //! The standard output of the program.
-ghost use Rattle.std.specs.Prelude.{◌≡◌, false};
-ghost use Rattle.kalah_jobs.specs.Stream.{stream_failed, stream_writer};
+ghost use Rattle.std.specs.Prelude.{◌≡◌, ◌==◌, false, length};
+ghost use Rattle.std.specs.Io.Buffered.{writer_buffer, writer_contents};
 
-use kalah_jobs::{Sink, Stream};
+use kalah_jobs::{Sink, write_pieces};
 use std::io;
-use std::io::Write;
+use std::io::{BufWriter, Write};
 
-/// A stream whose writer may hold bytes back, in blocks: they go out where the program is about to wait, so that an answer is
-/// seen as soon as nothing more is ready to be written.
+/// A sink that holds bytes back in blocks, in the buffer of its writer: they go out where the program is about to wait, so that an
+/// answer is seen as soon as nothing more is ready to be written. All is handed on where the buffer is empty.
 #[derive(Drop)]
-pub(crate) struct PromptStream<W> {
-    stream: Stream<W>,
+pub(crate) struct PromptStream<W: Write + Drop> {
+    writer: BufWriter<W>,
+    has_failed: bool,
 }
 
-impl<W> PromptStream<W> {
-    /// The stream of a writer, of which no call has failed.
-    pub(crate) fn new(writer: W) -> PromptStream<W>
-        ensures writer { stream_writer result.stream ≡ writer }
-        ensures fresh { stream_failed result.stream ≡ false }
+impl<W: Write + Drop> PromptStream<W> {
+    /// The sink over a writer with a buffer, of which no call has failed.
+    pub(crate) fn new(writer: BufWriter<W>) -> PromptStream<W>
+        ensures writer { result.writer ≡ writer }
+        ensures fresh { result.has_failed ≡ false }
     {
         PromptStream {
-            stream: Stream::new(writer),
+            writer,
+            has_failed: false,
         }
     }
 }
 
-impl<W: Write> Sink for PromptStream<W> {
-    ghost written = { λ p. W.contents (stream_writer p.stream) };
+impl<W: Write + Drop> Sink for PromptStream<W> {
+    ghost written = { λ p. writer_contents W.contents p.writer };
 
-    ghost has_failed = { λ p. stream_failed p.stream };
+    ghost has_failed = { λ p. p.has_failed };
+
+    ghost is_handed_on = { λ p. length (writer_buffer p.writer) == 0 };
 
     fn write_all(&mut self, bytes: &[u8]) -> Result<(), io::Error> {
-        self.stream.write_all(bytes)
+        let written = write_pieces(&mut self.writer, bytes);
+        self.has_failed = written.is_err();
+        written
     }
 
     fn flush(&mut self) -> Result<(), io::Error> {
-        self.stream.flush()
+        let flushed = self.writer.flush();
+        self.has_failed = flushed.is_err();
+        flushed
     }
 
     fn before_waiting(&mut self) {
-        let _ = self.stream.flush();
+        let _ = self.flush();
     }
 
     fn failed(&self) -> bool {
-        self.stream.failed()
+        self.has_failed
     }
 }

@@ -27,6 +27,7 @@ fn write_game<O: Sink>(
     ensures fails { IsErr result ↔ (O.has_failed out.new ≡ true) }
     ensures game { OnOk result (WritesGame boards board.now (O.written out.old) (O.written out.new)) }
     ensures begins { BeginsGame boards board.now (O.written out.old) (O.written out.new) }
+    ensures handed_on { OnOk result (O.is_handed_on out.new ≡ true) }
 {
     let _side = board.m();
     out.flush()?;
@@ -54,6 +55,7 @@ fn play<O: Sink>(
     ensures fails { IsErr result ↔ (O.has_failed out.new ≡ true) }
     ensures game { OnOk result (PlaysBest boards board.now (O.written out.old) (O.written out.new)) }
     ensures begins { BeginsBest boards board.now (O.written out.old) (O.written out.new) }
+    ensures handed_on { OnOk result (O.is_handed_on out.new ≡ true) }
 {
     let _side = board.m();
     write_board(board, boards, out)?;
@@ -83,6 +85,7 @@ pub(crate) fn run_play<O: Sink, E: Write>(
     ensures failed { O.has_failed out.new ≡ true → result ≡ ExitStatus.Failed }
     ensures unchanged { result ≡ ExitStatus.Failed → O.has_failed out.new ≡ false
         → out.new ≡ out.old }
+    ensures handed_on { result ≢ ExitStatus.Failed → O.is_handed_on out.old ≡ true → O.is_handed_on out.new ≡ true }
 {
     let board = match read_line(line.as_bytes()) {
         Ok(board) => board,

@@ -36,6 +36,7 @@ fn show<O: Sink, E: Write>(text: &str, out: &mut O, err: &mut E) -> ExitStatus
     ensures no_line { result ≢ ExitStatus.LineFaults }
     ensures shown { result ≡ ExitStatus.Clean
         → Appends (O.written out.old) (O.written out.new) text.now }
+    ensures handed_on { result ≢ ExitStatus.Failed → O.is_handed_on out.new ≡ true }
 {
     if out.write_all(text.as_bytes()).is_err() || out.flush().is_err() {
         return Failure::Write.report(err);
@@ -54,6 +55,7 @@ fn refuse<O: Sink, E: Write>(alloc: Global, error: &Error, out: &mut O, err: &mu
     ensures no_line { result ≢ ExitStatus.LineFaults }
     ensures version { kind_of error.now ≢ DisplayHelp → result ≡ ExitStatus.Clean
         → Appends (O.written out.old) (O.written out.new) version_line }
+    ensures handed_on { result ≢ ExitStatus.Failed → O.is_handed_on out.new ≡ true }
 {
     let Ok(text) = error.to_string(alloc) else {
         return Failure::OutOfMemory.report(err);
@@ -86,6 +88,7 @@ fn run_request<R: Files + Threads + Wait + Sync, O: Sink, E: Write>(
     ensures failed { O.has_failed out.new ≡ true → result ≡ ExitStatus.Failed }
     ensures unchanged { result ≡ ExitStatus.Failed → O.has_failed out.new ≡ false
         → out.new ≡ out.old }
+    ensures handed_on { result ≢ ExitStatus.Failed → O.is_handed_on out.old ≡ true → O.is_handed_on out.new ≡ true }
 {
     match request {
         Request::Moves { line, boards } => run_moves(line, *boards, out, err),
@@ -158,6 +161,8 @@ pub fn run_words<R: Files + Threads + Wait + Sync, O: Sink, E: Write>(
     // Where a write failed the program failed, and where it failed for another cause nothing was written.
     ensures failed { O.has_failed out.new ≡ true → result ≡ ExitStatus.Failed }
     ensures unchanged { result ≡ ExitStatus.Failed → O.has_failed out.new ≡ false → out.new ≡ out.old }
+    // Where it did not, nothing that was written is held back.
+    ensures handed_on { result ≢ ExitStatus.Failed → O.is_handed_on out.old ≡ true → O.is_handed_on out.new ≡ true }
 {
     match parse(alloc, words.as_slice()) {
         Ok(request) => run_request(rt, alloc, &request, out, err),

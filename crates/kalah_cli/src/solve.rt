@@ -47,6 +47,7 @@ fn answer<R: Threads + Wait + Sync, O: Sink>(
         (Appends (O.written out.old) (O.written out.new) (output_to batch.now.question files.now)) }
     ensures start { AppendsStart (O.written out.old) (O.written out.new) (output_to batch.now.question files.now) }
     ensures tally { IfOk result (λ tally. tally ≡ tally_of files.now) }
+    ensures handed_on { OnOk result (O.is_handed_on out.new ≡ true) }
     ensures write { (result ≡ Err RunFault.Write) ↔ (O.has_failed out.new ≡ true) }
     ensures untouched { IfErr result (λ fault. fault ≢ RunFault.Write → out.new ≡ out.old) }
 {
@@ -73,6 +74,7 @@ fn answer_files<'a, R: Files + Threads + Wait + Sync, O: Sink>(
         (O.written out.old) (O.written out.new) }
     ensures one_line { OnOk result
         (list_any has_line_feed (map (λ name. name.now) batch.now.files.items) ≡ false) }
+    ensures handed_on { OnOk result (O.is_handed_on out.new ≡ true) }
     ensures failed { O.has_failed out.new ≡ true ↔ IsErrOf result Failure.Write }
     ensures unchanged { IfErr result
         (λ failure. failure ≢ Failure.Write → out.new ≡ out.old) }
@@ -118,6 +120,7 @@ pub(crate) fn run_batch<R: Files + Threads + Wait + Sync, O: Sink, E: Write>(
     ensures failed { O.has_failed out.new ≡ true → result ≡ ExitStatus.Failed }
     ensures unchanged { result ≡ ExitStatus.Failed → O.has_failed out.new ≡ false
         → out.new ≡ out.old }
+    ensures handed_on { result ≢ ExitStatus.Failed → O.is_handed_on out.new ≡ true }
 {
     match answer_files(rt, alloc, batch, out) {
         Ok(tally) => status_of(tally),

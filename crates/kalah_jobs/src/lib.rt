@@ -61,5 +61,5 @@ pub use reading::read_line;
 pub use refusal::Refusal;
 pub use sink::Sink;
 pub use splitting::{answer_lines_tell_answers, files_split_between_lines, output_splits_by_files};
-pub use stream::Stream;
+pub use stream::{Stream, write_pieces};
 pub use written::write_answer;

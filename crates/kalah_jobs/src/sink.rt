@@ -13,6 +13,9 @@ pub trait Sink {
     /// Whether a call has failed.
     ghost has_failed: { Self → Bool };
 
+    /// Whether all that was written is handed on. By itself a sink holds nothing back.
+    ghost is_handed_on: { Self → Bool } = { λ _. true };
+
     /// Writes all the bytes, and nothing else. It is an error exactly where the sink has failed
     /// afterwards; then a beginning of the bytes was written, and nothing else.
     fn write_all(&mut self, bytes: &[u8]) -> Result<(), io::Error>
@@ -22,10 +25,11 @@ pub trait Sink {
         ensures start { AppendsStart (written self.old) (written self.new) bytes.now };
 
     /// Hands on what is still held back, and writes nothing of its own. It is an error exactly where
-    /// the sink has failed afterwards.
+    /// the sink has failed afterwards; else nothing is held back any more.
     fn flush(&mut self) -> Result<(), io::Error>
         requires { has_failed self.old ≡ false }
         ensures fails { IsErr result ↔ (has_failed self.new ≡ true) }
+        ensures hands_on { OnOk result (is_handed_on self.new ≡ true) }
         ensures keeps { Keeps (written self.old) (written self.new) };
 
     /// The caller is about to wait for what it will write next. A sink that holds bytes back may hand them on here; nothing

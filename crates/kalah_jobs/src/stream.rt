@@ -1,15 +1,17 @@
 //! The sink over a writer.
-ghost use Rattle.std.specs.Prelude.{◌≡◌, false, OnOk};
+ghost use Rattle.std.specs.Prelude.{◌≡◌, false, true, OnOk};
 ghost use Rattle.std.specs.Io.KnownBytes.{Appends};
 ghost use Rattle.kalah_jobs.specs.Given.{AppendsStart};
-ghost use Rattle.kalah_jobs.specs.Stream.{stream_failed, stream_writer};
+ghost use Rattle.kalah_jobs.specs.Stream.{stream_failed, stream_flushed, stream_writer};
 
 use crate::Sink;
 use std::io;
 use std::io::{ErrorKind, Write};
 
-// Writes all the bytes, in as many calls as the writer needs. A call that was interrupted has taken nothing, and is made again.
-fn write_pieces<W: Write>(writer: &mut W, bytes: &[u8]) -> io::Result<()>
+/// Writes all the bytes, in as many calls as the writer needs, and doesn't flush it. A call that was interrupted has taken
+/// nothing, and is made again. Where another call fails, or takes no byte, it is an error: then a beginning of the bytes was
+/// written, and nothing else.
+pub fn write_pieces<W: Write>(writer: &mut W, bytes: &[u8]) -> io::Result<()>
     ensures adds { OnOk result
         (Appends (W.contents writer.old) (W.contents writer.new) bytes.now) }
     ensures start { AppendsStart (W.contents writer.old) (W.contents writer.new) bytes.now }
@@ -35,6 +37,8 @@ fn write_pieces<W: Write>(writer: &mut W, bytes: &[u8]) -> io::Result<()>
 pub struct Stream<W> {
     writer: W,
     has_failed: bool,
+    // Whether the writer was flushed after the last bytes that it was given.
+    is_flushed: bool,
 }
 
 impl<W> Stream<W> {
@@ -42,10 +46,12 @@ impl<W> Stream<W> {
     pub fn new(writer: W) -> Stream<W>
         ensures writer { stream_writer result ≡ writer }
         ensures fresh { stream_failed result ≡ false }
+        ensures flushed { stream_flushed result ≡ true }
     {
         Stream {
             writer,
             has_failed: false,
+            is_flushed: true,
         }
     }
 
@@ -56,6 +62,7 @@ impl<W> Stream<W> {
         let Stream {
             writer,
             has_failed: _,
+            is_flushed: _,
         } = self;
         writer
     }
@@ -66,15 +73,19 @@ impl<W: Write> Sink for Stream<W> {
 
     ghost has_failed = { stream_failed };
 
+    ghost is_handed_on = { stream_flushed };
+
     fn write_all(&mut self, bytes: &[u8]) -> Result<(), io::Error> {
         let written = write_pieces(&mut self.writer, bytes);
         self.has_failed = written.is_err();
+        self.is_flushed = false;
         written
     }
 
     fn flush(&mut self) -> Result<(), io::Error> {
         let flushed = self.writer.flush();
         self.has_failed = flushed.is_err();
+        self.is_flushed = flushed.is_ok();
         flushed
     }
 

@@ -51,7 +51,8 @@ appended_kept (Some xs) None after bytes wrote kept = absurd wrote
 appended_kept (Some xs) (Some ys) None bytes wrote kept = absurd kept
 appended_kept (Some xs) (Some ys) (Some zs) bytes wrote kept = kept ∙ wrote
 
-no_texts : (text : ℕ → Taken → List ℕ) (f : ℕ) (jobs : List (List Entry)) → job_count jobs ≡ 0 → flat_map (text_of_file text) (enumerate_from f jobs) ≡ []
+-- jobs that are none have no text
+pub no_texts : (text : ℕ → Taken → List ℕ) (f : ℕ) (jobs : List (List Entry)) → job_count jobs ≡ 0 → flat_map (text_of_file text) (enumerate_from f jobs) ≡ []
 no_texts text f [] none = refl
 no_texts text f ([] ∷ jobs) none = no_texts text (f + 1) jobs (let all = sum_by-cons (λ (es : List Entry). length es) [] jobs in omega (arith, all, none))
 no_texts text f ((e ∷ es) ∷ jobs) none = absurd (let all = sum_by-cons (λ (es : List Entry). length es) (e ∷ es) jobs in omega (arith, all, none))

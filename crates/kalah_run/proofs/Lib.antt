@@ -4,12 +4,15 @@ pub mod DeskSeats
 pub mod DeskEnds
 pub mod DeskOnce
 pub mod DeskSpent
+pub mod DeskLaw
 pub mod QueueKeeps
 pub mod QueueLists
 pub mod QueuePairs
 pub mod QueueViews
+pub mod QueueLaw
 pub mod Sendings
 pub mod Reports
 pub mod Staffs
 pub mod StaffRuns
 pub mod BatchEnds
+pub mod NoLine

@@ -10,23 +10,30 @@ use Rattle.kalah_run.specs.declared.queue_rule.QueueView.{QueueView}
 use Rattle.kalah_run.specs.declared.queue_rule.QueueView.TheVariants.{Getting, Putting, Ended}
 use Rattle.kalah_run.specs.QueueLists.{Accounts}
 use Rattle.kalah_run.specs.QueueRule.{Fits, FitsPut, FitsGet, IsLawful}
-use Rattle.kalah_run.specs.QueueSteps.{first_view, after_making_one, one_made, after_put, after_get, after_taking_in, Tells}
-use Rattle.kalah_run.proofs.QueuePairs.{of_more, of_same, of_none, accounts_none, accounts_pair, accounts_worker, accounts_known}
-use Rattle.kalah_run.proofs.QueueViews.{Each, in_views, at_end, each_set, each_one}
+use Rattle.kalah_run.specs.QueueSteps.{first_view, after_making_one, one_made, after_put, after_taking_in, IsGot, Tells}
+use Rattle.kalah_run.proofs.QueuePairs.{of_more, of_same, of_none, next_below, accounts_none, accounts_pair, accounts_worker, accounts_known}
+use Rattle.kalah_run.proofs.QueueViews.{Each, in_views, at_end, each_set, each_one, first_longer, first_same, first_set}
 
--- the rule, from what each view fits and how many views there are
-lawful : (pairs items taken : List (ℕ × Offer)) (closed passes : ℕ) (views : List QueueView) → taken ++ items ≡ pairs → length views ≡ passes
-    → Each (Fits pairs taken closed passes) views → IsLawful items views
-lawful pairs items taken closed passes views e size h =
+-- the rule, from what each view fits, how many views there are, and which is the first
+lawful : (pairs items taken : List (ℕ × Offer)) (closed passes made : ℕ) (known : List (List Offer)) (views : List QueueView) → taken ++ items ≡ pairs → length views ≡ passes
+    → get_elem? views 0 ≡ some (Getting made taken known) → Each (Fits pairs taken closed passes) views → IsLawful items views
+lawful pairs items taken closed passes made known views e size first h =
     let sized : Each (Fits pairs taken closed (length views)) views = subst (λ (n : ℕ). Each (Fits pairs taken closed n) views) (sym size) h in
-    record { taken = taken; closed = closed; fits = subst (λ (l : List (ℕ × Offer)). Each (Fits l taken closed (length views)) views) (sym e) sized }
+    record {
+      taken = taken;
+      closed = closed;
+      made = made;
+      known = known;
+      getter = first;
+      fits = subst (λ (l : List (ℕ × Offer)). Each (Fits l taken closed (length views)) views) (sym e) sized;
+    }
 
 -- ---- a queue is made
 
 pub begins : IsLawful [] (first_view ∷ [])
 begins =
     let fits : FitsGet [] [] 0 1 0 0 [] [] = record { foremost = refl; count = refl; all_got = refl; ended_known = refl; accounts = accounts_none } in
-    record { taken = []; closed = 0; fits = each_one (Fits [] [] 0 1) first_view fits }
+    record { taken = []; closed = 0; made = 0; known = []; getter = refl; fits = each_one (Fits [] [] 0 1) first_view fits }
 
 -- ---- a worker puts an outcome
 
@@ -53,7 +60,13 @@ puts_at n place x sent items views room h at =
     let all : Each (Fits (pairs ++ x ∷ []) h.taken h.closed (length views)) (set views place w) =
     each_set (Fits (pairs ++ x ∷ []) h.taken h.closed (length views)) views place w fits
     (λ j u other e. fits_more pairs h.taken h.closed (length views) place x mine.behind within mine.running j u other (h.fits j u e)) in
-    (w, lawful (pairs ++ x ∷ []) (items ++ x ∷ []) h.taken h.closed (length views) (set views place w) (sym (append_assoc h.taken items (x ∷ []))) (length-set views place w) all, refl)
+    let behind : place ≡ suc x.0 = mine.behind in
+    let first = first_same views place _ w (omega arith) h.getter in (
+      w,
+      lawful (pairs ++ x ∷ []) (items ++ x ∷ []) h.taken h.closed (length views) h.made h.known (set views place w)
+          (sym (append_assoc h.taken items (x ∷ []))) (length-set views place w) first all,
+      refl,
+    )
 
 pub puts : (n place : ℕ) (v : QueueView) (x : ℕ × Offer) (sent : List Offer) → v ≡ Putting x.0 sent → Pushes IsLawful n place v x (λ w. w ≡ after_put v x)
 puts n place v x sent e = subst (λ (u : QueueView). Pushes IsLawful n place u x (λ w. w ≡ after_put u x)) (sym e) (puts_at n place x sent)
@@ -68,7 +81,7 @@ fits_taken pairs taken after closed passes place foremost j (Getting made got kn
 fits_taken pairs taken after closed passes place foremost j Ended other h = tt
 
 gets_at : (place made : ℕ) (got : List (ℕ × Offer)) (known : List (List Offer))
-    → Pops IsLawful place (Getting made got known) (λ x w. w ≡ Getting made (got ++ x ∷ []) known)
+    → Pops IsLawful place (Getting made got known) (IsGot (Getting made got known))
 gets_at place made got known x items views h at =
     let pairs : List (ℕ × Offer) = h.taken ++ x ∷ items in
     let after : List (ℕ × Offer) = h.taken ++ x ∷ [] in
@@ -79,11 +92,17 @@ gets_at place made got known x items views h at =
     let all : Each (Fits pairs after h.closed (length views)) (set views place w) =
     each_set (Fits pairs after h.closed (length views)) views place w fits
     (λ j u other e. fits_taken pairs h.taken after h.closed (length views) place mine.foremost j u other (h.fits j u e)) in
-    (w, lawful pairs items after h.closed (length views) (set views place w) (append_assoc h.taken (x ∷ []) items) (length-set views place w) all, refl)
+    let got_now : Getting made (got ++ x ∷ []) known ≡ Getting made after known = ap (λ (l : List (ℕ × Offer)). Getting made (l ++ x ∷ []) known) mine.all_got in
+    let first = first_set views place _ w mine.foremost h.getter ∙ ap some got_now in (
+      w,
+      lawful pairs items after h.closed (length views) made known (set views place w) (append_assoc h.taken (x ∷ []) items)
+          (length-set views place w) first all,
+      (refl, next_below made h.taken x items mine.accounts.below),
+    )
 
 pub gets : (place : ℕ) (v : QueueView) (made : ℕ) (got : List (ℕ × Offer)) (known : List (List Offer)) → v ≡ Getting made got known
-    → Pops IsLawful place v (λ x w. w ≡ after_get v x)
-gets place v made got known e = subst (λ (u : QueueView). Pops IsLawful place u (λ x w. w ≡ after_get u x)) (sym e) (gets_at place made got known)
+    → Pops IsLawful place v (IsGot v)
+gets place v made got known e = subst (λ (u : QueueView). Pops IsLawful place u (IsGot u)) (sym e) (gets_at place made got known)
 
 -- ---- a pass is made for the next worker
 
@@ -117,7 +136,10 @@ forks_at place made got items views h at =
     let fresh : FitsPut pairs h.closed (length vs) made [] =
     record { behind = omega arith; running = omega arith; all_sent = sym (of_none made made pairs mine.accounts.below (omega arith)) } in
     let longer : length (vs ++ Putting made [] ∷ []) ≡ length vs + 1 = length_push vs (Putting made []) in
-    lawful pairs items h.taken h.closed (made + 2) (vs ++ Putting made [] ∷ []) refl (omega arith) (each_more F vs (Putting made []) old fresh)
+    let got_now : left ≡ Getting (made + 1) h.taken [] = ap (λ (l : List (ℕ × Offer)). Getting (made + 1) l []) mine.all_got in
+    let first = first_longer vs _ (Putting made []) (first_set views place _ left mine.foremost h.getter ∙ ap some got_now) in
+    lawful pairs items h.taken h.closed (made + 2) (made + 1) [] (vs ++ Putting made [] ∷ []) refl (omega arith) first
+    (each_more F vs (Putting made []) old fresh)
 
 pub forks : (place : ℕ) (v : QueueView) (made : ℕ) (got : List (ℕ × Offer)) → v ≡ Getting made got [] → Forks IsLawful place v (after_making_one v) (one_made v)
 forks place v made got e = subst (λ (u : QueueView). Forks IsLawful place u (after_making_one u) (one_made u)) (sym e) (forks_at place made got)
@@ -156,7 +178,10 @@ merges_at place other made got known sent items views h at two at_other =
     let apart : Each Apart vs = each_set Apart views place both (λ _. fits)
     (λ j u away e ne. fits_ended pairs h.taken h.closed (length views) place other mine.foremost last j u away ne (h.fits j u e)) in
     let done : Each F (set vs other Ended) = each_set F vs other Ended tt (λ j u ne e. apart j u e ne) in
-    lawful pairs items h.taken (h.closed + 1) (length views) (set vs other Ended) refl (length-set vs other Ended ∙ length-set views place both) done
+    let got_now : both ≡ Getting made h.taken (known ++ sent ∷ []) = ap (λ (l : List (ℕ × Offer)). Getting made l (known ++ sent ∷ [])) mine.all_got in
+    let first = first_same vs other _ Ended (omega arith) (first_set views place _ both mine.foremost h.getter ∙ ap some got_now) in
+    lawful pairs items h.taken (h.closed + 1) (length views) made (known ++ sent ∷ []) (set vs other Ended) refl
+    (length-set vs other Ended ∙ length-set views place both) first done
 
 pub merges : (place : ℕ) (v : QueueView) (other : ℕ) (u : QueueView) (made : ℕ) (got : List (ℕ × Offer)) (known : List (List Offer)) (number : ℕ) (sent : List Offer)
     → v ≡ Getting made got known → u ≡ Putting number sent → number ≡ length known → Merges IsLawful place v other u (after_taking_in v u) Ended

@@ -37,6 +37,12 @@ of_none workers w (t ∷ ts) below le =
     let h : t.0 < workers = below 0 t (omega arith) in
     other_pair w t (of w ts) (λ e. omega arith) ∙ of_none workers w ts (λ k d lt. below (suc k) d (omega arith)) le
 
+-- of pairs that are all of workers, the one that comes next is
+pub next_below : (workers : ℕ) (taken : List (ℕ × Offer)) (t : ℕ × Offer) (rest : List (ℕ × Offer)) → All (λ (u : ℕ × Offer). u.0 < workers) (taken ++ t ∷ rest)
+    → t.0 < workers
+next_below workers [] t rest below = below 0 t (omega arith)
+next_below workers (x ∷ xs) t rest below = next_below workers xs t rest (λ k d lt. below (suc k) d (omega arith))
+
 one_below : (workers : ℕ) (t : ℕ × Offer) → t.0 < workers → All (λ (u : ℕ × Offer). u.0 < workers) (t ∷ [])
 one_below workers t h zero d lt = h
 one_below workers t h (suc k) d lt = absurd (omega arith)

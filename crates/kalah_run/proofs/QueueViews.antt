@@ -3,7 +3,10 @@ use Rattle.std.proofs.Common.{◌≡◌, ◌≢◌, ℕ, zero, suc, ◌<◌, Lis
 use mathlib.Core.Option.{some, some-injective, some-ne-none}
 use lib.ListN.{get_elem?}
 use Rattle.crossbeam_queue.proofs.Lists.{at_set}
+use Rattle.kalah_jobs.specs.Offer.{Offer}
 use Rattle.kalah_run.specs.declared.queue_rule.QueueView.{QueueView}
+use Rattle.kalah_run.specs.declared.queue_rule.QueueView.TheVariants.{Getting}
+use Rattle.kalah_run.specs.QueueSteps.{IsGot, made_in}
 
 -- a fact of each view at its place
 abbrev pub Each : (ℕ → QueueView → Type 0) → List QueueView → Type 0
@@ -31,7 +34,31 @@ each_set F views place w mine others j u e =
     ⊎_elim (λ (x : (j ≡ place) × (w ≡ u)). subst (λ (y : ℕ × QueueView). F y.0 y.1) (λ i. (sym x.0 i, x.1 i)) mine)
     (λ (x : (j ≢ place) × (get_elem? views j ≡ some u)). others j u x.0 x.1) (at_set views place j w u e)
 
+-- ---- the first view
+
+-- it changes where it is set
+pub first_set : (views : List QueueView) (place : ℕ) (v w : QueueView) → place ≡ 0 → get_elem? views 0 ≡ some v → get_elem? (set views place w) 0 ≡ some w
+first_set [] place v w is e = absurd (some-ne-none v (sym e))
+first_set (x ∷ xs) zero v w is e = refl
+first_set (x ∷ xs) (suc place) v w is e = absurd (omega arith)
+
+-- it stays where another is set
+pub first_same : (views : List QueueView) (place : ℕ) (v w : QueueView) → 0 < place → get_elem? views 0 ≡ some v → get_elem? (set views place w) 0 ≡ some v
+first_same [] place v w behind e = absurd (some-ne-none v (sym e))
+first_same (x ∷ xs) zero v w behind e = absurd (omega arith)
+first_same (x ∷ xs) (suc place) v w behind e = e
+
+-- and where there is one more
+pub first_longer : (views : List QueueView) (v w : QueueView) → get_elem? views 0 ≡ some v → get_elem? (views ++ w ∷ []) 0 ≡ some v
+first_longer [] v w e = absurd (some-ne-none v (sym e))
+first_longer (x ∷ xs) v w e = e
+
 -- one view alone
 pub each_one : (F : ℕ → QueueView → Type 0) (v : QueueView) → F 0 v → Each F (v ∷ [])
 each_one F v p zero u e = subst (λ (y : QueueView). F 0 y) (some-injective v u e) p
 each_one F v p (suc place) u e = absurd (some-ne-none u (sym e))
+
+-- a pair that is got is of one of the workers that the pass to get knows of
+pub got_below : (v : QueueView) (made : ℕ) (got : List (ℕ × Offer)) (known : List (List Offer)) (pair : ℕ × Offer) (after : QueueView) → v ≡ Getting made got known
+    → IsGot v pair after → pair.0 < made
+got_below v made got known pair after is h = subst (λ (u : QueueView). pair.0 < made_in u) is h.1

@@ -2,11 +2,14 @@ pub mod DeskRows
 pub mod DeskKept
 pub mod DeskSteps
 pub mod DeskStates
+pub mod DeskLaw
 pub mod QueueLists
 pub mod QueueRule
 pub mod QueueSteps
 pub mod QueueStates
+pub mod QueueLaw
 pub mod Faults
+pub mod NoLine
 pub mod Work
 pub mod Shifts
 pub mod Staffs

@@ -29,7 +29,11 @@ Fits pairs taken closed passes place (Getting made got known) = FitsGet pairs ta
 Fits pairs taken closed passes place Ended = Unit {0}
 
 -- Each pass knows the truth: some pairs were taken out, some workers have ended, and each view fits them and what the queue holds.
+-- The pass to get is there, and stands first.
 pub record IsLawful (items : List (ℕ × Offer)) (views : List QueueView) : Type 0 where
   pub taken : List (ℕ × Offer)
   pub closed : ℕ
+  pub made : ℕ
+  pub known : List (List Offer)
+  pub getter : get_elem? views 0 ≡ some (Getting made taken known)
   pub fits : (place : ℕ) (v : QueueView) → get_elem? views place ≡ some v → Fits (taken ++ items) taken closed (length views) place v

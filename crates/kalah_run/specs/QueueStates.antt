@@ -1,5 +1,5 @@
 -- The results queue, its passes and a closed queue, as contracts see them.
-use Rattle.std.specs.Prelude.{◌≡◌, ℕ, suc, List, [], ◌∷◌, map}
+use Rattle.std.specs.Prelude.{◌≡◌, ℕ, suc, ◌<◌, List, [], ◌∷◌, ◌++◌, map}
 use Rattle.atomic_table.specs.Seated.{TableId}
 use Rattle.kalah_jobs.specs.Offer.{Offer}
 
@@ -19,6 +19,10 @@ pub record GetState : Type 0 where
   pub queue : TableId
   pub workers : ℕ
   pub got : List (ℕ × Offer)
+
+-- the outcome of one of the workers stands behind what was got
+abbrev pub HasGot : GetState → Offer → GetState → Type 0
+HasGot before outcome after = (worker : ℕ) × (worker < before.workers) × (after ≡ record before { got = before.got ++ (worker, outcome) ∷ [] })
 
 -- how many pairs were put and not got
 pub record ClosedQueueState : Type 0 where

@@ -1,5 +1,5 @@
 -- What each step makes of what a pass of the results queue knows.
-use Rattle.std.specs.Prelude.{ℕ, ◌+◌, List, [], ◌∷◌, ◌++◌}
+use Rattle.std.specs.Prelude.{◌≡◌, ℕ, ◌+◌, ◌<◌, List, [], ◌∷◌, ◌++◌}
 use Rattle.kalah_jobs.specs.Offer.{Offer}
 use Rattle.kalah_run.specs.declared.queue_rule.QueueView.{QueueView}
 use Rattle.kalah_run.specs.declared.queue_rule.QueueView.TheVariants.{Getting, Putting, Ended}
@@ -60,6 +60,10 @@ abbrev pub after_get : QueueView → ℕ × Offer → QueueView
 after_get (Getting made got known) pair = Getting made (got ++ pair ∷ []) known
 after_get (Putting number sent) pair = Putting number sent
 after_get Ended pair = Ended
+
+-- the pair is got: it is of a worker for whom a pass was made
+abbrev pub IsGot : QueueView → ℕ × Offer → QueueView → Type 0
+IsGot before pair after = (after ≡ after_get before pair) × (pair.0 < made_in before)
 
 -- what the pass taken in has sent is known
 abbrev pub after_taking_in : QueueView → QueueView → QueueView

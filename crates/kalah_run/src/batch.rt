@@ -5,6 +5,7 @@ ghost use Rattle.kalah_jobs.specs.JobList.{job_list};
 ghost use Rattle.kalah_jobs.specs.Given.{AppendsStart, WasGiven};
 ghost use Rattle.kalah_jobs.specs.Jobs.{job_count, line_count, most_files, most_lines};
 ghost use Rattle.kalah_jobs.specs.Output.{names_of, output_of, output_to, output_of_jobs, values_output_of, tally_of, is_faulty_offer};
+ghost use Rattle.kalah_run.specs.NoLine.{AnswersNothing};
 ghost use Rattle.kalah_run.specs.declared.run_fault.RunFault.TheVariants.{TooManyFiles, TooManyLines, OutOfMemory, NoWorker, Write};
 
 #[cfg(test)]
@@ -28,6 +29,7 @@ fn finish<W: Sink>(out: &mut W) -> Result<(), RunFault>
     ensures fault { IfErr result (λ e. e ≡ RunFault.Write) }
     ensures before { OnOk result (W.has_failed out.old ≡ false) }
     ensures keeps { Keeps (W.written out.old) (W.written out.new) }
+    ensures handed_on { OnOk result (W.is_handed_on out.new ≡ true) }
 {
     if out.failed() {
         return Err(RunFault::Write);
@@ -110,6 +112,7 @@ fn answer_batch<R: Threads + Wait + Sync, G: Gate, W: Sink>(
     ensures written { OnOk result (Appends (W.written out.old) (W.written out.new) (output_to question files.now)) }
     ensures start { AppendsStart (W.written out.old) (W.written out.new) (output_to question files.now) }
     ensures tally { IfOk result (λ tally. tally ≡ tally_of files.now) }
+    ensures handed_on { OnOk result (W.is_handed_on out.new ≡ true) }
     ensures too_many_files { (result ≡ Err RunFault.TooManyFiles) ↔ (most_files < length files.now) }
     ensures too_many_lines { (result ≡ Err RunFault.TooManyLines) ↔ ((length files.now ≤ most_files) × (most_lines < line_count files.now)) }
     ensures no_worker { result ≡ Err RunFault.NoWorker → 0 < line_count files.now }
@@ -146,9 +149,10 @@ pub fn solve_batch<R: Threads + Wait + Sync, G: Gate, W: Sink>(
     requires table { (0 < table) × (table ≤ 1048576) }
     requires fresh { W.has_failed out.old ≡ false }
 
-    // Ok: the output of the files was written, and nothing else.
+    // Ok: the output of the files was written, and nothing else, and all of it is handed on.
     ensures written { OnOk result (Appends (W.written out.old) (W.written out.new) (output_of files.now)) }
     ensures tally { IfOk result (λ tally. tally ≡ tally_of files.now) }
+    ensures handed_on { OnOk result (W.is_handed_on out.new ≡ true) }
 
     // Whatever comes of it: a beginning of that output was written, and nothing else.
     ensures start { AppendsStart (W.written out.old) (W.written out.new) (output_of files.now) }
@@ -160,6 +164,9 @@ pub fn solve_batch<R: Threads + Wait + Sync, G: Gate, W: Sink>(
 
     // Any other fault leaves the output as it was.
     ensures untouched { IfErr result (λ e. e ≢ RunFault.Write → out.new ≡ out.old) }
+
+    // Files without a line.
+    ensures no_line { line_count files.now ≡ 0 → AnswersNothing (W.written out.old) (W.written out.new) result }
 {
     answer_batch(
         rt,
@@ -190,9 +197,10 @@ pub fn values_batch<R: Threads + Wait + Sync, G: Gate, W: Sink>(
     requires table { (0 < table) × (table ≤ 1048576) }
     requires fresh { W.has_failed out.old ≡ false }
 
-    // Ok: the values of all lines were written, and nothing else.
+    // Ok: the values of all lines were written, and nothing else, and all of it is handed on.
     ensures written { OnOk result (Appends (W.written out.old) (W.written out.new) (values_output_of files.now)) }
     ensures tally { IfOk result (λ tally. tally ≡ tally_of files.now) }
+    ensures handed_on { OnOk result (W.is_handed_on out.new ≡ true) }
 
     // Whatever comes of it: a beginning of that output was written, and nothing else.
     ensures start { AppendsStart (W.written out.old) (W.written out.new) (values_output_of files.now) }
@@ -204,6 +212,9 @@ pub fn values_batch<R: Threads + Wait + Sync, G: Gate, W: Sink>(
 
     // Any other fault leaves the output as it was.
     ensures untouched { IfErr result (λ e. e ≢ RunFault.Write → out.new ≡ out.old) }
+
+    // Files without a line.
+    ensures no_line { line_count files.now ≡ 0 → AnswersNothing (W.written out.old) (W.written out.new) result }
 {
     answer_batch(
         rt,

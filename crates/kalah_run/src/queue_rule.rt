@@ -71,10 +71,9 @@ impl protocol::Outcome<Tagged, QueueView> for Puts {
 pub struct Gets;
 
 impl protocol::Outcome<Tagged, QueueView> for Gets {
-    ghost use Rattle.std.specs.Prelude.{◌≡◌};
-    ghost use Rattle.kalah_run.specs.QueueSteps.{after_get};
+    ghost use Rattle.kalah_run.specs.QueueSteps.{IsGot};
 
-    ghost then = { λ before pair after. after ≡ after_get before pair };
+    ghost then = { IsGot };
 }
 
 /// A worker's pass is taken back in, and what it has sent is known.

@@ -4,8 +4,8 @@ ghost use Rattle.crossbeam_queue.specs.Passes.{view, IsPassOf};
 ghost use Rattle.kalah_jobs.specs.Offer.{Offer};
 ghost use Rattle.kalah_run.specs.declared.queue_rule.QueueView.TheVariants.{Getting, Putting};
 ghost use Rattle.kalah_run.specs.QueueLists.{Accounts};
-ghost use Rattle.kalah_run.specs.QueueStates.{ArePassesFrom, sent_by};
-ghost use Rattle.kalah_run.specs.QueueSteps.{sent_in, got_in, made_in, as_getting, after_get};
+ghost use Rattle.kalah_run.specs.QueueStates.{ArePassesFrom, HasGot, sent_by};
+ghost use Rattle.kalah_run.specs.QueueSteps.{sent_in, got_in, made_in, as_getting, IsGot};
 
 use crate::queue_passes::{ClosedQueue, GetPass, PutPass, ResultsQueue};
 use crate::queue_rule::{
@@ -68,11 +68,11 @@ impl ResultsQueue {
         self.getters.call_one();
     }
 
-    /// Takes an outcome out, the next of some worker, and answers it. Waits while there is none: after a short spin it
+    /// Takes an outcome out, the next of one of the workers, and answers it. Waits while there is none: after a short spin it
     /// sleeps.
     pub fn get<R: Wait>(&self, rt: &R, pass: &mut GetPass) -> Outcome
         requires { pass.old.queue ≡ self.now.id }
-        ensures { (worker : ℕ) × (pass.new ≡ record pass.old { got = pass.old.got ++ (worker, result) ∷ [] }) }
+        ensures { HasGot pass.old result pass.new }
     {
         let pair = pop_until(rt, &self.pairs, &self.getters, &mut pass.ruled);
         self.putters.call_one();
@@ -82,8 +82,7 @@ impl ResultsQueue {
     // As `get`, but without sleep: None, with nothing got, where no outcome comes soon.
     pub(crate) fn get_soon(&self, pass: &mut GetPass) -> Option<Outcome>
         requires { pass.old.queue ≡ self.now.id }
-        ensures { MatchOption result (pass.new ≡ pass.old)
-            (λ outcome. (worker : ℕ) × (pass.new ≡ record pass.old { got = pass.old.got ++ (worker, outcome) ∷ [] })) }
+        ensures { MatchOption result (pass.new ≡ pass.old) (λ outcome. HasGot pass.old outcome pass.new) }
     {
         let pair = pop_soon(&self.pairs, &mut pass.ruled)?;
         self.putters.call_one();
@@ -151,7 +150,7 @@ fn pop_until<R: Wait>(rt: &R, pairs: &RuledQueue, getters: &Waiters, pass: &mut 
     requires place { IsPassOf pairs.now pass.old }
     requires gets { view pass.old ≡ as_getting (view pass.old) }
     ensures place { IsPassOf pairs.now pass.new × (pass.new.table_id ≡ pass.old.table_id) }
-    ensures got { view pass.new ≡ after_get (view pass.old) result }
+    ensures got { IsGot (view pass.old) result (view pass.new) }
 {
     let mut waiting = Waiting::new(getters);
     for _ in rt.forever() {
@@ -168,7 +167,7 @@ fn pop_soon(pairs: &RuledQueue, pass: &mut RuledPass) -> Option<Tagged>
     requires place { IsPassOf pairs.now pass.old }
     requires gets { view pass.old ≡ as_getting (view pass.old) }
     ensures place { IsPassOf pairs.now pass.new × (pass.new.table_id ≡ pass.old.table_id) }
-    ensures got { MatchOption result (view pass.new ≡ view pass.old) (λ pair. view pass.new ≡ after_get (view pass.old) pair) }
+    ensures got { MatchOption result (view pass.new ≡ view pass.old) (λ pair. IsGot (view pass.old) pair (view pass.new)) }
 {
     let backoff = Backoff::new();
     for _ in 0..SOON {

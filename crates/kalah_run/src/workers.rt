@@ -6,6 +6,7 @@ ghost use Rattle.kalah_jobs.specs.Jobs.{job_count};
 ghost use Rattle.kalah_jobs.specs.NamedBytes.{NamedBytes};
 ghost use Rattle.kalah_jobs.specs.declared.entry.Entry.{Entry};
 ghost use Rattle.kalah_run.specs.Shifts.{AreAtWork, HaveRun};
+ghost use Rattle.kalah_run.specs.QueueStates.{HasGot};
 ghost use Rattle.kalah_run.specs.Reporting.{IsReporting, Waits, outcomes_in};
 
 use crate::desk::Desk;
@@ -84,7 +85,7 @@ fn next_outcome<R: Wait, W: Sink>(
     out: &mut W,
 ) -> Outcome
     requires { pass.old.queue ≡ queue.now.id }
-    ensures got { (worker : ℕ) × (pass.new ≡ record pass.old { got = pass.old.got ++ (worker, result) ∷ [] }) }
+    ensures got { HasGot pass.old result pass.new }
     ensures keeps { Keeps (W.written out.old) (W.written out.new) }
     ensures sound { W.has_failed out.new ≡ false → W.has_failed out.old ≡ false }
 {

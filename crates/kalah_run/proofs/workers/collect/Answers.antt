@@ -21,10 +21,11 @@ loop-init g c = record {
 pub loop-preserved : goal.loop-preserved
 loop-preserved g c =
     let worker = c.next_outcome-outcome.ensures.got.0 in
-    let more = ap (λ (p : GetState). p.got) c.next_outcome-outcome.ensures.got.1 in
+    let is = c.next_outcome-outcome.ensures.got.2 in
+    let more = ap (λ (p : GetState). p.got) is in
     record {
-      queue = ap (λ (p : GetState). p.queue) c.next_outcome-outcome.ensures.got.1 ∙ c.loop.invariant.queue;
-      workers = ap (λ (p : GetState). p.workers) c.next_outcome-outcome.ensures.got.1 ∙ c.loop.invariant.workers;
+      queue = ap (λ (p : GetState). p.queue) is ∙ c.loop.invariant.queue;
+      workers = ap (λ (p : GetState). p.workers) is ∙ c.loop.invariant.workers;
       all = ap (λ (l : List (ℕ × Offer)). length l) more ∙ length-append c.loop.pass.got ((worker, c.next_outcome-outcome.result) ∷ []) ∙ omega (arith, c.loop.invariant.all);
       few = omega (arith, c.loop.invariant.few, c.take_in.ensures.faults);
       way = λ files jobs begun reporting.
