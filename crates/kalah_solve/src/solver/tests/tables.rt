@@ -127,6 +127,21 @@ fn what_was_learned_of_a_move_serves_the_next_position(rt: HostRuntime) -> Resul
     Ok(())
 }
 
+// Three houses a side with so few seeds that all that follows has places, asked twice: an entry tells their worth, and the places
+// which house attains it.
+#[test]
+fn what_is_kept_in_places_is_looked_up(rt: HostRuntime) -> Result<(), Fail> {
+    for rule in [Rule::Classic, Rule::EmptyCapture] {
+        let mut solver = Solver::new(Table::new(rt.alloc(), 65_536)?);
+        let bare = three(rule, [3, 3, 3], [4, 3, 4], (0, 0))?;
+        let rich = three(rule, [3, 3, 3], [4, 3, 4], (5, 3))?;
+        let first = nodes_for(&rt, &mut solver, &bare, best(4, 2));
+        let again = nodes_for(&rt, &mut solver, &rich, best(6, 2));
+        assert!(rt; 20 * again < first);
+    }
+    Ok(())
+}
+
 // How many entries a table may have: the fewest, the most, and some between, round a power of two.
 const ENTRIES: [u32; 7] = [1, 2, 65_535, 65_536, 65_537, 524_288, 1_048_576];
 
