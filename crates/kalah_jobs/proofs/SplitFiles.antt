@@ -1,15 +1,24 @@
 -- Files and parts of files, one after another.
-use Rattle.std.proofs.Common.{◌≡◌, ℕ, suc, ◌+◌, ◌<◌, List, [], ◌∷◌, ◌++◌, length, inl, inr, refl, sym, ap, ◌∙◌, append-nil, arith}
-use Rattle.std.specs.List.{flat_map, enumerate_from, onto_first}
+use Rattle.std.proofs.Common.{◌≡◌, ℕ, suc, ◌+◌, ◌<◌, List, [], ◌∷◌, ◌++◌, length, inl, inr, refl, sym, ap, ap₂, ◌∙◌, append-nil, length-append, arith}
+use Rattle.std.specs.Prelude.{if◌then◌else◌}
+use Rattle.std.specs.List.{flat_map, enumerate_from, onto_first, count_by}
 use Rattle.std.proofs.lemmas.Bool.{cases_eq}
+use Rattle.std.proofs.lemmas.List.Sums.{sum_by-append}
 use Rattle.std.proofs.lemmas.Grind.{flat_map-append}
 use Rattle.kalah_jobs.specs.declared.question.Question.{Question}
 use Rattle.kalah_jobs.specs.declared.question.Question.TheVariants.{BestMove}
 use Rattle.kalah_jobs.specs.Lines.{line_feed, lines_of}
 use Rattle.kalah_jobs.specs.NamedBytes.{NamedBytes}
-use Rattle.kalah_jobs.specs.Output.{line_output, file_output, output_to}
-use Rattle.kalah_jobs.specs.Splitting.{OutputSplitsByFiles, EndsWithItsLine, output_from, FilesSplitBetweenLines}
+use Rattle.kalah_jobs.specs.Output.{line_output, file_output, output_to, is_faulty, LineCounts, tally_of}
+use Rattle.kalah_jobs.specs.Splitting.{counted_together, OutputSplitsByFiles, EndsWithItsLine, output_from, tally_in, FilesSplitBetweenLines}
 use Rattle.kalah_jobs.proofs.SplitLines.{lines_of-feed, lines_of-byte, length-lines_of}
+
+zero-add : (n : ℕ) → 0 + n ≡ n
+zero-add n = omega arith
+
+-- so many lines and faults
+abbrev counts : ℕ → ℕ → LineCounts
+counts lines faults = record { lines = lines; faults = faults }
 
 -- ---- files
 
@@ -17,8 +26,15 @@ output_of_both : (question : Question) (first others : List NamedBytes) → outp
 unfolding output_to
 output_of_both question first others = flat_map-append (file_output question) first others
 
+tally_of_both : (first others : List NamedBytes) → tally_of (first ++ others) ≡ counted_together (tally_of first) (tally_of others)
+unfolding tally_of
+tally_of_both first others =
+    ap₂ counts
+    (sum_by-append (λ (file : NamedBytes). length (lines_of file.bytes)) first others)
+    (sum_by-append (λ (file : NamedBytes). count_by is_faulty (lines_of file.bytes)) first others)
+
 pub output_splits_by_files : OutputSplitsByFiles
-output_splits_by_files = record { asked = output_of_both; best_moves = output_of_both BestMove }
+output_splits_by_files = record { asked = output_of_both; best_moves = output_of_both BestMove; counts = tally_of_both }
 
 -- ---- lines
 
@@ -78,8 +94,30 @@ whole_file : (question : Question) (file : NamedBytes) → output_to question (f
 unfolding output_to
 whole_file question file = append-nil (file_output question file)
 
+whole_tally : (file : NamedBytes) → tally_of (file ∷ []) ≡ tally_in file.bytes
+unfolding tally_of
+whole_tally file = refl
+
+tally_is : (bytes : List ℕ) → tally_in bytes ≡ counts (length (lines_of bytes)) (count_by is_faulty (lines_of bytes))
+unfolding tally_of
+tally_is bytes = ap₂ counts (zero-add (length (lines_of bytes))) (zero-add (count_by is_faulty (lines_of bytes)))
+
+tally_split : (first second : List ℕ) → EndsWithItsLine first → tally_in (first ++ second) ≡ counted_together (tally_in first) (tally_in second)
+tally_split first second ends =
+    let lines = lines_split first second ends in
+    tally_is (first ++ second)
+    ∙ ap₂ counts
+    (ap length lines ∙ length-append (lines_of first) (lines_of second))
+    (ap (count_by is_faulty) lines ∙ sum_by-append (λ (line : List ℕ). if is_faulty line then 1 else 0) (lines_of first) (lines_of second))
+    ∙ sym (ap₂ counted_together (tally_is first) (tally_is second))
+
 pub files_split_between_lines : FilesSplitBetweenLines
 files_split_between_lines = record {
   whole = whole_file;
-  parts = λ first second ends. record { lines = lines_split first second ends; output = output_split first second ends };
+  counted = whole_tally;
+  parts = λ first second ends. record {
+    lines = lines_split first second ends;
+    output = output_split first second ends;
+    counts = tally_split first second ends;
+  };
 }

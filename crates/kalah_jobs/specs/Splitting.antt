@@ -9,13 +9,19 @@ use Rattle.kalah_jobs.specs.declared.question.Question.{Question}
 use Rattle.kalah_jobs.specs.Answer.{answer_line}
 use Rattle.kalah_jobs.specs.Lines.{line_feed, lines_of}
 use Rattle.kalah_jobs.specs.NamedBytes.{NamedBytes}
-use Rattle.kalah_jobs.specs.Output.{line_output, output_of, output_to}
+use Rattle.kalah_jobs.specs.Output.{line_output, output_of, output_to, LineCounts, tally_of}
 
--- what is written for files is what is written for the first of them, and then what is written for the others
+-- what two batches count together
+abbrev pub counted_together : LineCounts → LineCounts → LineCounts
+counted_together one other = record { lines = one.lines + other.lines; faults = one.faults + other.faults }
+
+-- what is written for files is what is written for the first of them, and then what is written for the others; and so many lines
+-- and faults are counted as for both
 pub record OutputSplitsByFiles : Type 0 where
   pub asked : (question : Question) (first others : List NamedBytes) →
       output_to question (first ++ others) ≡ output_to question first ++ output_to question others
   pub best_moves : (first others : List NamedBytes) → output_of (first ++ others) ≡ output_of first ++ output_of others
+  pub counts : (first others : List NamedBytes) → tally_of (first ++ others) ≡ counted_together (tally_of first) (tally_of others)
 
 -- there are no bytes, or the last of them is a line feed
 abbrev pub EndsWithItsLine : List ℕ → Type 0
@@ -25,18 +31,24 @@ EndsWithItsLine bytes = (bytes ≡ []) ⊎ ((front : List ℕ) × (bytes ≡ fro
 abbrev pub output_from : ℕ → Question → List ℕ → List ℕ → List ℕ
 output_from number question name bytes = flat_map (line_output question name) (enumerate_from number (lines_of bytes))
 
+-- what is counted of a file with these bytes, whatever its name is
+abbrev pub tally_in : List ℕ → LineCounts
+tally_in bytes = tally_of (record { name = []; bytes = bytes } ∷ [])
+
 -- the lines of two parts of a file are those of the first and then those of the second, and so are their answers: the lines of
--- the second have the numbers that come after those of the first
+-- the second have the numbers that come after those of the first; and so many lines and faults are counted as in both
 pub record IsSplit (first second : List ℕ) : Type 0 where
   pub lines : lines_of (first ++ second) ≡ lines_of first ++ lines_of second
   pub output : (number : ℕ) (question : Question) (name : List ℕ) →
       output_from number question name (first ++ second)
       ≡ output_from number question name first ++ output_from (number + length (lines_of first)) question name second
+  pub counts : tally_in (first ++ second) ≡ counted_together (tally_in first) (tally_in second)
 
--- a file has its lines from number 0 on, and can be cut wherever a line ends
+-- a file has its lines from number 0 on, is counted by its bytes alone, and can be cut wherever a line ends
 pub record FilesSplitBetweenLines : Type 0 where
   pub whole : (question : Question) (file : NamedBytes) →
       output_to question (file ∷ []) ≡ output_from 0 question file.name file.bytes
+  pub counted : (file : NamedBytes) → tally_of (file ∷ []) ≡ tally_in file.bytes
   pub parts : (first second : List ℕ) → EndsWithItsLine first → IsSplit first second
 
 -- the numbers of an answer are ones that a game can have

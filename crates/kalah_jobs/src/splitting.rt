@@ -2,13 +2,13 @@
 ghost use Rattle.kalah_jobs.specs.Splitting.{OutputSplitsByFiles, FilesSplitBetweenLines, AnswerLinesTellAnswers};
 
 /// What is written for a list of files is what is written for the first of them, and then what is written for the others:
-/// whatever is asked, and wherever the list is cut.
+/// whatever is asked, and wherever the list is cut. And so many lines, and faults among them, are counted as for both.
 pub fn output_splits_by_files()
     ensures { OutputSplitsByFiles }
 {}
 
 /// A file can be cut wherever a line ends. Its lines are those of the first part and then those of the second, and so are its
-/// answers, where the lines of the second part are numbered on.
+/// answers, where the lines of the second part are numbered on; its counts are those of both parts together.
 pub fn files_split_between_lines()
     ensures { FilesSplitBetweenLines }
 {}
