@@ -30,3 +30,4 @@ mod Joined
 mod Pictures
 mod SplitFiles
 mod AnswerTexts
+mod SmallAnswers

@@ -2,14 +2,17 @@
 use Rattle.std.specs.Prelude.{◌≡◌, ◌⊎◌, ℕ, ◌+◌, ◌≤◌, List, [], ◌∷◌, ◌++◌, length, All}
 use Rattle.std.specs.List.{flat_map, enumerate_from}
 use Rattle.kalah_rules.specs.Limits.{most_houses}
-use Rattle.kalah_rules.specs.Position.{IsSmallMargin}
+use Rattle.kalah_rules.specs.Position as position
+use Rattle.kalah_rules.specs.Position.{IsSmallMargin, IsWithinLimits}
 use Rattle.kalah_jobs.specs.declared.answer.Answer.{Answer}
 use Rattle.kalah_jobs.specs.declared.answer.Answer.TheVariants.{Best, Over, Values, Fault}
+use Rattle.kalah_jobs.specs.declared.entry.Entry.TheVariants.{Position, ValuesOf}
 use Rattle.kalah_jobs.specs.declared.question.Question.{Question}
-use Rattle.kalah_jobs.specs.Answer.{answer_line}
+use Rattle.kalah_jobs.specs.Answer.{answer_of, answer_line}
 use Rattle.kalah_jobs.specs.Lines.{line_feed, lines_of}
 use Rattle.kalah_jobs.specs.NamedBytes.{NamedBytes}
 use Rattle.kalah_jobs.specs.Output.{line_output, output_of, output_to, LineCounts, tally_of}
+use Rattle.kalah_jobs.specs.Question.{entry_to}
 
 -- what two batches count together
 abbrev pub counted_together : LineCounts → LineCounts → LineCounts
@@ -58,7 +61,19 @@ HasSmallNumbers (Over margin) = IsSmallMargin margin
 HasSmallNumbers (Values values) = All (λ v. IsSmallMargin v.value × (v.house ≤ most_houses)) values
 HasSmallNumbers (Fault fault) = Unit {0}
 
+-- and those of every answer that is told are: of a line of any bytes, whatever is asked, and of any board
+pub record AnswersHaveSmallNumbers : Type 0 where
+  pub lines : (question : Question) (line : List ℕ) → HasSmallNumbers (answer_of (entry_to question line))
+  pub best_moves : (p : position.Position) → IsWithinLimits p → HasSmallNumbers (answer_of (Position p))
+  pub values : (p : position.Position) → IsWithinLimits p → HasSmallNumbers (answer_of (ValuesOf p))
+
 -- two answers to one line of a file that are printed alike are the same
 abbrev pub AnswerLinesTellAnswers : Type 0
 AnswerLinesTellAnswers = (name : List ℕ) (line : ℕ) (a b : Answer) → HasSmallNumbers a → HasSmallNumbers b →
     answer_line name (record { line = line; answer = a }) ≡ answer_line name (record { line = line; answer = b }) → a ≡ b
+
+-- where the same is written for two lines of one name and number, they are answered alike, whatever was asked of each
+abbrev pub WhatIsWrittenTellsAnswers : Type 0
+WhatIsWrittenTellsAnswers = (name : List ℕ) (number : ℕ) (question other : Question) (line another : List ℕ) →
+    line_output question name (number, line) ≡ line_output other name (number, another) →
+    answer_of (entry_to question line) ≡ answer_of (entry_to other another)

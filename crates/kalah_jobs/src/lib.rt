@@ -60,6 +60,9 @@ pub use question::Question;
 pub use reading::read_line;
 pub use refusal::Refusal;
 pub use sink::Sink;
-pub use splitting::{answer_lines_tell_answers, files_split_between_lines, output_splits_by_files};
+pub use splitting::{
+    answer_lines_tell_answers, answers_have_small_numbers, files_split_between_lines,
+    output_splits_by_files, what_is_written_tells_answers,
+};
 pub use stream::{Stream, write_pieces};
 pub use written::write_answer;

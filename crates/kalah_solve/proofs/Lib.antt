@@ -7,6 +7,7 @@ pub mod Games
 pub mod Secured
 pub mod BestMoves
 pub mod Verdicts
+pub mod SmallMargins
 mod StepWorths
 mod HousesWorth
 mod Shares

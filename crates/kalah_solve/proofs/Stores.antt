@@ -108,3 +108,12 @@ best_with_more a b p = ap (λ o. unwrap_or o 0) (find_same _ _ (legal_houses p) 
 -- the best house is that of the houses
 pub best_of_rows : (p : Position) → best_house p ≡ best_house (bare (rows_of p))
 best_of_rows p = ap best_house (is_with_more p) ∙ best_with_more p.own_store p.other_store (bare (rows_of p))
+
+-- the value of a move is that of the move of the houses, moved by the stores
+pub value_of_rows : (p : Position) (h : ℕ) → value_of_move p h ≡ value_of_move (bare (rows_of p)) h +ℤ (pos p.own_store -ℤ pos p.other_store)
+value_of_rows p h =
+    let a = p.own_store in
+    let b = p.other_store in
+    let q = after (bare (rows_of p)) h in
+    ap (λ (o : Position). value_of_move o h) (is_with_more p)
+    ∙ value_with_more worth worth a b (bare (rows_of p)) h (worth_shift a b q) (worth_shift b a (swapped q))
