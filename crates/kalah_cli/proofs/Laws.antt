@@ -30,7 +30,7 @@ line_row line = record {
 }
 
 -- the row of an option that the words don't give
-abbrev default_row : Text → Text → Row
+abbrev pub default_row : Text → Text → Row
 default_row id value = record {
   id = id;
   values = value ∷ [];

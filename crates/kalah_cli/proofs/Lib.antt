@@ -1,5 +1,6 @@
 pub mod Names
 pub mod Laws
+pub mod ManyWords
 pub mod Kept
 pub mod Subcommands
 pub mod Getters
