@@ -1,18 +1,23 @@
 -- What words are taken as, and what is done of it.
-use Rattle.std.proofs.Common.{◌≡◌, ◌≢◌, ◌∙◌, inl, inr, ℕ, false, List, [], ◌∷◌, Option, codes, subst, sym, String, Global}
+use Rattle.std.proofs.Common.{◌≡◌, ◌≢◌, ◌∙◌, ◌⊎◌, inl, inr, ℕ, false, List, [], ◌∷◌, Option, ap, codes, subst, sym, String, Global}
+use Rattle.std.specs.List.{All}
+use Rattle.std.specs.Prelude.{option_and_then}
 use Rattle.clap.specs.Values.{kind_of}
 use Rattle.clap.specs.Walk.{Text}
 use Rattle.clap.specs.Faults.{fault_of}
 use Rattle.clap.specs.Kinds.{HasKind, IsAmong}
 use Rattle.clap.specs.declared.error.Error.{Error}
 use Rattle.clap.specs.declared.error.kind.ErrorKind.{ErrorKind}
-use Rattle.clap.specs.declared.error.kind.ErrorKind.TheVariants.{OutOfMemory}
+use Rattle.clap.specs.declared.error.kind.ErrorKind.TheVariants.{MissingRequiredArgument, OutOfMemory}
+use Rattle.kalah_jobs.specs.declared.question.Question.{Question}
+use Rattle.kalah_jobs.specs.declared.question.Question.TheVariants.{BestMove, Values}
 use Rattle.kalah_cli.specs.Command.{kalah_app}
-use Rattle.kalah_cli.specs.Request.{Asked, texts_of, IsPlainWord, IsTakenAs, answers, moves, play}
+use Rattle.kalah_cli.specs.Request.{Asked, texts_of, IsPlainWord, IsTakenAs, answers, asked_by, moves, play}
 use Rattle.kalah_cli.specs.Runs.{Does, IsOfLine}
 use Rattle.kalah_cli.specs.declared.status.ExitStatus.{ExitStatus}
 use Rattle.kalah_cli.specs.declared.status.ExitStatus.TheVariants.{Clean, Failed}
 use Rattle.kalah_cli.proofs.Laws.{moves_taken, play_taken, taken_once}
+use Rattle.kalah_cli.proofs.ManyWords.{command_of, files_match, files_pass, no_file_is_missed}
 
 -- `moves` and a plain word are taken as the moves of that word
 pub moves_of : (words : List Text) (name line : Text) → words ≡ name ∷ codes "moves" ∷ line ∷ [] → IsPlainWord line → IsTakenAs words (moves false line)
@@ -21,6 +26,21 @@ moves_of words name line is plain = subst (λ ws. IsTakenAs ws (moves false line
 -- `play` and a plain word as its game
 pub game_of : (words : List Text) (name line : Text) → words ≡ name ∷ codes "play" ∷ line ∷ [] → IsPlainWord line → IsTakenAs words (play 65536 false line)
 game_of words name line is plain = subst (λ ws. IsTakenAs ws (play 65536 false line)) (sym is) (play_taken name line plain)
+
+-- `solve` or `values` and plain words are taken as asking this of the files of these names
+files_taken : (question : Question) (name file : Text) (files : List Text) → All IsPlainWord (file ∷ files)
+    → IsTakenAs (name ∷ command_of question ∷ file ∷ files) (answers question 4 65536 (file ∷ files))
+files_taken BestMove name file files plain =
+    (files_pass BestMove name file files plain, ap (option_and_then asked_by) (files_match BestMove name file files plain))
+files_taken Values name file files plain =
+    (files_pass Values name file files plain, ap (option_and_then asked_by) (files_match Values name file files plain))
+
+-- and refused where there is none
+pub files_of : (question : Question) (words : List Text) (name : Text) (files : List Text) → words ≡ name ∷ command_of question ∷ files
+    → All IsPlainWord files → IsTakenAs words (answers question 4 65536 files) ⊎ (fault_of kalah_app words ≡ MissingRequiredArgument ∷ [])
+files_of question words name [] is plain = inr (ap (fault_of kalah_app) is ∙ no_file_is_missed question name)
+files_of question words name (file ∷ files) is plain =
+    inl (subst (λ ws. IsTakenAs ws (answers question 4 65536 (file ∷ files))) (sym is) (files_taken question name file files plain))
 
 -- what is done of a request is done of what its words are taken as
 pub done_as : (words : List Text) (a b : Asked) (old new : Option (List ℕ)) (status : ExitStatus) → IsTakenAs words a → IsTakenAs words b

@@ -28,12 +28,6 @@ pub data Asked : Type 0 where
   play : ℕ → Bool → Text → Asked
   answers : Question → ℕ → ℕ → List Text → Asked
 
-abbrev pub solve : ℕ → ℕ → List Text → Asked
-solve workers table names = answers BestMove workers table names
-
-abbrev pub values : ℕ → ℕ → List Text → Asked
-values workers table names = answers Values workers table names
-
 -- the number that a text of digits writes
 abbrev pub number_of : Text → ℕ
 number_of text = digits_value 10 (without_leading_plus text)

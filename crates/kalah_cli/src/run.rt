@@ -1,5 +1,5 @@
 //! The program, run on its words.
-ghost use Rattle.std.specs.Prelude.{◌≡◌, ◌≢◌, ◌<◌, ◌⊎◌, ℕ, List, [], ◌∷◌, codes, false, true, vec_len};
+ghost use Rattle.std.specs.Prelude.{◌≡◌, ◌≢◌, ◌<◌, ◌⊎◌, ℕ, All, List, [], ◌∷◌, codes, false, true, vec_len};
 ghost use Rattle.std.specs.Io.KnownBytes.{Appends};
 ghost use Rattle.clap.specs.Values.{kind_of};
 ghost use Rattle.clap.specs.declared.error.kind.ErrorKind.TheVariants.{DisplayHelp, DisplayVersion};
@@ -7,8 +7,7 @@ ghost use Rattle.kalah_rules.specs.Position.{Position};
 ghost use Rattle.kalah_jobs.specs.Line.{Reads};
 ghost use Rattle.kalah_cli.specs.Moves.{moves_output};
 ghost use Rattle.kalah_cli.specs.Play.{PlaysBest};
-ghost use Rattle.kalah_cli.specs.Request.{Asked, AsksNot, IsInRange, IsPlainWord, IsRefused, IsTakenAs, IsVersionWord, asked_for};
-ghost use Rattle.kalah_cli.specs.Request.{solve, texts_of, values};
+ghost use Rattle.kalah_cli.specs.Request.{Asked, AsksNot, IsInRange, IsPlainWord, IsRefused, IsTakenAs, IsVersionWord, asked_for, texts_of};
 ghost use Rattle.kalah_cli.specs.Runs.{Begins, Does, IsOfLine, IsUnread, version_line};
 ghost use Rattle.kalah_cli.specs.Solve.{AnswersFiles, TellsValues};
 
@@ -136,15 +135,13 @@ pub fn run_words<R: Files + Threads + Wait + Sync, O: Sink, E: Write>(
     ensures unread { (name line : List ℕ) → (texts_of words.items ≡ name ∷ codes "moves" ∷ line ∷ [])
         ⊎ (texts_of words.items ≡ name ∷ codes "play" ∷ line ∷ []) → IsPlainWord line
         → IsUnread line → (result ≢ ExitStatus.Clean) × (out.new ≡ out.old) }
-
-    // Words that are taken as `solve`.
-    ensures solved { (workers table : ℕ) (names : List (List ℕ))
-        → IsTakenAs (texts_of words.items) (solve workers table names) → result ≢ ExitStatus.Failed
-        → AnswersFiles names (O.written out.old) (O.written out.new) result }
-    // Words that are taken as `values`.
-    ensures valued { (workers table : ℕ) (names : List (List ℕ))
-        → IsTakenAs (texts_of words.items) (values workers table names) → result ≢ ExitStatus.Failed
-        → TellsValues names (O.written out.old) (O.written out.new) result }
+    // `solve` or `values`, and files whose names are no flags: what is asked of them is written, where nothing fails.
+    ensures solved { (name : List ℕ) (files : List (List ℕ)) → texts_of words.items ≡ name ∷ codes "solve" ∷ files
+        → All IsPlainWord files → result ≢ ExitStatus.Failed
+        → AnswersFiles files (O.written out.old) (O.written out.new) result }
+    ensures valued { (name : List ℕ) (files : List (List ℕ)) → texts_of words.items ≡ name ∷ codes "values" ∷ files
+        → All IsPlainWord files → result ≢ ExitStatus.Failed
+        → TellsValues files (O.written out.old) (O.written out.new) result }
 
     // Words that are not taken, and ask for neither help nor the version.
     ensures usage { IsRefused (texts_of words.items) → AsksNot DisplayHelp (texts_of words.items)

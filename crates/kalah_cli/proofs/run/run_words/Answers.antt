@@ -1,18 +1,22 @@
 use Rattle.std.proofs.Common.{◌≡◌, ◌≢◌, ◌∙◌, ℕ, List, [], ◌∷◌, false, inl, inr, refl, subst, sym}
+use Rattle.std.specs.List.{All}
 use Rattle.clap.specs.Faults.{fault_of}
 use Rattle.clap.specs.Kinds.{IsAmong, Kinds}
 use Rattle.clap.specs.Values.{kind_of}
+use Rattle.clap.specs.Words.{Text}
 use Rattle.clap.specs.declared.error.kind.ErrorKind.{ErrorKind}
-use Rattle.clap.specs.declared.error.kind.ErrorKind.TheVariants.{DisplayHelp, DisplayVersion, OutOfMemory}
+use Rattle.clap.specs.declared.error.kind.ErrorKind.TheVariants.{DisplayHelp, DisplayVersion, MissingRequiredArgument, OutOfMemory}
+use Rattle.kalah_jobs.specs.declared.question.Question.{Question}
 use Rattle.kalah_jobs.specs.declared.question.Question.TheVariants.{BestMove, Values}
 use Rattle.kalah_cli.specs.Command.{kalah_app}
-use Rattle.kalah_cli.specs.Request.{Asked, IsTakenAs, answers, asked_for, moves, play, texts_of}
+use Rattle.kalah_cli.specs.Request.{Asked, IsPlainWord, IsTakenAs, answers, asked_for, moves, play, texts_of}
 use Rattle.kalah_cli.specs.Runs.{Begins, Does, IsOfLine, IsUnread}
 use Rattle.kalah_cli.specs.declared.status.ExitStatus.TheVariants.{Clean, Failed}
 use Rattle.kalah_cli.proofs.Begun.{begins_none, begun_as}
 use Rattle.kalah_cli.proofs.Laws.{version_of}
+use Rattle.kalah_cli.proofs.ManyWords.{command_of}
 use Rattle.kalah_cli.proofs.Plain.{read_is_plain}
-use Rattle.kalah_cli.proofs.Taken.{done_as, failed_does, fault_at, game_of, line_as, moves_of, no_request, words_at}
+use Rattle.kalah_cli.proofs.Taken.{done_as, failed_does, fault_at, files_of, game_of, line_as, moves_of, no_request, words_at}
 use Rattle.kalah_cli.proofs.run.run_words.Goals.{After-drop-words, After-drop-words-2}
 use Rattle.kalah_cli.proofs.run.run_words.Given.{Over}
 use Rattle.kalah_cli.proofs.run.run_words.Goals as goal
@@ -58,11 +62,22 @@ returns-in-Ok-clause-unread g c = λ name line is plain none. elim is [
   | inr played ↦ undone g c (play 65536 false line) line (game_of _ name line played plain) refl none
 ]
 
+-- what is asked of files is done
+done_of_files : (g : Over) (c : After-drop-words g) (question : Question) (name : Text) (files : List Text)
+    → texts_of c.args.words.items ≡ name ∷ command_of question ∷ files → All IsPlainWord files
+    → Does (answers question 4 65536 files) (g.O.Sink.written c.args.out.now) (g.O.Sink.written c.run_request.new.out) c.run_request.result
+done_of_files g c question name files is plain = elim (files_of question _ name files is plain) [
+  | inl taken ↦ done g c (answers question 4 65536 files) taken
+  | inr missed ↦
+      let none = fault_at _ c.args.words.items c.as_slice.ensures.value c.in-Ok.ensures.kinds in
+      absurd (let bad : MissingRequiredArgument ∷ [] ≡ [] = sym missed ∙ none in cc)
+]
+
 pub returns-in-Ok-clause-solved : goal.returns-in-Ok-clause-solved
-returns-in-Ok-clause-solved g c = λ w t names taken. done g c (answers BestMove w t names) taken
+returns-in-Ok-clause-solved g c = λ name files is plain. done_of_files g c BestMove name files is plain
 
 pub returns-in-Ok-clause-valued : goal.returns-in-Ok-clause-valued
-returns-in-Ok-clause-valued g c = λ w t names taken. done g c (answers Values w t names) taken
+returns-in-Ok-clause-valued g c = λ name files is plain. done_of_files g c Values name files is plain
 
 pub returns-in-Ok-clause-usage : goal.returns-in-Ok-clause-usage
 returns-in-Ok-clause-usage g c = λ faulty no_help no_version. absurd (faulty (fault_at _ c.args.words.items c.as_slice.ensures.value c.in-Ok.ensures.kinds))
@@ -123,20 +138,34 @@ returns-clause-unread g c = λ name line is plain none. elim is [
   | inr played ↦ unwritten g c (play 65536 false line) (game_of _ name line played plain)
 ]
 
-pub returns-clause-solved : goal.returns-clause-solved
-returns-clause-solved g c = λ w t names taken. failed_does (answers BestMove w t names) _ _ _ (failed g c (answers BestMove w t names) taken).0
-
-pub returns-clause-valued : goal.returns-clause-valued
-returns-clause-valued g c = λ w t names taken. failed_does (answers Values w t names) _ _ _ (failed g c (answers Values w t names) taken).0
-
 -- words that don't ask for this don't get it
 unasked : (g : Over) (c : After-drop-words-2 g) (k : ErrorKind) → OutOfMemory ≢ k
     → (IsAmong k (fault_of kalah_app (texts_of c.args.words.items)) → ⊥) → kind_of c.in-Err.error ≢ k
 unasked g c k other none = no_request k _ c.args.words.items c.in-Err.error other c.as_slice.ensures.value c.in-Err.ensures.kinds none
 
--- words that ask for the version alone ask for no help
-no_help_asked : {kinds : Kinds} → kinds ≡ DisplayVersion ∷ [] → IsAmong DisplayHelp kinds → ⊥
-no_help_asked is among = elim (subst (IsAmong DisplayHelp) is among) [ inl bad ↦ absurd (let x : DisplayHelp ≡ DisplayVersion = bad in cc) | inr bad ↦ bad ]
+-- words that ask for one thing alone ask for nothing else
+not_asked : {kinds : Kinds} (k alone : ErrorKind) → k ≢ alone → kinds ≡ alone ∷ [] → IsAmong k kinds → ⊥
+not_asked k alone other is among = elim (subst (IsAmong k) is among) [ inl same ↦ other same | inr bad ↦ bad ]
+
+-- where a file is missing the program fails
+failed_of_none : (g : Over) (c : After-drop-words-2 g) → fault_of kalah_app (texts_of c.args.words.items) ≡ MissingRequiredArgument ∷ [] → c.refuse.result ≡ Failed
+failed_of_none g c missed =
+    (c.refuse.ensures.mistake (unasked g c DisplayHelp (λ e. cc) (not_asked DisplayHelp MissingRequiredArgument (λ e. cc) missed))
+    (unasked g c DisplayVersion (λ e. cc) (not_asked DisplayVersion MissingRequiredArgument (λ e. cc) missed))).0
+
+-- so where something is asked of files
+failed_of_files : (g : Over) (c : After-drop-words-2 g) (question : Question) (name : Text) (files : List Text)
+    → texts_of c.args.words.items ≡ name ∷ command_of question ∷ files → All IsPlainWord files → c.refuse.result ≡ Failed
+failed_of_files g c question name files is plain = elim (files_of question _ name files is plain) [
+  | inl taken ↦ (failed g c (answers question 4 65536 files) taken).0
+  | inr missed ↦ failed_of_none g c missed
+]
+
+pub returns-clause-solved : goal.returns-clause-solved
+returns-clause-solved g c = λ name files is plain went. absurd (went (failed_of_files g c BestMove name files is plain))
+
+pub returns-clause-valued : goal.returns-clause-valued
+returns-clause-valued g c = λ name files is plain went. absurd (went (failed_of_files g c Values name files is plain))
 
 pub returns-clause-usage : goal.returns-clause-usage
 returns-clause-usage g c = λ faulty no_help no_version. c.refuse.ensures.mistake (unasked g c DisplayHelp (λ e. cc) no_help)
@@ -147,4 +176,4 @@ returns-clause-version g c = λ faulty no_help. c.refuse.ensures.version (unaske
 
 pub returns-clause-version_word : goal.returns-clause-version_word
 returns-clause-version_word g c = λ name is.
-    (c.refuse.ensures.no_line, c.refuse.ensures.version (unasked g c DisplayHelp (λ e. cc) (no_help_asked (version_of _ name is))))
+    (c.refuse.ensures.no_line, c.refuse.ensures.version (unasked g c DisplayHelp (λ e. cc) (not_asked DisplayHelp DisplayVersion (λ e. cc) (version_of _ name is))))
