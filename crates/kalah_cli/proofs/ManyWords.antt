@@ -17,7 +17,7 @@ use Rattle.clap.proofs.WalkLemmas.{walk_stopped}
 use Rattle.kalah_jobs.specs.declared.question.Question.{Question}
 use Rattle.kalah_jobs.specs.declared.question.Question.TheVariants.{BestMove, Values}
 use Rattle.kalah_cli.specs.Command.{answers_app, kalah_app}
-use Rattle.kalah_cli.specs.Request.{IsPlainWord}
+use Rattle.kalah_cli.specs.Request.{IsPlainWord, command_of}
 use Rattle.kalah_cli.proofs.Laws.{default_row}
 
 -- ---- one word more
@@ -143,11 +143,6 @@ level_passes command file files plain =
     rw (all_pass command file files plain, end.1, end.0) refl
 
 -- ---- all words of the program
-
--- the subcommand that asks this
-abbrev pub command_of : Question → Text
-command_of BestMove = codes "solve"
-command_of Values = codes "values"
 
 -- at the subcommand the walk of the program's words stops
 top_walk : (question : Question) (files : List Text) → walk (built kalah_app).top.rules (names_of (built kalah_app)) nothing_held (command_of question ∷ files)

@@ -12,12 +12,12 @@ use Rattle.clap.specs.declared.error.kind.ErrorKind.TheVariants.{MissingRequired
 use Rattle.kalah_jobs.specs.declared.question.Question.{Question}
 use Rattle.kalah_jobs.specs.declared.question.Question.TheVariants.{BestMove, Values}
 use Rattle.kalah_cli.specs.Command.{kalah_app}
-use Rattle.kalah_cli.specs.Request.{Asked, texts_of, IsPlainWord, IsTakenAs, answers, asked_by, moves, play}
+use Rattle.kalah_cli.specs.Request.{Asked, texts_of, IsPlainWord, IsTakenAs, answers, asked_by, command_of, moves, play}
 use Rattle.kalah_cli.specs.Runs.{Does, IsOfLine}
 use Rattle.kalah_cli.specs.declared.status.ExitStatus.{ExitStatus}
 use Rattle.kalah_cli.specs.declared.status.ExitStatus.TheVariants.{Clean, Failed}
 use Rattle.kalah_cli.proofs.Laws.{moves_taken, play_taken, taken_once}
-use Rattle.kalah_cli.proofs.ManyWords.{command_of, files_match, files_pass, no_file_is_missed}
+use Rattle.kalah_cli.proofs.ManyWords.{files_match, files_pass, no_file_is_missed}
 
 -- `moves` and a plain word are taken as the moves of that word
 pub moves_of : (words : List Text) (name line : Text) → words ≡ name ∷ codes "moves" ∷ line ∷ [] → IsPlainWord line → IsTakenAs words (moves false line)
@@ -35,12 +35,16 @@ files_taken BestMove name file files plain =
 files_taken Values name file files plain =
     (files_pass Values name file files plain, ap (option_and_then asked_by) (files_match Values name file files plain))
 
+pub files_of : (question : Question) (words : List Text) (name file : Text) (files : List Text) → words ≡ name ∷ command_of question ∷ file ∷ files
+    → All IsPlainWord (file ∷ files) → IsTakenAs words (answers question 4 65536 (file ∷ files))
+files_of question words name file files is plain =
+    subst (λ ws. IsTakenAs ws (answers question 4 65536 (file ∷ files))) (sym is) (files_taken question name file files plain)
+
 -- and refused where there is none
-pub files_of : (question : Question) (words : List Text) (name : Text) (files : List Text) → words ≡ name ∷ command_of question ∷ files
+pub files_or_none : (question : Question) (words : List Text) (name : Text) (files : List Text) → words ≡ name ∷ command_of question ∷ files
     → All IsPlainWord files → IsTakenAs words (answers question 4 65536 files) ⊎ (fault_of kalah_app words ≡ MissingRequiredArgument ∷ [])
-files_of question words name [] is plain = inr (ap (fault_of kalah_app) is ∙ no_file_is_missed question name)
-files_of question words name (file ∷ files) is plain =
-    inl (subst (λ ws. IsTakenAs ws (answers question 4 65536 (file ∷ files))) (sym is) (files_taken question name file files plain))
+files_or_none question words name [] is plain = inr (ap (fault_of kalah_app) is ∙ no_file_is_missed question name)
+files_or_none question words name (file ∷ files) is plain = inl (files_of question words name file files is plain)
 
 -- what is done of a request is done of what its words are taken as
 pub done_as : (words : List Text) (a b : Asked) (old new : Option (List ℕ)) (status : ExitStatus) → IsTakenAs words a → IsTakenAs words b

@@ -28,6 +28,11 @@ pub data Asked : Type 0 where
   play : ℕ → Bool → Text → Asked
   answers : Question → ℕ → ℕ → List Text → Asked
 
+-- the subcommand that asks this of files
+abbrev pub command_of : Question → Text
+command_of BestMove = codes "solve"
+command_of Values = codes "values"
+
 -- the number that a text of digits writes
 abbrev pub number_of : Text → ℕ
 number_of text = digits_value 10 (without_leading_plus text)

@@ -1,5 +1,5 @@
 //! What the words of a command line ask for.
-ghost use Rattle.std.specs.Prelude.{◌≡◌, ℕ, List, [], ◌∷◌, IfErr, IfOk, MatchResult, Some, codes, false, map, option_and_then};
+ghost use Rattle.std.specs.Prelude.{◌≡◌, ℕ, All, List, [], ◌∷◌, IfErr, IfOk, MatchResult, Some, codes, false, map, option_and_then};
 ghost use Rattle.clap.specs.Faults.{fault_of};
 ghost use Rattle.clap.specs.Kinds.{FailsBy};
 ghost use Rattle.clap.specs.Simple.{subcommand_rows_of};
@@ -7,7 +7,7 @@ ghost use Rattle.clap.specs.Walk.{first_of, one_of, rows_of};
 ghost use Rattle.clap.specs.Words.{found_of, kind_of};
 ghost use Rattle.clap.specs.declared.error.kind.ErrorKind.TheVariants.{OutOfMemory};
 ghost use Rattle.kalah_cli.specs.Command.{kalah_app};
-ghost use Rattle.kalah_cli.specs.Request.{Asked, HasFlag, HasLine, HasNumber, IsAnswers, IsInRange, IsMoves, IsPlainWord, IsPlay, IsTaken, IsTakenAs, answers_asked, asked_by, asked_for, is_set, moves, moves_asked, number_of, play_asked};
+ghost use Rattle.kalah_cli.specs.Request.{Asked, HasFlag, HasLine, HasNumber, IsAnswers, IsInRange, IsMoves, IsPlainWord, IsPlay, IsTaken, IsTakenAs, answers, answers_asked, asked_by, asked_for, command_of, is_set, moves, moves_asked, number_of, play_asked};
 
 use crate::command::command;
 use clap::{ArgMatches, Error};
@@ -154,6 +154,10 @@ pub(crate) fn parse<'a, S: AsStr>(alloc: Global, words: &'a [S]) -> Result<Reque
     ensures moves { (name line : List ℕ)
         → map S.text words.entry.now ≡ name ∷ codes "moves" ∷ line ∷ [] → IsPlainWord line
         → MatchResult result (λ r. asked_for r ≡ moves false line) (λ e. kind_of e ≡ OutOfMemory) }
+    // `solve` or `values` and files, one at least, that are no flags are always taken, as asking this of them.
+    ensures files { (question : Question) (name file : List ℕ) (files : List (List ℕ))
+        → map S.text words.entry.now ≡ name ∷ command_of question ∷ file ∷ files → All IsPlainWord (file ∷ files)
+        → MatchResult result (λ r. asked_for r ≡ answers question 4 65536 (file ∷ files)) (λ e. kind_of e ≡ OutOfMemory) }
 {
     let matches = command(alloc)?.try_get_matches_from(words)?;
     Ok(requested(alloc, &matches)?)

@@ -1,6 +1,7 @@
 use Rattle.std.proofs.Common.{map}
 use Rattle.kalah_cli.proofs.Getters.{asked_is, by_memory_alone, failed_as, failed_err, taken_fault, taken_is, taken_none}
-use Rattle.kalah_cli.proofs.Laws.{moves_by_memory, moves_given}
+use Rattle.kalah_cli.proofs.Laws.{moves_by_memory, moves_given, taken_once}
+use Rattle.kalah_cli.proofs.Taken.{files_of}
 use Rattle.kalah_cli.proofs.request.parse.Goals as goal
 
 pub requested-requires : goal.requested-requires
@@ -30,3 +31,13 @@ returns-in_err-matches-clause-moves g c =
     λ name line same plain.
     failed_as c.from_residual-in_err-matches.result c.in_err-matches.field-0.0 _ _ c.from_residual-in_err-matches.ensures.1
     (moves_by_memory _ c.in_err-matches.field-0.0 (taken_fault _ _ c.in_err-matches.field-0.0 c.in_ok-command.ensures c.in_err-matches.ensures.kinds) name line same plain)
+
+pub returns-clause-files : goal.returns-clause-files
+returns-clause-files g c = λ question name file files same plain.
+    taken_once (map g.S.AsStr.text c.args.words.now) _ _ (returns-clause-taken g c) (files_of question _ name file files same plain)
+
+pub returns-in_err-matches-clause-files : goal.returns-in_err-matches-clause-files
+returns-in_err-matches-clause-files g c = λ question name file files same plain.
+    failed_as c.from_residual-in_err-matches.result c.in_err-matches.field-0.0 _ _ c.from_residual-in_err-matches.ensures.1
+    (by_memory_alone (map g.S.AsStr.text c.args.words.now) c.in_err-matches.field-0.0
+    (taken_fault _ _ c.in_err-matches.field-0.0 c.in_ok-command.ensures c.in_err-matches.ensures.kinds) (files_of question _ name file files same plain).0)

@@ -9,14 +9,13 @@ use Rattle.clap.specs.declared.error.kind.ErrorKind.TheVariants.{DisplayHelp, Di
 use Rattle.kalah_jobs.specs.declared.question.Question.{Question}
 use Rattle.kalah_jobs.specs.declared.question.Question.TheVariants.{BestMove, Values}
 use Rattle.kalah_cli.specs.Command.{kalah_app}
-use Rattle.kalah_cli.specs.Request.{Asked, IsPlainWord, IsTakenAs, answers, asked_for, moves, play, texts_of}
+use Rattle.kalah_cli.specs.Request.{Asked, IsPlainWord, IsTakenAs, answers, asked_for, command_of, moves, play, texts_of}
 use Rattle.kalah_cli.specs.Runs.{Begins, Does, IsOfLine, IsUnread}
 use Rattle.kalah_cli.specs.declared.status.ExitStatus.TheVariants.{Clean, Failed}
 use Rattle.kalah_cli.proofs.Begun.{begins_none, begun_as}
 use Rattle.kalah_cli.proofs.Laws.{version_of}
-use Rattle.kalah_cli.proofs.ManyWords.{command_of}
 use Rattle.kalah_cli.proofs.Plain.{read_is_plain}
-use Rattle.kalah_cli.proofs.Taken.{done_as, failed_does, fault_at, files_of, game_of, line_as, moves_of, no_request, words_at}
+use Rattle.kalah_cli.proofs.Taken.{done_as, failed_does, fault_at, files_or_none, game_of, line_as, moves_of, no_request, words_at}
 use Rattle.kalah_cli.proofs.run.run_words.Goals.{After-drop-words, After-drop-words-2}
 use Rattle.kalah_cli.proofs.run.run_words.Given.{Over}
 use Rattle.kalah_cli.proofs.run.run_words.Goals as goal
@@ -66,7 +65,7 @@ returns-in-Ok-clause-unread g c = λ name line is plain none. elim is [
 done_of_files : (g : Over) (c : After-drop-words g) (question : Question) (name : Text) (files : List Text)
     → texts_of c.args.words.items ≡ name ∷ command_of question ∷ files → All IsPlainWord files
     → Does (answers question 4 65536 files) (g.O.Sink.written c.args.out.now) (g.O.Sink.written c.run_request.new.out) c.run_request.result
-done_of_files g c question name files is plain = elim (files_of question _ name files is plain) [
+done_of_files g c question name files is plain = elim (files_or_none question _ name files is plain) [
   | inl taken ↦ done g c (answers question 4 65536 files) taken
   | inr missed ↦
       let none = fault_at _ c.args.words.items c.as_slice.ensures.value c.in-Ok.ensures.kinds in
@@ -156,7 +155,7 @@ failed_of_none g c missed =
 -- so where something is asked of files
 failed_of_files : (g : Over) (c : After-drop-words-2 g) (question : Question) (name : Text) (files : List Text)
     → texts_of c.args.words.items ≡ name ∷ command_of question ∷ files → All IsPlainWord files → c.refuse.result ≡ Failed
-failed_of_files g c question name files is plain = elim (files_of question _ name files is plain) [
+failed_of_files g c question name files is plain = elim (files_or_none question _ name files is plain) [
   | inl taken ↦ (failed g c (answers question 4 65536 files) taken).0
   | inr missed ↦ failed_of_none g c missed
 ]
