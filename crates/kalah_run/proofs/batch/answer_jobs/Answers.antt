@@ -1,7 +1,7 @@
 use Rattle.std.proofs.Common.{sym, ◌∙◌}
 use Rattle.std.specs.Prelude.{None, false}
 use Rattle.kalah_jobs.specs.Batch.{AreJobsInSomeOrder}
-use Rattle.kalah_run.specs.Reporting.{outcomes_in}
+use Rattle.kalah_run.specs.Reporting.{IsReporting, Waits, outcomes_in}
 use Rattle.kalah_run.proofs.StaffRuns.{run_jobs, has_worked}
 use Rattle.kalah_run.proofs.BatchEnds.{all_given, all_counted, given_no_output, no_faults}
 use Rattle.kalah_run.proofs.batch.answer_jobs.Given.{Over}
@@ -34,22 +34,16 @@ returns-then-total-eq0-clause-given g c =
 pub returns-then-total-eq0-clause-faults : goal.returns-then-total-eq0-clause-faults
 returns-then-total-eq0-clause-faults g c = no_faults c.args.jobs.now (sym c.total-total.ensures.jobs ∙ c.if-total-eq0.true)
 
-pub returns-clause-given : goal.returns-clause-given
-returns-clause-given g c =
-    let files = c.args.files.now in
-    let run = c.in_ok-shifts in
+-- and all was reported: no line is waited for any more
+reported : (g : Over) (c : goal.After-drop-report-2 g)
+    → IsReporting c.args.files.now c.args.jobs.now (outcomes_in c.in_ok-shifts.pass.got) (g.W.Sink.written c.args.out.now)
+    (g.W.Sink.written c.run_and_report.new.out) (g.W.Sink.has_failed c.run_and_report.new.out) c.in_ok-shifts.report × Waits c.in_ok-shifts.report
+reported g c =
     let begun = g.W.Sink.written c.args.out.now in
-    let failed = g.W.Sink.has_failed c.run_and_report.new.out in
-    let reported = run.ensures.way files c.args.jobs.now begun (c.in_ok-report.ensures begun (g.W.Sink.has_failed c.args.out.now)) in
-    all_given files c.args.jobs.now (outcomes_in run.pass.got) begun (g.W.Sink.written c.run_and_report.new.out) failed run.report
-    (each_got g c) reported.0 reported.1
+    c.in_ok-shifts.ensures.way c.args.files.now c.args.jobs.now begun (c.in_ok-report.ensures begun (g.W.Sink.has_failed c.args.out.now))
+
+pub returns-clause-given : goal.returns-clause-given
+returns-clause-given g c = all_given c.args.files.now c.args.jobs.now _ _ _ _ c.in_ok-shifts.report (each_got g c) (reported g c).0 (reported g c).1
 
 pub returns-clause-faults : goal.returns-clause-faults
-returns-clause-faults g c =
-    let files = c.args.files.now in
-    let run = c.in_ok-shifts in
-    let begun = g.W.Sink.written c.args.out.now in
-    let failed = g.W.Sink.has_failed c.run_and_report.new.out in
-    let reported = run.ensures.way files c.args.jobs.now begun (c.in_ok-report.ensures begun (g.W.Sink.has_failed c.args.out.now)) in
-    all_counted files c.args.jobs.now (outcomes_in run.pass.got) begun (g.W.Sink.written c.run_and_report.new.out) failed run.report
-    (each_got g c) reported.0 reported.1
+returns-clause-faults g c = all_counted c.args.files.now c.args.jobs.now _ _ _ _ c.in_ok-shifts.report (each_got g c) (reported g c).0 (reported g c).1
