@@ -11,11 +11,11 @@ use Rattle.kalah_jobs.specs.NamedBytes.{NamedBytes}
 use Rattle.kalah_jobs.specs.declared.question.Question.{Question}
 use Rattle.kalah_jobs.proofs.Starts.{start_kept_all, start_none, start_then}
 use Rattle.clap.specs.Words.{Text}
-use Rattle.kalah_cli.specs.Moves.{drawn, move_lines}
+use Rattle.kalah_cli.specs.Moves.{board_lines, move_lines}
 use Rattle.kalah_cli.specs.Play.{BeginsBest}
 use Rattle.kalah_cli.specs.Request.{Asked, IsTakenAs, answers, moves, play}
 use Rattle.kalah_cli.specs.Runs.{Begins}
-use Rattle.kalah_cli.specs.Solve.{BeginsTo}
+use Rattle.kalah_cli.specs.Batch.{BeginsTo}
 use Rattle.kalah_cli.proofs.Laws.{taken_once}
 use Rattle.kalah_cli.proofs.Played.{of_any}
 
@@ -24,8 +24,8 @@ pub begins_all : (old between new : Option (List ℕ)) (bs : List ℕ) → Appen
 begins_all old between new bs all keeps = start_then old between new bs bs [] (sym (append-nil bs)) all (start_kept_all between new [] keeps)
 
 -- the line of a move, and then the position after it, where boards are drawn
-pub move_parts : (boards : Bool) (h : ℕ) (s : Step) → move_lines boards h s ≡ (step_text_of h s ++ line_feed ∷ []) ++ drawn boards (position_after s)
-move_parts boards h s = sym (append_assoc (step_text_of h s) (line_feed ∷ []) (drawn boards (position_after s)))
+pub move_parts : (boards : Bool) (h : ℕ) (s : Step) → move_lines boards h s ≡ (step_text_of h s ++ line_feed ∷ []) ++ board_lines boards (position_after s)
+move_parts boards h s = sym (append_assoc (step_text_of h s) (line_feed ∷ []) (board_lines boards (position_after s)))
 
 -- the position after a step, whatever comes of it
 pub after_step : (s : Step) (p : Position) → (s ≡ Again p) ⊎ ((s ≡ Turn p) ⊎ (s ≡ Over p)) → p ≡ position_after s

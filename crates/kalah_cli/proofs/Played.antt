@@ -177,6 +177,6 @@ on_ok_always (Ok x) p = p
 on_ok_always (Err e) p = tt
 
 -- what holds of the lines of the game holds of them behind the first picture
-pub of_drawn : (boards : Bool) (p : Position) (Lines Holds : List ℕ → Type 0) → ((lines : List ℕ) → Lines lines → Holds lines) → OfBestGame boards p Lines
+pub of_board_lines : (boards : Bool) (p : Position) (Lines Holds : List ℕ → Type 0) → ((lines : List ℕ) → Lines lines → Holds lines) → OfBestGame boards p Lines
     → OfBestGame boards p Holds
-of_drawn boards p Lines Holds more game = record { houses = game.houses; final = game.final; is_best = game.is_best; holds = more _ game.holds }
+of_board_lines boards p Lines Holds more game = record { houses = game.houses; final = game.final; is_best = game.is_best; holds = more _ game.holds }

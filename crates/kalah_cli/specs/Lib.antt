@@ -4,5 +4,5 @@ pub mod Status
 pub mod Failure
 pub mod Moves
 pub mod Play
-pub mod Solve
+pub mod Batch
 pub mod Runs

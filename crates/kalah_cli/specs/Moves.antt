@@ -8,12 +8,12 @@ use Rattle.kalah_jobs.specs.Lines.{line_feed}
 use Rattle.kalah_jobs.specs.Picture.{picture_of}
 
 -- the picture of a position, where boards are drawn
-abbrev pub drawn : Bool → Position → List ℕ
-drawn boards p = if boards then picture_of p else []
+abbrev pub board_lines : Bool → Position → List ℕ
+board_lines boards p = if boards then picture_of p else []
 
 -- the line of a move, and below it the position after it, where boards are drawn
 abbrev pub move_lines : Bool → ℕ → Step → List ℕ
-move_lines boards house step = step_text_of house step ++ line_feed ∷ drawn boards (position_after step)
+move_lines boards house step = step_text_of house step ++ line_feed ∷ board_lines boards (position_after step)
 
 -- the moves of the legal houses, rising
 abbrev pub moves_output : Bool → Position → List ℕ

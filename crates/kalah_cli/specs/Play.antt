@@ -7,7 +7,7 @@ use Rattle.kalah_solve.specs.BestPlay.{Game, follow}
 use Rattle.kalah_solve.specs.Worth.{best_house, worth}
 use Rattle.kalah_jobs.specs.Given.{AppendsStart}
 use Rattle.kalah_jobs.specs.Line.{position_after}
-use Rattle.kalah_cli.specs.Moves.{drawn, move_lines}
+use Rattle.kalah_cli.specs.Moves.{board_lines, move_lines}
 
 -- the moves of these houses, in turn, from a position on
 abbrev pub game_lines : Bool → Position → List ℕ → List ℕ
@@ -37,8 +37,8 @@ BeginsGame boards p old new = OfBestGame boards p (λ lines. AppendsStart old ne
 
 -- the first position, where boards are drawn, and the moves of that game were written, and nothing else
 abbrev pub PlaysBest : Bool → Position → Option (List ℕ) → Option (List ℕ) → Type 0
-PlaysBest boards p old new = OfBestGame boards p (λ lines. Appends old new (drawn boards p ++ lines))
+PlaysBest boards p old new = OfBestGame boards p (λ lines. Appends old new (board_lines boards p ++ lines))
 
 -- a beginning of these was
 abbrev pub BeginsBest : Bool → Position → Option (List ℕ) → Option (List ℕ) → Type 0
-BeginsBest boards p old new = OfBestGame boards p (λ lines. AppendsStart old new (drawn boards p ++ lines))
+BeginsBest boards p old new = OfBestGame boards p (λ lines. AppendsStart old new (board_lines boards p ++ lines))

@@ -8,7 +8,7 @@ use Rattle.kalah_jobs.specs.Line.{Reads}
 use Rattle.kalah_cli.specs.Moves.{moves_output}
 use Rattle.kalah_cli.specs.Play.{BeginsBest, PlaysBest}
 use Rattle.kalah_cli.specs.Request.{Asked, moves, play, answers}
-use Rattle.kalah_cli.specs.Solve.{AnswersTo, BeginsTo}
+use Rattle.kalah_cli.specs.Batch.{AnswersTo, BeginsTo}
 use Rattle.kalah_cli.specs.declared.status.ExitStatus.{ExitStatus}
 use Rattle.kalah_cli.specs.declared.status.ExitStatus.TheVariants.{Clean, LineFaults, Failed}
 

@@ -1,6 +1,7 @@
 //! Solves small positions of Kalah: `kalah moves LINE`, `kalah play LINE`, `kalah solve FILE..` and `kalah values FILE..`.
 #![tactic(auto)]
 
+mod batch;
 #[cfg(test)]
 mod calling;
 mod command;
@@ -12,7 +13,6 @@ mod output;
 mod play;
 mod request;
 mod run;
-mod solve;
 mod status;
 mod unread;
 mod version;

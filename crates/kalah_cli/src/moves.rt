@@ -4,7 +4,7 @@ ghost use Rattle.std.specs.Io.KnownBytes.{Appends};
 ghost use Rattle.kalah_rules.specs.Position.{Position};
 ghost use Rattle.kalah_jobs.specs.Given.{AppendsStart};
 ghost use Rattle.kalah_jobs.specs.Line.{Reads};
-ghost use Rattle.kalah_cli.specs.Moves.{drawn, move_lines, moves_output};
+ghost use Rattle.kalah_cli.specs.Moves.{board_lines, move_lines, moves_output};
 
 use crate::failure::Failure;
 use crate::status::ExitStatus;
@@ -23,8 +23,8 @@ pub(crate) fn write_board<O: Sink>(
     requires { O.has_failed out.old ≡ false }
     ensures fails { IsErr result ↔ (O.has_failed out.new ≡ true) }
     ensures adds { OnOk result
-        (Appends (O.written out.old) (O.written out.new) (drawn boards board.now)) }
-    ensures start { AppendsStart (O.written out.old) (O.written out.new) (drawn boards board.now) }
+        (Appends (O.written out.old) (O.written out.new) (board_lines boards board.now)) }
+    ensures start { AppendsStart (O.written out.old) (O.written out.new) (board_lines boards board.now) }
 {
     if !boards {
         return Ok(());

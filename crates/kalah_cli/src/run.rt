@@ -9,13 +9,13 @@ ghost use Rattle.kalah_cli.specs.Moves.{moves_output};
 ghost use Rattle.kalah_cli.specs.Play.{PlaysBest};
 ghost use Rattle.kalah_cli.specs.Request.{Asked, AsksNot, IsInRange, IsPlainWord, IsRefused, IsTakenAs, IsVersionWord, asked_for, texts_of};
 ghost use Rattle.kalah_cli.specs.Runs.{Begins, Does, IsOfLine, IsUnread, version_line};
-ghost use Rattle.kalah_cli.specs.Solve.{AnswersFiles, TellsValues};
+ghost use Rattle.kalah_cli.specs.Batch.{AnswersFiles, TellsValues};
 
+use crate::batch::run_batch;
 use crate::failure::Failure;
 use crate::moves::run_moves;
 use crate::play::run_play;
 use crate::request::{Request, parse};
-use crate::solve::run_batch;
 use crate::status::ExitStatus;
 use crate::version::VERSION_LINE;
 use clap::Error;

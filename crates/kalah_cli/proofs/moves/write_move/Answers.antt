@@ -3,7 +3,7 @@ use Rattle.kalah_jobs.specs.Given.{AppendsStart}
 use Rattle.kalah_jobs.specs.Line.{step_text_of}
 use Rattle.kalah_jobs.specs.Lines.{line_feed}
 use Rattle.kalah_jobs.proofs.Starts.{start_longer, start_then}
-use Rattle.kalah_cli.specs.Moves.{drawn}
+use Rattle.kalah_cli.specs.Moves.{board_lines}
 use Rattle.kalah_cli.proofs.Begun.{after_step, move_parts}
 use Rattle.kalah_cli.proofs.moves.write_move.Goals as goal
 
@@ -16,5 +16,5 @@ pub returns-clause-start : goal.returns-clause-start
 returns-clause-start g c =
     let line = step_text_of c.args.house c.args.step.now ++ line_feed ∷ [] in
     let parts = move_parts c.args.boards c.args.house c.args.step.now
-    ∙ ap (λ p. line ++ drawn c.args.boards p) (sym (after_step c.args.step.now c.in-Again.board c.in-Again.is)) in
+    ∙ ap (λ p. line ++ board_lines c.args.boards p) (sym (after_step c.args.step.now c.in-Again.board c.in-Again.is)) in
     start_then _ _ _ _ line _ parts c.in_ok-write_step.ensures.adds c.write_board.ensures.start

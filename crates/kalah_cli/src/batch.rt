@@ -5,7 +5,7 @@ ghost use Rattle.std.specs.Io.KnownBytes.{Appends};
 ghost use Rattle.kalah_jobs.specs.Given.{AppendsStart};
 ghost use Rattle.kalah_jobs.specs.Output.{output_to, tally_of};
 ghost use Rattle.kalah_cli.specs.Request.{IsInLimits};
-ghost use Rattle.kalah_cli.specs.Solve.{AnswersTo, BeginsTo, CountsTo, has_line_feed};
+ghost use Rattle.kalah_cli.specs.Batch.{AnswersTo, BeginsTo, CountsTo, has_line_feed};
 
 use crate::failure::Failure;
 use crate::files::read_files;
