@@ -22,14 +22,6 @@ fn ends_in_store(houses: &Houses, h: u8) -> bool
     houses.own(h) + h == m + 1
 }
 
-// What comes to the store where the turn passes.
-fn gained_by_turn(step: &HousesStep) -> Option<u8> {
-    match step {
-        HousesStep::Turn(gained, _) => Some(*gained),
-        _ => None,
-    }
-}
-
 impl<A: Allocator + Clone> Search<A> {
     // Whether the mover takes at least `bar` seeds.
     #[cycle(search)]
@@ -112,6 +104,15 @@ impl<A: Allocator + Clone> Search<A> {
         Some(ranks)
     }
 
+    // What comes to the store by a turn after which it has to be searched whether the mover takes enough.
+    fn gained_by_turn(&self, step: &HousesStep, bar: u8) -> Option<u8> {
+        match step {
+            HousesStep::Turn(gained, next)
+                if *gained < bar && next.seeds() > self.most_at_the_end() => { Some(*gained) }
+            _ => None,
+        }
+    }
+
     // How soon house `h` should be tried, by what comes to the store at once: 0 where it falls short, none where it
     // takes enough.
     #[cycle(search)]
@@ -122,9 +123,9 @@ impl<A: Allocator + Clone> Search<A> {
     {
         let _seeds = houses.seeds();
         let step = houses.play(h);
-        match gained_by_turn(&step) {
-            Some(gained) if gained < bar => Some(8 * gained as u32 + h as u32),
-            _ => {
+        match self.gained_by_turn(&step, bar) {
+            Some(gained) => Some(8 * gained as u32 + h as u32),
+            None => {
                 if self.step_reaches(&step, bar) {
                     None
                 } else {
