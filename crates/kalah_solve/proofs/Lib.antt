@@ -19,6 +19,7 @@ mod Roots
 mod RowRanks
 mod Choices
 mod KeptEndings
+mod PlacedKeys
 mod MostTaken
 mod SixValues
 mod MovesSecured

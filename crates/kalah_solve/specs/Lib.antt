@@ -8,5 +8,6 @@ pub mod Taken
 pub mod Tried
 pub mod RowRank
 pub mod Endings
+pub mod Places
 pub mod SixValues
 pub mod MoveValues

@@ -1,7 +1,6 @@
 -- How many of the seeds in houses a player ends up with.
-use Rattle.std.specs.Prelude.{◌≡◌, ℕ, ◌+◌, ◌-◌, ◌/◌, ◌≤◌, ℤ, pos, negsuc, ◌+ℤ◌}
-use Rattle.kalah_rules.specs.Position.{Rows, IsWithinHouses, bare, seeds_in_houses}
-use Rattle.kalah_rules.specs.Key.{key_of}
+use Rattle.std.specs.Prelude.{ℕ, ◌+◌, ◌-◌, ◌/◌, ◌≤◌, ℤ, pos, negsuc, ◌+ℤ◌}
+use Rattle.kalah_rules.specs.Position.{Rows, bare, seeds_in_houses}
 use Rattle.kalah_rules.specs.declared.step.HousesStep.{HousesStep}
 use Rattle.kalah_rules.specs.declared.step.HousesStep.TheVariants.{Over, Again, Turn}
 use Rattle.kalah_solve.specs.Worth.{houses_worth}
@@ -30,7 +29,3 @@ between least most = record { least = least; most = most }
 pub record IsWithinShare (s : Share) (t : ℕ) : Type 0 where
   pub least : s.least ≤ t
   pub most : t ≤ s.most
-
--- houses with this key have a share within it
-abbrev pub IsTrueOf : ℕ → Share → Type 0
-IsTrueOf key s = (a : Rows) → IsWithinHouses a → key_of a ≡ key → IsWithinShare s (taken a)
