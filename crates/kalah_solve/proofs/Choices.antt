@@ -3,7 +3,7 @@ use Rattle.std.proofs.Common.{◌≡◌, ◌≢◌, inl, inr, ℕ, suc, ◌+◌,
 use Rattle.std.specs.Prelude.{slice_set}
 use Rattle.std.proofs.lemmas.Bool.{cases_eq}
 use Rattle.std.proofs.lemmas.List.{get_or-set_same, get_or-set_other}
-use Rattle.kalah_solve.specs.Endings.{choice_at, AreChoices}
+use Rattle.kalah_solve.specs.Endings.{choice_at, AreChoices, pair_at, ArePairs}
 use Rattle.kalah_solve.proofs.RowRanks.{choose_one, choose_none, choose_next, choose_small}
 
 -- the cells of rows of one cell
@@ -37,4 +37,11 @@ pub choices_more : (choices : List ℕ) (i v : ℕ) → i < length choices → A
 choices_more choices i v inside before is k below = elim (cases_eq k i) [
   | inl same ↦ rw same (get_or-set_same choices i v 0 inside ∙ is)
   | inr other ↦ get_or-set_other choices i k v 0 other ∙ before k (omega arith)
+]
+
+-- one pair more is right
+pub pairs_more : (pairs : List ℕ) (i v : ℕ) → i < length pairs → ArePairs i pairs → (i % 32 < 10 → v ≡ pair_at i) → ArePairs (i + 1) (slice_set pairs i v)
+pairs_more pairs i v inside before is k below few = elim (cases_eq k i) [
+  | inl same ↦ rw same (get_or-set_same pairs i v 0 inside ∙ is (rw same at few))
+  | inr other ↦ get_or-set_other pairs i k v 0 other ∙ before k (omega arith) few
 ]

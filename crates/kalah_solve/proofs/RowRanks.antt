@@ -1,18 +1,21 @@
 -- The rank of a row tells the row.
-use Rattle.std.proofs.Common.{◌≡◌, inl, inr, ℕ, zero, suc, ◌+◌, ◌^◌, ◌-◌, ◌<◌, ◌≤◌, List, [], ◌∷◌, ◌++◌}
+use Rattle.std.proofs.Common.{◌≡◌, inl, inr, ℕ, zero, suc, ◌+◌, ◌*◌, ◌/◌, ◌%◌, ◌^◌, ◌-◌, ◌<◌, ◌≤◌, List, [], ◌∷◌, ◌++◌}
 use Rattle.std.proofs.Common.{length, get_or, drop, arith, ap, sym, refl, length-append}
 use Rattle.std.specs.Prelude.{sum}
 use Rattle.std.proofs.Math.Nat.{pow-succ'}
-use Rattle.std.proofs.lemmas.Nat.{pow_pos}
+use Rattle.std.proofs.lemmas.Nat.{pow_pos, mul-le}
+use Rattle.std.proofs.Math.Pow.{pow_mono}
+use Rattle.std.proofs.Math.Nat.{mul_comm}
 use Rattle.std.proofs.lemmas.Bool.{cases_lt}
 use Rattle.std.proofs.lemmas.List.{append_cancel_left, drop_more, length-drop}
 use Rattle.std.proofs.Math.Seq.{take-append_seam}
 use Rattle.std.proofs.Math.ListN.{take}
-use Rattle.std.proofs.lemmas.List.Sums.{sum_by-cons, sum_by-append}
+use Rattle.std.proofs.lemmas.List.Sums.{sum_by-cons}
 use Rattle.kalah_rules.specs.Position.{Rows, IsWithinHouses}
-use Rattle.kalah_rules.specs.Key.{number_of}
-use Rattle.kalah_rules.proofs.Keys.{same_key}
-use Rattle.kalah_solve.specs.RowRank.{choose, row_rank, rank_of_houses, game_of, first_place, place_of}
+use Rattle.kalah_rules.specs.Key.{number_of, key_of}
+use Rattle.kalah_rules.proofs.Keys.{same_key, own_number_at, other_number_at}
+use Rattle.kalah_rules.proofs.Packing.{number_of-append, pow_five}
+use Rattle.kalah_solve.specs.RowRank.{choose, row_rank, sums_number, rank_of_houses, game_of, first_place, place_of}
 
 -- out of more things there are no fewer ways to choose
 choose_up : (n k : ℕ) → choose n k ≤ choose (suc n) k
@@ -117,6 +120,33 @@ same_houses a b ha hb game place =
     let other : a.other ≡ b.other = append_cancel_left a.own a.other b.other (rw (← own) at row) in
     same_key a b ha hb (omega (arith, game, ap number_of own, ap number_of other))
 
+-- a row's number tells its sums
+sums_by_number : (xs : List ℕ) → 31 * sums_number xs + sum xs ≡ 32 * number_of xs
+sums_by_number [] = refl
+sums_by_number (x ∷ xs) = omega (arith, sums_by_number xs, sum_by-cons (λ (y : ℕ). y) x xs)
+
+pub record AreSums (row : List ℕ) (number seeds : ℕ) : Type 0 where
+  pub few : seeds ≤ number
+  pub sums : seeds + (number - seeds) / 31 * 32 ≡ sums_number row
+
+pub sums_are : (row : List ℕ) (number seeds : ℕ) → 1 ≤ length row → number ≡ number_of row → seeds ≡ sum row → AreSums row number seeds
+sums_are [] number seeds some is all = absurd (omega arith)
+sums_are (x ∷ xs) number seeds some is all =
+    let whole : number ≡ seeds + 31 * sums_number xs = omega (arith, is, all, sums_by_number xs, sum_by-cons (λ (y : ℕ). y) x xs) in
+    record { few = omega (arith, whole); sums = omega (arith, whole, all, sum_by-cons (λ (y : ℕ). y) x xs) }
+
+-- both rows of houses in one number
+pub both_rows : (a : Rows) (k m : ℕ) → IsWithinHouses a → k ≡ key_of a → m ≡ length a.own →
+    (k % 2 ^ 30 + k / 2 ^ 30 % 2 ^ 30 * 2 ^ (5 * m) % 2 ^ 64 ≡ number_of (a.own ++ a.other)) × (k % 2 ^ 30 + k / 2 ^ 30 % 2 ^ 30 * 2 ^ (5 * m) % 2 ^ 64 < 2 ^ 60)
+both_rows a k m within is side =
+    let own = own_number_at a k within (sym is) in
+    let other = other_number_at a k within (sym is) in
+    let power : 2 ^ (5 * m) ≤ 2 ^ 30 = pow_mono {i = 5 * m} {j = 30} (omega (arith, within.at_most_six, side)) in
+    let below : k / 2 ^ 30 % 2 ^ 30 * 2 ^ (5 * m) ≤ (2 ^ 30 - 1) * 2 ^ 30 = mul-le (k / 2 ^ 30 % 2 ^ 30) (2 ^ (5 * m)) (2 ^ 30 - 1) (2 ^ 30) (omega arith) power in
+    let shifted : k / 2 ^ 30 % 2 ^ 30 * 2 ^ (5 * m) ≡ 32 ^ length a.own * number_of a.other =
+    rw (pow_five m, side, ← other) (mul_comm (number_of a.other) (32 ^ length a.own)) in
+    (omega (arith, own, shifted, below, number_of-append a.own a.other), omega (arith, below))
+
 -- the last houses hold no more seeds than all
 sum-drop-le : (xs : List ℕ) (k : ℕ) → sum (drop k xs) ≤ sum xs
 sum-drop-le [] zero = omega arith
@@ -124,46 +154,80 @@ sum-drop-le [] (suc k) = omega arith
 sum-drop-le (x ∷ xs) zero = omega arith
 sum-drop-le (x ∷ xs) (suc k) = omega (arith, sum-drop-le xs k, sum_by-cons (λ (y : ℕ). y) x xs)
 
--- the seeds of a row of few, and its rank
-pub record IsRanked (row : List ℕ) (n at : ℕ) : Type 0 where
-  pub seeds : n ≡ sum row
-  pub few : n ≤ 9
-  pub rank : at ≡ row_rank row
-  pub small : at < 2 ^ 21
+-- the sums of a row of few from its cell 2 * passed on, and what the cells before it add to its rank
+pub record IsRanked (row : List ℕ) (passed sums at : ℕ) : Type 0 where
+  pub left : sums ≡ sums_number (drop (2 * passed) row)
+  pub rank : at + row_rank (drop (2 * passed) row) ≡ row_rank row
 
--- the seeds of one house more in front of a row
-module _ (xs ys : List ℕ) (few : sum xs + sum ys ≤ 9) (m passed n at x : ℕ) (long : m ≡ length xs) (more : passed < m)
-    (is : IsRanked (drop (m - passed) xs ++ ys) n at) (here : x ≡ get_or xs (m - passed - 1) 0) where
-  -- the row with that house
-  row_more : drop (m - (passed + 1)) xs ++ ys ≡ x ∷ (drop (m - passed) xs ++ ys)
-  row_more =
-      let k = m - (passed + 1) in
-      let inside : k < length xs = omega (arith, long, more) in
-      let at_k : m - passed - 1 ≡ k = omega arith in
-      let past : k + 1 ≡ m - passed = omega (arith, more) in
-      let x_is : x ≡ get_or xs k 0 = rw at_k at here in
-      rw (drop_more xs k 0 inside, past, x_is) refl
+-- the sums of two cells
+record AreTwo (sums : ℕ) (x y : ℕ) (ys : List ℕ) : Type 0 where
+  first : sums % 1024 % 32 ≡ x + (y + sum ys)
+  second : sums % 1024 / 32 ≡ y + sum ys
+  past : sums / 1024 ≡ sums_number ys
 
-  seeds_more : n + x ≡ sum (drop (m - (passed + 1)) xs ++ ys)
-  seeds_more = rw row_more (omega (arith, is.seeds, sum_by-cons (λ (z : ℕ). z) x (drop (m - passed) xs ++ ys)))
+two_sums : (x y : ℕ) (ys : List ℕ) → sum (x ∷ y ∷ ys) ≤ 9 → AreTwo (sums_number (x ∷ y ∷ ys)) x y ys
+two_sums x y ys few =
+    let cons = sum_by-cons (λ (z : ℕ). z) x (y ∷ ys) in
+    let cons' = sum_by-cons (λ (z : ℕ). z) y ys in
+    record { first = omega (arith, few, cons, cons'); second = omega (arith, few, cons, cons'); past = omega (arith, few, cons, cons') }
 
-  pub few_more : n + x ≤ 9
-  few_more = omega (arith, few, seeds_more, sum_by-append (λ (z : ℕ). z) (drop (m - (passed + 1)) xs) ys, sum-drop-le xs (m - (passed + 1)))
+-- two cells more of a row
+module _ (row : List ℕ) (few : sum row ≤ 9) (m passed sums at : ℕ) (long : length row ≡ 2 * m) (most : m ≤ 6) (more : passed < m) (is : IsRanked row passed sums at) where
+  abbrev two_first : ℕ
+  two_first = get_or row (2 * passed) 0
 
-  -- and its rank
-  rank_more : at + choose (n + x + (passed + length ys)) (passed + length ys + 1) ≡ row_rank (drop (m - (passed + 1)) xs ++ ys)
-  rank_more =
-      let rest = drop (m - passed) xs ++ ys in
-      let cells : length rest ≡ passed + length ys = omega (arith, long, more, length-append (drop (m - passed) xs) ys, length-drop (m - passed) xs) in
-      let total : n + x + (passed + length ys) ≡ x + sum rest + length rest = omega (arith, is.seeds, cells) in
-      let count : passed + length ys + 1 ≡ suc (length rest) = omega (arith, cells) in
-      let first : choose (n + x + (passed + length ys)) (passed + length ys + 1) ≡ choose (x + sum rest + length rest) (suc (length rest)) = rw (total, count) refl in
-      rw row_more (omega (arith, is.rank, first))
+  abbrev two_second : ℕ
+  two_second = get_or row (2 * passed + 1) 0
 
-  pub ranked_more : length xs + length ys ≤ 12 → (c : ℕ) → c ≡ choose (n + x + (passed + length ys)) (passed + length ys + 1) → IsRanked (drop (m - (passed + 1)) xs ++ ys) (n + x) (at + c)
-  ranked_more cells c is_c =
-      let rank : at + c ≡ row_rank (drop (m - (passed + 1)) xs ++ ys) = rw is_c rank_more in
-      let row = drop (m - (passed + 1)) xs ++ ys in
-      let long_row = length-append (drop (m - (passed + 1)) xs) ys in
-      let below : row_rank row < 2 ^ 21 = rank_small row (omega (arith, few_more, seeds_more, cells, long_row, length-drop (m - (passed + 1)) xs)) in
-      record { seeds = seeds_more; few = few_more; rank = rank; small = omega (arith, rank, below) }
+  abbrev two_past : List ℕ
+  two_past = drop (2 * (passed + 1)) row
+
+  two_more : drop (2 * passed) row ≡ two_first ∷ two_second ∷ two_past
+  two_more =
+      let twice : 2 * passed + 1 + 1 ≡ 2 * (passed + 1) = omega arith in
+      rw (drop_more row (2 * passed) 0 (omega (arith, long, more)), drop_more row (2 * passed + 1) 0 (omega (arith, long, more)), twice) refl
+
+  two_less : sum (two_first ∷ two_second ∷ two_past) ≤ 9
+  two_less =
+      let less : sum (drop (2 * passed) row) ≤ 9 = omega (arith, few, sum-drop-le row (2 * passed)) in
+      rw two_more at less
+
+  two_are : AreTwo sums two_first two_second two_past
+  two_are =
+      rw (is.left, two_more) (two_sums two_first two_second two_past two_less)
+
+  -- and their rank
+  pub rank_next : (c : ℕ) → c ≡ choose (sums % 1024 % 32 + 2 * (m - passed - 1) + 1) (2 * (m - passed - 1) + 2) + choose (sums % 1024 / 32 + 2 * (m - passed - 1)) (2 * (m - passed - 1) + 1) →
+      IsRanked row (passed + 1) (sums / 1024) (at + c)
+  rank_next c is_c =
+      let past = m - passed - 1 in
+      let rest = two_second ∷ two_past in
+      let cells : length two_past ≡ 2 * past = omega (arith, long, more, length-drop (2 * (passed + 1)) row) in
+      let first : two_first + sum rest + length rest ≡ sums % 1024 % 32 + 2 * past + 1 = omega (arith, two_are.first, sum_by-cons (λ (z : ℕ). z) two_second two_past, cells) in
+      let first_cells : suc (length rest) ≡ 2 * past + 2 = omega (arith, cells) in
+      let second : two_second + sum two_past + length two_past ≡ sums % 1024 / 32 + 2 * past = omega (arith, two_are.second, cells) in
+      let second_cells : suc (length two_past) ≡ 2 * past + 1 = omega (arith, cells) in
+      let ways : choose (two_first + sum rest + length rest) (suc (length rest)) ≡ choose (sums % 1024 % 32 + 2 * past + 1) (2 * past + 2) = rw (first, first_cells) refl in
+      let ways' : choose (two_second + sum two_past + length two_past) (suc (length two_past)) ≡ choose (sums % 1024 / 32 + 2 * past) (2 * past + 1) = rw (second, second_cells) refl in
+      let added : row_rank (drop (2 * passed) row) ≡ c + row_rank two_past = rw two_more (omega (arith, is_c, ways, ways')) in
+      record { left = two_are.past; rank = omega (arith, is.rank, added) }
+
+  -- no more seeds are there than few
+  pub two_few : (sums % 1024 % 32 < 10) × (sums % 1024 / 32 < 10)
+  two_few =
+      let cons = sum_by-cons (λ (z : ℕ). z) two_first (two_second ∷ two_past) in
+      let cons' = sum_by-cons (λ (z : ℕ). z) two_second two_past in
+      (omega (arith, two_are.first, two_less, cons, cons'), omega (arith, two_are.second, two_less, cons, cons'))
+
+-- what is added so far is small
+pub ranked_small : (row : List ℕ) (passed sums at : ℕ) → sum row ≤ 9 → length row ≤ 12 → IsRanked row passed sums at → at < 2 ^ 21
+ranked_small row passed sums at few long is = omega (arith, is.rank, rank_small row (omega (arith, few, long)))
+
+rank_none : (xs : List ℕ) → length xs ≡ 0 → row_rank xs ≡ 0
+rank_none [] none = refl
+rank_none (x ∷ xs) none = absurd (omega arith)
+
+-- and is the rank once all cells are passed
+pub ranked_all : (row : List ℕ) (passed sums at : ℕ) → length row ≤ 2 * passed → IsRanked row passed sums at → at ≡ row_rank row
+ranked_all row passed sums at all is =
+    omega (arith, is.rank, rank_none (drop (2 * passed) row) (omega (arith, all, length-drop (2 * passed) row)))

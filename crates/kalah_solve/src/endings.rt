@@ -1,9 +1,10 @@
 //! What the mover takes of houses with few seeds, exactly, each once it is known.
-ghost use Rattle.std.specs.Prelude.{◌≡◌, ◌≤◌, ◌<◌, ◌+◌, ◌^◌, ℕ, IfSome};
+ghost use Rattle.std.specs.Prelude.{◌≡◌, ◌≤◌, ◌<◌, ◌+◌, ◌*◌, ◌/◌, ◌%◌, ◌^◌, ◌++◌, ℕ, IfSome};
 ghost use Rattle.kalah_rules.specs.Position.{bare, seeds_in_houses, IsWithinHouses};
-ghost use Rattle.kalah_solve.specs.RowRank.{choose, rank_of_houses, game_of, place_of};
+ghost use Rattle.kalah_rules.specs.Key.{number_of};
+ghost use Rattle.kalah_solve.specs.RowRank.{choose, sums_number, rank_of_houses, game_of, place_of};
 ghost use Rattle.kalah_solve.specs.Taken.{taken};
-ghost use Rattle.kalah_solve.specs.Endings.{AreChoices, choice_at, told_game, told_taken};
+ghost use Rattle.kalah_solve.specs.Endings.{AreChoices, choice_at, ArePairs, pair_at, told_game, told_taken};
 
 mod exact;
 #[cfg(test)]
@@ -21,6 +22,9 @@ const FIRST_PLACES: [u32; 16] = [
     0, 0, 55, 770, 5_775, 30_085, 122_463, 0, 0, 416_393, 416_448, 417_163, 422_168, 446_478,
     538_856, 0,
 ];
+
+// Where the other player's houses begin in a key.
+const OTHER_ROW: u64 = 0x4000_0000;
 
 // What the mover takes of the houses of a game in whose place it stands, with the game, in one byte. There is no game 0, which
 // stands where nothing is known.
@@ -58,19 +62,19 @@ impl Ending {
 #[derive(Drop)]
 pub(crate) struct Endings<A: Allocator = Global> {
     endings: Vec<Ending, A>,
-    choices: [u32; 120],
+    pairs: [u32; 1920],
 }
 
 impl<A: Allocator> Model for Endings<A> {
     ghost use Rattle.std.specs.Prelude.{List};
     ghost use Rattle.kalah_solve.specs.declared.endings.Ending.{Ending};
-    ghost use Rattle.kalah_solve.specs.Endings.{AreChoices, TellTaken};
+    ghost use Rattle.kalah_solve.specs.Endings.{ArePairs, TellTaken};
 
     ghost Value = { List Ending };
 
     ghost view = { λ e. e.endings.items };
 
-    ghost invariant = { λ e. AreChoices 120 e.choices × TellTaken e.endings.items };
+    ghost invariant = { λ e. ArePairs 1920 e.pairs × TellTaken e.endings.items };
 }
 
 // What cell `i` of the choices holds, by the cells before it.
@@ -99,6 +103,53 @@ fn choices() -> [u32; 120]
     choices
 }
 
+// What cell `i` of the pairs holds, by the choices.
+fn pair(choices: &[u32; 120], i: usize) -> u32
+    requires inside { i < 1920 }
+    requires choices { AreChoices 120 choices.now }
+    ensures { i % 32 < 10 → result ≡ pair_at i }
+{
+    let first = i % 32;
+    let second = i / 32 % 10;
+    let past = i / 320 * 2;
+    if first > 9 {
+        return 0;
+    }
+    choices[10 * (past + 1) + first] + choices[10 * past + second]
+}
+
+// The pairs.
+fn pairs() -> [u32; 1920]
+    ensures { ArePairs 1920 result }
+{
+    let choices = choices();
+    let mut pairs = [0u32; 1920];
+    for i in 0..1920usize {
+        pairs[i] = pair(&choices, i);
+    }
+    pairs
+}
+
+// The houses of both players as one row, as a number with five bits for each.
+fn row_of(houses: &Houses) -> u64
+    ensures row { result ≡ number_of (houses.now.own ++ houses.now.other) }
+    ensures small { result < 2 ^ 60 }
+    ensures limits { IsWithinHouses houses.now }
+{
+    let key = houses.key();
+    let other = key / OTHER_ROW % OTHER_ROW;
+    key % OTHER_ROW + (other << (5 * houses.m() as u32))
+}
+
+// The seeds in that row from each house on, as a number with five bits for each.
+fn sums_of(houses: &Houses) -> u64
+    ensures sums { result ≡ sums_number (houses.now.own ++ houses.now.other) }
+    ensures limits { IsWithinHouses houses.now }
+{
+    let seeds = houses.seeds() as u64;
+    seeds + (row_of(houses) - seeds) / 31 * 32
+}
+
 // The game that houses are of.
 fn game_of(houses: &Houses) -> u8
     ensures game { result ≡ game_of houses.now }
@@ -113,7 +164,7 @@ impl<A: Allocator> Endings<A> {
     pub(crate) fn new(alloc: A) -> Result<Endings<A>, AllocError> {
         Ok(Endings {
             endings: Vec::with_capacity(alloc, PLACES)?,
-            choices: choices(),
+            pairs: pairs(),
         })
     }
 
@@ -126,32 +177,28 @@ impl<A: Allocator> Endings<A> {
         }
     }
 
-    // In how many ways one thing more than so many cells can be chosen of those and the seeds.
-    fn choose(&self, cells: u8, seeds: u8) -> u32
-        requires cells { cells < 12 }
-        requires seeds { seeds ≤ 9 }
-        ensures value { result ≡ choose (seeds + cells) (cells + 1) }
-        ensures small { result ≤ 2 ^ 20 }
+    // What two cells add to the rank of a row, with so many pairs past them, by the seeds from each of them on.
+    fn pair(&self, past: u8, sums: u64) -> u32
+        requires past { past < 6 }
+        requires first { sums % 32 < 10 }
+        requires second { sums / 32 < 10 }
+        ensures value { result ≡ choose (sums % 32 + 2 * past + 1) (2 * past + 2) + choose (sums / 32 + 2 * past) (2 * past + 1) }
     {
-        self.choices[10 * cells as usize + seeds as usize]
+        self.pairs[320 * past as usize + sums as usize]
     }
 
-    // The rank of the houses among those of their game.
+    // The rank of the houses among those of their game, two of them at a time.
     fn rank(&self, houses: &Houses) -> u32
         requires { seeds_in_houses (bare houses.now) ≤ 9 }
         ensures rank { result ≡ rank_of_houses houses.now }
         ensures small { result < 2 ^ 21 }
     {
         let m = houses.m();
-        let mut seeds = 0;
+        let mut sums = sums_of(houses);
         let mut rank = 0;
         for passed in 0..m {
-            seeds += houses.other(m - passed);
-            rank += self.choose(passed, seeds);
-        }
-        for passed in 0..m {
-            seeds += houses.own(m - passed);
-            rank += self.choose(m + passed, seeds);
+            rank += self.pair(m - passed - 1, sums % 1024);
+            sums /= 1024;
         }
         rank
     }

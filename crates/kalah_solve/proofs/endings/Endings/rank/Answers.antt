@@ -1,35 +1,56 @@
-use Rattle.std.proofs.Common.{arith, ℕ, [], ◌+◌, ◌≡◌, length}
-use Rattle.kalah_solve.proofs.RowRanks.{few_more, ranked_more}
+use Rattle.std.proofs.Common.{arith, ◌++◌, ◌≤◌, ◌*◌, ◌≡◌, length, length-append}
+use Rattle.std.specs.Prelude.{sum}
+use Rattle.std.proofs.lemmas.List.Sums.{sum_by-append}
+use Rattle.kalah_rules.specs.Position.{Rows, IsWithinHouses, bare, seeds_in_houses}
+use Rattle.kalah_solve.proofs.RowRanks.{two_few, rank_next, ranked_small, ranked_all}
 use Rattle.kalah_solve.proofs.endings.Endings.rank.Goals as goal
 
-pub choose-rank-requires-clause-seeds : goal.choose-rank-requires-clause-seeds
-choose-rank-requires-clause-seeds g c =
+few : (a : Rows) → seeds_in_houses (bare a) ≤ 9 → sum (a.own ++ a.other) ≤ 9
+few a less = omega (arith, less, sum_by-append (λ x. x) a.own a.other)
+
+long : (a : Rows) → IsWithinHouses a → length (a.own ++ a.other) ≡ 2 * length a.own
+long a within = omega (arith, length-append a.own a.other, within.same_side)
+
+pub loop-passed-init : goal.loop-passed-init
+loop-passed-init g c = record { left = c.sums_of-sums.ensures.sums; rank = omega arith }
+
+pub pair-rank-requires-clause-first : goal.pair-rank-requires-clause-first
+pair-rank-requires-clause-first g c =
     let a = c.args.houses.now in
-    let m = c.m-m.ensures in
-    few_more a.other [] (omega (arith, c.requires)) c.m-m.result c.loop-passed.passed c.loop-passed.seeds c.loop-passed.rank c.other-seeds.result
-    (omega (arith, m.side, m.limits.same_side)) c.loop-passed-test.true c.loop-passed.invariant c.other-seeds.ensures.value
+    let limits = c.m-m.ensures.limits in
+    (two_few (a.own ++ a.other) (few a c.requires) c.m-m.result c.loop-passed.passed c.loop-passed.sums c.loop-passed.rank (omega (arith, long a limits, c.m-m.ensures.side))
+    (omega (arith, c.m-m.ensures.side, limits.at_most_six)) c.loop-passed-test.true c.loop-passed.invariant).0
+
+pub pair-rank-requires-clause-second : goal.pair-rank-requires-clause-second
+pair-rank-requires-clause-second g c =
+    let a = c.args.houses.now in
+    let limits = c.m-m.ensures.limits in
+    (two_few (a.own ++ a.other) (few a c.requires) c.m-m.result c.loop-passed.passed c.loop-passed.sums c.loop-passed.rank (omega (arith, long a limits, c.m-m.ensures.side))
+    (omega (arith, c.m-m.ensures.side, limits.at_most_six)) c.loop-passed-test.true c.loop-passed.invariant).1
 
 pub loop-passed-preserved : goal.loop-passed-preserved
 loop-passed-preserved g c =
     let a = c.args.houses.now in
-    let m = c.m-m.ensures in
-    ranked_more a.other [] (omega (arith, c.requires)) c.m-m.result c.loop-passed.passed c.loop-passed.seeds c.loop-passed.rank c.other-seeds.result
-    (omega (arith, m.side, m.limits.same_side)) c.loop-passed-test.true c.loop-passed.invariant c.other-seeds.ensures.value
-    (omega (arith, m.limits.same_side, m.limits.at_most_six)) c.choose-rank.result
-    (let none : c.loop-passed.passed + length {A = ℕ} [] ≡ c.loop-passed.passed = omega arith in rw none c.choose-rank.ensures.value)
+    let limits = c.m-m.ensures.limits in
+    rank_next (a.own ++ a.other) (few a c.requires) c.m-m.result c.loop-passed.passed c.loop-passed.sums c.loop-passed.rank (omega (arith, long a limits, c.m-m.ensures.side))
+    (omega (arith, c.m-m.ensures.side, limits.at_most_six)) c.loop-passed-test.true c.loop-passed.invariant c.pair-rank.result c.pair-rank.ensures.value
 
-pub choose-rank-requires-in-loop-passed-2-clause-seeds : goal.choose-rank-requires-in-loop-passed-2-clause-seeds
-choose-rank-requires-in-loop-passed-2-clause-seeds g c =
+pub overflow_add-rank : goal.overflow_add-rank
+overflow_add-rank g c =
     let a = c.args.houses.now in
-    few_more a.own a.other c.requires c.m-m.result c.loop-passed-2.passed c.loop-passed-2.seeds c.loop-passed-2.rank c.own-seeds.result
-    c.m-m.ensures.side c.loop-passed-2-test.true c.loop-passed-2.invariant c.own-seeds.ensures.value
+    let limits = c.m-m.ensures.limits in
+    let next = rank_next (a.own ++ a.other) (few a c.requires) c.m-m.result c.loop-passed.passed c.loop-passed.sums c.loop-passed.rank (omega (arith, long a limits, c.m-m.ensures.side))
+    (omega (arith, c.m-m.ensures.side, limits.at_most_six)) c.loop-passed-test.true c.loop-passed.invariant c.pair-rank.result c.pair-rank.ensures.value in
+    omega (arith, ranked_small _ _ _ _ (few a c.requires) (omega (arith, long a limits, limits.at_most_six)) next)
 
-pub loop-passed-2-preserved : goal.loop-passed-2-preserved
-loop-passed-2-preserved g c =
+pub returns-clause-rank : goal.returns-clause-rank
+returns-clause-rank g c =
     let a = c.args.houses.now in
-    let m = c.m-m.ensures in
-    ranked_more a.own a.other c.requires c.m-m.result c.loop-passed-2.passed c.loop-passed-2.seeds c.loop-passed-2.rank c.own-seeds.result
-    m.side c.loop-passed-2-test.true c.loop-passed-2.invariant c.own-seeds.ensures.value
-    (omega (arith, m.limits.same_side, m.limits.at_most_six)) c.choose-rank-in-loop-passed-2.result
-    (let cells : c.loop-passed-2.passed + length a.other ≡ c.m-m.result + c.loop-passed-2.passed = omega (arith, m.side, m.limits.same_side) in
-    rw cells c.choose-rank-in-loop-passed-2.ensures.value)
+    ranked_all (a.own ++ a.other) c.loop-passed.passed c.loop-passed.sums c.loop-passed.rank
+    (omega (arith, long a c.m-m.ensures.limits, c.m-m.ensures.side, c.loop-passed-test.false)) c.loop-passed.invariant
+
+pub returns-clause-small : goal.returns-clause-small
+returns-clause-small g c =
+    let a = c.args.houses.now in
+    let limits = c.m-m.ensures.limits in
+    ranked_small (a.own ++ a.other) c.loop-passed.passed c.loop-passed.sums c.loop-passed.rank (few a c.requires) (omega (arith, long a limits, limits.at_most_six)) c.loop-passed.invariant
