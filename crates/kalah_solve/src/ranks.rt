@@ -7,8 +7,10 @@ pub fn highest(ranks: &[u32; 6]) -> usize
     ensures highest { (k : ℕ) → slice_index ranks.now k ≤ slice_index ranks.now result }
 {
     let mut best = 0;
+    let mut most = ranks[0];
     for i in 1..6usize {
-        if ranks[i] > ranks[best] {
+        if ranks[i] > most {
+            most = ranks[i];
             best = i;
         }
     }
