@@ -1,5 +1,5 @@
 -- After any list of offers and takes a collector has what the list says.
-use Rattle.std.proofs.Common.{◌≡◌, ℕ, zero, suc, ◌+◌, ◌<◌, ◌≤◌, ◌==◌, ⊎_elim, List, [], ◌∷◌, ◌++◌, length, map, set, get_or, take, replicate, true, false, if◌then◌else◌, Bool, refl, sym, ap, ◌∙◌, subst, arith, eq-eqb, ne_eqb, length-set}
+use Rattle.std.proofs.Common.{◌≡◌, ℕ, zero, suc, ◌+◌, ◌<◌, ◌≤◌, ◌==◌, ⊎_elim, List, [], ◌∷◌, ◌++◌, length, map, get_or, take, replicate, true, false, if◌then◌else◌, Bool, refl, sym, ap, ◌∙◌, subst, arith, eq-eqb, ne_eqb, length-set}
 use Rattle.std.specs.Prelude.{Option, Some, None, IsSome, IsSomeAnd, Contains, Result, Ok, Err, slice_get}
 use Rattle.std.specs.List.{enumerate_from}
 use Rattle.std.proofs.lemmas.Bool.{cases_eq}
@@ -13,7 +13,7 @@ use Rattle.kalah_jobs.specs.declared.refusal.Refusal.{Refusal}
 use Rattle.kalah_jobs.specs.Answer.{answer_of}
 use Rattle.kalah_jobs.specs.Offer.{Offer}
 use Rattle.kalah_jobs.specs.JobList.{entries_of, entry_at, offer}
-use Rattle.kalah_jobs.specs.CollectorState.{FileState, state_of, new_files, line_count, front, front_of, came_for, HasLinesOf, IsNext, with_answer, with_one_taken, after_offer, after_take}
+use Rattle.kalah_jobs.specs.CollectorState.{FileState, state_of, new_files, line_count, front, came_for, HasLinesOf, IsNext, with_answer, with_one_taken, after_offer, after_take}
 use Rattle.kalah_jobs.specs.Refusals.{IsWanted, IsRefusedFor}
 use Rattle.kalah_jobs.specs.CollectorEvents.{Event, Offered, Took, offers, takes, with_taken, Offers, Takes, Came, answered_line, answered_lines}
 use Rattle.kalah_jobs.specs.CollectorLaw.{Happens, Runs, Meets}
@@ -51,7 +51,8 @@ with_taken_append f g (Some t) xs ys = if_append (g == f) t xs ys
 pub takes_append : (f : ℕ) (xs ys : List Event) → takes f (xs ++ ys) ≡ takes f xs ++ takes f ys
 takes_append f [] ys = refl
 takes_append f (Offered o gave ∷ xs) ys = takes_append f xs ys
-takes_append f (Took g gave ∷ xs) ys = ap (λ l. with_taken f g gave l) (takes_append f xs ys) ∙ with_taken_append f g gave (takes f xs) (takes f ys)
+takes_append f (Took g gave ∷ xs) ys =
+    ap (λ l. with_taken f g gave l) (takes_append f xs ys) ∙ with_taken_append f g gave (takes f xs) (takes f ys)
 
 -- an offer takes nothing
 takes_offered : (f : ℕ) (xs : List Event) (o : Offer) (gave : Result ℕ Refusal) → takes f (xs ++ Offered o gave ∷ []) ≡ takes f xs
@@ -63,37 +64,63 @@ takes_none f g xs = takes_append f xs (Took g None ∷ []) ∙ append-nil (takes
 
 -- a line that was taken of this file
 takes_same : (f g : ℕ) (xs : List Event) (t : Taken) → f ≡ g → takes f (xs ++ Took g (Some t) ∷ []) ≡ takes f xs ++ t ∷ []
-takes_same f g xs t p = takes_append f xs (Took g (Some t) ∷ []) ∙ ap (λ (b : Bool). takes f xs ++ (if b then t ∷ [] else [])) (eq-eqb g f (sym p))
+takes_same f g xs t p =
+    takes_append f xs (Took g (Some t) ∷ [])
+    ∙ ap (λ (b : Bool). takes f xs ++ (if b then t ∷ [] else [])) (eq-eqb g f (sym p))
 
 -- a line that was taken of another file
 takes_other : (f g : ℕ) (xs : List Event) (t : Taken) → (f ≡ g → ⊥) → takes f (xs ++ Took g (Some t) ∷ []) ≡ takes f xs
-takes_other f g xs t np = takes_append f xs (Took g (Some t) ∷ []) ∙ ap (λ (b : Bool). takes f xs ++ (if b then t ∷ [] else [])) (ne_eqb g f (λ q. np (sym q))) ∙ append-nil (takes f xs)
+takes_other f g xs t np =
+    takes_append f xs (Took g (Some t) ∷ [])
+    ∙ ap (λ (b : Bool). takes f xs ++ (if b then t ∷ [] else [])) (ne_eqb g f (λ q. np (sym q)))
+    ∙ append-nil (takes f xs)
 
--- an accepted offer leaves what was taken
-pub taken_after_offer : (files : List FileState) (o : Offer) (a : Answer) → o.file < length files → (f : ℕ) → (state_of (after_offer files o.file o.line a) f).taken ≡ (state_of files f).taken
-taken_after_offer files o a low f =
-    ⊎_elim
-    (λ (p : f ≡ o.file). ap (λ g. (state_of (after_offer files o.file o.line a) g).taken) p ∙ ap (λ (s : FileState). s.taken) (state_same files o.file (with_answer (state_of files o.file) o.line a) low) ∙ ap (λ g. (state_of files g).taken) (sym p))
-    (λ (np : f ≡ o.file → ⊥). ap (λ (s : FileState). s.taken) (state_other files o.file f (with_answer (state_of files o.file) o.line a) np))
-    (cases_eq f o.file)
+-- an offer is accepted
+module _ (files : List FileState) (o : Offer) (a : Answer) (low : o.file < length files) where
+  -- its file has the answer
+  offered_file : (f : ℕ) → f ≡ o.file → state_of (after_offer files o.file o.line a) f ≡ with_answer (state_of files f) o.line a
+  offered_file f p =
+      ap (λ g. state_of (after_offer files o.file o.line a) g) p
+      ∙ state_same files o.file (with_answer (state_of files o.file) o.line a) low
+      ∙ ap (λ g. with_answer (state_of files g) o.line a) (sym p)
 
--- and moves no front back
-pub front_after_offer : (files : List FileState) (o : Offer) (a : Answer) → o.file < length files → (f : ℕ) → front (state_of files f) ≤ front (state_of (after_offer files o.file o.line a) f)
-front_after_offer files o a low f =
-    ⊎_elim
-    (λ (p : f ≡ o.file).
-    let x : front (state_of (after_offer files o.file o.line a) f) ≡ front (with_answer (state_of files o.file) o.line a) = ap (λ g. front (state_of (after_offer files o.file o.line a) g)) p ∙ ap (λ (s : FileState). front s) (state_same files o.file (with_answer (state_of files o.file) o.line a) low) in
-    let y : front (state_of files f) ≡ front (state_of files o.file) = ap (λ g. front (state_of files g)) p in
-    let z : front_of (state_of files o.file).arrived ≤ front_of (set (state_of files o.file).arrived o.line (Some a)) = front_set (state_of files o.file).arrived o.line a in
-    omega arith)
-    (λ (np : f ≡ o.file → ⊥).
-    let x : front (state_of (after_offer files o.file o.line a) f) ≡ front (state_of files f) = ap (λ (s : FileState). front s) (state_other files o.file f (with_answer (state_of files o.file) o.line a) np) in
-    omega arith)
-    (cases_eq f o.file)
+  -- and any other is as it was
+  other_file : (f : ℕ) → (f ≡ o.file → ⊥) → state_of (after_offer files o.file o.line a) f ≡ state_of files f
+  other_file f np = state_other files o.file f (with_answer (state_of files o.file) o.line a) np
+
+  -- it leaves what was taken
+  pub taken_after_offer : (f : ℕ) → (state_of (after_offer files o.file o.line a) f).taken ≡ (state_of files f).taken
+  taken_after_offer f =
+      ⊎_elim
+      (λ (p : f ≡ o.file). ap (λ (s : FileState). s.taken) (offered_file f p))
+      (λ (np : f ≡ o.file → ⊥). ap (λ (s : FileState). s.taken) (other_file f np))
+      (cases_eq f o.file)
+
+  -- and moves no front back
+  pub front_after_offer : (f : ℕ) → front (state_of files f) ≤ front (state_of (after_offer files o.file o.line a) f)
+  front_after_offer f =
+      ⊎_elim
+      (λ (p : f ≡ o.file).
+      subst (λ (s : FileState). front (state_of files f) ≤ front s) (sym (offered_file f p)) (front_set (state_of files f).arrived o.line a))
+      (λ (np : f ≡ o.file → ⊥).
+      let same : front (state_of (after_offer files o.file o.line a) f) ≡ front (state_of files f) = ap (λ (s : FileState). front s) (other_file f np) in
+      omega arith)
+      (cases_eq f o.file)
 
 -- a line that was taken, by its parts
 pub taken_is : (t : Taken) (k : ℕ) (e : Entry) → t.line ≡ k → t.answer ≡ answer_of e → t ≡ answered_line (k, e)
 taken_is t k e p q = ap (λ x. let r : Taken = record { line = x; answer = t.answer } in r) p ∙ ap (λ y. let r : Taken = record { line = k; answer = y } in r) q
+
+-- a numbered list has each element with its number
+pub numbered_at : {X : Type 0} (xs : List X) (n : ℕ) (d : X) → n < length xs → get_or (enumerate_from 0 xs) n (0, d) ≡ (n, get_or xs n d)
+numbered_at {X} xs n d low =
+    let from_none : 0 + n ≡ n = omega arith in
+    get_or-enumerate_from 0 xs n (0, d) low ∙ ap {B = ℕ × X} (λ m. (m, get_or xs n d)) from_none
+
+-- and so the element that is at a place
+pub numbered_is : {X : Type 0} (xs : List X) (n : ℕ) (x : X) → slice_get xs n ≡ Some x → get_or (enumerate_from 0 xs) n (0, x) ≡ (n, x)
+numbered_is {X} xs n x is =
+    numbered_at xs n x (slice_get_within xs n x is) ∙ ap {B = ℕ × X} (λ y. (n, y)) (get_or_from_slice_get xs n x x is)
 
 -- the line at a place of the answered lines
 pub answered_at : (entries : List Entry) (n : ℕ) (e : Entry) (d : Taken) → slice_get entries n ≡ Some e → get_or (answered_lines entries) n d ≡ answered_line (n, e)
@@ -101,58 +128,15 @@ answered_at entries n e d is =
     let xs : List (ℕ × Entry) = enumerate_from 0 entries in
     let low : n < length entries = slice_get_within entries n e is in
     let many : length xs ≡ length entries = length-enumerate_from 0 entries in
-    let p : ℕ × Entry = (0, e) in
-    let at : get_or xs n p ≡ (0 + n, get_or entries n e) = get_or-enumerate_from 0 entries n p low in
-    let here : get_or entries n e ≡ e = get_or_from_slice_get entries n e e is in
-    let pair : get_or xs n p ≡ (n, e) = at ∙ ap (λ m. let r : ℕ × Entry = (m, get_or entries n e) in r) (let z : 0 + n ≡ n = omega arith in z) ∙ ap (λ x. let r : ℕ × Entry = (n, x) in r) here in
-    get_or-map answered_line xs n p d (omega arith) ∙ ap answered_line pair
+    get_or-map answered_line xs n (0, e) d (omega arith) ∙ ap answered_line (numbered_is entries n e is)
 
 -- there are as many answered lines as entries
 pub answered_many : (entries : List Entry) → length (answered_lines entries) ≡ length entries
 answered_many entries = length-map (enumerate_from 0 entries) answered_line ∙ length-enumerate_from 0 entries
 
--- an accepted offer keeps what the events say
-offered_ok : (jobs : List (List Entry)) (events : List Event) (files : List FileState) (o : Offer) (ready : ℕ) → IsWanted jobs files o → Kept jobs events files
-    → Kept jobs (events ++ Offered o (Ok ready) ∷ []) (after_offer files o.file o.line (answer_of o.entry))
-offered_ok jobs events files o ready wanted kept =
-    let low = wanted_file jobs files o wanted in
-    let a : Answer = answer_of o.entry in
-    record {
-      offered = subst (λ (l : List Offer). Holds jobs l (after_offer files o.file o.line a)) (sym (offers_append events (Offered o (Ok ready) ∷ []))) (holds_accepted jobs (offers events) files o kept.offered wanted);
-      took = record {
-        taken = λ f. takes_offered f events o (Ok ready) ∙ kept.took.taken f ∙ ap (λ n. take n (answered_lines (entries_of jobs f))) (sym (taken_after_offer files o a low f));
-        within = λ f.
-            let x = taken_after_offer files o a low f in
-            let y = front_after_offer files o a low f in
-            let z = kept.took.within f in
-            omega arith;
-      };
-    }
-
--- so does a refused one
-offered_err : (jobs : List (List Entry)) (events : List Event) (files : List FileState) (o : Offer) (r : Refusal) → IsRefusedFor jobs files o r → Kept jobs events files
-    → Kept jobs (events ++ Offered o (Err r) ∷ []) files
-offered_err jobs events files o r refused kept = record {
-  offered = subst (λ (l : List Offer). Holds jobs l files) (sym (offers_append events (Offered o (Err r) ∷ []))) (holds_refused jobs (offers events) files o r kept.offered refused);
-  took = record {
-    taken = λ f. takes_offered f events o (Err r) ∙ kept.took.taken f;
-    within = kept.took.within;
-  };
-}
-
 -- a take offers nothing
 offers_took : (events : List Event) (f : ℕ) (gave : Option Taken) → offers (events ++ Took f gave ∷ []) ≡ offers events
 offers_took events f gave = offers_append events (Took f gave ∷ []) ∙ append-nil (offers events)
-
--- a take that gave nothing keeps what the events say
-took_none : (jobs : List (List Entry)) (events : List Event) (files : List FileState) (f : ℕ) → Kept jobs events files → Kept jobs (events ++ Took f None ∷ []) files
-took_none jobs events files f kept = record {
-  offered = subst (λ (l : List Offer). Holds jobs l files) (sym (offers_took events f None)) kept.offered;
-  took = record {
-    taken = λ g. takes_none g f events ∙ kept.took.taken g;
-    within = kept.took.within;
-  };
-}
 
 -- the list of the first lines grows by the line that is taken
 pub first_lines_more : (jobs : List (List Entry)) (past : List Offer) (files : List FileState) (f : ℕ) (t : Taken) → Holds jobs past files → IsNext (state_of files f) t
@@ -166,66 +150,108 @@ first_lines_more jobs past files f t holds is_next =
     let low : n < length xs = (let a = slice_get_within (entries_of jobs f) n w.entry at in let b = answered_many (entries_of jobs f) in omega arith) in
     ap (λ x. take n xs ++ x ∷ []) (sym here) ∙ sym (take_more xs n t low)
 
--- so does one that gave a line
-took_some : (jobs : List (List Entry)) (events : List Event) (files : List FileState) (f : ℕ) (t : Taken) → f < length files → IsNext (state_of files f) t
-    → Kept jobs events files → Kept jobs (events ++ Took f (Some t) ∷ []) (after_take files f)
-took_some jobs events files f t low is_next kept =
-    let after : List FileState = after_take files f in
-    let now : List Event = events ++ Took f (Some t) ∷ [] in
-    let here : state_of after f ≡ with_one_taken (state_of files f) = state_same files f (with_one_taken (state_of files f)) low in
-    let other : (g : ℕ) → (g ≡ f → ⊥) → state_of after g ≡ state_of files g = λ g np. state_other files f g (with_one_taken (state_of files f)) np in
-    let lines_of : ℕ → List Taken = λ g. answered_lines (entries_of jobs g) in
-    record {
-      offered = subst (λ (l : List Offer). Holds jobs l after) (sym (offers_took events f (Some t))) (holds_take jobs (offers events) files f low kept.offered);
-      took = record {
-        taken = λ g.
-            ⊎_elim
-            (λ (p : g ≡ f).
-            takes_same g f events t p
-            ∙ ap (λ x. takes x events ++ t ∷ []) p
-            ∙ ap (λ l. l ++ t ∷ []) (kept.took.taken f)
-            ∙ first_lines_more jobs (offers events) files f t kept.offered is_next
-            ∙ ap (λ (s : FileState). take s.taken (lines_of f)) (sym here)
-            ∙ ap (λ x. take (state_of after x).taken (lines_of x)) (sym p))
-            (λ (np : g ≡ f → ⊥). takes_other g f events t np ∙ kept.took.taken g ∙ ap (λ (s : FileState). take s.taken (lines_of g)) (sym (other g np)))
-            (cases_eq g f);
-        within = λ g.
-            ⊎_elim
-            (λ (p : g ≡ f).
-            let b : (state_of after g).taken ≡ (state_of files f).taken + 1 = ap (λ x. (state_of after x).taken) p ∙ ap (λ (s : FileState). s.taken) here in
-            let c : front (state_of after g) ≡ front (state_of files f) = ap (λ x. front (state_of after x)) p ∙ ap (λ (s : FileState). front s) here in
-            let d = is_next.ready in
-            omega arith)
-            (λ (np : g ≡ f → ⊥). subst (λ (s : FileState). s.taken ≤ front s) (sym (other g np)) (kept.took.within g))
-            (cases_eq g f);
-      };
-    }
+-- what the events say is kept by each event
+module _ {jobs : List (List Entry)} {events : List Event} {files : List FileState} (kept : Kept jobs events files) where
+  -- by an accepted offer
+  offered_ok : (o : Offer) (ready : ℕ) → IsWanted jobs files o
+      → Kept jobs (events ++ Offered o (Ok ready) ∷ []) (after_offer files o.file o.line (answer_of o.entry))
+  offered_ok o ready wanted =
+      let low = wanted_file jobs files o wanted in
+      let a : Answer = answer_of o.entry in
+      record {
+        offered = subst (λ (l : List Offer). Holds jobs l (after_offer files o.file o.line a)) (sym (offers_append events (Offered o (Ok ready) ∷ [])))
+            (holds_accepted jobs (offers events) files o kept.offered wanted);
+        took = record {
+          taken = λ f.
+              takes_offered f events o (Ok ready)
+              ∙ kept.took.taken f
+              ∙ ap (λ n. take n (answered_lines (entries_of jobs f))) (sym (taken_after_offer files o a low f));
+          within = λ f.
+              let x = taken_after_offer files o a low f in
+              let y = front_after_offer files o a low f in
+              let z = kept.took.within f in
+              omega arith;
+        };
+      }
 
--- any offer
-offered_step : (jobs : List (List Entry)) (events : List Event) (files after : List FileState) (o : Offer) (gave : Result ℕ Refusal) → Offers jobs files o gave after
-    → Kept jobs events files → Kept jobs (events ++ Offered o gave ∷ []) after
-offered_step jobs events files after o (Ok ready) step kept =
-    subst (λ (s : List FileState). Kept jobs (events ++ Offered o (Ok ready) ∷ []) s) (sym step.kept) (offered_ok jobs events files o ready step.wanted kept)
-offered_step jobs events files after o (Err r) step kept =
-    subst (λ (s : List FileState). Kept jobs (events ++ Offered o (Err r) ∷ []) s) (sym step.unchanged) (offered_err jobs events files o r step.cause kept)
+  -- by a refused one
+  offered_err : (o : Offer) (r : Refusal) → IsRefusedFor jobs files o r → Kept jobs (events ++ Offered o (Err r) ∷ []) files
+  offered_err o r refused = record {
+    offered = subst (λ (l : List Offer). Holds jobs l files) (sym (offers_append events (Offered o (Err r) ∷ [])))
+        (holds_refused jobs (offers events) files o r kept.offered refused);
+    took = record {
+      taken = λ f. takes_offered f events o (Err r) ∙ kept.took.taken f;
+      within = kept.took.within;
+    };
+  }
 
--- any take
-took_step : (jobs : List (List Entry)) (events : List Event) (files after : List FileState) (f : ℕ) (gave : Option Taken) → Takes files f gave after → Kept jobs events files → Kept jobs (events ++ Took f gave ∷ []) after
-took_step jobs events files after f None step kept = subst (λ (s : List FileState). Kept jobs (events ++ Took f None ∷ []) s) (sym step.unchanged) (took_none jobs events files f kept)
-took_step jobs events files after f (Some t) step kept =
-    subst (λ (s : List FileState). Kept jobs (events ++ Took f (Some t) ∷ []) s) (sym step.kept) (took_some jobs events files f t step.file_there step.next_line kept)
+  -- by a take that gave nothing
+  took_none : (f : ℕ) → Kept jobs (events ++ Took f None ∷ []) files
+  took_none f = record {
+    offered = subst (λ (l : List Offer). Holds jobs l files) (sym (offers_took events f None)) kept.offered;
+    took = record {
+      taken = λ g. takes_none g f events ∙ kept.took.taken g;
+      within = kept.took.within;
+    };
+  }
 
--- any event
-pub happens : (jobs : List (List Entry)) (events : List Event) (files after : List FileState) (e : Event) → Happens jobs files e after → Kept jobs events files → Kept jobs (events ++ e ∷ []) after
-happens jobs events files after (Offered o gave) step kept = offered_step jobs events files after o gave step kept
-happens jobs events files after (Took f gave) step kept = took_step jobs events files after f gave step kept
+  -- by one that gave a line
+  took_some : (f : ℕ) (t : Taken) → f < length files → IsNext (state_of files f) t → Kept jobs (events ++ Took f (Some t) ∷ []) (after_take files f)
+  took_some f t low is_next =
+      let after : List FileState = after_take files f in
+      let here : state_of after f ≡ with_one_taken (state_of files f) = state_same files f (with_one_taken (state_of files f)) low in
+      let other : (g : ℕ) → (g ≡ f → ⊥) → state_of after g ≡ state_of files g =
+      λ g np. state_other files f g (with_one_taken (state_of files f)) np in
+      let lines_of : ℕ → List Taken = λ g. answered_lines (entries_of jobs g) in
+      record {
+        offered = subst (λ (l : List Offer). Holds jobs l after) (sym (offers_took events f (Some t)))
+            (holds_take jobs (offers events) files f low kept.offered);
+        took = record {
+          taken = λ g.
+              ⊎_elim
+              (λ (p : g ≡ f).
+              takes_same g f events t p
+              ∙ ap (λ x. takes x events ++ t ∷ []) p
+              ∙ ap (λ l. l ++ t ∷ []) (kept.took.taken f)
+              ∙ first_lines_more jobs (offers events) files f t kept.offered is_next
+              ∙ ap (λ (s : FileState). take s.taken (lines_of f)) (sym here)
+              ∙ ap (λ x. take (state_of after x).taken (lines_of x)) (sym p))
+              (λ (np : g ≡ f → ⊥).
+              takes_other g f events t np ∙ kept.took.taken g ∙ ap (λ (s : FileState). take s.taken (lines_of g)) (sym (other g np)))
+              (cases_eq g f);
+          within = λ g.
+              ⊎_elim
+              (λ (p : g ≡ f).
+              let b : (state_of after g).taken ≡ (state_of files f).taken + 1 =
+              ap (λ x. (state_of after x).taken) p ∙ ap (λ (s : FileState). s.taken) here in
+              let c : front (state_of after g) ≡ front (state_of files f) =
+              ap (λ x. front (state_of after x)) p ∙ ap (λ (s : FileState). front s) here in
+              let d = is_next.ready in
+              omega arith)
+              (λ (np : g ≡ f → ⊥). subst (λ (s : FileState). s.taken ≤ front s) (sym (other g np)) (kept.took.within g))
+              (cases_eq g f);
+        };
+      }
+
+  -- by any event
+  happens : (after : List FileState) (e : Event) → Happens jobs files e after → Kept jobs (events ++ e ∷ []) after
+  happens after (Offered o (Ok ready)) step =
+      subst (λ (s : List FileState). Kept jobs (events ++ Offered o (Ok ready) ∷ []) s) (sym step.kept) (offered_ok o ready step.wanted)
+  happens after (Offered o (Err r)) step =
+      subst (λ (s : List FileState). Kept jobs (events ++ Offered o (Err r) ∷ []) s) (sym step.unchanged) (offered_err o r step.cause)
+  happens after (Took f None) step =
+      subst (λ (s : List FileState). Kept jobs (events ++ Took f None ∷ []) s) (sym step.unchanged) (took_none f)
+  happens after (Took f (Some t)) step =
+      subst (λ (s : List FileState). Kept jobs (events ++ Took f (Some t) ∷ []) s) (sym step.kept) (took_some f t step.file_there step.next_line)
 
 -- any list of events
-pub runs : (jobs : List (List Entry)) (past events : List Event) (files after : List FileState) → Runs jobs files events after → Kept jobs past files → Kept jobs (past ++ events) after
-runs jobs past [] files after run kept = subst (λ (l : List Event). Kept jobs l after) (sym (append-nil past)) (subst (λ (s : List FileState). Kept jobs past s) run kept)
+pub runs : (jobs : List (List Entry)) (past events : List Event) (files after : List FileState) → Runs jobs files events after → Kept jobs past files
+    → Kept jobs (past ++ events) after
+runs jobs past [] files after run kept =
+    subst (λ (l : List Event). Kept jobs l after) (sym (append-nil past)) (subst (λ (s : List FileState). Kept jobs past s) run kept)
 runs jobs past (e ∷ events) files after run kept =
     subst (λ (l : List Event). Kept jobs l after) (append_assoc past (e ∷ []) events)
-    (runs jobs (past ++ e ∷ []) events run.0 after run.2 (happens jobs past files run.0 e run.1 kept))
+    (runs jobs (past ++ e ∷ []) events run.0 after run.2 (happens kept run.0 e run.1))
 
 -- the start
 none_replicate : (n k : ℕ) → get_or (replicate n (let x : Option Answer = None in x)) k None ≡ None
@@ -242,7 +268,9 @@ new_none (entries ∷ jobs) (suc f) k = new_none jobs f k
 -- new files have the jobs' lines
 pub new_lines : (jobs : List (List Entry)) → HasLinesOf jobs (new_files jobs)
 new_lines [] = refl
-new_lines (entries ∷ jobs) = ap (λ n. n ∷ map line_count (new_files jobs)) (length-replicate (length entries) (let x : Option Answer = None in x)) ∙ ap (λ l. length entries ∷ l) (new_lines jobs)
+new_lines (entries ∷ jobs) =
+    let nothing : Option Answer = None in
+    ap (λ n. n ∷ map line_count (new_files jobs)) (length-replicate (length entries) nothing) ∙ ap (λ l. length entries ∷ l) (new_lines jobs)
 
 -- nothing was taken of new files
 pub new_taken : (jobs : List (List Entry)) (f : ℕ) → (state_of (new_files jobs) f).taken ≡ 0
@@ -299,14 +327,18 @@ pub law_holds : (jobs : List (List Entry)) (events : List Event) (files : List F
 law_holds jobs events files run = meets jobs events files (runs jobs [] events (new_files jobs) files run (start jobs))
 
 -- the counts of lines stay
-pub counts_offered : (jobs : List (List Entry)) (files after : List FileState) (o : Offer) (gave : Result ℕ Refusal) → Offers jobs files o gave after → HasLinesOf jobs files → HasLinesOf jobs after
+pub counts_offered : (jobs : List (List Entry)) (files after : List FileState) (o : Offer) (gave : Result ℕ Refusal) → Offers jobs files o gave after
+    → HasLinesOf jobs files → HasLinesOf jobs after
 counts_offered jobs files after o (Ok ready) step counts =
+    let s : FileState = state_of files o.file in
+    let a : Answer = answer_of o.entry in
     ap (λ (l : List FileState). map line_count l) step.kept
-    ∙ counts_set files o.file (with_answer (state_of files o.file) o.line (answer_of o.entry)) (length-set (state_of files o.file).arrived o.line (Some (answer_of o.entry)))
+    ∙ counts_set files o.file (with_answer s o.line a) (length-set s.arrived o.line (Some a))
     ∙ counts
 counts_offered jobs files after o (Err r) step counts = ap (λ (l : List FileState). map line_count l) step.unchanged ∙ counts
 
 -- so does a take
 pub counts_taken : (files after : List FileState) (f : ℕ) (gave : Option Taken) → Takes files f gave after → map line_count after ≡ map line_count files
 counts_taken files after f None step = ap (λ (l : List FileState). map line_count l) step.unchanged
-counts_taken files after f (Some t) step = ap (λ (l : List FileState). map line_count l) step.kept ∙ counts_set files f (with_one_taken (state_of files f)) refl
+counts_taken files after f (Some t) step =
+    ap (λ (l : List FileState). map line_count l) step.kept ∙ counts_set files f (with_one_taken (state_of files f)) refl

@@ -33,7 +33,7 @@ module _ (files : List NamedBytes) (jobs : List (List Entry)) (past : List Offer
   all_given =
       let once : AreJobsInSomeOrder r.jobs.now past = subst (λ l. AreJobsInSomeOrder l past) (sym reporting.of_jobs) each in
       subst (λ l. WasGiven begun out failed l) (ap (λ l. text_of_jobs (text_of files) l) reporting.of_jobs ∙ texts_are_output files jobs)
-      (way_end (text_of files) r.jobs.now past r.collector r.current begun out failed once waits reporting.way)
+      (way_end reporting.way once waits)
 
   pub all_counted : r.faults ≡ count_by is_faulty_offer (job_list jobs)
   all_counted = reporting.faults ∙ each.same_counts is_faulty_offer

@@ -2,7 +2,6 @@ use Rattle.std.proofs.Common.{ℕ, List, ◌++◌, ◌∙◌, sym, subst, ap}
 use Rattle.kalah_jobs.specs.Given.{WasGiven}
 use Rattle.kalah_jobs.specs.NamedBytes.{NamedBytes}
 use Rattle.kalah_jobs.proofs.BatchWay.{wrote_line, wrote_nothing}
-use Rattle.kalah_run.specs.Texts.{text_of}
 use Rattle.kalah_run.proofs.Reports.{text_of_file}
 use Rattle.kalah_run.proofs.report.write_lines.Goals as goal
 
@@ -11,16 +10,13 @@ loop-taken-preserved g c = record {
   way = λ past begun way.
       let text = text_of_file c.args.files.now c.args.f c.index-files-f.result c.as_str.result.now c.in-Some.taken c.requires c.index-files-f.is
       (c.as_str.ensures.value ∙ ap (λ (x : NamedBytes). x.name) c.file.view_is) in
-      wrote_line (text_of c.args.files.now) c.args.jobs.now past c.loop-taken.collector c.take.new.self c.args.f c.in-Some.taken begun
-      (g.W.Sink.written c.loop-taken.out) (g.W.Sink.written c.write_line.new.out) (g.W.Sink.has_failed c.loop-taken.out) (g.W.Sink.has_failed c.write_line.new.out)
-      c.in-Some.ensures.takes
+      wrote_line (c.loop-taken.invariant.way past begun way) c.take.new.self c.in-Some.taken
+      (g.W.Sink.written c.write_line.new.out) (g.W.Sink.has_failed c.write_line.new.out) c.in-Some.ensures.takes
       (λ given was. subst (λ (l : List ℕ). WasGiven begun (g.W.Sink.written c.write_line.new.out) (g.W.Sink.has_failed c.write_line.new.out) (given ++ l))
-      (sym text) (c.write_line.ensures begun given was))
-      (c.loop-taken.invariant.way past begun way);
+      (sym text) (c.write_line.ensures begun given was));
   counts = c.in-Some.ensures.counts ∙ c.loop-taken.invariant.counts;
 }
 
 pub returns-clause-way : goal.returns-clause-way
 returns-clause-way g c = λ past begun way.
-    wrote_nothing (text_of c.args.files.now) c.args.jobs.now past c.loop-taken.collector c.take.new.self c.args.f begun
-    (g.W.Sink.written c.loop-taken.out) (g.W.Sink.has_failed c.loop-taken.out) c.in_default.ensures.takes (c.loop-taken.invariant.way past begun way)
+    wrote_nothing (c.loop-taken.invariant.way past begun way) c.take.new.self c.in_default.ensures.takes

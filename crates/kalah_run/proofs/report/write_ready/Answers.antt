@@ -1,6 +1,5 @@
 use Rattle.std.proofs.Common.{◌∙◌, refl}
 use Rattle.kalah_jobs.proofs.BatchWay.{wrote_file}
-use Rattle.kalah_run.specs.Texts.{text_of}
 use Rattle.kalah_run.proofs.report.write_ready.Goals as goal
 
 pub returns-then-not-ended-clause-way : goal.returns-then-not-ended-clause-way
@@ -10,8 +9,7 @@ pub loop-f-preserved : goal.loop-f-preserved
 loop-f-preserved g c = record {
   way = λ past begun way.
       let ended = c.if-not-ended.ensures in
-      wrote_file (text_of c.args.files.now) c.args.jobs.now past c.write_lines.new.collector c.loop-f.f begun
-      (g.W.Sink.written c.write_lines.new.out) (g.W.Sink.has_failed c.write_lines.new.out)
-      (ended.0 refl).0 (ended.0 refl).1 c.write_lines.ensures.all (c.write_lines.ensures.way past begun (c.loop-f.invariant.way past begun way));
+      wrote_file (c.write_lines.ensures.way past begun (c.loop-f.invariant.way past begun way))
+      (ended.0 refl).0 (ended.0 refl).1 c.write_lines.ensures.all;
   counts = c.write_lines.ensures.counts ∙ c.loop-f.invariant.counts;
 }

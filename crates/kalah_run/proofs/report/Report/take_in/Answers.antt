@@ -3,7 +3,6 @@ use Rattle.kalah_jobs.proofs.BatchWay.{way_offered}
 use Rattle.kalah_jobs.specs.Answer.{is_fault}
 use Rattle.kalah_jobs.specs.declared.answer.Answer.{Answer}
 use Rattle.std.specs.Prelude.{if◌then◌else◌}
-use Rattle.kalah_run.specs.Texts.{text_of}
 use Rattle.kalah_run.proofs.Reports.{faults_more}
 use Rattle.kalah_run.proofs.report.Report.take_in.Goals as goal
 
@@ -12,8 +11,7 @@ returns-clause-way g c = λ files jobs past begun reporting.
     c.write.ensures.way files jobs _ begun (record {
       of_files = reporting.of_files;
       of_jobs = reporting.of_jobs;
-      way = way_offered (text_of files) c.args.self.now.jobs.now past c.args.outcome c.args.self.now.collector c.offer.new.self c.offer.result
-          c.args.self.now.current begun (g.W.Sink.written c.args.out.now) (g.W.Sink.has_failed c.args.out.now) c.offer.ensures.offers reporting.way;
+      way = way_offered reporting.way c.args.outcome c.offer.new.self c.offer.result c.offer.ensures.offers;
       faults = faults_more past c.args.outcome c.args.self.now.faults _ reporting.faults
           (c.faults_in.ensures ∙ ap (λ (a : Answer). if is_fault a then 1 else 0) c.answer.ensures);
     })
