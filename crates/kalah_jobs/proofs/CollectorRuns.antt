@@ -16,7 +16,7 @@ use Rattle.kalah_jobs.specs.JobList.{entries_of, entry_at, offer}
 use Rattle.kalah_jobs.specs.CollectorState.{FileState, state_of, new_files, line_count, front, came_for, HasLinesOf, IsNext, with_answer, with_one_taken, after_offer, after_take}
 use Rattle.kalah_jobs.specs.Refusals.{IsWanted, IsRefusedFor}
 use Rattle.kalah_jobs.specs.CollectorEvents.{Event, Offered, Took, offers, takes, with_taken, Offers, Takes, Came, answered_line, answered_lines}
-use Rattle.kalah_jobs.specs.CollectorLaw.{Happens, Runs, Meets}
+use Rattle.kalah_jobs.specs.CollectorLaw.{Happens, Runs, Meets, CollectorLaw}
 use Rattle.kalah_jobs.specs.UnderWay.{Holds}
 use Rattle.kalah_jobs.proofs.Fronts.{front_within, front_came, front_set, front_least}
 use Rattle.kalah_jobs.proofs.CollectorSteps.{state_same, state_other, lines_are, counts_set, wanted_file, holds_accepted, holds_refused, holds_take, some_value, is_some_of}
@@ -323,7 +323,7 @@ meets jobs events files kept =
     }
 
 -- the law
-pub law_holds : (jobs : List (List Entry)) (events : List Event) (files : List FileState) → Runs jobs (new_files jobs) events files → Meets jobs events files
+pub law_holds : CollectorLaw
 law_holds jobs events files run = meets jobs events files (runs jobs [] events (new_files jobs) files run (start jobs))
 
 -- the counts of lines stay

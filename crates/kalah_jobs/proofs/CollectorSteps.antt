@@ -98,8 +98,12 @@ after_cases files o a file_low line_low f k =
     (λ (p : f ≡ o.file).
     let here : state_of (after_offer files o.file o.line a) f ≡ w = ap (λ g. state_of (after_offer files o.file o.line a) g) p ∙ state_same files o.file w file_low in
     ⊎_elim {C = R}
-    (λ (q : k ≡ o.line). inl (record { file_is = p; line_is = q; came = ap (λ t. came_for t k) here ∙ ap (λ j. came_for w j) q ∙ get_or-set_same s.arrived o.line (Some a) None line_low }))
-    (λ (nq : k ≡ o.line → ⊥). inr (record { apart = λ h. nq h.1; kept = ap (λ t. came_for t k) here ∙ get_or-set_other s.arrived o.line k (Some a) None nq ∙ ap (λ g. came_for (state_of files g) k) (sym p) }))
+    (λ (q : k ≡ o.line).
+    let new : came_for w o.line ≡ Some a = get_or-set_same s.arrived o.line (Some a) None line_low in
+    inl (record { file_is = p; line_is = q; came = ap (λ t. came_for t k) here ∙ ap (λ j. came_for w j) q ∙ new }))
+    (λ (nq : k ≡ o.line → ⊥).
+    let same : came_for w k ≡ came_for s k = get_or-set_other s.arrived o.line k (Some a) None nq in
+    inr (record { apart = λ h. nq h.1; kept = ap (λ t. came_for t k) here ∙ same ∙ ap (λ g. came_for (state_of files g) k) (sym p) }))
     (cases_eq k o.line))
     (λ (np : f ≡ o.file → ⊥). inr (record { apart = λ h. np h.0; kept = ap (λ t. came_for t k) (state_other files o.file f w np) }))
     (cases_eq f o.file)
@@ -191,7 +195,10 @@ holds_refused jobs past files o r holds refused = record {
 pub came_after_take : (files : List FileState) (f : ℕ) → f < length files → (g : ℕ) → (state_of (after_take files f) g).arrived ≡ (state_of files g).arrived
 came_after_take files f low g =
     ⊎_elim
-    (λ (p : g ≡ f). ap (λ x. (state_of (after_take files f) x).arrived) p ∙ ap (λ (s : FileState). s.arrived) (state_same files f (with_one_taken (state_of files f)) low) ∙ ap (λ x. (state_of files x).arrived) (sym p))
+    (λ (p : g ≡ f).
+    ap (λ x. (state_of (after_take files f) x).arrived) p
+    ∙ ap (λ (s : FileState). s.arrived) (state_same files f (with_one_taken (state_of files f)) low)
+    ∙ ap (λ x. (state_of files x).arrived) (sym p))
     (λ (np : g ≡ f → ⊥). ap (λ (s : FileState). s.arrived) (state_other files f g (with_one_taken (state_of files f)) np))
     (cases_eq g f)
 

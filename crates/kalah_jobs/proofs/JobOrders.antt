@@ -1,5 +1,5 @@
 -- Offers of each job once, in any order.
-use Rattle.std.proofs.Common.{◌≡◌, ℕ, zero, suc, ◌+◌, ◌<◌, ◌≤◌, ⊎_elim, List, [], ◌∷◌, ◌++◌, length, map, get_or, true, false, cond, Bool, refl, sym, ap, ◌∙◌, subst, arith}
+use Rattle.std.proofs.Common.{◌≡◌, ℕ, zero, suc, ◌+◌, ◌<◌, ◌≤◌, ⊎_elim, List, [], ◌∷◌, ◌++◌, length, get_or, true, false, cond, Bool, refl, sym, ap, ◌∙◌, subst, arith}
 use Rattle.std.specs.Prelude.{Option, Some, None, is_some, Result, Ok, Err, IsOk, Contains, count_by, slice_get}
 use Rattle.std.proofs.lemmas.Bool.{cases_eq, cases_Bool}
 use Rattle.std.proofs.lemmas.List.{append-nil}
@@ -15,10 +15,9 @@ use Rattle.kalah_jobs.specs.Offer.{Offer}
 use Rattle.kalah_jobs.specs.JobList.{entries_of, entry_at, offer, file_jobs, jobs_from, job_list}
 use Rattle.kalah_jobs.specs.CollectorState.{FileState, state_of, came_for, HasEnded, new_files}
 use Rattle.kalah_jobs.specs.Refusals.{IsRefusedFor}
-use Rattle.kalah_jobs.specs.CollectorEvents.{Event, offers, Offers}
-use Rattle.kalah_jobs.specs.CollectorLaw.{Runs}
+use Rattle.kalah_jobs.specs.CollectorEvents.{offers, Offers}
 use Rattle.kalah_jobs.specs.Shares.{AreShared}
-use Rattle.kalah_jobs.specs.Batch.{job, AreJobsInSomeOrder}
+use Rattle.kalah_jobs.specs.Batch.{job, AreJobsInSomeOrder, SharesLaw, OffersLaw, FrontsLaw}
 use Rattle.kalah_jobs.specs.UnderWay.{Holds}
 use Rattle.kalah_jobs.proofs.Fronts.{front_full}
 use Rattle.kalah_jobs.proofs.CollectorSteps.{lines_are, some_value, one_entry, refused_came}
@@ -236,31 +235,32 @@ each_came jobs got h f k e is =
 contains_by_entry : (past : List Offer) (o : Offer) (e : Entry) → e ≡ o.entry → Contains past (offer o.file o.line e) → Contains past o
 contains_by_entry past o e is has = subst (λ x. Contains past (offer o.file o.line x)) is has
 
--- an offer among the jobs that was not offered before is refused for nothing
-not_refused : (jobs : List (List Entry)) (past : List Offer) (o : Offer) (rest : List Offer) (files : List FileState) (r : Refusal) → AreJobsInSomeOrder jobs (past ++ o ∷ rest) → Holds jobs past files
-    → IsRefusedFor jobs files o r → ⊥
-not_refused jobs past o rest files r h holds refused =
-    let a = times_append o past (o ∷ rest) in
-    let b = times_yes o o rest (same_itself o) in
-    let c = same_times jobs (past ++ o ∷ rest) h o in
-    let d = files_once o 0 jobs in
-    let e = job_from o 0 jobs (contains_from_times o (job_list jobs) (omega arith)) in
-    let at : e.place ≡ o.file = (let q = e.file_is in omega arith) in
-    let entry_is : entry_at jobs o.file o.line ≡ Some o.entry = ap (λ g. entry_at jobs g o.line) (sym at) ∙ e.entry_is in
-    let unseen : times o past ≡ 0 = omega arith in
-    let full = refused_came jobs files o.file o.line o.entry r holds.counts entry_is refused in
-    let v = some_value (came_for (state_of files o.file) o.line) full in
-    let w = holds.only o.file o.line v.0 v.1 in
-    let e_is : w.entry ≡ o.entry = one_entry (entry_at jobs o.file o.line) w.entry o.entry w.at entry_is in
-    let has : Contains past o = contains_by_entry past o w.entry e_is w.offered in
-    let z = times_from_contains o past has in
-    omega arith
+-- an offer among the jobs that was not offered before
+module _ {jobs : List (List Entry)} {past : List Offer} {files : List FileState} (o : Offer) (rest : List Offer)
+    (h : AreJobsInSomeOrder jobs (past ++ o ∷ rest)) (holds : Holds jobs past files) where
+  -- it is refused for nothing
+  not_refused : (r : Refusal) → IsRefusedFor jobs files o r → ⊥
+  not_refused r refused =
+      let a = times_append o past (o ∷ rest) in
+      let b = times_yes o o rest (same_itself o) in
+      let c = same_times jobs (past ++ o ∷ rest) h o in
+      let d = files_once o 0 jobs in
+      let e = job_from o 0 jobs (contains_from_times o (job_list jobs) (omega arith)) in
+      let at : e.place ≡ o.file = (let q = e.file_is in omega arith) in
+      let entry_is : entry_at jobs o.file o.line ≡ Some o.entry = ap (λ g. entry_at jobs g o.line) (sym at) ∙ e.entry_is in
+      let unseen : times o past ≡ 0 = omega arith in
+      let full = refused_came jobs files o.file o.line o.entry r holds.counts entry_is refused in
+      let v = some_value (came_for (state_of files o.file) o.line) full in
+      let w = holds.only o.file o.line v.0 v.1 in
+      let e_is : w.entry ≡ o.entry = one_entry (entry_at jobs o.file o.line) w.entry o.entry w.at entry_is in
+      let has : Contains past o = contains_by_entry past o w.entry e_is w.offered in
+      let z = times_from_contains o past has in
+      omega arith
 
--- it is accepted
-pub each_accepted : (jobs : List (List Entry)) (past : List Offer) (o : Offer) (rest : List Offer) (files after : List FileState) (gave : Result ℕ Refusal) → AreJobsInSomeOrder jobs (past ++ o ∷ rest) → Holds jobs past files
-    → Offers jobs files o gave after → IsOk gave
-each_accepted jobs past o rest files after (Ok ready) h holds step = refl
-each_accepted jobs past o rest files after (Err r) h holds step = absurd (not_refused jobs past o rest files r h holds step.cause)
+  -- so it is accepted
+  each_accepted : (after : List FileState) (gave : Result ℕ Refusal) → Offers jobs files o gave after → IsOk gave
+  each_accepted after (Ok ready) step = refl
+  each_accepted after (Err r) step = absurd (not_refused r step.cause)
 
 -- where each job was offered, each file has ended
 pub fronts_full : (jobs : List (List Entry)) (past : List Offer) (files : List FileState) → AreJobsInSomeOrder jobs past → Holds jobs past files → (f : ℕ) → HasEnded (state_of files f)
@@ -276,13 +276,13 @@ pub as_many : (jobs : List (List Entry)) (got : List Offer) → AreJobsInSomeOrd
 as_many jobs got h = sym (count_true got) ∙ h.same_counts (λ o. true) ∙ count_true (job_list jobs)
 
 -- the three laws
-pub shares_law : (jobs : List (List Entry)) (rows : List (List ℕ)) (got rest : List (ℕ × Offer)) → AreShared (length (job_list jobs)) (job jobs) rows (got ++ rest)
-    → length got ≡ length (job_list jobs) → AreJobsInSomeOrder jobs (map (λ t. t.1) got)
+pub shares_law : SharesLaw
 unfolding count_below
 shares_law jobs rows got rest shared whole =
     let none : rest ≡ [] = nothing_left (length (job_list jobs)) (job jobs) rows got rest shared whole in
     let all : got ++ rest ≡ got = ap (λ (l : List (ℕ × Offer)). got ++ l) none ∙ append-nil got in
-    let mine : AreShared (length (job_list jobs)) (job jobs) rows got = subst (λ (l : List (ℕ × Offer)). AreShared (length (job_list jobs)) (job jobs) rows l) all shared in
+    let mine : AreShared (length (job_list jobs)) (job jobs) rows got =
+    subst (λ (l : List (ℕ × Offer)). AreShared (length (job_list jobs)) (job jobs) rows l) all shared in
     record {
       same_counts = λ p.
           got_all_once p (length (job_list jobs)) (job jobs) rows got mine
@@ -290,11 +290,10 @@ shares_law jobs rows got rest shared whole =
     }
 
 -- the law of offers
-pub offers_law : (jobs : List (List Entry)) (past : List Event) (o : Offer) (rest : List Offer) (files after : List FileState) (gave : Result ℕ Refusal) → AreJobsInSomeOrder jobs (offers past ++ o ∷ rest)
-    → Runs jobs (new_files jobs) past files → Offers jobs files o gave after → IsOk gave
-offers_law jobs past o rest files after gave h run step = each_accepted jobs (offers past) o rest files after gave h (runs jobs [] past (new_files jobs) files run (start jobs)).offered step
+pub offers_law : OffersLaw
+offers_law jobs past o rest files after gave h run step =
+    each_accepted o rest h (runs jobs [] past (new_files jobs) files run (start jobs)).offered after gave step
 
 -- the law of fronts
-pub fronts_law : (jobs : List (List Entry)) (events : List Event) (files : List FileState) → AreJobsInSomeOrder jobs (offers events)
-    → Runs jobs (new_files jobs) events files → (f : ℕ) → HasEnded (state_of files f)
+pub fronts_law : FrontsLaw
 fronts_law jobs events files h run = fronts_full jobs (offers events) files h (runs jobs [] events (new_files jobs) files run (start jobs)).offered

@@ -51,7 +51,8 @@ side_ends_in_digit byte text houses store side =
     omega (arith, last, number_ends_in_digit slash side.store_text store side.store_written)
 
 -- a line that ends in ` e` is under the empty-capture rule
-rule_of_end : (rule : Rule) (text own other front : List ℕ) → text ≡ own ++ space ∷ other ++ ending_of rule → last_or space other ≤ 57 → text ≡ front ++ codes " e" → rule ≡ EmptyCapture
+rule_of_end : (rule : Rule) (text own other front : List ℕ) → text ≡ own ++ space ∷ other ++ ending_of rule
+    → last_or space other ≤ 57 → text ≡ front ++ codes " e" → rule ≡ EmptyCapture
 rule_of_end EmptyCapture text own other front parts digit ends = refl
 rule_of_end Classic text own other front parts digit ends =
     let last : 101 ≡ last_or space other =

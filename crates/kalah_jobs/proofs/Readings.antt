@@ -103,8 +103,9 @@ fault_is_reading line Seeds has =
 -- ---- every line is read, or has a fault
 
 -- no fault before the n-th holds
-no_fault_before : (text : List ℕ) (n : ℕ) → n ≤ 5 → (1 < n → ¬ Holds Long text) → (2 < n → ¬ Holds Empty text) → (3 < n → ¬ Holds Shape text) → (4 < n → ¬ Holds Houses text) →
-    (earlier : LineFault) → order_of earlier < n → ¬ Holds earlier text
+no_fault_before : (text : List ℕ) (n : ℕ) → n ≤ 5 → (1 < n → ¬ Holds Long text) → (2 < n → ¬ Holds Empty text)
+    → (3 < n → ¬ Holds Shape text) → (4 < n → ¬ Holds Houses text)
+    → (earlier : LineFault) → order_of earlier < n → ¬ Holds earlier text
 no_fault_before text n last long empty shape houses Long lt = long lt
 no_fault_before text n last long empty shape houses Empty lt = empty lt
 no_fault_before text n last long empty shape houses Shape lt = shape lt
@@ -152,11 +153,25 @@ is_read_or_faulty line =
     let text : List ℕ = without_cr line in
     elim (cases_lt most_bytes (length text)) [
       | inl long ↦
-          inr (Long, record { holds = long; first = no_fault_before text 1 (omega arith) (λ lt. absurd (omega (arith, lt))) (λ lt. absurd (omega (arith, lt))) (λ lt. absurd (omega (arith, lt))) (λ lt. absurd (omega (arith, lt))) })
+          inr (
+            Long,
+            record {
+              holds = long;
+              first = no_fault_before text 1 (omega arith) (λ lt. absurd (omega (arith, lt))) (λ lt. absurd (omega (arith, lt)))
+                  (λ lt. absurd (omega (arith, lt))) (λ lt. absurd (omega (arith, lt)));
+            },
+          )
       | inr few ↦ elim (cases_nil text) [
         | inl empty ↦
             let not_long : ¬ Holds Long text = λ long. omega (arith, few, long) in
-            inr (Empty, record { holds = empty; first = no_fault_before text 2 (omega arith) (λ _. not_long) (λ lt. absurd (omega (arith, lt))) (λ lt. absurd (omega (arith, lt))) (λ lt. absurd (omega (arith, lt))) })
+            inr (
+              Empty,
+              record {
+                holds = empty;
+                first = no_fault_before text 2 (omega arith) (λ _. not_long) (λ lt. absurd (omega (arith, lt)))
+                    (λ lt. absurd (omega (arith, lt))) (λ lt. absurd (omega (arith, lt)));
+              },
+            )
         | inr some ↦ with_bytes line few some
       ]
     ]

@@ -30,8 +30,9 @@ is_side_text text houses store side =
 pub is_line_text : (text : List ℕ) (p : Position) → IsLineOf text p → text ≡ line_text_of p
 unfolding line_text_of
 is_line_text text p line =
-    line.parts
-    ∙ ap₂ (λ (a b : List ℕ). a ++ space ∷ b ++ ending_of p.rule) (is_side_text line.own_text p.own p.own_store line.own_side) (is_side_text line.other_text p.other p.other_store line.other_side)
+    let own = is_side_text line.own_text p.own p.own_store line.own_side in
+    let other = is_side_text line.other_text p.other p.other_store line.other_side in
+    line.parts ∙ ap₂ (λ (a b : List ℕ). a ++ space ∷ b ++ ending_of p.rule) own other
 
 pub text_if_ok : (line : List ℕ) (r : Result Position LineFault) → r ≡ reading_of line → IfOk r (λ p. without_cr line ≡ line_text_of p)
 text_if_ok line (Ok p) e = is_line_text (without_cr line) p (reading_reads line p (sym e)).form
@@ -94,7 +95,9 @@ houses_text_length (n ∷ m ∷ houses) short =
 
 side_text_length : (houses : List ℕ) (store : ℕ) → length houses ≤ 6 → AllShort houses → store ≤ 99 → length (side_text houses store) ≤ 21
 side_text_length houses store few short low =
-    omega (arith, few, houses_text_length houses short, length-decimal-le 2 store (lit< tt) (omega (arith, low)) (omega (arith, low)), length-append (join_with_byte comma (map decimal houses)) (slash ∷ decimal store))
+    let own = houses_text_length houses short in
+    let last = length-decimal-le 2 store (lit< tt) (omega (arith, low)) (omega (arith, low)) in
+    omega (arith, few, own, last, length-append (join_with_byte comma (map decimal houses)) (slash ∷ decimal store))
 
 ending_length : (rule : Rule) → length (ending_of rule) ≤ 2
 ending_length Classic = omega arith
@@ -121,9 +124,10 @@ text_without_cr : (front houses : List ℕ) (store : ℕ) (rule : Rule) → stor
     without_cr (front ++ space ∷ side_text houses store ++ ending_of rule) ≡ front ++ space ∷ side_text houses store ++ ending_of rule
 text_without_cr front houses store Classic low =
     let row = join_with_byte comma (map decimal houses) in
+    let last = number_ends_without_cr slash (decimal store) store (decimal_is_number store low) in
     ap without_cr (append-nil (front ++ space ∷ side_text houses store))
     ∙ without_cr-append front space (side_text houses store)
-    ∙ ap (λ (t : List ℕ). front ++ t) (without_cr-append (space ∷ row) slash (decimal store) ∙ ap (λ (t : List ℕ). (space ∷ row) ++ t) (number_ends_without_cr slash (decimal store) store (decimal_is_number store low)))
+    ∙ ap (λ (t : List ℕ). front ++ t) (without_cr-append (space ∷ row) slash (decimal store) ∙ ap (λ (t : List ℕ). (space ∷ row) ++ t) last)
     ∙ sym (append-nil (front ++ space ∷ side_text houses store))
 text_without_cr front houses store EmptyCapture low = without_cr-append (front ++ space ∷ side_text houses store) space (codes "e")
 

@@ -21,13 +21,13 @@ pub record AreJobsInSomeOrder (jobs : List (List Entry)) (got : List Offer) : Ty
 
 -- Where each job was drawn once and sent by the worker that drew it, and as many were got as there are jobs, each job was got once.
 abbrev pub SharesLaw : Type 0
-SharesLaw = (jobs : List (List Entry)) (rows : List (List ℕ)) (got rest : List (ℕ × Offer)) → AreShared (length (job_list jobs)) (job jobs) rows (got ++ rest)
-    → length got ≡ length (job_list jobs) → AreJobsInSomeOrder jobs (map (λ t. t.1) got)
+SharesLaw = (jobs : List (List Entry)) (rows : List (List ℕ)) (got rest : List (ℕ × Offer))
+    → AreShared (length (job_list jobs)) (job jobs) rows (got ++ rest) → length got ≡ length (job_list jobs) → AreJobsInSomeOrder jobs (map (λ t. t.1) got)
 
 -- Where each job is offered once, in any order and with any takes between, each offer is accepted.
 abbrev pub OffersLaw : Type 0
-OffersLaw = (jobs : List (List Entry)) (past : List Event) (o : Offer) (rest : List Offer) (files after : List FileState) (gave : Result ℕ Refusal) → AreJobsInSomeOrder jobs (offers past ++ o ∷ rest)
-    → Runs jobs (new_files jobs) past files → Offers jobs files o gave after → IsOk gave
+OffersLaw = (jobs : List (List Entry)) (past : List Event) (o : Offer) (rest : List Offer) (files after : List FileState) (gave : Result ℕ Refusal)
+    → AreJobsInSomeOrder jobs (offers past ++ o ∷ rest) → Runs jobs (new_files jobs) past files → Offers jobs files o gave after → IsOk gave
 
 -- And in the end every line of every file is ready.
 abbrev pub FrontsLaw : Type 0

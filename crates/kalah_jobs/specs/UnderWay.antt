@@ -26,11 +26,13 @@ pub record Holds (jobs : List (List Entry)) (past : List Offer) (files : List Fi
 
 -- the texts of the files before f, and of the first n lines of f
 unfoldable pub written_upto : (ℕ → Taken → List ℕ) → List (List Entry) → ℕ → ℕ → List ℕ
-written_upto text jobs f n = flat_map (text_of_file text) (take f (enumerate_from 0 jobs)) ++ flat_map (text_of_line text f) (take n (enumerate_from 0 (entries_of jobs f)))
+written_upto text jobs f n =
+    flat_map (text_of_file text) (take f (enumerate_from 0 jobs)) ++ flat_map (text_of_line text f) (take n (enumerate_from 0 (entries_of jobs f)))
 
 -- With these offers made, the files before f are taken wholly and those behind it not at all. The sink was given the text of each
 -- line that was taken, in order.
-pub record IsUnderWay (text : ℕ → Taken → List ℕ) (jobs : List (List Entry)) (past : List Offer) (files : List FileState) (f : ℕ) (begun out : Option (List ℕ)) (failed : Bool) : Type 0 where
+pub record IsUnderWay (text : ℕ → Taken → List ℕ) (jobs : List (List Entry)) (past : List Offer) (files : List FileState) (f : ℕ)
+    (begun out : Option (List ℕ)) (failed : Bool) : Type 0 where
   pub holds : Holds jobs past files
   pub within : (g : ℕ) → (state_of files g).taken ≤ front (state_of files g)
   pub before : (g : ℕ) → g < f → (state_of files g).taken ≡ line_count (state_of files g)

@@ -9,7 +9,8 @@ pub returns-in_err-read_number : goal.returns-in_err-read_number
 returns-in_err-read_number c =
     let cut : IsCut c.in-Some.left.now c.cut.result.0.now c.cut.result.1 = record { parts = c.cut.ensures.parts; lengths = c.cut.ensures.lengths } in
     c.from_residual.ensures
-    ∙ sym (stops c.args.text.now c.loop-rest.row c.loop-rest.rest c.in-Some.left c.cut.result.0.now c.cut.result.1 c.loop-rest.invariant c.in-Some.is cut (sym c.read_number.ensures.value ∙ c.in_err-read_number.was))
+    ∙ sym (stops c.args.text.now c.loop-rest.row c.loop-rest.rest c.in-Some.left c.cut.result.0.now c.cut.result.1 c.loop-rest.invariant c.in-Some.is cut
+    (sym c.read_number.ensures.value ∙ c.in_err-read_number.was))
 
 pub push-requires : goal.push-requires
 push-requires c =
