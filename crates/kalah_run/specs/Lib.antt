@@ -14,4 +14,5 @@ pub mod Work
 pub mod Shifts
 pub mod Staffs
 pub mod Texts
+pub mod WritesOn
 pub mod Reporting

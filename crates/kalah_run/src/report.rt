@@ -7,8 +7,7 @@ ghost use Rattle.kalah_jobs.specs.Lines.{line_feed};
 ghost use Rattle.kalah_jobs.specs.Answer.{answer_line, is_fault};
 ghost use Rattle.kalah_jobs.specs.CollectorState.{state_of, line_count, HasEnded, HasNoNext, HasLinesOf};
 ghost use Rattle.kalah_jobs.specs.Given.{WasGiven};
-ghost use Rattle.kalah_jobs.specs.UnderWay.{IsUnderWay};
-ghost use Rattle.kalah_run.specs.Texts.{text_of};
+ghost use Rattle.kalah_run.specs.WritesOn.{WritesOn};
 
 use kalah_jobs::{Answer, Collector, FileText, Jobs, Outcome, Sink, Taken, write_answer};
 use std::alloc::{AllocError, Global};
@@ -46,7 +45,8 @@ fn write_lines<W: Sink>(
     out: &mut W,
 )
     requires { f < length files.now }
-    ensures way { (past : List Offer) → (begun : Option (List ℕ)) → IsUnderWay (text_of files.now) jobs.now past collector.old f begun (W.written out.old) (W.has_failed out.old) → IsUnderWay (text_of files.now) jobs.now past collector.new f begun (W.written out.new) (W.has_failed out.new) }
+    ensures way { WritesOn files.now jobs.now f collector.old (W.written out.old) (W.has_failed out.old)
+        f collector.new (W.written out.new) (W.has_failed out.new) }
     ensures all { HasNoNext (state_of collector.new f) }
     ensures counts { map line_count collector.new ≡ map line_count collector.old }
 {
@@ -65,7 +65,8 @@ fn write_ready<W: Sink>(
     out: &mut W,
 ) -> u32
     requires { length jobs.now ≡ length files.now }
-    ensures way { (past : List Offer) → (begun : Option (List ℕ)) → IsUnderWay (text_of files.now) jobs.now past collector.old current begun (W.written out.old) (W.has_failed out.old) → IsUnderWay (text_of files.now) jobs.now past collector.new result begun (W.written out.new) (W.has_failed out.new) }
+    ensures way { WritesOn files.now jobs.now current collector.old (W.written out.old) (W.has_failed out.old)
+        result collector.new (W.written out.new) (W.has_failed out.new) }
     ensures waits { length jobs.now ≡ length collector.new → result < length collector.new → HasEnded (state_of collector.new result) → ⊥ }
     ensures counts { map line_count collector.new ≡ map line_count collector.old }
 {
@@ -91,7 +92,7 @@ fn faults_in(answer: Answer) -> u32
 }
 
 impl<'a> Report<'a> {
-    ghost use Rattle.kalah_run.specs.Reporting.{IsReporting, Waits};
+    ghost use Rattle.kalah_run.specs.Reporting.{IsReporting, TakesIn, WritesReady};
 
     /// The report of these files, of which nothing has come. It takes all its memory here.
     pub(crate) fn new(
@@ -114,7 +115,7 @@ impl<'a> Report<'a> {
 
     /// Writes each line that is ready and before which all is written.
     pub(crate) fn write<W: Sink>(&mut self, out: &mut W)
-        ensures way { (files : List NamedBytes) → (jobs : List (List Entry)) → (past : List Offer) → (begun : Option (List ℕ)) → IsReporting files jobs past begun (W.written out.old) (W.has_failed out.old) self.old → IsReporting files jobs past begun (W.written out.new) (W.has_failed out.new) self.new × Waits self.new }
+        ensures way { WritesReady self.old (W.written out.old) (W.has_failed out.old) self.new (W.written out.new) (W.has_failed out.new) }
         ensures faults { self.new.faults ≡ self.old.faults }
     {
         self.current = write_ready(
@@ -129,7 +130,7 @@ impl<'a> Report<'a> {
     /// Takes an outcome in, and writes each line that is ready by it and before which all is written.
     pub(crate) fn take_in<W: Sink>(&mut self, outcome: Outcome, out: &mut W)
         requires { self.old.faults + 1 < 2 ^ 32 }
-        ensures way { (files : List NamedBytes) → (jobs : List (List Entry)) → (past : List Offer) → (begun : Option (List ℕ)) → IsReporting files jobs past begun (W.written out.old) (W.has_failed out.old) self.old → IsReporting files jobs (past ++ outcome ∷ []) begun (W.written out.new) (W.has_failed out.new) self.new × Waits self.new }
+        ensures way { TakesIn outcome self.old (W.written out.old) (W.has_failed out.old) self.new (W.written out.new) (W.has_failed out.new) }
         ensures faults { self.new.faults < self.old.faults + 2 }
     {
         self.faults += faults_in(outcome.answer());

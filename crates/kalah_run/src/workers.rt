@@ -7,7 +7,7 @@ ghost use Rattle.kalah_jobs.specs.NamedBytes.{NamedBytes};
 ghost use Rattle.kalah_jobs.specs.declared.entry.Entry.{Entry};
 ghost use Rattle.kalah_run.specs.Shifts.{AreAtWork, HaveRun};
 ghost use Rattle.kalah_run.specs.QueueStates.{HasGot};
-ghost use Rattle.kalah_run.specs.Reporting.{IsReporting, Waits, outcomes_in};
+ghost use Rattle.kalah_run.specs.Reporting.{TakesInAll, outcomes_in};
 
 use crate::desk::Desk;
 use crate::gate::Gate;
@@ -113,7 +113,8 @@ fn collect<R: Wait, W: Sink>(
     requires none { report.old.faults ≡ 0 }
     ensures same { (pass.new.queue ≡ pass.old.queue) × (pass.new.workers ≡ pass.old.workers) }
     ensures all { length pass.new.got ≡ total }
-    ensures way { (files : List NamedBytes) → (jobs : List (List Entry)) → (begun : Option (List ℕ)) → IsReporting files jobs [] begun (W.written out.old) (W.has_failed out.old) report.old → IsReporting files jobs (outcomes_in pass.new.got) begun (W.written out.new) (W.has_failed out.new) report.new × Waits report.new }
+    ensures way { TakesInAll (outcomes_in pass.new.got) report.old (W.written out.old) (W.has_failed out.old)
+        report.new (W.written out.new) (W.has_failed out.new) }
 {
     report.write(out);
     for _ in 0..total {
@@ -138,7 +139,8 @@ pub(crate) fn run_and_report<'a, R: Threads + Wait + Sync, G: Gate, W: Sink>(
     requires counts { (total ≤ 1000000) × (report.faults ≡ 0) }
     ensures shifts { IfOk result (λ r. HaveRun shop.now.desk.now shop.now.queue.now.id shop.now.jobs.now shifts.entry.items r.0.items) }
     ensures pass { IfOk result (λ r. (r.1.queue ≡ pass.queue) × (r.1.workers ≡ pass.workers) × (length r.1.got ≡ total)) }
-    ensures way { IfOk result (λ r. (files : List NamedBytes) → (jobs : List (List Entry)) → (begun : Option (List ℕ)) → IsReporting files jobs [] begun (W.written out.old) (W.has_failed out.old) report.entry → IsReporting files jobs (outcomes_in r.1.got) begun (W.written out.new) (W.has_failed out.new) r.2 × Waits r.2) }
+    ensures way { IfOk result (λ r. TakesInAll (outcomes_in r.1.got) report.entry (W.written out.old) (W.has_failed out.old)
+        r.2 (W.written out.new) (W.has_failed out.new)) }
     ensures fault { IfErr result (λ e. e ≡ RunFault.NoWorker) }
     ensures untouched { OnErr result (out.new ≡ out.old) }
 {
@@ -149,11 +151,13 @@ pub(crate) fn run_and_report<'a, R: Threads + Wait + Sync, G: Gate, W: Sink>(
             Result<(Vec<Shift<'_>>, GetPass, Report<'_>), RunFault>,
             &mut W,
         )
-            requires { IsSync R.row × IsSync G.row × AreAtWork shop.now.desk.now shop.now.queue.now.id shop.now.jobs.now shifts.items × (pass.queue ≡ shop.now.queue.now.id) × (pass.got ≡ []) × (total ≤ 1000000) × (report.faults ≡ 0) }
+            requires { IsSync R.row × IsSync G.row × AreAtWork shop.now.desk.now shop.now.queue.now.id shop.now.jobs.now shifts.items
+                × (pass.queue ≡ shop.now.queue.now.id) × (pass.got ≡ []) × (total ≤ 1000000) × (report.faults ≡ 0) }
             ensures name { result.1.ghost_name ≡ out.entry.ghost_name }
             ensures shifts { IfOk result.0 (λ r. HaveRun shop.entry.now.desk.now shop.entry.now.queue.now.id shop.entry.now.jobs.now shifts.entry.items r.0.items) }
             ensures pass { IfOk result.0 (λ r. (r.1.queue ≡ pass.queue) × (r.1.workers ≡ pass.workers) × (length r.1.got ≡ total)) }
-            ensures way { IfOk result.0 (λ r. (files : List NamedBytes) → (jobs : List (List Entry)) → (begun : Option (List ℕ)) → IsReporting files jobs [] begun (W.written out.entry.now) (W.has_failed out.entry.now) report.entry → IsReporting files jobs (outcomes_in r.1.got) begun (W.written result.1.now) (W.has_failed result.1.now) r.2 × Waits r.2) }
+            ensures way { IfOk result.0 (λ r. TakesInAll (outcomes_in r.1.got) report.entry (W.written out.entry.now) (W.has_failed out.entry.now)
+                r.2 (W.written result.1.now) (W.has_failed result.1.now)) }
             ensures fault { IfErr result.0 (λ e. e ≡ RunFault.NoWorker) }
             ensures untouched { OnErr result.0 (result.1.now ≡ out.entry.now) }
         {

@@ -2,7 +2,7 @@ use Rattle.std.proofs.Common.{◌≡◌, ℕ, ◌≤◌, List, [], length}
 use Rattle.std.specs.Prelude.{Option}
 use Rattle.kalah_jobs.specs.declared.entry.Entry.{Entry}
 use Rattle.kalah_jobs.specs.NamedBytes.{NamedBytes}
-use Rattle.kalah_run.specs.Reporting.{IsReporting, Waits, outcomes_in}
+use Rattle.kalah_run.specs.Reporting.{TakesInAll, outcomes_in}
 use Rattle.kalah_run.proofs.workers.collect.Given as goal
 
 abbrev pub invariant-loop : goal.invariant-loop
@@ -11,7 +11,6 @@ invariant-loop g l = record {
   workers : l.pass.workers ≡ l.fn.pass.workers;
   all : length l.pass.got ≡ l.counter;
   few : l.report.faults ≤ l.counter;
-  way : (files : List NamedBytes) → (jobs : List (List Entry)) → (begun : Option (List ℕ))
-      → IsReporting files jobs [] begun (g.W.Sink.written l.fn.out) (g.W.Sink.has_failed l.fn.out) l.fn.report
-      → IsReporting files jobs (outcomes_in l.pass.got) begun (g.W.Sink.written l.out) (g.W.Sink.has_failed l.out) l.report × Waits l.report;
+  way : TakesInAll (outcomes_in l.pass.got) l.fn.report (g.W.Sink.written l.fn.out) (g.W.Sink.has_failed l.fn.out)
+      l.report (g.W.Sink.written l.out) (g.W.Sink.has_failed l.out);
 }
