@@ -1,8 +1,5 @@
 //! The answers of a batch, written in the order of its lines.
 ghost use Rattle.std.specs.Prelude.{◌≡◌, ◌+◌, ◌^◌, ◌<◌, ◌++◌, ◌∷◌, [], ℕ, List, Option, Bool, length, map, false, IfOk, if◌then◌else◌};
-ghost use Rattle.kalah_jobs.specs.declared.entry.Entry.{Entry};
-ghost use Rattle.kalah_jobs.specs.Offer.{Offer};
-ghost use Rattle.kalah_jobs.specs.NamedBytes.{NamedBytes};
 ghost use Rattle.kalah_jobs.specs.Lines.{line_feed};
 ghost use Rattle.kalah_jobs.specs.Answer.{answer_line, is_fault};
 ghost use Rattle.kalah_jobs.specs.CollectorState.{state_of, line_count, HasEnded, HasNoNext, HasLinesOf};

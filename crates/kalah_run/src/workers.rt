@@ -1,10 +1,8 @@
 //! One thread runs the shifts, while the calling thread takes in what they send.
-ghost use Rattle.std.specs.Prelude.{◌≡◌, ◌≤◌, [], ◌∷◌, ◌++◌, ℕ, List, Option, false, length, IfOk, OnErr, IfErr, map};
+ghost use Rattle.std.specs.Prelude.{◌≡◌, ◌≤◌, [], false, length, IfOk, OnErr, IfErr};
 ghost use Rattle.std.specs.Thread.{IsSync};
 ghost use Rattle.std.specs.Io.KnownBytes.{Keeps};
 ghost use Rattle.kalah_jobs.specs.Jobs.{job_count};
-ghost use Rattle.kalah_jobs.specs.NamedBytes.{NamedBytes};
-ghost use Rattle.kalah_jobs.specs.declared.entry.Entry.{Entry};
 ghost use Rattle.kalah_run.specs.Shifts.{AreAtWork, HaveRun};
 ghost use Rattle.kalah_run.specs.QueueStates.{HasGot};
 ghost use Rattle.kalah_run.specs.Reporting.{TakesInAll, outcomes_in};
