@@ -23,7 +23,8 @@ settles {S} plan seat rows s seen whole =
     subst (λ (rs : List Row). (s.words ≡ (drawn_in rs + spent_in rs) ∷ []) × AreLawful plan.total rs) all (kept.word, kept.lawful)
 
 -- the same of the closed table's word
-pub ends : {S : Type 0} (plan : DeskPlan) (seat : ℕ) (v : DeskView) (rows : List Row) (ws : List ℕ) (xs : List S) (word : ℕ) → v ≡ Closing rows → Final {S = S} (Seen (IsKept plan) seat v) ws xs → length rows ≡ plan.passes → get_elem? ws 0 ≡ some word
+pub ends : {S : Type 0} (plan : DeskPlan) (seat : ℕ) (v : DeskView) (rows : List Row) (ws : List ℕ) (xs : List S) (word : ℕ)
+    → v ≡ Closing rows → Final {S = S} (Seen (IsKept plan) seat v) ws xs → length rows ≡ plan.passes → get_elem? ws 0 ≡ some word
     → (word ≡ drawn_in rows + spent_in rows) × AreLawful plan.total rows
 ends {S} plan seat v rows ws xs word is last whole found =
     let s = last.0 in
@@ -39,9 +40,13 @@ drawn_at_end total word rows is lawful =
     ⊎_elim (λ (some_spent : 0 < spent_in rows). let full = lawful.spent some_spent in omega arith) (λ (few : spent_in rows ≤ 0). omega arith) (cases_lt 0 (spent_in rows))
 
 -- the last word is above the total exactly where some pass is spent
-pub spent_at_end : (total word : ℕ) (rows : List Row) → word ≡ drawn_in rows + spent_in rows → AreLawful total rows → (IsTrue (nat_lt total word) → 0 < spent_in rows) × (0 < spent_in rows → IsTrue (nat_lt total word))
+pub spent_at_end : (total word : ℕ) (rows : List Row) → word ≡ drawn_in rows + spent_in rows → AreLawful total rows
+    → (IsTrue (nat_lt total word) → 0 < spent_in rows) × (0 < spent_in rows → IsTrue (nat_lt total word))
 spent_at_end total word rows is lawful =
     let within = lawful.within in (
-      (λ high. ⊎_elim (λ (some_spent : 0 < spent_in rows). some_spent) (λ (few : spent_in rows ≤ 0). absurd (let low : word ≤ total = omega arith in grind (arith, nat_tests))) (cases_lt 0 (spent_in rows))),
+      (λ high. ⊎_elim
+          (λ (some_spent : 0 < spent_in rows). some_spent)
+          (λ (few : spent_in rows ≤ 0). absurd (let low : word ≤ total = omega arith in grind (arith, nat_tests)))
+          (cases_lt 0 (spent_in rows))),
       (λ some_spent. let full = lawful.spent some_spent in let high : total < word = omega arith in grind (arith, nat_tests)),
     )

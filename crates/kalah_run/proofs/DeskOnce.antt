@@ -27,7 +27,8 @@ one_term f (r ∷ rs) sum =
     none_else rest zero d within apart = absurd (apart refl)
     none_else rest (suc k) d within apart = omega (arith, get_or-le-sum_by f rs k d (omega arith))
 
-    none_before : (place : ℕ) → f r ≡ 0 → ((k : ℕ) (d : Row) → k < length rs → k ≢ place → f (get_or rs k d) ≡ 0) → (k : ℕ) (d : Row) → k < length (r ∷ rs) → k ≢ suc place → f (get_or (r ∷ rs) k d) ≡ 0
+    none_before : (place : ℕ) → f r ≡ 0 → ((k : ℕ) (d : Row) → k < length rs → k ≢ place → f (get_or rs k d) ≡ 0)
+        → (k : ℕ) (d : Row) → k < length (r ∷ rs) → k ≢ suc place → f (get_or (r ∷ rs) k d) ≡ 0
     none_before place here others zero d within apart = here
     none_before place here others (suc k) d within apart = others k d (omega arith) (λ same. apart (ap suc same))
 

@@ -58,9 +58,12 @@ hands_out {S} plan seat total handed_out left some_left s kept at =
     let b : DeskView = Drawing total handed_out (row [] false) in
     let now : List DeskView = set s.views seat a in
     let P : Row → Type 0 = λ r. AllPairs (λ x y. x < y) r.numbers in
-    let drawn : drawn_in (all_rows (now ++ b ∷ [])) ≡ drawn_in (all_rows s.views) = omega (arith, rows_push (λ r. length r.numbers) now b, rows_set (λ r. length r.numbers) s.views seat v a at) in
-    let spent : spent_in (all_rows (now ++ b ∷ [])) ≡ spent_in (all_rows s.views) = omega (arith, rows_push (λ r. cond r.spent 1 0) now b, rows_set (λ r. cond r.spent 1 0) s.views seat v a at) in
-    let same : (x : ℕ) → sum_by (times x) (all_rows (now ++ b ∷ [])) ≡ sum_by (times x) (all_rows s.views) = λ x. omega (arith, rows_push (times x) now b, rows_set (times x) s.views seat v a at) in
+    let drawn : drawn_in (all_rows (now ++ b ∷ [])) ≡ drawn_in (all_rows s.views) =
+    omega (arith, rows_push (λ r. length r.numbers) now b, rows_set (λ r. length r.numbers) s.views seat v a at) in
+    let spent : spent_in (all_rows (now ++ b ∷ [])) ≡ spent_in (all_rows s.views) =
+    omega (arith, rows_push (λ r. cond r.spent 1 0) now b, rows_set (λ r. cond r.spent 1 0) s.views seat v a at) in
+    let same : (x : ℕ) → sum_by (times x) (all_rows (now ++ b ∷ [])) ≡ sum_by (times x) (all_rows s.views) =
+    λ x. omega (arith, rows_push (times x) now b, rows_set (times x) s.views seat v a at) in
     record {
       few = kept.few;
       word = kept.word ∙ ap (λ m. m ∷ []) (omega arith);
@@ -71,11 +74,15 @@ hands_out {S} plan seat total handed_out left some_left s kept at =
     }
 
 -- the next pass is handed out, at a view that is known
-pub hands_out_as : {S : Type 0} (plan : DeskPlan) (seat : ℕ) (v : DeskView) (total handed_out left : ℕ) → v ≡ Opening total handed_out left → 0 < left → Splits {S = S} (IsKept plan) seat v (after_handing_out v) (pass_handed_out v)
-hands_out_as {S} plan seat v total handed_out left is some_left = subst (λ (u : DeskView). Splits {S = S} (IsKept plan) seat u (after_handing_out u) (pass_handed_out u)) (sym is) (hands_out plan seat total handed_out left some_left)
+pub hands_out_as : {S : Type 0} (plan : DeskPlan) (seat : ℕ) (v : DeskView) (total handed_out left : ℕ) → v ≡ Opening total handed_out left → 0 < left
+    → Splits {S = S} (IsKept plan) seat v (after_handing_out v) (pass_handed_out v)
+hands_out_as {S} plan seat v total handed_out left is some_left =
+    subst (λ (u : DeskView). Splits {S = S} (IsKept plan) seat u (after_handing_out u) (pass_handed_out u)) (sym is)
+    (hands_out plan seat total handed_out left some_left)
 
 -- one pass more is handed out
-pub one_pass_more : (desk : DeskState) (count : ℕ) (passes : List PassState) (p : PassState) → AreNewPasses desk count passes → p ≡ new_pass desk count → AreNewPasses desk (count + 1) (passes ++ p ∷ [])
+pub one_pass_more : (desk : DeskState) (count : ℕ) (passes : List PassState) (p : PassState) → AreNewPasses desk count passes
+    → p ≡ new_pass desk count → AreNewPasses desk (count + 1) (passes ++ p ∷ [])
 one_pass_more desk count passes p handed_out is = (
   omega (arith, length-append passes (p ∷ []), handed_out.0),
   λ k d within. ⊎_elim
@@ -85,7 +92,8 @@ one_pass_more desk count passes p handed_out is = (
 )
 
 -- a seat that is to take in the passes
-pub starts_closing : {S : Type 0} (plan : DeskPlan) (slots : ℕ) → Enters {S = S} (IsKept plan) slots 0 (λ n w. StartsClosing {S = S} (step slots 0 0 0 none) (opening_view plan, []) n (w, []))
+pub starts_closing : {S : Type 0} (plan : DeskPlan) (slots : ℕ)
+    → Enters {S = S} (IsKept plan) slots 0 (λ n w. StartsClosing {S = S} (step slots 0 0 0 none) (opening_view plan, []) n (w, []))
 starts_closing {S} plan slots s kept homes fits =
     let w : DeskView = Closing [] in
     let P : Row → Type 0 = λ r. AllPairs (λ x y. x < y) r.numbers in
@@ -115,7 +123,8 @@ takes_in {S} plan seat rows other total number r s kept at apart there =
     let P : Row → Type 0 = λ q. AllPairs (λ x y. x < y) q.numbers in
     let own : All P rows = all_at P s.views seat v at kept.lawful.rising in
     let theirs : All P (r ∷ []) = all_at P s.views other u (was s.views seat other w u apart there) kept.lawful.rising in
-    let same : (f : Row → ℕ) → sum_by f (all_rows now) ≡ sum_by f (all_rows s.views) = λ f. omega (arith, rows_set f s.views seat v w at, rows_set f between other u Ended there, sum_by-cons f r rows) in
+    let same : (f : Row → ℕ) → sum_by f (all_rows now) ≡ sum_by f (all_rows s.views) =
+    λ f. omega (arith, rows_set f s.views seat v w at, rows_set f between other u Ended there, sum_by-cons f r rows) in
     record {
       few = kept.few;
       word = kept.word ∙ ap (λ m. m ∷ []) (omega (arith, same (λ q. length q.numbers), same (λ q. cond q.spent 1 0)));
@@ -125,11 +134,18 @@ takes_in {S} plan seat rows other total number r s kept at apart there =
       totals = totals_set plan between other Ended (totals_set plan s.views seat w kept.totals tt) tt;
     }
   where
-    was : (views : List DeskView) (seat other : ℕ) (w u : DeskView) → ¬ (other ≡ seat) → get_elem? (set views seat w) other ≡ some u → get_elem? views other ≡ some u
-    was views seat other w u apart there = ⊎_elim (λ (t : (other ≡ seat) × (w ≡ u)). absurd (apart t.0)) (λ (t : (other ≢ seat) × (get_elem? views other ≡ some u)). t.1) (at_set views seat other w u there)
+    was : (views : List DeskView) (seat other : ℕ) (w u : DeskView) → ¬ (other ≡ seat)
+        → get_elem? (set views seat w) other ≡ some u → get_elem? views other ≡ some u
+    was views seat other w u apart there =
+        ⊎_elim
+        (λ (t : (other ≡ seat) × (w ≡ u)). absurd (apart t.0))
+        (λ (t : (other ≢ seat) × (get_elem? views other ≡ some u)). t.1)
+        (at_set views seat other w u there)
 
 -- a pass is taken in, at views that are known
-pub takes_in_as : {S : Type 0} (plan : DeskPlan) (seat : ℕ) (v : DeskView) (other : ℕ) (w : DeskView) → v ≡ Closing (rows_in v) → w ≡ as_pass_view w → Joins {S = S} (IsKept plan) seat v other w (after_taking_in v w) ended_view
+pub takes_in_as : {S : Type 0} (plan : DeskPlan) (seat : ℕ) (v : DeskView) (other : ℕ) (w : DeskView)
+    → v ≡ Closing (rows_in v) → w ≡ as_pass_view w → Joins {S = S} (IsKept plan) seat v other w (after_taking_in v w) ended_view
 takes_in_as {S} plan seat v other w is pass =
     subst (λ (u : DeskView). Joins {S = S} (IsKept plan) seat u other w (after_taking_in u w) ended_view) (sym is)
-    (subst (λ (u : DeskView). Joins {S = S} (IsKept plan) seat (Closing (rows_in v)) other u (after_taking_in (Closing (rows_in v)) u) ended_view) (sym pass) (takes_in plan seat (rows_in v) other (total_in w) (number_in w) (row_in w)))
+    (subst (λ (u : DeskView). Joins {S = S} (IsKept plan) seat (Closing (rows_in v)) other u (after_taking_in (Closing (rows_in v)) u) ended_view)
+    (sym pass) (takes_in plan seat (rows_in v) other (total_in w) (number_in w) (row_in w)))

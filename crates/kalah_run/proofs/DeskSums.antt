@@ -48,7 +48,8 @@ rows_at f (x ∷ xs) zero v at =
 rows_at f (x ∷ xs) (suc seat) v at = omega (arith, rows_at f xs seat v at, sum_by-append f (rows_in x) (all_rows xs))
 
 -- the passes that all seats stand for, after a change of one view
-pub passes_set : (views : List DeskView) (seat : ℕ) (v w : DeskView) → get_elem? views seat ≡ some v → sum_by passes_in (set views seat w) + passes_in v ≡ sum_by passes_in views + passes_in w
+pub passes_set : (views : List DeskView) (seat : ℕ) (v w : DeskView) → get_elem? views seat ≡ some v
+    → sum_by passes_in (set views seat w) + passes_in v ≡ sum_by passes_in views + passes_in w
 passes_set [] seat v w at = absurd (some-ne-none v (sym at))
 passes_set (x ∷ xs) zero v w at =
     let same : passes_in x ≡ passes_in v = ap passes_in (some-injective x v at) in
@@ -133,13 +134,21 @@ has_all (x ∷ xs) (suc seat) rows at whole =
         omega (arith, sum_by-cons passes_in x xs)
     passes_below (x ∷ xs) (suc seat) v at = omega (arith, passes_below xs seat v at, sum_by-cons passes_in x xs)
 
--- each seat that knows a total knows the plan's, after a change of one view
-pub totals_set : (plan : DeskPlan) (views : List DeskView) (seat : ℕ) (w : DeskView) → ((by : ℕ) (v : DeskView) → get_elem? views by ≡ some v → HasTotal plan.total v) → HasTotal plan.total w
-    → (by : ℕ) (v : DeskView) → get_elem? (set views seat w) by ≡ some v → HasTotal plan.total v
+-- each seat that knows a total knows the plan's
+abbrev HaveTotal : DeskPlan → List DeskView → Type 0
+HaveTotal plan views = (by : ℕ) (v : DeskView) → get_elem? views by ≡ some v → HasTotal plan.total v
+
+-- and does after a change of one view
+pub totals_set : (plan : DeskPlan) (views : List DeskView) (seat : ℕ) (w : DeskView) → HaveTotal plan views → HasTotal plan.total w
+    → HaveTotal plan (set views seat w)
 totals_set plan views seat w others mine by v at =
-    ⊎_elim (λ (t : (by ≡ seat) × (w ≡ v)). subst (HasTotal plan.total) t.1 mine) (λ (t : (by ≢ seat) × (get_elem? views by ≡ some v)). others by v t.1) (at_set views seat by w v at)
+    ⊎_elim
+    (λ (t : (by ≡ seat) × (w ≡ v)). subst (HasTotal plan.total) t.1 mine)
+    (λ (t : (by ≢ seat) × (get_elem? views by ≡ some v)). others by v t.1)
+    (at_set views seat by w v at)
 
 -- the same with one seat more
-pub totals_push : (plan : DeskPlan) (views : List DeskView) (w : DeskView) → ((by : ℕ) (v : DeskView) → get_elem? views by ≡ some v → HasTotal plan.total v) → HasTotal plan.total w
-    → (by : ℕ) (v : DeskView) → get_elem? (views ++ w ∷ []) by ≡ some v → HasTotal plan.total v
-totals_push plan views w others mine by v at = ⊎_elim (λ (old : get_elem? views by ≡ some v). others by v old) (λ (new : w ≡ v). subst (HasTotal plan.total) new mine) (at_snoc views w v by at)
+pub totals_push : (plan : DeskPlan) (views : List DeskView) (w : DeskView) → HaveTotal plan views → HasTotal plan.total w
+    → HaveTotal plan (views ++ w ∷ [])
+totals_push plan views w others mine by v at =
+    ⊎_elim (λ (old : get_elem? views by ≡ some v). others by v old) (λ (new : w ≡ v). subst (HasTotal plan.total) new mine) (at_snoc views w v by at)

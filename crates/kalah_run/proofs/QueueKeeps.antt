@@ -167,7 +167,10 @@ merges_at place other made got known sent items views h at two at_other =
     let ended : length known ≡ h.closed = mine.ended_known in
     let vs : List QueueView = set views place both in
     let was : get_elem? views other ≡ some theirs =
-    ⊎_elim (λ (x : (other ≡ place) × (both ≡ theirs)). absurd (two x.0)) (λ (x : (other ≢ place) × (get_elem? views other ≡ some theirs)). x.1) (at_set views place other both theirs at_other) in
+    ⊎_elim
+    (λ (x : (other ≡ place) × (both ≡ theirs)). absurd (two x.0))
+    (λ (x : (other ≢ place) × (get_elem? views other ≡ some theirs)). x.1)
+    (at_set views place other both theirs at_other) in
     let their_fit : FitsPut pairs h.closed other (length known) sent = h.fits other theirs was in
     let last : other ≡ suc h.closed = their_fit.behind ∙ ap suc ended in
     let longer : length (known ++ sent ∷ []) ≡ length known + 1 = length_push known sent in

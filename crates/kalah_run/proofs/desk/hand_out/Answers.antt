@@ -17,5 +17,10 @@ loop-preserved c =
       opener = split.2 ∙ ap (λ m. (after_handing_out m.0, m.1)) c.loop.invariant.opener ∙ ap (λ n. (Opening c.args.shared.now.key.total (c.loop.counter + 1) n, [])) (omega arith);
       room = search rules;
       handed_out = subst (AreNewPasses desk (c.loop.counter + 1)) (sym c.push_reserved.ensures.items)
-          (one_pass_more desk c.loop.counter c.loop.handed_out.items _ c.loop.invariant.handed_out (λ i. record { desk = ((split.3 ∙ c.loop.invariant.table) i); total = total_in (handed_out i).0; number = number_in (handed_out i).0; row = row_in (handed_out i).0 }));
+          (one_pass_more desk c.loop.counter c.loop.handed_out.items _ c.loop.invariant.handed_out (λ i. record {
+            desk = ((split.3 ∙ c.loop.invariant.table) i);
+            total = total_in (handed_out i).0;
+            number = number_in (handed_out i).0;
+            row = row_in (handed_out i).0;
+          }));
     }

@@ -1,5 +1,4 @@
-use Rattle.std.proofs.Common.{◌≡◌, ℕ, ◌-◌, List, map}
-use Rattle.std.specs.Prelude.{Option}
+use Rattle.std.proofs.Common.{◌≡◌, ◌-◌, map}
 use Rattle.kalah_jobs.specs.CollectorState.{state_of, front, line_count}
 use Rattle.kalah_run.specs.WritesOn.{WritesOn}
 use Rattle.kalah_run.proofs.report.write_lines.Given as goal

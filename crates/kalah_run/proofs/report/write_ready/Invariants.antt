@@ -1,5 +1,4 @@
-use Rattle.std.proofs.Common.{◌≡◌, ℕ, ◌-◌, List, length, map}
-use Rattle.std.specs.Prelude.{Option}
+use Rattle.std.proofs.Common.{◌≡◌, ◌-◌, length, map}
 use Rattle.kalah_jobs.specs.CollectorState.{line_count}
 use Rattle.kalah_run.specs.WritesOn.{WritesOn}
 use Rattle.kalah_run.proofs.report.write_ready.Given as goal

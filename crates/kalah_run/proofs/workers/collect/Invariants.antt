@@ -1,7 +1,4 @@
-use Rattle.std.proofs.Common.{◌≡◌, ℕ, ◌≤◌, List, [], length}
-use Rattle.std.specs.Prelude.{Option}
-use Rattle.kalah_jobs.specs.declared.entry.Entry.{Entry}
-use Rattle.kalah_jobs.specs.NamedBytes.{NamedBytes}
+use Rattle.std.proofs.Common.{◌≡◌, ◌≤◌, length}
 use Rattle.kalah_run.specs.Reporting.{TakesInAll, outcomes_in}
 use Rattle.kalah_run.proofs.workers.collect.Given as goal
 
