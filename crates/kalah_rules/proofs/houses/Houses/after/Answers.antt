@@ -1,4 +1,4 @@
-use Rattle.std.proofs.Common.{arith, ◌≡◌, ◌+◌, ℕ, subst, sym}
+use Rattle.std.proofs.Common.{arith, ◌≡◌, ◌+◌, ℕ, subst}
 use Rattle.std.specs.Prelude.{Some}
 use Rattle.kalah_rules.specs.Sowing.{sown, captured, last_distance}
 use Rattle.kalah_rules.specs.Packed.{Shows}

@@ -1,5 +1,4 @@
 use Rattle.std.proofs.Common.{arith, ap, ◌*◌, ◌^◌, ◌-◌, ◌∙◌}
-use Rattle.kalah_rules.proofs.Packing.{read_seeds}
 use Rattle.kalah_rules.proofs.PackedMoves.{lifted_is, house_read}
 use Rattle.kalah_rules.proofs.houses.Houses.lifted_row.Goals as goal
 
