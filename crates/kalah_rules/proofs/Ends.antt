@@ -197,7 +197,8 @@ distance_step t fx r n x s sxs whole first rest sum_is = rw sum_is (omega arith)
 slice_index_more : (x : ℕ) (xs : List ℕ) (a j : ℕ) → a + 1 ≤ j → slice_index (x ∷ xs) (j - a) ≡ slice_index xs (j - (a + 1))
 slice_index_more x xs a j low = let e : j - a ≡ suc (j - (a + 1)) = omega arith in rw e refl
 
-distance_range_le : (row : List ℕ) (a n : ℕ) (w : ℕ → ℕ) → ((i : ℕ) → a ≤ i → w i ≤ n) → sum_by (λ i. slice_index row (i - a) * w i) (range_with_len a (length row)) ≤ n * sum row
+distance_range_le : (row : List ℕ) (a n : ℕ) (w : ℕ → ℕ) → ((i : ℕ) → a ≤ i → w i ≤ n)
+    → sum_by (λ i. slice_index row (i - a) * w i) (range_with_len a (length row)) ≤ n * sum row
 distance_range_le [] a n w near = zero-le
 distance_range_le (x ∷ xs) a n w near =
     let f : ℕ → ℕ = λ i. slice_index (x ∷ xs) (i - a) * w i in

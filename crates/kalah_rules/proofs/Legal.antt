@@ -89,8 +89,11 @@ pub legal_holds : (p : Position) (h : ℕ) → Contains (legal_houses p) h → H
 legal_holds p h has =
     let going = legal_going p h has in
     let kept = rw going at has in
-    let range = All-contains (λ i. (1 ≤ i) × (i < 1 + side_length p)) _ h (All-filter (λ i. nat_lt 0 (seeds p.own i)) (λ i. (1 ≤ i) × (i < 1 + side_length p)) (range_with_len 1 (side_length p)) (all_range 1 (side_length p))) kept in
-    let some = All-contains (λ i. nat_lt 0 (seeds p.own i) ≡ true) _ h (filter_passes (λ i. nat_lt 0 (seeds p.own i)) (range_with_len 1 (side_length p))) kept in
+    let InSide : ℕ → Type 0 = λ i. (1 ≤ i) × (i < 1 + side_length p) in
+    let seeded : ℕ → Bool = λ i. nat_lt 0 (seeds p.own i) in
+    let houses : List ℕ = range_with_len 1 (side_length p) in
+    let range = All-contains InSide _ h (All-filter seeded InSide houses (all_range 1 (side_length p))) kept in
+    let some = All-contains (λ i. seeded i ≡ true) _ h (filter_passes seeded houses) kept in
     record { first = range.0; last = omega (arith, range.1); some = ltb-true 0 (seeds p.own h) some }
 
 pub holds_legal : (p : Position) (h : ℕ) → HoldsSeeds p h → is_over p ≡ false → Contains (legal_houses p) h

@@ -7,7 +7,9 @@ use Rattle.kalah_rules.proofs.board.Board.legal.Goals as goal
 use Rattle.kalah_rules.proofs.board.Board.legal.Goals.{then-own-gt0, else-own-gt0}
 
 pub push-requires : goal.push-requires
-push-requires c = rw c.loop-h.invariant (omega (arith, length-filter_range (λ i. nat_lt 0 (seeds c.args.self.now.own i)) 1 (c.loop-h.h - 1), c.m-h-end.ensures.limits.at_most_six, c.m-h-end.ensures.side))
+push-requires c =
+    let few = length-filter_range (λ i. nat_lt 0 (seeds c.args.self.now.own i)) 1 (c.loop-h.h - 1) in
+    rw c.loop-h.invariant (omega (arith, few, c.m-h-end.ensures.limits.at_most_six, c.m-h-end.ensures.side))
 
 pub loop-h-preserved : goal.loop-h-preserved
 loop-h-preserved c =

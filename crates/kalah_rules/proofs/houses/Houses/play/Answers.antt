@@ -24,40 +24,60 @@ returns-then-rows-eq0-2 c =
 
 pub overflow_mul-key : goal.overflow_mul-key
 overflow_mul-key c =
-    omega (arith, packed_fits (again_packed c.self.invariant c.self.view_is c.requires c.after-again.ensures.rows c.if-rows-eq0.false c.if-rows-eq0-2.false (sym c.after-again.ensures.again ∙ c.if-again.true)).0)
+    let packed = again_packed c.self.invariant c.self.view_is c.requires c.after-again.ensures.rows
+    c.if-rows-eq0.false c.if-rows-eq0-2.false (sym c.after-again.ensures.again ∙ c.if-again.true) in
+    omega (arith, packed_fits packed.0)
 
 pub overflow_add-key : goal.overflow_add-key
 overflow_add-key c =
-    omega (arith, packed_fits (again_packed c.self.invariant c.self.view_is c.requires c.after-again.ensures.rows c.if-rows-eq0.false c.if-rows-eq0-2.false (sym c.after-again.ensures.again ∙ c.if-again.true)).0)
+    let packed = again_packed c.self.invariant c.self.view_is c.requires c.after-again.ensures.rows
+    c.if-rows-eq0.false c.if-rows-eq0-2.false (sym c.after-again.ensures.again ∙ c.if-again.true) in
+    omega (arith, packed_fits packed.0)
 
 pub overflow_add-key-then-again : goal.overflow_add-key-then-again
 overflow_add-key-then-again c =
-    omega (arith, packed_fits (again_packed c.self.invariant c.self.view_is c.requires c.after-again.ensures.rows c.if-rows-eq0.false c.if-rows-eq0-2.false (sym c.after-again.ensures.again ∙ c.if-again.true)).0)
+    let packed = again_packed c.self.invariant c.self.view_is c.requires c.after-again.ensures.rows
+    c.if-rows-eq0.false c.if-rows-eq0-2.false (sym c.after-again.ensures.again ∙ c.if-again.true) in
+    omega (arith, packed_fits packed.0)
 
 pub overflow_mul-key-else-again : goal.overflow_mul-key-else-again
 overflow_mul-key-else-again c =
-    omega (arith, packed_fits (turn_packed c.self.invariant c.self.view_is c.requires c.after-again.ensures.rows c.if-rows-eq0.false c.if-rows-eq0-2.false (sym c.after-again.ensures.again ∙ c.if-again.false)).0)
+    let packed = turn_packed c.self.invariant c.self.view_is c.requires c.after-again.ensures.rows
+    c.if-rows-eq0.false c.if-rows-eq0-2.false (sym c.after-again.ensures.again ∙ c.if-again.false) in
+    omega (arith, packed_fits packed.0)
 
 pub overflow_add-key-else-again : goal.overflow_add-key-else-again
 overflow_add-key-else-again c =
-    omega (arith, packed_fits (turn_packed c.self.invariant c.self.view_is c.requires c.after-again.ensures.rows c.if-rows-eq0.false c.if-rows-eq0-2.false (sym c.after-again.ensures.again ∙ c.if-again.false)).0)
+    let packed = turn_packed c.self.invariant c.self.view_is c.requires c.after-again.ensures.rows
+    c.if-rows-eq0.false c.if-rows-eq0-2.false (sym c.after-again.ensures.again ∙ c.if-again.false) in
+    omega (arith, packed_fits packed.0)
 
 pub overflow_add-key-else-again-2 : goal.overflow_add-key-else-again-2
 overflow_add-key-else-again-2 c =
-    omega (arith, packed_fits (turn_packed c.self.invariant c.self.view_is c.requires c.after-again.ensures.rows c.if-rows-eq0.false c.if-rows-eq0-2.false (sym c.after-again.ensures.again ∙ c.if-again.false)).0)
+    let packed = turn_packed c.self.invariant c.self.view_is c.requires c.after-again.ensures.rows
+    c.if-rows-eq0.false c.if-rows-eq0-2.false (sym c.after-again.ensures.again ∙ c.if-again.false) in
+    omega (arith, packed_fits packed.0)
 
 pub invariant_of-result : goal.invariant_of-result
 invariant_of-result c =
-    (again_packed c.self.invariant c.self.view_is c.requires c.after-again.ensures.rows c.if-rows-eq0.false c.if-rows-eq0-2.false (sym c.after-again.ensures.again ∙ c.if-again.true)).0
+    let packed = again_packed c.self.invariant c.self.view_is c.requires c.after-again.ensures.rows
+    c.if-rows-eq0.false c.if-rows-eq0-2.false (sym c.after-again.ensures.again ∙ c.if-again.true) in
+    packed.0
 
 pub invariant_of-result-else-again : goal.invariant_of-result-else-again
 invariant_of-result-else-again c =
-    (turn_packed c.self.invariant c.self.view_is c.requires c.after-again.ensures.rows c.if-rows-eq0.false c.if-rows-eq0-2.false (sym c.after-again.ensures.again ∙ c.if-again.false)).0
+    let packed = turn_packed c.self.invariant c.self.view_is c.requires c.after-again.ensures.rows
+    c.if-rows-eq0.false c.if-rows-eq0-2.false (sym c.after-again.ensures.again ∙ c.if-again.false) in
+    packed.0
 
 pub returns-then-again : goal.returns-then-again
 returns-then-again c =
-    (again_packed c.self.invariant c.self.view_is c.requires c.after-again.ensures.rows c.if-rows-eq0.false c.if-rows-eq0-2.false (sym c.after-again.ensures.again ∙ c.if-again.true)).1
+    let packed = again_packed c.self.invariant c.self.view_is c.requires c.after-again.ensures.rows
+    c.if-rows-eq0.false c.if-rows-eq0-2.false (sym c.after-again.ensures.again ∙ c.if-again.true) in
+    packed.1
 
 pub returns-else-again : goal.returns-else-again
 returns-else-again c =
-    (turn_packed c.self.invariant c.self.view_is c.requires c.after-again.ensures.rows c.if-rows-eq0.false c.if-rows-eq0-2.false (sym c.after-again.ensures.again ∙ c.if-again.false)).1
+    let packed = turn_packed c.self.invariant c.self.view_is c.requires c.after-again.ensures.rows
+    c.if-rows-eq0.false c.if-rows-eq0-2.false (sym c.after-again.ensures.again ∙ c.if-again.false) in
+    packed.1
