@@ -20,7 +20,8 @@ returns-clause-kinds g c = taken_none _ _ c.in_ok-command.ensures c.in_ok-matche
 pub returns-in_err-matches-clause-refused : goal.returns-in_err-matches-clause-refused
 returns-in_err-matches-clause-refused g c =
     failed_err c.from_residual-in_err-matches.result c.in_err-matches.field-0.0 _ c.from_residual-in_err-matches.ensures.1
-    (λ a taken. by_memory_alone (map g.S.AsStr.text c.args.words.now) c.in_err-matches.field-0.0 (taken_fault _ _ c.in_err-matches.field-0.0 c.in_ok-command.ensures c.in_err-matches.ensures.kinds) taken.0)
+    (λ a taken. by_memory_alone (map g.S.AsStr.text c.args.words.now) c.in_err-matches.field-0.0
+    (taken_fault _ _ c.in_err-matches.field-0.0 c.in_ok-command.ensures c.in_err-matches.ensures.kinds) taken.0)
 
 pub returns-clause-moves : goal.returns-clause-moves
 returns-clause-moves g c =
