@@ -178,13 +178,13 @@ impl<A: Allocator> Endings<A> {
     }
 
     // What two cells add to the rank of a row, with so many pairs past them, by the seeds from each of them on.
-    fn pair(&self, past: u8, sums: u64) -> u32
+    fn pair(&self, past: usize, sums: u64) -> u32
         requires past { past < 6 }
         requires first { sums % 32 < 10 }
         requires second { sums / 32 < 10 }
         ensures value { result ≡ choose (sums % 32 + 2 * past + 1) (2 * past + 2) + choose (sums / 32 + 2 * past) (2 * past + 1) }
     {
-        self.pairs[320 * past as usize + sums as usize]
+        self.pairs[320 * past + sums as usize]
     }
 
     // The rank of the houses among those of their game, two of them at a time.
@@ -193,7 +193,7 @@ impl<A: Allocator> Endings<A> {
         ensures rank { result ≡ rank_of_houses houses.now }
         ensures small { result < 2 ^ 21 }
     {
-        let m = houses.m();
+        let m = houses.m() as usize;
         let mut sums = sums_of(houses);
         let mut rank = 0;
         for passed in 0..m {

@@ -10,6 +10,7 @@ mod move_values;
 mod places;
 #[cfg(test)]
 mod plain;
+mod promise;
 mod ranks;
 mod search;
 mod share;

@@ -1,7 +1,7 @@
 //! The highest of the ranks of six houses.
 ghost use Rattle.std.specs.Prelude.{ℕ, ◌<◌, ◌≤◌, slice_index};
 
-/// The place of the highest rank.
+/// The place of the highest rank, and the last of equal ones.
 pub fn highest(ranks: &[u32; 6]) -> usize
     ensures place { result < 6 }
     ensures highest { (k : ℕ) → slice_index ranks.now k ≤ slice_index ranks.now result }
@@ -9,7 +9,7 @@ pub fn highest(ranks: &[u32; 6]) -> usize
     let mut best = 0;
     let mut most = ranks[0];
     for i in 1..6usize {
-        if ranks[i] > most {
+        if ranks[i] >= most {
             most = ranks[i];
             best = i;
         }

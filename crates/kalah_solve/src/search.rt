@@ -20,14 +20,8 @@ const MOST_PLACED: u8 = 20;
 /// An answer that took fewer nodes than this is not worth an entry.
 const LEAST_WORK: u64 = 60;
 
-/// From so many nodes on the endings of houses with 7 seeds are asked for, and before only those with at most 6: to know
-/// them all costs a short search more than it saves.
-const NODES_FOR_7: u64 = 50_000;
-
-/// From so many nodes on those with 8.
-const NODES_FOR_8: u64 = 100_000;
-
-/// From so many nodes on those with 9.
+/// From so many nodes on the endings of houses with 9 seeds are asked for, and before only those with at most 8: to know them
+/// all costs a short search more than it saves.
 const NODES_FOR_9: u64 = 300_000;
 
 /// A search with its table. What it answers depends on none of its limits.
@@ -159,10 +153,6 @@ impl<A: Allocator + Clone> Search<A> {
     {
         if !self.knows_endings {
             0
-        } else if self.nodes < NODES_FOR_7 {
-            6
-        } else if self.nodes < NODES_FOR_8 {
-            7
         } else if self.nodes < NODES_FOR_9 {
             8
         } else {

@@ -7,6 +7,7 @@ ghost use Rattle.kalah_solve.specs.StepWorth.{GoesOn};
 ghost use Rattle.kalah_solve.specs.Taken.{taken, taken_by_step};
 ghost use Rattle.kalah_solve.specs.Tried.{FallsShort, EndsInStore, AreWaiting};
 
+use crate::promise::promise;
 use crate::ranks::highest;
 use crate::search::Search;
 use kalah_rules::{Houses, HousesStep};
@@ -104,17 +105,21 @@ impl<A: Allocator + Clone> Search<A> {
         Some(ranks)
     }
 
-    // What comes to the store by a turn after which it has to be searched whether the mover takes enough.
-    fn gained_by_turn(&self, step: &HousesStep, bar: u8) -> Option<u8> {
+    // How promising the step of house `h` is, where it's a turn after which it has to be searched whether the mover takes
+    // enough.
+    fn promise_of(&self, h: u8, step: &HousesStep, bar: u8) -> Option<u32>
+        ensures { IfSome result (λ rank. 0 < rank) }
+    {
         match step {
             HousesStep::Turn(gained, next)
-                if *gained < bar && next.seeds() > self.most_at_the_end() => { Some(*gained) }
+                if *gained < bar && next.seeds() > self.most_at_the_end() => {
+                Some(promise(h, *gained, next))
+            }
             _ => None,
         }
     }
 
-    // How soon house `h` should be tried, by what comes to the store at once: 0 where it falls short, none where it
-    // takes enough.
+    // How soon house `h` should be tried: 0 where it falls short, none where it takes enough.
     #[cycle(search)]
     fn rank(&mut self, houses: &Houses, h: u8, bar: u8) -> Option<u32>
         requires legal { Contains (legal_houses (bare houses.now)) h }
@@ -123,8 +128,8 @@ impl<A: Allocator + Clone> Search<A> {
     {
         let _seeds = houses.seeds();
         let step = houses.play(h);
-        match self.gained_by_turn(&step, bar) {
-            Some(gained) => Some(8 * gained as u32 + h as u32),
+        match self.promise_of(h, &step, bar) {
+            Some(rank) => Some(rank),
             None => {
                 if self.step_reaches(&step, bar) {
                     None

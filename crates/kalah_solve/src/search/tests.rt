@@ -38,7 +38,7 @@ fn games_as_they_begin_take_few_nodes(rt: HostRuntime) -> Result<(), Fail> {
     let nodes = nodes_of_games(&rt, &mut search)?;
     let took = start.elapsed(&rt)?.as_nanos() / (nodes as u128).max(1);
     println!(rt; "{nodes} nodes, {took} ns a node")?;
-    assert!(rt; nodes < 120_000);
+    assert!(rt; nodes < 60_000);
     Ok(())
 }
 
