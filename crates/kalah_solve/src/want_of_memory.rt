@@ -17,32 +17,36 @@ fn mark(alloc: Global, place: &'static str) -> Result<(), Fail> {
 
 const ONES: [u8; 6] = [1, 1, 0, 0, 0, 0];
 
+// Both ways between the houses and their key.
+fn packs(rt: &impl Abort) {
+    let houses = Houses::new(2, ONES, ONES, Rule::Classic).expect(rt, "beyond the limits");
+    assert!(rt; pack(&houses) == 0x2000_0008_4000_0021);
+    assert!(rt; unpack(0x2000_0008_4000_0021) == Some(houses));
+}
+
 #[test]
 fn a_key_and_a_solver_take_no_memory(rt: HostRuntime) -> Result<(), Fail> {
     let alloc = rt.alloc();
     let table = Table::new(alloc, 1).or_else(|_| Table::new(alloc, 1))?;
     mark(alloc, "before the calls without memory")?;
-    let houses = Houses::new(2, ONES, ONES, Rule::Classic).ok_or("beyond the limits")?;
-    assert!(rt; pack(&houses) == 0x2000_0008_4000_0021);
-    assert!(rt; unpack(0x2000_0008_4000_0021) == Some(houses));
+    packs(&rt);
     let _solver = Solver::new(table);
     mark(alloc, "after all")
 }
 
 // Two positions that differ in their stores alone.
-fn tells_both(rt: &impl Abort, solver: &mut Solver) -> Result<(), Fail> {
+fn tells_both(rt: &impl Abort, solver: &mut Solver) {
     for (own_store, other_store, margin) in [(0, 0, 2), (9, 4, 7)] {
         let board = Board::new(2, ONES, own_store, ONES, other_store, Rule::Classic);
-        let verdict = solver.solve(&board.ok_or("beyond the limits")?);
+        let verdict = solver.solve(&board.expect(rt, "beyond the limits"));
         assert!(rt; verdict == Verdict::Best { margin, house: 2 });
     }
-    Ok(())
 }
 
 #[test]
 fn one_table_for_two_positions(rt: HostRuntime) -> Result<(), Fail> {
     let alloc = rt.alloc();
     let table = Table::new(alloc, 1).or_else(|_| Table::new(alloc, 1))?;
-    tells_both(&rt, &mut Solver::new(table))?;
+    tells_both(&rt, &mut Solver::new(table));
     mark(alloc, "after all")
 }

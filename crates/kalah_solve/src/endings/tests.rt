@@ -2,8 +2,13 @@ use super::*;
 use crate::plain;
 use crate::verdict::Verdict;
 use kalah_rules::{Board, Rule};
+use std::alloc::Global;
 use std::process::Abort;
-use std::test::Fail;
+
+// No endings known.
+fn new_endings(rt: &impl Abort, alloc: Global) -> Endings {
+    Endings::new(alloc).expect(rt, "no memory for endings")
+}
 
 // Three cells of at most 6 seeds each, read off a number.
 fn cells_of(number: u32) -> [u8; 6] {
@@ -48,18 +53,17 @@ fn agrees_with_plain_with(rt: &impl Abort, endings: &mut Endings, m: u8, rule: R
 }
 
 #[test]
-fn endings_agree_with_plain(rt: HostRuntime) -> Result<(), Fail> {
-    let mut endings = Endings::new(rt.alloc())?;
+fn endings_agree_with_plain(rt: HostRuntime) {
+    let mut endings = new_endings(&rt, rt.alloc());
     for rule in [Rule::Classic, Rule::EmptyCapture] {
         assert!(rt; agrees_with_plain_with(&rt, &mut endings, 1, rule) == 15);
         assert!(rt; agrees_with_plain_with(&rt, &mut endings, 2, rule) == 155);
         assert!(rt; agrees_with_plain_with(&rt, &mut endings, 3, rule) == 757);
     }
-    Ok(())
 }
 
 // The houses of two a side with at most 4 seeds have the 70 places from this one on.
-fn fill_places(rt: &impl Abort, endings: &Endings, rule: Rule, first: usize) -> Result<(), Fail> {
+fn fill_places(rt: &impl Abort, endings: &Endings, rule: Rule, first: usize) {
     let mut filled = [false; 70];
     for number in 0..117_649u32 {
         let own = cells_of(number % 343);
@@ -75,26 +79,24 @@ fn fill_places(rt: &impl Abort, endings: &Endings, rule: Rule, first: usize) -> 
         }
     }
     assert!(rt; filled == [true; 70]);
-    Ok(())
 }
 
 #[test]
-fn houses_have_places_of_their_own(rt: HostRuntime) -> Result<(), Fail> {
-    let endings = Endings::new(rt.alloc())?;
-    fill_places(&rt, &endings, Rule::Classic, 55)?;
-    fill_places(&rt, &endings, Rule::EmptyCapture, 416_448)
+fn houses_have_places_of_their_own(rt: HostRuntime) {
+    let endings = new_endings(&rt, rt.alloc());
+    fill_places(&rt, &endings, Rule::Classic, 55);
+    fill_places(&rt, &endings, Rule::EmptyCapture, 416_448);
 }
 
 #[test]
-fn an_ending_is_known_once_it_was_asked_for(rt: HostRuntime) -> Result<(), Fail> {
+fn an_ending_is_known_once_it_was_asked_for(rt: HostRuntime) {
     let threes = [3, 0, 0, 0, 0, 0];
-    let houses = Houses::new(1, threes, threes, Rule::Classic).ok_or("beyond the limits")?;
+    let houses = Houses::new(1, threes, threes, Rule::Classic).expect(&rt, "beyond the limits");
     assert!(rt; !houses.is_over());
     assert!(rt; houses.seeds() <= 9);
-    let mut endings = Endings::new(rt.alloc())?;
+    let mut endings = new_endings(&rt, rt.alloc());
     let place = endings.place(&houses);
     assert!(rt; endings.get(place, &houses) == None);
     assert!(rt; endings.taken(&houses) == 6);
     assert!(rt; endings.get(place, &houses) == Some(6));
-    Ok(())
 }

@@ -29,56 +29,55 @@ fn two(rule: Rule, own: [u8; 3], other: [u8; 3]) -> Option<Verdict> {
 }
 
 #[test]
-fn last_seed_in_the_store_ends_the_game(rt: HostRuntime) {
-    assert!(rt; one(Rule::Classic, [1, 0], [1, 0]) == Some(best(0, 1)));
-}
-
-#[test]
-fn emptying_the_own_side_loses_the_rest(rt: HostRuntime) {
-    assert!(rt; one(Rule::Classic, [2, 0], [2, 0]) == Some(best(-2, 1)));
-}
-
-#[test]
-fn full_lap_captures_in_the_lifted_house(rt: HostRuntime) {
-    assert!(rt; one(Rule::Classic, [3, 0], [3, 0]) == Some(best(6, 1)));
-    assert!(rt; two(Rule::Classic, [5, 0, 0], [1, 0, 0]) == Some(best(2, 1)));
-}
-
-#[test]
-fn forced_other_move_is_bad(rt: HostRuntime) {
-    assert!(rt; one(Rule::Classic, [4, 0], [4, 0]) == Some(best(-2, 1)));
-}
-
-#[test]
-fn both_players_sow_laps(rt: HostRuntime) {
-    for (own, other, margin) in [(5, 5, 2), (8, 7, -9), (8, 8, 0), (16, 15, 7)] {
-        assert!(rt; one(Rule::Classic, [own, 0], [other, 0]) == Some(best(margin, 1)));
+fn positions_with_one_house_a_side(rt: HostRuntime) {
+    for (own, other, margin, what) in [
+        (1, 1, 0, "the last seed in the store ends the game"),
+        (2, 2, -2, "emptying the own side loses the rest"),
+        (3, 3, 6, "a full lap captures in the lifted house"),
+        (4, 4, -2, "a forced other move is bad"),
+        (5, 5, 2, "both players sow laps"),
+        (8, 7, -9, "both players sow laps, one seed fewer"),
+        (8, 8, 0, "both players sow laps and tie"),
+        (16, 15, 7, "both players sow laps of all seeds"),
+        (6, 6, 0, "a house with seeds captures nothing"),
+    ] {
+        let told = one(Rule::Classic, [own, 0], [other, 0]);
+        assert!(rt; told == Some(best(margin, 1)), "{what}");
     }
 }
 
 #[test]
-fn house_with_seeds_captures_nothing(rt: HostRuntime) {
-    assert!(rt; one(Rule::Classic, [6, 0], [6, 0]) == Some(best(0, 1)));
-}
-
-#[test]
-fn other_move_then_capture_is_best(rt: HostRuntime) {
-    assert!(rt; two(Rule::Classic, [1, 1, 0], [1, 1, 0]) == Some(best(2, 2)));
-}
-
-#[test]
-fn stores_only_shift_the_margin(rt: HostRuntime) {
-    assert!(rt; two(Rule::Classic, [1, 1, 9], [1, 1, 4]) == Some(best(7, 2)));
-}
-
-#[test]
-fn lowest_of_equal_moves_is_told(rt: HostRuntime) {
-    assert!(rt; two(Rule::Classic, [1, 1, 0], [0, 1, 0]) == Some(best(1, 1)));
-}
-
-#[test]
-fn empty_house_across_is_not_captured(rt: HostRuntime) {
-    assert!(rt; two(Rule::Classic, [1, 0, 0], [0, 2, 0]) == Some(best(1, 1)));
+fn positions_with_two_houses_a_side(rt: HostRuntime) {
+    for (own, other, verdict, what) in [
+        ([5, 0, 0], [1, 0, 0], best(2, 1), "a full lap captures"),
+        (
+            [1, 1, 0],
+            [1, 1, 0],
+            best(2, 2),
+            "another move, then a capture",
+        ),
+        (
+            [1, 1, 9],
+            [1, 1, 4],
+            best(7, 2),
+            "stores only shift the margin",
+        ),
+        (
+            [1, 1, 0],
+            [0, 1, 0],
+            best(1, 1),
+            "the lowest of equal moves",
+        ),
+        (
+            [1, 0, 0],
+            [0, 2, 0],
+            best(1, 1),
+            "no capture of an empty house",
+        ),
+        ([0, 0, 3], [1, 2, 4], over(-4), "a game that is over"),
+    ] {
+        assert!(rt; two(Rule::Classic, own, other) == Some(verdict), "{what}");
+    }
 }
 
 #[test]
@@ -93,7 +92,6 @@ fn empty_capture_takes_the_last_seed(rt: HostRuntime) {
 
 #[test]
 fn game_that_is_over_has_its_margin(rt: HostRuntime) {
-    assert!(rt; two(Rule::Classic, [0, 0, 3], [1, 2, 4]) == Some(over(-4)));
     for (own, margin) in [([0, 0], 0), ([15, 99], 114), ([31, 99], 130)] {
         assert!(rt; one(Rule::Classic, own, [0, 0]) == Some(over(margin)));
     }

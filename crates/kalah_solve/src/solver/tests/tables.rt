@@ -13,11 +13,11 @@ const BUSY: [(Rule, [u8; 3], [u8; 3], i8, u8); 6] = [
 ];
 
 // A board with three houses a side and these stores.
-fn three(rule: Rule, own: [u8; 3], other: [u8; 3], stores: (u8, u8)) -> Result<Board, Fail> {
+fn three(rt: &impl Abort, rule: Rule, own: [u8; 3], other: [u8; 3], stores: (u8, u8)) -> Board {
     let own_houses = [own[0], own[1], own[2], 0, 0, 0];
     let other_houses = [other[0], other[1], other[2], 0, 0, 0];
     let board = Board::new(3, own_houses, stores.0, other_houses, stores.1, rule);
-    Ok(board.ok_or("beyond the limits")?)
+    board.expect(rt, "beyond the limits")
 }
 
 // How many nodes the verdict takes, which has to be this one.
@@ -33,32 +33,25 @@ fn nodes_for<A: Allocator + Clone>(
 }
 
 // Each of them leaves an entry of its houses, by which fewer nodes tell the same houses with other stores.
-pub(super) fn tells_busy_houses<A: Allocator + Clone>(
-    rt: &impl Abort,
-    solver: &mut Solver<A>,
-) -> Result<(), Fail> {
+pub(super) fn tells_busy_houses<A: Allocator + Clone>(rt: &impl Abort, solver: &mut Solver<A>) {
     for (rule, own, other, margin, house) in BUSY {
-        let bare = three(rule, own, other, (0, 0))?;
+        let bare = three(rt, rule, own, other, (0, 0));
         let first = nodes_for(rt, solver, &bare, best(i32::from(margin), house));
         let kept = Interval {
             lo: margin,
             hi: margin,
         };
         assert!(rt; solver.search.entry(&bare.houses()) == Some(kept));
-        let rich = three(rule, own, other, (9, 4))?;
+        let rich = three(rt, rule, own, other, (9, 4));
         assert!(rt; nodes_for(rt, solver, &rich, best(i32::from(margin) + 5, house)) < first);
     }
-    Ok(())
 }
 
 // The last two have the same houses, each with the entry of its rule.
-pub(super) fn keeps_the_last_two<A: Allocator + Clone>(
-    rt: &impl Abort,
-    solver: &mut Solver<A>,
-) -> Result<(), Fail> {
+pub(super) fn keeps_the_last_two<A: Allocator + Clone>(rt: &impl Abort, solver: &mut Solver<A>) {
     for (rule, own, other, margin, _) in BUSY {
         if own == [3, 1, 3] {
-            let houses = three(rule, own, other, (0, 0))?.houses();
+            let houses = three(rt, rule, own, other, (0, 0)).houses();
             let kept = Interval {
                 lo: margin,
                 hi: margin,
@@ -66,100 +59,91 @@ pub(super) fn keeps_the_last_two<A: Allocator + Clone>(
             assert!(rt; solver.search.entry(&houses) == Some(kept));
         }
     }
-    Ok(())
 }
 
 // Their verdicts are those of the plain recursion, and so are those of the same houses with other stores, by their entry.
-pub(super) fn agree_with_plain(rt: &impl Abort, solver: &mut Solver) -> Result<(), Fail> {
+pub(super) fn agree_with_plain(rt: &impl Abort, solver: &mut Solver) {
     for (rule, own, other, _, _) in BUSY {
         for stores in [(0, 0), (3, 1)] {
-            let board = three(rule, own, other, stores)?;
+            let board = three(rt, rule, own, other, stores);
             assert!(rt; solver.solve(&board) == plain::solve(&board));
             assert!(rt; solver.search.entry(&board.houses()).is_some());
         }
     }
-    Ok(())
 }
 
 // Six houses a side which take so many nodes together that endings of nine seeds are asked for.
-fn tells_hard_houses(rt: &impl Abort, solver: &mut Solver) -> Result<(), Fail> {
+fn tells_hard_houses(rt: &impl Abort, solver: &mut Solver) {
     for (rule, verdict) in [
         (Rule::Classic, best(-1, 6)),
         (Rule::EmptyCapture, best(-3, 6)),
     ] {
         let board = Board::new(6, [2, 3, 3, 2, 3, 2], 0, [3, 3, 2, 3, 2, 3], 0, rule);
-        assert!(rt; solver.solve(&board.ok_or("beyond the limits")?) == verdict);
+        assert!(rt; solver.solve(&board.expect(rt, "beyond the limits")) == verdict);
     }
     assert!(rt; solver.search.nodes() >= 300_000);
-    Ok(())
 }
 
 #[test]
-fn endings_are_looked_up_once_a_search_is_long(rt: HostRuntime) -> Result<(), Fail> {
-    let mut short = Solver::new(Table::new(rt.alloc(), 1)?);
-    let mut long = Solver::new(Table::new(rt.alloc(), 65_536)?);
-    tells_hard_houses(&rt, &mut long)?;
+fn endings_are_looked_up_once_a_search_is_long(rt: HostRuntime) {
+    let mut short = solver_of(&rt, rt.alloc(), 1);
+    let mut long = solver_of(&rt, rt.alloc(), 65_536);
+    tells_hard_houses(&rt, &mut long);
     for (rule, own, margin, house) in [
         (Rule::Classic, [2, 1, 1], 3, 3),
         (Rule::EmptyCapture, [2, 1, 2], -2, 1),
         (Rule::Classic, [2, 2, 2], 1, 2),
     ] {
-        let board = three(rule, own, [1, 1, 1], (0, 0))?;
+        let board = three(&rt, rule, own, [1, 1, 1], (0, 0));
         assert!(rt; nodes_for(&rt, &mut short, &board, best(margin, house)) > 0);
         assert!(rt; nodes_for(&rt, &mut long, &board, best(margin, house)) == 0);
     }
-    Ok(())
 }
 
 // After house 1 of four seeds in each house the other player has a row with one house empty, of which the tables know.
 #[test]
-fn what_was_learned_of_a_move_serves_the_next_position(rt: HostRuntime) -> Result<(), Fail> {
-    let start = three(Rule::Classic, [4, 4, 4], [4, 4, 4], (0, 0))?;
-    let next = three(Rule::Classic, [5, 4, 4], [0, 5, 5], (0, 1))?;
+fn what_was_learned_of_a_move_serves_the_next_position(rt: HostRuntime) {
+    let start = three(&rt, Rule::Classic, [4, 4, 4], [4, 4, 4], (0, 0));
+    let next = three(&rt, Rule::Classic, [5, 4, 4], [0, 5, 5], (0, 1));
     for entries in [1, 65_536] {
-        let mut fresh = Solver::new(Table::new(rt.alloc(), entries)?);
-        let mut solver = Solver::new(Table::new(rt.alloc(), entries)?);
+        let mut fresh = solver_of(&rt, rt.alloc(), entries);
+        let mut solver = solver_of(&rt, rt.alloc(), entries);
         let alone = nodes_for(&rt, &mut fresh, &next, best(-2, 1));
         assert!(rt; nodes_for(&rt, &mut solver, &start, best(2, 1)) > alone);
         let after = nodes_for(&rt, &mut solver, &next, best(-2, 1));
         assert!(rt; after < alone || entries == 1);
     }
-    Ok(())
 }
 
 // Three houses a side with so few seeds that all that follows has places, asked twice: an entry tells their worth, and the places
 // which house attains it.
 #[test]
-fn what_is_kept_in_places_is_looked_up(rt: HostRuntime) -> Result<(), Fail> {
+fn what_is_kept_in_places_is_looked_up(rt: HostRuntime) {
     for rule in [Rule::Classic, Rule::EmptyCapture] {
-        let mut solver = Solver::new(Table::new(rt.alloc(), 65_536)?);
-        let bare = three(rule, [3, 3, 3], [4, 3, 4], (0, 0))?;
-        let rich = three(rule, [3, 3, 3], [4, 3, 4], (5, 3))?;
+        let mut solver = solver_of(&rt, rt.alloc(), 65_536);
+        let bare = three(&rt, rule, [3, 3, 3], [4, 3, 4], (0, 0));
+        let rich = three(&rt, rule, [3, 3, 3], [4, 3, 4], (5, 3));
         let first = nodes_for(&rt, &mut solver, &bare, best(4, 2));
         let again = nodes_for(&rt, &mut solver, &rich, best(6, 2));
         assert!(rt; again < first / 20);
     }
-    Ok(())
 }
 
 // How many entries a table may have: the fewest, the most, and some between, round a power of two.
 const ENTRIES: [u32; 7] = [1, 2, 65_535, 65_536, 65_537, 524_288, 1_048_576];
 
 // What is told over such a table.
-fn tells_with(rt: &impl Abort, table: Table) -> Result<(), Fail> {
-    let mut solver = Solver::new(table);
-    tells_busy_houses(rt, &mut solver)?;
-    let board = three(Rule::EmptyCapture, [2, 2, 3], [2, 2, 2], (0, 0))?;
-    values::tells_values(rt, &mut solver, &board, &[(1, -5), (2, 3), (3, 5)]);
-    Ok(())
+fn tells_with(rt: &impl Abort, solver: &mut Solver) {
+    tells_busy_houses(rt, solver);
+    let board = three(rt, Rule::EmptyCapture, [2, 2, 3], [2, 2, 2], (0, 0));
+    values::tells_values(rt, solver, &board, &[(1, -5), (2, 3), (3, 5)]);
 }
 
 #[test]
-fn a_table_may_have_any_number_of_entries(rt: HostRuntime) -> Result<(), Fail> {
+fn a_table_may_have_any_number_of_entries(rt: HostRuntime) {
     for entries in ENTRIES {
-        tells_with(&rt, Table::new(rt.alloc(), entries)?)?;
+        tells_with(&rt, &mut solver_of(&rt, rt.alloc(), entries));
     }
-    Ok(())
 }
 
 // A table is refused where one of its requests is, and only there: with all requests granted, and with any number fewer.

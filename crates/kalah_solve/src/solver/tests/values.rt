@@ -19,44 +19,34 @@ pub(super) fn tells_values<A: Allocator + Clone>(
 }
 
 // Worked positions.
-fn tells_worked_values<A: Allocator + Clone>(
-    rt: &impl Abort,
-    solver: &mut Solver<A>,
-) -> Result<(), Fail> {
-    let ones = two(Rule::Classic, [1, 1, 0], [1, 1, 0])?;
+fn tells_worked_values<A: Allocator + Clone>(rt: &impl Abort, solver: &mut Solver<A>) {
+    let ones = two(rt, Rule::Classic, [1, 1, 0], [1, 1, 0]);
     tells_values(rt, solver, &ones, &[(1, -2), (2, 2)]);
-    let rich = two(Rule::Classic, [1, 1, 9], [1, 1, 4])?;
+    let rich = two(rt, Rule::Classic, [1, 1, 9], [1, 1, 4]);
     tells_values(rt, solver, &rich, &[(1, 3), (2, 7)]);
-    tells_values(rt, solver, &one(2, 2)?, &[(1, -2)]);
-    let over = two(Rule::Classic, [0, 0, 3], [1, 2, 4])?;
+    tells_values(rt, solver, &one(rt, 2, 2), &[(1, -2)]);
+    let over = two(rt, Rule::Classic, [0, 0, 3], [1, 2, 4]);
     tells_values(rt, solver, &over, &[]);
-    let classic = two(Rule::Classic, [1, 0, 0], [0, 2, 0])?;
+    let classic = two(rt, Rule::Classic, [1, 0, 0], [0, 2, 0]);
     tells_values(rt, solver, &classic, &[(1, 1)]);
-    let empty_capture = two(Rule::EmptyCapture, [1, 0, 0], [0, 2, 0])?;
+    let empty_capture = two(rt, Rule::EmptyCapture, [1, 0, 0], [0, 2, 0]);
     tells_values(rt, solver, &empty_capture, &[(1, -1)]);
-    Ok(())
 }
 
 #[test]
-fn tells_worked_values_with_each_table(rt: HostRuntime) -> Result<(), Fail> {
+fn tells_worked_values_with_each_table(rt: HostRuntime) {
     for entries in [1, 65_536] {
-        let mut solver = Solver::new(Table::new(rt.alloc(), entries)?);
-        tells_worked_values(&rt, &mut solver)?;
+        tells_worked_values(&rt, &mut solver_of(&rt, rt.alloc(), entries));
     }
-    Ok(())
 }
 
 #[test]
-fn values_are_told_though_every_entry_is_refused(rt: HostRuntime) -> Result<(), Fail> {
-    let ample = Granting::new(rt.alloc(), u32::MAX);
-    let _table = Table::new(&ample, 1_024)?;
-    let heap = Granting::new(rt.alloc(), ample.made());
-    let mut solver = Solver {
-        search: Search::with_all_entries(Table::new(&heap, 1_024)?),
-    };
-    tells_worked_values(&rt, &mut solver)?;
+fn values_are_told_though_every_entry_is_refused(rt: HostRuntime) {
+    let grants = memory::requests_of_a_table(&rt, rt.alloc());
+    let heap = Granting::new(rt.alloc(), grants);
+    let table = Table::new(&heap, 1_024);
+    tells_worked_values(&rt, &mut memory::solver_with(&rt, table, true));
     assert!(rt; heap.refused() > 0);
-    Ok(())
 }
 
 // Each value of the position is that of the plain recursion.
@@ -73,15 +63,14 @@ fn agrees_with_plain_values(rt: &impl Abort, solver: &mut Solver, board: &Board)
 }
 
 #[test]
-fn values_agree_with_plain(rt: HostRuntime) -> Result<(), Fail> {
-    let mut solver = Solver::new(Table::new(rt.alloc(), 16)?);
+fn values_agree_with_plain(rt: HostRuntime) {
+    let mut solver = solver_of(&rt, rt.alloc(), 16);
     for rule in [Rule::Classic, Rule::EmptyCapture] {
         for a in 0..4u8 {
             for b in 0..4u8 {
-                agrees_with_plain_values(&rt, &mut solver, &two(rule, [a, b, 2], [b, a, 0])?);
-                agrees_with_plain_values(&rt, &mut solver, &two(rule, [a, b, 0], [1, 2, 1])?);
+                agrees_with_plain_values(&rt, &mut solver, &two(&rt, rule, [a, b, 2], [b, a, 0]));
+                agrees_with_plain_values(&rt, &mut solver, &two(&rt, rule, [a, b, 0], [1, 2, 1]));
             }
         }
     }
-    Ok(())
 }
