@@ -139,14 +139,19 @@ module _ (f : ℕ → ℤ) (xs : List ℕ) (i : ℕ) (best : ℤ) (house : ℕ) 
   step_kept value value_is worse =
       rw (take_more xs i 0 high) (best_kept f (take i xs) (get_or xs i 0) best house is (rw value_is at (le_from best value worse)) more_at)
 
--- the verdict of a position that is not over
-pub verdict_of_best : (p : Position) (best : ℤ) (house : ℕ) → HasEqualSides p → is_over p ≡ false → IsBestOf (value_of_move p) (legal_houses p) best house → Best best house ≡ verdict_of p
+-- the verdict of a position that is not over, by its parts
+pub verdict_by : (p : Position) (margin : ℤ) (house : ℕ) → is_over p ≡ false → margin ≡ worth p → house ≡ best_house p → Best margin house ≡ verdict_of p
+verdict_by p margin house going margin_at house_at =
+    ap (λ (b : Bool). if b then Over (final_margin p) else Best margin house) (sym going)
+    ∙ ap (λ v. if is_over p then Over (final_margin p) else Best v house) margin_at
+    ∙ ap (λ h. if is_over p then Over (final_margin p) else Best (worth p) h) house_at
+
+-- and by the first of its best houses
+pub verdict_of_best : (p : Position) (best : ℤ) (house : ℕ) → HasEqualSides p → is_over p ≡ false → IsBestOf (value_of_move p) (legal_houses p) best house
+    → Best best house ≡ verdict_of p
 verdict_of_best p best house even going is =
     let worth_is : best ≡ worth p = is.best_is ∙ sym (worth_of_going p even going) in
-    let house_is : best_house p ≡ house = ap (λ o. unwrap_or o 0) (rw worth_is at is.house_is) in
-    ap (λ (b : Bool). if b then Over (final_margin p) else Best best house) (sym going)
-    ∙ ap (λ v. if is_over p then Over (final_margin p) else Best v house) worth_is
-    ∙ ap (λ h. if is_over p then Over (final_margin p) else Best (worth p) h) (sym house_is)
+    verdict_by p best house going worth_is (sym (ap (λ o. unwrap_or o 0) (rw worth_is at is.house_is)))
 
 -- the verdict of a position that is over
 pub verdict_of_over : (p : Position) (margin : ℤ) → is_over p ≡ true → margin ≡ final_margin p → Over margin ≡ verdict_of p

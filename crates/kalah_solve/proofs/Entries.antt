@@ -16,7 +16,8 @@ same_number : (m n : ℕ) → nat_eq m n ≡ true → m ≡ n
 same_number m n h = eqb-true m n h
 
 -- what a look-up finds holds the houses_worth
-pub found_holds : (es : List (ℕ × Interval)) (a : Rows) (k : ℕ) → AreTrue es → IsWithinHouses a → k ≡ key_of a → (o : Option Interval) → lookup (nat_eq k) es ≡ o → IfSome o (λ i. Holds i (houses_worth a))
+pub found_holds : (es : List (ℕ × Interval)) (a : Rows) (k : ℕ) → AreTrue es → IsWithinHouses a → k ≡ key_of a → (o : Option Interval) → lookup (nat_eq k) es ≡ o
+    → IfSome o (λ i. Holds i (houses_worth a))
 found_holds es a k entries within key None h = tt
 found_holds es a k entries within key (Some i) h =
     let at = Contains-lookup (nat_eq k) es i h in

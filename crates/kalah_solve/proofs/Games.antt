@@ -119,7 +119,8 @@ pub widened : {mine theirs mine' theirs' : Way} {p : Position} {houses : List �
     Game mine theirs p houses final → Game mine' theirs' p houses final
 widened m t even (is_at_end over) = is_at_end over
 widened {mine} {theirs} {mine'} {theirs'} {p} m t even (moves_on {h = h} going has again rest) = moves_on going (m.widens p h even going has) again (widened m t (after_equal_sides p h) rest)
-widened {mine} {theirs} {mine'} {theirs'} {p} m t even (passes_turn {h = h} going has turn rest) = passes_turn going (m.widens p h even going has) turn (widened t m (swapped_equal_sides (after p h) (after_equal_sides p h)) rest)
+widened {mine} {theirs} {mine'} {theirs'} {p} m t even (passes_turn {h = h} going has turn rest) =
+    passes_turn going (m.widens p h even going has) turn (widened t m (swapped_equal_sides (after p h) (after_equal_sides p h)) rest)
 
 -- a way is as wide as itself
 pub same_way : (way : Way) → IsWithin way way

@@ -1,13 +1,14 @@
 -- What houses are worth: no less than each move, and as much as some move.
-use Rattle.std.proofs.Common.{◌≡◌, ℕ, inl, inr, List, [], ◌∷◌, get_or, sym, ◌∙◌, refl, subst}
+use Rattle.std.proofs.Common.{◌≡◌, ℕ, inl, inr, List, [], ◌∷◌, sym, ◌∙◌, refl, subst}
 use Rattle.std.specs.Prelude.{false, map, Contains, ℤ, ◌≤ℤ◌}
-use Rattle.std.proofs.lemmas.Int.{fold-int_max_bounds, fold-int_max_reached}
-use Rattle.std.proofs.lemmas.List.Elements.{All-contains, Contains-get_or}
+use Rattle.std.proofs.lemmas.Int.{fold-int_max_bounds}
+use Rattle.std.proofs.lemmas.List.Elements.{All-contains}
 use Rattle.lru.proofs.Splits.{Contains-head, Contains-tail, Contains-cons, Contains-nil}
 use Rattle.kalah_rules.specs.Position.{Rows, HasEqualSides, IsWithinHouses, is_over, bare}
 use Rattle.kalah_rules.specs.Play.{legal_houses}
 use Rattle.kalah_rules.proofs.Legal.{legal_going}
 use Rattle.kalah_solve.specs.Worth.{greatest, houses_worth, value_of_move}
+use Rattle.kalah_solve.proofs.Finds.{greatest_is_one}
 use Rattle.kalah_solve.proofs.Worths.{worth_of_going, legal_some}
 
 -- ---- the greatest of a list
@@ -20,28 +21,12 @@ le_greatest (x ∷ xs) z has =
       | inr rest ↦ All-contains (λ y. y ≤ℤ greatest (x ∷ xs)) xs z bounds.1 rest
     ]
 
--- it is one of them
-greatest_reached : (zs : List ℤ) (z : ℤ) → Contains zs z → Contains zs (greatest zs)
-greatest_reached [] z has = absurd (Contains-nil z has)
-greatest_reached (x ∷ xs) z has = elim (fold-int_max_reached x xs (greatest (x ∷ xs)) refl) [
-  | inl e ↦ subst (Contains (x ∷ xs)) (sym e) (Contains-head x xs)
-  | inr rest ↦ Contains-tail x xs (greatest (x ∷ xs)) rest
-]
-
 -- what a function makes of an element
 map_has : {X Y : Type 0} (f : X → Y) (xs : List X) (x : X) → Contains xs x → Contains (map f xs) (f x)
 map_has f [] x has = absurd (Contains-nil x has)
 map_has f (y ∷ ys) x has = elim (Contains-cons y ys x has) [
   | inl e ↦ subst (λ z. Contains (map f (y ∷ ys)) (f z)) e (Contains-head (f y) (map f ys))
   | inr rest ↦ Contains-tail (f y) (map f ys) (f x) (map_has f ys x rest)
-]
-
--- and what it was made of
-from_map : {X Y : Type 0} (f : X → Y) (xs : List X) (y : Y) → Contains (map f xs) y → (x : X) × Contains xs x × (f x ≡ y)
-from_map f [] y has = absurd (Contains-nil y has)
-from_map f (x ∷ xs) y has = elim (Contains-cons (f x) (map f xs) y has) [
-  | inl e ↦ (x, Contains-head x xs, e)
-  | inr rest ↦ let on = from_map f xs y rest in (on.0, Contains-tail x xs on.0 on.1, on.2)
 ]
 
 -- houses have equal sides
@@ -56,8 +41,5 @@ value_le_worth a h w has =
 -- and some house is worth as much
 pub worth_reached : (a : Rows) → IsWithinHouses a → is_over (bare a) ≡ false → (h : ℕ) × Contains (legal_houses (bare a)) h × (houses_worth a ≡ value_of_move (bare a) h)
 worth_reached a w going =
-    let some = legal_some (bare a) going in
-    let first = get_or (legal_houses (bare a)) 0 0 in
-    let has = Contains-get_or (legal_houses (bare a)) 0 0 some in
-    let at = from_map (value_of_move (bare a)) (legal_houses (bare a)) _ (greatest_reached (map (value_of_move (bare a)) (legal_houses (bare a))) (value_of_move (bare a) first) (map_has (value_of_move (bare a)) (legal_houses (bare a)) first has)) in
+    let at = greatest_is_one (value_of_move (bare a)) (legal_houses (bare a)) (legal_some (bare a) going) in
     (at.0, at.1, worth_of_going (bare a) (sides a w) going ∙ sym at.2)

@@ -1,17 +1,15 @@
 -- The first house that attains the margin of best play, and the margin with the stores.
 use Rattle.std.proofs.Common.{zero, suc, inl, inr, List, [], ◌∷◌, refl, ◌≡◌, ℕ, ◌+◌, ◌<◌, ◌≤◌, length, get_or, arith, ap, sym, ◌∙◌, w32, to_z, of_z}
-use Rattle.std.specs.Prelude.{Bool, true, false, Contains, if◌then◌else◌, unwrap_or, find, Some, ℤ, pos, negsuc, ◌+ℤ◌, ◌-ℤ◌, ◌≤ℤ◌, ◌<ℤ◌}
+use Rattle.std.specs.Prelude.{Bool, true, false, Contains, unwrap_or, find, Some, ℤ, pos, negsuc, ◌+ℤ◌, ◌-ℤ◌, ◌≤ℤ◌, ◌<ℤ◌}
 use Rattle.std.proofs.lemmas.Int.{ints, clamps}
 use Rattle.std.specs.Ordering.{int_eq}
 use Rattle.std.proofs.lemmas.Bool.{cases_eq}
 use Rattle.std.proofs.lemmas.List.{get_or_default}
 use Rattle.std.proofs.lemmas.List.Elements.{Contains-get_or}
-use Rattle.kalah_rules.specs.Position.{Position, Rows, IsWithinHouses, IsWithinLimits, IsSmallMargin, is_over, final_margin, rows_of, bare}
+use Rattle.kalah_rules.specs.Position.{Position, Rows, IsWithinHouses, IsWithinLimits, IsSmallMargin, is_over, rows_of, bare}
 use Rattle.kalah_rules.specs.Play.{legal_houses}
 use Rattle.kalah_solve.specs.Table.{within}
 use Rattle.kalah_solve.specs.Worth.{worth, houses_worth, value_of_move, best_house}
-use Rattle.kalah_solve.specs.Verdict.{verdict_of}
-use Rattle.kalah_solve.specs.declared.verdict.Verdict.TheVariants.{Best, Over}
 use Rattle.kalah_rules.specs.HousesStep.{houses_step}
 use Rattle.kalah_solve.specs.Taken.{taken, taken_by_step}
 use Rattle.kalah_solve.proofs.Bests.{eq_yes, eq_no}
@@ -83,15 +81,8 @@ module _ (a : Rows) (w : IsWithinHouses a) where
       ]
 
 -- ---- with the stores
-pub margin_is : (p : Position) (best margin : ℤ) → best ≡ houses_worth (rows_of p) → margin ≡ best +ℤ (pos p.own_store -ℤ pos p.other_store) → margin ≡ worth p
+margin_is : (p : Position) (best margin : ℤ) → best ≡ houses_worth (rows_of p) → margin ≡ best +ℤ (pos p.own_store -ℤ pos p.other_store) → margin ≡ worth p
 margin_is p best margin best_is e = e ∙ ap (λ z. z +ℤ (pos p.own_store -ℤ pos p.other_store)) best_is ∙ sym (worth_of_rows p)
-
--- the verdict by its parts
-pub verdict_by : (p : Position) (margin : ℤ) (house : ℕ) → is_over p ≡ false → margin ≡ worth p → house ≡ best_house p → Best margin house ≡ verdict_of p
-verdict_by p margin house going margin_at house_at =
-    ap (λ (b : Bool). if b then Over (final_margin p) else Best margin house) (sym going)
-    ∙ ap (λ v. if is_over p then Over (final_margin p) else Best v house) margin_at
-    ∙ ap (λ h. if is_over p then Over (final_margin p) else Best (worth p) h) house_at
 
 -- the houses of a board are within the limits
 pub rows_within : (p : Position) → IsWithinLimits p → IsWithinHouses (rows_of p)
@@ -103,7 +94,8 @@ rows_within p limits = record {
 }
 
 -- the margin is one that a player can have
-pub margin_small : (p : Position) (best margin : ℤ) → IsWithinLimits p → best ≡ houses_worth (rows_of p) → margin ≡ best +ℤ (pos p.own_store -ℤ pos p.other_store) → IsSmallMargin margin
+pub margin_small : (p : Position) (best margin : ℤ) → IsWithinLimits p → best ≡ houses_worth (rows_of p) → margin ≡ best +ℤ (pos p.own_store -ℤ pos p.other_store)
+    → IsSmallMargin margin
 margin_small p best margin limits best_is e =
     let bounds = worth_up_to (rows_of p) (rows_within p limits) in
     record {
@@ -111,7 +103,22 @@ margin_small p best margin limits best_is e =
       high = omega (arith, ints, e, best_is, bounds.high, limits.own_store_low);
     }
 
--- the sum that is told fits thirty-two bits
-pub sum_is : (best : ℤ) (own other : ℕ) → negsuc 30 ≤ℤ best → best ≤ℤ pos 31 → own ≤ 130 → other ≤ 130 →
-    to_z w32 (of_z w32 (to_z w32 (of_z w32 best) +ℤ to_z w32 (of_z w32 (to_z w32 own -ℤ to_z w32 other)))) ≡ best +ℤ (pos own -ℤ pos other)
-sum_is best own other low high own_low other_low = omega (arith, ints, low, high, own_low, other_low)
+-- the margin that is told of the best of the houses: with the difference of the stores, in thirty-two bits
+abbrev pub told : ℤ → ℕ → ℕ → ℤ
+told best own other = to_z w32 (of_z w32 (to_z w32 (of_z w32 best) +ℤ to_z w32 (of_z w32 (to_z w32 own -ℤ to_z w32 other))))
+
+module _ (p : Position) (best : ℤ) (own other : ℕ) (limits : IsWithinLimits p)
+    (best_is : best ≡ houses_worth (rows_of p)) (own_is : own ≡ p.own_store) (other_is : other ≡ p.other_store) where
+  -- no sum is too large
+  told_is : told best own other ≡ best +ℤ (pos p.own_store -ℤ pos p.other_store)
+  told_is =
+      let rows = rows_within p limits in
+      omega (arith, ints, best_is, worth_low (rows_of p) rows, worth_high (rows_of p) rows, own_is, other_is, limits.own_store_low, limits.other_store_low)
+
+  -- so it is the worth of the position
+  pub told_worth : told best own other ≡ worth p
+  told_worth = margin_is p best (told best own other) best_is told_is
+
+  -- and small
+  pub told_small : IsSmallMargin (told best own other)
+  told_small = margin_small p best (told best own other) limits best_is told_is

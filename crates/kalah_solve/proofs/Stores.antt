@@ -53,8 +53,7 @@ value_with_more : (v w : Position → ℤ) (a b : ℕ) (p : Position) (h : ℕ) 
     value_by v (with_more a b p) h ≡ value_by w p h +ℤ (pos a -ℤ pos b)
 value_with_more v w a b p h again turn =
     let q = after p h in
-    rw (after_with_more a b p h) (shift_by_step (is_over q) (is_again p h) (final_margin (with_more a b q)) (v (with_more a b q)) (v (with_more b a (swapped q))) (final_margin q) (w q) (w (swapped q)) a b
-    (final_with_more a b q) again turn)
+    rw (after_with_more a b p h) (shift_by_step (is_over q) (is_again p h) _ _ _ _ _ _ a b (final_with_more a b q) again turn)
 
 -- with no move left the worth is the final margin
 worth_zero : (p : Position) → worth_within zero p ≡ final_margin p

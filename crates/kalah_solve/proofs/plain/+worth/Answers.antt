@@ -11,10 +11,14 @@ use Rattle.kalah_solve.proofs.Worths.{board_equal_sides, again_fewer, turn_fewer
 use Rattle.kalah_solve.proofs.plain.+worth.Goals as goal
 
 pub value_of_move-worth-requires : goal.value_of_move-worth-requires
-value_of_move-worth-requires t c = (omega (arith, again_fewer c.args.board.now c.args.h c.in-Again.next (board_equal_sides c.args.board.now c.in-Again.ensures.limits) c.requires c.in-Again.ensures.step), tt)
+value_of_move-worth-requires t c =
+    let even = board_equal_sides c.args.board.now c.in-Again.ensures.limits in
+    (omega (arith, again_fewer c.args.board.now c.args.h c.in-Again.next even c.requires c.in-Again.ensures.step), tt)
 
 pub value_of_move-worth-requires-in-Turn : goal.value_of_move-worth-requires-in-Turn
-value_of_move-worth-requires-in-Turn t c = (omega (arith, turn_fewer c.args.board.now c.args.h c.in-Turn.next (board_equal_sides c.args.board.now c.in-Turn.ensures.limits) c.requires c.in-Turn.ensures.step), tt)
+value_of_move-worth-requires-in-Turn t c =
+    let even = board_equal_sides c.args.board.now c.in-Turn.ensures.limits in
+    (omega (arith, turn_fewer c.args.board.now c.args.h c.in-Turn.next even c.requires c.in-Turn.ensures.step), tt)
 
 pub value_of_move-returns-in-Over-clause-value : goal.value_of_move-returns-in-Over-clause-value
 value_of_move-returns-in-Over-clause-value t c =

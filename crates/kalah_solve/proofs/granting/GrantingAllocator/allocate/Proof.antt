@@ -63,7 +63,8 @@ allocate_spec 𝓤 𝓛 𝓜 𝓡 wired Y L g d d' met _ =
     let Counts = triple_of 𝓛 counts.signature (counts.spec 𝓛 𝓜.mem 𝓡.returns) in
     let c : Counts.Ghost = (((κ, tt), (q, tt), tt, (record { ref_ptr = from; now = r.now.requests }, tt), (vptr from.0 from.1 ∷ [], tt)), tt) in
     let z = at_takes Z 𝓛 𝓜.mem 𝓡.returns κ q at h n al τ in
-    let ends : (v : Val) (answer : Answer.Denot) → Sq 𝓛 (‵ (Answer.own_val answer (v ∷ [])) ∷ ‵ (block_if_ok (token Z h) τ answer) ∷ ‵ (flft κ q) ∷ (‵ (flft κs.1.0 qs.1.0) ⊛ ‵ ftrue) ∷ []) (prop (W.post y v)) =
+    let ends : (v : Val) (answer : Answer.Denot) →
+    Sq 𝓛 (‵ (Answer.own_val answer (v ∷ [])) ∷ ‵ (block_if_ok (token Z h) τ answer) ∷ ‵ (flft κ q) ∷ (‵ (flft κs.1.0 qs.1.0) ⊛ ‵ ftrue) ∷ []) (prop (W.post y v)) =
     λ v answer. suffices ! _ (ends_at 𝓛 ended stayed clauses y v answer (tt, (tt, (tt, tt))) (tt, (tt, (tt, tt)))) $
     nothing ! $ nothing ! $ fjoin ! $ nothing ! $ fjoin ! $ nothing ! $ fjoin ! $ join ! $ move ! (2 ∷ 3 ∷ []) $ join ! $ join ! $ done ! in
     qed 𝓛 (((‵ (flft κ q) ⊛ ‵ (flft κs.1.0 qs.1.0) ⊛ ‵ ftrue) ⊛ ‵ (owns (types_at ended.signature.params κs) a y.0.4))

@@ -52,13 +52,15 @@ pub explore-loop-waiting-preserved : goal.explore-loop-waiting-preserved
 explore-loop-waiting-preserved g t c = record {
   place = c.highest-at-in-loop-waiting.ensures.place;
   highest = c.highest-at-in-loop-waiting.ensures.highest;
-  untried = untried_fewer c.args.houses.now c.args.bar c.loop-waiting.waiting c.loop-waiting.at c.loop-waiting.invariant.untried c.loop-waiting.invariant.place (short_of _ c.args.bar _ c.if-move_reaches.ensures refl);
+  untried = untried_fewer c.args.houses.now c.args.bar c.loop-waiting.waiting c.loop-waiting.at c.loop-waiting.invariant.untried c.loop-waiting.invariant.place
+      (short_of _ c.args.bar _ c.if-move_reaches.ensures refl);
 }
 
 pub explore-returns : goal.explore-returns
 explore-returns g t c =
     let is = c.loop-waiting.invariant in
-    says_short c.args.bar _ (none_untried c.args.houses.now c.args.bar c.loop-waiting.waiting c.loop-waiting.at c.seeds-seeds.ensures.limits c.requires.going is.untried is.highest (omega (arith, c.loop-waiting-test.false)))
+    says_short c.args.bar _ (none_untried c.args.houses.now c.args.bar c.loop-waiting.waiting c.loop-waiting.at c.seeds-seeds.ensures.limits c.requires.going
+    is.untried is.highest (omega (arith, c.loop-waiting-test.false)))
 
 pub move_reaches-step_reaches-requires : goal.move_reaches-step_reaches-requires
 move_reaches-step_reaches-requires g t c κs within =
@@ -87,7 +89,8 @@ others_waiting-loop-h-preserved g t c = elim c.if-own-gt0.branch [
       let some = c.own.ensures.value in
       let side = c.m-h-end.ensures in
       let has = filled_legal c.args.houses.now c.loop-h.h c.requires.going (omega arith) (omega (arith, side.side)) (omega (arith, some, w.if-own-gt0.true)) in
-      rw w.ranks-is (ranked_more c.args.houses.now c.args.bar c.loop-h.h c.loop-h.ranks w.in_ok-ranks.field-0 c.loop-h.invariant (omega arith) (omega (arith, side.side, side.limits.at_most_six)) has w.in_ok-ranks.ensures.short)
+      rw w.ranks-is (ranked_more c.args.houses.now c.args.bar c.loop-h.h c.loop-h.ranks w.in_ok-ranks.field-0 c.loop-h.invariant
+      (omega arith) (omega (arith, side.side, side.limits.at_most_six)) has w.in_ok-ranks.ensures.short)
   | others_waiting-else-own-gt0 w ↦ rw w.ranks-is (ranked_same c.args.houses.now c.args.bar c.loop-h.h c.loop-h.ranks c.loop-h.invariant (λ has. elim w.else-own-gt0.branch [
     | others_waiting-else-own-gt0-via-then-own-gt0+else-not-ends_in_store w' ↦ w'.if-not-ends_in_store.ensures.0 refl
     | others_waiting-else-own-gt0-via-else-own-gt0 w' ↦

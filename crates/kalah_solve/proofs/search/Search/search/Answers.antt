@@ -16,11 +16,10 @@ returns-then-high-low g c =
     let high_fits : SFits w32 c.min-high.result = search rules in
     let low_is = simp to_z-of_z at c.max-low.ensures.value in
     let high_is = simp to_z-of_z at c.min-high.ensures.value in
-    let ordered : c.args.lo ≤ℤ c.args.hi = c.requires.ordered in
     let fits : SFits w32 c.clamp.result = search rules in
     let e = simp to_z-of_z at c.clamp.ensures.value in
     let none : c.min-high.result ≤ℤ c.max-low.result = grind (arith, ints, simp to_z-of_z at c.if-high-low.true) in
-    to_z-of_z w32 _ fits ∙ e ∙ known_answers c.args.lo c.args.hi (houses_worth c.args.houses.now) c.known_margins-known.result ordered c.known_margins-known.ensures.holds (rw (← low_is, ← high_is) none)
+    to_z-of_z w32 _ fits ∙ e ∙ known_answers c.args.lo c.args.hi _ c.known_margins-known.result c.requires.ordered c.known_margins-known.ensures.holds (rw (← low_is, ← high_is) none)
 
 pub learned-requires-clause-least : goal.learned-requires-clause-least
 learned-requires-clause-least g c = omega (arith, ints, clamps, c.close_in-answer.ensures)
@@ -43,8 +42,8 @@ returns g c =
     let high_fits : SFits w32 c.min-high.result = search rules in
     let low_is = simp to_z-of_z at c.max-low.ensures.value in
     let high_is = simp to_z-of_z at c.min-high.ensures.value in
-    let ordered : c.args.lo ≤ℤ c.args.hi = c.requires.ordered in
     let fits : SFits w32 c.close_in-answer.result = search rules in
     let e = simp to_z-of_z at c.close_in-answer.ensures in
     let some : c.max-low.result ≤ℤ c.min-high.result = grind (arith, ints, simp to_z-of_z at c.if-high-low.false) in
-    to_z-of_z w32 _ fits ∙ e ∙ rw (low_is, high_is) (known_narrows c.args.lo c.args.hi (houses_worth c.args.houses.now) c.known_margins-known.result ordered c.known_margins-known.ensures.holds (rw (← low_is, ← high_is) some))
+    let narrower = known_narrows c.args.lo c.args.hi _ c.known_margins-known.result c.requires.ordered c.known_margins-known.ensures.holds (rw (← low_is, ← high_is) some) in
+    to_z-of_z w32 _ fits ∙ e ∙ rw (low_is, high_is) narrower

@@ -1,10 +1,10 @@
-use Rattle.std.proofs.Common.{arith, rules, sym, ap, ◌∙◌, ◌≡◌, ◌≤◌, pos, to_z, of_z, w32, SFits, ◌+ℤ◌, ◌-ℤ◌}
+use Rattle.std.proofs.Common.{arith, rules, sym, ap, ◌∙◌, ◌≡◌, pos, w32, SFits}
 use Rattle.std.specs.Prelude.{negsuc}
 use Rattle.std.proofs.lemmas.Int.{ints, to_z-of_z}
 use Rattle.kalah_rules.specs.Position.{rows_of}
 use Rattle.kalah_solve.specs.Table.{within}
 use Rattle.kalah_solve.specs.Worth.{houses_worth}
-use Rattle.kalah_solve.proofs.Roots.{margin_is, margin_small, root_worth, rows_within, sum_is}
+use Rattle.kalah_solve.proofs.Roots.{root_worth, rows_within, told_small, told_worth}
 use Rattle.kalah_solve.proofs.Takings.{worth_low, worth_high}
 use Rattle.kalah_solve.proofs.Worths.{worth_of_over}
 use Rattle.kalah_solve.proofs.solver.Solver.margin.Given.{Over}
@@ -23,20 +23,6 @@ found g c =
     let p = c.args.board.now in
     root_worth (rows_of p) c.search-best.result (rows_within p c.is_over.ensures.limits) (c.search-best.ensures ∙ ap (λ a. within (negsuc 30) (pos 31) (houses_worth a)) c.houses.ensures)
 
--- with the stores, no sum is too large
-summed : (g : Over) (c : goal.After-other_store g)
-    → to_z w32 (of_z w32 (to_z w32 (of_z w32 c.search-best.result) +ℤ to_z w32 (of_z w32 (to_z w32 c.own_store.result -ℤ to_z w32 c.other_store.result))))
-    ≡ c.search-best.result +ℤ (pos c.args.board.now.own_store -ℤ pos c.args.board.now.other_store)
-summed g c =
-    let p = c.args.board.now in
-    let limits = c.is_over.ensures.limits in
-    let within = rows_within p limits in
-    let own : c.own_store.result ≤ 130 = omega (arith, c.own_store.ensures, limits.own_store_low) in
-    let other : c.other_store.result ≤ 130 = omega (arith, c.other_store.ensures, limits.other_store_low) in
-    rw (← c.own_store.ensures, ← c.other_store.ensures)
-    (sum_is c.search-best.result c.own_store.result c.other_store.result
-    (rw (found g c) (worth_low (rows_of p) within)) (rw (found g c) (worth_high (rows_of p) within)) own other)
-
 pub overflow_add-result : goal.overflow_add-result
 overflow_add-result g c =
     let p = c.args.board.now in
@@ -45,7 +31,9 @@ overflow_add-result g c =
     omega (arith, ints, found g c, worth_low (rows_of p) within, worth_high (rows_of p) within, c.own_store.ensures, c.other_store.ensures, limits.own_store_low, limits.other_store_low)
 
 pub returns-clause-worth : goal.returns-clause-worth
-returns-clause-worth g c = margin_is c.args.board.now c.search-best.result _ (found g c) (summed g c)
+returns-clause-worth g c =
+    told_worth c.args.board.now c.search-best.result c.own_store.result c.other_store.result c.is_over.ensures.limits (found g c) c.own_store.ensures c.other_store.ensures
 
 pub returns-clause-small : goal.returns-clause-small
-returns-clause-small g c = margin_small c.args.board.now c.search-best.result _ c.is_over.ensures.limits (found g c) (summed g c)
+returns-clause-small g c =
+    told_small c.args.board.now c.search-best.result c.own_store.result c.other_store.result c.is_over.ensures.limits (found g c) c.own_store.ensures c.other_store.ensures

@@ -1,12 +1,12 @@
-use Rattle.std.proofs.Common.{arith, rules, sym, ap, ◌∙◌, ◌≤◌, subst, w32, SFits}
+use Rattle.std.proofs.Common.{rules, sym, ap, ◌∙◌, subst, w32, SFits}
 use Rattle.std.specs.Prelude.{Contains}
 use Rattle.std.proofs.lemmas.Int.{to_z-of_z}
 use Rattle.kalah_rules.specs.Play.{legal_houses}
 use Rattle.kalah_rules.specs.Position.{Rows, bare}
 use Rattle.kalah_solve.specs.Worth.{houses_worth, best_house}
 use Rattle.kalah_solve.specs.declared.verdict.Verdict.TheVariants.{Best, Over}
-use Rattle.kalah_solve.proofs.Bests.{verdict_of_over, small_best}
-use Rattle.kalah_solve.proofs.Roots.{margin_is, verdict_by, margin_small, sum_is}
+use Rattle.kalah_solve.proofs.Bests.{verdict_by, verdict_of_over, small_best}
+use Rattle.kalah_solve.proofs.Roots.{told, told_small, told_worth}
 use Rattle.kalah_solve.proofs.Stores.{best_of_rows}
 use Rattle.kalah_solve.proofs.Verdicts.{verdict_tells}
 use Rattle.kalah_solve.proofs.Worths.{board_equal_sides}
@@ -21,26 +21,23 @@ returns-then-is_over-clause-best_play g c =
 pub returns-clause-verdict : goal.returns-clause-verdict
 returns-clause-verdict g c =
     let p = c.args.board.now in
-    let limits = c.is_over.ensures.limits in
     let rows = c.houses-houses.ensures in
-    let own : c.own_store.result ≤ 130 = omega (arith, c.own_store.ensures, limits.own_store_low) in
-    let other : c.other_store.result ≤ 130 = omega (arith, c.other_store.ensures, limits.other_store_low) in
-    let best_is = c.best_move-best.ensures.margin ∙ ap houses_worth rows in
-    let sum = rw (c.own_store.ensures, c.other_store.ensures) at (sum_is c.best_move-best.result.0 c.own_store.result c.other_store.result c.best_move-best.ensures.low c.best_move-best.ensures.high own other) in
-    let house_is = c.best_move-best.ensures.house ∙ ap (λ (a : Rows). best_house (bare a)) rows ∙ sym (best_of_rows p) in
-    rw (c.own_store.ensures, c.other_store.ensures) (verdict_by p _ c.best_move-best.result.1 (sym c.if-is_over.ensures.over) (margin_is p c.best_move-best.result.0 _ best_is sum) house_is)
+    let best = c.best_move-best.ensures in
+    verdict_by p (told c.best_move-best.result.0 c.own_store.result c.other_store.result) c.best_move-best.result.1 (sym c.if-is_over.ensures.over)
+    (told_worth p c.best_move-best.result.0 c.own_store.result c.other_store.result c.is_over.ensures.limits (best.margin ∙ ap houses_worth rows) c.own_store.ensures c.other_store.ensures)
+    (best.house ∙ ap (λ (a : Rows). best_house (bare a)) rows ∙ sym (best_of_rows p))
 
 pub returns-clause-best_play : goal.returns-clause-best_play
-returns-clause-best_play g c = verdict_tells c.args.board.now (Best _ c.best_move-best.result.1) (board_equal_sides c.args.board.now c.is_over.ensures.limits) (returns-clause-verdict g c)
+returns-clause-best_play g c =
+    verdict_tells c.args.board.now (Best (told c.best_move-best.result.0 c.own_store.result c.other_store.result) c.best_move-best.result.1)
+    (board_equal_sides c.args.board.now c.is_over.ensures.limits) (returns-clause-verdict g c)
 
 pub returns-clause-small : goal.returns-clause-small
 returns-clause-small g c =
     let p = c.args.board.now in
     let limits = c.is_over.ensures.limits in
     let rows = c.houses-houses.ensures in
-    let own : c.own_store.result ≤ 130 = omega (arith, c.own_store.ensures, limits.own_store_low) in
-    let other : c.other_store.result ≤ 130 = omega (arith, c.other_store.ensures, limits.other_store_low) in
-    let best_is = c.best_move-best.ensures.margin ∙ ap houses_worth rows in
-    let sum = rw (c.own_store.ensures, c.other_store.ensures) at (sum_is c.best_move-best.result.0 c.own_store.result c.other_store.result c.best_move-best.ensures.low c.best_move-best.ensures.high own other) in
-    let is_legal : Contains (legal_houses p) c.best_move-best.result.1 = subst (λ (a : Rows). Contains (legal_houses (bare a)) c.best_move-best.result.1) rows c.best_move-best.ensures.legal in
-    rw (c.own_store.ensures, c.other_store.ensures) (small_best p _ c.best_move-best.result.1 limits is_legal (margin_small p c.best_move-best.result.0 _ limits best_is sum))
+    let best = c.best_move-best.ensures in
+    small_best p (told c.best_move-best.result.0 c.own_store.result c.other_store.result) c.best_move-best.result.1 limits
+    (subst (λ (a : Rows). Contains (legal_houses (bare a)) c.best_move-best.result.1) rows best.legal)
+    (told_small p c.best_move-best.result.0 c.own_store.result c.other_store.result limits (best.margin ∙ ap houses_worth rows) c.own_store.ensures c.other_store.ensures)
