@@ -47,3 +47,6 @@ returns g c =
     let some : c.max-low.result ≤ℤ c.min-high.result = grind (arith, ints, simp to_z-of_z at c.if-high-low.false) in
     let narrower = known_narrows c.args.lo c.args.hi _ c.known_margins-known.result c.requires.ordered c.known_margins-known.ensures.holds (rw (← low_is, ← high_is) some) in
     to_z-of_z w32 _ fits ∙ e ∙ rw (low_is, high_is) narrower
+
+pub learned-requires-clause-most : goal.learned-requires-clause-most
+learned-requires-clause-most g c = omega (arith, ints, clamps, c.close_in-answer.ensures)

@@ -1,5 +1,6 @@
 use Rattle.std.proofs.Common.{sym, ◌∙◌, ap, ◌≡◌, arith, subst}
 use Rattle.std.specs.Prelude.{map}
+use Rattle.std.proofs.lemmas.Grind.{common_steps}
 use Rattle.std.proofs.lemmas.List.{take_all}
 use Rattle.kalah_solve.specs.MoveValues.{move_value, values_of, TellMoves}
 use Rattle.kalah_solve.proofs.MovesSecured.{values_tell}
@@ -12,3 +13,9 @@ returns-clause-best_play g c =
     let all = take_all c.loop-i.i c.legal-moves.result (omega arith) ∙ c.legal-moves.ensures in
     let is : c.loop-i.values ≡ values_of p = c.loop-i.invariant ∙ ap (map (move_value p)) all in
     subst (TellMoves p) (sym is) (values_tell p (board_equal_sides p c.m-side.ensures.limits))
+
+pub loop-i-preserved : goal.loop-i-preserved
+loop-i-preserved g c = grind (arith, common_steps)
+
+pub returns-clause-values : goal.returns-clause-values
+returns-clause-values g c = grind (arith, common_steps)
