@@ -4,12 +4,12 @@ use crate::granting::Granting;
 
 // Three houses a side for which so much is tried that an answer is kept, each with its rule, its margin and its best house.
 const BUSY: [(Rule, [u8; 3], [u8; 3], i8, u8); 6] = [
-    (Rule::Classic, [2, 2, 3], [2, 2, 2], 3, 2),
-    (Rule::EmptyCapture, [2, 2, 3], [2, 2, 2], 5, 3),
-    (Rule::Classic, [3, 3, 3], [1, 2, 1], -1, 1),
-    (Rule::EmptyCapture, [3, 3, 3], [1, 2, 1], -3, 1),
-    (Rule::Classic, [3, 1, 3], [3, 2, 1], 1, 1),
-    (Rule::EmptyCapture, [3, 1, 3], [3, 2, 1], 7, 1),
+    (Rule::Classic, [3, 3, 3], [2, 3, 2], 2, 1),
+    (Rule::EmptyCapture, [3, 3, 3], [2, 3, 2], 6, 1),
+    (Rule::Classic, [4, 3, 4], [1, 3, 2], -1, 1),
+    (Rule::EmptyCapture, [4, 3, 4], [1, 3, 2], -1, 1),
+    (Rule::Classic, [4, 1, 4], [3, 3, 2], 3, 1),
+    (Rule::EmptyCapture, [4, 1, 4], [3, 3, 2], 9, 1),
 ];
 
 // A board with three houses a side and these stores.
@@ -50,7 +50,7 @@ pub(super) fn tells_busy_houses<A: Allocator + Clone>(rt: &impl Abort, solver: &
 // The last two have the same houses, each with the entry of its rule.
 pub(super) fn keeps_the_last_two<A: Allocator + Clone>(rt: &impl Abort, solver: &mut Solver<A>) {
     for (rule, own, other, margin, _) in BUSY {
-        if own == [3, 1, 3] {
+        if own == [4, 1, 4] {
             let houses = three(rt, rule, own, other, (0, 0)).houses();
             let kept = Interval {
                 lo: margin,
@@ -75,28 +75,32 @@ pub(super) fn agree_with_plain(rt: &impl Abort, solver: &mut Solver) {
 // Six houses a side which take so many nodes together that endings of nine seeds are asked for.
 fn tells_hard_houses(rt: &impl Abort, solver: &mut Solver) {
     for (rule, verdict) in [
-        (Rule::Classic, best(-1, 6)),
-        (Rule::EmptyCapture, best(-3, 6)),
+        (Rule::Classic, best(-6, 5)),
+        (Rule::EmptyCapture, best(-4, 5)),
     ] {
-        let board = Board::new(6, [2, 3, 3, 2, 3, 2], 0, [3, 3, 2, 3, 2, 3], 0, rule);
+        let board = Board::new(6, [3, 2, 3, 2, 3, 2], 0, [2, 3, 2, 3, 2, 3], 0, rule);
         assert!(rt; solver.solve(&board.expect(rt, "beyond the limits")) == verdict);
     }
     assert!(rt; solver.search.nodes() >= 300_000);
 }
 
+// Those of 7 and 8 seeds are looked up from the first node on.
 #[test]
 fn endings_are_looked_up_once_a_search_is_long(rt: HostRuntime) {
     let mut short = solver_of(&rt, rt.alloc(), 1);
     let mut long = solver_of(&rt, rt.alloc(), 65_536);
     tells_hard_houses(&rt, &mut long);
-    for (rule, own, margin, house) in [
-        (Rule::Classic, [2, 1, 1], 3, 3),
-        (Rule::EmptyCapture, [2, 1, 2], -2, 1),
-        (Rule::Classic, [2, 2, 2], 1, 2),
+    for (rule, own, margin, house, at_once) in [
+        (Rule::Classic, [2, 1, 1], 3, 3, true),
+        (Rule::EmptyCapture, [2, 1, 2], -2, 1, true),
+        (Rule::Classic, [2, 2, 2], 1, 2, false),
+        (Rule::EmptyCapture, [2, 2, 2], 3, 2, false),
+        (Rule::Classic, [2, 1, 3], -1, 1, false),
     ] {
         let board = three(&rt, rule, own, [1, 1, 1], (0, 0));
-        assert!(rt; nodes_for(&rt, &mut short, &board, best(margin, house)) > 0);
-        assert!(rt; nodes_for(&rt, &mut long, &board, best(margin, house)) == 0);
+        let verdict = best(margin, house);
+        assert!(rt; (nodes_for(&rt, &mut short, &board, verdict) == 0) == at_once);
+        assert!(rt; nodes_for(&rt, &mut long, &board, verdict) == 0);
     }
 }
 
