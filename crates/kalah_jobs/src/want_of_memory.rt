@@ -5,9 +5,10 @@ use crate::{
     Answer, Entry, LineFault, Outcome, Sink, Stream, Taken, answer_text, line_text, read_line,
     step_text, write_answer, write_picture, write_step,
 };
-use kalah_rules::Step;
+use kalah_rules::{Board, Step};
 use kalah_solve::{Solver, Table};
 use std::alloc::{AllocError, Global};
+use std::process::Abort;
 use std::test::Fail;
 
 // A request that is refused only where none before it was.
@@ -18,12 +19,18 @@ pub(crate) fn mark(alloc: Global, place: &'static str) -> Result<(), Fail> {
     }
 }
 
+// The position of a line.
+fn read(rt: &(impl Abort + AllocGlobal), line: &str) -> Board {
+    read_line(line.as_bytes()).expect(rt, line)
+}
+
 // The text of the position of a line, asked for again where memory was refused.
-fn written(alloc: Global, line: &str) -> Result<String, Fail> {
-    let board = read_line(line.as_bytes()).ok().ok_or("not read")?;
+fn written(rt: &(impl Abort + AllocGlobal), line: &str) -> Result<String, AllocError> {
+    let alloc = rt.alloc();
+    let board = read_line(line.as_bytes()).expect(rt, line);
     match line_text(alloc, &board) {
         Ok(text) => Ok(text),
-        Err(_) => Ok(line_text(alloc, &board)?),
+        Err(_) => line_text(alloc, &board),
     }
 }
 
@@ -36,9 +43,9 @@ fn step_written(alloc: Global, step: &Step) -> Result<String, AllocError> {
 fn texts_of_positions_and_moves(rt: HostRuntime) -> Result<(), Fail> {
     let alloc = rt.alloc();
     for line in ["1,1/0 1,1/0", "1,2,3,4,5,0/10 0,0,0,0,0,9/88 e"] {
-        assert!(rt; written(alloc, line)?.as_str() == line);
+        assert!(rt; written(&rt, line)?.as_str() == line);
     }
-    let board = read_line(b"1,1/0 1,1/0").ok().ok_or("not read")?;
+    let board = read(&rt, "1,1/0 1,1/0");
     assert!(rt; board.is_legal(2));
     let text = step_written(alloc, &board.apply(2))?;
     assert!(rt; text.as_str() == "2 1,0/1 1,1/0 again");
@@ -71,16 +78,16 @@ fn texts_of_answers(rt: HostRuntime) -> Result<(), Fail> {
 }
 
 // The values of the moves of the position of a line.
-fn values_of(alloc: Global, line: &[u8]) -> Result<Answer, Fail> {
-    let table = Table::new(alloc, 1).or_else(|_| Table::new(alloc, 1))?;
-    let board = read_line(line).ok().ok_or("not read")?;
+fn values_of(rt: &(impl Abort + AllocGlobal), line: &str) -> Result<Answer, AllocError> {
+    let table = Table::new(rt.alloc(), 1).or_else(|_| Table::new(rt.alloc(), 1))?;
+    let board = read(rt, line);
     Ok(Outcome::of(0, 1, Entry::ValuesOf(board), &mut Solver::new(table)).answer())
 }
 
 #[test]
 fn texts_of_values(rt: HostRuntime) -> Result<(), Fail> {
     let alloc = rt.alloc();
-    let answer = values_of(alloc, b"1,1/0 1,1/0")?;
+    let answer = values_of(&rt, "1,1/0 1,1/0")?;
     let taken = Taken { line: 1, answer };
     let text = answer_text(alloc, "a", &taken).or_else(|_| answer_text(alloc, "a", &taken))?;
     assert!(rt; text.as_str() == "a:2 1:-2 2:2");
@@ -113,8 +120,21 @@ fn lines_are_read_without_memory(rt: HostRuntime) -> Result<(), Fail> {
     mark(alloc, "after all")
 }
 
-// Writes three answer lines into a stream of a writer that has all its room.
-fn write_answers(out: &mut Stream<Vec<u8>>) -> Result<(), Fail> {
+// A stream of a writer that has all its room.
+fn roomy_stream(alloc: Global) -> Result<Stream<Vec<u8>>, Fail> {
+    let room = Vec::<u8>::with_capacity(alloc, 100);
+    let room = room.or_else(|_| Vec::with_capacity(alloc, 100))?;
+    mark(alloc, "before the calls without memory")?;
+    Ok(Stream::new(room))
+}
+
+// This was written into the stream.
+fn assert_written(rt: &(impl Abort + AllocGlobal), out: Stream<Vec<u8>>, want: &str) {
+    assert!(rt; out.into_inner().as_slice() == want.as_bytes());
+}
+
+// Writes three answer lines.
+fn write_answers(rt: &(impl Abort + AllocGlobal), out: &mut Stream<Vec<u8>>) {
     for (line, answer) in [
         (
             0,
@@ -126,52 +146,39 @@ fn write_answers(out: &mut Stream<Vec<u8>>) -> Result<(), Fail> {
         (1, Answer::Over { margin: 114 }),
         (2, Answer::Fault(LineFault::Seeds)),
     ] {
-        if !out.failed() {
-            write_answer(out, "a", &Taken { line, answer })?;
-        }
+        assert!(rt; !out.failed());
+        write_answer(out, "a", &Taken { line, answer }).expect(rt, "not written");
     }
-    if !out.failed() {
-        out.flush()?;
-    }
-    Ok(())
+    assert!(rt; !out.failed());
+    out.flush().expect(rt, "not flushed");
 }
 
 #[test]
 fn answers_are_written_without_memory(rt: HostRuntime) -> Result<(), Fail> {
     let alloc = rt.alloc();
-    let room = Vec::<u8>::with_capacity(alloc, 100);
-    let room = room.or_else(|_| Vec::with_capacity(alloc, 100))?;
-    mark(alloc, "before the calls without memory")?;
-    let mut out = Stream::new(room);
-    write_answers(&mut out)?;
+    let mut out = roomy_stream(alloc)?;
+    write_answers(&rt, &mut out);
     mark(alloc, "after all")?;
-    let written = out.into_inner();
     let want = "a:1 -2 house 1\na:2 114 over\na:3 fault seeds\n";
-    assert!(rt; written.as_slice() == want.as_bytes());
+    assert_written(&rt, out, want);
     Ok(())
 }
 
 // Writes the move of house 2 of a position, and draws the position.
-fn write_move(out: &mut Stream<Vec<u8>>) -> Result<(), Fail> {
-    let board = read_line(b"1,1/0 1,1/0").ok().ok_or("not read")?;
-    if !out.failed() && board.is_legal(2) {
-        write_step(out, 2, &board.apply(2))?;
-        write_picture(out, &board)?;
-    }
-    Ok(())
+fn write_move(rt: &(impl Abort + AllocGlobal), out: &mut Stream<Vec<u8>>) {
+    let board = read(rt, "1,1/0 1,1/0");
+    assert!(rt; !out.failed() && board.is_legal(2));
+    write_step(out, 2, &board.apply(2)).expect(rt, "not written");
+    write_picture(out, &board).expect(rt, "not drawn");
 }
 
 #[test]
 fn moves_and_boards_are_written_without_memory(rt: HostRuntime) -> Result<(), Fail> {
     let alloc = rt.alloc();
-    let room = Vec::<u8>::with_capacity(alloc, 100);
-    let room = room.or_else(|_| Vec::with_capacity(alloc, 100))?;
-    mark(alloc, "before the calls without memory")?;
-    let mut out = Stream::new(room);
-    write_move(&mut out)?;
+    let mut out = roomy_stream(alloc)?;
+    write_move(&rt, &mut out);
     mark(alloc, "after all")?;
-    let written = out.into_inner();
     let want = "2 1,0/1 1,1/0 again\n       1   1\n   0           0\n       1   1\n";
-    assert!(rt; written.as_slice() == want.as_bytes());
+    assert_written(&rt, out, want);
     Ok(())
 }

@@ -9,7 +9,6 @@ use kalah_rules::{Board, Rule};
 use kalah_solve::{Solver, Table};
 use std::alloc::{AllocError, Global};
 use std::process::Abort;
-use std::test::Fail;
 
 // What is answered to an offer.
 type Answered = Result<u32, Refusal>;
@@ -25,15 +24,16 @@ struct Trial {
 
 impl Trial {
     // For the jobs of two files, to which nothing has come.
-    fn new(alloc: Global) -> Result<Trial, Fail> {
-        let jobs = two_files(alloc)?;
-        let collector = Collector::new(alloc, &jobs)?;
-        let solver = Solver::new(Table::new(alloc, 16)?);
-        Ok(Trial {
+    fn new(rt: &(impl Abort + AllocGlobal)) -> Trial {
+        let files = two_texts(rt.alloc()).expect(rt, "no memory");
+        let jobs = Jobs::of_files(rt.alloc(), files.as_slice()).expect(rt, "no jobs");
+        let collector = Collector::new(rt.alloc(), &jobs).expect(rt, "no memory");
+        let solver = Solver::new(Table::new(rt.alloc(), 16).expect(rt, "no memory"));
+        Trial {
             jobs,
             collector,
             solver,
-        })
+        }
     }
 
     // Offers a line that says `entry`.
@@ -62,11 +62,6 @@ fn two_texts(alloc: Global) -> Result<Vec<FileText>, AllocError> {
         bytes: Vec::new(alloc),
     })?;
     Ok(files)
-}
-
-// Their jobs.
-fn two_files(alloc: Global) -> Result<Jobs, Fail> {
-    Ok(Jobs::of_files(alloc, two_texts(alloc)?.as_slice())?)
 }
 
 // Offers lines with so many seeds, one after the other, each of which is answered so.
@@ -112,37 +107,34 @@ fn assert_each_offer(rt: &impl Abort, mut trial: Trial) {
 }
 
 #[test]
-fn answers_each_offer(rt: HostRuntime) -> Result<(), Fail> {
-    let trial = Trial::new(rt.alloc())?;
+fn answers_each_offer(rt: HostRuntime) {
+    let trial = Trial::new(&rt);
     for (f, ended) in [(0, false), (1, true), (2, false)] {
         assert!(rt; trial.collector.ended(f) == ended, "of file {f}");
     }
     assert_each_offer(&rt, trial);
-    Ok(())
 }
 
 #[test]
-fn gives_each_line_once(rt: HostRuntime) -> Result<(), Fail> {
-    let mut trial = Trial::new(rt.alloc())?;
+fn gives_each_line_once(rt: HostRuntime) {
+    let mut trial = Trial::new(&rt);
     assert_offers(&rt, &mut trial, &[((0, 1), 2, Ok(0))]);
     assert!(rt; trial.collector.take(0).is_none());
     assert_offers(&rt, &mut trial, &[((0, 0), 1, Ok(2)), ((0, 2), 3, Ok(1))]);
     assert!(rt; trial.collector.ended(0));
     assert_takes_all(&rt, &mut trial.collector);
-    Ok(())
 }
 
 // Offers the lines of the first file in this order, and each makes so many lines ready.
-fn assert_ready(rt: &impl Abort, alloc: Global, offers: [((u32, u8), u32); 3]) -> Result<(), Fail> {
-    let mut trial = Trial::new(alloc)?;
+fn assert_ready(rt: &(impl Abort + AllocGlobal), offers: [((u32, u8), u32); 3]) {
+    let mut trial = Trial::new(rt);
     for ((line, seeds), ready) in offers {
         assert_offers(rt, &mut trial, &[((0, line), seeds, Ok(ready))]);
     }
-    Ok(())
 }
 
 #[test]
-fn releases_lines_in_order(rt: HostRuntime) -> Result<(), Fail> {
+fn releases_lines_in_order(rt: HostRuntime) {
     let (one, two, three) = ((0, 1), (1, 2), (2, 3));
     for offers in [
         [(one, 1), (two, 1), (three, 1)],
@@ -152,28 +144,25 @@ fn releases_lines_in_order(rt: HostRuntime) -> Result<(), Fail> {
         [(three, 0), (one, 1), (two, 2)],
         [(three, 0), (two, 0), (one, 3)],
     ] {
-        assert_ready(&rt, rt.alloc(), offers)?;
+        assert_ready(&rt, offers);
     }
-    Ok(())
 }
 
 #[test]
-fn refuses_a_line_that_was_taken(rt: HostRuntime) -> Result<(), Fail> {
-    let mut trial = Trial::new(rt.alloc())?;
+fn refuses_a_line_that_was_taken(rt: HostRuntime) {
+    let mut trial = Trial::new(&rt);
     assert_offers(&rt, &mut trial, &[((0, 0), 1, Ok(1))]);
     assert!(rt; trial.collector.take(0).is_some());
     assert_offers(&rt, &mut trial, &[((0, 0), 1, Err(Double))]);
     assert!(rt; trial.collector.take(0).is_none());
-    Ok(())
 }
 
 #[test]
-fn refuses_a_position_under_the_other_rule(rt: HostRuntime) -> Result<(), Fail> {
-    let mut trial = Trial::new(rt.alloc())?;
+fn refuses_a_position_under_the_other_rule(rt: HostRuntime) {
+    let mut trial = Trial::new(&rt);
     let other = one_house(&rt, 1, Rule::EmptyCapture);
     assert!(rt; trial.offer((0, 0), other) == Err(WrongPosition));
     assert_offers(&rt, &mut trial, &[((0, 0), 1, Ok(1))]);
-    Ok(())
 }
 
 // Offers a line after three strangers: one for a file that is not there, one for a line past the last, and one with the
@@ -192,8 +181,8 @@ fn assert_after_strangers(
 }
 
 #[test]
-fn strangers_change_nothing(rt: HostRuntime) -> Result<(), Fail> {
-    let mut trial = Trial::new(rt.alloc())?;
+fn strangers_change_nothing(rt: HostRuntime) {
+    let mut trial = Trial::new(&rt);
     let (past, wrong) = (Err(NoSuchLine), Err(WrongPosition));
     let (nowhere, double, ended) = (Err(NoSuchFile), Err(Double), Err(FileEnded));
     for (offer, answered) in [
@@ -211,5 +200,4 @@ fn strangers_change_nothing(rt: HostRuntime) -> Result<(), Fail> {
         assert_after_strangers(&rt, &mut trial, offer, answered);
     }
     assert_takes_all(&rt, &mut trial.collector);
-    Ok(())
 }

@@ -1,11 +1,16 @@
 use crate::{Answer, Entry, LineFault, Outcome, read_line};
 use kalah_solve::{Solver, Table};
-use std::test::Fail;
+use std::process::Abort;
+
+// A solver with a small table.
+fn new_solver(rt: &(impl Abort + AllocGlobal)) -> Solver {
+    Solver::new(Table::new(rt.alloc(), 16).expect(rt, "no memory"))
+}
 
 #[test]
-fn an_outcome_keeps_its_line_and_answers_it(rt: HostRuntime) -> Result<(), Fail> {
-    let board = read_line(b"1,1/0 1,1/0").ok().ok_or("not read")?;
-    let mut solver = Solver::new(Table::new(rt.alloc(), 16)?);
+fn an_outcome_keeps_its_line_and_answers_it(rt: HostRuntime) {
+    let board = read_line(b"1,1/0 1,1/0").expect(&rt, "not read");
+    let mut solver = new_solver(&rt);
     let outcome = Outcome::of(3, 5, Entry::Position(board), &mut solver);
     let answer = Answer::Best {
         margin: 2,
@@ -13,13 +18,12 @@ fn an_outcome_keeps_its_line_and_answers_it(rt: HostRuntime) -> Result<(), Fail>
     };
     assert!(rt; (outcome.file(), outcome.line()) == (3, 5));
     assert!(rt; (outcome.entry(), outcome.answer()) == (Entry::Position(board), answer));
-    Ok(())
 }
 
 #[test]
-fn a_game_that_is_over_and_a_fault_are_answered(rt: HostRuntime) -> Result<(), Fail> {
-    let board = read_line(b"0,0/3 1,2/4").ok().ok_or("not read")?;
-    let mut solver = Solver::new(Table::new(rt.alloc(), 16)?);
+fn a_game_that_is_over_and_a_fault_are_answered(rt: HostRuntime) {
+    let board = read_line(b"0,0/3 1,2/4").expect(&rt, "not read");
+    let mut solver = new_solver(&rt);
     let over = Outcome::of(0, 0, Entry::Position(board), &mut solver);
     let entry = Entry::Bad(LineFault::Houses);
     let stranger = Outcome::of(u32::MAX, u32::MAX, entry, &mut solver);
@@ -31,5 +35,4 @@ fn a_game_that_is_over_and_a_fault_are_answered(rt: HostRuntime) -> Result<(), F
     assert!(rt; answers == want);
     assert!(rt; read_line(b"0/3 1,2/4").is_err());
     assert!(rt; stranger.file() == u32::MAX && stranger != over);
-    Ok(())
 }

@@ -1,7 +1,6 @@
 use crate::{Stream, read_line, write_picture};
-use kalah_rules::Step;
-use std::alloc::Global;
-use std::test::Fail;
+use kalah_rules::{Board, Step};
+use std::process::Abort;
 
 // Lines, and how their positions are drawn.
 const PICTURES: [(&str, &str); 4] = [
@@ -20,42 +19,36 @@ const PICTURES: [(&str, &str); 4] = [
     ),
 ];
 
-// Whether the position of the line is drawn so.
-fn is_drawn(alloc: Global, line: &str, picture: &str) -> Result<bool, Fail> {
-    let board = read_line(line.as_bytes()).ok().ok_or("not read")?;
-    let mut out = Stream::new(Vec::<u8>::new(alloc));
-    write_picture(&mut out, &board)?;
-    Ok(out.into_inner().as_slice() == picture.as_bytes())
+// Whether the position is drawn so.
+fn is_drawn(rt: &(impl Abort + AllocGlobal), board: &Board, picture: &str) -> bool {
+    let mut out = Stream::new(Vec::<u8>::new(rt.alloc()));
+    write_picture(&mut out, board).expect(rt, "not drawn");
+    out.into_inner().as_slice() == picture.as_bytes()
 }
 
 #[test]
-fn boards_are_drawn_with_the_mover_below(rt: HostRuntime) -> Result<(), Fail> {
+fn boards_are_drawn_with_the_mover_below(rt: HostRuntime) {
     for (line, picture) in PICTURES {
-        assert!(rt; is_drawn(rt.alloc(), line, picture)?, "{line}");
+        let board = read_line(line.as_bytes()).expect(&rt, line);
+        assert!(rt; is_drawn(&rt, &board, picture), "{line}");
     }
-    Ok(())
 }
 
-// Whether the position after the move of house 1 is drawn so.
-fn is_drawn_after(alloc: Global, line: &str, picture: &str) -> Result<bool, Fail> {
-    let board = read_line(line.as_bytes()).ok().ok_or("not read")?;
-    if !board.is_legal(1) {
-        return Ok(false);
-    }
-    let mut out = Stream::new(Vec::<u8>::new(alloc));
+// The position after the move of house 1.
+fn after(rt: &(impl Abort + AllocGlobal), line: &str) -> Board {
+    let board = read_line(line.as_bytes()).expect(rt, line);
+    assert!(rt; board.is_legal(1));
     match board.apply(1) {
-        Step::Again(next) | Step::Turn(next) | Step::Over(next) => write_picture(&mut out, &next)?,
+        Step::Again(next) | Step::Turn(next) | Step::Over(next) => next,
     }
-    Ok(out.into_inner().as_slice() == picture.as_bytes())
 }
 
 #[test]
-fn a_store_of_three_digits_fills_its_column(rt: HostRuntime) -> Result<(), Fail> {
+fn a_store_of_three_digits_fills_its_column(rt: HostRuntime) {
     let (one, most) = (
         "       0\n 100     100\n       0\n",
         "       0\n   0     130\n       0\n",
     );
-    assert!(rt; is_drawn_after(rt.alloc(), "1/99 1/99", one)?);
-    assert!(rt; is_drawn_after(rt.alloc(), "3/99 28/0", most)?);
-    Ok(())
+    assert!(rt; is_drawn(&rt, &after(&rt, "1/99 1/99"), one));
+    assert!(rt; is_drawn(&rt, &after(&rt, "3/99 28/0"), most));
 }

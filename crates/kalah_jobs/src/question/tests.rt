@@ -1,39 +1,33 @@
 //! Lines of which the values of the moves are asked.
 use crate::{
-    Answer, Collector, Entry, FileText, Jobs, Outcome, Question, Refusal, Sink, Stream, Taken,
+    Answer, Collector, Entry, FileText, Job, Jobs, Outcome, Question, Refusal, Sink, Stream, Taken,
     answer_text, read_line, write_answer,
 };
 use kalah_solve::{Solver, Table};
-use std::alloc::Global;
 use std::process::Abort;
-use std::test::Fail;
 
-// The jobs of a file of these bytes.
-fn jobs_of(alloc: Global, question: Question, bytes: &[u8]) -> Result<Jobs, Fail> {
-    let mut files = Vec::new(alloc);
-    files.push(FileText {
-        name: String::from_str(alloc, "b.txt")?,
-        bytes: bytes.to_vec(alloc)?,
-    })?;
-    Ok(Jobs::asking(alloc, question, files.as_slice())?)
+// The jobs of a file of these bytes, asking for values.
+fn jobs_of(rt: &(impl Abort + AllocGlobal), bytes: &[u8]) -> Jobs {
+    let file = FileText {
+        name: String::from_str(rt.alloc(), "b.txt").expect(rt, "no memory"),
+        bytes: bytes.to_vec(rt.alloc()).expect(rt, "no memory"),
+    };
+    Jobs::asking(rt.alloc(), Question::Values, &[file]).expect(rt, "no jobs")
+}
+
+// A solver with a small table.
+fn new_solver(rt: &(impl Abort + AllocGlobal)) -> Solver {
+    Solver::new(Table::new(rt.alloc(), 16).expect(rt, "no memory"))
 }
 
 // The answer of the job of this number, as it is written, with a line feed.
-fn written(rt: &impl Abort, alloc: Global, jobs: &Jobs, n: u32) -> Result<Vec<u8>, Fail> {
+fn written(rt: &(impl Abort + AllocGlobal), jobs: &Jobs, n: u32) -> Vec<u8> {
     assert!(rt; n < jobs.total());
-    let job = jobs.get(n);
-    let mut solver = Solver::new(Table::new(alloc, 16)?);
-    let answer = Outcome::of(job.file, job.line, job.entry, &mut solver).answer();
-    let mut out = Stream::new(Vec::<u8>::new(alloc));
-    write_answer(
-        &mut out,
-        "b.txt",
-        &Taken {
-            line: job.line,
-            answer,
-        },
-    )?;
-    Ok(out.into_inner())
+    let Job { file, line, entry } = jobs.get(n);
+    let answer = Outcome::of(file, line, entry, &mut new_solver(rt)).answer();
+    let mut out = Stream::new(Vec::<u8>::new(rt.alloc()));
+    write_answer(&mut out, "b.txt", &Taken { line, answer }).expect(rt, "not written");
+    out.into_inner()
 }
 
 const LINES: &[u8] = b"1,1/0 1,1/0\n2/0 2/0\n0,0/3 1,2/4\n01/0 1/0\n1,0/0 0,2/0 e";
@@ -47,49 +41,43 @@ const VALUES: [&[u8]; 5] = [
 ];
 
 #[test]
-fn each_line_is_answered_by_its_values(rt: HostRuntime) -> Result<(), Fail> {
-    let jobs = jobs_of(rt.alloc(), Question::Values, LINES)?;
+fn each_line_is_answered_by_its_values(rt: HostRuntime) {
+    let jobs = jobs_of(&rt, LINES);
     for (n, want) in VALUES.iter().enumerate() {
-        let text = written(&rt, rt.alloc(), &jobs, n as u32)?;
+        let text = written(&rt, &jobs, n as u32);
         assert!(rt; text.as_slice() == *want, "{want:?}");
     }
-    Ok(())
 }
 
 // The answer that tells the values of a line.
-fn values_of(alloc: Global, line: &[u8]) -> Result<Answer, Fail> {
-    let board = read_line(line).ok().ok_or("not read")?;
-    let mut solver = Solver::new(Table::new(alloc, 16)?);
-    Ok(Outcome::of(0, 0, Entry::ValuesOf(board), &mut solver).answer())
+fn values_of(rt: &(impl Abort + AllocGlobal), line: &[u8]) -> Answer {
+    let board = read_line(line).expect(rt, "not read");
+    Outcome::of(0, 0, Entry::ValuesOf(board), &mut new_solver(rt)).answer()
 }
 
 #[test]
-fn the_values_of_six_moves_are_printed_as_they_are_written(rt: HostRuntime) -> Result<(), Fail> {
-    let alloc = rt.alloc();
-    let answer = values_of(alloc, b"1,2,1,1,1,1/0 0,1,0,0,0,1/99")?;
+fn the_values_of_six_moves_are_printed_as_they_are_written(rt: HostRuntime) {
+    let answer = values_of(&rt, b"1,2,1,1,1,1/0 0,1,0,0,0,1/99");
     let taken = Taken {
         line: u32::MAX,
         answer,
     };
     let want = "a:4294967296 1:-96 2:-98 3:-98 4:-92 5:-96 6:-92";
-    assert!(rt; answer_text(alloc, "a", &taken)?.as_str() == want);
-    let mut out = Stream::new(Vec::<u8>::new(alloc));
-    write_answer(&mut out, "a", &taken)?;
-    let bytes = out.into_inner();
-    assert!(rt; bytes.strip_suffix(b"\n") == Some(want.as_bytes()));
-    Ok(())
+    let text = answer_text(rt.alloc(), "a", &taken).expect(&rt, "no memory");
+    assert!(rt; text.as_str() == want);
+    let mut out = Stream::new(Vec::<u8>::new(rt.alloc()));
+    write_answer(&mut out, "a", &taken).expect(&rt, "not written");
+    assert!(rt; out.into_inner().strip_suffix(b"\n") == Some(want.as_bytes()));
 }
 
 #[test]
-fn an_answer_to_another_question_is_refused(rt: HostRuntime) -> Result<(), Fail> {
-    let alloc = rt.alloc();
-    let jobs = jobs_of(alloc, Question::Values, b"2/0 2/0")?;
-    let mut collector = Collector::new(alloc, &jobs)?;
-    let mut solver = Solver::new(Table::new(alloc, 16)?);
-    let board = read_line(b"2/0 2/0").ok().ok_or("not read")?;
+fn an_answer_to_another_question_is_refused(rt: HostRuntime) {
+    let jobs = jobs_of(&rt, b"2/0 2/0");
+    let mut collector = Collector::new(rt.alloc(), &jobs).expect(&rt, "no memory");
+    let mut solver = new_solver(&rt);
+    let board = read_line(b"2/0 2/0").expect(&rt, "not read");
     let best = Outcome::of(0, 0, Entry::Position(board), &mut solver);
     assert!(rt; collector.offer(&jobs, best) == Err(Refusal::WrongPosition));
     let values = Outcome::of(0, 0, Entry::ValuesOf(board), &mut solver);
     assert!(rt; collector.offer(&jobs, values) == Ok(1));
-    Ok(())
 }

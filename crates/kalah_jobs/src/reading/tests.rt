@@ -1,7 +1,6 @@
 use crate::{Entry, LineFault, Question, read_line};
 use kalah_rules::{Board, Rule};
 use std::process::Abort;
-use std::test::Fail;
 
 // The line is not read, for this fault.
 fn assert_fault(rt: &impl Abort, line: &[u8], fault: LineFault) {
@@ -103,7 +102,7 @@ fn lines_that_are_read(rt: HostRuntime) {
 }
 
 #[test]
-fn six_houses_in_their_order(rt: HostRuntime) -> Result<(), Fail> {
+fn six_houses_in_their_order(rt: HostRuntime) {
     let board = Board::new(
         6,
         [1, 2, 3, 4, 5, 0],
@@ -112,7 +111,6 @@ fn six_houses_in_their_order(rt: HostRuntime) -> Result<(), Fail> {
         8,
         Rule::Classic,
     )
-    .ok_or("beyond the limits")?;
+    .expect(&rt, "beyond the limits");
     assert!(rt; read_line(b"1,2,3,4,5,0/7 0,0,0,0,0,9/8").ok() == Some(board));
-    Ok(())
 }

@@ -3,7 +3,6 @@ ghost use Rattle.std.specs.Prelude.{◌≡◌, [], Some};
 use crate::{Sink, Stream};
 use std::io;
 use std::io::{ErrorKind, Write};
-use std::test::Fail;
 
 /// Answers an error of its kind at its `fails_at`th call, counted from 1, and at no other.
 #[derive(Drop)]
@@ -108,36 +107,33 @@ fn passed_on(piece: &[u8]) -> Option<usize> {
 }
 
 #[test]
-fn takes_pieces_of_every_size(rt: HostRuntime) -> Result<(), Fail> {
-    let bytes = vec![in rt.alloc(); b'x'; 100_000]?;
+fn takes_pieces_of_every_size(rt: HostRuntime) {
+    let bytes = vec![in rt.alloc(); b'x'; 100_000].expect(&rt, "no memory");
     for size in 0..bytes.len() + 1 {
         assert!(rt; passed_on(&bytes[..size]) == Some(size));
     }
-    Ok(())
 }
 
 #[test]
-fn gives_the_writer_its_bytes(rt: HostRuntime) -> Result<(), Fail> {
+fn gives_the_writer_its_bytes(rt: HostRuntime) {
     let mut out = Stream::new(Vec::<u8>::new(rt.alloc()));
     assert!(rt; !out.failed());
-    out.write_all(b"1,1/0 ")?;
-    out.write_all(b"")?;
-    out.write_all(b"1,1/0")?;
-    out.flush()?;
+    out.write_all(b"1,1/0 ").expect(&rt, "not taken");
+    out.write_all(b"").expect(&rt, "not taken");
+    out.write_all(b"1,1/0").expect(&rt, "not taken");
+    out.flush().expect(&rt, "not taken");
     assert!(rt; !out.failed());
     assert!(rt; out.into_inner().as_slice() == b"1,1/0 1,1/0".as_slice());
-    Ok(())
 }
 
 #[test]
-fn tries_an_interrupted_call_again(rt: HostRuntime) -> Result<(), Fail> {
+fn tries_an_interrupted_call_again(rt: HostRuntime) {
     let mut out = Stream::new(FailingOnce::new(&rt, 1, ErrorKind::Interrupted));
-    out.write_all(b"ab")?;
+    out.write_all(b"ab").expect(&rt, "not taken");
     assert!(rt; !out.failed());
     let writer = out.into_inner();
     assert!(rt; writer.calls == 2);
     assert!(rt; writer.bytes.as_slice() == b"ab".as_slice());
-    Ok(())
 }
 
 #[test]
@@ -149,16 +145,15 @@ fn a_writer_that_takes_no_byte_is_an_error(rt: HostRuntime) {
 }
 
 #[test]
-fn has_failed_after_an_error(rt: HostRuntime) -> Result<(), Fail> {
+fn has_failed_after_an_error(rt: HostRuntime) {
     let mut out = Stream::new(FailingOnce::new(&rt, 2, ErrorKind::BrokenPipe));
-    out.write_all(b"a")?;
+    out.write_all(b"a").expect(&rt, "not taken");
     assert!(rt; !out.failed());
     assert!(rt; out.write_all(b"b").is_err());
     assert!(rt; out.failed());
     let writer = out.into_inner();
     assert!(rt; writer.calls == 2);
     assert!(rt; writer.bytes.as_slice() == b"a".as_slice());
-    Ok(())
 }
 
 #[test]
@@ -175,20 +170,18 @@ fn a_writer_that_fails_has_a_beginning(rt: HostRuntime) {
 }
 
 #[test]
-fn has_failed_after_a_flush_that_fails(rt: HostRuntime) -> Result<(), Fail> {
+fn has_failed_after_a_flush_that_fails(rt: HostRuntime) {
     let mut out = Stream::new(FailingOnce::new(&rt, 2, ErrorKind::StorageFull));
-    out.write_all(b"a")?;
+    out.write_all(b"a").expect(&rt, "not taken");
     assert!(rt; out.flush().is_err());
     assert!(rt; out.failed());
     assert!(rt; out.into_inner().calls == 2);
-    Ok(())
 }
 
 #[test]
-fn writes_to_the_standard_output(rt: HostRuntime) -> Result<(), Fail> {
+fn writes_to_the_standard_output(rt: HostRuntime) {
     let mut out = Stream::new(io::writer(&rt));
-    out.write_all(b"1,1/0 1,1/0\n")?;
-    out.flush()?;
+    out.write_all(b"1,1/0 1,1/0\n").expect(&rt, "not taken");
+    out.flush().expect(&rt, "not taken");
     assert!(rt; !out.failed());
-    Ok(())
 }

@@ -1,10 +1,9 @@
 ghost use Rattle.std.specs.Prelude.{Some};
 
 use crate::{Answer, LineFault, Sink, Stream, Taken, answer_text, write_answer};
-use std::alloc::Global;
 use std::io;
 use std::io::{ErrorKind, Write};
-use std::test::Fail;
+use std::process::Abort;
 
 /// Answers an error at its `fails_at`th write, counted from 1, and at any later one.
 #[derive(Drop)]
@@ -36,21 +35,20 @@ fn best(margin: i32, house: u8) -> Answer {
 }
 
 // Whether this is written.
-fn is_written(alloc: Global, taken: &Taken, text: &str) -> Result<bool, Fail> {
-    let mut out = Stream::new(Vec::<u8>::new(alloc));
-    write_answer(&mut out, "a.txt", taken)?;
-    Ok(!out.failed() && out.into_inner().as_slice() == text.as_bytes())
+fn is_written(rt: &(impl Abort + AllocGlobal), taken: &Taken, text: &str) -> bool {
+    let mut out = Stream::new(Vec::<u8>::new(rt.alloc()));
+    write_answer(&mut out, "a.txt", taken).expect(rt, text);
+    !out.failed() && out.into_inner().as_slice() == text.as_bytes()
 }
 
 // Whether this is the answer line as text, and a line feed.
-fn is_printed(alloc: Global, taken: &Taken, text: &str) -> Result<bool, Fail> {
-    let mut printed = answer_text(alloc, "a.txt", taken)?;
-    printed.push_str("\n")?;
-    Ok(printed.as_str() == text)
+fn is_printed(rt: &(impl Abort + AllocGlobal), taken: &Taken, text: &str) -> bool {
+    let printed = answer_text(rt.alloc(), "a.txt", taken).expect(rt, text);
+    text.strip_suffix("\n") == Some(printed.as_str())
 }
 
 #[test]
-fn an_answer_is_written_as_it_is_printed(rt: HostRuntime) -> Result<(), Fail> {
+fn an_answer_is_written_as_it_is_printed(rt: HostRuntime) {
     for (line, answer, text) in [
         (1, best(-2, 1), "a.txt:2 -2 house 1\n"),
         (0, Answer::Over { margin: 114 }, "a.txt:1 114 over\n"),
@@ -61,45 +59,30 @@ fn an_answer_is_written_as_it_is_printed(rt: HostRuntime) -> Result<(), Fail> {
         ),
     ] {
         let taken = Taken { line, answer };
-        assert!(rt; is_written(rt.alloc(), &taken, text)?, "{text}");
-        assert!(rt; is_printed(rt.alloc(), &taken, text)?, "{text}");
+        assert!(rt; is_written(&rt, &taken, text), "{text}");
+        assert!(rt; is_printed(&rt, &taken, text), "{text}");
     }
-    Ok(())
 }
 
 #[test]
-fn answers_follow_one_another(rt: HostRuntime) -> Result<(), Fail> {
+fn answers_follow_one_another(rt: HostRuntime) {
     let mut out = Stream::new(Vec::<u8>::new(rt.alloc()));
-    let (over, best) = (Answer::Over { margin: 0 }, best(-1, 2));
-    write_answer(
-        &mut out,
-        "b",
-        &Taken {
-            line: 0,
-            answer: over,
-        },
-    )?;
-    write_answer(
-        &mut out,
-        "b",
-        &Taken {
-            line: 1,
-            answer: best,
-        },
-    )?;
+    for (line, answer) in [(0, Answer::Over { margin: 0 }), (1, best(-1, 2))] {
+        assert!(rt; !out.failed());
+        write_answer(&mut out, "b", &Taken { line, answer }).expect(&rt, "not written");
+    }
     assert!(rt; out.into_inner().as_slice() == b"b:1 0 over\nb:2 -1 house 2\n".as_slice());
-    Ok(())
 }
 
 #[test]
-fn each_write_that_fails_is_an_error(rt: HostRuntime) -> Result<(), Fail> {
+fn each_write_that_fails_is_an_error(rt: HostRuntime) {
     let taken = Taken {
         line: 0,
         answer: best(0, 1),
     };
     for fails_at in 1..4 {
         let mut out = Stream::new(FailingFrom {
-            bytes: Vec::with_capacity(rt.alloc(), 64)?,
+            bytes: Vec::with_capacity(rt.alloc(), 64).expect(&rt, "no memory"),
             calls: 0,
             fails_at,
         });
@@ -109,5 +92,4 @@ fn each_write_that_fails_is_an_error(rt: HostRuntime) -> Result<(), Fail> {
         // No call after the first error, and few calls for a line.
         assert!(rt; (told, calls) == ((fails_at <= 2, fails_at <= 2), fails_at.min(2)));
     }
-    Ok(())
 }
