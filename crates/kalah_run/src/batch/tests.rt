@@ -10,8 +10,8 @@ mod writers;
 use crate::{Gate, OpenGate, RunFault, Tally, solve_batch, values_batch};
 use kalah_jobs::{FileText, Question, Sink, Stream};
 use std::alloc::{AllocError, Global};
+use std::process::Abort;
 use std::sync::Wait;
-use std::test::Fail;
 use std::thread::Threads;
 
 const ONE_AND_TWO: &str = "1/0 1/0\n2/0 2/0";
@@ -40,34 +40,38 @@ const BOTH_RULES: &str = "1,0/0 0,2/0 e\n1,0/0 0,2/0\n16/0 0/0\n";
 // Four files, one of them empty and one named twice, with seven lines and two faults.
 fn four_files(alloc: Global) -> Result<Vec<FileText>, AllocError> {
     let mut files = Vec::new(alloc);
-    files.push(file_of(alloc, "a.txt", b"")?)?;
-    files.push(file_of(alloc, "b.txt", ONE_AND_TWO.as_bytes())?)?;
-    files.push(file_of(alloc, "c.txt", THREE_AND_FAULTS.as_bytes())?)?;
-    files.push(file_of(alloc, "b.txt", ONE_AND_TWO.as_bytes())?)?;
+    for (name, text) in [
+        ("a.txt", ""),
+        ("b.txt", ONE_AND_TWO),
+        ("c.txt", THREE_AND_FAULTS),
+        ("b.txt", ONE_AND_TWO),
+    ] {
+        files.push(file_of(alloc, name, text.as_bytes())?)?;
+    }
     Ok(files)
 }
 
 // One file of so many lines `1/0 1/0`.
-fn same_lines(alloc: Global, count: u32) -> Result<Vec<FileText>, AllocError> {
+fn same_lines(rt: &impl Abort, alloc: Global, count: u32) -> [FileText; 1] {
     let mut bytes = Vec::new(alloc);
     for _ in 0..count {
-        bytes.extend_from_slice(b"1/0 1/0\n")?;
+        bytes
+            .extend_from_slice(b"1/0 1/0\n")
+            .expect(rt, "no memory");
     }
-    let mut files = Vec::new(alloc);
-    files.push(FileText {
-        name: String::from_str(alloc, "n")?,
-        bytes,
-    })?;
-    Ok(files)
+    let name = String::from_str(alloc, "n").expect(rt, "no memory");
+    [FileText { name, bytes }]
 }
 
 // The answers to so many lines `1/0 1/0` of a file `n`.
-fn same_answers(alloc: Global, count: u32) -> Result<String, AllocError> {
+fn same_answers(rt: &impl Abort, alloc: Global, count: u32) -> String {
     let mut text = String::new(alloc);
     for line in 0..count {
-        text.push_str(format!(in alloc; "n:{} 0 house 1\n", line as u64 + 1)?.as_str())?;
+        let answer = format!(in alloc; "n:{} 0 house 1\n", line as u64 + 1);
+        let answer = answer.expect(rt, "no memory");
+        text.push_str(answer.as_str()).expect(rt, "no memory");
     }
-    Ok(text)
+    text
 }
 
 // The batch writes these bytes and has this tally.
@@ -114,9 +118,9 @@ fn batch_of<R: Threads + Wait + Sync, G: Gate, W: Sink>(
 const TABLES: [u32; 8] = [1, 2, 255, 4096, 65_535, 65_536, 65_537, 1_048_576];
 
 #[test]
-fn lines_are_answered_in_order_by_any_number_of_workers(rt: HostRuntime) -> Result<(), Fail> {
+fn lines_are_answered_in_order_by_any_number_of_workers(rt: HostRuntime) {
     let alloc = rt.alloc();
-    let files = four_files(alloc)?;
+    let files = four_files(alloc).expect(&rt, "no memory");
     let files = files.as_slice();
     for workers in 1..65u32 {
         assert!(rt;
@@ -134,92 +138,69 @@ fn lines_are_answered_in_order_by_any_number_of_workers(rt: HostRuntime) -> Resu
             "{table}"
         );
     }
-    Ok(())
 }
 
 #[test]
-fn a_line_that_ends_in_e_has_the_other_rule(rt: HostRuntime) -> Result<(), Fail> {
+fn a_line_that_ends_in_e_has_the_other_rule(rt: HostRuntime) {
     let alloc = rt.alloc();
-    let mut files = Vec::new(alloc);
-    files.push(file_of(alloc, "e.txt", BOTH_RULES.as_bytes())?)?;
+    let file = file_of(alloc, "e.txt", BOTH_RULES.as_bytes()).expect(&rt, "no memory");
     let want = "e.txt:1 -1 house 1\ne.txt:2 1 house 1\ne.txt:3 16 over\n";
-    assert!(rt; answers(&rt, alloc, files.as_slice(), 2, 16, &OpenGate, want, 0));
-    Ok(())
+    assert!(rt; answers(&rt, alloc, &[file], 2, 16, &OpenGate, want, 0));
 }
 
 #[test]
-fn no_line_at_all_is_answered_by_nothing(rt: HostRuntime) -> Result<(), Fail> {
+fn no_line_at_all_is_answered_by_nothing(rt: HostRuntime) {
     let alloc = rt.alloc();
-    let mut files = Vec::new(alloc);
-    assert!(rt; answers(&rt, alloc, files.as_slice(), 3, 1, &OpenGate, "", 0));
-    files.push(file_of(alloc, "a.txt", b"")?)?;
-    assert!(rt; answers(&rt, alloc, files.as_slice(), 3, 1, &OpenGate, "", 0));
-    Ok(())
+    assert!(rt; answers(&rt, alloc, &[], 3, 1, &OpenGate, "", 0));
+    let file = file_of(alloc, "a.txt", b"").expect(&rt, "no memory");
+    assert!(rt; answers(&rt, alloc, &[file], 3, 1, &OpenGate, "", 0));
 }
 
 #[test]
-fn any_number_of_files_is_answered(rt: HostRuntime) -> Result<(), Fail> {
+fn any_number_of_files_is_answered(rt: HostRuntime) {
     let alloc = rt.alloc();
     let (mut files, mut text) = (Vec::new(alloc), String::new(alloc));
     for count in 1..257u32 {
-        files.push(file_of(alloc, "n", b"1/0 1/0")?)?;
-        text.push_str("n:1 0 house 1\n")?;
+        let file = file_of(alloc, "n", b"1/0 1/0").expect(&rt, "no memory");
+        files.push(file).expect(&rt, "no memory");
+        text.push_str("n:1 0 house 1\n").expect(&rt, "no memory");
         let files = files.as_slice();
         assert!(rt;
             answers(&rt, alloc, files, 3, 1, &OpenGate, text.as_str(), 0),
             "{count}"
         );
     }
-    Ok(())
 }
 
 // Numbers of lines, few of them and more than the queue has places.
 const LINES: [u32; 7] = [63, 64, 65, 200, 65_535, 65_536, 65_537];
 
 #[test]
-fn any_number_of_lines_is_answered(rt: HostRuntime) -> Result<(), Fail> {
+fn any_number_of_lines_is_answered(rt: HostRuntime) {
     let alloc = rt.alloc();
     for count in LINES {
-        let (files, text) = (same_lines(alloc, count)?, same_answers(alloc, count)?);
-        let files = files.as_slice();
+        let files = same_lines(&rt, alloc, count);
+        let text = same_answers(&rt, alloc, count);
         assert!(rt;
-            answers(&rt, alloc, files, 64, 1, &OpenGate, text.as_str(), 0),
+            answers(&rt, alloc, &files, 64, 1, &OpenGate, text.as_str(), 0),
             "{count}"
         );
     }
-    Ok(())
 }
 
 // Whether the line of a file of this name is answered.
-fn is_written_with<R: Threads + Wait + Sync>(
-    rt: &R,
-    alloc: Global,
-    name: &str,
-) -> Result<bool, AllocError> {
-    let files = [file_of(alloc, name, b"1/0 1/0")?];
-    let text = format!(in alloc; "{name}:1 0 house 1\n")?;
-    Ok(answers(
-        rt,
-        alloc,
-        files.as_slice(),
-        2,
-        1,
-        &OpenGate,
-        text.as_str(),
-        0,
-    ))
+fn is_written_with<R: Abort + Threads + Wait + Sync>(rt: &R, alloc: Global, name: &str) -> bool {
+    let file = file_of(alloc, name, b"1/0 1/0").expect(rt, "no memory");
+    let text = format!(in alloc; "{name}:1 0 house 1\n").expect(rt, "no memory");
+    answers(rt, alloc, &[file], 2, 1, &OpenGate, text.as_str(), 0)
 }
 
 #[test]
-fn a_name_of_any_length_is_written(rt: HostRuntime) -> Result<(), Fail> {
+fn a_name_of_any_length_is_written(rt: HostRuntime) {
     for length in [1, 4095, 4096, 4097, 5000, 65_537, 100_000] {
-        let name = "x".repeat(rt.alloc(), length)?;
-        assert!(rt;
-            is_written_with(&rt, rt.alloc(), name.as_str())?,
-            "{length}"
-        );
+        let name = "x".repeat(rt.alloc(), length).expect(&rt, "no memory");
+        assert!(rt; is_written_with(&rt, rt.alloc(), name.as_str()), "{length}");
     }
-    Ok(())
 }
 
 // What the batch of these files answers.
@@ -237,27 +218,25 @@ fn fault_of<R: Threads + Wait + Sync>(
 }
 
 // As many empty files as there may be, and one more, which has too many lines.
-fn too_many_files(alloc: Global) -> Result<Vec<FileText>, AllocError> {
+fn too_many_files(rt: &impl Abort, alloc: Global) -> Vec<FileText> {
     let mut files = Vec::new(alloc);
     for _ in 0..256 {
-        files.push(file_of(alloc, "a", b"")?)?;
+        let file = file_of(alloc, "a", b"").expect(rt, "no memory");
+        files.push(file).expect(rt, "no memory");
     }
-    let bytes = vec![in alloc; b'\n'; 1_000_001]?;
-    files.push(FileText {
-        name: String::from_str(alloc, "b")?,
-        bytes,
-    })?;
-    Ok(files)
+    let bytes = vec![in alloc; b'\n'; 1_000_001].expect(rt, "no memory");
+    let name = String::from_str(alloc, "b").expect(rt, "no memory");
+    files.push(FileText { name, bytes }).expect(rt, "no memory");
+    files
 }
 
 #[test]
-fn too_many_files_and_lines_are_refused(rt: HostRuntime) -> Result<(), Fail> {
-    let files = too_many_files(rt.alloc())?;
+fn too_many_files_and_lines_are_refused(rt: HostRuntime) {
+    let files = too_many_files(&rt, rt.alloc());
     let last = files.as_slice().get(256..).unwrap_or(&[]);
     let faults = (
         fault_of(&rt, rt.alloc(), files.as_slice()),
         fault_of(&rt, rt.alloc(), last),
     );
     assert!(rt; faults == (Some(RunFault::TooManyFiles), Some(RunFault::TooManyLines)));
-    Ok(())
 }

@@ -2,7 +2,6 @@ ghost use Rattle.std.specs.Prelude.{◌≡◌, length, All, IfOk};
 ghost use Rattle.kalah_run.specs.DeskStates.{IsPassOf};
 
 use super::*;
-use std::test::Fail;
 use std::thread;
 
 // Draws with the pass until it is answered None. The answer has the numbers drawn, in order.
@@ -38,37 +37,35 @@ fn gather(
 }
 
 #[test]
-fn a_desk_with_no_number_answers_none(rt: HostRuntime) -> Result<(), Fail> {
-    let (desk, mut passes) = Desk::open(rt.alloc(), 0, 1)?;
+fn a_desk_with_no_number_answers_none(rt: HostRuntime) {
+    let (desk, mut passes) = Desk::open(rt.alloc(), 0, 1).expect(&rt, "no memory");
     assert!(rt; passes.len() == 1);
     assert!(rt; desk.draw(&mut passes[0]) == None);
     let closed = desk.close(passes);
     assert!(rt; (closed.drawn(), closed.spent()) == (0, true));
-    Ok(())
 }
 
 #[test]
-fn a_desk_may_be_closed_before_all_is_drawn(rt: HostRuntime) -> Result<(), Fail> {
-    let (desk, mut passes) = Desk::open(rt.alloc(), 5, 1)?;
+fn a_desk_may_be_closed_before_all_is_drawn(rt: HostRuntime) {
+    let (desk, mut passes) = Desk::open(rt.alloc(), 5, 1).expect(&rt, "no memory");
     assert!(rt; passes.len() == 1);
     assert!(rt; desk.draw(&mut passes[0]) == Some(0));
     let closed = desk.close(passes);
     assert!(rt; (closed.drawn(), closed.spent()) == (1, false));
-    Ok(())
 }
 
 #[test]
-fn a_desk_may_have_any_number_of_passes(rt: HostRuntime) -> Result<(), Fail> {
+fn a_desk_may_have_any_number_of_passes(rt: HostRuntime) {
     for total in [
         0, 1, 99, 100, 101, 65_535, 65_536, 65_537, 999_999, 1_000_000,
     ] {
         for count in 1..65u32 {
-            let (desk, passes) = Desk::open(rt.alloc(), total, count)?;
+            let opened = Desk::open(rt.alloc(), total, count);
+            let (desk, passes) = opened.expect(&rt, "no memory");
             assert!(rt; passes.len() == count as usize);
             assert!(rt; desk.close(passes).drawn() == 0);
         }
     }
-    Ok(())
 }
 
 // Whether these are the numbers below the limit, in order.
@@ -82,13 +79,13 @@ fn are_all_below(numbers: &[u32], limit: usize) -> bool {
 }
 
 #[test]
-fn threads_draw_each_number_once(rt: HostRuntime) -> Result<(), Fail> {
-    let (desk, passes) = Desk::open(rt.alloc(), 1000, 64)?;
-    let answers = thread::map_vec(&rt, passes, &|pass| draw_all(&desk, rt.alloc(), pass))?;
-    let (passes, mut all) = gather(&desk, rt.alloc(), answers)?;
+fn threads_draw_each_number_once(rt: HostRuntime) {
+    let (desk, passes) = Desk::open(rt.alloc(), 1000, 64).expect(&rt, "no memory");
+    let answers = thread::map_vec(&rt, passes, &|pass| draw_all(&desk, rt.alloc(), pass));
+    let gathered = gather(&desk, rt.alloc(), answers.expect(&rt, "no memory"));
+    let (passes, mut all) = gathered.expect(&rt, "no memory");
     let closed = desk.close(passes);
-    all.sort()?;
+    all.sort().expect(&rt, "no memory");
     assert!(rt; are_all_below(all.as_slice(), 1000));
     assert!(rt; (closed.drawn(), closed.spent()) == (1000, true));
-    Ok(())
 }

@@ -9,8 +9,8 @@ use crate::{GetPass, PutPass, ResultsQueue};
 use kalah_jobs::{Entry, LineFault, Outcome};
 use kalah_solve::{Solver, Table};
 use std::alloc::{AllocError, Global};
+use std::process::Abort;
 use std::sync::Wait;
-use std::test::Fail;
 use std::thread;
 use std::thread::Threads;
 
@@ -18,18 +18,14 @@ use std::thread::Threads;
 const LINES: u32 = 200;
 
 // The outcomes of the lines of a file, all of them empty, in their order.
-fn outcomes_of(alloc: Global, file: u32) -> Result<Vec<Outcome>, AllocError> {
-    let mut solver = Solver::new(Table::new(alloc, 16)?);
-    outcomes_by(&mut solver, alloc, file)
-}
-
-// The same, by this solver.
-fn outcomes_by(solver: &mut Solver, alloc: Global, file: u32) -> Result<Vec<Outcome>, AllocError> {
+fn outcomes_of(rt: &impl Abort, alloc: Global, file: u32) -> Vec<Outcome> {
+    let mut solver = Solver::new(Table::new(alloc, 16).expect(rt, "no memory"));
     let mut outcomes = Vec::new(alloc);
     for line in 0..LINES {
-        outcomes.push(Outcome::of(file, line, Entry::Bad(LineFault::Empty), solver))?;
+        let outcome = Outcome::of(file, line, Entry::Bad(LineFault::Empty), &mut solver);
+        outcomes.push(outcome).expect(rt, "no memory");
     }
-    Ok(outcomes)
+    outcomes
 }
 
 // What is got of two outcomes that two workers put, and how many are left.
@@ -49,13 +45,12 @@ fn through_one_thread<R: Wait>(
 }
 
 #[test]
-fn two_workers_outcomes_are_got(rt: HostRuntime) -> Result<(), Fail> {
-    let (first, second) = two_outcomes(rt.alloc())?;
-    let opened = ResultsQueue::open(rt.alloc(), 2, 2)?;
+fn two_workers_outcomes_are_got(rt: HostRuntime) {
+    let (first, second) = two_outcomes(rt.alloc()).expect(&rt, "no memory");
+    let opened = ResultsQueue::open(rt.alloc(), 2, 2).expect(&rt, "no memory");
     let (got, left) = through_one_thread(&rt, opened, (first, second));
     assert!(rt; got == (first, second));
     assert!(rt; left == 0);
-    Ok(())
 }
 
 // Puts all the outcomes, in their order.
@@ -68,33 +63,32 @@ fn put_all<R: Wait>(rt: &R, queue: &ResultsQueue, mut pass: PutPass, outcomes: &
 }
 
 // Puts as many outcomes as the queue has places: none has to wait.
-fn fill<R: Wait>(rt: &R, alloc: Global, capacity: u32, outcome: Outcome) -> Result<(), Fail>
+fn fill<R: Abort + Wait>(rt: &R, alloc: Global, capacity: u32, outcome: Outcome)
     requires { (0 < capacity) × (capacity ≤ 1024) }
 {
-    let outcomes = vec![in alloc; outcome; capacity as usize]?;
-    let (queue, mut puts, _) = ResultsQueue::open(alloc, capacity, 1)?;
-    let pass = puts.pop().ok_or("a pass")?;
+    let outcomes = vec![in alloc; outcome; capacity as usize].expect(rt, "no memory");
+    let opened = ResultsQueue::open(alloc, capacity, 1);
+    let (queue, mut puts, _) = opened.expect(rt, "no memory");
+    let pass = puts.pop().expect(rt, "no pass");
     put_all(rt, &queue, pass, outcomes.as_slice());
-    Ok(())
 }
 
 #[test]
-fn a_queue_may_have_any_number_of_places(rt: HostRuntime) -> Result<(), Fail> {
-    let (outcome, _) = two_outcomes(rt.alloc())?;
+fn a_queue_may_have_any_number_of_places(rt: HostRuntime) {
+    let (outcome, _) = two_outcomes(rt.alloc()).expect(&rt, "no memory");
     for capacity in 1..1025u32 {
-        fill(&rt, rt.alloc(), capacity, outcome)?;
+        fill(&rt, rt.alloc(), capacity, outcome);
     }
-    Ok(())
 }
 
 #[test]
-fn a_queue_may_have_any_number_of_workers(rt: HostRuntime) -> Result<(), Fail> {
+fn a_queue_may_have_any_number_of_workers(rt: HostRuntime) {
     for workers in 1..65u32 {
-        let (queue, puts, pass) = ResultsQueue::open(rt.alloc(), 64, workers)?;
+        let opened = ResultsQueue::open(rt.alloc(), 64, workers);
+        let (queue, puts, pass) = opened.expect(&rt, "no memory");
         assert!(rt; puts.len() == workers as usize);
         assert!(rt; queue.close(&rt, puts, pass).left() == 0);
     }
-    Ok(())
 }
 
 // Gets the outcomes of two files, and gives those of the first file and those of the second, each as they came.
@@ -150,23 +144,24 @@ fn through_threads<R: Threads + Wait + Sync>(
 }
 
 // What comes through a queue of two places that is opened for it.
-fn through_queue<R: Threads + Wait + Sync>(
+fn through_queue<R: Abort + Threads + Wait + Sync>(
     rt: &R,
     alloc: Global,
     sent: (&[Outcome], &[Outcome]),
-) -> Result<(Vec<Outcome>, Vec<Outcome>), Fail> {
-    let (queue, mut puts, pass) = ResultsQueue::open(alloc, 2, 2)?;
-    let second = puts.pop().ok_or("two passes")?;
-    let first = puts.pop().ok_or("two passes")?;
-    Ok(through_threads(rt, alloc, &queue, (first, second), pass, sent)?)
+) -> (Vec<Outcome>, Vec<Outcome>) {
+    let opened = ResultsQueue::open(alloc, 2, 2);
+    let (queue, mut puts, pass) = opened.expect(rt, "no memory");
+    let second = puts.pop().expect(rt, "no pass");
+    let first = puts.pop().expect(rt, "no pass");
+    let got = through_threads(rt, alloc, &queue, (first, second), pass, sent);
+    got.expect(rt, "no memory")
 }
 
 #[test]
-fn two_threads_outcomes_come_in_order(rt: HostRuntime) -> Result<(), Fail> {
-    let first = outcomes_of(rt.alloc(), 0)?;
-    let second = outcomes_of(rt.alloc(), 1)?;
+fn two_threads_outcomes_come_in_order(rt: HostRuntime) {
+    let first = outcomes_of(&rt, rt.alloc(), 0);
+    let second = outcomes_of(&rt, rt.alloc(), 1);
     let sent = (first.as_slice(), second.as_slice());
-    let (got_first, got_second) = through_queue(&rt, rt.alloc(), sent)?;
+    let (got_first, got_second) = through_queue(&rt, rt.alloc(), sent);
     assert!(rt; (got_first.as_slice(), got_second.as_slice()) == sent);
-    Ok(())
 }

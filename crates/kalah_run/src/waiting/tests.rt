@@ -4,7 +4,6 @@ use crate::drawn::Drawn;
 use std::sync::Wait;
 use std::sync::atomic::AtomicU32;
 use std::sync::atomic::Ordering::SeqCst;
-use std::test::Fail;
 use std::thread;
 use std::thread::Threads;
 
@@ -78,12 +77,12 @@ fn give_in_bursts<R: Wait>(rt: &R, places: &Places, takers: u32, drawn: &mut Dra
 }
 
 #[test]
-fn each_place_that_is_given_is_taken(rt: HostRuntime) -> Result<(), Fail> {
+fn each_place_that_is_given_is_taken(rt: HostRuntime) {
     let mut drawn = Drawn::new(20);
     for _ in 0..200 {
         let places = Places::none();
         let takers = 1 + drawn.below(24);
-        let mut seats = vec![in rt.alloc(); 0u8; takers as usize]?;
+        let mut seats = vec![in rt.alloc(); 0u8; takers as usize].expect(&rt, "no memory");
         thread::join(
             &rt,
             || thread::for_each_mut(&rt, seats.as_mut_slice(), 64, &|_, _| places.take(&rt)),
@@ -91,5 +90,4 @@ fn each_place_that_is_given_is_taken(rt: HostRuntime) -> Result<(), Fail> {
         );
         assert!(rt; places.free.load(SeqCst) == 0);
     }
-    Ok(())
 }

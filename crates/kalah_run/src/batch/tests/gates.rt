@@ -5,7 +5,6 @@ use crate::{Gate, Tally, solve_batch};
 use kalah_jobs::Stream;
 use std::io::Write;
 use std::sync::atomic::{AtomicBool, AtomicU32, Ordering};
-use std::test::Fail;
 use std::{io, thread};
 
 // How often a gate looks for what it waits for.
@@ -165,63 +164,61 @@ impl Write for Telling<'_> {
 }
 
 #[test]
-fn a_later_job_is_done_while_an_earlier_one_waits(rt: HostRuntime) -> Result<(), Fail> {
+fn a_later_job_is_done_while_an_earlier_one_waits(rt: HostRuntime) {
     let alloc = rt.alloc();
-    let files = same_lines(alloc, 2)?;
+    let files = same_lines(&rt, alloc, 2);
     let gate = SecondFirst {
         done: Flags::none(),
     };
-    assert!(rt; answers(&rt, alloc, files.as_slice(), 2, 16, &gate, TWO, 0));
+    assert!(rt; answers(&rt, alloc, &files, 2, 16, &gate, TWO, 0));
     assert!(rt; gate.done.came());
-    Ok(())
 }
 
 #[test]
-fn as_many_jobs_are_under_way_at_once_as_there_are_workers(rt: HostRuntime) -> Result<(), Fail> {
+fn as_many_jobs_are_under_way_at_once_as_there_are_workers(rt: HostRuntime) {
     let alloc = rt.alloc();
     for jobs in [2, 3, 16, 64] {
-        let (files, text) = (same_lines(alloc, jobs)?, same_answers(alloc, jobs)?);
+        let files = same_lines(&rt, alloc, jobs);
+        let text = same_answers(&rt, alloc, jobs);
         let gate = AllDrawn {
             jobs,
             drawn: AtomicU32::new(0),
             gave_up: AtomicBool::new(false),
         };
-        let files = files.as_slice();
         assert!(rt;
-            answers(&rt, alloc, files, jobs, 16, &gate, text.as_str(), 0),
+            answers(&rt, alloc, &files, jobs, 16, &gate, text.as_str(), 0),
             "{jobs}"
         );
         assert!(rt; !gate.gave_up.load(Ordering::SeqCst), "{jobs}");
     }
-    Ok(())
 }
 
 #[test]
-fn a_free_worker_takes_whatever_is_left(rt: HostRuntime) -> Result<(), Fail> {
+fn a_free_worker_takes_whatever_is_left(rt: HostRuntime) {
     let alloc = rt.alloc();
-    let (files, text) = (same_lines(alloc, 4)?, same_answers(alloc, 4)?);
+    let files = same_lines(&rt, alloc, 4);
+    let text = same_answers(&rt, alloc, 4);
     for last in 0..4u32 {
         let gate = OneLast {
             last,
             done: Flags::none(),
         };
-        assert!(rt; answers(&rt, alloc, files.as_slice(), 2, 16, &gate, text.as_str(), 0));
+        assert!(rt; answers(&rt, alloc, &files, 2, 16, &gate, text.as_str(), 0));
         assert!(rt; gate.done.came());
     }
-    Ok(())
 }
 
 #[test]
-fn a_line_is_written_before_the_next_job_begins(rt: HostRuntime) -> Result<(), Fail> {
+fn a_line_is_written_before_the_next_job_begins(rt: HostRuntime) {
     let alloc = rt.alloc();
-    let files = same_lines(alloc, 2)?;
+    let files = same_lines(&rt, alloc, 2);
     let written = Flags::none();
     let gate = WrittenFirst { written: &written };
     let mut out = Stream::new(Telling {
         bytes: Vec::new(alloc),
         written: &written,
     });
-    let tally = solve_batch(&rt, alloc, files.as_slice(), 1, 16, &gate, &mut out);
+    let tally = solve_batch(&rt, alloc, &files, 1, 16, &gate, &mut out);
     let all = Tally {
         lines: 2,
         faults: 0,
@@ -229,5 +226,4 @@ fn a_line_is_written_before_the_next_job_begins(rt: HostRuntime) -> Result<(), F
     assert!(rt; tally == Ok(all));
     assert!(rt; out.into_inner().bytes.as_slice() == TWO.as_bytes());
     assert!(rt; written.came());
-    Ok(())
 }

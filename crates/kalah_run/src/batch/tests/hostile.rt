@@ -1,22 +1,21 @@
 //! Files of odd bytes, and files that end in the middle.
 use super::{THREE_AND_FAULTS, answers, file_of};
 use crate::OpenGate;
-use std::alloc::{AllocError, Global};
+use std::alloc::Global;
+use std::process::Abort;
 use std::sync::Wait;
-use std::test::Fail;
 use std::thread::Threads;
 
 // The batch of one file of these bytes writes this text.
-fn one_file_answers<R: Threads + Wait + Sync>(
+fn one_file_answers<R: Abort + Threads + Wait + Sync>(
     rt: &R,
     alloc: Global,
     bytes: &[u8],
     text: &str,
     faults: u32,
-) -> Result<bool, AllocError> {
-    let mut files = Vec::new(alloc);
-    files.push(file_of(alloc, "n", bytes)?)?;
-    Ok(answers(rt, alloc, files.as_slice(), 2, 16, &OpenGate, text, faults))
+) -> bool {
+    let file = file_of(alloc, "n", bytes).expect(rt, "no memory");
+    answers(rt, alloc, &[file], 2, 16, &OpenGate, text, faults)
 }
 
 // Odd bytes of a file, what a batch writes of it, and how many of its lines are faults.
@@ -30,27 +29,25 @@ const ODD_BYTES: [(&[u8], &str, u32); 6] = [
 ];
 
 #[test]
-fn odd_bytes_are_faults_of_their_line(rt: HostRuntime) -> Result<(), Fail> {
+fn odd_bytes_are_faults_of_their_line(rt: HostRuntime) {
     for (bytes, text, faults) in ODD_BYTES {
         assert!(rt;
-            one_file_answers(&rt, rt.alloc(), bytes, text, faults)?,
+            one_file_answers(&rt, rt.alloc(), bytes, text, faults),
             "{bytes:?}"
         );
     }
-    Ok(())
 }
 
 #[test]
-fn a_line_of_over_80_bytes_is_too_long(rt: HostRuntime) -> Result<(), Fail> {
-    let mut long = vec![in rt.alloc(); b'x'; 81]?;
-    long.extend_from_slice(b"\r\n")?;
-    let text = "n:1 fault long\n";
-    assert!(rt; one_file_answers(&rt, rt.alloc(), long.as_slice(), text, 1)?);
-    Ok(())
+fn a_line_of_over_80_bytes_is_too_long(rt: HostRuntime) {
+    let mut long = [b'x'; 83];
+    long[81] = b'\r';
+    long[82] = b'\n';
+    assert!(rt; one_file_answers(&rt, rt.alloc(), &long, "n:1 fault long\n", 1));
 }
 
 #[test]
-fn a_file_may_end_anywhere(rt: HostRuntime) -> Result<(), Fail> {
+fn a_file_may_end_anywhere(rt: HostRuntime) {
     let alloc = rt.alloc();
     let bytes = THREE_AND_FAULTS.as_bytes();
     let read = "n:1 6 house 1\n";
@@ -64,7 +61,9 @@ fn a_file_may_end_anywhere(rt: HostRuntime) -> Result<(), Fail> {
             10..=11 => (empty, 1),
             _ => (shape, 2),
         };
-        assert!(rt; one_file_answers(&rt, alloc, &bytes[..end], text, faults)?);
+        assert!(rt;
+            one_file_answers(&rt, alloc, &bytes[..end], text, faults),
+            "{end}"
+        );
     }
-    Ok(())
 }

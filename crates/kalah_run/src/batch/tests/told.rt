@@ -3,10 +3,10 @@ use super::{answers, same_answers, same_lines};
 use crate::staff::QUEUE_CAPACITY;
 use crate::{Gate, solve_batch};
 use kalah_jobs::Stream;
-use std::alloc::{AllocError, Global};
+use std::alloc::Global;
 use std::io::Write;
+use std::process::Abort;
 use std::sync::atomic::{AtomicBool, AtomicU32, Ordering};
-use std::test::Fail;
 use std::{io, thread};
 
 // How often the writer looks for what it waits for.
@@ -21,12 +21,12 @@ struct Told {
 }
 
 // So many counts of none.
-fn no_counts(alloc: Global, jobs: u32) -> Result<Vec<AtomicU32>, AllocError> {
+fn no_counts(rt: &impl Abort, alloc: Global, jobs: u32) -> Vec<AtomicU32> {
     let mut counts = Vec::new(alloc);
     for _ in 0..jobs {
-        counts.push(AtomicU32::new(0))?;
+        counts.push(AtomicU32::new(0)).expect(rt, "no memory");
     }
-    Ok(counts)
+    counts
 }
 
 // How often the job was told of; none where there is no such job.
@@ -74,18 +74,18 @@ impl Gate for Told {
 const MANY: u32 = 65_600;
 
 #[test]
-fn the_gate_is_told_of_each_job_once(rt: HostRuntime) -> Result<(), Fail> {
+fn the_gate_is_told_of_each_job_once(rt: HostRuntime) {
     let alloc = rt.alloc();
-    let (files, text) = (same_lines(alloc, MANY)?, same_answers(alloc, MANY)?);
+    let files = same_lines(&rt, alloc, MANY);
+    let text = same_answers(&rt, alloc, MANY);
     let gate = Told {
-        begun: no_counts(alloc, MANY)?,
-        handed_on: no_counts(alloc, MANY)?,
+        begun: no_counts(&rt, alloc, MANY),
+        handed_on: no_counts(&rt, alloc, MANY),
         out_of_turn: AtomicBool::new(false),
     };
-    assert!(rt; answers(&rt, alloc, files.as_slice(), 2, 16, &gate, text.as_str(), 0));
+    assert!(rt; answers(&rt, alloc, &files, 2, 16, &gate, text.as_str(), 0));
     let in_turn = !gate.out_of_turn.load(Ordering::SeqCst);
     assert!(rt; in_turn && are_once(&gate.begun) && are_once(&gate.handed_on));
-    Ok(())
 }
 
 // So many outcomes are got, or wait in the queue, while the first line is written.
@@ -156,9 +156,9 @@ impl Write for Slow<'_> {
 }
 
 #[test]
-fn an_outcome_without_room_is_not_handed_on(rt: HostRuntime) -> Result<(), Fail> {
+fn an_outcome_without_room_is_not_handed_on(rt: HostRuntime) {
     let alloc = rt.alloc();
-    let files = same_lines(alloc, 100)?;
+    let files = same_lines(&rt, alloc, 100);
     let counts = Counts {
         begun: AtomicU32::new(0),
         handed_on: AtomicU32::new(0),
@@ -169,9 +169,8 @@ fn an_outcome_without_room_is_not_handed_on(rt: HostRuntime) -> Result<(), Fail>
         counts: &counts,
         handed_on: None,
     });
-    let tally = solve_batch(&rt, alloc, files.as_slice(), 1, 16, &gate, &mut out);
+    let tally = solve_batch(&rt, alloc, &files, 1, 16, &gate, &mut out);
     assert!(rt; tally.is_ok());
     assert!(rt; out.into_inner().handed_on == Some(ROOM));
     assert!(rt; counts.handed_on.load(Ordering::SeqCst) == 100);
-    Ok(())
 }

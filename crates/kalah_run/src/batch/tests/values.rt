@@ -4,9 +4,9 @@ ghost use Rattle.std.specs.Prelude.{◌<◌, ◌≤◌};
 use super::file_of;
 use crate::{OpenGate, Tally, values_batch};
 use kalah_jobs::{FileText, Sink, Stream};
-use std::alloc::{AllocError, Global};
+use std::alloc::Global;
+use std::process::Abort;
 use std::sync::Wait;
-use std::test::Fail;
 use std::thread::Threads;
 
 const LINES: &str = "1,1/0 1,1/0\n2/0 2/0\n0,0/3 1,2/4\n01/0 1/0";
@@ -32,12 +32,13 @@ const TEN_LINES: Tally = Tally {
 };
 
 // Three files, one of them named twice.
-fn three_files(alloc: Global) -> Result<Vec<FileText>, AllocError> {
+fn three_files(rt: &impl Abort, alloc: Global) -> Vec<FileText> {
     let mut files = Vec::new(alloc);
-    files.push(file_of(alloc, "b.txt", LINES.as_bytes())?)?;
-    files.push(file_of(alloc, "c.txt", BOTH_RULES.as_bytes())?)?;
-    files.push(file_of(alloc, "b.txt", LINES.as_bytes())?)?;
-    Ok(files)
+    for (name, text) in [("b.txt", LINES), ("c.txt", BOTH_RULES), ("b.txt", LINES)] {
+        let file = file_of(alloc, name, text.as_bytes()).expect(rt, "no memory");
+        files.push(file).expect(rt, "no memory");
+    }
+    files
 }
 
 // Whether the batch tells the values of all moves, and counts the lines.
@@ -57,8 +58,8 @@ fn is_told<R: Threads + Wait + Sync>(
 }
 
 #[test]
-fn the_values_of_all_moves_are_told_in_order(rt: HostRuntime) -> Result<(), Fail> {
-    let files = three_files(rt.alloc())?;
+fn the_values_of_all_moves_are_told_in_order(rt: HostRuntime) {
+    let files = three_files(&rt, rt.alloc());
     for workers in [1, 2, 64] {
         for table in [1, 65_536] {
             assert!(rt;
@@ -67,5 +68,4 @@ fn the_values_of_all_moves_are_told_in_order(rt: HostRuntime) -> Result<(), Fail
             );
         }
     }
-    Ok(())
 }

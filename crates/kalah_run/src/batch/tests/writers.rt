@@ -8,7 +8,6 @@ use std::io::{ErrorKind, Write};
 use std::process::Abort;
 use std::sync::Wait;
 use std::sync::atomic::{AtomicU32, Ordering};
-use std::test::Fail;
 use std::thread::Threads;
 
 // The tally of the four files.
@@ -107,12 +106,8 @@ fn run_with<R: Threads + Wait + Sync>(
 }
 
 // How many calls of the writer may fail until none does, where each that fails ends the writing and nothing else.
-fn failures<R: Abort + Threads + Wait + Sync>(
-    rt: &R,
-    alloc: Global,
-    question: Question,
-) -> Result<u32, Fail> {
-    let files = four_files(alloc)?;
+fn failures<R: Abort + Threads + Wait + Sync>(rt: &R, alloc: Global, question: Question) -> u32 {
+    let files = four_files(alloc).expect(rt, "no memory");
     let mut failures = 0u32;
     for calls in 0..100u32 {
         let run = run_with(rt, alloc, question, files.as_slice(), calls);
@@ -127,28 +122,25 @@ fn failures<R: Abort + Threads + Wait + Sync>(
         }
         failures = failures.saturating_add(1);
     }
-    Ok(failures)
+    failures
 }
 
 #[test]
-fn every_failing_call_ends_the_writing_and_nothing_else(rt: HostRuntime) -> Result<(), Fail> {
+fn every_failing_call_ends_the_writing_and_nothing_else(rt: HostRuntime) {
     for question in [Question::BestMove, Question::Values] {
-        let failures = failures(&rt, rt.alloc(), question)?;
+        let failures = failures(&rt, rt.alloc(), question);
         assert!(rt; failures > 7 && failures < 100);
     }
-    Ok(())
 }
 
 #[test]
-fn all_jobs_are_done_though_the_writer_takes_one_line(rt: HostRuntime) -> Result<(), Fail> {
+fn all_jobs_are_done_though_the_writer_takes_one_line(rt: HostRuntime) {
     let alloc = rt.alloc();
-    let files = same_lines(alloc, 200)?;
-    let question = Question::BestMove;
-    let run = run_with(&rt, alloc, question, files.as_slice(), CALLS_OF_A_LINE);
+    let files = same_lines(&rt, alloc, 200);
+    let run = run_with(&rt, alloc, Question::BestMove, &files, CALLS_OF_A_LINE);
     let came = (run.tally, run.done, run.writer.later_calls);
     let line = run.writer.bytes.as_slice() == b"n:1 0 house 1\n".as_slice();
     assert!(rt; (came, line) == ((Err(RunFault::Write), 200, 0), true));
-    Ok(())
 }
 
 /// Takes all bytes, and answers an error at the flush.
@@ -183,16 +175,16 @@ fn is_all_written<R: Threads + Wait + Sync>(
 }
 
 #[test]
-fn a_flush_that_fails_is_a_failed_write(rt: HostRuntime) -> Result<(), Fail> {
+fn a_flush_that_fails_is_a_failed_write(rt: HostRuntime) {
     let alloc = rt.alloc();
-    let files = four_files(alloc)?;
+    let files = four_files(alloc).expect(&rt, "no memory");
     assert!(rt; is_all_written(&rt, alloc, files.as_slice(), ANSWERS));
     for lines in [0, 1, 2, 7, 64, 65, 100] {
-        let (files, text) = (same_lines(alloc, lines)?, same_answers(alloc, lines)?);
+        let files = same_lines(&rt, alloc, lines);
+        let text = same_answers(&rt, alloc, lines);
         assert!(rt;
-            is_all_written(&rt, alloc, files.as_slice(), text.as_str()),
+            is_all_written(&rt, alloc, &files, text.as_str()),
             "{lines}"
         );
     }
-    Ok(())
 }
