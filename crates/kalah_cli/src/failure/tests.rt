@@ -1,9 +1,8 @@
 use super::Failure;
 use crate::status::ExitStatus;
-use std::test::Fail;
 
 #[test]
-fn each_failure_is_said_in_its_words(rt: HostRuntime) -> Result<(), Fail> {
+fn each_failure_is_said_in_its_words(rt: HostRuntime) {
     let texts = [
         (Failure::LineFeed, "kalah: line feed in a file name\n"),
         (Failure::Unreadable("a.txt"), "kalah: cannot read a.txt\n"),
@@ -18,5 +17,4 @@ fn each_failure_is_said_in_its_words(rt: HostRuntime) -> Result<(), Fail> {
         assert!(rt; failure.report(&mut err) == ExitStatus::Failed);
         assert!(rt; err.as_slice() == text.as_bytes());
     }
-    Ok(())
 }

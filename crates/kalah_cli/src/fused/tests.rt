@@ -2,7 +2,6 @@ use super::Fused;
 use std::cell::Cell;
 use std::io;
 use std::io::{BufWriter, ErrorKind, Write};
-use std::test::Fail;
 
 /// Counts its calls, and answers an error of its kind at its `fails_at`th call, counted from 1, and at no other.
 #[derive(Drop)]
@@ -29,35 +28,31 @@ impl Write for FailingOnce<'_> {
 
 // Of three lines, each in a write and a flush, the second is not written, and stays in the buffer.
 #[test]
-fn nothing_follows_a_failed_write(rt: HostRuntime) -> Result<(), Fail> {
+fn nothing_follows_a_failed_write(rt: HostRuntime) {
     let calls = Cell::new(0);
-    let mut out = BufWriter::new(
-        rt.alloc(),
-        Fused::new(FailingOnce {
-            calls: &calls,
-            fails_at: 3,
-            kind: ErrorKind::StorageFull,
-        }),
-    )?;
+    let writer = Fused::new(FailingOnce {
+        calls: &calls,
+        fails_at: 3,
+        kind: ErrorKind::StorageFull,
+    });
+    let mut out = BufWriter::new(rt.alloc(), writer).expect(&rt, "no memory");
     for (line, is_written) in [("1\n", true), ("2\n", false), ("3\n", false)] {
-        out.write_all(line.as_bytes())?;
+        out.write_all(line.as_bytes()).expect(&rt, line);
         assert!(rt; out.flush().is_ok() == is_written, "at {line}");
     }
     drop(out);
     assert!(rt; calls.get() == 3);
-    Ok(())
 }
 
 #[test]
-fn an_interrupted_call_is_tried_again(rt: HostRuntime) -> Result<(), Fail> {
+fn an_interrupted_call_is_tried_again(rt: HostRuntime) {
     let calls = Cell::new(0);
     let mut out = Fused::new(FailingOnce {
         calls: &calls,
         fails_at: 1,
         kind: ErrorKind::Interrupted,
     });
-    out.write_all(b"1\n")?;
-    out.flush()?;
+    out.write_all(b"1\n").expect(&rt, "not written");
+    out.flush().expect(&rt, "not flushed");
     assert!(rt; calls.get() == 3);
-    Ok(())
 }

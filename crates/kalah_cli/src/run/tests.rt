@@ -1,4 +1,4 @@
-ghost use Rattle.std.specs.Prelude.{◌≡◌, ◌<◌, IfOk, Some, vec_len};
+ghost use Rattle.std.specs.Prelude.{◌≡◌, ◌<◌, Some, vec_len};
 
 mod help;
 mod hostile;
@@ -9,11 +9,11 @@ mod valuing;
 use super::run_words;
 use crate::status::ExitStatus;
 use kalah_jobs::{Sink, Stream};
-use std::alloc::{AllocError, Global};
+use std::alloc::Global;
 use std::io::{ErrorKind, Write};
+use std::process::Abort;
 use std::rt::Files;
 use std::sync::Wait;
-use std::test::Fail;
 use std::thread::Threads;
 use std::{fs, io};
 
@@ -58,15 +58,23 @@ impl Write for Failing {
     }
 }
 
-fn words_of(alloc: Global, texts: &[&str]) -> Result<Vec<String>, AllocError>
-    ensures { IfOk result (λ words. 0 < vec_len words) }
+// The words of the command line, of which the first is the program's name.
+fn words_of(rt: &impl Abort, alloc: Global, texts: &[&str]) -> Vec<String>
+    ensures { 0 < vec_len result }
 {
     let mut words = Vec::new(alloc);
     for text in texts {
-        words.push(String::from_str(alloc, *text)?)?;
+        let word = String::from_str(alloc, *text).expect(rt, "no memory");
+        words.push(word).expect(rt, "no memory");
     }
-    words.insert(0, String::from_str(alloc, "kalah")?)?;
-    Ok(words)
+    let name = String::from_str(alloc, "kalah").expect(rt, "no memory");
+    words.insert(0, name).expect(rt, "no memory");
+    words
+}
+
+// Writes a file.
+fn write_file<R: Abort + Files>(rt: &R, name: &str, bytes: &[u8]) {
+    fs::write(rt, name, bytes).expect(rt, name);
 }
 
 /// What the program writes for the words after its name, and its status.
@@ -77,20 +85,16 @@ struct Run {
     err: Vec<u8>,
 }
 
-fn run_on<R: Files + Threads + Wait + Sync>(
-    rt: &R,
-    alloc: Global,
-    texts: &[&str],
-) -> Result<Run, AllocError> {
-    let words = words_of(alloc, texts)?;
+fn run_on<R: Abort + Files + Threads + Wait + Sync>(rt: &R, alloc: Global, texts: &[&str]) -> Run {
+    let words = words_of(rt, alloc, texts);
     let mut out = Stream::new(Vec::<u8>::new(alloc));
     let mut err = Vec::<u8>::new(alloc);
     let status = run_words(rt, alloc, words, &mut out, &mut err);
-    Ok(Run {
+    Run {
         status,
         out: out.into_inner(),
         err,
-    })
+    }
 }
 
 // The run ended with this status and these bytes on both outputs.
@@ -116,12 +120,11 @@ const MOVES: [(&str, &str); 6] = [
 ];
 
 #[test]
-fn shows_the_moves_of_a_position(rt: HostRuntime) -> Result<(), Fail> {
+fn shows_the_moves_of_a_position(rt: HostRuntime) {
     for (line, moves) in MOVES {
-        let run = run_on(&rt, rt.alloc(), ["moves", line].as_slice())?;
+        let run = run_on(&rt, rt.alloc(), ["moves", line].as_slice());
         assert!(rt; answers(&run, ExitStatus::Clean, moves, ""), "{line}");
     }
-    Ok(())
 }
 
 // Lines that are not read, and what is said of them.
@@ -133,12 +136,11 @@ const UNREAD: [(&str, &str); 4] = [
 ];
 
 #[test]
-fn a_line_that_is_not_read_is_answered_by_its_fault(rt: HostRuntime) -> Result<(), Fail> {
+fn a_line_that_is_not_read_is_answered_by_its_fault(rt: HostRuntime) {
     for (line, fault) in UNREAD {
-        let run = run_on(&rt, rt.alloc(), ["moves", line].as_slice())?;
+        let run = run_on(&rt, rt.alloc(), ["moves", line].as_slice());
         assert!(rt; answers(&run, ExitStatus::LineFaults, "", fault), "{line}");
     }
-    Ok(())
 }
 
 // Words that the program does not take.
@@ -175,16 +177,15 @@ const MISTAKES: [&[&str]; 29] = [
 ];
 
 #[test]
-fn mistakes_in_the_words(rt: HostRuntime) -> Result<(), Fail> {
+fn mistakes_in_the_words(rt: HostRuntime) {
     for words in MISTAKES {
-        let run = run_on(&rt, rt.alloc(), words)?;
+        let run = run_on(&rt, rt.alloc(), words);
         assert!(rt; is_usage(&run), "{words:?}");
     }
-    Ok(())
 }
 
 #[test]
-fn help_goes_to_the_output(rt: HostRuntime) -> Result<(), Fail> {
+fn help_goes_to_the_output(rt: HostRuntime) {
     let alloc = rt.alloc();
     let calls = [
         ["--help"].as_slice(),
@@ -195,24 +196,23 @@ fn help_goes_to_the_output(rt: HostRuntime) -> Result<(), Fail> {
         ["values", "--help"].as_slice(),
     ];
     for words in calls {
-        let shown = run_on(&rt, alloc, words)?;
+        let shown = run_on(&rt, alloc, words);
         assert!(rt; shown.status == ExitStatus::Clean);
         assert!(rt; !shown.out.is_empty() && shown.err.is_empty());
     }
-    Ok(())
 }
 
 #[test]
-fn a_file_that_is_not_read(rt: HostRuntime) -> Result<(), Fail> {
+fn a_file_that_is_not_read(rt: HostRuntime) {
     let alloc = rt.alloc();
     let failed = ExitStatus::Failed;
-    fs::write(&rt, "kalah_run_one.txt", "1/0 1/0\n")?;
+    write_file(&rt, "kalah_run_one.txt", b"1/0 1/0\n");
     let none = "kalah: cannot read kalah_run_none.txt\n";
     let words = ["solve", "kalah_run_one.txt", "kalah_run_none.txt", "/"];
-    assert!(rt; answers(&run_on(&rt, alloc, words.as_slice())?, failed, "", none));
+    assert!(rt; answers(&run_on(&rt, alloc, words.as_slice()), failed, "", none));
     assert!(rt;
         answers(
-            &run_on(&rt, alloc, &["solve", "/"])?,
+            &run_on(&rt, alloc, &["solve", "/"]),
             failed,
             "",
             "kalah: cannot read /\n"
@@ -220,8 +220,7 @@ fn a_file_that_is_not_read(rt: HostRuntime) -> Result<(), Fail> {
     );
     let feed = "kalah: line feed in a file name\n";
     let words = ["solve", "kalah_run_none.txt", "x\ny"];
-    assert!(rt; answers(&run_on(&rt, alloc, words.as_slice())?, failed, "", feed));
-    Ok(())
+    assert!(rt; answers(&run_on(&rt, alloc, words.as_slice()), failed, "", feed));
 }
 
 /// What came of a run whose output failed, or took all.
@@ -246,51 +245,49 @@ impl Stopped {
 }
 
 // A run whose output fails at its call of this number, and at each later one.
-fn run_failing<R: Files + Threads + Wait + Sync>(
+fn run_failing<R: Abort + Files + Threads + Wait + Sync>(
     rt: &R,
     alloc: Global,
     texts: &[&str],
     fails_at: u32,
-) -> Result<Stopped, AllocError> {
-    let words = words_of(alloc, texts)?;
+) -> Stopped {
+    let words = words_of(rt, alloc, texts);
     let mut out = Stream::new(Failing::new(alloc, fails_at));
     let mut err = Vec::<u8>::new(alloc);
     let status = run_words(rt, alloc, words, &mut out, &mut err);
-    Ok(Stopped {
+    Stopped {
         status,
         has_failed: out.failed(),
         calls: out.into_inner().calls,
         err,
-    })
+    }
 }
 
 // Each move is written in one call, and a flush ends them: three calls in all.
 #[test]
-fn stops_at_a_failed_write(rt: HostRuntime) -> Result<(), Fail> {
+fn stops_at_a_failed_write(rt: HostRuntime) {
     for k in 1..8u32 {
-        let run = run_failing(&rt, rt.alloc(), &["moves", "1,1/0 1,1/0"], k)?;
+        let run = run_failing(&rt, rt.alloc(), &["moves", "1,1/0 1,1/0"], k);
         assert!(rt; (run.has_failed, run.calls) == (k <= 3, k.min(3)), "at {k}");
         assert!(rt; run.is_told(), "at {k}");
     }
-    Ok(())
 }
 
 #[test]
-fn a_failed_write_of_help_or_of_the_version(rt: HostRuntime) -> Result<(), Fail> {
+fn a_failed_write_of_help_or_of_the_version(rt: HostRuntime) {
     for word in ["--help", "--version", "-V"] {
         for k in 1..4u32 {
-            let run = run_failing(&rt, rt.alloc(), [word].as_slice(), k)?;
+            let run = run_failing(&rt, rt.alloc(), [word].as_slice(), k);
             assert!(rt;
                 run.is_told() && run.has_failed == (k <= 2),
                 "{word} at {k}"
             );
         }
     }
-    Ok(())
 }
 
 #[test]
-fn a_failing_standard_error_changes_no_status(rt: HostRuntime) -> Result<(), Fail> {
+fn a_failing_standard_error_changes_no_status(rt: HostRuntime) {
     let calls = [
         (["moves", "1/0"].as_slice(), ExitStatus::LineFaults),
         (["moves", "1/0 1/0"].as_slice(), ExitStatus::Clean),
@@ -298,12 +295,11 @@ fn a_failing_standard_error_changes_no_status(rt: HostRuntime) -> Result<(), Fai
         (["stop"].as_slice(), ExitStatus::Failed),
     ];
     for (texts, want) in calls {
-        let words = words_of(rt.alloc(), texts)?;
+        let words = words_of(&rt, rt.alloc(), texts);
         let mut out = Stream::new(Vec::<u8>::new(rt.alloc()));
         let mut err = Failing::new(rt.alloc(), 1);
         let status = run_words(&rt, rt.alloc(), words, &mut out, &mut err);
         assert!(rt; status == want);
         assert!(rt; err.bytes.is_empty());
     }
-    Ok(())
 }

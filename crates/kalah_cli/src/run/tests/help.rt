@@ -2,10 +2,10 @@
 use super::{answers, run_on};
 use crate::status::ExitStatus;
 use std::alloc::Global;
+use std::process::Abort;
 use std::rt::Files;
 use std::str;
 use std::sync::Wait;
-use std::test::Fail;
 use std::thread::Threads;
 
 const OF_THE_PROGRAM: [&str; 9] = [
@@ -78,15 +78,13 @@ const OF_BATCHES: [&str; 8] = [
 ];
 
 // The help that these words ask for has this part in it.
-fn says<R: Files + Threads + Wait + Sync>(
+fn says<R: Abort + Files + Threads + Wait + Sync>(
     rt: &R,
     alloc: Global,
     words: &[&str],
     part: &str,
 ) -> bool {
-    let Ok(run) = run_on(rt, alloc, words) else {
-        return false;
-    };
+    let run = run_on(rt, alloc, words);
     match str::from_utf8(run.out.as_slice()) {
         Ok(text) => run.status == ExitStatus::Clean && text.contains(part),
         Err(_) => false,
@@ -94,7 +92,7 @@ fn says<R: Files + Threads + Wait + Sync>(
 }
 
 #[test]
-fn the_help_says_what_there_is_to_ask_for(rt: HostRuntime) -> Result<(), Fail> {
+fn the_help_says_what_there_is_to_ask_for(rt: HostRuntime) {
     let alloc = rt.alloc();
     for part in OF_THE_PROGRAM {
         assert!(rt; says(&rt, alloc, &["--help"], part), "no {part}");
@@ -110,7 +108,6 @@ fn the_help_says_what_there_is_to_ask_for(rt: HostRuntime) -> Result<(), Fail> {
             );
         }
     }
-    Ok(())
 }
 
 // Words that ask for the version before anything else.
@@ -123,13 +120,12 @@ const OF_THE_VERSION: [&[&str]; 5] = [
 ];
 
 #[test]
-fn the_version_is_one_line(rt: HostRuntime) -> Result<(), Fail> {
+fn the_version_is_one_line(rt: HostRuntime) {
     for words in OF_THE_VERSION {
-        let run = run_on(&rt, rt.alloc(), words)?;
+        let run = run_on(&rt, rt.alloc(), words);
         assert!(rt;
             answers(&run, ExitStatus::Clean, "kalah 1.0.0\n", ""),
             "{words:?}"
         );
     }
-    Ok(())
 }

@@ -1,12 +1,10 @@
 //! Files of odd bytes, and names that no file has.
-use super::{answers, run_on};
+use super::{answers, run_on, write_file};
 use crate::status::ExitStatus;
 use std::alloc::Global;
-use std::fs;
 use std::process::Abort;
 use std::rt::Files;
 use std::sync::Wait;
-use std::test::Fail;
 use std::thread::Threads;
 
 // The file of this name and these bytes is answered by this text.
@@ -16,20 +14,19 @@ fn is_answered<R: Abort + Files + Threads + Wait + Sync>(
     name: &str,
     bytes: &[u8],
     text: &str,
-) -> Result<(), Fail> {
-    fs::write(rt, name, bytes)?;
-    let run = run_on(rt, alloc, &["solve", name])?;
+) {
+    write_file(rt, name, bytes);
+    let run = run_on(rt, alloc, &["solve", name]);
     let status = if text.contains("fault") {
         ExitStatus::LineFaults
     } else {
         ExitStatus::Clean
     };
-    assert!(rt; answers(&run, status, text, ""));
-    Ok(())
+    assert!(rt; answers(&run, status, text, ""), "{text}");
 }
 
 #[test]
-fn odd_bytes_are_faults_of_their_line(rt: HostRuntime) -> Result<(), Fail> {
+fn odd_bytes_are_faults_of_their_line(rt: HostRuntime) {
     let alloc = rt.alloc();
     for (bytes, text) in [
         (
@@ -45,21 +42,16 @@ fn odd_bytes_are_faults_of_their_line(rt: HostRuntime) -> Result<(), Fail> {
         ),
         (b"99/0 99/0", "odd.txt:1 fault seeds\n"),
     ] {
-        is_answered(&rt, alloc, "odd.txt", bytes, text)?;
+        is_answered(&rt, alloc, "odd.txt", bytes, text);
     }
-    let mut long = vec![in alloc; b'x'; 81]?;
-    long.extend_from_slice(b"\r\n")?;
-    is_answered(
-        &rt,
-        alloc,
-        "odd.txt",
-        long.as_slice(),
-        "odd.txt:1 fault long\n",
-    )
+    let mut long = [b'x'; 83];
+    long[81] = b'\r';
+    long[82] = b'\n';
+    is_answered(&rt, alloc, "odd.txt", &long, "odd.txt:1 fault long\n");
 }
 
 #[test]
-fn a_file_may_end_anywhere(rt: HostRuntime) -> Result<(), Fail> {
+fn a_file_may_end_anywhere(rt: HostRuntime) {
     let bytes = b"3/0 3/0\r\n\r\n01/0 1/0\r\n";
     for end in 0..bytes.len() + 1 {
         let text = match end {
@@ -69,30 +61,23 @@ fn a_file_may_end_anywhere(rt: HostRuntime) -> Result<(), Fail> {
             10..=11 => "end.txt:1 6 house 1\nend.txt:2 fault empty\n",
             _ => "end.txt:1 6 house 1\nend.txt:2 fault empty\nend.txt:3 fault shape\n",
         };
-        is_answered(&rt, rt.alloc(), "end.txt", &bytes[..end], text)?;
+        is_answered(&rt, rt.alloc(), "end.txt", &bytes[..end], text);
     }
-    Ok(())
 }
 
 #[test]
-fn a_name_is_any_text_in_one_line(rt: HostRuntime) -> Result<(), Fail> {
+fn a_name_is_any_text_in_one_line(rt: HostRuntime) {
     let alloc = rt.alloc();
     for name in ["odd name é:1.txt", "odd\t\"$(x)'.txt", "odd\r.txt"] {
-        fs::write(&rt, name, "1/0 1/0")?;
-        let run = run_on(&rt, alloc, &["solve", name])?;
-        let text = format!(in alloc; "{name}:1 0 house 1\n")?;
-        assert!(rt;
-            answers(&run, ExitStatus::Clean, text.as_str(), ""),
-            "{name}"
-        );
+        let text = format!(in alloc; "{name}:1 0 house 1\n").expect(&rt, "no memory");
+        is_answered(&rt, alloc, name, b"1/0 1/0", text.as_str());
     }
     for name in ["", "odd\0name", "odd.txt/", "no/odd.txt"] {
-        let run = run_on(&rt, alloc, &["solve", name])?;
-        let text = format!(in alloc; "kalah: cannot read {name}\n")?;
+        let run = run_on(&rt, alloc, &["solve", name]);
+        let text = format!(in alloc; "kalah: cannot read {name}\n").expect(&rt, "no memory");
         assert!(rt;
             answers(&run, ExitStatus::Failed, "", text.as_str()),
             "{name}"
         );
     }
-    Ok(())
 }

@@ -1,10 +1,10 @@
 //! Runs of `kalah play`, and of `kalah moves` with boards.
 use super::{answers, run_failing, run_on};
 use crate::status::ExitStatus;
-use std::alloc::{AllocError, Global};
+use std::alloc::Global;
+use std::process::Abort;
 use std::rt::Files;
 use std::sync::Wait;
-use std::test::Fail;
 use std::thread::Threads;
 
 // Lines, and the games that best play leads to from their positions.
@@ -61,25 +61,24 @@ const GAMES: [(&str, &str); 6] = [
 ];
 
 // With a table of so many entries this game is played.
-fn plays<R: Files + Threads + Wait + Sync>(
+fn plays<R: Abort + Files + Threads + Wait + Sync>(
     rt: &R,
     alloc: Global,
     table: &str,
     line: &str,
     game: &str,
-) -> Result<bool, AllocError> {
-    let run = run_on(rt, alloc, ["play", "--table", table, line].as_slice())?;
-    Ok(answers(&run, ExitStatus::Clean, game, ""))
+) -> bool {
+    let run = run_on(rt, alloc, ["play", "--table", table, line].as_slice());
+    answers(&run, ExitStatus::Clean, game, "")
 }
 
 #[test]
-fn plays_the_game_of_best_play(rt: HostRuntime) -> Result<(), Fail> {
+fn plays_the_game_of_best_play(rt: HostRuntime) {
     for (line, game) in GAMES {
         for table in ["1", "65536"] {
-            assert!(rt; plays(&rt, rt.alloc(), table, line, game)?, "{line}");
+            assert!(rt; plays(&rt, rt.alloc(), table, line, game), "{line}");
         }
     }
-    Ok(())
 }
 
 // Words, and what they print with boards.
@@ -132,12 +131,11 @@ const DRAWN: [(&[&str], &str); 4] = [
 ];
 
 #[test]
-fn draws_boards_below_their_lines(rt: HostRuntime) -> Result<(), Fail> {
+fn draws_boards_below_their_lines(rt: HostRuntime) {
     for (words, text) in DRAWN {
-        let run = run_on(&rt, rt.alloc(), words)?;
+        let run = run_on(&rt, rt.alloc(), words);
         assert!(rt; answers(&run, ExitStatus::Clean, text, ""), "{words:?}");
     }
-    Ok(())
 }
 
 // Words of lines that are not read, and what is said of them.
@@ -149,24 +147,22 @@ const UNREAD: [(&[&str], &str); 4] = [
 ];
 
 #[test]
-fn tells_the_fault_of_an_unread_line(rt: HostRuntime) -> Result<(), Fail> {
+fn tells_the_fault_of_an_unread_line(rt: HostRuntime) {
     for (words, fault) in UNREAD {
-        let run = run_on(&rt, rt.alloc(), words)?;
+        let run = run_on(&rt, rt.alloc(), words);
         assert!(rt;
             answers(&run, ExitStatus::LineFaults, "", fault),
             "{words:?}"
         );
     }
-    Ok(())
 }
 
 // The game is written in two moves, with a flush before each search and at the end: five calls in all.
 #[test]
-fn stops_at_a_failed_write(rt: HostRuntime) -> Result<(), Fail> {
+fn stops_at_a_failed_write(rt: HostRuntime) {
     for k in 1..8u32 {
-        let run = run_failing(&rt, rt.alloc(), &["play", "1,1/0 1,1/0"], k)?;
+        let run = run_failing(&rt, rt.alloc(), &["play", "1,1/0 1,1/0"], k);
         assert!(rt; (run.has_failed, run.calls) == (k <= 5, k.min(5)), "at {k}");
         assert!(rt; run.is_told(), "at {k}");
     }
-    Ok(())
 }

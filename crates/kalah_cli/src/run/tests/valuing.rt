@@ -1,11 +1,10 @@
 //! Runs of `kalah values` over files that are written first.
-use super::{answers, run_failing, run_on};
+use super::{answers, run_failing, run_on, write_file};
 use crate::status::ExitStatus;
-use std::alloc::{AllocError, Global};
-use std::fs;
+use std::alloc::Global;
+use std::process::Abort;
 use std::rt::Files;
 use std::sync::Wait;
-use std::test::Fail;
 use std::thread::Threads;
 
 const FOUR_LINES: &str = "1,1/0 1,1/0\n2/0 2/0\n0,0/3 1,2/4\n01/0 1/0\n";
@@ -18,29 +17,28 @@ four.txt:4 fault shape
 ";
 
 // With so many workers and entries the values of the four lines are told.
-fn tells_four<R: Files + Threads + Wait + Sync>(
+fn tells_four<R: Abort + Files + Threads + Wait + Sync>(
     rt: &R,
     alloc: Global,
     workers: &str,
     table: &str,
-) -> Result<bool, AllocError> {
+) -> bool {
     let words = ["values", "--workers", workers, "four.txt", "--table", table];
-    let run = run_on(rt, alloc, words.as_slice())?;
-    Ok(answers(&run, ExitStatus::LineFaults, FOUR_ANSWERS, ""))
+    let run = run_on(rt, alloc, words.as_slice());
+    answers(&run, ExitStatus::LineFaults, FOUR_ANSWERS, "")
 }
 
 #[test]
-fn tells_the_value_of_each_move(rt: HostRuntime) -> Result<(), Fail> {
-    fs::write(&rt, "four.txt", FOUR_LINES)?;
+fn tells_the_value_of_each_move(rt: HostRuntime) {
+    write_file(&rt, "four.txt", FOUR_LINES.as_bytes());
     for workers in ["1", "2", "64"] {
         for table in ["1", "65536"] {
             assert!(rt;
-                tells_four(&rt, rt.alloc(), workers, table)?,
+                tells_four(&rt, rt.alloc(), workers, table),
                 "{workers} {table}"
             );
         }
     }
-    Ok(())
 }
 
 // Files that are answered, and how.
@@ -65,13 +63,12 @@ const ANSWERED: [(&[u8], &str, ExitStatus); 5] = [
 ];
 
 #[test]
-fn tells_both_rules_odd_bytes_and_no_line(rt: HostRuntime) -> Result<(), Fail> {
+fn tells_both_rules_odd_bytes_and_no_line(rt: HostRuntime) {
     for (bytes, text, status) in ANSWERED {
-        fs::write(&rt, "v.txt", bytes)?;
-        let run = run_on(&rt, rt.alloc(), &["values", "v.txt"])?;
+        write_file(&rt, "v.txt", bytes);
+        let run = run_on(&rt, rt.alloc(), &["values", "v.txt"]);
         assert!(rt; answers(&run, status, text, ""), "{bytes:?}");
     }
-    Ok(())
 }
 
 // Words whose files are not all read, and what is said of it.
@@ -84,22 +81,20 @@ const NOT_READ: [(&[&str], &str); 2] = [
 ];
 
 #[test]
-fn values_of_files_that_are_not_read(rt: HostRuntime) -> Result<(), Fail> {
+fn values_of_files_that_are_not_read(rt: HostRuntime) {
     for (words, text) in NOT_READ {
-        let run = run_on(&rt, rt.alloc(), words)?;
+        let run = run_on(&rt, rt.alloc(), words);
         assert!(rt; answers(&run, ExitStatus::Failed, "", text), "{words:?}");
     }
-    Ok(())
 }
 
 // Each line is written in two calls, and a flush ends them: five calls in all.
 #[test]
-fn telling_values_stops_at_a_failed_write(rt: HostRuntime) -> Result<(), Fail> {
-    fs::write(&rt, "stops.txt", "1,1/0 1,1/0\n2/0 2/0")?;
+fn telling_values_stops_at_a_failed_write(rt: HostRuntime) {
+    write_file(&rt, "stops.txt", b"1,1/0 1,1/0\n2/0 2/0");
     for k in 1..8u32 {
-        let run = run_failing(&rt, rt.alloc(), &["values", "stops.txt"], k)?;
+        let run = run_failing(&rt, rt.alloc(), &["values", "stops.txt"], k);
         assert!(rt; (run.has_failed, run.calls) == (k <= 5, k.min(5)), "at {k}");
         assert!(rt; run.is_told(), "at {k}");
     }
-    Ok(())
 }
