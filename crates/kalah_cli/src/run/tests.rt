@@ -202,25 +202,26 @@ fn help_goes_to_the_output(rt: HostRuntime) {
     }
 }
 
+// Words of which not all files are read, and what is said of it.
+const NOT_READ: [(&[&str], &str); 3] = [
+    (
+        &["solve", "kalah_run_one.txt", "kalah_run_none.txt", "/"],
+        "kalah: cannot read kalah_run_none.txt\n",
+    ),
+    (&["solve", "/"], "kalah: cannot read /\n"),
+    (
+        &["solve", "kalah_run_none.txt", "x\ny"],
+        "kalah: line feed in a file name\n",
+    ),
+];
+
 #[test]
 fn a_file_that_is_not_read(rt: HostRuntime) {
-    let alloc = rt.alloc();
-    let failed = ExitStatus::Failed;
     write_file(&rt, "kalah_run_one.txt", b"1/0 1/0\n");
-    let none = "kalah: cannot read kalah_run_none.txt\n";
-    let words = ["solve", "kalah_run_one.txt", "kalah_run_none.txt", "/"];
-    assert!(rt; answers(&run_on(&rt, alloc, words.as_slice()), failed, "", none));
-    assert!(rt;
-        answers(
-            &run_on(&rt, alloc, &["solve", "/"]),
-            failed,
-            "",
-            "kalah: cannot read /\n"
-        )
-    );
-    let feed = "kalah: line feed in a file name\n";
-    let words = ["solve", "kalah_run_none.txt", "x\ny"];
-    assert!(rt; answers(&run_on(&rt, alloc, words.as_slice()), failed, "", feed));
+    for (words, text) in NOT_READ {
+        let run = run_on(&rt, rt.alloc(), words);
+        assert!(rt; answers(&run, ExitStatus::Failed, "", text), "{words:?}");
+    }
 }
 
 /// What came of a run whose output failed, or took all.
