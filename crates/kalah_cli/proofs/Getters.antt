@@ -133,3 +133,9 @@ failed_err (Err y) e Q is h = subst Q (sym is) h
 pub by_memory_alone : (words : List Text) (e : Error) → HasKind (fault_of kalah_app words) e → fault_of kalah_app words ≡ [] → kind_of e ≡ OutOfMemory
 by_memory_alone words e has none =
     elim (subst (λ ks. HasKind ks e) none has) [ inl memory ↦ memory | inr bad ↦ absurd bad ]
+
+-- want of memory fails as it must, whatever the words
+pub failed_by_memory : {T : Type 0} (r : Result T Error) (P : T → Type 0) (Q : Error → Type 0) → IsErrAnd r (λ e. kind_of e ≡ OutOfMemory)
+    → ((e : Error) → kind_of e ≡ OutOfMemory → Q e) → MatchResult r P Q
+failed_by_memory (Ok x) P Q is all = absurd is
+failed_by_memory (Err e) P Q is all = all e is

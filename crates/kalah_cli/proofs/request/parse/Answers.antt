@@ -1,5 +1,5 @@
-use Rattle.std.proofs.Common.{map}
-use Rattle.kalah_cli.proofs.Getters.{asked_is, by_memory_alone, failed_as, failed_err, taken_fault, taken_is, taken_none}
+use Rattle.std.proofs.Common.{inl, map, rules}
+use Rattle.kalah_cli.proofs.Getters.{asked_is, by_memory_alone, failed_as, failed_by_memory, failed_err, taken_fault, taken_is, taken_none}
 use Rattle.kalah_cli.proofs.Laws.{moves_by_memory, moves_given, taken_once}
 use Rattle.kalah_cli.proofs.Taken.{files_of}
 use Rattle.kalah_cli.proofs.request.parse.Goals as goal
@@ -42,3 +42,27 @@ returns-in_err-matches-clause-files g c = λ question name file files same plain
     failed_as c.from_residual-in_err-matches.result c.in_err-matches.field-0.0 _ _ c.from_residual-in_err-matches.ensures.1
     (by_memory_alone (map g.S.AsStr.text c.args.words.now) c.in_err-matches.field-0.0
     (taken_fault _ _ c.in_err-matches.field-0.0 c.in_ok-command.ensures c.in_err-matches.ensures.kinds) (files_of question _ name file files same plain).0)
+
+pub returns-in_err-command-clause-kinds : goal.returns-in_err-command-clause-kinds
+returns-in_err-command-clause-kinds g c = failed_by_memory c.from_residual.result _ _ c.from_residual.ensures.1 (λ e is. inl is)
+
+pub returns-in_err-command-clause-moves : goal.returns-in_err-command-clause-moves
+returns-in_err-command-clause-moves g c = λ name line same plain. failed_by_memory c.from_residual.result _ _ c.from_residual.ensures.1 (λ e is. is)
+
+pub returns-in_err-command-clause-files : goal.returns-in_err-command-clause-files
+returns-in_err-command-clause-files g c = λ question name file files same plain. failed_by_memory c.from_residual.result _ _ c.from_residual.ensures.1 (λ e is. is)
+
+pub returns-in_err-command-clause-refused : goal.returns-in_err-command-clause-refused
+returns-in_err-command-clause-refused g c = search rules
+
+pub returns-in_err-requested-clause-kinds : goal.returns-in_err-requested-clause-kinds
+returns-in_err-requested-clause-kinds g c = failed_by_memory c.from_residual-in_err-requested.result _ _ c.from_residual-in_err-requested.ensures.1 (λ e is. inl is)
+
+pub returns-in_err-requested-clause-moves : goal.returns-in_err-requested-clause-moves
+returns-in_err-requested-clause-moves g c = λ name line same plain. failed_by_memory c.from_residual-in_err-requested.result _ _ c.from_residual-in_err-requested.ensures.1 (λ e is. is)
+
+pub returns-in_err-requested-clause-files : goal.returns-in_err-requested-clause-files
+returns-in_err-requested-clause-files g c = λ question name file files same plain. failed_by_memory c.from_residual-in_err-requested.result _ _ c.from_residual-in_err-requested.ensures.1 (λ e is. is)
+
+pub returns-in_err-requested-clause-refused : goal.returns-in_err-requested-clause-refused
+returns-in_err-requested-clause-refused g c = search rules
