@@ -1,6 +1,7 @@
 use Rattle.std.proofs.Common.{◌≡◌, ◌++◌, ◌+◌, ◌<◌, ◌∙◌, ℕ, List, [], ◌∷◌, ap, arith, drop, flat_map, get_or, length, subst, sym, take}
 use Rattle.std.specs.Io.KnownBytes.{Appends}
 use Rattle.std.proofs.KnownBytes.{Appends-trans}
+use Rattle.std.proofs.lemmas.Grind.{common_steps}
 use Rattle.std.proofs.lemmas.Bool.{false_from_ne_true, false≢true}
 use Rattle.std.proofs.lemmas.Grind.{flat_map-append}
 use Rattle.std.proofs.lemmas.List.{flat_map_more, take-append-drop, take_more}
@@ -56,3 +57,6 @@ returns-clause-start g c =
     let i = c.loop-i.i in
     subst (AppendsStart (g.O.Sink.written c.args.out.now) (g.O.Sink.written c.flush.new.self)) (first_moves one moves _ i c.loop-i.invariant.same)
     (start_longer _ _ (flat_map one (take i moves)) (flat_map one (drop i moves)) (begins_all _ _ _ _ c.loop-i.invariant.adds c.flush.ensures.keeps))
+
+pub returns-clause-adds : goal.returns-clause-adds
+returns-clause-adds g c = grind (arith, common_steps)
