@@ -1,5 +1,5 @@
 -- Best play does not depend on the count of moves, once it is high enough.
-use Rattle.std.proofs.Common.{zero, suc, ◌≡◌, ℕ, ◌+◌, ◌-◌, ◌*◌, ◌<◌, ◌≤◌, inl, inr, List, [], ◌∷◌, length, get_or, arith, ap, sym, ◌∙◌, refl, take, add-one}
+use Rattle.std.proofs.Common.{rules, IsTrue, zero, suc, ◌≡◌, ℕ, ◌+◌, ◌-◌, ◌*◌, ◌<◌, ◌≤◌, inl, inr, List, [], ◌∷◌, length, get_or, arith, ap, sym, ◌∙◌, refl, take, add-one}
 use Rattle.std.specs.Prelude.{Bool, int_lt, true, false, cond, if◌then◌else◌, Contains, map, sum, ℤ, neg_ℤ, replicate, fold, All}
 use Rattle.std.specs.Int.{int_max}
 use Rattle.std.proofs.lemmas.Bool.{cases_Bool, cases_lt}
@@ -132,6 +132,12 @@ pub turn_step : (b a : Bool) (q e : Position) → Turn e ≡ step_by b a q → (
 turn_step true a q e is = cc
 turn_step false true q e is = cc
 turn_step false false q e is = (refl, refl, cc)
+
+-- a move that ends the game leaves it over
+pub over_ends : (p : Position) (h : ℕ) (e : Position) → Over e ≡ step_of p h → IsTrue (is_over e)
+over_ends p h e is =
+    let step = over_step (is_over (after p h)) (is_again p h) (after p h) e is in
+    rw (step.1, sum-zeros (side_length (after p h))) (search rules)
 
 -- the value of a move, by its step
 pub value_of_over : (p : Position) (h : ℕ) (e : Position) → Over e ≡ step_of p h → final_margin e ≡ value_of_move p h

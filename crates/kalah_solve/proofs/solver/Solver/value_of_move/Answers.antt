@@ -1,7 +1,10 @@
 use Rattle.std.proofs.Common.{arith, rules, ◌∙◌, ap, ◌≡◌, to_z, of_z, pos, neg_ℤ, ◌-ℤ◌, w32, SFits}
 use Rattle.std.proofs.lemmas.Int.{ints, to_z-of_z}
-use Rattle.kalah_solve.proofs.Worths.{value_of_over, value_of_turn}
+use Rattle.kalah_solve.proofs.Worths.{over_ends, value_of_over, value_of_turn}
 use Rattle.kalah_solve.proofs.solver.Solver.value_of_move.Goals as goal
+
+pub returns-requires : goal.returns-requires
+returns-requires g c = over_ends c.args.board.now c.args.h c.in-Over.end c.in-Over.ensures.step
 
 pub returns-in-Over-clause-value : goal.returns-in-Over-clause-value
 returns-in-Over-clause-value g c =
@@ -14,14 +17,3 @@ returns-in-Turn-clause-value g c =
     let small = c.margin-in-Turn.ensures.small in
     let turned : to_z w32 (of_z w32 (pos 0 -ℤ to_z w32 (of_z w32 c.margin-in-Turn.result))) ≡ neg_ℤ c.margin-in-Turn.result = omega (arith, ints, small.low, small.high) in
     turned ∙ ap neg_ℤ c.margin-in-Turn.ensures.worth ∙ value_of_turn c.args.board.now c.args.h c.in-Turn.next c.in-Turn.ensures.step
-
-pub overflow_sub-result : goal.overflow_sub-result
-overflow_sub-result g c = omega (arith, ints, c.margin-in-Turn.ensures.small.low, c.margin-in-Turn.ensures.small.high)
-
-pub returns-in-Over-clause-small : goal.returns-in-Over-clause-small
-returns-in-Over-clause-small g c = let fits : SFits w32 c.returns.result = search rules in simp to_z-of_z c.returns.ensures.small
-
-pub returns-in-Turn-clause-small : goal.returns-in-Turn-clause-small
-returns-in-Turn-clause-small g c =
-    let small = c.margin-in-Turn.ensures.small in
-    record { low = omega (arith, ints, small.low, small.high); high = omega (arith, ints, small.low, small.high) }
