@@ -62,7 +62,8 @@ pub returns-in_err-requested-clause-moves : goal.returns-in_err-requested-clause
 returns-in_err-requested-clause-moves g c = λ name line same plain. failed_by_memory c.from_residual-in_err-requested.result _ _ c.from_residual-in_err-requested.ensures.1 (λ e is. is)
 
 pub returns-in_err-requested-clause-files : goal.returns-in_err-requested-clause-files
-returns-in_err-requested-clause-files g c = λ question name file files same plain. failed_by_memory c.from_residual-in_err-requested.result _ _ c.from_residual-in_err-requested.ensures.1 (λ e is. is)
+returns-in_err-requested-clause-files g c = λ question name file files same plain.
+    failed_by_memory c.from_residual-in_err-requested.result _ _ c.from_residual-in_err-requested.ensures.1 (λ e is. is)
 
 pub returns-in_err-requested-clause-refused : goal.returns-in_err-requested-clause-refused
 returns-in_err-requested-clause-refused g c = search rules
