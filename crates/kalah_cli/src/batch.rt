@@ -1,9 +1,8 @@
 //! `kalah solve FILE..` and `kalah values FILE..`.
-ghost use Rattle.std.specs.Prelude.{◌≡◌, ◌≢◌, ◌↔◌, ◌≤◌, Err, IfErr, IfOk, IsErrOf, OnOk, false, map, true};
+ghost use Rattle.std.specs.Prelude.{◌≡◌, ◌≢◌, ◌↔◌, Err, IfErr, IfOk, IsErrOf, OnOk, false, map, true};
 ghost use Rattle.std.specs.List.{list_any};
-ghost use Rattle.std.specs.Io.KnownBytes.{Appends};
-ghost use Rattle.kalah_jobs.specs.Given.{AppendsStart};
-ghost use Rattle.kalah_jobs.specs.Output.{output_to, tally_of};
+ghost use Rattle.kalah_jobs.specs.Output.{output_to};
+ghost use Rattle.kalah_run.specs.Answering.{AnswersBatch};
 ghost use Rattle.kalah_cli.specs.Request.{IsInLimits};
 ghost use Rattle.kalah_cli.specs.Batch.{AnswersTo, BeginsTo, CountsTo, has_line_feed};
 
@@ -43,13 +42,7 @@ fn answer<R: Threads + Wait + Sync, O: Sink>(
 ) -> Result<Tally, RunFault>
     requires limits { IsInLimits batch.now }
     requires sink { O.has_failed out.old ≡ false }
-    ensures written { OnOk result
-        (Appends (O.written out.old) (O.written out.new) (output_to batch.now.question files.now)) }
-    ensures start { AppendsStart (O.written out.old) (O.written out.new) (output_to batch.now.question files.now) }
-    ensures tally { IfOk result (λ tally. tally ≡ tally_of files.now) }
-    ensures handed_on { OnOk result (O.is_handed_on out.new ≡ true) }
-    ensures write { (result ≡ Err RunFault.Write) ↔ (O.has_failed out.new ≡ true) }
-    ensures untouched { IfErr result (λ fault. fault ≢ RunFault.Write → out.new ≡ out.old) }
+    ensures { AnswersBatch O.written O.has_failed O.is_handed_on (output_to batch.now.question files.now) files.now out.old out.new result }
 {
     let (workers, table) = (batch.workers, batch.table);
     match batch.question {

@@ -10,6 +10,7 @@ pub mod QueueStates
 pub mod QueueLaw
 pub mod Faults
 pub mod NoLine
+pub mod Answering
 pub mod Work
 pub mod Shifts
 pub mod Staffs

@@ -1,12 +1,12 @@
 //! A batch: the lines of position files, solved by many workers and answered in order.
-ghost use Rattle.std.specs.Prelude.{◌≡◌, ◌≢◌, ◌↔◌, ◌<◌, ◌≤◌, ◌⊎◌, true, false, Err, length, count_by, IfOk, IfErr, OnOk, OnErr, IsErr};
-ghost use Rattle.std.specs.Io.KnownBytes.{Appends, Keeps};
+ghost use Rattle.std.specs.Prelude.{◌≡◌, ◌↔◌, ◌<◌, ◌≤◌, ◌⊎◌, true, false, Err, length, count_by, IfOk, IfErr, OnOk, OnErr, IsErr};
+ghost use Rattle.std.specs.Io.KnownBytes.{Keeps};
 ghost use Rattle.kalah_jobs.specs.JobList.{job_list};
-ghost use Rattle.kalah_jobs.specs.Given.{AppendsStart, WasGiven};
-ghost use Rattle.kalah_jobs.specs.Jobs.{job_count, line_count, most_files, most_lines};
-ghost use Rattle.kalah_jobs.specs.Output.{names_of, output_of, output_to, output_of_jobs, values_output_of, tally_of, is_faulty_offer};
-ghost use Rattle.kalah_run.specs.NoLine.{AnswersNothing};
-ghost use Rattle.kalah_run.specs.declared.run_fault.RunFault.TheVariants.{TooManyFiles, TooManyLines, OutOfMemory, NoWorker, Write};
+ghost use Rattle.kalah_jobs.specs.Given.{WasGiven};
+ghost use Rattle.kalah_jobs.specs.Jobs.{job_count};
+ghost use Rattle.kalah_jobs.specs.Output.{names_of, output_of, output_to, output_of_jobs, values_output_of, is_faulty_offer};
+ghost use Rattle.kalah_run.specs.Answering.{AnswersBatch};
+ghost use Rattle.kalah_run.specs.declared.run_fault.RunFault.TheVariants.{OutOfMemory, NoWorker, Write};
 
 #[cfg(test)]
 mod tests;
@@ -109,15 +109,7 @@ fn answer_batch<R: Threads + Wait + Sync, G: Gate, W: Sink>(
     requires workers { (0 < workers) × (workers ≤ 64) }
     requires table { (0 < table) × (table ≤ 1048576) }
     requires fresh { W.has_failed out.old ≡ false }
-    ensures written { OnOk result (Appends (W.written out.old) (W.written out.new) (output_to question files.now)) }
-    ensures start { AppendsStart (W.written out.old) (W.written out.new) (output_to question files.now) }
-    ensures tally { IfOk result (λ tally. tally ≡ tally_of files.now) }
-    ensures handed_on { OnOk result (W.is_handed_on out.new ≡ true) }
-    ensures too_many_files { (result ≡ Err RunFault.TooManyFiles) ↔ (most_files < length files.now) }
-    ensures too_many_lines { (result ≡ Err RunFault.TooManyLines) ↔ ((length files.now ≤ most_files) × (most_lines < line_count files.now)) }
-    ensures no_worker { result ≡ Err RunFault.NoWorker → 0 < line_count files.now }
-    ensures write { (result ≡ Err RunFault.Write) ↔ (W.has_failed out.new ≡ true) }
-    ensures untouched { IfErr result (λ e. e ≢ RunFault.Write → out.new ≡ out.old) }
+    ensures { AnswersBatch W.written W.has_failed W.is_handed_on (output_to question files.now) files.now out.old out.new result }
 {
     let jobs = Jobs::asking(alloc, question, files)?;
     let faults = answer_jobs(rt, alloc, files, &jobs, workers, table, gate, out)?;
@@ -149,24 +141,8 @@ pub fn solve_batch<R: Threads + Wait + Sync, G: Gate, W: Sink>(
     requires table { (0 < table) × (table ≤ 1048576) }
     requires fresh { W.has_failed out.old ≡ false }
 
-    // Ok: the output of the files was written, and nothing else, and all of it is handed on.
-    ensures written { OnOk result (Appends (W.written out.old) (W.written out.new) (output_of files.now)) }
-    ensures tally { IfOk result (λ tally. tally ≡ tally_of files.now) }
-    ensures handed_on { OnOk result (W.is_handed_on out.new ≡ true) }
-
-    // Whatever comes of it: a beginning of that output was written, and nothing else.
-    ensures start { AppendsStart (W.written out.old) (W.written out.new) (output_of files.now) }
-
-    ensures too_many_files { (result ≡ Err RunFault.TooManyFiles) ↔ (most_files < length files.now) }
-    ensures too_many_lines { (result ≡ Err RunFault.TooManyLines) ↔ ((length files.now ≤ most_files) × (most_lines < line_count files.now)) }
-    ensures no_worker { result ≡ Err RunFault.NoWorker → 0 < line_count files.now }
-    ensures write { (result ≡ Err RunFault.Write) ↔ (W.has_failed out.new ≡ true) }
-
-    // Any other fault leaves the output as it was.
-    ensures untouched { IfErr result (λ e. e ≢ RunFault.Write → out.new ≡ out.old) }
-
-    // Files without a line.
-    ensures no_line { line_count files.now ≡ 0 → AnswersNothing (W.written out.old) (W.written out.new) result }
+    // What Ok says, what stands written whatever comes of it, and when each fault comes: a field for each.
+    ensures { AnswersBatch W.written W.has_failed W.is_handed_on (output_of files.now) files.now out.old out.new result }
 {
     answer_batch(
         rt,
@@ -197,24 +173,8 @@ pub fn values_batch<R: Threads + Wait + Sync, G: Gate, W: Sink>(
     requires table { (0 < table) × (table ≤ 1048576) }
     requires fresh { W.has_failed out.old ≡ false }
 
-    // Ok: the values of all lines were written, and nothing else, and all of it is handed on.
-    ensures written { OnOk result (Appends (W.written out.old) (W.written out.new) (values_output_of files.now)) }
-    ensures tally { IfOk result (λ tally. tally ≡ tally_of files.now) }
-    ensures handed_on { OnOk result (W.is_handed_on out.new ≡ true) }
-
-    // Whatever comes of it: a beginning of that output was written, and nothing else.
-    ensures start { AppendsStart (W.written out.old) (W.written out.new) (values_output_of files.now) }
-
-    ensures too_many_files { (result ≡ Err RunFault.TooManyFiles) ↔ (most_files < length files.now) }
-    ensures too_many_lines { (result ≡ Err RunFault.TooManyLines) ↔ ((length files.now ≤ most_files) × (most_lines < line_count files.now)) }
-    ensures no_worker { result ≡ Err RunFault.NoWorker → 0 < line_count files.now }
-    ensures write { (result ≡ Err RunFault.Write) ↔ (W.has_failed out.new ≡ true) }
-
-    // Any other fault leaves the output as it was.
-    ensures untouched { IfErr result (λ e. e ≢ RunFault.Write → out.new ≡ out.old) }
-
-    // Files without a line.
-    ensures no_line { line_count files.now ≡ 0 → AnswersNothing (W.written out.old) (W.written out.new) result }
+    // As `solve_batch` has it, with the values of all lines in the place of its output.
+    ensures { AnswersBatch W.written W.has_failed W.is_handed_on (values_output_of files.now) files.now out.old out.new result }
 {
     answer_batch(
         rt,
