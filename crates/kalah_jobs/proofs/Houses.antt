@@ -116,10 +116,3 @@ no_store_no_side text houses store cut none = ap side_from cut ∙ by_parts (par
   by_parts [] e = refl
   by_parts (only ∷ []) e = ap (λ r. r >>= λ n. numbers_of (parts_at comma houses) >>= λ row. Some (row, n)) (ap number_of (sym (text_of_one slash store only e)) ∙ none)
   by_parts (first ∷ second ∷ more) e = refl
-
--- what follows the first slash and is a number is the store
-pub store_makes_side : (text houses store : List ℕ) (n : ℕ) → parts_at slash text ≡ houses ∷ parts_at slash store → number_of store ≡ Some n →
-    side_of text ≡ (numbers_of (parts_at comma houses) >>= λ row. Some (row, n))
-store_makes_side text houses store n cut some =
-    let one = parts_of_one slash store (number_lacks slash store n (lit< tt) (number_of_is_number store n some)) in
-    ap side_from (cut ∙ ap (λ (more : List (List ℕ)). houses ∷ more) one) ∙ ap (λ r. r >>= λ m. numbers_of (parts_at comma houses) >>= λ row. Some (row, m)) some

@@ -4,7 +4,7 @@ use Rattle.std.specs.Prelude.{Some, slice_get, slice_index_or}
 use Rattle.std.specs.List.Sorted.{IsNonDecreasing}
 use Rattle.std.proofs.lemmas.Bool.{cases_lt}
 use Rattle.std.proofs.lemmas.List.{take_all, take_more, take-append-le, get_or_append_left, length-map, map-append}
-use Rattle.std.proofs.lemmas.List.Sums.{sum_by-cons, sum_by_push, sum_by_more, sum_by_more_le}
+use Rattle.std.proofs.lemmas.List.Sums.{sum_by-cons, sum_by_push, sum_by_more_le}
 use Rattle.std.proofs.Math.Seq.{get_or-append_seam}
 use Rattle.kalah_jobs.specs.declared.entry.Entry.{Entry}
 use Rattle.kalah_jobs.specs.NamedBytes.{NamedBytes}
@@ -106,24 +106,6 @@ starts_rise jobs starts as_many before i j d low high =
     let at_i : get_or starts i d ≡ job_count (take i jobs) = get_or_any starts i d 0 (omega arith) ∙ before i (omega arith) in
     let at_j : get_or starts j d ≡ job_count (take j jobs) = get_or_any starts j d 0 high ∙ before j (omega arith) in
     omega (arith, at_i, at_j, job_count-take jobs i j low)
-
--- no files have no jobs
-pub some_files : (jobs : List (List Entry)) (n : ℕ) → n < job_count jobs → 0 < length jobs
-some_files [] n low = absurd (omega arith)
-some_files (entries ∷ jobs) n low = omega arith
-
--- a job before the start of the next file is of this file
-pub line_below : (jobs : List (List Entry)) (starts : List ℕ) (f n : ℕ) → length starts ≡ length jobs
-    → ((g : ℕ) → g < length jobs → get_or starts g 0 ≡ job_count (take g jobs)) → f < length starts → n < job_count jobs
-    → ((g : ℕ) → f < g → g < length starts → n < get_or starts g 0) → n < job_count (take f jobs) + length (entries_of jobs f)
-line_below jobs starts f n as_many before within low next =
-    let more : job_count (take (f + 1) jobs) ≡ job_count (take f jobs) + length (entries_of jobs f) = sum_by_more length jobs f [] (omega arith) in
-    ⊎_elim
-    (λ (inner : f + 1 < length jobs). omega (arith, more, before (f + 1) inner, next (f + 1) (omega arith) (omega arith)))
-    (λ (last : length jobs ≤ f + 1).
-    let all : job_count (take (f + 1) jobs) ≡ job_count jobs = ap job_count (take_all (f + 1) jobs last) in
-    omega (arith, more, all))
-    (cases_lt (f + 1) (length jobs))
 
 -- ---- while the files are read
 

@@ -204,12 +204,6 @@ reading_has_fault line fault e = elim (is_read_or_faulty line) [
 pub reads_once : (line : List ℕ) (p q : Position) → Reads line p → Reads line q → p ≡ q
 reads_once line p q first second = one_position (without_cr line) p q first.form second.form
 
--- no line has two first faults
-pub has_one_fault : (line : List ℕ) (f g : LineFault) → HasFault line f → HasFault line g → f ≡ g
-has_one_fault line f g first second =
-    let same : ◌≡◌ {A = Result Position LineFault} (Err f) (Err g) = sym (fault_is_reading line f first) ∙ fault_is_reading line g second in
-    cc
-
 -- ---- results
 
 pub reads_if_ok : (line : List ℕ) (r : Result Position LineFault) → r ≡ reading_of line → IfOk r (λ p. Reads line p)

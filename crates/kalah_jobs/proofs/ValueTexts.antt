@@ -19,10 +19,6 @@ join_with_byte-push byte (first ∷ second ∷ texts) last some =
 abbrev pub first_words : List MoveValue → ℕ → List ℕ
 first_words values i = values_words (take i values)
 
-pub first_value : (values : List MoveValue) (v : MoveValue) → slice_get values 0 ≡ Some v → value_words v ≡ first_words values 1
-first_value [] v is = cc
-first_value (x ∷ values) v is = ap value_words (let same : v ≡ x = cc in same)
-
 -- one value more behind
 pub one_more_value : (values : List MoveValue) (i : ℕ) (v : MoveValue) → slice_get values i ≡ Some v → 1 ≤ i → i < length values →
     first_words values (i + 1) ≡ first_words values i ++ space ∷ value_words v
