@@ -17,7 +17,7 @@ use Rattle.kalah_jobs.specs.CollectorState.{FileState, state_of, new_files, line
 use Rattle.kalah_jobs.specs.Refusals.{IsWanted, IsRefusedFor}
 use Rattle.kalah_jobs.specs.CollectorEvents.{Event, Offered, Took, offers, takes, with_taken, Offers, Takes, Came, answered_line, answered_lines}
 use Rattle.kalah_jobs.specs.CollectorLaw.{Happens, Runs, Meets, CollectorLaw}
-use Rattle.kalah_jobs.specs.UnderWay.{Holds}
+use Rattle.kalah_jobs.specs.Held.{HoldsOffered}
 use Rattle.kalah_jobs.proofs.Fronts.{front_within, front_came, front_set, front_least}
 use Rattle.kalah_jobs.proofs.CollectorSteps.{state_same, state_other, lines_are, counts_set, wanted_file, holds_accepted, holds_refused, holds_take, some_value, is_some_of}
 
@@ -28,7 +28,7 @@ pub record HoldsTaken (jobs : List (List Entry)) (events : List Event) (files : 
 
 -- what the events say of the collector
 pub record Kept (jobs : List (List Entry)) (events : List Event) (files : List FileState) : Type 0 where
-  pub offered : Holds jobs (offers events) files
+  pub offered : HoldsOffered jobs (offers events) files
   pub took : HoldsTaken jobs events files
 
 -- the offers of two lists of events
@@ -139,7 +139,7 @@ offers_took : (events : List Event) (f : ℕ) (gave : Option Taken) → offers (
 offers_took events f gave = offers_append events (Took f gave ∷ []) ∙ append-nil (offers events)
 
 -- the list of the first lines grows by the line that is taken
-pub first_lines_more : (jobs : List (List Entry)) (past : List Offer) (files : List FileState) (f : ℕ) (t : Taken) → Holds jobs past files → IsNext (state_of files f) t
+pub first_lines_more : (jobs : List (List Entry)) (past : List Offer) (files : List FileState) (f : ℕ) (t : Taken) → HoldsOffered jobs past files → IsNext (state_of files f) t
     → take (state_of files f).taken (answered_lines (entries_of jobs f)) ++ t ∷ [] ≡ take ((state_of files f).taken + 1) (answered_lines (entries_of jobs f))
 first_lines_more jobs past files f t holds is_next =
     let n : ℕ = (state_of files f).taken in
@@ -159,7 +159,7 @@ module _ {jobs : List (List Entry)} {events : List Event} {files : List FileStat
       let low = wanted_file jobs files o wanted in
       let a : Answer = answer_of o.entry in
       record {
-        offered = subst (λ (l : List Offer). Holds jobs l (after_offer files o.file o.line a)) (sym (offers_append events (Offered o (Ok ready) ∷ [])))
+        offered = subst (λ (l : List Offer). HoldsOffered jobs l (after_offer files o.file o.line a)) (sym (offers_append events (Offered o (Ok ready) ∷ [])))
             (holds_accepted jobs (offers events) files o kept.offered wanted);
         took = record {
           taken = λ f.
@@ -177,7 +177,7 @@ module _ {jobs : List (List Entry)} {events : List Event} {files : List FileStat
   -- by a refused one
   offered_err : (o : Offer) (r : Refusal) → IsRefusedFor jobs files o r → Kept jobs (events ++ Offered o (Err r) ∷ []) files
   offered_err o r refused = record {
-    offered = subst (λ (l : List Offer). Holds jobs l files) (sym (offers_append events (Offered o (Err r) ∷ [])))
+    offered = subst (λ (l : List Offer). HoldsOffered jobs l files) (sym (offers_append events (Offered o (Err r) ∷ [])))
         (holds_refused jobs (offers events) files o r kept.offered refused);
     took = record {
       taken = λ f. takes_offered f events o (Err r) ∙ kept.took.taken f;
@@ -188,7 +188,7 @@ module _ {jobs : List (List Entry)} {events : List Event} {files : List FileStat
   -- by a take that gave nothing
   took_none : (f : ℕ) → Kept jobs (events ++ Took f None ∷ []) files
   took_none f = record {
-    offered = subst (λ (l : List Offer). Holds jobs l files) (sym (offers_took events f None)) kept.offered;
+    offered = subst (λ (l : List Offer). HoldsOffered jobs l files) (sym (offers_took events f None)) kept.offered;
     took = record {
       taken = λ g. takes_none g f events ∙ kept.took.taken g;
       within = kept.took.within;
@@ -204,7 +204,7 @@ module _ {jobs : List (List Entry)} {events : List Event} {files : List FileStat
       λ g np. state_other files f g (with_one_taken (state_of files f)) np in
       let lines_of : ℕ → List Taken = λ g. answered_lines (entries_of jobs g) in
       record {
-        offered = subst (λ (l : List Offer). Holds jobs l after) (sym (offers_took events f (Some t)))
+        offered = subst (λ (l : List Offer). HoldsOffered jobs l after) (sym (offers_took events f (Some t)))
             (holds_take jobs (offers events) files f low kept.offered);
         took = record {
           taken = λ g.

@@ -14,7 +14,7 @@ use Rattle.kalah_jobs.specs.Offer.{Offer}
 use Rattle.kalah_jobs.specs.JobList.{entries_of, entry_at, offer}
 use Rattle.kalah_jobs.specs.CollectorState.{FileState, no_file, state_of, line_count, came_for, HasLinesOf, with_answer, with_one_taken, after_offer, after_take}
 use Rattle.kalah_jobs.specs.Refusals.{IsWanted, IsRefusedFor}
-use Rattle.kalah_jobs.specs.UnderWay.{IsAnswered, Holds}
+use Rattle.kalah_jobs.specs.Held.{IsAnswered, HoldsOffered}
 use Rattle.kalah_jobs.proofs.Fronts.{front_came}
 
 -- a file of a list after a change of one
@@ -113,8 +113,8 @@ counts_offer : (jobs : List (List Entry)) (files : List FileState) (f k : ℕ) (
 counts_offer jobs files f k a h = counts_set files f (with_answer (state_of files f) k a) (length-set (state_of files f).arrived k (Some a)) ∙ h
 
 -- an accepted offer keeps what holds
-pub holds_accepted : (jobs : List (List Entry)) (past : List Offer) (files : List FileState) (o : Offer) → Holds jobs past files → IsWanted jobs files o
-    → Holds jobs (past ++ o ∷ []) (after_offer files o.file o.line (answer_of o.entry))
+pub holds_accepted : (jobs : List (List Entry)) (past : List Offer) (files : List FileState) (o : Offer) → HoldsOffered jobs past files → IsWanted jobs files o
+    → HoldsOffered jobs (past ++ o ∷ []) (after_offer files o.file o.line (answer_of o.entry))
 holds_accepted jobs past files o holds wanted =
     let a : Answer = answer_of o.entry in
     let now : List FileState = after_offer files o.file o.line a in
@@ -172,8 +172,8 @@ refused_came jobs files f k e WrongPosition h is refused = absurd (refused.1 is)
 refused_came jobs files f k e Double h is refused = refused.1
 
 -- a refused offer changes nothing, and what holds stays true of one offer more
-pub holds_refused : (jobs : List (List Entry)) (past : List Offer) (files : List FileState) (o : Offer) (r : Refusal) → Holds jobs past files → IsRefusedFor jobs files o r
-    → Holds jobs (past ++ o ∷ []) files
+pub holds_refused : (jobs : List (List Entry)) (past : List Offer) (files : List FileState) (o : Offer) (r : Refusal) → HoldsOffered jobs past files → IsRefusedFor jobs files o r
+    → HoldsOffered jobs (past ++ o ∷ []) files
 holds_refused jobs past files o r holds refused = record {
   counts = holds.counts;
   came = λ f k e is has.
@@ -203,7 +203,7 @@ came_after_take files f low g =
     (cases_eq g f)
 
 -- so a take keeps what holds
-pub holds_take : (jobs : List (List Entry)) (past : List Offer) (files : List FileState) (f : ℕ) → f < length files → Holds jobs past files → Holds jobs past (after_take files f)
+pub holds_take : (jobs : List (List Entry)) (past : List Offer) (files : List FileState) (f : ℕ) → f < length files → HoldsOffered jobs past files → HoldsOffered jobs past (after_take files f)
 holds_take jobs past files f low holds = record {
   counts = counts_set files f (with_one_taken (state_of files f)) refl ∙ holds.counts;
   came = λ g k e is has. ap (λ (xs : List (Option Answer)). get_or xs k None) (came_after_take files f low g) ∙ holds.came g k e is has;

@@ -18,7 +18,7 @@ use Rattle.kalah_jobs.specs.Refusals.{IsRefusedFor}
 use Rattle.kalah_jobs.specs.CollectorEvents.{offers, Offers}
 use Rattle.kalah_jobs.specs.Shares.{AreShared}
 use Rattle.kalah_jobs.specs.Batch.{job, AreJobsInSomeOrder, SharesLaw, OffersLaw, FrontsLaw}
-use Rattle.kalah_jobs.specs.UnderWay.{Holds}
+use Rattle.kalah_jobs.specs.Held.{HoldsOffered}
 use Rattle.kalah_jobs.proofs.Fronts.{front_full}
 use Rattle.kalah_jobs.proofs.CollectorSteps.{lines_are, some_value, one_entry, refused_came}
 use Rattle.kalah_jobs.proofs.CollectorRuns.{runs, start}
@@ -237,7 +237,7 @@ contains_by_entry past o e is has = subst (λ x. Contains past (offer o.file o.l
 
 -- an offer among the jobs that was not offered before
 module _ {jobs : List (List Entry)} {past : List Offer} {files : List FileState} (o : Offer) (rest : List Offer)
-    (h : AreJobsInSomeOrder jobs (past ++ o ∷ rest)) (holds : Holds jobs past files) where
+    (h : AreJobsInSomeOrder jobs (past ++ o ∷ rest)) (holds : HoldsOffered jobs past files) where
   -- it is refused for nothing
   not_refused : (r : Refusal) → IsRefusedFor jobs files o r → ⊥
   not_refused r refused =
@@ -263,7 +263,8 @@ module _ {jobs : List (List Entry)} {past : List Offer} {files : List FileState}
   each_accepted after (Err r) step = absurd (not_refused r step.cause)
 
 -- where each job was offered, each file has ended
-pub fronts_full : (jobs : List (List Entry)) (past : List Offer) (files : List FileState) → AreJobsInSomeOrder jobs past → Holds jobs past files → (f : ℕ) → HasEnded (state_of files f)
+pub fronts_full : (jobs : List (List Entry)) (past : List Offer) (files : List FileState) → AreJobsInSomeOrder jobs past
+    → HoldsOffered jobs past files → (f : ℕ) → HasEnded (state_of files f)
 fronts_full jobs past files h holds f =
     front_full (state_of files f).arrived (λ k low.
     let many = lines_are jobs files holds.counts f in

@@ -24,7 +24,6 @@ pub mod SharedOnce
 pub mod SameOffer
 pub mod JobOrders
 pub mod Starts
-pub mod BatchWay
 mod ValueTexts
 mod Joined
 mod Pictures

@@ -23,6 +23,6 @@ pub mod CollectorEvents
 pub mod CollectorLaw
 pub mod Shares
 pub mod Batch
-pub mod UnderWay
+pub mod Held
 pub mod Picture
 pub mod Splitting

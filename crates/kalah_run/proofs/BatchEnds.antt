@@ -13,9 +13,9 @@ use Rattle.std.specs.List.{flat_map, enumerate_from}
 use Rattle.std.proofs.lemmas.List.Sums.{sum_by-cons}
 use Rattle.kalah_jobs.specs.Output.{answer_text_of, output_to, output_of_jobs, names_of, tally_of, LineCounts, text_of_file, text_of_jobs, is_faulty_offer}
 use Rattle.kalah_jobs.specs.Batch.{AreJobsInSomeOrder}
-use Rattle.kalah_jobs.specs.Given.{WasGiven}
-use Rattle.kalah_jobs.proofs.BatchWay.{way_end}
-use Rattle.kalah_jobs.proofs.Starts.{given_none}
+use Rattle.kalah_run.specs.UnderWay.{WasGiven}
+use Rattle.kalah_run.proofs.BatchWay.{way_end}
+use Rattle.kalah_run.proofs.Giving.{given_none}
 use Rattle.kalah_jobs.proofs.JobOutput.{files_are_their_jobs}
 use Rattle.kalah_run.specs.Texts.{text_of}
 use Rattle.kalah_run.specs.Reporting.{IsReporting, Waits}

@@ -11,6 +11,8 @@ pub mod QueuePairs
 pub mod QueueViews
 pub mod QueueLaw
 pub mod Sendings
+pub mod Giving
+pub mod BatchWay
 pub mod Reports
 pub mod Staffs
 pub mod StaffRuns

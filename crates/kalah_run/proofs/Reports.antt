@@ -12,7 +12,7 @@ use Rattle.kalah_jobs.specs.Offer.{Offer}
 use Rattle.kalah_jobs.specs.Lines.{line_feed}
 use Rattle.kalah_jobs.specs.NamedBytes.{NamedBytes}
 use Rattle.kalah_jobs.specs.Output.{is_faulty_offer}
-use Rattle.kalah_jobs.proofs.Starts.{given_kept}
+use Rattle.kalah_run.proofs.Giving.{given_kept}
 use Rattle.kalah_run.specs.declared.report.Report.{Report}
 use Rattle.kalah_run.specs.Reporting.{IsReporting}
 use Rattle.kalah_run.specs.Texts.{text_of}

@@ -15,5 +15,6 @@ pub mod Work
 pub mod Shifts
 pub mod Staffs
 pub mod Texts
+pub mod UnderWay
 pub mod WritesOn
 pub mod Reporting

@@ -5,7 +5,7 @@ use Rattle.kalah_jobs.specs.Offer.{Offer}
 use Rattle.kalah_jobs.specs.NamedBytes.{NamedBytes}
 use Rattle.kalah_jobs.specs.Output.{is_faulty_offer}
 use Rattle.kalah_jobs.specs.CollectorState.{state_of, HasEnded}
-use Rattle.kalah_jobs.specs.UnderWay.{IsUnderWay}
+use Rattle.kalah_run.specs.UnderWay.{IsUnderWay}
 use Rattle.kalah_run.specs.Texts.{text_of}
 use Rattle.kalah_run.specs.declared.report.Report.{Report}
 

@@ -4,7 +4,7 @@ use Rattle.kalah_jobs.specs.declared.entry.Entry.{Entry}
 use Rattle.kalah_jobs.specs.Offer.{Offer}
 use Rattle.kalah_jobs.specs.NamedBytes.{NamedBytes}
 use Rattle.kalah_jobs.specs.CollectorState.{FileState}
-use Rattle.kalah_jobs.specs.UnderWay.{IsUnderWay}
+use Rattle.kalah_run.specs.UnderWay.{IsUnderWay}
 use Rattle.kalah_run.specs.Texts.{text_of}
 
 -- What was under way at file f is under way at file g. Of before and after: what has come, what the sink has, and whether it has failed.

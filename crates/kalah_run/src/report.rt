@@ -3,7 +3,7 @@ ghost use Rattle.std.specs.Prelude.{◌≡◌, ◌+◌, ◌^◌, ◌<◌, ◌++�
 ghost use Rattle.kalah_jobs.specs.Lines.{line_feed};
 ghost use Rattle.kalah_jobs.specs.Answer.{answer_line, is_fault};
 ghost use Rattle.kalah_jobs.specs.CollectorState.{state_of, line_count, HasEnded, HasNoNext, HasLinesOf};
-ghost use Rattle.kalah_jobs.specs.Given.{WasGiven};
+ghost use Rattle.kalah_run.specs.UnderWay.{WasGiven};
 ghost use Rattle.kalah_run.specs.WritesOn.{WritesOn};
 
 use kalah_jobs::{Answer, Collector, FileText, Jobs, Outcome, Sink, Taken, write_answer};

@@ -1,5 +1,5 @@
 use Rattle.std.proofs.Common.{sym, ◌∙◌}
-use Rattle.kalah_jobs.proofs.Starts.{given_off, given_on}
+use Rattle.kalah_run.proofs.Giving.{given_off, given_on}
 use Rattle.kalah_run.proofs.Reports.{whole_where_sound}
 use Rattle.kalah_run.proofs.report.write_line.Goals as goal
 

@@ -1,7 +1,7 @@
 use Rattle.std.proofs.Common.{ℕ, List, ◌++◌, ◌∙◌, sym, subst, ap}
-use Rattle.kalah_jobs.specs.Given.{WasGiven}
+use Rattle.kalah_run.specs.UnderWay.{WasGiven}
 use Rattle.kalah_jobs.specs.NamedBytes.{NamedBytes}
-use Rattle.kalah_jobs.proofs.BatchWay.{wrote_line, wrote_nothing}
+use Rattle.kalah_run.proofs.BatchWay.{wrote_line, wrote_nothing}
 use Rattle.kalah_run.proofs.Reports.{text_of_file}
 use Rattle.kalah_run.proofs.report.write_lines.Goals as goal
 

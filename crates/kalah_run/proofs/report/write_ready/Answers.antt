@@ -1,5 +1,5 @@
 use Rattle.std.proofs.Common.{◌∙◌, refl}
-use Rattle.kalah_jobs.proofs.BatchWay.{wrote_file}
+use Rattle.kalah_run.proofs.BatchWay.{wrote_file}
 use Rattle.kalah_run.proofs.report.write_ready.Goals as goal
 
 pub returns-then-not-ended-clause-way : goal.returns-then-not-ended-clause-way

@@ -1,5 +1,5 @@
 use Rattle.std.proofs.Common.{ap, ◌∙◌}
-use Rattle.kalah_jobs.proofs.BatchWay.{way_offered}
+use Rattle.kalah_run.proofs.BatchWay.{way_offered}
 use Rattle.kalah_jobs.specs.Answer.{is_fault}
 use Rattle.kalah_jobs.specs.declared.answer.Answer.{Answer}
 use Rattle.std.specs.Prelude.{if◌then◌else◌}

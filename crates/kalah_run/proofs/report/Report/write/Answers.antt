@@ -1,6 +1,6 @@
 use Rattle.std.proofs.Common.{subst, sym, List}
 use Rattle.kalah_jobs.specs.NamedBytes.{NamedBytes}
-use Rattle.kalah_jobs.specs.UnderWay.{IsUnderWay}
+use Rattle.kalah_run.specs.UnderWay.{IsUnderWay}
 use Rattle.kalah_jobs.proofs.CollectorSteps.{files_many}
 use Rattle.kalah_run.specs.Texts.{text_of}
 use Rattle.kalah_run.proofs.report.Report.write.Goals as goal

@@ -1,9 +1,9 @@
 -- The loop that writes each line once it is ready and all before it were written.
 use Rattle.std.proofs.Common.{◌≡◌, ℕ, ◌+◌, ◌<◌, ◌≤◌, ⊎_elim, List, [], ◌∷◌, ◌++◌, length, get_or, take, Bool, refl, sym, ap, ◌∙◌, subst, arith}
-use Rattle.std.specs.Prelude.{Option, Some, None, Result, Ok, Err, All}
+use Rattle.std.specs.Prelude.{Option, Some, None, Result, Ok, Err}
 use Rattle.std.specs.List.{flat_map, enumerate_from}
 use Rattle.std.proofs.lemmas.Bool.{cases_eq, cases_lt}
-use Rattle.std.proofs.lemmas.List.{append-nil, get_or_past, get_or_default, take_all, take_more, flat_map_more}
+use Rattle.std.proofs.lemmas.List.{append-nil, get_or_past, take_all, take_more, flat_map_more}
 use Rattle.std.proofs.lemmas.List.FromFn.{length-enumerate_from}
 use Rattle.std.proofs.lemmas.Option.{slice_get_within}
 use Rattle.kalah_jobs.specs.declared.entry.Entry.{Entry}
@@ -12,17 +12,16 @@ use Rattle.kalah_jobs.specs.declared.refusal.Refusal.{Refusal}
 use Rattle.kalah_jobs.specs.Answer.{answer_of}
 use Rattle.kalah_jobs.specs.Offer.{Offer}
 use Rattle.kalah_jobs.specs.JobList.{entries_of, entry_at}
-use Rattle.kalah_jobs.specs.CollectorState.{FileState, no_file, state_of, line_count, front, HasEnded, with_one_taken, new_files, after_offer, after_take}
+use Rattle.kalah_jobs.specs.CollectorState.{FileState, state_of, line_count, front, HasEnded, with_one_taken, new_files, after_offer, after_take}
 use Rattle.kalah_jobs.specs.Refusals.{IsWanted, IsRefusedFor}
 use Rattle.kalah_jobs.specs.CollectorEvents.{Offers, Takes, answered_line}
 use Rattle.kalah_jobs.specs.Batch.{AreJobsInSomeOrder}
 use Rattle.kalah_jobs.specs.Output.{text_of_line, text_of_file, text_of_jobs}
-use Rattle.kalah_jobs.specs.Given.{WasGiven}
-use Rattle.kalah_jobs.specs.UnderWay.{written_upto, IsUnderWay}
+use Rattle.kalah_run.specs.UnderWay.{WasGiven, written_upto, IsUnderWay}
 use Rattle.kalah_jobs.proofs.CollectorSteps.{state_same, state_other, files_many, lines_are, wanted_file, holds_accepted, holds_refused, holds_take}
 use Rattle.kalah_jobs.proofs.CollectorRuns.{numbered_at, numbered_is, start, taken_is, taken_after_offer, front_after_offer, new_taken}
 use Rattle.kalah_jobs.proofs.JobOrders.{fronts_full}
-use Rattle.kalah_jobs.proofs.Starts.{given_none}
+use Rattle.kalah_run.proofs.Giving.{given_none}
 
 -- what is written, line by line and file by file
 module _ (text : ℕ → Taken → List ℕ) (jobs : List (List Entry)) where
@@ -221,9 +220,3 @@ module _ {text : ℕ → Taken → List ℕ} {jobs : List (List Entry)} {past : 
         let many : length files ≡ length jobs = files_many jobs files way.holds.counts in
         let high : length files ≤ f = past_all in
         subst (λ (l : List ℕ). WasGiven begun out failed l) (written_all text jobs f (state_of files f).taken (omega arith)) way.written
-
-    -- and all is taken, whether it failed or not
-    pub way_takes_all : All (λ s. s.taken ≡ line_count s) files
-    way_takes_all g d low =
-        let high : length files ≤ f = past_all in
-        subst (λ (s : FileState). s.taken ≡ line_count s) (get_or_default files g no_file d low) (way.before g (omega arith))
