@@ -1,5 +1,5 @@
 -- After any list of offers and takes a collector has what the list says.
-use Rattle.std.proofs.Common.{◌≡◌, ℕ, zero, suc, ◌+◌, ◌<◌, ◌≤◌, ◌==◌, ⊎_elim, List, [], ◌∷◌, ◌++◌, length, map, get_or, take, replicate, true, false, if◌then◌else◌, Bool, refl, sym, ap, ◌∙◌, subst, arith, eq-eqb, ne_eqb, length-set}
+use Rattle.std.proofs.Common.{◌≡◌, ℕ, zero, suc, ◌+◌, ◌<◌, ◌≤◌, ◌==◌, ⊎_elim, List, [], ◌∷◌, ◌++◌, length, map, get_or, take, replicate, true, false, if◌then◌else◌, Bool, refl, sym, ap, ◌∙◌, subst, arith, eq-eqb, ne_eqb}
 use Rattle.std.specs.Prelude.{Option, Some, None, IsSome, IsSomeAnd, Contains, Result, Ok, Err, slice_get}
 use Rattle.std.specs.List.{enumerate_from}
 use Rattle.std.proofs.lemmas.Bool.{cases_eq}
@@ -15,11 +15,11 @@ use Rattle.kalah_jobs.specs.Offer.{Offer}
 use Rattle.kalah_jobs.specs.JobList.{entries_of, entry_at, offer}
 use Rattle.kalah_jobs.specs.CollectorState.{FileState, state_of, new_files, line_count, front, came_for, HasLinesOf, IsNext, with_answer, with_one_taken, after_offer, after_take}
 use Rattle.kalah_jobs.specs.Refusals.{IsWanted, IsRefusedFor}
-use Rattle.kalah_jobs.specs.CollectorEvents.{Event, Offered, Took, offers, takes, with_taken, Offers, Takes, Came, answered_line, answered_lines}
+use Rattle.kalah_jobs.specs.CollectorEvents.{Event, Offered, Took, offers, takes, with_taken, Came, answered_line, answered_lines}
 use Rattle.kalah_jobs.specs.CollectorLaw.{Happens, Runs, Meets, CollectorLaw}
 use Rattle.kalah_jobs.specs.Held.{HoldsOffered}
 use Rattle.kalah_jobs.proofs.Fronts.{front_within, front_came, front_set, front_least}
-use Rattle.kalah_jobs.proofs.CollectorSteps.{state_same, state_other, lines_are, counts_set, wanted_file, holds_accepted, holds_refused, holds_take, some_value, is_some_of}
+use Rattle.kalah_jobs.proofs.CollectorSteps.{state_same, state_other, lines_are, wanted_file, holds_accepted, holds_refused, holds_take, some_value, is_some_of}
 
 -- what the events say of what was taken
 pub record HoldsTaken (jobs : List (List Entry)) (events : List Event) (files : List FileState) : Type 0 where
@@ -325,20 +325,3 @@ meets jobs events files kept =
 -- the law
 pub law_holds : CollectorLaw
 law_holds jobs events files run = meets jobs events files (runs jobs [] events (new_files jobs) files run (start jobs))
-
--- the counts of lines stay
-pub counts_offered : (jobs : List (List Entry)) (files after : List FileState) (o : Offer) (gave : Result ℕ Refusal) → Offers jobs files o gave after
-    → HasLinesOf jobs files → HasLinesOf jobs after
-counts_offered jobs files after o (Ok ready) step counts =
-    let s : FileState = state_of files o.file in
-    let a : Answer = answer_of o.entry in
-    ap (λ (l : List FileState). map line_count l) step.kept
-    ∙ counts_set files o.file (with_answer s o.line a) (length-set s.arrived o.line (Some a))
-    ∙ counts
-counts_offered jobs files after o (Err r) step counts = ap (λ (l : List FileState). map line_count l) step.unchanged ∙ counts
-
--- so does a take
-pub counts_taken : (files after : List FileState) (f : ℕ) (gave : Option Taken) → Takes files f gave after → map line_count after ≡ map line_count files
-counts_taken files after f None step = ap (λ (l : List FileState). map line_count l) step.unchanged
-counts_taken files after f (Some t) step =
-    ap (λ (l : List FileState). map line_count l) step.kept ∙ counts_set files f (with_one_taken (state_of files f)) refl

@@ -51,14 +51,6 @@ impl Collector {
         ensures offers { Offers jobs.now self.old outcome result self.new }
         ensures counts { HasLinesOf jobs.now self.new }
     {
-        self.judge(jobs, outcome)
-    }
-
-    // What `offer` does.
-    fn judge(&mut self, jobs: &Jobs, outcome: Outcome) -> Result<u32, Refusal>
-        requires { HasLinesOf jobs.now self.old }
-        ensures { Offers jobs.now self.old outcome result self.new }
-    {
         if outcome.file() as usize >= self.files.len() {
             return Err(Refusal::NoSuchFile);
         }
@@ -84,13 +76,6 @@ impl Collector {
     pub fn take(&mut self, f: u32) -> Option<Taken>
         ensures takes { Takes self.old f result self.new }
         ensures counts { map line_count self.new ≡ map line_count self.old }
-    {
-        self.pick(f)
-    }
-
-    // What `take` does.
-    fn pick(&mut self, f: u32) -> Option<Taken>
-        ensures { Takes self.old f result self.new }
     {
         if f as usize >= self.files.len() {
             return None;
