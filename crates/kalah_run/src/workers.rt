@@ -2,7 +2,6 @@
 ghost use Rattle.std.specs.Prelude.{◌≡◌, ◌≤◌, [], false, length, IfOk, OnErr, IfErr};
 ghost use Rattle.std.specs.Thread.{IsSync};
 ghost use Rattle.std.specs.Io.KnownBytes.{Keeps};
-ghost use Rattle.kalah_jobs.specs.Jobs.{job_count};
 ghost use Rattle.kalah_run.specs.Shifts.{AreAtWork, HaveRun};
 ghost use Rattle.kalah_run.specs.QueueStates.{HasGot};
 ghost use Rattle.kalah_run.specs.Reporting.{TakesInAll, outcomes_in};
@@ -52,26 +51,6 @@ fn promise_of<'a, 'b, 'c, 'd>(
         desk,
         queue,
         jobs,
-    }
-}
-
-// What the workers share.
-fn shop_of<'a, G: Gate>(
-    desk: &'a Desk,
-    queue: &'a ResultsQueue,
-    jobs: &'a Jobs,
-    gate: &'a G,
-) -> Shop<'a, G>
-    requires { desk.now.total ≡ job_count jobs.now }
-    ensures desk { result.desk.now ≡ desk.now }
-    ensures queue { result.queue.now ≡ queue.now }
-    ensures jobs { result.jobs.now ≡ jobs.now }
-{
-    Shop {
-        desk,
-        queue,
-        jobs,
-        gate,
     }
 }
 
@@ -159,20 +138,19 @@ pub(crate) fn run_and_report<'a, R: Threads + Wait + Sync, G: Gate, W: Sink>(
             ensures fault { IfErr result.0 (λ e. e ≡ RunFault.NoWorker) }
             ensures untouched { OnErr result.0 (result.1.now ≡ out.entry.now) }
         {
-            let (desk, queue, jobs, gate) = (shop.desk, shop.queue, shop.jobs, shop.gate);
             let started = scope.spawn_with(
-                promise_of(&shifts, desk, queue, jobs),
+                promise_of(&shifts, shop.desk, shop.queue, shop.jobs),
                 move || -> Vec<Shift<'_>>
-                    requires { IsSync R.row × IsSync G.row × (desk.now.total ≡ job_count jobs.now) × AreAtWork desk.now queue.now.id jobs.now shifts.items }
-                    ensures { HaveRun desk.entry.now queue.entry.now.id jobs.entry.now shifts.entry.items result.items }
-                { run_shifts(rt, &shop_of(desk, queue, jobs, gate), shifts) },
+                    requires { IsSync R.row × IsSync G.row × AreAtWork shop.now.desk.now shop.now.queue.now.id shop.now.jobs.now shifts.items }
+                    ensures { HaveRun shop.entry.now.desk.now shop.entry.now.queue.now.id shop.entry.now.jobs.now shifts.entry.items result.items }
+                { run_shifts(rt, shop, shifts) },
             );
             match started {
                 Err(_) => (Err(RunFault::NoWorker), out),
                 Ok(child) => {
                     let mut pass = pass;
                     let mut report = report;
-                    collect(rt, queue, &mut pass, &mut report, total, out);
+                    collect(rt, shop.queue, &mut pass, &mut report, total, out);
                     (Ok((child.join(rt), pass, report)), out)
                 }
             }
