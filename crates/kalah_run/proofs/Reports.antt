@@ -1,5 +1,5 @@
 -- What a report writes, line by line.
-use Rattle.std.proofs.Common.{◌≡◌, ℕ, ◌+◌, ◌<◌, List, [], ◌∷◌, ◌++◌, length, get_or, refl, sym, ap, ◌∙◌, arith}
+use Rattle.std.proofs.Common.{◌≡◌, ℕ, ◌+◌, ◌<◌, List, [], ◌∷◌, ◌++◌, length, get_or, refl, sym, ap, ◌∙◌, arith, subst}
 use Rattle.std.specs.Prelude.{count_by, if◌then◌else◌}
 use Rattle.std.proofs.lemmas.List.{get_or-map}
 use Rattle.std.proofs.lemmas.List.Sums.{sum_by-append}
@@ -16,6 +16,8 @@ use Rattle.kalah_run.proofs.Giving.{given_kept}
 use Rattle.kalah_run.specs.declared.report.Report.{Report}
 use Rattle.kalah_run.specs.Reporting.{IsReporting}
 use Rattle.kalah_run.specs.Texts.{text_of}
+use Rattle.kalah_run.specs.UnderWay.{IsUnderWay}
+use Rattle.kalah_run.specs.WritesOn.{WritesOn}
 
 -- the text of a line of file f begins with that file's name
 pub text_of_file : (files : List NamedBytes) (f : ℕ) (file : NamedBytes) (name : List ℕ) (taken : Taken) → f < length files →
@@ -31,6 +33,23 @@ faults_more past o faults more before is =
     let all = sum_by-append (λ (x : Offer). if is_faulty_offer x then 1 else 0) past (o ∷ []) in
     let one : count_by is_faulty_offer (o ∷ []) ≡ (if is_faulty_offer o then 1 else 0) = omega arith in
     omega (arith, all, one, before, is)
+
+-- a report of the same files goes on, where what is under way does
+pub reports_on : (files : List NamedBytes) (jobs : List (List Entry)) (past : List Offer) (begun out more : Option (List ℕ)) (failed fails : Bool)
+    (r after : Report) → after.files.now ≡ r.files.now → after.jobs.now ≡ r.jobs.now → after.faults ≡ r.faults
+    → WritesOn r.files.now r.jobs.now r.current r.collector out failed after.current after.collector more fails
+    → IsReporting files jobs past begun out failed r → IsReporting files jobs past begun more fails after
+reports_on files jobs past begun out more failed fails r after same_files same_jobs same_faults on is =
+    let from : IsUnderWay (text_of r.files.now) r.jobs.now past r.collector r.current begun out failed =
+    subst (λ (fs : List NamedBytes). IsUnderWay (text_of fs) r.jobs.now past r.collector r.current begun out failed) (sym is.of_files) is.way in
+    record {
+      of_files = same_files ∙ is.of_files;
+      of_jobs = same_jobs ∙ is.of_jobs;
+      way = subst (λ (js : List (List Entry)). IsUnderWay (text_of files) js past after.collector after.current begun more fails) (sym same_jobs)
+          (subst (λ (fs : List NamedBytes). IsUnderWay (text_of fs) r.jobs.now past after.collector after.current begun more fails) is.of_files
+          (on past begun from));
+      faults = same_faults ∙ is.faults;
+    }
 
 -- a report stands where what was written is handed on
 pub still_reports : (files : List NamedBytes) (jobs : List (List Entry)) (past : List Offer) (begun out later : Option (List ℕ)) (failed fails : Bool) (r : Report) →

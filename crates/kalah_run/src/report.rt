@@ -1,9 +1,7 @@
 //! The answers of a batch, written in the order of its lines.
-ghost use Rattle.std.specs.Prelude.{◌≡◌, ◌+◌, ◌^◌, ◌<◌, ◌++◌, ◌∷◌, [], ℕ, List, Option, Bool, length, map, false, IfOk, if◌then◌else◌};
-ghost use Rattle.kalah_jobs.specs.Lines.{line_feed};
-ghost use Rattle.kalah_jobs.specs.Answer.{answer_line, is_fault};
-ghost use Rattle.kalah_jobs.specs.CollectorState.{state_of, line_count, HasEnded, HasNoNext, HasLinesOf};
-ghost use Rattle.kalah_run.specs.UnderWay.{WasGiven};
+ghost use Rattle.std.specs.Prelude.{◌≡◌, ◌+◌, ◌^◌, ◌<◌, [], ℕ, List, Option, Bool, length, map, IfOk, if◌then◌else◌};
+ghost use Rattle.kalah_jobs.specs.Answer.{is_fault};
+ghost use Rattle.kalah_jobs.specs.CollectorState.{state_of, line_count, HasNoNext, HasLinesOf};
 ghost use Rattle.kalah_run.specs.WritesOn.{WritesOn};
 
 use kalah_jobs::{Answer, Collector, FileText, Jobs, Outcome, Sink, Taken, write_answer};
@@ -22,17 +20,6 @@ pub(crate) struct Report<'a> {
     ghost counts: { HasLinesOf jobs.now collector },
 }
 
-// Writes the answer line, unless a write has failed before.
-fn write_line<W: Sink>(name: &str, taken: &Taken, out: &mut W)
-    ensures { (begun : Option (List ℕ)) (given : List ℕ)
-        → WasGiven begun (W.written out.old) (W.has_failed out.old) given
-        → WasGiven begun (W.written out.new) (W.has_failed out.new) (given ++ (answer_line name.now taken.now ++ line_feed ∷ [])) }
-{
-    if !out.failed() {
-        let _ = write_answer(out, name, taken);
-    }
-}
-
 // Takes each line of file `f` that is ready, and writes it unless a write has failed before.
 fn write_lines<W: Sink>(
     files: &[FileText],
@@ -49,33 +36,10 @@ fn write_lines<W: Sink>(
 {
     let file = &files[f as usize];
     while let Some(taken) = collector.take(f) {
-        write_line(file.name.as_str(), &taken, out);
-    }
-}
-
-// Writes each line that is ready and before which all is written, and says which file is to be waited for.
-fn write_ready<W: Sink>(
-    files: &[FileText],
-    jobs: &Jobs,
-    collector: &mut Collector,
-    current: u32,
-    out: &mut W,
-) -> u32
-    requires { length jobs.now ≡ length files.now }
-    ensures way { WritesOn files.now jobs.now current collector.old (W.written out.old) (W.has_failed out.old)
-        result collector.new (W.written out.new) (W.has_failed out.new) }
-    ensures waits { length jobs.now ≡ length collector.new → result < length collector.new → HasEnded (state_of collector.new result) → ⊥ }
-    ensures counts { map line_count collector.new ≡ map line_count collector.old }
-{
-    let mut f = current;
-    while f < jobs.files() {
-        write_lines(files, jobs, collector, f, out);
-        if !collector.ended(f) {
-            return f;
+        if !out.failed() {
+            let _ = write_answer(out, file.name.as_str(), &taken);
         }
-        f += 1;
     }
-    f
 }
 
 // One for a fault, and else none.
@@ -115,13 +79,14 @@ impl<'a> Report<'a> {
         ensures way { WritesReady self.old (W.written out.old) (W.has_failed out.old) self.new (W.written out.new) (W.has_failed out.new) }
         ensures faults { self.new.faults ≡ self.old.faults }
     {
-        self.current = write_ready(
-            self.files,
-            self.jobs,
-            &mut self.collector,
-            self.current,
-            out,
-        );
+        while self.current < self.jobs.files() {
+            let f = self.current;
+            write_lines(self.files, self.jobs, &mut self.collector, f, out);
+            if !self.collector.ended(f) {
+                return;
+            }
+            self.current += 1;
+        }
     }
 
     /// Takes an outcome in, and writes each line that is ready by it and before which all is written.

@@ -1,22 +1,29 @@
-use Rattle.std.proofs.Common.{subst, sym, List}
-use Rattle.kalah_jobs.specs.NamedBytes.{NamedBytes}
-use Rattle.kalah_run.specs.UnderWay.{IsUnderWay}
+use Rattle.std.proofs.Common.{arith, refl, rules}
 use Rattle.kalah_jobs.proofs.CollectorSteps.{files_many}
-use Rattle.kalah_run.specs.Texts.{text_of}
+use Rattle.kalah_run.proofs.BatchWay.{wrote_file}
+use Rattle.kalah_run.proofs.Reports.{reports_on}
 use Rattle.kalah_run.proofs.report.Report.write.Goals as goal
+
+pub returns-then-not-ended-clause-way : goal.returns-then-not-ended-clause-way
+returns-then-not-ended-clause-way g c = λ files jobs past begun reporting. (
+  reports_on files jobs past begun _ _ _ _ c.loop-self.self _ refl refl refl c.write_lines.ensures.way
+      (c.loop-self.invariant.way files jobs past begun reporting),
+  search rules,
+)
+
+pub loop-self-preserved : goal.loop-self-preserved
+loop-self-preserved g c = record {
+  way = λ files jobs past begun reporting.
+      let ended = c.if-not-ended.ensures.0 refl in
+      reports_on files jobs past begun _ _ _ _ c.loop-self.self _ refl refl refl
+      (λ upto start way. wrote_file (c.write_lines.ensures.way upto start way) ended.0 ended.1 c.write_lines.ensures.all)
+      (c.loop-self.invariant.way files jobs past begun reporting);
+  faults = c.loop-self.invariant.faults;
+}
 
 pub returns-clause-way : goal.returns-clause-way
 returns-clause-way g c = λ files jobs past begun reporting.
-    let same = reporting.of_files in
-    let way = c.write_ready-self.ensures.way past begun
-    (subst (λ (fs : List NamedBytes). IsUnderWay (text_of fs) c.args.self.now.jobs.now past c.args.self.now.collector c.args.self.now.current begun
-    (g.W.Sink.written c.args.out.now) (g.W.Sink.has_failed c.args.out.now)) (sym same) reporting.way) in (
-      record {
-        of_files = same;
-        of_jobs = reporting.of_jobs;
-        way = subst (λ (fs : List NamedBytes). IsUnderWay (text_of fs) c.args.self.now.jobs.now past c.write_ready-self.new.collector c.write_ready-self.result begun
-            (g.W.Sink.written c.write_ready-self.new.out) (g.W.Sink.has_failed c.write_ready-self.new.out)) same way;
-        faults = reporting.faults;
-      },
-      c.write_ready-self.ensures.waits (sym (files_many c.args.self.now.jobs.now c.write_ready-self.new.collector way.holds.counts)),
+    let r = c.loop-self.self in (
+      c.loop-self.invariant.way files jobs past begun reporting,
+      λ low ended. absurd (omega (arith, low, c.loop-self-test.false, c.files.ensures.is, files_many r.jobs.now r.collector r.counts)),
     )
