@@ -10,6 +10,8 @@ use Rattle.std.proofs.lemmas.Bool.Decides.{nat_tests}
 use mathlib.Core.Option.{some, none}
 use lib.ListN.{get_elem?}
 use Rattle.atomic_table.specs.Table.{State, Me, step, keeps, Allows}
+use Rattle.kalah_jobs.specs.Jobs.{most_lines}
+use Rattle.kalah_run.specs.Limits.{most_workers}
 use Rattle.kalah_run.specs.declared.desk_rule.Row.{Row}
 use Rattle.kalah_run.specs.declared.desk_rule.DeskPlan.{DeskPlan}
 use Rattle.kalah_run.specs.declared.desk_rule.DeskView.{DeskView}
@@ -144,8 +146,8 @@ pub draws : {S : Type 0} (plan : DeskPlan) (slots seat total number : ℕ) (numb
 draws {S} plan slots seat total number numbers s kept homes at fits =
     let n : ℕ = slice_index s.words 0 in
     let is : n ≡ drawn_in (all_rows s.views) + spent_in (all_rows s.views) = ap (λ ws. slice_index ws 0) kept.word in
-    let small : drawn_in (all_rows s.views) ≤ 1000000 = omega (arith, kept.lawful.within, kept.few.0) in
-    let few : spent_in (all_rows s.views) ≤ 64 = omega (arith, few_spent plan s kept, kept.few.1) in
+    let small : drawn_in (all_rows s.views) ≤ most_lines = omega (arith, kept.lawful.within, kept.few.0) in
+    let few : spent_in (all_rows s.views) ≤ most_workers = omega (arith, few_spent plan s kept, kept.few.1) in
     let next : (n + 1) % 2 ^ 64 ≡ n + 1 = mod-eq_of_lt (omega arith) in
     let words : set s.words 0 ((n + 1) % 2 ^ 64) ≡ (n + 1) ∷ [] = ap (λ ws. set ws 0 ((n + 1) % 2 ^ 64)) kept.word ∙ ap (λ m. m ∷ []) next in
     let after : DeskView → State S DeskView =

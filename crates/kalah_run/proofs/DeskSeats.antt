@@ -10,6 +10,8 @@ use mathlib.Core.Option.{some, none, some-injective, some-ne-none}
 use lib.ListN.{get_elem?}
 use Rattle.atomic_table.specs.Table.{step, opening, Splits, Joins, Enters}
 use Rattle.atomic_table.proofs.Lists.{at_set}
+use Rattle.kalah_jobs.specs.Jobs.{most_lines}
+use Rattle.kalah_run.specs.Limits.{most_workers}
 use Rattle.kalah_run.specs.declared.desk_rule.Row.{Row}
 use Rattle.kalah_run.specs.declared.desk_rule.DeskPlan.{DeskPlan}
 use Rattle.kalah_run.specs.declared.desk_rule.DeskView.{DeskView}
@@ -31,7 +33,7 @@ lawful_alike total rows others drawn same spent rising was = record {
 }
 
 -- the empty desk
-pub begins : {S : Type 0} (plan : DeskPlan) → plan.total ≤ 1000000 → plan.passes ≤ 64 → IsKept {S = S} plan (opening (0 ∷ []) [] (opening_view plan))
+pub begins : {S : Type 0} (plan : DeskPlan) → plan.total ≤ most_lines → plan.passes ≤ most_workers → IsKept {S = S} plan (opening (0 ∷ []) [] (opening_view plan))
 begins plan total passes = record {
   few = (total, passes);
   word = refl;

@@ -3,6 +3,8 @@ use Rattle.std.specs.Prelude.{◌≡◌, ℕ, ◌+◌, ◌≤◌, List, [], ◌�
 use mathlib.Core.Option.{some}
 use lib.ListN.{get_elem?}
 use Rattle.atomic_table.specs.Table.{State}
+use Rattle.kalah_jobs.specs.Jobs.{most_lines}
+use Rattle.kalah_run.specs.Limits.{most_workers}
 use Rattle.kalah_run.specs.declared.desk_rule.Row.{Row}
 use Rattle.kalah_run.specs.declared.desk_rule.DeskPlan.{DeskPlan}
 use Rattle.kalah_run.specs.declared.desk_rule.DeskView.{DeskView}
@@ -43,7 +45,7 @@ HasTotal t Ended = Unit {0}
 
 -- Between any two steps: the word counts the numbers drawn and the spent passes, no pass is lost, and the rows of all passes are lawful
 pub record IsKept {S : Type 0} (plan : DeskPlan) (s : State S DeskView) : Type 0 where
-  pub few : (plan.total ≤ 1000000) × (plan.passes ≤ 64)
+  pub few : (plan.total ≤ most_lines) × (plan.passes ≤ most_workers)
   pub word : s.words ≡ (drawn_in (all_rows s.views) + spent_in (all_rows s.views)) ∷ []
   pub passes : sum_by passes_in s.views ≡ plan.passes
   pub lawful : AreLawful plan.total (all_rows s.views)

@@ -1,6 +1,7 @@
 -- What the rule of the desk says, in plain words.
 use Rattle.std.specs.Prelude.{◌≡◌, ℕ, ◌+◌, ◌<◌, ◌≤◌, List, [], ◌∷◌, ⊤, All, AllPairs}
 use Rattle.atomic_table.specs.Table.{State}
+use Rattle.kalah_run.specs.Limits.{most_workers}
 use Rattle.kalah_run.specs.declared.desk_rule.Row.{Row}
 use Rattle.kalah_run.specs.declared.desk_rule.DeskPlan.{DeskPlan}
 use Rattle.kalah_run.specs.declared.desk_rule.DeskView.{DeskView}
@@ -17,7 +18,7 @@ pub record DealsEachOnce (total : ℕ) (words : List ℕ) (rows : List Row) : Ty
   pub rising : All (λ row. AllPairs (λ x y. x < y) row.numbers) rows
   pub spent : 0 < spent_in rows → drawn ≡ total
   pub word : words ≡ (drawn + spent_in rows) ∷ []
-  pub most : drawn + spent_in rows ≤ total + 64
+  pub most : drawn + spent_in rows ≤ total + most_workers
 
 -- between any two steps of any threads, whatever passes there are
 abbrev pub DeskIsLawful : Type 0

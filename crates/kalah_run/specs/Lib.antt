@@ -1,3 +1,4 @@
+pub mod Limits
 pub mod DeskRows
 pub mod DeskKept
 pub mod DeskSteps

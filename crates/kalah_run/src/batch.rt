@@ -2,6 +2,7 @@
 ghost use Rattle.std.specs.Prelude.{◌≡◌, ◌↔◌, ◌<◌, ◌≤◌, ◌⊎◌, true, false, Err, length, count_by, IfOk, IfErr, OnOk, OnErr, IsErr};
 ghost use Rattle.std.specs.Io.KnownBytes.{Keeps};
 ghost use Rattle.kalah_jobs.specs.JobList.{job_list};
+ghost use Rattle.kalah_run.specs.Limits.{AreWorkers, IsTableSize};
 ghost use Rattle.kalah_run.specs.UnderWay.{WasGiven};
 ghost use Rattle.kalah_jobs.specs.Jobs.{job_count};
 ghost use Rattle.kalah_jobs.specs.Output.{names_of, output_of, output_to, output_of_jobs, values_output_of, is_faulty_offer};
@@ -52,8 +53,8 @@ fn answer_jobs<R: Threads + Wait + Sync, G: Gate, W: Sink>(
     gate: &G,
     out: &mut W,
 ) -> Result<u32, RunFault>
-    requires workers { (0 < workers) × (workers ≤ 64) }
-    requires table { (0 < table) × (table ≤ 1048576) }
+    requires workers { AreWorkers workers }
+    requires table { IsTableSize table }
     requires jobs { length jobs.now ≡ length files.now }
     requires fresh { W.has_failed out.old ≡ false }
     ensures given { OnOk result (WasGiven (W.written out.old) (W.written out.new) (W.has_failed out.new)
@@ -106,8 +107,8 @@ fn answer_batch<R: Threads + Wait + Sync, G: Gate, W: Sink>(
     gate: &G,
     out: &mut W,
 ) -> Result<Tally, RunFault>
-    requires workers { (0 < workers) × (workers ≤ 64) }
-    requires table { (0 < table) × (table ≤ 1048576) }
+    requires workers { AreWorkers workers }
+    requires table { IsTableSize table }
     requires fresh { W.has_failed out.old ≡ false }
     ensures { AnswersBatch W.written W.has_failed W.is_handed_on (output_to question files.now) files.now out.old out.new result }
 {
@@ -137,8 +138,8 @@ pub fn solve_batch<R: Threads + Wait + Sync, G: Gate, W: Sink>(
     gate: &G,
     out: &mut W,
 ) -> Result<Tally, RunFault>
-    requires workers { (0 < workers) × (workers ≤ 64) }
-    requires table { (0 < table) × (table ≤ 1048576) }
+    requires workers { AreWorkers workers }
+    requires table { IsTableSize table }
     requires fresh { W.has_failed out.old ≡ false }
 
     // What Ok says, what stands written whatever comes of it, and when each fault comes: a field for each.
@@ -169,8 +170,8 @@ pub fn values_batch<R: Threads + Wait + Sync, G: Gate, W: Sink>(
     gate: &G,
     out: &mut W,
 ) -> Result<Tally, RunFault>
-    requires workers { (0 < workers) × (workers ≤ 64) }
-    requires table { (0 < table) × (table ≤ 1048576) }
+    requires workers { AreWorkers workers }
+    requires table { IsTableSize table }
     requires fresh { W.has_failed out.old ≡ false }
 
     // As `solve_batch` has it, with the values of all lines in the place of its output.

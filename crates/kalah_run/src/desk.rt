@@ -1,6 +1,8 @@
 //! The desk: its passes draw the numbers below a total from one word, each number once.
 ghost use Rattle.std.specs.Prelude.{◌≡◌, ℕ, ◌<◌, ◌≤◌, ◌↔◌, [], ◌∷◌, ◌++◌, length, true, false, nat_lt, if◌then◌else◌, All, IfOk, IfSome, IfNone, IsTrue};
 ghost use Rattle.kalah_jobs.specs.Shares.{times_in};
+ghost use Rattle.kalah_jobs.specs.Jobs.{most_lines};
+ghost use Rattle.kalah_run.specs.Limits.{AreWorkers};
 ghost use Rattle.kalah_run.specs.DeskRows.{row, numbers_of, drawn_in, spent_in, AreLawful, StandsOnce, StandsNowhere};
 ghost use Rattle.kalah_run.specs.DeskKept.{opening_view};
 ghost use Rattle.kalah_run.specs.DeskStates.{IsPassOf, AreNewPasses, rows_of};
@@ -26,12 +28,13 @@ pub struct Desk {
 impl Model for Desk {
     ghost use Rattle.std.specs.Prelude.{◌≡◌, ◌≤◌};
     ghost use Rattle.kalah_run.specs.DeskStates.{DeskState};
+    ghost use Rattle.kalah_jobs.specs.Jobs.{most_lines};
 
     ghost Value = { DeskState };
 
     ghost view = { λ d. record { id = d.table.shared.table_id; total = d.total; passes = d.table.shared.key.passes } };
 
-    ghost invariant = { λ d. (d.table.shared.table_id.words ≡ 1) × (d.table.shared.table_id.slots ≡ 0) × (d.table.shared.key.total ≡ d.total) × (d.total ≤ 1000000) };
+    ghost invariant = { λ d. (d.table.shared.table_id.words ≡ 1) × (d.table.shared.table_id.slots ≡ 0) × (d.table.shared.key.total ≡ d.total) × (d.total ≤ most_lines) };
 }
 
 /// What was drawn at a desk that is closed.
@@ -96,8 +99,8 @@ impl Desk {
     /// A desk for the numbers below `total`, at most 1,000,000, and its `passes`, 1 to 64 of them:
     /// each has an empty row, and none is spent. An error only where memory was refused.
     pub fn open(alloc: Global, total: u32, passes: u32) -> Result<(Desk, Vec<Pass>), AllocError>
-        requires total { total ≤ 1000000 }
-        requires passes { (0 < passes) × (passes ≤ 64) }
+        requires total { total ≤ most_lines }
+        requires passes { AreWorkers passes }
         ensures desk { IfOk result (λ r. (r.0.total ≡ total) × (r.0.passes ≡ passes)) }
         ensures passes { IfOk result (λ r. AreNewPasses r.0 passes r.1.items) }
     {
@@ -126,7 +129,7 @@ impl Desk {
 
         // None: the row stays, and the pass is spent.
         ensures spent { IfNone result (pass.new.row ≡ row pass.old.row.numbers true) }
-        ensures limit { self.now.total ≤ 1000000 }
+        ensures limit { self.now.total ≤ most_lines }
     {
         let total = self.total;
         if pass.is_spent {

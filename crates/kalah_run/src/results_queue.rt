@@ -2,6 +2,7 @@
 ghost use Rattle.std.specs.Prelude.{◌≡◌, ◌≤◌, ◌<◌, ℕ, List, [], ◌∷◌, ◌++◌, length, All, IfOk, MatchOption, vec_len};
 ghost use Rattle.crossbeam_queue.specs.Passes.{view, IsPassOf};
 ghost use Rattle.kalah_jobs.specs.Offer.{Offer};
+ghost use Rattle.kalah_run.specs.Limits.{AreWorkers};
 ghost use Rattle.kalah_run.specs.declared.queue_rule.QueueView.TheVariants.{Getting, Putting};
 ghost use Rattle.kalah_run.specs.QueueLists.{Accounts};
 ghost use Rattle.kalah_run.specs.QueueStates.{ArePassesFrom, HasGot, sent_by};
@@ -33,7 +34,7 @@ impl ResultsQueue {
         workers: u32,
     ) -> Result<(ResultsQueue, Vec<PutPass>, GetPass), AllocError>
         requires capacity { (0 < capacity) × (capacity ≤ 1024) }
-        requires workers { (0 < workers) × (workers ≤ 64) }
+        requires workers { AreWorkers workers }
         ensures queue { IfOk result (λ r. r.0.capacity ≡ capacity) }
         ensures puts { IfOk result (λ r. (vec_len r.1 ≡ workers) × ArePassesFrom r.0.id 0 r.1.items × All (λ p. p.sent ≡ []) r.1.items) }
         ensures get { IfOk result (λ r. r.2 ≡ record { queue = r.0.id; workers = workers; got = [] }) }

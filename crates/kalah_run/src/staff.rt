@@ -4,6 +4,7 @@ ghost use Rattle.std.specs.List.{All};
 ghost use Rattle.kalah_jobs.specs.Batch.{AreJobsInSomeOrder};
 ghost use Rattle.kalah_jobs.specs.JobList.{job_list};
 ghost use Rattle.kalah_jobs.specs.declared.entry.Entry.{Entry};
+ghost use Rattle.kalah_run.specs.Limits.{AreWorkers, IsTableSize};
 ghost use Rattle.kalah_run.specs.Reporting.{outcomes_in};
 ghost use Rattle.kalah_run.specs.Shifts.{passes_of, puts_of, HaveJobs};
 ghost use Rattle.kalah_run.specs.Staffs.{IsReady, HasWorked};
@@ -32,7 +33,7 @@ fn put_together<'a>(
     requires as_many { length passes.items ≡ length puts.items }
     requires drawn { All (λ p. p.row.numbers ≡ []) passes.items }
     requires sent { All (λ p. p.sent ≡ []) puts.items }
-    requires table { (0 < table) × (table ≤ 1048576) }
+    requires table { IsTableSize table }
     ensures passes { IfOk result (λ shifts. passes_of shifts.items ≡ passes.items) }
     ensures puts { IfOk result (λ shifts. puts_of shifts.items ≡ puts.items) }
     ensures jobs { IfOk result (λ shifts. HaveJobs jobs.now shifts.items) }
@@ -99,8 +100,8 @@ impl<'a> Staff<'a> {
         workers: u32,
         table: u32,
     ) -> Result<Staff<'a>, AllocError>
-        requires workers { (0 < workers) × (workers ≤ 64) }
-        requires table { (0 < table) × (table ≤ 1048576) }
+        requires workers { AreWorkers workers }
+        requires table { IsTableSize table }
         ensures { IfOk result (IsReady jobs.now) }
     {
         let (desk, passes) = Desk::open(alloc, jobs.total(), workers)?;

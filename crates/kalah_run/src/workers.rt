@@ -2,6 +2,7 @@
 ghost use Rattle.std.specs.Prelude.{◌≡◌, ◌≤◌, [], false, length, IfOk, OnErr, IfErr};
 ghost use Rattle.std.specs.Thread.{IsSync};
 ghost use Rattle.std.specs.Io.KnownBytes.{Keeps};
+ghost use Rattle.kalah_jobs.specs.Jobs.{most_lines};
 ghost use Rattle.kalah_run.specs.Shifts.{AreAtWork, HaveRun};
 ghost use Rattle.kalah_run.specs.QueueStates.{HasGot};
 ghost use Rattle.kalah_run.specs.Reporting.{TakesInAll, outcomes_in};
@@ -86,7 +87,7 @@ fn collect<R: Wait, W: Sink>(
 )
     requires pass { pass.old.queue ≡ queue.now.id }
     requires first { pass.old.got ≡ [] }
-    requires few { total ≤ 1000000 }
+    requires few { total ≤ most_lines }
     requires none { report.old.faults ≡ 0 }
     ensures same { (pass.new.queue ≡ pass.old.queue) × (pass.new.workers ≡ pass.old.workers) }
     ensures all { length pass.new.got ≡ total }
@@ -113,7 +114,7 @@ pub(crate) fn run_and_report<'a, R: Threads + Wait + Sync, G: Gate, W: Sink>(
 ) -> Result<(Vec<Shift<'a>>, GetPass, Report<'a>), RunFault>
     requires shifts { AreAtWork shop.now.desk.now shop.now.queue.now.id shop.now.jobs.now shifts.items }
     requires pass { (pass.queue ≡ shop.now.queue.now.id) × (pass.got ≡ []) }
-    requires counts { (total ≤ 1000000) × (report.faults ≡ 0) }
+    requires counts { (total ≤ most_lines) × (report.faults ≡ 0) }
     ensures shifts { IfOk result (λ r. HaveRun shop.now.desk.now shop.now.queue.now.id shop.now.jobs.now shifts.entry.items r.0.items) }
     ensures pass { IfOk result (λ r. (r.1.queue ≡ pass.queue) × (r.1.workers ≡ pass.workers) × (length r.1.got ≡ total)) }
     ensures way { IfOk result (λ r. TakesInAll (outcomes_in r.1.got) report.entry (W.written out.old) (W.has_failed out.old)
@@ -129,7 +130,7 @@ pub(crate) fn run_and_report<'a, R: Threads + Wait + Sync, G: Gate, W: Sink>(
             &mut W,
         )
             requires { IsSync R.row × IsSync G.row × AreAtWork shop.now.desk.now shop.now.queue.now.id shop.now.jobs.now shifts.items
-                × (pass.queue ≡ shop.now.queue.now.id) × (pass.got ≡ []) × (total ≤ 1000000) × (report.faults ≡ 0) }
+                × (pass.queue ≡ shop.now.queue.now.id) × (pass.got ≡ []) × (total ≤ most_lines) × (report.faults ≡ 0) }
             ensures name { result.1.ghost_name ≡ out.entry.ghost_name }
             ensures shifts { IfOk result.0 (λ r. HaveRun shop.entry.now.desk.now shop.entry.now.queue.now.id shop.entry.now.jobs.now shifts.entry.items r.0.items) }
             ensures pass { IfOk result.0 (λ r. (r.1.queue ≡ pass.queue) × (r.1.workers ≡ pass.workers) × (length r.1.got ≡ total)) }
