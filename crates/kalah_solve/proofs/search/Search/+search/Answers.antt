@@ -1,5 +1,6 @@
 use Rattle.std.proofs.Common.{arith, refl, sym, ◌+◌, ◌-◌, subst, inl, inr}
 use Rattle.std.proofs.lemmas.Bool.{cases_eq}
+use Rattle.std.proofs.lemmas.Grind.{common_steps}
 use Rattle.kalah_rules.specs.Position.{bare}
 use Rattle.kalah_rules.proofs.Legal.{legal_holds}
 use Rattle.kalah_solve.specs.Tried.{EndsInStore, FallsShort}
@@ -115,3 +116,6 @@ rank-step_reaches-requires g t c κs within =
 
 pub rank-returns-in-Some-clause-short : goal.rank-returns-in-Some-clause-short
 rank-returns-in-Some-clause-short g t c = λ none. absurd (omega (arith, none, (legal_holds (bare c.args.houses.now) c.args.h c.requires.legal).first))
+
+pub explore-loop-waiting-smaller : goal.explore-loop-waiting-smaller
+explore-loop-waiting-smaller g t c = grind (arith, common_steps)
