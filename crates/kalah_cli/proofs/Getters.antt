@@ -16,6 +16,7 @@ use Rattle.clap.specs.Faults.{fault_of, is_simple_and_free}
 use Rattle.clap.specs.declared.parser.matches.Found.{Found}
 use Rattle.clap.proofs.OnLiterals.{clap_on_literals}
 use Rattle.clap.proofs.WalkLemmas.{one_text-rows}
+use Rattle.kalah_solve.specs.Table.{most_entries}
 use Rattle.kalah_jobs.specs.declared.question.Question.{Question}
 use Rattle.kalah_cli.specs.Request.{Asked, HasFlag, HasNumber, IsAnswers, IsPlay, IsTaken, answers, answers_asked, asked, asked_by, is_set, number_of, play, play_asked}
 use Rattle.kalah_cli.specs.Command.{kalah_app}
@@ -29,7 +30,7 @@ is_there f (Some x) t e = refl
 
 -- a text in range is read as its number
 pub number_reads : (E : Type 0) (G : List ℕ → Result ℕ E → Type 0) (t : List ℕ) (r : Option ℕ) → ReadsOne G t r
-    → ((u : List ℕ) (x : Result ℕ E) → G u x → ParsesUnsigned 32 10 u x) → IsUnsignedIn 1 1048576 t
+    → ((u : List ℕ) (x : Result ℕ E) → G u x → ParsesUnsigned 32 10 u x) → IsUnsignedIn 1 most_entries t
     → (n : ℕ) × (r ≡ Some n) × (n ≡ number_of t)
 number_reads E G t (Some v) h only p = (v, refl, (only t (Ok v) h).1)
 number_reads E G t None h only p = absurd (only t (Err h.0) h.1 (p.0, omega arith))
@@ -37,7 +38,7 @@ number_reads E G t None h only p = absurd (only t (Err h.0) h.1 (p.0, omega arit
 -- the typed getter gives the number of the id
 pub number_read : (E : Type 0) (G : List ℕ → Result ℕ E → Type 0) (f : Found) (id : List ℕ) (r : Option ℕ)
     → ((t : List ℕ) → one_text f id ≡ Some t → ReadsOne G t r)
-    → ((u : List ℕ) (x : Result ℕ E) → G u x → ParsesUnsigned 32 10 u x) → HasNumber id 1048576 (rows_of f)
+    → ((u : List ℕ) (x : Result ℕ E) → G u x → ParsesUnsigned 32 10 u x) → HasNumber id most_entries (rows_of f)
     → (n : ℕ) × (r ≡ Some n) × ((t : List ℕ) → one_of id (rows_of f) ≡ Some t → n ≡ number_of t)
 number_read E G f id r reads only has =
     let got = number_reads E G has.0 r (reads has.0 (one_text-rows f id ∙ has.1)) only has.2 in
@@ -81,7 +82,7 @@ pub game_is : (rows : List Row) (has : IsPlay rows) (table : ℕ) (boards : Bool
 game_is rows has table boards line is_table is_boards is_line = rw (has.0.1, is_line, is_table has.0.0 has.0.1, is_boards) refl
 
 -- and it is in range
-pub game_in_range : (rows : List Row) (has : IsPlay rows) (table : ℕ) → Reads (codes "table") rows table → (1 ≤ table) × (table ≤ 1048576)
+pub game_in_range : (rows : List Row) (has : IsPlay rows) (table : ℕ) → Reads (codes "table") rows table → (1 ≤ table) × (table ≤ most_entries)
 game_in_range rows has table is_table =
     let t = is_table has.0.0 has.0.1 in
     let b = has.0.2 in
@@ -96,7 +97,7 @@ answers_are question rows has workers table files is_workers is_table is_files =
 -- and it is in range
 pub answers_in_range : (rows : List Row) (has : IsAnswers rows) (workers table : ℕ) (files : List (Bor Text)) → Reads (codes "workers") rows workers
     → Reads (codes "table") rows table → Some (map (λ f. f.now) files) ≡ all_of (codes "file") rows
-    → (1 ≤ workers) × (workers ≤ 64) × (1 ≤ table) × (table ≤ 1048576) × (0 < length files)
+    → (1 ≤ workers) × (workers ≤ 64) × (1 ≤ table) × (table ≤ most_entries) × (0 < length files)
 answers_in_range rows has workers table files is_workers is_table is_files =
     let w = is_workers has.0.0 has.0.1 in
     let t = is_table has.1.0 has.1.1 in

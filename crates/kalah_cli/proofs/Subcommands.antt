@@ -21,6 +21,7 @@ use Rattle.clap.specs.declared.builder.value_parser.ValueParser.TheVariants.{Uns
 use Rattle.clap.specs.declared.builder.value_parser.ValueParser.TheVariants as vp
 use Rattle.clap.specs.declared.parser.matches.ValueSource.{ValueSource}
 use Rattle.clap.specs.declared.builder.action.ArgAction.TheVariants.{Append, Help, Set, SetTrue}
+use Rattle.kalah_solve.specs.Table.{most_entries}
 use Rattle.kalah_cli.specs.Command.{answers_app, boards_rule, file_rule, kalah_app, line_rule, moves_app, play_app, table_rule, workers_rule}
 use Rattle.kalah_cli.specs.Request.{HasFlag, HasLine, HasNumber, HasWhatItNeeds, IsAnswers, IsMoves, IsPlay}
 use Rattle.kalah_cli.proofs.Kept.{AllOf, Gives, both_all, found_all, kept_level, level_parts}
@@ -50,7 +51,7 @@ Flagged id r = bytes_eq r.id id ≡ true → (r.reading ≡ AsWritten) × AllOf 
 pub record Sound (r : Row) : Type 0 where
   pub some : 0 < length r.values
   pub workers : Ranged (codes "workers") 64 r
-  pub table : Ranged (codes "table") 1048576 r
+  pub table : Ranged (codes "table") most_entries r
   pub boards : Flagged (codes "boards") r
 
 -- a list that has an item has one after more were added
@@ -120,13 +121,13 @@ table_gives = record {
   first = λ s v vs e. record {
     some = omega arith;
     workers = λ bad. cc;
-    table = λ same. (refl, values_pass false (Unsigned 1 1048576) (v ∷ vs) e);
+    table = λ same. (refl, values_pass false (Unsigned 1 most_entries) (v ∷ vs) e);
     boards = λ bad. cc;
   };
   more = λ s r vs is p e. record {
     some = more_than r.values vs p.some;
     workers = elsewhere (codes "workers") (codes "table") r is refl;
-    table = λ same. ((p.table same).0, both_all _ r.values vs (p.table same).1 (values_pass false (Unsigned 1 1048576) vs e));
+    table = λ same. ((p.table same).0, both_all _ r.values vs (p.table same).1 (values_pass false (Unsigned 1 most_entries) vs e));
     boards = elsewhere (codes "boards") (codes "table") r is refl;
   };
 }
@@ -341,7 +342,7 @@ answers_hold name words e =
     let table_sound = found_row Sound (codes "table") rows table.0 level.0 table.1 in
     let file_sound = found_row Sound (codes "file") rows file.0 level.0 file.1 in (
       number_in (codes "workers") 64 rows workers.0 workers.1 workers_sound.some (workers_sound.workers (found_named (codes "workers") rows workers.0 workers.1)),
-      number_in (codes "table") 1048576 rows table.0 table.1 table_sound.some (table_sound.table (found_named (codes "table") rows table.0 table.1)),
+      number_in (codes "table") most_entries rows table.0 table.1 table_sound.some (table_sound.table (found_named (codes "table") rows table.0 table.1)),
       (file.0.values, ap (option_map (λ (r : Row). r.values)) file.1, file_sound.some),
     )
 
@@ -395,11 +396,11 @@ moves_hold words e =
     (boards_flag rows level.0, line_in rows level.0 (line_given rows level.1))
 
 -- rows with an entry for the table have its number
-table_in : (rows : List Row) → AllOf Sound rows → has_row (codes "table") rows ≡ true → HasNumber (codes "table") 1048576 rows
+table_in : (rows : List Row) → AllOf Sound rows → has_row (codes "table") rows ≡ true → HasNumber (codes "table") most_entries rows
 table_in rows all has =
     let table = row_in (codes "table") rows has in
     let sound = found_row Sound (codes "table") rows table.0 all table.1 in
-    number_in (codes "table") 1048576 rows table.0 table.1 sound.some (sound.table (found_named (codes "table") rows table.0 table.1))
+    number_in (codes "table") most_entries rows table.0 table.1 sound.some (sound.table (found_named (codes "table") rows table.0 table.1))
 
 -- matches of `play` without a fault have what it needs
 pub play_holds : (words : List Text) → level_fault play_shape [] nothing_held words false [] ≡ []

@@ -4,6 +4,8 @@ use Rattle.clap.specs.Words.{App, Rule, Text, new_app, new_rule, with_rule, with
 use Rattle.clap.specs.Simple.{on_top}
 use Rattle.clap.specs.declared.builder.action.ArgAction.TheVariants.{Append, Set, SetTrue}
 use Rattle.clap.specs.declared.builder.value_parser.ValueParser.TheVariants.{Unsigned}
+use Rattle.kalah_solve.specs.Table.{most_entries}
+use Rattle.kalah_run.specs.Limits.{most_workers}
 
 -- LINE: one value, which must be there
 abbrev pub line_rule : Rule
@@ -19,7 +21,7 @@ workers_rule = record (new_rule (codes "workers")) {
   long = Some (codes "workers");
   value_names = 1;
   action = Some Set;
-  parser = Some (Unsigned 1 64);
+  parser = Some (Unsigned 1 most_workers);
   defaults = codes "4" ∷ [];
 }
 
@@ -29,7 +31,7 @@ table_rule = record (new_rule (codes "table")) {
   long = Some (codes "table");
   value_names = 1;
   action = Some Set;
-  parser = Some (Unsigned 1 1048576);
+  parser = Some (Unsigned 1 most_entries);
   defaults = codes "65536" ∷ [];
 }
 

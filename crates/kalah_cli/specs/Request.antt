@@ -11,6 +11,8 @@ use Rattle.clap.specs.Values.{IsUnsignedIn}
 use Rattle.clap.specs.Words.{Row, Text, all_of, first_of, one_of, subcommand_of}
 use Rattle.kalah_jobs.specs.declared.question.Question.{Question}
 use Rattle.kalah_jobs.specs.declared.question.Question.TheVariants.{BestMove, Values}
+use Rattle.kalah_solve.specs.Table.{most_entries}
+use Rattle.kalah_run.specs.Limits.{most_workers}
 use Rattle.kalah_cli.specs.Command.{kalah_app}
 use Rattle.kalah_cli.specs.declared.request.Request.{Request}
 use Rattle.kalah_cli.specs.declared.request.Request.TheVariants.{Moves, Play, Batch}
@@ -90,11 +92,11 @@ asked_for (Batch b) = answers b.question b.workers b.table (map (λ f. f.now) b.
 
 -- workers and entries are in their ranges, and there is a file
 abbrev pub IsInLimits : batch.Batch → Type 0
-IsInLimits b = (1 ≤ b.workers) × (b.workers ≤ 64) × (1 ≤ b.table) × (b.table ≤ 1048576) × (0 < length b.files.items)
+IsInLimits b = (1 ≤ b.workers) × (b.workers ≤ most_workers) × (1 ≤ b.table) × (b.table ≤ most_entries) × (0 < length b.files.items)
 
 abbrev pub IsInRange : Request → Type 0
 IsInRange (Moves line boards) = ⊤
-IsInRange (Play line table boards) = (1 ≤ table) × (table ≤ 1048576)
+IsInRange (Play line table boards) = (1 ≤ table) × (table ≤ most_entries)
 IsInRange (Batch b) = IsInLimits b
 
 -- a word that is no flag: it isn't empty and doesn't begin with `-` (45)
@@ -108,7 +110,7 @@ HasNumber id high rows = (t : Text) × (one_of id rows ≡ Some t) × IsUnsigned
 
 -- the matches have what `solve` and `values` need
 abbrev pub IsAnswers : List Row → Type 0
-IsAnswers rows = HasNumber (codes "workers") 64 rows × HasNumber (codes "table") 1048576 rows
+IsAnswers rows = HasNumber (codes "workers") most_workers rows × HasNumber (codes "table") most_entries rows
     × ((fs : List Text) × (all_of (codes "file") rows ≡ Some fs) × (0 < length fs))
 
 -- the matches say of the flag that it is set, that it isn't, or nothing
@@ -125,7 +127,7 @@ IsMoves rows = HasFlag (codes "boards") rows × HasLine rows
 
 -- the matches have what `play` needs
 abbrev pub IsPlay : List Row → Type 0
-IsPlay rows = HasNumber (codes "table") 1048576 rows × HasFlag (codes "boards") rows × HasLine rows
+IsPlay rows = HasNumber (codes "table") most_entries rows × HasFlag (codes "boards") rows × HasLine rows
 
 -- the matches have what the subcommand of this name needs
 abbrev pub HasWhatItNeeds : Text → List Row → Type 0

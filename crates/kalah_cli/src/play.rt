@@ -1,6 +1,7 @@
 //! `kalah play LINE`.
 ghost use Rattle.std.specs.Prelude.{◌≡◌, ◌≢◌, ◌↔◌, ◌≤◌, IsErr, OnOk, false, true};
 ghost use Rattle.kalah_rules.specs.Position.{Position};
+ghost use Rattle.kalah_solve.specs.Table.{most_entries};
 ghost use Rattle.kalah_jobs.specs.Line.{Reads};
 ghost use Rattle.kalah_cli.specs.Play.{BeginsBest, BeginsGame, PlaysBest, WritesGame};
 
@@ -74,7 +75,7 @@ pub(crate) fn run_play<O: Sink, E: Write>(
     err: &mut E,
 ) -> ExitStatus
     requires low { 1 ≤ table }
-    requires high { table ≤ 1048576 }
+    requires high { table ≤ most_entries }
     requires sink { O.has_failed out.old ≡ false }
     ensures read { (p : Position) → Reads line.now p → (result ≢ ExitStatus.LineFaults)
         × (result ≡ ExitStatus.Clean

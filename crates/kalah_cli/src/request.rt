@@ -6,6 +6,7 @@ ghost use Rattle.clap.specs.Simple.{subcommand_rows_of};
 ghost use Rattle.clap.specs.Walk.{first_of, one_of, rows_of};
 ghost use Rattle.clap.specs.Words.{found_of, kind_of};
 ghost use Rattle.clap.specs.declared.error.kind.ErrorKind.TheVariants.{OutOfMemory};
+ghost use Rattle.kalah_solve.specs.Table.{most_entries};
 ghost use Rattle.kalah_cli.specs.Command.{kalah_app};
 ghost use Rattle.kalah_cli.specs.Request.{Asked, HasFlag, HasLine, HasNumber, IsAnswers, IsInRange, IsMoves, IsPlainWord, IsPlay, IsTaken, IsTakenAs, answers, answers_asked, asked_by, asked_for, command_of, is_set, moves, moves_asked, number_of, play_asked};
 
@@ -48,7 +49,7 @@ pub struct Batch<'a> {
 
 // The number of an option, which has one.
 fn option_number(found: &ArgMatches<'_>, id: &str) -> u32
-    requires { HasNumber id.now 1048576 (rows_of (found_of found.now)) }
+    requires { HasNumber id.now most_entries (rows_of (found_of found.now)) }
     ensures { (t : List ℕ) → one_of id.now (rows_of (found_of found.now)) ≡ Some t
         → result ≡ number_of t }
 {

@@ -1,12 +1,9 @@
 -- How many workers may answer a batch, and how large the table of each may be.
 use Rattle.std.specs.Prelude.{◌<◌, ◌≤◌, ℕ}
+use Rattle.kalah_solve.specs.Table.{most_entries}
 
 abbrev pub most_workers : ℕ
 most_workers = 64
-
--- entries of a table
-abbrev pub most_entries : ℕ
-most_entries = 1048576
 
 abbrev pub AreWorkers : ℕ → Type 0
 AreWorkers workers = (0 < workers) × (workers ≤ most_workers)

@@ -6,6 +6,10 @@ use Rattle.kalah_rules.specs.Key.{key_of}
 use Rattle.kalah_solve.specs.Worth.{houses_worth}
 use Rattle.kalah_solve.specs.declared.table.Interval.{Interval}
 
+-- entries that a table can have
+abbrev pub most_entries : ℕ
+most_entries = 1048576
+
 -- the numbers from the first to the last
 abbrev pub from_to : ℤ → ℤ → Interval
 from_to first last = record { lo = first; hi = last }

@@ -100,13 +100,13 @@ impl<A: Allocator + Clone> Model for Table<A> {
 }
 
 impl<A: Allocator + Clone> Table<A> {
-    ghost use Rattle.kalah_solve.specs.Table.{Holds, AreTrue};
+    ghost use Rattle.kalah_solve.specs.Table.{Holds, AreTrue, most_entries};
     ghost use Rattle.kalah_solve.specs.Taken.{taken, IsWithinShare};
 
     /// An empty table with room for `capacity` entries, which is 1 to 1,048,576. It fails only where memory was refused.
     pub fn new(alloc: A, capacity: u32) -> Result<Table<A>, AllocError>
         requires low { 1 ≤ capacity }
-        requires high { capacity ≤ 1048576 }
+        requires high { capacity ≤ most_entries }
         ensures { IfOk result (λ t. t ≡ []) }
     {
         let places = Places::new(alloc.clone()?, capacity)?;
