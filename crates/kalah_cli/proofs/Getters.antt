@@ -17,7 +17,7 @@ use Rattle.clap.specs.declared.parser.matches.Found.{Found}
 use Rattle.clap.proofs.OnLiterals.{clap_on_literals}
 use Rattle.clap.proofs.WalkLemmas.{one_text-rows}
 use Rattle.kalah_solve.specs.Table.{most_entries}
-use Rattle.kalah_jobs.specs.declared.question.Question.{Question}
+use Rattle.kalah_jobs.specs.declared.files.question.Question.{Question}
 use Rattle.kalah_cli.specs.Request.{Asked, HasFlag, HasNumber, IsAnswers, IsPlay, IsTaken, answers, answers_asked, asked, asked_by, is_set, number_of, play, play_asked}
 use Rattle.kalah_cli.specs.Command.{kalah_app}
 use Rattle.kalah_cli.proofs.Laws.{app_is_simple}

@@ -14,8 +14,8 @@ use Rattle.clap.specs.declared.parser.matches.ValueSource.TheVariants.{CommandLi
 use Rattle.clap.proofs.FaultLemmas.{stopped_fault}
 use Rattle.clap.proofs.OnLiterals.{clap_on_literals}
 use Rattle.clap.proofs.WalkLemmas.{walk_stopped}
-use Rattle.kalah_jobs.specs.declared.question.Question.{Question}
-use Rattle.kalah_jobs.specs.declared.question.Question.TheVariants.{BestMove, Values}
+use Rattle.kalah_jobs.specs.declared.files.question.Question.{Question}
+use Rattle.kalah_jobs.specs.declared.files.question.Question.TheVariants.{BestMove, Values}
 use Rattle.kalah_cli.specs.Command.{answers_app, kalah_app}
 use Rattle.kalah_cli.specs.Request.{IsPlainWord, command_of}
 use Rattle.kalah_cli.proofs.Laws.{default_row}

@@ -1,7 +1,7 @@
 -- A line that is read begins with a digit, so it is no flag.
 use Rattle.std.proofs.Common.{◌≡◌, ◌≢◌, ℕ, ◌==◌, List, [], ◌∷◌, ◌++◌, Bool, true, false, cond, arith, refl, sym, subst}
 use Rattle.kalah_rules.specs.Position.{Position}
-use Rattle.kalah_jobs.specs.Line.{AreHouses, IsNumber, IsSide, Reads, without_cr}
+use Rattle.kalah_jobs.specs.Line.Line.{AreHouses, IsNumber, IsSide, Reads, without_cr}
 use Rattle.kalah_cli.specs.Request.{IsPlainWord}
 
 -- a number begins with a digit

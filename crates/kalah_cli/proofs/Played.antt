@@ -20,9 +20,9 @@ use Rattle.kalah_solve.proofs.Games.{followed, game_ends, strategy_keeps}
 use Rattle.kalah_solve.proofs.Secured.{best_is_strategy, best_plays, bounds}
 use Rattle.kalah_solve.proofs.Values.{over_swapped}
 use Rattle.kalah_solve.proofs.Worths.{again_step, over_step, turn_step}
-use Rattle.kalah_jobs.specs.Line.{position_after}
-use Rattle.kalah_jobs.specs.Given.{AppendsStart}
-use Rattle.kalah_jobs.proofs.Starts.{start_longer, start_then}
+use Rattle.kalah_jobs.specs.Line.Line.{position_after}
+use Rattle.kalah_jobs.specs.Writing.Given.{AppendsStart}
+use Rattle.kalah_jobs.proofs.OfWriting.Starts.{start_longer, start_then}
 use Rattle.kalah_cli.specs.Moves.{move_lines}
 use Rattle.kalah_cli.specs.Play.{IsBestGame, OfBestGame, game_lines}
 

@@ -2,11 +2,11 @@
 use Rattle.std.specs.Prelude.{◌≡◌, ◌↔◌, ◌==◌, ℕ, Bool, false, List, Option, map}
 use Rattle.std.specs.List.{list_any}
 use Rattle.std.specs.Io.KnownBytes.{Appends}
-use Rattle.kalah_jobs.specs.Given.{AppendsStart}
-use Rattle.kalah_jobs.specs.NamedBytes.{NamedBytes}
-use Rattle.kalah_jobs.specs.Output.{LineCounts, output_to, tally_of}
-use Rattle.kalah_jobs.specs.declared.question.Question.{Question}
-use Rattle.kalah_jobs.specs.declared.question.Question.TheVariants.{BestMove, Values}
+use Rattle.kalah_jobs.specs.Writing.Given.{AppendsStart}
+use Rattle.kalah_jobs.specs.Files.NamedBytes.{NamedBytes}
+use Rattle.kalah_jobs.specs.Writing.Output.{LineCounts, output_to, tally_of}
+use Rattle.kalah_jobs.specs.declared.files.question.Question.{Question}
+use Rattle.kalah_jobs.specs.declared.files.question.Question.TheVariants.{BestMove, Values}
 use Rattle.kalah_cli.specs.declared.status.ExitStatus.{ExitStatus}
 use Rattle.kalah_cli.specs.declared.status.ExitStatus.TheVariants.{Clean}
 

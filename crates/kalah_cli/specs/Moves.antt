@@ -3,9 +3,9 @@ use Rattle.std.specs.Prelude.{ℕ, List, [], ◌∷◌, ◌++◌, Bool, flat_map
 use Rattle.kalah_rules.specs.Position.{Position}
 use Rattle.kalah_rules.specs.Play.{legal_houses, step_of}
 use Rattle.kalah_rules.specs.declared.step.Step.{Step}
-use Rattle.kalah_jobs.specs.Line.{position_after, step_text_of}
-use Rattle.kalah_jobs.specs.Lines.{line_feed}
-use Rattle.kalah_jobs.specs.Picture.{picture_of}
+use Rattle.kalah_jobs.specs.Line.Line.{position_after, step_text_of}
+use Rattle.kalah_jobs.specs.Files.Lines.{line_feed}
+use Rattle.kalah_jobs.specs.Writing.Picture.{picture_of}
 
 -- the picture of a position, where boards are drawn
 abbrev pub board_lines : Bool → Position → List ℕ

@@ -5,8 +5,8 @@ use Rattle.kalah_rules.specs.Position.{Position, final_margin}
 use Rattle.kalah_rules.specs.Play.{step_of}
 use Rattle.kalah_solve.specs.BestPlay.{Game, follow}
 use Rattle.kalah_solve.specs.Worth.{best_house, worth}
-use Rattle.kalah_jobs.specs.Given.{AppendsStart}
-use Rattle.kalah_jobs.specs.Line.{position_after}
+use Rattle.kalah_jobs.specs.Writing.Given.{AppendsStart}
+use Rattle.kalah_jobs.specs.Line.Line.{position_after}
 use Rattle.kalah_cli.specs.Moves.{board_lines, move_lines}
 
 -- the moves of these houses, in turn, from a position on

@@ -1,7 +1,7 @@
 //! `kalah solve FILE..` and `kalah values FILE..`.
 ghost use Rattle.std.specs.Prelude.{◌≡◌, ◌≢◌, ◌↔◌, Err, IfErr, IfOk, IsErrOf, OnOk, false, map, true};
 ghost use Rattle.std.specs.List.{list_any};
-ghost use Rattle.kalah_jobs.specs.Output.{output_to};
+ghost use Rattle.kalah_jobs.specs.Writing.Output.{output_to};
 ghost use Rattle.kalah_run.specs.Answering.{AnswersBatch};
 ghost use Rattle.kalah_cli.specs.Request.{IsInLimits};
 ghost use Rattle.kalah_cli.specs.Batch.{AnswersTo, BeginsTo, CountsTo, has_line_feed};

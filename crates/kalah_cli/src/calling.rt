@@ -2,7 +2,7 @@
 ghost use Rattle.std.specs.Prelude.{◌≡◌, IfOk, IfSome, false};
 ghost use Rattle.kalah_rules.specs.Play.{step_of};
 ghost use Rattle.kalah_rules.specs.Position.{is_over};
-ghost use Rattle.kalah_jobs.specs.Output.{tally_of};
+ghost use Rattle.kalah_jobs.specs.Writing.Output.{tally_of};
 ghost use Rattle.kalah_solve.specs.Worth.{worth};
 
 use kalah_jobs::{FileText, Stream};

@@ -2,8 +2,8 @@
 ghost use Rattle.std.specs.Prelude.{◌≡◌, ◌≢◌, ◌↔◌, IsErr, OnOk, false, true};
 ghost use Rattle.std.specs.Io.KnownBytes.{Appends};
 ghost use Rattle.kalah_rules.specs.Position.{Position};
-ghost use Rattle.kalah_jobs.specs.Given.{AppendsStart};
-ghost use Rattle.kalah_jobs.specs.Line.{Reads};
+ghost use Rattle.kalah_jobs.specs.Writing.Given.{AppendsStart};
+ghost use Rattle.kalah_jobs.specs.Line.Line.{Reads};
 ghost use Rattle.kalah_cli.specs.Moves.{board_lines, move_lines, moves_output};
 
 use crate::failure::Failure;

@@ -2,7 +2,7 @@
 ghost use Rattle.std.specs.Prelude.{◌≡◌, ◌≢◌, ◌↔◌, ◌≤◌, IsErr, OnOk, false, true};
 ghost use Rattle.kalah_rules.specs.Position.{Position};
 ghost use Rattle.kalah_solve.specs.Table.{most_entries};
-ghost use Rattle.kalah_jobs.specs.Line.{Reads};
+ghost use Rattle.kalah_jobs.specs.Line.Line.{Reads};
 ghost use Rattle.kalah_cli.specs.Play.{BeginsBest, BeginsGame, PlaysBest, WritesGame};
 
 use crate::failure::Failure;

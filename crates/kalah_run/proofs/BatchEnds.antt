@@ -2,21 +2,21 @@
 use Rattle.std.proofs.Common.{◌≡◌, ℕ, List, ◌+◌, [], ◌∷◌, length, refl, sym, ap, ◌∙◌, subst, arith}
 use Rattle.std.specs.Prelude.{Option, Some, None, Bool, count_by}
 use Rattle.std.specs.Io.KnownBytes.{Appends, Keeps}
-use Rattle.kalah_jobs.specs.declared.answer.Taken.{Taken}
-use Rattle.kalah_jobs.specs.declared.entry.Entry.{Entry}
-use Rattle.kalah_jobs.specs.declared.question.Question.{Question}
-use Rattle.kalah_jobs.specs.Offer.{Offer}
-use Rattle.kalah_jobs.specs.NamedBytes.{NamedBytes}
-use Rattle.kalah_jobs.specs.JobList.{job_list}
-use Rattle.kalah_jobs.specs.Jobs.{jobs_to, job_count}
+use Rattle.kalah_jobs.specs.declared.writing.answer.Taken.{Taken}
+use Rattle.kalah_jobs.specs.declared.files.entry.Entry.{Entry}
+use Rattle.kalah_jobs.specs.declared.files.question.Question.{Question}
+use Rattle.kalah_jobs.specs.Collecting.Offer.{Offer}
+use Rattle.kalah_jobs.specs.Files.NamedBytes.{NamedBytes}
+use Rattle.kalah_jobs.specs.Files.JobList.{job_list}
+use Rattle.kalah_jobs.specs.Files.Jobs.{jobs_to, job_count}
 use Rattle.std.specs.List.{flat_map, enumerate_from}
 use Rattle.std.proofs.lemmas.List.Sums.{sum_by-cons}
-use Rattle.kalah_jobs.specs.Output.{answer_text_of, output_to, output_of_jobs, names_of, tally_of, LineCounts, text_of_file, text_of_jobs, is_faulty_offer}
-use Rattle.kalah_jobs.specs.Batch.{AreJobsInSomeOrder}
+use Rattle.kalah_jobs.specs.Writing.Output.{answer_text_of, output_to, output_of_jobs, names_of, tally_of, LineCounts, text_of_file, text_of_jobs, is_faulty_offer}
+use Rattle.kalah_jobs.specs.Collecting.Batch.{AreJobsInSomeOrder}
 use Rattle.kalah_run.specs.UnderWay.{WasGiven}
 use Rattle.kalah_run.proofs.BatchWay.{way_end}
 use Rattle.kalah_run.proofs.Giving.{given_none}
-use Rattle.kalah_jobs.proofs.JobOutput.{files_are_their_jobs}
+use Rattle.kalah_jobs.proofs.OfWriting.JobOutput.{files_are_their_jobs}
 use Rattle.kalah_run.specs.Texts.{text_of}
 use Rattle.kalah_run.specs.Reporting.{IsReporting, Waits}
 use Rattle.kalah_run.specs.declared.report.Report.{Report}

@@ -6,21 +6,21 @@ use Rattle.std.proofs.lemmas.Bool.{cases_eq, cases_lt}
 use Rattle.std.proofs.lemmas.List.{append-nil, get_or_past, take_all, take_more, flat_map_more}
 use Rattle.std.proofs.lemmas.List.FromFn.{length-enumerate_from}
 use Rattle.std.proofs.lemmas.Option.{slice_get_within}
-use Rattle.kalah_jobs.specs.declared.entry.Entry.{Entry}
-use Rattle.kalah_jobs.specs.declared.answer.Taken.{Taken}
-use Rattle.kalah_jobs.specs.declared.refusal.Refusal.{Refusal}
-use Rattle.kalah_jobs.specs.Answer.{answer_of}
-use Rattle.kalah_jobs.specs.Offer.{Offer}
-use Rattle.kalah_jobs.specs.JobList.{entries_of, entry_at}
-use Rattle.kalah_jobs.specs.CollectorState.{FileState, state_of, line_count, front, HasEnded, with_one_taken, new_files, after_offer, after_take}
-use Rattle.kalah_jobs.specs.Refusals.{IsWanted, IsRefusedFor}
-use Rattle.kalah_jobs.specs.CollectorEvents.{Offers, Takes, answered_line}
-use Rattle.kalah_jobs.specs.Batch.{AreJobsInSomeOrder}
-use Rattle.kalah_jobs.specs.Output.{text_of_line, text_of_file, text_of_jobs}
+use Rattle.kalah_jobs.specs.declared.files.entry.Entry.{Entry}
+use Rattle.kalah_jobs.specs.declared.writing.answer.Taken.{Taken}
+use Rattle.kalah_jobs.specs.declared.collecting.refusal.Refusal.{Refusal}
+use Rattle.kalah_jobs.specs.Writing.Answer.{answer_of}
+use Rattle.kalah_jobs.specs.Collecting.Offer.{Offer}
+use Rattle.kalah_jobs.specs.Files.JobList.{entries_of, entry_at}
+use Rattle.kalah_jobs.specs.Collecting.CollectorState.{FileState, state_of, line_count, front, HasEnded, with_one_taken, new_files, after_offer, after_take}
+use Rattle.kalah_jobs.specs.Collecting.Refusals.{IsWanted, IsRefusedFor}
+use Rattle.kalah_jobs.specs.Collecting.CollectorEvents.{Offers, Takes, answered_line}
+use Rattle.kalah_jobs.specs.Collecting.Batch.{AreJobsInSomeOrder}
+use Rattle.kalah_jobs.specs.Writing.Output.{text_of_line, text_of_file, text_of_jobs}
 use Rattle.kalah_run.specs.UnderWay.{WasGiven, written_upto, IsUnderWay}
-use Rattle.kalah_jobs.proofs.CollectorSteps.{state_same, state_other, files_many, lines_are, wanted_file, holds_accepted, holds_refused, holds_take}
-use Rattle.kalah_jobs.proofs.CollectorRuns.{numbered_at, numbered_is, start, taken_is, taken_after_offer, front_after_offer, new_taken}
-use Rattle.kalah_jobs.proofs.JobOrders.{fronts_full}
+use Rattle.kalah_jobs.proofs.OfCollecting.CollectorSteps.{state_same, state_other, files_many, lines_are, wanted_file, holds_accepted, holds_refused, holds_take}
+use Rattle.kalah_jobs.proofs.OfCollecting.CollectorRuns.{numbered_at, numbered_is, start, taken_is, taken_after_offer, front_after_offer, new_taken}
+use Rattle.kalah_jobs.proofs.OfCollecting.JobOrders.{fronts_full}
 use Rattle.kalah_run.proofs.Giving.{given_none}
 
 -- what is written, line by line and file by file

@@ -4,7 +4,7 @@ use Rattle.std.specs.Prelude.{◌==◌, sum_by, count_by, if◌then◌else◌}
 use Rattle.std.proofs.lemmas.Bool.{lt-ltb, le-ltb, cases_lt}
 use Rattle.std.proofs.lemmas.List.Sums.{sum_by-cons, get_or-le-sum_by}
 use Rattle.kalah_run.specs.declared.desk_rule.Row.{Row}
-use Rattle.kalah_jobs.specs.Shares.{times_in}
+use Rattle.kalah_jobs.specs.Collecting.Shares.{times_in}
 use Rattle.kalah_run.specs.DeskRows.{numbers_of, drawn_in, AreLawful, StandsOnce, StandsNowhere}
 use Rattle.kalah_run.proofs.DeskSums.{times_rows}
 

@@ -10,7 +10,7 @@ use Rattle.kalah_run.specs.declared.desk_rule.Row.{Row}
 use Rattle.kalah_run.specs.declared.desk_rule.DeskPlan.{DeskPlan}
 use Rattle.kalah_run.specs.declared.desk_rule.DeskView.{DeskView}
 use Rattle.kalah_run.specs.declared.desk_rule.DeskView.TheVariants.{Opening, Drawing, Closing, Ended}
-use Rattle.kalah_jobs.specs.Shares.{times_in}
+use Rattle.kalah_jobs.specs.Collecting.Shares.{times_in}
 use Rattle.kalah_run.specs.DeskRows.{numbers_of}
 use Rattle.kalah_run.specs.DeskKept.{rows_in, all_rows, passes_in, HasTotal}
 

@@ -3,8 +3,8 @@ use Rattle.std.proofs.Common.{◌≡◌, ℕ, List, [], ◌++◌, Bool, true, fa
 use Rattle.std.specs.Prelude.{Option}
 use Rattle.std.specs.Io.KnownBytes.{Appends, Keeps}
 use Rattle.std.proofs.KnownBytes.{Appends-kept, Appends-nil, Appends-trans}
-use Rattle.kalah_jobs.specs.Given.{AppendsStart}
-use Rattle.kalah_jobs.proofs.Starts.{start_none, start_then, start_longer, start_kept}
+use Rattle.kalah_jobs.specs.Writing.Given.{AppendsStart}
+use Rattle.kalah_jobs.proofs.OfWriting.Starts.{start_none, start_then, start_longer, start_kept}
 use Rattle.kalah_run.specs.UnderWay.{WasGiven}
 
 -- it was given none yet

@@ -2,14 +2,14 @@
 use Rattle.std.proofs.Common.{◌≡◌, ◌≢◌, ◌⊎◌, ◌∙◌, ℕ, zero, suc, ◌<◌, ◌≤◌, List, [], ◌++◌, append-nil, ap, arith, inl, inr, length, refl, sym, take}
 use Rattle.std.specs.Prelude.{◌↔◌, Option, None, Some, Result, Ok, Err, IfOk}
 use Rattle.std.specs.Io.KnownBytes.{Appends, Keeps}
-use Rattle.kalah_jobs.specs.declared.question.Question.{Question}
-use Rattle.kalah_jobs.specs.Given.{AppendsStart}
-use Rattle.kalah_jobs.specs.JobList.{job_list}
-use Rattle.kalah_jobs.specs.Jobs.{jobs_to, line_count, most_files, most_lines}
-use Rattle.kalah_jobs.specs.NamedBytes.{NamedBytes}
-use Rattle.kalah_jobs.specs.Output.{LineCounts, answer_text_of, names_of, output_to, tally_of}
-use Rattle.kalah_jobs.proofs.JobCounts.{job_count-jobs_to, length-job_list}
-use Rattle.kalah_jobs.proofs.JobOutput.{files_are_their_jobs}
+use Rattle.kalah_jobs.specs.declared.files.question.Question.{Question}
+use Rattle.kalah_jobs.specs.Writing.Given.{AppendsStart}
+use Rattle.kalah_jobs.specs.Files.JobList.{job_list}
+use Rattle.kalah_jobs.specs.Files.Jobs.{jobs_to, line_count, most_files, most_lines}
+use Rattle.kalah_jobs.specs.Files.NamedBytes.{NamedBytes}
+use Rattle.kalah_jobs.specs.Writing.Output.{LineCounts, answer_text_of, names_of, output_to, tally_of}
+use Rattle.kalah_jobs.proofs.OfFiles.JobCounts.{job_count-jobs_to, length-job_list}
+use Rattle.kalah_jobs.proofs.OfWriting.JobOutput.{files_are_their_jobs}
 use Rattle.kalah_run.specs.NoLine.{AnswersNothing}
 use Rattle.kalah_run.specs.declared.run_fault.RunFault.{RunFault}
 use Rattle.kalah_run.specs.declared.run_fault.RunFault.TheVariants.{TooManyFiles, TooManyLines, OutOfMemory, NoWorker, Write}

@@ -1,6 +1,6 @@
 -- What the rule of the results queue says, in plain words.
 use Rattle.std.proofs.Common.{◌≡◌, ℕ, suc, ◌<◌, List, ◌++◌, length, sym, arith}
-use Rattle.kalah_jobs.specs.Offer.{Offer}
+use Rattle.kalah_jobs.specs.Collecting.Offer.{Offer}
 use Rattle.kalah_run.specs.declared.queue_rule.QueueView.{QueueView}
 use Rattle.kalah_run.specs.declared.queue_rule.QueueView.TheVariants.{Getting, Putting}
 use Rattle.kalah_run.specs.QueueRule.{FitsGet, FitsPut, IsLawful}

@@ -3,7 +3,7 @@ use Rattle.std.proofs.Common.{◌≡◌, ◌≢◌, ℕ, zero, suc, ◌<◌, Lis
 use mathlib.Core.Option.{some, some-injective, some-ne-none}
 use lib.ListN.{get_elem?}
 use Rattle.crossbeam_queue.proofs.Lists.{at_set}
-use Rattle.kalah_jobs.specs.Offer.{Offer}
+use Rattle.kalah_jobs.specs.Collecting.Offer.{Offer}
 use Rattle.kalah_run.specs.declared.queue_rule.QueueView.{QueueView}
 use Rattle.kalah_run.specs.declared.queue_rule.QueueView.TheVariants.{Getting}
 use Rattle.kalah_run.specs.QueueSteps.{IsGot, made_in}

@@ -5,13 +5,13 @@ use Rattle.std.proofs.lemmas.List.{get_or-map}
 use Rattle.std.proofs.lemmas.List.Sums.{sum_by-append}
 use Rattle.std.specs.Prelude.{Option, Bool, true, false, Result, Ok, Err, IsErr, OnOk}
 use Rattle.std.specs.Io.KnownBytes.{Keeps}
-use Rattle.kalah_jobs.specs.declared.answer.Taken.{Taken}
-use Rattle.kalah_jobs.specs.declared.entry.Entry.{Entry}
-use Rattle.kalah_jobs.specs.Answer.{answer_line}
-use Rattle.kalah_jobs.specs.Offer.{Offer}
-use Rattle.kalah_jobs.specs.Lines.{line_feed}
-use Rattle.kalah_jobs.specs.NamedBytes.{NamedBytes}
-use Rattle.kalah_jobs.specs.Output.{is_faulty_offer}
+use Rattle.kalah_jobs.specs.declared.writing.answer.Taken.{Taken}
+use Rattle.kalah_jobs.specs.declared.files.entry.Entry.{Entry}
+use Rattle.kalah_jobs.specs.Writing.Answer.{answer_line}
+use Rattle.kalah_jobs.specs.Collecting.Offer.{Offer}
+use Rattle.kalah_jobs.specs.Files.Lines.{line_feed}
+use Rattle.kalah_jobs.specs.Files.NamedBytes.{NamedBytes}
+use Rattle.kalah_jobs.specs.Writing.Output.{is_faulty_offer}
 use Rattle.kalah_run.proofs.Giving.{given_kept}
 use Rattle.kalah_run.specs.declared.report.Report.{Report}
 use Rattle.kalah_run.specs.Reporting.{IsReporting}

@@ -1,14 +1,14 @@
 -- What a worker sends with one job more.
 use Rattle.std.proofs.Common.{◌≡◌, ℕ, List, [], ◌∷◌, ◌++◌, sym, ap, ◌∙◌}
 use Rattle.std.proofs.lemmas.List.{map-append}
-use Rattle.kalah_jobs.specs.declared.entry.Entry.{Entry}
-use Rattle.kalah_jobs.specs.Offer.{Offer}
+use Rattle.kalah_jobs.specs.declared.files.entry.Entry.{Entry}
+use Rattle.kalah_jobs.specs.Collecting.Offer.{Offer}
 use Rattle.std.specs.Prelude.{slice_get, Some}
 use Rattle.std.proofs.lemmas.Option.{get_or_from_slice_get}
-use Rattle.kalah_jobs.specs.JobList.{job_list, offer}
-use Rattle.kalah_jobs.specs.declared.entry.Entry.TheVariants.{Bad}
-use Rattle.kalah_jobs.specs.declared.line_fault.LineFault.TheVariants.{Empty}
-use Rattle.kalah_jobs.specs.Batch.{job}
+use Rattle.kalah_jobs.specs.Files.JobList.{job_list, offer}
+use Rattle.kalah_jobs.specs.declared.files.entry.Entry.TheVariants.{Bad}
+use Rattle.kalah_jobs.specs.declared.line.line_fault.LineFault.TheVariants.{Empty}
+use Rattle.kalah_jobs.specs.Collecting.Batch.{job}
 use Rattle.kalah_run.specs.declared.desk_rule.Row.{Row}
 use Rattle.kalah_run.specs.Work.{offers_of}
 

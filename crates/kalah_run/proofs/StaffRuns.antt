@@ -4,13 +4,13 @@ use Rattle.std.specs.Prelude.{All, nat_lt, if◌then◌else◌, vec_capacity}
 use Rattle.std.proofs.lemmas.List.{length-map, get_or-map}
 use Rattle.std.proofs.lemmas.List.Elements.{All-map}
 use Rattle.atomic_table.specs.Seated.{TableId}
-use Rattle.kalah_jobs.specs.declared.entry.Entry.{Entry}
-use Rattle.kalah_jobs.specs.Offer.{Offer}
-use Rattle.kalah_jobs.specs.JobList.{job_list}
-use Rattle.kalah_jobs.specs.Shares.{AreShared}
-use Rattle.kalah_jobs.specs.Batch.{job, AreJobsInSomeOrder}
-use Rattle.kalah_jobs.proofs.JobOrders.{shares_law}
-use Rattle.kalah_jobs.specs.Shares.{times_in}
+use Rattle.kalah_jobs.specs.declared.files.entry.Entry.{Entry}
+use Rattle.kalah_jobs.specs.Collecting.Offer.{Offer}
+use Rattle.kalah_jobs.specs.Files.JobList.{job_list}
+use Rattle.kalah_jobs.specs.Collecting.Shares.{AreShared}
+use Rattle.kalah_jobs.specs.Collecting.Batch.{job, AreJobsInSomeOrder}
+use Rattle.kalah_jobs.proofs.OfCollecting.JobOrders.{shares_law}
+use Rattle.kalah_jobs.specs.Collecting.Shares.{times_in}
 use Rattle.kalah_run.specs.DeskRows.{numbers_of, spent_in}
 use Rattle.kalah_run.specs.DeskStates.{DeskState, PassState, IsPassOf, AreNewPasses, new_pass, rows_of}
 use Rattle.kalah_run.specs.QueueStates.{GetState, PutState, ArePassesFrom, sent_by}

@@ -3,7 +3,7 @@ use Rattle.std.proofs.Common.{◌≡◌, List, [], ◌∷◌, ◌++◌, sym, ap,
 use Rattle.std.specs.Prelude.{All, Contains}
 use Rattle.std.proofs.lemmas.List.{map-append}
 use Rattle.std.proofs.lemmas.List.Elements.{All-push, All-contains, Contains-append_right, Contains-append_left, Contains-push}
-use Rattle.kalah_jobs.specs.declared.entry.Entry.{Entry}
+use Rattle.kalah_jobs.specs.declared.files.entry.Entry.{Entry}
 use Rattle.kalah_run.specs.QueueStates.{PutState}
 use Rattle.kalah_run.specs.DeskStates.{PassState}
 use Rattle.kalah_run.specs.declared.shift.Shift.{Shift}

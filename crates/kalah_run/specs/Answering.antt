@@ -1,10 +1,10 @@
 -- What a batch promises, whatever is asked of its lines.
 use Rattle.std.specs.Prelude.{◌≡◌, ◌≢◌, ◌↔◌, ◌<◌, ◌≤◌, ℕ, List, Option, Bool, Result, Err, length, true, IfOk, IfErr, OnOk}
 use Rattle.std.specs.Io.KnownBytes.{Appends}
-use Rattle.kalah_jobs.specs.Given.{AppendsStart}
-use Rattle.kalah_jobs.specs.Jobs.{line_count, most_files, most_lines}
-use Rattle.kalah_jobs.specs.NamedBytes.{NamedBytes}
-use Rattle.kalah_jobs.specs.Output.{LineCounts, tally_of}
+use Rattle.kalah_jobs.specs.Writing.Given.{AppendsStart}
+use Rattle.kalah_jobs.specs.Files.Jobs.{line_count, most_files, most_lines}
+use Rattle.kalah_jobs.specs.Files.NamedBytes.{NamedBytes}
+use Rattle.kalah_jobs.specs.Writing.Output.{LineCounts, tally_of}
 use Rattle.kalah_run.specs.NoLine.{AnswersNothing}
 use Rattle.kalah_run.specs.declared.run_fault.RunFault.{RunFault}
 use Rattle.kalah_run.specs.declared.run_fault.RunFault.TheVariants.{TooManyFiles, TooManyLines, NoWorker, Write}

@@ -1,6 +1,6 @@
 -- The rows of a desk: for each pass the numbers that it has drawn, and whether it was answered None.
 use Rattle.std.specs.Prelude.{◌≡◌, ◌≢◌, ℕ, ◌+◌, ◌<◌, ◌≤◌, ◌==◌, List, length, map, fold, Bool, nat_lt, if◌then◌else◌, sum_by, count_by, All, AllPairs, slice_index_or}
-use Rattle.kalah_jobs.specs.Shares.{times_in}
+use Rattle.kalah_jobs.specs.Collecting.Shares.{times_in}
 use Rattle.kalah_run.specs.declared.desk_rule.Row.{Row}
 
 abbrev pub row : List ℕ → Bool → Row

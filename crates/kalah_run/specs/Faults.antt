@@ -1,6 +1,6 @@
 -- The faults of a batch.
-use Rattle.kalah_jobs.specs.declared.jobs.JobsFault.{JobsFault}
-use Rattle.kalah_jobs.specs.declared.jobs.JobsFault.TheVariants as jobs
+use Rattle.kalah_jobs.specs.declared.files.jobs.JobsFault.{JobsFault}
+use Rattle.kalah_jobs.specs.declared.files.jobs.JobsFault.TheVariants as jobs
 use Rattle.kalah_run.specs.declared.run_fault.RunFault.{RunFault}
 use Rattle.kalah_run.specs.declared.run_fault.RunFault.TheVariants.{TooManyFiles, TooManyLines, OutOfMemory}
 

@@ -1,7 +1,7 @@
 -- What a batch answers whose files have no line.
 use Rattle.std.specs.Prelude.{◌≡◌, ◌⊎◌, ℕ, List, Option, Result, IfOk, IfErr}
 use Rattle.std.specs.Io.KnownBytes.{Keeps}
-use Rattle.kalah_jobs.specs.Output.{LineCounts}
+use Rattle.kalah_jobs.specs.Writing.Output.{LineCounts}
 use Rattle.kalah_run.specs.declared.run_fault.RunFault.{RunFault}
 use Rattle.kalah_run.specs.declared.run_fault.RunFault.TheVariants.{TooManyFiles, OutOfMemory, Write}
 

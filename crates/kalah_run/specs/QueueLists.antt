@@ -1,7 +1,7 @@
 -- What was sent through the results queue, worker by worker.
 use Rattle.std.specs.Prelude.{◌≡◌, ℕ, ◌<◌, List, [], length, slice_index_or, All}
-use Rattle.kalah_jobs.specs.Offer.{Offer}
-use Rattle.kalah_jobs.specs.Shares.{of}
+use Rattle.kalah_jobs.specs.Collecting.Offer.{Offer}
+use Rattle.kalah_jobs.specs.Collecting.Shares.{of}
 
 -- The pairs of a worker and its outcome tell all that was sent: each is of one of so many workers, and those of a worker in the list `sent` are what it sent, whole and in its order.
 pub record Accounts (workers : ℕ) (sent : List (List Offer)) (pairs : List (ℕ × Offer)) : Type 0 where

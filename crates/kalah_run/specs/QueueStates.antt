@@ -1,7 +1,7 @@
 -- The results queue, its passes and a closed queue, as contracts see them.
 use Rattle.std.specs.Prelude.{◌≡◌, ℕ, suc, ◌<◌, List, [], ◌∷◌, ◌++◌, map}
 use Rattle.atomic_table.specs.Seated.{TableId}
-use Rattle.kalah_jobs.specs.Offer.{Offer}
+use Rattle.kalah_jobs.specs.Collecting.Offer.{Offer}
 
 -- which queue it is, and how many pairs fill it
 pub record QueueState : Type 0 where

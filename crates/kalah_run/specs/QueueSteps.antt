@@ -1,6 +1,6 @@
 -- What each step makes of what a pass of the results queue knows.
 use Rattle.std.specs.Prelude.{◌≡◌, ℕ, ◌+◌, ◌<◌, List, [], ◌∷◌, ◌++◌}
-use Rattle.kalah_jobs.specs.Offer.{Offer}
+use Rattle.kalah_jobs.specs.Collecting.Offer.{Offer}
 use Rattle.kalah_run.specs.declared.queue_rule.QueueView.{QueueView}
 use Rattle.kalah_run.specs.declared.queue_rule.QueueView.TheVariants.{Getting, Putting, Ended}
 use Rattle.kalah_run.specs.QueueLists.{Accounts}

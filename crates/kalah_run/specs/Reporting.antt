@@ -1,10 +1,10 @@
 -- What is known of a report.
 use Rattle.std.specs.Prelude.{◌≡◌, ℕ, ◌<◌, List, [], ◌∷◌, ◌++◌, Option, Bool, length, count_by, map}
-use Rattle.kalah_jobs.specs.declared.entry.Entry.{Entry}
-use Rattle.kalah_jobs.specs.Offer.{Offer}
-use Rattle.kalah_jobs.specs.NamedBytes.{NamedBytes}
-use Rattle.kalah_jobs.specs.Output.{is_faulty_offer}
-use Rattle.kalah_jobs.specs.CollectorState.{state_of, HasEnded}
+use Rattle.kalah_jobs.specs.declared.files.entry.Entry.{Entry}
+use Rattle.kalah_jobs.specs.Collecting.Offer.{Offer}
+use Rattle.kalah_jobs.specs.Files.NamedBytes.{NamedBytes}
+use Rattle.kalah_jobs.specs.Writing.Output.{is_faulty_offer}
+use Rattle.kalah_jobs.specs.Collecting.CollectorState.{state_of, HasEnded}
 use Rattle.kalah_run.specs.UnderWay.{IsUnderWay}
 use Rattle.kalah_run.specs.Texts.{text_of}
 use Rattle.kalah_run.specs.declared.report.Report.{Report}

@@ -2,7 +2,7 @@
 use Rattle.std.specs.Prelude.{◌≡◌, ℕ, ◌<◌, true, List, length, map, slice_index_or}
 use Rattle.std.specs.List.{All}
 use Rattle.atomic_table.specs.Seated.{TableId}
-use Rattle.kalah_jobs.specs.declared.entry.Entry.{Entry}
+use Rattle.kalah_jobs.specs.declared.files.entry.Entry.{Entry}
 use Rattle.kalah_run.specs.DeskStates.{DeskState, PassState, IsPassOf}
 use Rattle.kalah_run.specs.QueueStates.{PutState}
 use Rattle.kalah_run.specs.declared.shift.Shift.{Shift}

@@ -1,8 +1,8 @@
 -- What is known of a batch's staff, before and after it has run.
 use Rattle.std.specs.Prelude.{◌≡◌, ◌<◌, ◌≤◌, List, [], length, vec_capacity}
 use Rattle.std.specs.List.{All}
-use Rattle.kalah_jobs.specs.declared.entry.Entry.{Entry}
-use Rattle.kalah_jobs.specs.Jobs.{job_count}
+use Rattle.kalah_jobs.specs.declared.files.entry.Entry.{Entry}
+use Rattle.kalah_jobs.specs.Files.Jobs.{job_count}
 use Rattle.kalah_run.specs.DeskRows.{spent_in}
 use Rattle.kalah_run.specs.DeskStates.{IsPassOf, rows_of}
 use Rattle.kalah_run.specs.QueueStates.{ArePassesFrom}

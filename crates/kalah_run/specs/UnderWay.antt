@@ -2,14 +2,14 @@
 use Rattle.std.specs.Prelude.{◌≡◌, ℕ, ◌<◌, ◌≤◌, List, ◌++◌, take, Bool, false, Option}
 use Rattle.std.specs.List.{flat_map, enumerate_from}
 use Rattle.std.specs.Io.KnownBytes.{Appends}
-use Rattle.kalah_jobs.specs.declared.entry.Entry.{Entry}
-use Rattle.kalah_jobs.specs.declared.answer.Taken.{Taken}
-use Rattle.kalah_jobs.specs.Offer.{Offer}
-use Rattle.kalah_jobs.specs.JobList.{entries_of}
-use Rattle.kalah_jobs.specs.CollectorState.{FileState, state_of, line_count, front}
-use Rattle.kalah_jobs.specs.Held.{HoldsOffered}
-use Rattle.kalah_jobs.specs.Output.{text_of_line, text_of_file}
-use Rattle.kalah_jobs.specs.Given.{AppendsStart}
+use Rattle.kalah_jobs.specs.declared.files.entry.Entry.{Entry}
+use Rattle.kalah_jobs.specs.declared.writing.answer.Taken.{Taken}
+use Rattle.kalah_jobs.specs.Collecting.Offer.{Offer}
+use Rattle.kalah_jobs.specs.Files.JobList.{entries_of}
+use Rattle.kalah_jobs.specs.Collecting.CollectorState.{FileState, state_of, line_count, front}
+use Rattle.kalah_jobs.specs.Collecting.Held.{HoldsOffered}
+use Rattle.kalah_jobs.specs.Writing.Output.{text_of_line, text_of_file}
+use Rattle.kalah_jobs.specs.Writing.Given.{AppendsStart}
 
 -- A sink that had `begun` was given bs, in order. It has all of them behind that, unless a call of it has failed; and then it
 -- has a beginning of them, and nothing else.

@@ -1,8 +1,8 @@
 -- What a worker is to send.
 use Rattle.std.specs.Prelude.{ℕ, List, map}
-use Rattle.kalah_jobs.specs.declared.entry.Entry.{Entry}
-use Rattle.kalah_jobs.specs.Offer.{Offer}
-use Rattle.kalah_jobs.specs.Batch.{job}
+use Rattle.kalah_jobs.specs.declared.files.entry.Entry.{Entry}
+use Rattle.kalah_jobs.specs.Collecting.Offer.{Offer}
+use Rattle.kalah_jobs.specs.Collecting.Batch.{job}
 
 -- the outcomes of the jobs of these numbers, in order
 unfoldable pub offers_of : List (List Entry) → List ℕ → List Offer

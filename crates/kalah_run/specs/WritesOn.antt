@@ -1,9 +1,9 @@
 -- What a batch has written goes on.
 use Rattle.std.specs.Prelude.{ℕ, List, Option, Bool}
-use Rattle.kalah_jobs.specs.declared.entry.Entry.{Entry}
-use Rattle.kalah_jobs.specs.Offer.{Offer}
-use Rattle.kalah_jobs.specs.NamedBytes.{NamedBytes}
-use Rattle.kalah_jobs.specs.CollectorState.{FileState}
+use Rattle.kalah_jobs.specs.declared.files.entry.Entry.{Entry}
+use Rattle.kalah_jobs.specs.Collecting.Offer.{Offer}
+use Rattle.kalah_jobs.specs.Files.NamedBytes.{NamedBytes}
+use Rattle.kalah_jobs.specs.Collecting.CollectorState.{FileState}
 use Rattle.kalah_run.specs.UnderWay.{IsUnderWay}
 use Rattle.kalah_run.specs.Texts.{text_of}
 

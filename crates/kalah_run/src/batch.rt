@@ -1,11 +1,11 @@
 //! A batch: the lines of position files, solved by many workers and answered in order.
 ghost use Rattle.std.specs.Prelude.{◌≡◌, ◌↔◌, ◌<◌, ◌≤◌, ◌⊎◌, true, false, Err, length, count_by, IfOk, IfErr, OnOk, OnErr, IsErr};
 ghost use Rattle.std.specs.Io.KnownBytes.{Keeps};
-ghost use Rattle.kalah_jobs.specs.JobList.{job_list};
+ghost use Rattle.kalah_jobs.specs.Files.JobList.{job_list};
 ghost use Rattle.kalah_run.specs.Limits.{AreWorkers, IsTableSize};
 ghost use Rattle.kalah_run.specs.UnderWay.{WasGiven};
-ghost use Rattle.kalah_jobs.specs.Jobs.{job_count};
-ghost use Rattle.kalah_jobs.specs.Output.{names_of, output_of, output_to, output_of_jobs, values_output_of, is_faulty_offer};
+ghost use Rattle.kalah_jobs.specs.Files.Jobs.{job_count};
+ghost use Rattle.kalah_jobs.specs.Writing.Output.{names_of, output_of, output_to, output_of_jobs, values_output_of, is_faulty_offer};
 ghost use Rattle.kalah_run.specs.Answering.{AnswersBatch};
 ghost use Rattle.kalah_run.specs.declared.run_fault.RunFault.TheVariants.{OutOfMemory, NoWorker, Write};
 

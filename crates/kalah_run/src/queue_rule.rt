@@ -13,7 +13,7 @@ pub struct Tagged {
 
 impl Model for Tagged {
     ghost use Rattle.std.specs.Prelude.{ℕ};
-    ghost use Rattle.kalah_jobs.specs.Offer.{Offer};
+    ghost use Rattle.kalah_jobs.specs.Collecting.Offer.{Offer};
 
     ghost Value = { ℕ × Offer };
 

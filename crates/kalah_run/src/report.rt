@@ -1,7 +1,7 @@
 //! The answers of a batch, written in the order of its lines.
 ghost use Rattle.std.specs.Prelude.{◌≡◌, ◌+◌, ◌^◌, ◌<◌, [], ℕ, List, Option, Bool, length, map, IfOk, if◌then◌else◌};
-ghost use Rattle.kalah_jobs.specs.Answer.{is_fault};
-ghost use Rattle.kalah_jobs.specs.CollectorState.{state_of, line_count, HasNoNext, HasLinesOf};
+ghost use Rattle.kalah_jobs.specs.Writing.Answer.{is_fault};
+ghost use Rattle.kalah_jobs.specs.Collecting.CollectorState.{state_of, line_count, HasNoNext, HasLinesOf};
 ghost use Rattle.kalah_run.specs.WritesOn.{WritesOn};
 
 use kalah_jobs::{Answer, Collector, FileText, Jobs, Outcome, Sink, Taken, write_answer};

@@ -1,7 +1,7 @@
 //! The results queue: outcomes on their way from many workers to one collector.
 ghost use Rattle.std.specs.Prelude.{◌≡◌, ◌≤◌, ◌<◌, ℕ, List, [], ◌∷◌, ◌++◌, length, All, IfOk, MatchOption, vec_len};
 ghost use Rattle.crossbeam_queue.specs.Passes.{view, IsPassOf};
-ghost use Rattle.kalah_jobs.specs.Offer.{Offer};
+ghost use Rattle.kalah_jobs.specs.Collecting.Offer.{Offer};
 ghost use Rattle.kalah_run.specs.Limits.{AreWorkers};
 ghost use Rattle.kalah_run.specs.declared.queue_rule.QueueView.TheVariants.{Getting, Putting};
 ghost use Rattle.kalah_run.specs.QueueLists.{Accounts};

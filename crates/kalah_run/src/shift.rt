@@ -1,6 +1,6 @@
 //! One worker's part of a batch.
 ghost use Rattle.std.specs.Prelude.{◌≡◌};
-ghost use Rattle.kalah_jobs.specs.Jobs.{job_count};
+ghost use Rattle.kalah_jobs.specs.Files.Jobs.{job_count};
 ghost use Rattle.kalah_run.specs.Work.{offers_of};
 
 use crate::desk::Desk;

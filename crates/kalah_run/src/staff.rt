@@ -1,9 +1,9 @@
 //! The staff of a batch: its shifts, and where they draw and send. It is put together before the batch, and taken apart after it.
 ghost use Rattle.std.specs.Prelude.{◌≡◌, ◌<◌, ◌≤◌, [], List, length, vec_len, vec_capacity, IfOk};
 ghost use Rattle.std.specs.List.{All};
-ghost use Rattle.kalah_jobs.specs.Batch.{AreJobsInSomeOrder};
-ghost use Rattle.kalah_jobs.specs.JobList.{job_list};
-ghost use Rattle.kalah_jobs.specs.declared.entry.Entry.{Entry};
+ghost use Rattle.kalah_jobs.specs.Collecting.Batch.{AreJobsInSomeOrder};
+ghost use Rattle.kalah_jobs.specs.Files.JobList.{job_list};
+ghost use Rattle.kalah_jobs.specs.declared.files.entry.Entry.{Entry};
 ghost use Rattle.kalah_run.specs.Limits.{AreWorkers, IsTableSize};
 ghost use Rattle.kalah_run.specs.Reporting.{outcomes_in};
 ghost use Rattle.kalah_run.specs.Shifts.{passes_of, puts_of, HaveJobs};

@@ -11,7 +11,7 @@ pub struct Tally {
 }
 
 impl Model for Tally {
-    ghost use Rattle.kalah_jobs.specs.Output.{LineCounts};
+    ghost use Rattle.kalah_jobs.specs.Writing.Output.{LineCounts};
 
     ghost Value = { LineCounts };
 

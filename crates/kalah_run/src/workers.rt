@@ -2,7 +2,7 @@
 ghost use Rattle.std.specs.Prelude.{◌≡◌, ◌≤◌, [], false, length, IfOk, OnErr, IfErr};
 ghost use Rattle.std.specs.Thread.{IsSync};
 ghost use Rattle.std.specs.Io.KnownBytes.{Keeps};
-ghost use Rattle.kalah_jobs.specs.Jobs.{most_lines};
+ghost use Rattle.kalah_jobs.specs.Files.Jobs.{most_lines};
 ghost use Rattle.kalah_run.specs.Shifts.{AreAtWork, HaveRun};
 ghost use Rattle.kalah_run.specs.QueueStates.{HasGot};
 ghost use Rattle.kalah_run.specs.Reporting.{TakesInAll, outcomes_in};

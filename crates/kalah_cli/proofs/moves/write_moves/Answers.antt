@@ -6,8 +6,8 @@ use Rattle.std.proofs.lemmas.Bool.{false_from_ne_true, false≢true}
 use Rattle.std.proofs.lemmas.Grind.{flat_map-append}
 use Rattle.std.proofs.lemmas.List.{flat_map_more, take-append-drop, take_more}
 use Rattle.kalah_rules.specs.Play.{step_of}
-use Rattle.kalah_jobs.specs.Given.{AppendsStart}
-use Rattle.kalah_jobs.proofs.Starts.{start_longer, start_then}
+use Rattle.kalah_jobs.specs.Writing.Given.{AppendsStart}
+use Rattle.kalah_jobs.proofs.OfWriting.Starts.{start_longer, start_then}
 use Rattle.kalah_cli.specs.Moves.{move_lines}
 use Rattle.kalah_cli.proofs.Begun.{begins_all}
 use Rattle.kalah_cli.proofs.moves.write_moves.Goals as goal

@@ -1,7 +1,7 @@
 use Rattle.std.proofs.Common.{refl}
 use Rattle.std.proofs.KnownBytes.{Appends-trans}
 use Rattle.std.proofs.lemmas.Result.{on_ok_weaker}
-use Rattle.kalah_jobs.proofs.Starts.{start_longer, start_then}
+use Rattle.kalah_jobs.proofs.OfWriting.Starts.{start_longer, start_then}
 use Rattle.kalah_solve.proofs.Worths.{board_equal_sides}
 use Rattle.kalah_cli.specs.Moves.{board_lines}
 use Rattle.kalah_cli.proofs.Played.{of_any, of_board_lines}

@@ -6,8 +6,8 @@ use Rattle.clap.specs.Values.{kind_of}
 use Rattle.clap.specs.Words.{Text}
 use Rattle.clap.specs.declared.error.kind.ErrorKind.{ErrorKind}
 use Rattle.clap.specs.declared.error.kind.ErrorKind.TheVariants.{DisplayHelp, DisplayVersion, MissingRequiredArgument, OutOfMemory}
-use Rattle.kalah_jobs.specs.declared.question.Question.{Question}
-use Rattle.kalah_jobs.specs.declared.question.Question.TheVariants.{BestMove, Values}
+use Rattle.kalah_jobs.specs.declared.files.question.Question.{Question}
+use Rattle.kalah_jobs.specs.declared.files.question.Question.TheVariants.{BestMove, Values}
 use Rattle.kalah_cli.specs.Command.{kalah_app}
 use Rattle.kalah_cli.specs.Request.{Asked, IsPlainWord, IsTakenAs, answers, asked_for, command_of, moves, play, texts_of}
 use Rattle.kalah_cli.specs.Runs.{Begins, Does, IsOfLine, IsUnread}

@@ -1,10 +1,10 @@
 use Rattle.std.proofs.Common.{ap, ◌∙◌, arith, length, rules}
 use Rattle.std.specs.Prelude.{count_by}
-use Rattle.kalah_jobs.specs.Jobs.{job_count}
-use Rattle.kalah_jobs.specs.JobList.{job_list}
-use Rattle.kalah_jobs.specs.Output.{is_faulty_offer}
-use Rattle.kalah_jobs.proofs.JobCounts.{job_count-jobs_to}
-use Rattle.kalah_jobs.proofs.Starts.{start_kept}
+use Rattle.kalah_jobs.specs.Files.Jobs.{job_count}
+use Rattle.kalah_jobs.specs.Files.JobList.{job_list}
+use Rattle.kalah_jobs.specs.Writing.Output.{is_faulty_offer}
+use Rattle.kalah_jobs.proofs.OfFiles.JobCounts.{job_count-jobs_to}
+use Rattle.kalah_jobs.proofs.OfWriting.Starts.{start_kept}
 use Rattle.kalah_run.proofs.BatchEnds.{appended_kept, given_output, counted_tally}
 use Rattle.kalah_run.proofs.NoLine.{nothing_answered}
 use Rattle.kalah_run.proofs.batch.answer_batch.Goals as goal

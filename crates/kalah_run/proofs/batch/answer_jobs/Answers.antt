@@ -1,6 +1,6 @@
 use Rattle.std.proofs.Common.{sym, ◌∙◌}
 use Rattle.std.specs.Prelude.{None, false}
-use Rattle.kalah_jobs.specs.Batch.{AreJobsInSomeOrder}
+use Rattle.kalah_jobs.specs.Collecting.Batch.{AreJobsInSomeOrder}
 use Rattle.kalah_run.specs.Reporting.{IsReporting, Waits, outcomes_in}
 use Rattle.kalah_run.proofs.StaffRuns.{run_jobs, has_worked}
 use Rattle.kalah_run.proofs.BatchEnds.{all_given, all_counted, given_no_output, no_faults}

@@ -1,5 +1,5 @@
 use Rattle.std.proofs.Common.{List, ℕ, ap, subst, sym, ◌++◌, ◌∙◌}
-use Rattle.kalah_jobs.specs.NamedBytes.{NamedBytes}
+use Rattle.kalah_jobs.specs.Files.NamedBytes.{NamedBytes}
 use Rattle.kalah_run.specs.UnderWay.{WasGiven}
 use Rattle.kalah_run.proofs.BatchWay.{wrote_line, wrote_nothing}
 use Rattle.kalah_run.proofs.Giving.{given_off, given_on}

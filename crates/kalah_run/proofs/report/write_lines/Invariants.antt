@@ -1,5 +1,5 @@
 use Rattle.std.proofs.Common.{◌≡◌, ◌-◌, map}
-use Rattle.kalah_jobs.specs.CollectorState.{state_of, front, line_count}
+use Rattle.kalah_jobs.specs.Collecting.CollectorState.{state_of, front, line_count}
 use Rattle.kalah_run.specs.WritesOn.{WritesOn}
 use Rattle.kalah_run.proofs.report.write_lines.Given as goal
 

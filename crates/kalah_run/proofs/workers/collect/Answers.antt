@@ -1,6 +1,6 @@
 use Rattle.std.proofs.Common.{◌∷◌, [], ℕ, List, length, refl, sym, ap, subst, ◌∙◌, arith}
 use Rattle.std.proofs.lemmas.List.{map-append, length-append}
-use Rattle.kalah_jobs.specs.Offer.{Offer}
+use Rattle.kalah_jobs.specs.Collecting.Offer.{Offer}
 use Rattle.kalah_run.specs.QueueStates.{GetState}
 use Rattle.kalah_run.specs.Reporting.{IsReporting, Waits, outcomes_in}
 use Rattle.kalah_run.proofs.Reports.{still_reports}

@@ -1,5 +1,5 @@
 use Rattle.std.proofs.Common.{rules, ◌<◌, subst, sym, ℕ}
-use Rattle.kalah_jobs.specs.Offer.{Offer}
+use Rattle.kalah_jobs.specs.Collecting.Offer.{Offer}
 use Rattle.kalah_run.specs.QueueStates.{GetState}
 use Rattle.kalah_run.proofs.QueueViews.{got_below}
 use Rattle.kalah_run.proofs.queue_passes.ResultsQueue.get_soon.Goals as goal

@@ -1,5 +1,5 @@
 use Rattle.std.proofs.Common.{subst, sym, refl, List, []}
-use Rattle.kalah_jobs.specs.CollectorState.{FileState}
+use Rattle.kalah_jobs.specs.Collecting.CollectorState.{FileState}
 use Rattle.kalah_run.specs.UnderWay.{IsUnderWay}
 use Rattle.kalah_run.proofs.BatchWay.{way_start}
 use Rattle.kalah_run.specs.Texts.{text_of}

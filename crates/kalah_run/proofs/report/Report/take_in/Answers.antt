@@ -1,7 +1,7 @@
 use Rattle.std.proofs.Common.{ap, ◌∙◌}
 use Rattle.kalah_run.proofs.BatchWay.{way_offered}
-use Rattle.kalah_jobs.specs.Answer.{is_fault}
-use Rattle.kalah_jobs.specs.declared.answer.Answer.{Answer}
+use Rattle.kalah_jobs.specs.Writing.Answer.{is_fault}
+use Rattle.kalah_jobs.specs.declared.writing.answer.Answer.{Answer}
 use Rattle.std.specs.Prelude.{if◌then◌else◌}
 use Rattle.kalah_run.proofs.Reports.{faults_more}
 use Rattle.kalah_run.proofs.report.Report.take_in.Goals as goal

@@ -1,5 +1,5 @@
 use Rattle.std.proofs.Common.{arith, refl, rules}
-use Rattle.kalah_jobs.proofs.CollectorSteps.{files_many}
+use Rattle.kalah_jobs.proofs.OfCollecting.CollectorSteps.{files_many}
 use Rattle.kalah_run.proofs.BatchWay.{wrote_file}
 use Rattle.kalah_run.proofs.Reports.{reports_on}
 use Rattle.kalah_run.proofs.report.Report.write.Goals as goal

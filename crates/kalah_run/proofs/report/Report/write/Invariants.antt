@@ -1,8 +1,8 @@
 use Rattle.std.proofs.Common.{◌≡◌, ℕ, ◌-◌, List, length}
 use Rattle.std.specs.Prelude.{Option}
-use Rattle.kalah_jobs.specs.NamedBytes.{NamedBytes}
-use Rattle.kalah_jobs.specs.Offer.{Offer}
-use Rattle.kalah_jobs.specs.declared.entry.Entry.{Entry}
+use Rattle.kalah_jobs.specs.Files.NamedBytes.{NamedBytes}
+use Rattle.kalah_jobs.specs.Collecting.Offer.{Offer}
+use Rattle.kalah_jobs.specs.declared.files.entry.Entry.{Entry}
 use Rattle.kalah_run.specs.Reporting.{IsReporting}
 use Rattle.kalah_run.proofs.report.Report.write.Given as goal
 

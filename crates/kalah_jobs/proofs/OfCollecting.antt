@@ -1,0 +1,7 @@
+pub mod Fronts
+pub mod RefusalLaw
+pub mod CollectorSteps
+pub mod CollectorRuns
+pub mod SharedOnce
+pub mod SameOffer
+pub mod JobOrders

@@ -1,0 +1,5 @@
+pub mod SplitLines
+pub mod OneLines
+pub mod JobCounts
+pub mod OneEntry
+pub mod SameBoard

@@ -1,0 +1,187 @@
+-- How many jobs stand before each file, and where in the list of jobs a line stands.
+use Rattle.std.proofs.Common.{◌≡◌, ℕ, zero, suc, ◌+◌, ◌<◌, ◌≤◌, ⊎_elim, List, [], ◌∷◌, ◌++◌, length, get_or, take, refl, ap, sym, ◌∙◌, arith, length-append}
+use Rattle.std.specs.Prelude.{Some, slice_get, slice_index_or}
+use Rattle.std.specs.List.Sorted.{IsNonDecreasing}
+use Rattle.std.proofs.lemmas.Bool.{cases_lt}
+use Rattle.std.proofs.lemmas.List.{take_all, take_more, take-append-le, get_or_append_left, length-map, map-append}
+use Rattle.std.proofs.lemmas.List.Sums.{sum_by-cons, sum_by_push, sum_by_more_le}
+use Rattle.std.proofs.Math.Seq.{get_or-append_seam}
+use Rattle.kalah_jobs.specs.declared.files.entry.Entry.{Entry}
+use Rattle.kalah_jobs.specs.Files.NamedBytes.{NamedBytes}
+use Rattle.kalah_jobs.specs.Files.JobList.{entries_of, offer, file_jobs, jobs_from, job_list}
+use Rattle.kalah_jobs.specs.Files.Jobs.{most_files, most_lines, line_count, lines_in, entries_to, jobs_to, job_count, AreCounted}
+use Rattle.kalah_jobs.specs.Files.Lines.{lines_of}
+use Rattle.kalah_jobs.specs.Files.Question.{entry_to}
+use Rattle.kalah_jobs.specs.declared.files.question.Question.{Question}
+
+-- ---- counts
+
+job_count-cons : (entries : List Entry) (jobs : List (List Entry)) → job_count (entries ∷ jobs) ≡ length entries + job_count jobs
+job_count-cons entries jobs = sum_by-cons length entries jobs
+
+-- fewer files have fewer jobs
+pub job_count-take : (jobs : List (List Entry)) (f g : ℕ) → f ≤ g → job_count (take f jobs) ≤ job_count (take g jobs)
+job_count-take [] zero zero low = omega arith
+job_count-take [] zero (suc g) low = omega arith
+job_count-take [] (suc f) zero low = omega arith
+job_count-take [] (suc f) (suc g) low = omega arith
+job_count-take (entries ∷ jobs) zero zero low = omega arith
+job_count-take (entries ∷ jobs) zero (suc g) low = omega arith
+job_count-take (entries ∷ jobs) (suc f) zero low = absurd (omega arith)
+job_count-take (entries ∷ jobs) (suc f) (suc g) low =
+    omega (arith, job_count-take jobs f g (omega arith), job_count-cons entries (take f jobs), job_count-cons entries (take g jobs))
+
+length-file_jobs : (f k : ℕ) (entries : List Entry) → length (file_jobs f k entries) ≡ length entries
+length-file_jobs f k [] = refl
+length-file_jobs f k (e ∷ entries) = ap suc (length-file_jobs f (suc k) entries)
+
+length-jobs_from : (f : ℕ) (jobs : List (List Entry)) → length (jobs_from f jobs) ≡ job_count jobs
+length-jobs_from f [] = refl
+length-jobs_from f (entries ∷ jobs) =
+    omega (
+      arith,
+      length-append (file_jobs f 0 entries) (jobs_from (suc f) jobs),
+      length-file_jobs f 0 entries,
+      length-jobs_from (suc f) jobs,
+      job_count-cons entries jobs,
+    )
+
+-- there are as many jobs as lines
+pub length-job_list : (jobs : List (List Entry)) → length (job_list jobs) ≡ job_count jobs
+length-job_list jobs = length-jobs_from 0 jobs
+
+-- ---- where a line stands in the list of jobs
+
+slice_get-append_left : {X : Type 0} (xs ys : List X) (i : ℕ) (x : X) → slice_get xs i ≡ Some x → slice_get (xs ++ ys) i ≡ Some x
+slice_get-append_left [] ys i x is = cc
+slice_get-append_left (y ∷ xs) ys zero x is = is
+slice_get-append_left (y ∷ xs) ys (suc i) x is = slice_get-append_left xs ys i x is
+
+slice_get-append_right : {X : Type 0} (xs ys : List X) (n i : ℕ) → n ≡ length xs + i → slice_get (xs ++ ys) n ≡ slice_get ys i
+slice_get-append_right [] ys n i is = ap (λ m. slice_get ys m) (let e : n ≡ i = omega arith in e)
+slice_get-append_right (x ∷ xs) ys zero i is = absurd (omega arith)
+slice_get-append_right (x ∷ xs) ys (suc n) i is = slice_get-append_right xs ys n i (omega arith)
+
+slice_get-file_jobs : (f k i n : ℕ) (entries : List Entry) (e : Entry) → n ≡ k + i → slice_get entries i ≡ Some e
+    → slice_get (file_jobs f k entries) i ≡ Some (offer f n e)
+slice_get-file_jobs f k i n [] e same is = cc
+slice_get-file_jobs f k zero n (x ∷ entries) e same is =
+    let number : k ≡ n = omega arith in
+    ap (λ (y : Entry). Some (offer f k y)) (let said : x ≡ e = cc in said) ∙ ap (λ m. Some (offer f m e)) number
+slice_get-file_jobs f k (suc i) n (x ∷ entries) e same is = slice_get-file_jobs f (suc k) i n entries e (omega arith) is
+
+slice_get-jobs_from : (f g h k n : ℕ) (jobs : List (List Entry)) (e : Entry) → h ≡ f + g → n ≡ job_count (take g jobs) + k
+    → slice_get (slice_index_or jobs g []) k ≡ Some e → slice_get (jobs_from f jobs) n ≡ Some (offer h k e)
+slice_get-jobs_from f g h k n [] e file number is = cc
+slice_get-jobs_from f zero h k n (entries ∷ jobs) e file number is =
+    let here : slice_get (file_jobs f 0 entries) k ≡ Some (offer f k e) = slice_get-file_jobs f 0 k k entries e (omega arith) is in
+    let n_is : n ≡ k = omega arith in
+    let f_is : f ≡ h = omega arith in
+    ap (λ m. slice_get (file_jobs f 0 entries ++ jobs_from (suc f) jobs) m) n_is
+    ∙ slice_get-append_left (file_jobs f 0 entries) (jobs_from (suc f) jobs) k (offer f k e) here
+    ∙ ap (λ m. Some (offer m k e)) f_is
+slice_get-jobs_from f (suc g) h k n (entries ∷ jobs) e file number is =
+    let m : ℕ = job_count (take g jobs) + k in
+    let past : n ≡ length (file_jobs f 0 entries) + m = omega (arith, length-file_jobs f 0 entries, job_count-cons entries (take g jobs)) in
+    slice_get-append_right (file_jobs f 0 entries) (jobs_from (suc f) jobs) n m past
+    ∙ slice_get-jobs_from (suc f) g h k m jobs e (omega arith) refl is
+
+-- line k of file f comes after the jobs of the files before f
+pub slice_get-job_list : (jobs : List (List Entry)) (f k n : ℕ) (e : Entry) → n ≡ job_count (take f jobs) + k → slice_get (entries_of jobs f) k ≡ Some e
+    → slice_get (job_list jobs) n ≡ Some (offer f k e)
+slice_get-job_list jobs f k n e number is = slice_get-jobs_from 0 f f k n jobs e (omega arith) number is
+
+-- ---- starts
+
+-- an element that is there is read whatever the default is
+pub get_or_any : {X : Type 0} (xs : List X) (i : ℕ) (d e : X) → i < length xs → get_or xs i d ≡ get_or xs i e
+get_or_any [] i d e low = absurd (omega arith)
+get_or_any (x ∷ xs) zero d e low = refl
+get_or_any (x ∷ xs) (suc i) d e low = get_or_any xs i d e (omega arith)
+
+-- the starts rise
+pub starts_rise : (jobs : List (List Entry)) (starts : List ℕ) → length starts ≡ length jobs
+    → ((f : ℕ) → f < length jobs → get_or starts f 0 ≡ job_count (take f jobs)) → IsNonDecreasing starts
+starts_rise jobs starts as_many before i j d low high =
+    let at_i : get_or starts i d ≡ job_count (take i jobs) = get_or_any starts i d 0 (omega arith) ∙ before i (omega arith) in
+    let at_j : get_or starts j d ≡ job_count (take j jobs) = get_or_any starts j d 0 high ∙ before j (omega arith) in
+    omega (arith, at_i, at_j, job_count-take jobs i j low)
+
+-- ---- while the files are read
+
+-- the first files are read, and the jobs before each are counted
+pub record AreCountedUpto (question : Question) (files : List NamedBytes) (jobs : List (List Entry)) (starts : List ℕ) (total : ℕ) : Type 0 where
+  pub are : jobs ≡ jobs_to question files
+  pub all : total ≡ job_count jobs
+  pub as_many : length starts ≡ length jobs
+  pub before : (f : ℕ) → f < length jobs → get_or starts f 0 ≡ job_count (take f jobs)
+
+length-entries_to : (question : Question) (bytes : List ℕ) → length (entries_to question bytes) ≡ length (lines_of bytes)
+unfolding entries_to
+length-entries_to question bytes = length-map (lines_of bytes) (entry_to question)
+
+-- there are as many jobs as the files have lines
+pub job_count-jobs_to : (question : Question) (files : List NamedBytes) → job_count (jobs_to question files) ≡ line_count files
+job_count-jobs_to question [] = refl
+job_count-jobs_to question (file ∷ files) =
+    omega (
+      arith,
+      job_count-cons (entries_to question file.bytes) (jobs_to question files),
+      sum_by-cons lines_in file files,
+      length-entries_to question file.bytes,
+      job_count-jobs_to question files,
+    )
+
+-- the lines of one file more are no more than those of all files
+pub counted_low : (question : Question) (files : List NamedBytes) (jobs : List (List Entry)) (starts : List ℕ) (total i : ℕ) (file : NamedBytes)
+    → AreCountedUpto question (take i files) jobs starts total → i < length files → file ≡ get_or files i file
+    → total + length (entries_to question file.bytes) ≤ line_count files
+counted_low question files jobs starts total i file counted low is =
+    let all : line_count (take i files) + lines_in (get_or files i file) ≤ line_count files = sum_by_more_le lines_in files i file low in
+    let here : lines_in file ≡ lines_in (get_or files i file) = ap lines_in is in
+    let so_far : job_count jobs ≡ line_count (take i files) = ap job_count counted.are ∙ job_count-jobs_to question (take i files) in
+    omega (arith, counted.all, length-entries_to question file.bytes, all, here, so_far)
+
+-- one file more is read
+pub counted_more : (question : Question) (files : List NamedBytes) (jobs : List (List Entry)) (starts : List ℕ) (total i lines : ℕ) (file : NamedBytes)
+    → AreCountedUpto question (take i files) jobs starts total → i < length files → file ≡ get_or files i file → lines ≡ length (entries_to question file.bytes)
+    → AreCountedUpto question (take (i + 1) files) (jobs ++ entries_to question file.bytes ∷ []) (starts ++ total ∷ []) (total + lines)
+counted_more question files jobs starts total i lines file counted low is many =
+    let row : List Entry = entries_to question file.bytes in
+    let more : take (i + 1) files ≡ take i files ++ file ∷ [] = take_more files i file low ∙ ap (λ x. take i files ++ x ∷ []) (sym is) in
+    let as_many : length starts ≡ length jobs = counted.as_many in
+    record {
+      are =
+          ap (λ js. js ++ row ∷ []) counted.are
+          ∙ sym (map-append (λ (f : NamedBytes). entries_to question f.bytes) (take i files) (file ∷ []))
+          ∙ ap (jobs_to question) (sym more);
+      all = let pushed : job_count (jobs ++ row ∷ []) ≡ job_count jobs + length row = sum_by_push length jobs row in omega (arith, counted.all, pushed, many);
+      as_many = omega (arith, as_many, length-append starts (total ∷ []), length-append jobs (row ∷ []));
+      before = λ f f_low.
+          ⊎_elim
+          (λ (old : f < length jobs).
+          get_or_append_left starts (total ∷ []) 0 f (omega arith)
+          ∙ counted.before f old
+          ∙ ap job_count (sym (take-append-le f jobs (row ∷ []) (omega arith))))
+          (λ (new : length jobs ≤ f).
+          let at : f ≡ length jobs = omega (arith, length-append jobs (row ∷ [])) in
+          ap (λ n. get_or (starts ++ total ∷ []) n 0) (at ∙ sym as_many)
+          ∙ get_or-append_seam starts total [] 0
+          ∙ counted.all
+          ∙ ap job_count (sym (take_all f jobs new) ∙ sym (take-append-le f jobs (row ∷ []) (omega arith))))
+          (cases_lt f (length jobs));
+    }
+
+-- all files are read
+pub counted_all : (question : Question) (files : List NamedBytes) (jobs : List (List Entry)) (starts : List ℕ) (total i : ℕ)
+    → AreCountedUpto question (take i files) jobs starts total → length files ≤ i → length files ≤ most_files → line_count files ≤ most_lines
+    → AreCounted jobs starts total
+counted_all question files jobs starts total i counted all few_files few_lines =
+    let are : jobs ≡ jobs_to question files = counted.are ∙ ap (jobs_to question) (take_all i files all) in
+    record {
+      few_files = omega (arith, few_files, ap length are, length-map files (λ (f : NamedBytes). entries_to question f.bytes));
+      few_lines = omega (arith, few_lines, ap job_count are, job_count-jobs_to question files);
+      all = counted.all;
+      as_many = counted.as_many;
+      before = counted.before;
+    }

@@ -1,0 +1,9 @@
+pub mod Cuts
+pub mod Numbers
+pub mod Houses
+pub mod Forms
+pub mod Readings
+pub mod Cells
+pub mod LineEnds
+pub mod Texts
+pub mod PlainLines

@@ -1,0 +1,11 @@
+pub mod PlayerHouses
+pub mod Lengths
+pub mod AsciiTexts
+pub mod JobOutput
+pub mod Starts
+pub mod ValueTexts
+pub mod Joined
+pub mod Pictures
+pub mod SplitFiles
+pub mod AnswerTexts
+pub mod SmallAnswers

@@ -1,0 +1,6 @@
+use Rattle.std.proofs.Common.{◌≡◌, map, length, take}
+use Rattle.kalah_jobs.specs.Collecting.CollectorState.{new_file}
+use Rattle.kalah_jobs.proofs.collecting.collector.Collector.new.Given as goal
+
+abbrev pub invariant-loop-f : goal.invariant-loop-f
+invariant-loop-f l = l.files.items ≡ map (λ entries. new_file (length entries)) (take l.f l.jobs)

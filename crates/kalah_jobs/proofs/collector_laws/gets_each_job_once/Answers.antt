@@ -1,5 +1,0 @@
-use Rattle.kalah_jobs.proofs.JobOrders.{shares_law}
-use Rattle.kalah_jobs.proofs.collector_laws.gets_each_job_once.Goals as goal
-
-pub returns : goal.returns
-returns c = shares_law

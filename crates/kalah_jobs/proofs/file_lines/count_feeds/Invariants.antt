@@ -1,9 +1,0 @@
-use Rattle.std.proofs.Common.{◌≡◌, ◌≤◌, ◌==◌, take, count_by}
-use Rattle.kalah_jobs.specs.Lines.{line_feed}
-use Rattle.kalah_jobs.proofs.file_lines.count_feeds.Given as goal
-
-abbrev pub invariant-loop-byte : goal.invariant-loop-byte
-invariant-loop-byte l = record {
-  count : l.count ≡ count_by (λ byte. byte == line_feed) (take l.byte-index l.bytes);
-  low : l.count ≤ l.byte-index;
-}

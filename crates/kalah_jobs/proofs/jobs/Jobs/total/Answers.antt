@@ -1,7 +1,0 @@
-use Rattle.std.proofs.Common.{◌∙◌, sym, ap}
-use Rattle.kalah_jobs.specs.Jobs.{job_count}
-use Rattle.kalah_jobs.proofs.JobCounts.{length-job_list}
-use Rattle.kalah_jobs.proofs.jobs.Jobs.total.Goals as goal
-
-pub returns-clause-jobs : goal.returns-clause-jobs
-returns-clause-jobs c = c.self.invariant.all ∙ ap job_count c.self.view_is ∙ sym (length-job_list c.args.self.now)

@@ -1,6 +1,0 @@
-use Rattle.std.proofs.Common.{◌≡◌, ◌+◌, take}
-use Rattle.kalah_jobs.specs.Jobs.{line_count, most_lines}
-use Rattle.kalah_jobs.proofs.jobs.has_few_lines.Given as goal
-
-abbrev pub invariant-loop-file : goal.invariant-loop-file
-invariant-loop-file l = l.room + line_count (take l.file-index l.files) ≡ most_lines

@@ -1,7 +1,0 @@
-use Rattle.std.proofs.Common.{◌≡◌, ℕ, List, ◌++◌}
-use Rattle.std.specs.Io.KnownBytes.{Appends}
-use Rattle.kalah_jobs.proofs.stream.write_pieces.Given as goal
-
--- what is no longer left was written
-abbrev pub invariant-loop : goal.invariant-loop
-invariant-loop g l = (done : List ℕ) × (l.fn.bytes ≡ done ++ l.rest) × Appends (g.W.Write.contents l.fn.writer) (g.W.Write.contents l.writer) done

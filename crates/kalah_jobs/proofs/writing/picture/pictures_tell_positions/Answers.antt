@@ -1,0 +1,5 @@
+use Rattle.kalah_jobs.proofs.OfWriting.Pictures.{pictures_tell}
+use Rattle.kalah_jobs.proofs.writing.picture.pictures_tell_positions.Goals as goal
+
+pub returns : goal.returns
+returns c = pictures_tell

@@ -1,0 +1,29 @@
+use Rattle.std.proofs.Common.{◌≡◌, ◌∷◌, [], ◌++◌, ℕ, List, append_assoc, sym, subst, ap, ◌∙◌}
+use Rattle.std.specs.Prelude.{◌+◌, codes, decimal}
+use Rattle.kalah_jobs.specs.declared.writing.answer.Taken.{Taken}
+use Rattle.kalah_jobs.specs.Writing.Answer.{answer_line, answer_words}
+use Rattle.kalah_jobs.specs.Writing.Given.{AppendsStart}
+use Rattle.kalah_jobs.specs.Files.Lines.{line_feed}
+use Rattle.kalah_jobs.proofs.OfWriting.Starts.{start_longer, start_then}
+use Rattle.kalah_jobs.proofs.writing.written.write_answer.Goals as goal
+
+-- the line's name, and then its ending
+line_is : (name bytes : List ℕ) (taken : Taken) → bytes ≡ name
+    → answer_line name taken ++ line_feed ∷ [] ≡ bytes ++ (codes ":" ++ (decimal (taken.line + 1) ++ (codes " " ++ (answer_words taken.answer ++ line_feed ∷ []))))
+line_is name bytes taken is =
+    let number = decimal (taken.line + 1) in
+    let words = codes " " ++ answer_words taken.answer in
+    append_assoc name (codes ":" ++ (number ++ words)) (line_feed ∷ []) ∙ ap (λ l. name ++ (codes ":" ++ l)) (append_assoc number words (line_feed ∷ []))
+    ∙ ap (λ l. l ++ (codes ":" ++ (number ++ (words ++ line_feed ∷ [])))) (sym is)
+
+pub returns-in_err-write_all-clause-start : goal.returns-in_err-write_all-clause-start
+returns-in_err-write_all-clause-start g c =
+    let line = line_is c.args.name.now c.as_bytes.result.now c.args.taken.now c.as_bytes.ensures.value in
+    subst (λ l. AppendsStart (g.W.Sink.written c.args.out.now) (g.W.Sink.written c.write_all.new.self) l) (sym line)
+    (start_longer _ _ c.as_bytes.result.now _ c.write_all.ensures.start)
+
+pub returns-clause-start : goal.returns-clause-start
+returns-clause-start g c =
+    let line = line_is c.args.name.now c.as_bytes.result.now c.args.taken.now c.as_bytes.ensures.value in
+    start_then _ _ _ _ c.as_bytes.result.now c.bytes.result.now (line ∙ ap (λ l. c.as_bytes.result.now ++ l) (sym (c.bytes.ensures ∙ c.ending_of.ensures)))
+    c.in_ok-write_all.ensures.adds c.write_all-2.ensures.start

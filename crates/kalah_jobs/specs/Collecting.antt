@@ -1,0 +1,9 @@
+pub mod Offer
+pub mod OfferFields
+pub mod CollectorState
+pub mod Refusals
+pub mod CollectorEvents
+pub mod CollectorLaw
+pub mod Shares
+pub mod Batch
+pub mod Held

@@ -1,0 +1,81 @@
+-- What offers and takes do, and what a list of them says without the collector.
+use Rattle.std.specs.Prelude.{◌≡◌, ℕ, ◌+◌, ◌<◌, ◌≤◌, ◌==◌, if◌then◌else◌, List, [], ◌∷◌, length, map, Option, Some, None, Result, MatchOption, MatchResult, IsSomeAnd, Contains}
+use Rattle.std.specs.List.{enumerate_from}
+use Rattle.kalah_jobs.specs.declared.files.entry.Entry.{Entry}
+use Rattle.kalah_jobs.specs.declared.writing.answer.Taken.{Taken}
+use Rattle.kalah_jobs.specs.declared.collecting.refusal.Refusal.{Refusal}
+use Rattle.kalah_jobs.specs.Writing.Answer.{answer_of}
+use Rattle.kalah_jobs.specs.Collecting.Offer.{Offer}
+use Rattle.kalah_jobs.specs.Files.JobList.{entries_of, entry_at, offer}
+use Rattle.kalah_jobs.specs.Collecting.CollectorState.{FileState, state_of, front, IsNext, HasNoNext, after_offer, after_take}
+use Rattle.kalah_jobs.specs.Collecting.Refusals.{IsWanted, IsRefusedFor}
+
+-- an offer is accepted: the answer of its entry is kept, and so many lines of its file became ready
+pub record Accepts (jobs : List (List Entry)) (files : List FileState) (o : Offer) (ready : ℕ) (after : List FileState) : Type 0 where
+  pub wanted : IsWanted jobs files o
+  pub kept : after ≡ after_offer files o.file o.line (answer_of o.entry)
+  pub risen : front (state_of after o.file) ≡ front (state_of files o.file) + ready
+
+-- an offer is refused: for the first refusal that holds, and nothing is changed
+pub record Refuses (jobs : List (List Entry)) (files : List FileState) (o : Offer) (refusal : Refusal) (after : List FileState) : Type 0 where
+  pub cause : IsRefusedFor jobs files o refusal
+  pub unchanged : after ≡ files
+
+-- what an offer gives, and what it makes of the files
+abbrev pub Offers : List (List Entry) → List FileState → Offer → Result ℕ Refusal → List FileState → Type 0
+Offers jobs files o gave after = MatchResult gave (λ ready. Accepts jobs files o ready after) (λ refusal. Refuses jobs files o refusal after)
+
+-- a take gives the next line of the file
+pub record Gives (files : List FileState) (f : ℕ) (gave : Taken) (after : List FileState) : Type 0 where
+  pub file_there : f < length files
+  pub next_line : IsNext (state_of files f) gave
+  pub kept : after ≡ after_take files f
+
+-- a take gives nothing, and nothing is changed
+pub record GivesNothing (files : List FileState) (f : ℕ) (after : List FileState) : Type 0 where
+  pub none_ready : HasNoNext (state_of files f)
+  pub unchanged : after ≡ files
+
+-- what a take of file f gives, and what it makes of the files
+abbrev pub Takes : List FileState → ℕ → Option Taken → List FileState → Type 0
+Takes files f gave after = MatchOption gave (GivesNothing files f after) (λ taken. Gives files f taken after)
+
+-- an offer with the answer to it, or a take of a file with what it gave
+pub data Event : Type 0 where
+  Offered : Offer → Result ℕ Refusal → Event
+  Took : ℕ → Option Taken → Event
+
+-- what was offered, in order, accepted or refused
+abbrev pub offers : List Event → List Offer
+offers [] = []
+offers (Offered o gave ∷ events) = o ∷ offers events
+offers (Took f gave ∷ events) = offers events
+
+-- what a take of file g gave, put before `rest` where it is file f that is asked for
+abbrev pub with_taken : ℕ → ℕ → Option Taken → List Taken → List Taken
+with_taken f g None rest = rest
+with_taken f g (Some t) rest = if g == f then t ∷ rest else rest
+
+-- what the takes of file f gave, in order
+abbrev pub takes : ℕ → List Event → List Taken
+takes f [] = []
+takes f (Offered o gave ∷ events) = takes f events
+takes f (Took g gave ∷ events) = with_taken f g gave (takes f events)
+
+-- line k of file f was offered with its entry
+abbrev pub Came : List (List Entry) → List Event → ℕ → ℕ → Type 0
+Came jobs events f k = IsSomeAnd (entry_at jobs f k) (λ e. Contains (offers events) (offer f k e))
+
+-- n is the greatest number, at most the count of lines of file f, with all lines below it come
+pub record IsFront (jobs : List (List Entry)) (events : List Event) (f n : ℕ) : Type 0 where
+  pub within : n ≤ length (entries_of jobs f)
+  pub below : (k : ℕ) → k < n → Came jobs events f k
+  pub greatest : (m : ℕ) → m ≤ length (entries_of jobs f) → ((k : ℕ) → k < m → Came jobs events f k) → m ≤ n
+
+-- a line with its number and the answer of its entry
+abbrev pub answered_line : ℕ × Entry → Taken
+answered_line p = record { line = p.0; answer = answer_of p.1 }
+
+-- all lines with these entries in order, each with its answer
+abbrev pub answered_lines : List Entry → List Taken
+answered_lines entries = map answered_line (enumerate_from 0 entries)

@@ -1,0 +1,29 @@
+-- The law of a collector: after any list of offers and takes it has what the list says, and nothing else.
+use Rattle.std.specs.Prelude.{◌≡◌, ℕ, ◌≤◌, ◌↔◌, List, [], ◌∷◌, take, IsSome}
+use Rattle.kalah_jobs.specs.declared.files.entry.Entry.{Entry}
+use Rattle.kalah_jobs.specs.Files.JobList.{entries_of}
+use Rattle.kalah_jobs.specs.Collecting.CollectorState.{FileState, state_of, new_files, front, came_for, HasLinesOf}
+use Rattle.kalah_jobs.specs.Collecting.CollectorEvents.{Event, Offered, Took, Offers, Takes, takes, Came, IsFront, answered_lines}
+
+-- what an event makes of the files
+abbrev pub Happens : List (List Entry) → List FileState → Event → List FileState → Type 0
+Happens jobs files (Offered o gave) after = Offers jobs files o gave after
+Happens jobs files (Took f gave) after = Takes files f gave after
+
+-- one event after the other
+abbrev pub Runs : List (List Entry) → List FileState → List Event → List FileState → Type 0
+Runs jobs files [] after = files ≡ after
+Runs jobs files (e ∷ events) after = (between : List FileState) × Happens jobs files e between × Runs jobs between events after
+
+-- The files are what the events say: they have the jobs' lines, those came that were offered with their entry, each file is ready
+-- as far as they came without a gap, and what was taken are its first lines, each with the answer of its entry.
+pub record Meets (jobs : List (List Entry)) (events : List Event) (files : List FileState) : Type 0 where
+  pub counts : HasLinesOf jobs files
+  pub came : (f k : ℕ) → IsSome (came_for (state_of files f) k) ↔ Came jobs events f k
+  pub furthest : (f : ℕ) → IsFront jobs events f (front (state_of files f))
+  pub taken : (f : ℕ) → takes f events ≡ take (state_of files f).taken (answered_lines (entries_of jobs f))
+  pub taken_within : (f : ℕ) → (state_of files f).taken ≤ front (state_of files f)
+
+-- the law, over every list of offers and takes
+abbrev pub CollectorLaw : Type 0
+CollectorLaw = (jobs : List (List Entry)) (events : List Event) (files : List FileState) → Runs jobs (new_files jobs) events files → Meets jobs events files

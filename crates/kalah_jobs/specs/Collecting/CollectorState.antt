@@ -1,0 +1,78 @@
+-- What has come to a collector, as plain data.
+use Rattle.std.specs.Prelude.{◌≡◌, ℕ, ◌+◌, ◌<◌, ◌≤◌, List, [], ◌∷◌, length, map, Option, Some, None, slice_index_or, slice_set, replicate}
+use Rattle.kalah_jobs.specs.declared.writing.answer.Answer.{Answer}
+use Rattle.kalah_jobs.specs.declared.writing.answer.Taken.{Taken}
+use Rattle.kalah_jobs.specs.declared.files.entry.Entry.{Entry}
+
+-- Of a file: for each of its lines the answer that came for it, if one came; and how many answers were taken, from the first line on.
+pub record FileState : Type 0 where
+  pub arrived : List (Option Answer)
+  pub taken : ℕ
+
+-- how many lines the file has
+abbrev pub line_count : FileState → ℕ
+line_count s = length s.arrived
+
+-- the answer that came for line k, if one came
+abbrev pub came_for : FileState → ℕ → Option Answer
+came_for s k = slice_index_or s.arrived k None
+
+-- how many lines come before the first that is missing
+abbrev pub front_of : List (Option Answer) → ℕ
+front_of [] = 0
+front_of (None ∷ rest) = 0
+front_of (Some answer ∷ rest) = front_of rest + 1
+
+-- how many lines are ready or taken
+abbrev pub front : FileState → ℕ
+front s = front_of s.arrived
+
+-- every line is ready or taken; a file with no lines has ended from the start
+abbrev pub HasEnded : FileState → Type 0
+HasEnded s = front s ≡ line_count s
+
+-- a file of so many lines, of which none has come
+abbrev pub new_file : ℕ → FileState
+new_file n = record { arrived = replicate n None; taken = 0 }
+
+-- what is said of a file that is not there
+abbrev pub no_file : FileState
+no_file = record { arrived = []; taken = 0 }
+
+-- the state of file f
+abbrev pub state_of : List FileState → ℕ → FileState
+state_of files f = slice_index_or files f no_file
+
+-- files to which nothing has come, with a line for each entry
+abbrev pub new_files : List (List Entry) → List FileState
+new_files jobs = map (λ entries. new_file (length entries)) jobs
+
+-- the files have as many lines as the jobs
+abbrev pub HasLinesOf : List (List Entry) → List FileState → Type 0
+HasLinesOf jobs files = map line_count files ≡ map length jobs
+
+-- the file with an answer for line k
+abbrev pub with_answer : FileState → ℕ → Answer → FileState
+with_answer s k a = record { arrived = slice_set s.arrived k (Some a); taken = s.taken }
+
+-- the file with one line more taken
+abbrev pub with_one_taken : FileState → FileState
+with_one_taken s = record { arrived = s.arrived; taken = s.taken + 1 }
+
+-- the line is the first of the file that was not taken, it is ready, and it has the answer that came for it
+pub record IsNext (s : FileState) (gave : Taken) : Type 0 where
+  pub ready : s.taken < front s
+  pub first : gave.line ≡ s.taken
+  pub came : came_for s gave.line ≡ Some gave.answer
+
+-- no line of the file is ready that was not taken
+abbrev pub HasNoNext : FileState → Type 0
+HasNoNext s = front s ≤ s.taken
+
+-- the files with an answer for line k of file f
+abbrev pub after_offer : List FileState → ℕ → ℕ → Answer → List FileState
+after_offer files f k a = slice_set files f (with_answer (state_of files f) k a)
+
+-- the files with one line more taken of file f
+abbrev pub after_take : List FileState → ℕ → List FileState
+after_take files f = slice_set files f (with_one_taken (state_of files f))

@@ -1,0 +1,48 @@
+-- The jobs of a batch, from its files.
+use Rattle.std.specs.Prelude.{◌≡◌, ◌<◌, ◌≤◌, ℕ, List, length, map, take, sum_by, slice_index}
+use Rattle.kalah_jobs.specs.declared.files.entry.Entry.{Entry}
+use Rattle.kalah_jobs.specs.Files.NamedBytes.{NamedBytes}
+use Rattle.kalah_jobs.specs.Files.Lines.{lines_of}
+use Rattle.kalah_jobs.specs.Files.Question.{entry_to}
+use Rattle.kalah_jobs.specs.declared.files.question.Question.{Question}
+use Rattle.kalah_jobs.specs.declared.files.question.Question.TheVariants.{BestMove}
+
+-- files of a batch
+abbrev pub most_files : ℕ
+most_files = 256
+
+-- lines of a batch, over all files
+abbrev pub most_lines : ℕ
+most_lines = 1000000
+
+-- how many lines a file has
+abbrev pub lines_in : NamedBytes → ℕ
+lines_in file = length (lines_of file.bytes)
+
+-- how many lines all files have together
+abbrev pub line_count : List NamedBytes → ℕ
+line_count files = sum_by lines_in files
+
+-- what the lines of some bytes say, in order, with this asked of their positions
+unfoldable pub entries_to : Question → List ℕ → List Entry
+entries_to question bytes = map (entry_to question) (lines_of bytes)
+
+-- what the lines of each file say, in order, with this asked of their positions
+abbrev pub jobs_to : Question → List NamedBytes → List (List Entry)
+jobs_to question files = map (λ file. entries_to question file.bytes) files
+
+-- the same, where the best move is asked
+abbrev pub jobs_of : List NamedBytes → List (List Entry)
+jobs_of files = jobs_to BestMove files
+
+-- how many jobs there are
+abbrev pub job_count : List (List Entry) → ℕ
+job_count jobs = sum_by length jobs
+
+-- the jobs are within the limits, and for each file `starts` has how many jobs the files before it have
+pub record AreCounted (jobs : List (List Entry)) (starts : List ℕ) (total : ℕ) : Type 0 where
+  pub few_files : length jobs ≤ most_files
+  pub few_lines : job_count jobs ≤ most_lines
+  pub all : total ≡ job_count jobs
+  pub as_many : length starts ≡ length jobs
+  pub before : (f : ℕ) → f < length jobs → slice_index starts f ≡ job_count (take f jobs)

@@ -1,0 +1,17 @@
+-- What is asked of a line.
+use Rattle.std.specs.Prelude.{ℕ, List}
+use Rattle.kalah_jobs.specs.Files.Entry.{entry_of}
+use Rattle.kalah_jobs.specs.declared.files.entry.Entry.{Entry}
+use Rattle.kalah_jobs.specs.declared.files.entry.Entry.TheVariants.{Position, ValuesOf, Bad}
+use Rattle.kalah_jobs.specs.declared.files.question.Question.{Question}
+use Rattle.kalah_jobs.specs.declared.files.question.Question.TheVariants.{BestMove, Values}
+
+-- what a line says, with this asked of its position
+abbrev pub asked : Question → Entry → Entry
+asked BestMove entry = entry
+asked Values (Position p) = ValuesOf p
+asked Values (ValuesOf p) = ValuesOf p
+asked Values (Bad fault) = Bad fault
+
+abbrev pub entry_to : Question → List ℕ → Entry
+entry_to question line = asked question (entry_of line)

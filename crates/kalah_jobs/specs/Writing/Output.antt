@@ -1,0 +1,90 @@
+-- What a batch writes, and what it counts.
+use Rattle.std.specs.Prelude.{◌≡◌, ℕ, List, [], ◌∷◌, ◌++◌, length, map, sum_by, count_by, slice_index_or, Bool}
+use Rattle.std.specs.List.{flat_map, enumerate_from}
+use Rattle.kalah_jobs.specs.declared.files.entry.Entry.{Entry}
+use Rattle.kalah_jobs.specs.declared.writing.answer.Taken.{Taken}
+use Rattle.kalah_jobs.specs.Files.NamedBytes.{NamedBytes}
+use Rattle.kalah_jobs.specs.Files.Lines.{line_feed, lines_of}
+use Rattle.kalah_jobs.specs.Files.Entry.{entry_of}
+use Rattle.kalah_jobs.specs.Writing.Answer.{answer_of, is_fault, answer_line}
+use Rattle.kalah_jobs.specs.Collecting.Offer.{Offer}
+use Rattle.kalah_jobs.specs.Files.JobList.{job_list}
+use Rattle.kalah_jobs.specs.Files.Question.{entry_to}
+use Rattle.kalah_jobs.specs.Files.Jobs.{jobs_to}
+use Rattle.kalah_jobs.specs.declared.files.question.Question.{Question}
+use Rattle.kalah_jobs.specs.declared.files.question.Question.TheVariants.{BestMove, Values}
+
+-- the answer line of a line with this entry, followed by a line feed; the number counts from 0
+abbrev pub answered : List ℕ → ℕ → Entry → List ℕ
+answered name number entry = answer_line name (record { line = number; answer = answer_of entry }) ++ line_feed ∷ []
+
+-- the same for a line of a file, given with its number, where this is asked of its position
+abbrev pub line_output : Question → List ℕ → ℕ × List ℕ → List ℕ
+line_output question name p = answered name p.0 (entry_to question p.1)
+
+-- for each line of a file in order, its answer line
+abbrev pub file_output : Question → NamedBytes → List ℕ
+file_output question file = flat_map (line_output question file.name) (enumerate_from 0 (lines_of file.bytes))
+
+-- for each file in order, for each of its lines in order, its answer line
+unfoldable pub output_to : Question → List NamedBytes → List ℕ
+output_to question files = flat_map (file_output question) files
+
+-- where the best move is asked of each position
+abbrev pub output_of : List NamedBytes → List ℕ
+output_of files = output_to BestMove files
+
+-- where the values of its moves are asked
+abbrev pub values_output_of : List NamedBytes → List ℕ
+values_output_of files = output_to Values files
+
+-- the line is answered by a fault, whatever is asked
+abbrev pub is_faulty : List ℕ → Bool
+is_faulty line = is_fault (answer_of (entry_of line))
+
+-- how many lines were answered, and how many of them by a fault
+pub record LineCounts : Type 0 where
+  pub lines : ℕ
+  pub faults : ℕ
+
+unfoldable pub tally_of : List NamedBytes → LineCounts
+tally_of files = record {
+  lines = sum_by (λ file. length (lines_of file.bytes)) files;
+  faults = sum_by (λ file. count_by is_faulty (lines_of file.bytes)) files;
+}
+
+-- ---- the same, told by jobs
+
+-- the text of a line, given with its number and entry, where `text` gives the text of what is taken of a file
+abbrev pub text_of_line : (ℕ → Taken → List ℕ) → ℕ → ℕ × Entry → List ℕ
+text_of_line text f p = text f (record { line = p.0; answer = answer_of p.1 })
+
+-- the texts of the lines of a file, given with its number
+abbrev pub text_of_file : (ℕ → Taken → List ℕ) → ℕ × List Entry → List ℕ
+text_of_file text p = flat_map (text_of_line text p.0) (enumerate_from 0 p.1)
+
+-- for each file in order, for each of its lines in order, its text
+abbrev pub text_of_jobs : (ℕ → Taken → List ℕ) → List (List Entry) → List ℕ
+text_of_jobs text jobs = flat_map (text_of_file text) (enumerate_from 0 jobs)
+
+-- the answer line of what is taken of file f, followed by a line feed
+abbrev pub answer_text_of : List (List ℕ) → ℕ → Taken → List ℕ
+answer_text_of names f taken = answer_line (slice_index_or names f []) taken ++ line_feed ∷ []
+
+-- for each job in order its answer line, where the files have these names
+abbrev pub output_of_jobs : List (List ℕ) → List (List Entry) → List ℕ
+output_of_jobs names jobs = text_of_jobs (answer_text_of names) jobs
+
+-- the names of files
+abbrev pub names_of : List NamedBytes → List (List ℕ)
+names_of files = map (λ file. file.name) files
+
+-- the offer is answered by a fault
+abbrev pub is_faulty_offer : Offer → Bool
+is_faulty_offer o = is_fault (answer_of o.entry)
+
+-- what is told of files and what is told of their jobs is the same, whatever is asked of their positions
+pub record FilesAreTheirJobs : Type 0 where
+  pub output : (question : Question) (files : List NamedBytes) → output_to question files ≡ output_of_jobs (names_of files) (jobs_to question files)
+  pub lines : (question : Question) (files : List NamedBytes) → (tally_of files).lines ≡ length (job_list (jobs_to question files))
+  pub faults : (question : Question) (files : List NamedBytes) → (tally_of files).faults ≡ count_by is_faulty_offer (job_list (jobs_to question files))

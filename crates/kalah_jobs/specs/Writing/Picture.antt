@@ -1,0 +1,57 @@
+-- How a position is drawn, as a board with the player to move below.
+use Rattle.std.specs.Prelude.{◌≡◌, ℕ, ◌-◌, ◌*◌, ◌≤◌, List, [], ◌∷◌, ◌++◌, length, flat_map, replicate, decimal}
+use Rattle.std.specs.List.{range_with_len}
+use Rattle.kalah_rules.specs.Position.{Position, IsWithinLimits, opposite, seeds, side_length}
+use Rattle.kalah_jobs.specs.Line.Line.{space}
+use Rattle.kalah_jobs.specs.Files.Lines.{line_feed}
+use Rattle.kalah_jobs.specs.Writing.Player.{houses_of}
+use Rattle.kalah_jobs.specs.declared.writing.player.Player.{Player}
+use Rattle.kalah_jobs.specs.declared.writing.player.Player.TheVariants.{Mover, Other}
+
+-- the bytes of a column
+abbrev pub column_width : ℕ
+column_width = 4
+
+-- a number at the right of a column
+abbrev pub cell : ℕ → List ℕ
+cell n = replicate (column_width - length (decimal n)) space ++ decimal n
+
+-- so many columns with nothing in them
+abbrev pub empty_columns : ℕ → List ℕ
+empty_columns n = replicate (column_width * n) space
+
+-- the house that a player has in a column: the mover's houses rise from left to right, and the other player's fall
+abbrev pub house_in : Player → Position → ℕ → ℕ
+house_in Mover p column = column
+house_in Other p column = opposite p column
+
+-- what a player has in a column
+abbrev pub seeds_in : Player → Position → ℕ → ℕ
+seeds_in player p column = seeds (houses_of player p) (house_in player p column)
+
+-- an empty column, and the player's houses, a column each
+abbrev pub houses_line : Player → Position → List ℕ
+houses_line player p = empty_columns 1 ++ flat_map (λ column. cell (seeds_in player p column)) (range_with_len 1 (side_length p))
+
+-- the other player's store at the left, and the mover's at the right
+abbrev pub stores_line : Position → List ℕ
+stores_line p = cell p.other_store ++ (empty_columns (side_length p) ++ cell p.own_store)
+
+-- the other player's houses above, the stores, and the mover's houses below
+unfoldable pub picture_of : Position → List ℕ
+picture_of p = houses_line Other p ++ (line_feed ∷ stores_line p ++ (line_feed ∷ houses_line Mover p ++ line_feed ∷ []))
+
+-- ---- laws
+
+-- two positions of one rule that are drawn alike are the same
+abbrev pub PicturesTellPositions : Type 0
+PicturesTellPositions = (p q : Position) → IsWithinLimits p → IsWithinLimits q → p.rule ≡ q.rule → picture_of p ≡ picture_of q → p ≡ q
+
+-- no line of a picture has more than 32 bytes
+pub record HasShortLines (p : Position) : Type 0 where
+  pub above : length (houses_line Other p) ≤ 32
+  pub between : length (stores_line p) ≤ 32
+  pub below : length (houses_line Mover p) ≤ 32
+
+abbrev pub PictureLinesAreShort : Type 0
+PictureLinesAreShort = (p : Position) → IsWithinLimits p → HasShortLines p

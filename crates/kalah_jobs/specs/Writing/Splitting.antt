@@ -1,0 +1,79 @@
+-- How a batch can be split over machines: by its files, and within a file between two lines. And what tells answers apart.
+use Rattle.std.specs.Prelude.{◌≡◌, ◌⊎◌, ℕ, ◌+◌, ◌≤◌, List, [], ◌∷◌, ◌++◌, length, All}
+use Rattle.std.specs.List.{flat_map, enumerate_from}
+use Rattle.kalah_rules.specs.Limits.{most_houses}
+use Rattle.kalah_rules.specs.Position as position
+use Rattle.kalah_rules.specs.Position.{IsSmallMargin, IsWithinLimits}
+use Rattle.kalah_jobs.specs.declared.writing.answer.Answer.{Answer}
+use Rattle.kalah_jobs.specs.declared.writing.answer.Answer.TheVariants.{Best, Over, Values, Fault}
+use Rattle.kalah_jobs.specs.declared.files.entry.Entry.TheVariants.{Position, ValuesOf}
+use Rattle.kalah_jobs.specs.declared.files.question.Question.{Question}
+use Rattle.kalah_jobs.specs.Writing.Answer.{answer_of, answer_line}
+use Rattle.kalah_jobs.specs.Files.Lines.{line_feed, lines_of}
+use Rattle.kalah_jobs.specs.Files.NamedBytes.{NamedBytes}
+use Rattle.kalah_jobs.specs.Writing.Output.{line_output, output_of, output_to, LineCounts, tally_of}
+use Rattle.kalah_jobs.specs.Files.Question.{entry_to}
+
+-- what two batches count together
+abbrev pub counted_together : LineCounts → LineCounts → LineCounts
+counted_together one other = record { lines = one.lines + other.lines; faults = one.faults + other.faults }
+
+-- what is written for files is what is written for the first of them, and then what is written for the others; and so many lines
+-- and faults are counted as for both
+pub record OutputSplitsByFiles : Type 0 where
+  pub asked : (question : Question) (first others : List NamedBytes) →
+      output_to question (first ++ others) ≡ output_to question first ++ output_to question others
+  pub best_moves : (first others : List NamedBytes) → output_of (first ++ others) ≡ output_of first ++ output_of others
+  pub counts : (first others : List NamedBytes) → tally_of (first ++ others) ≡ counted_together (tally_of first) (tally_of others)
+
+-- there are no bytes, or the last of them is a line feed
+abbrev pub EndsWithItsLine : List ℕ → Type 0
+EndsWithItsLine bytes = (bytes ≡ []) ⊎ ((front : List ℕ) × (bytes ≡ front ++ line_feed ∷ []))
+
+-- what is written for the lines of some bytes of a file, of which the first has this number
+abbrev pub output_from : ℕ → Question → List ℕ → List ℕ → List ℕ
+output_from number question name bytes = flat_map (line_output question name) (enumerate_from number (lines_of bytes))
+
+-- what is counted of a file with these bytes, whatever its name is
+abbrev pub tally_in : List ℕ → LineCounts
+tally_in bytes = tally_of (record { name = []; bytes = bytes } ∷ [])
+
+-- the lines of two parts of a file are those of the first and then those of the second, and so are their answers: the lines of
+-- the second have the numbers that come after those of the first; and so many lines and faults are counted as in both
+pub record IsSplit (first second : List ℕ) : Type 0 where
+  pub lines : lines_of (first ++ second) ≡ lines_of first ++ lines_of second
+  pub output : (number : ℕ) (question : Question) (name : List ℕ) →
+      output_from number question name (first ++ second)
+      ≡ output_from number question name first ++ output_from (number + length (lines_of first)) question name second
+  pub counts : tally_in (first ++ second) ≡ counted_together (tally_in first) (tally_in second)
+
+-- a file has its lines from number 0 on, is counted by its bytes alone, and can be cut wherever a line ends
+pub record FilesSplitBetweenLines : Type 0 where
+  pub whole : (question : Question) (file : NamedBytes) →
+      output_to question (file ∷ []) ≡ output_from 0 question file.name file.bytes
+  pub counted : (file : NamedBytes) → tally_of (file ∷ []) ≡ tally_in file.bytes
+  pub parts : (first second : List ℕ) → EndsWithItsLine first → IsSplit first second
+
+-- the numbers of an answer are ones that a game can have
+abbrev pub HasSmallNumbers : Answer → Type 0
+HasSmallNumbers (Best margin house) = IsSmallMargin margin × (house ≤ most_houses)
+HasSmallNumbers (Over margin) = IsSmallMargin margin
+HasSmallNumbers (Values values) = All (λ v. IsSmallMargin v.value × (v.house ≤ most_houses)) values
+HasSmallNumbers (Fault fault) = Unit {0}
+
+-- and those of every answer that is told are: of a line of any bytes, whatever is asked, and of any board
+pub record AnswersHaveSmallNumbers : Type 0 where
+  pub lines : (question : Question) (line : List ℕ) → HasSmallNumbers (answer_of (entry_to question line))
+  pub best_moves : (p : position.Position) → IsWithinLimits p → HasSmallNumbers (answer_of (Position p))
+  pub values : (p : position.Position) → IsWithinLimits p → HasSmallNumbers (answer_of (ValuesOf p))
+
+-- two answers to one line of a file that are printed alike are the same
+abbrev pub AnswerLinesTellAnswers : Type 0
+AnswerLinesTellAnswers = (name : List ℕ) (line : ℕ) (a b : Answer) → HasSmallNumbers a → HasSmallNumbers b →
+    answer_line name (record { line = line; answer = a }) ≡ answer_line name (record { line = line; answer = b }) → a ≡ b
+
+-- where the same is written for two lines of one name and number, they are answered alike, whatever was asked of each
+abbrev pub WhatIsWrittenTellsAnswers : Type 0
+WhatIsWrittenTellsAnswers = (name : List ℕ) (number : ℕ) (question other : Question) (line another : List ℕ) →
+    line_output question name (number, line) ≡ line_output other name (number, another) →
+    answer_of (entry_to question line) ≡ answer_of (entry_to other another)

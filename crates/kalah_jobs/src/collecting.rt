@@ -1,0 +1,6 @@
+//! Outcomes, and the collector that brings them into the order of their lines.
+pub(crate) mod arrivals;
+pub(crate) mod collector;
+pub(crate) mod collector_laws;
+pub(crate) mod outcome;
+pub(crate) mod refusal;

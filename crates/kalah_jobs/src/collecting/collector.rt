@@ -1,0 +1,99 @@
+//! The collector: outcomes come in any order, and the answers of each file are given in the order of its lines.
+ghost use Rattle.std.specs.Prelude.{◌≡◌, ◌<◌, ◌↔◌, IfOk, IsTrue, All, length, map};
+ghost use Rattle.kalah_jobs.specs.Collecting.CollectorState.{state_of, line_count, HasEnded, new_files, HasLinesOf};
+ghost use Rattle.kalah_jobs.specs.Collecting.CollectorEvents.{Offers, Takes};
+
+use crate::collecting::arrivals::Arrivals;
+use crate::collecting::outcome::Outcome;
+use crate::collecting::refusal::Refusal;
+use crate::files::jobs::Jobs;
+use crate::files::same_entry::is_same_entry;
+use crate::writing::answer::Taken;
+use std::alloc::{AllocError, Global};
+use std::marker::Model;
+
+#[cfg(test)]
+mod tests;
+
+/// Takes outcomes in any order, and gives the answers of each file in the order of its lines.
+#[derive(Drop)]
+pub struct Collector {
+    files: Vec<Arrivals>,
+}
+
+impl Model for Collector {
+    ghost use Rattle.std.specs.Prelude.{List};
+    ghost use Rattle.kalah_jobs.specs.Collecting.CollectorState.{FileState};
+
+    ghost Value = { List FileState };
+
+    ghost view = { λ c. c.files.items };
+}
+
+impl Collector {
+    /// A collector for these jobs, to which nothing has come. It takes all its memory here.
+    pub fn new(alloc: Global, jobs: &Jobs) -> Result<Collector, AllocError>
+        ensures empty { IfOk result (λ c. c ≡ new_files jobs.now) }
+        ensures counts { IfOk result (λ c. HasLinesOf jobs.now c) }
+    {
+        let mut files = Vec::with_capacity(alloc, jobs.files() as usize)?;
+        for f in 0..jobs.files() {
+            files.push(Arrivals::new(alloc, jobs.lines(f))?)?;
+        }
+        Ok(Collector { files })
+    }
+
+    /// Takes an outcome in, and says how many lines of its file became ready by it: a line is ready once it and all lines
+    /// before it have been accepted. A refusal changes nothing, and is the first that holds: `NoSuchFile`, `FileEnded`,
+    /// `NoSuchLine`, `WrongPosition`, `Double`. The jobs are those that the collector was made for.
+    pub fn offer(&mut self, jobs: &Jobs, outcome: Outcome) -> Result<u32, Refusal>
+        requires { HasLinesOf jobs.now self.old }
+        ensures offers { Offers jobs.now self.old outcome result self.new }
+        ensures counts { HasLinesOf jobs.now self.new }
+    {
+        if outcome.file() as usize >= self.files.len() {
+            return Err(Refusal::NoSuchFile);
+        }
+        let file = &mut self.files[outcome.file() as usize];
+        if file.ended() {
+            return Err(Refusal::FileEnded);
+        }
+        if !file.has_line(outcome.line()) {
+            return Err(Refusal::NoSuchLine);
+        }
+        let own = jobs.entry(outcome.file(), outcome.line());
+        if !is_same_entry(&own, &outcome.entry()) {
+            return Err(Refusal::WrongPosition);
+        }
+        if file.has_come(outcome.line()) {
+            return Err(Refusal::Double);
+        }
+        Ok(file.accept(outcome.line(), outcome.answer()))
+    }
+
+    /// The first line of a file that is ready and was not taken, with its answer. None, with nothing changed, where there
+    /// is no such line or no such file.
+    pub fn take(&mut self, f: u32) -> Option<Taken>
+        ensures takes { Takes self.old f result self.new }
+        ensures counts { map line_count self.new ≡ map line_count self.old }
+    {
+        if f as usize >= self.files.len() {
+            return None;
+        }
+        self.files[f as usize].take()
+    }
+
+    /// Whether every line of a file is ready or taken; false where there is no such file.
+    pub fn ended(&self, f: u32) -> bool
+        ensures { IsTrue result ↔ ((f < length self.now) × HasEnded (state_of self.now f)) }
+    {
+        (f as usize) < self.files.len() && self.files[f as usize].ended()
+    }
+
+    /// Whether every line of every file was taken.
+    pub fn all_taken(&self) -> bool
+        ensures { IsTrue result ↔ All (λ s. s.taken ≡ line_count s) self.now }
+    {
+        self.files.iter().all(|file| file.all_taken())
+    }
+}

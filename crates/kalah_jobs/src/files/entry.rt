@@ -1,0 +1,42 @@
+//! What a line of a file says, and what is asked of it.
+ghost use Rattle.std.specs.Prelude.{◌≡◌};
+ghost use Rattle.kalah_jobs.specs.Files.Question.{asked, entry_to};
+
+use crate::files::question::Question;
+use crate::line::line_fault::LineFault;
+use crate::line::reading::read_line;
+use kalah_rules::Board;
+
+/// What a line of a file says, and what is asked of its position.
+#[derive(Clone, Copy, Debug, PartialEq, Eq)]
+pub enum Entry {
+    /// The position that the line writes, and its best move is asked.
+    Position(Board),
+    /// The position that the line writes, and the value of each of its moves is asked.
+    ValuesOf(Board),
+    /// Why the line is not read.
+    Bad(LineFault),
+}
+
+impl Entry {
+    // What the line says, with this asked of its position.
+    #[tactic(auto, unfolding(crate::specs::Files::Entry::entry_of))]
+    pub(crate) fn of_line(question: Question, line: &[u8]) -> Entry
+        ensures { result ≡ entry_to question line.now }
+    {
+        match read_line(line) {
+            Ok(board) => Entry::asking(question, board),
+            Err(fault) => Entry::Bad(fault),
+        }
+    }
+
+    // The position, with this asked of it.
+    fn asking(question: Question, board: Board) -> Entry
+        ensures { result ≡ asked question (Entry.Position board) }
+    {
+        match question {
+            Question::BestMove => Entry::Position(board),
+            Question::Values => Entry::ValuesOf(board),
+        }
+    }
+}

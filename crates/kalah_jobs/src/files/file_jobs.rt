@@ -1,0 +1,66 @@
+//! What the lines of a file say.
+ghost use Rattle.std.specs.Prelude.{◌≡◌, ◌<◌, ◌≤◌, length, IfOk, slice_get, Some};
+ghost use Rattle.kalah_jobs.specs.Files.Lines.{lines_of};
+ghost use Rattle.kalah_jobs.specs.Files.Jobs.{most_lines, entries_to};
+
+use crate::files::entry::Entry;
+use crate::files::file_lines::{count_lines, first_line};
+use crate::files::question::Question;
+use std::alloc::{AllocError, Global};
+use std::marker::Model;
+
+// What the lines of a file say, in order.
+#[derive(Drop)]
+pub(crate) struct FileJobs {
+    entries: Vec<Entry>,
+}
+
+impl Model for FileJobs {
+    ghost use Rattle.std.specs.Prelude.{List, ◌≤◌, length};
+    ghost use Rattle.kalah_jobs.specs.declared.files.entry.Entry.{Entry};
+
+    ghost Value = { List Entry };
+
+    ghost use Rattle.kalah_jobs.specs.Files.Jobs.{most_lines};
+
+    ghost view = { λ j. j.entries.items };
+
+    ghost invariant = { λ j. length j.entries.items ≤ most_lines };
+}
+
+impl FileJobs {
+    // What the lines of some bytes say, with this asked of their positions.
+    pub(crate) fn of_bytes(
+        alloc: Global,
+        question: Question,
+        bytes: &[u8],
+    ) -> Result<FileJobs, AllocError>
+        requires { length (lines_of bytes.now) ≤ most_lines }
+        ensures { IfOk result (λ jobs. jobs ≡ entries_to question bytes.now) }
+    {
+        let mut entries = Vec::with_capacity(alloc, count_lines(bytes))?;
+        let mut rest = bytes;
+        while !rest.is_empty() {
+            let (line, after) = first_line(rest);
+            entries.push(Entry::of_line(question, line))?;
+            rest = after;
+        }
+        Ok(FileJobs { entries })
+    }
+
+    // How many lines there are.
+    pub(crate) fn lines(&self) -> u32
+        ensures is { result ≡ length self.now }
+        ensures low { result ≤ most_lines }
+    {
+        self.entries.len() as u32
+    }
+
+    // What a line says.
+    pub(crate) fn entry(&self, line: u32) -> Entry
+        requires { line < length self.now }
+        ensures { slice_get self.now line ≡ Some result }
+    {
+        self.entries[line as usize]
+    }
+}

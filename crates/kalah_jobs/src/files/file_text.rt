@@ -1,0 +1,20 @@
+//! A position file as it was read.
+use std::marker::Model;
+
+/// A position file: the name by which it is answered, and its bytes.
+#[derive(Drop)]
+pub struct FileText {
+    /// The name, as it stands before each answer line.
+    pub name: String,
+    /// The bytes, whatever they are.
+    pub bytes: Vec<u8>,
+}
+
+impl Model for FileText {
+    ghost use Rattle.std.specs.Prelude.{string_bytes};
+    ghost use Rattle.kalah_jobs.specs.Files.NamedBytes.{NamedBytes};
+
+    ghost Value = { NamedBytes };
+
+    ghost view = { λ f. record { name = string_bytes f.name; bytes = f.bytes.items } };
+}

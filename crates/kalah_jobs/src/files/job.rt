@@ -1,0 +1,13 @@
+//! One line to be answered.
+use crate::files::entry::Entry;
+
+/// A line of a file, with what it says. Files and lines count from 0.
+#[derive(Clone, Copy, Debug, PartialEq, Eq)]
+pub struct Job {
+    /// The number of the file.
+    pub file: u32,
+    /// The number of the line in its file.
+    pub line: u32,
+    /// What the line says.
+    pub entry: Entry,
+}

@@ -1,0 +1,192 @@
+//! The jobs of a batch: the lines of its files.
+ghost use Rattle.std.specs.Prelude.{◌≡◌, ◌<◌, ◌≤◌, ◌↔◌, length, IfOk, IsTrue, slice_get, slice_index, ℕ, Some, Err};
+ghost use Rattle.std.specs.List.Sorted.{IsNonDecreasing};
+ghost use Rattle.kalah_jobs.specs.Files.JobList.{entries_of, offer, job_list};
+ghost use Rattle.kalah_jobs.specs.Files.Jobs.{most_files, most_lines, line_count, jobs_of, jobs_to, job_count};
+
+use crate::files::entry::Entry;
+use crate::files::file_jobs::FileJobs;
+use crate::files::file_lines::count_lines;
+use crate::files::file_text::FileText;
+use crate::files::job::Job;
+use crate::files::question::Question;
+use std::alloc::{AllocError, Global};
+use std::marker::Model;
+use thiserror::Error;
+
+/// The most files of a batch.
+pub const MOST_FILES: usize = 256;
+
+/// The most lines of a batch, over all its files.
+pub const MOST_LINES: usize = 1_000_000;
+
+/// Why files are no batch: the first of these that holds.
+#[derive(Clone, Copy, Debug, PartialEq, Eq, Error)]
+pub enum JobsFault {
+    /// There are more than 256 files.
+    #[error("too many files")]
+    TooManyFiles,
+    /// The files have more than 1,000,000 lines together.
+    #[error("too many lines")]
+    TooManyLines,
+    /// The memory for the jobs was refused.
+    #[error("out of memory")]
+    OutOfMemory,
+}
+
+/// The jobs of a batch: for each file, in order, what its lines say, in order. Files, lines and jobs count from 0, and jobs
+/// run over the files in order and over the lines of each in order. There are at most 256 files and 1,000,000 lines.
+#[derive(Drop)]
+pub struct Jobs {
+    files: Vec<FileJobs>,
+    starts: Vec<u32>,
+    total: u32,
+}
+
+impl Model for Jobs {
+    ghost use Rattle.std.specs.Prelude.{List};
+    ghost use Rattle.kalah_jobs.specs.declared.files.entry.Entry.{Entry};
+
+    ghost Value = { List (List Entry) };
+
+    ghost use Rattle.kalah_jobs.specs.Files.Jobs.{AreCounted};
+
+    ghost view = { λ j. j.files.items };
+
+    ghost invariant = { λ j. AreCounted j.files.items j.starts.items j.total };
+}
+
+impl Jobs {
+    /// The jobs of these files, where the best move is asked of each position: as `asking` gives them.
+    pub fn of_files(alloc: Global, files: &[FileText]) -> Result<Jobs, JobsFault>
+        ensures too_many_files { (result ≡ Err JobsFault.TooManyFiles) ↔ (most_files < length files.now) }
+        ensures too_many_lines { (result ≡ Err JobsFault.TooManyLines)
+            ↔ ((length files.now ≤ most_files) × (most_lines < line_count files.now)) }
+        ensures value { IfOk result (λ jobs. jobs ≡ jobs_of files.now) }
+    {
+        Jobs::asking(alloc, Question::BestMove, files)
+    }
+
+    /// The jobs of these files: each line of each file, with what it says and what is asked of its position. More than 256
+    /// files are refused as `TooManyFiles`, then more than 1,000,000 lines as `TooManyLines`, both before any memory is
+    /// taken. `OutOfMemory` comes only where memory was refused.
+    pub fn asking(alloc: Global, question: Question, files: &[FileText]) -> Result<Jobs, JobsFault>
+        ensures too_many_files { (result ≡ Err JobsFault.TooManyFiles) ↔ (most_files < length files.now) }
+        ensures too_many_lines { (result ≡ Err JobsFault.TooManyLines)
+            ↔ ((length files.now ≤ most_files) × (most_lines < line_count files.now)) }
+        ensures value { IfOk result (λ jobs. jobs ≡ jobs_to question files.now) }
+    {
+        if files.len() > MOST_FILES {
+            return Err(JobsFault::TooManyFiles);
+        }
+        if !has_few_lines(files) {
+            return Err(JobsFault::TooManyLines);
+        }
+        Jobs::of_few_lines(alloc, question, files).map_err(|_| JobsFault::OutOfMemory)
+    }
+
+    // The jobs of files that are within the limits.
+    fn of_few_lines(
+        alloc: Global,
+        question: Question,
+        files: &[FileText],
+    ) -> Result<Jobs, AllocError>
+        requires few_files { length files.now ≤ most_files }
+        requires few_lines { line_count files.now ≤ most_lines }
+        ensures { IfOk result (λ jobs. jobs ≡ jobs_to question files.now) }
+    {
+        let mut rows = Vec::with_capacity(alloc, files.len())?;
+        let mut starts = Vec::with_capacity(alloc, files.len())?;
+        let mut total = 0;
+        for file in files {
+            let row = FileJobs::of_bytes(alloc, question, &file.bytes)?;
+            starts.push(total)?;
+            total += row.lines();
+            rows.push(row)?;
+        }
+        Ok(Jobs {
+            files: rows,
+            starts,
+            total,
+        })
+    }
+
+    /// How many jobs there are, at most 1,000,000: the lines of all files.
+    pub fn total(&self) -> u32
+        ensures lines { result ≡ job_count self.now }
+        ensures jobs { result ≡ length (job_list self.now) }
+        ensures low { result ≤ most_lines }
+    {
+        self.total
+    }
+
+    /// How many files there are, at most 256.
+    pub fn files(&self) -> u32
+        ensures is { result ≡ length self.now }
+        ensures low { result ≤ most_files }
+    {
+        self.files.len() as u32
+    }
+
+    /// How many lines a file has, at most 1,000,000. The file has to be below `files`.
+    pub fn lines(&self, f: u32) -> u32
+        requires { f < length self.now }
+        ensures is { result ≡ length (entries_of self.now f) }
+        ensures low { result ≤ most_lines }
+    {
+        self.files[f as usize].lines()
+    }
+
+    // What a line of a file says.
+    pub(crate) fn entry(&self, f: u32, line: u32) -> Entry
+        requires file { f < length self.now }
+        requires line { line < length (entries_of self.now f) }
+        ensures { slice_get (entries_of self.now f) line ≡ Some result }
+    {
+        self.files[f as usize].entry(line)
+    }
+
+    /// The job of this number, which has to be below `total`.
+    pub fn get(&self, n: u32) -> Job
+        requires { n < job_count self.now }
+        ensures { slice_get (job_list self.now) n ≡ Some (offer result.file result.line result.entry) }
+    {
+        let file = last_started(&self.starts, n);
+        let line = n - self.starts[file];
+        Job {
+            file: file as u32,
+            line,
+            entry: self.files[file].entry(line),
+        }
+    }
+}
+
+// The last file that starts with job `n` or before it.
+fn last_started(starts: &[u32], n: u32) -> usize
+    requires rising { IsNonDecreasing starts.now }
+    requires some { 0 < length starts.now }
+    requires first { slice_index starts.now 0 ≤ n }
+    ensures within { result < length starts.now }
+    ensures started { slice_index starts.now result ≤ n }
+    ensures last { (f : ℕ) → result < f → f < length starts.now → n < slice_index starts.now f }
+{
+    starts.partition_point(|start| *start <= n) - 1
+}
+
+// Whether the files have no more lines together than a batch may have.
+fn has_few_lines(files: &[FileText]) -> bool
+    ensures { IsTrue result ↔ (line_count files.now ≤ most_lines) }
+{
+    let mut room = MOST_LINES;
+    for file in files {
+        let lines = count_lines(&file.bytes);
+        if lines > room {
+            return false;
+        }
+        room -= lines;
+    }
+    true
+}
+
+#[cfg(test)]
+mod tests;

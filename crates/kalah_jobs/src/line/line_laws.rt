@@ -1,0 +1,28 @@
+//! Laws of lines, over the definitions that the contracts cite.
+ghost use Rattle.kalah_jobs.specs.Line.LineLaws.{NoLineReadsTwice, EveryLineIsItsText, EveryTextIsReadBack, PlainLinesReadTheSame, OnlyTheEndingNamesTheRule};
+
+/// No line is read as two positions.
+pub fn no_line_reads_twice()
+    ensures { NoLineReadsTwice }
+{}
+
+/// A line that is read is the text of its position, but for a CR at its end.
+pub fn every_line_is_its_text()
+    ensures { EveryLineIsItsText }
+{}
+
+/// The text of every position within the limits of a line is read as that position.
+pub fn every_text_is_read_back()
+    ensures { EveryTextIsReadBack }
+{}
+
+/// A line of two sides alone, with fewer seeds than are allowed, is read as a program reads it that knows the classic rule
+/// alone and allows fewer seeds.
+pub fn plain_lines_read_the_same()
+    ensures { PlainLinesReadTheSame }
+{}
+
+/// Of the lines that are read, those that end in ` e` are under the empty-capture rule, and all others under the classic one.
+pub fn only_the_ending_names_the_rule()
+    ensures { OnlyTheEndingNamesTheRule }
+{}

@@ -1,0 +1,62 @@
+//! Position lines read.
+ghost use Rattle.std.specs.Prelude.{◌≡◌, ◌≤◌, IfOk, IfErr, Ok};
+ghost use Rattle.kalah_rules.specs.Limits.{most_in_store};
+ghost use Rattle.kalah_rules.specs.Position.{Position};
+ghost use Rattle.kalah_jobs.specs.Line.Line.{without_cr, Reads, HasFault, line_text_of};
+ghost use Rattle.kalah_jobs.specs.Line.Reading.{reading_of_text, reading_of};
+
+#[cfg(test)]
+mod tests;
+
+use crate::line::form::Form;
+use crate::line::line_fault::LineFault;
+use kalah_rules::Board;
+
+/// The most bytes of a line, after its CR is dropped.
+const MOST_BYTES: usize = 80;
+
+// The line without one CR at its end, if it has one.
+fn drop_cr(line: &[u8]) -> &[u8]
+    ensures { result.now ≡ without_cr line.now }
+{
+    match line.split_last() {
+        Some((last, text)) if *last == b'\r' => text,
+        _ => line,
+    }
+}
+
+// The position of a line whose CR is dropped, or its first fault.
+fn read_text(text: &[u8]) -> Result<Board, LineFault>
+    ensures { result ≡ reading_of_text text.now }
+{
+    if text.len() > MOST_BYTES {
+        return Err(LineFault::Long);
+    }
+    if text.is_empty() {
+        return Err(LineFault::Empty);
+    }
+    match Form::read(text) {
+        Some(form) => form.board(),
+        None => Err(LineFault::Shape),
+    }
+}
+
+/// The position that a line writes, such as `1,1/0 1,1/0`: the mover's houses with a comma between each two, a slash and
+/// the mover's store, one space, and the same of the other player. A line that ends in a space and `e` is played under
+/// `Rule::EmptyCapture`, any other under `Rule::Classic`. A number is `0`, or one or two digits of which the first is not
+/// `0`. One CR at the end is dropped before anything is looked at. Where no position is read, the answer is the first
+/// fault that holds, in the order of `LineFault`.
+pub fn read_line(bytes: &[u8]) -> Result<Board, LineFault>
+    // A position that is read is the one that the line writes, within the limits, and the line is its text.
+    ensures reads { IfOk result (λ p. Reads bytes.now p) }
+    ensures text { IfOk result (λ p. without_cr bytes.now ≡ line_text_of p) }
+    // Both stores have at most two digits, so the board may be written by `line_text`.
+    ensures stores { IfOk result (λ p. (p.own_store ≤ most_in_store) × (p.other_store ≤ most_in_store)) }
+    // Every line that writes such a position is read.
+    ensures every { (p : Position) → Reads bytes.now p → result ≡ Ok p }
+    // Any other line has a first fault, and that is the answer.
+    ensures fault { IfErr result (λ fault. HasFault bytes.now fault) }
+    ensures exact { result ≡ reading_of bytes.now }
+{
+    read_text(drop_cr(bytes))
+}

@@ -1,0 +1,32 @@
+//! One side of a position line: its houses and its store.
+ghost use Rattle.std.specs.Prelude.{◌≡◌, ◌≤◌, length};
+
+use crate::line::number::read_number;
+use crate::line::parts::cut;
+use crate::line::row::Row;
+
+/// A side as it is written.
+#[derive(Drop)]
+pub(crate) struct Side {
+    pub(crate) houses: Row,
+    pub(crate) store: u8,
+    ghost some_house: { 1 ≤ length houses },
+    ghost low_store: { store ≤ 99 },
+}
+
+impl Side {
+    ghost use Rattle.std.specs.Option.{option_map};
+    ghost use Rattle.kalah_jobs.specs.Line.Line.{most_bytes};
+    ghost use Rattle.kalah_jobs.specs.Line.Reading.{side_of};
+
+    // The houses before the one slash of a text, and the store after it.
+    pub(crate) fn read(text: &[u8]) -> Option<Side>
+        requires { length text.now ≤ most_bytes }
+        ensures { option_map (λ side. (side.houses, side.store)) result ≡ side_of text.now }
+    {
+        let (houses, store) = cut(text, b'/');
+        let store = read_number(store?)?;
+        let houses = Row::read(houses)?;
+        Some(Side { houses, store })
+    }
+}

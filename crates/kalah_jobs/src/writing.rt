@@ -1,0 +1,11 @@
+//! Answers in words and pictures, and where they are written.
+pub(crate) mod answer;
+pub(crate) mod ending;
+pub(crate) mod picture;
+pub(crate) mod player;
+pub(crate) mod printed;
+pub(crate) mod sink;
+pub(crate) mod splitting;
+pub(crate) mod stack_text;
+pub(crate) mod stream;
+pub(crate) mod written;

@@ -1,0 +1,77 @@
+//! What stands in an answer line behind the name of the file, put together on the stack.
+ghost use Rattle.std.specs.Prelude.{◌≡◌, ◌+◌, ◌≤◌, ◌∷◌, [], ◌++◌, length, codes, decimal};
+ghost use Rattle.kalah_jobs.specs.Files.Lines.{line_feed};
+ghost use Rattle.kalah_jobs.specs.Writing.Answer.{answer_words, value_words, values_words};
+
+use crate::writing::answer::{Answer, Taken};
+use crate::writing::stack_text::{ROOM, StackText};
+use kalah_solve::{MoveValue, MoveValues};
+
+// What stands behind the name in the answer line of a line, with its line feed.
+#[tactic(auto, using(crate::proofs::OfWriting::Lengths::number_length))]
+pub(crate) fn ending_of(taken: &Taken) -> StackText
+    ensures { result ≡ codes ":" ++ (decimal (taken.now.line + 1) ++ (codes " " ++ (answer_words taken.now.answer ++ line_feed ∷ []))) }
+{
+    let mut ending = StackText::new();
+    ending.put(b"\n");
+    put_words(&mut ending, &taken.answer);
+    ending.put(b" ");
+    ending.put_number(u64::from(taken.line) + 1);
+    ending.put(b":");
+    ending
+}
+
+// Puts the value of a move, behind its house, before what is there.
+#[tactic(auto, using(crate::proofs::OfWriting::Lengths::byte_length))]
+fn put_value(text: &mut StackText, value: MoveValue)
+    requires { length text.old + 15 ≤ ROOM }
+    ensures value { text.new ≡ value_words value ++ text.old }
+    ensures short { length text.new ≤ length text.old + 15 }
+{
+    text.put_margin(i32::from(value.value));
+    text.put(b":");
+    text.put_number(u64::from(value.house));
+}
+
+// Puts the values of the moves, with a space between any two, before what is there.
+fn put_values(text: &mut StackText, values: &MoveValues)
+    requires { length text.old + 96 ≤ ROOM }
+    ensures values { text.new ≡ values_words values.now ++ text.old }
+    ensures short { length text.new ≤ length text.old + 96 }
+{
+    if values.len() == 0 {
+        return;
+    }
+    let mut i = values.len() - 1;
+    put_value(text, values.get(i));
+    while i > 0 {
+        i -= 1;
+        text.put(b" ");
+        put_value(text, values.get(i));
+    }
+}
+
+// Puts what stands in an answer line after the number of the line before what is there.
+#[tactic(auto, using(crate::proofs::OfWriting::Lengths::byte_length, crate::proofs::OfWriting::Lengths::fault_length))]
+fn put_words(text: &mut StackText, answer: &Answer)
+    requires { length text.old + 96 ≤ ROOM }
+    ensures words { text.new ≡ answer_words answer.now ++ text.old }
+    ensures short { length text.new ≤ length text.old + 96 }
+{
+    match *answer {
+        Answer::Best { margin, house } => {
+            text.put_number(u64::from(house));
+            text.put(b" house ");
+            text.put_margin(margin);
+        }
+        Answer::Over { margin } => {
+            text.put(b" over");
+            text.put_margin(margin);
+        }
+        Answer::Values(values) => put_values(text, &values),
+        Answer::Fault(fault) => {
+            text.put(fault.word().as_bytes());
+            text.put(b"fault ");
+        }
+    }
+}

@@ -1,0 +1,99 @@
+//! Positions drawn as boards.
+ghost use Rattle.std.specs.Prelude.{◌≡◌, ◌↔◌, ◌≤◌, ◌+◌, ◌*◌, ◌++◌, true, false, IsErr, OnOk, length};
+ghost use Rattle.std.specs.Io.KnownBytes.{Appends};
+ghost use Rattle.kalah_jobs.specs.Writing.Given.{AppendsStart};
+ghost use Rattle.kalah_rules.specs.Position.{side_length};
+ghost use Rattle.kalah_jobs.specs.Writing.Picture.{PictureLinesAreShort, PicturesTellPositions, cell, house_in, houses_line, picture_of};
+
+#[cfg(test)]
+mod tests;
+
+use crate::writing::player::Player;
+use crate::writing::sink::Sink;
+use crate::writing::stack_text::{ROOM, StackText};
+use kalah_rules::Board;
+use std::io;
+
+/// The bytes of a column.
+const COLUMN: usize = 4;
+
+// Puts a number, at the right of a column, before what is there.
+#[tactic(auto, using(crate::proofs::OfWriting::Lengths::byte_length))]
+fn put_cell(text: &mut StackText, number: u8)
+    requires { length text.old + 4 ≤ ROOM }
+    ensures cell { text.new ≡ cell number ++ text.old }
+    ensures longer { length text.new ≡ 4 + length text.old }
+{
+    let end = text.len() + COLUMN;
+    text.put_number(u64::from(number));
+    text.put_blanks(end - text.len());
+}
+
+// The house that a player has in a column.
+fn house_in(player: Player, board: &Board, column: u8) -> u8
+    requires low { 1 ≤ column }
+    requires high { column ≤ side_length board.now }
+    ensures house { result ≡ house_in player board.now column }
+    ensures low { 1 ≤ result }
+    ensures high { result ≤ side_length board.now }
+{
+    match player {
+        Player::Mover => column,
+        Player::Other => board.m() + 1 - column,
+    }
+}
+
+// Puts an empty column and a player's houses, a column each, before what is there.
+fn put_houses(text: &mut StackText, board: &Board, player: Player)
+    requires { length text.old + 28 ≤ ROOM }
+    ensures houses { text.new ≡ houses_line player board.now ++ text.old }
+    ensures longer { length text.new ≡ 4 + 4 * side_length board.now + length text.old }
+{
+    let mut column = board.m();
+    while column > 0 {
+        put_cell(text, player.seeds(board, house_in(player, board, column)));
+        column -= 1;
+    }
+    text.put_blanks(COLUMN);
+}
+
+// The picture of a board.
+#[tactic(auto, unfolding(crate::specs::Writing::Picture::picture_of))]
+fn picture(board: &Board) -> StackText
+    ensures { result ≡ picture_of board.now }
+{
+    let m = usize::from(board.m());
+    let mut text = StackText::new();
+    text.put(b"\n");
+    put_houses(&mut text, board, Player::Mover);
+    text.put(b"\n");
+    put_cell(&mut text, board.own_store());
+    text.put_blanks(COLUMN * m);
+    put_cell(&mut text, board.other_store());
+    text.put(b"\n");
+    put_houses(&mut text, board, Player::Other);
+    text
+}
+
+/// Draws a board in three lines: the houses of the other player, from the last to the first; the stores, of which the
+/// mover's stands at the right; and the houses of the mover, from the first to the last. Each number stands at the right of
+/// a column of four bytes. It takes no memory, and is an error exactly where the sink has failed afterwards; then a
+/// beginning of the picture was written, and nothing else.
+pub fn write_picture<W: Sink>(out: &mut W, board: &Board) -> Result<(), io::Error>
+    requires { W.has_failed out.old ≡ false }
+    ensures fails { IsErr result ↔ (W.has_failed out.new ≡ true) }
+    ensures adds { OnOk result (Appends (W.written out.old) (W.written out.new) (picture_of board.now)) }
+    ensures start { AppendsStart (W.written out.old) (W.written out.new) (picture_of board.now) }
+{
+    out.write_all(picture(board).bytes())
+}
+
+/// Two boards of one rule that are drawn alike are the same.
+pub fn pictures_tell_positions()
+    ensures { PicturesTellPositions }
+{}
+
+/// No line of a picture has more than 32 bytes.
+pub fn picture_lines_are_short()
+    ensures { PictureLinesAreShort }
+{}

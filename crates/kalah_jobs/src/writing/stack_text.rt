@@ -1,0 +1,107 @@
+//! A short text that is put together on the stack.
+ghost use Rattle.std.specs.Prelude.{◌≡◌, ◌+◌, ◌≤◌, [], ◌++◌, IsAscii, length, replicate, decimal};
+ghost use Rattle.std.specs.Fmt.{signed_decimal};
+ghost use Rattle.kalah_jobs.specs.Line.Line.{space};
+
+use itoa::write_digits;
+use std::marker::Model;
+use std::str;
+
+/// The most bytes of such a text.
+pub(crate) const ROOM: usize = 128;
+
+/// A text of at most 128 bytes, which takes no memory but the stack's. It is put together from its end on: each piece goes
+/// before those that are there. It is seen as its bytes.
+#[derive(Drop)]
+pub(crate) struct StackText {
+    bytes: [u8; ROOM],
+    start: usize,
+}
+
+impl Model for StackText {
+    ghost use Rattle.std.specs.Prelude.{◌≡◌, ◌≤◌, ℕ, List, length, drop};
+
+    ghost Value = { List ℕ };
+
+    ghost view = { λ t. drop t.start t.bytes };
+
+    ghost invariant = { λ t. (length t.bytes ≡ 128) × (t.start ≤ 128) };
+}
+
+impl StackText {
+    // A text without a byte.
+    pub(crate) fn new() -> StackText
+        ensures { result ≡ [] }
+    {
+        StackText {
+            bytes: [0; ROOM],
+            start: ROOM,
+        }
+    }
+
+    // The bytes.
+    pub(crate) fn bytes(&self) -> &[u8]
+        ensures { result.now ≡ self.now }
+    {
+        &self.bytes[self.start..]
+    }
+
+    // The text, of bytes of ASCII.
+    #[tactic(auto, using(crate::proofs::OfWriting::AsciiTexts::ascii_is_text))]
+    pub(crate) fn as_str(&self) -> &str
+        requires { IsAscii self.now }
+        ensures { result.now ≡ self.now }
+    {
+        str::from_utf8(self.bytes()).unwrap()
+    }
+
+    // How many bytes there are.
+    pub(crate) fn len(&self) -> usize
+        ensures { result ≡ length self.now }
+    {
+        self.bytes().len()
+    }
+
+    // Puts a piece before what is there.
+    pub(crate) fn put(&mut self, piece: &[u8])
+        requires { length piece.now + length self.old ≤ ROOM }
+        ensures piece { self.new ≡ piece.now ++ self.old }
+        ensures longer { length self.new ≡ length piece.now + length self.old }
+    {
+        let end = self.start;
+        self.start = end - piece.len();
+        self.bytes[self.start..end].copy_from_slice(piece);
+    }
+
+    // Puts so many blanks before what is there.
+    pub(crate) fn put_blanks(&mut self, n: usize)
+        requires few { n ≤ 24 }
+        requires room { n + length self.old ≤ ROOM }
+        ensures blanks { self.new ≡ replicate n space ++ self.old }
+        ensures longer { length self.new ≡ n + length self.old }
+    {
+        self.put(&[b' '; 24][..n]);
+    }
+
+    // Puts a number in digits before what is there.
+    pub(crate) fn put_number(&mut self, n: u64)
+        requires { length (decimal n) + length self.old ≤ ROOM }
+        ensures number { self.new ≡ decimal n ++ self.old }
+        ensures longer { length self.new ≡ length (decimal n) + length self.old }
+    {
+        self.start = write_digits(n, &mut self.bytes, self.start);
+    }
+
+    // Puts a margin in digits, with `-` in front where it is negative, before what is there.
+    #[tactic(auto, using(crate::proofs::OfWriting::Lengths::margin_length))]
+    pub(crate) fn put_margin(&mut self, margin: i32)
+        requires { length self.old + 11 ≤ ROOM }
+        ensures margin { self.new ≡ signed_decimal margin ++ self.old }
+        ensures short { length self.new ≤ length self.old + 11 }
+    {
+        self.put_number(u64::from(margin.unsigned_abs()));
+        if margin < 0 {
+            self.put(b"-");
+        }
+    }
+}

@@ -1,0 +1,98 @@
+//! The sink over a writer.
+ghost use Rattle.std.specs.Prelude.{◌≡◌, false, true, OnOk};
+ghost use Rattle.std.specs.Io.KnownBytes.{Appends};
+ghost use Rattle.kalah_jobs.specs.Writing.Given.{AppendsStart};
+ghost use Rattle.kalah_jobs.specs.Writing.Stream.{stream_failed, stream_flushed, stream_writer};
+
+use crate::Sink;
+use std::io;
+use std::io::{ErrorKind, Write};
+
+/// Writes all the bytes, in as many calls as the writer needs, and doesn't flush it. A call that was interrupted has taken
+/// nothing, and is made again. Where another call fails, or takes no byte, it is an error: then a beginning of the bytes was
+/// written, and nothing else.
+pub fn write_pieces<W: Write>(writer: &mut W, bytes: &[u8]) -> io::Result<()>
+    ensures adds { OnOk result
+        (Appends (W.contents writer.old) (W.contents writer.new) bytes.now) }
+    ensures start { AppendsStart (W.contents writer.old) (W.contents writer.new) bytes.now }
+{
+    let mut rest = bytes;
+    for _ in 0..u64::MAX {
+        if rest.is_empty() {
+            return Ok(());
+        }
+        match writer.write(rest) {
+            Ok(0) => return Err(io::Error::from(ErrorKind::WriteZero)),
+            Ok(taken) => rest = &rest[taken..],
+            Err(error) if error.kind() == ErrorKind::Interrupted => {}
+            Err(error) => return Err(error),
+        }
+    }
+    Err(io::Error::from(ErrorKind::Interrupted))
+}
+
+/// The sink over a writer, with that writer's bytes. It fails where a call of the writer answers an
+/// error, also because the writer took no byte; an interrupted call is tried again and is no error.
+#[derive(Drop)]
+pub struct Stream<W> {
+    writer: W,
+    has_failed: bool,
+    // Whether the writer was flushed after the last bytes that it was given.
+    is_flushed: bool,
+}
+
+impl<W> Stream<W> {
+    /// A stream of which no call has failed.
+    pub fn new(writer: W) -> Stream<W>
+        ensures writer { stream_writer result ≡ writer }
+        ensures fresh { stream_failed result ≡ false }
+        ensures flushed { stream_flushed result ≡ true }
+    {
+        Stream {
+            writer,
+            has_failed: false,
+            is_flushed: true,
+        }
+    }
+
+    /// Gives the writer back.
+    pub fn into_inner(self) -> W
+        ensures { result ≡ stream_writer self }
+    {
+        let Stream {
+            writer,
+            has_failed: _,
+            is_flushed: _,
+        } = self;
+        writer
+    }
+}
+
+impl<W: Write> Sink for Stream<W> {
+    ghost written = { λ s. W.contents (stream_writer s) };
+
+    ghost has_failed = { stream_failed };
+
+    ghost is_handed_on = { stream_flushed };
+
+    fn write_all(&mut self, bytes: &[u8]) -> Result<(), io::Error> {
+        let written = write_pieces(&mut self.writer, bytes);
+        self.has_failed = written.is_err();
+        self.is_flushed = false;
+        written
+    }
+
+    fn flush(&mut self) -> Result<(), io::Error> {
+        let flushed = self.writer.flush();
+        self.has_failed = flushed.is_err();
+        self.is_flushed = flushed.is_ok();
+        flushed
+    }
+
+    fn failed(&self) -> bool {
+        self.has_failed
+    }
+}
+
+#[cfg(test)]
+mod tests;
