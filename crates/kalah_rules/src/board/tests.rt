@@ -2,26 +2,33 @@ mod walk;
 
 use crate::{Board, Houses, Rule, Step};
 use std::process::Abort;
-use std::test::Fail;
 
 // A board of one house a side.
-fn single(own: u8, own_store: u8, other: u8, other_store: u8, rule: Rule) -> Result<Board, Fail> {
+fn single(
+    rt: &impl Abort,
+    own: u8,
+    own_store: u8,
+    other: u8,
+    other_store: u8,
+    rule: Rule,
+) -> Board {
     let own = [own, 0, 0, 0, 0, 0];
     let other = [other, 0, 0, 0, 0, 0];
-    Ok(Board::new(1, own, own_store, other, other_store, rule).ok_or("beyond the limits")?)
+    Board::new(1, own, own_store, other, other_store, rule).expect(rt, "beyond the limits")
 }
 
 // A board of two houses a side.
 fn double(
+    rt: &impl Abort,
     own: [u8; 2],
     own_store: u8,
     other: [u8; 2],
     other_store: u8,
     rule: Rule,
-) -> Result<Board, Fail> {
+) -> Board {
     let own = [own[0], own[1], 0, 0, 0, 0];
     let other = [other[0], other[1], 0, 0, 0, 0];
-    Ok(Board::new(2, own, own_store, other, other_store, rule).ok_or("beyond the limits")?)
+    Board::new(2, own, own_store, other, other_store, rule).expect(rt, "beyond the limits")
 }
 
 // The move of house `h` is legal and leads to `step`.
@@ -31,39 +38,37 @@ fn assert_leads(rt: &impl Abort, start: &Board, h: u8, step: Step) {
 }
 
 #[test]
-fn a_lap_ends_in_the_lifted_house_and_captures(rt: HostRuntime) -> Result<(), Fail> {
+fn a_lap_ends_in_the_lifted_house_and_captures(rt: HostRuntime) {
     for rule in [Rule::Classic, Rule::EmptyCapture] {
         assert_leads(
             &rt,
-            &single(3, 0, 3, 0, rule)?,
+            &single(&rt, 3, 0, 3, 0, rule),
             1,
-            Step::Over(single(0, 6, 0, 0, rule)?),
+            Step::Over(single(&rt, 0, 6, 0, 0, rule)),
         );
     }
-    Ok(())
 }
 
 #[test]
-fn the_last_seed_in_the_store_moves_again(rt: HostRuntime) -> Result<(), Fail> {
+fn the_last_seed_in_the_store_moves_again(rt: HostRuntime) {
     let rule = Rule::Classic;
     assert_leads(
         &rt,
-        &double([1, 1], 0, [1, 1], 0, rule)?,
+        &double(&rt, [1, 1], 0, [1, 1], 0, rule),
         2,
-        Step::Again(double([1, 0], 1, [1, 1], 0, rule)?),
+        Step::Again(double(&rt, [1, 0], 1, [1, 1], 0, rule)),
     );
     assert_leads(
         &rt,
-        &double([1, 1], 0, [1, 1], 0, rule)?,
+        &double(&rt, [1, 1], 0, [1, 1], 0, rule),
         1,
-        Step::Turn(double([1, 1], 0, [0, 2], 0, rule)?),
+        Step::Turn(double(&rt, [1, 1], 0, [0, 2], 0, rule)),
     );
-    Ok(())
 }
 
 #[test]
-fn another_move_with_no_seeds_left_ends_the_game(rt: HostRuntime) -> Result<(), Fail> {
-    let end = single(1, 99, 1, 99, Rule::Classic)?;
+fn another_move_with_no_seeds_left_ends_the_game(rt: HostRuntime) {
+    let end = single(&rt, 1, 99, 1, 99, Rule::Classic);
     assert!(rt; end.is_legal(1));
     match end.apply(1) {
         Step::Over(swept) => {
@@ -74,43 +79,40 @@ fn another_move_with_no_seeds_left_ends_the_game(rt: HostRuntime) -> Result<(), 
         }
         _ => assert!(rt; false),
     }
-    Ok(())
 }
 
 #[test]
-fn many_laps_are_sown(rt: HostRuntime) -> Result<(), Fail> {
+fn many_laps_are_sown(rt: HostRuntime) {
     let rule = Rule::Classic;
     assert_leads(
         &rt,
-        &single(8, 0, 8, 0, rule)?,
+        &single(&rt, 8, 0, 8, 0, rule),
         1,
-        Step::Turn(single(11, 0, 2, 3, rule)?),
+        Step::Turn(single(&rt, 11, 0, 2, 3, rule)),
     );
-    Ok(())
 }
 
 #[test]
-fn an_empty_house_across_is_captured_under_one_rule(rt: HostRuntime) -> Result<(), Fail> {
+fn an_empty_house_across_is_captured_under_one_rule(rt: HostRuntime) {
     assert_leads(
         &rt,
-        &double([1, 0], 0, [0, 2], 0, Rule::Classic)?,
+        &double(&rt, [1, 0], 0, [0, 2], 0, Rule::Classic),
         1,
-        Step::Turn(double([0, 2], 0, [0, 1], 0, Rule::Classic)?),
+        Step::Turn(double(&rt, [0, 2], 0, [0, 1], 0, Rule::Classic)),
     );
     assert_leads(
         &rt,
-        &double([1, 0], 0, [0, 2], 0, Rule::EmptyCapture)?,
+        &double(&rt, [1, 0], 0, [0, 2], 0, Rule::EmptyCapture),
         1,
-        Step::Over(double([0, 0], 1, [0, 0], 2, Rule::EmptyCapture)?),
+        Step::Over(double(&rt, [0, 0], 1, [0, 0], 2, Rule::EmptyCapture)),
     );
-    Ok(())
 }
 
 #[test]
-fn legal_houses_rise(rt: HostRuntime) -> Result<(), Fail> {
+fn legal_houses_rise(rt: HostRuntime) {
     let own = [1, 0, 2, 0, 0, 3];
     let other = [0, 0, 0, 0, 0, 1];
-    let board = Board::new(6, own, 0, other, 0, Rule::Classic).ok_or("beyond the limits")?;
+    let board = Board::new(6, own, 0, other, 0, Rule::Classic).expect(&rt, "beyond the limits");
     let moves = board.legal();
     assert!(rt; moves.len() == 3);
     assert!(rt; moves.get(0) == 1);
@@ -119,47 +121,49 @@ fn legal_houses_rise(rt: HostRuntime) -> Result<(), Fail> {
     assert!(rt; !board.is_legal(2));
     assert!(rt; !board.is_legal(0));
     assert!(rt; !board.is_legal(7));
-    assert!(rt; single(0, 3, 5, 4, Rule::Classic)?.legal().len() == 0);
-    Ok(())
+    assert!(rt; single(&rt, 0, 3, 5, 4, Rule::Classic).legal().len() == 0);
 }
 
 #[test]
-fn margins_count_houses_and_stores(rt: HostRuntime) -> Result<(), Fail> {
-    let end = double([0, 0], 3, [1, 2], 4, Rule::Classic)?;
+fn margins_count_houses_and_stores(rt: HostRuntime) {
+    let end = double(&rt, [0, 0], 3, [1, 2], 4, Rule::Classic);
     assert!(rt; end.is_over());
     assert!(rt; end.returns() == -4);
-    let full = single(31, 99, 0, 0, Rule::Classic)?;
+    let full = single(&rt, 31, 99, 0, 0, Rule::Classic);
     assert!(rt; full.is_over());
     assert!(rt; full.returns() == 130);
-    Ok(())
 }
 
 #[test]
-fn limits_are_kept(rt: HostRuntime) -> Result<(), Fail> {
+fn limits_are_kept(rt: HostRuntime) {
     let none = [0; 6];
-    let rule = Rule::Classic;
-    assert!(rt; Board::new(0, none, 0, none, 0, rule).is_none());
-    assert!(rt; Board::new(7, none, 0, none, 0, rule).is_none());
-    assert!(rt; Board::new(1, [0, 1, 0, 0, 0, 0], 0, none, 0, rule).is_none());
-    assert!(rt; Board::new(1, none, 0, [0, 1, 0, 0, 0, 0], 0, rule).is_none());
-    assert!(rt; Board::new(6, [31, 1, 0, 0, 0, 0], 0, none, 0, rule).is_none());
-    assert!(rt; Board::new(6, [255; 6], 0, [255; 6], 0, rule).is_none());
-    assert!(rt; Board::new(1, none, 100, none, 0, rule).is_none());
-    assert!(rt; Board::new(1, none, 0, none, 100, rule).is_none());
-    assert!(rt; Board::new(1, none, 99, none, 99, rule).is_some());
-    Ok(())
+    let second = [0, 1, 0, 0, 0, 0];
+    for (m, own, own_store, other, other_store, is_kept) in [
+        (0, none, 0, none, 0, false),
+        (7, none, 0, none, 0, false),
+        (1, second, 0, none, 0, false),
+        (1, none, 0, second, 0, false),
+        (6, [31, 1, 0, 0, 0, 0], 0, none, 0, false),
+        (6, [255; 6], 0, [255; 6], 0, false),
+        (1, none, 100, none, 0, false),
+        (1, none, 0, none, 100, false),
+        (1, none, 99, none, 99, true),
+    ] {
+        let board = Board::new(m, own, own_store, other, other_store, Rule::Classic);
+        assert!(rt; board.is_some() == is_kept);
+    }
 }
 
 #[test]
-fn houses_are_those_of_the_board(rt: HostRuntime) -> Result<(), Fail> {
-    let board = double([1, 2], 9, [3, 4], 5, Rule::EmptyCapture)?;
+fn houses_are_those_of_the_board(rt: HostRuntime) {
+    let board = double(&rt, [1, 2], 9, [3, 4], 5, Rule::EmptyCapture);
     let houses = Houses::new(
         2,
         [1, 2, 0, 0, 0, 0],
         [3, 4, 0, 0, 0, 0],
         Rule::EmptyCapture,
     )
-    .ok_or("beyond the limits")?;
+    .expect(&rt, "beyond the limits");
     assert!(rt; board.houses() == houses);
     assert!(rt; houses.m() == 2);
     assert!(rt; houses.own(2) == 2);
@@ -167,5 +171,4 @@ fn houses_are_those_of_the_board(rt: HostRuntime) -> Result<(), Fail> {
     assert!(rt; houses.rule() == Rule::EmptyCapture);
     assert!(rt; Houses::new(1, [0, 1, 0, 0, 0, 0], [0; 6], Rule::Classic).is_none());
     assert!(rt; Houses::new(1, [16, 0, 0, 0, 0, 0], [16, 0, 0, 0, 0, 0], Rule::Classic).is_none());
-    Ok(())
 }

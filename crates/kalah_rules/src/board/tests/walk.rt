@@ -4,7 +4,6 @@ ghost use Rattle.std.specs.Prelude.{◌≤◌};
 use crate::row::total;
 use crate::{Board, Rule, Step};
 use std::process::Abort;
-use std::test::Fail;
 
 // A position in the cells of a lap: the mover's houses, the mover's store, the other player's houses.
 #[derive(Drop)]
@@ -176,7 +175,7 @@ fn board_of(m: u8, cells: &[u8; 12], stores: (u8, u8), rule: Rule) -> Option<Boa
 }
 
 #[test]
-fn every_small_board_is_played_seed_by_seed(rt: HostRuntime) -> Result<(), Fail> {
+fn every_small_board_is_played_seed_by_seed(rt: HostRuntime) {
     let mut boards = 0u32;
     for (m, numbers) in [(1, 49), (2, 2_401), (3, 117_649)] {
         for number in 0..numbers {
@@ -185,14 +184,13 @@ fn every_small_board_is_played_seed_by_seed(rt: HostRuntime) -> Result<(), Fail>
                 continue;
             }
             for rule in [Rule::Classic, Rule::EmptyCapture] {
-                let board = board_of(m, &cells, (0, 0), rule).ok_or("beyond the limits")?;
+                let board = board_of(m, &cells, (0, 0), rule).expect(&rt, "beyond the limits");
                 assert_walked(&rt, &board);
                 boards = boards.wrapping_add(1);
             }
         }
     }
     assert!(rt; boards == 2 * (28 + 210 + 924));
-    Ok(())
 }
 
 // The next of numbers that look drawn.
@@ -223,13 +221,12 @@ fn drawn(state: &mut u64) -> Option<Board> {
 }
 
 #[test]
-fn a_thousand_larger_boards_are_played_seed_by_seed(rt: HostRuntime) -> Result<(), Fail> {
+fn a_thousand_larger_boards_are_played_seed_by_seed(rt: HostRuntime) {
     let mut state = 1u64;
     let mut moves = 0u32;
     for _ in 0..1000 {
-        let board = drawn(&mut state).ok_or("beyond the limits")?;
+        let board = drawn(&mut state).expect(&rt, "beyond the limits");
         moves = moves.wrapping_add(assert_walked(&rt, &board) as u32);
     }
     assert!(rt; moves > 2000);
-    Ok(())
 }
