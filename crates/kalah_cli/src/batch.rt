@@ -1,8 +1,6 @@
 //! `kalah solve FILE..` and `kalah values FILE..`.
 ghost use Rattle.std.specs.Prelude.{◌≡◌, ◌≢◌, ◌↔◌, Err, IfErr, IfOk, IsErrOf, OnOk, false, map, true};
 ghost use Rattle.std.specs.List.{list_any};
-ghost use Rattle.kalah_jobs.specs.Writing.Output.{output_to};
-ghost use Rattle.kalah_run.specs.Answering.{AnswersBatch};
 ghost use Rattle.kalah_cli.specs.Request.{IsInLimits};
 ghost use Rattle.kalah_cli.specs.Batch.{AnswersTo, BeginsTo, CountsTo, has_line_feed};
 
@@ -10,8 +8,8 @@ use crate::failure::Failure;
 use crate::files::read_files;
 use crate::request::Batch;
 use crate::status::ExitStatus;
-use kalah_jobs::{FileText, Question, Sink};
-use kalah_run::{OpenGate, RunFault, Tally, solve_batch, values_batch};
+use kalah_jobs::{Question, Sink};
+use kalah_run::{OpenGate, Tally, solve_batch, values_batch};
 use std::alloc::Global;
 use std::io::Write;
 use std::rt::Files;
@@ -30,25 +28,6 @@ fn any_has_line_feed(names: &[&str]) -> bool
     ensures { result ≡ list_any (λ name. has_line_feed name.now) names.now }
 {
     names.iter().any(|name| has_line_feed(*name))
-}
-
-// Writes the answer to what is asked of each line of the files.
-fn answer<R: Threads + Wait + Sync, O: Sink>(
-    rt: &R,
-    alloc: Global,
-    batch: &Batch<'_>,
-    files: &[FileText],
-    out: &mut O,
-) -> Result<Tally, RunFault>
-    requires limits { IsInLimits batch.now }
-    requires sink { O.has_failed out.old ≡ false }
-    ensures { AnswersBatch O.written O.has_failed O.is_handed_on (output_to batch.now.question files.now) files.now out.old out.new result }
-{
-    let (workers, table) = (batch.workers, batch.table);
-    match batch.question {
-        Question::BestMove => solve_batch(rt, alloc, files, workers, table, &OpenGate, out),
-        Question::Values => values_batch(rt, alloc, files, workers, table, &OpenGate, out),
-    }
 }
 
 // Reads the files that are named and writes the answer to what is asked of each line of them.
@@ -77,7 +56,13 @@ fn answer_files<'a, R: Files + Threads + Wait + Sync, O: Sink>(
         return Err(Failure::LineFeed);
     }
     let files = read_files(rt, alloc, names)?;
-    match answer(rt, alloc, batch, files.as_slice(), out) {
+    let files = files.as_slice();
+    let (workers, table) = (batch.workers, batch.table);
+    let answered = match batch.question {
+        Question::BestMove => solve_batch(rt, alloc, files, workers, table, &OpenGate, out),
+        Question::Values => values_batch(rt, alloc, files, workers, table, &OpenGate, out),
+    };
+    match answered {
         Ok(tally) => Ok(tally),
         Err(fault) => Err(Failure::from(fault)),
     }

@@ -8,7 +8,7 @@ use std::fmt;
 use std::io::Write;
 
 /// What makes the program fail, apart from a mistake in its words.
-#[derive(Clone, Copy, Debug)]
+#[derive(Clone, Copy)]
 pub(crate) enum Failure<'a> {
     /// The name of a file has a line feed in it.
     LineFeed,

@@ -16,7 +16,7 @@ const MOST_BYTES: usize = 67_108_864;
 const CHUNK: usize = 4096;
 
 /// Why a file was not read.
-#[derive(Clone, Copy, Debug, PartialEq, Eq)]
+#[derive(Clone, Copy, PartialEq, Eq)]
 pub(crate) enum ReadFault {
     /// It can't be opened, or a read answered an error, of whatever kind.
     Unreadable,
@@ -57,25 +57,16 @@ pub(crate) fn read_limited<F: Read>(
     Err(ReadFault::TooLong)
 }
 
-// All that the file of this name holds.
-fn read_bytes<R: Files>(rt: &R, alloc: Global, name: &str) -> Result<Vec<u8>, ReadFault>
-    ensures within { IfOk result (λ v. length v.items ≤ 67108864) }
-{
-    match fs::open(rt, name) {
-        Ok(file) => {
-            let mut file = file;
-            read_limited(alloc, &mut file, MOST_BYTES)
-        }
-        Err(_) => Err(ReadFault::Unreadable),
-    }
-}
-
 // The file of this name.
 fn read_file<'a, R: Files>(rt: &R, alloc: Global, name: &'a str) -> Result<FileText, Failure<'a>>
     ensures named { IfOk result (λ file. file.name ≡ name.now) }
+    ensures within { IfOk result (λ file. length file.bytes ≤ 67108864) }
     ensures not_written { IfErr result (λ failure. failure ≢ Failure.Write) }
 {
-    let bytes = match read_bytes(rt, alloc, name) {
+    let Ok(mut file) = fs::open(rt, name) else {
+        return Err(Failure::Unreadable(name));
+    };
+    let bytes = match read_limited(alloc, &mut file, MOST_BYTES) {
         Ok(bytes) => bytes,
         Err(ReadFault::OutOfMemory) => return Err(Failure::OutOfMemory),
         Err(_) => return Err(Failure::Unreadable(name)),

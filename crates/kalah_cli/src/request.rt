@@ -17,7 +17,7 @@ use std::alloc::{AllocError, Global};
 use std::convert::AsStr;
 
 /// What the words ask the program to do.
-#[derive(Debug, Drop)]
+#[derive(Drop)]
 pub enum Request<'a> {
     /// To print the moves of the position that this line writes, and to draw boards or not.
     Moves {
@@ -35,7 +35,7 @@ pub enum Request<'a> {
 }
 
 /// What is asked of the positions of files, and how they are to be answered.
-#[derive(Debug, Drop)]
+#[derive(Drop)]
 pub struct Batch<'a> {
     /// What is asked of each position.
     pub question: Question,

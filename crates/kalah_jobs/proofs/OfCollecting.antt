@@ -3,5 +3,5 @@ pub mod RefusalLaw
 pub mod CollectorSteps
 pub mod CollectorRuns
 pub mod SharedOnce
-pub mod SameOffer
+pub mod SameJob
 pub mod JobOrders

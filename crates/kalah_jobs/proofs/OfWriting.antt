@@ -1,9 +1,8 @@
 pub mod PlayerHouses
 pub mod Lengths
-pub mod AsciiTexts
+pub mod Utf8Texts
 pub mod JobOutput
 pub mod Starts
-pub mod ValueTexts
 pub mod Joined
 pub mod Pictures
 pub mod SplitFiles

@@ -1,5 +1,4 @@
-pub mod Offer
-pub mod OfferFields
+pub mod OutcomeJob
 pub mod CollectorState
 pub mod Refusals
 pub mod CollectorEvents

@@ -5,13 +5,13 @@ use Rattle.std.specs.Io.KnownBytes.{Appends, Keeps}
 use Rattle.kalah_jobs.specs.declared.writing.answer.Taken.{Taken}
 use Rattle.kalah_jobs.specs.declared.files.entry.Entry.{Entry}
 use Rattle.kalah_jobs.specs.declared.files.question.Question.{Question}
-use Rattle.kalah_jobs.specs.Collecting.Offer.{Offer}
+use Rattle.kalah_jobs.specs.declared.files.job.Job.{Job}
 use Rattle.kalah_jobs.specs.Files.NamedBytes.{NamedBytes}
 use Rattle.kalah_jobs.specs.Files.JobList.{job_list}
 use Rattle.kalah_jobs.specs.Files.Jobs.{jobs_to, job_count}
 use Rattle.std.specs.List.{flat_map, enumerate_from}
 use Rattle.std.proofs.lemmas.List.Sums.{sum_by-cons}
-use Rattle.kalah_jobs.specs.Writing.Output.{answer_text_of, output_to, output_of_jobs, names_of, tally_of, LineCounts, text_of_file, text_of_jobs, is_faulty_offer}
+use Rattle.kalah_jobs.specs.Writing.Output.{answer_text_of, output_to, output_of_jobs, names_of, tally_of, LineCounts, text_of_file, text_of_jobs, is_faulty_job}
 use Rattle.kalah_jobs.specs.Collecting.Batch.{AreJobsInSomeOrder}
 use Rattle.kalah_run.specs.UnderWay.{WasGiven}
 use Rattle.kalah_run.proofs.BatchWay.{way_end}
@@ -27,7 +27,7 @@ unfolding text_of
 texts_are_output files jobs = refl
 
 -- Each job was taken in once, and the report doesn't wait for a line: the sink was given all, and all faults are counted.
-module _ (files : List NamedBytes) (jobs : List (List Entry)) (past : List Offer) (begun out : Option (List ℕ)) (failed : Bool) (r : Report)
+module _ (files : List NamedBytes) (jobs : List (List Entry)) (past : List Job) (begun out : Option (List ℕ)) (failed : Bool) (r : Report)
     (each : AreJobsInSomeOrder jobs past) (reporting : IsReporting files jobs past begun out failed r) (waits : Waits r) where
   pub all_given : WasGiven begun out failed (output_of_jobs (names_of files) jobs)
   all_given =
@@ -35,8 +35,8 @@ module _ (files : List NamedBytes) (jobs : List (List Entry)) (past : List Offer
       subst (λ l. WasGiven begun out failed l) (ap (λ l. text_of_jobs (text_of files) l) reporting.of_jobs ∙ texts_are_output files jobs)
       (way_end reporting.way once waits)
 
-  pub all_counted : r.faults ≡ count_by is_faulty_offer (job_list jobs)
-  all_counted = reporting.faults ∙ each.same_counts is_faulty_offer
+  pub all_counted : r.faults ≡ count_by is_faulty_job (job_list jobs)
+  all_counted = reporting.faults ∙ each.same_counts is_faulty_job
 
 -- the output of the jobs of the files is that of the files
 pub given_output : (question : Question) (files : List NamedBytes) (jobs : List (List Entry)) (begun out : Option (List ℕ)) (failed : Bool) → jobs ≡ jobs_to question files
@@ -65,15 +65,15 @@ given_no_output files jobs begun failed none =
 
 -- the lines and the faults that were counted are the tally of the files
 pub counted_tally : (question : Question) (files : List NamedBytes) (lines faults : ℕ) → lines ≡ length (job_list (jobs_to question files))
-    → faults ≡ count_by is_faulty_offer (job_list (jobs_to question files)) →
+    → faults ≡ count_by is_faulty_job (job_list (jobs_to question files)) →
     (let counts : LineCounts = record { lines = lines; faults = faults } in counts) ≡ tally_of files
 counted_tally question files lines faults all faulty =
     λ i. record { lines = (all ∙ sym (files_are_their_jobs.lines question files)) i; faults = (faulty ∙ sym (files_are_their_jobs.faults question files)) i }
 
-no_faults_in : (offers : List Offer) → length offers ≡ 0 → 0 ≡ count_by is_faulty_offer offers
+no_faults_in : (offers : List Job) → length offers ≡ 0 → 0 ≡ count_by is_faulty_job offers
 no_faults_in [] none = refl
 no_faults_in (o ∷ offers) none = absurd (omega arith)
 
 -- with no job there is no fault
-pub no_faults : (jobs : List (List Entry)) → length (job_list jobs) ≡ 0 → 0 ≡ count_by is_faulty_offer (job_list jobs)
+pub no_faults : (jobs : List (List Entry)) → length (job_list jobs) ≡ 0 → 0 ≡ count_by is_faulty_job (job_list jobs)
 no_faults jobs none = no_faults_in (job_list jobs) none

@@ -10,7 +10,7 @@ use Rattle.kalah_jobs.specs.declared.files.entry.Entry.{Entry}
 use Rattle.kalah_jobs.specs.declared.writing.answer.Taken.{Taken}
 use Rattle.kalah_jobs.specs.declared.collecting.refusal.Refusal.{Refusal}
 use Rattle.kalah_jobs.specs.Writing.Answer.{answer_of}
-use Rattle.kalah_jobs.specs.Collecting.Offer.{Offer}
+use Rattle.kalah_jobs.specs.declared.files.job.Job.{Job}
 use Rattle.kalah_jobs.specs.Files.JobList.{entries_of, entry_at}
 use Rattle.kalah_jobs.specs.Collecting.CollectorState.{FileState, state_of, line_count, front, HasEnded, with_one_taken, new_files, after_offer, after_take}
 use Rattle.kalah_jobs.specs.Collecting.Refusals.{IsWanted, IsRefusedFor}
@@ -95,7 +95,7 @@ module _ (text : ℕ → Taken → List ℕ) (jobs : List (List Entry)) where
       }
 
 -- a step of a batch that is under way
-module _ {text : ℕ → Taken → List ℕ} {jobs : List (List Entry)} {past : List Offer} {files : List FileState} {f : ℕ} {begun out : Option (List ℕ)}
+module _ {text : ℕ → Taken → List ℕ} {jobs : List (List Entry)} {past : List Job} {files : List FileState} {f : ℕ} {begun out : Option (List ℕ)}
     {failed : Bool} (way : IsUnderWay text jobs past files f begun out failed) where
   -- A line is taken, and its text given to the sink.
   pub wrote_line : (after : List FileState) (t : Taken) (more : Option (List ℕ)) (fails : Bool) → Takes files f (Some t) after
@@ -164,7 +164,7 @@ module _ {text : ℕ → Taken → List ℕ} {jobs : List (List Entry)} {past : 
       }
 
   -- an accepted offer leaves what was written
-  way_accepted : (o : Offer) → IsWanted jobs files o
+  way_accepted : (o : Job) → IsWanted jobs files o
       → IsUnderWay text jobs (past ++ o ∷ []) (after_offer files o.file o.line (answer_of o.entry)) f begun out failed
   way_accepted o wanted =
       let low = wanted_file jobs files o wanted in
@@ -187,7 +187,7 @@ module _ {text : ℕ → Taken → List ℕ} {jobs : List (List Entry)} {past : 
       }
 
   -- so does a refused one
-  way_refused : (o : Offer) (r : Refusal) → IsRefusedFor jobs files o r → IsUnderWay text jobs (past ++ o ∷ []) files f begun out failed
+  way_refused : (o : Job) (r : Refusal) → IsRefusedFor jobs files o r → IsUnderWay text jobs (past ++ o ∷ []) files f begun out failed
   way_refused o r refused = record {
     holds = holds_refused jobs past files o r way.holds refused;
     within = way.within;
@@ -197,7 +197,7 @@ module _ {text : ℕ → Taken → List ℕ} {jobs : List (List Entry)} {past : 
   }
 
   -- an outcome is offered, and accepted or refused
-  pub way_offered : (o : Offer) (after : List FileState) (gave : Result ℕ Refusal) → Offers jobs files o gave after
+  pub way_offered : (o : Job) (after : List FileState) (gave : Result ℕ Refusal) → Offers jobs files o gave after
       → IsUnderWay text jobs (past ++ o ∷ []) after f begun out failed
   way_offered o after (Ok ready) step =
       subst (λ (s : List FileState). IsUnderWay text jobs (past ++ o ∷ []) s f begun out failed) (sym step.kept) (way_accepted o step.wanted)

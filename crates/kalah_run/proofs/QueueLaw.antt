@@ -1,15 +1,15 @@
 -- What the rule of the results queue says, in plain words.
 use Rattle.std.proofs.Common.{◌≡◌, ℕ, suc, ◌<◌, List, ◌++◌, length, sym, arith}
-use Rattle.kalah_jobs.specs.Collecting.Offer.{Offer}
+use Rattle.kalah_jobs.specs.declared.files.job.Job.{Job}
 use Rattle.kalah_run.specs.declared.queue_rule.QueueView.{QueueView}
 use Rattle.kalah_run.specs.declared.queue_rule.QueueView.TheVariants.{Getting, Putting}
 use Rattle.kalah_run.specs.QueueRule.{FitsGet, FitsPut, IsLawful}
 use Rattle.kalah_run.specs.QueueLaw.{IsWholeAndInOrder}
 use Rattle.kalah_run.proofs.QueueViews.{in_views}
 
-pub queue_is_lawful : (items : List (ℕ × Offer)) (views : List QueueView) → IsLawful items views → IsWholeAndInOrder items views
+pub queue_is_lawful : (items : List (ℕ × Job)) (views : List QueueView) → IsLawful items views → IsWholeAndInOrder items views
 queue_is_lawful items views h =
-    let pairs : List (ℕ × Offer) = h.taken ++ items in
+    let pairs : List (ℕ × Job) = h.taken ++ items in
     let first : FitsGet pairs h.taken h.closed (length views) 0 h.made h.taken h.known = h.fits 0 (Getting h.made h.taken h.known) h.getter in
     let count : length views ≡ suc h.made = first.count in
     record {

@@ -3,10 +3,7 @@ use Rattle.std.proofs.Common.{◌≡◌, ◌≢◌, ℕ, zero, suc, ◌<◌, Lis
 use mathlib.Core.Option.{some, some-injective, some-ne-none}
 use lib.ListN.{get_elem?}
 use Rattle.crossbeam_queue.proofs.Lists.{at_set}
-use Rattle.kalah_jobs.specs.Collecting.Offer.{Offer}
 use Rattle.kalah_run.specs.declared.queue_rule.QueueView.{QueueView}
-use Rattle.kalah_run.specs.declared.queue_rule.QueueView.TheVariants.{Getting}
-use Rattle.kalah_run.specs.QueueSteps.{IsGot, made_in}
 
 -- a fact of each view at its place
 abbrev pub Each : (ℕ → QueueView → Type 0) → List QueueView → Type 0
@@ -57,8 +54,3 @@ first_longer (x ∷ xs) v w e = e
 pub each_one : (F : ℕ → QueueView → Type 0) (v : QueueView) → F 0 v → Each F (v ∷ [])
 each_one F v p zero u e = subst (λ (y : QueueView). F 0 y) (some-injective v u e) p
 each_one F v p (suc place) u e = absurd (some-ne-none u (sym e))
-
--- a pair that is got is of one of the workers that the pass to get knows of
-pub got_below : (v : QueueView) (made : ℕ) (got : List (ℕ × Offer)) (known : List (List Offer)) (pair : ℕ × Offer) (after : QueueView) → v ≡ Getting made got known
-    → IsGot v pair after → pair.0 < made
-got_below v made got known pair after is h = subst (λ (u : QueueView). pair.0 < made_in u) is h.1

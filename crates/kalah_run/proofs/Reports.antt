@@ -8,10 +8,10 @@ use Rattle.std.specs.Io.KnownBytes.{Keeps}
 use Rattle.kalah_jobs.specs.declared.writing.answer.Taken.{Taken}
 use Rattle.kalah_jobs.specs.declared.files.entry.Entry.{Entry}
 use Rattle.kalah_jobs.specs.Writing.Answer.{answer_line}
-use Rattle.kalah_jobs.specs.Collecting.Offer.{Offer}
+use Rattle.kalah_jobs.specs.declared.files.job.Job.{Job}
 use Rattle.kalah_jobs.specs.Files.Lines.{line_feed}
 use Rattle.kalah_jobs.specs.Files.NamedBytes.{NamedBytes}
-use Rattle.kalah_jobs.specs.Writing.Output.{is_faulty_offer}
+use Rattle.kalah_jobs.specs.Writing.Output.{is_faulty_job}
 use Rattle.kalah_run.proofs.Giving.{given_kept}
 use Rattle.kalah_run.specs.declared.report.Report.{Report}
 use Rattle.kalah_run.specs.Reporting.{IsReporting}
@@ -27,15 +27,15 @@ text_of_file files f file name taken low at is =
     ap (λ n. answer_line n taken ++ line_feed ∷ []) (get_or-map (λ (x : NamedBytes). x.name) files f file [] low ∙ sym (ap (λ (x : NamedBytes). x.name) at) ∙ sym is)
 
 -- one outcome more
-pub faults_more : (past : List Offer) (o : Offer) (faults more : ℕ) → faults ≡ count_by is_faulty_offer past → more ≡ (if is_faulty_offer o then 1 else 0) →
-    faults + more ≡ count_by is_faulty_offer (past ++ o ∷ [])
+pub faults_more : (past : List Job) (o : Job) (faults more : ℕ) → faults ≡ count_by is_faulty_job past → more ≡ (if is_faulty_job o then 1 else 0) →
+    faults + more ≡ count_by is_faulty_job (past ++ o ∷ [])
 faults_more past o faults more before is =
-    let all = sum_by-append (λ (x : Offer). if is_faulty_offer x then 1 else 0) past (o ∷ []) in
-    let one : count_by is_faulty_offer (o ∷ []) ≡ (if is_faulty_offer o then 1 else 0) = omega arith in
+    let all = sum_by-append (λ (x : Job). if is_faulty_job x then 1 else 0) past (o ∷ []) in
+    let one : count_by is_faulty_job (o ∷ []) ≡ (if is_faulty_job o then 1 else 0) = omega arith in
     omega (arith, all, one, before, is)
 
 -- a report of the same files goes on, where what is under way does
-pub reports_on : (files : List NamedBytes) (jobs : List (List Entry)) (past : List Offer) (begun out more : Option (List ℕ)) (failed fails : Bool)
+pub reports_on : (files : List NamedBytes) (jobs : List (List Entry)) (past : List Job) (begun out more : Option (List ℕ)) (failed fails : Bool)
     (r after : Report) → after.files.now ≡ r.files.now → after.jobs.now ≡ r.jobs.now → after.faults ≡ r.faults
     → WritesOn r.files.now r.jobs.now r.current r.collector out failed after.current after.collector more fails
     → IsReporting files jobs past begun out failed r → IsReporting files jobs past begun more fails after
@@ -52,7 +52,7 @@ reports_on files jobs past begun out more failed fails r after same_files same_j
     }
 
 -- a report stands where what was written is handed on
-pub still_reports : (files : List NamedBytes) (jobs : List (List Entry)) (past : List Offer) (begun out later : Option (List ℕ)) (failed fails : Bool) (r : Report) →
+pub still_reports : (files : List NamedBytes) (jobs : List (List Entry)) (past : List Job) (begun out later : Option (List ℕ)) (failed fails : Bool) (r : Report) →
     Keeps out later → (fails ≡ false → failed ≡ false) → IsReporting files jobs past begun out failed r → IsReporting files jobs past begun later fails r
 still_reports files jobs past begun out later failed fails r keeps sound is = record {
   of_files = is.of_files;

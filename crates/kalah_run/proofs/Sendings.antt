@@ -2,10 +2,10 @@
 use Rattle.std.proofs.Common.{◌≡◌, ℕ, List, [], ◌∷◌, ◌++◌, sym, ap, ◌∙◌}
 use Rattle.std.proofs.lemmas.List.{map-append}
 use Rattle.kalah_jobs.specs.declared.files.entry.Entry.{Entry}
-use Rattle.kalah_jobs.specs.Collecting.Offer.{Offer}
+use Rattle.kalah_jobs.specs.declared.files.job.Job.{Job}
 use Rattle.std.specs.Prelude.{slice_get, Some}
 use Rattle.std.proofs.lemmas.Option.{get_or_from_slice_get}
-use Rattle.kalah_jobs.specs.Files.JobList.{job_list, offer}
+use Rattle.kalah_jobs.specs.Files.JobList.{job_list, line_job}
 use Rattle.kalah_jobs.specs.declared.files.entry.Entry.TheVariants.{Bad}
 use Rattle.kalah_jobs.specs.declared.line.line_fault.LineFault.TheVariants.{Empty}
 use Rattle.kalah_jobs.specs.Collecting.Batch.{job}
@@ -13,11 +13,11 @@ use Rattle.kalah_run.specs.declared.desk_rule.Row.{Row}
 use Rattle.kalah_run.specs.Work.{offers_of}
 
 -- job number n is what stands there in the list of jobs
-job_at : (jobs : List (List Entry)) (n : ℕ) (o : Offer) → slice_get (job_list jobs) n ≡ Some o → job jobs n ≡ o
-job_at jobs n o at = get_or_from_slice_get (job_list jobs) n o (offer 0 0 (Bad Empty)) at
+job_at : (jobs : List (List Entry)) (n : ℕ) (o : Job) → slice_get (job_list jobs) n ≡ Some o → job jobs n ≡ o
+job_at jobs n o at = get_or_from_slice_get (job_list jobs) n o (line_job 0 0 (Bad Empty)) at
 
 -- the outcome of the job that was drawn stands behind those of the row so far
-pub offers_of-more : (jobs : List (List Entry)) (row row' : Row) (n : ℕ) (o : Offer) (sent sent' : List Offer) →
+pub offers_of-more : (jobs : List (List Entry)) (row row' : Row) (n : ℕ) (o : Job) (sent sent' : List Job) →
     sent ≡ offers_of jobs row.numbers → row'.numbers ≡ row.numbers ++ n ∷ [] → slice_get (job_list jobs) n ≡ Some o → sent' ≡ sent ++ o ∷ [] →
     sent' ≡ offers_of jobs row'.numbers
 unfolding offers_of
@@ -29,6 +29,6 @@ offers_of-more jobs row row' n o sent sent' so_far drawn is more =
     ∙ ap (λ x. offers_of jobs x) (sym drawn)
 
 -- nothing is drawn and nothing sent
-pub offers_of-none : (jobs : List (List Entry)) (numbers : List ℕ) (sent : List Offer) → numbers ≡ [] → sent ≡ [] → sent ≡ offers_of jobs numbers
+pub offers_of-none : (jobs : List (List Entry)) (numbers : List ℕ) (sent : List Job) → numbers ≡ [] → sent ≡ [] → sent ≡ offers_of jobs numbers
 unfolding offers_of
 offers_of-none jobs numbers sent none nothing = nothing ∙ sym (ap (λ x. offers_of jobs x) none)

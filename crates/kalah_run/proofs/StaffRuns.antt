@@ -5,7 +5,7 @@ use Rattle.std.proofs.lemmas.List.{length-map, get_or-map}
 use Rattle.std.proofs.lemmas.List.Elements.{All-map}
 use Rattle.atomic_table.specs.Seated.{TableId}
 use Rattle.kalah_jobs.specs.declared.files.entry.Entry.{Entry}
-use Rattle.kalah_jobs.specs.Collecting.Offer.{Offer}
+use Rattle.kalah_jobs.specs.declared.files.job.Job.{Job}
 use Rattle.kalah_jobs.specs.Files.JobList.{job_list}
 use Rattle.kalah_jobs.specs.Collecting.Shares.{AreShared}
 use Rattle.kalah_jobs.specs.Collecting.Batch.{job, AreJobsInSomeOrder}
@@ -116,7 +116,7 @@ offers_are jobs numbers = refl
 
 -- Each number below the total stands in the rows once; the pairs that were got and those left inside account for what was sent; and as many
 -- were got as there are jobs: so each job was got once.
-pub each_job_got : (jobs : List (List Entry)) (shifts : List Shift) (workers total : ℕ) (got rest : List (ℕ × Offer)) → HaveJobs jobs shifts → length shifts ≡ workers →
+pub each_job_got : (jobs : List (List Entry)) (shifts : List Shift) (workers total : ℕ) (got rest : List (ℕ × Job)) → HaveJobs jobs shifts → length shifts ≡ workers →
     ((x : ℕ) → times_in x (numbers_of (rows_of (passes_of shifts))) ≡ (if nat_lt x total then 1 else 0)) →
     Accounts workers (sent_by (puts_of shifts)) (got ++ rest) → total ≡ length (job_list jobs) → length got ≡ total → AreJobsInSomeOrder jobs (outcomes_in got)
 each_job_got jobs shifts workers total got rest has many once accounts is all =
@@ -126,7 +126,7 @@ each_job_got jobs shifts workers total got rest has many once accounts is all =
     let row_workers : workers ≡ length rows = sym many ∙ sym row_count in
     let shared : AreShared (length (job_list jobs)) (job jobs) rows (got ++ rest) = record {
       each_once = λ x. once x ∙ ap (λ n. if nat_lt x n then 1 else 0) is;
-      workers = subst (λ n. All (λ (t : ℕ × Offer). t.0 < n) (got ++ rest)) row_workers accounts.below;
+      workers = subst (λ n. All (λ (t : ℕ × Job). t.0 < n) (got ++ rest)) row_workers accounts.below;
       whole = λ w within.
           let low : w < length shifts = omega arith in
           accounts.whole w (omega arith) ∙ sent_in_order jobs shifts w has low ∙ offers_are jobs (get_or rows w []);

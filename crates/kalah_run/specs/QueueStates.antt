@@ -1,7 +1,7 @@
 -- The results queue, its passes and a closed queue, as contracts see them.
 use Rattle.std.specs.Prelude.{◌≡◌, ℕ, suc, ◌<◌, List, [], ◌∷◌, ◌++◌, map}
 use Rattle.atomic_table.specs.Seated.{TableId}
-use Rattle.kalah_jobs.specs.Collecting.Offer.{Offer}
+use Rattle.kalah_jobs.specs.declared.files.job.Job.{Job}
 
 -- which queue it is, and how many pairs fill it
 pub record QueueState : Type 0 where
@@ -12,16 +12,16 @@ pub record QueueState : Type 0 where
 pub record PutState : Type 0 where
   pub queue : TableId
   pub number : ℕ
-  pub sent : List Offer
+  pub sent : List Job
 
 -- the queue that the pass gets from, how many workers there are, and all pairs that were got, in order: a worker's number and its outcome
 pub record GetState : Type 0 where
   pub queue : TableId
   pub workers : ℕ
-  pub got : List (ℕ × Offer)
+  pub got : List (ℕ × Job)
 
 -- the outcome of one of the workers stands behind what was got
-abbrev pub HasGot : GetState → Offer → GetState → Type 0
+abbrev pub HasGot : GetState → Job → GetState → Type 0
 HasGot before outcome after = (worker : ℕ) × (worker < before.workers) × (after ≡ record before { got = before.got ++ (worker, outcome) ∷ [] })
 
 -- how many pairs were put and not got
@@ -34,5 +34,5 @@ ArePassesFrom id n [] = Unit {0}
 ArePassesFrom id n (p ∷ ps) = (p.queue ≡ id) × (p.number ≡ n) × ArePassesFrom id (suc n) ps
 
 -- what each pass has sent
-abbrev pub sent_by : List PutState → List (List Offer)
+abbrev pub sent_by : List PutState → List (List Job)
 sent_by passes = map (λ p. p.sent) passes

@@ -1,6 +1,6 @@
 -- What each step makes of what a pass of the results queue knows.
 use Rattle.std.specs.Prelude.{◌≡◌, ℕ, ◌+◌, ◌<◌, List, [], ◌∷◌, ◌++◌}
-use Rattle.kalah_jobs.specs.Collecting.Offer.{Offer}
+use Rattle.kalah_jobs.specs.declared.files.job.Job.{Job}
 use Rattle.kalah_run.specs.declared.queue_rule.QueueView.{QueueView}
 use Rattle.kalah_run.specs.declared.queue_rule.QueueView.TheVariants.{Getting, Putting, Ended}
 use Rattle.kalah_run.specs.QueueLists.{Accounts}
@@ -10,7 +10,7 @@ abbrev pub first_view : QueueView
 first_view = Getting 0 [] []
 
 -- what was put through the pass
-abbrev pub sent_in : QueueView → List Offer
+abbrev pub sent_in : QueueView → List Job
 sent_in (Putting number sent) = sent
 sent_in (Getting made got known) = []
 sent_in Ended = []
@@ -22,20 +22,16 @@ made_in (Putting number sent) = 0
 made_in Ended = 0
 
 -- what was got through the pass
-abbrev pub got_in : QueueView → List (ℕ × Offer)
+abbrev pub got_in : QueueView → List (ℕ × Job)
 got_in (Getting made got known) = got
 got_in (Putting number sent) = []
 got_in Ended = []
 
 -- what the workers had sent whose passes were taken back in
-abbrev pub known_in : QueueView → List (List Offer)
+abbrev pub known_in : QueueView → List (List Job)
 known_in (Getting made got known) = known
 known_in (Putting number sent) = []
 known_in Ended = []
-
--- the view of a pass to get with these three
-abbrev pub as_getting : QueueView → QueueView
-as_getting v = Getting (made_in v) (got_in v) (known_in v)
 
 -- one pass more was made
 abbrev pub after_making_one : QueueView → QueueView
@@ -50,19 +46,19 @@ one_made (Putting number sent) = Ended
 one_made Ended = Ended
 
 -- the outcome is put behind what was sent
-abbrev pub after_put : QueueView → ℕ × Offer → QueueView
+abbrev pub after_put : QueueView → ℕ × Job → QueueView
 after_put (Putting number sent) pair = Putting number (sent ++ pair.1 ∷ [])
 after_put (Getting made got known) pair = Getting made got known
 after_put Ended pair = Ended
 
 -- the pair stands behind what was got
-abbrev pub after_get : QueueView → ℕ × Offer → QueueView
+abbrev pub after_get : QueueView → ℕ × Job → QueueView
 after_get (Getting made got known) pair = Getting made (got ++ pair ∷ []) known
 after_get (Putting number sent) pair = Putting number sent
 after_get Ended pair = Ended
 
 -- the pair is got: it is of a worker for whom a pass was made
-abbrev pub IsGot : QueueView → ℕ × Offer → QueueView → Type 0
+abbrev pub IsGot : QueueView → ℕ × Job → QueueView → Type 0
 IsGot before pair after = (after ≡ after_get before pair) × (pair.0 < made_in before)
 
 -- what the pass taken in has sent is known
@@ -72,7 +68,7 @@ after_taking_in (Putting number sent) other = Putting number sent
 after_taking_in Ended other = Ended
 
 -- what was got and then what the queue holds tells all that is known
-abbrev pub Tells : QueueView → List (ℕ × Offer) → Type 0
+abbrev pub Tells : QueueView → List (ℕ × Job) → Type 0
 Tells (Getting made got known) items = Accounts made known (got ++ items)
 Tells (Putting number sent) items = Unit {0}
 Tells Ended items = Unit {0}

@@ -4,7 +4,7 @@ use Rattle.std.specs.List.{flat_map, enumerate_from}
 use Rattle.std.specs.Io.KnownBytes.{Appends}
 use Rattle.kalah_jobs.specs.declared.files.entry.Entry.{Entry}
 use Rattle.kalah_jobs.specs.declared.writing.answer.Taken.{Taken}
-use Rattle.kalah_jobs.specs.Collecting.Offer.{Offer}
+use Rattle.kalah_jobs.specs.declared.files.job.Job.{Job}
 use Rattle.kalah_jobs.specs.Files.JobList.{entries_of}
 use Rattle.kalah_jobs.specs.Collecting.CollectorState.{FileState, state_of, line_count, front}
 use Rattle.kalah_jobs.specs.Collecting.Held.{HoldsOffered}
@@ -24,7 +24,7 @@ written_upto text jobs f n =
 
 -- With these offers made, the files before f are taken wholly and those behind it not at all. The sink was given the text of each
 -- line that was taken, in order.
-pub record IsUnderWay (text : ℕ → Taken → List ℕ) (jobs : List (List Entry)) (past : List Offer) (files : List FileState) (f : ℕ)
+pub record IsUnderWay (text : ℕ → Taken → List ℕ) (jobs : List (List Entry)) (past : List Job) (files : List FileState) (f : ℕ)
     (begun out : Option (List ℕ)) (failed : Bool) : Type 0 where
   pub holds : HoldsOffered jobs past files
   pub within : (g : ℕ) → (state_of files g).taken ≤ front (state_of files g)

@@ -5,7 +5,7 @@ ghost use Rattle.kalah_jobs.specs.Files.JobList.{job_list};
 ghost use Rattle.kalah_run.specs.Limits.{AreWorkers, IsTableSize};
 ghost use Rattle.kalah_run.specs.UnderWay.{WasGiven};
 ghost use Rattle.kalah_jobs.specs.Files.Jobs.{job_count};
-ghost use Rattle.kalah_jobs.specs.Writing.Output.{names_of, output_of, output_to, output_of_jobs, values_output_of, is_faulty_offer};
+ghost use Rattle.kalah_jobs.specs.Writing.Output.{names_of, output_of, output_to, output_of_jobs, values_output_of, is_faulty_job};
 ghost use Rattle.kalah_run.specs.Answering.{AnswersBatch};
 ghost use Rattle.kalah_run.specs.declared.run_fault.RunFault.TheVariants.{OutOfMemory, NoWorker, Write};
 
@@ -59,7 +59,7 @@ fn answer_jobs<R: Threads + Wait + Sync, G: Gate, W: Sink>(
     requires fresh { W.has_failed out.old ≡ false }
     ensures given { OnOk result (WasGiven (W.written out.old) (W.written out.new) (W.has_failed out.new)
         (output_of_jobs (names_of files.now) jobs.now)) }
-    ensures faults { IfOk result (λ faults. faults ≡ count_by is_faulty_offer (job_list jobs.now)) }
+    ensures faults { IfOk result (λ faults. faults ≡ count_by is_faulty_job (job_list jobs.now)) }
     ensures fault { IfErr result (λ e. (e ≡ RunFault.OutOfMemory) ⊎ (e ≡ RunFault.NoWorker)) }
     ensures some { OnErr result (0 < job_count jobs.now) }
     ensures untouched { OnErr result (out.new ≡ out.old) }

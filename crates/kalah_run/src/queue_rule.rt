@@ -13,9 +13,9 @@ pub struct Tagged {
 
 impl Model for Tagged {
     ghost use Rattle.std.specs.Prelude.{ℕ};
-    ghost use Rattle.kalah_jobs.specs.Collecting.Offer.{Offer};
+    ghost use Rattle.kalah_jobs.specs.declared.files.job.Job.{Job};
 
-    ghost Value = { ℕ × Offer };
+    ghost Value = { ℕ × Job };
 
     ghost view = { λ t. (t.worker, t.outcome) };
 

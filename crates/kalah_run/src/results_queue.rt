@@ -1,12 +1,12 @@
 //! The results queue: outcomes on their way from many workers to one collector.
 ghost use Rattle.std.specs.Prelude.{◌≡◌, ◌≤◌, ◌<◌, ℕ, List, [], ◌∷◌, ◌++◌, length, All, IfOk, MatchOption, vec_len};
 ghost use Rattle.crossbeam_queue.specs.Passes.{view, IsPassOf};
-ghost use Rattle.kalah_jobs.specs.Collecting.Offer.{Offer};
+ghost use Rattle.kalah_jobs.specs.declared.files.job.Job.{Job};
 ghost use Rattle.kalah_run.specs.Limits.{AreWorkers};
-ghost use Rattle.kalah_run.specs.declared.queue_rule.QueueView.TheVariants.{Getting, Putting};
+ghost use Rattle.kalah_run.specs.declared.queue_rule.QueueView.TheVariants.{Getting};
 ghost use Rattle.kalah_run.specs.QueueLists.{Accounts};
 ghost use Rattle.kalah_run.specs.QueueStates.{ArePassesFrom, HasGot, sent_by};
-ghost use Rattle.kalah_run.specs.QueueSteps.{sent_in, got_in, made_in, as_getting, IsGot};
+ghost use Rattle.kalah_run.specs.QueueSteps.{got_in, made_in};
 
 use crate::queue_passes::{ClosedQueue, GetPass, PutPass, ResultsQueue};
 use crate::queue_rule::{
@@ -21,8 +21,8 @@ use std::sync::Wait;
 #[cfg(test)]
 mod tests;
 
-/// How often an outcome is tried for that may come soon: until the pauses between two tries have grown to their full length.
-const SOON: u32 = 12;
+/// How often an outcome is tried for that may come soon. To sleep and to be called costs both threads more than these tries.
+const SOON: u32 = 64;
 
 impl ResultsQueue {
     /// A queue that holds up to `capacity` outcomes, 1 to 1024, with a pass to put for each of the `workers`, 1 to 64, in
@@ -61,12 +61,23 @@ impl ResultsQueue {
         requires { pass.old.queue ≡ self.now.id }
         ensures { pass.new ≡ record pass.old { sent = pass.old.sent ++ outcome ∷ [] } }
     {
-        let pair = Tagged {
+        let mut pair = Tagged {
             worker: pass.number,
             outcome,
         };
-        push_until(rt, &self.pairs, &self.putters, &mut pass.ruled, pair);
-        self.getters.call_one();
+        let mut waiting = Waiting::new(&self.putters);
+        for _ in rt.forever() {
+            match self.pairs.try_push_as::<Puts>(&mut pass.ruled, pair) {
+                Ok(()) => {
+                    drop(waiting);
+                    self.getters.call_one();
+                    return;
+                }
+                Err(back) => pair = back,
+            }
+            waiting.pause(rt);
+        }
+        unreachable!()
     }
 
     /// Takes an outcome out, the next of one of the workers, and answers it. Waits while there is none: after a short spin it
@@ -75,9 +86,16 @@ impl ResultsQueue {
         requires { pass.old.queue ≡ self.now.id }
         ensures { HasGot pass.old result pass.new }
     {
-        let pair = pop_until(rt, &self.pairs, &self.getters, &mut pass.ruled);
-        self.putters.call_one();
-        pair.outcome
+        let mut waiting = Waiting::new(&self.getters);
+        for _ in rt.forever() {
+            if let Some(pair) = self.pairs.try_pop_as::<Gets>(&mut pass.ruled) {
+                drop(waiting);
+                self.putters.call_one();
+                return pair.outcome;
+            }
+            waiting.pause(rt);
+        }
+        unreachable!()
     }
 
     // As `get`, but without sleep: None, with nothing got, where no outcome comes soon.
@@ -85,9 +103,15 @@ impl ResultsQueue {
         requires { pass.old.queue ≡ self.now.id }
         ensures { MatchOption result (pass.new ≡ pass.old) (λ outcome. HasGot pass.old outcome pass.new) }
     {
-        let pair = pop_soon(&self.pairs, &mut pass.ruled)?;
-        self.putters.call_one();
-        Some(pair.outcome)
+        let backoff = Backoff::new();
+        for _ in 0..SOON {
+            if let Some(pair) = self.pairs.try_pop_as::<Gets>(&mut pass.ruled) {
+                self.putters.call_one();
+                return Some(pair.outcome);
+            }
+            backoff.snooze();
+        }
+        None
     }
 
     /// Ends the queue. Takes all its passes back in, those to put in the order of `open`, and says how many outcomes were
@@ -95,7 +119,7 @@ impl ResultsQueue {
     pub fn close<R: Wait>(self, rt: &R, puts: Vec<PutPass>, pass: GetPass) -> ClosedQueue
         requires puts { (vec_len puts ≡ pass.workers) × ArePassesFrom self.id 0 puts.items }
         requires get { pass.queue ≡ self.id }
-        ensures whole { (rest : List (ℕ × Offer)) × (length rest ≡ result.left) × Accounts pass.workers (sent_by puts.items) (pass.got ++ rest) }
+        ensures whole { (rest : List (ℕ × Job)) × (length rest ≡ result.left) × Accounts pass.workers (sent_by puts.items) (pass.got ++ rest) }
         ensures few { result.left ≤ self.capacity }
     {
         let ResultsQueue {
@@ -117,67 +141,6 @@ impl ClosedQueue {
     {
         self.left
     }
-}
-
-// Tries until the pair is in the queue.
-fn push_until<R: Wait>(
-    rt: &R,
-    pairs: &RuledQueue,
-    putters: &Waiters,
-    pass: &mut RuledPass,
-    pair: Tagged,
-)
-    requires place { IsPassOf pairs.now pass.old }
-    requires puts { view pass.old ≡ Putting pair.0 (sent_in (view pass.old)) }
-    ensures place { IsPassOf pairs.now pass.new × (pass.new.table_id ≡ pass.old.table_id) }
-    ensures put { view pass.new ≡ Putting pair.0 (sent_in (view pass.old) ++ pair.1 ∷ []) }
-{
-    let Err(mut held_back) = pairs.try_push_as::<Puts>(pass, pair) else {
-        return;
-    };
-    let mut waiting = Waiting::new(putters);
-    for _ in rt.forever() {
-        waiting.pause(rt);
-        match pairs.try_push_as::<Puts>(pass, held_back) {
-            Ok(()) => return,
-            Err(back) => held_back = back,
-        }
-    }
-    unreachable!()
-}
-
-// Tries until there is a pair.
-fn pop_until<R: Wait>(rt: &R, pairs: &RuledQueue, getters: &Waiters, pass: &mut RuledPass) -> Tagged
-    requires place { IsPassOf pairs.now pass.old }
-    requires gets { view pass.old ≡ as_getting (view pass.old) }
-    ensures place { IsPassOf pairs.now pass.new × (pass.new.table_id ≡ pass.old.table_id) }
-    ensures got { IsGot (view pass.old) result (view pass.new) }
-{
-    let mut waiting = Waiting::new(getters);
-    for _ in rt.forever() {
-        if let Some(pair) = pairs.try_pop_as::<Gets>(pass) {
-            return pair;
-        }
-        waiting.pause(rt);
-    }
-    unreachable!()
-}
-
-// Tries for a pair for a short while.
-fn pop_soon(pairs: &RuledQueue, pass: &mut RuledPass) -> Option<Tagged>
-    requires place { IsPassOf pairs.now pass.old }
-    requires gets { view pass.old ≡ as_getting (view pass.old) }
-    ensures place { IsPassOf pairs.now pass.new × (pass.new.table_id ≡ pass.old.table_id) }
-    ensures got { MatchOption result (view pass.new ≡ view pass.old) (λ pair. IsGot (view pass.old) pair (view pass.new)) }
-{
-    let backoff = Backoff::new();
-    for _ in 0..SOON {
-        if let Some(pair) = pairs.try_pop_as::<Gets>(pass) {
-            return Some(pair);
-        }
-        backoff.snooze();
-    }
-    None
 }
 
 // Takes all passes to put back in, in the order of their numbers.

@@ -1,5 +1,4 @@
 //! Shifts are run, each in a thread of its own.
-ghost use Rattle.std.specs.Prelude.{◌≡◌, true, length, IsFalse};
 ghost use Rattle.kalah_run.specs.Shifts.{IsAtWork, AreAtWork, HasRun, HaveRun};
 
 use crate::gate::Gate;
@@ -10,35 +9,19 @@ use std::thread;
 use std::thread::Threads;
 
 impl<'a> Shift<'a> {
-    // Draws a job, solves it and sends its outcome. False where there was nothing left to draw.
-    fn work<R: Wait, G: Gate>(&mut self, rt: &R, shop: &Shop<'_, G>) -> bool
-        requires { IsAtWork shop.now.desk.now shop.now.queue.now.id shop.now.jobs.now self.old }
-        ensures same { IsAtWork shop.now.desk.now shop.now.queue.now.id shop.now.jobs.now self.new × (self.new.put.number ≡ self.old.put.number) }
-        ensures spent { IsFalse result → self.new.pass.row.spent ≡ true }
-    {
-        let Some(drawn) = shop.desk.draw(&mut self.pass) else {
-            return false;
-        };
-        shop.gate.before(drawn);
-        let jobs = self.jobs;
-        let job = jobs.get(drawn);
-        let outcome = Outcome::of(job.file, job.line, job.entry, &mut self.solver);
-        shop.queue.put(rt, &mut self.put, outcome);
-        shop.gate.after(drawn);
-        true
-    }
-
-    // Works until there is nothing left to draw.
+    // Draws jobs, and solves each and sends its outcome, until there is nothing left to draw.
     fn run<R: Wait, G: Gate>(&mut self, rt: &R, shop: &Shop<'_, G>)
         requires { IsAtWork shop.now.desk.now shop.now.queue.now.id shop.now.jobs.now self.old }
         ensures { HasRun shop.now.desk.now shop.now.queue.now.id shop.now.jobs.now self.old self.new }
     {
-        for _ in rt.forever() {
-            if !self.work(rt, shop) {
-                return;
-            }
+        while let Some(drawn) = shop.desk.draw(&mut self.pass) {
+            shop.gate.before(drawn);
+            let jobs = self.jobs;
+            let job = jobs.get(drawn);
+            let outcome = Outcome::of(job.file, job.line, job.entry, &mut self.solver);
+            shop.queue.put(rt, &mut self.put, outcome);
+            shop.gate.after(drawn);
         }
-        unreachable!()
     }
 }
 

@@ -21,7 +21,7 @@ pub(crate) fn mark(alloc: Global, place: &'static str) -> Result<(), Fail> {
 }
 
 // What one of the passes draws.
-fn draw_by(desk: &Desk, passes: &mut Vec<Pass>, k: usize) -> Option<u32>
+pub(crate) fn draw_by(desk: &Desk, passes: &mut Vec<Pass>, k: usize) -> Option<u32>
     requires there { k < length passes.old.items }
     requires own { All (IsPassOf desk.now) passes.old.items }
     ensures many { length passes.new.items ≡ length passes.old.items }
@@ -30,12 +30,12 @@ fn draw_by(desk: &Desk, passes: &mut Vec<Pass>, k: usize) -> Option<u32>
     desk.draw(&mut passes[k])
 }
 
-#[test]
-fn a_desk(rt: HostRuntime) -> Result<(), Fail> {
-    let alloc = rt.alloc();
-    let (desk, mut passes) = Desk::open(alloc, 3, 2).or_else(|_| Desk::open(alloc, 3, 2))?;
-    assert!(rt; passes.len() == 2);
-    mark(alloc, "before the calls without memory")?;
+// What two passes draw of three numbers in turn, and what the desk then tells.
+fn drawn_in_turn(opened: (Desk, Vec<Pass>)) -> ([Option<u32>; 5], (u32, bool))
+    requires many { (opened.0.passes ≡ 2) × (length opened.1.items ≡ 2) }
+    requires own { All (IsPassOf opened.0) opened.1.items }
+{
+    let (desk, mut passes) = opened;
     let drawn = [
         draw_by(&desk, &mut passes, 0),
         draw_by(&desk, &mut passes, 1),
@@ -44,8 +44,17 @@ fn a_desk(rt: HostRuntime) -> Result<(), Fail> {
         draw_by(&desk, &mut passes, 1),
     ];
     let closed = desk.close(passes);
+    (drawn, (closed.drawn(), closed.spent()))
+}
+
+#[test]
+fn a_desk(rt: HostRuntime) -> Result<(), Fail> {
+    let alloc = rt.alloc();
+    let opened = Desk::open(alloc, 3, 2).or_else(|_| Desk::open(alloc, 3, 2))?;
+    mark(alloc, "before the calls without memory")?;
+    let (drawn, told) = drawn_in_turn(opened);
     assert!(rt; drawn == [Some(0), Some(1), Some(2), None, None]);
-    assert!(rt; (closed.drawn(), closed.spent()) == (3, true));
+    assert!(rt; told == (3, true));
     mark(alloc, "after all")
 }
 

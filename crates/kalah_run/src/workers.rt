@@ -1,10 +1,8 @@
 //! One thread runs the shifts, while the calling thread takes in what they send.
-ghost use Rattle.std.specs.Prelude.{◌≡◌, ◌≤◌, [], false, length, IfOk, OnErr, IfErr};
+ghost use Rattle.std.specs.Prelude.{◌≡◌, ◌≤◌, [], length, IfOk, OnErr, IfErr};
 ghost use Rattle.std.specs.Thread.{IsSync};
-ghost use Rattle.std.specs.Io.KnownBytes.{Keeps};
 ghost use Rattle.kalah_jobs.specs.Files.Jobs.{most_lines};
 ghost use Rattle.kalah_run.specs.Shifts.{AreAtWork, HaveRun};
-ghost use Rattle.kalah_run.specs.QueueStates.{HasGot};
 ghost use Rattle.kalah_run.specs.Reporting.{TakesInAll, outcomes_in};
 
 use crate::desk::Desk;
@@ -14,7 +12,7 @@ use crate::report::Report;
 use crate::run_fault::RunFault;
 use crate::shift::{Shift, Shop};
 use crate::shifts::run_shifts;
-use kalah_jobs::{Jobs, Outcome, Sink};
+use kalah_jobs::{Jobs, Sink};
 use std::snapshot::Snapshot;
 use std::sync::Wait;
 use std::thread;
@@ -55,28 +53,8 @@ fn promise_of<'a, 'b, 'c, 'd>(
     }
 }
 
-// The outcome that comes next. Where none comes soon, the output may hand on what it holds back before the wait.
-fn next_outcome<R: Wait, W: Sink>(
-    rt: &R,
-    queue: &ResultsQueue,
-    pass: &mut GetPass,
-    out: &mut W,
-) -> Outcome
-    requires { pass.old.queue ≡ queue.now.id }
-    ensures got { HasGot pass.old result pass.new }
-    ensures keeps { Keeps (W.written out.old) (W.written out.new) }
-    ensures sound { W.has_failed out.new ≡ false → W.has_failed out.old ≡ false }
-{
-    if let Some(outcome) = queue.get_soon(pass) {
-        return outcome;
-    }
-    if !out.failed() {
-        out.before_waiting();
-    }
-    queue.get(rt, pass)
-}
-
-// Takes in the outcome of each job, and writes each line once it is ready and all before it are written.
+// Takes in the outcome of each job, and writes each line once it is ready and all before it are written. Where no outcome
+// comes soon, the output may hand on what it holds back before the wait.
 fn collect<R: Wait, W: Sink>(
     rt: &R,
     queue: &ResultsQueue,
@@ -96,7 +74,15 @@ fn collect<R: Wait, W: Sink>(
 {
     report.write(out);
     for _ in 0..total {
-        let outcome = next_outcome(rt, queue, pass, out);
+        let outcome = match queue.get_soon(pass) {
+            Some(outcome) => outcome,
+            None => {
+                if !out.failed() {
+                    out.before_waiting();
+                }
+                queue.get(rt, pass)
+            }
+        };
         report.take_in(outcome, out);
     }
 }

@@ -1,7 +1,6 @@
 use crate::request::{Request, parse};
 use clap::error::ErrorKind;
 use kalah_jobs::Question;
-use std::test::Fail;
 
 fn asks(
     rt: &HostRuntime,
@@ -34,16 +33,19 @@ const MOVES: [(&[&str], bool); 3] = [
     (&["kalah", "moves", "1,1/0 1,1/0", "--boards"], true),
 ];
 
-#[test]
-fn reads_moves(rt: HostRuntime) -> Result<(), Fail> {
-    for (words, is_drawn) in MOVES {
-        let is_read = match parse(rt.alloc(), words)? {
-            Request::Moves { line, boards } => line == "1,1/0 1,1/0" && boards == is_drawn,
-            _ => false,
-        };
-        assert!(rt; is_read, "{words:?}");
+// The words ask for the moves of the position, and to draw boards or not.
+fn asks_moves(rt: &HostRuntime, words: &[&str], is_drawn: bool) -> bool {
+    match parse(rt.alloc(), words) {
+        Ok(Request::Moves { line, boards }) => line == "1,1/0 1,1/0" && boards == is_drawn,
+        _ => false,
     }
-    Ok(())
+}
+
+#[test]
+fn reads_moves(rt: HostRuntime) {
+    for (words, is_drawn) in MOVES {
+        assert!(rt; asks_moves(&rt, words, is_drawn), "{words:?}");
+    }
 }
 
 // Words of `play`, the entries of the table and whether boards are drawn.
@@ -61,20 +63,25 @@ const GAMES: [(&[&str], u32, bool); 3] = [
     ),
 ];
 
-#[test]
-fn reads_play(rt: HostRuntime) -> Result<(), Fail> {
-    for (words, entries, is_drawn) in GAMES {
-        let is_read = match parse(rt.alloc(), words)? {
+// The words ask for the game, with a table of so many entries, and to draw boards or not.
+fn asks_game(rt: &HostRuntime, words: &[&str], entries: u32, is_drawn: bool) -> bool {
+    match parse(rt.alloc(), words) {
+        Ok(
             Request::Play {
                 line,
                 table,
                 boards,
-            } => line == "1/0 1/0" && (table, boards) == (entries, is_drawn),
-            _ => false,
-        };
-        assert!(rt; is_read, "{words:?}");
+            },
+        ) => line == "1/0 1/0" && (table, boards) == (entries, is_drawn),
+        _ => false,
     }
-    Ok(())
+}
+
+#[test]
+fn reads_play(rt: HostRuntime) {
+    for (words, entries, is_drawn) in GAMES {
+        assert!(rt; asks_game(&rt, words, entries, is_drawn), "{words:?}");
+    }
 }
 
 #[test]

@@ -11,8 +11,8 @@ use Rattle.kalah_jobs.specs.declared.writing.answer.Answer.{Answer}
 use Rattle.kalah_jobs.specs.declared.writing.answer.Taken.{Taken}
 use Rattle.kalah_jobs.specs.declared.collecting.refusal.Refusal.{Refusal}
 use Rattle.kalah_jobs.specs.Writing.Answer.{answer_of}
-use Rattle.kalah_jobs.specs.Collecting.Offer.{Offer}
-use Rattle.kalah_jobs.specs.Files.JobList.{entries_of, entry_at, offer}
+use Rattle.kalah_jobs.specs.declared.files.job.Job.{Job}
+use Rattle.kalah_jobs.specs.Files.JobList.{entries_of, entry_at, line_job}
 use Rattle.kalah_jobs.specs.Collecting.CollectorState.{FileState, state_of, new_files, line_count, front, came_for, HasLinesOf, IsNext, with_answer, with_one_taken, after_offer, after_take}
 use Rattle.kalah_jobs.specs.Collecting.Refusals.{IsWanted, IsRefusedFor}
 use Rattle.kalah_jobs.specs.Collecting.CollectorEvents.{Event, Offered, Took, offers, takes, with_taken, Came, answered_line, answered_lines}
@@ -55,7 +55,7 @@ takes_append f (Took g gave ∷ xs) ys =
     ap (λ l. with_taken f g gave l) (takes_append f xs ys) ∙ with_taken_append f g gave (takes f xs) (takes f ys)
 
 -- an offer takes nothing
-takes_offered : (f : ℕ) (xs : List Event) (o : Offer) (gave : Result ℕ Refusal) → takes f (xs ++ Offered o gave ∷ []) ≡ takes f xs
+takes_offered : (f : ℕ) (xs : List Event) (o : Job) (gave : Result ℕ Refusal) → takes f (xs ++ Offered o gave ∷ []) ≡ takes f xs
 takes_offered f xs o gave = takes_append f xs (Offered o gave ∷ []) ∙ append-nil (takes f xs)
 
 -- nor does a take that gave nothing
@@ -76,7 +76,7 @@ takes_other f g xs t np =
     ∙ append-nil (takes f xs)
 
 -- an offer is accepted
-module _ (files : List FileState) (o : Offer) (a : Answer) (low : o.file < length files) where
+module _ (files : List FileState) (o : Job) (a : Answer) (low : o.file < length files) where
   -- its file has the answer
   offered_file : (f : ℕ) → f ≡ o.file → state_of (after_offer files o.file o.line a) f ≡ with_answer (state_of files f) o.line a
   offered_file f p =
@@ -139,7 +139,7 @@ offers_took : (events : List Event) (f : ℕ) (gave : Option Taken) → offers (
 offers_took events f gave = offers_append events (Took f gave ∷ []) ∙ append-nil (offers events)
 
 -- the list of the first lines grows by the line that is taken
-pub first_lines_more : (jobs : List (List Entry)) (past : List Offer) (files : List FileState) (f : ℕ) (t : Taken) → HoldsOffered jobs past files → IsNext (state_of files f) t
+pub first_lines_more : (jobs : List (List Entry)) (past : List Job) (files : List FileState) (f : ℕ) (t : Taken) → HoldsOffered jobs past files → IsNext (state_of files f) t
     → take (state_of files f).taken (answered_lines (entries_of jobs f)) ++ t ∷ [] ≡ take ((state_of files f).taken + 1) (answered_lines (entries_of jobs f))
 first_lines_more jobs past files f t holds is_next =
     let n : ℕ = (state_of files f).taken in
@@ -153,13 +153,13 @@ first_lines_more jobs past files f t holds is_next =
 -- what the events say is kept by each event
 module _ {jobs : List (List Entry)} {events : List Event} {files : List FileState} (kept : Kept jobs events files) where
   -- by an accepted offer
-  offered_ok : (o : Offer) (ready : ℕ) → IsWanted jobs files o
+  offered_ok : (o : Job) (ready : ℕ) → IsWanted jobs files o
       → Kept jobs (events ++ Offered o (Ok ready) ∷ []) (after_offer files o.file o.line (answer_of o.entry))
   offered_ok o ready wanted =
       let low = wanted_file jobs files o wanted in
       let a : Answer = answer_of o.entry in
       record {
-        offered = subst (λ (l : List Offer). HoldsOffered jobs l (after_offer files o.file o.line a)) (sym (offers_append events (Offered o (Ok ready) ∷ [])))
+        offered = subst (λ (l : List Job). HoldsOffered jobs l (after_offer files o.file o.line a)) (sym (offers_append events (Offered o (Ok ready) ∷ [])))
             (holds_accepted jobs (offers events) files o kept.offered wanted);
         took = record {
           taken = λ f.
@@ -175,9 +175,9 @@ module _ {jobs : List (List Entry)} {events : List Event} {files : List FileStat
       }
 
   -- by a refused one
-  offered_err : (o : Offer) (r : Refusal) → IsRefusedFor jobs files o r → Kept jobs (events ++ Offered o (Err r) ∷ []) files
+  offered_err : (o : Job) (r : Refusal) → IsRefusedFor jobs files o r → Kept jobs (events ++ Offered o (Err r) ∷ []) files
   offered_err o r refused = record {
-    offered = subst (λ (l : List Offer). HoldsOffered jobs l files) (sym (offers_append events (Offered o (Err r) ∷ [])))
+    offered = subst (λ (l : List Job). HoldsOffered jobs l files) (sym (offers_append events (Offered o (Err r) ∷ [])))
         (holds_refused jobs (offers events) files o r kept.offered refused);
     took = record {
       taken = λ f. takes_offered f events o (Err r) ∙ kept.took.taken f;
@@ -188,7 +188,7 @@ module _ {jobs : List (List Entry)} {events : List Event} {files : List FileStat
   -- by a take that gave nothing
   took_none : (f : ℕ) → Kept jobs (events ++ Took f None ∷ []) files
   took_none f = record {
-    offered = subst (λ (l : List Offer). HoldsOffered jobs l files) (sym (offers_took events f None)) kept.offered;
+    offered = subst (λ (l : List Job). HoldsOffered jobs l files) (sym (offers_took events f None)) kept.offered;
     took = record {
       taken = λ g. takes_none g f events ∙ kept.took.taken g;
       within = kept.took.within;
@@ -204,7 +204,7 @@ module _ {jobs : List (List Entry)} {events : List Event} {files : List FileStat
       λ g np. state_other files f g (with_one_taken (state_of files f)) np in
       let lines_of : ℕ → List Taken = λ g. answered_lines (entries_of jobs g) in
       record {
-        offered = subst (λ (l : List Offer). HoldsOffered jobs l after) (sym (offers_took events f (Some t)))
+        offered = subst (λ (l : List Job). HoldsOffered jobs l after) (sym (offers_took events f (Some t)))
             (holds_take jobs (offers events) files f low kept.offered);
         took = record {
           taken = λ g.
@@ -305,11 +305,11 @@ and_parts (Some x) P h = (x, refl, h)
 pub meets : (jobs : List (List Entry)) (events : List Event) (files : List FileState) → Kept jobs events files → Meets jobs events files
 meets jobs events files kept =
     let came : (f k : ℕ) → Came jobs events f k → IsSome (came_for (state_of files f) k) =
-    λ f k c. let v = and_parts (entry_at jobs f k) (λ e. Contains (offers events) (offer f k e)) c in
+    λ f k c. let v = and_parts (entry_at jobs f k) (λ e. Contains (offers events) (line_job f k e)) c in
     is_some_of (came_for (state_of files f) k) (answer_of v.0) (kept.offered.came f k v.0 v.1 v.2) in
     let only : (f k : ℕ) → IsSome (came_for (state_of files f) k) → Came jobs events f k =
     λ f k here. let v = some_value (came_for (state_of files f) k) here in let w = kept.offered.only f k v.0 v.1 in
-    and_from (entry_at jobs f k) (λ e. Contains (offers events) (offer f k e)) w.entry w.at w.offered in
+    and_from (entry_at jobs f k) (λ e. Contains (offers events) (line_job f k e)) w.entry w.at w.offered in
     record {
       counts = kept.offered.counts;
       came = λ f k. (only f k, came f k);

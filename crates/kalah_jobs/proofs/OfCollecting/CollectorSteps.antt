@@ -10,8 +10,8 @@ use Rattle.kalah_jobs.specs.declared.writing.answer.Answer.{Answer}
 use Rattle.kalah_jobs.specs.declared.collecting.refusal.Refusal.{Refusal}
 use Rattle.kalah_jobs.specs.declared.collecting.refusal.Refusal.TheVariants.{NoSuchFile, FileEnded, NoSuchLine, WrongPosition, Double}
 use Rattle.kalah_jobs.specs.Writing.Answer.{answer_of}
-use Rattle.kalah_jobs.specs.Collecting.Offer.{Offer}
-use Rattle.kalah_jobs.specs.Files.JobList.{entries_of, entry_at, offer}
+use Rattle.kalah_jobs.specs.declared.files.job.Job.{Job}
+use Rattle.kalah_jobs.specs.Files.JobList.{entries_of, entry_at, line_job}
 use Rattle.kalah_jobs.specs.Collecting.CollectorState.{FileState, no_file, state_of, line_count, came_for, HasLinesOf, with_answer, with_one_taken, after_offer, after_take}
 use Rattle.kalah_jobs.specs.Collecting.Refusals.{IsWanted, IsRefusedFor}
 use Rattle.kalah_jobs.specs.Collecting.Held.{IsAnswered, HoldsOffered}
@@ -44,15 +44,15 @@ counts_set (x ∷ files) zero s same = ap (λ n. n ∷ map line_count files) sam
 counts_set (x ∷ files) (suc f) s same = ap (λ l. line_count x ∷ l) (counts_set files f s same)
 
 -- what an accepted offer tells
-pub wanted_file : (jobs : List (List Entry)) (files : List FileState) (o : Offer) → IsWanted jobs files o → o.file < length files
+pub wanted_file : (jobs : List (List Entry)) (files : List FileState) (o : Job) → IsWanted jobs files o → o.file < length files
 wanted_file jobs files o w = w.0.0.0.0
 
 -- of a line that the file has
-pub wanted_line : (jobs : List (List Entry)) (files : List FileState) (o : Offer) → IsWanted jobs files o → o.line < line_count (state_of files o.file)
+pub wanted_line : (jobs : List (List Entry)) (files : List FileState) (o : Job) → IsWanted jobs files o → o.line < line_count (state_of files o.file)
 wanted_line jobs files o w = w.0.0.1
 
 -- with that line's entry
-pub wanted_entry : (jobs : List (List Entry)) (files : List FileState) (o : Offer) → IsWanted jobs files o → entry_at jobs o.file o.line ≡ Some o.entry
+pub wanted_entry : (jobs : List (List Entry)) (files : List FileState) (o : Job) → IsWanted jobs files o → entry_at jobs o.file o.line ≡ Some o.entry
 wanted_entry jobs files o w = w.0.1
 
 -- the value of what is Some
@@ -69,26 +69,26 @@ pub one_entry : (o : Option Entry) (x y : Entry) → o ≡ Some x → o ≡ Some
 one_entry o x y p q = cc
 
 -- an offer by its parts
-offer_is : (o : Offer) (f k : ℕ) → f ≡ o.file → k ≡ o.line → o ≡ offer f k o.entry
-offer_is o f k p q = ap (λ x. offer x o.line o.entry) (sym p) ∙ ap (λ x. offer f x o.entry) (sym q)
+line_job_is : (o : Job) (f k : ℕ) → f ≡ o.file → k ≡ o.line → o ≡ line_job f k o.entry
+line_job_is o f k p q = ap (λ x. line_job x o.line o.entry) (sym p) ∙ ap (λ x. line_job f x o.entry) (sym q)
 
 -- the entry of an equal place
 entry_moves : (jobs : List (List Entry)) (f g k l : ℕ) → f ≡ g → k ≡ l → entry_at jobs f k ≡ entry_at jobs g l
 entry_moves jobs f g k l p q = ap (λ x. entry_at jobs x k) p ∙ ap (λ y. entry_at jobs g y) q
 
 -- a line is the one that was offered, and has the new answer, or another one, and has what it had
-record IsHere (files : List FileState) (o : Offer) (a : Answer) (f k : ℕ) : Type 0 where
+record IsHere (files : List FileState) (o : Job) (a : Answer) (f k : ℕ) : Type 0 where
   file_is : f ≡ o.file
   line_is : k ≡ o.line
   came : came_for (state_of (after_offer files o.file o.line a) f) k ≡ Some a
 
 -- or it is another line, and has what it had
-record IsElsewhere (files : List FileState) (o : Offer) (a : Answer) (f k : ℕ) : Type 0 where
+record IsElsewhere (files : List FileState) (o : Job) (a : Answer) (f k : ℕ) : Type 0 where
   apart : (f ≡ o.file) × (k ≡ o.line) → ⊥
   kept : came_for (state_of (after_offer files o.file o.line a) f) k ≡ came_for (state_of files f) k
 
 -- one of the two holds of each line
-after_cases : (files : List FileState) (o : Offer) (a : Answer) → o.file < length files → o.line < line_count (state_of files o.file) → (f k : ℕ)
+after_cases : (files : List FileState) (o : Job) (a : Answer) → o.file < length files → o.line < line_count (state_of files o.file) → (f k : ℕ)
     → IsHere files o a f k ⊎ IsElsewhere files o a f k
 after_cases files o a file_low line_low f k =
     let s : FileState = state_of files o.file in
@@ -113,7 +113,7 @@ counts_offer : (jobs : List (List Entry)) (files : List FileState) (f k : ℕ) (
 counts_offer jobs files f k a h = counts_set files f (with_answer (state_of files f) k a) (length-set (state_of files f).arrived k (Some a)) ∙ h
 
 -- an accepted offer keeps what holds
-pub holds_accepted : (jobs : List (List Entry)) (past : List Offer) (files : List FileState) (o : Offer) → HoldsOffered jobs past files → IsWanted jobs files o
+pub holds_accepted : (jobs : List (List Entry)) (past : List Job) (files : List FileState) (o : Job) → HoldsOffered jobs past files → IsWanted jobs files o
     → HoldsOffered jobs (past ++ o ∷ []) (after_offer files o.file o.line (answer_of o.entry))
 holds_accepted jobs past files o holds wanted =
     let a : Answer = answer_of o.entry in
@@ -130,9 +130,9 @@ holds_accepted jobs past files o holds wanted =
           x.came ∙ ap (λ y. Some (answer_of y)) e_is)
           (λ (x : IsElsewhere files o a f k).
           x.kept ∙ ⊎_elim
-          (λ (old : Contains past (offer f k e)). holds.came f k e is old)
-          (λ (new : o ≡ offer f k e). absurd (x.apart (sym (ap (λ (u : Offer). u.file) new), sym (ap (λ (u : Offer). u.line) new))))
-          (Contains-push_cases past o (offer f k e) has))
+          (λ (old : Contains past (line_job f k e)). holds.came f k e is old)
+          (λ (new : o ≡ line_job f k e). absurd (x.apart (sym (ap (λ (u : Job). u.file) new), sym (ap (λ (u : Job). u.line) new))))
+          (Contains-push_cases past o (line_job f k e) has))
           (after_cases files o a file_low line_low f k);
       only = λ f k b is.
           ⊎_elim {C = IsAnswered jobs (past ++ o ∷ []) f k b}
@@ -143,11 +143,11 @@ holds_accepted jobs past files o holds wanted =
             entry = o.entry;
             at = entry_moves jobs f o.file k o.line x.file_is x.line_is ∙ entry_is;
             is = b_is;
-            offered = subst (λ (u : Offer). Contains (past ++ o ∷ []) u) (offer_is o f k x.file_is x.line_is) (Contains-push past o);
+            offered = subst (λ (u : Job). Contains (past ++ o ∷ []) u) (line_job_is o f k x.file_is x.line_is) (Contains-push past o);
           })
           (λ (x : IsElsewhere files o a f k).
           let old = holds.only f k b (sym x.kept ∙ is) in
-          record { entry = old.entry; at = old.at; is = old.is; offered = Contains-append_left past (o ∷ []) (offer f k old.entry) old.offered })
+          record { entry = old.entry; at = old.at; is = old.is; offered = Contains-append_left past (o ∷ []) (line_job f k old.entry) old.offered })
           (after_cases files o a file_low line_low f k);
     }
 
@@ -163,7 +163,7 @@ file_there (s ∷ files) (suc f) k low = let h = file_there files f k low in ome
 
 -- where a line is offered with its entry and refused, it had come before
 pub refused_came : (jobs : List (List Entry)) (files : List FileState) (f k : ℕ) (e : Entry) (r : Refusal) → HasLinesOf jobs files → entry_at jobs f k ≡ Some e
-    → IsRefusedFor jobs files (offer f k e) r → IsSome (came_for (state_of files f) k)
+    → IsRefusedFor jobs files (line_job f k e) r → IsSome (came_for (state_of files f) k)
 refused_came jobs files f k e NoSuchFile h is refused = absurd (let low = file_there files f k (line_there jobs files f k e h is) in omega arith)
 refused_came jobs files f k e FileEnded h is refused =
     front_came (state_of files f).arrived k (let low = line_there jobs files f k e h is in let ended = refused.1 in omega arith)
@@ -172,23 +172,23 @@ refused_came jobs files f k e WrongPosition h is refused = absurd (refused.1 is)
 refused_came jobs files f k e Double h is refused = refused.1
 
 -- a refused offer changes nothing, and what holds stays true of one offer more
-pub holds_refused : (jobs : List (List Entry)) (past : List Offer) (files : List FileState) (o : Offer) (r : Refusal) → HoldsOffered jobs past files → IsRefusedFor jobs files o r
+pub holds_refused : (jobs : List (List Entry)) (past : List Job) (files : List FileState) (o : Job) (r : Refusal) → HoldsOffered jobs past files → IsRefusedFor jobs files o r
     → HoldsOffered jobs (past ++ o ∷ []) files
 holds_refused jobs past files o r holds refused = record {
   counts = holds.counts;
   came = λ f k e is has.
       ⊎_elim
-      (λ (old : Contains past (offer f k e)). holds.came f k e is old)
-      (λ (new : o ≡ offer f k e).
-      let full = refused_came jobs files f k e r holds.counts is (subst (λ (u : Offer). IsRefusedFor jobs files u r) new refused) in
+      (λ (old : Contains past (line_job f k e)). holds.came f k e is old)
+      (λ (new : o ≡ line_job f k e).
+      let full = refused_came jobs files f k e r holds.counts is (subst (λ (u : Job). IsRefusedFor jobs files u r) new refused) in
       let v = some_value (came_for (state_of files f) k) full in
       let w = holds.only f k v.0 v.1 in
       let e_is : w.entry ≡ e = one_entry (entry_at jobs f k) w.entry e w.at is in
       v.1 ∙ ap (λ x. Some x) (w.is ∙ ap answer_of e_is))
-      (Contains-push_cases past o (offer f k e) has);
+      (Contains-push_cases past o (line_job f k e) has);
   only = λ f k a is.
       let old = holds.only f k a is in
-      record { entry = old.entry; at = old.at; is = old.is; offered = Contains-append_left past (o ∷ []) (offer f k old.entry) old.offered };
+      record { entry = old.entry; at = old.at; is = old.is; offered = Contains-append_left past (o ∷ []) (line_job f k old.entry) old.offered };
 }
 
 -- a take changes nothing of what came
@@ -203,7 +203,7 @@ came_after_take files f low g =
     (cases_eq g f)
 
 -- so a take keeps what holds
-pub holds_take : (jobs : List (List Entry)) (past : List Offer) (files : List FileState) (f : ℕ) → f < length files → HoldsOffered jobs past files → HoldsOffered jobs past (after_take files f)
+pub holds_take : (jobs : List (List Entry)) (past : List Job) (files : List FileState) (f : ℕ) → f < length files → HoldsOffered jobs past files → HoldsOffered jobs past (after_take files f)
 holds_take jobs past files f low holds = record {
   counts = counts_set files f (with_one_taken (state_of files f)) refl ∙ holds.counts;
   came = λ g k e is has. ap (λ (xs : List (Option Answer)). get_or xs k None) (came_after_take files f low g) ∙ holds.came g k e is has;

@@ -1,14 +1,15 @@
 -- How many jobs stand before each file, and where in the list of jobs a line stands.
-use Rattle.std.proofs.Common.{◌≡◌, ℕ, zero, suc, ◌+◌, ◌<◌, ◌≤◌, ⊎_elim, List, [], ◌∷◌, ◌++◌, length, get_or, take, refl, ap, sym, ◌∙◌, arith, length-append}
+use Rattle.std.proofs.Common.{◌≡◌, ℕ, zero, suc, ◌+◌, ◌-◌, ◌<◌, ◌≤◌, ⊎_elim, true, false, List, [], ◌∷◌, ◌++◌, length, get_or, take, refl, ap, sym, ◌∙◌, arith, length-append}
 use Rattle.std.specs.Prelude.{Some, slice_get, slice_index_or}
-use Rattle.std.specs.List.Sorted.{IsNonDecreasing}
-use Rattle.std.proofs.lemmas.Bool.{cases_lt}
+use Rattle.std.specs.List.Sorted.{IsNonDecreasing, IsPartitionPoint}
+use Rattle.std.proofs.Math.Dec.{leb}
+use Rattle.std.proofs.lemmas.Bool.{cases_lt, leb-true, leb-false}
 use Rattle.std.proofs.lemmas.List.{take_all, take_more, take-append-le, get_or_append_left, length-map, map-append}
 use Rattle.std.proofs.lemmas.List.Sums.{sum_by-cons, sum_by_push, sum_by_more_le}
 use Rattle.std.proofs.Math.Seq.{get_or-append_seam}
 use Rattle.kalah_jobs.specs.declared.files.entry.Entry.{Entry}
 use Rattle.kalah_jobs.specs.Files.NamedBytes.{NamedBytes}
-use Rattle.kalah_jobs.specs.Files.JobList.{entries_of, offer, file_jobs, jobs_from, job_list}
+use Rattle.kalah_jobs.specs.Files.JobList.{entries_of, line_job, file_jobs, jobs_from, job_list}
 use Rattle.kalah_jobs.specs.Files.Jobs.{most_files, most_lines, line_count, lines_in, entries_to, jobs_to, job_count, AreCounted}
 use Rattle.kalah_jobs.specs.Files.Lines.{lines_of}
 use Rattle.kalah_jobs.specs.Files.Question.{entry_to}
@@ -63,23 +64,23 @@ slice_get-append_right (x ∷ xs) ys zero i is = absurd (omega arith)
 slice_get-append_right (x ∷ xs) ys (suc n) i is = slice_get-append_right xs ys n i (omega arith)
 
 slice_get-file_jobs : (f k i n : ℕ) (entries : List Entry) (e : Entry) → n ≡ k + i → slice_get entries i ≡ Some e
-    → slice_get (file_jobs f k entries) i ≡ Some (offer f n e)
+    → slice_get (file_jobs f k entries) i ≡ Some (line_job f n e)
 slice_get-file_jobs f k i n [] e same is = cc
 slice_get-file_jobs f k zero n (x ∷ entries) e same is =
     let number : k ≡ n = omega arith in
-    ap (λ (y : Entry). Some (offer f k y)) (let said : x ≡ e = cc in said) ∙ ap (λ m. Some (offer f m e)) number
+    ap (λ (y : Entry). Some (line_job f k y)) (let said : x ≡ e = cc in said) ∙ ap (λ m. Some (line_job f m e)) number
 slice_get-file_jobs f k (suc i) n (x ∷ entries) e same is = slice_get-file_jobs f (suc k) i n entries e (omega arith) is
 
 slice_get-jobs_from : (f g h k n : ℕ) (jobs : List (List Entry)) (e : Entry) → h ≡ f + g → n ≡ job_count (take g jobs) + k
-    → slice_get (slice_index_or jobs g []) k ≡ Some e → slice_get (jobs_from f jobs) n ≡ Some (offer h k e)
+    → slice_get (slice_index_or jobs g []) k ≡ Some e → slice_get (jobs_from f jobs) n ≡ Some (line_job h k e)
 slice_get-jobs_from f g h k n [] e file number is = cc
 slice_get-jobs_from f zero h k n (entries ∷ jobs) e file number is =
-    let here : slice_get (file_jobs f 0 entries) k ≡ Some (offer f k e) = slice_get-file_jobs f 0 k k entries e (omega arith) is in
+    let here : slice_get (file_jobs f 0 entries) k ≡ Some (line_job f k e) = slice_get-file_jobs f 0 k k entries e (omega arith) is in
     let n_is : n ≡ k = omega arith in
     let f_is : f ≡ h = omega arith in
     ap (λ m. slice_get (file_jobs f 0 entries ++ jobs_from (suc f) jobs) m) n_is
-    ∙ slice_get-append_left (file_jobs f 0 entries) (jobs_from (suc f) jobs) k (offer f k e) here
-    ∙ ap (λ m. Some (offer m k e)) f_is
+    ∙ slice_get-append_left (file_jobs f 0 entries) (jobs_from (suc f) jobs) k (line_job f k e) here
+    ∙ ap (λ m. Some (line_job m k e)) f_is
 slice_get-jobs_from f (suc g) h k n (entries ∷ jobs) e file number is =
     let m : ℕ = job_count (take g jobs) + k in
     let past : n ≡ length (file_jobs f 0 entries) + m = omega (arith, length-file_jobs f 0 entries, job_count-cons entries (take g jobs)) in
@@ -88,7 +89,7 @@ slice_get-jobs_from f (suc g) h k n (entries ∷ jobs) e file number is =
 
 -- line k of file f comes after the jobs of the files before f
 pub slice_get-job_list : (jobs : List (List Entry)) (f k n : ℕ) (e : Entry) → n ≡ job_count (take f jobs) + k → slice_get (entries_of jobs f) k ≡ Some e
-    → slice_get (job_list jobs) n ≡ Some (offer f k e)
+    → slice_get (job_list jobs) n ≡ Some (line_job f k e)
 slice_get-job_list jobs f k n e number is = slice_get-jobs_from 0 f f k n jobs e (omega arith) number is
 
 -- ---- starts
@@ -106,6 +107,52 @@ starts_rise jobs starts as_many before i j d low high =
     let at_i : get_or starts i d ≡ job_count (take i jobs) = get_or_any starts i d 0 (omega arith) ∙ before i (omega arith) in
     let at_j : get_or starts j d ≡ job_count (take j jobs) = get_or_any starts j d 0 high ∙ before j (omega arith) in
     omega (arith, at_i, at_j, job_count-take jobs i j low)
+
+-- ---- the file of a job
+
+-- p is how many files start with job n or before it
+abbrev pub AreStarted : List ℕ → ℕ → ℕ → Type 0
+AreStarted starts n p = IsPartitionPoint (λ y. leb y n ≡ true) (λ y. leb y n ≡ false) starts p
+
+-- some file does
+pub some_started : (jobs : List (List Entry)) (starts : List ℕ) (total n p : ℕ) → AreCounted jobs starts total → n < job_count jobs
+    → AreStarted starts n p → 1 ≤ p
+some_started [] starts total n p counted low started = absurd (omega arith)
+some_started (entries ∷ jobs) starts total n p counted low started =
+    ⊎_elim
+    (λ (none : p < 1).
+    let many : length starts ≡ suc (length jobs) = counted.as_many in
+    let first : get_or starts 0 0 ≡ 0 = counted.before 0 (omega arith) in
+    let high = leb-false (get_or starts 0 0) n (started.1 0 0 (omega arith) (omega arith)) in
+    absurd (omega (arith, high, first)))
+    (λ (some : 1 ≤ p). some)
+    (cases_lt p 1)
+
+-- the last of them starts with the job or before it
+pub last_low : (starts : List ℕ) (n p : ℕ) → AreStarted starts n p → 1 ≤ p → get_or starts (p - 1) 0 ≤ n
+last_low starts n p started some = leb-true (get_or starts (p - 1) 0) n (started.0 (p - 1) 0 (omega arith) (omega arith))
+
+-- and the file after it starts past the job
+last_high : (jobs : List (List Entry)) (starts : List ℕ) (total n p : ℕ) → AreCounted jobs starts total → n < job_count jobs
+    → AreStarted starts n p → n < job_count (take p jobs)
+last_high jobs starts total n p counted low started =
+    ⊎_elim
+    (λ (more : p < length jobs).
+    let high = leb-false (get_or starts p 0) n (started.1 p 0 (omega arith) (omega (arith, counted.as_many))) in
+    omega (arith, high, counted.before p more))
+    (λ (end : length jobs ≤ p). omega (arith, ap job_count (take_all p jobs end)))
+    (cases_lt p (length jobs))
+
+-- so the job is a line of it
+pub last_has_line : (jobs : List (List Entry)) (starts : List ℕ) (total n f p : ℕ) → AreCounted jobs starts total → n < job_count jobs
+    → AreStarted starts n p → p ≡ f + 1 → f < length jobs → n - get_or starts f 0 < length (entries_of jobs f)
+last_has_line jobs starts total n f p counted low started next within =
+    let more : job_count (take (f + 1) jobs) ≡ job_count (take f jobs) + length (entries_of jobs f) =
+    ap job_count (take_more jobs f [] within) ∙ sum_by_push length (take f jobs) (entries_of jobs f) in
+    let here : job_count (take p jobs) ≡ job_count (take (f + 1) jobs) = ap (λ k. job_count (take k jobs)) next in
+    let some : f < p = omega arith in
+    let first = leb-true (get_or starts f 0) n (started.0 f 0 (omega arith) some) in
+    omega (arith, more, here, first, counted.before f within, last_high jobs starts total n p counted low started)
 
 -- ---- while the files are read
 

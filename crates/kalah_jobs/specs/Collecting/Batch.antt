@@ -4,29 +4,29 @@ use Rattle.kalah_jobs.specs.declared.files.entry.Entry.{Entry}
 use Rattle.kalah_jobs.specs.declared.files.entry.Entry.TheVariants.{Bad}
 use Rattle.kalah_jobs.specs.declared.line.line_fault.LineFault.TheVariants.{Empty}
 use Rattle.kalah_jobs.specs.declared.collecting.refusal.Refusal.{Refusal}
-use Rattle.kalah_jobs.specs.Collecting.Offer.{Offer}
-use Rattle.kalah_jobs.specs.Files.JobList.{offer, job_list}
+use Rattle.kalah_jobs.specs.declared.files.job.Job.{Job}
+use Rattle.kalah_jobs.specs.Files.JobList.{line_job, job_list}
 use Rattle.kalah_jobs.specs.Collecting.CollectorState.{FileState, state_of, HasEnded, new_files}
 use Rattle.kalah_jobs.specs.Collecting.CollectorEvents.{Event, offers, Offers}
 use Rattle.kalah_jobs.specs.Collecting.CollectorLaw.{Runs}
 use Rattle.kalah_jobs.specs.Collecting.Shares.{AreShared}
 
 -- job number n; the second part is what is said past the last job
-abbrev pub job : List (List Entry) → ℕ → Offer
-job jobs n = slice_index_or (job_list jobs) n (offer 0 0 (Bad Empty))
+abbrev pub job : List (List Entry) → ℕ → Job
+job jobs n = slice_index_or (job_list jobs) n (line_job 0 0 (Bad Empty))
 
 -- The list has each job once and nothing else, in some order: whatever is asked of an offer, as many pass as of the jobs.
-pub record AreJobsInSomeOrder (jobs : List (List Entry)) (got : List Offer) : Type 0 where
-  pub same_counts : (p : Offer → Bool) → count_by p got ≡ count_by p (job_list jobs)
+pub record AreJobsInSomeOrder (jobs : List (List Entry)) (got : List Job) : Type 0 where
+  pub same_counts : (p : Job → Bool) → count_by p got ≡ count_by p (job_list jobs)
 
 -- Where each job was drawn once and sent by the worker that drew it, and as many were got as there are jobs, each job was got once.
 abbrev pub SharesLaw : Type 0
-SharesLaw = (jobs : List (List Entry)) (rows : List (List ℕ)) (got rest : List (ℕ × Offer))
+SharesLaw = (jobs : List (List Entry)) (rows : List (List ℕ)) (got rest : List (ℕ × Job))
     → AreShared (length (job_list jobs)) (job jobs) rows (got ++ rest) → length got ≡ length (job_list jobs) → AreJobsInSomeOrder jobs (map (λ t. t.1) got)
 
 -- Where each job is offered once, in any order and with any takes between, each offer is accepted.
 abbrev pub OffersLaw : Type 0
-OffersLaw = (jobs : List (List Entry)) (past : List Event) (o : Offer) (rest : List Offer) (files after : List FileState) (gave : Result ℕ Refusal)
+OffersLaw = (jobs : List (List Entry)) (past : List Event) (o : Job) (rest : List Job) (files after : List FileState) (gave : Result ℕ Refusal)
     → AreJobsInSomeOrder jobs (offers past ++ o ∷ rest) → Runs jobs (new_files jobs) past files → Offers jobs files o gave after → IsOk gave
 
 -- And in the end every line of every file is ready.

@@ -5,24 +5,24 @@ use Rattle.kalah_jobs.specs.declared.files.entry.Entry.{Entry}
 use Rattle.kalah_jobs.specs.declared.writing.answer.Taken.{Taken}
 use Rattle.kalah_jobs.specs.declared.collecting.refusal.Refusal.{Refusal}
 use Rattle.kalah_jobs.specs.Writing.Answer.{answer_of}
-use Rattle.kalah_jobs.specs.Collecting.Offer.{Offer}
-use Rattle.kalah_jobs.specs.Files.JobList.{entries_of, entry_at, offer}
+use Rattle.kalah_jobs.specs.declared.files.job.Job.{Job}
+use Rattle.kalah_jobs.specs.Files.JobList.{entries_of, entry_at, line_job}
 use Rattle.kalah_jobs.specs.Collecting.CollectorState.{FileState, state_of, front, IsNext, HasNoNext, after_offer, after_take}
 use Rattle.kalah_jobs.specs.Collecting.Refusals.{IsWanted, IsRefusedFor}
 
 -- an offer is accepted: the answer of its entry is kept, and so many lines of its file became ready
-pub record Accepts (jobs : List (List Entry)) (files : List FileState) (o : Offer) (ready : ℕ) (after : List FileState) : Type 0 where
+pub record Accepts (jobs : List (List Entry)) (files : List FileState) (o : Job) (ready : ℕ) (after : List FileState) : Type 0 where
   pub wanted : IsWanted jobs files o
   pub kept : after ≡ after_offer files o.file o.line (answer_of o.entry)
   pub risen : front (state_of after o.file) ≡ front (state_of files o.file) + ready
 
 -- an offer is refused: for the first refusal that holds, and nothing is changed
-pub record Refuses (jobs : List (List Entry)) (files : List FileState) (o : Offer) (refusal : Refusal) (after : List FileState) : Type 0 where
+pub record Refuses (jobs : List (List Entry)) (files : List FileState) (o : Job) (refusal : Refusal) (after : List FileState) : Type 0 where
   pub cause : IsRefusedFor jobs files o refusal
   pub unchanged : after ≡ files
 
 -- what an offer gives, and what it makes of the files
-abbrev pub Offers : List (List Entry) → List FileState → Offer → Result ℕ Refusal → List FileState → Type 0
+abbrev pub Offers : List (List Entry) → List FileState → Job → Result ℕ Refusal → List FileState → Type 0
 Offers jobs files o gave after = MatchResult gave (λ ready. Accepts jobs files o ready after) (λ refusal. Refuses jobs files o refusal after)
 
 -- a take gives the next line of the file
@@ -42,11 +42,11 @@ Takes files f gave after = MatchOption gave (GivesNothing files f after) (λ tak
 
 -- an offer with the answer to it, or a take of a file with what it gave
 pub data Event : Type 0 where
-  Offered : Offer → Result ℕ Refusal → Event
+  Offered : Job → Result ℕ Refusal → Event
   Took : ℕ → Option Taken → Event
 
 -- what was offered, in order, accepted or refused
-abbrev pub offers : List Event → List Offer
+abbrev pub offers : List Event → List Job
 offers [] = []
 offers (Offered o gave ∷ events) = o ∷ offers events
 offers (Took f gave ∷ events) = offers events
@@ -64,7 +64,7 @@ takes f (Took g gave ∷ events) = with_taken f g gave (takes f events)
 
 -- line k of file f was offered with its entry
 abbrev pub Came : List (List Entry) → List Event → ℕ → ℕ → Type 0
-Came jobs events f k = IsSomeAnd (entry_at jobs f k) (λ e. Contains (offers events) (offer f k e))
+Came jobs events f k = IsSomeAnd (entry_at jobs f k) (λ e. Contains (offers events) (line_job f k e))
 
 -- n is the greatest number, at most the count of lines of file f, with all lines below it come
 pub record IsFront (jobs : List (List Entry)) (events : List Event) (f n : ℕ) : Type 0 where

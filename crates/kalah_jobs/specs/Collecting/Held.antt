@@ -3,19 +3,19 @@ use Rattle.std.specs.Prelude.{◌≡◌, ℕ, List, Some, Contains}
 use Rattle.kalah_jobs.specs.declared.files.entry.Entry.{Entry}
 use Rattle.kalah_jobs.specs.declared.writing.answer.Answer.{Answer}
 use Rattle.kalah_jobs.specs.Writing.Answer.{answer_of}
-use Rattle.kalah_jobs.specs.Collecting.Offer.{Offer}
-use Rattle.kalah_jobs.specs.Files.JobList.{entry_at, offer}
+use Rattle.kalah_jobs.specs.declared.files.job.Job.{Job}
+use Rattle.kalah_jobs.specs.Files.JobList.{entry_at, line_job}
 use Rattle.kalah_jobs.specs.Collecting.CollectorState.{FileState, state_of, came_for, HasLinesOf}
 
 -- line k of file f is one of the jobs, the answer is that of its entry, and it was offered with that entry
-pub record IsAnswered (jobs : List (List Entry)) (past : List Offer) (f k : ℕ) (answer : Answer) : Type 0 where
+pub record IsAnswered (jobs : List (List Entry)) (past : List Job) (f k : ℕ) (answer : Answer) : Type 0 where
   pub entry : Entry
   pub at : entry_at jobs f k ≡ Some entry
   pub is : answer ≡ answer_of entry
-  pub offered : Contains past (offer f k entry)
+  pub offered : Contains past (line_job f k entry)
 
 -- What came are the answers of the lines that were offered with their entry, and nothing else.
-pub record HoldsOffered (jobs : List (List Entry)) (past : List Offer) (files : List FileState) : Type 0 where
+pub record HoldsOffered (jobs : List (List Entry)) (past : List Job) (files : List FileState) : Type 0 where
   pub counts : HasLinesOf jobs files
-  pub came : (f k : ℕ) (e : Entry) → entry_at jobs f k ≡ Some e → Contains past (offer f k e) → came_for (state_of files f) k ≡ Some (answer_of e)
+  pub came : (f k : ℕ) (e : Entry) → entry_at jobs f k ≡ Some e → Contains past (line_job f k e) → came_for (state_of files f) k ≡ Some (answer_of e)
   pub only : (f k : ℕ) (a : Answer) → came_for (state_of files f) k ≡ Some a → IsAnswered jobs past f k a

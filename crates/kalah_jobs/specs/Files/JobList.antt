@@ -1,7 +1,7 @@
 -- The jobs of a batch: of each file the entries of its lines, and all of them in one list.
 use Rattle.std.specs.Prelude.{ℕ, suc, List, [], ◌∷◌, ◌++◌, Option, slice_get, slice_index_or}
 use Rattle.kalah_jobs.specs.declared.files.entry.Entry.{Entry}
-use Rattle.kalah_jobs.specs.Collecting.Offer.{Offer}
+use Rattle.kalah_jobs.specs.declared.files.job.Job.{Job}
 
 -- the entries of file f; none where there is no such file
 abbrev pub entries_of : List (List Entry) → ℕ → List Entry
@@ -12,19 +12,19 @@ abbrev pub entry_at : List (List Entry) → ℕ → ℕ → Option Entry
 entry_at jobs f k = slice_get (entries_of jobs f) k
 
 -- line k of file f, with its entry
-abbrev pub offer : ℕ → ℕ → Entry → Offer
-offer f k e = record { file = f; line = k; entry = e }
+abbrev pub line_job : ℕ → ℕ → Entry → Job
+line_job f k e = record { file = f; line = k; entry = e }
 
 -- the lines of file f from line k on
-abbrev pub file_jobs : ℕ → ℕ → List Entry → List Offer
+abbrev pub file_jobs : ℕ → ℕ → List Entry → List Job
 file_jobs f k [] = []
-file_jobs f k (e ∷ entries) = offer f k e ∷ file_jobs f (suc k) entries
+file_jobs f k (e ∷ entries) = line_job f k e ∷ file_jobs f (suc k) entries
 
 -- the lines of the files from file f on
-abbrev pub jobs_from : ℕ → List (List Entry) → List Offer
+abbrev pub jobs_from : ℕ → List (List Entry) → List Job
 jobs_from f [] = []
 jobs_from f (entries ∷ jobs) = file_jobs f 0 entries ++ jobs_from (suc f) jobs
 
 -- all jobs in order: files in order, in each its lines in order
-abbrev pub job_list : List (List Entry) → List Offer
+abbrev pub job_list : List (List Entry) → List Job
 job_list jobs = jobs_from 0 jobs

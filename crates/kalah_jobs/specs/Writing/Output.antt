@@ -7,7 +7,7 @@ use Rattle.kalah_jobs.specs.Files.NamedBytes.{NamedBytes}
 use Rattle.kalah_jobs.specs.Files.Lines.{line_feed, lines_of}
 use Rattle.kalah_jobs.specs.Files.Entry.{entry_of}
 use Rattle.kalah_jobs.specs.Writing.Answer.{answer_of, is_fault, answer_line}
-use Rattle.kalah_jobs.specs.Collecting.Offer.{Offer}
+use Rattle.kalah_jobs.specs.declared.files.job.Job.{Job}
 use Rattle.kalah_jobs.specs.Files.JobList.{job_list}
 use Rattle.kalah_jobs.specs.Files.Question.{entry_to}
 use Rattle.kalah_jobs.specs.Files.Jobs.{jobs_to}
@@ -80,11 +80,11 @@ abbrev pub names_of : List NamedBytes → List (List ℕ)
 names_of files = map (λ file. file.name) files
 
 -- the offer is answered by a fault
-abbrev pub is_faulty_offer : Offer → Bool
-is_faulty_offer o = is_fault (answer_of o.entry)
+abbrev pub is_faulty_job : Job → Bool
+is_faulty_job o = is_fault (answer_of o.entry)
 
 -- what is told of files and what is told of their jobs is the same, whatever is asked of their positions
 pub record FilesAreTheirJobs : Type 0 where
   pub output : (question : Question) (files : List NamedBytes) → output_to question files ≡ output_of_jobs (names_of files) (jobs_to question files)
   pub lines : (question : Question) (files : List NamedBytes) → (tally_of files).lines ≡ length (job_list (jobs_to question files))
-  pub faults : (question : Question) (files : List NamedBytes) → (tally_of files).faults ≡ count_by is_faulty_offer (job_list (jobs_to question files))
+  pub faults : (question : Question) (files : List NamedBytes) → (tally_of files).faults ≡ count_by is_faulty_job (job_list (jobs_to question files))

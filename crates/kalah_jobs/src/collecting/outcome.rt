@@ -1,10 +1,9 @@
 //! What a worker found for a line of a file.
 ghost use Rattle.std.specs.Prelude.{◌≡◌};
-ghost use Rattle.kalah_jobs.specs.Writing.Answer.{answer_of, answer_of_position, answer_of_values};
+ghost use Rattle.kalah_jobs.specs.Writing.Answer.{answer_of};
 
 use crate::files::entry::Entry;
 use crate::writing::answer::Answer;
-use kalah_rules::Board;
 use kalah_solve::{Solver, Verdict};
 use std::marker::Model;
 
@@ -20,14 +19,14 @@ pub struct Outcome {
 
 impl Model for Outcome {
     ghost use Rattle.std.specs.Prelude.{◌≡◌};
-    ghost use Rattle.kalah_jobs.specs.Collecting.Offer.{Offer};
+    ghost use Rattle.kalah_jobs.specs.declared.files.job.Job.{Job};
 
-    ghost Value = { Offer };
+    ghost Value = { Job };
 
     ghost use Rattle.kalah_jobs.specs.Writing.Answer.{answer_of};
-    ghost use Rattle.kalah_jobs.specs.Collecting.OfferFields.{offer_of, outcome_of, outcome_again};
+    ghost use Rattle.kalah_jobs.specs.Collecting.OutcomeJob.{job_of, outcome_of, outcome_again};
 
-    ghost view = { offer_of };
+    ghost view = { job_of };
 
     ghost invariant = { λ o. o.answer ≡ answer_of o.entry };
 
@@ -39,10 +38,21 @@ impl Model for Outcome {
 impl Outcome {
     /// The outcome of a line that says `entry`: the solver answers what is asked of a position, and a line that was not
     /// read is answered by its fault.
+    #[tactic(auto, unfolding(crate::specs::Writing::Answer::answer_of))]
     pub fn of(file: u32, line: u32, entry: Entry, solver: &mut Solver) -> Outcome
         ensures { result ≡ record { file = file; line = line; entry = entry } }
     {
-        let answer = answered(&entry, solver);
+        let answer = match &entry {
+            Entry::Position(board) => match solver.solve(board) {
+                Verdict::Best { margin, house } => Answer::Best { margin, house },
+                Verdict::Over { margin } => Answer::Over { margin },
+            },
+            Entry::ValuesOf(board) if board.is_over() => Answer::Over {
+                margin: board.returns(),
+            },
+            Entry::ValuesOf(board) => Answer::Values(solver.values(board)),
+            Entry::Bad(fault) => Answer::Fault(*fault),
+        };
         Outcome {
             file,
             line,
@@ -78,40 +88,6 @@ impl Outcome {
     {
         self.answer
     }
-}
-
-// The answer to what a line says.
-#[tactic(auto, unfolding(crate::specs::Writing::Answer::answer_of))]
-fn answered(entry: &Entry, solver: &mut Solver) -> Answer
-    ensures { result ≡ answer_of entry.now }
-{
-    match entry {
-        Entry::Position(board) => answered_position(board, solver),
-        Entry::ValuesOf(board) => answered_values(board, solver),
-        Entry::Bad(fault) => Answer::Fault(*fault),
-    }
-}
-
-// The answer to a position of which the best move is asked.
-fn answered_position(board: &Board, solver: &mut Solver) -> Answer
-    ensures { result ≡ answer_of_position board.now }
-{
-    match solver.solve(board) {
-        Verdict::Best { margin, house } => Answer::Best { margin, house },
-        Verdict::Over { margin } => Answer::Over { margin },
-    }
-}
-
-// The answer to a position of which the value of each move is asked.
-fn answered_values(board: &Board, solver: &mut Solver) -> Answer
-    ensures { result ≡ answer_of_values board.now }
-{
-    if board.is_over() {
-        return Answer::Over {
-            margin: board.returns(),
-        };
-    }
-    Answer::Values(solver.values(board))
 }
 
 #[cfg(test)]

@@ -1,6 +1,6 @@
 //! What a line of a file says, and what is asked of it.
 ghost use Rattle.std.specs.Prelude.{◌≡◌};
-ghost use Rattle.kalah_jobs.specs.Files.Question.{asked, entry_to};
+ghost use Rattle.kalah_jobs.specs.Files.Question.{entry_to};
 
 use crate::files::question::Question;
 use crate::line::line_fault::LineFault;
@@ -24,19 +24,10 @@ impl Entry {
     pub(crate) fn of_line(question: Question, line: &[u8]) -> Entry
         ensures { result ≡ entry_to question line.now }
     {
-        match read_line(line) {
-            Ok(board) => Entry::asking(question, board),
-            Err(fault) => Entry::Bad(fault),
-        }
-    }
-
-    // The position, with this asked of it.
-    fn asking(question: Question, board: Board) -> Entry
-        ensures { result ≡ asked question (Entry.Position board) }
-    {
-        match question {
-            Question::BestMove => Entry::Position(board),
-            Question::Values => Entry::ValuesOf(board),
+        match (read_line(line), question) {
+            (Ok(board), Question::BestMove) => Entry::Position(board),
+            (Ok(board), Question::Values) => Entry::ValuesOf(board),
+            (Err(fault), _) => Entry::Bad(fault),
         }
     }
 }

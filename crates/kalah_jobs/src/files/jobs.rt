@@ -1,7 +1,7 @@
 //! The jobs of a batch: the lines of its files.
 ghost use Rattle.std.specs.Prelude.{◌≡◌, ◌<◌, ◌≤◌, ◌↔◌, length, IfOk, IsTrue, slice_get, slice_index, ℕ, Some, Err};
 ghost use Rattle.std.specs.List.Sorted.{IsNonDecreasing};
-ghost use Rattle.kalah_jobs.specs.Files.JobList.{entries_of, offer, job_list};
+ghost use Rattle.kalah_jobs.specs.Files.JobList.{entries_of, line_job, job_list};
 ghost use Rattle.kalah_jobs.specs.Files.Jobs.{most_files, most_lines, line_count, jobs_of, jobs_to, job_count};
 
 use crate::files::entry::Entry;
@@ -149,9 +149,10 @@ impl Jobs {
     /// The job of this number, which has to be below `total`.
     pub fn get(&self, n: u32) -> Job
         requires { n < job_count self.now }
-        ensures { slice_get (job_list self.now) n ≡ Some (offer result.file result.line result.entry) }
+        ensures { slice_get (job_list self.now) n ≡ Some (line_job result.file result.line result.entry) }
     {
-        let file = last_started(&self.starts, n);
+        // The last file that starts with job `n` or before it.
+        let file = self.starts.partition_point(|start| *start <= n) - 1;
         let line = n - self.starts[file];
         Job {
             file: file as u32,
@@ -159,18 +160,6 @@ impl Jobs {
             entry: self.files[file].entry(line),
         }
     }
-}
-
-// The last file that starts with job `n` or before it.
-fn last_started(starts: &[u32], n: u32) -> usize
-    requires rising { IsNonDecreasing starts.now }
-    requires some { 0 < length starts.now }
-    requires first { slice_index starts.now 0 ≤ n }
-    ensures within { result < length starts.now }
-    ensures started { slice_index starts.now result ≤ n }
-    ensures last { (f : ℕ) → result < f → f < length starts.now → n < slice_index starts.now f }
-{
-    starts.partition_point(|start| *start <= n) - 1
 }
 
 // Whether the files have no more lines together than a batch may have.

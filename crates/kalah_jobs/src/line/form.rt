@@ -4,17 +4,16 @@ ghost use Rattle.std.specs.Option.{option_map, option_map_or};
 ghost use Rattle.kalah_jobs.specs.Line.Line.{space, most_bytes};
 ghost use Rattle.kalah_jobs.specs.Line.Reading.{rule_of, parts_at};
 
-use crate::line::line_fault::LineFault;
 use crate::line::parts::cut;
 use crate::line::side::Side;
-use kalah_rules::{Board, MOST_HOUSES, Rule};
+use kalah_rules::Rule;
 
 /// Two sides and a rule, of any number of houses and seeds.
 #[derive(Drop)]
 pub(crate) struct Form {
-    own: Side,
-    other: Side,
-    rule: Rule,
+    pub(crate) own: Side,
+    pub(crate) other: Side,
+    pub(crate) rule: Rule,
 }
 
 // The rule of what stands after the second side.
@@ -31,7 +30,7 @@ fn read_rule(ending: Option<&[u8]>) -> Option<Rule>
 }
 
 impl Form {
-    ghost use Rattle.kalah_jobs.specs.Line.Reading.{written_of, admitted};
+    ghost use Rattle.kalah_jobs.specs.Line.Reading.{written_of};
     ghost use Rattle.kalah_jobs.specs.Line.Form.{position_shown};
 
     // The two sides of a text, with one space between them, and the rule that its ending names.
@@ -45,19 +44,5 @@ impl Form {
         let own = Side::read(own)?;
         let other = Side::read(other)?;
         Some(Form { own, other, rule })
-    }
-
-    // The board of the form, if its sides and its seeds are within the limits.
-    pub(crate) fn board(&self) -> Result<Board, LineFault>
-        ensures { result ≡ admitted (position_shown self.now) }
-    {
-        let m = self.own.houses.len();
-        if self.other.houses.len() != m || m > MOST_HOUSES {
-            return Err(LineFault::Houses);
-        }
-        let own = self.own.houses.six_cells();
-        let other = self.other.houses.six_cells();
-        let board = Board::new(m, own, self.own.store, other, self.other.store, self.rule);
-        board.ok_or(LineFault::Seeds)
     }
 }

@@ -27,11 +27,11 @@ fn put_side(text: &mut StackText, board: &Board, player: Player)
 {
     let mut i = board.m();
     text.put_number(u64::from(player.store(board)));
-    text.put(b"/");
+    text.put("/");
     text.put_number(u64::from(player.seeds(board, i)));
     while i > 1 {
         i -= 1;
-        text.put(b",");
+        text.put(",");
         text.put_number(u64::from(player.seeds(board, i)));
     }
 }
@@ -56,15 +56,14 @@ fn put_board(text: &mut StackText, board: &Board)
     ensures short { length text.new ≤ length text.old + 57 }
 {
     let _side = board.m();
-    text.put(ending(board.rule()).as_bytes());
+    text.put(ending(board.rule()));
     put_side(text, board, Player::Other);
-    text.put(b" ");
+    text.put(" ");
     put_side(text, board, Player::Mover);
 }
 
 /// The line that writes a board, as `read_line` reads it: `1,1/0 1,1/0`, with ` e` at its end where the rule is
 /// `Rule::EmptyCapture`. Both stores have to be at most 99, as of every board that was read.
-#[tactic(auto, using(crate::proofs::OfWriting::AsciiTexts::ascii_line))]
 pub fn line_text(alloc: Global, board: &Board) -> Result<String, AllocError>
     requires own_low { board.now.own_store ≤ most_in_store }
     requires other_low { board.now.other_store ≤ most_in_store }
@@ -93,20 +92,18 @@ fn parts_of_step(step: &Step) -> (&Board, &'static str)
 #[tactic(auto, unfolding(crate::specs::Line::Line::step_text_of), using(crate::proofs::OfWriting::Lengths::byte_length))]
 fn put_step(text: &mut StackText, h: u8, step: &Step)
     requires { length text.old ≤ 1 }
-    ensures limits { IsWithinLimits (position_after step.now) }
-    ensures step { text.new ≡ step_text_of h step.now ++ text.old }
+    ensures { text.new ≡ step_text_of h step.now ++ text.old }
 {
     let (board, word) = parts_of_step(step);
-    text.put(word.as_bytes());
-    text.put(b" ");
+    text.put(word);
+    text.put(" ");
     put_board(text, board);
-    text.put(b" ");
+    text.put(" ");
     text.put_number(u64::from(h));
 }
 
 /// The text of a move: the house, the board after it and `again`, `turn` or `over`, as `1 1,1/0 0,2/0 turn`. The board is
 /// written as by `line_text`, with stores of up to three digits.
-#[tactic(auto, using(crate::proofs::OfWriting::AsciiTexts::ascii_step))]
 pub fn step_text(alloc: Global, h: u8, step: &Step) -> Result<String, AllocError>
     ensures { IfOk result (λ text. string_bytes text ≡ step_text_of h step.now) }
 {
@@ -125,7 +122,7 @@ pub fn write_step<W: Sink>(out: &mut W, h: u8, step: &Step) -> Result<(), io::Er
     ensures start { AppendsStart (W.written out.old) (W.written out.new) (step_text_of h step.now ++ line_feed ∷ []) }
 {
     let mut text = StackText::new();
-    text.put(b"\n");
+    text.put("\n");
     put_step(&mut text, h, step);
     out.write_all(text.bytes())
 }

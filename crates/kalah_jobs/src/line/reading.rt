@@ -10,7 +10,7 @@ mod tests;
 
 use crate::line::form::Form;
 use crate::line::line_fault::LineFault;
-use kalah_rules::Board;
+use kalah_rules::{Board, MOST_HOUSES};
 
 /// The most bytes of a line, after its CR is dropped.
 const MOST_BYTES: usize = 80;
@@ -35,10 +35,17 @@ fn read_text(text: &[u8]) -> Result<Board, LineFault>
     if text.is_empty() {
         return Err(LineFault::Empty);
     }
-    match Form::read(text) {
-        Some(form) => form.board(),
-        None => Err(LineFault::Shape),
+    let Some(Form { own, other, rule }) = Form::read(text) else {
+        return Err(LineFault::Shape);
+    };
+    let m = own.houses.len();
+    if other.houses.len() != m || m > MOST_HOUSES {
+        return Err(LineFault::Houses);
     }
+    let own_cells = own.houses.six_cells();
+    let other_cells = other.houses.six_cells();
+    let board = Board::new(m, own_cells, own.store, other_cells, other.store, rule);
+    board.ok_or(LineFault::Seeds)
 }
 
 /// The position that a line writes, such as `1,1/0 1,1/0`: the mover's houses with a comma between each two, a slash and

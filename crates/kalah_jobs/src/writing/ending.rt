@@ -1,23 +1,23 @@
 //! What stands in an answer line behind the name of the file, put together on the stack.
-ghost use Rattle.std.specs.Prelude.{◌≡◌, ◌+◌, ◌≤◌, ◌∷◌, [], ◌++◌, length, codes, decimal};
-ghost use Rattle.kalah_jobs.specs.Files.Lines.{line_feed};
+ghost use Rattle.std.specs.Prelude.{◌≡◌, ◌+◌, ◌≤◌, ◌++◌, length, codes, decimal};
 ghost use Rattle.kalah_jobs.specs.Writing.Answer.{answer_words, value_words, values_words};
 
 use crate::writing::answer::{Answer, Taken};
 use crate::writing::stack_text::{ROOM, StackText};
 use kalah_solve::{MoveValue, MoveValues};
 
-// What stands behind the name in the answer line of a line, with its line feed.
+// What stands behind the name in the answer line of a line, and then the end.
 #[tactic(auto, using(crate::proofs::OfWriting::Lengths::number_length))]
-pub(crate) fn ending_of(taken: &Taken) -> StackText
-    ensures { result ≡ codes ":" ++ (decimal (taken.now.line + 1) ++ (codes " " ++ (answer_words taken.now.answer ++ line_feed ∷ []))) }
+pub(crate) fn ending_of(taken: &Taken, end: &str) -> StackText
+    requires { length end.now ≤ 1 }
+    ensures { result ≡ codes ":" ++ (decimal (taken.now.line + 1) ++ (codes " " ++ (answer_words taken.now.answer ++ end.now))) }
 {
     let mut ending = StackText::new();
-    ending.put(b"\n");
+    ending.put(end);
     put_words(&mut ending, &taken.answer);
-    ending.put(b" ");
+    ending.put(" ");
     ending.put_number(u64::from(taken.line) + 1);
-    ending.put(b":");
+    ending.put(":");
     ending
 }
 
@@ -29,7 +29,7 @@ fn put_value(text: &mut StackText, value: MoveValue)
     ensures short { length text.new ≤ length text.old + 15 }
 {
     text.put_margin(i32::from(value.value));
-    text.put(b":");
+    text.put(":");
     text.put_number(u64::from(value.house));
 }
 
@@ -46,7 +46,7 @@ fn put_values(text: &mut StackText, values: &MoveValues)
     put_value(text, values.get(i));
     while i > 0 {
         i -= 1;
-        text.put(b" ");
+        text.put(" ");
         put_value(text, values.get(i));
     }
 }
@@ -61,17 +61,17 @@ fn put_words(text: &mut StackText, answer: &Answer)
     match *answer {
         Answer::Best { margin, house } => {
             text.put_number(u64::from(house));
-            text.put(b" house ");
+            text.put(" house ");
             text.put_margin(margin);
         }
         Answer::Over { margin } => {
-            text.put(b" over");
+            text.put(" over");
             text.put_margin(margin);
         }
         Answer::Values(values) => put_values(text, &values),
         Answer::Fault(fault) => {
-            text.put(fault.word().as_bytes());
-            text.put(b"fault ");
+            text.put(fault.word());
+            text.put("fault ");
         }
     }
 }

@@ -64,13 +64,13 @@ fn picture(board: &Board) -> StackText
 {
     let m = usize::from(board.m());
     let mut text = StackText::new();
-    text.put(b"\n");
+    text.put("\n");
     put_houses(&mut text, board, Player::Mover);
-    text.put(b"\n");
+    text.put("\n");
     put_cell(&mut text, board.own_store());
     text.put_blanks(COLUMN * m);
     put_cell(&mut text, board.other_store());
-    text.put(b"\n");
+    text.put("\n");
     put_houses(&mut text, board, Player::Other);
     text
 }

@@ -1,5 +1,5 @@
 //! A short text that is put together on the stack.
-ghost use Rattle.std.specs.Prelude.{◌≡◌, ◌+◌, ◌≤◌, [], ◌++◌, IsAscii, length, replicate, decimal};
+ghost use Rattle.std.specs.Prelude.{◌≡◌, ◌+◌, ◌≤◌, [], ◌++◌, IsUtf8, length, replicate, decimal};
 ghost use Rattle.std.specs.Fmt.{signed_decimal};
 ghost use Rattle.kalah_jobs.specs.Line.Line.{space};
 
@@ -11,7 +11,7 @@ use std::str;
 pub(crate) const ROOM: usize = 128;
 
 /// A text of at most 128 bytes, which takes no memory but the stack's. It is put together from its end on: each piece goes
-/// before those that are there. It is seen as its bytes.
+/// before those that are there. It is seen as its bytes, which are of UTF-8.
 #[derive(Drop)]
 pub(crate) struct StackText {
     bytes: [u8; ROOM],
@@ -19,13 +19,13 @@ pub(crate) struct StackText {
 }
 
 impl Model for StackText {
-    ghost use Rattle.std.specs.Prelude.{◌≡◌, ◌≤◌, ℕ, List, length, drop};
+    ghost use Rattle.std.specs.Prelude.{◌≡◌, ◌≤◌, ℕ, List, IsUtf8, length, drop};
 
     ghost Value = { List ℕ };
 
     ghost view = { λ t. drop t.start t.bytes };
 
-    ghost invariant = { λ t. (length t.bytes ≡ 128) × (t.start ≤ 128) };
+    ghost invariant = { λ t. (length t.bytes ≡ 128) × (t.start ≤ 128) × IsUtf8 (drop t.start t.bytes) };
 }
 
 impl StackText {
@@ -41,15 +41,14 @@ impl StackText {
 
     // The bytes.
     pub(crate) fn bytes(&self) -> &[u8]
-        ensures { result.now ≡ self.now }
+        ensures bytes { result.now ≡ self.now }
+        ensures text { IsUtf8 result.now }
     {
         &self.bytes[self.start..]
     }
 
-    // The text, of bytes of ASCII.
-    #[tactic(auto, using(crate::proofs::OfWriting::AsciiTexts::ascii_is_text))]
+    // The text.
     pub(crate) fn as_str(&self) -> &str
-        requires { IsAscii self.now }
         ensures { result.now ≡ self.now }
     {
         str::from_utf8(self.bytes()).unwrap()
@@ -63,24 +62,25 @@ impl StackText {
     }
 
     // Puts a piece before what is there.
-    pub(crate) fn put(&mut self, piece: &[u8])
+    pub(crate) fn put(&mut self, piece: &str)
         requires { length piece.now + length self.old ≤ ROOM }
         ensures piece { self.new ≡ piece.now ++ self.old }
         ensures longer { length self.new ≡ length piece.now + length self.old }
     {
         let end = self.start;
         self.start = end - piece.len();
-        self.bytes[self.start..end].copy_from_slice(piece);
+        self.bytes[self.start..end].copy_from_slice(piece.as_bytes());
     }
 
     // Puts so many blanks before what is there.
     pub(crate) fn put_blanks(&mut self, n: usize)
-        requires few { n ≤ 24 }
-        requires room { n + length self.old ≤ ROOM }
+        requires { n + length self.old ≤ ROOM }
         ensures blanks { self.new ≡ replicate n space ++ self.old }
         ensures longer { length self.new ≡ n + length self.old }
     {
-        self.put(&[b' '; 24][..n]);
+        let end = self.start;
+        self.start = end - n;
+        self.bytes[self.start..end].fill(b' ');
     }
 
     // Puts a number in digits before what is there.
@@ -101,7 +101,7 @@ impl StackText {
     {
         self.put_number(u64::from(margin.unsigned_abs()));
         if margin < 0 {
-            self.put(b"-");
+            self.put("-");
         }
     }
 }

@@ -20,7 +20,7 @@ pub fn write_answer<W: Sink>(out: &mut W, name: &str, taken: &Taken) -> Result<(
     ensures start { AppendsStart (W.written out.old) (W.written out.new) (answer_line name.now taken.now ++ line_feed ∷ []) }
 {
     out.write_all(name.as_bytes())?;
-    out.write_all(ending_of(taken).bytes())
+    out.write_all(ending_of(taken, "\n").bytes())
 }
 
 #[cfg(test)]

@@ -1,8 +1,11 @@
-ghost use Rattle.std.specs.Prelude.{◌≡◌, length, All, IfOk};
+ghost use Rattle.std.specs.Prelude.{◌≡◌, ◌≤◌, length, All, IfOk};
 ghost use Rattle.kalah_run.specs.DeskStates.{IsPassOf};
 
 use super::*;
+use crate::want_of_memory::draw_by;
+use std::process::Abort;
 use std::thread;
+use std::thread::Threads;
 
 // Draws with the pass until it is answered None. The answer has the numbers drawn, in order.
 fn draw_all(desk: &Desk, alloc: Global, mut pass: Pass) -> Result<(Pass, Vec<u32>), AllocError>
@@ -18,40 +21,43 @@ fn draw_all(desk: &Desk, alloc: Global, mut pass: Pass) -> Result<(Pass, Vec<u32
 
 // The passes that come back from the threads, and all numbers that they drew.
 fn gather(
-    desk: &Desk,
+    rt: &impl Abort,
     alloc: Global,
+    desk: &Desk,
     mut answers: Vec<Result<(Pass, Vec<u32>), AllocError>>,
-) -> Result<(Vec<Pass>, Vec<u32>), AllocError>
+) -> (Vec<Pass>, Vec<u32>)
     requires { All (λ a. IfOk a (λ r. IsPassOf desk.now r.0)) answers.items }
-    ensures all { IfOk result (λ r. length r.0.items ≡ length answers.items) }
-    ensures own { IfOk result (λ r. All (IsPassOf desk.now) r.0.items) }
+    ensures all { length result.0.items ≡ length answers.items }
+    ensures own { All (IsPassOf desk.now) result.0.items }
 {
-    let mut passes = Vec::new(alloc);
-    let mut all = Vec::new(alloc);
+    let (mut passes, mut all) = (Vec::new(alloc), Vec::new(alloc));
     while let Some(answer) = answers.pop() {
-        let (pass, numbers) = answer?;
-        passes.push(pass)?;
-        all.extend_from_slice(numbers.as_slice())?;
+        let (pass, numbers) = answer.expect(rt, "no memory");
+        passes.push(pass).expect(rt, "no memory");
+        let room = all.extend_from_slice(numbers.as_slice());
+        room.expect(rt, "no memory");
     }
-    Ok((passes, all))
+    (passes, all)
+}
+
+// What the one pass of a desk draws first, and what the desk tells once it is closed.
+fn drawn_first(rt: &impl Abort, alloc: Global, total: u32) -> (Option<u32>, (u32, bool))
+    requires { total ≤ 1000000 }
+{
+    let (desk, mut passes) = Desk::open(alloc, total, 1).expect(rt, "no memory");
+    let drawn = draw_by(&desk, &mut passes, 0);
+    let closed = desk.close(passes);
+    (drawn, (closed.drawn(), closed.spent()))
 }
 
 #[test]
 fn a_desk_with_no_number_answers_none(rt: HostRuntime) {
-    let (desk, mut passes) = Desk::open(rt.alloc(), 0, 1).expect(&rt, "no memory");
-    assert!(rt; passes.len() == 1);
-    assert!(rt; desk.draw(&mut passes[0]) == None);
-    let closed = desk.close(passes);
-    assert!(rt; (closed.drawn(), closed.spent()) == (0, true));
+    assert!(rt; drawn_first(&rt, rt.alloc(), 0) == (None, (0, true)));
 }
 
 #[test]
 fn a_desk_may_be_closed_before_all_is_drawn(rt: HostRuntime) {
-    let (desk, mut passes) = Desk::open(rt.alloc(), 5, 1).expect(&rt, "no memory");
-    assert!(rt; passes.len() == 1);
-    assert!(rt; desk.draw(&mut passes[0]) == Some(0));
-    let closed = desk.close(passes);
-    assert!(rt; (closed.drawn(), closed.spent()) == (1, false));
+    assert!(rt; drawn_first(&rt, rt.alloc(), 5) == (Some(0), (1, false)));
 }
 
 #[test]
@@ -78,14 +84,33 @@ fn are_all_below(numbers: &[u32], limit: usize) -> bool {
     numbers.len() == limit
 }
 
+// All passes draw side by side, each in a thread of its own. They come back with all numbers that they drew.
+fn draw_in_threads<R: Abort + Threads + Sync>(
+    rt: &R,
+    alloc: Global,
+    desk: &Desk,
+    passes: Vec<Pass>,
+) -> (Vec<Pass>, Vec<u32>)
+    requires { All (IsPassOf desk.now) passes.items }
+    ensures all { length result.0.items ≡ length passes.items }
+    ensures own { All (IsPassOf desk.now) result.0.items }
+{
+    let answers = thread::map_vec(rt, passes, &|pass| draw_all(desk, alloc, pass));
+    gather(rt, alloc, desk, answers.expect(rt, "no memory"))
+}
+
+// What 64 threads draw of 1000 numbers, sorted, and what the desk then tells.
+fn drawn_by_threads<R: Abort + Threads + Sync>(rt: &R, alloc: Global) -> (Vec<u32>, (u32, bool)) {
+    let (desk, passes) = Desk::open(alloc, 1000, 64).expect(rt, "no memory");
+    let (passes, mut numbers) = draw_in_threads(rt, alloc, &desk, passes);
+    let closed = desk.close(passes);
+    numbers.sort().expect(rt, "no memory");
+    (numbers, (closed.drawn(), closed.spent()))
+}
+
 #[test]
 fn threads_draw_each_number_once(rt: HostRuntime) {
-    let (desk, passes) = Desk::open(rt.alloc(), 1000, 64).expect(&rt, "no memory");
-    let answers = thread::map_vec(&rt, passes, &|pass| draw_all(&desk, rt.alloc(), pass));
-    let gathered = gather(&desk, rt.alloc(), answers.expect(&rt, "no memory"));
-    let (passes, mut all) = gathered.expect(&rt, "no memory");
-    let closed = desk.close(passes);
-    all.sort().expect(&rt, "no memory");
-    assert!(rt; are_all_below(all.as_slice(), 1000));
-    assert!(rt; (closed.drawn(), closed.spent()) == (1000, true));
+    let (numbers, closed) = drawn_by_threads(&rt, rt.alloc());
+    assert!(rt; are_all_below(numbers.as_slice(), 1000));
+    assert!(rt; closed == (1000, true));
 }

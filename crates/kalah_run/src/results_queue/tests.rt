@@ -1,9 +1,8 @@
-ghost use Rattle.std.specs.Prelude.{◌≡◌, ◌<◌, ◌≤◌, vec_len};
-ghost use Rattle.std.specs.Thread.{IsSync};
-ghost use Rattle.kalah_run.specs.QueueStates.{ArePassesFrom};
+ghost use Rattle.std.specs.Prelude.{◌≡◌, ◌<◌, ◌≤◌};
 
 mod flow;
 
+use self::flow::put_often;
 use crate::want_of_memory::two_outcomes;
 use crate::{GetPass, PutPass, ResultsQueue};
 use kalah_jobs::{Entry, LineFault, Outcome};
@@ -29,15 +28,13 @@ fn outcomes_of(rt: &impl Abort, alloc: Global, file: u32) -> Vec<Outcome> {
 }
 
 // What is got of two outcomes that two workers put, and how many are left.
-fn through_one_thread<R: Wait>(
+fn through_one_thread<R: Abort + Wait>(
     rt: &R,
-    opened: (ResultsQueue, Vec<PutPass>, GetPass),
+    alloc: Global,
     sent: (Outcome, Outcome),
-) -> ((Outcome, Outcome), u32)
-    requires puts { (vec_len opened.1 ≡ 2) × ArePassesFrom opened.0.id 0 opened.1.items }
-    requires gets { (opened.2.queue ≡ opened.0.id) × (opened.2.workers ≡ 2) }
-{
-    let (queue, mut puts, mut pass) = opened;
+) -> ((Outcome, Outcome), u32) {
+    let opened = ResultsQueue::open(alloc, 2, 2);
+    let (queue, mut puts, mut pass) = opened.expect(rt, "no memory");
     queue.put(rt, &mut puts[0], sent.0);
     queue.put(rt, &mut puts[1], sent.1);
     let got = (queue.get(rt, &mut pass), queue.get(rt, &mut pass));
@@ -46,11 +43,9 @@ fn through_one_thread<R: Wait>(
 
 #[test]
 fn two_workers_outcomes_are_got(rt: HostRuntime) {
-    let (first, second) = two_outcomes(rt.alloc()).expect(&rt, "no memory");
-    let opened = ResultsQueue::open(rt.alloc(), 2, 2).expect(&rt, "no memory");
-    let (got, left) = through_one_thread(&rt, opened, (first, second));
-    assert!(rt; got == (first, second));
-    assert!(rt; left == 0);
+    let sent = two_outcomes(rt.alloc()).expect(&rt, "no memory");
+    let (got, left) = through_one_thread(&rt, rt.alloc(), sent);
+    assert!(rt; got == sent && left == 0);
 }
 
 // Puts all the outcomes, in their order.
@@ -66,11 +61,9 @@ fn put_all<R: Wait>(rt: &R, queue: &ResultsQueue, mut pass: PutPass, outcomes: &
 fn fill<R: Abort + Wait>(rt: &R, alloc: Global, capacity: u32, outcome: Outcome)
     requires { (0 < capacity) × (capacity ≤ 1024) }
 {
-    let outcomes = vec![in alloc; outcome; capacity as usize].expect(rt, "no memory");
     let opened = ResultsQueue::open(alloc, capacity, 1);
-    let (queue, mut puts, _) = opened.expect(rt, "no memory");
-    let pass = puts.pop().expect(rt, "no pass");
-    put_all(rt, &queue, pass, outcomes.as_slice());
+    let (queue, mut puts, _get) = opened.expect(rt, "no memory");
+    put_often(rt, &queue, &mut puts[0], capacity, outcome);
 }
 
 #[test]
@@ -112,7 +105,30 @@ fn get_both<R: Wait>(
     Ok((first, second))
 }
 
-// Two threads put the outcomes of a file each, while this one gets.
+// Two threads put the outcomes of a file each.
+fn put_both<R: Threads + Wait + Sync>(
+    rt: &R,
+    queue: &ResultsQueue,
+    puts: (PutPass, PutPass),
+    sent: (&[Outcome], &[Outcome]),
+)
+    requires first { puts.0.queue ≡ queue.now.id }
+    requires second { puts.1.queue ≡ queue.now.id }
+{
+    let (first, second) = puts;
+    let (sent_first, sent_second) = sent;
+    thread::join(
+        rt,
+        move ||
+            requires { first.queue ≡ queue.now.id }
+        { put_all(rt, queue, first, sent_first) },
+        move ||
+            requires { second.queue ≡ queue.now.id }
+        { put_all(rt, queue, second, sent_second) },
+    );
+}
+
+// Two threads put the outcomes of a file each, while another one gets.
 fn through_threads<R: Threads + Wait + Sync>(
     rt: &R,
     alloc: Global,
@@ -125,22 +141,16 @@ fn through_threads<R: Threads + Wait + Sync>(
     requires second { puts.1.queue ≡ queue.now.id }
     requires pass { pass.queue ≡ queue.now.id }
 {
-    let (first, second) = puts;
-    let (sent_first, sent_second) = sent;
-    thread::scope(
-        thread::scope_env(),
+    let (_, got) = thread::join(
         rt,
-        move |scope| -> Result<(Vec<Outcome>, Vec<Outcome>), AllocError>
-            requires { IsSync R.row × (first.queue ≡ queue.now.id) × (second.queue ≡ queue.now.id) × (pass.queue ≡ queue.now.id) }
-        {
-            let puts_first = scope.spawn(move || put_all(rt, queue, first, sent_first));
-            let puts_second = scope.spawn(move || put_all(rt, queue, second, sent_second));
-            if puts_first.is_err() || puts_second.is_err() {
-                return Err(AllocError);
-            }
-            get_both(rt, alloc, queue, pass)
-        },
-    )
+        move ||
+            requires { (puts.0.queue ≡ queue.now.id) × (puts.1.queue ≡ queue.now.id) }
+        { put_both(rt, queue, puts, sent) },
+        move ||
+            requires { pass.queue ≡ queue.now.id }
+        { get_both(rt, alloc, queue, pass) },
+    );
+    got
 }
 
 // What comes through a queue of two places that is opened for it.

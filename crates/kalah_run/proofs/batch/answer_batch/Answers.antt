@@ -2,7 +2,7 @@ use Rattle.std.proofs.Common.{ap, ◌∙◌, arith, length, rules}
 use Rattle.std.specs.Prelude.{count_by}
 use Rattle.kalah_jobs.specs.Files.Jobs.{job_count}
 use Rattle.kalah_jobs.specs.Files.JobList.{job_list}
-use Rattle.kalah_jobs.specs.Writing.Output.{is_faulty_offer}
+use Rattle.kalah_jobs.specs.Writing.Output.{is_faulty_job}
 use Rattle.kalah_jobs.proofs.OfFiles.JobCounts.{job_count-jobs_to}
 use Rattle.kalah_jobs.proofs.OfWriting.Starts.{start_kept}
 use Rattle.kalah_run.proofs.BatchEnds.{appended_kept, given_output, counted_tally}
@@ -47,7 +47,7 @@ returns g c =
     let given = given_output c.args.question c.args.files.now c.in_ok-jobs.jobs _ _ _ c.in_ok-jobs.ensures.value c.in_ok-faults.ensures.given in
     let tally = counted_tally c.args.question c.args.files.now _ c.in_ok-faults.faults
     (c.total.ensures.jobs ∙ ap (λ jobs. length (job_list jobs)) c.in_ok-jobs.ensures.value)
-    (c.in_ok-faults.ensures.faults ∙ ap (λ jobs. count_by is_faulty_offer (job_list jobs)) c.in_ok-jobs.ensures.value) in
+    (c.in_ok-faults.ensures.faults ∙ ap (λ jobs. count_by is_faulty_job (job_list jobs)) c.in_ok-jobs.ensures.value) in
     record {
       written = appended_kept _ _ _ _ (given.whole c.in_ok-finish.ensures.before) c.finish.ensures.keeps;
       tally = tally;

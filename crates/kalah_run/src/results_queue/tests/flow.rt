@@ -16,7 +16,7 @@ use std::thread::Threads;
 use std::{hint, thread};
 
 // Puts the outcome so many times.
-fn put_often<R: Wait>(
+pub(super) fn put_often<R: Wait>(
     rt: &R,
     queue: &ResultsQueue,
     pass: &mut PutPass,
@@ -86,7 +86,7 @@ fn through_threads<R: Threads + Wait + Sync>(
 }
 
 /// A queue of so many places, and how many outcomes each of some workers puts.
-#[derive(Clone, Copy, Debug)]
+#[derive(Clone, Copy)]
 struct Batch {
     capacity: u32,
     workers: u32,

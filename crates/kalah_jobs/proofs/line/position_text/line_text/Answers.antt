@@ -1,15 +1,8 @@
-use Rattle.std.proofs.Common.{◌≡◌, ◌++◌, ℕ, List, IsAscii, append-nil, ap, subst, sym, string_bytes, ◌∙◌}
+use Rattle.std.proofs.Common.{◌≡◌, ◌++◌, ℕ, List, append-nil, ap, subst, sym, string_bytes, ◌∙◌}
 use Rattle.std.proofs.lemmas.Result.{IfOk-weaker}
 use Rattle.kalah_jobs.specs.Line.Line.{Reads, line_text_of}
-use Rattle.kalah_jobs.proofs.OfWriting.AsciiTexts.{ascii_line}
 use Rattle.kalah_jobs.proofs.OfLine.Texts.{text_is_read_back}
 use Rattle.kalah_jobs.proofs.line.position_text.line_text.Goals as goal
-
-pub as_str-requires : goal.as_str-requires
-as_str-requires c =
-    let text = line_text_of c.args.board.now in
-    let same : c.put_board.new.text ≡ text = c.put_board.ensures.line ∙ ap (λ (t : List ℕ). text ++ t) c.new-text.ensures ∙ append-nil text in
-    subst IsAscii (sym same) (ascii_line c.args.board.now c.put_board.ensures.limits)
 
 pub returns-clause-read_back : goal.returns-clause-read_back
 returns-clause-read_back c =

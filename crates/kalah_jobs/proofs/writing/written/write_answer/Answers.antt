@@ -25,5 +25,5 @@ returns-in_err-write_all-clause-start g c =
 pub returns-clause-start : goal.returns-clause-start
 returns-clause-start g c =
     let line = line_is c.args.name.now c.as_bytes.result.now c.args.taken.now c.as_bytes.ensures.value in
-    start_then _ _ _ _ c.as_bytes.result.now c.bytes.result.now (line ∙ ap (λ l. c.as_bytes.result.now ++ l) (sym (c.bytes.ensures ∙ c.ending_of.ensures)))
+    start_then _ _ _ _ c.as_bytes.result.now c.bytes.result.now (line ∙ ap (λ l. c.as_bytes.result.now ++ l) (sym (c.bytes.ensures.bytes ∙ c.ending_of.ensures)))
     c.in_ok-write_all.ensures.adds c.write_all-2.ensures.start

@@ -3,11 +3,11 @@ use Rattle.kalah_run.specs.DeskStates.{IsPassOf}
 use Rattle.kalah_run.proofs.desk.tests.gather.Given as goal
 
 abbrev pub invariant-loop-answer : goal.invariant-loop-answer
-invariant-loop-answer l = record {
+invariant-loop-answer g l = record {
   answers : All (λ a. IfOk a (λ r. IsPassOf l.desk r.0)) l.answers.items;
   passes : All (IsPassOf l.desk) l.passes.items;
   count : length l.answers.items + length l.passes.items ≡ length l.fn.answers.items;
 }
 
 abbrev pub decreases-loop-answer : goal.decreases-loop-answer
-decreases-loop-answer l = vec_len l.answers
+decreases-loop-answer g l = vec_len l.answers

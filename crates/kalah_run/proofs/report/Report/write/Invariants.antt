@@ -1,14 +1,14 @@
 use Rattle.std.proofs.Common.{◌≡◌, ℕ, ◌-◌, List, length}
 use Rattle.std.specs.Prelude.{Option}
 use Rattle.kalah_jobs.specs.Files.NamedBytes.{NamedBytes}
-use Rattle.kalah_jobs.specs.Collecting.Offer.{Offer}
+use Rattle.kalah_jobs.specs.declared.files.job.Job.{Job}
 use Rattle.kalah_jobs.specs.declared.files.entry.Entry.{Entry}
 use Rattle.kalah_run.specs.Reporting.{IsReporting}
 use Rattle.kalah_run.proofs.report.Report.write.Given as goal
 
 abbrev pub invariant-loop-self : goal.invariant-loop-self
 invariant-loop-self g l = record {
-  way : (files : List NamedBytes) (jobs : List (List Entry)) (past : List Offer) (begun : Option (List ℕ))
+  way : (files : List NamedBytes) (jobs : List (List Entry)) (past : List Job) (begun : Option (List ℕ))
       → IsReporting files jobs past begun (g.W.Sink.written l.fn.out) (g.W.Sink.has_failed l.fn.out) l.fn.self
       → IsReporting files jobs past begun (g.W.Sink.written l.out) (g.W.Sink.has_failed l.out) l.self;
   faults : l.self.faults ≡ l.fn.self.faults;

@@ -1,7 +1,13 @@
-use Rattle.std.proofs.Common.{◌++◌, ◌∙◌, ℕ, List, ap}
-use Rattle.std.proofs.lemmas.List.{take-replicate}
+use Rattle.std.proofs.Common.{drop, arith}
+use Rattle.std.proofs.lemmas.Grind.{common_steps}
+use Rattle.std.specs.Prelude.{replicate}
 use Rattle.kalah_jobs.specs.Line.Line.{space}
+use Rattle.kalah_jobs.proofs.OfWriting.Utf8Texts.{piece_before, blanks_are_text}
 use Rattle.kalah_jobs.proofs.writing.stack_text.StackText.put_blanks.Goals as goal
 
-pub returns-clause-blanks : goal.returns-clause-blanks
-returns-clause-blanks c = c.put.ensures.piece ∙ ap (λ (t : List ℕ). t ++ c.args.self.now) (take-replicate c.args.n 24 space c.requires.few)
+pub invariant_of-self : goal.invariant_of-self
+invariant_of-self c = (
+  grind (arith, common_steps),
+  omega (arith, c.self.invariant.1),
+  piece_before _ (replicate c.args.n space) (drop c.self.inside.start c.self.inside.bytes) (grind (arith, common_steps)) (blanks_are_text c.args.n) c.self.invariant.2,
+)

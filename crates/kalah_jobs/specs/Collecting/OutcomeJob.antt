@@ -3,17 +3,17 @@ use Rattle.std.specs.Prelude.{◌≡◌}
 use Rattle.std.proofs.Common.{ap, sym}
 use Rattle.kalah_jobs.specs.declared.writing.answer.Answer.{Answer}
 use Rattle.kalah_jobs.specs.Writing.Answer.{answer_of}
-use Rattle.kalah_jobs.specs.Collecting.Offer.{Offer}
+use Rattle.kalah_jobs.specs.declared.files.job.Job.{Job}
 use Rattle.kalah_jobs.specs.declared.collecting.outcome.Outcome.TheInside.{Inside}
 
 -- what stands in an outcome, seen from outside
-abbrev pub offer_of : Inside → Offer
-offer_of o = record { file = o.file; line = o.line; entry = o.entry }
+abbrev pub job_of : Inside → Job
+job_of o = record { file = o.file; line = o.line; entry = o.entry }
 
 -- the one outcome that is seen as this offer
-abbrev pub outcome_of : Offer → Inside
+abbrev pub outcome_of : Job → Inside
 outcome_of o = record { file = o.file; line = o.line; entry = o.entry; answer = answer_of o.entry }
 
 -- the answer of an outcome is determined by its entry, so its offer gives it back
-pub outcome_again : (o : Inside) → o.answer ≡ answer_of o.entry → outcome_of (offer_of o) ≡ o
+pub outcome_again : (o : Inside) → o.answer ≡ answer_of o.entry → outcome_of (job_of o) ≡ o
 outcome_again o h = sym (ap (λ (a : Answer). let same : Inside = record { file = o.file; line = o.line; entry = o.entry; answer = a } in same) h)

@@ -3,10 +3,10 @@ use Rattle.std.proofs.Common.{◌≡◌, Bool, true, false, ◌&&◌, ◌==◌, 
 use Rattle.std.proofs.lemmas.Bool.{and_parts, and_from, eqb-true, false≢true}
 use Rattle.std.specs.Coded.{Coded, codes}
 use base.Stored.{Gv, gnil, gnum, gcons}
-use Rattle.kalah_jobs.specs.Collecting.Offer.{Offer}
+use Rattle.kalah_jobs.specs.declared.files.job.Job.{Job}
 
 -- offers told apart by a code
-coded_offer : Coded Offer
+coded_offer : Coded Job
 coded_offer = hlevel codes
 
 -- the same code
@@ -44,15 +44,15 @@ same_code_itself (gnum n) = eq-eqb n n refl
 same_code_itself (gcons a b) = and_from (same_code a a) (same_code b b) (same_code_itself a) (same_code_itself b)
 
 -- the test
-pub same_offer : Offer → Offer → Bool
-same_offer a b = same_code (coded_offer.code b) (coded_offer.code a)
+pub same_job : Job → Job → Bool
+same_job a b = same_code (coded_offer.code b) (coded_offer.code a)
 
 -- an offer passes its own test
-pub same_itself : (o : Offer) → same_offer o o ≡ true
-unfolding same_offer
+pub same_itself : (o : Job) → same_job o o ≡ true
+unfolding same_job
 same_itself o = same_code_itself (coded_offer.code o)
 
 -- and no other does
-pub same_means : (a b : Offer) → same_offer a b ≡ true → b ≡ a
-unfolding same_offer
+pub same_means : (a b : Job) → same_job a b ≡ true → b ≡ a
+unfolding same_job
 same_means a b h = coded_offer.inj b a (same_code_means (coded_offer.code b) (coded_offer.code a) h)
