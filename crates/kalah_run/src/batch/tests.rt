@@ -12,6 +12,7 @@ use kalah_jobs::{FileText, Question, Sink, Stream};
 use std::alloc::{AllocError, Global};
 use std::process::Abort;
 use std::sync::Wait;
+use std::thread;
 use std::thread::Threads;
 
 const ONE_AND_TWO: &str = "1/0 1/0\n2/0 2/0";
@@ -117,21 +118,33 @@ fn batch_of<R: Threads + Wait + Sync, G: Gate, W: Sink>(
 // Entries of a table, from one to the most there may be.
 const TABLES: [u32; 8] = [1, 2, 255, 4096, 65_535, 65_536, 65_537, 1_048_576];
 
+// The four files are answered by each number of workers, each with such a table.
+fn answered_by_any_number<R: Abort + Threads + Wait + Sync>(
+    rt: &R,
+    alloc: Global,
+    files: &[FileText],
+    table: u32,
+)
+    requires { (0 < table) × (table ≤ 1048576) }
+{
+    for workers in 1..65u32 {
+        assert!(rt;
+            answers(rt, alloc, files, workers, table, &OpenGate, ANSWERS, 2),
+            "{workers}"
+        );
+    }
+}
+
 #[test]
 fn lines_are_answered_in_order_by_any_number_of_workers(rt: HostRuntime) {
     let alloc = rt.alloc();
     let files = four_files(alloc).expect(&rt, "no memory");
     let files = files.as_slice();
-    for workers in 1..65u32 {
-        assert!(rt;
-            answers(&rt, alloc, files, workers, 1, &OpenGate, ANSWERS, 2),
-            "{workers}"
-        );
-        assert!(rt;
-            answers(&rt, alloc, files, workers, 65_536, &OpenGate, ANSWERS, 2),
-            "{workers}"
-        );
-    }
+    thread::join(
+        &rt,
+        || answered_by_any_number(&rt, alloc, files, 1),
+        || answered_by_any_number(&rt, alloc, files, 65_536),
+    );
     for table in TABLES {
         assert!(rt;
             answers(&rt, alloc, files, 2, table, &OpenGate, ANSWERS, 2),

@@ -1,11 +1,12 @@
 //! Places that many threads wait for, and one gives: a wake-up that is lost leaves a thread asleep, and the test has no end.
 use super::{Waiters, Waiting};
 use crate::drawn::Drawn;
+use std::alloc::{AllocError, Global};
 use std::sync::Wait;
 use std::sync::atomic::AtomicU32;
 use std::sync::atomic::Ordering::SeqCst;
-use std::thread;
 use std::thread::Threads;
+use std::{hint, thread};
 
 /// Free places, and how many were taken so far.
 #[derive(Drop)]
@@ -67,8 +68,8 @@ fn give_in_bursts<R: Wait>(rt: &R, places: &Places, takers: u32, drawn: &mut Dra
         if left == 0 {
             return;
         }
-        for _ in 0..drawn.below(300) {
-            thread::yield_now();
+        for _ in 0..drawn.below(3000) {
+            hint::spin_loop();
         }
         let count = 1 + drawn.below(left);
         places.give(rt, count);
@@ -76,18 +77,38 @@ fn give_in_bursts<R: Wait>(rt: &R, places: &Places, takers: u32, drawn: &mut Dra
     }
 }
 
-#[test]
-fn each_place_that_is_given_is_taken(rt: HostRuntime) {
-    let mut drawn = Drawn::new(20);
-    for _ in 0..200 {
+// Whether each place is taken, again and again: each time by other threads.
+fn all_are_taken<R: Threads + Wait + Sync>(
+    rt: &R,
+    alloc: Global,
+    stream: u64,
+) -> Result<bool, AllocError> {
+    let mut drawn = Drawn::new(stream);
+    for _ in 0..25 {
         let places = Places::none();
         let takers = 1 + drawn.below(24);
-        let mut seats = vec![in rt.alloc(); 0u8; takers as usize].expect(&rt, "no memory");
+        let mut seats = vec![in alloc; 0u8; takers as usize]?;
         thread::join(
-            &rt,
-            || thread::for_each_mut(&rt, seats.as_mut_slice(), 64, &|_, _| places.take(&rt)),
-            || give_in_bursts(&rt, &places, takers, &mut drawn),
+            rt,
+            || thread::for_each_mut(rt, seats.as_mut_slice(), 64, &|_, _| places.take(rt)),
+            || give_in_bursts(rt, &places, takers, &mut drawn),
         );
-        assert!(rt; places.free.load(SeqCst) == 0);
+        if places.free.load(SeqCst) > 0 {
+            return Ok(false);
+        }
     }
+    Ok(true)
+}
+
+// Eight streams beside one another, with more threads than processors.
+#[test]
+fn each_place_that_is_given_is_taken(rt: HostRuntime) {
+    let streams = thread::map_indices(
+        &rt,
+        rt.alloc(),
+        8,
+        &|stream: usize| { all_are_taken(&rt, rt.alloc(), stream as u64) },
+    );
+    let streams = streams.expect(&rt, "no memory for the streams");
+    assert!(rt; streams.iter().all(|taken| *taken == Ok(true)));
 }

@@ -7,7 +7,7 @@ use std::alloc::Global;
 use std::io::Write;
 use std::process::Abort;
 use std::sync::atomic::{AtomicBool, AtomicU32, Ordering};
-use std::{io, thread};
+use std::{hint, io, thread};
 
 // How often the writer looks for what it waits for.
 const TURNS: u32 = 10_000_000;
@@ -92,7 +92,7 @@ fn the_gate_is_told_of_each_job_once(rt: HostRuntime) {
 const ROOM: u32 = QUEUE_CAPACITY + 1;
 
 // How many turns a job is given to be handed on though there is no room.
-const A_WHILE: u32 = 100_000;
+const A_WHILE: u32 = 1_000_000;
 
 /// How many jobs have begun, and how many are handed on.
 #[derive(Drop)]
@@ -136,7 +136,7 @@ impl Slow<'_> {
             thread::yield_now();
         }
         for _ in 0..A_WHILE {
-            thread::yield_now();
+            hint::spin_loop();
         }
         self.handed_on = Some(self.counts.handed_on.load(Ordering::SeqCst));
     }

@@ -1,5 +1,5 @@
-//! Many small batches through queues of every capacity, which run full and empty beside a thread that takes processor time: a
-//! wake-up that is lost leaves a thread asleep, and the test has no end.
+//! Many small batches through queues of every capacity, which run full and empty beside one another, with more threads than
+//! processors: a wake-up that is lost leaves a thread asleep, and the test has no end.
 ghost use Rattle.std.specs.Prelude.{◌≡◌, ◌<◌, ◌≤◌, ◌*◌, All};
 ghost use Rattle.std.specs.Thread.{IsSync};
 
@@ -9,11 +9,8 @@ use crate::{GetPass, PutPass, ResultsQueue};
 use kalah_jobs::Outcome;
 use std::alloc::{AllocError, Global};
 use std::sync::Wait;
-use std::sync::atomic::AtomicBool;
-use std::sync::atomic::Ordering::SeqCst;
-use std::test::Fail;
+use std::thread;
 use std::thread::Threads;
-use std::{hint, thread};
 
 // Puts the outcome so many times.
 pub(super) fn put_often<R: Wait>(
@@ -126,37 +123,47 @@ impl Batch {
     }
 }
 
-// Takes processor time until the flag is set.
-fn spin_until(flag: &AtomicBool) {
-    for _ in 0..u64::MAX {
-        if flag.load(SeqCst) {
-            return;
-        }
-        thread::yield_now();
-    }
-}
+/// How many streams of batches run beside one another in a test.
+const STREAMS: usize = 8;
 
-// A thousand batches, one after another.
-fn run_batches<R: Threads + Wait + Sync>(rt: &R, alloc: Global) -> Result<(), AllocError> {
+/// How many batches each stream has: those of both tests have a thousand together.
+const BATCHES: u32 = 63;
+
+// The batches of a stream, one after another.
+fn run_stream<R: Threads + Wait + Sync>(
+    rt: &R,
+    alloc: Global,
+    stream: u64,
+) -> Result<(), AllocError> {
     let (outcome, _) = two_outcomes(alloc)?;
-    let mut drawn = Drawn::new(21);
-    for _ in 0..1000 {
+    let mut drawn = Drawn::new(stream);
+    for _ in 0..BATCHES {
         Batch::drawn(&mut drawn).run(rt, alloc, outcome)?;
     }
     Ok(())
 }
 
+// Whether all batches of the streams from `first` on come through.
+fn come_through<R: Threads + Wait + Sync>(
+    rt: &R,
+    alloc: Global,
+    first: u64,
+) -> Result<bool, AllocError> {
+    let streams = thread::map_indices(
+        rt,
+        alloc,
+        STREAMS,
+        &|stream: usize| { run_stream(rt, alloc, first.wrapping_add(stream as u64)) },
+    )?;
+    Ok(streams.iter().all(|came_through| came_through.is_ok()))
+}
+
 #[test]
-fn a_thousand_small_batches_come_through(rt: HostRuntime) -> Result<(), Fail> {
-    let done = AtomicBool::new(false);
-    let (_, came_through) = thread::join(
-        &rt,
-        || spin_until(&done),
-        || {
-            let came_through = run_batches(&rt, rt.alloc());
-            done.store(true, SeqCst);
-            came_through
-        },
-    );
-    Ok(came_through?)
+fn five_hundred_small_batches_come_through(rt: HostRuntime) {
+    assert!(rt; come_through(&rt, rt.alloc(), 0) == Ok(true));
+}
+
+#[test]
+fn five_hundred_more_come_through(rt: HostRuntime) {
+    assert!(rt; come_through(&rt, rt.alloc(), 8) == Ok(true));
 }
