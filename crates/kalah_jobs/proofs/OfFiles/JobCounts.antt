@@ -180,26 +180,26 @@ job_count-jobs_to question (file ∷ files) =
     )
 
 -- the lines of one file more are no more than those of all files
-pub counted_low : (question : Question) (files : List NamedBytes) (jobs : List (List Entry)) (starts : List ℕ) (total i : ℕ) (file : NamedBytes)
-    → AreCountedUpto question (take i files) jobs starts total → i < length files → file ≡ get_or files i file
-    → total + length (entries_to question file.bytes) ≤ line_count files
-counted_low question files jobs starts total i file counted low is =
+pub counted_low : (question : Question) (files : List NamedBytes) (jobs : List (List Entry)) (starts : List ℕ) (total i : ℕ) (file : NamedBytes) (row : List Entry)
+    → AreCountedUpto question (take i files) jobs starts total → i < length files → file ≡ get_or files i file → row ≡ entries_to question file.bytes
+    → total + length row ≤ line_count files
+counted_low question files jobs starts total i file row counted low is read =
     let all : line_count (take i files) + lines_in (get_or files i file) ≤ line_count files = sum_by_more_le lines_in files i file low in
     let here : lines_in file ≡ lines_in (get_or files i file) = ap lines_in is in
     let so_far : job_count jobs ≡ line_count (take i files) = ap job_count counted.are ∙ job_count-jobs_to question (take i files) in
-    omega (arith, counted.all, length-entries_to question file.bytes, all, here, so_far)
+    omega (arith, counted.all, ap length read, length-entries_to question file.bytes, all, here, so_far)
 
 -- one file more is read
-pub counted_more : (question : Question) (files : List NamedBytes) (jobs : List (List Entry)) (starts : List ℕ) (total i lines : ℕ) (file : NamedBytes)
-    → AreCountedUpto question (take i files) jobs starts total → i < length files → file ≡ get_or files i file → lines ≡ length (entries_to question file.bytes)
-    → AreCountedUpto question (take (i + 1) files) (jobs ++ entries_to question file.bytes ∷ []) (starts ++ total ∷ []) (total + lines)
-counted_more question files jobs starts total i lines file counted low is many =
-    let row : List Entry = entries_to question file.bytes in
+pub counted_more : (question : Question) (files : List NamedBytes) (jobs : List (List Entry)) (starts : List ℕ) (total i lines : ℕ) (file : NamedBytes) (row : List Entry)
+    → AreCountedUpto question (take i files) jobs starts total → i < length files → file ≡ get_or files i file → row ≡ entries_to question file.bytes
+    → lines ≡ length row → AreCountedUpto question (take (i + 1) files) (jobs ++ row ∷ []) (starts ++ total ∷ []) (total + lines)
+counted_more question files jobs starts total i lines file row counted low is read many =
     let more : take (i + 1) files ≡ take i files ++ file ∷ [] = take_more files i file low ∙ ap (λ x. take i files ++ x ∷ []) (sym is) in
     let as_many : length starts ≡ length jobs = counted.as_many in
     record {
       are =
           ap (λ js. js ++ row ∷ []) counted.are
+          ∙ ap (λ r. jobs_to question (take i files) ++ r ∷ []) read
           ∙ sym (map-append (λ (f : NamedBytes). entries_to question f.bytes) (take i files) (file ∷ []))
           ∙ ap (jobs_to question) (sym more);
       all = let pushed : job_count (jobs ++ row ∷ []) ≡ job_count jobs + length row = sum_by_push length jobs row in omega (arith, counted.all, pushed, many);

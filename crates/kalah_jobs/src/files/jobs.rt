@@ -34,6 +34,16 @@ pub enum JobsFault {
     OutOfMemory,
 }
 
+impl From<AllocError> for JobsFault {
+    ghost use Rattle.kalah_jobs.specs.declared.files.jobs.JobsFault.TheVariants.{OutOfMemory};
+
+    ghost from_gives = { λ _ fault. fault ≡ OutOfMemory };
+
+    fn from(_: AllocError) -> JobsFault {
+        JobsFault::OutOfMemory
+    }
+}
+
 /// The jobs of a batch: for each file, in order, what its lines say, in order. Files, lines and jobs count from 0, and jobs
 /// run over the files in order and over the lines of each in order. There are at most 256 files and 1,000,000 lines.
 #[derive(Drop)]
@@ -82,27 +92,14 @@ impl Jobs {
         if !has_few_lines(files) {
             return Err(JobsFault::TooManyLines);
         }
-        Jobs::of_few_lines(alloc, question, files).map_err(|_| JobsFault::OutOfMemory)
-    }
-
-    // The jobs of files that are within the limits.
-    fn of_few_lines(
-        alloc: Global,
-        question: Question,
-        files: &[FileText],
-    ) -> Result<Jobs, AllocError>
-        requires few_files { length files.now ≤ most_files }
-        requires few_lines { line_count files.now ≤ most_lines }
-        ensures { IfOk result (λ jobs. jobs ≡ jobs_to question files.now) }
-    {
         let mut rows = Vec::with_capacity(alloc, files.len())?;
         let mut starts = Vec::with_capacity(alloc, files.len())?;
         let mut total = 0;
         for file in files {
             let row = FileJobs::of_bytes(alloc, question, &file.bytes)?;
-            starts.push(total)?;
+            starts.push_reserved(total);
             total += row.lines();
-            rows.push(row)?;
+            rows.push_reserved(row);
         }
         Ok(Jobs {
             files: rows,
