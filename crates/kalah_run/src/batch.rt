@@ -14,6 +14,7 @@ mod tests;
 
 use crate::gate::Gate;
 use crate::report::Report;
+use crate::resources::Resources;
 use crate::run_fault::RunFault;
 use crate::shift::Shop;
 use crate::staff::Staff;
@@ -48,13 +49,10 @@ fn answer_jobs<R: Threads + Wait + Sync, G: Gate, W: Sink>(
     alloc: Global,
     files: &[FileText],
     jobs: &Jobs,
-    workers: u32,
-    table: u32,
+    resources: Resources,
     gate: &G,
     out: &mut W,
 ) -> Result<u32, RunFault>
-    requires workers { AreWorkers workers }
-    requires table { IsTableSize table }
     requires jobs { length jobs.now ≡ length files.now }
     requires fresh { W.has_failed out.old ≡ false }
     ensures given { OnOk result (WasGiven (W.written out.old) (W.written out.new) (W.has_failed out.new)
@@ -76,7 +74,7 @@ fn answer_jobs<R: Threads + Wait + Sync, G: Gate, W: Sink>(
         pass,
         passes,
         puts,
-    } = Staff::open(alloc, jobs, workers, table)?;
+    } = Staff::open(alloc, jobs, resources)?;
     let shop = Shop {
         desk: &desk,
         queue: &queue,
@@ -102,18 +100,15 @@ fn answer_batch<R: Threads + Wait + Sync, G: Gate, W: Sink>(
     alloc: Global,
     question: Question,
     files: &[FileText],
-    workers: u32,
-    table: u32,
+    resources: Resources,
     gate: &G,
     out: &mut W,
 ) -> Result<Tally, RunFault>
-    requires workers { AreWorkers workers }
-    requires table { IsTableSize table }
     requires fresh { W.has_failed out.old ≡ false }
     ensures { AnswersBatch W.written W.has_failed W.is_handed_on (output_to question files.now) files.now out.old out.new result }
 {
     let jobs = Jobs::asking(alloc, question, files)?;
-    let faults = answer_jobs(rt, alloc, files, &jobs, workers, table, gate, out)?;
+    let faults = answer_jobs(rt, alloc, files, &jobs, resources, gate, out)?;
     finish(out)?;
     Ok(Tally {
         lines: jobs.total(),
@@ -150,8 +145,7 @@ pub fn solve_batch<R: Threads + Wait + Sync, G: Gate, W: Sink>(
         alloc,
         Question::BestMove,
         files,
-        workers,
-        table,
+        Resources { workers, table },
         gate,
         out,
     )
@@ -182,8 +176,7 @@ pub fn values_batch<R: Threads + Wait + Sync, G: Gate, W: Sink>(
         alloc,
         Question::Values,
         files,
-        workers,
-        table,
+        Resources { workers, table },
         gate,
         out,
     )

@@ -11,6 +11,7 @@ mod pass;
 mod queue_passes;
 mod queue_rule;
 mod report;
+mod resources;
 mod results_queue;
 mod rule_laws;
 mod run_fault;

@@ -4,7 +4,6 @@ ghost use Rattle.std.specs.List.{All};
 ghost use Rattle.kalah_jobs.specs.Collecting.Batch.{AreJobsInSomeOrder};
 ghost use Rattle.kalah_jobs.specs.Files.JobList.{job_list};
 ghost use Rattle.kalah_jobs.specs.declared.files.entry.Entry.{Entry};
-ghost use Rattle.kalah_run.specs.Limits.{AreWorkers, IsTableSize};
 ghost use Rattle.kalah_run.specs.Reporting.{outcomes_in};
 ghost use Rattle.kalah_run.specs.Shifts.{passes_of, puts_of, HaveJobs};
 ghost use Rattle.kalah_run.specs.Staffs.{IsReady, HasWorked};
@@ -12,6 +11,7 @@ ghost use Rattle.kalah_run.specs.Staffs.{IsReady, HasWorked};
 use crate::desk::Desk;
 use crate::pass::Pass;
 use crate::queue_passes::{GetPass, PutPass, ResultsQueue};
+use crate::resources::Resources;
 use crate::shift::Shift;
 use crossbeam_utils::CachePadded;
 use kalah_jobs::Jobs;
@@ -28,12 +28,11 @@ fn put_together<'a>(
     jobs: &'a Jobs,
     passes: Vec<Pass>,
     puts: Vec<PutPass>,
-    table: u32,
+    resources: Resources,
 ) -> Result<Vec<Shift<'a>>, AllocError>
     requires as_many { length passes.items ≡ length puts.items }
     requires drawn { All (λ p. p.row.numbers ≡ []) passes.items }
     requires sent { All (λ p. p.sent ≡ []) puts.items }
-    requires table { IsTableSize table }
     ensures passes { IfOk result (λ shifts. passes_of shifts.items ≡ passes.items) }
     ensures puts { IfOk result (λ shifts. puts_of shifts.items ≡ puts.items) }
     ensures jobs { IfOk result (λ shifts. HaveJobs jobs.now shifts.items) }
@@ -44,7 +43,7 @@ fn put_together<'a>(
         let Some(put) = puts.next() else {
             unreachable!()
         };
-        let solver = Solver::new(Table::new(alloc, table)?);
+        let solver = Solver::new(Table::new(alloc, resources.table)?);
         shifts.push(Shift {
             jobs,
             pass,
@@ -93,22 +92,19 @@ pub(crate) struct Staff<'a> {
 }
 
 impl<'a> Staff<'a> {
-    /// So many workers for these jobs, each with a table of so many entries. It takes all its memory here.
+    /// As many workers for these jobs, with such tables, as the resources say. It takes all its memory here.
     pub(crate) fn open(
         alloc: Global,
         jobs: &'a Jobs,
-        workers: u32,
-        table: u32,
+        resources: Resources,
     ) -> Result<Staff<'a>, AllocError>
-        requires workers { AreWorkers workers }
-        requires table { IsTableSize table }
         ensures { IfOk result (IsReady jobs.now) }
     {
-        let (desk, passes) = Desk::open(alloc, jobs.total(), workers)?;
-        let (queue, puts, pass) = ResultsQueue::open(alloc, QUEUE_CAPACITY, workers)?;
-        let shifts = put_together(alloc, jobs, passes, puts, table)?;
-        let passes = Vec::with_capacity(alloc, workers as usize)?;
-        let puts = Vec::with_capacity(alloc, workers as usize)?;
+        let (desk, passes) = Desk::open(alloc, jobs.total(), resources.workers)?;
+        let (queue, puts, pass) = ResultsQueue::open(alloc, QUEUE_CAPACITY, resources.workers)?;
+        let shifts = put_together(alloc, jobs, passes, puts, resources)?;
+        let passes = Vec::with_capacity(alloc, resources.workers as usize)?;
+        let puts = Vec::with_capacity(alloc, resources.workers as usize)?;
         Ok(Staff {
             desk,
             queue,

@@ -14,14 +14,14 @@ returns c =
     let desk = c.in_ok-desk.ensures in
     let queue = c.in_ok-queue.queue.id in
     let puts = c.in_ok-queue.ensures.puts.1 in
-    let count : length shifts ≡ c.args.workers =
+    let count : length shifts ≡ c.args.resources.workers =
     sym (length-map shifts (λ (s : Shift). s.pass)) ∙ ap (λ (l : List PassState). length l) are.passes ∙ desk.passes.0 in
     record {
       total = desk.desk.0 ∙ c.total.ensures.lines;
-      some = omega (arith, count, c.requires.workers.0);
+      some = omega (arith, count, c.args.resources.few_workers.0);
       passes = count ∙ sym desk.desk.1;
       at_work = new_at_work c.in_ok-desk.desk queue c.args.jobs.now shifts c.in_ok-desk.passes.items c.in_ok-queue.puts.items
-          c.args.workers desk.passes puts are.passes are.puts are.jobs;
+          c.args.resources.workers desk.passes puts are.passes are.puts are.jobs;
       puts = subst (λ (l : List PutState). ArePassesFrom queue 0 l) (sym are.puts) puts;
       pass = c.in_ok-queue.ensures.get
           ∙ ap (λ n. let p : GetState = record { queue = queue; workers = n; got = [] } in p) (sym count);

@@ -1,0 +1,11 @@
+//! What a batch is answered with.
+ghost use Rattle.kalah_run.specs.Limits.{AreWorkers, IsTableSize};
+
+/// How many workers answer a batch, 1 to 64, and how many entries each one's table has, 1 to 1,048,576.
+#[derive(Clone, Copy)]
+pub(crate) struct Resources {
+    pub(crate) workers: u32,
+    pub(crate) table: u32,
+    ghost few_workers: { AreWorkers workers },
+    ghost table_size: { IsTableSize table },
+}
