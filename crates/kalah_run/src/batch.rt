@@ -44,13 +44,13 @@ fn finish<W: Sink>(out: &mut W) -> Result<(), RunFault>
 
 // Answers the jobs of the files, and writes each answer line as soon as it is ready and all before it are written. Says how
 // many lines were answered by a fault. Where there is no job, no worker is started and nothing fails.
-fn answer_jobs<R: Threads + Wait + Sync, G: Gate, W: Sink>(
+fn answer_jobs<'a, R: Threads + Wait + Sync, G: Gate, W: Sink>(
     rt: &R,
     alloc: Global,
-    files: &[FileText],
-    jobs: &Jobs,
+    files: &'a [FileText],
+    jobs: &'a Jobs,
     resources: Resources,
-    gate: &G,
+    gate: &'a G,
     out: &mut W,
 ) -> Result<u32, RunFault>
     requires jobs { length jobs.now ≡ length files.now }
@@ -67,29 +67,17 @@ fn answer_jobs<R: Threads + Wait + Sync, G: Gate, W: Sink>(
         return Ok(0);
     }
     let report = Report::new(alloc, files, jobs)?;
-    let Staff {
-        desk,
-        queue,
-        shifts,
-        pass,
-        passes,
-        puts,
-    } = Staff::open(alloc, jobs, resources)?;
+    let mut staff = Staff::open(alloc, jobs, resources)?;
+    let (shifts, pass) = (staff.shifts, staff.pass);
     let shop = Shop {
-        desk: &desk,
-        queue: &queue,
+        desk: &staff.desk,
+        queue: &staff.queue,
         jobs,
         gate,
     };
     let (shifts, pass, report) = run_and_report(rt, &shop, shifts, pass, report, total, out)?;
-    let staff = Staff {
-        desk,
-        queue,
-        shifts,
-        pass,
-        passes,
-        puts,
-    };
+    staff.shifts = shifts;
+    staff.pass = pass;
     staff.close(rt);
     Ok(report.faults)
 }

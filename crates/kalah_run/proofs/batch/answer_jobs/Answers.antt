@@ -13,15 +13,15 @@ run_and_report-requires-clause-counts g c = λ _ _. (c.total-total.ensures.low, 
 pub close-requires : goal.close-requires
 close-requires g c =
     let got = c.in_ok-shifts.ensures.pass in
-    has_worked c.args.jobs.now c.in_ok-desk.field-0 _ c.in_ok-desk.ensures c.in_ok-shifts.ensures.shifts (got.0, got.1)
+    has_worked c.args.jobs.now c.in_ok-staff.staff _ c.in_ok-staff.ensures c.in_ok-shifts.ensures.shifts (got.0, got.1)
 
 -- each job's outcome was got once
 each_got : (g : Over) (c : goal.After-drop-report-2 g) → AreJobsInSomeOrder c.args.jobs.now (outcomes_in c.in_ok-shifts.pass.got)
 each_got g c =
-    let staff = c.in_ok-desk.field-0 in
+    let staff = c.in_ok-staff.staff in
     let run = c.in_ok-shifts in
     let total = c.total-total.ensures in
-    let many = c.in_ok-desk.ensures.total in
+    let many = c.in_ok-staff.ensures.total in
     c.close.ensures c.args.jobs.now
     (run_jobs staff.desk staff.queue.id c.args.jobs.now staff.shifts.items run.shifts.items run.ensures.shifts)
     (many ∙ sym total.lines ∙ total.jobs) (run.ensures.pass.2 ∙ total.lines ∙ sym many)
