@@ -1,5 +1,5 @@
 -- The first house that attains the margin of best play, and the margin with the stores.
-use Rattle.std.proofs.Common.{zero, suc, inl, inr, List, [], ◌∷◌, refl, ◌≡◌, ℕ, ◌+◌, ◌<◌, ◌≤◌, length, get_or, arith, ap, sym, ◌∙◌, w32, to_z, of_z}
+use Rattle.std.proofs.Common.{zero, suc, inl, inr, List, [], ◌∷◌, refl, ◌≡◌, ℕ, ◌+◌, ◌<◌, ◌≤◌, length, get_or, arith, ap, sym, ◌∙◌, w32, to_z, of_z, FitsSigned}
 use Rattle.std.specs.Prelude.{Bool, true, false, Contains, unwrap_or, find, Some, ℤ, pos, negsuc, ◌+ℤ◌, ◌-ℤ◌, ◌≤ℤ◌, ◌<ℤ◌}
 use Rattle.std.proofs.lemmas.Int.{ints, clamps}
 use Rattle.std.specs.Ordering.{int_eq}
@@ -26,12 +26,24 @@ find_at p (x ∷ xs) (suc i) within fails here =
     let first : p x ≡ false = fails 0 (omega arith) in
     rw first (find_at p xs i (omega arith) (λ k low. fails (suc k) (omega arith)) here)
 
+-- the houses of a board are within the limits
+pub rows_within : (p : Position) → IsWithinLimits p → IsWithinHouses (rows_of p)
+rows_within p limits = record {
+  some_house = limits.some_house;
+  at_most_six = limits.at_most_six;
+  same_side = limits.same_side;
+  few_seeds = limits.few_seeds;
+}
+
 -- the whole window tells the worth
 whole_window : (found z : ℤ) → found ≡ within (negsuc 30) (pos 31) z → negsuc 30 ≤ℤ z → z ≤ℤ pos 31 → found ≡ z
 whole_window found z e low high = omega (arith, ints, clamps, e, low, high)
 
-pub root_worth : (a : Rows) (found : ℤ) → IsWithinHouses a → found ≡ within (negsuc 30) (pos 31) (houses_worth a) → found ≡ houses_worth a
-root_worth a found w e = whole_window found _ e (worth_low a w) (worth_high a w)
+-- of the houses of a board, too
+pub root_worth : (p : Position) (a : Rows) (found : ℤ) → IsWithinLimits p → a ≡ rows_of p → found ≡ within (negsuc 30) (pos 31) (houses_worth a) → found ≡ houses_worth (rows_of p)
+root_worth p a found limits is e =
+    let rows = rows_within p limits in
+    whole_window found _ (e ∙ ap (λ b. within (negsuc 30) (pos 31) (houses_worth b)) is) (worth_low (rows_of p) rows) (worth_high (rows_of p) rows)
 
 -- the first i houses are worth less than the margin of best play
 abbrev pub FallShort : Rows → ℕ → Type 0
@@ -84,15 +96,6 @@ module _ (a : Rows) (w : IsWithinHouses a) where
 margin_is : (p : Position) (best margin : ℤ) → best ≡ houses_worth (rows_of p) → margin ≡ best +ℤ (pos p.own_store -ℤ pos p.other_store) → margin ≡ worth p
 margin_is p best margin best_is e = e ∙ ap (λ z. z +ℤ (pos p.own_store -ℤ pos p.other_store)) best_is ∙ sym (worth_of_rows p)
 
--- the houses of a board are within the limits
-pub rows_within : (p : Position) → IsWithinLimits p → IsWithinHouses (rows_of p)
-rows_within p limits = record {
-  some_house = limits.some_house;
-  at_most_six = limits.at_most_six;
-  same_side = limits.same_side;
-  few_seeds = limits.few_seeds;
-}
-
 -- the margin is one that a player can have
 pub margin_small : (p : Position) (best margin : ℤ) → IsWithinLimits p → best ≡ houses_worth (rows_of p) → margin ≡ best +ℤ (pos p.own_store -ℤ pos p.other_store)
     → IsSmallMargin margin
@@ -110,6 +113,11 @@ told best own other = to_z w32 (of_z w32 (to_z w32 (of_z w32 best) +ℤ to_z w32
 module _ (p : Position) (best : ℤ) (own other : ℕ) (limits : IsWithinLimits p)
     (best_is : best ≡ houses_worth (rows_of p)) (own_is : own ≡ p.own_store) (other_is : other ≡ p.other_store) where
   -- no sum is too large
+  pub told_fits : FitsSigned w32 (to_z w32 (of_z w32 best) +ℤ to_z w32 (of_z w32 (to_z w32 own -ℤ to_z w32 other)))
+  told_fits =
+      let rows = rows_within p limits in
+      omega (arith, ints, best_is, worth_low (rows_of p) rows, worth_high (rows_of p) rows, own_is, other_is, limits.own_store_low, limits.other_store_low)
+
   told_is : told best own other ≡ best +ℤ (pos p.own_store -ℤ pos p.other_store)
   told_is =
       let rows = rows_within p limits in

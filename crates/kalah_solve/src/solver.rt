@@ -1,8 +1,8 @@
 //! The solver.
-ghost use Rattle.std.specs.Prelude.{◌≡◌, false, Contains, pos, negsuc, ◌≤ℤ◌};
+ghost use Rattle.std.specs.Prelude.{◌≡◌, false};
 ghost use Rattle.kalah_rules.specs.Position.{is_over, bare};
 ghost use Rattle.kalah_rules.specs.Play.{legal_houses};
-ghost use Rattle.kalah_solve.specs.Worth.{houses_worth, best_house};
+ghost use Rattle.kalah_solve.specs.Worth.{best_house};
 ghost use Rattle.kalah_solve.specs.Taken.{taken};
 ghost use Rattle.kalah_solve.specs.Verdict.{verdict_of, TellsBestPlay, IsSmallVerdict};
 
@@ -45,25 +45,11 @@ impl<A: Allocator + Clone> Solver<A> {
             };
         }
         let houses = board.houses();
-        let (best, house) = self.best_move(&houses, &board.legal());
+        let best = self.search.search(&houses, -31, 31);
+        let bar = half(best + houses.seeds() as i32);
+        let house = self.first_house(&houses, &board.legal(), bar);
         let margin = best + (board.own_store() as i32 - board.other_store() as i32);
         Verdict::Best { margin, house }
-    }
-
-    // The margin of best play of the houses, and the lowest house that attains it.
-    fn best_move(&mut self, houses: &Houses, moves: &Moves) -> (i32, u8)
-        requires moves { moves.now ≡ legal_houses (bare houses.now) }
-        requires going { is_over (bare houses.now) ≡ false }
-        ensures margin { result.0 ≡ houses_worth houses.now }
-        ensures house { result.1 ≡ best_house (bare houses.now) }
-        ensures legal { Contains (legal_houses (bare houses.now)) result.1 }
-        ensures low { negsuc 30 ≤ℤ result.0 }
-        ensures high { result.0 ≤ℤ pos 31 }
-    {
-        let seeds = houses.seeds();
-        let margin = self.search.search(houses, -31, 31);
-        let bar = half(margin + seeds as i32);
-        (margin, self.first_house(houses, moves, bar))
     }
 
     // The first house that takes as many seeds as best play. Where all but the last fall short, it is the last.
@@ -71,8 +57,7 @@ impl<A: Allocator + Clone> Solver<A> {
         requires moves { moves.now ≡ legal_houses (bare houses.now) }
         requires going { is_over (bare houses.now) ≡ false }
         requires best { bar ≡ taken houses.now }
-        ensures house { result ≡ best_house (bare houses.now) }
-        ensures legal { Contains (legal_houses (bare houses.now)) result }
+        ensures { result ≡ best_house (bare houses.now) }
     {
         let _seeds = houses.seeds();
         let last = moves.len() - 1;

@@ -1,6 +1,4 @@
-use Rattle.std.proofs.Common.{arith, refl, sym, ap, ◌∙◌, ◌≡◌, ◌<◌, ◌-◌, length, get_or, subst}
-use Rattle.std.specs.Prelude.{Contains}
-use Rattle.std.proofs.lemmas.List.Elements.{Contains-get_or}
+use Rattle.std.proofs.Common.{arith, refl, ap, ◌∙◌, ◌≡◌, ◌<◌, ◌-◌, length, get_or}
 use Rattle.kalah_rules.specs.Play.{legal_houses}
 use Rattle.kalah_rules.specs.Position.{bare}
 use Rattle.kalah_solve.proofs.Worths.{legal_some}
@@ -14,8 +12,8 @@ overflow_sub-last g c = omega (arith, c.len-last.ensures, ap length c.requires.m
 pub get-requires : goal.get-requires
 get-requires g c = omega (arith, c.len-last.ensures, ap length c.requires.moves, legal_some (bare c.args.houses.now) c.requires.going)
 
-pub returns-then-move_reaches-clause-house : goal.returns-then-move_reaches-clause-house
-returns-then-move_reaches-clause-house g c =
+pub returns-then-move_reaches : goal.returns-then-move_reaches
+returns-then-move_reaches g c =
     let a = c.args.houses.now in
     let inside : c.loop-i.i < length (legal_houses (bare a)) = omega (arith, c.loop-i-test.true, c.len-last.ensures, ap length c.requires.moves) in
     let place : c.get-h.result ≡ get_or (legal_houses (bare a)) c.loop-i.i 0 = c.get-h.ensures ∙ ap (λ xs. get_or xs c.loop-i.i 0) c.requires.moves in
@@ -30,19 +28,11 @@ loop-i-preserved g c =
     let less = short_of _ c.args.bar _ c.if-move_reaches.ensures refl in
     root_short a c.seeds-seeds.ensures.limits c.loop-i.i inside c.loop-i.invariant (rw (← place, ← c.requires.best) less)
 
-pub returns-clause-house : goal.returns-clause-house
-returns-clause-house g c =
+pub returns : goal.returns
+returns g c =
     let a = c.args.houses.now in
     let many = ap length c.requires.moves in
     let some = legal_some (bare a) c.requires.going in
     let last = c.len-last.result - 1 in
     let place : c.get.result ≡ get_or (legal_houses (bare a)) last 0 = c.get.ensures ∙ ap (λ xs. get_or xs last 0) c.requires.moves in
     place ∙ root_last a c.seeds-seeds.ensures.limits last c.requires.going (omega (arith, c.len-last.ensures, many, some)) (λ k low. c.loop-i.invariant k (omega (arith, low)))
-
-pub returns-clause-legal : goal.returns-clause-legal
-returns-clause-legal g c =
-    let legal = legal_houses (bare c.args.houses.now) in
-    let last = c.len-last.result - 1 in
-    let place : c.get.result ≡ get_or legal last 0 = c.get.ensures ∙ ap (λ xs. get_or xs last 0) c.requires.moves in
-    subst (Contains legal) (sym place)
-    (Contains-get_or legal last 0 (omega (arith, c.len-last.ensures, ap length c.requires.moves, legal_some (bare c.args.houses.now) c.requires.going)))

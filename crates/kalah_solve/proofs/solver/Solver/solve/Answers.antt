@@ -1,15 +1,17 @@
-use Rattle.std.proofs.Common.{rules, sym, ap, ◌∙◌, subst, w32, SFits}
-use Rattle.std.specs.Prelude.{Contains}
-use Rattle.std.proofs.lemmas.Int.{to_z-of_z}
+use Rattle.std.proofs.Common.{arith, rules, refl, sym, ap, ◌∙◌, ◌≡◌, w32, to_z, of_z, SFits, pos, ◌+ℤ◌}
+use Rattle.std.proofs.lemmas.Int.{ints, to_z-of_z}
 use Rattle.kalah_rules.specs.Play.{legal_houses}
-use Rattle.kalah_rules.specs.Position.{Rows, bare}
+use Rattle.kalah_rules.specs.Position.{Rows, rows_of, bare, seeds_in_houses}
 use Rattle.kalah_solve.specs.Worth.{houses_worth, best_house}
 use Rattle.kalah_solve.specs.declared.verdict.Verdict.TheVariants.{Best, Over}
 use Rattle.kalah_solve.proofs.Bests.{verdict_by, verdict_of_over, small_best}
-use Rattle.kalah_solve.proofs.Roots.{told, told_small, told_worth}
+use Rattle.kalah_solve.proofs.Roots.{root_worth, told, told_fits, told_small, told_worth}
 use Rattle.kalah_solve.proofs.Stores.{best_of_rows}
+use Rattle.kalah_solve.proofs.Takings.{worth_low, worth_high, half_is}
+use Rattle.kalah_solve.proofs.Values.{best_found}
 use Rattle.kalah_solve.proofs.Verdicts.{verdict_tells}
 use Rattle.kalah_solve.proofs.Worths.{board_equal_sides}
+use Rattle.kalah_solve.proofs.solver.Solver.solve.Given as given
 use Rattle.kalah_solve.proofs.solver.Solver.solve.Goals as goal
 
 pub returns-then-is_over-clause-best_play : goal.returns-then-is_over-clause-best_play
@@ -18,26 +20,47 @@ returns-then-is_over-clause-best_play g c =
     simp to_z-of_z (verdict_tells c.args.board.now (Over c.returns.result) (board_equal_sides c.args.board.now c.is_over.ensures.limits)
     (verdict_of_over c.args.board.now c.returns.result (sym c.if-is_over.ensures.over) c.returns.ensures.margin))
 
+-- ---- the game goes on
+pub first_house-house-requires-clause-moves : goal.first_house-house-requires-clause-moves
+first_house-house-requires-clause-moves g c = c.legal.ensures ∙ sym (ap (λ (a : Rows). legal_houses (bare a)) c.houses-houses.ensures)
+
+pub first_house-house-requires-clause-best : goal.first_house-house-requires-clause-best
+first_house-house-requires-clause-best g c =
+    let a = c.houses-houses.result in
+    let limits = c.seeds.ensures.limits in
+    let found = root_worth c.args.board.now a c.search-best.result c.is_over.ensures.limits c.houses-houses.ensures c.search-best.ensures in
+    let best : c.search-best.result ≡ houses_worth a = found ∙ sym (ap houses_worth c.houses-houses.ensures) in
+    let sum : to_z w32 (of_z w32 (to_z w32 (of_z w32 c.search-best.result) +ℤ to_z w32 c.seeds.result)) ≡ houses_worth a +ℤ pos (seeds_in_houses (bare a)) =
+    omega (arith, ints, best, c.seeds.ensures.seeds, limits.few_seeds, worth_low a limits, worth_high a limits) in
+    half_is a (houses_worth a) c.half-bar.result limits refl (record { low = rw sum at c.half-bar.ensures.low; high = rw sum at c.half-bar.ensures.high })
+
+-- what the search finds is the worth of the houses
+found : (g : given.Over) (c : goal.After-other_store g) → c.search-best.result ≡ houses_worth (rows_of c.args.board.now)
+found g c = root_worth c.args.board.now c.houses-houses.result c.search-best.result c.is_over.ensures.limits c.houses-houses.ensures c.search-best.ensures
+
+pub overflow_add-margin : goal.overflow_add-margin
+overflow_add-margin g c =
+    told_fits c.args.board.now c.search-best.result c.own_store.result c.other_store.result c.is_over.ensures.limits (found g c) c.own_store.ensures c.other_store.ensures
+
+-- the house that is told
+house_is : (g : given.Over) (c : goal.After-other_store g) → c.first_house-house.result ≡ best_house c.args.board.now
+house_is g c = c.first_house-house.ensures ∙ ap (λ (a : Rows). best_house (bare a)) c.houses-houses.ensures ∙ sym (best_of_rows c.args.board.now)
+
 pub returns-clause-verdict : goal.returns-clause-verdict
 returns-clause-verdict g c =
     let p = c.args.board.now in
-    let rows = c.houses-houses.ensures in
-    let best = c.best_move-best.ensures in
-    verdict_by p (told c.best_move-best.result.0 c.own_store.result c.other_store.result) c.best_move-best.result.1 (sym c.if-is_over.ensures.over)
-    (told_worth p c.best_move-best.result.0 c.own_store.result c.other_store.result c.is_over.ensures.limits (best.margin ∙ ap houses_worth rows) c.own_store.ensures c.other_store.ensures)
-    (best.house ∙ ap (λ (a : Rows). best_house (bare a)) rows ∙ sym (best_of_rows p))
+    verdict_by p (told c.search-best.result c.own_store.result c.other_store.result) c.first_house-house.result (sym c.if-is_over.ensures.over)
+    (told_worth p c.search-best.result c.own_store.result c.other_store.result c.is_over.ensures.limits (found g c) c.own_store.ensures c.other_store.ensures) (house_is g c)
 
 pub returns-clause-best_play : goal.returns-clause-best_play
 returns-clause-best_play g c =
-    verdict_tells c.args.board.now (Best (told c.best_move-best.result.0 c.own_store.result c.other_store.result) c.best_move-best.result.1)
+    verdict_tells c.args.board.now (Best (told c.search-best.result c.own_store.result c.other_store.result) c.first_house-house.result)
     (board_equal_sides c.args.board.now c.is_over.ensures.limits) (returns-clause-verdict g c)
 
 pub returns-clause-small : goal.returns-clause-small
 returns-clause-small g c =
     let p = c.args.board.now in
     let limits = c.is_over.ensures.limits in
-    let rows = c.houses-houses.ensures in
-    let best = c.best_move-best.ensures in
-    small_best p (told c.best_move-best.result.0 c.own_store.result c.other_store.result) c.best_move-best.result.1 limits
-    (subst (λ (a : Rows). Contains (legal_houses (bare a)) c.best_move-best.result.1) rows best.legal)
-    (told_small p c.best_move-best.result.0 c.own_store.result c.other_store.result limits (best.margin ∙ ap houses_worth rows) c.own_store.ensures c.other_store.ensures)
+    small_best p (told c.search-best.result c.own_store.result c.other_store.result) c.first_house-house.result limits
+    (rw (house_is g c) (best_found p (board_equal_sides p limits) (sym c.if-is_over.ensures.over)).0)
+    (told_small p c.search-best.result c.own_store.result c.other_store.result limits (found g c) c.own_store.ensures c.other_store.ensures)
