@@ -1,10 +1,15 @@
 -- Windows, and what an interval that is known makes of them.
-use Rattle.std.proofs.Common.{◌≡◌, arith}
-use Rattle.std.specs.Prelude.{ℤ, ◌≤ℤ◌}
+use Rattle.std.proofs.Common.{◌≡◌, ◌∙◌, ◌≤◌, ◌*◌, ◌*ℤ◌, ℕ, ap, arith, w32, to_z, of_z}
+use Rattle.std.specs.Prelude.{ℤ, ◌≤ℤ◌, ◌-ℤ◌, pos, max, min}
 use Rattle.std.specs.Int.{int_max, int_min}
 use Rattle.std.proofs.lemmas.Int.{ints, clamps}
 use Rattle.kalah_solve.specs.declared.table.Interval.{Interval}
+use Rattle.kalah_rules.specs.Position.{Rows, IsWithinHouses, bare, seeds_in_houses}
+use Rattle.kalah_solve.specs.declared.share.Share.{Share}
 use Rattle.kalah_solve.specs.Table.{Holds, within}
+use Rattle.kalah_solve.specs.Taken.{taken}
+use Rattle.kalah_solve.specs.Worth.{houses_worth}
+use Rattle.kalah_solve.proofs.Takings.{taken_share, worth_of_taken}
 
 -- it answers
 pub known_answers : (lo hi g : ℤ) (k : Interval) → lo ≤ℤ hi → Holds k g → int_min hi k.hi ≤ℤ int_max lo k.lo → within lo hi k.lo ≡ within lo hi g
@@ -13,3 +18,13 @@ known_answers lo hi g k ordered holds none = omega (arith, ints, clamps, ordered
 -- or it makes the window smaller
 pub known_narrows : (lo hi g : ℤ) (k : Interval) → lo ≤ℤ hi → Holds k g → int_max lo k.lo ≤ℤ int_min hi k.hi → within (int_max lo k.lo) (int_min hi k.hi) g ≡ within lo hi g
 known_narrows lo hi g k ordered holds some = omega (arith, ints, clamps, ordered, holds.low, holds.high, some)
+
+-- what the mover takes, raised and lowered to the shares that a window tells apart, makes the worth in the window
+pub told_by_share : (a : Rows) (lo hi : ℤ) (n t : ℕ) (asked : Share) → IsWithinHouses a → n ≡ seeds_in_houses (bare a) → asked.least ≤ asked.most → asked.most ≤ 31 →
+    ((u : ℕ) → u ≤ n → within lo hi (pos (2 * max asked.least (min asked.most u)) -ℤ pos n) ≡ within lo hi (pos (2 * u) -ℤ pos n)) →
+    t ≡ max asked.least (min asked.most (taken a)) → {answer : ℤ} → answer ≡ within lo hi (to_z w32 (of_z w32 (to_z w32 (of_z w32 (pos 2 *ℤ to_z w32 t)) -ℤ to_z w32 n))) →
+    answer ≡ within lo hi (houses_worth a)
+told_by_share a lo hi n t asked w all ordered few apart is e =
+    let margin : to_z w32 (of_z w32 (to_z w32 (of_z w32 (pos 2 *ℤ to_z w32 t)) -ℤ to_z w32 n)) ≡ pos (2 * t) -ℤ pos n = omega (arith, ints, is, ordered, few, all, w.few_seeds) in
+    let worth_is : pos (2 * taken a) -ℤ pos n ≡ houses_worth a = omega (arith, ints, worth_of_taken a w, all) in
+    e ∙ ap (within lo hi) margin ∙ ap (λ s. within lo hi (pos (2 * s) -ℤ pos n)) is ∙ apart (taken a) (omega (arith, (taken_share a w).few, all)) ∙ ap (within lo hi) worth_is

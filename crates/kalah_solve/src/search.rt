@@ -83,7 +83,9 @@ impl<A: Allocator + Clone> Search<A> {
             return (known.lo as i32).clamp(lo, hi);
         }
         let before = self.nodes;
-        let answer = self.close_in(houses, low, high);
+        let seeds = houses.seeds();
+        let taken = self.taken_within(houses, Share::of_window(low, high, seeds));
+        let answer = (2 * taken as i32 - seeds as i32).clamp(low, high);
         let work = self.nodes.wrapping_sub(before);
         self.learn_margins(
             houses,
@@ -104,20 +106,6 @@ impl<A: Allocator + Clone> Search<A> {
             Some(interval) => interval,
             None => Interval::whole(),
         }
-    }
-
-    // The worth of the houses in the window, by the seeds that the mover takes.
-    fn close_in(&mut self, houses: &Houses, lo: i32, hi: i32) -> i32
-        requires going { is_over (bare houses.now) ≡ false }
-        requires low { negsuc 30 ≤ℤ lo }
-        requires ordered { lo ≤ℤ hi }
-        requires high { hi ≤ℤ pos 31 }
-        ensures { result ≡ within lo hi (houses_worth houses.now) }
-    {
-        let seeds = houses.seeds();
-        let asked = Share::of_window(lo, hi, seeds);
-        let taken = self.taken_within(houses, asked);
-        (2 * taken as i32 - seeds as i32).clamp(lo, hi)
     }
 
     // The seeds that the mover takes, raised to the least of the share and lowered to its most: those of an ending are
