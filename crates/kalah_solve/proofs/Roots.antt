@@ -36,14 +36,14 @@ rows_within p limits = record {
 }
 
 -- the whole window tells the worth
-whole_window : (found z : ℤ) → found ≡ within (negsuc 30) (pos 31) z → negsuc 30 ≤ℤ z → z ≤ℤ pos 31 → found ≡ z
-whole_window found z e low high = omega (arith, ints, clamps, e, low, high)
+whole_window : (found lo hi z : ℤ) → lo ≡ negsuc 30 → hi ≡ pos 31 → negsuc 30 ≤ℤ z → z ≤ℤ pos 31 → found ≡ within lo hi z → found ≡ z
+whole_window found lo hi z lo_is hi_is low high e = omega (arith, ints, clamps, e, lo_is, hi_is, low, high)
 
--- of the houses of a board, too
-pub root_worth : (p : Position) (a : Rows) (found : ℤ) → IsWithinLimits p → a ≡ rows_of p → found ≡ within (negsuc 30) (pos 31) (houses_worth a) → found ≡ houses_worth (rows_of p)
-root_worth p a found limits is e =
+pub root_worth : (p : Position) (a : Rows) (found lo hi : ℤ) → IsWithinLimits p → a ≡ rows_of p → lo ≡ negsuc 30 → hi ≡ pos 31 →
+    found ≡ within lo hi (houses_worth a) → found ≡ houses_worth (rows_of p)
+root_worth p a found lo hi limits is lo_is hi_is e =
     let rows = rows_within p limits in
-    whole_window found _ (e ∙ ap (λ b. within (negsuc 30) (pos 31) (houses_worth b)) is) (worth_low (rows_of p) rows) (worth_high (rows_of p) rows)
+    whole_window found lo hi _ lo_is hi_is (worth_low (rows_of p) rows) (worth_high (rows_of p) rows) (e ∙ ap (λ b. within lo hi (houses_worth b)) is)
 
 -- the first i houses are worth less than the margin of best play
 abbrev pub FallShort : Rows → ℕ → Type 0

@@ -1,6 +1,6 @@
 -- Shares of seeds and the margins that they make.
 use Rattle.std.proofs.Common.{◌≡◌, ℕ, ◌+◌, ◌*◌, ◌≤◌, arith}
-use Rattle.std.specs.Prelude.{max, min, ℤ, pos, ◌+ℤ◌, ◌-ℤ◌, ◌≤ℤ◌}
+use Rattle.std.specs.Prelude.{max, min, ℤ, pos, ◌+ℤ◌, ◌-ℤ◌, ◌≤ℤ◌, ◌<ℤ◌}
 use Rattle.std.specs.Int.{int_max}
 use Rattle.std.proofs.lemmas.Int.{ints, clamps}
 use Rattle.kalah_solve.specs.Table.{within}
@@ -10,7 +10,7 @@ pub record IsHalf (z : ℤ) (half : ℕ) : Type 0 where
   pub low : pos (half + half) ≤ℤ int_max (pos 0) z
   pub high : z ≤ℤ pos (half + half + 1)
 
-module _ (lo hi : ℤ) (ordered : lo ≤ℤ hi) (n low high : ℕ) (is_low : IsHalf (lo +ℤ pos n) low) (is_high : IsHalf (hi +ℤ pos n +ℤ pos 1) high) where
+module _ (lo hi : ℤ) (ordered : lo <ℤ hi) (n low high : ℕ) (is_low : IsHalf (lo +ℤ pos n) low) (is_high : IsHalf (hi +ℤ pos n +ℤ pos 1) high) where
   -- the shares of a window's ends are in order
   pub shares_ordered : low ≤ high
   shares_ordered = omega (arith, ints, clamps, ordered, is_low.low, is_high.high)

@@ -1,23 +1,19 @@
--- Windows, and what an interval that is known makes of them.
+-- What the search tells in a window.
 use Rattle.std.proofs.Common.{◌≡◌, ◌∙◌, ◌≤◌, ◌*◌, ◌*ℤ◌, ℕ, ap, arith, w32, to_z, of_z}
-use Rattle.std.specs.Prelude.{ℤ, ◌≤ℤ◌, ◌-ℤ◌, pos, max, min}
+use Rattle.std.specs.Prelude.{ℤ, ◌≤ℤ◌, ◌<ℤ◌, ◌-ℤ◌, pos, max, min}
 use Rattle.std.specs.Int.{int_max, int_min}
 use Rattle.std.proofs.lemmas.Int.{ints, clamps}
-use Rattle.kalah_solve.specs.declared.table.Interval.{Interval}
 use Rattle.kalah_rules.specs.Position.{Rows, IsWithinHouses, bare, seeds_in_houses}
+use Rattle.kalah_solve.specs.declared.table.Interval.{Interval}
 use Rattle.kalah_solve.specs.declared.share.Share.{Share}
 use Rattle.kalah_solve.specs.Table.{Holds, within}
 use Rattle.kalah_solve.specs.Taken.{taken}
 use Rattle.kalah_solve.specs.Worth.{houses_worth}
 use Rattle.kalah_solve.proofs.Takings.{taken_share, worth_of_taken}
 
--- it answers
-pub known_answers : (lo hi g : ℤ) (k : Interval) → lo ≤ℤ hi → Holds k g → int_min hi k.hi ≤ℤ int_max lo k.lo → within lo hi k.lo ≡ within lo hi g
-known_answers lo hi g k ordered holds none = omega (arith, ints, clamps, ordered, holds.low, holds.high, none)
-
--- or it makes the window smaller
-pub known_narrows : (lo hi g : ℤ) (k : Interval) → lo ≤ℤ hi → Holds k g → int_max lo k.lo ≤ℤ int_min hi k.hi → within (int_max lo k.lo) (int_min hi k.hi) g ≡ within lo hi g
-known_narrows lo hi g k ordered holds some = omega (arith, ints, clamps, ordered, holds.low, holds.high, some)
+-- an interval that leaves nothing of it open answers
+pub known_answers : (lo hi z : ℤ) (k : Interval) → lo <ℤ hi → Holds k z → int_min hi k.hi ≤ℤ int_max lo k.lo → within lo hi k.lo ≡ within lo hi z
+known_answers lo hi z k ordered holds none = omega (arith, ints, clamps, ordered, holds.low, holds.high, none)
 
 -- what the mover takes, raised and lowered to the shares that a window tells apart, makes the worth in the window
 pub told_by_share : (a : Rows) (lo hi : ℤ) (n t : ℕ) (asked : Share) → IsWithinHouses a → n ≡ seeds_in_houses (bare a) → asked.least ≤ asked.most → asked.most ≤ 31 →

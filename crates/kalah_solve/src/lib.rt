@@ -19,6 +19,7 @@ mod table;
 mod verdict;
 #[cfg(test)]
 mod want_of_memory;
+mod window;
 
 pub use key::{pack, unpack};
 pub use laws::{

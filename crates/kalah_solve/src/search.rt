@@ -11,6 +11,7 @@ mod tests;
 
 use crate::share::Share;
 use crate::table::{Interval, Table};
+use crate::window::Window;
 use kalah_rules::Houses;
 use std::alloc::{Allocator, Global};
 
@@ -68,28 +69,23 @@ impl<A: Allocator + Clone> Search<A> {
         self.nodes
     }
 
-    /// The worth of the houses, raised to `lo` and lowered to `hi`.
-    pub fn search(&mut self, houses: &Houses, lo: i32, hi: i32) -> i32
+    /// The worth of the houses, raised to the window's lower end and lowered to its upper one.
+    pub fn search(&mut self, houses: &Houses, window: Window) -> i32
         requires going { is_over (bare houses.now) ≡ false }
-        requires low { negsuc 30 ≤ℤ lo }
-        requires ordered { lo ≤ℤ hi }
-        requires high { hi ≤ℤ pos 31 }
-        ensures { result ≡ within lo hi (houses_worth houses.now) }
+        ensures { result ≡ within window.lo window.hi (houses_worth houses.now) }
     {
         let known = self.known_margins(houses);
-        let low = lo.max(known.lo as i32);
-        let high = hi.min(known.hi as i32);
-        if high <= low {
-            return (known.lo as i32).clamp(lo, hi);
-        }
+        let Some(narrow) = window.narrowed(known) else {
+            return window.clamp(known.lo as i32);
+        };
         let before = self.nodes;
         let seeds = houses.seeds();
-        let taken = self.taken_within(houses, Share::of_window(low, high, seeds));
-        let answer = (2 * taken as i32 - seeds as i32).clamp(low, high);
+        let taken = self.taken_within(houses, Share::of_window(narrow, seeds));
+        let answer = narrow.clamp(2 * taken as i32 - seeds as i32);
         let work = self.nodes.wrapping_sub(before);
         self.learn_margins(
             houses,
-            Interval::learned(low, high, answer).shared(known),
+            Interval::learned(narrow, answer).shared(known),
             work,
         );
         answer

@@ -6,6 +6,7 @@ ghost use Rattle.kalah_solve.specs.Table.{Holds, within};
 ghost use Rattle.kalah_solve.specs.Taken.{taken, between, IsWithinShare};
 
 use crate::table::Interval;
+use crate::window::Window;
 use kalah_rules::Houses;
 
 /// At least so many of the seeds in houses, and at most so many.
@@ -62,18 +63,15 @@ impl Share {
     }
 
     // Which shares of so many seeds a window of margins tells apart.
-    pub(crate) fn of_window(lo: i32, hi: i32, seeds: u8) -> Share
-        requires low { negsuc 30 ≤ℤ lo }
-        requires ordered { lo ≤ℤ hi }
-        requires high { hi ≤ℤ pos 31 }
-        requires few { seeds ≤ 31 }
+    pub(crate) fn of_window(window: Window, seeds: u8) -> Share
+        requires { seeds ≤ 31 }
         ensures ordered { result.least ≤ result.most }
         ensures high { result.most ≤ 31 }
-        ensures apart { (t : ℕ) → t ≤ seeds → within lo hi (pos (2 * max result.least (min result.most t)) -ℤ pos seeds) ≡ within lo hi (pos (2 * t) -ℤ pos seeds) }
+        ensures apart { (t : ℕ) → t ≤ seeds → within window.lo window.hi (pos (2 * max result.least (min result.most t)) -ℤ pos seeds) ≡ within window.lo window.hi (pos (2 * t) -ℤ pos seeds) }
     {
         Share {
-            least: half(lo + seeds as i32),
-            most: half(hi + seeds as i32 + 1),
+            least: half(window.lo + seeds as i32),
+            most: half(window.hi + seeds as i32 + 1),
         }
     }
 

@@ -14,6 +14,7 @@ use crate::search::Search;
 use crate::share::half;
 use crate::table::Table;
 use crate::verdict::Verdict;
+use crate::window::Window;
 use kalah_rules::{Board, Houses, Moves};
 use std::alloc::{Allocator, Global};
 
@@ -45,7 +46,7 @@ impl<A: Allocator + Clone> Solver<A> {
             };
         }
         let houses = board.houses();
-        let best = self.search.search(&houses, -31, 31);
+        let best = self.search.search(&houses, Window::whole());
         let bar = half(best + houses.seeds() as i32);
         let house = self.first_house(&houses, &board.legal(), bar);
         let margin = best + (board.own_store() as i32 - board.other_store() as i32);

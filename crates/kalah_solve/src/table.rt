@@ -8,6 +8,7 @@ ghost use Rattle.kalah_solve.specs.Worth.{houses_worth};
 use crate::endings::Endings;
 use crate::places::Places;
 use crate::share::Share;
+use crate::window::Window;
 use kalah_rules::Houses;
 use lru::{DefaultHasher, LruCache};
 use std::alloc::{AllocError, Allocator, Global};
@@ -34,26 +35,23 @@ impl Interval {
         Interval { lo: -31, hi: 31 }
     }
 
-    // What the answer of a search in a window from `lo` to `hi` tells: an answer inside the window is the worth, one at
+    // What the answer of a search in a window tells: an answer inside the window is the worth, one at
     // its lower end is an upper bound, and one at its upper end a lower bound.
-    pub(crate) fn learned(lo: i32, hi: i32, answer: i32) -> Interval
-        requires low { negsuc 30 ≤ℤ lo }
-        requires ordered { lo <ℤ hi }
-        requires high { hi ≤ℤ pos 31 }
-        requires least { lo ≤ℤ answer }
-        requires most { answer ≤ℤ hi }
-        ensures at_most { answer ≡ lo → result ≡ from_to (negsuc 30) lo }
-        ensures at_least { answer ≡ hi → result ≡ from_to hi (pos 31) }
-        ensures exact { lo <ℤ answer → answer <ℤ hi → result ≡ from_to answer answer }
-        ensures held { (z : ℤ) → negsuc 30 ≤ℤ z → z ≤ℤ pos 31 → answer ≡ within lo hi z → Holds result z }
+    pub(crate) fn learned(window: Window, answer: i32) -> Interval
+        requires least { window.lo ≤ℤ answer }
+        requires most { answer ≤ℤ window.hi }
+        ensures at_most { answer ≡ window.lo → result ≡ from_to (negsuc 30) window.lo }
+        ensures at_least { answer ≡ window.hi → result ≡ from_to window.hi (pos 31) }
+        ensures exact { window.lo <ℤ answer → answer <ℤ window.hi → result ≡ from_to answer answer }
+        ensures held { (z : ℤ) → negsuc 30 ≤ℤ z → z ≤ℤ pos 31 → answer ≡ within window.lo window.hi z → Holds result z }
     {
         let answer_there = answer as i8;
-        if answer <= lo {
+        if answer <= window.lo {
             Interval {
                 lo: -31,
                 hi: answer_there,
             }
-        } else if answer >= hi {
+        } else if answer >= window.hi {
             Interval {
                 lo: answer_there,
                 hi: 31,

@@ -24,7 +24,7 @@ fn worth_of(search: &mut Search, houses: &Houses) -> Option<i32> {
     if houses.is_over() {
         return None;
     }
-    Some(search.search(houses, -31, 31))
+    Some(search.search(houses, Window::whole()))
 }
 
 // How many nodes games take as they begin, one after another.

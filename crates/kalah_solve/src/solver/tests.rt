@@ -121,11 +121,11 @@ fn windows_leave_intervals(rt: HostRuntime) {
     let houses = board.houses();
     let table = Table::new(rt.alloc(), 100).expect(&rt, "no memory for a table");
     let mut search = Search::with_all_entries(table);
-    assert!(rt; search.search(&houses, -2, 2) == 2);
+    assert!(rt; search.search(&houses, Window { lo: -2, hi: 2 }) == 2);
     assert!(rt; search.entry(&houses) == Some(Interval { lo: 2, hi: 31 }));
-    assert!(rt; search.search(&houses, 7, 9) == 7);
+    assert!(rt; search.search(&houses, Window { lo: 7, hi: 9 }) == 7);
     assert!(rt; search.entry(&houses) == Some(Interval { lo: 2, hi: 7 }));
-    assert!(rt; search.search(&houses, -31, 31) == 6);
+    assert!(rt; search.search(&houses, Window::whole()) == 6);
     assert!(rt; search.entry(&houses) == Some(Interval { lo: 6, hi: 6 }));
 }
 

@@ -7,6 +7,7 @@ ghost use Rattle.kalah_solve.specs.MoveValues.{move_value, values_of, TellMoves}
 
 use super::Solver;
 use crate::move_values::{MoveValue, MoveValues};
+use crate::window::Window;
 use kalah_rules::{Board, Step};
 use std::alloc::Allocator;
 
@@ -59,7 +60,7 @@ impl<A: Allocator + Clone> Solver<A> {
         if board.is_over() {
             return board.returns();
         }
-        let best = self.search.search(&board.houses(), -31, 31);
+        let best = self.search.search(&board.houses(), Window::whole());
         best + (board.own_store() as i32 - board.other_store() as i32)
     }
 }

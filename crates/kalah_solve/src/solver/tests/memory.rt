@@ -24,7 +24,7 @@ fn worth_of<A: Allocator + Clone>(solver: &mut Solver<A>, houses: &Houses) -> Op
     if houses.is_over() {
         return None;
     }
-    Some(solver.search.search(houses, -31, 31))
+    Some(solver.search.search(houses, Window::whole()))
 }
 
 // Positions with so many seeds that some answers are kept.

@@ -2,5 +2,5 @@ use Rattle.std.proofs.Common.{arith}
 use Rattle.std.proofs.lemmas.Int.{ints, clamps}
 use Rattle.kalah_solve.proofs.table.Interval.learned.Goals as goal
 
-pub returns-else-answer-hi-clause-held : goal.returns-else-answer-hi-clause-held
-returns-else-answer-hi-clause-held c = λ z low high e. record { low = omega (arith, ints, clamps); high = omega (arith, ints, clamps) }
+pub returns-else-answer-window-2-clause-held : goal.returns-else-answer-window-2-clause-held
+returns-else-answer-window-2-clause-held c = λ z low high e. record { low = omega (arith, ints, clamps); high = omega (arith, ints, clamps) }

@@ -1,0 +1,47 @@
+//! The window of a search.
+ghost use Rattle.std.specs.Prelude.{◌≡◌, ◌≤ℤ◌, ◌<ℤ◌, ℤ, pos, negsuc, IfSome, IsNone};
+ghost use Rattle.kalah_solve.specs.Table.{Holds, within};
+
+use crate::table::Interval;
+
+/// The alpha-beta window: the margins that a search tells apart. What is worth less than its lower end is told as that
+/// end, and what is worth more than its upper end as that one.
+#[derive(Clone, Copy)]
+pub struct Window {
+    pub lo: i32,
+    pub hi: i32,
+    ghost low: { negsuc 30 ≤ℤ lo },
+    ghost ordered: { lo <ℤ hi },
+    ghost high: { hi ≤ℤ pos 31 },
+}
+
+impl Window {
+    /// All that houses can be worth.
+    pub fn whole() -> Window
+        ensures lo { result.lo ≡ negsuc 30 }
+        ensures hi { result.hi ≡ pos 31 }
+    {
+        Window { lo: -31, hi: 31 }
+    }
+
+    /// The margins among these that the interval leaves open. None where it tells the answer.
+    pub fn narrowed(self, known: Interval) -> Option<Window>
+        ensures some { IfSome result (λ narrow. (z : ℤ) → Holds known z → within narrow.lo narrow.hi z ≡ within self.lo self.hi z) }
+        ensures none { IsNone result → (z : ℤ) → Holds known z → within self.lo self.hi known.lo ≡ within self.lo self.hi z }
+    {
+        let lo = self.lo.max(known.lo as i32);
+        let hi = self.hi.min(known.hi as i32);
+        if hi <= lo {
+            None
+        } else {
+            Some(Window { lo, hi })
+        }
+    }
+
+    /// The margin, raised to the lower end and lowered to the upper one.
+    pub fn clamp(self, margin: i32) -> i32
+        ensures { result ≡ within self.lo self.hi margin }
+    {
+        margin.clamp(self.lo, self.hi)
+    }
+}
