@@ -70,9 +70,9 @@ pub counted_tally : (question : Question) (files : List NamedBytes) (lines fault
 counted_tally question files lines faults all faulty =
     λ i. record { lines = (all ∙ sym (files_are_their_jobs.lines question files)) i; faults = (faulty ∙ sym (files_are_their_jobs.faults question files)) i }
 
-no_faults_in : (offers : List Job) → length offers ≡ 0 → 0 ≡ count_by is_faulty_job offers
+no_faults_in : (jobs : List Job) → length jobs ≡ 0 → 0 ≡ count_by is_faulty_job jobs
 no_faults_in [] none = refl
-no_faults_in (o ∷ offers) none = absurd (omega arith)
+no_faults_in (j ∷ jobs) none = absurd (omega arith)
 
 -- with no job there is no fault
 pub no_faults : (jobs : List (List Entry)) → length (job_list jobs) ≡ 0 → 0 ≡ count_by is_faulty_job (job_list jobs)

@@ -15,7 +15,7 @@ use Rattle.kalah_run.specs.DeskRows.{numbers_of, spent_in}
 use Rattle.kalah_run.specs.DeskStates.{DeskState, PassState, IsPassOf, AreNewPasses, new_pass, rows_of}
 use Rattle.kalah_run.specs.QueueStates.{GetState, PutState, ArePassesFrom, sent_by}
 use Rattle.kalah_run.specs.QueueLists.{Accounts}
-use Rattle.kalah_run.specs.Work.{offers_of}
+use Rattle.kalah_run.specs.Work.{drawn_jobs}
 use Rattle.kalah_run.specs.Reporting.{outcomes_in}
 use Rattle.kalah_run.specs.declared.shift.Shift.{Shift}
 use Rattle.kalah_run.specs.declared.staff.Staff.{Staff}
@@ -105,14 +105,14 @@ has_worked jobs before after ready run same =
 
 -- what worker w sent are the outcomes of its row
 pub sent_in_order : (jobs : List (List Entry)) (shifts : List Shift) (w : ℕ) → HaveJobs jobs shifts → w < length shifts →
-    get_or (sent_by (puts_of shifts)) w [] ≡ offers_of jobs (get_or (numbers_of (rows_of (passes_of shifts))) w [])
+    get_or (sent_by (puts_of shifts)) w [] ≡ drawn_jobs jobs (get_or (numbers_of (rows_of (passes_of shifts))) w [])
 sent_in_order jobs [] w has within = absurd (omega arith)
-sent_in_order jobs (s ∷ ss) zero has within = s.sent_so_far ∙ ap (λ j. offers_of j s.pass.row.numbers) (has 0 s (omega arith))
+sent_in_order jobs (s ∷ ss) zero has within = s.sent_so_far ∙ ap (λ j. drawn_jobs j s.pass.row.numbers) (has 0 s (omega arith))
 sent_in_order jobs (s ∷ ss) (suc w) has within = sent_in_order jobs ss w (λ k d low. has (suc k) d (omega arith)) (omega arith)
 
-offers_are : (jobs : List (List Entry)) (numbers : List ℕ) → offers_of jobs numbers ≡ map (job jobs) numbers
-unfolding offers_of
-offers_are jobs numbers = refl
+drawn_jobs_are : (jobs : List (List Entry)) (numbers : List ℕ) → drawn_jobs jobs numbers ≡ map (job jobs) numbers
+unfolding drawn_jobs
+drawn_jobs_are jobs numbers = refl
 
 -- Each number below the total stands in the rows once; the pairs that were got and those left inside account for what was sent; and as many
 -- were got as there are jobs: so each job was got once.
@@ -129,6 +129,6 @@ each_job_got jobs shifts workers total got rest has many once accounts is all =
       workers = subst (λ n. All (λ (t : ℕ × Job). t.0 < n) (got ++ rest)) row_workers accounts.below;
       whole = λ w within.
           let low : w < length shifts = omega arith in
-          accounts.whole w (omega arith) ∙ sent_in_order jobs shifts w has low ∙ offers_are jobs (get_or rows w []);
+          accounts.whole w (omega arith) ∙ sent_in_order jobs shifts w has low ∙ drawn_jobs_are jobs (get_or rows w []);
     } in
     shares_law jobs rows got rest shared (all ∙ is)

@@ -4,6 +4,6 @@ use Rattle.kalah_jobs.specs.declared.files.entry.Entry.{Entry}
 use Rattle.kalah_jobs.specs.declared.files.job.Job.{Job}
 use Rattle.kalah_jobs.specs.Collecting.Batch.{job}
 
--- the outcomes of the jobs of these numbers, in order
-unfoldable pub offers_of : List (List Entry) → List ℕ → List Job
-offers_of jobs numbers = map (job jobs) numbers
+-- the jobs of the numbers that were drawn, in order: their outcomes are sent
+unfoldable pub drawn_jobs : List (List Entry) → List ℕ → List Job
+drawn_jobs jobs numbers = map (job jobs) numbers

@@ -1,7 +1,7 @@
 //! One worker's part of a batch.
 ghost use Rattle.std.specs.Prelude.{◌≡◌};
 ghost use Rattle.kalah_jobs.specs.Files.Jobs.{job_count};
-ghost use Rattle.kalah_run.specs.Work.{offers_of};
+ghost use Rattle.kalah_run.specs.Work.{drawn_jobs};
 
 use crate::desk::Desk;
 use crate::gate::Gate;
@@ -20,7 +20,7 @@ pub(crate) struct Shift<'a> {
     pub(crate) put: PutPass,
     // Shifts stand side by side in one list, and each thread changes its own solver all the time.
     pub(crate) solver: CachePadded<Solver>,
-    ghost sent_so_far: { put.sent ≡ offers_of jobs.now pass.row.numbers },
+    ghost sent_so_far: { put.sent ≡ drawn_jobs jobs.now pass.row.numbers },
 }
 
 /// What all workers share.

@@ -5,9 +5,9 @@ use Rattle.std.specs.Coded.{Coded, codes}
 use base.Stored.{Gv, gnil, gnum, gcons}
 use Rattle.kalah_jobs.specs.declared.files.job.Job.{Job}
 
--- offers told apart by a code
-coded_offer : Coded Job
-coded_offer = hlevel codes
+-- jobs told apart by a code
+coded_job : Coded Job
+coded_job = hlevel codes
 
 -- the same code
 same_code : Gv → Gv → Bool
@@ -45,14 +45,14 @@ same_code_itself (gcons a b) = and_from (same_code a a) (same_code b b) (same_co
 
 -- the test
 pub same_job : Job → Job → Bool
-same_job a b = same_code (coded_offer.code b) (coded_offer.code a)
+same_job a b = same_code (coded_job.code b) (coded_job.code a)
 
 -- an offer passes its own test
 pub same_itself : (o : Job) → same_job o o ≡ true
 unfolding same_job
-same_itself o = same_code_itself (coded_offer.code o)
+same_itself o = same_code_itself (coded_job.code o)
 
 -- and no other does
 pub same_means : (a b : Job) → same_job a b ≡ true → b ≡ a
 unfolding same_job
-same_means a b h = coded_offer.inj b a (same_code_means (coded_offer.code b) (coded_offer.code a) h)
+same_means a b h = coded_job.inj b a (same_code_means (coded_job.code b) (coded_job.code a) h)

@@ -4,12 +4,12 @@ use Rattle.std.proofs.lemmas.List.Sums.{fold-append}
 use Rattle.kalah_run.specs.DeskRows.{least_above}
 use Rattle.kalah_run.specs.declared.desk_rule.Row.{Row}
 use Rattle.kalah_run.specs.QueueStates.{PutState}
-use Rattle.kalah_run.proofs.Sendings.{offers_of-more}
+use Rattle.kalah_run.proofs.Sendings.{drawn_jobs-more}
 use Rattle.kalah_run.proofs.shift.Shift.run.Goals as goal
 
 pub invariant_of-self : goal.invariant_of-self
 invariant_of-self g c = record {
-  sent_so_far = offers_of-more c.loop-drawn.self.jobs.now c.loop-drawn.self.pass.row c.draw.new.pass.row c.in-Some.drawn c.of-outcome.result _ _
+  sent_so_far = drawn_jobs-more c.loop-drawn.self.jobs.now c.loop-drawn.self.pass.row c.draw.new.pass.row c.in-Some.drawn c.of-outcome.result _ _
       c.loop-drawn.self.sent_so_far (ap (λ (r : Row). r.numbers) c.in-Some.ensures.drawn) (c.get-job.ensures ∙ ap Some (sym c.of-outcome.ensures)) (ap (λ (p : PutState). p.sent) c.put.ensures);
 }
 
