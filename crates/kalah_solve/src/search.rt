@@ -1,5 +1,5 @@
 //! The search: what houses are worth in a window, told by one test after another of what the mover takes.
-ghost use Rattle.std.specs.Prelude.{◌≡◌, ◌↔◌, ℕ, ◌+◌, ◌≤◌, ◌<◌, false, IsTrue, ℤ, pos, negsuc, ◌≤ℤ◌, max, min};
+ghost use Rattle.std.specs.Prelude.{◌≡◌, ◌+◌, ◌≤◌, ◌<◌, false, ℤ, pos, negsuc, ◌≤ℤ◌, max, min};
 ghost use Rattle.kalah_rules.specs.Position.{is_over, bare};
 ghost use Rattle.kalah_solve.specs.Worth.{houses_worth};
 ghost use Rattle.kalah_solve.specs.Table.{within, Holds};

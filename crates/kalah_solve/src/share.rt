@@ -1,5 +1,5 @@
 //! What is known of the seeds that a player takes.
-ghost use Rattle.std.specs.Prelude.{◌≡◌, ◌↔◌, ◌+◌, ◌-◌, ◌*◌, max, min, ◌≤◌, ◌≤ℤ◌, ◌+ℤ◌, ◌-ℤ◌, ℕ, ℤ, pos, negsuc, IsTrue, false};
+ghost use Rattle.std.specs.Prelude.{◌≡◌, ◌↔◌, ◌+◌, ◌-◌, ◌*◌, max, min, ◌≤◌, ◌≤ℤ◌, ◌+ℤ◌, ◌-ℤ◌, ℕ, ℤ, pos, IsTrue, false};
 ghost use Rattle.std.specs.Int.{int_max};
 ghost use Rattle.kalah_rules.specs.Position.{bare, seeds_in_houses};
 ghost use Rattle.kalah_solve.specs.Table.{Holds, within};
@@ -67,7 +67,8 @@ impl Share {
         requires { seeds ≤ 31 }
         ensures ordered { result.least ≤ result.most }
         ensures high { result.most ≤ 31 }
-        ensures apart { (t : ℕ) → t ≤ seeds → within window.lo window.hi (pos (2 * max result.least (min result.most t)) -ℤ pos seeds) ≡ within window.lo window.hi (pos (2 * t) -ℤ pos seeds) }
+        ensures apart { (t : ℕ) → t ≤ seeds → within window.lo window.hi (pos (2 * max result.least (min result.most t)) -ℤ pos seeds)
+            ≡ within window.lo window.hi (pos (2 * t) -ℤ pos seeds) }
     {
         Share {
             least: half(window.lo + seeds as i32),

@@ -28,7 +28,8 @@ pub first_house-house-requires-clause-best : goal.first_house-house-requires-cla
 first_house-house-requires-clause-best g c =
     let a = c.houses-houses.result in
     let limits = c.seeds.ensures.limits in
-    let found = root_worth c.args.board.now a c.search-best.result c.whole.result.lo c.whole.result.hi c.is_over.ensures.limits c.houses-houses.ensures c.whole.ensures.lo c.whole.ensures.hi c.search-best.ensures in
+    let found = root_worth c.args.board.now a c.search-best.result c.whole.result.lo c.whole.result.hi c.is_over.ensures.limits c.houses-houses.ensures
+    c.whole.ensures.lo c.whole.ensures.hi c.search-best.ensures in
     let best : c.search-best.result ≡ houses_worth a = found ∙ sym (ap houses_worth c.houses-houses.ensures) in
     let sum : to_z w32 (of_z w32 (to_z w32 (of_z w32 c.search-best.result) +ℤ to_z w32 c.seeds.result)) ≡ houses_worth a +ℤ pos (seeds_in_houses (bare a)) =
     omega (arith, ints, best, c.seeds.ensures.seeds, limits.few_seeds, worth_low a limits, worth_high a limits) in
@@ -36,7 +37,9 @@ first_house-house-requires-clause-best g c =
 
 -- what the search finds is the worth of the houses
 found : (g : given.Over) (c : goal.After-other_store g) → c.search-best.result ≡ houses_worth (rows_of c.args.board.now)
-found g c = root_worth c.args.board.now c.houses-houses.result c.search-best.result c.whole.result.lo c.whole.result.hi c.is_over.ensures.limits c.houses-houses.ensures c.whole.ensures.lo c.whole.ensures.hi c.search-best.ensures
+found g c =
+    root_worth c.args.board.now c.houses-houses.result c.search-best.result c.whole.result.lo c.whole.result.hi c.is_over.ensures.limits c.houses-houses.ensures
+    c.whole.ensures.lo c.whole.ensures.hi c.search-best.ensures
 
 pub overflow_add-margin : goal.overflow_add-margin
 overflow_add-margin g c =

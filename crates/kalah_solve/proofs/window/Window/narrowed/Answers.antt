@@ -20,6 +20,4 @@ returns-then-hi-lo-clause-none c = λ none z holds.
 
 pub returns-else-hi-lo-clause-some : goal.returns-else-hi-lo-clause-some
 returns-else-hi-lo-clause-some c = λ z holds.
-    let known_lo : SFits w8 c.args.known.lo = search rules in
-    let known_hi : SFits w8 c.args.known.hi = search rules in
     omega (arith, ints, clamps, c.args.self.ordered, c.if-hi-lo.false, c.max-lo.ensures.value, c.min-hi.ensures.value, holds.low, holds.high)
