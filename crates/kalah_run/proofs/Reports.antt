@@ -1,11 +1,12 @@
 -- What a report writes, line by line.
-use Rattle.std.proofs.Common.{◌≡◌, ℕ, ◌+◌, ◌<◌, List, [], ◌∷◌, ◌++◌, length, get_or, refl, sym, ap, ◌∙◌, arith, subst}
-use Rattle.std.specs.Prelude.{count_by, if◌then◌else◌}
+use Rattle.std.proofs.Common.{◌≡◌, ℕ, ◌+◌, ◌-◌, ◌<◌, List, [], ◌∷◌, ◌++◌, length, get_or, refl, sym, ap, ◌∙◌, arith, subst}
+use Rattle.std.specs.Prelude.{count_by, sum_by, if◌then◌else◌}
 use Rattle.std.proofs.lemmas.List.{get_or-map}
 use Rattle.std.proofs.lemmas.List.Sums.{sum_by-append}
 use Rattle.std.specs.Prelude.{Option, Bool, true, false, Result, Ok, Err, IsErr, OnOk}
 use Rattle.std.specs.Io.KnownBytes.{Keeps}
 use Rattle.kalah_jobs.specs.declared.writing.answer.Taken.{Taken}
+use Rattle.kalah_jobs.specs.Collecting.CollectorState.{FileState, front}
 use Rattle.kalah_jobs.specs.declared.files.entry.Entry.{Entry}
 use Rattle.kalah_jobs.specs.Writing.Answer.{answer_line}
 use Rattle.kalah_jobs.specs.declared.files.job.Job.{Job}
@@ -17,7 +18,6 @@ use Rattle.kalah_run.specs.declared.report.Report.{Report}
 use Rattle.kalah_run.specs.Reporting.{IsReporting}
 use Rattle.kalah_run.specs.Texts.{text_of}
 use Rattle.kalah_run.specs.UnderWay.{IsUnderWay}
-use Rattle.kalah_run.specs.WritesOn.{WritesOn}
 
 -- the text of a line of file f begins with that file's name
 pub text_of_file : (files : List NamedBytes) (f : ℕ) (file : NamedBytes) (name : List ℕ) (taken : Taken) → f < length files →
@@ -37,7 +37,8 @@ faults_more past o faults more before is =
 -- a report of the same files goes on, where what is under way does
 pub reports_on : (files : List NamedBytes) (jobs : List (List Entry)) (past : List Job) (begun out more : Option (List ℕ)) (failed fails : Bool)
     (r after : Report) → after.files.now ≡ r.files.now → after.jobs.now ≡ r.jobs.now → after.faults ≡ r.faults
-    → WritesOn r.files.now r.jobs.now r.current r.collector out failed after.current after.collector more fails
+    → (IsUnderWay (text_of r.files.now) r.jobs.now past r.collector r.current begun out failed
+    → IsUnderWay (text_of r.files.now) r.jobs.now past after.collector after.current begun more fails)
     → IsReporting files jobs past begun out failed r → IsReporting files jobs past begun more fails after
 reports_on files jobs past begun out more failed fails r after same_files same_jobs same_faults on is =
     let from : IsUnderWay (text_of r.files.now) r.jobs.now past r.collector r.current begun out failed =
@@ -47,7 +48,7 @@ reports_on files jobs past begun out more failed fails r after same_files same_j
       of_jobs = same_jobs ∙ is.of_jobs;
       way = subst (λ (js : List (List Entry)). IsUnderWay (text_of files) js past after.collector after.current begun more fails) (sym same_jobs)
           (subst (λ (fs : List NamedBytes). IsUnderWay (text_of fs) r.jobs.now past after.collector after.current begun more fails) is.of_files
-          (on past begun from));
+          (on from));
       faults = same_faults ∙ is.faults;
     }
 
@@ -71,3 +72,7 @@ still_reports files jobs past begun out later failed fails r keeps sound is = re
 pub whole_where_sound : {A E : Type 0} (all : Type 0) (r : Result A E) (failed : Bool) → (IsErr r → failed ≡ true) → OnOk r all → failed ≡ false → all
 whole_where_sound all (Ok x) failed fails wrote sound = wrote
 whole_where_sound all (Err e) failed fails wrote sound = absurd (let both : true ≡ false = sym (fails refl) ∙ sound in cc)
+
+-- how many lines are ready and were not taken, of all files
+abbrev pub ready_lines : List FileState → ℕ
+ready_lines files = sum_by (λ (s : FileState). front s - s.taken) files

@@ -17,5 +17,4 @@ pub mod Shifts
 pub mod Staffs
 pub mod Texts
 pub mod UnderWay
-pub mod WritesOn
 pub mod Reporting

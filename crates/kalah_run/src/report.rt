@@ -1,10 +1,9 @@
 //! The answers of a batch, written in the order of its lines.
-ghost use Rattle.std.specs.Prelude.{◌≡◌, ◌+◌, ◌^◌, ◌<◌, [], ℕ, List, Option, Bool, length, map, IfOk, if◌then◌else◌};
+ghost use Rattle.std.specs.Prelude.{◌≡◌, ◌+◌, ◌^◌, ◌<◌, [], ℕ, List, Option, Bool, length, IfOk, if◌then◌else◌};
 ghost use Rattle.kalah_jobs.specs.Writing.Answer.{is_fault};
-ghost use Rattle.kalah_jobs.specs.Collecting.CollectorState.{state_of, line_count, HasNoNext, HasLinesOf};
-ghost use Rattle.kalah_run.specs.WritesOn.{WritesOn};
+ghost use Rattle.kalah_jobs.specs.Collecting.CollectorState.{HasLinesOf};
 
-use kalah_jobs::{Answer, Collector, FileText, Jobs, Outcome, Sink, Taken, write_answer};
+use kalah_jobs::{Answer, Collector, FileText, Jobs, Outcome, Sink, write_answer};
 use std::alloc::{AllocError, Global};
 
 /// What came of a batch so far, and how far it is written. `current` is the file whose lines are written next: the
@@ -18,28 +17,6 @@ pub(crate) struct Report<'a> {
     pub(crate) faults: u32,
     ghost as_many: { length jobs.now ≡ length files.now },
     ghost counts: { HasLinesOf jobs.now collector },
-}
-
-// Takes each line of file `f` that is ready, and writes it unless a write has failed before.
-fn write_lines<W: Sink>(
-    files: &[FileText],
-    jobs: &Jobs,
-    collector: &mut Collector,
-    f: u32,
-    out: &mut W,
-)
-    requires { f < length files.now }
-    ensures way { WritesOn files.now jobs.now f collector.old (W.written out.old) (W.has_failed out.old)
-        f collector.new (W.written out.new) (W.has_failed out.new) }
-    ensures all { HasNoNext (state_of collector.new f) }
-    ensures counts { map line_count collector.new ≡ map line_count collector.old }
-{
-    let file = &files[f as usize];
-    while let Some(taken) = collector.take(f) {
-        if !out.failed() {
-            let _ = write_answer(out, file.name.as_str(), &taken);
-        }
-    }
 }
 
 // One for a fault, and else none.
@@ -81,11 +58,17 @@ impl<'a> Report<'a> {
     {
         while self.current < self.jobs.files() {
             let f = self.current;
-            write_lines(self.files, self.jobs, &mut self.collector, f, out);
-            if !self.collector.ended(f) {
+            if let Some(taken) = self.collector.take(f) {
+                if !out.failed() {
+                    let files = self.files;
+                    let file = &files[f as usize];
+                    let _ = write_answer(out, file.name.as_str(), &taken);
+                }
+            } else if self.collector.ended(f) {
+                self.current += 1;
+            } else {
                 return;
             }
-            self.current += 1;
         }
     }
 

@@ -1,9 +1,10 @@
-use Rattle.std.proofs.Common.{◌≡◌, ℕ, ◌-◌, List, length}
+use Rattle.std.proofs.Common.{◌≡◌, ℕ, ◌+◌, ◌-◌, List, length}
 use Rattle.std.specs.Prelude.{Option}
 use Rattle.kalah_jobs.specs.Files.NamedBytes.{NamedBytes}
 use Rattle.kalah_jobs.specs.declared.files.job.Job.{Job}
 use Rattle.kalah_jobs.specs.declared.files.entry.Entry.{Entry}
 use Rattle.kalah_run.specs.Reporting.{IsReporting}
+use Rattle.kalah_run.proofs.Reports.{ready_lines}
 use Rattle.kalah_run.proofs.report.Report.write.Given as goal
 
 abbrev pub invariant-loop-self : goal.invariant-loop-self
@@ -15,4 +16,4 @@ invariant-loop-self g l = record {
 }
 
 abbrev pub decreases-loop-self : goal.decreases-loop-self
-decreases-loop-self g l = length l.self.jobs.now - l.self.current
+decreases-loop-self g l = ready_lines l.self.collector + (length l.self.jobs.now - l.self.current)
