@@ -17,8 +17,9 @@ use Rattle.clap.specs.declared.parser.matches.Found.{Found}
 use Rattle.clap.proofs.OnLiterals.{clap_on_literals}
 use Rattle.clap.proofs.WalkLemmas.{one_text-rows}
 use Rattle.kalah_solve.specs.Table.{most_entries}
+use Rattle.kalah_run.specs.Limits.{most_workers}
 use Rattle.kalah_jobs.specs.declared.files.question.Question.{Question}
-use Rattle.kalah_cli.specs.Request.{Asked, HasFlag, HasNumber, IsAnswers, IsPlay, IsTaken, answers, answers_asked, asked, asked_by, is_set, number_of, play, play_asked}
+use Rattle.kalah_cli.specs.Request.{Asked, HasFlag, HasNumber, IsAnswers, IsPlay, IsTaken, answers, answers_asked, asked, asked_by, is_set, number_written, play, play_asked}
 use Rattle.kalah_cli.specs.Command.{kalah_app}
 use Rattle.kalah_cli.proofs.Laws.{app_is_simple}
 use Rattle.kalah_cli.proofs.Subcommands.{taken_holds}
@@ -31,7 +32,7 @@ is_there f (Some x) t e = refl
 -- a text in range is read as its number
 pub number_reads : (E : Type 0) (G : List ℕ → Result ℕ E → Type 0) (t : List ℕ) (r : Option ℕ) → ReadsOne G t r
     → ((u : List ℕ) (x : Result ℕ E) → G u x → ParsesUnsigned 32 10 u x) → IsUnsignedIn 1 most_entries t
-    → (n : ℕ) × (r ≡ Some n) × (n ≡ number_of t)
+    → (n : ℕ) × (r ≡ Some n) × (n ≡ number_written t)
 number_reads E G t (Some v) h only p = (v, refl, (only t (Ok v) h).1)
 number_reads E G t None h only p = absurd (only t (Err h.0) h.1 (p.0, omega arith))
 
@@ -39,7 +40,7 @@ number_reads E G t None h only p = absurd (only t (Err h.0) h.1 (p.0, omega arit
 pub number_read : (E : Type 0) (G : List ℕ → Result ℕ E → Type 0) (f : Found) (id : List ℕ) (r : Option ℕ)
     → ((t : List ℕ) → one_text f id ≡ Some t → ReadsOne G t r)
     → ((u : List ℕ) (x : Result ℕ E) → G u x → ParsesUnsigned 32 10 u x) → HasNumber id most_entries (rows_of f)
-    → (n : ℕ) × (r ≡ Some n) × ((t : List ℕ) → one_of id (rows_of f) ≡ Some t → n ≡ number_of t)
+    → (n : ℕ) × (r ≡ Some n) × ((t : List ℕ) → one_of id (rows_of f) ≡ Some t → n ≡ number_written t)
 number_read E G f id r reads only has =
     let got = number_reads E G has.0 r (reads has.0 (one_text-rows f id ∙ has.1)) only has.2 in
     (got.0, got.1, λ t e. let same : t ≡ has.0 = cc in rw same got.2)
@@ -62,7 +63,7 @@ taken_is a words o is none rows =
 
 -- the number is that of the text of the id
 abbrev Reads : Text → List Row → ℕ → Type 0
-Reads id rows n = (t : List ℕ) → one_of id rows ≡ Some t → n ≡ number_of t
+Reads id rows n = (t : List ℕ) → one_of id rows ≡ Some t → n ≡ number_written t
 
 -- the getter of a flag tells whether it is set
 pub flag_read : (f : Found) (id : Text) (r : Bool) → HasFlag id (rows_of f) → (one_text f id ≡ None → r ≡ false)
@@ -97,7 +98,7 @@ answers_are question rows has workers table files is_workers is_table is_files =
 -- and it is in range
 pub answers_in_range : (rows : List Row) (has : IsAnswers rows) (workers table : ℕ) (files : List (Bor Text)) → Reads (codes "workers") rows workers
     → Reads (codes "table") rows table → Some (map (λ f. f.now) files) ≡ all_of (codes "file") rows
-    → (1 ≤ workers) × (workers ≤ 64) × (1 ≤ table) × (table ≤ most_entries) × (0 < length files)
+    → (1 ≤ workers) × (workers ≤ most_workers) × (1 ≤ table) × (table ≤ most_entries) × (0 < length files)
 answers_in_range rows has workers table files is_workers is_table is_files =
     let w = is_workers has.0.0 has.0.1 in
     let t = is_table has.1.0 has.1.1 in

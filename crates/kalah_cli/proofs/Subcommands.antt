@@ -23,7 +23,7 @@ use Rattle.clap.specs.declared.parser.matches.ValueSource.{ValueSource}
 use Rattle.clap.specs.declared.builder.action.ArgAction.TheVariants.{Append, Help, Set, SetTrue}
 use Rattle.kalah_solve.specs.Table.{most_entries}
 use Rattle.kalah_cli.specs.Command.{answers_app, boards_rule, file_rule, kalah_app, line_rule, moves_app, play_app, table_rule, workers_rule}
-use Rattle.kalah_cli.specs.Request.{HasFlag, HasLine, HasNumber, HasWhatItNeeds, IsAnswers, IsMoves, IsPlay}
+use Rattle.kalah_cli.specs.Request.{HasFlag, HasLineArgument, HasNumber, HasWhatItNeeds, IsAnswers, IsMoves, IsPlay}
 use Rattle.kalah_cli.proofs.Kept.{AllOf, Gives, both_all, found_all, kept_level, level_parts}
 
 -- ---- values
@@ -382,7 +382,7 @@ boards_flag rows all = λ t e. go t (find (λ r. bytes_eq r.id (codes "boards"))
         flag_of r t ((found_row Sound (codes "boards") rows r all is).boards (found_named (codes "boards") rows r is)) e
 
 -- rows to which a line is given have one
-line_in : (rows : List Row) → AllOf Sound rows → is_given (codes "line") rows ≡ true → HasLine rows
+line_in : (rows : List Row) → AllOf Sound rows → is_given (codes "line") rows ≡ true → HasLineArgument rows
 line_in rows all given =
     let line = given_row (codes "line") rows given in
     first_in (codes "line") rows line.0 line.1 (found_row Sound (codes "line") rows line.0 all line.1).some

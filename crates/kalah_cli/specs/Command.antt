@@ -15,7 +15,7 @@ line_rule = record (new_rule (codes "line")) {
   action = Some Set;
 }
 
--- `--workers N`: a number from 1 to 64, and 4 where it isn't given
+-- `--workers N`: a number from 1 to the most workers, and 4 where it isn't given
 abbrev pub workers_rule : Rule
 workers_rule = record (new_rule (codes "workers")) {
   long = Some (codes "workers");
@@ -25,7 +25,7 @@ workers_rule = record (new_rule (codes "workers")) {
   defaults = codes "4" ∷ [];
 }
 
--- `--table N`: a number from 1 to 1048576, and 65536 where it isn't given
+-- `--table N`: a number from 1 to the most entries, and 65536 where it isn't given
 abbrev pub table_rule : Rule
 table_rule = record (new_rule (codes "table")) {
   long = Some (codes "table");

@@ -36,8 +36,8 @@ command_of BestMove = codes "solve"
 command_of Values = codes "values"
 
 -- the number that a text of digits writes
-abbrev pub number_of : Text → ℕ
-number_of text = digits_value 10 (without_leading_plus text)
+abbrev pub number_written : Text → ℕ
+number_written text = digits_value 10 (without_leading_plus text)
 
 -- whether the matches have the flag
 abbrev pub is_set : Text → List Row → Bool
@@ -49,12 +49,12 @@ moves_asked rows = option_map (moves (is_set (codes "boards") rows)) (first_of (
 
 -- what the matches of `play` ask for
 abbrev pub play_asked : List Row → Option Asked
-play_asked rows = option_and_then (λ t. option_map (play (number_of t) (is_set (codes "boards") rows)) (first_of (codes "line") rows))
+play_asked rows = option_and_then (λ t. option_map (play (number_written t) (is_set (codes "boards") rows)) (first_of (codes "line") rows))
     (one_of (codes "table") rows)
 
 -- what the matches of `solve` or `values` ask for
 abbrev pub answers_asked : Question → List Row → Option Asked
-answers_asked question rows = option_and_then (λ w. option_and_then (λ t. option_map (λ fs. answers question (number_of w) (number_of t) fs)
+answers_asked question rows = option_and_then (λ w. option_and_then (λ t. option_map (λ fs. answers question (number_written w) (number_written t) fs)
     (all_of (codes "file") rows)) (one_of (codes "table") rows)) (one_of (codes "workers") rows)
 
 -- what a subcommand with its matches asks for
@@ -118,16 +118,16 @@ abbrev pub HasFlag : Text → List Row → Type 0
 HasFlag id rows = (t : Text) → one_of id rows ≡ Some t → (t ≡ codes "true") ⊎ (t ≡ codes "false")
 
 -- the matches have a line
-abbrev pub HasLine : List Row → Type 0
-HasLine rows = (t : Text) × (first_of (codes "line") rows ≡ Some t)
+abbrev pub HasLineArgument : List Row → Type 0
+HasLineArgument rows = (t : Text) × (first_of (codes "line") rows ≡ Some t)
 
 -- the matches have what `moves` needs
 abbrev pub IsMoves : List Row → Type 0
-IsMoves rows = HasFlag (codes "boards") rows × HasLine rows
+IsMoves rows = HasFlag (codes "boards") rows × HasLineArgument rows
 
 -- the matches have what `play` needs
 abbrev pub IsPlay : List Row → Type 0
-IsPlay rows = HasNumber (codes "table") most_entries rows × HasFlag (codes "boards") rows × HasLine rows
+IsPlay rows = HasNumber (codes "table") most_entries rows × HasFlag (codes "boards") rows × HasLineArgument rows
 
 -- the matches have what the subcommand of this name needs
 abbrev pub HasWhatItNeeds : Text → List Row → Type 0

@@ -7,11 +7,9 @@ ghost use Rattle.kalah_cli.specs.Command.{answers_app, boards_rule, file_rule, k
 use crate::version::VERSION_LINE;
 use clap::builder::ValueParser;
 use clap::{Arg, ArgAction, Command};
+use kalah_run::MOST_WORKERS;
+use kalah_solve::MOST_ENTRIES;
 use std::alloc::{AllocError, Global};
-
-const MOST_WORKERS: u64 = 64;
-
-const MOST_ENTRIES: u64 = 1_048_576;
 
 const ABOUT_SOLVE: &str =
     "Prints the margin of best play and the best house of each position in files";
@@ -119,7 +117,7 @@ fn workers_arg<'a>(alloc: Global) -> Arg<'a>
         .value_name("N")
         .help("how many workers solve side by side, 1 to 64")
         .action(ArgAction::Set)
-        .value_parser(ValueParser::unsigned(1, MOST_WORKERS))
+        .value_parser(ValueParser::unsigned(1, MOST_WORKERS as u64))
         .default_value("4")
 }
 
@@ -133,7 +131,7 @@ fn table_arg<'a>(alloc: Global) -> Arg<'a>
         .value_name("N")
         .help("how many solved positions each worker remembers, 1 to 1048576")
         .action(ArgAction::Set)
-        .value_parser(ValueParser::unsigned(1, MOST_ENTRIES))
+        .value_parser(ValueParser::unsigned(1, MOST_ENTRIES as u64))
         .default_value("65536")
 }
 

@@ -8,7 +8,7 @@ ghost use Rattle.clap.specs.Words.{found_of, kind_of};
 ghost use Rattle.clap.specs.declared.error.kind.ErrorKind.TheVariants.{OutOfMemory};
 ghost use Rattle.kalah_solve.specs.Table.{most_entries};
 ghost use Rattle.kalah_cli.specs.Command.{kalah_app};
-ghost use Rattle.kalah_cli.specs.Request.{Asked, HasFlag, HasLine, HasNumber, IsAnswers, IsInRange, IsMoves, IsPlainWord, IsPlay, IsTaken, IsTakenAs, answers, answers_asked, asked_by, asked_for, command_of, is_set, moves, moves_asked, number_of, play_asked};
+ghost use Rattle.kalah_cli.specs.Request.{Asked, HasFlag, HasLineArgument, HasNumber, IsAnswers, IsInRange, IsMoves, IsPlainWord, IsPlay, IsTaken, IsTakenAs, answers, answers_asked, asked_by, asked_for, command_of, is_set, moves, moves_asked, number_written, play_asked};
 
 use crate::command::command;
 use clap::{ArgMatches, Error};
@@ -51,7 +51,7 @@ pub struct Batch<'a> {
 fn option_number(found: &ArgMatches<'_>, id: &str) -> u32
     requires { HasNumber id.now most_entries (rows_of (found_of found.now)) }
     ensures { (t : List ℕ) → one_of id.now (rows_of (found_of found.now)) ≡ Some t
-        → result ≡ number_of t }
+        → result ≡ number_written t }
 {
     found.get_one::<u32>(id).unwrap()
 }
@@ -66,7 +66,7 @@ fn is_set(found: &ArgMatches<'_>, id: &str) -> bool
 
 // The line of `moves` or `play`, which has one.
 fn line_of<'a>(found: &ArgMatches<'a>) -> &'a str
-    requires { HasLine (rows_of (found_of found.now)) }
+    requires { HasLineArgument (rows_of (found_of found.now)) }
     ensures { first_of (codes "line") (rows_of (found_of found.now)) ≡ Some result.now }
 {
     found.get_str("line").unwrap()

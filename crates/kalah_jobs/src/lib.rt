@@ -15,9 +15,7 @@ pub use collecting::collector_laws::{
 pub use collecting::outcome::Outcome;
 pub use collecting::refusal::Refusal;
 pub use files::entry::Entry;
-pub use files::file_laws::{
-    constants_tell_a_batch, entries_are_one, files_are_their_jobs, lines_are_one,
-};
+pub use files::file_laws::{entries_are_one, files_are_their_jobs, lines_are_one};
 pub use files::file_text::FileText;
 pub use files::job::Job;
 pub use files::jobs::{Jobs, JobsFault, MOST_FILES, MOST_LINES};

@@ -1,18 +1,19 @@
 -- How large a position may be.
-use Rattle.std.specs.Prelude.{ℕ}
+use Rattle.std.specs.Prelude.{ℕ, ◌+◌}
+use Rattle.kalah_rules.specs.declared.limits.TheConstants.{MOST_HOUSES, MOST_SEEDS, MOST_IN_STORE}
 
 -- houses a side
 abbrev pub most_houses : ℕ
-most_houses = 6
+most_houses = MOST_HOUSES
 
 -- seeds in the houses of both players together
 abbrev pub most_seeds : ℕ
-most_seeds = 31
+most_seeds = MOST_SEEDS
 
 -- seeds in a store of a position that is written down
 abbrev pub most_in_store : ℕ
-most_in_store = 99
+most_in_store = MOST_IN_STORE
 
 -- seeds in a store with all the seeds that could still come to it
 abbrev pub most_in_play : ℕ
-most_in_play = 130
+most_in_play = most_in_store + most_seeds

@@ -12,11 +12,11 @@ use lib.ListN.{get_elem?}
 use Rattle.atomic_table.specs.Table.{State, Me, step, keeps, Allows}
 use Rattle.kalah_jobs.specs.Files.Jobs.{most_lines}
 use Rattle.kalah_run.specs.Limits.{most_workers}
-use Rattle.kalah_run.specs.declared.desk_rule.Row.{Row}
+use Rattle.kalah_run.specs.declared.desk_rule.DrawnRow.{DrawnRow}
 use Rattle.kalah_run.specs.declared.desk_rule.DeskPlan.{DeskPlan}
 use Rattle.kalah_run.specs.declared.desk_rule.DeskView.{DeskView}
 use Rattle.kalah_run.specs.declared.desk_rule.DeskView.TheVariants.{Drawing}
-use Rattle.kalah_run.specs.DeskRows.{row, drawn_in, spent_in, AreLawful}
+use Rattle.kalah_run.specs.DeskRows.{drawn_row, drawn_in, spent_in, AreLawful}
 use Rattle.kalah_run.specs.DeskKept.{all_rows, IsKept}
 use Rattle.kalah_run.specs.DeskSteps.{DrawsFrom, Draws}
 use Rattle.kalah_run.specs.DeskStates.{as_pass_view, row_in, total_in, number_in}
@@ -24,18 +24,18 @@ use Rattle.kalah_run.proofs.DeskSums.{times, times_rows, rows_set, rows_at, pass
 
 -- the view of a pass that is not spent
 abbrev unspent_view : ℕ → ℕ → List ℕ → DeskView
-unspent_view total number numbers = Drawing total number (row numbers false)
+unspent_view total number numbers = Drawing total number (drawn_row numbers false)
 
 -- its view after it was answered n
 abbrev drawn_view : ℕ → ℕ → List ℕ → ℕ → DeskView
-drawn_view total number numbers n = Drawing total number (row (numbers ++ n ∷ []) false)
+drawn_view total number numbers n = Drawing total number (drawn_row (numbers ++ n ∷ []) false)
 
 -- its view after it was answered None
 abbrev spent_view : ℕ → ℕ → List ℕ → DeskView
-spent_view total number numbers = Drawing total number (row numbers true)
+spent_view total number numbers = Drawing total number (drawn_row numbers true)
 
 -- a number in a row is below the count of all numbers
-stands_below : (views : List DeskView) (seat total number : ℕ) (r : Row) (plan_total : ℕ)
+stands_below : (views : List DeskView) (seat total number : ℕ) (r : DrawnRow) (plan_total : ℕ)
     → get_elem? views seat ≡ some (Drawing total number r) → AreLawful plan_total (all_rows views) → All (λ x. x < drawn_in (all_rows views)) r.numbers
 stands_below views seat total number r plan_total at lawful k d within =
     let x : ℕ = get_or r.numbers k d in
@@ -77,11 +77,11 @@ module _ {S : Type 0} (plan : DeskPlan) (s : State S DeskView) (seat total numbe
       let spent : spent_in (all_rows (set s.views seat w)) ≡ spent_in (all_rows s.views) =
       omega (arith, rows_set (λ r. cond r.spent 1 0) s.views seat v w at) in
       let low_all : All (λ x. x < drawn_in (all_rows s.views)) numbers =
-      stands_below s.views seat total number (row numbers false) plan.total at kept.lawful in
+      stands_below s.views seat total number (drawn_row numbers false) plan.total at kept.lawful in
       let below : All (λ x. x < n) numbers = subst (λ (c : ℕ). All (λ x. x < c) numbers) (sym found) low_all in
-      let P : Row → Type 0 = λ r. AllPairs (λ x y. x < y) r.numbers in
-      let old : P (row numbers false) = All-head P (row numbers false) [] (all_at P s.views seat v at kept.lawful.rising) in
-      let rises : P (row (numbers ++ n ∷ []) false) = all_pairs_push (λ x y. x < y) numbers n old below in (
+      let P : DrawnRow → Type 0 = λ r. AllPairs (λ x y. x < y) r.numbers in
+      let old : P (drawn_row numbers false) = All-head P (drawn_row numbers false) [] (all_at P s.views seat v at kept.lawful.rising) in
+      let rises : P (drawn_row (numbers ++ n ∷ []) false) = all_pairs_push (λ x y. x < y) numbers n old below in (
         record {
           within = omega arith;
           each_once = λ x.
@@ -92,7 +92,7 @@ module _ {S : Type 0} (plan : DeskPlan) (s : State S DeskView) (seat total numbe
               ∙ ap (λ k. k + cond (n == x) 1 0) (sym (times_rows x (all_rows s.views)) ∙ kept.lawful.each_once x)
               ∙ one_more x (drawn_in (all_rows s.views)) n found
               ∙ ap (λ c. if nat_lt x c then 1 else 0) (sym drawn);
-          rising = all_set P s.views seat w kept.lawful.rising (All-cons P (row (numbers ++ n ∷ []) false) [] rises (All-nil P));
+          rising = all_set P s.views seat w kept.lawful.rising (All-cons P (drawn_row (numbers ++ n ∷ []) false) [] rises (All-nil P));
           spent = λ some_spent. absurd (omega arith);
         },
         omega arith,
@@ -117,8 +117,8 @@ module _ {S : Type 0} (plan : DeskPlan) (s : State S DeskView) (seat total numbe
       omega (arith, rows_set (λ r. length r.numbers) s.views seat v w at) in
       let spent : spent_in (all_rows (set s.views seat w)) ≡ spent_in (all_rows s.views) + 1 =
       omega (arith, rows_set (λ r. cond r.spent 1 0) s.views seat v w at) in
-      let P : Row → Type 0 = λ r. AllPairs (λ x y. x < y) r.numbers in
-      let old : P (row numbers false) = All-head P (row numbers false) [] (all_at P s.views seat v at kept.lawful.rising) in (
+      let P : DrawnRow → Type 0 = λ r. AllPairs (λ x y. x < y) r.numbers in
+      let old : P (drawn_row numbers false) = All-head P (drawn_row numbers false) [] (all_at P s.views seat v at kept.lawful.rising) in (
         record {
           within = omega arith;
           each_once = λ x.
@@ -129,7 +129,7 @@ module _ {S : Type 0} (plan : DeskPlan) (s : State S DeskView) (seat total numbe
               ∙ sym (times_rows x (all_rows s.views))
               ∙ kept.lawful.each_once x
               ∙ ap (λ c. if nat_lt x c then 1 else 0) (sym drawn);
-          rising = all_set P s.views seat w kept.lawful.rising (All-cons P (row numbers true) [] old (All-nil P));
+          rising = all_set P s.views seat w kept.lawful.rising (All-cons P (drawn_row numbers true) [] old (All-nil P));
           spent = λ some_spent. omega arith;
         },
         omega arith,
@@ -137,7 +137,7 @@ module _ {S : Type 0} (plan : DeskPlan) (s : State S DeskView) (seat total numbe
 
 -- no more passes are spent than there are
 few_spent : {S : Type 0} (plan : DeskPlan) (s : State S DeskView) → IsKept plan s → spent_in (all_rows s.views) ≤ plan.passes
-few_spent plan s kept = omega (arith, kept.passes, count_by-le-length (λ (r : Row). r.spent) (all_rows s.views), rows_within_passes s.views)
+few_spent plan s kept = omega (arith, kept.passes, count_by-le-length (λ (r : DrawnRow). r.spent) (all_rows s.views), rows_within_passes s.views)
 
 -- a draw of a pass that is not spent
 pub draws : {S : Type 0} (plan : DeskPlan) (slots seat total number : ℕ) (numbers : List ℕ)
@@ -188,7 +188,7 @@ pub draws_as : {S : Type 0} (plan : DeskPlan) (slots seat : ℕ) (me : Me S Desk
     → Allows {S = S} (IsKept plan) slots seat me 0 (λ n. (n + 1) % 2 ^ 64) (Draws (step slots 0 1 0 none) me)
 draws_as {S} plan slots seat me is unspent =
     let v = me.0 in
-    let pass : (as_pass_view v, []) ≡ (Drawing (total_in v) (number_in v) (row (row_in v).numbers false), []) =
-    ap (λ b. (Drawing (total_in v) (number_in v) (row (row_in v).numbers b), [])) unspent in
+    let pass : (as_pass_view v, []) ≡ (Drawing (total_in v) (number_in v) (drawn_row (row_in v).numbers false), []) =
+    ap (λ b. (Drawing (total_in v) (number_in v) (drawn_row (row_in v).numbers b), [])) unspent in
     subst (λ (m : Me S DeskView). Allows {S = S} (IsKept plan) slots seat m 0 (λ n. (n + 1) % 2 ^ 64) (Draws (step slots 0 1 0 none) m))
     (sym (is ∙ pass)) (draws plan slots seat (total_in v) (number_in v) (row_in v).numbers)

@@ -6,7 +6,7 @@ use Rattle.std.proofs.lemmas.Bool.Decides.{nat_tests}
 use mathlib.Core.Option.{some, some-injective}
 use lib.ListN.{get_elem?}
 use Rattle.atomic_table.specs.Table.{State, Seen, Final}
-use Rattle.kalah_run.specs.declared.desk_rule.Row.{Row}
+use Rattle.kalah_run.specs.declared.desk_rule.DrawnRow.{DrawnRow}
 use Rattle.kalah_run.specs.declared.desk_rule.DeskPlan.{DeskPlan}
 use Rattle.kalah_run.specs.declared.desk_rule.DeskView.{DeskView}
 use Rattle.kalah_run.specs.declared.desk_rule.DeskView.TheVariants.{Closing}
@@ -15,15 +15,15 @@ use Rattle.kalah_run.specs.DeskKept.{all_rows, IsKept}
 use Rattle.kalah_run.proofs.DeskSums.{has_all}
 
 -- where the closing seat has a row for each pass, these rows are lawful, and the word counts them
-settles : {S : Type 0} (plan : DeskPlan) (seat : ℕ) (rows : List Row) (s : State S DeskView) → Seen {S = S} (IsKept plan) seat (Closing rows) s → length rows ≡ plan.passes
+settles : {S : Type 0} (plan : DeskPlan) (seat : ℕ) (rows : List DrawnRow) (s : State S DeskView) → Seen {S = S} (IsKept plan) seat (Closing rows) s → length rows ≡ plan.passes
     → (s.words ≡ (drawn_in rows + spent_in rows) ∷ []) × AreLawful plan.total rows
 settles {S} plan seat rows s seen whole =
     let kept = seen.0 in
     let all : all_rows s.views ≡ rows = has_all s.views seat rows seen.1 (whole ∙ sym kept.passes) in
-    subst (λ (rs : List Row). (s.words ≡ (drawn_in rs + spent_in rs) ∷ []) × AreLawful plan.total rs) all (kept.word, kept.lawful)
+    subst (λ (rs : List DrawnRow). (s.words ≡ (drawn_in rs + spent_in rs) ∷ []) × AreLawful plan.total rs) all (kept.word, kept.lawful)
 
 -- the same of the closed table's word
-pub ends : {S : Type 0} (plan : DeskPlan) (seat : ℕ) (v : DeskView) (rows : List Row) (ws : List ℕ) (xs : List S) (word : ℕ)
+pub ends : {S : Type 0} (plan : DeskPlan) (seat : ℕ) (v : DeskView) (rows : List DrawnRow) (ws : List ℕ) (xs : List S) (word : ℕ)
     → v ≡ Closing rows → Final {S = S} (Seen (IsKept plan) seat v) ws xs → length rows ≡ plan.passes → get_elem? ws 0 ≡ some word
     → (word ≡ drawn_in rows + spent_in rows) × AreLawful plan.total rows
 ends {S} plan seat v rows ws xs word is last whole found =
@@ -34,13 +34,13 @@ ends {S} plan seat v rows ws xs word is last whole found =
     (some-injective _ _ at, t.1)
 
 -- the last word, cut to the total, is how many numbers were drawn
-pub drawn_at_end : (total word : ℕ) (rows : List Row) → word ≡ drawn_in rows + spent_in rows → AreLawful total rows → min word total ≡ drawn_in rows
+pub drawn_at_end : (total word : ℕ) (rows : List DrawnRow) → word ≡ drawn_in rows + spent_in rows → AreLawful total rows → min word total ≡ drawn_in rows
 drawn_at_end total word rows is lawful =
     let within = lawful.within in
     ⊎_elim (λ (some_spent : 0 < spent_in rows). let full = lawful.spent some_spent in omega arith) (λ (few : spent_in rows ≤ 0). omega arith) (cases_lt 0 (spent_in rows))
 
 -- the last word is above the total exactly where some pass is spent
-pub spent_at_end : (total word : ℕ) (rows : List Row) → word ≡ drawn_in rows + spent_in rows → AreLawful total rows
+pub spent_at_end : (total word : ℕ) (rows : List DrawnRow) → word ≡ drawn_in rows + spent_in rows → AreLawful total rows
     → (IsTrue (nat_lt total word) → 0 < spent_in rows) × (0 < spent_in rows → IsTrue (nat_lt total word))
 spent_at_end total word rows is lawful =
     let within = lawful.within in (

@@ -3,7 +3,7 @@ use Rattle.std.proofs.Common.{List, arith}
 use Rattle.std.specs.Prelude.{⊤}
 use Rattle.std.proofs.lemmas.List.Sums.{count_by-le-length}
 use Rattle.atomic_table.specs.Table.{State}
-use Rattle.kalah_run.specs.declared.desk_rule.Row.{Row}
+use Rattle.kalah_run.specs.declared.desk_rule.DrawnRow.{DrawnRow}
 use Rattle.kalah_run.specs.declared.desk_rule.DeskPlan.{DeskPlan}
 use Rattle.kalah_run.specs.declared.desk_rule.DeskView.{DeskView}
 use Rattle.kalah_run.specs.DeskRows.{drawn_in}
@@ -14,7 +14,7 @@ use Rattle.kalah_run.proofs.DeskSums.{rows_within_passes}
 
 pub desk_is_lawful : (plan : DeskPlan) (state : State ⊤ DeskView) → IsKept plan state → DealsEachOnce plan.total state.words (all_rows state.views)
 desk_is_lawful plan state kept =
-    let rows : List Row = all_rows state.views in
+    let rows : List DrawnRow = all_rows state.views in
     record {
       drawn = drawn_in rows;
       within = kept.lawful.within;

@@ -12,18 +12,19 @@ use Rattle.atomic_table.specs.Table.{step, opening, Splits, Joins, Enters}
 use Rattle.atomic_table.proofs.Lists.{at_set}
 use Rattle.kalah_jobs.specs.Files.Jobs.{most_lines}
 use Rattle.kalah_run.specs.Limits.{most_workers}
-use Rattle.kalah_run.specs.declared.desk_rule.Row.{Row}
+use Rattle.kalah_run.specs.declared.desk_rule.DrawnRow.{DrawnRow}
 use Rattle.kalah_run.specs.declared.desk_rule.DeskPlan.{DeskPlan}
 use Rattle.kalah_run.specs.declared.desk_rule.DeskView.{DeskView}
 use Rattle.kalah_run.specs.declared.desk_rule.DeskView.TheVariants.{Opening, Drawing, Closing, Ended}
-use Rattle.kalah_run.specs.DeskRows.{row, drawn_in, spent_in, AreLawful}
+use Rattle.kalah_run.specs.DeskRows.{drawn_row, drawn_in, spent_in, AreLawful}
 use Rattle.kalah_run.specs.DeskKept.{opening_view, ended_view, rows_in, all_rows, passes_in, HasTotal, IsKept}
-use Rattle.kalah_run.specs.DeskSteps.{StartsClosing, after_handing_out, pass_handed_out, after_taking_in}
+use Rattle.kalah_run.specs.DeskSteps.{StartsClosing, after_handing_out, pass_handed_out, after_taking_in_row}
 use Rattle.kalah_run.specs.DeskStates.{PassState, DeskState, new_pass, AreNewPasses, as_pass_view, row_in, total_in, number_in}
 use Rattle.kalah_run.proofs.DeskSums.{times, times_rows, rows_set, rows_push, passes_set, passes_push, totals_set, totals_push, all_set, all_pushed, all_at}
 
 -- rows with the same counts are as lawful
-lawful_alike : (total : ℕ) (rows others : List Row) → drawn_in others ≡ drawn_in rows → ((x : ℕ) → sum_by (times x) others ≡ sum_by (times x) rows) → spent_in others ≡ spent_in rows
+lawful_alike : (total : ℕ) (rows others : List DrawnRow) → drawn_in others ≡ drawn_in rows
+    → ((x : ℕ) → sum_by (times x) others ≡ sum_by (times x) rows) → spent_in others ≡ spent_in rows
     → All (λ r. AllPairs (λ x y. x < y) r.numbers) others → AreLawful total rows → AreLawful total others
 lawful_alike total rows others drawn same spent rising was = record {
   within = omega (arith, was.within);
@@ -57,9 +58,9 @@ pub hands_out : {S : Type 0} (plan : DeskPlan) (seat total handed_out left : ℕ
 hands_out {S} plan seat total handed_out left some_left s kept at =
     let v : DeskView = Opening total handed_out left in
     let a : DeskView = Opening total (handed_out + 1) (left - 1) in
-    let b : DeskView = Drawing total handed_out (row [] false) in
+    let b : DeskView = Drawing total handed_out (drawn_row [] false) in
     let now : List DeskView = set s.views seat a in
-    let P : Row → Type 0 = λ r. AllPairs (λ x y. x < y) r.numbers in
+    let P : DrawnRow → Type 0 = λ r. AllPairs (λ x y. x < y) r.numbers in
     let drawn : drawn_in (all_rows (now ++ b ∷ [])) ≡ drawn_in (all_rows s.views) =
     omega (arith, rows_push (λ r. length r.numbers) now b, rows_set (λ r. length r.numbers) s.views seat v a at) in
     let spent : spent_in (all_rows (now ++ b ∷ [])) ≡ spent_in (all_rows s.views) =
@@ -71,7 +72,7 @@ hands_out {S} plan seat total handed_out left some_left s kept at =
       word = kept.word ∙ ap (λ m. m ∷ []) (omega arith);
       passes = omega (arith, passes_push now b, passes_set s.views seat v a at, kept.passes);
       lawful = lawful_alike plan.total (all_rows s.views) (all_rows (now ++ b ∷ [])) drawn same spent
-          (all_pushed P now b (all_set P s.views seat a kept.lawful.rising (All-nil P)) (All-cons P (row [] false) [] (λ i j d under within. absurd (omega arith)) (All-nil P))) kept.lawful;
+          (all_pushed P now b (all_set P s.views seat a kept.lawful.rising (All-nil P)) (All-cons P (drawn_row [] false) [] (λ i j d under within. absurd (omega arith)) (All-nil P))) kept.lawful;
       totals = totals_push plan now b (totals_set plan s.views seat a kept.totals (kept.totals seat v at)) (kept.totals seat v at);
     }
 
@@ -98,7 +99,7 @@ pub starts_closing : {S : Type 0} (plan : DeskPlan) (slots : ℕ)
     → Enters {S = S} (IsKept plan) slots 0 (λ n w. StartsClosing {S = S} (step slots 0 0 0 none) (opening_view plan, []) n (w, []))
 starts_closing {S} plan slots s kept homes fits =
     let w : DeskView = Closing [] in
-    let P : Row → Type 0 = λ r. AllPairs (λ x y. x < y) r.numbers in
+    let P : DrawnRow → Type 0 = λ r. AllPairs (λ x y. x < y) r.numbers in
     let drawn : drawn_in (all_rows (s.views ++ w ∷ [])) ≡ drawn_in (all_rows s.views) = omega (arith, rows_push (λ r. length r.numbers) s.views w) in
     let spent : spent_in (all_rows (s.views ++ w ∷ [])) ≡ spent_in (all_rows s.views) = omega (arith, rows_push (λ r. cond r.spent 1 0) s.views w) in
     let same : (x : ℕ) → sum_by (times x) (all_rows (s.views ++ w ∷ [])) ≡ sum_by (times x) (all_rows s.views) = λ x. omega (arith, rows_push (times x) s.views w) in (
@@ -114,18 +115,18 @@ starts_closing {S} plan slots s kept homes fits =
     )
 
 -- a pass is taken in
-pub takes_in : {S : Type 0} (plan : DeskPlan) (seat : ℕ) (rows : List Row) (other total number : ℕ) (r : Row)
-    → Joins {S = S} (IsKept plan) seat (Closing rows) other (Drawing total number r) (after_taking_in (Closing rows) (Drawing total number r)) ended_view
+pub takes_in : {S : Type 0} (plan : DeskPlan) (seat : ℕ) (rows : List DrawnRow) (other total number : ℕ) (r : DrawnRow)
+    → Joins {S = S} (IsKept plan) seat (Closing rows) other (Drawing total number r) (after_taking_in_row (Closing rows) (Drawing total number r)) ended_view
 takes_in {S} plan seat rows other total number r s kept at apart there =
     let v : DeskView = Closing rows in
     let u : DeskView = Drawing total number r in
     let w : DeskView = Closing (r ∷ rows) in
     let between : List DeskView = set s.views seat w in
     let now : List DeskView = set between other Ended in
-    let P : Row → Type 0 = λ q. AllPairs (λ x y. x < y) q.numbers in
+    let P : DrawnRow → Type 0 = λ q. AllPairs (λ x y. x < y) q.numbers in
     let own : All P rows = all_at P s.views seat v at kept.lawful.rising in
     let theirs : All P (r ∷ []) = all_at P s.views other u (was s.views seat other w u apart there) kept.lawful.rising in
-    let same : (f : Row → ℕ) → sum_by f (all_rows now) ≡ sum_by f (all_rows s.views) =
+    let same : (f : DrawnRow → ℕ) → sum_by f (all_rows now) ≡ sum_by f (all_rows s.views) =
     λ f. omega (arith, rows_set f s.views seat v w at, rows_set f between other u Ended there, sum_by-cons f r rows) in
     record {
       few = kept.few;
@@ -146,8 +147,8 @@ takes_in {S} plan seat rows other total number r s kept at apart there =
 
 -- a pass is taken in, at views that are known
 pub takes_in_as : {S : Type 0} (plan : DeskPlan) (seat : ℕ) (v : DeskView) (other : ℕ) (w : DeskView)
-    → v ≡ Closing (rows_in v) → w ≡ as_pass_view w → Joins {S = S} (IsKept plan) seat v other w (after_taking_in v w) ended_view
+    → v ≡ Closing (rows_in v) → w ≡ as_pass_view w → Joins {S = S} (IsKept plan) seat v other w (after_taking_in_row v w) ended_view
 takes_in_as {S} plan seat v other w is pass =
-    subst (λ (u : DeskView). Joins {S = S} (IsKept plan) seat u other w (after_taking_in u w) ended_view) (sym is)
-    (subst (λ (u : DeskView). Joins {S = S} (IsKept plan) seat (Closing (rows_in v)) other u (after_taking_in (Closing (rows_in v)) u) ended_view)
+    subst (λ (u : DeskView). Joins {S = S} (IsKept plan) seat u other w (after_taking_in_row u w) ended_view) (sym is)
+    (subst (λ (u : DeskView). Joins {S = S} (IsKept plan) seat (Closing (rows_in v)) other u (after_taking_in_row (Closing (rows_in v)) u) ended_view)
     (sym pass) (takes_in plan seat (rows_in v) other (total_in w) (number_in w) (row_in w)))

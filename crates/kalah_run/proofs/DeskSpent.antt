@@ -3,25 +3,25 @@ use Rattle.std.proofs.Common.{◌≡◌, ℕ, zero, suc, ◌<◌, List, [], ◌�
 use Rattle.std.specs.Prelude.{slice_index_or}
 use Rattle.std.proofs.lemmas.List.{length-map}
 use Rattle.std.proofs.lemmas.List.Sums.{sum_by-cons}
-use Rattle.kalah_run.specs.declared.desk_rule.Row.{Row}
-use Rattle.kalah_run.specs.DeskRows.{numbers_of, spent_in}
-use Rattle.kalah_run.specs.DeskStates.{PassState, rows_of}
+use Rattle.kalah_run.specs.declared.desk_rule.DrawnRow.{DrawnRow}
+use Rattle.kalah_run.specs.DeskRows.{drawn_numbers, spent_in}
+use Rattle.kalah_run.specs.DeskStates.{PassState, drawn_rows}
 
 -- where the pass at k is spent, some pass is
-pub some_spent : (passes : List PassState) (k : ℕ) (d : PassState) → k < length passes → (slice_index_or passes k d).row.spent ≡ true → 0 < spent_in (rows_of passes)
+pub some_spent : (passes : List PassState) (k : ℕ) (d : PassState) → k < length passes → (slice_index_or passes k d).row.spent ≡ true → 0 < spent_in (drawn_rows passes)
 some_spent [] k d within spent = absurd (omega arith)
 some_spent (p ∷ ps) zero d within spent =
     let one : cond {A = ℕ} p.row.spent 1 0 ≡ 1 = ap (λ (b : Bool). cond {A = ℕ} b 1 0) spent in
-    omega (arith, sum_by-cons (λ (r : Row). cond r.spent 1 0) p.row (rows_of ps))
+    omega (arith, sum_by-cons (λ (r : DrawnRow). cond r.spent 1 0) p.row (drawn_rows ps))
 some_spent (p ∷ ps) (suc k) d within spent =
-    omega (arith, some_spent ps k d (omega arith) spent, sum_by-cons (λ (r : Row). cond r.spent 1 0) p.row (rows_of ps))
+    omega (arith, some_spent ps k d (omega arith) spent, sum_by-cons (λ (r : DrawnRow). cond r.spent 1 0) p.row (drawn_rows ps))
 
 -- there are as many rows of numbers as passes
-pub length-numbers_of : (passes : List PassState) → length (numbers_of (rows_of passes)) ≡ length passes
-length-numbers_of passes = length-map (rows_of passes) (λ (r : Row). r.numbers) ∙ length-map passes (λ (p : PassState). p.row)
+pub length-drawn_numbers : (passes : List PassState) → length (drawn_numbers (drawn_rows passes)) ≡ length passes
+length-drawn_numbers passes = length-map (drawn_rows passes) (λ (r : DrawnRow). r.numbers) ∙ length-map passes (λ (p : PassState). p.row)
 
 -- the row at k is that of the pass at k
-pub numbers_at : (passes : List PassState) (k : ℕ) (d : PassState) → k < length passes → slice_index_or (numbers_of (rows_of passes)) k [] ≡ (slice_index_or passes k d).row.numbers
+pub numbers_at : (passes : List PassState) (k : ℕ) (d : PassState) → k < length passes → slice_index_or (drawn_numbers (drawn_rows passes)) k [] ≡ (slice_index_or passes k d).row.numbers
 numbers_at [] k d within = absurd (omega arith)
 numbers_at (p ∷ ps) zero d within = refl
 numbers_at (p ∷ ps) (suc k) d within = numbers_at ps k d (omega arith)

@@ -6,26 +6,26 @@ use Rattle.std.proofs.lemmas.List.Elements.{All-append, All-nil, All-cons, All-h
 use mathlib.Core.Option.{some, some-injective, some-ne-none}
 use lib.ListN.{get_elem?}
 use Rattle.atomic_table.proofs.Lists.{at_set, at_snoc}
-use Rattle.kalah_run.specs.declared.desk_rule.Row.{Row}
+use Rattle.kalah_run.specs.declared.desk_rule.DrawnRow.{DrawnRow}
 use Rattle.kalah_run.specs.declared.desk_rule.DeskPlan.{DeskPlan}
 use Rattle.kalah_run.specs.declared.desk_rule.DeskView.{DeskView}
 use Rattle.kalah_run.specs.declared.desk_rule.DeskView.TheVariants.{Opening, Drawing, Closing, Ended}
 use Rattle.kalah_jobs.specs.Collecting.Shares.{times_in}
-use Rattle.kalah_run.specs.DeskRows.{numbers_of}
+use Rattle.kalah_run.specs.DeskRows.{drawn_numbers}
 use Rattle.kalah_run.specs.DeskKept.{rows_in, all_rows, passes_in, HasTotal}
 
 -- how often x stands in a row
-abbrev pub times : ℕ → Row → ℕ
+abbrev pub times : ℕ → DrawnRow → ℕ
 times x r = count_by (λ y. y == x) r.numbers
 
 -- how often x stands in the rows, as a sum over the rows
-pub times_rows : (x : ℕ) (rows : List Row) → times_in x (numbers_of rows) ≡ sum_by (times x) rows
+pub times_rows : (x : ℕ) (rows : List DrawnRow) → times_in x (drawn_numbers rows) ≡ sum_by (times x) rows
 times_rows x [] = refl
 times_rows x (r ∷ rs) =
-    omega (arith, times_rows x rs, sum_by-cons (λ numbers. count_by (λ y. y == x) numbers) r.numbers (numbers_of rs), sum_by-cons (times x) r rs)
+    omega (arith, times_rows x rs, sum_by-cons (λ numbers. count_by (λ y. y == x) numbers) r.numbers (drawn_numbers rs), sum_by-cons (times x) r rs)
 
 -- the sum over all rows, after a change of one view
-pub rows_set : (f : Row → ℕ) (views : List DeskView) (seat : ℕ) (v w : DeskView) → get_elem? views seat ≡ some v
+pub rows_set : (f : DrawnRow → ℕ) (views : List DeskView) (seat : ℕ) (v w : DeskView) → get_elem? views seat ≡ some v
     → sum_by f (all_rows (set views seat w)) + sum_by f (rows_in v) ≡ sum_by f (all_rows views) + sum_by f (rows_in w)
 rows_set f [] seat v w at = absurd (some-ne-none v (sym at))
 rows_set f (x ∷ xs) zero v w at =
@@ -35,12 +35,12 @@ rows_set f (x ∷ xs) (suc seat) v w at =
     omega (arith, rows_set f xs seat v w at, sum_by-append f (rows_in x) (all_rows xs), sum_by-append f (rows_in x) (all_rows (set xs seat w)))
 
 -- the same with one seat more
-pub rows_push : (f : Row → ℕ) (views : List DeskView) (w : DeskView) → sum_by f (all_rows (views ++ w ∷ [])) ≡ sum_by f (all_rows views) + sum_by f (rows_in w)
+pub rows_push : (f : DrawnRow → ℕ) (views : List DeskView) (w : DeskView) → sum_by f (all_rows (views ++ w ∷ [])) ≡ sum_by f (all_rows views) + sum_by f (rows_in w)
 rows_push f [] w = ap (sum_by f) (append-nil (rows_in w)) ∙ omega arith
 rows_push f (x ∷ xs) w = omega (arith, rows_push f xs w, sum_by-append f (rows_in x) (all_rows xs), sum_by-append f (rows_in x) (all_rows (xs ++ w ∷ [])))
 
 -- the sum over one seat's rows is within that over all
-pub rows_at : (f : Row → ℕ) (views : List DeskView) (seat : ℕ) (v : DeskView) → get_elem? views seat ≡ some v → sum_by f (rows_in v) ≤ sum_by f (all_rows views)
+pub rows_at : (f : DrawnRow → ℕ) (views : List DeskView) (seat : ℕ) (v : DeskView) → get_elem? views seat ≡ some v → sum_by f (rows_in v) ≤ sum_by f (all_rows views)
 rows_at f [] seat v at = absurd (some-ne-none v (sym at))
 rows_at f (x ∷ xs) zero v at =
     let same : sum_by f (rows_in x) ≡ sum_by f (rows_in v) = ap (λ u. sum_by f (rows_in u)) (some-injective x v at) in
@@ -57,30 +57,30 @@ passes_set (x ∷ xs) zero v w at =
 passes_set (x ∷ xs) (suc seat) v w at = omega (arith, passes_set xs seat v w at, sum_by-cons passes_in x xs, sum_by-cons passes_in x (set xs seat w))
 
 -- a fact of each row in two lists is one of each row in the second
-all_back : (P : Row → Type 0) (xs ys : List Row) → All P (xs ++ ys) → All P ys
+all_back : (P : DrawnRow → Type 0) (xs ys : List DrawnRow) → All P (xs ++ ys) → All P ys
 all_back P [] ys h = h
 all_back P (x ∷ xs) ys h = all_back P xs ys (All-tail P x (xs ++ ys) h)
 
 -- and of each row in the first
-all_front : (P : Row → Type 0) (xs ys : List Row) → All P (xs ++ ys) → All P xs
+all_front : (P : DrawnRow → Type 0) (xs ys : List DrawnRow) → All P (xs ++ ys) → All P xs
 all_front P [] ys h = All-nil P
 all_front P (x ∷ xs) ys h = All-cons P x xs (All-head P x (xs ++ ys) h) (all_front P xs ys (All-tail P x (xs ++ ys) h))
 
 -- a fact of each row, after a change of one view
-pub all_set : (P : Row → Type 0) (views : List DeskView) (seat : ℕ) (w : DeskView) → All P (all_rows views) → All P (rows_in w) → All P (all_rows (set views seat w))
+pub all_set : (P : DrawnRow → Type 0) (views : List DeskView) (seat : ℕ) (w : DeskView) → All P (all_rows views) → All P (rows_in w) → All P (all_rows (set views seat w))
 all_set P [] seat w all mine = all
 all_set P (x ∷ xs) zero w all mine = All-append P (rows_in w) (all_rows xs) mine (all_back P (rows_in x) (all_rows xs) all)
 all_set P (x ∷ xs) (suc seat) w all mine =
     All-append P (rows_in x) (all_rows (set xs seat w)) (all_front P (rows_in x) (all_rows xs) all) (all_set P xs seat w (all_back P (rows_in x) (all_rows xs) all) mine)
 
 -- the same with one seat more
-pub all_pushed : (P : Row → Type 0) (views : List DeskView) (w : DeskView) → All P (all_rows views) → All P (rows_in w) → All P (all_rows (views ++ w ∷ []))
+pub all_pushed : (P : DrawnRow → Type 0) (views : List DeskView) (w : DeskView) → All P (all_rows views) → All P (rows_in w) → All P (all_rows (views ++ w ∷ []))
 all_pushed P [] w all mine = All-append P (rows_in w) [] mine (All-nil P)
 all_pushed P (x ∷ xs) w all mine =
     All-append P (rows_in x) (all_rows (xs ++ w ∷ [])) (all_front P (rows_in x) (all_rows xs) all) (all_pushed P xs w (all_back P (rows_in x) (all_rows xs) all) mine)
 
 -- a fact of the rows of one seat
-pub all_at : (P : Row → Type 0) (views : List DeskView) (seat : ℕ) (v : DeskView) → get_elem? views seat ≡ some v → All P (all_rows views) → All P (rows_in v)
+pub all_at : (P : DrawnRow → Type 0) (views : List DeskView) (seat : ℕ) (v : DeskView) → get_elem? views seat ≡ some v → All P (all_rows views) → All P (rows_in v)
 all_at P [] seat v at all = absurd (some-ne-none v (sym at))
 all_at P (x ∷ xs) zero v at all = subst (λ u. All P (rows_in u)) (some-injective x v at) (all_front P (rows_in x) (all_rows xs) all)
 all_at P (x ∷ xs) (suc seat) v at all = all_at P xs seat v at (all_back P (rows_in x) (all_rows xs) all)
@@ -105,12 +105,12 @@ rows_within_passes (x ∷ xs) = omega (arith, rows_within_passes xs, rows_within
 no_passes_no_rows : (views : List DeskView) → sum_by passes_in views ≡ 0 → all_rows views ≡ []
 no_passes_no_rows views none = empty (all_rows views) (omega (arith, rows_within_passes views))
   where
-    empty : (rows : List Row) → length rows ≡ 0 → rows ≡ []
+    empty : (rows : List DrawnRow) → length rows ≡ 0 → rows ≡ []
     empty [] short = refl
     empty (r ∷ rows) short = absurd (omega arith)
 
 -- a closing seat that took in all passes has all rows
-pub has_all : (views : List DeskView) (seat : ℕ) (rows : List Row) → get_elem? views seat ≡ some (Closing rows) → length rows ≡ sum_by passes_in views → all_rows views ≡ rows
+pub has_all : (views : List DeskView) (seat : ℕ) (rows : List DrawnRow) → get_elem? views seat ≡ some (Closing rows) → length rows ≡ sum_by passes_in views → all_rows views ≡ rows
 has_all [] seat rows at whole = absurd (some-ne-none (Closing rows) (sym at))
 has_all (x ∷ xs) zero rows at whole =
     let is : x ≡ Closing rows = some-injective x (Closing rows) at in
@@ -123,7 +123,7 @@ has_all (x ∷ xs) (suc seat) rows at whole =
     let short : rows_in x ≡ [] = no_rows (rows_in x) (omega (arith, rows_within_one x)) in
     ap (λ l. l ++ all_rows xs) short ∙ has_all xs seat rows at (omega (arith, sum_by-cons passes_in x xs))
   where
-    no_rows : (rs : List Row) → length rs ≡ 0 → rs ≡ []
+    no_rows : (rs : List DrawnRow) → length rs ≡ 0 → rs ≡ []
     no_rows [] h = refl
     no_rows (r ∷ rs) h = absurd (omega arith)
 

@@ -5,7 +5,7 @@ use Rattle.std.specs.Io.KnownBytes.{Appends, Keeps}
 use Rattle.kalah_jobs.specs.declared.files.question.Question.{Question}
 use Rattle.kalah_jobs.specs.Writing.Given.{AppendsStart}
 use Rattle.kalah_jobs.specs.Files.JobList.{job_list}
-use Rattle.kalah_jobs.specs.Files.Jobs.{jobs_to, line_count, most_files, most_lines}
+use Rattle.kalah_jobs.specs.Files.Jobs.{jobs_to, lines_in_all, most_files, most_lines}
 use Rattle.kalah_jobs.specs.Files.NamedBytes.{NamedBytes}
 use Rattle.kalah_jobs.specs.Writing.Output.{LineCounts, answer_text_of, names_of, output_to, tally_of}
 use Rattle.kalah_jobs.proofs.OfFiles.JobCounts.{job_count-jobs_to, length-job_list}
@@ -36,7 +36,7 @@ one_of_three OutOfMemory few some = inr (inl refl)
 one_of_three NoWorker few some = absurd (some refl)
 one_of_three Write few some = inr (inr refl)
 
-module _ (question : Question) (files : List NamedBytes) (none : line_count files ≡ 0) where
+module _ (question : Question) (files : List NamedBytes) (none : lines_in_all files ≡ 0) where
   no_output : output_to question files ≡ []
   no_output =
       files_are_their_jobs.output question files
@@ -49,8 +49,8 @@ module _ (question : Question) (files : List NamedBytes) (none : line_count file
 
   pub nothing_answered : (old new : Option (List ℕ)) (result : Result LineCounts RunFault) → AppendsStart old new (output_to question files)
       → IfOk result (λ tally. tally ≡ tally_of files)
-      → ((result ≡ Err TooManyLines) ↔ ((length files ≤ most_files) × (most_lines < line_count files)))
-      → (result ≡ Err NoWorker → 0 < line_count files) → AnswersNothing old new result
+      → ((result ≡ Err TooManyLines) ↔ ((length files ≤ most_files) × (most_lines < lines_in_all files)))
+      → (result ≡ Err NoWorker → 0 < lines_in_all files) → AnswersNothing old new result
   nothing_answered old new (Ok tally) start counted many worker =
       record { unwritten = starts_none old new _ no_output start; uncounted = counted ∙ no_tally; fault = tt }
   nothing_answered old new (Err e) start counted many worker = record {

@@ -10,7 +10,7 @@ use Rattle.kalah_run.specs.declared.queue_rule.QueueView.{QueueView}
 use Rattle.kalah_run.specs.declared.queue_rule.QueueView.TheVariants.{Getting, Putting, Ended}
 use Rattle.kalah_run.specs.QueueLists.{Accounts}
 use Rattle.kalah_run.specs.QueueRule.{Fits, FitsPut, FitsGet, IsLawful}
-use Rattle.kalah_run.specs.QueueSteps.{first_view, after_making_one, one_made, after_put, after_taking_in, IsGot, Tells}
+use Rattle.kalah_run.specs.QueueSteps.{first_view, after_making_one, one_made, after_put, after_taking_in_sent, IsGot, Tells}
 use Rattle.kalah_run.proofs.QueuePairs.{of_more, of_same, of_none, next_below, accounts_none, accounts_pair, accounts_worker, accounts_known}
 use Rattle.kalah_run.proofs.QueueViews.{Each, in_views, at_end, each_set, each_one, first_longer, first_same, first_set}
 
@@ -187,10 +187,10 @@ merges_at place other made got known sent items views h at two at_other =
     (length-set vs other Ended ∙ length-set views place both) first done
 
 pub merges : (place : ℕ) (v : QueueView) (other : ℕ) (u : QueueView) (made : ℕ) (got : List (ℕ × Job)) (known : List (List Job)) (number : ℕ) (sent : List Job)
-    → v ≡ Getting made got known → u ≡ Putting number sent → number ≡ length known → Merges IsLawful place v other u (after_taking_in v u) Ended
+    → v ≡ Getting made got known → u ≡ Putting number sent → number ≡ length known → Merges IsLawful place v other u (after_taking_in_sent v u) Ended
 merges place v other u made got known number sent e e' is =
     let e'' : u ≡ Putting (length known) sent = e' ∙ ap (λ (n : ℕ). Putting n sent) is in
-    subst (λ (p : QueueView × QueueView). Merges IsLawful place p.0 other p.1 (after_taking_in p.0 p.1) Ended) (λ i. (sym e i, sym e'' i))
+    subst (λ (p : QueueView × QueueView). Merges IsLawful place p.0 other p.1 (after_taking_in_sent p.0 p.1) Ended) (λ i. (sym e i, sym e'' i))
     (merges_at place other made got known sent)
 
 -- ---- what the pass to get learns of the queue

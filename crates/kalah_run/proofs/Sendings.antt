@@ -9,7 +9,7 @@ use Rattle.kalah_jobs.specs.Files.JobList.{job_list, line_job}
 use Rattle.kalah_jobs.specs.declared.files.entry.Entry.TheVariants.{Bad}
 use Rattle.kalah_jobs.specs.declared.line.line_fault.LineFault.TheVariants.{Empty}
 use Rattle.kalah_jobs.specs.Collecting.Batch.{job}
-use Rattle.kalah_run.specs.declared.desk_rule.Row.{Row}
+use Rattle.kalah_run.specs.declared.desk_rule.DrawnRow.{DrawnRow}
 use Rattle.kalah_run.specs.Work.{drawn_jobs}
 
 -- job number n is what stands there in the list of jobs
@@ -17,7 +17,7 @@ job_at : (jobs : List (List Entry)) (n : ℕ) (o : Job) → slice_get (job_list 
 job_at jobs n o at = get_or_from_slice_get (job_list jobs) n o (line_job 0 0 (Bad Empty)) at
 
 -- the outcome of the job that was drawn stands behind those of the row so far
-pub drawn_jobs-more : (jobs : List (List Entry)) (row row' : Row) (n : ℕ) (o : Job) (sent sent' : List Job) →
+pub drawn_jobs-more : (jobs : List (List Entry)) (row row' : DrawnRow) (n : ℕ) (o : Job) (sent sent' : List Job) →
     sent ≡ drawn_jobs jobs row.numbers → row'.numbers ≡ row.numbers ++ n ∷ [] → slice_get (job_list jobs) n ≡ Some o → sent' ≡ sent ++ o ∷ [] →
     sent' ≡ drawn_jobs jobs row'.numbers
 unfolding drawn_jobs

@@ -11,8 +11,8 @@ use Rattle.kalah_jobs.specs.Collecting.Shares.{AreShared}
 use Rattle.kalah_jobs.specs.Collecting.Batch.{job, AreJobsInSomeOrder}
 use Rattle.kalah_jobs.proofs.OfCollecting.JobOrders.{shares_law}
 use Rattle.kalah_jobs.specs.Collecting.Shares.{times_in}
-use Rattle.kalah_run.specs.DeskRows.{numbers_of, spent_in}
-use Rattle.kalah_run.specs.DeskStates.{DeskState, PassState, IsPassOf, AreNewPasses, new_pass, rows_of}
+use Rattle.kalah_run.specs.DeskRows.{drawn_numbers, spent_in}
+use Rattle.kalah_run.specs.DeskStates.{DeskState, PassState, IsPassAt, AreNewPasses, new_pass, drawn_rows}
 use Rattle.kalah_run.specs.QueueStates.{GetState, PutState, ArePassesFrom, sent_by}
 use Rattle.kalah_run.specs.QueueLists.{Accounts}
 use Rattle.kalah_run.specs.Work.{drawn_jobs}
@@ -21,7 +21,7 @@ use Rattle.kalah_run.specs.declared.shift.Shift.{Shift}
 use Rattle.kalah_run.specs.declared.staff.Staff.{Staff}
 use Rattle.kalah_run.specs.Staffs.{IsReady, HasWorked}
 use Rattle.kalah_run.specs.Shifts.{passes_of, puts_of, HaveJobs, AreAtWork, HasRun, HaveRun}
-use Rattle.kalah_run.proofs.DeskSpent.{some_spent, length-numbers_of}
+use Rattle.kalah_run.proofs.DeskSpent.{some_spent, length-drawn_numbers}
 
 -- each pass to put is of the queue
 put_queue : (id : TableId) (n : ℕ) (puts : List PutState) (k : ℕ) (d : PutState) → ArePassesFrom id n puts → k < length puts → (get_or puts k d).queue ≡ id
@@ -67,15 +67,15 @@ module _ (desk : DeskState) (id : TableId) (jobs : List (List Entry)) (before af
   pub run_at_work : AreAtWork desk id jobs after
   run_at_work = λ k d within. (run.each k d (let many = run.as_many in omega arith)).at_work
 
-  pub run_passes : All (IsPassOf desk) (passes_of after)
-  run_passes = All-map (IsPassOf desk) (λ (s : Shift). s.pass) after (λ k d within. (run_at_work k d within).draws)
+  pub run_passes : All (IsPassAt desk) (passes_of after)
+  run_passes = All-map (IsPassAt desk) (λ (s : Shift). s.pass) after (λ k d within. (run_at_work k d within).draws)
 
   pub run_jobs : HaveJobs jobs after
   run_jobs = λ k d within. (run_at_work k d within).has
 
 -- with one shift at least, some pass is spent
 pub run_spent : (desk : DeskState) (id : TableId) (jobs : List (List Entry)) (before after : List Shift) → HaveRun desk id jobs before after → 0 < length before →
-    0 < spent_in (rows_of (passes_of after))
+    0 < spent_in (drawn_rows (passes_of after))
 run_spent desk id jobs before [] run some = absurd (let many = run.as_many in omega arith)
 run_spent desk id jobs before (a ∷ others) run some = some_spent (passes_of (a ∷ others)) 0 a.pass (omega arith) (run.each 0 a some).spent
 
@@ -105,7 +105,7 @@ has_worked jobs before after ready run same =
 
 -- what worker w sent are the outcomes of its row
 pub sent_in_order : (jobs : List (List Entry)) (shifts : List Shift) (w : ℕ) → HaveJobs jobs shifts → w < length shifts →
-    get_or (sent_by (puts_of shifts)) w [] ≡ drawn_jobs jobs (get_or (numbers_of (rows_of (passes_of shifts))) w [])
+    get_or (sent_by (puts_of shifts)) w [] ≡ drawn_jobs jobs (get_or (drawn_numbers (drawn_rows (passes_of shifts))) w [])
 sent_in_order jobs [] w has within = absurd (omega arith)
 sent_in_order jobs (s ∷ ss) zero has within = s.sent_so_far ∙ ap (λ j. drawn_jobs j s.pass.row.numbers) (has 0 s (omega arith))
 sent_in_order jobs (s ∷ ss) (suc w) has within = sent_in_order jobs ss w (λ k d low. has (suc k) d (omega arith)) (omega arith)
@@ -117,11 +117,11 @@ drawn_jobs_are jobs numbers = refl
 -- Each number below the total stands in the rows once; the pairs that were got and those left inside account for what was sent; and as many
 -- were got as there are jobs: so each job was got once.
 pub each_job_got : (jobs : List (List Entry)) (shifts : List Shift) (workers total : ℕ) (got rest : List (ℕ × Job)) → HaveJobs jobs shifts → length shifts ≡ workers →
-    ((x : ℕ) → times_in x (numbers_of (rows_of (passes_of shifts))) ≡ (if nat_lt x total then 1 else 0)) →
+    ((x : ℕ) → times_in x (drawn_numbers (drawn_rows (passes_of shifts))) ≡ (if nat_lt x total then 1 else 0)) →
     Accounts workers (sent_by (puts_of shifts)) (got ++ rest) → total ≡ length (job_list jobs) → length got ≡ total → AreJobsInSomeOrder jobs (outcomes_in got)
 each_job_got jobs shifts workers total got rest has many once accounts is all =
-    let rows = numbers_of (rows_of (passes_of shifts)) in
-    let row_count : length rows ≡ length shifts = length-numbers_of (passes_of shifts) ∙ length-map shifts (λ (s : Shift). s.pass) in
+    let rows = drawn_numbers (drawn_rows (passes_of shifts)) in
+    let row_count : length rows ≡ length shifts = length-drawn_numbers (passes_of shifts) ∙ length-map shifts (λ (s : Shift). s.pass) in
     let sent_count : length (sent_by (puts_of shifts)) ≡ length shifts = length-map (puts_of shifts) (λ (p : PutState). p.sent) ∙ length-map shifts (λ (s : Shift). s.put) in
     let row_workers : workers ≡ length rows = sym many ∙ sym row_count in
     let shared : AreShared (length (job_list jobs)) (job jobs) rows (got ++ rest) = record {

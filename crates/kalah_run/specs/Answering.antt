@@ -2,7 +2,7 @@
 use Rattle.std.specs.Prelude.{◌≡◌, ◌≢◌, ◌↔◌, ◌<◌, ◌≤◌, ℕ, List, Option, Bool, Result, Err, length, true, IfOk, IfErr, OnOk}
 use Rattle.std.specs.Io.KnownBytes.{Appends}
 use Rattle.kalah_jobs.specs.Writing.Given.{AppendsStart}
-use Rattle.kalah_jobs.specs.Files.Jobs.{line_count, most_files, most_lines}
+use Rattle.kalah_jobs.specs.Files.Jobs.{lines_in_all, most_files, most_lines}
 use Rattle.kalah_jobs.specs.Files.NamedBytes.{NamedBytes}
 use Rattle.kalah_jobs.specs.Writing.Output.{LineCounts, tally_of}
 use Rattle.kalah_run.specs.NoLine.{AnswersNothing}
@@ -21,10 +21,10 @@ pub record AnswersBatch {W : Type 0} (bytes : W → Option (List ℕ)) (has_fail
   pub start : AppendsStart (bytes old) (bytes new) output
   -- when each fault comes
   pub too_many_files : (result ≡ Err TooManyFiles) ↔ (most_files < length files)
-  pub too_many_lines : (result ≡ Err TooManyLines) ↔ ((length files ≤ most_files) × (most_lines < line_count files))
-  pub no_worker : result ≡ Err NoWorker → 0 < line_count files
+  pub too_many_lines : (result ≡ Err TooManyLines) ↔ ((length files ≤ most_files) × (most_lines < lines_in_all files))
+  pub no_worker : result ≡ Err NoWorker → 0 < lines_in_all files
   pub write : (result ≡ Err Write) ↔ (has_failed new ≡ true)
   -- any other fault leaves the output as it was
   pub untouched : IfErr result (λ e. e ≢ Write → new ≡ old)
   -- files without a line
-  pub no_line : line_count files ≡ 0 → AnswersNothing (bytes old) (bytes new) result
+  pub no_line : lines_in_all files ≡ 0 → AnswersNothing (bytes old) (bytes new) result

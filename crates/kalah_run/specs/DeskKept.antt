@@ -5,7 +5,7 @@ use lib.ListN.{get_elem?}
 use Rattle.atomic_table.specs.Table.{State}
 use Rattle.kalah_jobs.specs.Files.Jobs.{most_lines}
 use Rattle.kalah_run.specs.Limits.{most_workers}
-use Rattle.kalah_run.specs.declared.desk_rule.Row.{Row}
+use Rattle.kalah_run.specs.declared.desk_rule.DrawnRow.{DrawnRow}
 use Rattle.kalah_run.specs.declared.desk_rule.DeskPlan.{DeskPlan}
 use Rattle.kalah_run.specs.declared.desk_rule.DeskView.{DeskView}
 use Rattle.kalah_run.specs.declared.desk_rule.DeskView.TheVariants.{Opening, Drawing, Closing, Ended}
@@ -19,14 +19,14 @@ abbrev pub ended_view : DeskView
 ended_view = Ended
 
 -- the rows that a seat has
-abbrev pub rows_in : DeskView → List Row
+abbrev pub rows_in : DeskView → List DrawnRow
 rows_in (Opening total handed_out left) = []
 rows_in (Drawing total number r) = r ∷ []
 rows_in (Closing rows) = rows
 rows_in Ended = []
 
 -- the rows of all passes
-abbrev pub all_rows : List DeskView → List Row
+abbrev pub all_rows : List DeskView → List DrawnRow
 all_rows views = flat_map rows_in views
 
 -- how many passes a seat stands for: those that it is to hand out, itself, or those that it took in

@@ -2,7 +2,7 @@
 use Rattle.std.specs.Prelude.{◌≡◌, ℕ, ◌+◌, ◌<◌, ◌≤◌, List, [], ◌∷◌, ⊤, All, AllPairs}
 use Rattle.atomic_table.specs.Table.{State}
 use Rattle.kalah_run.specs.Limits.{most_workers}
-use Rattle.kalah_run.specs.declared.desk_rule.Row.{Row}
+use Rattle.kalah_run.specs.declared.desk_rule.DrawnRow.{DrawnRow}
 use Rattle.kalah_run.specs.declared.desk_rule.DeskPlan.{DeskPlan}
 use Rattle.kalah_run.specs.declared.desk_rule.DeskView.{DeskView}
 use Rattle.kalah_run.specs.DeskRows.{StandsNowhere, StandsOnce, spent_in}
@@ -10,7 +10,7 @@ use Rattle.kalah_run.specs.DeskKept.{IsKept, all_rows}
 
 -- So many numbers are drawn. Each number below that stands in one row, and there once; no other stands in any; and each row
 -- rises. A pass is spent only where all numbers are drawn. The word counts both, and is at most the total and 64.
-pub record DealsEachOnce (total : ℕ) (words : List ℕ) (rows : List Row) : Type 0 where
+pub record DealsEachOnce (total : ℕ) (words : List ℕ) (rows : List DrawnRow) : Type 0 where
   pub drawn : ℕ
   pub within : drawn ≤ total
   pub once : (number : ℕ) → number < drawn → StandsOnce number rows

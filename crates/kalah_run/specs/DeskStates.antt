@@ -1,10 +1,10 @@
 -- A desk, a pass and a closed desk, as contracts see them.
 use Rattle.std.specs.Prelude.{◌≡◌, ℕ, ◌<◌, List, [], length, Bool, false, slice_index_or, map}
 use Rattle.atomic_table.specs.Seated.{TableId}
-use Rattle.kalah_run.specs.declared.desk_rule.Row.{Row}
+use Rattle.kalah_run.specs.declared.desk_rule.DrawnRow.{DrawnRow}
 use Rattle.kalah_run.specs.declared.desk_rule.DeskView.{DeskView}
 use Rattle.kalah_run.specs.declared.desk_rule.DeskView.TheVariants.{Opening, Drawing, Closing, Ended}
-use Rattle.kalah_run.specs.DeskRows.{row}
+use Rattle.kalah_run.specs.DeskRows.{drawn_row}
 
 -- which desk it is, the total, and how many passes it has
 pub record DeskState : Type 0 where
@@ -17,7 +17,7 @@ pub record PassState : Type 0 where
   pub desk : TableId
   pub total : ℕ
   pub number : ℕ
-  pub row : Row
+  pub row : DrawnRow
 
 -- how many numbers were drawn, and whether some pass was answered None
 pub record ClosedDeskState : Type 0 where
@@ -25,20 +25,20 @@ pub record ClosedDeskState : Type 0 where
   pub spent : Bool
 
 -- the pass is of this desk
-abbrev pub IsPassOf : DeskState → PassState → Type 0
-IsPassOf desk pass = (pass.desk ≡ desk.id) × (pass.total ≡ desk.total)
+abbrev pub IsPassAt : DeskState → PassState → Type 0
+IsPassAt desk pass = (pass.desk ≡ desk.id) × (pass.total ≡ desk.total)
 
 -- a pass that has drawn nothing, and is not spent
 abbrev pub new_pass : DeskState → ℕ → PassState
-new_pass desk number = record { desk = desk.id; total = desk.total; number = number; row = row [] false }
+new_pass desk number = record { desk = desk.id; total = desk.total; number = number; row = drawn_row [] false }
 
 -- the first passes of the desk, each with its number
 abbrev pub AreNewPasses : DeskState → ℕ → List PassState → Type 0
 AreNewPasses desk count passes = (length passes ≡ count) × ((k : ℕ) (d : PassState) → k < count → slice_index_or passes k d ≡ new_pass desk k)
 
 -- the rows, pass by pass
-abbrev pub rows_of : List PassState → List Row
-rows_of passes = map (λ p. p.row) passes
+abbrev pub drawn_rows : List PassState → List DrawnRow
+drawn_rows passes = map (λ p. p.row) passes
 
 -- the total that a pass's seat knows
 abbrev pub total_in : DeskView → ℕ
@@ -55,11 +55,11 @@ number_in (Closing rows) = 0
 number_in Ended = 0
 
 -- the pass's row
-abbrev pub row_in : DeskView → Row
+abbrev pub row_in : DeskView → DrawnRow
 row_in (Drawing total number r) = r
-row_in (Opening total handed_out left) = row [] false
-row_in (Closing rows) = row [] false
-row_in Ended = row [] false
+row_in (Opening total handed_out left) = drawn_row [] false
+row_in (Closing rows) = drawn_row [] false
+row_in Ended = drawn_row [] false
 
 -- the view of a pass with these three
 abbrev pub as_pass_view : DeskView → DeskView

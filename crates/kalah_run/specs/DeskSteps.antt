@@ -3,15 +3,15 @@ use Rattle.std.specs.Prelude.{◌≡◌, ℕ, ◌+◌, ◌-◌, ◌<◌, [], ◌
 use Rattle.atomic_table.specs.Table.{Me, Step}
 use Rattle.kalah_run.specs.declared.desk_rule.DeskView.{DeskView}
 use Rattle.kalah_run.specs.declared.desk_rule.DeskView.TheVariants.{Opening, Drawing, Closing, Ended}
-use Rattle.kalah_run.specs.DeskRows.{row}
+use Rattle.kalah_run.specs.DeskRows.{drawn_row}
 use Rattle.kalah_run.specs.DeskKept.{rows_in}
 
 -- The view w after a draw that found n: where n is below the total it ends the row, above all numbers there; else the pass is spent
 abbrev pub DrawsFrom : DeskView → ℕ → DeskView → Type 0
 DrawsFrom (Drawing total number r) n w =
     MatchBool (nat_lt n total)
-    ((w ≡ Drawing total number (row (r.numbers ++ n ∷ []) false)) × All (λ x. x < n) r.numbers)
-    (w ≡ Drawing total number (row r.numbers true))
+    ((w ≡ Drawing total number (drawn_row (r.numbers ++ n ∷ []) false)) × All (λ x. x < n) r.numbers)
+    (w ≡ Drawing total number (drawn_row r.numbers true))
 DrawsFrom (Opening total handed_out left) n w = Unit {0}
 DrawsFrom (Closing rows) n w = Unit {0}
 DrawsFrom Ended n w = Unit {0}
@@ -33,14 +33,14 @@ after_handing_out Ended = Ended
 
 -- the pass that it hands out: its number is the count of those before it, its row is empty, and it is not spent
 abbrev pub pass_handed_out : DeskView → DeskView
-pass_handed_out (Opening total handed_out left) = Drawing total handed_out (row [] false)
+pass_handed_out (Opening total handed_out left) = Drawing total handed_out (drawn_row [] false)
 pass_handed_out (Drawing total number r) = Ended
 pass_handed_out (Closing rows) = Ended
 pass_handed_out Ended = Ended
 
 -- the closing seat with a pass's row before the others
-abbrev pub after_taking_in : DeskView → DeskView → DeskView
-after_taking_in (Closing rows) w = Closing (rows_in w ++ rows)
-after_taking_in (Opening total handed_out left) w = Opening total handed_out left
-after_taking_in (Drawing total number r) w = Drawing total number r
-after_taking_in Ended w = Ended
+abbrev pub after_taking_in_row : DeskView → DeskView → DeskView
+after_taking_in_row (Closing rows) w = Closing (rows_in w ++ rows)
+after_taking_in_row (Opening total handed_out left) w = Opening total handed_out left
+after_taking_in_row (Drawing total number r) w = Drawing total number r
+after_taking_in_row Ended w = Ended

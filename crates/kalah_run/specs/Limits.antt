@@ -1,9 +1,10 @@
 -- How many workers may answer a batch, and how large the table of each may be.
 use Rattle.std.specs.Prelude.{◌<◌, ◌≤◌, ℕ}
 use Rattle.kalah_solve.specs.Table.{most_entries}
+use Rattle.kalah_run.specs.declared.resources.TheConstants.{MOST_WORKERS}
 
 abbrev pub most_workers : ℕ
-most_workers = 64
+most_workers = MOST_WORKERS
 
 abbrev pub AreWorkers : ℕ → Type 0
 AreWorkers workers = (0 < workers) × (workers ≤ most_workers)

@@ -62,10 +62,10 @@ abbrev pub IsGot : QueueView → ℕ × Job → QueueView → Type 0
 IsGot before pair after = (after ≡ after_get before pair) × (pair.0 < made_in before)
 
 -- what the pass taken in has sent is known
-abbrev pub after_taking_in : QueueView → QueueView → QueueView
-after_taking_in (Getting made got known) other = Getting made got (known ++ sent_in other ∷ [])
-after_taking_in (Putting number sent) other = Putting number sent
-after_taking_in Ended other = Ended
+abbrev pub after_taking_in_sent : QueueView → QueueView → QueueView
+after_taking_in_sent (Getting made got known) other = Getting made got (known ++ sent_in other ∷ [])
+after_taking_in_sent (Putting number sent) other = Putting number sent
+after_taking_in_sent Ended other = Ended
 
 -- what was got and then what the queue holds tells all that is known
 abbrev pub Tells : QueueView → List (ℕ × Job) → Type 0

@@ -3,7 +3,7 @@ use Rattle.std.specs.Prelude.{◌≡◌, ℕ, ◌<◌, true, List, length, map, 
 use Rattle.std.specs.List.{All}
 use Rattle.atomic_table.specs.Seated.{TableId}
 use Rattle.kalah_jobs.specs.declared.files.entry.Entry.{Entry}
-use Rattle.kalah_run.specs.DeskStates.{DeskState, PassState, IsPassOf}
+use Rattle.kalah_run.specs.DeskStates.{DeskState, PassState, IsPassAt}
 use Rattle.kalah_run.specs.QueueStates.{PutState}
 use Rattle.kalah_run.specs.declared.shift.Shift.{Shift}
 
@@ -20,7 +20,7 @@ HaveJobs jobs shifts = All (λ s. s.jobs.now ≡ jobs) shifts
 
 -- the shift draws at this desk, sends through this queue, and has these jobs
 pub record IsAtWork (desk : DeskState) (queue : TableId) (jobs : List (List Entry)) (s : Shift) : Type 0 where
-  pub draws : IsPassOf desk s.pass
+  pub draws : IsPassAt desk s.pass
   pub sends : s.put.queue ≡ queue
   pub has : s.jobs.now ≡ jobs
 

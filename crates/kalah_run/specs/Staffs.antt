@@ -4,7 +4,7 @@ use Rattle.std.specs.List.{All}
 use Rattle.kalah_jobs.specs.declared.files.entry.Entry.{Entry}
 use Rattle.kalah_jobs.specs.Files.Jobs.{job_count}
 use Rattle.kalah_run.specs.DeskRows.{spent_in}
-use Rattle.kalah_run.specs.DeskStates.{IsPassOf, rows_of}
+use Rattle.kalah_run.specs.DeskStates.{IsPassAt, drawn_rows}
 use Rattle.kalah_run.specs.QueueStates.{ArePassesFrom}
 use Rattle.kalah_run.specs.Shifts.{passes_of, puts_of, AreAtWork}
 use Rattle.kalah_run.specs.declared.staff.Staff.{Staff}
@@ -28,8 +28,8 @@ pub record IsReady (jobs : List (List Entry)) (s : Staff) : Type 0 where
 -- some shift was told that there is nothing left to draw, and each pass is in its place
 pub record HasWorked (s : Staff) : Type 0 where
   pub passes : length s.shifts.items ≡ s.desk.passes
-  pub draws : All (IsPassOf s.desk) (passes_of s.shifts.items)
-  pub spent : 0 < spent_in (rows_of (passes_of s.shifts.items))
+  pub draws : All (IsPassAt s.desk) (passes_of s.shifts.items)
+  pub spent : 0 < spent_in (drawn_rows (passes_of s.shifts.items))
   pub puts : ArePassesFrom s.queue.id 0 (puts_of s.shifts.items)
   pub pass : (s.pass.queue ≡ s.queue.id) × (s.pass.workers ≡ length s.shifts.items)
   pub room : HasRoom s

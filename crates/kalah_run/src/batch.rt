@@ -16,7 +16,7 @@ use crate::gate::Gate;
 use crate::report::Report;
 use crate::resources::Resources;
 use crate::run_fault::RunFault;
-use crate::shift::Shop;
+use crate::shop::Shop;
 use crate::staff::Staff;
 use crate::tally::Tally;
 use crate::workers::run_and_report;

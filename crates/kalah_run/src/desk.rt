@@ -3,9 +3,9 @@ ghost use Rattle.std.specs.Prelude.{◌≡◌, ℕ, ◌<◌, ◌≤◌, ◌↔�
 ghost use Rattle.kalah_jobs.specs.Collecting.Shares.{times_in};
 ghost use Rattle.kalah_jobs.specs.Files.Jobs.{most_lines};
 ghost use Rattle.kalah_run.specs.Limits.{AreWorkers};
-ghost use Rattle.kalah_run.specs.DeskRows.{row, numbers_of, drawn_in, spent_in, AreLawful, StandsOnce, StandsNowhere};
+ghost use Rattle.kalah_run.specs.DeskRows.{drawn_row, drawn_numbers, drawn_in, spent_in, AreLawful, StandsOnce, StandsNowhere};
 ghost use Rattle.kalah_run.specs.DeskKept.{opening_view};
-ghost use Rattle.kalah_run.specs.DeskStates.{IsPassOf, AreNewPasses, rows_of};
+ghost use Rattle.kalah_run.specs.DeskStates.{IsPassAt, AreNewPasses, drawn_rows};
 ghost use Rattle.kalah_run.specs.declared.desk_rule.DeskView.TheVariants.{Closing};
 
 use crate::desk_rule::{DeskPlan, DeskRule, DeskView, DrawNumber, HandOut, StartClosing, TakeIn};
@@ -86,7 +86,7 @@ fn take_in(
     requires table { (closer.table_id ≡ shared.now.table_id) × (0 < shared.now.table_id.words) }
     requires passes { All (λ p. p.desk ≡ shared.now.table_id) passes.items }
     requires closer { closer.me.0 ≡ Closing [] }
-    ensures { (result.table_id ≡ closer.table_id) × (result.me.0 ≡ Closing (rows_of passes.items)) }
+    ensures { (result.table_id ≡ closer.table_id) × (result.me.0 ≡ Closing (drawn_rows passes.items)) }
 {
     while let Some(pass) = passes.pop() {
         let Pass { seat, is_spent: _ } = pass;
@@ -115,20 +115,20 @@ impl Desk {
     /// steps on the word no more, and is answered None for good. A draw is one step on the word:
     /// it takes no memory, and waits for nothing.
     pub fn draw(&self, pass: &mut Pass) -> Option<u32>
-        requires { IsPassOf self.now pass.old }
+        requires { IsPassAt self.now pass.old }
 
         // It stays a pass of this desk, under its number.
-        ensures own { IsPassOf self.now pass.new }
+        ensures own { IsPassAt self.now pass.new }
         ensures number { pass.new.number ≡ pass.old.number }
 
         // Some: the number ends the row, and is above all earlier ones there.
         ensures unspent { IfSome result (λ n. pass.old.row.spent ≡ false) }
-        ensures drawn { IfSome result (λ n. pass.new.row ≡ row (pass.old.row.numbers ++ n ∷ []) false) }
+        ensures drawn { IfSome result (λ n. pass.new.row ≡ drawn_row (pass.old.row.numbers ++ n ∷ []) false) }
         ensures below { IfSome result (λ n. n < self.now.total) }
         ensures above { IfSome result (λ n. All (λ x. x < n) pass.old.row.numbers) }
 
         // None: the row stays, and the pass is spent.
-        ensures spent { IfNone result (pass.new.row ≡ row pass.old.row.numbers true) }
+        ensures spent { IfNone result (pass.new.row ≡ drawn_row pass.old.row.numbers true) }
         ensures limit { self.now.total ≤ most_lines }
     {
         let total = self.total;
@@ -151,16 +151,16 @@ impl Desk {
     /// row rises. Where some pass is spent, all numbers below the total were drawn.
     pub fn close(self, passes: Vec<Pass>) -> ClosedDesk
         requires all { length passes.items ≡ self.passes }
-        requires own { All (IsPassOf self) passes.items }
+        requires own { All (IsPassAt self) passes.items }
 
         // The rows, pass by pass, in the order handed in.
-        ensures lawful { AreLawful self.total (rows_of passes.items) }
-        ensures each_once { (x : ℕ) → times_in x (numbers_of (rows_of passes.items)) ≡ (if nat_lt x result.drawn then 1 else 0) }
-        ensures once { (x : ℕ) → x < result.drawn → StandsOnce x (rows_of passes.items) }
-        ensures others { (x : ℕ) → result.drawn ≤ x → StandsNowhere x (rows_of passes.items) }
+        ensures lawful { AreLawful self.total (drawn_rows passes.items) }
+        ensures each_once { (x : ℕ) → times_in x (drawn_numbers (drawn_rows passes.items)) ≡ (if nat_lt x result.drawn then 1 else 0) }
+        ensures once { (x : ℕ) → x < result.drawn → StandsOnce x (drawn_rows passes.items) }
+        ensures others { (x : ℕ) → result.drawn ≤ x → StandsNowhere x (drawn_rows passes.items) }
 
-        ensures drawn { result.drawn ≡ drawn_in (rows_of passes.items) }
-        ensures spent { IsTrue result.spent ↔ (0 < spent_in (rows_of passes.items)) }
+        ensures drawn { result.drawn ≡ drawn_in (drawn_rows passes.items) }
+        ensures spent { IsTrue result.spent ↔ (0 < spent_in (drawn_rows passes.items)) }
         ensures whole { IsTrue result.spent → result.drawn ≡ self.total }
     {
         let Desk { table, total } = self;

@@ -4,7 +4,7 @@ use std::collections::LinkedList;
 
 /// The numbers that one pass has drawn, in the order drawn, and whether the pass was answered None.
 /// Contracts speak of rows; no program makes one.
-pub struct Row {
+pub struct DrawnRow {
     pub numbers: LinkedList<u32>,
     pub spent: bool,
 }
@@ -15,9 +15,9 @@ pub enum DeskView {
     /// many are left.
     Opening(u32, u32, u32),
     /// The seat of a pass: the total, the pass's number and its row.
-    Drawing(u32, u32, Row),
+    Drawing(u32, u32, DrawnRow),
     /// The seat that takes the passes back in: the rows of those that it has taken in.
-    Closing(LinkedList<Row>),
+    Closing(LinkedList<DrawnRow>),
     /// The seat of a pass that was taken in.
     Ended,
 }
@@ -75,9 +75,9 @@ pub struct TakeIn;
 
 impl Join<DeskView> for TakeIn {
     ghost use Rattle.kalah_run.specs.DeskKept.{ended_view};
-    ghost use Rattle.kalah_run.specs.DeskSteps.{after_taking_in};
+    ghost use Rattle.kalah_run.specs.DeskSteps.{after_taking_in_row};
 
-    ghost both = { after_taking_in };
+    ghost both = { after_taking_in_row };
 
     ghost spent = { ended_view };
 }

@@ -81,9 +81,9 @@ pub struct TakesIn;
 
 impl protocol::Join<QueueView> for TakesIn {
     ghost use Rattle.kalah_run.specs.declared.queue_rule.QueueView.TheVariants.{Ended};
-    ghost use Rattle.kalah_run.specs.QueueSteps.{after_taking_in};
+    ghost use Rattle.kalah_run.specs.QueueSteps.{after_taking_in_sent};
 
-    ghost both = { after_taking_in };
+    ghost both = { after_taking_in_sent };
 
     ghost spent = { Ended };
 }

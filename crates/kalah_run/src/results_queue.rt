@@ -8,7 +8,7 @@ ghost use Rattle.kalah_run.specs.QueueLists.{Accounts};
 ghost use Rattle.kalah_run.specs.QueueStates.{ArePassesFrom, HasGot, sent_by};
 ghost use Rattle.kalah_run.specs.QueueSteps.{got_in, made_in};
 
-use crate::queue_passes::{ClosedQueue, GetPass, PutPass, ResultsQueue};
+use crate::queue_passes::{GetPass, PutPass};
 use crate::queue_rule::{
     AnotherWorker, Gets, LeftInside, Puts, RuledPass, RuledQueue, Tagged, TakesIn,
 };
@@ -16,6 +16,7 @@ use crate::waiting::{Waiters, Waiting};
 use crossbeam_utils::{Backoff, CachePadded};
 use kalah_jobs::Outcome;
 use std::alloc::{AllocError, Global};
+use std::marker::Model;
 use std::sync::Wait;
 
 #[cfg(test)]
@@ -23,6 +24,28 @@ mod tests;
 
 /// How often an outcome is tried for that may come soon. To sleep and to be called costs both threads more than these tries.
 const SOON: u32 = 64;
+
+/// What workers put and one collector gets, in turn: a queue of a fixed capacity that threads share. It is seen as its
+/// identity and its capacity.
+#[derive(Drop)]
+pub struct ResultsQueue {
+    pairs: RuledQueue,
+    // Who waits for an outcome, and who waits for room. Threads change these all the time, and read what lies beside them.
+    getters: CachePadded<Waiters>,
+    putters: CachePadded<Waiters>,
+}
+
+impl Model for ResultsQueue {
+    ghost use Rattle.std.specs.Prelude.{◌≤◌};
+    ghost use Rattle.crossbeam_queue.specs.Passes.{ruled_capacity};
+    ghost use Rattle.kalah_run.specs.QueueStates.{QueueState};
+
+    ghost Value = { QueueState };
+
+    ghost view = { λ q. record { id = q.pairs.table.shared.table_id; capacity = ruled_capacity q.pairs } };
+
+    ghost invariant = { λ q. ruled_capacity q.pairs ≤ 1024 };
+}
 
 impl ResultsQueue {
     /// A queue that holds up to `capacity` outcomes, 1 to 1024, with a pass to put for each of the `workers`, 1 to 64, in
@@ -132,6 +155,22 @@ impl ResultsQueue {
         let left = pairs.len_as::<LeftInside, R>(rt, &mut ruled);
         ClosedQueue { left: left as u32 }
     }
+}
+
+/// What is told of a queue that was closed.
+#[derive(Clone, Copy, Debug, PartialEq, Eq)]
+pub struct ClosedQueue {
+    left: u32,
+}
+
+impl Model for ClosedQueue {
+    ghost use Rattle.kalah_run.specs.QueueStates.{ClosedQueueState};
+
+    ghost Value = { ClosedQueueState };
+
+    ghost view = { λ c. record { left = c.left } };
+
+    ghost inverse = { λ c. record { left = c.left } };
 }
 
 impl ClosedQueue {

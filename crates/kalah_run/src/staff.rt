@@ -10,8 +10,9 @@ ghost use Rattle.kalah_run.specs.Staffs.{IsReady, HasWorked};
 
 use crate::desk::Desk;
 use crate::pass::Pass;
-use crate::queue_passes::{GetPass, PutPass, ResultsQueue};
+use crate::queue_passes::{GetPass, PutPass};
 use crate::resources::Resources;
+use crate::results_queue::ResultsQueue;
 use crate::shift::Shift;
 use crossbeam_utils::CachePadded;
 use kalah_jobs::Jobs;

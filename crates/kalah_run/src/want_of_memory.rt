@@ -2,7 +2,7 @@
 //! again and again, with the first request refused, the second, and so on: it has to pass each time, until the request that
 //! is refused is one of its own marks.
 ghost use Rattle.std.specs.Prelude.{◌≡◌, ◌<◌, All, length, vec_len};
-ghost use Rattle.kalah_run.specs.DeskStates.{IsPassOf};
+ghost use Rattle.kalah_run.specs.DeskStates.{IsPassAt};
 ghost use Rattle.kalah_run.specs.QueueStates.{ArePassesFrom};
 
 use crate::{Desk, Gate, GetPass, OpenGate, Pass, PutPass, ResultsQueue};
@@ -23,9 +23,9 @@ pub(crate) fn mark(alloc: Global, place: &'static str) -> Result<(), Fail> {
 // What one of the passes draws.
 pub(crate) fn draw_by(desk: &Desk, passes: &mut Vec<Pass>, k: usize) -> Option<u32>
     requires there { k < length passes.old.items }
-    requires own { All (IsPassOf desk.now) passes.old.items }
+    requires own { All (IsPassAt desk.now) passes.old.items }
     ensures many { length passes.new.items ≡ length passes.old.items }
-    ensures own { All (IsPassOf desk.now) passes.new.items }
+    ensures own { All (IsPassAt desk.now) passes.new.items }
 {
     desk.draw(&mut passes[k])
 }
@@ -33,7 +33,7 @@ pub(crate) fn draw_by(desk: &Desk, passes: &mut Vec<Pass>, k: usize) -> Option<u
 // What two passes draw of three numbers in turn, and what the desk then tells.
 fn drawn_in_turn(opened: (Desk, Vec<Pass>)) -> ([Option<u32>; 5], (u32, bool))
     requires many { (opened.0.passes ≡ 2) × (length opened.1.items ≡ 2) }
-    requires own { All (IsPassOf opened.0) opened.1.items }
+    requires own { All (IsPassAt opened.0) opened.1.items }
 {
     let (desk, mut passes) = opened;
     let drawn = [

@@ -7,11 +7,12 @@ ghost use Rattle.kalah_run.specs.Reporting.{TakesInAll, outcomes_in};
 
 use crate::desk::Desk;
 use crate::gate::Gate;
-use crate::queue_passes::{GetPass, ResultsQueue};
+use crate::queue_passes::GetPass;
 use crate::report::Report;
+use crate::results_queue::ResultsQueue;
 use crate::run_fault::RunFault;
-use crate::shift::{Shift, Shop};
-use crate::shifts::run_shifts;
+use crate::shift::Shift;
+use crate::shop::Shop;
 use kalah_jobs::{Jobs, Sink};
 use std::snapshot::Snapshot;
 use std::sync::Wait;
@@ -130,7 +131,7 @@ pub(crate) fn run_and_report<'a, R: Threads + Wait + Sync, G: Gate, W: Sink>(
                 move || -> Vec<Shift<'_>>
                     requires { IsSync R.row × IsSync G.row × AreAtWork shop.now.desk.now shop.now.queue.now.id shop.now.jobs.now shifts.items }
                     ensures { HaveRun shop.entry.now.desk.now shop.entry.now.queue.now.id shop.entry.now.jobs.now shifts.entry.items result.items }
-                { run_shifts(rt, shop, shifts) },
+                { Shift::run_all(rt, shop, shifts) },
             );
             match started {
                 Err(_) => (Err(RunFault::NoWorker), out),

@@ -8,7 +8,7 @@ use Rattle.kalah_solve.specs.declared.table.Interval.{Interval}
 use Rattle.kalah_rules.specs.Position.{Rows, IsWithinHouses}
 use Rattle.kalah_rules.specs.Key.{key_of}
 use Rattle.kalah_solve.specs.Worth.{houses_worth}
-use Rattle.kalah_solve.specs.Table.{Holds, IsTrueEntry, AreTrue}
+use Rattle.kalah_solve.specs.Table.{Encloses, IsTrueEntry, AreTrue}
 use Rattle.kalah_rules.proofs.Keys.{same_key}
 
 -- equal numbers
@@ -17,22 +17,22 @@ same_number m n h = eqb-true m n h
 
 -- what a look-up finds holds the houses_worth
 pub found_holds : (es : List (ℕ × Interval)) (a : Rows) (k : ℕ) → AreTrue es → IsWithinHouses a → k ≡ key_of a → (o : Option Interval) → lookup (nat_eq k) es ≡ o
-    → IfSome o (λ i. Holds i (houses_worth a))
+    → IfSome o (λ i. Encloses i (houses_worth a))
 found_holds es a k entries within key None h = tt
 found_holds es a k entries within key (Some i) h =
     let at = Contains-lookup (nat_eq k) es i h in
     let entry = entries (at.0, i) at.1 in
     let same : entry.0 ≡ a = same_key entry.0 a entry.1 within (entry.2 ∙ sym (same_number _ _ at.2) ∙ key) in
-    subst (λ b. Holds i (houses_worth b)) same entry.3
+    subst (λ b. Encloses i (houses_worth b)) same entry.3
 
 -- a use changes only the order
 pub true_promoted : (es : List (ℕ × Interval)) (k : ℕ) → AreTrue es → AreTrue (promoted (nat_eq k) es)
 true_promoted es k entries = λ e h. entries e (Contains-promoted (nat_eq k) es e h)
 
-module _ (c : LruCache ℕ Interval) (a : Rows) (k : ℕ) (i : Interval) (entries : AreTrue c.entries) (within : IsWithinHouses a) (key : k ≡ key_of a) (holds : Holds i (houses_worth a)) where
+module _ (c : LruCache ℕ Interval) (a : Rows) (k : ℕ) (i : Interval) (entries : AreTrue c.entries) (within : IsWithinHouses a) (key : k ≡ key_of a) (holds : Encloses i (houses_worth a)) where
   -- the new entry is true
   put_entry : (e : ℕ × Interval) → e.1 ≡ i → e.0 ≡ k → IsTrueEntry e
-  put_entry e value at = (a, within, sym (at ∙ key), subst (λ j. Holds j (houses_worth a)) (sym value) holds)
+  put_entry e value at = (a, within, sym (at ∙ key), subst (λ j. Encloses j (houses_worth a)) (sym value) holds)
 
   -- and so are all after a put
   pub true_put : AreTrue (put_entries nat_eq c k i)

@@ -8,7 +8,7 @@ use Rattle.kalah_rules.specs.HousesStep.{houses_step}
 use Rattle.kalah_rules.specs.declared.step.HousesStep.{HousesStep}
 use Rattle.kalah_rules.specs.declared.step.HousesStep.TheVariants.{Again, Turn}
 use Rattle.kalah_rules.proofs.Legal.{legal_holds}
-use Rattle.kalah_solve.specs.StepWorth.{LeadsOn, IsNext}
+use Rattle.kalah_solve.specs.StepWorth.{LeadsOn, LeadsTo}
 use Rattle.kalah_solve.specs.Taken.{taken, taken_by_step}
 use Rattle.kalah_solve.proofs.StepWorths.{leads_on}
 use Rattle.kalah_solve.proofs.Takings.{taken_most, taken_reached, taken_share}
@@ -64,17 +64,17 @@ most_taken a m passed most w going is all_passed =
 
 -- what follows a move that leads on
 pub record IsAfter (a : Rows) (gained : ℕ) (b : Rows) : Type 0 where
-  pub next : IsNext a gained b
+  pub next : LeadsTo a gained b
   pub few : taken b ≤ seeds_in_houses (bare b)
 
 pub after_again : (a : Rows) (h : ℕ) (s : HousesStep) (gained : ℕ) (b : Rows) → IsWithinHouses a → Contains (legal_houses (bare a)) h →
     s ≡ houses_step a h → s ≡ Again gained b → IsAfter a gained b
 after_again a h s gained b w has e is =
-    let next : IsNext a gained b = subst (LeadsOn a) is (subst (LeadsOn a) (sym e) (leads_on a h w has)) in
+    let next : LeadsTo a gained b = subst (LeadsOn a) is (subst (LeadsOn a) (sym e) (leads_on a h w has)) in
     record { next = next; few = (taken_share b next.limits).few }
 
 pub after_turn : (a : Rows) (h : ℕ) (s : HousesStep) (gained : ℕ) (b : Rows) → IsWithinHouses a → Contains (legal_houses (bare a)) h →
     s ≡ houses_step a h → s ≡ Turn gained b → IsAfter a gained b
 after_turn a h s gained b w has e is =
-    let next : IsNext a gained b = subst (LeadsOn a) is (subst (LeadsOn a) (sym e) (leads_on a h w has)) in
+    let next : LeadsTo a gained b = subst (LeadsOn a) is (subst (LeadsOn a) (sym e) (leads_on a h w has)) in
     record { next = next; few = (taken_share b next.limits).few }

@@ -6,6 +6,7 @@ use Rattle.std.proofs.Math.Nat.{mul-le-mul_right, add-mul}
 use Rattle.std.proofs.lemmas.Bool.{cases_lt, cases_eq}
 use Rattle.std.proofs.lemmas.List.{get_or-set_same, get_or-set_other, get_or-replicate, length-replicate}
 use Rattle.std.proofs.Math.ListN.{length-set}
+use Rattle.kalah_rules.specs.Limits.{most_seeds}
 use Rattle.kalah_rules.specs.Position.{Rows, IsWithinHouses, bare, seeds_in_houses}
 use Rattle.kalah_rules.specs.Key.{key_of}
 use Rattle.kalah_rules.proofs.Keys.{packed_as, packed_fits, same_key}
@@ -68,7 +69,7 @@ shares_more places a number at p enough before within is place inside rest known
     rw count after_b
 
 -- places that all tell what is known of all houses
-pub shares_unknown : (count : ℕ) (p : Place) → told_share p ≡ between 0 31 → TellShares (replicate count p)
+pub shares_unknown : (count : ℕ) (p : Place) → told_share p ≡ between 0 most_seeds → TellShares (replicate count p)
 shares_unknown count p unknown a number d within is inside rest =
     let at = place_among (length (replicate count p)) number in
     let few = (taken_share a within).few in

@@ -1,6 +1,6 @@
 -- The first house that attains the margin of best play, and the margin with the stores.
 use Rattle.std.proofs.Common.{zero, suc, inl, inr, List, [], ◌∷◌, refl, ◌≡◌, ℕ, ◌+◌, ◌<◌, ◌≤◌, length, get_or, arith, ap, sym, ◌∙◌, w32, to_z, of_z, FitsSigned}
-use Rattle.std.specs.Prelude.{Bool, true, false, Contains, unwrap_or, find, Some, ℤ, pos, negsuc, ◌+ℤ◌, ◌-ℤ◌, ◌≤ℤ◌, ◌<ℤ◌}
+use Rattle.std.specs.Prelude.{Bool, true, false, Contains, unwrap_or, find, Some, ℤ, pos, ◌+ℤ◌, ◌-ℤ◌, ◌≤ℤ◌, ◌<ℤ◌}
 use Rattle.std.proofs.lemmas.Int.{ints, clamps}
 use Rattle.std.specs.Ordering.{int_eq}
 use Rattle.std.proofs.lemmas.Bool.{cases_eq}
@@ -8,7 +8,7 @@ use Rattle.std.proofs.lemmas.List.{get_or_default}
 use Rattle.std.proofs.lemmas.List.Elements.{Contains-get_or}
 use Rattle.kalah_rules.specs.Position.{Position, Rows, IsWithinHouses, IsWithinLimits, IsSmallMargin, is_over, rows_of, bare}
 use Rattle.kalah_rules.specs.Play.{legal_houses}
-use Rattle.kalah_solve.specs.Table.{within}
+use Rattle.kalah_solve.specs.Table.{least_margin, most_margin, within}
 use Rattle.kalah_solve.specs.Worth.{worth, houses_worth, value_of_move, best_house}
 use Rattle.kalah_rules.specs.HousesStep.{houses_step}
 use Rattle.kalah_solve.specs.Taken.{taken, taken_by_step}
@@ -36,10 +36,10 @@ rows_within p limits = record {
 }
 
 -- the whole window tells the worth
-whole_window : (found lo hi z : ℤ) → lo ≡ negsuc 30 → hi ≡ pos 31 → negsuc 30 ≤ℤ z → z ≤ℤ pos 31 → found ≡ within lo hi z → found ≡ z
+whole_window : (found lo hi z : ℤ) → lo ≡ least_margin → hi ≡ most_margin → least_margin ≤ℤ z → z ≤ℤ most_margin → found ≡ within lo hi z → found ≡ z
 whole_window found lo hi z lo_is hi_is low high e = omega (arith, ints, clamps, e, lo_is, hi_is, low, high)
 
-pub root_worth : (p : Position) (a : Rows) (found lo hi : ℤ) → IsWithinLimits p → a ≡ rows_of p → lo ≡ negsuc 30 → hi ≡ pos 31 →
+pub root_worth : (p : Position) (a : Rows) (found lo hi : ℤ) → IsWithinLimits p → a ≡ rows_of p → lo ≡ least_margin → hi ≡ most_margin →
     found ≡ within lo hi (houses_worth a) → found ≡ houses_worth (rows_of p)
 root_worth p a found lo hi limits is lo_is hi_is e =
     let rows = rows_within p limits in

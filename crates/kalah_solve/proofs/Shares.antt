@@ -3,7 +3,8 @@ use Rattle.std.proofs.Common.{◌≡◌, ℕ, ◌+◌, ◌*◌, ◌≤◌, arith
 use Rattle.std.specs.Prelude.{max, min, ℤ, pos, ◌+ℤ◌, ◌-ℤ◌, ◌≤ℤ◌, ◌<ℤ◌}
 use Rattle.std.specs.Int.{int_max}
 use Rattle.std.proofs.lemmas.Int.{ints, clamps}
-use Rattle.kalah_solve.specs.Table.{within}
+use Rattle.kalah_rules.specs.Limits.{most_seeds}
+use Rattle.kalah_solve.specs.Table.{most_margin, within}
 
 -- half of a number, rounded down, and 0 for one below 0
 pub record IsHalf (z : ℤ) (half : ℕ) : Type 0 where
@@ -16,7 +17,7 @@ module _ (lo hi : ℤ) (ordered : lo <ℤ hi) (n low high : ℕ) (is_low : IsHal
   shares_ordered = omega (arith, ints, clamps, ordered, is_low.low, is_high.high)
 
   -- and no more than all
-  pub shares_high : hi ≤ℤ pos 31 → n ≤ 31 → high ≤ 31
+  pub shares_high : hi ≤ℤ most_margin → n ≤ most_seeds → high ≤ most_seeds
   shares_high most few = omega (arith, ints, clamps, is_high.low, most)
 
   -- a share that is raised and lowered to them makes the same margin in the window

@@ -1,6 +1,6 @@
 -- How many seeds a player takes: by houses, by a step, and by the best move.
 use Rattle.std.proofs.Common.{zero, suc, ◌≡◌, ℕ, ◌+◌, ◌-◌, ◌/◌, ◌<◌, ◌≤◌, inl, inr, arith}
-use Rattle.std.specs.Prelude.{false, sum, Contains, ℤ, pos, negsuc, ◌≤ℤ◌, ◌+ℤ◌, ◌-ℤ◌}
+use Rattle.std.specs.Prelude.{false, sum, Contains, ℤ, pos, ◌≤ℤ◌, ◌+ℤ◌, ◌-ℤ◌}
 use Rattle.std.proofs.lemmas.Int.{ints, clamps}
 use Rattle.std.proofs.lemmas.Bool.{cases_Bool}
 use Rattle.kalah_rules.specs.Position.{Rows, IsWithinHouses, seeds_in_houses, is_over, bare}
@@ -10,7 +10,8 @@ use Rattle.kalah_rules.specs.HousesStep.{houses_step}
 use Rattle.kalah_rules.specs.declared.step.HousesStep.{HousesStep}
 use Rattle.kalah_rules.specs.declared.step.HousesStep.TheVariants.{Over, Again, Turn}
 use Rattle.kalah_solve.specs.Worth.{houses_worth, value_of_move}
-use Rattle.kalah_solve.specs.StepWorth.{worth_of_step, IsNext, LeadsOn}
+use Rattle.kalah_solve.specs.StepWorth.{worth_of_step, LeadsTo, LeadsOn}
+use Rattle.kalah_solve.specs.Table.{least_margin, most_margin}
 use Rattle.kalah_solve.specs.Taken.{count, taken, taken_by_step}
 use Rattle.kalah_solve.proofs.Shares.{IsHalf}
 use Rattle.kalah_solve.proofs.Worths.{worth_of_over}
@@ -24,7 +25,7 @@ pub record IsShare (n : ℕ) (z : ℤ) (t : ℕ) : Type 0 where
 
 -- the share of a step, by those of the houses that it leads to
 step_share : (a : Rows) (s : HousesStep) → LeadsOn a s →
-    ((b : Rows) (gained : ℕ) → IsNext a gained b → (t : ℕ) × IsShare (seeds_in_houses (bare b)) (houses_worth b) t) →
+    ((b : Rows) (gained : ℕ) → LeadsTo a gained b → (t : ℕ) × IsShare (seeds_in_houses (bare b)) (houses_worth b) t) →
     (t : ℕ) × IsShare (seeds_in_houses (bare a)) (worth_of_step s) t
 step_share a (Over own other) leads each = (own, record { few = omega (arith, leads); is = omega (arith, ints, leads) })
 step_share a (Again gained b) leads each =
@@ -71,10 +72,10 @@ worth_up_to a w =
     record { low = omega (arith, ints, share.is, share.few); high = omega (arith, ints, share.is, share.few) }
 
 -- which lies in the widest window
-pub worth_low : (a : Rows) → IsWithinHouses a → negsuc 30 ≤ℤ houses_worth a
+pub worth_low : (a : Rows) → IsWithinHouses a → least_margin ≤ℤ houses_worth a
 worth_low a w = omega (arith, ints, (worth_up_to a w).low, w.few_seeds)
 
-pub worth_high : (a : Rows) → IsWithinHouses a → houses_worth a ≤ℤ pos 31
+pub worth_high : (a : Rows) → IsWithinHouses a → houses_worth a ≤ℤ most_margin
 worth_high a w = omega (arith, ints, (worth_up_to a w).high, w.few_seeds)
 
 -- and the mover takes half of what they are worth and hold together

@@ -3,20 +3,21 @@ use Rattle.std.proofs.Common.{◌≡◌, ◌∙◌, ◌≤◌, ◌*◌, ◌*ℤ�
 use Rattle.std.specs.Prelude.{ℤ, ◌≤ℤ◌, ◌<ℤ◌, ◌-ℤ◌, pos, max, min}
 use Rattle.std.specs.Int.{int_max, int_min}
 use Rattle.std.proofs.lemmas.Int.{ints, clamps}
+use Rattle.kalah_rules.specs.Limits.{most_seeds}
 use Rattle.kalah_rules.specs.Position.{Rows, IsWithinHouses, bare, seeds_in_houses}
 use Rattle.kalah_solve.specs.declared.table.Interval.{Interval}
 use Rattle.kalah_solve.specs.declared.share.Share.{Share}
-use Rattle.kalah_solve.specs.Table.{Holds, within}
+use Rattle.kalah_solve.specs.Table.{Encloses, within}
 use Rattle.kalah_solve.specs.Taken.{taken}
 use Rattle.kalah_solve.specs.Worth.{houses_worth}
 use Rattle.kalah_solve.proofs.Takings.{taken_share, worth_of_taken}
 
 -- an interval that leaves nothing of it open answers
-pub known_answers : (lo hi z : ℤ) (k : Interval) → lo <ℤ hi → Holds k z → int_min hi k.hi ≤ℤ int_max lo k.lo → within lo hi k.lo ≡ within lo hi z
+pub known_answers : (lo hi z : ℤ) (k : Interval) → lo <ℤ hi → Encloses k z → int_min hi k.hi ≤ℤ int_max lo k.lo → within lo hi k.lo ≡ within lo hi z
 known_answers lo hi z k ordered holds none = omega (arith, ints, clamps, ordered, holds.low, holds.high, none)
 
 -- what the mover takes, raised and lowered to the shares that a window tells apart, makes the worth in the window
-pub told_by_share : (a : Rows) (lo hi : ℤ) (n t : ℕ) (asked : Share) → IsWithinHouses a → n ≡ seeds_in_houses (bare a) → asked.least ≤ asked.most → asked.most ≤ 31 →
+pub told_by_share : (a : Rows) (lo hi : ℤ) (n t : ℕ) (asked : Share) → IsWithinHouses a → n ≡ seeds_in_houses (bare a) → asked.least ≤ asked.most → asked.most ≤ most_seeds →
     ((u : ℕ) → u ≤ n → within lo hi (pos (2 * max asked.least (min asked.most u)) -ℤ pos n) ≡ within lo hi (pos (2 * u) -ℤ pos n)) →
     t ≡ max asked.least (min asked.most (taken a)) → {answer : ℤ} → answer ≡ within lo hi (to_z w32 (of_z w32 (to_z w32 (of_z w32 (pos 2 *ℤ to_z w32 t)) -ℤ to_z w32 n))) →
     answer ≡ within lo hi (houses_worth a)

@@ -14,7 +14,7 @@ worth_of_step (Again gained b) = pos gained +ℤ houses_worth b
 worth_of_step (Turn gained b) = pos gained -ℤ houses_worth b
 
 -- the houses b go on from a, with so many seeds fewer
-pub record IsNext (a : Rows) (gained : ℕ) (b : Rows) : Type 0 where
+pub record LeadsTo (a : Rows) (gained : ℕ) (b : Rows) : Type 0 where
   pub kept : gained + seeds_in_houses (bare b) ≡ seeds_in_houses (bare a)
   pub fewer : moves_left (bare b) < moves_left (bare a)
   pub going : is_over (bare b) ≡ false
@@ -23,8 +23,8 @@ pub record IsNext (a : Rows) (gained : ℕ) (b : Rows) : Type 0 where
 -- the houses to which a step leads go on from a, and at the end of the game no seed is lost
 abbrev pub LeadsOn : Rows → HousesStep → Type 0
 LeadsOn a (Over own other) = own + other ≡ seeds_in_houses (bare a)
-LeadsOn a (Again gained b) = IsNext a gained b
-LeadsOn a (Turn gained b) = IsNext a gained b
+LeadsOn a (Again gained b) = LeadsTo a gained b
+LeadsOn a (Turn gained b) = LeadsTo a gained b
 
 -- the houses to which a step leads are houses of the game, and it goes on there
 pub record GoesOnAt (gained : ℕ) (b : Rows) : Type 0 where

@@ -131,7 +131,7 @@ fn pairs() -> [u32; 1920]
 }
 
 // The houses of both players as one row, as a number with five bits for each.
-fn row_of(houses: &Houses) -> u64
+fn joined_rows(houses: &Houses) -> u64
     ensures row { result ≡ number_of (houses.now.own ++ houses.now.other) }
     ensures small { result < 2 ^ 60 }
     ensures limits { IsWithinHouses houses.now }
@@ -147,7 +147,7 @@ fn sums_of(houses: &Houses) -> u64
     ensures limits { IsWithinHouses houses.now }
 {
     let seeds = houses.seeds() as u64;
-    seeds + (row_of(houses) - seeds) / 31 * 32
+    seeds + (joined_rows(houses) - seeds) / 31 * 32
 }
 
 // The game that houses are of.

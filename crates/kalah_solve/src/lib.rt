@@ -29,5 +29,5 @@ pub use laws::{
 };
 pub use move_values::{MoveValue, MoveValues};
 pub use solver::Solver;
-pub use table::{Interval, Table};
+pub use table::{Interval, MOST_ENTRIES, Table};
 pub use verdict::Verdict;

@@ -1,12 +1,13 @@
 //! Places for what is known of houses: the last that was kept in a place is there, and nothing is searched for.
 ghost use Rattle.std.specs.Prelude.{◌≡◌, ◌≤◌, ◌<◌, ◌*◌, ◌/◌, ◌^◌, ℕ, length};
+ghost use Rattle.kalah_rules.specs.Limits.{most_seeds};
 ghost use Rattle.kalah_rules.specs.Position.{IsWithinHouses};
 ghost use Rattle.kalah_rules.specs.Key.{key_of};
 ghost use Rattle.kalah_solve.specs.Taken.{taken, between, IsWithinShare};
 ghost use Rattle.kalah_solve.specs.Places.{mixed, place_among, left_open, told_rest, told_share, AreEnough};
 
 use crate::share::Share;
-use kalah_rules::Houses;
+use kalah_rules::{Houses, MOST_SEEDS};
 use std::alloc::{AllocError, Allocator, Global};
 use std::marker::Model;
 
@@ -29,8 +30,8 @@ struct Place {
 impl Place {
     fn of(rest: u64, share: Share) -> Place
         requires rest { rest < 2 ^ 54 }
-        requires least { share.least ≤ 31 }
-        requires most { share.most ≤ 31 }
+        requires least { share.least ≤ most_seeds }
+        requires most { share.most ≤ most_seeds }
         ensures rest { told_rest result ≡ rest }
         ensures share { told_share result ≡ share }
     {
@@ -101,7 +102,7 @@ fn rest_of(mixed: u64) -> u64
 impl<A: Allocator> Places<A> {
     /// So many places, and no fewer than 1,024. It fails where there is no memory for them.
     pub(crate) fn new(alloc: A, count: u32) -> Result<Places<A>, AllocError> {
-        let unknown = Place::of(0, Share::whole(31));
+        let unknown = Place::of(0, Share::whole(MOST_SEEDS as u8));
         let count = LEAST_PLACES.max(count as usize);
         let places = Vec::from_elem(alloc, unknown, count)?;
         Ok(Places { places })
@@ -124,7 +125,7 @@ impl<A: Allocator> Places<A> {
     {
         let mixed = mixed_key(houses);
         let least = share.least;
-        let most = share.most.min(31);
+        let most = share.most.min(MOST_SEEDS as u8);
         let told = Place::of(rest_of(mixed), Share { least, most });
         let at = place_of(mixed, self.places.len());
         if let Some(place) = self.places.get_mut(at) {

@@ -1,8 +1,9 @@
 //! The search: what houses are worth in a window, told by one test after another of what the mover takes.
-ghost use Rattle.std.specs.Prelude.{◌≡◌, ◌+◌, ◌≤◌, ◌<◌, false, ℤ, pos, negsuc, ◌≤ℤ◌, max, min};
+ghost use Rattle.std.specs.Prelude.{◌≡◌, ◌+◌, ◌≤◌, ◌<◌, false, ◌≤ℤ◌, max, min};
+ghost use Rattle.kalah_rules.specs.Limits.{most_seeds};
 ghost use Rattle.kalah_rules.specs.Position.{is_over, bare};
 ghost use Rattle.kalah_solve.specs.Worth.{houses_worth};
-ghost use Rattle.kalah_solve.specs.Table.{within, Holds};
+ghost use Rattle.kalah_solve.specs.Table.{Encloses, least_margin, most_margin, within};
 ghost use Rattle.kalah_solve.specs.Taken.{taken, IsWithinShare};
 
 mod reaches;
@@ -93,9 +94,9 @@ impl<A: Allocator + Clone> Search<A> {
 
     // An interval that holds the worth of the houses.
     fn known_margins(&mut self, houses: &Houses) -> Interval
-        ensures holds { Holds result (houses_worth houses.now) }
-        ensures least { negsuc 30 ≤ℤ houses_worth houses.now }
-        ensures most { houses_worth houses.now ≤ℤ pos 31 }
+        ensures holds { Encloses result (houses_worth houses.now) }
+        ensures least { least_margin ≤ℤ houses_worth houses.now }
+        ensures most { houses_worth houses.now ≤ℤ most_margin }
     {
         let _seeds = houses.seeds();
         match self.table.look_up(houses) {
@@ -109,7 +110,7 @@ impl<A: Allocator + Clone> Search<A> {
     fn taken_within(&mut self, houses: &Houses, asked: Share) -> u8
         requires going { is_over (bare houses.now) ≡ false }
         requires ordered { asked.least ≤ asked.most }
-        requires high { asked.most ≤ 31 }
+        requires high { asked.most ≤ most_seeds }
         ensures { result ≡ max asked.least (min asked.most (taken houses.now)) }
     {
         if houses.seeds() <= self.most_at_the_end() {
@@ -172,7 +173,7 @@ impl<A: Allocator + Clone> Search<A> {
 
     // Makes an entry of what was learned of their worth, unless it took too little work.
     fn learn_margins(&mut self, houses: &Houses, interval: Interval, work: u64)
-        requires { Holds interval (houses_worth houses.now) }
+        requires { Encloses interval (houses_worth houses.now) }
     {
         if work >= self.least_work {
             self.table.keep(houses, interval);

@@ -1,12 +1,13 @@
 //! What is known of the seeds that a player takes.
 ghost use Rattle.std.specs.Prelude.{◌≡◌, ◌↔◌, ◌+◌, ◌-◌, ◌*◌, max, min, ◌≤◌, ◌≤ℤ◌, ◌+ℤ◌, ◌-ℤ◌, ℕ, ℤ, pos, IsTrue, false};
 ghost use Rattle.std.specs.Int.{int_max};
+ghost use Rattle.kalah_rules.specs.Limits.{most_seeds};
 ghost use Rattle.kalah_rules.specs.Position.{bare, seeds_in_houses};
-ghost use Rattle.kalah_solve.specs.Table.{Holds, within};
+ghost use Rattle.kalah_solve.specs.Table.{Encloses, within};
 ghost use Rattle.kalah_solve.specs.Taken.{taken, between, IsWithinShare};
 
 use crate::table::Interval;
-use crate::window::Window;
+use crate::window::{MOST_MARGIN, Window};
 use kalah_rules::Houses;
 
 /// At least so many of the seeds in houses, and at most so many.
@@ -64,9 +65,9 @@ impl Share {
 
     // Which shares of so many seeds a window of margins tells apart.
     pub(crate) fn of_window(window: Window, seeds: u8) -> Share
-        requires { seeds ≤ 31 }
+        requires { seeds ≤ most_seeds }
         ensures ordered { result.least ≤ result.most }
-        ensures high { result.most ≤ 31 }
+        ensures high { result.most ≤ most_seeds }
         ensures apart { (t : ℕ) → t ≤ seeds → within window.lo window.hi (pos (2 * max result.least (min result.most t)) -ℤ pos seeds)
             ≡ within window.lo window.hi (pos (2 * t) -ℤ pos seeds) }
     {
@@ -78,10 +79,10 @@ impl Share {
 
     // What a margin in the interval says of the share of so many seeds.
     pub(crate) fn of_margins(interval: Interval, seeds: u8) -> Share
-        requires { seeds ≤ 31 }
-        ensures held { (t : ℕ) → t ≤ seeds → Holds interval (pos (t + t) -ℤ pos seeds) → IsWithinShare result t }
+        requires { seeds ≤ most_seeds }
+        ensures held { (t : ℕ) → t ≤ seeds → Encloses interval (pos (t + t) -ℤ pos seeds) → IsWithinShare result t }
         ensures no_more { pos 0 ≤ℤ (interval.hi +ℤ pos seeds)
-            → (t : ℕ) → t ≤ seeds → IsWithinShare result t → Holds interval (pos (t + t) -ℤ pos seeds) }
+            → (t : ℕ) → t ≤ seeds → IsWithinShare result t → Encloses interval (pos (t + t) -ℤ pos seeds) }
     {
         Share {
             least: half(interval.lo as i32 + seeds as i32 + 1),
@@ -91,16 +92,16 @@ impl Share {
 
     // The margins of the shares of so many seeds.
     pub(crate) fn margins(self, seeds: u8) -> Interval
-        requires { seeds ≤ 31 }
-        ensures held { (t : ℕ) → t ≤ seeds → IsWithinShare self t → Holds result (pos (t + t) -ℤ pos seeds) }
+        requires { seeds ≤ most_seeds }
+        ensures held { (t : ℕ) → t ≤ seeds → IsWithinShare self t → Encloses result (pos (t + t) -ℤ pos seeds) }
         ensures no_more { self.least ≤ seeds
-            → (t : ℕ) → t ≤ seeds → Holds result (pos (t + t) -ℤ pos seeds) → IsWithinShare self t }
+            → (t : ℕ) → t ≤ seeds → Encloses result (pos (t + t) -ℤ pos seeds) → IsWithinShare self t }
     {
         let least = 2 * self.least as i32 - seeds as i32;
         let most = 2 * self.most as i32 - seeds as i32;
         Interval {
-            lo: least.clamp(-31, 31) as i8,
-            hi: most.clamp(-31, 31) as i8,
+            lo: least.clamp(-MOST_MARGIN as i32, MOST_MARGIN as i32) as i8,
+            hi: most.clamp(-MOST_MARGIN as i32, MOST_MARGIN as i32) as i8,
         }
     }
 }

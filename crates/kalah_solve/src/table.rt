@@ -1,5 +1,5 @@
 //! A bounded table of what is known of houses.
-ghost use Rattle.std.specs.Prelude.{◌≡◌, ◌≤◌, ◌⊎◌, ℕ, [], nat_eq, IfOk, IfSome, IsSome, Some, ◌≤ℤ◌, ℤ, pos, negsuc, ◌<ℤ◌, false};
+ghost use Rattle.std.specs.Prelude.{◌≡◌, ◌≤◌, ◌⊎◌, ℕ, [], nat_eq, IfOk, IfSome, IsSome, Some, ◌≤ℤ◌, ℤ, ◌<ℤ◌, false};
 ghost use Rattle.std.specs.Map.{lookup};
 ghost use Rattle.kalah_rules.specs.Key.{key_of};
 ghost use Rattle.kalah_rules.specs.Position.{bare, is_over, seeds_in_houses};
@@ -8,12 +8,15 @@ ghost use Rattle.kalah_solve.specs.Worth.{houses_worth};
 use crate::endings::Endings;
 use crate::places::Places;
 use crate::share::Share;
-use crate::window::Window;
+use crate::window::{MOST_MARGIN, Window};
 use kalah_rules::Houses;
 use lru::{DefaultHasher, LruCache};
 use std::alloc::{AllocError, Allocator, Global};
 use std::marker::Model;
 use std::num::NonZeroUsize;
+
+/// The most entries that a table has room for.
+pub const MOST_ENTRIES: u32 = 1_048_576;
 
 /// The numbers from `lo` to `hi`.
 #[derive(Clone, Copy, Debug, PartialEq, Eq)]
@@ -25,14 +28,17 @@ pub struct Interval {
 }
 
 impl Interval {
-    ghost use Rattle.kalah_solve.specs.Table.{Holds, from_to, within};
+    ghost use Rattle.kalah_solve.specs.Table.{Encloses, from_to, least_margin, most_margin, within};
 
     // All that houses can be worth.
     pub(crate) fn whole() -> Interval
-        ensures is { result ≡ from_to (negsuc 30) (pos 31) }
-        ensures held { (z : ℤ) → negsuc 30 ≤ℤ z → z ≤ℤ pos 31 → Holds result z }
+        ensures is { result ≡ from_to least_margin most_margin }
+        ensures held { (z : ℤ) → least_margin ≤ℤ z → z ≤ℤ most_margin → Encloses result z }
     {
-        Interval { lo: -31, hi: 31 }
+        Interval {
+            lo: -MOST_MARGIN,
+            hi: MOST_MARGIN,
+        }
     }
 
     // What the answer of a search in a window tells: an answer inside the window is the worth, one at
@@ -40,21 +46,21 @@ impl Interval {
     pub(crate) fn learned(window: Window, answer: i32) -> Interval
         requires least { window.lo ≤ℤ answer }
         requires most { answer ≤ℤ window.hi }
-        ensures at_most { answer ≡ window.lo → result ≡ from_to (negsuc 30) window.lo }
-        ensures at_least { answer ≡ window.hi → result ≡ from_to window.hi (pos 31) }
+        ensures at_most { answer ≡ window.lo → result ≡ from_to least_margin window.lo }
+        ensures at_least { answer ≡ window.hi → result ≡ from_to window.hi most_margin }
         ensures exact { window.lo <ℤ answer → answer <ℤ window.hi → result ≡ from_to answer answer }
-        ensures held { (z : ℤ) → negsuc 30 ≤ℤ z → z ≤ℤ pos 31 → answer ≡ within window.lo window.hi z → Holds result z }
+        ensures held { (z : ℤ) → least_margin ≤ℤ z → z ≤ℤ most_margin → answer ≡ within window.lo window.hi z → Encloses result z }
     {
         let answer_there = answer as i8;
         if answer <= window.lo {
             Interval {
-                lo: -31,
+                lo: -MOST_MARGIN,
                 hi: answer_there,
             }
         } else if answer >= window.hi {
             Interval {
                 lo: answer_there,
-                hi: 31,
+                hi: MOST_MARGIN,
             }
         } else {
             Interval {
@@ -66,8 +72,8 @@ impl Interval {
 
     // What both intervals share.
     pub(crate) fn shared(self, with: Interval) -> Interval
-        ensures held { (z : ℤ) → Holds self z → Holds with z → Holds result z }
-        ensures no_more { (z : ℤ) → Holds result z → Holds self z × Holds with z }
+        ensures held { (z : ℤ) → Encloses self z → Encloses with z → Encloses result z }
+        ensures no_more { (z : ℤ) → Encloses result z → Encloses self z × Encloses with z }
     {
         Interval {
             lo: self.lo.max(with.lo),
@@ -98,7 +104,7 @@ impl<A: Allocator + Clone> Model for Table<A> {
 }
 
 impl<A: Allocator + Clone> Table<A> {
-    ghost use Rattle.kalah_solve.specs.Table.{Holds, AreTrue, most_entries};
+    ghost use Rattle.kalah_solve.specs.Table.{Encloses, AreTrue, most_entries};
     ghost use Rattle.kalah_solve.specs.Taken.{taken, IsWithinShare};
 
     /// An empty table with room for `capacity` entries, which is 1 to 1,048,576. It fails only where memory was refused.
@@ -146,7 +152,7 @@ impl<A: Allocator + Clone> Table<A> {
     // What is known of the houses, which become the most recently used.
     pub(crate) fn look_up(&mut self, houses: &Houses) -> Option<Interval>
         ensures found { result ≡ lookup (nat_eq (key_of houses.now)) self.old }
-        ensures holds { IfSome result (λ i. Holds i (houses_worth houses.now)) }
+        ensures holds { IfSome result (λ i. Encloses i (houses_worth houses.now)) }
     {
         let key = houses.key();
         self.entries.get(&key).copied()
@@ -154,7 +160,7 @@ impl<A: Allocator + Clone> Table<A> {
 
     // Keeps that the worth of the houses is in the interval, unless there is no memory for it. An entry that is there takes none.
     pub(crate) fn keep(&mut self, houses: &Houses, interval: Interval)
-        requires { Holds interval (houses_worth houses.now) }
+        requires { Encloses interval (houses_worth houses.now) }
         ensures kept { (lookup (nat_eq (key_of houses.now)) self.new ≡ Some interval) ⊎ (self.new ≡ self.old) }
         ensures again { IsSome (lookup (nat_eq (key_of houses.now)) self.old)
             → lookup (nat_eq (key_of houses.now)) self.new ≡ Some interval }

@@ -1,8 +1,12 @@
 //! The window of a search.
-ghost use Rattle.std.specs.Prelude.{◌≡◌, ◌≤ℤ◌, ◌<ℤ◌, ℤ, pos, negsuc, IfSome, IsNone};
-ghost use Rattle.kalah_solve.specs.Table.{Holds, within};
+ghost use Rattle.std.specs.Prelude.{◌≡◌, ◌≤ℤ◌, ◌<ℤ◌, ℤ, IfSome, IsNone};
+ghost use Rattle.kalah_solve.specs.Table.{Encloses, least_margin, most_margin, within};
 
 use crate::table::Interval;
+use kalah_rules::MOST_SEEDS;
+
+/// The most that houses can be worth, to one player or to the other.
+pub(crate) const MOST_MARGIN: i8 = MOST_SEEDS as i8;
 
 /// The alpha-beta window: the margins that a search tells apart. What is worth less than its lower end is told as that
 /// end, and what is worth more than its upper end as that one.
@@ -10,24 +14,27 @@ use crate::table::Interval;
 pub struct Window {
     pub lo: i32,
     pub hi: i32,
-    ghost low: { negsuc 30 ≤ℤ lo },
+    ghost low: { least_margin ≤ℤ lo },
     ghost ordered: { lo <ℤ hi },
-    ghost high: { hi ≤ℤ pos 31 },
+    ghost high: { hi ≤ℤ most_margin },
 }
 
 impl Window {
     /// All that houses can be worth.
     pub fn whole() -> Window
-        ensures lo { result.lo ≡ negsuc 30 }
-        ensures hi { result.hi ≡ pos 31 }
+        ensures lo { result.lo ≡ least_margin }
+        ensures hi { result.hi ≡ most_margin }
     {
-        Window { lo: -31, hi: 31 }
+        Window {
+            lo: -MOST_MARGIN as i32,
+            hi: MOST_MARGIN as i32,
+        }
     }
 
     /// The margins among these that the interval leaves open. None where it tells the answer.
     pub fn narrowed(self, known: Interval) -> Option<Window>
-        ensures some { IfSome result (λ narrow. (z : ℤ) → Holds known z → within narrow.lo narrow.hi z ≡ within self.lo self.hi z) }
-        ensures none { IsNone result → (z : ℤ) → Holds known z → within self.lo self.hi known.lo ≡ within self.lo self.hi z }
+        ensures some { IfSome result (λ narrow. (z : ℤ) → Encloses known z → within narrow.lo narrow.hi z ≡ within self.lo self.hi z) }
+        ensures none { IsNone result → (z : ℤ) → Encloses known z → within self.lo self.hi known.lo ≡ within self.lo self.hi z }
     {
         let lo = self.lo.max(known.lo as i32);
         let hi = self.hi.min(known.hi as i32);

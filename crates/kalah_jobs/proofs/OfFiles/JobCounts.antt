@@ -10,7 +10,7 @@ use Rattle.std.proofs.Math.Seq.{get_or-append_seam}
 use Rattle.kalah_jobs.specs.declared.files.entry.Entry.{Entry}
 use Rattle.kalah_jobs.specs.Files.NamedBytes.{NamedBytes}
 use Rattle.kalah_jobs.specs.Files.JobList.{entries_of, line_job, file_jobs, jobs_from, job_list}
-use Rattle.kalah_jobs.specs.Files.Jobs.{most_files, most_lines, line_count, lines_in, entries_to, jobs_to, job_count, AreCounted}
+use Rattle.kalah_jobs.specs.Files.Jobs.{most_files, most_lines, lines_in_all, lines_in, entries_to, jobs_to, job_count, AreCounted}
 use Rattle.kalah_jobs.specs.Files.Lines.{lines_of}
 use Rattle.kalah_jobs.specs.Files.Question.{entry_to}
 use Rattle.kalah_jobs.specs.declared.files.question.Question.{Question}
@@ -168,7 +168,7 @@ unfolding entries_to
 length-entries_to question bytes = length-map (lines_of bytes) (entry_to question)
 
 -- there are as many jobs as the files have lines
-pub job_count-jobs_to : (question : Question) (files : List NamedBytes) → job_count (jobs_to question files) ≡ line_count files
+pub job_count-jobs_to : (question : Question) (files : List NamedBytes) → job_count (jobs_to question files) ≡ lines_in_all files
 job_count-jobs_to question [] = refl
 job_count-jobs_to question (file ∷ files) =
     omega (
@@ -182,11 +182,11 @@ job_count-jobs_to question (file ∷ files) =
 -- the lines of one file more are no more than those of all files
 pub counted_low : (question : Question) (files : List NamedBytes) (jobs : List (List Entry)) (starts : List ℕ) (total i : ℕ) (file : NamedBytes) (row : List Entry)
     → AreCountedUpto question (take i files) jobs starts total → i < length files → file ≡ get_or files i file → row ≡ entries_to question file.bytes
-    → total + length row ≤ line_count files
+    → total + length row ≤ lines_in_all files
 counted_low question files jobs starts total i file row counted low is read =
-    let all : line_count (take i files) + lines_in (get_or files i file) ≤ line_count files = sum_by_more_le lines_in files i file low in
+    let all : lines_in_all (take i files) + lines_in (get_or files i file) ≤ lines_in_all files = sum_by_more_le lines_in files i file low in
     let here : lines_in file ≡ lines_in (get_or files i file) = ap lines_in is in
-    let so_far : job_count jobs ≡ line_count (take i files) = ap job_count counted.are ∙ job_count-jobs_to question (take i files) in
+    let so_far : job_count jobs ≡ lines_in_all (take i files) = ap job_count counted.are ∙ job_count-jobs_to question (take i files) in
     omega (arith, counted.all, ap length read, length-entries_to question file.bytes, all, here, so_far)
 
 -- one file more is read
@@ -221,7 +221,7 @@ counted_more question files jobs starts total i lines file row counted low is re
 
 -- all files are read
 pub counted_all : (question : Question) (files : List NamedBytes) (jobs : List (List Entry)) (starts : List ℕ) (total i : ℕ)
-    → AreCountedUpto question (take i files) jobs starts total → length files ≤ i → length files ≤ most_files → line_count files ≤ most_lines
+    → AreCountedUpto question (take i files) jobs starts total → length files ≤ i → length files ≤ most_files → lines_in_all files ≤ most_lines
     → AreCounted jobs starts total
 counted_all question files jobs starts total i counted all few_files few_lines =
     let are : jobs ≡ jobs_to question files = counted.are ∙ ap (jobs_to question) (take_all i files all) in

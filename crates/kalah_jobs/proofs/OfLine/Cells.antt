@@ -7,7 +7,7 @@ use Rattle.std.proofs.Math.Seq.{take-append-add}
 use Rattle.kalah_rules.specs.Cells.{padded}
 use Rattle.kalah_jobs.specs.Line.Row.{IsPadded}
 use Rattle.kalah_jobs.specs.Line.Line.{comma}
-use Rattle.kalah_jobs.specs.Line.Reading.{◌>>=◌, parts_at, number_of, numbers_of}
+use Rattle.kalah_jobs.specs.Line.Reading.{◌>>=◌, parts_at, number_read, numbers_read}
 
 -- ---- six cells
 
@@ -31,15 +31,15 @@ bytes_left rest = option_map_or (λ text. length text.now + 1) rest 0
 -- the row holds what was read of the text, and the rest is still to be read
 pub record IsReading (text row : List ℕ) (rest : Option (Bor (List ℕ))) : Type 0 where
   pub room : 2 * length row + bytes_left rest ≤ 81
-  pub read : option_map (λ more. row ++ more) (numbers_of (parts_left rest)) ≡ numbers_of (parts_at comma text)
+  pub read : option_map (λ more. row ++ more) (numbers_read (parts_left rest)) ≡ numbers_read (parts_at comma text)
 
 pub begins : (text : Bor (List ℕ)) → length text.now ≤ 80 → IsReading text.now [] (Some text)
-begins text few = record { room = omega arith; read = same (numbers_of (parts_at comma text.now)) } where
+begins text few = record { room = omega arith; read = same (numbers_read (parts_at comma text.now)) } where
   same : (r : Option (List ℕ)) → option_map (λ (more : List ℕ). [] ++ more) r ≡ r
   same None = refl
   same (Some row) = refl
 
-number_has_bytes : (text : List ℕ) (n : ℕ) → number_of text ≡ Some n → 0 < length text
+number_has_bytes : (text : List ℕ) (n : ℕ) → number_read text ≡ Some n → 0 < length text
 number_has_bytes [] n e = absurd cc
 number_has_bytes (byte ∷ text) n e = omega arith
 
@@ -55,26 +55,26 @@ pub record IsCut (left number : List ℕ) (after : Option (Bor (List ℕ))) : Ty
 module _ (text row : List ℕ) (rest : Option (Bor (List ℕ))) (left : Bor (List ℕ)) (number : List ℕ) (after : Option (Bor (List ℕ)))
     (so_far : IsReading text row rest) (is : rest ≡ Some left) (cut : IsCut left.now number after) where
   -- what is read of the rest
-  read_of_rest : option_map (λ more. row ++ more) (number_of number >>= λ n. numbers_of (parts_left after) >>= λ more. Some (n ∷ more)) ≡ numbers_of (parts_at comma text)
-  read_of_rest = ap (λ parts. option_map (λ more. row ++ more) (numbers_of parts)) (sym (ap parts_left is ∙ cut.parts)) ∙ so_far.read
+  read_of_rest : option_map (λ more. row ++ more) (number_read number >>= λ n. numbers_read (parts_left after) >>= λ more. Some (n ∷ more)) ≡ numbers_read (parts_at comma text)
+  read_of_rest = ap (λ parts. option_map (λ more. row ++ more) (numbers_read parts)) (sym (ap parts_left is ∙ cut.parts)) ∙ so_far.read
 
   pub is_shorter : bytes_left after < bytes_left rest
   is_shorter = omega (arith, cut.lengths, ap bytes_left is)
 
-  pub has_room : (n : ℕ) → number_of number ≡ Some n → length row < 40
+  pub has_room : (n : ℕ) → number_read number ≡ Some n → length row < 40
   has_room n some = omega (arith, so_far.room, ap bytes_left is, cut.lengths, number_has_bytes number n some)
 
-  pub stops : number_of number ≡ None → numbers_of (parts_at comma text) ≡ None
-  stops none = sym read_of_rest ∙ ap (λ r. option_map (λ more. row ++ more) (r >>= λ n. numbers_of (parts_left after) >>= λ more. Some (n ∷ more))) none
+  pub stops : number_read number ≡ None → numbers_read (parts_at comma text) ≡ None
+  stops none = sym read_of_rest ∙ ap (λ r. option_map (λ more. row ++ more) (r >>= λ n. numbers_read (parts_left after) >>= λ more. Some (n ∷ more))) none
 
-  pub goes_on : (n : ℕ) → number_of number ≡ Some n → IsReading text (row ++ n ∷ []) after
+  pub goes_on : (n : ℕ) → number_read number ≡ Some n → IsReading text (row ++ n ∷ []) after
   goes_on n some = record {
     room = omega (arith, so_far.room, ap bytes_left is, cut.lengths, number_has_bytes number n some, length_push row n);
-    read = sym (put_after row n (numbers_of (parts_left after)))
-        ∙ ap (λ r. option_map (λ more. row ++ more) (r >>= λ n. numbers_of (parts_left after) >>= λ more. Some (n ∷ more))) (sym some)
+    read = sym (put_after row n (numbers_read (parts_left after)))
+        ∙ ap (λ r. option_map (λ more. row ++ more) (r >>= λ n. numbers_read (parts_left after) >>= λ more. Some (n ∷ more))) (sym some)
         ∙ read_of_rest;
   }
 
-pub ends : (text row : List ℕ) (rest : Option (Bor (List ℕ))) → IsReading text row rest → rest ≡ None → numbers_of (parts_at comma text) ≡ Some row
+pub ends : (text row : List ℕ) (rest : Option (Bor (List ℕ))) → IsReading text row rest → rest ≡ None → numbers_read (parts_at comma text) ≡ Some row
 ends text row rest so_far is =
-    sym so_far.read ∙ ap (λ r. option_map (λ more. row ++ more) (numbers_of (parts_left r))) is ∙ ap (λ (xs : List ℕ). Some xs) (append-nil row)
+    sym so_far.read ∙ ap (λ r. option_map (λ more. row ++ more) (numbers_read (parts_left r))) is ∙ ap (λ (xs : List ℕ). Some xs) (append-nil row)

@@ -5,7 +5,7 @@ use Rattle.std.proofs.lemmas.List.Splits.{join_with_byte-slice_split, length-sli
 use Rattle.std.proofs.lemmas.List.Elements.{All-cons, All-append}
 use Rattle.std.specs.List.{join_with_byte}
 use Rattle.kalah_jobs.specs.Line.Line.{comma, slash, IsNumber, AreHouses, IsSide}
-use Rattle.kalah_jobs.specs.Line.Reading.{◌>>=◌, parts_at, number_of, numbers_of, side_from, side_of}
+use Rattle.kalah_jobs.specs.Line.Reading.{◌>>=◌, parts_at, number_read, numbers_read, side_from, side_of}
 use Rattle.kalah_jobs.proofs.OfLine.Cuts.{Lacks, parts_of_one, parts_of_more, text_of_one, text_of_two}
 use Rattle.kalah_jobs.proofs.OfLine.Numbers.{number_of_is_number, number_is_read, number_lacks}
 
@@ -25,25 +25,25 @@ are_more text first rest n [] parts number others = absurd others
 are_more text first rest n (m ∷ more) parts number others = (first, (rest, (parts, number, others)))
 
 -- numbers that are read from pieces are the houses of the pieces with commas between them
-pieces_are_houses : (pieces : List (List ℕ)) (houses : List ℕ) → 0 < length pieces → numbers_of pieces ≡ Some houses → AreHouses (join_with_byte comma pieces) houses
+pieces_are_houses : (pieces : List (List ℕ)) (houses : List ℕ) → 0 < length pieces → numbers_read pieces ≡ Some houses → AreHouses (join_with_byte comma pieces) houses
 pieces_are_houses [] houses some e = absurd (omega arith)
 pieces_are_houses (piece ∷ []) houses some e =
-    let read = bind_some (number_of piece) (λ n. numbers_of [] >>= λ more. Some (n ∷ more)) houses e in
+    let read = bind_some (number_read piece) (λ n. numbers_read [] >>= λ more. Some (n ∷ more)) houses e in
     subst (AreHouses piece) (some_is (read.0 ∷ []) houses read.1.1) (number_of_is_number piece read.0 read.1.0)
 pieces_are_houses (piece ∷ next ∷ pieces) houses some e =
-    let read = bind_some (number_of piece) (λ n. numbers_of (next ∷ pieces) >>= λ more. Some (n ∷ more)) houses e in
-    let others = bind_some (numbers_of (next ∷ pieces)) (λ more. Some (read.0 ∷ more)) houses read.1.1 in
+    let read = bind_some (number_read piece) (λ n. numbers_read (next ∷ pieces) >>= λ more. Some (n ∷ more)) houses e in
+    let others = bind_some (numbers_read (next ∷ pieces)) (λ more. Some (read.0 ∷ more)) houses read.1.1 in
     let rest = pieces_are_houses (next ∷ pieces) others.0 (omega arith) others.1.0 in
     let number = number_of_is_number piece read.0 read.1.0 in
     subst (AreHouses (join_with_byte comma (piece ∷ next ∷ pieces))) (some_is (read.0 ∷ others.0) houses others.1.1)
     (are_more (join_with_byte comma (piece ∷ next ∷ pieces)) piece (join_with_byte comma (next ∷ pieces)) read.0 others.0 refl number rest)
 
-pub numbers_of_are_houses : (text houses : List ℕ) → numbers_of (parts_at comma text) ≡ Some houses → AreHouses text houses
+pub numbers_of_are_houses : (text houses : List ℕ) → numbers_read (parts_at comma text) ≡ Some houses → AreHouses text houses
 numbers_of_are_houses text houses e =
     let some : 0 < length (parts_at comma text) = omega (arith, length-slice_split (λ b. b == comma) text) in
     subst (λ (t : List ℕ). AreHouses t houses) (join_with_byte-slice_split comma text) (pieces_are_houses (parts_at comma text) houses some e)
 
-pub houses_are_read : (text houses : List ℕ) → AreHouses text houses → numbers_of (parts_at comma text) ≡ Some houses
+pub houses_are_read : (text houses : List ℕ) → AreHouses text houses → numbers_read (parts_at comma text) ≡ Some houses
 houses_are_read text [] h = absurd h
 houses_are_read text (n ∷ []) h = rw (parts_of_one comma text (number_lacks comma text n (lit< tt) h), number_is_read text n h) refl
 houses_are_read text (n ∷ m ∷ houses) h =
@@ -65,12 +65,12 @@ houses_lack byte text (n ∷ m ∷ houses) low other h =
 
 -- a side that is read was cut in two
 side_from_two : (parts : List (List ℕ)) (side : List ℕ × ℕ) → side_from parts ≡ Some side →
-    (houses : List ℕ) × ((store : List ℕ) × ((parts ≡ houses ∷ store ∷ []) × (numbers_of (parts_at comma houses) ≡ Some side.0) × (number_of store ≡ Some side.1)))
+    (houses : List ℕ) × ((store : List ℕ) × ((parts ≡ houses ∷ store ∷ []) × (numbers_read (parts_at comma houses) ≡ Some side.0) × (number_read store ≡ Some side.1)))
 side_from_two [] side e = absurd cc
 side_from_two (a ∷ []) side e = absurd cc
 side_from_two (a ∷ b ∷ []) side e =
-    let store = bind_some (number_of b) (λ n. numbers_of (parts_at comma a) >>= λ row. Some (row, n)) side e in
-    let houses = bind_some (numbers_of (parts_at comma a)) (λ row. Some (row, store.0)) side store.1.1 in
+    let store = bind_some (number_read b) (λ n. numbers_read (parts_at comma a) >>= λ row. Some (row, n)) side e in
+    let houses = bind_some (numbers_read (parts_at comma a)) (λ row. Some (row, store.0)) side store.1.1 in
     let is : (houses.0, store.0) ≡ side = some_is (houses.0, store.0) side houses.1.1 in
     (a, (b, (refl, houses.1.0 ∙ ap (λ (s : List ℕ × ℕ). Some s.0) is, store.1.0 ∙ ap (λ (s : List ℕ × ℕ). Some s.1) is)))
 side_from_two (a ∷ b ∷ c ∷ rest) side e = absurd cc
@@ -110,9 +110,9 @@ houses_are_some text [] h = absurd h
 houses_are_some text (n ∷ houses) h = omega arith
 
 -- what follows the first slash and is no number makes no side
-pub no_store_no_side : (text houses store : List ℕ) → parts_at slash text ≡ houses ∷ parts_at slash store → number_of store ≡ None → side_of text ≡ None
+pub no_store_no_side : (text houses store : List ℕ) → parts_at slash text ≡ houses ∷ parts_at slash store → number_read store ≡ None → side_of text ≡ None
 no_store_no_side text houses store cut none = ap side_from cut ∙ by_parts (parts_at slash store) refl where
   by_parts : (parts : List (List ℕ)) → parts_at slash store ≡ parts → side_from (houses ∷ parts) ≡ None
   by_parts [] e = refl
-  by_parts (only ∷ []) e = ap (λ r. r >>= λ n. numbers_of (parts_at comma houses) >>= λ row. Some (row, n)) (ap number_of (sym (text_of_one slash store only e)) ∙ none)
+  by_parts (only ∷ []) e = ap (λ r. r >>= λ n. numbers_read (parts_at comma houses) >>= λ row. Some (row, n)) (ap number_read (sym (text_of_one slash store only e)) ∙ none)
   by_parts (first ∷ second ∷ more) e = refl

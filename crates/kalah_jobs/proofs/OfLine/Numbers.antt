@@ -9,7 +9,7 @@ use Rattle.std.proofs.lemmas.Option.{cond_some}
 use Rattle.std.proofs.lemmas.Fmt.{decimal_digit, decimal_step}
 use Rattle.std.proofs.lemmas.List.Elements.{All-nil, All-cons}
 use Rattle.kalah_jobs.specs.Line.Line.{IsNumber}
-use Rattle.kalah_jobs.specs.Line.Reading.{number_of}
+use Rattle.kalah_jobs.specs.Line.Reading.{number_read}
 use Rattle.kalah_jobs.proofs.OfLine.Cuts.{Lacks}
 
 -- ---- digits
@@ -33,7 +33,7 @@ two_digits tens ones = is_ascii_digit tens && not (tens == 48) && is_ascii_digit
 -- ---- reading
 
 -- what is read is written
-pub number_of_is_number : (text : List ℕ) (n : ℕ) → number_of text ≡ Some n → IsNumber text n
+pub number_of_is_number : (text : List ℕ) (n : ℕ) → number_read text ≡ Some n → IsNumber text n
 number_of_is_number [] n e = absurd cc
 number_of_is_number (ones ∷ []) n e =
     let read = cond_some (is_ascii_digit ones) (ones - 48) n e in
@@ -46,7 +46,7 @@ number_of_is_number (tens ∷ ones ∷ []) n e =
 number_of_is_number (a ∷ b ∷ c ∷ rest) n e = absurd cc
 
 -- what is written is read
-pub number_is_read : (text : List ℕ) (n : ℕ) → IsNumber text n → number_of text ≡ Some n
+pub number_is_read : (text : List ℕ) (n : ℕ) → IsNumber text n → number_read text ≡ Some n
 number_is_read [] n h = absurd h
 number_is_read (ones ∷ []) n h = cond-true _ _ _ (passes_as_digit ones h.0) ∙ ap (λ (m : ℕ). Some m) (sym h.1)
 number_is_read (tens ∷ ones ∷ []) n h =

@@ -12,7 +12,7 @@ use Rattle.kalah_jobs.specs.declared.writing.answer.Answer.TheVariants as answer
 use Rattle.kalah_jobs.specs.Files.NamedBytes.{NamedBytes}
 use Rattle.kalah_jobs.specs.Files.Lines.{line_feed, lines_of}
 use Rattle.kalah_jobs.specs.Files.Entry.{entry_of}
-use Rattle.kalah_jobs.specs.Files.Question.{asked, entry_to}
+use Rattle.kalah_jobs.specs.Files.Question.{entry_asked, entry_to}
 use Rattle.kalah_jobs.specs.declared.files.question.Question.{Question}
 use Rattle.kalah_jobs.specs.declared.files.question.Question.TheVariants.{BestMove, Values}
 use Rattle.kalah_jobs.specs.declared.files.entry.Entry.{Entry}
@@ -70,7 +70,7 @@ no_fault true x y one other = one
 no_fault false x y one other = other
 
 -- what is asked of a position makes no fault of it
-asked_fault : (question : Question) (entry : Entry) → is_fault (answer_of (asked question entry)) ≡ is_fault (answer_of entry)
+asked_fault : (question : Question) (entry : Entry) → is_fault (answer_of (entry_asked question entry)) ≡ is_fault (answer_of entry)
 unfolding answer_of
 asked_fault BestMove entry = refl
 asked_fault Values (Position p) =

@@ -22,7 +22,7 @@ use Rattle.kalah_jobs.specs.Writing.Answer.{answer_of, answer_line}
 use Rattle.kalah_jobs.specs.Files.Entry.{entry_of_reading, entry_of}
 use Rattle.kalah_jobs.specs.Line.Line.{Reads}
 use Rattle.kalah_jobs.specs.Files.Lines.{line_feed}
-use Rattle.kalah_jobs.specs.Files.Question.{asked, entry_to}
+use Rattle.kalah_jobs.specs.Files.Question.{entry_asked, entry_to}
 use Rattle.kalah_jobs.specs.Line.Reading.{reading_of}
 use Rattle.kalah_jobs.specs.Writing.Splitting.{HasSmallNumbers, AnswersHaveSmallNumbers, WhatIsWrittenTellsAnswers}
 use Rattle.kalah_jobs.proofs.OfWriting.AnswerTexts.{answer_lines_tell_answers}
@@ -76,7 +76,7 @@ reading_within : (line : List ℕ) (r : Result position.Position LineFault) → 
 reading_within line (Ok p) e = read_within line p (reading_reads line p (sym e))
 reading_within line (Err fault) e = tt
 
-small_reading : (question : Question) (r : Result position.Position LineFault) → IfOk r IsWithinLimits → HasSmallNumbers (answer_of (asked question (entry_of_reading r)))
+small_reading : (question : Question) (r : Result position.Position LineFault) → IfOk r IsWithinLimits → HasSmallNumbers (answer_of (entry_asked question (entry_of_reading r)))
 unfolding answer_of
 small_reading BestMove (Ok p) limits = small_best_move p limits
 small_reading Values (Ok p) limits = small_values p limits

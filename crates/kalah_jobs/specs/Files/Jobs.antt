@@ -4,24 +4,25 @@ use Rattle.kalah_jobs.specs.declared.files.entry.Entry.{Entry}
 use Rattle.kalah_jobs.specs.Files.NamedBytes.{NamedBytes}
 use Rattle.kalah_jobs.specs.Files.Lines.{lines_of}
 use Rattle.kalah_jobs.specs.Files.Question.{entry_to}
+use Rattle.kalah_jobs.specs.declared.files.jobs.TheConstants.{MOST_FILES, MOST_LINES}
 use Rattle.kalah_jobs.specs.declared.files.question.Question.{Question}
 use Rattle.kalah_jobs.specs.declared.files.question.Question.TheVariants.{BestMove}
 
 -- files of a batch
 abbrev pub most_files : ℕ
-most_files = 256
+most_files = MOST_FILES
 
 -- lines of a batch, over all files
 abbrev pub most_lines : ℕ
-most_lines = 1000000
+most_lines = MOST_LINES
 
 -- how many lines a file has
 abbrev pub lines_in : NamedBytes → ℕ
 lines_in file = length (lines_of file.bytes)
 
 -- how many lines all files have together
-abbrev pub line_count : List NamedBytes → ℕ
-line_count files = sum_by lines_in files
+abbrev pub lines_in_all : List NamedBytes → ℕ
+lines_in_all files = sum_by lines_in files
 
 -- what the lines of some bytes say, in order, with this asked of their positions
 unfoldable pub entries_to : Question → List ℕ → List Entry

@@ -7,11 +7,11 @@ use Rattle.kalah_jobs.specs.declared.files.question.Question.{Question}
 use Rattle.kalah_jobs.specs.declared.files.question.Question.TheVariants.{BestMove, Values}
 
 -- what a line says, with this asked of its position
-abbrev pub asked : Question → Entry → Entry
-asked BestMove entry = entry
-asked Values (Position p) = ValuesOf p
-asked Values (ValuesOf p) = ValuesOf p
-asked Values (Bad fault) = Bad fault
+abbrev pub entry_asked : Question → Entry → Entry
+entry_asked BestMove entry = entry
+entry_asked Values (Position p) = ValuesOf p
+entry_asked Values (ValuesOf p) = ValuesOf p
+entry_asked Values (Bad fault) = Bad fault
 
 abbrev pub entry_to : Question → List ℕ → Entry
-entry_to question line = asked question (entry_of line)
+entry_to question line = entry_asked question (entry_of line)

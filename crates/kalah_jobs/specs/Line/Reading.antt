@@ -20,26 +20,26 @@ abbrev pub parts_at : ℕ → List ℕ → List (List ℕ)
 parts_at byte text = slice_split (λ b. b == byte) text
 
 -- the number that the text writes, if it writes one
-abbrev pub number_of : List ℕ → Option ℕ
-number_of [] = None
-number_of (ones ∷ []) = if is_ascii_digit ones then Some (ones - zero_digit) else None
-number_of (tens ∷ ones ∷ []) =
+abbrev pub number_read : List ℕ → Option ℕ
+number_read [] = None
+number_read (ones ∷ []) = if is_ascii_digit ones then Some (ones - zero_digit) else None
+number_read (tens ∷ ones ∷ []) =
     if is_ascii_digit tens && not (tens == zero_digit) && is_ascii_digit ones then Some (10 * (tens - zero_digit) + (ones - zero_digit)) else None
-number_of (_ ∷ _ ∷ _ ∷ _) = None
+number_read (_ ∷ _ ∷ _ ∷ _) = None
 
 -- the numbers of all the texts
-abbrev pub numbers_of : List (List ℕ) → Option (List ℕ)
-numbers_of [] = Some []
-numbers_of (text ∷ texts) = do
-  n ← number_of text
-  more ← numbers_of texts
+abbrev pub numbers_read : List (List ℕ) → Option (List ℕ)
+numbers_read [] = Some []
+numbers_read (text ∷ texts) = do
+  n ← number_read text
+  more ← numbers_read texts
   Some (n ∷ more)
 
 -- a side of two parts: its houses and its store
 abbrev pub side_from : List (List ℕ) → Option (List ℕ × ℕ)
 side_from (houses ∷ store ∷ []) = do
-  n ← number_of store
-  row ← numbers_of (parts_at comma houses)
+  n ← number_read store
+  row ← numbers_read (parts_at comma houses)
   Some (row, n)
 side_from _ = None
 

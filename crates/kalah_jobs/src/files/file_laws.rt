@@ -1,17 +1,7 @@
 //! Laws over all files.
-ghost use Rattle.std.specs.Prelude.{◌≡◌};
-ghost use Rattle.kalah_jobs.specs.Files.Jobs.{most_files, most_lines};
 ghost use Rattle.kalah_jobs.specs.Files.Lines.{LinesAreOne};
 ghost use Rattle.kalah_jobs.specs.Files.Entry.{EntriesAreOne};
 ghost use Rattle.kalah_jobs.specs.Writing.Output.{FilesAreTheirJobs};
-
-use crate::files::jobs::{MOST_FILES, MOST_LINES};
-
-/// The most files and lines that the constants tell are the ones that the contracts of a batch are about.
-pub fn constants_tell_a_batch()
-    ensures files { MOST_FILES ≡ most_files }
-    ensures lines { MOST_LINES ≡ most_lines }
-{}
 
 /// Every file has lines, whatever its bytes are, and they are the only ones that it has.
 pub fn lines_are_one()

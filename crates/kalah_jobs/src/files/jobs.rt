@@ -2,7 +2,7 @@
 ghost use Rattle.std.specs.Prelude.{◌≡◌, ◌<◌, ◌≤◌, ◌↔◌, length, IfOk, IsTrue, slice_get, slice_index, ℕ, Some, Err};
 ghost use Rattle.std.specs.List.Sorted.{IsNonDecreasing};
 ghost use Rattle.kalah_jobs.specs.Files.JobList.{entries_of, line_job, job_list};
-ghost use Rattle.kalah_jobs.specs.Files.Jobs.{most_files, most_lines, line_count, jobs_of, jobs_to, job_count};
+ghost use Rattle.kalah_jobs.specs.Files.Jobs.{most_files, most_lines, lines_in_all, jobs_of, jobs_to, job_count};
 
 use crate::files::entry::Entry;
 use crate::files::file_jobs::FileJobs;
@@ -71,7 +71,7 @@ impl Jobs {
     pub fn of_files(alloc: Global, files: &[FileText]) -> Result<Jobs, JobsFault>
         ensures too_many_files { (result ≡ Err JobsFault.TooManyFiles) ↔ (most_files < length files.now) }
         ensures too_many_lines { (result ≡ Err JobsFault.TooManyLines)
-            ↔ ((length files.now ≤ most_files) × (most_lines < line_count files.now)) }
+            ↔ ((length files.now ≤ most_files) × (most_lines < lines_in_all files.now)) }
         ensures value { IfOk result (λ jobs. jobs ≡ jobs_of files.now) }
     {
         Jobs::asking(alloc, Question::BestMove, files)
@@ -83,7 +83,7 @@ impl Jobs {
     pub fn asking(alloc: Global, question: Question, files: &[FileText]) -> Result<Jobs, JobsFault>
         ensures too_many_files { (result ≡ Err JobsFault.TooManyFiles) ↔ (most_files < length files.now) }
         ensures too_many_lines { (result ≡ Err JobsFault.TooManyLines)
-            ↔ ((length files.now ≤ most_files) × (most_lines < line_count files.now)) }
+            ↔ ((length files.now ≤ most_files) × (most_lines < lines_in_all files.now)) }
         ensures value { IfOk result (λ jobs. jobs ≡ jobs_to question files.now) }
     {
         if files.len() > MOST_FILES {
@@ -161,7 +161,7 @@ impl Jobs {
 
 // Whether the files have no more lines together than a batch may have.
 fn has_few_lines(files: &[FileText]) -> bool
-    ensures { IsTrue result ↔ (line_count files.now ≤ most_lines) }
+    ensures { IsTrue result ↔ (lines_in_all files.now ≤ most_lines) }
 {
     let mut room = MOST_LINES;
     for file in files {

@@ -29,7 +29,7 @@ impl Model for Row {
 
 impl Row {
     ghost use Rattle.kalah_jobs.specs.Line.Line.{comma, most_bytes};
-    ghost use Rattle.kalah_jobs.specs.Line.Reading.{parts_at, numbers_of};
+    ghost use Rattle.kalah_jobs.specs.Line.Reading.{parts_at, numbers_read};
 
     // No houses.
     pub(crate) fn new() -> Row
@@ -44,7 +44,7 @@ impl Row {
     // The numbers of a text, with a comma between each two.
     pub(crate) fn read(text: &[u8]) -> Option<Row>
         requires { length text.now ≤ most_bytes }
-        ensures { result ≡ numbers_of (parts_at comma text.now) }
+        ensures { result ≡ numbers_read (parts_at comma text.now) }
     {
         let mut row = Row::new();
         let mut rest = Some(text);

@@ -1,5 +1,5 @@
 ghost use Rattle.std.specs.Prelude.{◌≡◌, ◌≤◌, length, All, IfOk};
-ghost use Rattle.kalah_run.specs.DeskStates.{IsPassOf};
+ghost use Rattle.kalah_run.specs.DeskStates.{IsPassAt};
 
 use super::*;
 use crate::want_of_memory::draw_by;
@@ -9,8 +9,8 @@ use std::thread::Threads;
 
 // Draws with the pass until it is answered None. The answer has the numbers drawn, in order.
 fn draw_all(desk: &Desk, alloc: Global, mut pass: Pass) -> Result<(Pass, Vec<u32>), AllocError>
-    requires { IsPassOf desk.now pass }
-    ensures { IfOk result (λ r. IsPassOf desk.now r.0) }
+    requires { IsPassAt desk.now pass }
+    ensures { IfOk result (λ r. IsPassAt desk.now r.0) }
 {
     let mut numbers = Vec::new(alloc);
     while let Some(number) = desk.draw(&mut pass) {
@@ -26,9 +26,9 @@ fn gather(
     desk: &Desk,
     mut answers: Vec<Result<(Pass, Vec<u32>), AllocError>>,
 ) -> (Vec<Pass>, Vec<u32>)
-    requires { All (λ a. IfOk a (λ r. IsPassOf desk.now r.0)) answers.items }
+    requires { All (λ a. IfOk a (λ r. IsPassAt desk.now r.0)) answers.items }
     ensures all { length result.0.items ≡ length answers.items }
-    ensures own { All (IsPassOf desk.now) result.0.items }
+    ensures own { All (IsPassAt desk.now) result.0.items }
 {
     let (mut passes, mut all) = (Vec::new(alloc), Vec::new(alloc));
     while let Some(answer) = answers.pop() {
@@ -91,9 +91,9 @@ fn draw_in_threads<R: Abort + Threads + Sync>(
     desk: &Desk,
     passes: Vec<Pass>,
 ) -> (Vec<Pass>, Vec<u32>)
-    requires { All (IsPassOf desk.now) passes.items }
+    requires { All (IsPassAt desk.now) passes.items }
     ensures all { length result.0.items ≡ length passes.items }
-    ensures own { All (IsPassOf desk.now) result.0.items }
+    ensures own { All (IsPassAt desk.now) result.0.items }
 {
     let answers = thread::map_vec(rt, passes, &|pass| draw_all(desk, alloc, pass));
     gather(rt, alloc, desk, answers.expect(rt, "no memory"))

@@ -1,7 +1,7 @@
 use Rattle.std.proofs.Common.{◌≡◌, ◌++◌, vec_len, All}
 use Rattle.kalah_run.specs.declared.desk_rule.DeskView.TheVariants.{Closing}
 use Rattle.kalah_run.specs.DeskKept.{rows_in}
-use Rattle.kalah_run.specs.DeskStates.{rows_of}
+use Rattle.kalah_run.specs.DeskStates.{drawn_rows}
 use Rattle.kalah_run.proofs.desk.take_in.Given as goal
 
 abbrev pub invariant-loop-pass : goal.invariant-loop-pass
@@ -9,7 +9,7 @@ invariant-loop-pass l = record {
   table : l.closer.table_id ≡ l.shared.table_id;
   passes : All (λ p. p.desk ≡ l.shared.table_id) l.passes.items;
   closing : l.closer.me.0 ≡ Closing (rows_in l.closer.me.0);
-  rows : rows_of l.passes.items ++ rows_in l.closer.me.0 ≡ rows_of l.fn.passes.items;
+  rows : drawn_rows l.passes.items ++ rows_in l.closer.me.0 ≡ drawn_rows l.fn.passes.items;
 }
 
 abbrev pub decreases-loop-pass : goal.decreases-loop-pass

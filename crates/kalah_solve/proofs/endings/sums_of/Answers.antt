@@ -3,11 +3,11 @@ use Rattle.std.proofs.lemmas.List.Sums.{sum_by-append}
 use Rattle.kalah_solve.proofs.RowRanks.{AreSums, sums_are}
 use Rattle.kalah_solve.proofs.endings.sums_of.Goals as goal
 
-are : (c : goal.After-row_of) → AreSums (c.args.houses.now.own ++ c.args.houses.now.other) c.row_of.result c.seeds-seeds.result
+are : (c : goal.After-joined_rows) → AreSums (c.args.houses.now.own ++ c.args.houses.now.other) c.joined_rows.result c.seeds-seeds.result
 are c =
     let a = c.args.houses.now in
     let seeds = c.seeds-seeds.ensures in
-    sums_are (a.own ++ a.other) c.row_of.result c.seeds-seeds.result (omega (arith, length-append a.own a.other, seeds.limits.some_house)) c.row_of.ensures.row
+    sums_are (a.own ++ a.other) c.joined_rows.result c.seeds-seeds.result (omega (arith, length-append a.own a.other, seeds.limits.some_house)) c.joined_rows.ensures.row
     (omega (arith, seeds.seeds, sum_by-append (λ x. x) a.own a.other))
 
 pub overflow_sub-result : goal.overflow_sub-result

@@ -1,6 +1,6 @@
 use Rattle.std.proofs.Common.{◌≡◌, ◌+◌, take}
-use Rattle.kalah_jobs.specs.Files.Jobs.{line_count, most_lines}
+use Rattle.kalah_jobs.specs.Files.Jobs.{lines_in_all, most_lines}
 use Rattle.kalah_jobs.proofs.files.jobs.has_few_lines.Given as goal
 
 abbrev pub invariant-loop-file : goal.invariant-loop-file
-invariant-loop-file l = l.room + line_count (take l.file-index l.files) ≡ most_lines
+invariant-loop-file l = l.room + lines_in_all (take l.file-index l.files) ≡ most_lines

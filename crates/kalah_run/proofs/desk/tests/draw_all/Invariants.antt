@@ -1,10 +1,10 @@
 use Rattle.std.proofs.Common.{◌-◌}
 use Rattle.kalah_run.specs.DeskRows.{least_above}
-use Rattle.kalah_run.specs.DeskStates.{IsPassOf}
+use Rattle.kalah_run.specs.DeskStates.{IsPassAt}
 use Rattle.kalah_run.proofs.desk.tests.draw_all.Given as goal
 
 abbrev pub invariant-loop-number : goal.invariant-loop-number
-invariant-loop-number l = IsPassOf l.desk l.pass
+invariant-loop-number l = IsPassAt l.desk l.pass
 
 abbrev pub decreases-loop-number : goal.decreases-loop-number
 decreases-loop-number l = l.desk.total - least_above l.pass.row.numbers

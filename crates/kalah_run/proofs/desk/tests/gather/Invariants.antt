@@ -1,11 +1,11 @@
 use Rattle.std.proofs.Common.{◌≡◌, ◌+◌, length, vec_len, All, IfOk}
-use Rattle.kalah_run.specs.DeskStates.{IsPassOf}
+use Rattle.kalah_run.specs.DeskStates.{IsPassAt}
 use Rattle.kalah_run.proofs.desk.tests.gather.Given as goal
 
 abbrev pub invariant-loop-answer : goal.invariant-loop-answer
 invariant-loop-answer g l = record {
-  answers : All (λ a. IfOk a (λ r. IsPassOf l.desk r.0)) l.answers.items;
-  passes : All (IsPassOf l.desk) l.passes.items;
+  answers : All (λ a. IfOk a (λ r. IsPassAt l.desk r.0)) l.answers.items;
+  passes : All (IsPassAt l.desk) l.passes.items;
   count : length l.answers.items + length l.passes.items ≡ length l.fn.answers.items;
 }
 

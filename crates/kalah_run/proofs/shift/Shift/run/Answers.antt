@@ -2,7 +2,7 @@ use Rattle.std.proofs.Common.{◌≡◌, ◌≤◌, ◌<◌, ◌+◌, ◌-◌, �
 use Rattle.std.specs.Prelude.{Some, All, fold}
 use Rattle.std.proofs.lemmas.List.Sums.{fold-append}
 use Rattle.kalah_run.specs.DeskRows.{least_above}
-use Rattle.kalah_run.specs.declared.desk_rule.Row.{Row}
+use Rattle.kalah_run.specs.declared.desk_rule.DrawnRow.{DrawnRow}
 use Rattle.kalah_run.specs.QueueStates.{PutState}
 use Rattle.kalah_run.proofs.Sendings.{drawn_jobs-more}
 use Rattle.kalah_run.proofs.shift.Shift.run.Goals as goal
@@ -10,7 +10,8 @@ use Rattle.kalah_run.proofs.shift.Shift.run.Goals as goal
 pub invariant_of-self : goal.invariant_of-self
 invariant_of-self g c = record {
   sent_so_far = drawn_jobs-more c.loop-drawn.self.jobs.now c.loop-drawn.self.pass.row c.draw.new.pass.row c.in-Some.drawn c.of-outcome.result _ _
-      c.loop-drawn.self.sent_so_far (ap (λ (r : Row). r.numbers) c.in-Some.ensures.drawn) (c.get-job.ensures ∙ ap Some (sym c.of-outcome.ensures)) (ap (λ (p : PutState). p.sent) c.put.ensures);
+      c.loop-drawn.self.sent_so_far (ap (λ (r : DrawnRow). r.numbers) c.in-Some.ensures.drawn) (c.get-job.ensures ∙ ap Some (sym c.of-outcome.ensures))
+      (ap (λ (p : PutState). p.sent) c.put.ensures);
 }
 
 -- a list of numbers below a limit has none above it
@@ -27,4 +28,4 @@ less_left numbers more number total is above below =
     omega (arith, last, before, below)
 
 pub loop-drawn-smaller : goal.loop-drawn-smaller
-loop-drawn-smaller g c = less_left _ _ _ _ (ap (λ (r : Row). r.numbers) c.in-Some.ensures.drawn) c.in-Some.ensures.above c.in-Some.ensures.below
+loop-drawn-smaller g c = less_left _ _ _ _ (ap (λ (r : DrawnRow). r.numbers) c.in-Some.ensures.drawn) c.in-Some.ensures.above c.in-Some.ensures.below

@@ -1,7 +1,7 @@
 use Rattle.std.proofs.Common.{◌≡◌, []}
 use Rattle.crossbeam_queue.specs.Passes.{view}
 use Rattle.kalah_run.specs.declared.queue_rule.QueueView.TheVariants.{Putting}
-use Rattle.kalah_run.proofs.queue_passes.ResultsQueue.put.Given as goal
+use Rattle.kalah_run.proofs.results_queue.ResultsQueue.put.Given as goal
 
 abbrev pub invariant-loop : goal.invariant-loop
 invariant-loop g l = record {

@@ -1,7 +1,7 @@
 use Rattle.std.proofs.Common.{◌∙◌, ap, sym}
 use Rattle.kalah_run.specs.declared.queue_rule.QueueView.TheVariants.{Putting}
 use Rattle.kalah_run.proofs.QueueKeeps.{puts}
-use Rattle.kalah_run.proofs.queue_passes.ResultsQueue.put.Goals as goal
+use Rattle.kalah_run.proofs.results_queue.ResultsQueue.put.Goals as goal
 
 pub try_push_as-requires-clause-rule : goal.try_push_as-requires-clause-rule
 try_push_as-requires-clause-rule g c =

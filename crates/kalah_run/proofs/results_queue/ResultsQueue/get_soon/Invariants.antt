@@ -1,10 +1,10 @@
 use Rattle.std.proofs.Common.{◌≡◌, []}
 use Rattle.crossbeam_queue.specs.Passes.{view}
 use Rattle.kalah_run.specs.declared.queue_rule.QueueView.TheVariants.{Getting}
-use Rattle.kalah_run.proofs.queue_passes.ResultsQueue.get.Given as goal
+use Rattle.kalah_run.proofs.results_queue.ResultsQueue.get_soon.Given as goal
 
 abbrev pub invariant-loop : goal.invariant-loop
-invariant-loop g l = record {
+invariant-loop l = record {
   queue : l.pass-inside.ruled.table_id ≡ l.fn.pass.queue;
   none_out : l.pass-inside.ruled.me.1 ≡ [];
   workers : l.pass-inside.workers ≡ l.fn.pass.workers;

@@ -2,7 +2,7 @@ use Rattle.std.proofs.Common.{rules, arith, ◌≡◌, [], ap, ◌∙◌}
 use Rattle.kalah_run.specs.QueueSteps.{sent_in, after_making_one, one_made}
 use Rattle.kalah_run.proofs.QueueKeeps.{begins, forks}
 use Rattle.kalah_run.proofs.QueueLists.{one_pass_more, all_and_one}
-use Rattle.kalah_run.proofs.queue_passes.ResultsQueue.open.Goals as goal
+use Rattle.kalah_run.proofs.results_queue.ResultsQueue.open.Goals as goal
 
 pub ruled-requires-clause-rule : goal.ruled-requires-clause-rule
 ruled-requires-clause-rule c = begins

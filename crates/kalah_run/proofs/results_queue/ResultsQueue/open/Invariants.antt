@@ -3,7 +3,7 @@ use Rattle.std.specs.Prelude.{vec_capacity}
 use Rattle.crossbeam_queue.specs.Passes.{view, IsPassOf}
 use Rattle.kalah_run.specs.declared.queue_rule.QueueView.TheVariants.{Getting}
 use Rattle.kalah_run.specs.QueueStates.{ArePassesFrom}
-use Rattle.kalah_run.proofs.queue_passes.ResultsQueue.open.Given as goal
+use Rattle.kalah_run.proofs.results_queue.ResultsQueue.open.Given as goal
 
 abbrev pub invariant-loop-number : goal.invariant-loop-number
 invariant-loop-number l = record {

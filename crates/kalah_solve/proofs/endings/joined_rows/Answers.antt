@@ -1,5 +1,5 @@
 use Rattle.kalah_solve.proofs.RowRanks.{both_rows}
-use Rattle.kalah_solve.proofs.endings.row_of.Goals as goal
+use Rattle.kalah_solve.proofs.endings.joined_rows.Goals as goal
 
 pub returns-clause-row : goal.returns-clause-row
 returns-clause-row c =
