@@ -1,7 +1,7 @@
 pub mod Names
 pub mod Laws
 pub mod ManyWords
-pub mod Kept
+pub mod OfClap
 pub mod Subcommands
 pub mod Getters
 pub mod Plain

@@ -1,43 +1,30 @@
 -- What the matches of the four subcommands hold, where the words are taken.
-use Rattle.std.proofs.Common.{◌≡◌, ◌⊎◌, ◌∙◌, ◌++◌, ◌<◌, ℕ, Bool, cond, true, false, refl, ap, subst, sym, inl, inr, List, [], ◌∷◌, Option, Some, None, arith, length, is_some, ◌||◌, not, codes, length-append}
+use Rattle.std.proofs.Common.{◌≡◌, ◌⊎◌, ◌∙◌, ◌<◌, ℕ, Bool, true, false, refl, ap, subst, sym, inl, inr, List, [], ◌∷◌, Option, Some, None, arith, length, is_some, ◌||◌, not, codes}
 use Rattle.std.specs.Prelude.{find, nat_lt, option_and_then, option_map, slice_get}
-use Rattle.std.specs.List.{fold, list_any}
 use Rattle.std.specs.Option.{option_map_or}
 use Rattle.std.specs.Str.{bytes_eq}
 use Rattle.std.proofs.lemmas.Slice.Eq.{bytes_eq-Decides}
-use Rattle.clap.specs.Values.{Accepts, IsUnsignedIn, read_as, refused_kind}
-use Rattle.clap.specs.ValueTests.{accepts}
-use Rattle.clap.proofs.ValueTestLemmas.{accepts-Accepts}
-use Rattle.clap.specs.Facts.{explicit_source, unwrap_or_range}
-use Rattle.clap.specs.Kinds.{check_kinds, or_else, values_kinds}
-use Rattle.clap.specs.Walk.{Row, Rule, Text, action_of, answers_to, at_row, default_rows, first_of, has_row, more_values, nothing_held, reading_by, row_text, rows_after, settled, walk, with_default}
+use Rattle.clap.specs.Values.{Accepts, IsUnsignedIn, read_as}
+use Rattle.clap.specs.Facts.{unwrap_or_range}
+use Rattle.clap.specs.Kinds.{check_kinds}
+use Rattle.clap.specs.Walk.{Row, Rule, Text, action_of, answers_to, first_of, has_row, nothing_held, row_text, rows_after, settled, walk, with_default}
 use Rattle.clap.specs.Simple.{App, Shape, argument_words, built, built_leaf, entered, filled, help_rule, inherited, label_of, marked_built, names_of, rows_at, subcommand_of, with_index, with_leaf_noted}
 use Rattle.clap.specs.Takes.{is_given}
 use Rattle.clap.specs.Faults.{check_fault, entered_fault, fault_of, level_fault}
 use Rattle.clap.specs.declared.builder.value_parser.Reading.{Reading}
 use Rattle.clap.specs.declared.builder.value_parser.Reading.TheVariants.{AsWritten}
-use Rattle.clap.specs.declared.builder.value_parser.ValueParser.{ValueParser}
 use Rattle.clap.specs.declared.builder.value_parser.ValueParser.TheVariants.{Unsigned}
 use Rattle.clap.specs.declared.builder.value_parser.ValueParser.TheVariants as vp
-use Rattle.clap.specs.declared.parser.matches.ValueSource.{ValueSource}
 use Rattle.clap.specs.declared.builder.action.ArgAction.TheVariants.{Append, Help, Set, SetTrue}
 use Rattle.kalah_solve.specs.Table.{most_entries}
+use Rattle.kalah_run.specs.Limits.{most_workers}
 use Rattle.kalah_cli.specs.Command.{answers_app, boards_rule, file_rule, kalah_app, line_rule, moves_app, play_app, table_rule, workers_rule}
 use Rattle.kalah_cli.specs.Request.{HasFlag, HasLineArgument, HasNumber, HasWhatItNeeds, IsAnswers, IsMoves, IsPlay}
-use Rattle.kalah_cli.proofs.Kept.{AllOf, Gives, both_all, found_all, kept_level, level_parts}
+use Rattle.kalah_cli.proofs.OfClap.Items.{AllOf, both_all, found_all, more_than}
+use Rattle.kalah_cli.proofs.OfClap.FoundRows.{values_pass, default_made, given_row, found_row, rows_stay, row_in, found_named}
+use Rattle.kalah_cli.proofs.OfClap.KeptRows.{Gives, kept_level, level_parts}
 
 -- ---- values
-
--- values of no fault are accepted by the parser
-pub values_pass : (ignore_case : Bool) (p : ValueParser) (vs : List Text) → values_kinds ignore_case p vs ≡ [] → AllOf (Accepts ignore_case p) vs
-values_pass ignore_case p [] e = tt
-values_pass ignore_case p (v ∷ vs) e =
-    go (accepts ignore_case p v) refl e (λ rest. values_pass ignore_case p vs rest)
-  where
-    go : (b : Bool) → accepts ignore_case p v ≡ b → or_else (cond b [] (refused_kind p ∷ [])) (values_kinds ignore_case p vs) ≡ []
-        → (values_kinds ignore_case p vs ≡ [] → AllOf (Accepts ignore_case p) vs) → AllOf (Accepts ignore_case p) (v ∷ vs)
-    go true is rest later = (accepts-Accepts ignore_case p v is, later rest)
-    go false is bad later = cc
 
 -- a row of the id has numbers from 1 to `high`, read as they are written
 abbrev Ranged : Text → ℕ → Row → Type 0
@@ -50,13 +37,9 @@ Flagged id r = bytes_eq r.id id ≡ true → (r.reading ≡ AsWritten) × AllOf 
 -- what holds of each row of a subcommand
 pub record Sound (r : Row) : Type 0 where
   pub some : 0 < length r.values
-  pub workers : Ranged (codes "workers") 64 r
+  pub workers : Ranged (codes "workers") most_workers r
   pub table : Ranged (codes "table") most_entries r
   pub boards : Flagged (codes "boards") r
-
--- a list that has an item has one after more were added
-more_than : (xs ys : List Text) → 0 < length xs → 0 < length (xs ++ ys)
-more_than xs ys h = simp length-append (omega arith)
 
 -- a row of another id
 elsewhere : {Q : Type 0} (id other : Text) (r : Row) → bytes_eq r.id other ≡ true → bytes_eq other id ≡ false → bytes_eq r.id id ≡ true → Q
@@ -102,13 +85,13 @@ workers_give = record {
   action = inr (inl (inl refl, refl));
   first = λ s v vs e. record {
     some = omega arith;
-    workers = λ same. (refl, values_pass false (Unsigned 1 64) (v ∷ vs) e);
+    workers = λ same. (refl, values_pass false (Unsigned 1 most_workers) (v ∷ vs) e);
     table = λ bad. cc;
     boards = λ bad. cc;
   };
   more = λ s r vs is p e. record {
     some = more_than r.values vs p.some;
-    workers = λ same. ((p.workers same).0, both_all _ r.values vs (p.workers same).1 (values_pass false (Unsigned 1 64) vs e));
+    workers = λ same. ((p.workers same).0, both_all _ r.values vs (p.workers same).1 (values_pass false (Unsigned 1 most_workers) vs e));
     table = elsewhere (codes "table") (codes "workers") r is refl;
     boards = elsewhere (codes "boards") (codes "workers") r is refl;
   };
@@ -192,82 +175,6 @@ answers_give name = (workers_give, (table_gives, (file_gives, (help_gives, tt)))
 
 -- ---- what is there
 
--- an item that passes is found
-any_found : {X : Type 0} (t : X → Bool) (xs : List X) → list_any t xs ≡ true → (x : X) × (find t xs ≡ Some x) × (t x ≡ true)
-any_found t [] e = cc
-any_found t (x ∷ xs) e = go (t x) refl e (λ rest. any_found t xs rest)
-  where
-    go : (b : Bool) → t x ≡ b → (b || list_any t xs) ≡ true → (list_any t xs ≡ true → (y : _) × (find t xs ≡ Some y) × (t y ≡ true))
-        → (y : _) × (cond b (Some x) (find t xs) ≡ Some y) × (t y ≡ true)
-    go true is h later = (x, refl, is)
-    go false is h later = later h
-
--- a test that holds later holds
-or_later : (a b : Bool) → b ≡ true → (a || b) ≡ true
-or_later true b e = refl
-or_later false b e = e
-
--- a row stays there while rows are changed
-row_stays : (id other : Text) (s : ValueSource) (vs : List Text) (missing rows : List Row) → has_row id rows ≡ true
-    → has_row id (at_row other (more_values s vs) missing rows) ≡ true
-row_stays id other s vs missing [] e = cc
-row_stays id other s vs missing (r ∷ rs) e =
-    has_cond (bytes_eq r.id other) (more_values s vs r ++ rs) (r ∷ at_row other (more_values s vs) missing rs)
-    ∙ go (bytes_eq r.id other) (bytes_eq r.id id) e (λ rest. row_stays id other s vs missing rs rest)
-  where
-    has_cond : (b : Bool) (xs ys : List Row) → has_row id (cond b xs ys) ≡ cond b (has_row id xs) (has_row id ys)
-    has_cond true xs ys = refl
-    has_cond false xs ys = refl
-
-    go : (b here : Bool) → (here || has_row id rs) ≡ true → (has_row id rs ≡ true → has_row id (at_row other (more_values s vs) missing rs) ≡ true)
-        → cond b (here || has_row id rs) (here || has_row id (at_row other (more_values s vs) missing rs)) ≡ true
-    go true here h later = h
-    go false true h later = refl
-    go false false h later = later h
-
--- a row that is changed and was missing is there
-row_made : (id : Text) (s : ValueSource) (vs : List Text) (missing rows : List Row) → has_row id missing ≡ true
-    → has_row id (at_row id (more_values s vs) missing rows) ≡ true
-row_made id s vs missing [] e = e
-row_made id s vs missing (r ∷ rs) e = go (bytes_eq r.id id) refl (row_made id s vs missing rs e)
-  where
-    go : (b : Bool) → bytes_eq r.id id ≡ b → has_row id (at_row id (more_values s vs) missing rs) ≡ true
-        → has_row id (cond b (more_values s vs r ++ rs) (r ∷ at_row id (more_values s vs) missing rs)) ≡ true
-    go true is later = rw is refl
-    go false is later = or_later _ _ later
-
--- a row stays there while a default is filled in
-default_stays : (id : Text) (rows : List Row) (a : Rule) → has_row id rows ≡ true → has_row id (with_default rows a) ≡ true
-default_stays id rows a e = go (has_row a.id rows) a.defaults
-  where
-    go : (b : Bool) (ds : List Text) → has_row id (cond b rows (default_rows a.id (reading_by a) ds rows)) ≡ true
-    go true ds = e
-    go false [] = e
-    go false (d ∷ ds) = row_stays id a.id _ (d ∷ ds) _ rows e
-
--- a default makes the row of its argument
-default_made : (rows : List Row) (a : Rule) (d : Text) (ds : List Text) → a.defaults ≡ d ∷ ds → bytes_eq a.id a.id ≡ true
-    → has_row a.id (with_default rows a) ≡ true
-default_made rows a d ds is same =
-    go (has_row a.id rows) refl
-  where
-    go : (b : Bool) → has_row a.id rows ≡ b → has_row a.id (cond b rows (default_rows a.id (reading_by a) a.defaults rows)) ≡ true
-    go true e = e
-    go false e = rw is (row_made a.id _ (d ∷ ds) _ rows (rw same refl))
-
--- an argument that was given has a row
-given_row : (id : Text) (rows : List Row) → is_given id rows ≡ true → (r : Row) × (find (λ r. bytes_eq r.id id) rows ≡ Some r)
-given_row id rows e = go (find (λ r. bytes_eq r.id id) rows) refl e
-  where
-    go : (o : Option Row) → find (λ r. bytes_eq r.id id) rows ≡ o → option_map_or (λ r. explicit_source r.source) o false ≡ true
-        → (r : Row) × (find (λ r. bytes_eq r.id id) rows ≡ Some r)
-    go None is f = cc
-    go (Some r) is f = (r, is)
-
--- what holds of all rows holds of the row of an id
-found_row : (P : Row → Type 0) (id : Text) (rows : List Row) (r : Row) → AllOf P rows → find (λ r. bytes_eq r.id id) rows ≡ Some r → P r
-found_row P id rows r all found = found_all P (λ r. bytes_eq r.id id) rows r all found
-
 -- a row of numbers in range has a number in range
 number_in : (id : Text) (high : ℕ) (rows : List Row) (r : Row) → find (λ r. bytes_eq r.id id) rows ≡ Some r → 0 < length r.values
     → (r.reading ≡ AsWritten) × AllOf (IsUnsignedIn 1 high) r.values → HasNumber id high rows
@@ -277,29 +184,6 @@ number_in id high rows r found some ranged = go r.values r.reading refl refl som
         → HasNumber id high rows
     go [] how e f lt all is = absurd (omega arith)
     go (v ∷ vs) how e f lt all is = (v, rw (found, e, f, is) refl, all.0)
-
--- a row stays there while all defaults are filled in
-rows_stay : (id : Text) (c : List Rule) (rows : List Row) → has_row id rows ≡ true → has_row id (fold with_default rows c) ≡ true
-rows_stay id [] rows e = e
-rows_stay id (a ∷ rest) rows e = rows_stay id rest (with_default rows a) (default_stays id rows a e)
-
--- a row that is there is found
-row_in : (id : Text) (rows : List Row) → has_row id rows ≡ true → (r : Row) × (find (λ r. bytes_eq r.id id) rows ≡ Some r)
-row_in id rows e =
-    let got = any_found (λ r. bytes_eq r.id id) rows e in
-    (got.0, got.1)
-
--- a row that is found has the id
-found_named : (id : Text) (rows : List Row) (r : Row) → find (λ r. bytes_eq r.id id) rows ≡ Some r → bytes_eq r.id id ≡ true
-found_named id [] r e = cc
-found_named id (x ∷ xs) r e = go (bytes_eq x.id id) refl e (λ rest. found_named id xs r rest)
-  where
-    go : (b : Bool) → bytes_eq x.id id ≡ b → cond b (Some x) (find (λ r. bytes_eq r.id id) xs) ≡ Some r
-        → (find (λ r. bytes_eq r.id id) xs ≡ Some r → bytes_eq r.id id ≡ true) → bytes_eq r.id id ≡ true
-    go true is same later =
-        let one : x ≡ r = cc in
-        subst (λ y. bytes_eq y.id id ≡ true) one is
-    go false is rest later = later rest
 
 -- the last checks of `solve` and `values` pass only where a file is given
 file_given : (name : Text) (rows : List Row) → check_fault (answers_shape name) rows false ≡ [] → is_given (codes "file") rows ≡ true
@@ -341,7 +225,7 @@ answers_hold name words e =
     let workers_sound = found_row Sound (codes "workers") rows workers.0 level.0 workers.1 in
     let table_sound = found_row Sound (codes "table") rows table.0 level.0 table.1 in
     let file_sound = found_row Sound (codes "file") rows file.0 level.0 file.1 in (
-      number_in (codes "workers") 64 rows workers.0 workers.1 workers_sound.some (workers_sound.workers (found_named (codes "workers") rows workers.0 workers.1)),
+      number_in (codes "workers") most_workers rows workers.0 workers.1 workers_sound.some (workers_sound.workers (found_named (codes "workers") rows workers.0 workers.1)),
       number_in (codes "table") most_entries rows table.0 table.1 table_sound.some (table_sound.table (found_named (codes "table") rows table.0 table.1)),
       (file.0.values, ap (option_map (λ (r : Row). r.values)) file.1, file_sound.some),
     )

@@ -1,43 +1,17 @@
 -- Every move brings the game nearer to its end.
-use Rattle.std.proofs.Common.{zero, suc, ◌≡◌, ◌≢◌, ℕ, ◌+◌, ◌-◌, ◌*◌, ◌%◌, ◌<◌, ◌≤◌, ◌⊎◌, inl, inr, List, [], ◌∷◌, zero-le, length, arith, ap, sym, ◌∙◌, refl, add-one}
-use Rattle.std.specs.Prelude.{nat_le, true, Option, Some, None, ◌==◌, slice_set, slice_index, sum, sum_by}
-use Rattle.std.specs.List.{range_with_len}
+use Rattle.std.proofs.Common.{zero, suc, ◌≡◌, ℕ, ◌+◌, ◌-◌, ◌*◌, ◌%◌, ◌<◌, ◌≤◌, ◌⊎◌, inl, inr, List, length, arith, ap, sym, ◌∙◌, refl, add-one}
+use Rattle.std.specs.Prelude.{Option, Some, None, ◌==◌, slice_set, sum}
 use Rattle.std.proofs.Math.Nat.{mod-eq_of_lt}
-use Rattle.std.proofs.lemmas.Nat.{le-div, mul-le}
-use Rattle.std.proofs.lemmas.Bool.{cases_eq, cases_lt, cases_Bool, eqb-true}
-use Rattle.std.proofs.lemmas.Bool.Decides.{nat_tests}
-use Rattle.std.proofs.lemmas.List.{get_or_past, set_past}
-use Rattle.std.proofs.lemmas.List.Sums.{sum_by-set, sum_by-cons}
+use Rattle.std.proofs.lemmas.Nat.{le-div}
+use Rattle.std.proofs.lemmas.Bool.{cases_lt, cases_Bool, eqb-true}
 use Rattle.kalah_rules.specs.Position.{Position, HasEqualSides, side_length, seeds, seeds_in_houses, opposite, swapped}
 use Rattle.kalah_rules.specs.Sowing.{lap_length, own_distance, gain, store_distance, sow, sown, after, last_house, captured, capture, captures, can_capture}
 use Rattle.kalah_rules.specs.Lap.{Own, HoldsSeeds, with_seed}
 use Rattle.kalah_rules.specs.Measure.{row_distance, distance_to_stores, IsNearerEnd, moves_left}
+use Rattle.kalah_rules.proofs.Numbers.{sum_range_change, swap_last, more_once, nat_le_true, fall_all, fall_step, set_less, distance_range_le, add_rows, lower_by_distance, swap_sums, lower_by_seeds}
 use Rattle.kalah_rules.proofs.Laps.{own_distance_past}
 use Rattle.kalah_rules.proofs.Rows.{length-slice_set, seeds-set_same, seeds-set_other}
 use Rattle.kalah_rules.proofs.Sown.{sow_none, sow_more, sow_side, sow_keeps}
-
-sum_range_same : (f g : ℕ → ℕ) (a n : ℕ) → ((j : ℕ) → a ≤ j → f j ≡ g j) → sum_by f (range_with_len a n) ≡ sum_by g (range_with_len a n)
-sum_range_same f g a zero same = refl
-sum_range_same f g a (suc n) same =
-    let rest = sum_range_same f g (a + 1) n (λ j j_low. same j (omega arith)) in
-    omega (arith, sum_by-cons f a (range_with_len (a + 1) n), sum_by-cons g a (range_with_len (a + 1) n), same a (omega arith), rest)
-
--- a sum over a range whose term changes at one place
-sum_range_change : (f g : ℕ → ℕ) (a n i : ℕ) → a ≤ i → i < a + n → ((j : ℕ) → a ≤ j → j ≢ i → f j ≡ g j) →
-    sum_by f (range_with_len a n) + g i ≡ sum_by g (range_with_len a n) + f i
-sum_range_change f g a zero i low high same = absurd (omega arith)
-sum_range_change f g a (suc n) i low high same =
-    let f_cons = sum_by-cons f a (range_with_len (a + 1) n) in
-    let g_cons = sum_by-cons g a (range_with_len (a + 1) n) in
-    elim (cases_eq a i) [
-      | inl e ↦
-          let rest = sum_range_same f g (a + 1) n (λ j j_low. same j (omega arith) (omega arith)) in
-          rw (← e) (omega (arith, f_cons, g_cons, rest))
-      | inr ne ↦
-          let here = same a (omega arith) ne in
-          let rest = sum_range_change f g (a + 1) n i (omega arith) (omega arith) (λ j j_low. same j (omega arith)) in
-          omega (arith, f_cons, g_cons, here, rest)
-    ]
 
 -- a write to one house
 pub row_distance-set : (row : List ℕ) (i v : ℕ) → 1 ≤ i → i ≤ length row →
@@ -49,18 +23,6 @@ row_distance-set row i v low high =
     (λ j j_low ne. ap (λ x. x * (length row + 1 - j)) (seeds-set_other row i j v low j_low ne)) in
     let at : seeds new i * (length row + 1 - i) ≡ v * (length row + 1 - i) = ap (λ x. x * (length row + 1 - i)) (seeds-set_same row i v low high) in
     rw (length-slice_set row (i - 1) v) (change ∙ ap (λ x. row_distance row + x) at)
-
-swap_last : (a b c : ℕ) → a + b + c ≡ a + c + b
-swap_last a b c = omega arith
-
-more_once : (s d w w' : ℕ) → w' + s * d ≡ w + (s + 1) * d → w' ≡ w + d
-more_once s d w w' e = omega arith
-
-fall_by_one : (w w0 c d : ℕ) → 0 < c → w + c * (d + 1) ≤ w0 + c * d → w < w0
-fall_by_one w w0 c d some falls = omega arith
-
-nat_le_true : (d c : ℕ) → d ≤ c → nat_le d c ≡ true
-nat_le_true d c h = grind (arith, nat_tests)
 
 -- a cell that c seeds reach gets one at least
 gain_some : (n c d : ℕ) → 0 < n → d ≤ c → 1 ≤ gain n c d
@@ -78,18 +40,8 @@ store_gains p h = refl
 pub row_distance-more : (row : List ℕ) (i : ℕ) → 1 ≤ i → i ≤ length row → row_distance (slice_set row (i - 1) (seeds row i + 1)) ≡ row_distance row + (length row + 1 - i)
 row_distance-more row i low high = more_once (seeds row i) (length row + 1 - i) _ _ (row_distance-set row i (seeds row i + 1) low high)
 
-fall_all : (w w0 c m h : ℕ) → h ≤ m → 0 < c → w + c * (m + 1 - h) ≤ w0 + c * (m - h) → w < w0
-fall_all w w0 c m h high some falls =
-    let next : m + 1 - h ≡ m - h + 1 = omega arith in
-    let falls' = rw next at falls in
-    fall_by_one w w0 c (m - h) some falls'
-
 way_with_seed : (q : Position) (i : ℕ) → 1 ≤ i → i ≤ length q.own → distance_to_stores (with_seed q (Own i)) ≡ distance_to_stores q + (length q.own + 1 - i)
 way_with_seed q i low high = ap (λ x. x + row_distance q.other) (row_distance-more q.own i low high) ∙ swap_last (row_distance q.own) (length q.own + 1 - i) (row_distance q.other)
-
--- one seed more that comes no farther than d
-fall_step : (w w' a b k d e : ℕ) → w + a ≤ b + k * d → w' ≡ w + e → e ≤ d → w' + a ≤ b + (k + 1) * d
-fall_step w w' a b k d e before more near = omega arith
 
 -- the cell of the next seed, while sowing has not reached the store
 next_house : (m h k : ℕ) → k + 1 + h ≤ m → own_distance m h (h + (k + 1)) ≡ k % lap_length m + 1
@@ -127,13 +79,6 @@ module _ (p : Position) (h : ℕ) (holds : HoldsSeeds p h) (same : length p.othe
       let keeps = sow_keeps p h holds.first holds.last same (seeds p.own h) in
       let some = gain_some (lap_length (side_length p)) (seeds p.own h) (store_distance (side_length p) h) (omega arith) (omega arith) in
       omega (arith, keeps.play, store_gains p h, some)
-
--- a house that is emptied
-set_less : (xs : List ℕ) (k : ℕ) → sum (slice_set xs k 0) + slice_index xs k ≡ sum xs
-set_less xs k = elim (cases_lt k (length xs)) [
-  | inl within ↦ sum_by-set (λ x. x) xs k 0 0 within ∙ omega arith
-  | inr past ↦ rw (set_past xs k 0 past, get_or_past xs k 0 past) (omega arith)
-]
 
 captures_fall : (q : Position) (i : ℕ) → seeds q.own i ≡ 1 → seeds_in_houses (capture q i) < seeds_in_houses q
 captures_fall q i one = omega (arith, one, set_less q.own (i - 1), set_less q.other (opposite q i - 1))
@@ -190,45 +135,9 @@ after_equal_sides p h =
     let side = sow_side p h (seeds p.own h) in
     record { same = kept.1 ∙ side.1 ∙ sym side.0 ∙ sym kept.0 }
 
--- no seed is farther from the store than its row is long
-distance_step : (t fx r n x s sxs : ℕ) → t ≡ fx + r → fx ≤ x * n → r ≤ n * s → sxs ≡ x + s → t ≤ n * sxs
-distance_step t fx r n x s sxs whole first rest sum_is = rw sum_is (omega arith)
-
-slice_index_more : (x : ℕ) (xs : List ℕ) (a j : ℕ) → a + 1 ≤ j → slice_index (x ∷ xs) (j - a) ≡ slice_index xs (j - (a + 1))
-slice_index_more x xs a j low = let e : j - a ≡ suc (j - (a + 1)) = omega arith in rw e refl
-
-distance_range_le : (row : List ℕ) (a n : ℕ) (w : ℕ → ℕ) → ((i : ℕ) → a ≤ i → w i ≤ n)
-    → sum_by (λ i. slice_index row (i - a) * w i) (range_with_len a (length row)) ≤ n * sum row
-distance_range_le [] a n w near = zero-le
-distance_range_le (x ∷ xs) a n w near =
-    let f : ℕ → ℕ = λ i. slice_index (x ∷ xs) (i - a) * w i in
-    let g : ℕ → ℕ = λ i. slice_index xs (i - (a + 1)) * w i in
-    let start : a - a ≡ 0 = omega arith in
-    let first : f a ≤ x * n = rw start (mul-le x (w a) x n (omega arith) (near a (omega arith))) in
-    let rest : sum_by f (range_with_len (a + 1) (length xs)) ≡ sum_by g (range_with_len (a + 1) (length xs)) =
-    sum_range_same f g (a + 1) (length xs) (λ j j_low. ap (λ k. k * w j) (slice_index_more x xs a j j_low)) in
-    let below : sum_by f (range_with_len (a + 1) (length xs)) ≤ n * sum xs = rw rest (distance_range_le xs (a + 1) n w (λ i low. near i (omega arith))) in
-    distance_step _ (f a) _ n x (sum xs) _ (sum_by-cons f a (range_with_len (a + 1) (length xs))) first below (sum_by-cons (λ y. y) x xs)
-
 pub row_distance_le : (row : List ℕ) → row_distance row ≤ length row * sum row
 unfolding row_distance
 row_distance_le houses = distance_range_le houses 1 (length houses) (λ i. length houses + 1 - i) (λ i low. omega arith)
-
-add_rows : (m a b u v : ℕ) → u ≤ m * a → v ≤ m * b → u + v ≤ m * (a + b)
-add_rows m a b u v one two = omega arith
-
-lower_by_distance : (a w w' : ℕ) → w < w' → a + w < a + w'
-lower_by_distance a w w' low = omega arith
-
-swap_sums : (m a b u v : ℕ) → (b + a) * (m * (b + a) + 1) + (v + u) ≡ (a + b) * (m * (a + b) + 1) + (u + v)
-swap_sums m a b u v = omega arith
-
--- fewer seeds outweigh any distance
-lower_by_seeds : (m s s' w w' : ℕ) → s' < s → w' ≤ m * s' → s' * (m * s' + 1) + w' < s * (m * s + 1) + w
-lower_by_seeds m s s' w w' fewer short =
-    let grow : m * (s' + 1) + 1 ≤ m * s + 1 = omega (arith, mul-le m (s' + 1) m s (omega arith) (omega arith)) in
-    let whole = mul-le (s' + 1) (m * (s' + 1) + 1) s (m * s + 1) (omega arith) grow in
-    omega (arith, whole, short)
 
 distance_below : (p : Position) → HasEqualSides p → distance_to_stores p ≤ side_length p * seeds_in_houses p
 distance_below p even =

@@ -1,3 +1,4 @@
+pub mod Numbers
 pub mod Laps
 pub mod Rows
 pub mod Sown

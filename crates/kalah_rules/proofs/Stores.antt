@@ -4,6 +4,7 @@ use Rattle.std.specs.Prelude.{Option, Some, None}
 use Rattle.std.proofs.lemmas.Bool.{cases_Bool}
 use Rattle.kalah_rules.specs.Position.{Position, rows_of, bare, seeds, opposite}
 use Rattle.kalah_rules.specs.Sowing.{sow, sown, after, last_house, captured, can_capture}
+use Rattle.kalah_rules.proofs.Numbers.{regroup, swap_last}
 use Rattle.kalah_rules.proofs.Rows.{same_position}
 
 -- a and b more in the stores
@@ -12,14 +13,6 @@ with_more a b p = record p {
   own_store = p.own_store + a;
   other_store = p.other_store + b;
 }
-
--- sums in another order
-swap_last : (a b c : ℕ) → a + b + c ≡ a + c + b
-swap_last a b c = omega arith
-
--- sums in another order
-regroup : (s a x y : ℕ) → s + a + x + y ≡ s + x + y + a
-regroup s a x y = omega arith
 
 -- sowing keeps what was added
 sow_with_more : (a b : ℕ) (p : Position) (h c : ℕ) → sow (with_more a b p) h c ≡ with_more a b (sow p h c)
