@@ -20,7 +20,7 @@ use Rattle.kalah_solve.specs.Table.{most_entries}
 use Rattle.kalah_run.specs.Limits.{most_workers}
 use Rattle.kalah_cli.specs.Command.{answers_app, boards_rule, file_rule, kalah_app, line_rule, moves_app, play_app, table_rule, workers_rule}
 use Rattle.kalah_cli.specs.Request.{HasFlag, HasLineArgument, HasNumber, HasWhatItNeeds, IsAnswers, IsMoves, IsPlay}
-use Rattle.kalah_cli.proofs.OfClap.Items.{AllOf, both_all, found_all, more_than}
+use Rattle.kalah_cli.proofs.Items.{AllOf, both_all, found_all, more_than}
 use Rattle.kalah_cli.proofs.OfClap.FoundRows.{values_pass, default_made, given_row, found_row, rows_stay, row_in, found_named}
 use Rattle.kalah_cli.proofs.OfClap.KeptRows.{Gives, kept_level, level_parts}
 

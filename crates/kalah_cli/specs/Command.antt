@@ -1,5 +1,5 @@
 -- The command line of the program, as data that a parse reads.
-use Rattle.std.specs.Prelude.{true, [], ◌∷◌, Some, codes}
+use Rattle.std.specs.Prelude.{ℕ, true, [], ◌∷◌, Some, codes}
 use Rattle.clap.specs.Words.{App, Rule, Text, new_app, new_rule, with_rule, with_subcommand}
 use Rattle.clap.specs.Simple.{on_top}
 use Rattle.clap.specs.declared.builder.action.ArgAction.TheVariants.{Append, Set, SetTrue}
@@ -15,25 +15,23 @@ line_rule = record (new_rule (codes "line")) {
   action = Some Set;
 }
 
--- `--workers N`: a number from 1 to the most workers, and 4 where it isn't given
-abbrev pub workers_rule : Rule
-workers_rule = record (new_rule (codes "workers")) {
-  long = Some (codes "workers");
+-- `--NAME N`: a number from 1 to the most, and the default where it isn't given
+abbrev number_rule : Text → ℕ → Text → Rule
+number_rule name most default = record (new_rule name) {
+  long = Some name;
   value_names = 1;
   action = Some Set;
-  parser = Some (Unsigned 1 most_workers);
-  defaults = codes "4" ∷ [];
+  parser = Some (Unsigned 1 most);
+  defaults = default ∷ [];
 }
 
--- `--table N`: a number from 1 to the most entries, and 65536 where it isn't given
+-- `--workers N`: 1 to the most workers, and 4 where it isn't given
+abbrev pub workers_rule : Rule
+workers_rule = number_rule (codes "workers") most_workers (codes "4")
+
+-- `--table N`: 1 to the most entries, and 65536 where it isn't given
 abbrev pub table_rule : Rule
-table_rule = record (new_rule (codes "table")) {
-  long = Some (codes "table");
-  value_names = 1;
-  action = Some Set;
-  parser = Some (Unsigned 1 most_entries);
-  defaults = codes "65536" ∷ [];
-}
+table_rule = number_rule (codes "table") most_entries (codes "65536")
 
 -- `--boards`
 abbrev pub boards_rule : Rule

@@ -1,6 +1,5 @@
 //! The window of a search.
 ghost use Rattle.std.specs.Prelude.{◌≡◌, ◌≤ℤ◌, ◌<ℤ◌, ℤ, IfSome, IsNone};
-ghost use Rattle.std.specs.Int.{int_max, int_min};
 ghost use Rattle.kalah_solve.specs.Table.{Encloses, least_margin, most_margin, within};
 
 use crate::table::Interval;
@@ -34,8 +33,7 @@ impl Window {
 
     /// The margins among these that the interval leaves open. None where it tells the answer.
     pub fn narrowed(self, known: Interval) -> Option<Window>
-        ensures lo { IfSome result (λ narrow. narrow.lo ≡ int_max self.lo known.lo) }
-        ensures hi { IfSome result (λ narrow. narrow.hi ≡ int_min self.hi known.hi) }
+        ensures within_known { IfSome result (λ narrow. (known.lo ≤ℤ narrow.lo) × (narrow.hi ≤ℤ known.hi)) }
         ensures some { IfSome result (λ narrow. (z : ℤ) → Encloses known z → within narrow.lo narrow.hi z ≡ within self.lo self.hi z) }
         ensures none { IsNone result → (z : ℤ) → Encloses known z → within self.lo self.hi known.lo ≡ within self.lo self.hi z }
     {

@@ -13,7 +13,7 @@ use Rattle.clap.specs.Walk.{Row, Rule, Text, at_row, default_rows, has_row, more
 use Rattle.clap.specs.Takes.{is_given}
 use Rattle.clap.specs.declared.builder.value_parser.ValueParser.{ValueParser}
 use Rattle.clap.specs.declared.parser.matches.ValueSource.{ValueSource}
-use Rattle.kalah_cli.proofs.OfClap.Items.{AllOf, found_all, any_found, or_later}
+use Rattle.kalah_cli.proofs.Items.{AllOf, found_all, any_found, or_later}
 
 -- values of no fault are accepted by the parser
 pub values_pass : (ignore_case : Bool) (p : ValueParser) (vs : List Text) → values_kinds ignore_case p vs ≡ [] → AllOf (Accepts ignore_case p) vs

@@ -1,4 +1,4 @@
--- Lists and their items: nothing here is of Kalah, nor of clap.
+-- Lists and their items.
 use Rattle.std.proofs.Common.{length-append, ◌≡◌, ◌++◌, Bool, cond, true, false, ◌<◌, refl, subst, List, [], ◌∷◌, Some, arith, length, ◌||◌}
 use Rattle.std.specs.Prelude.{find, ⊤}
 use Rattle.std.specs.List.{list_any}
