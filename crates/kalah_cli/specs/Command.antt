@@ -16,7 +16,7 @@ line_rule = record (new_rule (codes "line")) {
 }
 
 -- `--NAME N`: a number from 1 to the most, and the default where it isn't given
-abbrev number_rule : Text → ℕ → Text → Rule
+abbrev pub number_rule : Text → ℕ → Text → Rule
 number_rule name most default = record (new_rule name) {
   long = Some name;
   value_names = 1;

@@ -2,7 +2,7 @@
 ghost use Rattle.std.specs.Prelude.{◌≡◌, IfOk, false};
 ghost use Rattle.clap.specs.Words.{App, app_of, new_app, rule_of, with_rule, with_subcommand};
 ghost use Rattle.clap.specs.declared.builder.command.Command.TheViews.{out-Command as fields_of};
-ghost use Rattle.kalah_cli.specs.Command.{answers_app, boards_rule, file_rule, kalah_app, line_rule, moves_app, play_app, program_app, table_rule, workers_rule};
+ghost use Rattle.kalah_cli.specs.Command.{answers_app, boards_rule, file_rule, kalah_app, line_rule, moves_app, number_rule, play_app, program_app, table_rule, workers_rule};
 
 use crate::version::VERSION_LINE;
 use clap::builder::ValueParser;
@@ -107,18 +107,33 @@ fn moves_command<'a>(alloc: Global) -> Result<Command<'a>, AllocError>
     with_arg(command, line_arg(alloc))
 }
 
+// An option with a number from 1 to the most.
+fn number_arg<'a>(
+    alloc: Global,
+    name: &'a str,
+    help: &'a str,
+    most: u32,
+    default: &'a str,
+) -> Arg<'a>
+    ensures rule { rule_of result ≡ number_rule name.entry.now most default.entry.now }
+    ensures local { result.global ≡ false }
+{
+    Arg::new(alloc, name)
+        .long(name)
+        .value_name("N")
+        .help(help)
+        .action(ArgAction::Set)
+        .value_parser(ValueParser::unsigned(1, most as u64))
+        .default_value(default)
+}
+
 // How many workers.
 fn workers_arg<'a>(alloc: Global) -> Arg<'a>
     ensures rule { rule_of result ≡ workers_rule }
     ensures local { result.global ≡ false }
 {
-    Arg::new(alloc, "workers")
-        .long("workers")
-        .value_name("N")
-        .help("how many workers solve side by side, 1 to 64")
-        .action(ArgAction::Set)
-        .value_parser(ValueParser::unsigned(1, MOST_WORKERS as u64))
-        .default_value("4")
+    let help = "how many workers solve side by side, 1 to 64";
+    number_arg(alloc, "workers", help, MOST_WORKERS, "4")
 }
 
 // How large the table of each worker is.
@@ -126,13 +141,8 @@ fn table_arg<'a>(alloc: Global) -> Arg<'a>
     ensures rule { rule_of result ≡ table_rule }
     ensures local { result.global ≡ false }
 {
-    Arg::new(alloc, "table")
-        .long("table")
-        .value_name("N")
-        .help("how many solved positions each worker remembers, 1 to 1048576")
-        .action(ArgAction::Set)
-        .value_parser(ValueParser::unsigned(1, MOST_ENTRIES as u64))
-        .default_value("65536")
+    let help = "how many solved positions each worker remembers, 1 to 1048576";
+    number_arg(alloc, "table", help, MOST_ENTRIES, "65536")
 }
 
 // `play [--table N] [--boards] LINE`.
