@@ -1,0 +1,11 @@
+"""The crates of the repository, as `crates.txt` lists them."""
+
+from pathlib import Path
+
+TOP = Path(__file__).resolve().parent.parent
+
+
+def crates():
+    """The name of each crate, with those of the libraries that it stands on, lowest first."""
+    rows = [line.partition(":") for line in (TOP / "crates.txt").read_text().splitlines()]
+    return {head.split()[0]: below.split() for head, _, below in rows}
