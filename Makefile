@@ -17,7 +17,7 @@ FORCE:
 check:
 	tests/check
 
-# The gate: every proof from nothing, the tests and the program's stored run; then, over what that has built, mistakes that the prover has
+# The gate: every proof from nothing, the tests and the program's stored run; and, over what that has built, mistakes that the prover has
 # to refuse, refused memory, the steps by which threads wait, and trials that are drawn. At the end it says what each part took.
 test:
 	tests/gate
