@@ -1,6 +1,7 @@
 use super::{ReadFault, read_limited};
 use std::io;
 use std::io::{ErrorKind, Read};
+use std::process::Abort;
 
 /// Gives its bytes three at a time, and answers an error of its kind at its `fails_at`th call, counted
 /// from 1, and at no other.
@@ -25,24 +26,26 @@ impl Read for FailingOnce<'_> {
 
 const TEN: &[u8] = b"0123456789";
 
-// The reader is asked five times, the last of which answers the end.
+// The reader is asked five times, the last of which answers the end. It is not asked again after an error.
+fn assert_fails_at(rt: &(impl Abort + AllocGlobal), kind: ErrorKind, k: u32) {
+    let mut reader = FailingOnce {
+        rest: TEN,
+        calls: 0,
+        fails_at: k,
+        kind,
+    };
+    let is_told = match read_limited(rt.alloc(), &mut reader, 10) {
+        Ok(bytes) => k > 5 && bytes.as_slice() == TEN,
+        Err(fault) => k <= 5 && fault == ReadFault::Unreadable && reader.calls == k,
+    };
+    assert!(rt; is_told, "at {k}");
+}
+
 #[test]
 fn any_error_is_the_files_fault(rt: HostRuntime) {
     for kind in [ErrorKind::Interrupted, ErrorKind::BrokenPipe] {
         for k in 1..8u32 {
-            let mut reader = FailingOnce {
-                rest: TEN,
-                calls: 0,
-                fails_at: k,
-                kind,
-            };
-            match read_limited(rt.alloc(), &mut reader, 10) {
-                Ok(bytes) => assert!(rt; k > 5 && bytes.as_slice() == TEN, "at {k}"),
-                Err(fault) => {
-                    assert!(rt; k <= 5 && fault == ReadFault::Unreadable, "at {k}");
-                    assert!(rt; reader.calls == k);
-                }
-            }
+            assert_fails_at(&rt, kind, k);
         }
     }
 }

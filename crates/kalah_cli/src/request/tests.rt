@@ -1,16 +1,23 @@
 use crate::request::{Request, parse};
 use clap::error::ErrorKind;
 use kalah_jobs::Question;
+use std::process::Abort;
 
+// What the words ask for, if they ask for something.
+fn asked<'a>(rt: &(impl Abort + AllocGlobal), words: &'a [&'a str]) -> Option<Request<'a>> {
+    parse(rt.alloc(), words).ok()
+}
+
+// The words ask this of files, with so many workers and entries.
 fn asks(
-    rt: &HostRuntime,
+    rt: &(impl Abort + AllocGlobal),
     words: &[&str],
     question: Question,
     numbers: (u32, u32),
     files: &[&str],
 ) -> bool {
-    match parse(rt.alloc(), words) {
-        Ok(Request::Batch(batch)) => {
+    match asked(rt, words) {
+        Some(Request::Batch(batch)) => {
             batch.question == question
                 && (batch.workers, batch.table) == numbers
                 && batch.files.as_slice() == files
@@ -19,7 +26,7 @@ fn asks(
     }
 }
 
-fn fails_with(rt: &HostRuntime, words: &[&str], kind: ErrorKind) -> bool {
+fn fails_with(rt: &(impl Abort + AllocGlobal), words: &[&str], kind: ErrorKind) -> bool {
     match parse(rt.alloc(), words) {
         Err(error) => error.kind() == kind,
         Ok(_) => false,
@@ -27,16 +34,16 @@ fn fails_with(rt: &HostRuntime, words: &[&str], kind: ErrorKind) -> bool {
 }
 
 // Words of `moves`, and whether boards are drawn.
-const MOVES: [(&[&str], bool); 3] = [
+const MOVES: &[(&[&str], bool)] = &[
     (&["kalah", "moves", "1,1/0 1,1/0"], false),
     (&["k", "moves", "--boards", "1,1/0 1,1/0"], true),
     (&["kalah", "moves", "1,1/0 1,1/0", "--boards"], true),
 ];
 
 // The words ask for the moves of the position, and to draw boards or not.
-fn asks_moves(rt: &HostRuntime, words: &[&str], is_drawn: bool) -> bool {
-    match parse(rt.alloc(), words) {
-        Ok(Request::Moves { line, boards }) => line == "1,1/0 1,1/0" && boards == is_drawn,
+fn asks_moves(rt: &(impl Abort + AllocGlobal), words: &[&str], is_drawn: bool) -> bool {
+    match asked(rt, words) {
+        Some(Request::Moves { line, boards }) => line == "1,1/0 1,1/0" && boards == is_drawn,
         _ => false,
     }
 }
@@ -44,12 +51,12 @@ fn asks_moves(rt: &HostRuntime, words: &[&str], is_drawn: bool) -> bool {
 #[test]
 fn reads_moves(rt: HostRuntime) {
     for (words, is_drawn) in MOVES {
-        assert!(rt; asks_moves(&rt, words, is_drawn), "{words:?}");
+        assert!(rt; asks_moves(&rt, *words, *is_drawn), "{words:?}");
     }
 }
 
 // Words of `play`, the entries of the table and whether boards are drawn.
-const GAMES: [(&[&str], u32, bool); 3] = [
+const GAMES: &[(&[&str], u32, bool)] = &[
     (&["kalah", "play", "1/0 1/0"], 65536, false),
     (
         &["k", "play", "--boards", "1/0 1/0", "--table", "1"],
@@ -64,9 +71,14 @@ const GAMES: [(&[&str], u32, bool); 3] = [
 ];
 
 // The words ask for the game, with a table of so many entries, and to draw boards or not.
-fn asks_game(rt: &HostRuntime, words: &[&str], entries: u32, is_drawn: bool) -> bool {
-    match parse(rt.alloc(), words) {
-        Ok(
+fn asks_game(
+    rt: &(impl Abort + AllocGlobal),
+    words: &[&str],
+    entries: u32,
+    is_drawn: bool,
+) -> bool {
+    match asked(rt, words) {
+        Some(
             Request::Play {
                 line,
                 table,
@@ -80,24 +92,28 @@ fn asks_game(rt: &HostRuntime, words: &[&str], entries: u32, is_drawn: bool) -> 
 #[test]
 fn reads_play(rt: HostRuntime) {
     for (words, entries, is_drawn) in GAMES {
-        assert!(rt; asks_game(&rt, words, entries, is_drawn), "{words:?}");
+        assert!(rt; asks_game(&rt, *words, *entries, *is_drawn), "{words:?}");
     }
+}
+
+// The words of a subcommand that answers files, with and without options.
+fn assert_reads(rt: &(impl Abort + AllocGlobal), name: &str, question: Question) {
+    let words = ["kalah", name, "a", "b"];
+    assert!(rt; asks(rt, &words, question, (4, 65536), &["a", "b"]));
+    let words = ["kalah", name, "--workers", "64", "a"];
+    assert!(rt; asks(rt, &words, question, (64, 65536), &["a"]));
+    let words = ["k", name, "a", "--table=1", "b"];
+    assert!(rt; asks(rt, &words, question, (4, 1), &["a", "b"]));
 }
 
 #[test]
 fn reads_solve_and_values(rt: HostRuntime) {
-    for (name, question) in [("solve", Question::BestMove), ("values", Question::Values)] {
-        let words = ["kalah", name, "a", "b"];
-        assert!(rt; asks(&rt, &words, question, (4, 65536), &["a", "b"]));
-        let words = ["kalah", name, "--workers", "64", "a"];
-        assert!(rt; asks(&rt, &words, question, (64, 65536), &["a"]));
-        let words = ["k", name, "a", "--table=1", "b"];
-        assert!(rt; asks(&rt, &words, question, (4, 1), &["a", "b"]));
-    }
+    assert_reads(&rt, "solve", Question::BestMove);
+    assert_reads(&rt, "values", Question::Values);
 }
 
 // Words that give no request, and what kind of error they give.
-const REFUSED: [(&[&str], ErrorKind); 11] = [
+const REFUSED: &[(&[&str], ErrorKind)] = &[
     (&["kalah"], ErrorKind::MissingSubcommand),
     (&["kalah", "stop"], ErrorKind::InvalidSubcommand),
     (&["kalah", "solve"], ErrorKind::MissingRequiredArgument),
@@ -126,6 +142,6 @@ const REFUSED: [(&[&str], ErrorKind); 11] = [
 #[test]
 fn refuses(rt: HostRuntime) {
     for (words, kind) in REFUSED {
-        assert!(rt; fails_with(&rt, words, kind), "{words:?}");
+        assert!(rt; fails_with(&rt, *words, *kind), "{words:?}");
     }
 }

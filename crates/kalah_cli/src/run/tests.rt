@@ -104,13 +104,29 @@ fn answers(run: &Run, status: ExitStatus, out: &str, err: &str) -> bool {
         && run.err.as_slice() == err.as_bytes()
 }
 
-// A mistake in the words ended the run with a text on standard error alone.
-fn is_usage(run: &Run) -> bool {
-    run.status == ExitStatus::Failed && run.out.is_empty() && run.err.starts_with(b"error: ")
+// A run of these words ends so.
+fn assert_answers<R: Abort + Files + Threads + Wait + Sync>(
+    rt: &R,
+    alloc: Global,
+    words: &[&str],
+    status: ExitStatus,
+    (out, err): (&str, &str),
+) {
+    let run = run_on(rt, alloc, words);
+    assert!(rt; answers(&run, status, out, err), "{words:?}");
+}
+
+// A mistake in these words ends the run with a text on standard error alone.
+fn assert_usage<R: Abort + Files + Threads + Wait + Sync>(rt: &R, alloc: Global, words: &[&str]) {
+    let run = run_on(rt, alloc, words);
+    let is_usage = run.status == ExitStatus::Failed
+        && run.out.is_empty()
+        && run.err.starts_with(b"error: ");
+    assert!(rt; is_usage, "{words:?}");
 }
 
 // Lines, and what `moves` prints of them.
-const MOVES: [(&str, &str); 6] = [
+const MOVES: &[(&str, &str)] = &[
     ("1,1/0 1,1/0", "1 1,1/0 0,2/0 turn\n2 1,0/1 1,1/0 again\n"),
     ("3/0 3/0", "1 0/6 0/0 over\n"),
     ("1/99 1/99", "1 0/100 0/100 over\n"),
@@ -122,13 +138,19 @@ const MOVES: [(&str, &str); 6] = [
 #[test]
 fn shows_the_moves_of_a_position(rt: HostRuntime) {
     for (line, moves) in MOVES {
-        let run = run_on(&rt, rt.alloc(), ["moves", line].as_slice());
-        assert!(rt; answers(&run, ExitStatus::Clean, moves, ""), "{line}");
+        let words = ["moves", *line];
+        assert_answers(
+            &rt,
+            rt.alloc(),
+            words.as_slice(),
+            ExitStatus::Clean,
+            (*moves, ""),
+        );
     }
 }
 
 // Lines that are not read, and what is said of them.
-const UNREAD: [(&str, &str); 4] = [
+const UNREAD: &[(&str, &str)] = &[
     ("1/0", "fault shape\n"),
     ("", "fault empty\n"),
     ("1,1/0 1/0", "fault houses\n"),
@@ -138,13 +160,19 @@ const UNREAD: [(&str, &str); 4] = [
 #[test]
 fn a_line_that_is_not_read_is_answered_by_its_fault(rt: HostRuntime) {
     for (line, fault) in UNREAD {
-        let run = run_on(&rt, rt.alloc(), ["moves", line].as_slice());
-        assert!(rt; answers(&run, ExitStatus::LineFaults, "", fault), "{line}");
+        let words = ["moves", *line];
+        assert_answers(
+            &rt,
+            rt.alloc(),
+            words.as_slice(),
+            ExitStatus::LineFaults,
+            ("", *fault),
+        );
     }
 }
 
 // Words that the program does not take.
-const MISTAKES: [&[&str]; 29] = [
+const MISTAKES: &[&[&str]] = &[
     &[],
     &["stop"],
     &["solve"],
@@ -179,31 +207,36 @@ const MISTAKES: [&[&str]; 29] = [
 #[test]
 fn mistakes_in_the_words(rt: HostRuntime) {
     for words in MISTAKES {
-        let run = run_on(&rt, rt.alloc(), words);
-        assert!(rt; is_usage(&run), "{words:?}");
+        assert_usage(&rt, rt.alloc(), *words);
     }
 }
 
+// The run of these words writes to the output alone, and is clean.
+fn assert_shown<R: Abort + Files + Threads + Wait + Sync>(rt: &R, alloc: Global, words: &[&str]) {
+    let shown = run_on(rt, alloc, words);
+    assert!(rt; shown.status == ExitStatus::Clean, "{words:?}");
+    assert!(rt; !shown.out.is_empty() && shown.err.is_empty());
+}
+
+// Words that ask for help.
+const HELP: &[&[&str]] = &[
+    &["--help"],
+    &["-h"],
+    &["moves", "--help"],
+    &["play", "--help"],
+    &["solve", "--help"],
+    &["values", "--help"],
+];
+
 #[test]
 fn help_goes_to_the_output(rt: HostRuntime) {
-    let alloc = rt.alloc();
-    let calls = [
-        ["--help"].as_slice(),
-        ["-h"].as_slice(),
-        ["moves", "--help"].as_slice(),
-        ["play", "--help"].as_slice(),
-        ["solve", "--help"].as_slice(),
-        ["values", "--help"].as_slice(),
-    ];
-    for words in calls {
-        let shown = run_on(&rt, alloc, words);
-        assert!(rt; shown.status == ExitStatus::Clean);
-        assert!(rt; !shown.out.is_empty() && shown.err.is_empty());
+    for words in HELP {
+        assert_shown(&rt, rt.alloc(), *words);
     }
 }
 
 // Words of which not all files are read, and what is said of it.
-const NOT_READ: [(&[&str], &str); 3] = [
+const NOT_READ: &[(&[&str], &str)] = &[
     (
         &["solve", "kalah_run_one.txt", "kalah_run_none.txt", "/"],
         "kalah: cannot read kalah_run_none.txt\n",
@@ -219,8 +252,7 @@ const NOT_READ: [(&[&str], &str); 3] = [
 fn a_file_that_is_not_read(rt: HostRuntime) {
     write_file(&rt, "kalah_run_one.txt", b"1/0 1/0\n");
     for (words, text) in NOT_READ {
-        let run = run_on(&rt, rt.alloc(), words);
-        assert!(rt; answers(&run, ExitStatus::Failed, "", text), "{words:?}");
+        assert_answers(&rt, rt.alloc(), *words, ExitStatus::Failed, ("", *text));
     }
 }
 
@@ -264,26 +296,45 @@ fn run_failing<R: Abort + Files + Threads + Wait + Sync>(
     }
 }
 
-// Each move is written in one call, and a flush ends them: three calls in all.
-#[test]
-fn stops_at_a_failed_write(rt: HostRuntime) {
+// Where the output fails at its call of this number, the run ends there. It makes so many calls where none fails.
+fn assert_stops_at<R: Abort + Files + Threads + Wait + Sync>(
+    rt: &R,
+    alloc: Global,
+    words: &[&str],
+    calls: u32,
+    k: u32,
+) {
+    let run = run_failing(rt, alloc, words, k);
+    assert!(rt;
+        (run.has_failed, run.calls) == (k <= calls, k.min(calls)),
+        "at {k}"
+    );
+    assert!(rt; run.is_told(), "at {k}");
+}
+
+// It ends at whichever of its calls fails.
+fn assert_stops<R: Abort + Files + Threads + Wait + Sync>(
+    rt: &R,
+    alloc: Global,
+    words: &[&str],
+    calls: u32,
+) {
     for k in 1..8u32 {
-        let run = run_failing(&rt, rt.alloc(), &["moves", "1,1/0 1,1/0"], k);
-        assert!(rt; (run.has_failed, run.calls) == (k <= 3, k.min(3)), "at {k}");
-        assert!(rt; run.is_told(), "at {k}");
+        assert_stops_at(rt, alloc, words, calls, k);
     }
 }
 
+// Each move is written in one call, and a flush ends them.
+#[test]
+fn stops_at_a_failed_write(rt: HostRuntime) {
+    assert_stops(&rt, rt.alloc(), &["moves", "1,1/0 1,1/0"], 3);
+}
+
+// The text is written in one call, and a flush ends it.
 #[test]
 fn a_failed_write_of_help_or_of_the_version(rt: HostRuntime) {
     for word in ["--help", "--version", "-V"] {
-        for k in 1..4u32 {
-            let run = run_failing(&rt, rt.alloc(), [word].as_slice(), k);
-            assert!(rt;
-                run.is_told() && run.has_failed == (k <= 2),
-                "{word} at {k}"
-            );
-        }
+        assert_stops(&rt, rt.alloc(), [word].as_slice(), 2);
     }
 }
 

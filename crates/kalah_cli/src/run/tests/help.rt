@@ -1,5 +1,5 @@
 //! What the help says, and the version.
-use super::{answers, run_on};
+use super::{assert_answers, run_on};
 use crate::status::ExitStatus;
 use std::alloc::Global;
 use std::process::Abort;
@@ -8,7 +8,7 @@ use std::str;
 use std::sync::Wait;
 use std::thread::Threads;
 
-const OF_THE_PROGRAM: [&str; 9] = [
+const OF_THE_PROGRAM: &[&str] = &[
     "Solves small positions of Kalah: the best house and the margin of best play",
     "moves",
     "solve",
@@ -59,14 +59,14 @@ A margin is what the player to move ends with less what the other player ends wi
 Exit status: 0 if every line was read or help was asked for; 1 if some line was not read; 2 if the
 words, a file, memory, a worker or the output failed, and standard error says which.";
 
-const OF_MOVES: [&str; 3] = [
+const OF_MOVES: &[&str] = &[
     "Prints each legal move of a position, and the position after it",
     "<LINE>",
     "a position, as 1,1/0 1,1/0",
 ];
 
 // Of `solve` and of `values`.
-const OF_BATCHES: [&str; 8] = [
+const OF_BATCHES: &[&str] = &[
     "--workers <N>",
     "how many workers solve side by side, 1 to 64",
     "[default: 4]",
@@ -77,41 +77,33 @@ const OF_BATCHES: [&str; 8] = [
     "files of positions, one a line",
 ];
 
-// The help that these words ask for has this part in it.
-fn says<R: Abort + Files + Threads + Wait + Sync>(
+// The help that these words ask for has each of these parts in it.
+fn assert_says<R: Abort + Files + Threads + Wait + Sync>(
     rt: &R,
     alloc: Global,
     words: &[&str],
-    part: &str,
-) -> bool {
+    parts: &[&str],
+) {
     let run = run_on(rt, alloc, words);
-    match str::from_utf8(run.out.as_slice()) {
-        Ok(text) => run.status == ExitStatus::Clean && text.contains(part),
-        Err(_) => false,
+    assert!(rt; run.status == ExitStatus::Clean);
+    let text = str::from_utf8(run.out.as_slice()).expect(rt, "no text");
+    for part in parts {
+        assert!(rt; text.contains(*part), "no {part}");
     }
 }
 
 #[test]
 fn the_help_says_what_there_is_to_ask_for(rt: HostRuntime) {
     let alloc = rt.alloc();
-    for part in OF_THE_PROGRAM {
-        assert!(rt; says(&rt, alloc, &["--help"], part), "no {part}");
-    }
-    for part in OF_MOVES {
-        assert!(rt; says(&rt, alloc, &["moves", "--help"], part), "no {part}");
-    }
+    assert_says(&rt, alloc, &["--help"], OF_THE_PROGRAM);
+    assert_says(&rt, alloc, &["moves", "--help"], OF_MOVES);
     for subcommand in ["solve", "values"] {
-        for part in OF_BATCHES {
-            assert!(rt;
-                says(&rt, alloc, &[subcommand, "--help"], part),
-                "no {part}"
-            );
-        }
+        assert_says(&rt, alloc, &[subcommand, "--help"], OF_BATCHES);
     }
 }
 
 // Words that ask for the version before anything else.
-const OF_THE_VERSION: [&[&str]; 5] = [
+const OF_THE_VERSION: &[&[&str]] = &[
     &["--version"],
     &["-V"],
     &["-V", "--help"],
@@ -122,10 +114,12 @@ const OF_THE_VERSION: [&[&str]; 5] = [
 #[test]
 fn the_version_is_one_line(rt: HostRuntime) {
     for words in OF_THE_VERSION {
-        let run = run_on(&rt, rt.alloc(), words);
-        assert!(rt;
-            answers(&run, ExitStatus::Clean, "kalah 1.0.0\n", ""),
-            "{words:?}"
+        assert_answers(
+            &rt,
+            rt.alloc(),
+            *words,
+            ExitStatus::Clean,
+            ("kalah 1.0.0\n", ""),
         );
     }
 }

@@ -1,5 +1,5 @@
 //! Files of odd bytes, and names that no file has.
-use super::{answers, run_on, write_file};
+use super::{assert_answers, write_file};
 use crate::status::ExitStatus;
 use std::alloc::Global;
 use std::process::Abort;
@@ -8,7 +8,7 @@ use std::sync::Wait;
 use std::thread::Threads;
 
 // The file of this name and these bytes is answered by this text.
-fn is_answered<R: Abort + Files + Threads + Wait + Sync>(
+fn assert_file_answers<R: Abort + Files + Threads + Wait + Sync>(
     rt: &R,
     alloc: Global,
     name: &str,
@@ -16,38 +16,36 @@ fn is_answered<R: Abort + Files + Threads + Wait + Sync>(
     text: &str,
 ) {
     write_file(rt, name, bytes);
-    let run = run_on(rt, alloc, &["solve", name]);
     let status = if text.contains("fault") {
         ExitStatus::LineFaults
     } else {
         ExitStatus::Clean
     };
-    assert!(rt; answers(&run, status, text, ""), "{text}");
+    assert_answers(rt, alloc, &["solve", name], status, (text, ""));
 }
+
+// Bytes of a file, and how they are answered.
+const ODD: &[(&[u8], &str)] = &[
+    (b"\n\r", "odd.txt:1 fault empty\nodd.txt:2 fault empty\n"),
+    (b"\xEF\xBB\xBF1/0 1/0", "odd.txt:1 fault shape\n"),
+    (b"1/0 1/0\0\n", "odd.txt:1 fault shape\n"),
+    (b"1/0\t1/0", "odd.txt:1 fault shape\n"),
+    (
+        b"\xFF\xFE\n1/0 1/0",
+        "odd.txt:1 fault shape\nodd.txt:2 0 house 1\n",
+    ),
+    (b"99/0 99/0", "odd.txt:1 fault seeds\n"),
+];
 
 #[test]
 fn odd_bytes_are_faults_of_their_line(rt: HostRuntime) {
-    let alloc = rt.alloc();
-    for (bytes, text) in [
-        (
-            b"\n\r".as_slice(),
-            "odd.txt:1 fault empty\nodd.txt:2 fault empty\n",
-        ),
-        (b"\xEF\xBB\xBF1/0 1/0", "odd.txt:1 fault shape\n"),
-        (b"1/0 1/0\0\n", "odd.txt:1 fault shape\n"),
-        (b"1/0\t1/0", "odd.txt:1 fault shape\n"),
-        (
-            b"\xFF\xFE\n1/0 1/0",
-            "odd.txt:1 fault shape\nodd.txt:2 0 house 1\n",
-        ),
-        (b"99/0 99/0", "odd.txt:1 fault seeds\n"),
-    ] {
-        is_answered(&rt, alloc, "odd.txt", bytes, text);
+    for (bytes, text) in ODD {
+        assert_file_answers(&rt, rt.alloc(), "odd.txt", *bytes, *text);
     }
     let mut long = [b'x'; 83];
     long[81] = b'\r';
     long[82] = b'\n';
-    is_answered(&rt, alloc, "odd.txt", &long, "odd.txt:1 fault long\n");
+    assert_file_answers(&rt, rt.alloc(), "odd.txt", &long, "odd.txt:1 fault long\n");
 }
 
 #[test]
@@ -61,23 +59,35 @@ fn a_file_may_end_anywhere(rt: HostRuntime) {
             10..=11 => "end.txt:1 6 house 1\nend.txt:2 fault empty\n",
             _ => "end.txt:1 6 house 1\nend.txt:2 fault empty\nend.txt:3 fault shape\n",
         };
-        is_answered(&rt, rt.alloc(), "end.txt", &bytes[..end], text);
+        assert_file_answers(&rt, rt.alloc(), "end.txt", &bytes[..end], text);
     }
+}
+
+// A file may have this name.
+fn assert_is_a_name<R: Abort + Files + Threads + Wait + Sync>(rt: &R, alloc: Global, name: &str) {
+    let text = format!(in alloc; "{name}:1 0 house 1\n").expect(rt, "no memory");
+    assert_file_answers(rt, alloc, name, b"1/0 1/0", text.as_str());
+}
+
+// No file has this name.
+fn assert_is_not_read<R: Abort + Files + Threads + Wait + Sync>(rt: &R, alloc: Global, name: &str) {
+    let text = format!(in alloc; "kalah: cannot read {name}\n").expect(rt, "no memory");
+    let words = ["solve", name];
+    assert_answers(
+        rt,
+        alloc,
+        words.as_slice(),
+        ExitStatus::Failed,
+        ("", text.as_str()),
+    );
 }
 
 #[test]
 fn a_name_is_any_text_in_one_line(rt: HostRuntime) {
-    let alloc = rt.alloc();
     for name in ["odd name é:1.txt", "odd\t\"$(x)'.txt", "odd\r.txt"] {
-        let text = format!(in alloc; "{name}:1 0 house 1\n").expect(&rt, "no memory");
-        is_answered(&rt, alloc, name, b"1/0 1/0", text.as_str());
+        assert_is_a_name(&rt, rt.alloc(), name);
     }
     for name in ["", "odd\0name", "odd.txt/", "no/odd.txt"] {
-        let run = run_on(&rt, alloc, &["solve", name]);
-        let text = format!(in alloc; "kalah: cannot read {name}\n").expect(&rt, "no memory");
-        assert!(rt;
-            answers(&run, ExitStatus::Failed, "", text.as_str()),
-            "{name}"
-        );
+        assert_is_not_read(&rt, rt.alloc(), name);
     }
 }

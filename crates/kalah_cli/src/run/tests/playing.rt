@@ -1,5 +1,5 @@
 //! Runs of `kalah play`, and of `kalah moves` with boards.
-use super::{answers, run_failing, run_on};
+use super::{assert_answers, assert_stops};
 use crate::status::ExitStatus;
 use std::alloc::Global;
 use std::process::Abort;
@@ -8,7 +8,7 @@ use std::sync::Wait;
 use std::thread::Threads;
 
 // Lines, and the games that best play leads to from their positions.
-const GAMES: [(&str, &str); 6] = [
+const GAMES: &[(&str, &str)] = &[
     ("1,1/0 1,1/0", "2 1,0/1 1,1/0 again\n1 0,0/3 0,0/1 over\n"),
     (
         "3,3/0 3,3/0",
@@ -60,29 +60,28 @@ const GAMES: [(&str, &str); 6] = [
     ),
 ];
 
-// With a table of so many entries this game is played.
-fn plays<R: Abort + Files + Threads + Wait + Sync>(
+// This game is played, with a table of one entry and of many.
+fn assert_plays<R: Abort + Files + Threads + Wait + Sync>(
     rt: &R,
     alloc: Global,
-    table: &str,
     line: &str,
     game: &str,
-) -> bool {
-    let run = run_on(rt, alloc, ["play", "--table", table, line].as_slice());
-    answers(&run, ExitStatus::Clean, game, "")
+) {
+    for table in ["1", "65536"] {
+        let words = ["play", "--table", table, line];
+        assert_answers(rt, alloc, words.as_slice(), ExitStatus::Clean, (game, ""));
+    }
 }
 
 #[test]
 fn plays_the_game_of_best_play(rt: HostRuntime) {
     for (line, game) in GAMES {
-        for table in ["1", "65536"] {
-            assert!(rt; plays(&rt, rt.alloc(), table, line, game), "{line}");
-        }
+        assert_plays(&rt, rt.alloc(), *line, *game);
     }
 }
 
 // Words, and what they print with boards.
-const DRAWN: [(&[&str], &str); 4] = [
+const DRAWN: &[(&[&str], &str)] = &[
     (
         &["play", "--boards", "1,1/0 1,1/0"],
         "       1   1
@@ -133,13 +132,12 @@ const DRAWN: [(&[&str], &str); 4] = [
 #[test]
 fn draws_boards_below_their_lines(rt: HostRuntime) {
     for (words, text) in DRAWN {
-        let run = run_on(&rt, rt.alloc(), words);
-        assert!(rt; answers(&run, ExitStatus::Clean, text, ""), "{words:?}");
+        assert_answers(&rt, rt.alloc(), *words, ExitStatus::Clean, (*text, ""));
     }
 }
 
 // Words of lines that are not read, and what is said of them.
-const UNREAD: [(&[&str], &str); 4] = [
+const UNREAD: &[(&[&str], &str)] = &[
     (&["play", "01/0 1/0"], "fault shape\n"),
     (&["play", "--boards", ""], "fault empty\n"),
     (&["moves", "--boards", "1/0 1,1/0"], "fault houses\n"),
@@ -149,20 +147,18 @@ const UNREAD: [(&[&str], &str); 4] = [
 #[test]
 fn tells_the_fault_of_an_unread_line(rt: HostRuntime) {
     for (words, fault) in UNREAD {
-        let run = run_on(&rt, rt.alloc(), words);
-        assert!(rt;
-            answers(&run, ExitStatus::LineFaults, "", fault),
-            "{words:?}"
+        assert_answers(
+            &rt,
+            rt.alloc(),
+            *words,
+            ExitStatus::LineFaults,
+            ("", *fault),
         );
     }
 }
 
-// The game is written in two moves, with a flush before each search and at the end: five calls in all.
+// The game is written in two moves, with a flush before each search and at the end.
 #[test]
 fn stops_at_a_failed_write(rt: HostRuntime) {
-    for k in 1..8u32 {
-        let run = run_failing(&rt, rt.alloc(), &["play", "1,1/0 1,1/0"], k);
-        assert!(rt; (run.has_failed, run.calls) == (k <= 5, k.min(5)), "at {k}");
-        assert!(rt; run.is_told(), "at {k}");
-    }
+    assert_stops(&rt, rt.alloc(), &["play", "1,1/0 1,1/0"], 5);
 }

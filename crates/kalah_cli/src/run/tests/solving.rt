@@ -1,5 +1,5 @@
 //! Runs of `kalah solve` over files that are written first.
-use super::{answers, run_failing, run_on, write_file};
+use super::{assert_answers, run_failing, write_file};
 use crate::status::ExitStatus;
 use std::alloc::Global;
 use std::fs;
@@ -26,7 +26,7 @@ fn solve_words<'a>(
     words
 }
 
-const BATCH: [&str; 4] = ["each_a.txt", "each_b.txt", "each_c.txt", "each_b.txt"];
+const BATCH: &[&str] = &["each_a.txt", "each_b.txt", "each_c.txt", "each_b.txt"];
 
 const BATCH_ANSWERS: &str = "\
 each_b.txt:1 0 house 1
@@ -39,17 +39,22 @@ each_b.txt:2 -2 house 1
 ";
 
 // With these options each line of the batch is answered, in order.
-fn answers_batch<R: Abort + Files + Threads + Wait + Sync>(
+fn assert_answers_batch<R: Abort + Files + Threads + Wait + Sync>(
     rt: &R,
     alloc: Global,
     options: &[&str],
-) -> bool {
-    let words = solve_words(rt, alloc, options, BATCH.as_slice());
-    let run = run_on(rt, alloc, words.as_slice());
-    answers(&run, ExitStatus::LineFaults, BATCH_ANSWERS, "")
+) {
+    let words = solve_words(rt, alloc, options, BATCH);
+    assert_answers(
+        rt,
+        alloc,
+        words.as_slice(),
+        ExitStatus::LineFaults,
+        (BATCH_ANSWERS, ""),
+    );
 }
 
-const OPTIONS: [&[&str]; 5] = [
+const OPTIONS: &[&[&str]] = &[
     &[],
     &["--workers", "1"],
     &["--workers=2"],
@@ -64,7 +69,7 @@ fn answers_each_line_of_each_file(rt: HostRuntime) {
     write_file(&rt, "each_b.txt", ONE_AND_TWO.as_bytes());
     write_file(&rt, "each_c.txt", THREE_AND_FAULTS.as_bytes());
     for options in OPTIONS {
-        assert!(rt; answers_batch(&rt, alloc, options), "{options:?}");
+        assert_answers_batch(&rt, alloc, *options);
     }
 }
 
@@ -73,11 +78,21 @@ fn files_without_a_fault_are_clean(rt: HostRuntime) {
     let alloc = rt.alloc();
     write_file(&rt, "clean_a.txt", b"");
     write_file(&rt, "clean_b.txt", ONE_AND_TWO.as_bytes());
-    let empty = run_on(&rt, alloc, &["solve", "clean_a.txt"]);
-    assert!(rt; answers(&empty, ExitStatus::Clean, "", ""));
-    let two = run_on(&rt, alloc, &["solve", "clean_b.txt"]);
+    assert_answers(
+        &rt,
+        alloc,
+        &["solve", "clean_a.txt"],
+        ExitStatus::Clean,
+        ("", ""),
+    );
     let want = "clean_b.txt:1 0 house 1\nclean_b.txt:2 -2 house 1\n";
-    assert!(rt; answers(&two, ExitStatus::Clean, want, ""));
+    assert_answers(
+        &rt,
+        alloc,
+        &["solve", "clean_b.txt"],
+        ExitStatus::Clean,
+        (want, ""),
+    );
 }
 
 #[test]
@@ -97,12 +112,14 @@ rules.txt:5 -1 house 1
 rules.txt:6 16 over
 ";
     for table in ["1", "65536", "65537", "1048576"] {
-        let run = run_on(
+        let words = ["solve", "--table", table, "rules.txt"];
+        assert_answers(
             &rt,
             alloc,
-            ["solve", "--table", table, "rules.txt"].as_slice(),
+            words.as_slice(),
+            ExitStatus::LineFaults,
+            (want, ""),
         );
-        assert!(rt; answers(&run, ExitStatus::LineFaults, want, ""), "{table}");
     }
 }
 
@@ -112,8 +129,8 @@ fn too_many_files(rt: HostRuntime) {
     write_file(&rt, "many_a.txt", b"");
     let files = vec![in alloc; "many_a.txt"; 257].expect(&rt, "no memory");
     let words = solve_words(&rt, alloc, &[], files.as_slice());
-    let run = run_on(&rt, alloc, words.as_slice());
-    assert!(rt; answers(&run, ExitStatus::Failed, "", "kalah: too many files\n"));
+    let text = "kalah: too many files\n";
+    assert_answers(&rt, alloc, words.as_slice(), ExitStatus::Failed, ("", text));
 }
 
 #[test]
@@ -121,8 +138,14 @@ fn too_many_lines(rt: HostRuntime) {
     let alloc = rt.alloc();
     let feeds = vec![in alloc; b'\n'; 1_000_001].expect(&rt, "no memory");
     write_file(&rt, "feeds.txt", feeds.as_slice());
-    let run = run_on(&rt, alloc, &["solve", "feeds.txt"]);
-    assert!(rt; answers(&run, ExitStatus::Failed, "", "kalah: too many lines\n"));
+    let text = "kalah: too many lines\n";
+    assert_answers(
+        &rt,
+        alloc,
+        &["solve", "feeds.txt"],
+        ExitStatus::Failed,
+        ("", text),
+    );
 }
 
 // A file may have 67,108,864 bytes, and not one more.
@@ -131,17 +154,22 @@ fn a_file_of_the_greatest_size_is_read(rt: HostRuntime) {
     let alloc = rt.alloc();
     let bytes = vec![in alloc; b'x'; 67_108_865].expect(&rt, "no memory");
     write_file(&rt, "large.txt", &bytes[1..]);
-    let run = run_on(&rt, alloc, &["solve", "large.txt"]);
-    assert!(rt; answers(&run, ExitStatus::LineFaults, "large.txt:1 fault long\n", ""));
+    let long = "large.txt:1 fault long\n";
+    assert_answers(
+        &rt,
+        alloc,
+        &["solve", "large.txt"],
+        ExitStatus::LineFaults,
+        (long, ""),
+    );
     write_file(&rt, "large.txt", bytes.as_slice());
-    let run = run_on(&rt, alloc, &["solve", "large.txt"]);
-    assert!(rt;
-        answers(
-            &run,
-            ExitStatus::Failed,
-            "",
-            "kalah: cannot read large.txt\n"
-        )
+    let unread = "kalah: cannot read large.txt\n";
+    assert_answers(
+        &rt,
+        alloc,
+        &["solve", "large.txt"],
+        ExitStatus::Failed,
+        ("", unread),
     );
     fs::remove_file(&rt, "large.txt").expect(&rt, "not removed");
 }

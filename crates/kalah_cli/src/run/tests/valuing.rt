@@ -1,5 +1,5 @@
 //! Runs of `kalah values` over files that are written first.
-use super::{answers, run_failing, run_on, write_file};
+use super::{assert_answers, assert_stops, write_file};
 use crate::status::ExitStatus;
 use std::alloc::Global;
 use std::process::Abort;
@@ -17,15 +17,20 @@ four.txt:4 fault shape
 ";
 
 // With so many workers and entries the values of the four lines are told.
-fn tells_four<R: Abort + Files + Threads + Wait + Sync>(
+fn assert_tells_four<R: Abort + Files + Threads + Wait + Sync>(
     rt: &R,
     alloc: Global,
     workers: &str,
     table: &str,
-) -> bool {
+) {
     let words = ["values", "--workers", workers, "four.txt", "--table", table];
-    let run = run_on(rt, alloc, words.as_slice());
-    answers(&run, ExitStatus::LineFaults, FOUR_ANSWERS, "")
+    assert_answers(
+        rt,
+        alloc,
+        words.as_slice(),
+        ExitStatus::LineFaults,
+        (FOUR_ANSWERS, ""),
+    );
 }
 
 #[test]
@@ -33,16 +38,13 @@ fn tells_the_value_of_each_move(rt: HostRuntime) {
     write_file(&rt, "four.txt", FOUR_LINES.as_bytes());
     for workers in ["1", "2", "64"] {
         for table in ["1", "65536"] {
-            assert!(rt;
-                tells_four(&rt, rt.alloc(), workers, table),
-                "{workers} {table}"
-            );
+            assert_tells_four(&rt, rt.alloc(), workers, table);
         }
     }
 }
 
 // Files that are answered, and how.
-const ANSWERED: [(&[u8], &str, ExitStatus); 5] = [
+const ANSWERED: &[(&[u8], &str, ExitStatus)] = &[
     (b"", "", ExitStatus::Clean),
     (b"1,1/9 1,1/4", "v.txt:1 1:3 2:7\n", ExitStatus::Clean),
     (
@@ -65,14 +67,13 @@ const ANSWERED: [(&[u8], &str, ExitStatus); 5] = [
 #[test]
 fn tells_both_rules_odd_bytes_and_no_line(rt: HostRuntime) {
     for (bytes, text, status) in ANSWERED {
-        write_file(&rt, "v.txt", bytes);
-        let run = run_on(&rt, rt.alloc(), &["values", "v.txt"]);
-        assert!(rt; answers(&run, status, text, ""), "{bytes:?}");
+        write_file(&rt, "v.txt", *bytes);
+        assert_answers(&rt, rt.alloc(), &["values", "v.txt"], *status, (*text, ""));
     }
 }
 
 // Words whose files are not all read, and what is said of it.
-const NOT_READ: [(&[&str], &str); 2] = [
+const NOT_READ: &[(&[&str], &str)] = &[
     (&["values", "/", "x.txt"], "kalah: cannot read /\n"),
     (
         &["values", "/", "x\ny"],
@@ -83,18 +84,13 @@ const NOT_READ: [(&[&str], &str); 2] = [
 #[test]
 fn values_of_files_that_are_not_read(rt: HostRuntime) {
     for (words, text) in NOT_READ {
-        let run = run_on(&rt, rt.alloc(), words);
-        assert!(rt; answers(&run, ExitStatus::Failed, "", text), "{words:?}");
+        assert_answers(&rt, rt.alloc(), *words, ExitStatus::Failed, ("", *text));
     }
 }
 
-// Each line is written in two calls, and a flush ends them: five calls in all.
+// Each line is written in two calls, and a flush ends them.
 #[test]
 fn telling_values_stops_at_a_failed_write(rt: HostRuntime) {
     write_file(&rt, "stops.txt", b"1,1/0 1,1/0\n2/0 2/0");
-    for k in 1..8u32 {
-        let run = run_failing(&rt, rt.alloc(), &["values", "stops.txt"], k);
-        assert!(rt; (run.has_failed, run.calls) == (k <= 5, k.min(5)), "at {k}");
-        assert!(rt; run.is_told(), "at {k}");
-    }
+    assert_stops(&rt, rt.alloc(), &["values", "stops.txt"], 5);
 }
