@@ -9,6 +9,7 @@ use crate::{Desk, Gate, GetPass, OpenGate, Pass, PutPass, ResultsQueue};
 use kalah_jobs::{Entry, LineFault, Outcome};
 use kalah_solve::{Solver, Table};
 use std::alloc::{AllocError, Global};
+use std::process::Abort;
 use std::sync::Wait;
 use std::test::Fail;
 
@@ -67,31 +68,47 @@ pub(crate) fn two_outcomes(alloc: Global) -> Result<(Outcome, Outcome), AllocErr
     Ok((first, second))
 }
 
+// Two workers put an outcome each.
+pub(crate) fn put_two<R: Wait>(
+    rt: &R,
+    queue: &ResultsQueue,
+    puts: &mut Vec<PutPass>,
+    sent: (Outcome, Outcome),
+)
+    requires { (vec_len puts.old ≡ 2) × ArePassesFrom queue.now.id 0 puts.old.items }
+    ensures { (vec_len puts.new ≡ 2) × ArePassesFrom queue.now.id 0 puts.new.items }
+{
+    queue.put(rt, &mut puts[0], sent.0);
+    queue.put(rt, &mut puts[1], sent.1);
+}
+
 // Whether of two outcomes that two workers put the first is got, and the other is left.
 fn is_first_got<R: Wait>(
     rt: &R,
     opened: (ResultsQueue, Vec<PutPass>, GetPass),
-    first: Outcome,
-    second: Outcome,
+    sent: (Outcome, Outcome),
 ) -> bool
     requires puts { (vec_len opened.1 ≡ 2) × ArePassesFrom opened.0.id 0 opened.1.items }
     requires gets { (opened.2.queue ≡ opened.0.id) × (opened.2.workers ≡ 2) }
 {
     let (queue, mut puts, mut pass) = opened;
-    queue.put(rt, &mut puts[0], first);
-    queue.put(rt, &mut puts[1], second);
+    put_two(rt, &queue, &mut puts, sent);
     let got = queue.get(rt, &mut pass);
-    queue.close(rt, puts, pass).left() == 1 && got == first
+    queue.close(rt, puts, pass).left() == 1 && got == sent.0
+}
+
+// Two outcomes are sent through a queue that is opened for them.
+fn send_two<R: Abort + Wait>(rt: &R, alloc: Global, sent: (Outcome, Outcome)) -> Result<(), Fail> {
+    let opened = ResultsQueue::open(alloc, 2, 2).or_else(|_| ResultsQueue::open(alloc, 2, 2))?;
+    mark(alloc, "before the calls without memory")?;
+    assert!(rt; is_first_got(rt, opened, sent));
+    mark(alloc, "after all")
 }
 
 #[test]
 fn a_results_queue(rt: HostRuntime) -> Result<(), Fail> {
-    let alloc = rt.alloc();
-    let (first, second) = two_outcomes(alloc)?;
-    let opened = ResultsQueue::open(alloc, 2, 2).or_else(|_| ResultsQueue::open(alloc, 2, 2))?;
-    mark(alloc, "before the calls without memory")?;
-    assert!(rt; is_first_got(&rt, opened, first, second));
-    mark(alloc, "after all")
+    let sent = two_outcomes(rt.alloc())?;
+    send_two(&rt, rt.alloc(), sent)
 }
 
 #[test]

@@ -38,30 +38,34 @@ fn file_of(alloc: Global, name: &str, bytes: &[u8]) -> Result<FileText, AllocErr
 
 const BOTH_RULES: &str = "1,0/0 0,2/0 e\n1,0/0 0,2/0\n16/0 0/0\n";
 
-// Four files, one of them empty and one named twice, with seven lines and two faults.
+// The names and the bytes of four files, one of them empty and one named twice.
+const FOUR_FILES: &[(&str, &str)] = &[
+    ("a.txt", ""),
+    ("b.txt", ONE_AND_TWO),
+    ("c.txt", THREE_AND_FAULTS),
+    ("b.txt", ONE_AND_TWO),
+];
+
+// The four files, with seven lines and two faults.
 fn four_files(alloc: Global) -> Result<Vec<FileText>, AllocError> {
     let mut files = Vec::new(alloc);
-    for (name, text) in [
-        ("a.txt", ""),
-        ("b.txt", ONE_AND_TWO),
-        ("c.txt", THREE_AND_FAULTS),
-        ("b.txt", ONE_AND_TWO),
-    ] {
+    for (name, text) in FOUR_FILES {
         files.push(file_of(alloc, name, text.as_bytes())?)?;
     }
     Ok(files)
 }
 
+// One more file of this name and these bytes.
+fn add_file(rt: &impl Abort, alloc: Global, files: &mut Vec<FileText>, name: &str, bytes: &[u8]) {
+    let file = file_of(alloc, name, bytes).expect(rt, "no memory");
+    files.push(file).expect(rt, "no memory");
+}
+
 // One file of so many lines `1/0 1/0`.
 fn same_lines(rt: &impl Abort, alloc: Global, count: u32) -> [FileText; 1] {
-    let mut bytes = Vec::new(alloc);
-    for _ in 0..count {
-        bytes
-            .extend_from_slice(b"1/0 1/0\n")
-            .expect(rt, "no memory");
-    }
-    let name = String::from_str(alloc, "n").expect(rt, "no memory");
-    [FileText { name, bytes }]
+    let text = "1/0 1/0\n".repeat(alloc, count as usize);
+    let text = text.expect(rt, "no memory");
+    [file_of(alloc, "n", text.as_bytes()).expect(rt, "no memory")]
 }
 
 // The answers to so many lines `1/0 1/0` of a file `n`.
@@ -90,12 +94,49 @@ fn answers<R: Threads + Wait + Sync, G: Gate>(
     requires table { (0 < table) × (table ≤ 1048576) }
 {
     let mut out = Stream::new(Vec::<u8>::new(alloc));
-    let Ok(tally) = solve_batch(rt, alloc, files, workers, table, gate, &mut out) else {
+    let tally = solve_batch(rt, alloc, files, workers, table, gate, &mut out);
+    let written = out.into_inner();
+    let Ok(tally) = tally else {
         return false;
     };
     tally.lines as usize == text.lines().count()
         && tally.faults == faults
-        && out.into_inner().as_slice() == text.as_bytes()
+        && written.as_slice() == text.as_bytes()
+}
+
+// The batch of so many lines `1/0 1/0` writes their answers.
+fn lines_are_answered<R: Abort + Threads + Wait + Sync, G: Gate>(
+    rt: &R,
+    alloc: Global,
+    lines: u32,
+    workers: u32,
+    table: u32,
+    gate: &G,
+) -> bool
+    requires workers { (0 < workers) × (workers ≤ 64) }
+    requires table { (0 < table) × (table ≤ 1048576) }
+{
+    let files = same_lines(rt, alloc, lines);
+    let text = same_answers(rt, alloc, lines);
+    answers(rt, alloc, &files, workers, table, gate, text.as_str(), 0)
+}
+
+// The batch of one file of this name and these bytes writes this text.
+fn one_file_answers<R: Abort + Threads + Wait + Sync>(
+    rt: &R,
+    alloc: Global,
+    name: &str,
+    bytes: &[u8],
+    workers: u32,
+    table: u32,
+    text: &str,
+    faults: u32,
+) -> bool
+    requires workers { (0 < workers) × (workers ≤ 64) }
+    requires table { (0 < table) × (table ≤ 1048576) }
+{
+    let file = file_of(alloc, name, bytes).expect(rt, "no memory");
+    answers(rt, alloc, &[file], workers, table, &OpenGate, text, faults)
 }
 
 // A batch of two workers that asks this.
@@ -155,47 +196,47 @@ fn lines_are_answered_in_order_by_any_number_of_workers(rt: HostRuntime) {
 
 #[test]
 fn a_line_that_ends_in_e_has_the_other_rule(rt: HostRuntime) {
-    let alloc = rt.alloc();
-    let file = file_of(alloc, "e.txt", BOTH_RULES.as_bytes()).expect(&rt, "no memory");
+    let bytes = BOTH_RULES.as_bytes();
     let want = "e.txt:1 -1 house 1\ne.txt:2 1 house 1\ne.txt:3 16 over\n";
-    assert!(rt; answers(&rt, alloc, &[file], 2, 16, &OpenGate, want, 0));
+    assert!(rt; one_file_answers(&rt, rt.alloc(), "e.txt", bytes, 2, 16, want, 0));
 }
 
 #[test]
 fn no_line_at_all_is_answered_by_nothing(rt: HostRuntime) {
     let alloc = rt.alloc();
     assert!(rt; answers(&rt, alloc, &[], 3, 1, &OpenGate, "", 0));
-    let file = file_of(alloc, "a.txt", b"").expect(&rt, "no memory");
-    assert!(rt; answers(&rt, alloc, &[file], 3, 1, &OpenGate, "", 0));
+    assert!(rt; one_file_answers(&rt, alloc, "a.txt", b"", 3, 1, "", 0));
+}
+
+// Each of these files of one line `1/0 1/0` is answered.
+fn are_answered_alike<R: Abort + Threads + Wait + Sync>(
+    rt: &R,
+    alloc: Global,
+    files: &[FileText],
+) -> bool {
+    let text = "n:1 0 house 1\n".repeat(alloc, files.len());
+    let text = text.expect(rt, "no memory");
+    answers(rt, alloc, files, 3, 1, &OpenGate, text.as_str(), 0)
 }
 
 #[test]
 fn any_number_of_files_is_answered(rt: HostRuntime) {
     let alloc = rt.alloc();
-    let (mut files, mut text) = (Vec::new(alloc), String::new(alloc));
+    let mut files = Vec::new(alloc);
     for count in 1..257u32 {
-        let file = file_of(alloc, "n", b"1/0 1/0").expect(&rt, "no memory");
-        files.push(file).expect(&rt, "no memory");
-        text.push_str("n:1 0 house 1\n").expect(&rt, "no memory");
-        let files = files.as_slice();
-        assert!(rt;
-            answers(&rt, alloc, files, 3, 1, &OpenGate, text.as_str(), 0),
-            "{count}"
-        );
+        add_file(&rt, alloc, &mut files, "n", b"1/0 1/0");
+        assert!(rt; are_answered_alike(&rt, alloc, files.as_slice()), "{count}");
     }
 }
 
 // Numbers of lines, few of them and more than the queue has places.
-const LINES: [u32; 7] = [63, 64, 65, 200, 65_535, 65_536, 65_537];
+const LINES: &[u32] = &[63, 64, 65, 200, 65_535, 65_536, 65_537];
 
 #[test]
 fn any_number_of_lines_is_answered(rt: HostRuntime) {
-    let alloc = rt.alloc();
     for count in LINES {
-        let files = same_lines(&rt, alloc, count);
-        let text = same_answers(&rt, alloc, count);
         assert!(rt;
-            answers(&rt, alloc, &files, 64, 1, &OpenGate, text.as_str(), 0),
+            lines_are_answered(&rt, rt.alloc(), *count, 64, 1, &OpenGate),
             "{count}"
         );
     }
@@ -203,15 +244,17 @@ fn any_number_of_lines_is_answered(rt: HostRuntime) {
 
 // Whether the line of a file of this name is answered.
 fn is_written_with<R: Abort + Threads + Wait + Sync>(rt: &R, alloc: Global, name: &str) -> bool {
-    let file = file_of(alloc, name, b"1/0 1/0").expect(rt, "no memory");
     let text = format!(in alloc; "{name}:1 0 house 1\n").expect(rt, "no memory");
-    answers(rt, alloc, &[file], 2, 1, &OpenGate, text.as_str(), 0)
+    one_file_answers(rt, alloc, name, b"1/0 1/0", 2, 1, text.as_str(), 0)
 }
+
+// Lengths of names, from one byte to many.
+const LENGTHS: &[usize] = &[1, 4095, 4096, 4097, 5000, 65_537, 100_000];
 
 #[test]
 fn a_name_of_any_length_is_written(rt: HostRuntime) {
-    for length in [1, 4095, 4096, 4097, 5000, 65_537, 100_000] {
-        let name = "x".repeat(rt.alloc(), length).expect(&rt, "no memory");
+    for length in LENGTHS {
+        let name = "x".repeat(rt.alloc(), *length).expect(&rt, "no memory");
         assert!(rt; is_written_with(&rt, rt.alloc(), name.as_str()), "{length}");
     }
 }
@@ -234,12 +277,10 @@ fn fault_of<R: Threads + Wait + Sync>(
 fn too_many_files(rt: &impl Abort, alloc: Global) -> Vec<FileText> {
     let mut files = Vec::new(alloc);
     for _ in 0..256 {
-        let file = file_of(alloc, "a", b"").expect(rt, "no memory");
-        files.push(file).expect(rt, "no memory");
+        add_file(rt, alloc, &mut files, "a", b"");
     }
-    let bytes = vec![in alloc; b'\n'; 1_000_001].expect(rt, "no memory");
-    let name = String::from_str(alloc, "b").expect(rt, "no memory");
-    files.push(FileText { name, bytes }).expect(rt, "no memory");
+    let lines = "\n".repeat(alloc, 1_000_001).expect(rt, "no memory");
+    add_file(rt, alloc, &mut files, "b", lines.as_bytes());
     files
 }
 

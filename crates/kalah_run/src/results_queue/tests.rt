@@ -3,11 +3,11 @@ ghost use Rattle.std.specs.Prelude.{◌≡◌, ◌<◌, ◌≤◌};
 mod flow;
 
 use self::flow::put_often;
-use crate::want_of_memory::two_outcomes;
+use crate::want_of_memory::{put_two, two_outcomes};
 use crate::{GetPass, PutPass, ResultsQueue};
 use kalah_jobs::{Entry, LineFault, Outcome};
 use kalah_solve::{Solver, Table};
-use std::alloc::{AllocError, Global};
+use std::alloc::Global;
 use std::process::Abort;
 use std::sync::Wait;
 use std::thread;
@@ -35,8 +35,7 @@ fn through_one_thread<R: Abort + Wait>(
 ) -> ((Outcome, Outcome), u32) {
     let opened = ResultsQueue::open(alloc, 2, 2);
     let (queue, mut puts, mut pass) = opened.expect(rt, "no memory");
-    queue.put(rt, &mut puts[0], sent.0);
-    queue.put(rt, &mut puts[1], sent.1);
+    put_two(rt, &queue, &mut puts, sent);
     let got = (queue.get(rt, &mut pass), queue.get(rt, &mut pass));
     (got, queue.close(rt, puts, pass).left())
 }
@@ -74,35 +73,37 @@ fn a_queue_may_have_any_number_of_places(rt: HostRuntime) {
     }
 }
 
+// How many passes to put a queue for so many workers has, and how many outcomes are left in it.
+fn opened_for<R: Abort + Wait>(rt: &R, alloc: Global, workers: u32) -> (usize, u32)
+    requires { (0 < workers) × (workers ≤ 64) }
+{
+    let opened = ResultsQueue::open(alloc, 64, workers);
+    let (queue, puts, pass) = opened.expect(rt, "no memory");
+    (puts.len(), queue.close(rt, puts, pass).left())
+}
+
 #[test]
 fn a_queue_may_have_any_number_of_workers(rt: HostRuntime) {
     for workers in 1..65u32 {
-        let opened = ResultsQueue::open(rt.alloc(), 64, workers);
-        let (queue, puts, pass) = opened.expect(&rt, "no memory");
-        assert!(rt; puts.len() == workers as usize);
-        assert!(rt; queue.close(&rt, puts, pass).left() == 0);
+        assert!(rt; opened_for(&rt, rt.alloc(), workers) == (workers as usize, 0));
     }
 }
 
-// Gets the outcomes of two files, and gives those of the first file and those of the second, each as they came.
-fn get_both<R: Wait>(
+// Gets the outcomes of two files, as they come.
+fn get_both<R: Abort + Wait>(
     rt: &R,
     alloc: Global,
     queue: &ResultsQueue,
     mut pass: GetPass,
-) -> Result<(Vec<Outcome>, Vec<Outcome>), AllocError>
+) -> Vec<Outcome>
     requires { pass.queue ≡ queue.now.id }
 {
-    let (mut first, mut second) = (Vec::new(alloc), Vec::new(alloc));
+    let mut outcomes = Vec::new(alloc);
     for _ in 0..2 * LINES {
         let outcome = queue.get(rt, &mut pass);
-        if outcome.file() == 0 {
-            first.push(outcome)?;
-        } else {
-            second.push(outcome)?;
-        }
+        outcomes.push(outcome).expect(rt, "no memory");
     }
-    Ok((first, second))
+    outcomes
 }
 
 // Two threads put the outcomes of a file each.
@@ -129,14 +130,14 @@ fn put_both<R: Threads + Wait + Sync>(
 }
 
 // Two threads put the outcomes of a file each, while another one gets.
-fn through_threads<R: Threads + Wait + Sync>(
+fn through_threads<R: Abort + Threads + Wait + Sync>(
     rt: &R,
     alloc: Global,
     queue: &ResultsQueue,
     puts: (PutPass, PutPass),
     pass: GetPass,
     sent: (&[Outcome], &[Outcome]),
-) -> Result<(Vec<Outcome>, Vec<Outcome>), AllocError>
+) -> Vec<Outcome>
     requires first { puts.0.queue ≡ queue.now.id }
     requires second { puts.1.queue ≡ queue.now.id }
     requires pass { pass.queue ≡ queue.now.id }
@@ -158,13 +159,23 @@ fn through_queue<R: Abort + Threads + Wait + Sync>(
     rt: &R,
     alloc: Global,
     sent: (&[Outcome], &[Outcome]),
-) -> (Vec<Outcome>, Vec<Outcome>) {
+) -> Vec<Outcome> {
     let opened = ResultsQueue::open(alloc, 2, 2);
     let (queue, mut puts, pass) = opened.expect(rt, "no memory");
     let second = puts.pop().expect(rt, "no pass");
     let first = puts.pop().expect(rt, "no pass");
-    let got = through_threads(rt, alloc, &queue, (first, second), pass, sent);
-    got.expect(rt, "no memory")
+    through_threads(rt, alloc, &queue, (first, second), pass, sent)
+}
+
+// Whether the outcomes of the file are those that were sent, in their order.
+fn are_in_order(outcomes: &[Outcome], file: u32, sent: &[Outcome]) -> bool {
+    let mut rest = sent.iter();
+    for outcome in outcomes {
+        if outcome.file() == file && rest.next() != Some(outcome) {
+            return false;
+        }
+    }
+    rest.next().is_none()
 }
 
 #[test]
@@ -172,6 +183,7 @@ fn two_threads_outcomes_come_in_order(rt: HostRuntime) {
     let first = outcomes_of(&rt, rt.alloc(), 0);
     let second = outcomes_of(&rt, rt.alloc(), 1);
     let sent = (first.as_slice(), second.as_slice());
-    let (got_first, got_second) = through_queue(&rt, rt.alloc(), sent);
-    assert!(rt; (got_first.as_slice(), got_second.as_slice()) == sent);
+    let got = through_queue(&rt, rt.alloc(), sent);
+    assert!(rt; are_in_order(got.as_slice(), 0, sent.0));
+    assert!(rt; are_in_order(got.as_slice(), 1, sent.1));
 }

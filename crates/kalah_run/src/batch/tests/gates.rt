@@ -1,6 +1,6 @@
 //! Batches in which workers wait for one another: jobs are solved side by side, drawn by whoever is free, and written
 //! while later ones are under way.
-use super::{answers, same_answers, same_lines};
+use super::{lines_are_answered, same_lines};
 use crate::{Gate, Tally, solve_batch};
 use kalah_jobs::Stream;
 use std::io::Write;
@@ -165,28 +165,23 @@ impl Write for Telling<'_> {
 
 #[test]
 fn a_later_job_is_done_while_an_earlier_one_waits(rt: HostRuntime) {
-    let alloc = rt.alloc();
-    let files = same_lines(&rt, alloc, 2);
     let gate = SecondFirst {
         done: Flags::none(),
     };
-    assert!(rt; answers(&rt, alloc, &files, 2, 16, &gate, TWO, 0));
+    assert!(rt; lines_are_answered(&rt, rt.alloc(), 2, 2, 16, &gate));
     assert!(rt; gate.done.came());
 }
 
 #[test]
 fn as_many_jobs_are_under_way_at_once_as_there_are_workers(rt: HostRuntime) {
-    let alloc = rt.alloc();
     for jobs in [2, 3, 16, 64] {
-        let files = same_lines(&rt, alloc, jobs);
-        let text = same_answers(&rt, alloc, jobs);
         let gate = AllDrawn {
             jobs,
             drawn: AtomicU32::new(0),
             gave_up: AtomicBool::new(false),
         };
         assert!(rt;
-            answers(&rt, alloc, &files, jobs, 16, &gate, text.as_str(), 0),
+            lines_are_answered(&rt, rt.alloc(), jobs, jobs, 16, &gate),
             "{jobs}"
         );
         assert!(rt; !gate.gave_up.load(Ordering::SeqCst), "{jobs}");
@@ -195,15 +190,12 @@ fn as_many_jobs_are_under_way_at_once_as_there_are_workers(rt: HostRuntime) {
 
 #[test]
 fn a_free_worker_takes_whatever_is_left(rt: HostRuntime) {
-    let alloc = rt.alloc();
-    let files = same_lines(&rt, alloc, 4);
-    let text = same_answers(&rt, alloc, 4);
     for last in 0..4u32 {
         let gate = OneLast {
             last,
             done: Flags::none(),
         };
-        assert!(rt; answers(&rt, alloc, &files, 2, 16, &gate, text.as_str(), 0));
+        assert!(rt; lines_are_answered(&rt, rt.alloc(), 4, 2, 16, &gate));
         assert!(rt; gate.done.came());
     }
 }

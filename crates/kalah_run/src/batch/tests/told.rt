@@ -1,5 +1,5 @@
 //! What the gate is told: of each job once, and that an outcome is handed on only once there is room for it.
-use super::{answers, same_answers, same_lines};
+use super::{lines_are_answered, same_lines};
 use crate::staff::QUEUE_CAPACITY;
 use crate::{Gate, solve_batch};
 use kalah_jobs::Stream;
@@ -76,14 +76,12 @@ const MANY: u32 = 65_600;
 #[test]
 fn the_gate_is_told_of_each_job_once(rt: HostRuntime) {
     let alloc = rt.alloc();
-    let files = same_lines(&rt, alloc, MANY);
-    let text = same_answers(&rt, alloc, MANY);
     let gate = Told {
         begun: no_counts(&rt, alloc, MANY),
         handed_on: no_counts(&rt, alloc, MANY),
         out_of_turn: AtomicBool::new(false),
     };
-    assert!(rt; answers(&rt, alloc, &files, 2, 16, &gate, text.as_str(), 0));
+    assert!(rt; lines_are_answered(&rt, alloc, MANY, 2, 16, &gate));
     let in_turn = !gate.out_of_turn.load(Ordering::SeqCst);
     assert!(rt; in_turn && are_once(&gate.begun) && are_once(&gate.handed_on));
 }

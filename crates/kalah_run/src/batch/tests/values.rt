@@ -1,7 +1,7 @@
 //! Batches that ask for the values of the moves.
 ghost use Rattle.std.specs.Prelude.{◌<◌, ◌≤◌};
 
-use super::file_of;
+use super::add_file;
 use crate::{OpenGate, Tally, values_batch};
 use kalah_jobs::{FileText, Sink, Stream};
 use std::alloc::Global;
@@ -31,12 +31,14 @@ const TEN_LINES: Tally = Tally {
     faults: 2,
 };
 
-// Three files, one of them named twice.
+// The names and the bytes of three files, one of them named twice.
+const THREE_FILES: &[(&str, &str)] = &[("b.txt", LINES), ("c.txt", BOTH_RULES), ("b.txt", LINES)];
+
+// The three files.
 fn three_files(rt: &impl Abort, alloc: Global) -> Vec<FileText> {
     let mut files = Vec::new(alloc);
-    for (name, text) in [("b.txt", LINES), ("c.txt", BOTH_RULES), ("b.txt", LINES)] {
-        let file = file_of(alloc, name, text.as_bytes()).expect(rt, "no memory");
-        files.push(file).expect(rt, "no memory");
+    for (name, text) in THREE_FILES {
+        add_file(rt, alloc, &mut files, name, text.as_bytes());
     }
     files
 }
@@ -54,7 +56,8 @@ fn is_told<R: Threads + Wait + Sync>(
 {
     let mut out = Stream::new(Vec::<u8>::new(alloc));
     let tally = values_batch(rt, alloc, files, workers, table, &OpenGate, &mut out);
-    tally == Ok(TEN_LINES) && out.into_inner().as_slice() == VALUES.as_bytes()
+    let written = out.into_inner();
+    tally == Ok(TEN_LINES) && written.as_slice() == VALUES.as_bytes()
 }
 
 #[test]

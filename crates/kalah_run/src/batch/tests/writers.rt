@@ -105,24 +105,33 @@ fn run_with<R: Threads + Wait + Sync>(
     }
 }
 
-// How many calls of the writer may fail until none does, where each that fails ends the writing and nothing else.
+// Whether no call of the writer fails where so many may be made. One that fails ends the writing and nothing else.
+fn is_whole<R: Abort + Threads + Wait + Sync>(
+    rt: &R,
+    alloc: Global,
+    question: Question,
+    files: &[FileText],
+    calls: u32,
+) -> bool {
+    let run = run_with(rt, alloc, question, files, calls);
+    let is_quiet = run.done == 7 && run.writer.later_calls == 0;
+    let is_whole = run.tally == Ok(SEVEN_LINES);
+    assert!(rt;
+        is_quiet && (is_whole || run.tally == Err(RunFault::Write)),
+        "{calls}"
+    );
+    is_whole
+}
+
+// How many calls of the writer may fail until none does.
 fn failures<R: Abort + Threads + Wait + Sync>(rt: &R, alloc: Global, question: Question) -> u32 {
     let files = four_files(alloc).expect(rt, "no memory");
-    let mut failures = 0u32;
     for calls in 0..100u32 {
-        let run = run_with(rt, alloc, question, files.as_slice(), calls);
-        let is_quiet = run.done == 7 && run.writer.later_calls == 0;
-        let is_whole = run.tally == Ok(SEVEN_LINES);
-        assert!(rt;
-            is_quiet && (is_whole || run.tally == Err(RunFault::Write)),
-            "{calls}"
-        );
-        if is_whole {
-            break;
+        if is_whole(rt, alloc, question, files.as_slice(), calls) {
+            return calls;
         }
-        failures = failures.saturating_add(1);
     }
-    failures
+    100
 }
 
 #[test]
@@ -170,8 +179,9 @@ fn is_all_written<R: Threads + Wait + Sync>(
         bytes: Vec::new(alloc),
     });
     let tally = solve_batch(rt, alloc, files, 2, 16, &OpenGate, &mut out);
-    let has_failed = out.failed() && tally == Err(RunFault::Write);
-    has_failed && out.into_inner().bytes.as_slice() == text.as_bytes()
+    let has_failed = out.failed();
+    let written = out.into_inner().bytes;
+    has_failed && tally == Err(RunFault::Write) && written.as_slice() == text.as_bytes()
 }
 
 #[test]
