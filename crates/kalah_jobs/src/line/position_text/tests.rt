@@ -1,16 +1,22 @@
 use crate::{Stream, line_text, read_line, step_text, write_step};
-use kalah_rules::Board;
+use kalah_rules::{Board, Step};
 use std::process::Abort;
 
 fn board(rt: &(impl Abort + AllocGlobal), line: &str) -> Board {
     read_line(line.as_bytes()).expect(rt, line)
 }
 
-// The text of the move of house `h` from the position of a line.
-fn text_of_move(rt: &(impl Abort + AllocGlobal), line: &str, h: u8) -> String {
+// The step of house `h` from the position of a line.
+fn step(rt: &(impl Abort + AllocGlobal), line: &str, h: u8) -> Step {
     let board = board(rt, line);
     assert!(rt; board.is_legal(h));
-    step_text(rt.alloc(), h, &board.apply(h)).expect(rt, "no memory")
+    board.apply(h)
+}
+
+// The text of the move of house `h` from the position of a line is this.
+fn assert_printed(rt: &(impl Abort + AllocGlobal), line: &str, h: u8, text: &str) {
+    let printed = step_text(rt.alloc(), h, &step(rt, line, h)).expect(rt, text);
+    assert!(rt; printed.as_str() == text, "{text}");
 }
 
 // A line is read, and written as it was.
@@ -40,23 +46,21 @@ const STEPS: [(&str, u8, &str); 6] = [
 #[test]
 fn steps_with_their_words(rt: HostRuntime) {
     for (line, h, text) in STEPS {
-        assert!(rt; text_of_move(&rt, line, h).as_str() == text, "{text}");
+        assert_printed(&rt, line, h, text);
     }
 }
 
-// Whether the move of house `h` is written so, with a line feed.
-fn is_written(rt: &(impl Abort + AllocGlobal), line: &str, h: u8, text: &str) -> bool {
-    let board = board(rt, line);
-    assert!(rt; board.is_legal(h));
+// The move of house `h` is written so, with a line feed.
+fn assert_written(rt: &(impl Abort + AllocGlobal), line: &str, h: u8, text: &str) {
     let mut out = Stream::new(Vec::<u8>::new(rt.alloc()));
-    write_step(&mut out, h, &board.apply(h)).expect(rt, text);
-    out.into_inner().strip_suffix(b"\n") == Some(text.as_bytes())
+    write_step(&mut out, h, &step(rt, line, h)).expect(rt, text);
+    assert!(rt; out.into_inner().strip_suffix(b"\n") == Some(text.as_bytes()), "{line}");
 }
 
 #[test]
 fn a_step_is_written_as_it_is_printed(rt: HostRuntime) {
     for (line, h, text) in STEPS {
-        assert!(rt; is_written(&rt, line, h, text), "{line}");
+        assert_written(&rt, line, h, text);
     }
 }
 
@@ -68,26 +72,26 @@ fn lines_with_each_number_of_seeds_in_a_store(rt: HostRuntime) {
     }
 }
 
-// Whether house 1 captures all but three seeds.
-fn captures_all(rt: &(impl Abort + AllocGlobal), seeds: u8) -> bool {
+// House 1 captures all but three seeds.
+fn assert_captures_all(rt: &(impl Abort + AllocGlobal), seeds: u8) {
     let line = format!(in rt.alloc(); "3/99 {seeds}/0").expect(rt, "no memory");
     let text = format!(in rt.alloc(); "1 0/{} 0/0 over", 102 + seeds as u32);
-    text_of_move(rt, line.as_str(), 1) == text.expect(rt, "no memory")
+    assert_printed(rt, line.as_str(), 1, text.expect(rt, "no memory").as_str());
 }
 
-// Whether one seed ends the game, and the other player keeps all others.
-fn leaves_all(rt: &(impl Abort + AllocGlobal), seeds: u8) -> bool {
+// One seed ends the game, and the other player keeps all others.
+fn assert_leaves_all(rt: &(impl Abort + AllocGlobal), seeds: u8) {
     let line = format!(in rt.alloc(); "1/0 {seeds}/99").expect(rt, "no memory");
     let text = format!(in rt.alloc(); "1 0/1 0/{} over", 99 + seeds as u32);
-    text_of_move(rt, line.as_str(), 1) == text.expect(rt, "no memory")
+    assert_printed(rt, line.as_str(), 1, text.expect(rt, "no memory").as_str());
 }
 
 #[test]
 fn steps_that_fill_a_store(rt: HostRuntime) {
     for seeds in 1..29u8 {
-        assert!(rt; captures_all(&rt, seeds), "{seeds}");
+        assert_captures_all(&rt, seeds);
     }
     for seeds in 1..31u8 {
-        assert!(rt; leaves_all(&rt, seeds), "{seeds}");
+        assert_leaves_all(&rt, seeds);
     }
 }
