@@ -20,104 +20,130 @@ pub(crate) fn mark(alloc: Global, place: &'static str) -> Result<(), Fail> {
 }
 
 // The position of a line.
-fn read(rt: &(impl Abort + AllocGlobal), line: &str) -> Board {
+fn read(rt: &impl Abort, line: &str) -> Board {
     read_line(line.as_bytes()).expect(rt, line)
 }
 
-// The text of the position of a line, asked for again where memory was refused.
-fn written(rt: &(impl Abort + AllocGlobal), line: &str) -> Result<String, AllocError> {
-    let alloc = rt.alloc();
-    let board = read_line(line.as_bytes()).expect(rt, line);
-    match line_text(alloc, &board) {
-        Ok(text) => Ok(text),
-        Err(_) => line_text(alloc, &board),
-    }
+// The step of house 2 of a position.
+fn step_of_house_2(rt: &impl Abort, board: &Board) -> Step {
+    assert!(rt; board.is_legal(2));
+    board.apply(2)
 }
 
-// The text of a move of house 2, asked for again where memory was refused.
-fn step_written(alloc: Global, step: &Step) -> Result<String, AllocError> {
-    step_text(alloc, 2, step).or_else(|_| step_text(alloc, 2, step))
+// The text, which was asked for again where memory was refused, is this.
+fn assert_text(
+    rt: &impl Abort,
+    text: Result<String, AllocError>,
+    want: &str,
+) -> Result<(), AllocError> {
+    assert!(rt; text?.as_str() == want);
+    Ok(())
+}
+
+// A line is written as it was read.
+fn assert_read_back(rt: &(impl Abort + AllocGlobal), line: &str) -> Result<(), AllocError> {
+    let board = read_line(line.as_bytes()).expect(rt, line);
+    let text = match line_text(rt.alloc(), &board) {
+        Ok(text) => Ok(text),
+        Err(_) => line_text(rt.alloc(), &board),
+    };
+    assert_text(rt, text, line)
+}
+
+// The text of a move of house 2.
+fn assert_move(rt: &(impl Abort + AllocGlobal), line: &str, want: &str) -> Result<(), AllocError> {
+    let step = step_of_house_2(rt, &read(rt, line));
+    let text = step_text(rt.alloc(), 2, &step);
+    assert_text(rt, text.or_else(|_| step_text(rt.alloc(), 2, &step)), want)
 }
 
 #[test]
 fn texts_of_positions_and_moves(rt: HostRuntime) -> Result<(), Fail> {
-    let alloc = rt.alloc();
-    for line in ["1,1/0 1,1/0", "1,2,3,4,5,0/10 0,0,0,0,0,9/88 e"] {
-        assert!(rt; written(&rt, line)?.as_str() == line);
-    }
-    let board = read(&rt, "1,1/0 1,1/0");
-    assert!(rt; board.is_legal(2));
-    let text = step_written(alloc, &board.apply(2))?;
-    assert!(rt; text.as_str() == "2 1,0/1 1,1/0 again");
-    mark(alloc, "after all")
+    assert_read_back(&rt, "1,1/0 1,1/0")?;
+    assert_read_back(&rt, "1,2,3,4,5,0/10 0,0,0,0,0,9/88 e")?;
+    assert_move(&rt, "1,1/0 1,1/0", "2 1,0/1 1,1/0 again")?;
+    mark(rt.alloc(), "after all")
+}
+
+// The answer to the second line of a file.
+fn assert_answer(
+    rt: &(impl Abort + AllocGlobal),
+    name: &str,
+    answer: Answer,
+    want: &str,
+) -> Result<(), AllocError> {
+    let taken = Taken { line: 1, answer };
+    let text = answer_text(rt.alloc(), name, &taken);
+    assert_text(
+        rt,
+        text.or_else(|_| answer_text(rt.alloc(), name, &taken)),
+        want,
+    )
 }
 
 #[test]
 fn texts_of_answers(rt: HostRuntime) -> Result<(), Fail> {
-    let alloc = rt.alloc();
-    for (answer, want) in [
-        (
-            Answer::Best {
-                margin: -2,
-                house: 1,
-            },
-            "name of a file:2 -2 house 1",
-        ),
-        (Answer::Over { margin: -130 }, "name of a file:2 -130 over"),
-        (
-            Answer::Fault(LineFault::Houses),
-            "name of a file:2 fault houses",
-        ),
-    ] {
-        let taken = Taken { line: 1, answer };
-        let text = answer_text(alloc, "name of a file", &taken);
-        let text = text.or_else(|_| answer_text(alloc, "name of a file", &taken))?;
-        assert!(rt; text.as_str() == want);
-    }
-    mark(alloc, "after all")
+    let name = "name of a file";
+    let best = Answer::Best {
+        margin: -2,
+        house: 1,
+    };
+    assert_answer(&rt, name, best, "name of a file:2 -2 house 1")?;
+    let over = Answer::Over { margin: -130 };
+    assert_answer(&rt, name, over, "name of a file:2 -130 over")?;
+    let fault = Answer::Fault(LineFault::Houses);
+    assert_answer(&rt, name, fault, "name of a file:2 fault houses")?;
+    mark(rt.alloc(), "after all")
+}
+
+// A solver with the smallest table, asked for again where memory was refused.
+fn new_solver(alloc: Global) -> Result<Solver, AllocError> {
+    let table = Table::new(alloc, 1).or_else(|_| Table::new(alloc, 1))?;
+    Ok(Solver::new(table))
 }
 
 // The values of the moves of the position of a line.
 fn values_of(rt: &(impl Abort + AllocGlobal), line: &str) -> Result<Answer, AllocError> {
-    let table = Table::new(rt.alloc(), 1).or_else(|_| Table::new(rt.alloc(), 1))?;
-    let board = read(rt, line);
-    Ok(Outcome::of(0, 1, Entry::ValuesOf(board), &mut Solver::new(table)).answer())
+    let entry = Entry::ValuesOf(read(rt, line));
+    Ok(Outcome::of(0, 1, entry, &mut new_solver(rt.alloc())?).answer())
 }
 
 #[test]
 fn texts_of_values(rt: HostRuntime) -> Result<(), Fail> {
-    let alloc = rt.alloc();
     let answer = values_of(&rt, "1,1/0 1,1/0")?;
-    let taken = Taken { line: 1, answer };
-    let text = answer_text(alloc, "a", &taken).or_else(|_| answer_text(alloc, "a", &taken))?;
-    assert!(rt; text.as_str() == "a:2 1:-2 2:2");
-    mark(alloc, "after all")
+    assert_answer(&rt, "a", answer, "a:2 1:-2 2:2")?;
+    mark(rt.alloc(), "after all")
 }
 
-// Whether the line has the fault of this word.
-fn is_fault(line: &str, word: &str) -> bool {
+// The word of the fault of a line, or `read`.
+fn told(line: &str) -> &'static str {
     match read_line(line.as_bytes()) {
-        Ok(_) => false,
-        Err(fault) => fault.word() == word,
+        Ok(_) => "read",
+        Err(fault) => fault.word(),
+    }
+}
+
+// Lines, and what is told of each.
+const LINES: &[(&str, &str)] = &[
+    ("1,1/0 1,1/0", "read"),
+    ("31/99 0/0 e", "read"),
+    ("", "empty"),
+    ("01/0 1/0", "shape"),
+    ("1,1/0 1/0", "houses"),
+    ("16/0 16/0", "seeds"),
+];
+
+fn assert_lines_are_told(rt: &impl Abort) {
+    for (line, word) in LINES {
+        assert!(rt; told(line) == *word, "{word}");
     }
 }
 
 #[test]
 fn lines_are_read_without_memory(rt: HostRuntime) -> Result<(), Fail> {
-    let alloc = rt.alloc();
-    mark(alloc, "before the calls without memory")?;
-    for line in ["1,1/0 1,1/0", "31/99 0/0 e"] {
-        assert!(rt; read_line(line.as_bytes()).is_ok());
-    }
-    for (line, word) in [
-        ("", "empty"),
-        ("01/0 1/0", "shape"),
-        ("1,1/0 1/0", "houses"),
-        ("16/0 16/0", "seeds"),
-    ] {
-        assert!(rt; is_fault(line, word), "{word}");
-    }
-    mark(alloc, "after all")
+    mark(rt.alloc(), "before the calls without memory")?;
+    assert_lines_are_told(&rt);
+    mark(rt.alloc(), "after all")
 }
 
 // A stream of a writer that has all its room.
@@ -128,57 +154,53 @@ fn roomy_stream(alloc: Global) -> Result<Stream<Vec<u8>>, Fail> {
     Ok(Stream::new(room))
 }
 
-// This was written into the stream.
-fn assert_written(rt: &(impl Abort + AllocGlobal), out: Stream<Vec<u8>>, want: &str) {
-    assert!(rt; out.into_inner().as_slice() == want.as_bytes());
+// Writes the answer to a line of a file.
+fn write(rt: &impl Abort, out: &mut Stream<Vec<u8>>, line: u32, answer: Answer) {
+    assert!(rt; !out.failed());
+    write_answer(out, "a", &Taken { line, answer }).expect(rt, "not written");
 }
 
 // Writes three answer lines.
-fn write_answers(rt: &(impl Abort + AllocGlobal), out: &mut Stream<Vec<u8>>) {
-    for (line, answer) in [
-        (
-            0,
-            Answer::Best {
-                margin: -2,
-                house: 1,
-            },
-        ),
-        (1, Answer::Over { margin: 114 }),
-        (2, Answer::Fault(LineFault::Seeds)),
-    ] {
-        assert!(rt; !out.failed());
-        write_answer(out, "a", &Taken { line, answer }).expect(rt, "not written");
-    }
+fn write_answers(rt: &impl Abort, out: &mut Stream<Vec<u8>>) {
+    let best = Answer::Best {
+        margin: -2,
+        house: 1,
+    };
+    write(rt, out, 0, best);
+    write(rt, out, 1, Answer::Over { margin: 114 });
+    write(rt, out, 2, Answer::Fault(LineFault::Seeds));
     assert!(rt; !out.failed());
     out.flush().expect(rt, "not flushed");
 }
 
+// This was written into the stream.
+fn assert_written(rt: &impl Abort, out: Stream<Vec<u8>>, want: &str) {
+    assert!(rt; out.into_inner().as_slice() == want.as_bytes());
+}
+
 #[test]
 fn answers_are_written_without_memory(rt: HostRuntime) -> Result<(), Fail> {
-    let alloc = rt.alloc();
-    let mut out = roomy_stream(alloc)?;
+    let mut out = roomy_stream(rt.alloc())?;
     write_answers(&rt, &mut out);
-    mark(alloc, "after all")?;
     let want = "a:1 -2 house 1\na:2 114 over\na:3 fault seeds\n";
     assert_written(&rt, out, want);
-    Ok(())
+    mark(rt.alloc(), "after all")
 }
 
 // Writes the move of house 2 of a position, and draws the position.
-fn write_move(rt: &(impl Abort + AllocGlobal), out: &mut Stream<Vec<u8>>) {
+fn write_move(rt: &impl Abort, out: &mut Stream<Vec<u8>>) {
     let board = read(rt, "1,1/0 1,1/0");
-    assert!(rt; !out.failed() && board.is_legal(2));
-    write_step(out, 2, &board.apply(2)).expect(rt, "not written");
+    let step = step_of_house_2(rt, &board);
+    assert!(rt; !out.failed());
+    write_step(out, 2, &step).expect(rt, "not written");
     write_picture(out, &board).expect(rt, "not drawn");
 }
 
 #[test]
 fn moves_and_boards_are_written_without_memory(rt: HostRuntime) -> Result<(), Fail> {
-    let alloc = rt.alloc();
-    let mut out = roomy_stream(alloc)?;
+    let mut out = roomy_stream(rt.alloc())?;
     write_move(&rt, &mut out);
-    mark(alloc, "after all")?;
     let want = "2 1,0/1 1,1/0 again\n       1   1\n   0           0\n       1   1\n";
     assert_written(&rt, out, want);
-    Ok(())
+    mark(rt.alloc(), "after all")
 }

@@ -6,7 +6,7 @@ mod want_of_memory;
 use crate::{Answer, Collector, Entry, FileText, Jobs, LineFault, Outcome, Refusal, Taken};
 use Refusal::{Double, FileEnded, NoSuchFile, NoSuchLine, WrongPosition};
 use kalah_rules::{Board, Rule};
-use kalah_solve::{Solver, Table};
+use kalah_solve::Solver;
 use std::alloc::{AllocError, Global};
 use std::process::Abort;
 
@@ -25,21 +25,61 @@ struct Trial {
 impl Trial {
     // For the jobs of two files, to which nothing has come.
     fn new(rt: &(impl Abort + AllocGlobal)) -> Trial {
-        let files = two_texts(rt.alloc()).expect(rt, "no memory");
-        let jobs = Jobs::of_files(rt.alloc(), files.as_slice()).expect(rt, "no jobs");
-        let collector = Collector::new(rt.alloc(), &jobs).expect(rt, "no memory");
-        let solver = Solver::new(Table::new(rt.alloc(), 16).expect(rt, "no memory"));
-        Trial {
-            jobs,
-            collector,
-            solver,
-        }
+        want_of_memory::trial_of(rt).expect(rt, "no memory")
     }
 
     // Offers a line that says `entry`.
     fn offer(&mut self, (file, line): (u32, u32), entry: Entry) -> Answered {
         let outcome = Outcome::of(file, line, entry, &mut self.solver);
         self.collector.offer(&self.jobs, outcome)
+    }
+
+    // Offers a line that says `entry`, which is answered so.
+    fn assert_answers(
+        &mut self,
+        rt: &impl Abort,
+        place: (u32, u32),
+        entry: Entry,
+        answered: Answered,
+    ) {
+        let told = self.offer(place, entry);
+        assert!(rt; told == answered, "{place:?} with {entry:?}");
+    }
+
+    // Offers a line with so many seeds, which is answered so.
+    fn assert_offer(&mut self, rt: &impl Abort, place: (u32, u32), seeds: u8, answered: Answered) {
+        self.assert_answers(rt, place, one_house(rt, seeds, Rule::Classic), answered);
+    }
+
+    // Takes this line of the first file, with the margin of best play.
+    fn assert_takes(&mut self, rt: &impl Abort, line: u32, margin: i32) {
+        let answer = Answer::Best { margin, house: 1 };
+        assert!(rt; self.collector.take(0) == Some(Taken { line, answer }));
+    }
+
+    // There is no line of this file to be taken.
+    fn assert_takes_none(&mut self, rt: &impl Abort, f: u32) {
+        assert!(rt; self.collector.take(f).is_none(), "of file {f}");
+    }
+
+    // Takes the three lines of the first file, each once, with the margins of best play, and nothing else.
+    fn assert_takes_all(&mut self, rt: &impl Abort) {
+        assert!(rt; !self.collector.all_taken());
+        self.assert_takes(rt, 0, 0);
+        self.assert_takes(rt, 1, -2);
+        self.assert_takes(rt, 2, 6);
+        for f in [0, 1, 9] {
+            self.assert_takes_none(rt, f);
+        }
+        assert!(rt; self.collector.all_taken());
+    }
+
+    // Makes each offer, after which all is there to be taken.
+    fn assert_each_offer(&mut self, rt: &impl Abort) {
+        for (place, seeds, (_, _, own)) in EACH_OFFER {
+            self.assert_offer(rt, *place, *seeds, *own);
+        }
+        self.assert_takes_all(rt);
     }
 }
 
@@ -64,105 +104,111 @@ fn two_texts(alloc: Global) -> Result<Vec<FileText>, AllocError> {
     Ok(files)
 }
 
-// Offers lines with so many seeds, one after the other, each of which is answered so.
-fn assert_offers(rt: &impl Abort, trial: &mut Trial, offers: &[((u32, u32), u8, Answered)]) {
-    for (place, seeds, answered) in offers {
-        let entry = one_house(rt, *seeds, Rule::Classic);
-        let told = trial.offer(*place, entry);
-        assert!(rt; told == *answered, "{place:?} with {seeds} seeds");
-    }
-}
+// What is answered to a stranger for the line past the last of the first file, to a stranger with the offer's own file and
+// line and another entry, and to the offer itself.
+type EachAnswered = (Answered, Answered, Answered);
 
-// Takes the three lines of the first file, each once, with the margins of best play, and nothing else.
-fn assert_takes_all(rt: &impl Abort, collector: &mut Collector) {
-    assert!(rt; !collector.all_taken());
-    for (line, margin) in [(0, 0), (1, -2), (2, 6)] {
-        let answer = Answer::Best { margin, house: 1 };
-        assert!(rt; collector.take(0) == Some(Taken { line, answer }));
-    }
-    for f in [0, 1, 9] {
-        assert!(rt; collector.take(f).is_none(), "of file {f}");
-    }
-    assert!(rt; collector.all_taken());
-}
+const PAST: Answered = Err(NoSuchLine);
 
-// An offer of each kind, and its answer.
-const EACH_OFFER: [((u32, u32), u8, Answered); 10] = [
-    ((0, 2), 3, Ok(0)),
-    ((0, 0), 1, Ok(1)),
-    ((0, 0), 1, Err(Double)),
-    ((0, 0), 2, Err(WrongPosition)),
-    ((0, 3), 1, Err(NoSuchLine)),
-    ((2, 0), 1, Err(NoSuchFile)),
-    ((0, 1), 2, Ok(2)),
-    ((0, 1), 2, Err(FileEnded)),
-    ((0, 7), 1, Err(FileEnded)),
-    ((1, 0), 1, Err(FileEnded)),
+const WRONG: Answered = Err(WrongPosition);
+
+const NOWHERE: Answered = Err(NoSuchFile);
+
+const ENDED: Answered = Err(FileEnded);
+
+// An offer of each kind, and its answers.
+const EACH_OFFER: &[((u32, u32), u8, EachAnswered)] = &[
+    ((0, 2), 3, (PAST, WRONG, Ok(0))),
+    ((0, 0), 1, (PAST, WRONG, Ok(1))),
+    ((0, 0), 1, (PAST, WRONG, Err(Double))),
+    ((0, 0), 2, (PAST, WRONG, WRONG)),
+    ((0, 3), 1, (PAST, PAST, PAST)),
+    ((2, 0), 1, (PAST, NOWHERE, NOWHERE)),
+    ((0, 1), 2, (PAST, WRONG, Ok(2))),
+    ((0, 1), 2, (ENDED, ENDED, ENDED)),
+    ((0, 7), 1, (ENDED, ENDED, ENDED)),
+    ((1, 0), 1, (ENDED, ENDED, ENDED)),
 ];
 
-// Makes these offers, after which all is there to be taken.
-fn assert_each_offer(rt: &impl Abort, mut trial: Trial) {
-    assert_offers(rt, &mut trial, &EACH_OFFER);
-    assert_takes_all(rt, &mut trial.collector);
+// Every line of a file is ready or taken, or not.
+fn assert_ended(rt: &impl Abort, trial: &Trial, f: u32, ended: bool) {
+    assert!(rt; trial.collector.ended(f) == ended, "of file {f}");
 }
 
 #[test]
 fn answers_each_offer(rt: HostRuntime) {
-    let trial = Trial::new(&rt);
-    for (f, ended) in [(0, false), (1, true), (2, false)] {
-        assert!(rt; trial.collector.ended(f) == ended, "of file {f}");
-    }
-    assert_each_offer(&rt, trial);
+    let mut trial = Trial::new(&rt);
+    assert_ended(&rt, &trial, 0, false);
+    assert_ended(&rt, &trial, 1, true);
+    assert_ended(&rt, &trial, 2, false);
+    trial.assert_each_offer(&rt);
+}
+
+// Gives the lines once each, where the second one comes first.
+fn assert_gives_each_once(rt: &impl Abort, trial: &mut Trial) {
+    trial.assert_offer(rt, (0, 1), 2, Ok(0));
+    trial.assert_takes_none(rt, 0);
+    trial.assert_offer(rt, (0, 0), 1, Ok(2));
+    trial.assert_offer(rt, (0, 2), 3, Ok(1));
+    assert_ended(rt, trial, 0, true);
+    trial.assert_takes_all(rt);
 }
 
 #[test]
 fn gives_each_line_once(rt: HostRuntime) {
-    let mut trial = Trial::new(&rt);
-    assert_offers(&rt, &mut trial, &[((0, 1), 2, Ok(0))]);
-    assert!(rt; trial.collector.take(0).is_none());
-    assert_offers(&rt, &mut trial, &[((0, 0), 1, Ok(2)), ((0, 2), 3, Ok(1))]);
-    assert!(rt; trial.collector.ended(0));
-    assert_takes_all(&rt, &mut trial.collector);
+    assert_gives_each_once(&rt, &mut Trial::new(&rt));
 }
 
-// Offers the lines of the first file in this order, and each makes so many lines ready.
-fn assert_ready(rt: &(impl Abort + AllocGlobal), offers: [((u32, u8), u32); 3]) {
-    let mut trial = Trial::new(rt);
+// The lines of the first file, with their seeds.
+const ONE: (u32, u8) = (0, 1);
+
+const TWO: (u32, u8) = (1, 2);
+
+const THREE: (u32, u8) = (2, 3);
+
+// The lines in each order, and how many become ready by each.
+const ORDERS: &[[((u32, u8), u32); 3]] = &[
+    [(ONE, 1), (TWO, 1), (THREE, 1)],
+    [(ONE, 1), (THREE, 0), (TWO, 2)],
+    [(TWO, 0), (ONE, 2), (THREE, 1)],
+    [(TWO, 0), (THREE, 0), (ONE, 3)],
+    [(THREE, 0), (ONE, 1), (TWO, 2)],
+    [(THREE, 0), (TWO, 0), (ONE, 3)],
+];
+
+// Offers the lines in this order.
+fn assert_ready(rt: &impl Abort, trial: &mut Trial, offers: &[((u32, u8), u32)]) {
     for ((line, seeds), ready) in offers {
-        assert_offers(rt, &mut trial, &[((0, line), seeds, Ok(ready))]);
+        trial.assert_offer(rt, (0, *line), *seeds, Ok(*ready));
     }
 }
 
 #[test]
 fn releases_lines_in_order(rt: HostRuntime) {
-    let (one, two, three) = ((0, 1), (1, 2), (2, 3));
-    for offers in [
-        [(one, 1), (two, 1), (three, 1)],
-        [(one, 1), (three, 0), (two, 2)],
-        [(two, 0), (one, 2), (three, 1)],
-        [(two, 0), (three, 0), (one, 3)],
-        [(three, 0), (one, 1), (two, 2)],
-        [(three, 0), (two, 0), (one, 3)],
-    ] {
-        assert_ready(&rt, offers);
+    for offers in ORDERS {
+        assert_ready(&rt, &mut Trial::new(&rt), offers);
     }
+}
+
+// Refuses the first line once it was taken.
+fn assert_refuses_taken(rt: &impl Abort, trial: &mut Trial) {
+    trial.assert_offer(rt, (0, 0), 1, Ok(1));
+    trial.assert_takes(rt, 0, 0);
+    trial.assert_offer(rt, (0, 0), 1, Err(Double));
+    trial.assert_takes_none(rt, 0);
 }
 
 #[test]
 fn refuses_a_line_that_was_taken(rt: HostRuntime) {
-    let mut trial = Trial::new(&rt);
-    assert_offers(&rt, &mut trial, &[((0, 0), 1, Ok(1))]);
-    assert!(rt; trial.collector.take(0).is_some());
-    assert_offers(&rt, &mut trial, &[((0, 0), 1, Err(Double))]);
-    assert!(rt; trial.collector.take(0).is_none());
+    assert_refuses_taken(&rt, &mut Trial::new(&rt));
 }
 
 #[test]
 fn refuses_a_position_under_the_other_rule(rt: HostRuntime) {
     let mut trial = Trial::new(&rt);
     let other = one_house(&rt, 1, Rule::EmptyCapture);
-    assert!(rt; trial.offer((0, 0), other) == Err(WrongPosition));
-    assert_offers(&rt, &mut trial, &[((0, 0), 1, Ok(1))]);
+    trial.assert_answers(&rt, (0, 0), other, WRONG);
+    trial.assert_offer(&rt, (0, 0), 1, Ok(1));
 }
 
 // Offers a line after three strangers: one for a file that is not there, one for a line past the last, and one with the
@@ -170,34 +216,21 @@ fn refuses_a_position_under_the_other_rule(rt: HostRuntime) {
 fn assert_after_strangers(
     rt: &impl Abort,
     trial: &mut Trial,
-    ((file, line), seeds): ((u32, u32), u8),
-    (past, other, own): (Answered, Answered, Answered),
+    place: (u32, u32),
+    seeds: u8,
+    (past, other, own): EachAnswered,
 ) {
-    let strangers = [((5, line), seeds, Err(NoSuchFile)), ((0, 3), seeds, past)];
-    assert_offers(rt, trial, &strangers);
-    let fault = Entry::Bad(LineFault::Empty);
-    assert!(rt; trial.offer((file, line), fault) == other);
-    assert_offers(rt, trial, &[((file, line), seeds, own)]);
+    trial.assert_offer(rt, (5, place.1), seeds, NOWHERE);
+    trial.assert_offer(rt, (0, 3), seeds, past);
+    trial.assert_answers(rt, place, Entry::Bad(LineFault::Empty), other);
+    trial.assert_offer(rt, place, seeds, own);
 }
 
 #[test]
 fn strangers_change_nothing(rt: HostRuntime) {
     let mut trial = Trial::new(&rt);
-    let (past, wrong) = (Err(NoSuchLine), Err(WrongPosition));
-    let (nowhere, double, ended) = (Err(NoSuchFile), Err(Double), Err(FileEnded));
-    for (offer, answered) in [
-        (((0, 2), 3), (past, wrong, Ok(0))),
-        (((0, 0), 1), (past, wrong, Ok(1))),
-        (((0, 0), 1), (past, wrong, double)),
-        (((0, 0), 2), (past, wrong, wrong)),
-        (((0, 3), 1), (past, past, past)),
-        (((2, 0), 1), (past, nowhere, nowhere)),
-        (((0, 1), 2), (past, wrong, Ok(2))),
-        (((0, 1), 2), (ended, ended, ended)),
-        (((0, 7), 1), (ended, ended, ended)),
-        (((1, 0), 1), (ended, ended, ended)),
-    ] {
-        assert_after_strangers(&rt, &mut trial, offer, answered);
+    for (place, seeds, answered) in EACH_OFFER {
+        assert_after_strangers(&rt, &mut trial, *place, *seeds, *answered);
     }
-    assert_takes_all(&rt, &mut trial.collector);
+    trial.assert_takes_all(&rt);
 }

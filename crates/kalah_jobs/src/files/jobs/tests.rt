@@ -41,33 +41,42 @@ fn assert_fault(rt: &(impl Abort + AllocGlobal), files: &[FileText], fault: Jobs
 }
 
 // The job of this number.
-fn job_at(rt: &(impl Abort + AllocGlobal), jobs: &Jobs, n: u32) -> Job {
+fn job_at(rt: &impl Abort, jobs: &Jobs, n: u32) -> Job {
     assert!(rt; n < jobs.total());
     jobs.get(n)
 }
 
-// The jobs of one file of these bytes have these answers, in order.
-fn assert_answers(rt: &(impl Abort + AllocGlobal), bytes: &[u8], answers: &[Answer]) {
-    let jobs = jobs_of(rt, files(rt, &[bytes]).as_slice());
-    assert!(rt; jobs.total() as usize == answers.len());
-    let mut solver = Solver::new(Table::new(rt.alloc(), 16).expect(rt, "no memory"));
-    for (n, answer) in answers.iter().enumerate() {
-        assert_answer(rt, &jobs, n as u32, &mut solver, *answer);
-    }
+// The job of this number is this line of this file, with this fault.
+fn assert_job(rt: &impl Abort, jobs: &Jobs, n: u32, (file, line): (u32, u32), fault: LineFault) {
+    let entry = Entry::Bad(fault);
+    assert!(rt; job_at(rt, jobs, n) == Job { file, line, entry });
 }
 
 // The job of this number is the line of this number of the first file, and has this answer.
-fn assert_answer(
-    rt: &(impl Abort + AllocGlobal),
-    jobs: &Jobs,
-    n: u32,
-    solver: &mut Solver,
-    answer: Answer,
-) {
+fn assert_answer(rt: &impl Abort, jobs: &Jobs, n: u32, solver: &mut Solver, answer: Answer) {
     let job = job_at(rt, jobs, n);
     assert!(rt; (job.file, job.line) == (0, n));
     let outcome = Outcome::of(job.file, job.line, job.entry, solver);
     assert!(rt; outcome.answer() == answer);
+}
+
+// The jobs have these answers, in order.
+fn assert_each_answer(rt: &impl Abort, jobs: &Jobs, solver: &mut Solver, answers: &[Answer]) {
+    assert!(rt; jobs.total() as usize == answers.len());
+    for (n, answer) in answers.iter().enumerate() {
+        assert_answer(rt, jobs, n as u32, solver, *answer);
+    }
+}
+
+// A solver with a small table.
+fn new_solver(rt: &(impl Abort + AllocGlobal)) -> Solver {
+    Solver::new(Table::new(rt.alloc(), 16).expect(rt, "no memory"))
+}
+
+// The jobs of one file of these bytes have these answers, in order.
+fn assert_answers(rt: &(impl Abort + AllocGlobal), bytes: &[u8], answers: &[Answer]) {
+    let jobs = jobs_of(rt, &[file(rt, bytes)]);
+    assert_each_answer(rt, &jobs, &mut new_solver(rt), answers);
 }
 
 // `margin house house`.
@@ -85,7 +94,7 @@ fn more_than_256_files_are_too_many(rt: HostRuntime) {
 // The files are a batch of so many lines, and there is a collector for them.
 fn assert_batch(rt: &(impl Abort + AllocGlobal), files: &[FileText], lines: usize) {
     let jobs = jobs_of(rt, files);
-    assert!(rt; (jobs.files() as usize, jobs.total() as usize) == (files.len(), lines));
+    assert!(rt; jobs.files() as usize == files.len() && jobs.total() as usize == lines);
     Collector::new(rt.alloc(), &jobs).expect(rt, "no memory");
 }
 
@@ -99,7 +108,7 @@ fn there_may_be_any_number_of_files(rt: HostRuntime) {
 }
 
 // Numbers of lines, from few to the most there may be.
-const LINES: [usize; 16] = [
+const LINES: &[usize] = &[
     0, 1, 64, 65, 4096, 4097, 65_535, 65_536, 65_537, 100_000, 262_144, 262_145, 524_289, 777_777,
     999_999, 1_000_000,
 ];
@@ -107,7 +116,7 @@ const LINES: [usize; 16] = [
 #[test]
 fn there_may_be_any_number_of_lines(rt: HostRuntime) {
     for lines in LINES {
-        assert_batch(&rt, &[empty_lines(&rt, lines)], lines);
+        assert_batch(&rt, &[empty_lines(&rt, *lines)], *lines);
     }
 }
 
@@ -129,9 +138,7 @@ fn a_million_lines_are_jobs(rt: HostRuntime) {
     let jobs = jobs_of(&rt, &[empty_lines(&rt, 1_000_000)]);
     assert!(rt; jobs.total() == 1_000_000);
     for n in 0..jobs.total() {
-        let job = jobs.get(n);
-        assert!(rt; job.line == n);
-        assert!(rt; job.entry == Entry::Bad(LineFault::Empty));
+        assert_job(&rt, &jobs, n, (0, n), LineFault::Empty);
     }
 }
 
@@ -166,28 +173,30 @@ fn jobs_of_five_files(rt: &(impl Abort + AllocGlobal)) -> Jobs {
     jobs_of(rt, files(rt, &[b"", b"x\n\n", b"", b"\ny", b""]).as_slice())
 }
 
+// A file has so many lines.
+fn assert_lines(rt: &impl Abort, jobs: &Jobs, f: u32, lines: u32) {
+    assert!(rt; f < jobs.files());
+    assert!(rt; jobs.lines(f) == lines, "of file {f}");
+}
+
 #[test]
 fn each_file_has_its_lines(rt: HostRuntime) {
     let jobs = jobs_of_five_files(&rt);
     assert!(rt; (jobs.files(), jobs.total()) == (5, 4));
-    for (f, lines) in [(0, 0), (1, 2), (2, 0), (3, 2), (4, 0)] {
-        assert!(rt; f < jobs.files());
-        assert!(rt; jobs.lines(f) == lines, "of file {f}");
-    }
+    assert_lines(&rt, &jobs, 0, 0);
+    assert_lines(&rt, &jobs, 1, 2);
+    assert_lines(&rt, &jobs, 2, 0);
+    assert_lines(&rt, &jobs, 3, 2);
+    assert_lines(&rt, &jobs, 4, 0);
 }
 
 #[test]
 fn jobs_run_over_files_and_lines_in_order(rt: HostRuntime) {
     let jobs = jobs_of_five_files(&rt);
-    for (n, file, line, fault) in [
-        (0, 1, 0, LineFault::Shape),
-        (1, 1, 1, LineFault::Empty),
-        (2, 3, 0, LineFault::Empty),
-        (3, 3, 1, LineFault::Shape),
-    ] {
-        let entry = Entry::Bad(fault);
-        assert!(rt; job_at(&rt, &jobs, n) == Job { file, line, entry });
-    }
+    assert_job(&rt, &jobs, 0, (1, 0), LineFault::Shape);
+    assert_job(&rt, &jobs, 1, (1, 1), LineFault::Empty);
+    assert_job(&rt, &jobs, 2, (3, 0), LineFault::Empty);
+    assert_job(&rt, &jobs, 3, (3, 1), LineFault::Shape);
 }
 
 const EMPTY: Answer = Answer::Fault(LineFault::Empty);

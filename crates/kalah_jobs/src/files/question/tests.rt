@@ -20,32 +20,36 @@ fn new_solver(rt: &(impl Abort + AllocGlobal)) -> Solver {
     Solver::new(Table::new(rt.alloc(), 16).expect(rt, "no memory"))
 }
 
-// The answer of the job of this number, as it is written, with a line feed.
-fn written(rt: &(impl Abort + AllocGlobal), jobs: &Jobs, n: u32) -> Vec<u8> {
+// The answer is written so.
+fn assert_written(rt: &(impl Abort + AllocGlobal), name: &str, taken: &Taken, want: &str) {
+    let mut out = Stream::new(Vec::<u8>::new(rt.alloc()));
+    write_answer(&mut out, name, taken).expect(rt, want);
+    assert!(rt; out.into_inner().as_slice() == want.as_bytes(), "{want}");
+}
+
+// The answer of the job of this number.
+fn taken(rt: &(impl Abort + AllocGlobal), jobs: &Jobs, n: u32) -> Taken {
     assert!(rt; n < jobs.total());
     let Job { file, line, entry } = jobs.get(n);
     let answer = Outcome::of(file, line, entry, &mut new_solver(rt)).answer();
-    let mut out = Stream::new(Vec::<u8>::new(rt.alloc()));
-    write_answer(&mut out, "b.txt", &Taken { line, answer }).expect(rt, "not written");
-    out.into_inner()
+    Taken { line, answer }
 }
 
 const LINES: &[u8] = b"1,1/0 1,1/0\n2/0 2/0\n0,0/3 1,2/4\n01/0 1/0\n1,0/0 0,2/0 e";
 
-const VALUES: [&[u8]; 5] = [
-    b"b.txt:1 1:-2 2:2\n",
-    b"b.txt:2 1:-2\n",
-    b"b.txt:3 -4 over\n",
-    b"b.txt:4 fault shape\n",
-    b"b.txt:5 1:-1\n",
+const VALUES: &[&str] = &[
+    "b.txt:1 1:-2 2:2\n",
+    "b.txt:2 1:-2\n",
+    "b.txt:3 -4 over\n",
+    "b.txt:4 fault shape\n",
+    "b.txt:5 1:-1\n",
 ];
 
 #[test]
 fn each_line_is_answered_by_its_values(rt: HostRuntime) {
     let jobs = jobs_of(&rt, LINES);
     for (n, want) in VALUES.iter().enumerate() {
-        let text = written(&rt, &jobs, n as u32);
-        assert!(rt; text.as_slice() == *want, "{want:?}");
+        assert_written(&rt, "b.txt", &taken(&rt, &jobs, n as u32), want);
     }
 }
 
@@ -62,12 +66,10 @@ fn the_values_of_six_moves_are_printed_as_they_are_written(rt: HostRuntime) {
         line: u32::MAX,
         answer,
     };
-    let want = "a:4294967296 1:-96 2:-98 3:-98 4:-92 5:-96 6:-92";
+    let want = "a:4294967296 1:-96 2:-98 3:-98 4:-92 5:-96 6:-92\n";
+    assert_written(&rt, "a", &taken, want);
     let text = answer_text(rt.alloc(), "a", &taken).expect(&rt, "no memory");
-    assert!(rt; text.as_str() == want);
-    let mut out = Stream::new(Vec::<u8>::new(rt.alloc()));
-    write_answer(&mut out, "a", &taken).expect(&rt, "not written");
-    assert!(rt; out.into_inner().strip_suffix(b"\n") == Some(want.as_bytes()));
+    assert!(rt; want.strip_suffix("\n") == Some(text.as_str()));
 }
 
 #[test]

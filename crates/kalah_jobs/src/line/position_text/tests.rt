@@ -34,7 +34,7 @@ fn lines_are_written_as_they_were_read(rt: HostRuntime) {
 }
 
 // Lines, houses that are moved, and the text of these moves.
-const STEPS: [(&str, u8, &str); 6] = [
+const STEPS: &[(&str, u8, &str)] = &[
     ("1,1/0 1,1/0", 1, "1 1,1/0 0,2/0 turn"),
     ("1,1/0 1,1/0", 2, "2 1,0/1 1,1/0 again"),
     ("3/0 3/0", 1, "1 0/6 0/0 over"),
@@ -46,7 +46,7 @@ const STEPS: [(&str, u8, &str); 6] = [
 #[test]
 fn steps_with_their_words(rt: HostRuntime) {
     for (line, h, text) in STEPS {
-        assert_printed(&rt, line, h, text);
+        assert_printed(&rt, line, *h, text);
     }
 }
 
@@ -54,44 +54,64 @@ fn steps_with_their_words(rt: HostRuntime) {
 fn assert_written(rt: &(impl Abort + AllocGlobal), line: &str, h: u8, text: &str) {
     let mut out = Stream::new(Vec::<u8>::new(rt.alloc()));
     write_step(&mut out, h, &step(rt, line, h)).expect(rt, text);
-    assert!(rt; out.into_inner().strip_suffix(b"\n") == Some(text.as_bytes()), "{line}");
+    assert!(rt;
+        out.into_inner().strip_suffix(b"\n") == Some(text.as_bytes()),
+        "{line}"
+    );
 }
 
 #[test]
 fn a_step_is_written_as_it_is_printed(rt: HostRuntime) {
     for (line, h, text) in STEPS {
-        assert_written(&rt, line, h, text);
+        assert_written(&rt, line, *h, text);
     }
+}
+
+// A line is read back whose first store holds so many seeds.
+fn assert_store(rt: &(impl Abort + AllocGlobal), seeds: u8) {
+    assert!(rt; seeds <= 99);
+    let line = format!(in rt.alloc(); "1/{seeds} 1/{}", 99 - seeds);
+    assert_read_back(rt, line.expect(rt, "no memory").as_str());
 }
 
 #[test]
 fn lines_with_each_number_of_seeds_in_a_store(rt: HostRuntime) {
     for seeds in 0..100u8 {
-        let line = format!(in rt.alloc(); "1/{seeds} 1/{}", 99 - seeds);
-        assert_read_back(&rt, line.expect(&rt, "no memory").as_str());
+        assert_store(&rt, seeds);
     }
 }
 
-// House 1 captures all but three seeds.
-fn assert_captures_all(rt: &(impl Abort + AllocGlobal), seeds: u8) {
-    let line = format!(in rt.alloc(); "3/99 {seeds}/0").expect(rt, "no memory");
-    let text = format!(in rt.alloc(); "1 0/{} 0/0 over", 102 + seeds as u32);
-    assert_printed(rt, line.as_str(), 1, text.expect(rt, "no memory").as_str());
+// A number between two texts.
+fn between(rt: &(impl Abort + AllocGlobal), (before, number, after): (&str, u32, &str)) -> String {
+    format!(in rt.alloc(); "{before}{number}{after}").expect(rt, "no memory")
 }
 
-// One seed ends the game, and the other player keeps all others.
-fn assert_leaves_all(rt: &(impl Abort + AllocGlobal), seeds: u8) {
-    let line = format!(in rt.alloc(); "1/0 {seeds}/99").expect(rt, "no memory");
-    let text = format!(in rt.alloc(); "1 0/1 0/{} over", 99 + seeds as u32);
-    assert_printed(rt, line.as_str(), 1, text.expect(rt, "no memory").as_str());
+// The move of house 1 from the position of a line has this text.
+fn assert_fills(rt: &(impl Abort + AllocGlobal), line: (&str, u32, &str), text: (&str, u32, &str)) {
+    assert_printed(
+        rt,
+        between(rt, line).as_str(),
+        1,
+        between(rt, text).as_str(),
+    );
 }
 
 #[test]
 fn steps_that_fill_a_store(rt: HostRuntime) {
-    for seeds in 1..29u8 {
-        assert_captures_all(&rt, seeds);
+    // House 1 captures all but three seeds.
+    for seeds in 1..29u32 {
+        assert_fills(
+            &rt,
+            ("3/99 ", seeds, "/0"),
+            ("1 0/", 102 + seeds, " 0/0 over"),
+        );
     }
-    for seeds in 1..31u8 {
-        assert_leaves_all(&rt, seeds);
+    // One seed ends the game, and the other player keeps all others.
+    for seeds in 1..31u32 {
+        assert_fills(
+            &rt,
+            ("1/0 ", seeds, "/99"),
+            ("1 0/1 0/", 99 + seeds, " over"),
+        );
     }
 }

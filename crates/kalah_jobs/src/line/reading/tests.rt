@@ -18,36 +18,40 @@ fn assert_reads(rt: &impl Abort, line: &[u8], own: (u8, u8), other: (u8, u8), ru
     assert!(rt; Entry::of_line(Question::BestMove, line) == Entry::Position(board));
 }
 
+const OTHER_SHAPES: &[&[u8]] = &[
+    b"01/0 1/0",
+    b"1/100 1/0",
+    b"100/0 1/0",
+    b"-1/0 1/0",
+    b"1/0  1/0",
+    b"1/0\t1/0",
+    b"1/0",
+    b"/0 /0",
+    b"1,,1/0 1/0",
+    b"1/0 1/0\0",
+    b"\xef\xbb\xbf1/0 1/0",
+    b"\xff\xfe",
+];
+
 #[test]
 fn lines_of_another_shape(rt: HostRuntime) {
-    for line in [
-        b"01/0 1/0".as_slice(),
-        b"1/100 1/0",
-        b"100/0 1/0",
-        b"-1/0 1/0",
-        b"1/0  1/0",
-        b"1/0\t1/0",
-        b"1/0",
-        b"/0 /0",
-        b"1,,1/0 1/0",
-        b"1/0 1/0\0",
-        b"\xef\xbb\xbf1/0 1/0",
-        b"\xff\xfe",
-    ] {
+    for line in OTHER_SHAPES {
         assert_fault(&rt, line, LineFault::Shape);
     }
 }
 
+const OTHER_ENDINGS: &[&[u8]] = &[
+    b"1/0 1/0\r\r",
+    b"1/0 1/0 E",
+    b"1/0 1/0  e",
+    b"1/0 1/0e",
+    b"1/0 1/0 e ",
+    b"1/0 1/0 ",
+];
+
 #[test]
 fn endings_of_another_shape(rt: HostRuntime) {
-    for line in [
-        b"1/0 1/0\r\r".as_slice(),
-        b"1/0 1/0 E",
-        b"1/0 1/0  e",
-        b"1/0 1/0e",
-        b"1/0 1/0 e ",
-        b"1/0 1/0 ",
-    ] {
+    for line in OTHER_ENDINGS {
         assert_fault(&rt, line, LineFault::Shape);
     }
 }
@@ -70,34 +74,28 @@ fn lines_of_no_bytes(rt: HostRuntime) {
 
 #[test]
 fn other_houses_and_too_many_seeds(rt: HostRuntime) {
-    for line in [
-        b"1,1/0 1/0".as_slice(),
-        b"1,1/0 16/0",
-        b"1,0,0,0,0,0,0/0 1,0,0,0,0,0,0/0",
-    ] {
-        assert_fault(&rt, line, LineFault::Houses);
-    }
-    for line in [b"16/0 16/0".as_slice(), b"99/0 99/0"] {
-        assert_fault(&rt, line, LineFault::Seeds);
-    }
+    assert_fault(&rt, b"1,1/0 1/0", LineFault::Houses);
+    assert_fault(&rt, b"1,1/0 16/0", LineFault::Houses);
+    assert_fault(&rt, b"1,0,0,0,0,0,0/0 1,0,0,0,0,0,0/0", LineFault::Houses);
+    assert_fault(&rt, b"16/0 16/0", LineFault::Seeds);
+    assert_fault(&rt, b"99/0 99/0", LineFault::Seeds);
 }
+
+// Lines that are read as boards of one house a side: the seeds and the store of each side, and the rule.
+const READ: &[(&[u8], (u8, u8), (u8, u8), Rule)] = &[
+    (b"8/0 7/0", (8, 0), (7, 0), Rule::Classic),
+    (b"8/0 8/0", (8, 0), (8, 0), Rule::Classic),
+    (b"16/0 15/0", (16, 0), (15, 0), Rule::Classic),
+    (b"31/99 0/0", (31, 99), (0, 0), Rule::Classic),
+    (b"1/0 1/0\r", (1, 0), (1, 0), Rule::Classic),
+    (b"0/0 0/0 e", (0, 0), (0, 0), Rule::EmptyCapture),
+    (b"3/10 3/0 e\r", (3, 10), (3, 0), Rule::EmptyCapture),
+];
 
 #[test]
 fn lines_that_are_read(rt: HostRuntime) {
-    for (line, own, other) in [
-        (b"8/0 7/0".as_slice(), (8, 0), (7, 0)),
-        (b"8/0 8/0", (8, 0), (8, 0)),
-        (b"16/0 15/0", (16, 0), (15, 0)),
-        (b"31/99 0/0", (31, 99), (0, 0)),
-        (b"1/0 1/0\r", (1, 0), (1, 0)),
-    ] {
-        assert_reads(&rt, line, own, other, Rule::Classic);
-    }
-    for (line, own, other) in [
-        (b"0/0 0/0 e".as_slice(), (0, 0), (0, 0)),
-        (b"3/10 3/0 e\r", (3, 10), (3, 0)),
-    ] {
-        assert_reads(&rt, line, own, other, Rule::EmptyCapture);
+    for (line, own, other, rule) in READ {
+        assert_reads(&rt, line, *own, *other, *rule);
     }
 }
 

@@ -3,7 +3,7 @@ use kalah_rules::{Board, Step};
 use std::process::Abort;
 
 // Lines, and how their positions are drawn.
-const PICTURES: [(&str, &str); 4] = [
+const PICTURES: &[(&str, &str)] = &[
     ("8/0 23/99", "      23\n  99       0\n       8\n"),
     (
         "1,2,3/4 5,6,7/8",
@@ -19,24 +19,31 @@ const PICTURES: [(&str, &str); 4] = [
     ),
 ];
 
-// Whether the position is drawn so.
-fn is_drawn(rt: &(impl Abort + AllocGlobal), board: &Board, picture: &str) -> bool {
+// The position of a line.
+fn read(rt: &impl Abort, line: &str) -> Board {
+    read_line(line.as_bytes()).expect(rt, line)
+}
+
+// The position is drawn so.
+fn assert_drawn(rt: &(impl Abort + AllocGlobal), board: &Board, picture: &str) {
     let mut out = Stream::new(Vec::<u8>::new(rt.alloc()));
     write_picture(&mut out, board).expect(rt, "not drawn");
-    out.into_inner().as_slice() == picture.as_bytes()
+    assert!(rt;
+        out.into_inner().as_slice() == picture.as_bytes(),
+        "{picture}"
+    );
 }
 
 #[test]
 fn boards_are_drawn_with_the_mover_below(rt: HostRuntime) {
     for (line, picture) in PICTURES {
-        let board = read_line(line.as_bytes()).expect(&rt, line);
-        assert!(rt; is_drawn(&rt, &board, picture), "{line}");
+        assert_drawn(&rt, &read(&rt, line), picture);
     }
 }
 
 // The position after the move of house 1.
-fn after(rt: &(impl Abort + AllocGlobal), line: &str) -> Board {
-    let board = read_line(line.as_bytes()).expect(rt, line);
+fn after(rt: &impl Abort, line: &str) -> Board {
+    let board = read(rt, line);
     assert!(rt; board.is_legal(1));
     match board.apply(1) {
         Step::Again(next) | Step::Turn(next) | Step::Over(next) => next,
@@ -49,6 +56,6 @@ fn a_store_of_three_digits_fills_its_column(rt: HostRuntime) {
         "       0\n 100     100\n       0\n",
         "       0\n   0     130\n       0\n",
     );
-    assert!(rt; is_drawn(&rt, &after(&rt, "1/99 1/99"), one));
-    assert!(rt; is_drawn(&rt, &after(&rt, "3/99 28/0"), most));
+    assert_drawn(&rt, &after(&rt, "1/99 1/99"), one);
+    assert_drawn(&rt, &after(&rt, "3/99 28/0"), most);
 }

@@ -1,9 +1,9 @@
 use crate::{Answer, LineFault, Taken, answer_text};
 use std::process::Abort;
 
-// The answer line of this line of the file `a`.
-fn assert_text(rt: &(impl Abort + AllocGlobal), line: u32, answer: Answer, text: &str) {
-    let printed = answer_text(rt.alloc(), "a", &Taken { line, answer }).expect(rt, text);
+// The answer line of this line of the file `name`.
+fn assert_text(rt: &(impl Abort + AllocGlobal), name: &str, line: u32, answer: Answer, text: &str) {
+    let printed = answer_text(rt.alloc(), name, &Taken { line, answer }).expect(rt, text);
     assert!(rt; printed.as_str() == text, "{text}");
 }
 
@@ -21,7 +21,7 @@ fn each_answer_is_printed_with_the_number_of_its_line(rt: HostRuntime) {
         (2, Answer::Over { margin: -130 }, "a:3 -130 over"),
         (2, Answer::Over { margin: 0 }, "a:3 0 over"),
     ] {
-        assert_text(&rt, line, answer, text);
+        assert_text(&rt, "a", line, answer, text);
     }
 }
 
@@ -35,18 +35,13 @@ fn a_fault_is_printed_by_its_word(rt: HostRuntime) {
         (LineFault::Seeds, "a:1 fault seeds"),
     ];
     for (fault, text) in texts {
-        assert_text(&rt, 0, Answer::Fault(fault), text);
+        assert_text(&rt, "a", 0, Answer::Fault(fault), text);
     }
 }
 
 #[test]
 fn a_name_is_printed_as_it_is(rt: HostRuntime) {
-    let taken = Taken {
-        line: 9,
-        answer: Answer::Over { margin: 1 },
-    };
     for (name, text) in [("a b/ü.txt", "a b/ü.txt:10 1 over"), ("", ":10 1 over")] {
-        let printed = answer_text(rt.alloc(), name, &taken).expect(&rt, text);
-        assert!(rt; printed.as_str() == text, "{text}");
+        assert_text(&rt, name, 9, Answer::Over { margin: 1 }, text);
     }
 }

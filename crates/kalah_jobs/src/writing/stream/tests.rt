@@ -1,8 +1,9 @@
-ghost use Rattle.std.specs.Prelude.{◌≡◌, [], Some};
+ghost use Rattle.std.specs.Prelude.{◌≡◌, [], false, Some};
 
 use crate::{Sink, Stream};
 use std::io;
 use std::io::{ErrorKind, Write};
+use std::process::Abort;
 
 /// Answers an error of its kind at its `fails_at`th call, counted from 1, and at no other.
 #[derive(Drop)]
@@ -114,13 +115,21 @@ fn takes_pieces_of_every_size(rt: HostRuntime) {
     }
 }
 
+// The sink takes the bytes, and has not failed.
+fn assert_takes<W: Sink>(rt: &impl Abort, out: &mut W, bytes: &[u8])
+    ensures { W.has_failed out.new ≡ false }
+{
+    assert!(rt; !out.failed());
+    out.write_all(bytes).expect(rt, "not taken");
+    assert!(rt; !out.failed());
+}
+
 #[test]
 fn gives_the_writer_its_bytes(rt: HostRuntime) {
     let mut out = Stream::new(Vec::<u8>::new(rt.alloc()));
-    assert!(rt; !out.failed());
-    out.write_all(b"1,1/0 ").expect(&rt, "not taken");
-    out.write_all(b"").expect(&rt, "not taken");
-    out.write_all(b"1,1/0").expect(&rt, "not taken");
+    assert_takes(&rt, &mut out, b"1,1/0 ");
+    assert_takes(&rt, &mut out, b"");
+    assert_takes(&rt, &mut out, b"1,1/0");
     out.flush().expect(&rt, "not taken");
     assert!(rt; !out.failed());
     assert!(rt; out.into_inner().as_slice() == b"1,1/0 1,1/0".as_slice());
@@ -129,8 +138,7 @@ fn gives_the_writer_its_bytes(rt: HostRuntime) {
 #[test]
 fn tries_an_interrupted_call_again(rt: HostRuntime) {
     let mut out = Stream::new(FailingOnce::new(&rt, 1, ErrorKind::Interrupted));
-    out.write_all(b"ab").expect(&rt, "not taken");
-    assert!(rt; !out.failed());
+    assert_takes(&rt, &mut out, b"ab");
     let writer = out.into_inner();
     assert!(rt; writer.calls == 2);
     assert!(rt; writer.bytes.as_slice() == b"ab".as_slice());
@@ -147,8 +155,7 @@ fn a_writer_that_takes_no_byte_is_an_error(rt: HostRuntime) {
 #[test]
 fn has_failed_after_an_error(rt: HostRuntime) {
     let mut out = Stream::new(FailingOnce::new(&rt, 2, ErrorKind::BrokenPipe));
-    out.write_all(b"a").expect(&rt, "not taken");
-    assert!(rt; !out.failed());
+    assert_takes(&rt, &mut out, b"a");
     assert!(rt; out.write_all(b"b").is_err());
     assert!(rt; out.failed());
     let writer = out.into_inner();
@@ -172,7 +179,7 @@ fn a_writer_that_fails_has_a_beginning(rt: HostRuntime) {
 #[test]
 fn has_failed_after_a_flush_that_fails(rt: HostRuntime) {
     let mut out = Stream::new(FailingOnce::new(&rt, 2, ErrorKind::StorageFull));
-    out.write_all(b"a").expect(&rt, "not taken");
+    assert_takes(&rt, &mut out, b"a");
     assert!(rt; out.flush().is_err());
     assert!(rt; out.failed());
     assert!(rt; out.into_inner().calls == 2);
@@ -181,7 +188,7 @@ fn has_failed_after_a_flush_that_fails(rt: HostRuntime) {
 #[test]
 fn writes_to_the_standard_output(rt: HostRuntime) {
     let mut out = Stream::new(io::writer(&rt));
-    out.write_all(b"1,1/0 1,1/0\n").expect(&rt, "not taken");
+    assert_takes(&rt, &mut out, b"1,1/0 1,1/0\n");
     out.flush().expect(&rt, "not taken");
     assert!(rt; !out.failed());
 }

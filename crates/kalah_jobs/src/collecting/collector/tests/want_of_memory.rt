@@ -1,31 +1,39 @@
 //! Jobs and their collector with each request for memory refused in turn.
-use super::{Trial, assert_each_offer, one_house, two_texts};
+use super::{ONE, THREE, TWO, Trial, one_house, two_texts};
 use crate::want_of_memory::mark;
-use crate::{Collector, FileText, Job, Jobs, JobsFault};
+use crate::{Collector, Job, Jobs, JobsFault};
 use kalah_rules::Rule;
 use kalah_solve::{Solver, Table};
-use std::alloc::Global;
+use std::alloc::{AllocError, Global};
 use std::process::Abort;
 use std::test::Fail;
 
-// The jobs of the files, asked for again where memory was refused.
-fn jobs_of(rt: &impl Abort, alloc: Global, files: &[FileText]) -> Result<Jobs, Fail> {
-    match Jobs::of_files(alloc, files) {
+// The jobs of two files, asked for again where memory was refused.
+fn jobs_of_two(rt: &(impl Abort + AllocGlobal)) -> Result<Jobs, JobsFault> {
+    let alloc = rt.alloc();
+    let files = two_texts(alloc).or_else(|_| two_texts(alloc))?;
+    match Jobs::of_files(alloc, files.as_slice()) {
         Ok(jobs) => Ok(jobs),
         Err(fault) => {
             assert!(rt; fault == JobsFault::OutOfMemory);
-            Ok(Jobs::of_files(alloc, files)?)
+            Jobs::of_files(alloc, files.as_slice())
         }
     }
 }
 
-// A collector for the jobs, asked for again where memory was refused, and a solver likewise.
-fn trial_of(alloc: Global, jobs: Jobs) -> Result<Trial, Fail> {
+// A solver with a small table, asked for again where memory was refused.
+fn new_solver(alloc: Global) -> Result<Solver, AllocError> {
     let table = Table::new(alloc, 16).or_else(|_| Table::new(alloc, 16))?;
-    let solver = Solver::new(table);
-    let collector = match Collector::new(alloc, &jobs) {
+    Ok(Solver::new(table))
+}
+
+// A collector for the jobs, asked for again where memory was refused, and a solver likewise.
+pub(super) fn trial_of(rt: &(impl Abort + AllocGlobal)) -> Result<Trial, JobsFault> {
+    let jobs = jobs_of_two(rt)?;
+    let solver = new_solver(rt.alloc())?;
+    let collector = match Collector::new(rt.alloc(), &jobs) {
         Ok(collector) => collector,
-        Err(_) => Collector::new(alloc, &jobs)?,
+        Err(_) => Collector::new(rt.alloc(), &jobs)?,
     };
     Ok(Trial {
         jobs,
@@ -34,25 +42,31 @@ fn trial_of(alloc: Global, jobs: Jobs) -> Result<Trial, Fail> {
     })
 }
 
+// The job of this number is the line of this number of the first file, with so many seeds.
+fn assert_job(rt: &impl Abort, jobs: &Jobs, (line, seeds): (u32, u8)) {
+    assert!(rt; line < jobs.total());
+    let entry = one_house(rt, seeds, Rule::Classic);
+    let file = 0;
+    assert!(rt; jobs.get(line) == Job { file, line, entry });
+}
+
 // The jobs are the lines of the first file.
-fn tells_its_jobs(rt: &impl Abort, jobs: &Jobs) {
+fn assert_jobs(rt: &impl Abort, jobs: &Jobs) {
     assert!(rt; (jobs.files(), jobs.total()) == (2, 3));
-    for (line, seeds) in [(0, 1), (1, 2), (2, 3)] {
-        assert!(rt; line < jobs.total());
-        let entry = one_house(rt, seeds, Rule::Classic);
-        let file = 0;
-        assert!(rt; jobs.get(line) == Job { file, line, entry });
-    }
+    assert_job(rt, jobs, ONE);
+    assert_job(rt, jobs, TWO);
+    assert_job(rt, jobs, THREE);
+}
+
+// The jobs and the collector take no memory.
+fn assert_trial(rt: &(impl Abort + AllocGlobal), trial: &mut Trial) -> Result<(), Fail> {
+    mark(rt.alloc(), "before the calls without memory")?;
+    assert_jobs(rt, &trial.jobs);
+    trial.assert_each_offer(rt);
+    mark(rt.alloc(), "after all")
 }
 
 #[test]
 fn jobs_and_their_collector(rt: HostRuntime) -> Result<(), Fail> {
-    let alloc = rt.alloc();
-    let files = two_texts(alloc).or_else(|_| two_texts(alloc))?;
-    let jobs = jobs_of(&rt, alloc, files.as_slice())?;
-    let trial = trial_of(alloc, jobs)?;
-    mark(alloc, "before the calls without memory")?;
-    tells_its_jobs(&rt, &trial.jobs);
-    assert_each_offer(&rt, trial);
-    mark(alloc, "after all")
+    assert_trial(&rt, &mut trial_of(&rt)?)
 }
