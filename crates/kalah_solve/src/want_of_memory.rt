@@ -3,7 +3,7 @@
 //! pass each time, until the request that is refused is one of its own marks.
 use crate::{Solver, Table, Verdict, pack, unpack};
 use kalah_rules::{Board, Houses, Rule};
-use std::alloc::Global;
+use std::alloc::{AllocError, Global};
 use std::process::Abort;
 use std::test::Fail;
 
@@ -13,6 +13,11 @@ fn mark(alloc: Global, place: &'static str) -> Result<(), Fail> {
         Ok(_) => Ok(()),
         Err(_) => Err(Fail::new(place)),
     }
+}
+
+// A table with one entry, asked for again if need be.
+fn new_table(alloc: Global) -> Result<Table, AllocError> {
+    Table::new(alloc, 1).or_else(|_| Table::new(alloc, 1))
 }
 
 const ONES: [u8; 6] = [1, 1, 0, 0, 0, 0];
@@ -27,7 +32,7 @@ fn packs(rt: &impl Abort) {
 #[test]
 fn a_key_and_a_solver_take_no_memory(rt: HostRuntime) -> Result<(), Fail> {
     let alloc = rt.alloc();
-    let table = Table::new(alloc, 1).or_else(|_| Table::new(alloc, 1))?;
+    let table = new_table(alloc)?;
     mark(alloc, "before the calls without memory")?;
     packs(&rt);
     let _solver = Solver::new(table);
@@ -46,7 +51,7 @@ fn tells_both(rt: &impl Abort, solver: &mut Solver) {
 #[test]
 fn one_table_for_two_positions(rt: HostRuntime) -> Result<(), Fail> {
     let alloc = rt.alloc();
-    let table = Table::new(alloc, 1).or_else(|_| Table::new(alloc, 1))?;
+    let table = new_table(alloc)?;
     tells_both(&rt, &mut Solver::new(table));
     mark(alloc, "after all")
 }

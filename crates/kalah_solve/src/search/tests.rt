@@ -2,8 +2,9 @@
 use super::*;
 use kalah_rules::Rule;
 use std::alloc::Global;
+use std::io::Print;
 use std::process::Abort;
-use std::time::Instant;
+use std::time::{Clock, Instant};
 
 // All houses hold the same, as games begin.
 fn begun(rt: &impl Abort, m: u8, seeds: u8) -> Houses {
@@ -19,43 +20,56 @@ fn new_search(rt: &impl Abort, alloc: Global) -> Search {
     Search::new(Table::new(alloc, 65_536).expect(rt, "no memory for a table"))
 }
 
-// What the houses are worth. None where the game is over.
-fn worth_of(search: &mut Search, houses: &Houses) -> Option<i32> {
-    if houses.is_over() {
-        return None;
-    }
-    Some(search.search(houses, Window::whole()))
+// The worth of the houses is this one.
+fn tells_worth(rt: &impl Abort, search: &mut Search, houses: &Houses, worth: i32) {
+    assert!(rt; !houses.is_over());
+    assert!(rt; search.search(houses, Window::whole()) == worth);
 }
 
 // How many nodes games take as they begin, one after another.
 fn nodes_of_games(rt: &impl Abort, search: &mut Search) -> u64 {
     for (m, seeds, worth) in [(2, 7, 8), (3, 5, 6), (4, 3, 6), (5, 3, 6), (6, 2, 6)] {
-        let houses = begun(rt, m, seeds);
-        assert!(rt; worth_of(search, &houses) == Some(worth));
+        tells_worth(rt, search, &begun(rt, m, seeds), worth);
     }
     search.nodes
 }
 
+// With how many nanoseconds.
+fn nodes_and_time(rt: &(impl Abort + Clock), search: &mut Search) -> (u64, u128) {
+    let start = Instant::now(rt).expect(rt, "no clock");
+    let nodes = nodes_of_games(rt, search);
+    (nodes, start.elapsed(rt).expect(rt, "no clock").as_nanos())
+}
+
+// Prints how long each node took.
+fn prints_nodes(rt: &(impl Abort + Print), nodes: u64, took: u128) {
+    let took = took / (nodes as u128).max(1);
+    println!(rt; "{nodes} nodes, {took} ns a node").expect(rt, "no output");
+}
+
 #[test]
 fn games_as_they_begin_take_few_nodes(rt: HostRuntime) {
-    let mut search = new_search(&rt, rt.alloc());
-    let start = Instant::now(&rt).expect(&rt, "no clock");
-    let nodes = nodes_of_games(&rt, &mut search);
-    let took = start.elapsed(&rt).expect(&rt, "no clock").as_nanos();
-    let took = took / (nodes as u128).max(1);
-    println!(rt; "{nodes} nodes, {took} ns a node").expect(&rt, "no output");
+    let (nodes, took) = nodes_and_time(&rt, &mut new_search(&rt, rt.alloc()));
+    prints_nodes(&rt, nodes, took);
     assert!(rt; nodes < 60_000);
 }
 
-// After house 1 of `5,5` against `5,5` the other player has these.
+// Whether nothing is known of the houses by their place.
+fn is_unknown(search: &Search, houses: &Houses) -> bool {
+    search.table.look_up_place(houses) == Share::unknown(houses)
+}
+
+// After house 1 of `5,5` against `5,5` the other player has `next`, of which something is known.
+fn learns_of_next(rt: &impl Abort, search: &mut Search, next: &Houses) {
+    assert!(rt; is_unknown(search, next));
+    tells_worth(rt, search, &begun(rt, 2, 5), 6);
+    assert!(rt; !is_unknown(search, next));
+}
+
 #[test]
 fn what_is_learned_of_a_move_is_kept_in_its_place(rt: HostRuntime) {
-    let houses = begun(&rt, 2, 5);
     let own = [6, 0, 0, 0, 0, 0];
     let other = [0, 6, 0, 0, 0, 0];
     let next = Houses::new(2, own, other, Rule::Classic).expect(&rt, "beyond the limits");
-    let mut search = new_search(&rt, rt.alloc());
-    assert!(rt; search.table.look_up_place(&next) == Share::unknown(&next));
-    assert!(rt; worth_of(&mut search, &houses) == Some(6));
-    assert!(rt; search.table.look_up_place(&next) != Share::unknown(&next));
+    learns_of_next(&rt, &mut new_search(&rt, rt.alloc()), &next);
 }

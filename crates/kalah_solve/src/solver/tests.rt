@@ -8,7 +8,7 @@ use crate::plain;
 use crate::search::Search;
 use crate::table::Interval;
 use kalah_rules::{Houses, Rule};
-use std::alloc::Global;
+use std::alloc::{AllocError, Global};
 use std::process::Abort;
 
 // The margin of best play and its house.
@@ -16,10 +16,19 @@ fn best(margin: i32, house: u8) -> Verdict {
     Verdict::Best { margin, house }
 }
 
-// A solver with a table of so many entries, which are 1 to 1,048,576.
-fn solver_of(rt: &impl Abort, alloc: Global, entries: u32) -> Solver {
+// A table of so many entries, which are 1 to 1,048,576.
+fn table_of<A: Allocator + Clone>(
+    rt: &impl Abort,
+    alloc: A,
+    entries: u32,
+) -> Result<Table<A>, AllocError> {
     assert!(rt; 1 <= entries && entries <= 1_048_576);
-    Solver::new(Table::new(alloc, entries).expect(rt, "no memory for a table"))
+    Table::new(alloc, entries)
+}
+
+// A solver with such a table.
+fn solver_of(rt: &impl Abort, alloc: Global, entries: u32) -> Solver {
+    Solver::new(table_of(rt, alloc, entries).expect(rt, "no memory for a table"))
 }
 
 // A board with two houses a side; the last number of each side is its store.
@@ -38,19 +47,33 @@ fn one(rt: &impl Abort, own: u8, other: u8) -> Board {
     board.expect(rt, "beyond the limits")
 }
 
+// The verdict of the board is this one.
+fn tells<A: Allocator + Clone>(
+    rt: &impl Abort,
+    solver: &mut Solver<A>,
+    board: &Board,
+    verdict: Verdict,
+) {
+    assert!(rt; solver.solve(board) == verdict);
+}
+
 // Two positions that differ in their stores alone.
 fn tells_same_houses<A: Allocator + Clone>(rt: &impl Abort, solver: &mut Solver<A>) {
     let bare = two(rt, Rule::Classic, [1, 1, 0], [1, 1, 0]);
     let rich = two(rt, Rule::Classic, [1, 1, 9], [1, 1, 4]);
-    assert!(rt; solver.solve(&bare) == best(2, 2));
-    assert!(rt; solver.solve(&rich) == best(7, 2));
+    tells(rt, solver, &bare, best(2, 2));
+    tells(rt, solver, &rich, best(7, 2));
+}
+
+// Those, and then those of which something is kept.
+fn tells_shared_entries(rt: &impl Abort, solver: &mut Solver) {
+    tells_same_houses(rt, solver);
+    tables::tells_busy_houses(rt, solver);
 }
 
 #[test]
 fn same_houses_with_other_stores_share_an_entry(rt: HostRuntime) {
-    let mut solver = solver_of(&rt, rt.alloc(), 1);
-    tells_same_houses(&rt, &mut solver);
-    tables::tells_busy_houses(&rt, &mut solver);
+    tells_shared_entries(&rt, &mut solver_of(&rt, rt.alloc(), 1));
 }
 
 // The worked positions with one house a side, in order.
@@ -66,67 +89,95 @@ fn tells_one_house<A: Allocator + Clone>(rt: &impl Abort, solver: &mut Solver<A>
         (8, 8, 0),
         (16, 15, 7),
     ] {
-        assert!(rt; solver.solve(&one(rt, own, other)) == best(margin, 1));
+        tells(rt, solver, &one(rt, own, other), best(margin, 1));
     }
 }
 
-// Those with two houses a side, in order.
+// Those with two houses a side, in order, and a game that is over.
 fn tells_two_houses<A: Allocator + Clone>(rt: &impl Abort, solver: &mut Solver<A>) {
-    for (own, other, verdict) in [
-        ([1, 1, 0], [1, 1, 0], best(2, 2)),
-        ([5, 0, 0], [1, 0, 0], best(2, 1)),
-        ([1, 1, 0], [0, 1, 0], best(1, 1)),
-        ([1, 0, 0], [0, 2, 0], best(1, 1)),
-        ([0, 0, 3], [1, 2, 4], Verdict::Over { margin: -4 }),
-        ([1, 1, 9], [1, 1, 4], best(7, 2)),
+    for (own, other, margin, house) in [
+        ([1, 1, 0], [1, 1, 0], 2, 2),
+        ([5, 0, 0], [1, 0, 0], 2, 1),
+        ([1, 1, 0], [0, 1, 0], 1, 1),
+        ([1, 0, 0], [0, 2, 0], 1, 1),
+        ([1, 1, 9], [1, 1, 4], 7, 2),
     ] {
-        assert!(rt; solver.solve(&two(rt, Rule::Classic, own, other)) == verdict);
+        let board = two(rt, Rule::Classic, own, other);
+        tells(rt, solver, &board, best(margin, house));
     }
+    let over = two(rt, Rule::Classic, [0, 0, 3], [1, 2, 4]);
+    tells(rt, solver, &over, Verdict::Over { margin: -4 });
 }
 
-// Those, and then those of which something is kept.
-fn tells_worked_positions(rt: &impl Abort, solver: &mut Solver) {
-    tells_one_house(rt, solver);
-    tells_two_houses(rt, solver);
-    tables::tells_busy_houses(rt, solver);
+// Those, and then those of which something is kept, over so many entries.
+fn tells_worked_positions(rt: &impl Abort, alloc: Global, entries: u32) {
+    let mut solver = solver_of(rt, alloc, entries);
+    tells_one_house(rt, &mut solver);
+    tells_two_houses(rt, &mut solver);
+    tables::tells_busy_houses(rt, &mut solver);
 }
 
 #[test]
 fn tells_worked_positions_with_one_entry(rt: HostRuntime) {
-    tells_worked_positions(&rt, &mut solver_of(&rt, rt.alloc(), 1));
+    tells_worked_positions(&rt, rt.alloc(), 1);
 }
 
 #[test]
 fn tells_worked_positions_with_a_large_table(rt: HostRuntime) {
-    tells_worked_positions(&rt, &mut solver_of(&rt, rt.alloc(), 65_536));
+    tells_worked_positions(&rt, rt.alloc(), 65_536);
+}
+
+// Positions that tell the rules apart.
+fn tells_rules(rt: &impl Abort, solver: &mut Solver) {
+    for (rule, own, other, margin) in [
+        (Rule::Classic, [1, 0, 0], [0, 2, 0], 1),
+        (Rule::EmptyCapture, [1, 0, 0], [0, 2, 0], -1),
+        (Rule::EmptyCapture, [1, 1, 0], [0, 1, 0], 1),
+    ] {
+        tells(rt, solver, &two(rt, rule, own, other), best(margin, 1));
+    }
+}
+
+// Those, and then those of which something is kept by each rule.
+fn tells_entries_of_rules(rt: &impl Abort, solver: &mut Solver) {
+    tells_rules(rt, solver);
+    tables::tells_busy_houses(rt, solver);
+    tables::keeps_the_last_two(rt, solver);
 }
 
 #[test]
 fn rules_have_entries_of_their_own(rt: HostRuntime) {
-    let classic = two(&rt, Rule::Classic, [1, 0, 0], [0, 2, 0]);
-    let empty_capture = two(&rt, Rule::EmptyCapture, [1, 0, 0], [0, 2, 0]);
-    let tie = two(&rt, Rule::EmptyCapture, [1, 1, 0], [0, 1, 0]);
-    let mut solver = solver_of(&rt, rt.alloc(), 4);
-    assert!(rt; solver.solve(&classic) == best(1, 1));
-    assert!(rt; solver.solve(&empty_capture) == best(-1, 1));
-    assert!(rt; solver.solve(&tie) == best(1, 1));
-    tables::tells_busy_houses(&rt, &mut solver);
-    tables::keeps_the_last_two(&rt, &mut solver);
+    tells_entries_of_rules(&rt, &mut solver_of(&rt, rt.alloc(), 4));
+}
+
+// A search in this window has this answer, after which this is known.
+fn leaves(
+    rt: &impl Abort,
+    search: &mut Search,
+    houses: &Houses,
+    window: Window,
+    (answer, known): (i32, Interval),
+) {
+    assert!(rt; !houses.is_over());
+    assert!(rt; search.search(houses, window) == answer);
+    assert!(rt; search.entry(houses) == Some(known));
+}
+
+// Three windows, one after another.
+fn leaves_intervals(rt: &impl Abort, search: &mut Search) {
+    let houses = one(rt, 3, 3).houses();
+    let low = Window { lo: -2, hi: 2 };
+    leaves(rt, search, &houses, low, (2, Interval { lo: 2, hi: 31 }));
+    let high = Window { lo: 7, hi: 9 };
+    leaves(rt, search, &houses, high, (7, Interval { lo: 2, hi: 7 }));
+    let whole = Window::whole();
+    leaves(rt, search, &houses, whole, (6, Interval { lo: 6, hi: 6 }));
 }
 
 #[test]
 fn windows_leave_intervals(rt: HostRuntime) {
-    let board = one(&rt, 3, 3);
-    assert!(rt; !board.is_over());
-    let houses = board.houses();
-    let table = Table::new(rt.alloc(), 100).expect(&rt, "no memory for a table");
-    let mut search = Search::with_all_entries(table);
-    assert!(rt; search.search(&houses, Window { lo: -2, hi: 2 }) == 2);
-    assert!(rt; search.entry(&houses) == Some(Interval { lo: 2, hi: 31 }));
-    assert!(rt; search.search(&houses, Window { lo: 7, hi: 9 }) == 7);
-    assert!(rt; search.entry(&houses) == Some(Interval { lo: 2, hi: 7 }));
-    assert!(rt; search.search(&houses, Window::whole()) == 6);
-    assert!(rt; search.entry(&houses) == Some(Interval { lo: 6, hi: 6 }));
+    let table = Table::new(rt.alloc(), 100);
+    leaves_intervals(&rt, &mut memory::solver_with(&rt, table, true).search);
 }
 
 // Each position with two houses a side and at most four seeds has the verdict of the plain recursion.
@@ -136,7 +187,7 @@ fn agrees_with_plain(rt: &impl Abort, solver: &mut Solver, rule: Rule) {
             for c in 0..5 - a - b {
                 for d in 0..5 - a - b - c {
                     let board = two(rt, rule, [a, b, 0], [c, d, 0]);
-                    assert!(rt; solver.solve(&board) == plain::solve(&board));
+                    tells(rt, solver, &board, plain::solve(&board));
                 }
             }
         }
@@ -149,18 +200,21 @@ fn agrees_by_each_rule(rt: &impl Abort, solver: &mut Solver) {
     agrees_with_plain(rt, solver, Rule::EmptyCapture);
 }
 
+// Those, and then those of which something is kept, over so many entries.
+fn agrees_with_entries(rt: &impl Abort, alloc: Global, entries: u32) {
+    let mut solver = solver_of(rt, alloc, entries);
+    agrees_by_each_rule(rt, &mut solver);
+    tables::agree_with_plain(rt, &mut solver);
+}
+
 #[test]
 fn agrees_with_plain_with_one_entry(rt: HostRuntime) {
-    let mut solver = solver_of(&rt, rt.alloc(), 1);
-    agrees_by_each_rule(&rt, &mut solver);
-    tables::agree_with_plain(&rt, &mut solver);
+    agrees_with_entries(&rt, rt.alloc(), 1);
 }
 
 #[test]
 fn agrees_with_plain_with_a_large_table(rt: HostRuntime) {
-    let mut solver = solver_of(&rt, rt.alloc(), 65_536);
-    agrees_by_each_rule(&rt, &mut solver);
-    tables::agree_with_plain(&rt, &mut solver);
+    agrees_with_entries(&rt, rt.alloc(), 65_536);
 }
 
 #[test]

@@ -1,4 +1,4 @@
-use Rattle.std.proofs.Common.{arith, rules, ◌∙◌, sym, ap, ◌≡◌, to_z, of_z, pos, neg_ℤ, ◌-ℤ◌}
+use Rattle.std.proofs.Common.{arith, rules, length, ◌<◌, ◌∙◌, sym, ap, ◌≡◌, to_z, of_z, pos, neg_ℤ, ◌-ℤ◌}
 use Rattle.std.specs.Prelude.{map}
 use mir.Val.{SFits}
 use mir.Syntax.{w32}
@@ -7,8 +7,11 @@ use Rattle.std.proofs.lemmas.List.{take_all}
 use Rattle.std.proofs.lemmas.List.Elements.{Contains-get_or}
 use Rattle.kalah_rules.specs.Play.{legal_houses}
 use Rattle.kalah_solve.specs.Worth.{value_of_move, greatest}
-use Rattle.kalah_solve.proofs.Worths.{board_equal_sides, again_fewer, turn_fewer, value_of_over, value_of_turn, worth_of_over, worth_of_going, legal_some, greatest_more, greatest_first, small_max, int_max_same}
+use Rattle.kalah_solve.proofs.Worths.{board_equal_sides, over_ends, again_fewer, turn_fewer, value_of_over, value_of_turn, worth_of_over, worth_of_going, legal_some, greatest_more, greatest_first, small_max, int_max_same}
 use Rattle.kalah_solve.proofs.plain.+worth.Goals as goal
+
+pub value_of_move-returns-requires : goal.value_of_move-returns-requires
+value_of_move-returns-requires t c = over_ends c.args.board.now c.args.h c.in-Over.end c.in-Over.ensures.step
 
 pub value_of_move-worth-requires : goal.value_of_move-worth-requires
 value_of_move-worth-requires t c =
@@ -54,6 +57,11 @@ worth-loop-i-init t c =
       best = simp to_z-of_z (c.value_of_move-best.ensures.value ∙ ap (value_of_move c.args.board.now) c.get.ensures ∙ sym first);
       small = simp to_z-of_z c.value_of_move-best.ensures.small;
     }
+
+pub worth-value_of_move-requires : goal.worth-value_of_move-requires
+worth-value_of_move-requires t c =
+    let within : c.loop-i.i < length c.legal-moves.result = omega arith in
+    (omega arith, rw (c.get-in-loop-i.ensures, c.legal-moves.ensures) (Contains-get_or (legal_houses c.args.board.now) c.loop-i.i 0 (rw c.legal-moves.ensures at within)))
 
 pub worth-loop-i-preserved : goal.worth-loop-i-preserved
 worth-loop-i-preserved t c =

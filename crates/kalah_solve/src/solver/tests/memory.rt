@@ -1,7 +1,6 @@
 //! Want of memory: an answer for which there is none is left out of the table, and verdicts stay the same.
 use super::*;
 use crate::granting::Granting;
-use std::alloc::AllocError;
 
 // A solver with this table, into which the search puts every answer if it `keeps_all`.
 pub(super) fn solver_with<A: Allocator + Clone>(
@@ -19,43 +18,58 @@ pub(super) fn solver_with<A: Allocator + Clone>(
     }
 }
 
-// What the houses are worth. None where the game is over.
-fn worth_of<A: Allocator + Clone>(solver: &mut Solver<A>, houses: &Houses) -> Option<i32> {
-    if houses.is_over() {
-        return None;
-    }
-    Some(solver.search.search(houses, Window::whole()))
+// The worth of the houses is this one.
+fn tells_worth<A: Allocator + Clone>(
+    rt: &impl Abort,
+    solver: &mut Solver<A>,
+    houses: &Houses,
+    worth: i32,
+) {
+    assert!(rt; !houses.is_over());
+    assert!(rt; solver.search.search(houses, Window::whole()) == worth);
 }
 
 // Positions with so many seeds that some answers are kept.
 fn tells_many_seeds<A: Allocator + Clone>(rt: &impl Abort, solver: &mut Solver<A>) {
     for (own, other, margin) in [(8, 7, -9), (16, 15, 7)] {
-        assert!(rt; solver.solve(&one(rt, own, other)) == best(margin, 1));
+        tells(rt, solver, &one(rt, own, other), best(margin, 1));
     }
     let fives = two(rt, Rule::Classic, [5, 5, 0], [5, 5, 0]);
-    assert!(rt; solver.solve(&fives) == best(6, 1));
+    tells(rt, solver, &fives, best(6, 1));
 }
 
 // A start with so much to search that an answer is kept, however much of it is known by places.
 fn tells_three_houses<A: Allocator + Clone>(rt: &impl Abort, solver: &mut Solver<A>) {
-    let fours = [4, 4, 4, 0, 0, 0];
-    let board = Board::new(3, fours, 0, fours, 0, Rule::Classic);
-    assert!(rt; solver.solve(&board.expect(rt, "beyond the limits")) == best(2, 1));
+    let fours = tables::three(rt, Rule::Classic, [4, 4, 4], [4, 4, 4], (0, 0));
+    tells(rt, solver, &fours, best(2, 1));
+}
+
+// How many requests came. None of them was refused if all were to be granted, and else some.
+pub(super) fn requests_made(rt: &impl Abort, heap: &Granting<Global>, grants_all: bool) -> u32 {
+    assert!(rt; (heap.refused() == 0) == grants_all);
+    heap.made()
 }
 
 // Two positions that differ in their stores alone, with one entry for both, unless there is no memory for the table.
-fn tells_both(rt: &impl Abort, heap: &Granting<Global>, keeps_all: bool) {
-    let table = Table::new(heap, 1);
-    assert!(rt; table.is_err() == (heap.refused() > 0));
-    if table.is_ok() {
-        tells_same_houses(rt, &mut solver_with(rt, table, keeps_all));
+fn tells_both<A: Allocator + Clone>(
+    rt: &impl Abort,
+    table: Result<Table<A>, AllocError>,
+    refused: u32,
+    keeps_all: bool,
+) {
+    match table {
+        Ok(_) => {
+            assert!(rt; refused == 0);
+            tells_same_houses(rt, &mut solver_with(rt, table, keeps_all));
+        }
+        Err(_) => assert!(rt; refused > 0),
     }
 }
 
 #[test]
 fn no_memory_makes_no_table(rt: HostRuntime) {
     let heap = Granting::new(rt.alloc(), 0);
-    assert!(rt; Table::new(&heap, 1).is_err());
+    assert!(rt; !tables::is_made(&rt, &heap, 1));
     assert!(rt; heap.refused() == 1);
 }
 
@@ -67,9 +81,8 @@ fn tells_both_granted(
     (grants, all): (u32, u32),
 ) -> u32 {
     let heap = Granting::new(alloc, grants);
-    tells_both(rt, &heap, keeps_all);
-    assert!(rt; (heap.refused() == 0) == (grants == all));
-    heap.made()
+    tells_both(rt, Table::new(&heap, 1), heap.refused(), keeps_all);
+    requests_made(rt, &heap, grants == all)
 }
 
 // The last run is granted as many requests as there are, and the others fewer.
@@ -85,22 +98,19 @@ fn one_entry_is_granted_some_requests(rt: HostRuntime) {
 
 // How many requests come for a large table.
 pub(super) fn requests_of_a_table(rt: &impl Abort, alloc: Global) -> u32 {
-    let heap = Granting::new(alloc, u32::MAX);
-    let _table = Table::new(&heap, 1_024).expect(rt, "no memory for a table");
-    heap.made()
-}
-
-// The verdicts of a large table with so many requests granted, of as many as there are. It tells how many came.
-fn tells_many_granted(rt: &impl Abort, alloc: Global, (grants, all): (u32, u32)) -> u32 {
-    let heap = Granting::new(alloc, grants);
-    tells_many_with(rt, &heap);
-    assert!(rt; (heap.refused() == 0) == (grants == all));
-    heap.made()
+    tables::asks_for_a_table(rt, alloc, 1_024, (u32::MAX, u32::MAX))
 }
 
 // The verdicts of a large table that has to ask for its entries.
-fn tells_many_with(rt: &impl Abort, heap: &Granting<Global>) {
-    tells_many_seeds(rt, &mut solver_with(rt, Table::new(heap, 1_024), true));
+fn tells_many_with<A: Allocator + Clone>(rt: &impl Abort, alloc: A) {
+    tells_many_seeds(rt, &mut solver_with(rt, Table::new(alloc, 1_024), true));
+}
+
+// The same with so many requests granted, of as many as there are. It tells how many came.
+fn tells_many_granted(rt: &impl Abort, alloc: Global, (grants, all): (u32, u32)) -> u32 {
+    let heap = Granting::new(alloc, grants);
+    tells_many_with(rt, &heap);
+    requests_made(rt, &heap, grants == all)
 }
 
 #[test]
@@ -121,43 +131,62 @@ fn tells_all<A: Allocator + Clone>(rt: &impl Abort, solver: &mut Solver<A>) {
     tells_three_houses(rt, solver);
 }
 
-// All verdicts of a table that gets no entry, and no entry is there in the end.
-fn tells_all_without_entries(rt: &impl Abort, heap: &Granting<Global>, keeps_all: bool) {
-    let mut solver = solver_with(rt, Table::new(heap, 1_024), keeps_all);
+// What the table has of houses that were just searched, and searched again.
+fn has_entry<A: Allocator + Clone>(
+    rt: &impl Abort,
+    solver: &mut Solver<A>,
+    entry: Option<Interval>,
+) {
+    let houses = one(rt, 16, 15).houses();
+    tells_worth(rt, solver, &houses, 7);
+    tells_worth(rt, solver, &houses, 7);
+    assert!(rt; solver.search.entry(&houses) == entry);
+}
+
+// All verdicts of a table that gets no entry from `alloc`, of which `heap` counts the requests, and no entry is there in the end.
+fn tells_all_without_entries<A: Allocator + Clone>(
+    rt: &impl Abort,
+    alloc: A,
+    heap: &Granting<Global>,
+    keeps_all: bool,
+) {
+    let mut solver = solver_with(rt, Table::new(alloc, 1_024), keeps_all);
     tells_all(rt, &mut solver);
     assert!(rt; heap.refused() > 0);
-    let houses = one(rt, 16, 15).houses();
-    assert!(rt; worth_of(&mut solver, &houses) == Some(7));
-    assert!(rt; solver.search.entry(&houses).is_none());
+    has_entry(rt, &mut solver, None);
 }
 
 #[test]
 fn every_entry_is_refused(rt: HostRuntime) {
     for keeps_all in [false, true] {
         let heap = Granting::new(rt.alloc(), requests_of_a_table(&rt, rt.alloc()));
-        tells_all_without_entries(&rt, &heap, keeps_all);
+        tells_all_without_entries(&rt, &heap, &heap, keeps_all);
     }
 }
 
-// The verdicts where one request was refused, after which the table, asked for again if need be, takes an entry.
-fn goes_on_after_a_refusal(rt: &impl Abort, heap: &Granting<Global>) {
-    let table = Table::new(heap, 1_024).or_else(|_| Table::new(heap, 1_024));
-    let mut solver = solver_with(rt, table, true);
+// A large table, asked for again if need be.
+fn large_table<A: Allocator + Copy>(alloc: A) -> Result<Table<A>, AllocError> {
+    Table::new(alloc, 1_024).or_else(|_| Table::new(alloc, 1_024))
+}
+
+// The verdicts where one request was refused, after which the table takes an entry.
+fn goes_on_after_a_refusal<A: Allocator + Copy>(rt: &impl Abort, alloc: A) {
+    let mut solver = solver_with(rt, large_table(alloc), true);
     tells_many_seeds(rt, &mut solver);
-    let houses = one(rt, 16, 15).houses();
-    assert!(rt; worth_of(&mut solver, &houses) == Some(7));
-    assert!(rt; worth_of(&mut solver, &houses) == Some(7));
-    assert!(rt; solver.search.entry(&houses) == Some(Interval { lo: 7, hi: 7 }));
+    has_entry(rt, &mut solver, Some(Interval { lo: 7, hi: 7 }));
+}
+
+// The same with the request after so many refused, of as many as there are. It tells how many came.
+fn goes_on_but_one(rt: &impl Abort, alloc: Global, (before, all): (u32, u32)) -> u32 {
+    let heap = Granting::but_one(alloc, before);
+    goes_on_after_a_refusal(rt, &heap);
+    requests_made(rt, &heap, before == all)
 }
 
 #[test]
 fn one_request_is_refused(rt: HostRuntime) {
-    let ample = Granting::new(rt.alloc(), u32::MAX);
-    goes_on_after_a_refusal(&rt, &ample);
-    assert!(rt; ample.refused() == 0);
-    for before in 0..=ample.made() {
-        let heap = Granting::but_one(rt.alloc(), before);
-        goes_on_after_a_refusal(&rt, &heap);
-        assert!(rt; (heap.refused() == 0) == (before == ample.made()));
+    let all = goes_on_but_one(&rt, rt.alloc(), (u32::MAX, u32::MAX));
+    for before in 0..=all {
+        goes_on_but_one(&rt, rt.alloc(), (before, all));
     }
 }

@@ -2,18 +2,29 @@
 use super::*;
 use crate::granting::Granting;
 
-// Three houses a side for which so much is tried that an answer is kept, each with its rule, its margin and its best house.
-const BUSY: [(Rule, [u8; 3], [u8; 3], i8, u8); 6] = [
-    (Rule::Classic, [3, 3, 3], [2, 3, 2], 2, 1),
-    (Rule::EmptyCapture, [3, 3, 3], [2, 3, 2], 6, 1),
-    (Rule::Classic, [4, 3, 4], [1, 3, 2], -1, 1),
-    (Rule::EmptyCapture, [4, 3, 4], [1, 3, 2], -1, 1),
-    (Rule::Classic, [4, 1, 4], [3, 3, 2], 3, 1),
-    (Rule::EmptyCapture, [4, 1, 4], [3, 3, 2], 9, 1),
-];
+// Three houses a side with their rule.
+type Busy = (Rule, [u8; 3], [u8; 3]);
+
+// Those for which so much is tried that an answer is kept, each with its margin; the best house is the first.
+fn busy() -> [(Busy, i8); 6] {
+    [
+        ((Rule::Classic, [3, 3, 3], [2, 3, 2]), 2),
+        ((Rule::EmptyCapture, [3, 3, 3], [2, 3, 2]), 6),
+        ((Rule::Classic, [4, 3, 4], [1, 3, 2]), -1),
+        ((Rule::EmptyCapture, [4, 3, 4], [1, 3, 2]), -1),
+        ((Rule::Classic, [4, 1, 4], [3, 3, 2]), 3),
+        ((Rule::EmptyCapture, [4, 1, 4], [3, 3, 2]), 9),
+    ]
+}
 
 // A board with three houses a side and these stores.
-fn three(rt: &impl Abort, rule: Rule, own: [u8; 3], other: [u8; 3], stores: (u8, u8)) -> Board {
+pub(super) fn three(
+    rt: &impl Abort,
+    rule: Rule,
+    own: [u8; 3],
+    other: [u8; 3],
+    stores: (u8, u8),
+) -> Board {
     let own_houses = [own[0], own[1], own[2], 0, 0, 0];
     let other_houses = [other[0], other[1], other[2], 0, 0, 0];
     let board = Board::new(3, own_houses, stores.0, other_houses, stores.1, rule);
@@ -21,75 +32,82 @@ fn three(rt: &impl Abort, rule: Rule, own: [u8; 3], other: [u8; 3], stores: (u8,
 }
 
 // How many nodes the verdict takes, which has to be this one.
-fn nodes_for<A: Allocator + Clone>(
-    rt: &impl Abort,
-    solver: &mut Solver<A>,
-    board: &Board,
-    verdict: Verdict,
-) -> u64 {
+fn nodes_for(rt: &impl Abort, solver: &mut Solver, board: &Board, verdict: Verdict) -> u64 {
     let before = solver.search.nodes();
-    assert!(rt; solver.solve(board) == verdict);
+    tells(rt, solver, board, verdict);
     solver.search.nodes().wrapping_sub(before)
 }
 
-// Each of them leaves an entry of its houses, by which fewer nodes tell the same houses with other stores.
-pub(super) fn tells_busy_houses<A: Allocator + Clone>(rt: &impl Abort, solver: &mut Solver<A>) {
-    for (rule, own, other, margin, house) in BUSY {
-        let bare = three(rt, rule, own, other, (0, 0));
-        let first = nodes_for(rt, solver, &bare, best(i32::from(margin), house));
-        let kept = Interval {
-            lo: margin,
-            hi: margin,
-        };
-        assert!(rt; solver.search.entry(&bare.houses()) == Some(kept));
-        let rich = three(rt, rule, own, other, (9, 4));
-        assert!(rt; nodes_for(rt, solver, &rich, best(i32::from(margin) + 5, house)) < first);
+// What is known of the board's houses is that they are worth this.
+fn is_kept(rt: &impl Abort, solver: &mut Solver, board: &Board, worth: i8) {
+    let kept = Interval {
+        lo: worth,
+        hi: worth,
+    };
+    assert!(rt; solver.search.entry(&board.houses()) == Some(kept));
+}
+
+// They leave an entry, by which fewer nodes tell the same houses with other stores.
+fn leaves_an_entry(rt: &impl Abort, solver: &mut Solver, (rule, own, other): Busy, margin: i8) {
+    let bare = three(rt, rule, own, other, (0, 0));
+    let first = nodes_for(rt, solver, &bare, best(i32::from(margin), 1));
+    is_kept(rt, solver, &bare, margin);
+    let rich = three(rt, rule, own, other, (9, 4));
+    assert!(rt; nodes_for(rt, solver, &rich, best(i32::from(margin) + 5, 1)) < first);
+}
+
+// Each of them does.
+pub(super) fn tells_busy_houses(rt: &impl Abort, solver: &mut Solver) {
+    for (busy, margin) in busy() {
+        leaves_an_entry(rt, solver, busy, margin);
     }
 }
 
 // The last two have the same houses, each with the entry of its rule.
-pub(super) fn keeps_the_last_two<A: Allocator + Clone>(rt: &impl Abort, solver: &mut Solver<A>) {
-    for (rule, own, other, margin, _) in BUSY {
-        if own == [4, 1, 4] {
-            let houses = three(rt, rule, own, other, (0, 0)).houses();
-            let kept = Interval {
-                lo: margin,
-                hi: margin,
-            };
-            assert!(rt; solver.search.entry(&houses) == Some(kept));
-        }
+pub(super) fn keeps_the_last_two(rt: &impl Abort, solver: &mut Solver) {
+    for (rule, margin) in [(Rule::Classic, 3), (Rule::EmptyCapture, 9)] {
+        let board = three(rt, rule, [4, 1, 4], [3, 3, 2], (0, 0));
+        is_kept(rt, solver, &board, margin);
     }
 }
 
-// Their verdicts are those of the plain recursion, and so are those of the same houses with other stores, by their entry.
+// The verdict is that of the plain recursion, and there is an entry.
+fn agrees_by_an_entry(rt: &impl Abort, solver: &mut Solver, board: &Board) {
+    tells(rt, solver, board, plain::solve(board));
+    assert!(rt; solver.search.entry(&board.houses()).is_some());
+}
+
+// So are those of each of them, and of the same houses with other stores, by their entry.
 pub(super) fn agree_with_plain(rt: &impl Abort, solver: &mut Solver) {
-    for (rule, own, other, _, _) in BUSY {
-        for stores in [(0, 0), (3, 1)] {
-            let board = three(rt, rule, own, other, stores);
-            assert!(rt; solver.solve(&board) == plain::solve(&board));
-            assert!(rt; solver.search.entry(&board.houses()).is_some());
-        }
+    for ((rule, own, other), _) in busy() {
+        agrees_by_an_entry(rt, solver, &three(rt, rule, own, other, (0, 0)));
+        agrees_by_an_entry(rt, solver, &three(rt, rule, own, other, (3, 1)));
     }
 }
 
 // Six houses a side which take so many nodes together that endings of nine seeds are asked for.
 fn tells_hard_houses(rt: &impl Abort, solver: &mut Solver) {
-    for (rule, verdict) in [
-        (Rule::Classic, best(-6, 5)),
-        (Rule::EmptyCapture, best(-4, 5)),
-    ] {
+    for (rule, margin) in [(Rule::Classic, -6), (Rule::EmptyCapture, -4)] {
         let board = Board::new(6, [3, 2, 3, 2, 3, 2], 0, [2, 3, 2, 3, 2, 3], 0, rule);
-        assert!(rt; solver.solve(&board.expect(rt, "beyond the limits")) == verdict);
+        let board = board.expect(rt, "beyond the limits");
+        tells(rt, solver, &board, best(margin, 5));
     }
     assert!(rt; solver.search.nodes() >= 300_000);
 }
 
-// Those of 7 and 8 seeds are looked up from the first node on.
-#[test]
-fn endings_are_looked_up_once_a_search_is_long(rt: HostRuntime) {
-    let mut short = solver_of(&rt, rt.alloc(), 1);
-    let mut long = solver_of(&rt, rt.alloc(), 65_536);
-    tells_hard_houses(&rt, &mut long);
+// The verdict takes no node where it `is_looked_up`, and only there.
+fn looks_up(
+    rt: &impl Abort,
+    solver: &mut Solver,
+    board: &Board,
+    verdict: Verdict,
+    is_looked_up: bool,
+) {
+    assert!(rt; (nodes_for(rt, solver, board, verdict) == 0) == is_looked_up);
+}
+
+// Those of 7 and 8 seeds are looked up from the first node on, and those of 9 once the search `is_long`.
+fn looks_up_endings(rt: &impl Abort, solver: &mut Solver, is_long: bool) {
     for (rule, own, margin, house, at_once) in [
         (Rule::Classic, [2, 1, 1], 3, 3, true),
         (Rule::EmptyCapture, [2, 1, 2], -2, 1, true),
@@ -97,39 +115,69 @@ fn endings_are_looked_up_once_a_search_is_long(rt: HostRuntime) {
         (Rule::EmptyCapture, [2, 2, 2], 3, 2, false),
         (Rule::Classic, [2, 1, 3], -1, 1, false),
     ] {
-        let board = three(&rt, rule, own, [1, 1, 1], (0, 0));
-        let verdict = best(margin, house);
-        assert!(rt; (nodes_for(&rt, &mut short, &board, verdict) == 0) == at_once);
-        assert!(rt; nodes_for(&rt, &mut long, &board, verdict) == 0);
+        let board = three(rt, rule, own, [1, 1, 1], (0, 0));
+        looks_up(rt, solver, &board, best(margin, house), at_once || is_long);
     }
 }
 
-// After house 1 of four seeds in each house the other player has a row with one house empty, of which the tables know.
+// Over so many entries, after hard houses where the search `is_long`.
+fn looks_up_endings_with(rt: &impl Abort, alloc: Global, entries: u32, is_long: bool) {
+    let mut solver = solver_of(rt, alloc, entries);
+    if is_long {
+        tells_hard_houses(rt, &mut solver);
+    }
+    looks_up_endings(rt, &mut solver, is_long);
+}
+
+#[test]
+fn endings_are_looked_up_once_a_search_is_long(rt: HostRuntime) {
+    looks_up_endings_with(&rt, rt.alloc(), 1, false);
+    looks_up_endings_with(&rt, rt.alloc(), 65_536, true);
+}
+
+// How many nodes the position after house 1 of four seeds in each house takes.
+fn nodes_for_next(rt: &impl Abort, solver: &mut Solver) -> u64 {
+    let next = three(rt, Rule::Classic, [5, 4, 4], [0, 5, 5], (0, 1));
+    nodes_for(rt, solver, &next, best(-2, 1))
+}
+
+// How many it takes after four seeds in each house, which take more than it takes `alone`.
+fn nodes_after_start(rt: &impl Abort, solver: &mut Solver, alone: u64) -> u64 {
+    let start = three(rt, Rule::Classic, [4, 4, 4], [4, 4, 4], (0, 0));
+    assert!(rt; nodes_for(rt, solver, &start, best(2, 1)) > alone);
+    nodes_for_next(rt, solver)
+}
+
+// How many it takes alone and after four seeds in each house, each with a table of so many entries.
+fn nodes_of_both(rt: &impl Abort, alloc: Global, entries: u32) -> (u64, u64) {
+    let alone = nodes_for_next(rt, &mut solver_of(rt, alloc, entries));
+    let after = nodes_after_start(rt, &mut solver_of(rt, alloc, entries), alone);
+    (alone, after)
+}
+
+// After house 1 the other player has a row with one house empty, of which a large table knows.
 #[test]
 fn what_was_learned_of_a_move_serves_the_next_position(rt: HostRuntime) {
-    let start = three(&rt, Rule::Classic, [4, 4, 4], [4, 4, 4], (0, 0));
-    let next = three(&rt, Rule::Classic, [5, 4, 4], [0, 5, 5], (0, 1));
     for entries in [1, 65_536] {
-        let mut fresh = solver_of(&rt, rt.alloc(), entries);
-        let mut solver = solver_of(&rt, rt.alloc(), entries);
-        let alone = nodes_for(&rt, &mut fresh, &next, best(-2, 1));
-        assert!(rt; nodes_for(&rt, &mut solver, &start, best(2, 1)) > alone);
-        let after = nodes_for(&rt, &mut solver, &next, best(-2, 1));
+        let (alone, after) = nodes_of_both(&rt, rt.alloc(), entries);
         assert!(rt; after < alone || entries == 1);
     }
 }
 
 // Three houses a side with so few seeds that all that follows has places, asked twice: an entry tells their worth, and the places
 // which house attains it.
+fn looks_up_places(rt: &impl Abort, solver: &mut Solver, rule: Rule) {
+    let bare = three(rt, rule, [3, 3, 3], [4, 3, 4], (0, 0));
+    let rich = three(rt, rule, [3, 3, 3], [4, 3, 4], (5, 3));
+    let first = nodes_for(rt, solver, &bare, best(4, 2));
+    let again = nodes_for(rt, solver, &rich, best(6, 2));
+    assert!(rt; again < first / 20);
+}
+
 #[test]
 fn what_is_kept_in_places_is_looked_up(rt: HostRuntime) {
     for rule in [Rule::Classic, Rule::EmptyCapture] {
-        let mut solver = solver_of(&rt, rt.alloc(), 65_536);
-        let bare = three(&rt, rule, [3, 3, 3], [4, 3, 4], (0, 0));
-        let rich = three(&rt, rule, [3, 3, 3], [4, 3, 4], (5, 3));
-        let first = nodes_for(&rt, &mut solver, &bare, best(4, 2));
-        let again = nodes_for(&rt, &mut solver, &rich, best(6, 2));
-        assert!(rt; again < first / 20);
+        looks_up_places(&rt, &mut solver_of(&rt, rt.alloc(), 65_536), rule);
     }
 }
 
@@ -137,29 +185,45 @@ fn what_is_kept_in_places_is_looked_up(rt: HostRuntime) {
 const ENTRIES: [u32; 7] = [1, 2, 65_535, 65_536, 65_537, 524_288, 1_048_576];
 
 // What is told over such a table.
-fn tells_with(rt: &impl Abort, solver: &mut Solver) {
-    tells_busy_houses(rt, solver);
+fn tells_with(rt: &impl Abort, alloc: Global, entries: u32) {
+    let mut solver = solver_of(rt, alloc, entries);
+    tells_busy_houses(rt, &mut solver);
     let board = three(rt, Rule::EmptyCapture, [2, 2, 3], [2, 2, 2], (0, 0));
-    values::tells_values(rt, solver, &board, &[(1, -5), (2, 3), (3, 5)]);
+    values::tells_values(rt, &mut solver, &board, &[(1, -5), (2, 3), (3, 5)]);
 }
 
 #[test]
 fn a_table_may_have_any_number_of_entries(rt: HostRuntime) {
     for entries in ENTRIES {
-        tells_with(&rt, &mut solver_of(&rt, rt.alloc(), entries));
+        tells_with(&rt, rt.alloc(), entries);
     }
 }
 
-// A table is refused where one of its requests is, and only there: with all requests granted, and with any number fewer.
+// Whether there is memory for a table of so many entries.
+pub(super) fn is_made<A: Allocator + Clone>(rt: &impl Abort, alloc: A, entries: u32) -> bool {
+    table_of(rt, alloc, entries).is_ok()
+}
+
+// It is refused where one of its requests is, and only there, with so many requests granted, of as many as there are. It tells
+// how many came.
+pub(super) fn asks_for_a_table(
+    rt: &impl Abort,
+    alloc: Global,
+    entries: u32,
+    (grants, all): (u32, u32),
+) -> u32 {
+    let heap = Granting::new(alloc, grants);
+    assert!(rt; is_made(rt, &heap, entries) == (heap.refused() == 0));
+    memory::requests_made(rt, &heap, grants == all)
+}
+
+// With all requests granted, and with any number fewer.
 #[test]
 fn a_table_is_refused_only_where_memory_is(rt: HostRuntime) {
     for entries in ENTRIES {
-        let ample = Granting::new(rt.alloc(), u32::MAX);
-        assert!(rt; Table::new(&ample, entries).is_ok());
-        for grants in 0..=ample.made() {
-            let heap = Granting::new(rt.alloc(), grants);
-            assert!(rt; Table::new(&heap, entries).is_err() == (heap.refused() > 0));
-            assert!(rt; (heap.refused() == 0) == (grants == ample.made()));
+        let all = asks_for_a_table(&rt, rt.alloc(), entries, (u32::MAX, u32::MAX));
+        for grants in 0..=all {
+            asks_for_a_table(&rt, rt.alloc(), entries, (grants, all));
         }
     }
 }

@@ -33,10 +33,21 @@ fn tells_worked_values<A: Allocator + Clone>(rt: &impl Abort, solver: &mut Solve
     tells_values(rt, solver, &empty_capture, &[(1, -1)]);
 }
 
+// Over so many entries, with every answer kept if it `keeps_all`.
+fn tells_worked_values_with<A: Allocator + Clone>(
+    rt: &impl Abort,
+    alloc: A,
+    entries: u32,
+    keeps_all: bool,
+) {
+    let table = table_of(rt, alloc, entries);
+    tells_worked_values(rt, &mut memory::solver_with(rt, table, keeps_all));
+}
+
 #[test]
 fn tells_worked_values_with_each_table(rt: HostRuntime) {
     for entries in [1, 65_536] {
-        tells_worked_values(&rt, &mut solver_of(&rt, rt.alloc(), entries));
+        tells_worked_values_with(&rt, rt.alloc(), entries, false);
     }
 }
 
@@ -44,8 +55,7 @@ fn tells_worked_values_with_each_table(rt: HostRuntime) {
 fn values_are_told_though_every_entry_is_refused(rt: HostRuntime) {
     let grants = memory::requests_of_a_table(&rt, rt.alloc());
     let heap = Granting::new(rt.alloc(), grants);
-    let table = Table::new(&heap, 1_024);
-    tells_worked_values(&rt, &mut memory::solver_with(&rt, table, true));
+    tells_worked_values_with(&rt, &heap, 1_024, true);
     assert!(rt; heap.refused() > 0);
 }
 
@@ -62,15 +72,19 @@ fn agrees_with_plain_values(rt: &impl Abort, solver: &mut Solver, board: &Board)
     }
 }
 
+// Two houses a side with at most three seeds each, against the same in the other order and against few others.
+fn values_agree_by_rule(rt: &impl Abort, solver: &mut Solver, rule: Rule) {
+    for a in 0..4u8 {
+        for b in 0..4u8 {
+            agrees_with_plain_values(rt, solver, &two(rt, rule, [a, b, 2], [b, a, 0]));
+            agrees_with_plain_values(rt, solver, &two(rt, rule, [a, b, 0], [1, 2, 1]));
+        }
+    }
+}
+
 #[test]
 fn values_agree_with_plain(rt: HostRuntime) {
     let mut solver = solver_of(&rt, rt.alloc(), 16);
-    for rule in [Rule::Classic, Rule::EmptyCapture] {
-        for a in 0..4u8 {
-            for b in 0..4u8 {
-                agrees_with_plain_values(&rt, &mut solver, &two(&rt, rule, [a, b, 2], [b, a, 0]));
-                agrees_with_plain_values(&rt, &mut solver, &two(&rt, rule, [a, b, 0], [1, 2, 1]));
-            }
-        }
-    }
+    values_agree_by_rule(&rt, &mut solver, Rule::Classic);
+    values_agree_by_rule(&rt, &mut solver, Rule::EmptyCapture);
 }
