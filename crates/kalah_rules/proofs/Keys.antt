@@ -99,7 +99,7 @@ number_of-small (suc n) (x ∷ xs) long few =
     omega (arith, pow-succ' 32 n)
 
 -- a rule has one bit
-rule_bit-small : (r : Rule) → rule_bit r ≤ 1
+pub rule_bit-small : (r : Rule) → rule_bit r ≤ 1
 rule_bit-small Classic = omega arith
 rule_bit-small EmptyCapture = omega arith
 

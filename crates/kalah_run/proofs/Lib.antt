@@ -18,3 +18,4 @@ pub mod Staffs
 pub mod StaffRuns
 pub mod BatchEnds
 pub mod NoLine
+mod Crossing

@@ -23,6 +23,18 @@ use std::sync::Wait;
 /// How many outcomes may be on their way to the calling thread.
 pub(crate) const QUEUE_CAPACITY: u32 = 64;
 
+// A solver for one more shift. All share what they learn of endings.
+fn new_solver(
+    alloc: Global,
+    shifts: &[Shift<'_>],
+    resources: Resources,
+) -> Result<Solver, AllocError> {
+    match shifts.last() {
+        Some(shift) => shift.solver.beside(alloc, resources.table),
+        None => Ok(Solver::new(Table::new(alloc, resources.table)?)),
+    }
+}
+
 // A shift for each pair of passes, in their order, each with a solver of its own.
 fn put_together<'a>(
     alloc: Global,
@@ -44,7 +56,7 @@ fn put_together<'a>(
         let Some(put) = puts.next() else {
             unreachable!()
         };
-        let solver = Solver::new(Table::new(alloc, resources.table)?);
+        let solver = new_solver(alloc, &shifts, resources)?;
         shifts.push(Shift {
             jobs,
             pass,

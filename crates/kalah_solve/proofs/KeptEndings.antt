@@ -1,33 +1,51 @@
--- What the places of endings keep stays true.
-use Rattle.std.proofs.Common.{◌≡◌, inl, inr, ℕ, ◌<◌, List, length, get_or, sym, ◌∙◌, ap}
-use Rattle.std.specs.Prelude.{slice_set}
+-- What words of endings tell stays true.
+use Rattle.std.proofs.Common.{◌≡◌, ◌≢◌, inl, inr, ℕ, suc, ◌+◌, ◌*◌, ◌%◌, ◌^◌, ◌≤◌, arith, sym, ◌∙◌, ap}
 use Rattle.std.proofs.lemmas.Bool.{cases_eq}
-use Rattle.std.proofs.lemmas.List.{get_or-set_same, get_or-set_other}
-use Rattle.std.proofs.Math.ListN.{length-set}
+use Rattle.std.proofs.Math.Nat.{zero-div}
 use Rattle.kalah_rules.specs.Position.{Rows, IsWithinHouses}
-use Rattle.kalah_solve.specs.RowRank.{game_of, place_of}
-use Rattle.kalah_solve.specs.Endings.{TellTaken, told_game, told_taken}
+use Rattle.kalah_solve.specs.RowRank.{rank_of_houses}
+use Rattle.kalah_solve.specs.Endings.{TellsTaken, label_of, told_label, told_at}
 use Rattle.kalah_solve.specs.Taken.{taken}
-use Rattle.kalah_solve.specs.declared.endings.Ending.{Ending}
-use Rattle.kalah_solve.proofs.RowRanks.{same_houses}
+use Rattle.kalah_solve.proofs.Digits.{same_past, put_there, same_before, same_elsewhere}
+use Rattle.kalah_solve.proofs.RowRanks.{same_houses, game_small}
 
--- after one more is kept
-pub tell_more : (endings : List Ending) (a : Rows) (place : ℕ) (e : Ending) → TellTaken endings → IsWithinHouses a → place ≡ place_of a → place < length endings →
-    told_game e ≡ game_of a → told_taken e ≡ taken a → TellTaken (slice_set endings place e)
-tell_more endings a place e before within at inside game known b d within_b inside_b game_b = elim (cases_eq (place_of b) place) [
-  | inl same ↦
-      let here : get_or (slice_set endings place e) (place_of b) d ≡ e = rw same (get_or-set_same endings place e d inside) in
-      let games : game_of a ≡ game_of b = sym game ∙ rw here at game_b in
-      rw here (known ∙ ap taken (same_houses a b within within_b games (sym at ∙ sym same)))
-  | inr other ↦
-      let there : get_or (slice_set endings place e) (place_of b) d ≡ get_or endings (place_of b) d =
-      get_or-set_other endings place (place_of b) e d other in
-      rw there (before b d within_b (rw (length-set endings place e) at inside_b) (rw there at game_b))
-]
+-- houses of one word and one place in it are one
+same_told : (a b : Rows) → IsWithinHouses a → IsWithinHouses b → label_of a ≡ label_of b → rank_of_houses a % 8 ≡ rank_of_houses b % 8 → a ≡ b
+same_told a b ha hb label place =
+    same_houses a b ha hb (omega (arith, label, game_small a ha, game_small b hb)) (omega (arith, label, place, game_small a ha, game_small b hb))
 
--- so what is found there is right
-pub told : (endings : List Ending) (a : Rows) (place : ℕ) (e : Ending) → TellTaken endings → IsWithinHouses a → place ≡ place_of a → place < length endings →
-    e ≡ get_or endings place e → told_game e ≡ game_of a → told_taken e ≡ taken a
-told endings a place e tells within at inside is game =
-    let found : e ≡ get_or endings (place_of a) e = rw at at is in
-    ap (λ f. told_taken f) found ∙ tells a e within (rw at at inside) (ap (λ f. told_game f) (sym found) ∙ game)
+-- a word with nothing in its lower half has nothing at any place
+pub told_nothing : (label place : ℕ) → place ≤ 7 → told_at (label * 2 ^ 32) place ≡ 0
+told_nothing label place few =
+    let same : label * 2 ^ 32 ≡ 0 + label * 2 ^ 32 = omega arith in
+    rw same (same_before place 8 0 label (omega (arith, few)) ∙ ap (λ n. n % 16) (zero-div (2 ^ (4 * place))))
+
+-- so it tells nothing
+pub tells_nothing : (label : ℕ) → TellsTaken (label * 2 ^ 32)
+unfolding TellsTaken
+tells_nothing label a within is told = absurd (told (told_nothing label (rank_of_houses a % 8) (omega arith)))
+
+-- after one more is told
+pub tells_more : (word : ℕ) (a : Rows) → TellsTaken word → IsWithinHouses a → told_label word ≡ label_of a → told_at word (rank_of_houses a % 8) ≡ 0 →
+    taken a ≤ 9 → TellsTaken (word + suc (taken a) * 2 ^ (4 * (rank_of_houses a % 8)))
+unfolding TellsTaken
+tells_more word a before ha label none few b hb label_b told =
+    let place = rank_of_houses a % 8 in
+    let d = suc (taken a) in
+    let small : d ≤ 15 = omega (arith, few) in
+    let past : told_label (word + d * 2 ^ (4 * place)) ≡ told_label word = same_past place 8 word d (omega arith) none (omega (arith, small)) in
+    let one : told_label word ≡ label_of b = sym past ∙ label_b in
+    elim (cases_eq (rank_of_houses b % 8) place) [
+      | inl same ↦
+          let is : a ≡ b = same_told a b ha hb (sym label ∙ one) (sym same) in
+          rw same (put_there place word d none (omega (arith, small)) ∙ ap (λ c. suc (taken c)) is)
+      | inr other ↦
+          let there = same_elsewhere (rank_of_houses b % 8) place word d other none (omega (arith, small)) in
+          rw there (before b hb one (rw there at told))
+    ]
+
+-- so what is told of houses is right
+pub told : (word : ℕ) (a : Rows) → TellsTaken word → IsWithinHouses a → told_label word ≡ label_of a → told_at word (rank_of_houses a % 8) ≢ 0 →
+    told_at word (rank_of_houses a % 8) ≡ suc (taken a)
+unfolding TellsTaken
+told word a tells within label some = tells a within label some

@@ -12,12 +12,14 @@ mod StepWorths
 mod HousesWorth
 mod Shares
 mod Takings
+mod Digits
 mod Entries
 mod Tries
 mod Windows
 mod Roots
 mod RowRanks
 mod Choices
+pub mod Crossing
 mod KeptEndings
 mod PlacedKeys
 mod MostTaken

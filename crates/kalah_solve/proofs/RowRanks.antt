@@ -13,9 +13,9 @@ use Rattle.std.proofs.Math.ListN.{take}
 use Rattle.std.proofs.lemmas.List.Sums.{sum_by-cons}
 use Rattle.kalah_rules.specs.Position.{Rows, IsWithinHouses}
 use Rattle.kalah_rules.specs.Key.{number_of, key_of}
-use Rattle.kalah_rules.proofs.Keys.{same_key, own_number_at, other_number_at}
+use Rattle.kalah_rules.proofs.Keys.{same_key, rule_bit-small, own_number_at, other_number_at}
 use Rattle.kalah_rules.proofs.Packing.{number_of-append, pow_five}
-use Rattle.kalah_solve.specs.RowRank.{choose, row_rank, sums_number, rank_of_houses, game_of, first_place, place_of}
+use Rattle.kalah_solve.specs.RowRank.{choose, row_rank, sums_number, rank_of_houses, game_of}
 
 -- out of more things there are no fewer ways to choose
 choose_up : (n k : ℕ) → choose n k ≤ choose (suc n) k
@@ -106,12 +106,13 @@ rank_same (x ∷ xs) (y ∷ ys) long same =
     let here : x ≡ y = omega (arith, ap sum rest) in
     rw (here, rest) refl
 
--- houses of one game with one place are one
-pub same_houses : (a b : Rows) → IsWithinHouses a → IsWithinHouses b → game_of a ≡ game_of b → place_of a ≡ place_of b → a ≡ b
-unfolding place_of
-same_houses a b ha hb game place =
-    let first : first_place (game_of a) ≡ first_place (game_of b) = rw game refl in
-    let rank : rank_of_houses a ≡ rank_of_houses b = omega (arith, place, first) in
+-- a game is told by four bits
+pub game_small : (a : Rows) → IsWithinHouses a → game_of a ≤ 15
+game_small a ha = omega (arith, ha.at_most_six, rule_bit-small a.rule)
+
+-- houses of one game with one rank are one
+pub same_houses : (a b : Rows) → IsWithinHouses a → IsWithinHouses b → game_of a ≡ game_of b → rank_of_houses a ≡ rank_of_houses b → a ≡ b
+same_houses a b ha hb game rank =
     let side : length a.own ≡ length b.own = omega (arith, game, ha.at_most_six, hb.at_most_six) in
     let cells : length (a.own ++ a.other) ≡ length (b.own ++ b.other) =
     omega (arith, length-append a.own a.other, length-append b.own b.other, ha.same_side, hb.same_side, side) in

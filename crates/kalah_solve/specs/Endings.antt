@@ -1,9 +1,8 @@
 -- What the places of endings keep.
-use Rattle.std.specs.Prelude.{◌≡◌, ℕ, ◌+◌, ◌*◌, ◌/◌, ◌%◌, ◌<◌, suc, List, length, slice_index, slice_index_or}
+use Rattle.std.specs.Prelude.{◌≡◌, ℕ, ◌+◌, ◌*◌, ◌/◌, ◌%◌, ◌^◌, ◌<◌, ◌≢◌, suc, List, slice_index}
 use Rattle.kalah_rules.specs.Position.{Rows, IsWithinHouses}
-use Rattle.kalah_solve.specs.RowRank.{choose, game_of, place_of}
+use Rattle.kalah_solve.specs.RowRank.{choose, game_of, rank_of_houses}
 use Rattle.kalah_solve.specs.Taken.{taken}
-use Rattle.kalah_solve.specs.declared.endings.Ending.{Ending}
 
 -- what cell k of the choices holds: in how many ways j + 1 of s + j things can be chosen, where k is 10 * j + s
 abbrev pub choice_at : ℕ → ℕ
@@ -22,15 +21,19 @@ pair_at k = choose (k % 32 + 2 * (k / 320) + 1) (2 * (k / 320) + 2) + choose (k 
 abbrev pub ArePairs : ℕ → List ℕ → Type 0
 ArePairs n pairs = (k : ℕ) → k < n → k % 32 < 10 → slice_index pairs k ≡ pair_at k
 
--- an ending tells in one byte of which game it is
-abbrev pub told_game : Ending → ℕ
-told_game e = e.told / 16
+-- which houses a word of endings tells of: those of this game with this eighth of their rank
+abbrev pub label_of : Rows → ℕ
+label_of a = game_of a + 16 * (rank_of_houses a / 8)
 
--- and what the mover takes
-abbrev pub told_taken : Ending → ℕ
-told_taken e = e.told % 16
+-- the word tells that in its upper half
+abbrev pub told_label : ℕ → ℕ
+told_label word = word / 2 ^ 32
 
--- what stands in the place of houses under their game is what the mover takes of them
-abbrev pub TellTaken : List Ending → Type 0
-TellTaken endings = (a : Rows) (d : Ending) → IsWithinHouses a → place_of a < length endings →
-    told_game (slice_index_or endings (place_of a) d) ≡ game_of a → told_taken (slice_index_or endings (place_of a) d) ≡ taken a
+-- and in four bits of its lower half, for each of those houses, nothing or one more than the mover takes
+abbrev pub told_at : ℕ → ℕ → ℕ
+told_at word at = word / 2 ^ (4 * at) % 16
+
+-- what it tells is what the mover takes
+unfoldable pub TellsTaken : ℕ → Type 0
+TellsTaken word = (a : Rows) → IsWithinHouses a → told_label word ≡ label_of a → told_at word (rank_of_houses a % 8) ≢ 0 →
+    told_at word (rank_of_houses a % 8) ≡ suc (taken a)

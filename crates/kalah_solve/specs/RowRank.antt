@@ -1,5 +1,5 @@
 -- A number for each row of cells with few seeds, so that all such rows can stand in a short list.
-use Rattle.std.specs.Prelude.{ℕ, zero, suc, ◌+◌, ◌*◌, List, [], ◌∷◌, ◌++◌, length, sum, slice_index}
+use Rattle.std.specs.Prelude.{ℕ, zero, suc, ◌+◌, ◌*◌, List, [], ◌∷◌, ◌++◌, length, sum}
 use Rattle.kalah_rules.specs.Position.{Rows}
 use Rattle.kalah_rules.specs.Key.{rule_bit}
 
@@ -27,12 +27,3 @@ rank_of_houses a = row_rank (a.own ++ a.other)
 -- the game that houses are of: how many there are per side, and 8 more for the empty-capture rule
 abbrev pub game_of : Rows → ℕ
 game_of a = length a.own + 8 * rule_bit a.rule
-
--- where the places of a game begin, so that no two games share a place among those of houses with at most 9 seeds
-abbrev pub first_place : ℕ → ℕ
-first_place game =
-    slice_index (0 ∷ 0 ∷ 55 ∷ 770 ∷ 5775 ∷ 30085 ∷ 122463 ∷ 0 ∷ 0 ∷ 416393 ∷ 416448 ∷ 417163 ∷ 422168 ∷ 446478 ∷ 538856 ∷ 0 ∷ []) game
-
--- the place of houses among those of all games
-unfoldable pub place_of : Rows → ℕ
-place_of a = first_place (game_of a) + rank_of_houses a

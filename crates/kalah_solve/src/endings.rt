@@ -2,79 +2,43 @@
 ghost use Rattle.std.specs.Prelude.{◌≡◌, ◌≤◌, ◌<◌, ◌+◌, ◌*◌, ◌/◌, ◌%◌, ◌^◌, ◌++◌, ℕ, IfSome};
 ghost use Rattle.kalah_rules.specs.Position.{bare, seeds_in_houses, IsWithinHouses};
 ghost use Rattle.kalah_rules.specs.Key.{number_of};
-ghost use Rattle.kalah_solve.specs.RowRank.{choose, sums_number, rank_of_houses, game_of, place_of};
+ghost use Rattle.kalah_solve.specs.RowRank.{choose, sums_number, rank_of_houses, game_of};
 ghost use Rattle.kalah_solve.specs.Taken.{taken};
-ghost use Rattle.kalah_solve.specs.Endings.{AreChoices, choice_at, ArePairs, pair_at, told_game, told_taken};
+ghost use Rattle.kalah_solve.specs.Endings.{AreChoices, choice_at, ArePairs, pair_at};
 
 mod exact;
 #[cfg(test)]
 mod tests;
+mod words;
 
+use crate::endings::words::{
+    FIRST_WORDS, TrueWord, begun, label_of, told_at, told_more, untold_words,
+};
 use kalah_rules::Houses;
 use std::alloc::{AllocError, Allocator, Global};
 use std::marker::Model;
-
-// In how many ways the houses of both players can hold at most 9 seeds, by both rules, with 1 to 6 houses a side.
-const PLACES: usize = 832_786;
-
-// Where the places of a game begin.
-const FIRST_PLACES: [u32; 16] = [
-    0, 0, 55, 770, 5_775, 30_085, 122_463, 0, 0, 416_393, 416_448, 417_163, 422_168, 446_478,
-    538_856, 0,
-];
+use std::sync::atomic::AtomicIn;
+use std::sync::atomic::Ordering::Relaxed;
 
 // Where the other player's houses begin in a key.
 const OTHER_ROW: u64 = 0x4000_0000;
 
-// What the mover takes of the houses of a game in whose place it stands, with the game, in one byte. There is no game 0, which
-// stands where nothing is known.
-#[derive(Clone, Copy)]
-struct Ending {
-    told: u8,
-}
-
-impl Ending {
-    fn of(game: u8, taken: u8) -> Ending
-        requires game { game < 16 }
-        requires taken { taken < 16 }
-        ensures game { told_game result ≡ game }
-        ensures taken { told_taken result ≡ taken }
-    {
-        Ending {
-            told: 16 * game + taken,
-        }
-    }
-
-    fn game(self) -> u8
-        ensures { result ≡ told_game self }
-    {
-        self.told / 16
-    }
-
-    fn taken(self) -> u8
-        ensures { result ≡ told_taken self }
-    {
-        self.told % 16
-    }
-}
-
-/// A place for each value of houses with at most 9 seeds. It is told by how many such houses come before, so no key is kept.
+/// What is known of houses with at most 9 seeds: a word for each eight of them whose ranks follow one another. Threads may share
+/// it, since what a word tells is true, whoever wrote it.
 #[derive(Drop)]
 pub(crate) struct Endings<A: Allocator = Global> {
-    endings: Vec<Ending, A>,
+    words: Vec<AtomicIn<TrueWord>, A>,
     pairs: [u32; 1920],
 }
 
 impl<A: Allocator> Model for Endings<A> {
-    ghost use Rattle.std.specs.Prelude.{List};
-    ghost use Rattle.kalah_solve.specs.declared.endings.Ending.{Ending};
-    ghost use Rattle.kalah_solve.specs.Endings.{ArePairs, TellTaken};
+    ghost use Rattle.kalah_solve.specs.Endings.{ArePairs};
 
-    ghost Value = { List Ending };
+    ghost Value = { Unit {0} };
 
-    ghost view = { λ e. e.endings.items };
+    ghost view = { λ _. tt };
 
-    ghost invariant = { λ e. ArePairs 1920 e.pairs × TellTaken e.endings.items };
+    ghost invariant = { λ e. ArePairs 1920 e.pairs };
 }
 
 // What cell `i` of the choices holds, by the cells before it.
@@ -160,21 +124,12 @@ fn game_of(houses: &Houses) -> u8
 }
 
 impl<A: Allocator> Endings<A> {
-    /// With nothing known, and memory for all places. It fails where there is none.
+    /// With nothing known, and memory for all words. It fails where there is none.
     pub(crate) fn new(alloc: A) -> Result<Endings<A>, AllocError> {
         Ok(Endings {
-            endings: Vec::with_capacity(alloc, PLACES)?,
+            words: untold_words(alloc)?,
             pairs: pairs(),
         })
-    }
-
-    // Lays out the places up to this one, with nothing known there. So a game whose places nobody asks for takes no time.
-    fn lay_out(&mut self, place: usize) {
-        for _ in self.endings.len()..=place {
-            if self.endings.push(Ending::of(0, 0)).is_err() {
-                return;
-            }
-        }
     }
 
     // What two cells add to the rank of a row, with so many pairs past them, by the seeds from each of them on.
@@ -203,35 +158,41 @@ impl<A: Allocator> Endings<A> {
         rank
     }
 
-    // The place of the houses.
-    fn place(&self, houses: &Houses) -> usize
-        requires { seeds_in_houses (bare houses.now) ≤ 9 }
-        ensures { result ≡ place_of houses.now }
-    {
-        FIRST_PLACES[game_of(houses) as usize] as usize + self.rank(houses) as usize
+    // The word of houses of this rank in their game.
+    fn word(&self, houses: &Houses, rank: u32) -> Option<&AtomicIn<TrueWord>> {
+        let first = FIRST_WORDS[game_of(houses) as usize] as usize;
+        self.words.get(first + rank as usize / 8)
     }
 
     // What the mover takes of them, where it is known.
-    fn get(&self, place: usize, houses: &Houses) -> Option<u8>
-        requires { place ≡ place_of houses.now }
+    fn get(&self, houses: &Houses, rank: u32) -> Option<u8>
+        requires { rank ≡ rank_of_houses houses.now }
         ensures { IfSome result (λ t. t ≡ taken houses.now) }
     {
-        match self.endings.get(place) {
-            Some(ending) if ending.game() == game_of(houses) => Some(ending.taken()),
-            _ => None,
+        let word = self.word(houses, rank)?.load(Relaxed);
+        if word >> 32 != label_of(houses, rank) {
+            return None;
         }
+        let told = told_at(word, rank % 8);
+        if told == 0 {
+            return None;
+        }
+        Some(told as u8 - 1)
     }
 
-    // Keeps what the mover takes of them in their place.
-    fn keep(&mut self, place: usize, houses: &Houses, known: u8)
-        requires place { place ≡ place_of houses.now }
+    // Keeps what the mover takes of them.
+    fn keep(&self, houses: &Houses, rank: u32, known: u8)
+        requires rank { rank ≡ rank_of_houses houses.now }
+        requires small { rank < 2 ^ 21 }
         requires known { known ≡ taken houses.now }
         requires few { seeds_in_houses (bare houses.now) ≤ 9 }
     {
-        let told = Ending::of(game_of(houses), known);
-        self.lay_out(place);
-        if let Some(ending) = self.endings.get_mut(place) {
-            *ending = told;
+        let label = label_of(houses, rank);
+        if let Some(cell) = self.word(houses, rank) {
+            let word = begun(label, cell.load(Relaxed));
+            if told_at(word, rank % 8) == 0 {
+                cell.store(told_more(word, rank % 8, known as u64 + 1), Relaxed);
+            }
         }
     }
 }

@@ -1,9 +1,9 @@
 //! The search: what houses are worth in a window, told by one test after another of what the mover takes.
-ghost use Rattle.std.specs.Prelude.{◌≡◌, ◌+◌, ◌≤◌, ◌<◌, false, ◌≤ℤ◌, max, min};
+ghost use Rattle.std.specs.Prelude.{◌≡◌, ◌+◌, ◌≤◌, ◌<◌, false, ◌≤ℤ◌, max, min, [], IfOk};
 ghost use Rattle.kalah_rules.specs.Limits.{most_seeds};
 ghost use Rattle.kalah_rules.specs.Position.{is_over, bare};
 ghost use Rattle.kalah_solve.specs.Worth.{houses_worth};
-ghost use Rattle.kalah_solve.specs.Table.{Encloses, least_margin, most_margin, within};
+ghost use Rattle.kalah_solve.specs.Table.{Encloses, least_margin, most_margin, most_entries, within};
 ghost use Rattle.kalah_solve.specs.Taken.{taken, IsWithinShare};
 
 mod reaches;
@@ -14,7 +14,7 @@ use crate::share::Share;
 use crate::table::{Interval, Table};
 use crate::window::Window;
 use kalah_rules::Houses;
-use std::alloc::{Allocator, Global};
+use std::alloc::{AllocError, Allocator, Global};
 
 /// What is known of houses with at most so many seeds is kept in their place, and of others among the entries.
 const MOST_PLACED: u8 = 20;
@@ -38,7 +38,9 @@ pub struct Search<A: Allocator + Clone = Global> {
 
 impl<A: Allocator + Clone> Search<A> {
     /// A search with this table.
-    pub fn new(table: Table<A>) -> Search<A> {
+    pub fn new(table: Table<A>) -> Search<A>
+        ensures { result.table ≡ table }
+    {
         Search {
             table,
             most_placed: MOST_PLACED,
@@ -46,6 +48,15 @@ impl<A: Allocator + Clone> Search<A> {
             knows_endings: true,
             nodes: 0,
         }
+    }
+
+    /// A search with an empty table of its own, that shares with this one what is known of endings.
+    pub fn beside(&self, alloc: A, capacity: u32) -> Result<Search<A>, AllocError>
+        requires low { 1 ≤ capacity }
+        requires high { capacity ≤ most_entries }
+        ensures { IfOk result (λ s. s.table ≡ []) }
+    {
+        Ok(Search::new(self.table.beside(alloc, capacity)?))
     }
 
     /// A search that keeps every answer among the entries of its table.

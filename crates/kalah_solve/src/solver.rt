@@ -1,8 +1,9 @@
 //! The solver.
-ghost use Rattle.std.specs.Prelude.{◌≡◌, false};
+ghost use Rattle.std.specs.Prelude.{◌≡◌, ◌≤◌, [], IfOk, false};
 ghost use Rattle.kalah_rules.specs.Position.{is_over, bare};
 ghost use Rattle.kalah_rules.specs.Play.{legal_houses};
 ghost use Rattle.kalah_solve.specs.Worth.{best_house};
+ghost use Rattle.kalah_solve.specs.Table.{most_entries};
 ghost use Rattle.kalah_solve.specs.Taken.{taken};
 ghost use Rattle.kalah_solve.specs.Verdict.{verdict_of, TellsBestPlay, IsSmallVerdict};
 
@@ -16,7 +17,7 @@ use crate::table::Table;
 use crate::verdict::Verdict;
 use crate::window::Window;
 use kalah_rules::{Board, Houses, Moves};
-use std::alloc::{Allocator, Global};
+use std::alloc::{AllocError, Allocator, Global};
 
 /// Tells what positions are worth, by a search that keeps what it learns in a table.
 #[derive(Drop)]
@@ -30,6 +31,18 @@ impl<A: Allocator + Clone> Solver<A> {
         Solver {
             search: Search::new(table),
         }
+    }
+
+    /// A solver with an empty table of its own, with room for `capacity` entries, which is 1 to 1,048,576. What one of the two learns
+    /// of endings the other knows too, and so do solvers beside either, in whatever threads they are. It fails only where
+    /// memory was refused.
+    pub fn beside(&self, alloc: A, capacity: u32) -> Result<Solver<A>, AllocError>
+        requires low { 1 ≤ capacity }
+        requires high { capacity ≤ most_entries }
+        ensures { IfOk result (λ s. s.search.table ≡ []) }
+    {
+        let search = self.search.beside(alloc, capacity)?;
+        Ok(Solver { search })
     }
 
     /// What the position is worth to the player to move: the final margin of a game that is over, and else the margin

@@ -5,6 +5,9 @@ ghost use Rattle.kalah_rules.specs.Key.{key_of};
 ghost use Rattle.kalah_rules.specs.Position.{bare, is_over, seeds_in_houses};
 ghost use Rattle.kalah_solve.specs.Worth.{houses_worth};
 
+#[cfg(test)]
+mod tests;
+
 use crate::endings::Endings;
 use crate::places::Places;
 use crate::share::Share;
@@ -14,6 +17,7 @@ use lru::{DefaultHasher, LruCache};
 use std::alloc::{AllocError, Allocator, Global};
 use std::marker::Model;
 use std::num::NonZeroUsize;
+use std::sync::Arc;
 
 /// The most entries that a table has room for.
 pub const MOST_ENTRIES: u32 = 1_048_576;
@@ -88,7 +92,7 @@ impl Interval {
 pub struct Table<A: Allocator + Clone = Global> {
     entries: LruCache<u64, Interval, DefaultHasher, A>,
     places: Places<A>,
-    endings: Endings<A>,
+    endings: Arc<Endings<A>, A>,
 }
 
 impl<A: Allocator + Clone> Model for Table<A> {
@@ -113,8 +117,31 @@ impl<A: Allocator + Clone> Table<A> {
         requires high { capacity ≤ most_entries }
         ensures { IfOk result (λ t. t ≡ []) }
     {
-        let places = Places::new(alloc.clone()?, capacity)?;
         let endings = Endings::new(alloc.clone()?)?;
+        let endings = Arc::new(alloc.clone()?, endings)?;
+        Table::with_endings(alloc, capacity, endings)
+    }
+
+    // An empty table that shares with this one what is known of endings. It fails only where memory was refused.
+    pub(crate) fn beside(&self, alloc: A, capacity: u32) -> Result<Table<A>, AllocError>
+        requires low { 1 ≤ capacity }
+        requires high { capacity ≤ most_entries }
+        ensures { IfOk result (λ t. t ≡ []) }
+    {
+        Table::with_endings(alloc, capacity, Arc::try_clone(&self.endings)?)
+    }
+
+    // An empty table with these endings.
+    fn with_endings(
+        alloc: A,
+        capacity: u32,
+        endings: Arc<Endings<A>, A>,
+    ) -> Result<Table<A>, AllocError>
+        requires low { 1 ≤ capacity }
+        requires high { capacity ≤ most_entries }
+        ensures { IfOk result (λ t. t ≡ []) }
+    {
+        let places = Places::new(alloc.clone()?, capacity)?;
         let capacity = NonZeroUsize::new(capacity as usize).unwrap();
         let entries = LruCache::new(alloc, capacity)?;
         Ok(Table {

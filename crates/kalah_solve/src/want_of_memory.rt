@@ -55,3 +55,12 @@ fn one_table_for_two_positions(rt: HostRuntime) -> Result<(), Fail> {
     tells_both(&rt, &mut Solver::new(table));
     mark(alloc, "after all")
 }
+
+#[test]
+fn a_solver_beside_another(rt: HostRuntime) -> Result<(), Fail> {
+    let alloc = rt.alloc();
+    let first = Solver::new(new_table(alloc)?);
+    let mut second = first.beside(alloc, 1).or_else(|_| first.beside(alloc, 1))?;
+    tells_both(&rt, &mut second);
+    mark(alloc, "after all")
+}

@@ -12,23 +12,23 @@ use std::alloc::Allocator;
 impl<A: Allocator> Endings<A> {
     /// How many of the seeds in the houses the mover takes.
     #[cycle(exact)]
-    pub(crate) fn taken(&mut self, houses: &Houses) -> u8
+    pub(crate) fn taken(&self, houses: &Houses) -> u8
         requires going { is_over (bare houses.now) ≡ false }
         requires few { seeds_in_houses (bare houses.now) ≤ 9 }
         ensures { result ≡ taken houses.now }
     {
-        let place = self.place(houses);
-        if let Some(taken) = self.get(place, houses) {
+        let rank = self.rank(houses);
+        if let Some(taken) = self.get(houses, rank) {
             return taken;
         }
         let taken = self.most_taken(houses);
-        self.keep(place, houses, taken);
+        self.keep(houses, rank, taken);
         taken
     }
 
     // The same, by trying the moves.
     #[cycle(exact)]
-    fn most_taken(&mut self, houses: &Houses) -> u8
+    fn most_taken(&self, houses: &Houses) -> u8
         requires going { is_over (bare houses.now) ≡ false }
         requires few { seeds_in_houses (bare houses.now) ≤ 9 }
         ensures { result ≡ taken houses.now }
@@ -47,7 +47,7 @@ impl<A: Allocator> Endings<A> {
 
     // What house `h` takes.
     #[cycle(exact)]
-    fn move_takes(&mut self, houses: &Houses, h: u8) -> u8
+    fn move_takes(&self, houses: &Houses, h: u8) -> u8
         requires legal { Contains (legal_houses (bare houses.now)) h }
         requires few { seeds_in_houses (bare houses.now) ≤ 9 }
         ensures { result ≡ taken_by_step (houses_step houses.now h) }

@@ -1,3 +1,6 @@
+ghost use Rattle.std.specs.Prelude.{◌≤◌};
+ghost use Rattle.kalah_rules.specs.Position.{bare, seeds_in_houses};
+
 use super::*;
 use crate::plain;
 use crate::verdict::Verdict;
@@ -27,7 +30,7 @@ fn plainly_taken(board: &Board) -> Option<i32> {
 }
 
 // The board's ending is that of the plain recursion. It tells whether the board has an ending to compare.
-fn agrees_with_plain(rt: &impl Abort, endings: &mut Endings, board: &Board) -> bool {
+fn agrees_with_plain(rt: &impl Abort, endings: &Endings, board: &Board) -> bool {
     if board.is_over() || board.houses().seeds() > 6 {
         return false;
     }
@@ -37,7 +40,7 @@ fn agrees_with_plain(rt: &impl Abort, endings: &mut Endings, board: &Board) -> b
 }
 
 // Each board with so many houses a side and at most 6 seeds, twice; it tells how many there are.
-fn agrees_with_plain_with(rt: &impl Abort, endings: &mut Endings, m: u8, rule: Rule) -> u32 {
+fn agrees_with_plain_with(rt: &impl Abort, endings: &Endings, m: u8, rule: Rule) -> u32 {
     let mut boards = 0u32;
     for number in 0..117_649u32 {
         let own = cells_of(number % 343);
@@ -54,12 +57,24 @@ fn agrees_with_plain_with(rt: &impl Abort, endings: &mut Endings, m: u8, rule: R
 
 #[test]
 fn endings_agree_with_plain(rt: HostRuntime) {
-    let mut endings = new_endings(&rt, rt.alloc());
+    let endings = new_endings(&rt, rt.alloc());
     for rule in [Rule::Classic, Rule::EmptyCapture] {
-        assert!(rt; agrees_with_plain_with(&rt, &mut endings, 1, rule) == 15);
-        assert!(rt; agrees_with_plain_with(&rt, &mut endings, 2, rule) == 155);
-        assert!(rt; agrees_with_plain_with(&rt, &mut endings, 3, rule) == 757);
+        assert!(rt; agrees_with_plain_with(&rt, &endings, 1, rule) == 15);
+        assert!(rt; agrees_with_plain_with(&rt, &endings, 2, rule) == 155);
+        assert!(rt; agrees_with_plain_with(&rt, &endings, 3, rule) == 757);
     }
+}
+
+// Where the ending of the houses stands: eight of them in each word.
+fn place(endings: &Endings, houses: &Houses) -> Option<usize>
+    requires { seeds_in_houses (bare houses.now) ≤ 9 }
+{
+    let rank = endings.rank(houses) as usize;
+    let first = FIRST_WORDS[game_of(houses) as usize] as usize;
+    if endings.words.len() <= first + rank / 8 {
+        return None;
+    }
+    Some(8 * first + rank)
 }
 
 // The houses of two a side with at most 4 seeds have the 70 places from this one on.
@@ -71,7 +86,9 @@ fn fill_places(rt: &impl Abort, endings: &Endings, rule: Rule, first: usize) {
         let houses = Houses::new(2, own, other, rule);
         if let Some(houses) = houses {
             if houses.seeds() <= 4 {
-                let at = endings.place(&houses).wrapping_sub(first);
+                let at = place(endings, &houses)
+                    .expect(rt, "no place")
+                    .wrapping_sub(first);
                 assert!(rt; at < 70);
                 assert!(rt; !filled[at]);
                 filled[at] = true;
@@ -84,8 +101,8 @@ fn fill_places(rt: &impl Abort, endings: &Endings, rule: Rule, first: usize) {
 #[test]
 fn houses_have_places_of_their_own(rt: HostRuntime) {
     let endings = new_endings(&rt, rt.alloc());
-    fill_places(&rt, &endings, Rule::Classic, 55);
-    fill_places(&rt, &endings, Rule::EmptyCapture, 416_448);
+    fill_places(&rt, &endings, Rule::Classic, 56);
+    fill_places(&rt, &endings, Rule::EmptyCapture, 416_472);
 }
 
 #[test]
@@ -94,9 +111,9 @@ fn an_ending_is_known_once_it_was_asked_for(rt: HostRuntime) {
     let houses = Houses::new(1, threes, threes, Rule::Classic).expect(&rt, "beyond the limits");
     assert!(rt; !houses.is_over());
     assert!(rt; houses.seeds() <= 9);
-    let mut endings = new_endings(&rt, rt.alloc());
-    let place = endings.place(&houses);
-    assert!(rt; endings.get(place, &houses) == None);
+    let endings = new_endings(&rt, rt.alloc());
+    let rank = endings.rank(&houses);
+    assert!(rt; endings.get(&houses, rank) == None);
     assert!(rt; endings.taken(&houses) == 6);
-    assert!(rt; endings.get(place, &houses) == Some(6));
+    assert!(rt; endings.get(&houses, rank) == Some(6));
 }

@@ -1,3 +1,4 @@
+mod beside;
 mod memory;
 mod tables;
 mod values;

@@ -1,0 +1,26 @@
+-- What of this crate may cross threads, where memory is the heap's.
+use denote.Param.Send.{IsSend, IsSync, Frees, sendable}
+use Rattle.std.specs.contracts.alloc.Global as Heap
+use Rattle.std.specs.declared.alloc.Allocator.{Ghosts}
+use Rattle.std.specs.declared.clone.Clone as clone
+use Rattle.std.proofs.Crossing.{crosses, frees}
+use Rattle.std.proofs.MapsCrossing as maps
+use Rattle.lru.proofs.Crosses.{KeyRef-send, List-send, Deed-send}
+use Rattle.kalah_solve.specs.contracts.endings.Endings as Endings
+use Rattle.kalah_solve.specs.contracts.solver.Solver as Solver
+
+-- how an allocator's blocks are owned, if they may be freed anywhere
+abbrev pub owned : {D : Type 0} {g : Ghosts D} → Frees g g.dealloc_token → Ghosts D
+owned {D} {g} f = g
+
+-- endings may be handed over
+Endings-send : IsSend (Endings.the_row Heap.the_row (owned frees))
+Endings-send = search (sendable, crosses) depth 40
+
+-- and shared
+Endings-sync : IsSync (Endings.the_row Heap.the_row (owned frees))
+Endings-sync = search (sendable, crosses) depth 40
+
+-- so solvers that share them may be handed over
+pub Solver-send : (c : clone.Ghosts (Heap.the_row).Denot) → IsSend (Solver.the_row Heap.the_row (owned frees) c)
+Solver-send c = search (sendable, crosses, maps.crosses, KeyRef-send, List-send, Deed-send, Endings-send, Endings-sync) depth 60

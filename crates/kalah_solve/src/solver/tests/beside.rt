@@ -1,0 +1,60 @@
+//! Solvers beside each other: each has a table of its own, and what is known of endings is one.
+use super::*;
+use crate::granting::Granting;
+
+// A solver beside this one, with such a table.
+fn beside(rt: &impl Abort, alloc: Global, solver: &Solver, entries: u32) -> Solver {
+    assert!(rt; 1 <= entries && entries <= 1_048_576);
+    let other = solver.beside(alloc, entries);
+    other.expect(rt, "no memory for a table")
+}
+
+// A solver asks for what another may have kept, and keeps it in its own table.
+fn keeps_entries(rt: &impl Abort, solver: &mut Solver) {
+    tables::tells_busy_houses(rt, solver);
+    tables::keeps_the_last_two(rt, solver);
+}
+
+// Both do, one after the other.
+fn keep_entries_apart(rt: &impl Abort, alloc: Global, entries: u32) {
+    let mut first = solver_of(rt, alloc, entries);
+    let mut second = beside(rt, alloc, &first, entries);
+    keeps_entries(rt, &mut first);
+    keeps_entries(rt, &mut second);
+}
+
+#[test]
+fn solvers_beside_each_other_have_entries_of_their_own(rt: HostRuntime) {
+    keep_entries_apart(&rt, rt.alloc(), 65_536);
+}
+
+// Whether there is memory for a solver and one beside it, and a third beside that one.
+fn are_made<A: Allocator + Copy>(rt: &impl Abort, alloc: A, entries: u32) -> bool {
+    assert!(rt; 1 <= entries && entries <= 1_048_576);
+    let Ok(table) = Table::new(alloc, entries) else {
+        return false;
+    };
+    match Solver::new(table).beside(alloc, entries) {
+        Ok(second) => second.beside(alloc, entries).is_ok(),
+        Err(_) => false,
+    }
+}
+
+// They are refused where a request is, and only there, with so many requests granted, of as many as there are. It tells how
+// many came.
+fn ask_for_memory(rt: &impl Abort, alloc: Global, entries: u32, (grants, all): (u32, u32)) -> u32 {
+    let heap = Granting::new(alloc, grants);
+    assert!(rt; are_made(rt, &heap, entries) == (heap.refused() == 0));
+    memory::requests_made(rt, &heap, grants == all)
+}
+
+// With all requests granted, and with any number fewer.
+#[test]
+fn solvers_are_refused_only_where_memory_is(rt: HostRuntime) {
+    for entries in [1, 65_536] {
+        let all = ask_for_memory(&rt, rt.alloc(), entries, (u32::MAX, u32::MAX));
+        for grants in 0..=all {
+            ask_for_memory(&rt, rt.alloc(), entries, (grants, all));
+        }
+    }
+}
