@@ -1,6 +1,8 @@
 # kalah: an exact solver of small positions of Kalah, proved.
 
 PREFIX ?= /usr/local
+# So many processors each check may use: with more, `make` is done sooner, and takes more processor time.
+JOBS ?= 1
 
 .PHONY: all check test install uninstall bench clean
 
@@ -8,7 +10,7 @@ PREFIX ?= /usr/local
 all: kalah
 
 kalah: FORCE
-	cd crates/kalah_cli && rt run -- moves '1,1/0 1,1/0' > /dev/null
+	cd crates/kalah_cli && rt run --jobs $(JOBS) -- moves '1,1/0 1,1/0' > /dev/null
 	cp crates/kalah_cli/out/kalah_cli kalah
 
 FORCE:

@@ -108,6 +108,11 @@ impl<A: Allocator> Places<A> {
         Ok(Places { places })
     }
 
+    #[cfg(test)]
+    pub(crate) fn len(&self) -> usize {
+        self.places.len()
+    }
+
     /// What the place of the houses tells of them.
     pub(crate) fn look_up(&self, houses: &Houses) -> Share
         ensures { IsWithinShare result (taken houses.now) }

@@ -22,9 +22,9 @@ const MOST_PLACED: u8 = 20;
 /// An answer that took fewer nodes than this is not worth an entry.
 const LEAST_WORK: u64 = 60;
 
-/// From so many nodes on the endings of houses with 9 seeds are asked for, and before only those with at most 8: to know them
-/// all costs a short search more than it saves.
-const NODES_FOR_9: u64 = 300_000;
+/// With so many nodes a search is long. From then on it has all its places, and asks for the endings of houses with 9 seeds, and
+/// not only for those with at most 8: either costs a short search more than it saves.
+const LONG_SEARCH: u64 = 300_000;
 
 /// A search with its table. What it answers depends on none of its limits.
 #[derive(Drop)]
@@ -143,13 +143,23 @@ impl<A: Allocator + Clone> Search<A> {
         low
     }
 
+    // Counts one more node, and tells how many there were before. All places are laid out once the search is long.
+    fn count_node(&mut self) -> u64 {
+        let before = self.nodes;
+        self.nodes = before.wrapping_add(1);
+        if self.nodes == LONG_SEARCH {
+            self.table.lay_out_places();
+        }
+        before
+    }
+
     // What is taken of houses with at most so many seeds is looked up among the endings.
     fn most_at_the_end(&self) -> u8
         ensures { result ≤ 9 }
     {
         if !self.knows_endings {
             0
-        } else if self.nodes < NODES_FOR_9 {
+        } else if self.nodes < LONG_SEARCH {
             8
         } else {
             9

@@ -22,6 +22,9 @@ use std::sync::Arc;
 /// The most entries that a table has room for.
 pub const MOST_ENTRIES: u32 = 1_048_576;
 
+/// So many places there are at most until all are laid out: they are made at once, and stay in the nearest cache.
+const FIRST_PLACES: u32 = 4096;
+
 /// The numbers from `lo` to `hi`.
 #[derive(Clone, Copy, Debug, PartialEq, Eq)]
 pub struct Interval {
@@ -141,14 +144,29 @@ impl<A: Allocator + Clone> Table<A> {
         requires high { capacity ≤ most_entries }
         ensures { IfOk result (λ t. t ≡ []) }
     {
-        let places = Places::new(alloc.clone()?, capacity)?;
+        let places = Places::new(alloc.clone()?, capacity.min(FIRST_PLACES))?;
         let capacity = NonZeroUsize::new(capacity as usize).unwrap();
-        let entries = LruCache::new(alloc, capacity)?;
+        let entries = LruCache::sparse(alloc, capacity)?;
         Ok(Table {
             entries,
             places,
             endings,
         })
+    }
+
+    // As many places as there is room for entries, with nothing known. It fails where there is no memory for them.
+    fn all_places(&self) -> Result<Places<A>, AllocError> {
+        let count = self.entries.cap().get().min(MOST_ENTRIES as usize);
+        Places::new(self.entries.allocator().clone()?, count as u32)
+    }
+
+    // Lays out all places, where there is memory for them. What the first ones told is forgotten.
+    pub(crate) fn lay_out_places(&mut self)
+        ensures { self.new ≡ self.old }
+    {
+        if let Ok(places) = self.all_places() {
+            self.places = places;
+        }
     }
 
     // What the place of the houses tells of them.

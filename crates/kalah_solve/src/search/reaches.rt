@@ -40,8 +40,7 @@ impl<A: Allocator + Clone> Search<A> {
         if known.most < bar {
             return false;
         }
-        let before = self.nodes;
-        self.nodes = before.wrapping_add(1);
+        let before = self.count_node();
         let reached = self.explore(houses, bar);
         let work = self.nodes.wrapping_sub(before);
         self.learn(houses, known.learned(bar, reached), work);

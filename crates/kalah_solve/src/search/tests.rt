@@ -66,10 +66,33 @@ fn learns_of_next(rt: &impl Abort, search: &mut Search, next: &Houses) {
     assert!(rt; !is_unknown(search, next));
 }
 
-#[test]
-fn what_is_learned_of_a_move_is_kept_in_its_place(rt: HostRuntime) {
+// Those houses.
+fn next_houses(rt: &impl Abort) -> Houses {
     let own = [6, 0, 0, 0, 0, 0];
     let other = [0, 6, 0, 0, 0, 0];
-    let next = Houses::new(2, own, other, Rule::Classic).expect(&rt, "beyond the limits");
+    Houses::new(2, own, other, Rule::Classic).expect(rt, "beyond the limits")
+}
+
+#[test]
+fn what_is_learned_of_a_move_is_kept_in_its_place(rt: HostRuntime) {
+    let next = next_houses(&rt);
     learns_of_next(&rt, &mut new_search(&rt, rt.alloc()), &next);
+}
+
+// Places are laid out anew at the node that makes it long.
+fn becomes_long(rt: &impl Abort, search: &mut Search, next: &Houses) {
+    search.nodes = LONG_SEARCH - 2;
+    search.count_node();
+    assert!(rt; !is_unknown(search, next));
+    search.count_node();
+    assert!(rt; is_unknown(search, next));
+}
+
+#[test]
+fn a_long_search_has_all_its_places(rt: HostRuntime) {
+    let mut search = new_search(&rt, rt.alloc());
+    let next = next_houses(&rt);
+    learns_of_next(&rt, &mut search, &next);
+    becomes_long(&rt, &mut search, &next);
+    tells_worth(&rt, &mut search, &begun(&rt, 2, 5), 6);
 }

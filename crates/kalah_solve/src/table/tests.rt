@@ -1,4 +1,5 @@
 use super::*;
+use crate::granting::Granting;
 use std::process::Abort;
 
 // A table with one entry.
@@ -25,4 +26,38 @@ fn tables_beside_each_other_share_endings(rt: HostRuntime) {
     let third = beside(&rt, rt.alloc(), &second);
     assert!(rt; is_one_of(&first, 3) && is_one_of(&second, 3) && is_one_of(&third, 3));
     assert!(rt; is_one_of(&apart, 1));
+}
+
+// A table with room for 65,536 entries, and with its first places.
+fn large_table<A: Allocator + Clone>(rt: &impl Abort, alloc: A) -> Table<A> {
+    let table = Table::new(alloc, 65_536).expect(rt, "no memory for a table");
+    assert!(rt; table.places.len() == 4_096);
+    table
+}
+
+#[test]
+fn all_places_are_laid_out(rt: HostRuntime) {
+    let mut table = large_table(&rt, rt.alloc());
+    table.lay_out_places();
+    assert!(rt; table.places.len() == 65_536);
+}
+
+// How many requests for memory it takes to make that table.
+fn requests(rt: &impl Abort, alloc: Global) -> u32 {
+    let heap = Granting::new(alloc, u32::MAX);
+    large_table(rt, &heap);
+    heap.made()
+}
+
+// No more of them are granted.
+fn keeps_its_first_places(rt: &impl Abort, heap: &Granting<Global>) {
+    let mut table = large_table(rt, heap);
+    table.lay_out_places();
+    assert!(rt; heap.refused() == 1 && table.places.len() == 4_096);
+}
+
+#[test]
+fn the_first_places_stay_where_there_is_no_memory_for_all(rt: HostRuntime) {
+    let requests = requests(&rt, rt.alloc());
+    keeps_its_first_places(&rt, &Granting::new(rt.alloc(), requests));
 }
