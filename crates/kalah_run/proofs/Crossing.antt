@@ -61,5 +61,13 @@ shop_sync κ G s = search (sendable, jobs_sync, desk_sync, queue_sync) depth 60
 -- and shifts may be handed over
 pub shift_send : (κ : NamedLft) → IsSend (Shift.the_row κ)
 shift_send κ =
-    recorded_send _ _ _ (Shift.the_type κ).to_one (struct_send (shape (Shift.the_type κ))
-    (search (sendable, jobs_sync) depth 60, (search (sendable, crosses, seat_send) depth 60, (search (sendable, seat_send, tagged_send) depth 60, (search (sendable, Solver-send) depth 20, tt)))))
+    recorded_send _ _ _ (Shift.the_type κ).to_one (struct_send (shape (Shift.the_type κ)) (
+      search (sendable, jobs_sync) depth 60,
+      (
+        search (sendable, crosses, seat_send) depth 60,
+        (
+          search (sendable, seat_send, tagged_send) depth 60,
+          (search (sendable, Solver-send) depth 20, tt),
+        ),
+      ),
+    ))

@@ -136,16 +136,8 @@ impl<'a> Staff<'a> {
             → self.entry.desk.total ≡ length (job_list jobs) → length self.entry.pass.got ≡ self.entry.desk.total
             → AreJobsInSomeOrder jobs (outcomes_in self.entry.pass.got) }
     {
-        let Staff {
-            desk,
-            queue,
-            shifts,
-            pass,
-            passes,
-            puts,
-        } = self;
-        let (passes, puts) = take_apart(shifts, passes, puts);
-        desk.close(passes);
-        queue.close(rt, puts, pass);
+        let (passes, puts) = take_apart(self.shifts, self.passes, self.puts);
+        self.desk.close(passes);
+        self.queue.close(rt, puts, self.pass);
     }
 }

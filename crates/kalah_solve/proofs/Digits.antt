@@ -1,9 +1,8 @@
 -- The digits of a number, of four bits each.
 use Rattle.std.proofs.Common.{◌≡◌, ◌≢◌, ℕ, zero, suc, ◌+◌, ◌*◌, ◌/◌, ◌%◌, ◌^◌, ◌-◌, ◌<◌, ◌≤◌, inl, inr, arith, sym, refl, ap}
-use Rattle.std.proofs.Math.Nat.{add-mul-div_right, div-div-eq-div-mul}
+use Rattle.std.proofs.Math.Nat.{add-mul-div_right, div-div-eq-div-mul, mul_assoc}
 use Rattle.std.proofs.lemmas.Nat.{pow_pos, pow-add, mul-le}
 use Rattle.std.proofs.lemmas.Bool.{cases_lt}
-use Rattle.std.proofs.Math.Nat.{mul_assoc}
 use Rattle.std.proofs.Math.Pow.{pow_mono}
 
 -- a place more is worth sixteen times as much

@@ -43,8 +43,7 @@ pub(crate) fn value_of_move(board: &Board, h: u8) -> i32
     }
 }
 
-/// What the position is worth to the player to move: the final margin of a game that is over, and else the margin of
-/// best play with the lowest house that attains it.
+/// What `Solver::solve` answers.
 pub(crate) fn solve(board: &Board) -> Verdict
     ensures verdict { result ≡ verdict_of board.now }
     ensures best_play { TellsBestPlay board.now result }
