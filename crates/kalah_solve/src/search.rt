@@ -22,9 +22,12 @@ const MOST_PLACED: u8 = 20;
 /// An answer that took fewer nodes than this is not worth an entry.
 const LEAST_WORK: u64 = 60;
 
-/// With so many nodes a search is long. From then on it has all its places, and asks for the endings of houses with 9 seeds, and
-/// not only for those with at most 8: either costs a short search more than it saves.
+/// With so many nodes a search is long. From then on it has all its places, which cost a short one more than they save.
 const LONG_SEARCH: u64 = 300_000;
+
+/// Houses with so many seeds or more are searched with the endings of up to 9 seeds, and others with those of up to 8: to find
+/// more costs the search of few seeds more than it saves.
+const MANY_SEEDS: u8 = 17;
 
 /// A search with its table. What it answers depends on none of its limits.
 #[derive(Drop)]
@@ -33,6 +36,7 @@ pub struct Search<A: Allocator + Clone = Global> {
     most_placed: u8,
     least_work: u64,
     knows_endings: bool,
+    has_many_seeds: bool,
     nodes: u64,
 }
 
@@ -46,6 +50,7 @@ impl<A: Allocator + Clone> Search<A> {
             most_placed: MOST_PLACED,
             least_work: LEAST_WORK,
             knows_endings: true,
+            has_many_seeds: false,
             nodes: 0,
         }
     }
@@ -67,6 +72,7 @@ impl<A: Allocator + Clone> Search<A> {
             most_placed: 0,
             least_work: 0,
             knows_endings: false,
+            has_many_seeds: false,
             nodes: 0,
         }
     }
@@ -86,12 +92,13 @@ impl<A: Allocator + Clone> Search<A> {
         requires going { is_over (bare houses.now) ≡ false }
         ensures { result ≡ within window.lo window.hi (houses_worth houses.now) }
     {
+        let seeds = houses.seeds();
+        self.has_many_seeds = seeds >= MANY_SEEDS;
         let known = self.known_margins(houses);
         let Some(narrow) = window.narrowed(known) else {
             return window.clamp(known.lo as i32);
         };
         let before = self.nodes;
-        let seeds = houses.seeds();
         let taken = self.taken_within(houses, Share::of_window(narrow, seeds));
         let answer = narrow.clamp(2 * taken as i32 - seeds as i32);
         let work = self.nodes.wrapping_sub(before);
@@ -159,10 +166,10 @@ impl<A: Allocator + Clone> Search<A> {
     {
         if !self.knows_endings {
             0
-        } else if self.nodes < LONG_SEARCH {
-            8
-        } else {
+        } else if self.has_many_seeds {
             9
+        } else {
+            8
         }
     }
 

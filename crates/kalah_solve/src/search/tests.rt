@@ -96,3 +96,19 @@ fn a_long_search_has_all_its_places(rt: HostRuntime) {
     becomes_long(&rt, &mut search, &next);
     tells_worth(&rt, &mut search, &begun(&rt, 2, 5), 6);
 }
+
+// Two houses a side, of which the mover's first holds one seed more than the others, or not.
+fn two_houses(rt: &impl Abort, first: u8, others: u8) -> Houses {
+    let own = [first, others, 0, 0, 0, 0];
+    let other = [others, others, 0, 0, 0, 0];
+    Houses::new(2, own, other, Rule::Classic).expect(rt, "beyond the limits")
+}
+
+#[test]
+fn many_seeds_are_searched_with_larger_endings(rt: HostRuntime) {
+    let mut search = new_search(&rt, rt.alloc());
+    for (first, others, worth, most) in [(4, 4, -10, 8), (5, 4, -1, 9), (4, 4, -10, 8)] {
+        tells_worth(&rt, &mut search, &two_houses(&rt, first, others), worth);
+        assert!(rt; search.most_at_the_end() == most);
+    }
+}
