@@ -25,8 +25,8 @@ const LEAST_WORK: u64 = 60;
 /// With so many nodes a search is long. From then on it has all its places, which cost a short one more than they save.
 const LONG_SEARCH: u64 = 300_000;
 
-/// Houses with so many seeds or more are searched with the endings of up to 9 seeds, and others with those of up to 8: to find
-/// more costs the search of few seeds more than it saves.
+/// Once houses with so many seeds or more are searched, the endings of up to 9 seeds are asked for, and until then those of up
+/// to 8: to find more costs the search of few seeds more than it saves.
 const MANY_SEEDS: u8 = 17;
 
 /// A search with its table. What it answers depends on none of its limits.
@@ -36,7 +36,7 @@ pub struct Search<A: Allocator + Clone = Global> {
     most_placed: u8,
     least_work: u64,
     knows_endings: bool,
-    has_many_seeds: bool,
+    had_many_seeds: bool,
     nodes: u64,
 }
 
@@ -50,7 +50,7 @@ impl<A: Allocator + Clone> Search<A> {
             most_placed: MOST_PLACED,
             least_work: LEAST_WORK,
             knows_endings: true,
-            has_many_seeds: false,
+            had_many_seeds: false,
             nodes: 0,
         }
     }
@@ -72,7 +72,7 @@ impl<A: Allocator + Clone> Search<A> {
             most_placed: 0,
             least_work: 0,
             knows_endings: false,
-            has_many_seeds: false,
+            had_many_seeds: false,
             nodes: 0,
         }
     }
@@ -93,7 +93,7 @@ impl<A: Allocator + Clone> Search<A> {
         ensures { result ≡ within window.lo window.hi (houses_worth houses.now) }
     {
         let seeds = houses.seeds();
-        self.has_many_seeds = seeds >= MANY_SEEDS;
+        self.had_many_seeds |= seeds >= MANY_SEEDS;
         let known = self.known_margins(houses);
         let Some(narrow) = window.narrowed(known) else {
             return window.clamp(known.lo as i32);
@@ -166,7 +166,7 @@ impl<A: Allocator + Clone> Search<A> {
     {
         if !self.knows_endings {
             0
-        } else if self.has_many_seeds {
+        } else if self.had_many_seeds {
             9
         } else {
             8

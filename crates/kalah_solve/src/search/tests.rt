@@ -107,7 +107,7 @@ fn two_houses(rt: &impl Abort, first: u8, others: u8) -> Houses {
 #[test]
 fn many_seeds_are_searched_with_larger_endings(rt: HostRuntime) {
     let mut search = new_search(&rt, rt.alloc());
-    for (first, others, worth, most) in [(4, 4, -10, 8), (5, 4, -1, 9), (4, 4, -10, 8)] {
+    for (first, others, worth, most) in [(4, 4, -10, 8), (5, 4, -1, 9), (4, 4, -10, 9)] {
         tells_worth(&rt, &mut search, &two_houses(&rt, first, others), worth);
         assert!(rt; search.most_at_the_end() == most);
     }

@@ -85,7 +85,8 @@ pub(super) fn agree_with_plain(rt: &impl Abort, solver: &mut Solver) {
     }
 }
 
-// Six houses a side which take so many nodes together that the search is long.
+// Six houses a side with many seeds, so that endings of nine are asked for, which take so many nodes together that the search
+// is long.
 fn tells_hard_houses(rt: &impl Abort, solver: &mut Solver) {
     for (rule, margin) in [(Rule::Classic, -6), (Rule::EmptyCapture, -4)] {
         let board = Board::new(6, [3, 2, 3, 2, 3, 2], 0, [2, 3, 2, 3, 2, 3], 0, rule);
@@ -106,8 +107,9 @@ fn looks_up(
     assert!(rt; (nodes_for(rt, solver, board, verdict) == 0) == is_looked_up);
 }
 
-// Those of 7 and 8 seeds are looked up from the first node on, and those of 9 are searched.
-fn looks_up_endings(rt: &impl Abort, solver: &mut Solver) {
+// Those of 7 and 8 seeds are looked up from the first node on, and those of 9 once many seeds were searched, as where it
+// `is_long`.
+fn looks_up_endings(rt: &impl Abort, solver: &mut Solver, is_long: bool) {
     for (rule, own, margin, house, at_once) in [
         (Rule::Classic, [2, 1, 1], 3, 3, true),
         (Rule::EmptyCapture, [2, 1, 2], -2, 1, true),
@@ -116,20 +118,23 @@ fn looks_up_endings(rt: &impl Abort, solver: &mut Solver) {
         (Rule::Classic, [2, 1, 3], -1, 1, false),
     ] {
         let board = three(rt, rule, own, [1, 1, 1], (0, 0));
-        looks_up(rt, solver, &board, best(margin, house), at_once);
+        looks_up(rt, solver, &board, best(margin, house), at_once || is_long);
     }
 }
 
-#[test]
-fn endings_are_looked_up_from_the_first_node_on(rt: HostRuntime) {
-    looks_up_endings(&rt, &mut solver_of(&rt, rt.alloc(), 1));
+// Over so many entries, after hard houses where the search `is_long`.
+fn looks_up_endings_with(rt: &impl Abort, alloc: Global, entries: u32, is_long: bool) {
+    let mut solver = solver_of(rt, alloc, entries);
+    if is_long {
+        tells_hard_houses(rt, &mut solver);
+    }
+    looks_up_endings(rt, &mut solver, is_long);
 }
 
 #[test]
-fn endings_are_looked_up_after_a_long_search(rt: HostRuntime) {
-    let mut solver = solver_of(&rt, rt.alloc(), 65_536);
-    tells_hard_houses(&rt, &mut solver);
-    looks_up_endings(&rt, &mut solver);
+fn endings_are_looked_up_once_a_search_is_long(rt: HostRuntime) {
+    looks_up_endings_with(&rt, rt.alloc(), 1, false);
+    looks_up_endings_with(&rt, rt.alloc(), 65_536, true);
 }
 
 // How many nodes the position after house 1 of four seeds in each house takes.
