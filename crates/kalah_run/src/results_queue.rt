@@ -22,9 +22,6 @@ use std::sync::Wait;
 #[cfg(test)]
 mod tests;
 
-/// How often an outcome is tried for that may come soon. To sleep and to be called costs both threads more than these tries.
-const SOON: u32 = 64;
-
 /// What workers put and one collector gets, in turn: a queue of a fixed capacity that threads share. It is seen as its
 /// identity and its capacity.
 #[derive(Drop)]
@@ -121,17 +118,18 @@ impl ResultsQueue {
         unreachable!()
     }
 
-    // As `get`, but without sleep: None, with nothing got, where no outcome comes soon.
-    pub(crate) fn get_soon(&self, pass: &mut GetPass) -> Option<Outcome>
+    // As `get`, but without sleep: None, with nothing got, where so many tries find no outcome. A try that finds none is spent.
+    pub(crate) fn get_soon(&self, pass: &mut GetPass, tries: &mut u32) -> Option<Outcome>
         requires { pass.old.queue ≡ self.now.id }
         ensures { MatchOption result (pass.new ≡ pass.old) (λ outcome. HasGot pass.old outcome pass.new) }
     {
         let backoff = Backoff::new();
-        for _ in 0..SOON {
+        while *tries > 0 {
             if let Some(pair) = self.pairs.try_pop_as::<Gets>(&mut pass.ruled) {
                 self.putters.call_one();
                 return Some(pair.outcome);
             }
+            *tries -= 1;
             backoff.snooze();
         }
         None

@@ -19,6 +19,13 @@ use std::sync::Wait;
 use std::thread;
 use std::thread::{Promise, Threads};
 
+/// With each outcome so many tries more are made for the next, before the thread sleeps. So tries that find nothing take a
+/// small share of the time that the outcomes took.
+const TRIES_FOR_EACH: u32 = 16;
+
+/// At most so many tries are saved up: those of a full queue. They take longer than to wake a worker that found it full.
+const MOST_TRIES: u32 = 1024;
+
 // What the thread gives back is the list of shifts that it was given, and each has run.
 #[derive(Drop)]
 struct AllHaveRun<'a, 'b, 'c, 'd> {
@@ -74,8 +81,10 @@ fn collect<R: Wait, W: Sink>(
         report.new (W.written out.new) (W.has_failed out.new) }
 {
     report.write(out);
+    let mut tries = 0u32;
     for _ in 0..total {
-        let outcome = match queue.get_soon(pass) {
+        tries = tries.saturating_add(TRIES_FOR_EACH).min(MOST_TRIES);
+        let outcome = match queue.get_soon(pass, &mut tries) {
             Some(outcome) => outcome,
             None => {
                 if !out.failed() {

@@ -47,6 +47,28 @@ fn two_workers_outcomes_are_got(rt: HostRuntime) {
     assert!(rt; got == sent && left == 0);
 }
 
+// What so many tries get of a queue into which the outcome was put so often, and how many of them are left.
+fn got_soon<R: Abort + Wait>(
+    rt: &R,
+    alloc: Global,
+    (times, outcome): (u32, Outcome),
+    mut tries: u32,
+) -> (Option<Outcome>, u32) {
+    let opened = ResultsQueue::open(alloc, 1, 1);
+    let (queue, mut puts, mut pass) = opened.expect(rt, "no memory");
+    put_often(rt, &queue, &mut puts[0], times, outcome);
+    let got = queue.get_soon(&mut pass, &mut tries);
+    (got, tries)
+}
+
+#[test]
+fn tries_that_find_nothing_are_spent(rt: HostRuntime) {
+    let (outcome, _) = two_outcomes(rt.alloc()).expect(&rt, "no memory");
+    for (times, tries, got, left) in [(1, 0, None, 0), (1, 2, Some(outcome), 2), (0, 2, None, 0)] {
+        assert!(rt; got_soon(&rt, rt.alloc(), (times, outcome), tries) == (got, left));
+    }
+}
+
 // Puts all the outcomes, in their order.
 fn put_all<R: Wait>(rt: &R, queue: &ResultsQueue, mut pass: PutPass, outcomes: &[Outcome])
     requires { pass.queue ≡ queue.now.id }

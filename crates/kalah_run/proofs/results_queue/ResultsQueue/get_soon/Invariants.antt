@@ -3,10 +3,13 @@ use Rattle.crossbeam_queue.specs.Passes.{view}
 use Rattle.kalah_run.specs.declared.queue_rule.QueueView.TheVariants.{Getting}
 use Rattle.kalah_run.proofs.results_queue.ResultsQueue.get_soon.Given as goal
 
-abbrev pub invariant-loop : goal.invariant-loop
-invariant-loop l = record {
+abbrev pub invariant-loop-tries : goal.invariant-loop-tries
+invariant-loop-tries l = record {
   queue : l.pass-inside.ruled.table_id ≡ l.fn.pass.queue;
   none_out : l.pass-inside.ruled.me.1 ≡ [];
   workers : l.pass-inside.workers ≡ l.fn.pass.workers;
   view : view l.pass-inside.ruled ≡ Getting l.fn.pass.workers l.fn.pass.got [];
 }
+
+abbrev pub decreases-loop-tries : goal.decreases-loop-tries
+decreases-loop-tries l = l.tries
