@@ -121,7 +121,8 @@ impl ResultsQueue {
     // As `get`, but without sleep: None, with nothing got, where so many tries find no outcome. A try that finds none is spent.
     pub(crate) fn get_soon(&self, pass: &mut GetPass, tries: &mut u32) -> Option<Outcome>
         requires { pass.old.queue ≡ self.now.id }
-        ensures { MatchOption result (pass.new ≡ pass.old) (λ outcome. HasGot pass.old outcome pass.new) }
+        ensures pass { MatchOption result (pass.new ≡ pass.old) (λ outcome. HasGot pass.old outcome pass.new) }
+        ensures spent { MatchOption result (tries.new ≡ 0) (λ _. tries.new ≤ tries.old) }
     {
         let backoff = Backoff::new();
         while *tries > 0 {

@@ -12,6 +12,10 @@ use std::sync::Wait;
 use std::sync::atomic::AtomicU64;
 use std::sync::atomic::Ordering::SeqCst;
 
+/// A pause that spins takes so many steps of its backoff, one of which is twice as long as the one before. Each try reads what the
+/// other side changes, and so holds it up: a full queue moves on faster where it isn't tried after each outcome.
+const STEPS: u32 = 6;
+
 /// The threads that wait for one thing, such as room in a queue. They are called one at a time: a call goes out only where
 /// none is under way, and a thread that was called, and got what it waited for, calls the next. So a thing that comes for
 /// one thread doesn't wake all of them.
@@ -87,7 +91,9 @@ impl<'a> Waiting<'a> {
             self.was_announced = true;
             self.key = Some(self.waiters.enter());
         } else {
-            self.backoff.snooze();
+            for _ in 0..STEPS {
+                self.backoff.snooze();
+            }
         }
     }
 }

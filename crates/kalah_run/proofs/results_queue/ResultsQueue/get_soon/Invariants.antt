@@ -1,4 +1,4 @@
-use Rattle.std.proofs.Common.{◌≡◌, []}
+use Rattle.std.proofs.Common.{◌≡◌, ◌≤◌, []}
 use Rattle.crossbeam_queue.specs.Passes.{view}
 use Rattle.kalah_run.specs.declared.queue_rule.QueueView.TheVariants.{Getting}
 use Rattle.kalah_run.proofs.results_queue.ResultsQueue.get_soon.Given as goal
@@ -9,6 +9,7 @@ invariant-loop-tries l = record {
   none_out : l.pass-inside.ruled.me.1 ≡ [];
   workers : l.pass-inside.workers ≡ l.fn.pass.workers;
   view : view l.pass-inside.ruled ≡ Getting l.fn.pass.workers l.fn.pass.got [];
+  spent : l.tries ≤ l.fn.tries;
 }
 
 abbrev pub decreases-loop-tries : goal.decreases-loop-tries
