@@ -13,6 +13,7 @@ use crate::results_queue::ResultsQueue;
 use crate::run_fault::RunFault;
 use crate::shift::Shift;
 use crate::shop::Shop;
+use crate::staff::QUEUE_CAPACITY;
 use kalah_jobs::{Jobs, Sink};
 use std::snapshot::Snapshot;
 use std::sync::Wait;
@@ -24,7 +25,7 @@ use std::thread::{Promise, Threads};
 const TRIES_FOR_EACH: u32 = 16;
 
 /// At most so many tries are saved up: those of a full queue. They take longer than to wake a worker that found it full.
-const MOST_TRIES: u32 = 1024;
+const MOST_TRIES: u32 = TRIES_FOR_EACH * QUEUE_CAPACITY;
 
 // What the thread gives back is the list of shifts that it was given, and each has run.
 #[derive(Drop)]
