@@ -1,22 +1,27 @@
-"""A small engine, as somebody might write it: what each move of a position is worth, by plain recursion. It has a mistake, which
-docs/COOKBOOK.md finds.
+"""A small engine, as somebody might write it: what each move of a position is worth, by recursion over all that can follow. It has a mistake,
+which docs/COOKBOOK.md finds. It answers lines of both rules with up to 16 seeds in houses; of a larger position it says so.
 
     python3 examples/engine.py FILE
 """
 
 import sys
+from functools import cache
+
+MOST_SEEDS = 16
 
 
 def read(line):
-    """The houses and the store of the player to move, and those of the other player."""
-    sides = (side.split("/") for side in line.split())
-    return [([int(seeds) for seeds in houses.split(",")], int(store)) for houses, store in sides]
+    """The houses and the store of the player to move, those of the other player, and whether a last seed that is alone is captured
+    also where the house across is empty."""
+    words = line.split()
+    own, other = (side.split("/") for side in words[:2])
+    return [(tuple(int(seeds) for seeds in houses.split(",")), int(store)) for houses, store in (own, other)], words[2:] == ["e"]
 
 
-def after(own, own_store, other, house):
-    """The two rows and the mover's store after a move, and whether the mover has another one."""
+def after(own, other, house, takes_alone):
+    """The two rows after a move, what the mover's store gains, and whether the mover has another move."""
     m = len(own)
-    cells = own + [own_store] + other
+    cells = [*own, 0, *other]
     seeds, cells[house] = cells[house], 0
     was_empty = [cell == 0 for cell in own]
     at = house
@@ -25,40 +30,44 @@ def after(own, own_store, other, house):
         cells[at] += 1
         seeds -= 1
     across = 2 * m - at
-    if at < m and was_empty[at] and cells[across]:
+    if at < m and was_empty[at] and (cells[across] or takes_alone):
         cells[m] += cells[at] + cells[across]
         cells[at] = cells[across] = 0
-    return cells[:m], cells[m], cells[m + 1 :], at == m
+    return tuple(cells[:m]), tuple(cells[m + 1 :]), cells[m], at == m
 
 
-def values(own, own_store, other, other_store):
-    """Each legal house with what its move is worth."""
+def values(own, other, takes_alone):
+    """Each legal house with the margin that its move gets, from empty stores on."""
     found = {}
     for house, seeds in enumerate(own):
         if seeds:
-            mine, store, theirs, again = after(own, own_store, other, house)
+            mine, theirs, gain, again = after(own, other, house, takes_alone)
             if again or not (any(mine) and any(theirs)):
-                found[house + 1] = worth(mine, store, theirs, other_store)
+                found[house + 1] = gain + worth(mine, theirs, takes_alone)
             else:
-                found[house + 1] = -worth(theirs, other_store, mine, store)
+                found[house + 1] = gain - worth(theirs, mine, takes_alone)
     return found
 
 
-def worth(own, own_store, other, other_store):
-    """The margin of best play."""
+@cache
+def worth(own, other, takes_alone):
+    """The margin of best play, from empty stores on."""
     if not (any(own) and any(other)):
-        return sum(own) + own_store - sum(other) - other_store
-    return max(values(own, own_store, other, other_store).values())
+        return sum(own) - sum(other)
+    return max(values(own, other, takes_alone).values())
 
 
 def main():
     name = sys.argv[1]
     for number, line in enumerate(open(name), 1):
-        (own, own_store), (other, other_store) = read(line)
-        if any(own) and any(other):
-            words = " ".join(f"{house}:{value}" for house, value in values(own, own_store, other, other_store).items())
+        [(own, own_store), (other, other_store)], takes_alone = read(line)
+        ahead = own_store - other_store
+        if not (any(own) and any(other)):
+            words = f"{ahead + worth(own, other, takes_alone)} over"
+        elif sum(own + other) > MOST_SEEDS:
+            words = f"too large: {sum(own + other)} seeds"
         else:
-            words = f"{worth(own, own_store, other, other_store)} over"
+            words = " ".join(f"{house}:{ahead + value}" for house, value in values(own, other, takes_alone).items())
         print(f"{name}:{number} {words}")
 
 

@@ -1,12 +1,16 @@
 #!/bin/sh
-# Answers one part of a file, unless that was done before:
+# Answers one part of a file, unless its answers are there already:
 #
-#     sh part.sh PART solve [OPTION..]
+#     sh part.sh PART SUBCOMMAND [OPTION..]     as `sh part.sh part.0000 solve --workers 1`
 #
-# The answers stand in PART.out once all of them are there, and before in PART.some. Ends with status 0 where that is so, also if
-# some line was not read, and else with 1.
+# The answers are in PART.SUBCOMMAND once all of them are there, and until then in PART.SUBCOMMAND.some. PART.SUBCOMMAND.sum has the
+# checksum of the part, so a part that has changed is answered anew. The status is 0 if the answers are there, also if some line
+# was not read, and else 1.
 part=$1
+answers=$1.$2
 shift
-[ -e "$part.out" ] && exit 0
-kalah "$@" "$part" > "$part.some"
-[ $? -le 1 ] && mv "$part.some" "$part.out"
+sum=$(cksum "$part" 2> /dev/null)
+[ -e "$answers" ] && [ "$sum" = "$(cat "$answers.sum" 2> /dev/null)" ] && exit 0
+[ -e "$part" ] && rm -f "$answers"
+kalah "$@" "$part" > "$answers.some"
+[ $? -le 1 ] && mv "$answers.some" "$answers" && echo "$sum" > "$answers.sum"

@@ -158,6 +158,12 @@ def play(line, boards=False):
     return Run(said.encode(), b"", 0)
 
 
+def asked(subcommand, data):
+    """`kalah ask`, of what `solve` or `values` tells of the lines of these bytes."""
+    said = [answer(subcommand, line) for line in lines_of(data)]
+    return Run(b"".join(words + b"\n" for words in said), b"", int(any(words.startswith(b"fault") for words in said)))
+
+
 def answers(subcommand, files):
     """`kalah solve FILE..` or `kalah values FILE..`, of pairs of a name and the bytes there, which are None where they can't be
     read."""

@@ -2,7 +2,7 @@
 
 import os
 import pty
-import select
+import re
 import shutil
 import subprocess
 import sys
@@ -14,6 +14,8 @@ from itertools import product, takewhile, zip_longest
 from pathlib import Path
 
 import reference
+from asked import ASK_KINDS, AskTrials
+from differing import SOON, Differs, read_soon
 from drawn import BYTES, FILES, LINES, LINES_OF_MOVES, NO_FILES, SUBCOMMANDS, TABLES, Drawn
 from reference import Run
 
@@ -27,6 +29,7 @@ MISTAKES = [
     *([], ["stop"], ["help"], ["Solve", "a"], ["--version=1"], ["--versio"], ["-x"], [""], ["--", "solve", "a"], ["--workers", "1", "solve", "a"]),
     *(["moves"], ["moves", "--"], ["moves", "-1/0 1/0"], ["moves", "1/0 1/0", "1/0 1/0"], ["moves", "--workers", "1", "1/0 1/0"]),
     *(["moves", "--table", "1", "1/0 1/0"], ["moves", "--boards"], ["moves", "--boards=true", "1/0 1/0"], ["moves", "--boards", "--boards", "1/0 1/0"]),
+    *(["ask", "a"], ["ask", "--values=1"], ["ask", "--values", "--values"], ["ask", "--workers", "1"], ["ask", "--table=0"], ["ask", "-V"]),
     *(["stop", "-V"], ["moves", "--version"], ["play", "-V", "1/0 1/0"], ["solve", "--version", "a"], ["solve", "a", "-V"]),
     *(["play"], ["play", "--"], ["play", "1/0 1/0", "1/0 1/0"], ["play", "--workers", "1", "1/0 1/0"], ["play", "--table", "1/0 1/0"]),
     *(["play", "--boards=1", "1/0 1/0"], ["play", "--board", "1/0 1/0"], ["play", "--table=0", "1/0 1/0"], ["play", "--table=1048577", "1/0 1/0"]),
@@ -39,7 +42,7 @@ MISTAKES = [
 
 MISTAKES += [["values", *words[1:]] for words in MISTAKES if words[:1] == ["solve"]]
 
-HELP = [["--help"], ["-h"], ["moves", "--help"], ["moves", "-h"], ["play", "--help"], ["solve", "--help"], ["solve", "-h"], ["solve", "a", "-h"], ["values", "--help"], ["values", "a", "-h"]]
+HELP = [["--help"], ["-h"], ["moves", "--help"], ["moves", "-h"], ["play", "--help"], ["solve", "--help"], ["solve", "-h"], ["solve", "a", "-h"], ["values", "--help"], ["values", "a", "-h"], ["ask", "--help"], ["ask", "-h"]]
 
 # Words that ask for the version before anything else.
 VERSION = [["--version"], ["-V"], ["-V", "-h"], ["--version", "stop"], ["-V", "solve", "a"], ["--version", "--version"], ["-V", "--", "a"]]
@@ -85,18 +88,17 @@ LONG_GAME = b"3,2,1,4,4,3/0 1,0,1,3,4,5/0"
 # How many workers are seen at work.
 BUSY_WORKERS = [2, 3, 5, 16, 64]
 
+# How many lines more workers are asked for than there are.
+FEW_LINES = [1, 2, 3, 7]
+
+# Where standard error goes that progress is shown on.
+PROGRESS = ["pipe", "terminal", "file", "/dev/full", "closed"]
+
 # With a table of one entry each of these lines takes seconds, and there are so many that no run comes to their end.
 HARD = b"2,3,2,3,2,3/0 3,2,3,2,3,3/0\n" * 1000
 
 # The seconds after which a run is taken to have no end.
 PATIENCE = 120
-
-# The seconds after which an answer is taken not to come while the run goes on.
-SOON = 30
-
-
-class Differs(Exception):
-    """A run has left something else than it has to."""
 
 
 def difference(want, got):
@@ -149,16 +151,12 @@ def two_ends(place):
     return reader, writer
 
 
-def read_soon(reader, size):
-    """What can be read soon, of so many bytes."""
-    got, end = b"", time.monotonic() + SOON
-    while len(got) < size and time.monotonic() < end:
-        if select.select([reader], [], [], 0.01)[0]:
-            piece = os.read(reader, size - len(got))
+def read_all(reader):
+    """What is read until all writers are gone."""
+    got = b""
+    with suppress(OSError):
+        while piece := os.read(reader, 65536):
             got += piece
-            if not piece:
-                # The end of a file, so far.
-                time.sleep(0.01)
     return got
 
 
@@ -172,7 +170,7 @@ def busy_threads(process):
     return busy
 
 
-class Trials:
+class Trials(AskTrials):
     """Trials of a program, each of which draws words and files, runs the program and compares what it leaves."""
 
     def __init__(self, program, seed, folder):
@@ -311,7 +309,7 @@ class Trials:
         words, name = self.drawn.card("help", HELP), self.drawn.card("names in help", PROGRAM_NAMES)
         usage = b"Usage: " + os.path.basename(name).encode() + b" "
         got = self.run(words, name)
-        want = printed("--help").replace(b"Usage: kalah ", usage) if len(words) == 1 else got.out
+        want = printed("--help").replace(b"Usage: kalah ", usage) if words == ["--help"] else got.out
         self.compare(Run(want, b"", 0), got)
         if usage not in got.out:
             raise Differs(f"no {usage} in {got.out}")
@@ -391,6 +389,56 @@ class Trials:
         if busy < workers:
             raise Differs(f"{busy} threads are at work")
 
+    def few_lines(self):
+        """A run with fewer lines than workers starts one thread, which starts no more than one for each line."""
+        lines = self.drawn.card("few lines", FEW_LINES)
+        self.put({"a": b"".join(HARD.splitlines(keepends=True)[:lines])})
+        with self.start([self.subcommand(), "--table", "1", "--workers", "64", "a"]) as process:
+            end = time.monotonic() + SOON
+            while busy_threads(process) < lines and time.monotonic() < end:
+                time.sleep(0.05)
+            busy, threads = busy_threads(process), len(os.listdir(f"/proc/{process.pid}/task"))
+            process.kill()
+        if busy < lines or threads > lines + 2:
+            raise Differs(f"of {threads} threads {busy} are at work on {lines} lines")
+
+    def progress(self):
+        """Standard error shows how many lines are answered, and standard output is what it is without."""
+        place = self.drawn.card("progress", PROGRESS)
+        files = [(name, self.drawn.file(self.drawn.chance.choice([0, 1, 7, 150, 2500]))) for name in ("a", "b")]
+        self.put(dict(files))
+        subcommand = self.subcommand()
+        want = reference.answers(subcommand, [(name.encode(), data) for name, data in files])
+        words = self.drawn.words(subcommand, [name for name, _ in files])
+        words.insert(1 if "--" in words else self.drawn.chance.choice([1, len(words)]), "--progress")
+        if place in ("/dev/full", "closed"):
+            got = self.run_in_shell(words, "2>&-" if place == "closed" else f"2>{place}")
+            self.compare(want, got)
+            return
+        reader, writer = two_ends(place)
+        with tempfile.TemporaryFile() as out, self.start(words, stdout=out, stderr=writer) as process:
+            os.close(writer)
+            if place == "file":
+                process.wait(PATIENCE)
+            shown = read_all(reader)
+            process.wait(PATIENCE)
+            out.seek(0)
+            self.compare(want._replace(err=shown), Run(out.read(), shown, process.returncode))
+        os.close(reader)
+        self.look_at_progress(shown.decode(), want.out.count(b"\n"), place == "terminal")
+
+    def look_at_progress(self, shown, lines, in_place):
+        """The numbers that were shown rise from none to all lines, each with its share."""
+        end = "" if in_place else "\n"
+        rows = re.findall(r"\r?kalah: (\d+) of (\d+) lines, (\d+) %\n?", shown)
+        counts = [int(answered) for answered, _, _ in rows]
+        again = [f"{chr(13) * in_place}kalah: {n} of {lines} lines, {100 * n // max(lines, 1) if lines else 100} %{end}" for n in counts]
+        if shown != "".join(again) + "\n" * in_place or counts != sorted(set(counts)) or counts[0] != 0 or counts[-1] != lines:
+            raise Differs(f"progress is shown as {shown[:300]!r} .. {shown[-100:]!r}")
+        steps = [n * (1000 if in_place else 100) // max(lines, 1) for n in counts]
+        if len(set(steps)) < len(steps):
+            raise Differs(f"progress is shown twice for one share: {shown[:300]!r}")
+
 
 # How often each trial is made before all of them are made again.
 KINDS = {
@@ -410,4 +458,7 @@ KINDS = {
     "first_answers": len(FIRST_ANSWERS),
     "first_picture": len(FIRST_PICTURES),
     "busy_workers": len(BUSY_WORKERS),
+    "few_lines": len(FEW_LINES),
+    "progress": 4 * len(PROGRESS),
+    **ASK_KINDS,
 }

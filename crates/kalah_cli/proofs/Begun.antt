@@ -1,5 +1,5 @@
 -- What was begun, of what words ask for.
-use Rattle.std.proofs.Common.{◌≡◌, ◌⊎◌, inl, inr, ℕ, Bool, List, [], ◌∷◌, ◌++◌, Option, ap, append-nil, append_assoc, map, refl, subst, sym}
+use Rattle.std.proofs.Common.{◌≡◌, ◌⊎◌, inl, inr, ℕ, Bool, List, [], ◌∷◌, ◌++◌, Option, ap, append-nil, append_assoc, length, map, refl, subst, sym, take, ◌+◌, ◌∙◌}
 use Rattle.std.specs.Io.KnownBytes.{Appends, Keeps}
 use Rattle.kalah_rules.specs.Position.{Position, HasEqualSides}
 use Rattle.kalah_rules.specs.declared.step.Step.{Step}
@@ -13,9 +13,14 @@ use Rattle.kalah_jobs.proofs.OfWriting.Starts.{start_kept_all, start_none, start
 use Rattle.clap.specs.Words.{Text}
 use Rattle.kalah_cli.specs.Moves.{board_lines, move_lines}
 use Rattle.kalah_cli.specs.Play.{BeginsBest}
-use Rattle.kalah_cli.specs.Request.{Asked, IsTakenAs, answers, moves, play}
+use Rattle.kalah_cli.specs.Request.{Asked, IsTakenAs, answers, ask, moves, play}
 use Rattle.kalah_cli.specs.Runs.{Begins}
+use Rattle.kalah_cli.specs.Ask.{BeginsLines, StopsBetweenLines}
 use Rattle.kalah_cli.specs.Batch.{BeginsTo}
+use Rattle.std.proofs.KnownBytes.{Appends-nil}
+use Rattle.kalah_jobs.proofs.OfAsking.AnswersTo.{answers_split, no_answers}
+use Rattle.kalah_jobs.specs.Asking.Asked.{IsBegun, IsCutOff, answers_to}
+use Rattle.std.proofs.Math.Seq.{take-append-add}
 use Rattle.kalah_cli.proofs.Laws.{taken_once}
 use Rattle.kalah_cli.proofs.Played.{of_any}
 
@@ -46,6 +51,29 @@ their_names (name ∷ names) = ap (λ l. name ∷ l) (their_names names)
 pub begins_nothing : (question : Question) (names : List (List ℕ)) (old : Option (List ℕ)) → BeginsTo question names old old
 begins_nothing question names old = record { files = empty_files names; named = their_names names; start = start_none old _ }
 
+-- and of the answers to any lines
+pub no_lines_begun : (question : Question) (old : Option (List ℕ)) → BeginsLines question old old
+no_lines_begun question old = record { read = []; start = start_none old _ }
+
+pub stops_before_lines : (question : Question) (old : Option (List ℕ)) → StopsBetweenLines question old old
+stops_before_lines question old = record {
+  lines = [];
+  ended = inl refl;
+  written = subst (Appends old old) (sym (no_answers question)) (Appends-nil old);
+}
+
+-- what was begun of the answers to lines, and of that to the next one, is a beginning of all of them
+pub lines_begun : (question : Question) (before after old new : Option (List ℕ)) → IsBegun question before after old new → BeginsLines question old new
+lines_begun question before after old new begun =
+    let first = answers_to question begun.lines in
+    let rest = answers_to question begun.last in
+    let all = ap (take (length first + begun.count)) (answers_split question begun.lines begun.last begun.ended) ∙ take-append-add first rest begun.count in
+    record { read = begun.lines ++ begun.last; start = (length first + begun.count, subst (Appends old new) (sym all) begun.written) }
+
+-- where a read failed
+pub lines_cut_off : (question : Question) (before after old new : Option (List ℕ)) → IsCutOff question before after old new → StopsBetweenLines question old new
+lines_cut_off question before after old new cut = record { lines = cut.lines; ended = cut.ended; written = cut.written }
+
 -- and of the game from any position
 pub begins_no_game : (boards : Bool) (p : Position) (old : Option (List ℕ)) → HasEqualSides p → BeginsBest boards p old old
 begins_no_game boards p old even = of_any boards p _ even (λ lines. start_none old _)
@@ -58,7 +86,8 @@ even_read line p reads = record { same = reads.sides.same_side }
 pub begins_none : (a : Asked) (old : Option (List ℕ)) → Begins a old old
 begins_none (moves boards line) old = λ p reads. start_none old _
 begins_none (play table boards line) old = λ p reads. begins_no_game boards p old (even_read line p reads)
-begins_none (answers question workers table names) old = begins_nothing question names old
+begins_none (answers question workers table progress names) old = begins_nothing question names old
+begins_none (ask question table) old = no_lines_begun question old
 
 -- what was begun of a request was begun of what its words are taken as
 pub begun_as : (words : List Text) (a b : Asked) (old new : Option (List ℕ)) → IsTakenAs words a → IsTakenAs words b → Begins a old new → Begins b old new

@@ -5,21 +5,26 @@ use Rattle.clap.specs.Values.{kind_of}
 use Rattle.clap.specs.declared.error.kind.ErrorKind.TheVariants.{OutOfMemory}
 use Rattle.clap.specs.Kinds.{HasKind}
 use Rattle.clap.specs.declared.error.Error.{Error}
+use Rattle.std.specs.Str.{bytes_eq}
+use Rattle.std.proofs.lemmas.Slice.Eq.{bytes_eq-Decides}
 use Rattle.std.specs.Str.Parse.{ParsesUnsigned}
 use Rattle.clap.specs.Values.{IsUnsignedIn}
 use Rattle.clap.specs.Matches.{ReadsOne, one_text}
 use Rattle.std.proofs.lemmas.List.{length-map}
 use Rattle.std.specs.Borrow.{Bor}
 use Rattle.clap.specs.Walk.{Row, Text, all_of, first_of, one_of, rows_of}
-use Rattle.clap.specs.Simple.{App, is_simple, subcommand_of}
+use Rattle.clap.specs.Simple.{App, is_simple, subcommand_of, subcommand_rows_of}
 use Rattle.clap.specs.Faults.{fault_of, is_simple_and_free}
 use Rattle.clap.specs.declared.parser.matches.Found.{Found}
+use Rattle.clap.specs.declared.parser.matches.ArgMatches.{ArgMatches}
+use Rattle.clap.specs.Words.{subcommand_name_of}
 use Rattle.clap.proofs.OnLiterals.{clap_on_literals}
 use Rattle.clap.proofs.WalkLemmas.{one_text-rows}
 use Rattle.kalah_solve.specs.Table.{most_entries}
 use Rattle.kalah_run.specs.Limits.{most_workers}
 use Rattle.kalah_jobs.specs.declared.files.question.Question.{Question}
-use Rattle.kalah_cli.specs.Request.{Asked, HasFlag, HasNumber, IsAnswers, IsPlay, IsTaken, answers, answers_asked, asked, asked_by, is_set, number_written, play, play_asked}
+use Rattle.kalah_jobs.specs.declared.files.question.Question.TheVariants.{BestMove, Values}
+use Rattle.kalah_cli.specs.Request.{Asked, HasFlag, HasNumber, HasWhatItNeeds, IsAnswers, IsAsk, IsPlay, IsTaken, answers, answers_asked, ask, ask_asked, asked, asked_by, command_of, is_set, number_written, play, play_asked, question_of}
 use Rattle.kalah_cli.specs.Command.{kalah_app}
 use Rattle.kalah_cli.proofs.Laws.{app_is_simple}
 use Rattle.kalah_cli.proofs.Subcommands.{taken_holds}
@@ -61,6 +66,39 @@ taken_is a words o is none rows =
     let got = taken_holds words (taken_none a words is none) in
     (got.0, got.1, rows (ap is_simple is ∙ kalah_is_simple) ∙ ap (λ b. subcommand_of b words) is ∙ got.2, got.3)
 
+-- what a subcommand that was entered needs, by its name and its rows
+needed : (o : Option (Text × List Row)) (name : Text) (rows : List Row) → IsTaken o → option_map (λ p. p.0) o ≡ Some name → option_map (λ p. p.1) o ≡ Some rows
+    → HasWhatItNeeds name rows
+needed o name rows taken named listed =
+    let named_so : taken.0 ≡ name = (let e = ap (option_map (λ p. p.0)) (sym taken.2) ∙ named in cc) in
+    let listed_so : taken.1 ≡ rows = (let e = ap (option_map (λ p. p.1)) (sym taken.2) ∙ listed in cc) in
+    subst (HasWhatItNeeds name) listed_so (subst (λ n. HasWhatItNeeds n taken.1) named_so taken.3)
+
+first_of_both : {A : Type 0} (f : A → Text) (g : A → List Row) (o : Option A) → option_map (λ (p : Text × List Row). p.0) (option_map (λ b. (f b, g b)) o) ≡ option_map f o
+first_of_both f g None = refl
+first_of_both f g (Some b) = refl
+
+-- no subcommand has the name of another
+other_name : {Q : Type 0} (a b : Text) → bytes_eq a b ≡ false → a ≡ b → Q
+other_name a b differs is = absurd (let both : true ≡ false = sym ((bytes_eq-Decides a b).1 is) ∙ differs in cc)
+
+-- `solve` and `values` have what both need
+answers_have : (question : Question) (rows : List Row) → HasWhatItNeeds (command_of question) rows → IsAnswers rows
+answers_have BestMove rows (inl one) = other_name (codes "solve") (codes "moves") refl one.0
+answers_have BestMove rows (inr (inl one)) = other_name (codes "solve") (codes "play") refl one.0
+answers_have BestMove rows (inr (inr (inl files))) = files.1
+answers_have BestMove rows (inr (inr (inr one))) = other_name (codes "solve") (codes "ask") refl one.0
+answers_have Values rows (inl one) = other_name (codes "values") (codes "moves") refl one.0
+answers_have Values rows (inr (inl one)) = other_name (codes "values") (codes "play") refl one.0
+answers_have Values rows (inr (inr (inl files))) = files.1
+answers_have Values rows (inr (inr (inr one))) = other_name (codes "values") (codes "ask") refl one.0
+
+pub answers_need : (question : Question) (m : ArgMatches) (rows : List Row) → IsTaken (subcommand_rows_of m)
+    → subcommand_name_of m ≡ Some (command_of question) → option_map (λ p. p.1) (subcommand_rows_of m) ≡ Some rows → IsAnswers rows
+answers_need question m rows taken named listed =
+    let same : option_map (λ (p : Text × List Row). p.0) (subcommand_rows_of m) ≡ subcommand_name_of m = first_of_both _ _ _ in
+    answers_have question rows (needed (subcommand_rows_of m) (command_of question) rows taken (same ∙ named) listed)
+
 -- the number is that of the text of the id
 abbrev Reads : Text → List Row → ℕ → Type 0
 Reads id rows n = (t : List ℕ) → one_of id rows ≡ Some t → n ≡ number_written t
@@ -89,24 +127,37 @@ game_in_range rows has table is_table =
     let b = has.0.2 in
     (rw t b.2, rw t b.3)
 
+-- what the getters give is what the matches of `ask` ask for
+pub ask_is : (rows : List Row) (has : IsAsk rows) (table : ℕ) (values : Bool) → Reads (codes "table") rows table → values ≡ is_set (codes "values") rows
+    → ask_asked rows ≡ Some (ask (question_of values) table)
+ask_is rows has table values is_table is_values = rw (has.1.1, is_table has.1.0 has.1.1, is_values) refl
+
+-- and it is in range
+pub ask_in_range : (rows : List Row) (has : IsAsk rows) (table : ℕ) → Reads (codes "table") rows table → (1 ≤ table) × (table ≤ most_entries)
+ask_in_range rows has table is_table =
+    let t = is_table has.1.0 has.1.1 in
+    let b = has.1.2 in
+    (rw t b.2, rw t b.3)
+
 -- what the getters give is what the matches of `solve` and `values` ask for
-pub answers_are : (question : Question) (rows : List Row) (has : IsAnswers rows) (workers table : ℕ) (files : List Text) → Reads (codes "workers") rows workers
-    → Reads (codes "table") rows table → Some files ≡ all_of (codes "file") rows → answers_asked question rows ≡ Some (answers question workers table files)
-answers_are question rows has workers table files is_workers is_table is_files =
-    rw (has.0.1, has.1.1, ← is_files, is_workers has.0.0 has.0.1, is_table has.1.0 has.1.1) refl
+pub answers_are : (question : Question) (rows : List Row) (has : IsAnswers rows) (workers table : ℕ) (progress : Bool) (files : List Text)
+    → Reads (codes "workers") rows workers → Reads (codes "table") rows table → progress ≡ is_set (codes "progress") rows
+    → Some files ≡ all_of (codes "file") rows → answers_asked question rows ≡ Some (answers question workers table progress files)
+answers_are question rows has workers table progress files is_workers is_table is_progress is_files =
+    rw (has.workers.1, has.table.1, ← is_files, is_workers has.workers.0 has.workers.1, is_table has.table.0 has.table.1, is_progress) refl
 
 -- and it is in range
 pub answers_in_range : (rows : List Row) (has : IsAnswers rows) (workers table : ℕ) (files : List (Bor Text)) → Reads (codes "workers") rows workers
     → Reads (codes "table") rows table → Some (map (λ f. f.now) files) ≡ all_of (codes "file") rows
     → (1 ≤ workers) × (workers ≤ most_workers) × (1 ≤ table) × (table ≤ most_entries) × (0 < length files)
 answers_in_range rows has workers table files is_workers is_table is_files =
-    let w = is_workers has.0.0 has.0.1 in
-    let t = is_table has.1.0 has.1.1 in
-    let same : map (λ f. f.now) files ≡ has.2.0 = cc in
+    let w = is_workers has.workers.0 has.workers.1 in
+    let t = is_table has.table.0 has.table.1 in
+    let same : map (λ f. f.now) files ≡ has.files.0 = cc in
     let len : length (map (λ f. f.now) files) ≡ length files = simp length-map in
-    let some : 0 < length (map (λ f. f.now) files) = rw same has.2.2 in
-    let a = has.0.2 in
-    let b = has.1.2 in
+    let some : 0 < length (map (λ f. f.now) files) = rw same has.files.2 in
+    let a = has.workers.2 in
+    let b = has.table.2 in
     (rw w a.2, rw w a.3, rw t b.2, rw t b.3, omega arith)
 
 -- what the matches ask for is what the words ask for

@@ -4,7 +4,8 @@ use Rattle.clap.specs.Words.{Row, Text, subcommand_of}
 use Rattle.clap.specs.Faults.{fault_of, is_simple_and_free}
 use Rattle.clap.proofs.OnLiterals.{clap_on_literals}
 use Rattle.kalah_cli.specs.Command.{kalah_app}
-use Rattle.kalah_cli.specs.Request.{Asked, IsPlainWord, IsTakenAs, asked, asked_by, moves, play}
+use Rattle.kalah_cli.specs.Request.{Asked, IsPlainWord, IsTakenAs, ask, asked, asked_by, moves, play}
+use Rattle.kalah_jobs.specs.declared.files.question.Question.TheVariants.{BestMove, Values}
 use Rattle.std.specs.Prelude.{option_and_then}
 use Rattle.std.proofs.lemmas.Bool.{ne_eqb}
 use Rattle.clap.specs.Values.{kind_of}
@@ -76,6 +77,30 @@ pub play_taken : (name line : Text) → IsPlainWord line → IsTakenAs (name ∷
 play_taken name [] plain = absurd plain
 play_taken name (x ∷ xs) plain =
     (play_passes name x xs (ne_eqb _ _ plain), ap (option_and_then asked_by) (play_matches name x xs (ne_eqb _ _ plain)))
+
+-- `ask` has no fault, and neither has `ask --values`
+ask_passes : (name : Text) → fault_of kalah_app (name ∷ codes "ask" ∷ []) ≡ []
+unfolding clap_on_literals
+ask_passes name = refl
+
+ask_values_pass : (name : Text) → fault_of kalah_app (name ∷ codes "ask" ∷ codes "--values" ∷ []) ≡ []
+unfolding clap_on_literals
+ask_values_pass name = refl
+
+-- they ask for the best move, or for values, with a table of the default size
+ask_asks : (name : Text) → asked (name ∷ codes "ask" ∷ []) ≡ Some (ask BestMove 65536)
+unfolding clap_on_literals
+ask_asks name = refl
+
+ask_values_asks : (name : Text) → asked (name ∷ codes "ask" ∷ codes "--values" ∷ []) ≡ Some (ask Values 65536)
+unfolding clap_on_literals
+ask_values_asks name = refl
+
+pub ask_taken : (name : Text) → IsTakenAs (name ∷ codes "ask" ∷ []) (ask BestMove 65536)
+ask_taken name = (ask_passes name, ask_asks name)
+
+pub ask_values_taken : (name : Text) → IsTakenAs (name ∷ codes "ask" ∷ codes "--values" ∷ []) (ask Values 65536)
+ask_values_taken name = (ask_values_pass name, ask_values_asks name)
 
 -- the flags of the version ask for it, and for nothing else
 version_asked : (name : Text) → fault_of kalah_app (name ∷ codes "--version" ∷ []) ≡ DisplayVersion ∷ []

@@ -124,9 +124,10 @@ all_pass command [] files plain = absurd (All-head IsPlainWord [] files plain)
 all_pass command (x ∷ xs) files plain = first_passes command x xs files (ne_eqb _ _ (All-head IsPlainWord (x ∷ xs) files plain))
     ∙ walk_passes command [] (x ∷ xs) files (All-tail IsPlainWord (x ∷ xs) files plain)
 
--- the matches of the files, with the workers and the table of no option
+-- the matches of the files, with the workers and the table of no option, and no progress
 abbrev pub rows_of_files : List Text → List Row
-rows_of_files files = file_rows files ++ default_row (codes "workers") (codes "4") ∷ default_row (codes "table") (codes "65536") ∷ []
+rows_of_files files = file_rows files ++ default_row (codes "workers") (codes "4") ∷ default_row (codes "table") (codes "65536")
+    ∷ default_row (codes "progress") (codes "false") ∷ []
 
 -- what the subcommand makes of the files
 level_matches : (command file : Text) (files : List Text) → All IsPlainWord (file ∷ files)

@@ -1,4 +1,4 @@
--- What the matches of the four subcommands hold, where the words are taken.
+-- What the matches of the five subcommands hold, where the words are taken.
 use Rattle.std.proofs.Common.{◌≡◌, ◌⊎◌, ◌∙◌, ◌<◌, ℕ, Bool, true, false, refl, ap, subst, sym, inl, inr, List, [], ◌∷◌, Option, Some, None, arith, length, is_some, ◌||◌, not, codes}
 use Rattle.std.specs.Prelude.{find, nat_lt, option_and_then, option_map, slice_get}
 use Rattle.std.specs.Option.{option_map_or}
@@ -18,8 +18,8 @@ use Rattle.clap.specs.declared.builder.value_parser.ValueParser.TheVariants as v
 use Rattle.clap.specs.declared.builder.action.ArgAction.TheVariants.{Append, Help, Set, SetTrue}
 use Rattle.kalah_solve.specs.Table.{most_entries}
 use Rattle.kalah_run.specs.Limits.{most_workers}
-use Rattle.kalah_cli.specs.Command.{answers_app, boards_rule, file_rule, kalah_app, line_rule, moves_app, play_app, table_rule, workers_rule}
-use Rattle.kalah_cli.specs.Request.{HasFlag, HasLineArgument, HasNumber, HasWhatItNeeds, IsAnswers, IsMoves, IsPlay}
+use Rattle.kalah_cli.specs.Command.{answers_app, ask_app, boards_rule, file_rule, kalah_app, line_rule, moves_app, play_app, progress_rule, table_rule, values_rule, workers_rule}
+use Rattle.kalah_cli.specs.Request.{HasFlag, HasLineArgument, HasNumber, HasWhatItNeeds, IsAnswers, IsAsk, IsMoves, IsPlay}
 use Rattle.kalah_cli.proofs.Items.{AllOf, both_all, found_all, more_than}
 use Rattle.kalah_cli.proofs.OfClap.FoundRows.{values_pass, default_made, given_row, found_row, rows_stay, row_in, found_named}
 use Rattle.kalah_cli.proofs.OfClap.KeptRows.{Gives, kept_level, level_parts}
@@ -40,6 +40,8 @@ pub record Sound (r : Row) : Type 0 where
   pub workers : Ranged (codes "workers") most_workers r
   pub table : Ranged (codes "table") most_entries r
   pub boards : Flagged (codes "boards") r
+  pub progress : Flagged (codes "progress") r
+  pub values : Flagged (codes "values") r
 
 -- a row of another id
 elsewhere : {Q : Type 0} (id other : Text) (r : Row) → bytes_eq r.id other ≡ true → bytes_eq other id ≡ false → bytes_eq r.id id ≡ true → Q
@@ -60,6 +62,10 @@ play_shape = built_leaf (inherited (marked_built (with_leaf_noted kalah_app.top)
 abbrev answers_shape : Text → Shape
 answers_shape name = built_leaf (inherited (marked_built (with_leaf_noted kalah_app.top)) (answers_app name).top)
 
+-- `ask`, as built under the program
+abbrev ask_shape : Shape
+ask_shape = built_leaf (inherited (marked_built (with_leaf_noted kalah_app.top)) ask_app.top)
+
 -- the arguments, as built
 abbrev workers_built : Rule
 workers_built = with_index 1 (filled workers_rule)
@@ -69,6 +75,12 @@ table_built = with_index 1 (filled table_rule)
 
 abbrev boards_built : Rule
 boards_built = with_index 1 (filled boards_rule)
+
+abbrev progress_built : Rule
+progress_built = with_index 1 (filled progress_rule)
+
+abbrev values_built : Rule
+values_built = with_index 1 (filled values_rule)
 
 abbrev file_built : Rule
 file_built = with_index 1 (filled file_rule)
@@ -88,12 +100,16 @@ workers_give = record {
     workers = λ same. (refl, values_pass false (Unsigned 1 most_workers) (v ∷ vs) e);
     table = λ bad. cc;
     boards = λ bad. cc;
+    progress = λ bad. cc;
+    values = λ bad. cc;
   };
   more = λ s r vs is p e. record {
     some = more_than r.values vs p.some;
     workers = λ same. ((p.workers same).0, both_all _ r.values vs (p.workers same).1 (values_pass false (Unsigned 1 most_workers) vs e));
     table = elsewhere (codes "table") (codes "workers") r is refl;
     boards = elsewhere (codes "boards") (codes "workers") r is refl;
+    progress = elsewhere (codes "progress") (codes "workers") r is refl;
+    values = elsewhere (codes "values") (codes "workers") r is refl;
   };
 }
 
@@ -106,12 +122,16 @@ table_gives = record {
     workers = λ bad. cc;
     table = λ same. (refl, values_pass false (Unsigned 1 most_entries) (v ∷ vs) e);
     boards = λ bad. cc;
+    progress = λ bad. cc;
+    values = λ bad. cc;
   };
   more = λ s r vs is p e. record {
     some = more_than r.values vs p.some;
     workers = elsewhere (codes "workers") (codes "table") r is refl;
     table = λ same. ((p.table same).0, both_all _ r.values vs (p.table same).1 (values_pass false (Unsigned 1 most_entries) vs e));
     boards = elsewhere (codes "boards") (codes "table") r is refl;
+    progress = elsewhere (codes "progress") (codes "table") r is refl;
+    values = elsewhere (codes "values") (codes "table") r is refl;
   };
 }
 
@@ -124,12 +144,60 @@ boards_give = record {
     workers = λ bad. cc;
     table = λ bad. cc;
     boards = λ same. (refl, values_pass false vp.Bool (v ∷ vs) e);
+    progress = λ bad. cc;
+    values = λ bad. cc;
   };
   more = λ s r vs is p e. record {
     some = more_than r.values vs p.some;
     workers = elsewhere (codes "workers") (codes "boards") r is refl;
     table = elsewhere (codes "table") (codes "boards") r is refl;
     boards = λ same. ((p.boards same).0, both_all _ r.values vs (p.boards same).1 (values_pass false vp.Bool vs e));
+    progress = elsewhere (codes "progress") (codes "boards") r is refl;
+    values = elsewhere (codes "values") (codes "boards") r is refl;
+  };
+}
+
+-- whether progress is shown
+progress_gives : Gives Sound progress_built
+progress_gives = record {
+  action = inr (inr (refl, omega arith));
+  first = λ s v vs e. record {
+    some = omega arith;
+    workers = λ bad. cc;
+    table = λ bad. cc;
+    boards = λ bad. cc;
+    progress = λ same. (refl, values_pass false vp.Bool (v ∷ vs) e);
+    values = λ bad. cc;
+  };
+  more = λ s r vs is p e. record {
+    some = more_than r.values vs p.some;
+    workers = elsewhere (codes "workers") (codes "progress") r is refl;
+    table = elsewhere (codes "table") (codes "progress") r is refl;
+    boards = elsewhere (codes "boards") (codes "progress") r is refl;
+    progress = λ same. ((p.progress same).0, both_all _ r.values vs (p.progress same).1 (values_pass false vp.Bool vs e));
+    values = elsewhere (codes "values") (codes "progress") r is refl;
+  };
+}
+
+-- whether the values of moves are asked for
+values_give : Gives Sound values_built
+values_give = record {
+  action = inr (inr (refl, omega arith));
+  first = λ s v vs e. record {
+    some = omega arith;
+    workers = λ bad. cc;
+    table = λ bad. cc;
+    boards = λ bad. cc;
+    progress = λ bad. cc;
+    values = λ same. (refl, values_pass false vp.Bool (v ∷ vs) e);
+  };
+  more = λ s r vs is p e. record {
+    some = more_than r.values vs p.some;
+    workers = elsewhere (codes "workers") (codes "values") r is refl;
+    table = elsewhere (codes "table") (codes "values") r is refl;
+    boards = elsewhere (codes "boards") (codes "values") r is refl;
+    progress = elsewhere (codes "progress") (codes "values") r is refl;
+    values = λ same. ((p.values same).0, both_all _ r.values vs (p.values same).1 (values_pass false vp.Bool vs e));
   };
 }
 
@@ -137,31 +205,36 @@ boards_give = record {
 other_gives : (a : Rule) → (action_of a ≡ Help)
     ⊎ ((((action_of a ≡ Set) ⊎ (action_of a ≡ Append)) × (nat_lt 0 (unwrap_or_range a.range).start_inclusive ≡ true))
     ⊎ ((action_of a ≡ SetTrue) × (0 < length a.missing)))
-    → bytes_eq a.id (codes "workers") ≡ false → bytes_eq a.id (codes "table") ≡ false → bytes_eq a.id (codes "boards") ≡ false → Gives Sound a
-other_gives a action no_workers no_table no_boards = record {
+    → bytes_eq a.id (codes "workers") ≡ false → bytes_eq a.id (codes "table") ≡ false → bytes_eq a.id (codes "boards") ≡ false
+    → bytes_eq a.id (codes "progress") ≡ false → bytes_eq a.id (codes "values") ≡ false → Gives Sound a
+other_gives a action no_workers no_table no_boards no_progress no_values = record {
   action = action;
   first = λ s v vs e. record {
     some = omega arith;
     workers = λ bad. cc;
     table = λ bad. cc;
     boards = λ bad. cc;
+    progress = λ bad. cc;
+    values = λ bad. cc;
   };
   more = λ s r vs is p e. record {
     some = more_than r.values vs p.some;
     workers = elsewhere (codes "workers") a.id r is no_workers;
     table = elsewhere (codes "table") a.id r is no_table;
     boards = elsewhere (codes "boards") a.id r is no_boards;
+    progress = elsewhere (codes "progress") a.id r is no_progress;
+    values = elsewhere (codes "values") a.id r is no_values;
   };
 }
 
 file_gives : Gives Sound file_built
-file_gives = other_gives file_built (inr (inl (inr refl, refl))) refl refl refl
+file_gives = other_gives file_built (inr (inl (inr refl, refl))) refl refl refl refl refl
 
 line_gives : Gives Sound line_built
-line_gives = other_gives line_built (inr (inl (inl refl, refl))) refl refl refl
+line_gives = other_gives line_built (inr (inl (inl refl, refl))) refl refl refl refl refl
 
 help_gives : Gives Sound help_built
-help_gives = other_gives help_built (inl refl) refl refl refl
+help_gives = other_gives help_built (inl refl) refl refl refl refl refl
 
 -- so the arguments of each subcommand do
 moves_give : AllOf (Gives Sound) moves_shape.rules
@@ -171,7 +244,10 @@ play_gives : AllOf (Gives Sound) play_shape.rules
 play_gives = (table_gives, (boards_give, (line_gives, (help_gives, tt))))
 
 answers_give : (name : Text) → AllOf (Gives Sound) (answers_shape name).rules
-answers_give name = (workers_give, (table_gives, (file_gives, (help_gives, tt))))
+answers_give name = (workers_give, (table_gives, (progress_gives, (file_gives, (help_gives, tt)))))
+
+ask_gives : AllOf (Gives Sound) ask_shape.rules
+ask_gives = (values_give, (table_gives, (help_gives, tt)))
 
 -- ---- what is there
 
@@ -208,37 +284,6 @@ played_line_given rows e = go (is_given (codes "line") rows) e
     go true f = refl
     go false f = cc
 
--- matches of `solve` or `values` without a fault have what it needs
-pub answers_hold : (name : Text) (words : List Text) → level_fault (answers_shape name) [] nothing_held words false [] ≡ []
-    → IsAnswers (rows_after (answers_shape name).rules [] words)
-answers_hold name words e =
-    let shape = answers_shape name in
-    let level = kept_level Sound shape (answers_give name) [] words false [] e in
-    let rows = rows_after shape.rules [] words in
-    let start = (settled shape.rules (walk shape.rules [] nothing_held words).held).rows in
-    let workers = row_in (codes "workers") rows (rows_stay (codes "workers") (table_built ∷ file_built ∷ help_built ∷ [])
-    (with_default start workers_built) (default_made start workers_built (codes "4") [] refl refl)) in
-    let table = row_in (codes "table") rows (rows_stay (codes "table") (file_built ∷ help_built ∷ [])
-    (with_default (with_default start workers_built) table_built)
-    (default_made (with_default start workers_built) table_built (codes "65536") [] refl refl)) in
-    let file = given_row (codes "file") rows (file_given name rows level.1) in
-    let workers_sound = found_row Sound (codes "workers") rows workers.0 level.0 workers.1 in
-    let table_sound = found_row Sound (codes "table") rows table.0 level.0 table.1 in
-    let file_sound = found_row Sound (codes "file") rows file.0 level.0 file.1 in (
-      number_in (codes "workers") most_workers rows workers.0 workers.1 workers_sound.some (workers_sound.workers (found_named (codes "workers") rows workers.0 workers.1)),
-      number_in (codes "table") most_entries rows table.0 table.1 table_sound.some (table_sound.table (found_named (codes "table") rows table.0 table.1)),
-      (file.0.values, ap (option_map (λ (r : Row). r.values)) file.1, file_sound.some),
-    )
-
--- a row with a value has a first value
-first_in : (id : Text) (rows : List Row) (r : Row) → find (λ r. bytes_eq r.id id) rows ≡ Some r → 0 < length r.values
-    → (t : Text) × (first_of id rows ≡ Some t)
-first_in id rows r found some = go r.values refl some
-  where
-    go : (vs : List Text) → r.values ≡ vs → 0 < length vs → (t : Text) × (first_of id rows ≡ Some t)
-    go [] e lt = absurd (omega arith)
-    go (v ∷ vs) e lt = (v, rw (found, e) refl)
-
 -- a row that says true or false does so in the text that is read
 flag_of : (r : Row) (t : Text) → (r.reading ≡ AsWritten) × AllOf (Accepts false vp.Bool) r.values → row_text r ≡ Some t
     → (t ≡ codes "true") ⊎ (t ≡ codes "false")
@@ -255,15 +300,48 @@ flag_of r t ok is = go r.values r.reading ok.1 ok.0 is
         let same : v ≡ t = (let read = rw as_written at e in cc) in
         subst (λ x. (x ≡ codes "true") ⊎ (x ≡ codes "false")) same (said v (bytes_eq v (codes "true")) refl all.0)
 
--- so the rows say of `--boards` that it is set, that it isn't, or nothing
-boards_flag : (rows : List Row) → AllOf Sound rows → HasFlag (codes "boards") rows
-boards_flag rows all = λ t e. go t (find (λ r. bytes_eq r.id (codes "boards")) rows) refl e
+-- so rows of which each says of a flag only that say that it is set, that it isn't, or nothing
+flag_in : (id : Text) (rows : List Row) → ((r : Row) → Sound r → Flagged id r) → AllOf Sound rows → HasFlag id rows
+flag_in id rows flagged all = λ t e. go t (find (λ r. bytes_eq r.id id) rows) refl e
   where
-    go : (t : Text) (o : Option Row) → find (λ r. bytes_eq r.id (codes "boards")) rows ≡ o → option_and_then row_text o ≡ Some t
+    go : (t : Text) (o : Option Row) → find (λ r. bytes_eq r.id id) rows ≡ o → option_and_then row_text o ≡ Some t
         → (t ≡ codes "true") ⊎ (t ≡ codes "false")
     go t None is e = cc
-    go t (Some r) is e =
-        flag_of r t ((found_row Sound (codes "boards") rows r all is).boards (found_named (codes "boards") rows r is)) e
+    go t (Some r) is e = flag_of r t (flagged r (found_row Sound id rows r all is) (found_named id rows r is)) e
+
+-- matches of `solve` or `values` without a fault have what it needs
+pub answers_hold : (name : Text) (words : List Text) → level_fault (answers_shape name) [] nothing_held words false [] ≡ []
+    → IsAnswers (rows_after (answers_shape name).rules [] words)
+answers_hold name words e =
+    let shape = answers_shape name in
+    let level = kept_level Sound shape (answers_give name) [] words false [] e in
+    let rows = rows_after shape.rules [] words in
+    let start = (settled shape.rules (walk shape.rules [] nothing_held words).held).rows in
+    let workers = row_in (codes "workers") rows (rows_stay (codes "workers") (table_built ∷ progress_built ∷ file_built ∷ help_built ∷ [])
+    (with_default start workers_built) (default_made start workers_built (codes "4") [] refl refl)) in
+    let table = row_in (codes "table") rows (rows_stay (codes "table") (progress_built ∷ file_built ∷ help_built ∷ [])
+    (with_default (with_default start workers_built) table_built)
+    (default_made (with_default start workers_built) table_built (codes "65536") [] refl refl)) in
+    let file = given_row (codes "file") rows (file_given name rows level.1) in
+    let workers_sound = found_row Sound (codes "workers") rows workers.0 level.0 workers.1 in
+    let table_sound = found_row Sound (codes "table") rows table.0 level.0 table.1 in
+    let file_sound = found_row Sound (codes "file") rows file.0 level.0 file.1 in record {
+      workers = number_in (codes "workers") most_workers rows workers.0 workers.1 workers_sound.some
+          (workers_sound.workers (found_named (codes "workers") rows workers.0 workers.1));
+      table = number_in (codes "table") most_entries rows table.0 table.1 table_sound.some
+          (table_sound.table (found_named (codes "table") rows table.0 table.1));
+      progress = flag_in (codes "progress") rows (λ r sound. sound.progress) level.0;
+      files = (file.0.values, ap (option_map (λ (r : Row). r.values)) file.1, file_sound.some);
+    }
+
+-- a row with a value has a first value
+first_in : (id : Text) (rows : List Row) (r : Row) → find (λ r. bytes_eq r.id id) rows ≡ Some r → 0 < length r.values
+    → (t : Text) × (first_of id rows ≡ Some t)
+first_in id rows r found some = go r.values refl some
+  where
+    go : (vs : List Text) → r.values ≡ vs → 0 < length vs → (t : Text) × (first_of id rows ≡ Some t)
+    go [] e lt = absurd (omega arith)
+    go (v ∷ vs) e lt = (v, rw (found, e) refl)
 
 -- rows to which a line is given have one
 line_in : (rows : List Row) → AllOf Sound rows → is_given (codes "line") rows ≡ true → HasLineArgument rows
@@ -277,7 +355,7 @@ pub moves_hold : (words : List Text) → level_fault moves_shape [] nothing_held
 moves_hold words e =
     let level = kept_level Sound moves_shape moves_give [] words false [] e in
     let rows = rows_after moves_shape.rules [] words in
-    (boards_flag rows level.0, line_in rows level.0 (line_given rows level.1))
+    (flag_in (codes "boards") rows (λ r sound. sound.boards) level.0, line_in rows level.0 (line_given rows level.1))
 
 -- rows with an entry for the table have its number
 table_in : (rows : List Row) → AllOf Sound rows → has_row (codes "table") rows ≡ true → HasNumber (codes "table") most_entries rows
@@ -295,7 +373,17 @@ play_holds words e =
     let start = (settled play_shape.rules (walk play_shape.rules [] nothing_held words).held).rows in
     let table = rows_stay (codes "table") (boards_built ∷ line_built ∷ help_built ∷ []) (with_default start table_built)
     (default_made start table_built (codes "65536") [] refl refl) in
-    (table_in rows level.0 table, boards_flag rows level.0, line_in rows level.0 (played_line_given rows level.1))
+    (table_in rows level.0 table, flag_in (codes "boards") rows (λ r sound. sound.boards) level.0, line_in rows level.0 (played_line_given rows level.1))
+
+-- matches of `ask` without a fault have what it needs
+pub ask_holds : (words : List Text) → level_fault ask_shape [] nothing_held words false [] ≡ []
+    → IsAsk (rows_after ask_shape.rules [] words)
+ask_holds words e =
+    let level = kept_level Sound ask_shape ask_gives [] words false [] e in
+    let rows = rows_after ask_shape.rules [] words in
+    let start = with_default (settled ask_shape.rules (walk ask_shape.rules [] nothing_held words).held).rows values_built in
+    let table = rows_stay (codes "table") (help_built ∷ []) (with_default start table_built) (default_made start table_built (codes "65536") [] refl refl) in
+    (flag_in (codes "values") rows (λ r sound. sound.values) level.0, table_in rows level.0 table)
 
 -- ---- the subcommand that the words name
 
@@ -334,8 +422,11 @@ taken_holds words e =
       (
         λ words f. inr (inl (refl, play_holds words f)),
         (
-          λ words f. inr (inr (inl refl, answers_hold (codes "solve") words f)),
-          (λ words f. inr (inr (inr refl, answers_hold (codes "values") words f)), tt),
+          λ words f. inr (inr (inl (inl refl, answers_hold (codes "solve") words f))),
+          (
+            λ words f. inr (inr (inl (inr refl, answers_hold (codes "values") words f))),
+            (λ words f. inr (inr (inr (refl, ask_holds words f))), tt),
+          ),
         ),
       ),
     )

@@ -12,11 +12,11 @@ use Rattle.clap.specs.declared.error.kind.ErrorKind.TheVariants.{MissingRequired
 use Rattle.kalah_jobs.specs.declared.files.question.Question.{Question}
 use Rattle.kalah_jobs.specs.declared.files.question.Question.TheVariants.{BestMove, Values}
 use Rattle.kalah_cli.specs.Command.{kalah_app}
-use Rattle.kalah_cli.specs.Request.{Asked, texts_of, IsPlainWord, IsTakenAs, answers, asked_by, command_of, moves, play}
+use Rattle.kalah_cli.specs.Request.{Asked, texts_of, IsPlainWord, IsTakenAs, answers, ask, asked_by, command_of, moves, play}
 use Rattle.kalah_cli.specs.Runs.{Does, IsOfLine}
 use Rattle.kalah_cli.specs.declared.status.ExitStatus.{ExitStatus}
 use Rattle.kalah_cli.specs.declared.status.ExitStatus.TheVariants.{Clean, Failed}
-use Rattle.kalah_cli.proofs.Laws.{moves_taken, play_taken, taken_once}
+use Rattle.kalah_cli.proofs.Laws.{ask_taken, ask_values_taken, moves_taken, play_taken, taken_once}
 use Rattle.kalah_cli.proofs.ManyWords.{files_match, files_pass, no_file_is_missed}
 
 -- `moves` and a plain word are taken as the moves of that word
@@ -27,22 +27,29 @@ moves_of words name line is plain = subst (λ ws. IsTakenAs ws (moves false line
 pub game_of : (words : List Text) (name line : Text) → words ≡ name ∷ codes "play" ∷ line ∷ [] → IsPlainWord line → IsTakenAs words (play 65536 false line)
 game_of words name line is plain = subst (λ ws. IsTakenAs ws (play 65536 false line)) (sym is) (play_taken name line plain)
 
+-- `ask` alone, or with its flag, is taken as asking of the standard input
+pub ask_of : (words : List Text) (name : Text) → words ≡ name ∷ codes "ask" ∷ [] → IsTakenAs words (ask BestMove 65536)
+ask_of words name is = subst (λ ws. IsTakenAs ws (ask BestMove 65536)) (sym is) (ask_taken name)
+
+pub ask_values_of : (words : List Text) (name : Text) → words ≡ name ∷ codes "ask" ∷ codes "--values" ∷ [] → IsTakenAs words (ask Values 65536)
+ask_values_of words name is = subst (λ ws. IsTakenAs ws (ask Values 65536)) (sym is) (ask_values_taken name)
+
 -- `solve` or `values` and plain words are taken as asking this of the files of these names
 files_taken : (question : Question) (name file : Text) (files : List Text) → All IsPlainWord (file ∷ files)
-    → IsTakenAs (name ∷ command_of question ∷ file ∷ files) (answers question 4 65536 (file ∷ files))
+    → IsTakenAs (name ∷ command_of question ∷ file ∷ files) (answers question 4 65536 false (file ∷ files))
 files_taken BestMove name file files plain =
     (files_pass BestMove name file files plain, ap (option_and_then asked_by) (files_match BestMove name file files plain))
 files_taken Values name file files plain =
     (files_pass Values name file files plain, ap (option_and_then asked_by) (files_match Values name file files plain))
 
 pub files_of : (question : Question) (words : List Text) (name file : Text) (files : List Text) → words ≡ name ∷ command_of question ∷ file ∷ files
-    → All IsPlainWord (file ∷ files) → IsTakenAs words (answers question 4 65536 (file ∷ files))
+    → All IsPlainWord (file ∷ files) → IsTakenAs words (answers question 4 65536 false (file ∷ files))
 files_of question words name file files is plain =
-    subst (λ ws. IsTakenAs ws (answers question 4 65536 (file ∷ files))) (sym is) (files_taken question name file files plain)
+    subst (λ ws. IsTakenAs ws (answers question 4 65536 false (file ∷ files))) (sym is) (files_taken question name file files plain)
 
 -- and refused where there is none
 pub files_or_none : (question : Question) (words : List Text) (name : Text) (files : List Text) → words ≡ name ∷ command_of question ∷ files
-    → All IsPlainWord files → IsTakenAs words (answers question 4 65536 files) ⊎ (fault_of kalah_app words ≡ MissingRequiredArgument ∷ [])
+    → All IsPlainWord files → IsTakenAs words (answers question 4 65536 false files) ⊎ (fault_of kalah_app words ≡ MissingRequiredArgument ∷ [])
 files_or_none question words name [] is plain = inr (ap (fault_of kalah_app) is ∙ no_file_is_missed question name)
 files_or_none question words name (file ∷ files) is plain = inl (files_of question words name file files is plain)
 
@@ -59,7 +66,8 @@ line_as words a b line one other of = subst (λ x. IsOfLine x line) (taken_once 
 pub failed_does : (a : Asked) (old new : Option (List ℕ)) (status : ExitStatus) → status ≡ Failed → Does a old new status
 failed_does (moves boards line) old new status failed = λ p reads. (λ e. cc, λ e. absurd (let bad : Failed ≡ Clean = sym failed ∙ e in cc))
 failed_does (play table boards line) old new status failed = λ p reads. (λ e. cc, λ e. absurd (let bad : Failed ≡ Clean = sym failed ∙ e in cc))
-failed_does (answers question workers table names) old new status failed = λ went. absurd (went failed)
+failed_does (answers question workers table progress names) old new status failed = λ went. absurd (went failed)
+failed_does (ask question table) old new status failed = λ went. absurd (went failed)
 
 -- equal words are taken as the same
 pub words_at : (xs ys : List (String Global)) (a : Asked) → xs ≡ ys → IsTakenAs (texts_of ys) a → IsTakenAs (texts_of xs) a

@@ -33,12 +33,24 @@ workers_rule = number_rule (codes "workers") most_workers (codes "4")
 abbrev pub table_rule : Rule
 table_rule = number_rule (codes "table") most_entries (codes "65536")
 
--- `--boards`
-abbrev pub boards_rule : Rule
-boards_rule = record (new_rule (codes "boards")) {
-  long = Some (codes "boards");
+-- `--NAME`, a flag
+abbrev pub flag_rule : Text → Rule
+flag_rule name = record (new_rule name) {
+  long = Some name;
   action = Some SetTrue;
 }
+
+-- `--progress`
+abbrev pub progress_rule : Rule
+progress_rule = flag_rule (codes "progress")
+
+-- `--boards`
+abbrev pub boards_rule : Rule
+boards_rule = flag_rule (codes "boards")
+
+-- `--values`
+abbrev pub values_rule : Rule
+values_rule = flag_rule (codes "values")
 
 -- FILE..: at least one
 abbrev pub file_rule : Rule
@@ -56,9 +68,9 @@ moves_app = with_rule (with_rule (new_app (codes "moves")) boards_rule) line_rul
 abbrev pub play_app : App
 play_app = with_rule (with_rule (with_rule (new_app (codes "play")) table_rule) boards_rule) line_rule
 
--- `NAME [--workers N] [--table N] FILE..`
+-- `NAME [--workers N] [--table N] [--progress] FILE..`
 abbrev pub answers_app : Text → App
-answers_app name = with_rule (with_rule (with_rule (new_app name) workers_rule) table_rule) file_rule
+answers_app name = with_rule (with_rule (with_rule (with_rule (new_app name) workers_rule) table_rule) progress_rule) file_rule
 
 abbrev pub solve_app : App
 solve_app = answers_app (codes "solve")
@@ -66,10 +78,15 @@ solve_app = answers_app (codes "solve")
 abbrev pub values_app : App
 values_app = answers_app (codes "values")
 
+-- `ask [--values] [--table N]`
+abbrev pub ask_app : App
+ask_app = with_rule (with_rule (new_app (codes "ask")) values_rule) table_rule
+
 -- the program with no subcommand yet
 abbrev pub program_app : App
 program_app = on_top (λ s. record s { has_version = true; subcommand_required = true; disable_help_subcommand = true }) (new_app (codes "kalah"))
 
--- the program, which is always given one of the four subcommands
+-- the program, which is always given one of the five subcommands
 abbrev pub kalah_app : App
-kalah_app = with_subcommand (with_subcommand (with_subcommand (with_subcommand program_app moves_app.top) play_app.top) solve_app.top) values_app.top
+kalah_app =
+    with_subcommand (with_subcommand (with_subcommand (with_subcommand (with_subcommand program_app moves_app.top) play_app.top) solve_app.top) values_app.top) ask_app.top

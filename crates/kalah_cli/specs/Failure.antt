@@ -1,6 +1,6 @@
 -- What makes the program fail.
-use Rattle.kalah_run.specs.declared.run_fault.RunFault.{RunFault}
-use Rattle.kalah_run.specs.declared.run_fault.RunFault.TheVariants as fault
+use Rattle.kalah_run.specs.declared.batch.run_fault.RunFault.{RunFault}
+use Rattle.kalah_run.specs.declared.batch.run_fault.RunFault.TheVariants as fault
 use Rattle.kalah_cli.specs.declared.failure.Failure.{Failure}
 use Rattle.kalah_cli.specs.declared.failure.Failure.TheVariants.{TooManyFiles, TooManyLines, OutOfMemory, NoWorker, Write}
 

@@ -5,4 +5,5 @@ pub mod Failure
 pub mod Moves
 pub mod Play
 pub mod Batch
+pub mod Ask
 pub mod Runs

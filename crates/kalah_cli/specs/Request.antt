@@ -15,7 +15,7 @@ use Rattle.kalah_solve.specs.Table.{most_entries}
 use Rattle.kalah_run.specs.Limits.{most_workers}
 use Rattle.kalah_cli.specs.Command.{kalah_app}
 use Rattle.kalah_cli.specs.declared.request.Request.{Request}
-use Rattle.kalah_cli.specs.declared.request.Request.TheVariants.{Moves, Play, Batch}
+use Rattle.kalah_cli.specs.declared.request.Request.TheVariants.{Moves, Play, Batch, Ask}
 use Rattle.kalah_cli.specs.declared.request.Batch as batch
 
 module _ {A : Type 0} where
@@ -24,11 +24,13 @@ module _ {A : Type 0} where
   texts_of words = map string_bytes words
 
 -- what can be asked: the moves of a line, with boards drawn or not; the game of best play from a line, found with a table of so
--- many entries; or something of each position in files, by so many workers with such tables
+-- many entries; something of each position in files, by so many workers with such tables; or of each line of the standard input, with
+-- such a table
 pub data Asked : Type 0 where
   moves : Bool → Text → Asked
   play : ℕ → Bool → Text → Asked
-  answers : Question → ℕ → ℕ → List Text → Asked
+  answers : Question → ℕ → ℕ → Bool → List Text → Asked
+  ask : Question → ℕ → Asked
 
 -- the subcommand that asks this of files
 abbrev pub command_of : Question → Text
@@ -54,15 +56,24 @@ play_asked rows = option_and_then (λ t. option_map (play (number_written t) (is
 
 -- what the matches of `solve` or `values` ask for
 abbrev pub answers_asked : Question → List Row → Option Asked
-answers_asked question rows = option_and_then (λ w. option_and_then (λ t. option_map (λ fs. answers question (number_written w) (number_written t) fs)
+answers_asked question rows = option_and_then (λ w. option_and_then (λ t. option_map (answers question (number_written w) (number_written t) (is_set (codes "progress") rows))
     (all_of (codes "file") rows)) (one_of (codes "table") rows)) (one_of (codes "workers") rows)
+
+-- what is asked where the flag `--values` is set, and where it isn't
+abbrev pub question_of : Bool → Question
+question_of values = if values then Values else BestMove
+
+-- what the matches of `ask` ask for
+abbrev pub ask_asked : List Row → Option Asked
+ask_asked rows = option_map (λ t. ask (question_of (is_set (codes "values") rows)) (number_written t)) (one_of (codes "table") rows)
 
 -- what a subcommand with its matches asks for
 abbrev pub asked_by : Text × List Row → Option Asked
 asked_by p =
     if bytes_eq p.0 (codes "moves") then moves_asked p.1
     else (if bytes_eq p.0 (codes "play") then play_asked p.1
-    else (if bytes_eq p.0 (codes "solve") then answers_asked BestMove p.1 else answers_asked Values p.1))
+    else (if bytes_eq p.0 (codes "solve") then answers_asked BestMove p.1
+    else (if bytes_eq p.0 (codes "values") then answers_asked Values p.1 else ask_asked p.1)))
 
 -- what the words ask for, read by the command line
 abbrev pub asked : List Text → Option Asked
@@ -88,7 +99,8 @@ IsVersionWord name words = (words ≡ name ∷ codes "--version" ∷ []) ⊎ (wo
 abbrev pub asked_for : Request → Asked
 asked_for (Moves line boards) = moves boards line.now
 asked_for (Play line table boards) = play table boards line.now
-asked_for (Batch b) = answers b.question b.workers b.table (map (λ f. f.now) b.files.items)
+asked_for (Batch b) = answers b.question b.workers b.table b.progress (map (λ f. f.now) b.files.items)
+asked_for (Ask question table) = ask question table
 
 -- workers and entries are in their ranges, and there is a file
 abbrev pub IsInLimits : batch.Batch → Type 0
@@ -98,6 +110,7 @@ abbrev pub IsInRange : Request → Type 0
 IsInRange (Moves line boards) = ⊤
 IsInRange (Play line table boards) = (1 ≤ table) × (table ≤ most_entries)
 IsInRange (Batch b) = IsInLimits b
+IsInRange (Ask question table) = (1 ≤ table) × (table ≤ most_entries)
 
 -- a word that is no flag: it isn't empty and doesn't begin with `-` (45)
 abbrev pub IsPlainWord : Text → Type 0
@@ -108,14 +121,16 @@ IsPlainWord (x ∷ xs) = x ≢ 45
 abbrev pub HasNumber : Text → ℕ → List Row → Type 0
 HasNumber id high rows = (t : Text) × (one_of id rows ≡ Some t) × IsUnsignedIn 1 high t
 
--- the matches have what `solve` and `values` need
-abbrev pub IsAnswers : List Row → Type 0
-IsAnswers rows = HasNumber (codes "workers") most_workers rows × HasNumber (codes "table") most_entries rows
-    × ((fs : List Text) × (all_of (codes "file") rows ≡ Some fs) × (0 < length fs))
-
 -- the matches say of the flag that it is set, that it isn't, or nothing
 abbrev pub HasFlag : Text → List Row → Type 0
 HasFlag id rows = (t : Text) → one_of id rows ≡ Some t → (t ≡ codes "true") ⊎ (t ≡ codes "false")
+
+-- the matches have what `solve` and `values` need
+pub record IsAnswers (rows : List Row) : Type 0 where
+  pub workers : HasNumber (codes "workers") most_workers rows
+  pub table : HasNumber (codes "table") most_entries rows
+  pub progress : HasFlag (codes "progress") rows
+  pub files : (fs : List Text) × (all_of (codes "file") rows ≡ Some fs) × (0 < length fs)
 
 -- the matches have a line
 abbrev pub HasLineArgument : List Row → Type 0
@@ -129,10 +144,15 @@ IsMoves rows = HasFlag (codes "boards") rows × HasLineArgument rows
 abbrev pub IsPlay : List Row → Type 0
 IsPlay rows = HasNumber (codes "table") most_entries rows × HasFlag (codes "boards") rows × HasLineArgument rows
 
+-- the matches have what `ask` needs
+abbrev pub IsAsk : List Row → Type 0
+IsAsk rows = HasFlag (codes "values") rows × HasNumber (codes "table") most_entries rows
+
 -- the matches have what the subcommand of this name needs
 abbrev pub HasWhatItNeeds : Text → List Row → Type 0
 HasWhatItNeeds name rows = ((name ≡ codes "moves") × IsMoves rows) ⊎ ((name ≡ codes "play") × IsPlay rows)
     ⊎ (((name ≡ codes "solve") ⊎ (name ≡ codes "values")) × IsAnswers rows)
+    ⊎ ((name ≡ codes "ask") × IsAsk rows)
 
 -- a subcommand was met, and its matches have what it needs
 abbrev pub IsTaken : Option (Text × List Row) → Type 0

@@ -1,5 +1,5 @@
 -- What the program does of what it is asked.
-use Rattle.std.specs.Prelude.{◌≡◌, ◌≢◌, ◌++◌, ◌∷◌, ℕ, List, [], Option, codes}
+use Rattle.std.specs.Prelude.{◌≡◌, ◌≢◌, ◌++◌, ◌∷◌, ℕ, List, [], Option, codes, ⊤}
 use Rattle.std.specs.Io.KnownBytes.{Appends}
 use Rattle.clap.specs.Words.{Text}
 use Rattle.kalah_rules.specs.Position.{Position}
@@ -7,7 +7,8 @@ use Rattle.kalah_jobs.specs.Writing.Given.{AppendsStart}
 use Rattle.kalah_jobs.specs.Line.Line.{Reads}
 use Rattle.kalah_cli.specs.Moves.{moves_output}
 use Rattle.kalah_cli.specs.Play.{BeginsBest, PlaysBest}
-use Rattle.kalah_cli.specs.Request.{Asked, moves, play, answers}
+use Rattle.kalah_cli.specs.Request.{Asked, moves, play, answers, ask}
+use Rattle.kalah_cli.specs.Ask.{AnswersLines, BeginsLines}
 use Rattle.kalah_cli.specs.Batch.{AnswersTo, BeginsTo}
 use Rattle.kalah_cli.specs.declared.status.ExitStatus.{ExitStatus}
 use Rattle.kalah_cli.specs.declared.status.ExitStatus.TheVariants.{Clean, LineFaults, Failed}
@@ -20,23 +21,33 @@ Prints line printed status = (p : Position) → Reads line p → (status ≢ Lin
 abbrev pub Does : Asked → Option (List ℕ) → Option (List ℕ) → ExitStatus → Type 0
 Does (moves boards line) old new status = Prints line (λ p. Appends old new (moves_output boards p)) status
 Does (play table boards line) old new status = Prints line (λ p. PlaysBest boards p old new) status
-Does (answers question workers table names) old new status = status ≢ Failed → AnswersTo question names old new status
+Does (answers question workers table progress names) old new status = status ≢ Failed → AnswersTo question names old new status
+Does (ask question table) old new status = status ≢ Failed → AnswersLines question old new status
 
 -- a beginning of what was asked was written between the two states, and nothing else
 abbrev pub Begins : Asked → Option (List ℕ) → Option (List ℕ) → Type 0
 Begins (moves boards line) old new = (p : Position) → Reads line p → AppendsStart old new (moves_output boards p)
 Begins (play table boards line) old new = (p : Position) → Reads line p → BeginsBest boards p old new
-Begins (answers question workers table names) old new = BeginsTo question names old new
+Begins (answers question workers table progress names) old new = BeginsTo question names old new
+Begins (ask question table) old new = BeginsLines question old new
 
 -- what is asked is asked of this line
 abbrev pub IsOfLine : Asked → Text → Type 0
 IsOfLine (moves boards line) text = text ≡ line
 IsOfLine (play table boards line) text = text ≡ line
-IsOfLine (answers question workers table names) text = ⊥
+IsOfLine (answers question workers table progress names) text = ⊥
+IsOfLine (ask question table) text = ⊥
+
+-- nothing is asked of the standard input
+abbrev pub IsOfNoInput : Asked → Type 0
+IsOfNoInput (moves boards line) = ⊤
+IsOfNoInput (play table boards line) = ⊤
+IsOfNoInput (answers question workers table progress names) = ⊤
+IsOfNoInput (ask question table) = ⊥
 
 -- what is written where the version is asked for: the program's name, its version and a line feed (10)
 abbrev pub version_line : Text
-version_line = codes "kalah 1.0.0" ++ 10 ∷ []
+version_line = codes "kalah 1.1.0" ++ 10 ∷ []
 
 -- no position is written by the line
 abbrev pub IsUnread : Text → Type 0

@@ -6,10 +6,11 @@ ghost use Rattle.kalah_cli.specs.Batch.{AnswersTo, BeginsTo, CountsTo, has_line_
 
 use crate::failure::Failure;
 use crate::files::read_files;
+use crate::progress::{Progress, StandardError};
 use crate::request::Batch;
 use crate::status::ExitStatus;
-use kalah_jobs::{Question, Sink};
-use kalah_run::{OpenGate, Tally, solve_batch, values_batch};
+use kalah_jobs::Sink;
+use kalah_run::{BatchSize, OpenGate, Tally, answer_batch};
 use std::alloc::Global;
 use std::io::Write;
 use std::rt::Files;
@@ -32,7 +33,7 @@ fn any_has_line_feed(names: &[&str]) -> bool
 
 // Reads the files that are named and writes the answer to what is asked of each line of them.
 #[tactic(auto, using(crate::proofs::Names::texts_have_line_feed, crate::proofs::Begun::begins_nothing))]
-fn answer_files<'a, R: Files + Threads + Wait + Sync, O: Sink>(
+fn answer_files<'a, R: Files + Threads + Wait + Sync + StandardError, O: Sink>(
     rt: &R,
     alloc: Global,
     batch: &Batch<'a>,
@@ -57,10 +58,18 @@ fn answer_files<'a, R: Files + Threads + Wait + Sync, O: Sink>(
     }
     let files = read_files(rt, alloc, names)?;
     let files = files.as_slice();
-    let (workers, table) = (batch.workers, batch.table);
-    let answered = match batch.question {
-        Question::BestMove => solve_batch(rt, alloc, files, workers, table, &OpenGate, out),
-        Question::Values => values_batch(rt, alloc, files, workers, table, &OpenGate, out),
+    let size = BatchSize {
+        workers: batch.workers,
+        table: batch.table,
+    };
+    let question = batch.question;
+    let answered = if batch.progress {
+        let progress = Progress::begin(rt, files);
+        let answered = answer_batch(rt, alloc, question, files, size, &progress, out);
+        progress.end();
+        answered
+    } else {
+        answer_batch(rt, alloc, question, files, size, &OpenGate, out)
     };
     match answered {
         Ok(tally) => Ok(tally),
@@ -81,7 +90,7 @@ fn status_of(tally: Tally) -> ExitStatus
 }
 
 /// Answers what is asked of each line of the files that are named.
-pub(crate) fn run_batch<R: Files + Threads + Wait + Sync, O: Sink, E: Write>(
+pub(crate) fn run_batch<R: Files + Threads + Wait + Sync + StandardError, O: Sink, E: Write>(
     rt: &R,
     alloc: Global,
     batch: &Batch<'_>,

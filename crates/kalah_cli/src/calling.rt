@@ -1,15 +1,21 @@
 //! The crates, called as docs/CALLING.md shows it.
-ghost use Rattle.std.specs.Prelude.{◌≡◌, IfOk, IfSome, false};
+ghost use Rattle.std.specs.Prelude.{◌≡◌, ◌↔◌, ◌++◌, ◌∷◌, [], IfOk, IfSome, IsErr, OnOk, codes, false, true};
+ghost use Rattle.std.specs.Io.KnownBytes.{Appends};
 ghost use Rattle.kalah_rules.specs.Play.{step_of};
 ghost use Rattle.kalah_rules.specs.Position.{is_over};
+ghost use Rattle.kalah_jobs.specs.Files.Entry.{entry_of};
+ghost use Rattle.kalah_jobs.specs.Files.Lines.{line_feed};
+ghost use Rattle.kalah_jobs.specs.Writing.Answer.{answer_line, answer_of};
 ghost use Rattle.kalah_jobs.specs.Writing.Output.{tally_of};
 ghost use Rattle.kalah_solve.specs.Worth.{worth};
 
-use kalah_jobs::{FileText, Stream};
+use kalah_jobs::{Entry, FileText, Outcome, Sink, Stream, Taken, read_line, write_answer};
 use kalah_rules::{Board, Rule, Step};
 use kalah_run::{OpenGate, RunFault, Tally, solve_batch};
 use kalah_solve::{Solver, Table, Verdict};
 use std::alloc::{AllocError, Global};
+use std::io;
+use std::process::ExitCode;
 use std::sync::Wait;
 use std::test::Fail;
 use std::thread::Threads;
@@ -55,6 +61,48 @@ fn a_caller_solves(rt: HostRuntime) -> Result<(), Fail> {
     let board = two_houses().ok_or("beyond the limits")?;
     let mut solver = Solver::new(Table::new(rt.alloc(), 4096)?);
     assert!(rt; !board.is_over() && margin(&mut solver, &board) == 2);
+    Ok(())
+}
+
+// Writes the answer to a line, as a batch does for the first line of a file `line`.
+#[tactic(auto, unfolding(kalah_jobs::specs::Files::Entry::entry_of))]
+fn write_answer_to<W: Sink>(line: &[u8], solver: &mut Solver, out: &mut W) -> io::Result<()>
+    requires { W.has_failed out.old ≡ false }
+    ensures fails { IsErr result ↔ (W.has_failed out.new ≡ true) }
+    ensures adds { OnOk result (Appends (W.written out.old) (W.written out.new)
+        (answer_line (codes "line") (record { line = 0; answer = answer_of (entry_of line.now) }) ++ line_feed ∷ [])) }
+{
+    let entry = match read_line(line) {
+        Ok(board) => Entry::Position(board),
+        Err(fault) => Entry::Bad(fault),
+    };
+    let outcome = Outcome::of(0, 0, entry, solver);
+    let taken = Taken {
+        line: outcome.line(),
+        answer: outcome.answer(),
+    };
+    write_answer(out, "line", &taken)
+}
+
+fn main(rt: HostRuntime) -> ExitCode {
+    let Ok(table) = Table::new(rt.alloc(), 65536) else {
+        return ExitCode::FAILURE;
+    };
+    let mut out = Stream::new(io::writer(&rt));
+    match write_answer_to(b"1,1/0 1,1/0", &mut Solver::new(table), &mut out) {
+        Ok(()) => ExitCode::SUCCESS,
+        Err(_) => ExitCode::FAILURE,
+    }
+}
+
+#[test]
+fn a_caller_answers_a_line(rt: HostRuntime) -> Result<(), Fail> {
+    let mut solver = Solver::new(Table::new(rt.alloc(), 4096)?);
+    let mut out = Stream::new(Vec::new(rt.alloc()));
+    write_answer_to(b"1,1/0 1,1/0", &mut solver, &mut out)?;
+    write_answer_to(b"1/0", &mut solver, &mut out)?;
+    assert!(rt; out.into_inner().as_slice() == "line:1 2 house 2\nline:1 fault shape\n".as_bytes());
+    let _ = main(rt);
     Ok(())
 }
 

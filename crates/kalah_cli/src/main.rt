@@ -1,6 +1,8 @@
-//! Solves small positions of Kalah: `kalah moves LINE`, `kalah play LINE`, `kalah solve FILE..` and `kalah values FILE..`.
+//! Solves small positions of Kalah: `kalah moves LINE`, `kalah play LINE`, `kalah solve FILE..`, `kalah values FILE..` and
+//! `kalah ask`.
 #![tactic(auto)]
 
+mod ask;
 mod batch;
 #[cfg(test)]
 mod calling;
@@ -8,9 +10,11 @@ mod command;
 mod failure;
 mod files;
 mod fused;
+mod help;
 mod moves;
 mod output;
 mod play;
+mod progress;
 mod request;
 mod run;
 mod status;

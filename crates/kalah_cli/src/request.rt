@@ -8,7 +8,7 @@ ghost use Rattle.clap.specs.Words.{found_of, kind_of};
 ghost use Rattle.clap.specs.declared.error.kind.ErrorKind.TheVariants.{OutOfMemory};
 ghost use Rattle.kalah_solve.specs.Table.{most_entries};
 ghost use Rattle.kalah_cli.specs.Command.{kalah_app};
-ghost use Rattle.kalah_cli.specs.Request.{Asked, HasFlag, HasLineArgument, HasNumber, IsAnswers, IsInRange, IsMoves, IsPlainWord, IsPlay, IsTaken, IsTakenAs, answers, answers_asked, asked_by, asked_for, command_of, is_set, moves, moves_asked, number_written, play_asked};
+ghost use Rattle.kalah_cli.specs.Request.{Asked, HasFlag, HasLineArgument, HasNumber, IsAnswers, IsAsk, IsInRange, IsMoves, IsPlainWord, IsPlay, IsTaken, IsTakenAs, answers, answers_asked, ask_asked, asked_by, asked_for, command_of, is_set, moves, moves_asked, number_written, play_asked, question_of};
 
 use crate::command::command;
 use clap::{ArgMatches, Error};
@@ -32,6 +32,11 @@ pub enum Request<'a> {
     },
     /// To answer each line of files.
     Batch(Batch<'a>),
+    /// To answer each line of the standard input, by a solver with a table of so many entries, 1 to 1,048,576.
+    Ask {
+        question: Question,
+        table: u32,
+    },
 }
 
 /// What is asked of the positions of files, and how they are to be answered.
@@ -43,6 +48,8 @@ pub struct Batch<'a> {
     pub workers: u32,
     /// How many entries the table of each worker has, 1 to 1,048,576.
     pub table: u32,
+    /// Whether standard error shows how many lines are answered.
+    pub progress: bool,
     /// The names of the files, at least one.
     pub files: Vec<&'a str>,
 }
@@ -110,13 +117,38 @@ fn batch_request<'a>(
 {
     let workers = option_number(found, "workers");
     let table = option_number(found, "table");
+    let progress = is_set(found, "progress");
     let files = found.get_strs("file").unwrap().to_vec(alloc)?;
     Ok(Request::Batch(Batch {
         question,
         workers,
         table,
+        progress,
         files,
     }))
+}
+
+// What is asked where the flag `--values` is set, and where it isn't.
+fn question_of(values: bool) -> Question
+    ensures { result ≡ question_of values }
+{
+    if values {
+        Question::Values
+    } else {
+        Question::BestMove
+    }
+}
+
+// What the matches of `ask` ask for.
+fn ask_request<'a>(found: &ArgMatches<'a>) -> Request<'a>
+    requires { IsAsk (rows_of (found_of found.now)) }
+    ensures asked { ask_asked (rows_of (found_of found.now)) ≡ Some (asked_for result) }
+    ensures range { IsInRange result }
+{
+    Request::Ask {
+        question: question_of(is_set(found, "values")),
+        table: option_number(found, "table"),
+    }
 }
 
 // What the matches of a subcommand, which have what it needs, ask for.
@@ -135,8 +167,11 @@ fn requested<'a>(alloc: Global, matches: &ArgMatches<'a>) -> Result<Request<'a>,
     if let Some(found) = matches.subcommand_matches("solve") {
         return batch_request(alloc, Question::BestMove, found);
     }
-    let found = matches.subcommand_matches("values").unwrap();
-    batch_request(alloc, Question::Values, found)
+    if let Some(found) = matches.subcommand_matches("values") {
+        return batch_request(alloc, Question::Values, found);
+    }
+    let found = matches.subcommand_matches("ask").unwrap();
+    Ok(ask_request(found))
 }
 
 /// What the words ask for, of which the first is the program's name. An error is the command line's
@@ -158,7 +193,7 @@ pub(crate) fn parse<'a, S: AsStr>(alloc: Global, words: &'a [S]) -> Result<Reque
     // `solve` or `values` and files, one at least, that are no flags are always taken, as asking this of them.
     ensures files { (question : Question) (name file : List ℕ) (files : List (List ℕ))
         → map S.text words.entry.now ≡ name ∷ command_of question ∷ file ∷ files → All IsPlainWord (file ∷ files)
-        → MatchResult result (λ r. asked_for r ≡ answers question 4 65536 (file ∷ files)) (λ e. kind_of e ≡ OutOfMemory) }
+        → MatchResult result (λ r. asked_for r ≡ answers question 4 65536 false (file ∷ files)) (λ e. kind_of e ≡ OutOfMemory) }
 {
     let matches = command(alloc)?.try_get_matches_from(words)?;
     Ok(requested(alloc, &matches)?)

@@ -5,16 +5,22 @@ ghost use Rattle.clap.specs.Values.{kind_of};
 ghost use Rattle.clap.specs.declared.error.kind.ErrorKind.TheVariants.{DisplayHelp, DisplayVersion};
 ghost use Rattle.kalah_rules.specs.Position.{Position};
 ghost use Rattle.kalah_jobs.specs.Line.Line.{Reads};
+ghost use Rattle.kalah_jobs.specs.declared.files.question.Question.{Question};
+ghost use Rattle.kalah_jobs.specs.declared.files.question.Question.TheVariants.{BestMove, Values};
+ghost use Rattle.kalah_cli.specs.Ask.{AnswersLines, StopsBetweenLines};
 ghost use Rattle.kalah_cli.specs.Moves.{moves_output};
 ghost use Rattle.kalah_cli.specs.Play.{PlaysBest};
-ghost use Rattle.kalah_cli.specs.Request.{Asked, AsksNot, IsInRange, IsPlainWord, IsRefused, IsTakenAs, IsVersionWord, asked_for, texts_of};
-ghost use Rattle.kalah_cli.specs.Runs.{Begins, Does, IsOfLine, IsUnread, version_line};
+ghost use Rattle.kalah_cli.specs.Request.{Asked, AsksNot, IsInRange, IsPlainWord, IsRefused, IsTakenAs, IsVersionWord, ask, asked_for, texts_of};
+ghost use Rattle.kalah_cli.specs.Runs.{Begins, Does, IsOfLine, IsOfNoInput, IsUnread, version_line};
 ghost use Rattle.kalah_cli.specs.Batch.{AnswersFiles, TellsValues};
 
+use crate::ask::run_ask;
 use crate::batch::run_batch;
 use crate::failure::Failure;
+use crate::help;
 use crate::moves::run_moves;
 use crate::play::run_play;
+use crate::progress::StandardError;
 use crate::request::{Request, parse};
 use crate::status::ExitStatus;
 use crate::version::VERSION_LINE;
@@ -22,7 +28,7 @@ use clap::Error;
 use clap::error::ErrorKind;
 use kalah_jobs::Sink;
 use std::alloc::Global;
-use std::io::Write;
+use std::io::{Input, Write};
 use std::rt::Files;
 use std::sync::Wait;
 use std::thread::Threads;
@@ -43,8 +49,26 @@ fn show<O: Sink, E: Write>(text: &str, out: &mut O, err: &mut E) -> ExitStatus
     ExitStatus::Clean
 }
 
-// Shows what comes of a parse that gave no request: help or the version on `out`, a mistake in the words on `err`.
-fn refuse<O: Sink, E: Write>(alloc: Global, error: &Error, out: &mut O, err: &mut E) -> ExitStatus
+// Whether these words seem to ask for the moves or the game of a position that has lost its quotes: of two words in a row each
+// has a slash.
+fn lacks_quotes(words: &[String]) -> bool {
+    let Some(subcommand) = words.get(1) else {
+        return false;
+    };
+    ["moves", "play"].contains(&subcommand.as_str())
+        && words
+            .windows(2)
+            .any(|pair| pair.iter().all(|word| word.contains('/')))
+}
+
+// Shows what comes of a parse of these words that gave no request: help or the version on `out`, a mistake in the words on `err`.
+fn refuse<O: Sink, E: Write>(
+    alloc: Global,
+    words: &[String],
+    error: &Error,
+    out: &mut O,
+    err: &mut E,
+) -> ExitStatus
     requires { O.has_failed out.old ≡ false }
     ensures mistake { kind_of error.now ≢ DisplayHelp → kind_of error.now ≢ DisplayVersion
         → (result ≡ ExitStatus.Failed) × (out.new ≡ out.old) }
@@ -65,13 +89,16 @@ fn refuse<O: Sink, E: Write>(alloc: Global, error: &Error, out: &mut O, err: &mu
         ErrorKind::OutOfMemory => Failure::OutOfMemory.report(err),
         _ => {
             let _ = err.write_all(text.as_bytes());
+            if lacks_quotes(words) {
+                let _ = err.write_all(help::QUOTES.as_bytes());
+            }
             ExitStatus::Failed
         }
     }
 }
 
 // Does what is asked for.
-fn run_request<R: Files + Threads + Wait + Sync, O: Sink, E: Write>(
+fn run_request<R: Files + Input + StandardError + Threads + Wait + Sync, O: Sink, E: Write>(
     rt: &R,
     alloc: Global,
     request: &Request<'_>,
@@ -85,8 +112,10 @@ fn run_request<R: Files + Threads + Wait + Sync, O: Sink, E: Write>(
     ensures unread { (line : List ℕ) → IsOfLine (asked_for request.now) line → IsUnread line
         → (result ≡ ExitStatus.LineFaults) × (out.new ≡ out.old) }
     ensures failed { O.has_failed out.new ≡ true → result ≡ ExitStatus.Failed }
-    ensures unchanged { result ≡ ExitStatus.Failed → O.has_failed out.new ≡ false
+    ensures unchanged { IsOfNoInput (asked_for request.now) → result ≡ ExitStatus.Failed → O.has_failed out.new ≡ false
         → out.new ≡ out.old }
+    ensures stopped { (question : Question) (table : ℕ) → asked_for request.now ≡ ask question table → result ≡ ExitStatus.Failed
+        → O.has_failed out.new ≡ false → StopsBetweenLines question (O.written out.old) (O.written out.new) }
     ensures handed_on { result ≢ ExitStatus.Failed → O.is_handed_on out.old ≡ true → O.is_handed_on out.new ≡ true }
 {
     match request {
@@ -97,15 +126,16 @@ fn run_request<R: Files + Threads + Wait + Sync, O: Sink, E: Write>(
             boards,
         } => run_play(alloc, line, *table, *boards, out, err),
         Request::Batch(batch) => run_batch(rt, alloc, batch, out, err),
+        Request::Ask { question, table } => run_ask(rt, alloc, *question, *table, out, err),
     }
 }
 
 /// Runs the program on its words, of which the first, whatever it is, is the program's name: `moves LINE`
 /// prints the moves of a position, `play LINE` the game that best play leads to from it, `solve FILE..`
-/// answers each line of files, and `values FILE..` tells what each move of them is worth. `--version` prints
-/// which version this is. Answers, help and that go to `out`, and what fails or is not read is said on
-/// `err`; a failing write to `err` changes nothing.
-pub fn run_words<R: Files + Threads + Wait + Sync, O: Sink, E: Write>(
+/// answers each line of files, and `values FILE..` tells what each move of them is worth. `ask` answers each
+/// line of the standard input before it reads on. `--version` prints which version this is. Answers, help and
+/// that go to `out`, and what fails or is not read is said on `err`; a failing write to `err` changes nothing.
+pub fn run_words<R: Files + Input + StandardError + Threads + Wait + Sync, O: Sink, E: Write>(
     rt: &R,
     alloc: Global,
     words: Vec<String>,
@@ -114,7 +144,6 @@ pub fn run_words<R: Files + Threads + Wait + Sync, O: Sink, E: Write>(
 ) -> ExitStatus
     requires sink { O.has_failed out.old ≡ false }
     requires named { 0 < vec_len words }
-
     // Words that are taken as asking for something: that is done.
     ensures does { (a : Asked) → IsTakenAs (texts_of words.items) a → Does a (O.written out.old) (O.written out.new) result }
     // Whatever comes of it: a beginning of what is asked for was written, and nothing else.
@@ -122,27 +151,26 @@ pub fn run_words<R: Files + Threads + Wait + Sync, O: Sink, E: Write>(
     // Words that are taken as asking of a line, which is not read.
     ensures unread_line { (a : Asked) (line : List ℕ) → IsTakenAs (texts_of words.items) a
         → IsOfLine a line → IsUnread line → (result ≢ ExitStatus.Clean) × (out.new ≡ out.old) }
-
     // `moves` and a line that is read: its moves are written, where nothing fails.
-    ensures moves { (name line : List ℕ) (p : Position) → texts_of words.items ≡ name ∷ codes "moves" ∷ line ∷ []
-        → Reads line p → (result ≢ ExitStatus.LineFaults) × (result ≡ ExitStatus.Clean
-        → Appends (O.written out.old) (O.written out.new) (moves_output false p)) }
+    ensures moves { (name line : List ℕ) (p : Position) → texts_of words.items ≡ name ∷ codes "moves" ∷ line ∷ [] → Reads line p
+        → (result ≢ ExitStatus.LineFaults) × (result ≡ ExitStatus.Clean → Appends (O.written out.old) (O.written out.new) (moves_output false p)) }
     // `play` and a line that is read: its game of best play is written, where nothing fails.
-    ensures played { (name line : List ℕ) (p : Position) → texts_of words.items ≡ name ∷ codes "play" ∷ line ∷ []
-        → Reads line p → (result ≢ ExitStatus.LineFaults) × (result ≡ ExitStatus.Clean
-        → PlaysBest false p (O.written out.old) (O.written out.new)) }
+    ensures played { (name line : List ℕ) (p : Position) → texts_of words.items ≡ name ∷ codes "play" ∷ line ∷ [] → Reads line p
+        → (result ≢ ExitStatus.LineFaults) × (result ≡ ExitStatus.Clean → PlaysBest false p (O.written out.old) (O.written out.new)) }
     // `moves` or `play` and a line that is not read, but is no flag.
     ensures unread { (name line : List ℕ) → (texts_of words.items ≡ name ∷ codes "moves" ∷ line ∷ [])
         ⊎ (texts_of words.items ≡ name ∷ codes "play" ∷ line ∷ []) → IsPlainWord line
         → IsUnread line → (result ≢ ExitStatus.Clean) × (out.new ≡ out.old) }
     // `solve` or `values`, and files whose names are no flags: what is asked of them is written, where nothing fails.
-    ensures solved { (name : List ℕ) (files : List (List ℕ)) → texts_of words.items ≡ name ∷ codes "solve" ∷ files
-        → All IsPlainWord files → result ≢ ExitStatus.Failed
-        → AnswersFiles files (O.written out.old) (O.written out.new) result }
-    ensures valued { (name : List ℕ) (files : List (List ℕ)) → texts_of words.items ≡ name ∷ codes "values" ∷ files
-        → All IsPlainWord files → result ≢ ExitStatus.Failed
-        → TellsValues files (O.written out.old) (O.written out.new) result }
-
+    ensures solved { (name : List ℕ) (files : List (List ℕ)) → texts_of words.items ≡ name ∷ codes "solve" ∷ files → All IsPlainWord files
+        → result ≢ ExitStatus.Failed → AnswersFiles files (O.written out.old) (O.written out.new) result }
+    ensures valued { (name : List ℕ) (files : List (List ℕ)) → texts_of words.items ≡ name ∷ codes "values" ∷ files → All IsPlainWord files
+        → result ≢ ExitStatus.Failed → TellsValues files (O.written out.old) (O.written out.new) result }
+    // `ask`, or `ask --values`: of some bytes that were read, what is asked of their lines is written, where nothing fails.
+    ensures asked { (name : List ℕ) → texts_of words.items ≡ name ∷ codes "ask" ∷ [] → result ≢ ExitStatus.Failed
+        → AnswersLines BestMove (O.written out.old) (O.written out.new) result }
+    ensures asked_values { (name : List ℕ) → texts_of words.items ≡ name ∷ codes "ask" ∷ codes "--values" ∷ []
+        → result ≢ ExitStatus.Failed → AnswersLines Values (O.written out.old) (O.written out.new) result }
     // Words that are not taken, and ask for neither help nor the version.
     ensures usage { IsRefused (texts_of words.items) → AsksNot DisplayHelp (texts_of words.items)
         → AsksNot DisplayVersion (texts_of words.items) → (result ≡ ExitStatus.Failed) × (out.new ≡ out.old) }
@@ -154,16 +182,18 @@ pub fn run_words<R: Files + Threads + Wait + Sync, O: Sink, E: Write>(
         × (result ≡ ExitStatus.Clean → Appends (O.written out.old) (O.written out.new) version_line) }
     // Words that are not taken have no line.
     ensures no_line { IsRefused (texts_of words.items) → result ≢ ExitStatus.LineFaults }
-
-    // Where a write failed the program failed, and where it failed for another cause nothing was written.
+    // Where a write failed the program failed. Where it failed for another cause nothing was written, but for answers of `ask`.
     ensures failed { O.has_failed out.new ≡ true → result ≡ ExitStatus.Failed }
-    ensures unchanged { result ≡ ExitStatus.Failed → O.has_failed out.new ≡ false → out.new ≡ out.old }
+    ensures unchanged { ((a : Asked) → IsTakenAs (texts_of words.items) a → IsOfNoInput a) → result ≡ ExitStatus.Failed
+        → O.has_failed out.new ≡ false → out.new ≡ out.old }
+    ensures stopped { (question : Question) (table : ℕ) → IsTakenAs (texts_of words.items) (ask question table) → result ≡ ExitStatus.Failed
+        → O.has_failed out.new ≡ false → StopsBetweenLines question (O.written out.old) (O.written out.new) }
     // Where it did not, nothing that was written is held back.
     ensures handed_on { result ≢ ExitStatus.Failed → O.is_handed_on out.old ≡ true → O.is_handed_on out.new ≡ true }
 {
     match parse(alloc, words.as_slice()) {
         Ok(request) => run_request(rt, alloc, &request, out, err),
-        Err(error) => refuse(alloc, &error, out, err),
+        Err(error) => refuse(alloc, words.as_slice(), &error, out, err),
     }
 }
 

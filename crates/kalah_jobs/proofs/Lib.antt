@@ -1,3 +1,4 @@
+pub mod OfAsking
 pub mod OfCollecting
 pub mod OfFiles
 pub mod OfLine

@@ -1,3 +1,4 @@
+pub mod Asking
 pub mod Collecting
 pub mod Files
 pub mod Line

@@ -1,6 +1,7 @@
 //! Position lines, and the jobs, outcomes and answers of a batch.
 #![tactic(auto)]
 
+mod asking;
 mod collecting;
 mod files;
 mod line;
@@ -8,6 +9,9 @@ mod line;
 mod want_of_memory;
 mod writing;
 
+pub use asking::answer_lines::answer_lines;
+pub use asking::ask_fault::AskFault;
+pub use asking::asking_laws::answers_are_those_of_a_file;
 pub use collecting::collector::Collector;
 pub use collecting::collector_laws::{
     accepts_each_job_once, answers_in_one_way, gets_each_job_once, keeps_its_law,

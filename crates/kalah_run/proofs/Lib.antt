@@ -1,21 +1,3 @@
-pub mod DeskSums
-pub mod DeskDraws
-pub mod DeskSeats
-pub mod DeskEnds
-pub mod DeskOnce
-pub mod DeskSpent
-pub mod DeskLaw
-pub mod QueueKeeps
-pub mod QueueLists
-pub mod QueuePairs
-pub mod QueueViews
-pub mod QueueLaw
-pub mod Sendings
-pub mod Giving
-pub mod BatchWay
-pub mod Reports
-pub mod Staffs
-pub mod StaffRuns
-pub mod BatchEnds
-pub mod NoLine
-mod Crossing
+pub mod OfDesk
+pub mod OfQueue
+pub mod OfBatch

@@ -1,7 +1,7 @@
--- How many workers may answer a batch, and how large the table of each may be.
+-- How many workers may answer a batch, how large the table of each may be, and how many places a results queue may have.
 use Rattle.std.specs.Prelude.{◌<◌, ◌≤◌, ℕ}
 use Rattle.kalah_solve.specs.Table.{most_entries}
-use Rattle.kalah_run.specs.declared.resources.TheConstants.{MOST_WORKERS}
+use Rattle.kalah_run.specs.declared.limits.TheConstants.{MOST_PLACES, MOST_WORKERS}
 
 abbrev pub most_workers : ℕ
 most_workers = MOST_WORKERS
@@ -11,3 +11,9 @@ AreWorkers workers = (0 < workers) × (workers ≤ most_workers)
 
 abbrev pub IsTableSize : ℕ → Type 0
 IsTableSize entries = (0 < entries) × (entries ≤ most_entries)
+
+abbrev pub most_places : ℕ
+most_places = MOST_PLACES
+
+abbrev pub AreQueuePlaces : ℕ → Type 0
+AreQueuePlaces places = (0 < places) × (places ≤ most_places)

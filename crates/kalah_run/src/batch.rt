@@ -3,23 +3,33 @@ ghost use Rattle.std.specs.Prelude.{◌≡◌, ◌↔◌, ◌<◌, ◌≤◌, �
 ghost use Rattle.std.specs.Io.KnownBytes.{Keeps};
 ghost use Rattle.kalah_jobs.specs.Files.JobList.{job_list};
 ghost use Rattle.kalah_run.specs.Limits.{AreWorkers, IsTableSize};
-ghost use Rattle.kalah_run.specs.UnderWay.{WasGiven};
+ghost use Rattle.kalah_run.specs.Batch.UnderWay.{WasGiven};
 ghost use Rattle.kalah_jobs.specs.Files.Jobs.{job_count};
-ghost use Rattle.kalah_jobs.specs.Writing.Output.{names_of, output_of, output_to, output_of_jobs, values_output_of, is_faulty_job};
-ghost use Rattle.kalah_run.specs.Answering.{AnswersBatch};
-ghost use Rattle.kalah_run.specs.declared.run_fault.RunFault.TheVariants.{OutOfMemory, NoWorker, Write};
+ghost use Rattle.kalah_jobs.specs.Writing.Output.{names_of, output_of, output_to, output_of_jobs, is_faulty_job};
+ghost use Rattle.kalah_run.specs.Batch.Answering.{AnswersBatch};
+ghost use Rattle.kalah_run.specs.declared.batch.run_fault.RunFault.TheVariants.{OutOfMemory, NoWorker, Write};
 
+pub(crate) mod gate;
+mod ordered_output;
+pub(crate) mod run_fault;
+mod running;
+mod shared_work;
+pub(crate) mod size;
+pub(crate) mod tally;
 #[cfg(test)]
 mod tests;
+mod worker;
+mod workers;
 
-use crate::gate::Gate;
-use crate::report::Report;
-use crate::resources::Resources;
-use crate::run_fault::RunFault;
-use crate::shop::Shop;
-use crate::staff::Staff;
-use crate::tally::Tally;
-use crate::workers::run_and_report;
+use crate::batch::gate::Gate;
+use crate::batch::ordered_output::OrderedOutput;
+use crate::batch::run_fault::RunFault;
+use crate::batch::running::{Ran, run_and_write};
+use crate::batch::shared_work::SharedWork;
+use crate::batch::size::BatchSize;
+use crate::batch::tally::Tally;
+use crate::batch::worker::Crew;
+use crate::batch::workers::{Workers, take_apart};
 use kalah_jobs::{FileText, Jobs, Question, Sink};
 use std::alloc::Global;
 use std::sync::Wait;
@@ -49,7 +59,7 @@ fn answer_jobs<'a, R: Threads + Wait + Sync, G: Gate, W: Sink>(
     alloc: Global,
     files: &'a [FileText],
     jobs: &'a Jobs,
-    resources: Resources,
+    size: BatchSize,
     gate: &'a G,
     out: &mut W,
 ) -> Result<u32, RunFault>
@@ -62,41 +72,63 @@ fn answer_jobs<'a, R: Threads + Wait + Sync, G: Gate, W: Sink>(
     ensures some { OnErr result (0 < job_count jobs.now) }
     ensures untouched { OnErr result (out.new ≡ out.old) }
 {
-    let total = jobs.total();
-    if total == 0 {
+    if jobs.total() == 0 {
         return Ok(0);
     }
-    let report = Report::new(alloc, files, jobs)?;
-    let mut staff = Staff::open(alloc, jobs, resources)?;
-    let (shifts, pass) = (staff.shifts, staff.pass);
-    let shop = Shop {
-        desk: &staff.desk,
-        queue: &staff.queue,
+    let output = OrderedOutput::new(alloc, files, jobs)?;
+    let Workers {
+        desk,
+        queue,
+        list: workers,
+        pass,
+        passes,
+        puts,
+    } = Workers::open(alloc, jobs, size.for_lines(jobs.total()))?;
+    let shared = SharedWork {
+        desk: &desk,
+        queue: &queue,
         jobs,
         gate,
     };
-    let (shifts, pass, report) = run_and_report(rt, &shop, shifts, pass, report, total, out)?;
-    staff.shifts = shifts;
-    staff.pass = pass;
-    staff.close(rt);
-    Ok(report.faults)
+    let crew = Crew {
+        shared: &shared,
+        workers,
+    };
+    let Ran {
+        workers,
+        pass,
+        output,
+    } = run_and_write(rt, crew, pass, output, out)?;
+    let (passes, puts) = take_apart(workers, passes, puts);
+    desk.close(passes);
+    queue.close(rt, puts, pass);
+    Ok(output.faults)
 }
 
-// Answers what is asked of every line of the files, as `solve_batch` and `values_batch` say.
-fn answer_batch<R: Threads + Wait + Sync, G: Gate, W: Sink>(
+/// Answers what is asked of every line of the files, with so many workers and such tables, and writes an answer line for each,
+/// files in order and lines in order, as soon as it is ready and all before it are written; then it flushes the output. Where
+/// it is Ok, just these lines were written, and the tally counts them.
+///
+/// It is an error, the first that holds: `TooManyFiles`, more than 256; `TooManyLines`, more than 1,000,000 over all files;
+/// `OutOfMemory`, where memory was refused before the first worker began; `NoWorker`, where there is a line and no thread
+/// could be started; for these nothing was written. `Write`, where a write or the flush failed: from then on nothing more
+/// is written, and the rest is still answered; what was written is a beginning of those lines. The gate is told of each job.
+pub fn answer_batch<R: Threads + Wait + Sync, G: Gate, W: Sink>(
     rt: &R,
     alloc: Global,
     question: Question,
     files: &[FileText],
-    resources: Resources,
+    size: BatchSize,
     gate: &G,
     out: &mut W,
 ) -> Result<Tally, RunFault>
     requires fresh { W.has_failed out.old ≡ false }
+
+    // What Ok says, what stands written whatever comes of it, and when each fault comes: a field for each.
     ensures { AnswersBatch W.written W.has_failed W.is_handed_on (output_to question files.now) files.now out.old out.new result }
 {
     let jobs = Jobs::asking(alloc, question, files)?;
-    let faults = answer_jobs(rt, alloc, files, &jobs, resources, gate, out)?;
+    let faults = answer_jobs(rt, alloc, files, &jobs, size, gate, out)?;
     finish(out)?;
     Ok(Tally {
         lines: jobs.total(),
@@ -104,14 +136,8 @@ fn answer_batch<R: Threads + Wait + Sync, G: Gate, W: Sink>(
     })
 }
 
-/// Solves every line of the files with so many `workers`, 1 to 64, each with a table of so many entries, 1 to 1,048,576,
-/// and writes an answer line for each, files in order and lines in order, as soon as it is ready and all before it are
-/// written; then it flushes the output. Where it is Ok, just these lines were written, and the tally counts them.
-///
-/// It is an error, the first that holds: `TooManyFiles`, more than 256; `TooManyLines`, more than 1,000,000 over all files;
-/// `OutOfMemory`, where memory was refused before the first worker began; `NoWorker`, where there is a line and no thread
-/// could be started; for these nothing was written. `Write`, where a write or the flush failed: from then on nothing more
-/// is written, and the rest is still solved; what was written is a beginning of those lines. The gate is told of each job.
+/// Solves every line of the files: `answer_batch` where the best move is asked, with so many `workers`, 1 to 64, each with a
+/// table of so many entries, 1 to 1,048,576.
 pub fn solve_batch<R: Threads + Wait + Sync, G: Gate, W: Sink>(
     rt: &R,
     alloc: Global,
@@ -125,47 +151,9 @@ pub fn solve_batch<R: Threads + Wait + Sync, G: Gate, W: Sink>(
     requires table { IsTableSize table }
     requires fresh { W.has_failed out.old ≡ false }
 
-    // What Ok says, what stands written whatever comes of it, and when each fault comes: a field for each.
+    // As `answer_batch` has it.
     ensures { AnswersBatch W.written W.has_failed W.is_handed_on (output_of files.now) files.now out.old out.new result }
 {
-    answer_batch(
-        rt,
-        alloc,
-        Question::BestMove,
-        files,
-        Resources { workers, table },
-        gate,
-        out,
-    )
-}
-
-/// Tells the value of every move of each line of the files, with so many `workers`, 1 to 64, each with a table of so many
-/// entries, 1 to 1,048,576, and writes an answer line for each, files in order and lines in order, as soon as it is ready
-/// and all before it are written; then it flushes the output. Where it is Ok, just these lines were written, and the tally
-/// counts them. Its errors are those of `solve_batch`, and come where those do.
-pub fn values_batch<R: Threads + Wait + Sync, G: Gate, W: Sink>(
-    rt: &R,
-    alloc: Global,
-    files: &[FileText],
-    workers: u32,
-    table: u32,
-    gate: &G,
-    out: &mut W,
-) -> Result<Tally, RunFault>
-    requires workers { AreWorkers workers }
-    requires table { IsTableSize table }
-    requires fresh { W.has_failed out.old ≡ false }
-
-    // As `solve_batch` has it, with the values of all lines in the place of its output.
-    ensures { AnswersBatch W.written W.has_failed W.is_handed_on (values_output_of files.now) files.now out.old out.new result }
-{
-    answer_batch(
-        rt,
-        alloc,
-        Question::Values,
-        files,
-        Resources { workers, table },
-        gate,
-        out,
-    )
+    let size = BatchSize { workers, table };
+    answer_batch(rt, alloc, Question::BestMove, files, size, gate, out)
 }

@@ -3,13 +3,17 @@ ghost use Rattle.std.specs.Prelude.{◌≡◌, ℕ, ◌<◌, ◌≤◌, ◌↔�
 ghost use Rattle.kalah_jobs.specs.Collecting.Shares.{times_in};
 ghost use Rattle.kalah_jobs.specs.Files.Jobs.{most_lines};
 ghost use Rattle.kalah_run.specs.Limits.{AreWorkers};
-ghost use Rattle.kalah_run.specs.DeskRows.{drawn_row, drawn_numbers, drawn_in, spent_in, AreLawful, StandsOnce, StandsNowhere};
-ghost use Rattle.kalah_run.specs.DeskKept.{opening_view};
-ghost use Rattle.kalah_run.specs.DeskStates.{IsPassAt, AreNewPasses, drawn_rows};
-ghost use Rattle.kalah_run.specs.declared.desk_rule.DeskView.TheVariants.{Closing};
+ghost use Rattle.kalah_run.specs.Desk.Rows.{drawn_row, drawn_numbers, drawn_in, spent_in, AreLawful, StandsOnce, StandsNowhere};
+ghost use Rattle.kalah_run.specs.Desk.Kept.{opening_view};
+ghost use Rattle.kalah_run.specs.Desk.States.{IsPassAt, AreNewPasses, drawn_rows};
+ghost use Rattle.kalah_run.specs.declared.desk.rule.DeskView.TheVariants.{Closing};
 
-use crate::desk_rule::{DeskPlan, DeskRule, DeskView, DrawNumber, HandOut, StartClosing, TakeIn};
-use crate::pass::Pass;
+pub(crate) mod laws;
+pub(crate) mod pass;
+pub(crate) mod rule;
+
+use crate::desk::pass::Pass;
+use crate::desk::rule::{DeskPlan, DeskRule, DeskView, DrawNumber, HandOut, Reclaim, StartClosing};
 use atomic_table::{Seat, Shared, Table};
 use std::alloc::{AllocError, Global};
 use std::marker::Model;
@@ -27,14 +31,15 @@ pub struct Desk {
 
 impl Model for Desk {
     ghost use Rattle.std.specs.Prelude.{◌≡◌, ◌≤◌};
-    ghost use Rattle.kalah_run.specs.DeskStates.{DeskState};
+    ghost use Rattle.kalah_run.specs.Desk.States.{DeskState};
     ghost use Rattle.kalah_jobs.specs.Files.Jobs.{most_lines};
 
     ghost Value = { DeskState };
 
     ghost view = { λ d. record { id = d.table.shared.table_id; total = d.total; passes = d.table.shared.key.passes } };
 
-    ghost invariant = { λ d. (d.table.shared.table_id.words ≡ 1) × (d.table.shared.table_id.slots ≡ 0) × (d.table.shared.key.total ≡ d.total) × (d.total ≤ most_lines) };
+    ghost invariant = { λ d. (d.table.shared.table_id.words ≡ 1) × (d.table.shared.table_id.slots ≡ 0)
+        × (d.table.shared.key.total ≡ d.total) × (d.total ≤ most_lines) };
 }
 
 /// What was drawn at a desk that is closed.
@@ -45,7 +50,7 @@ pub struct ClosedDesk {
 }
 
 impl Model for ClosedDesk {
-    ghost use Rattle.kalah_run.specs.DeskStates.{ClosedDeskState};
+    ghost use Rattle.kalah_run.specs.Desk.States.{ClosedDeskState};
 
     ghost Value = { ClosedDeskState };
 
@@ -77,8 +82,8 @@ fn hand_out(
     Ok(handed_out)
 }
 
-// Takes the passes back in, from the last to the first. The seat ends with the rows of all.
-fn take_in(
+// Reclaims the passes, from the last to the first. The seat ends with the rows of all.
+fn reclaim(
     shared: &Shared<(), DeskView, DeskPlan, DeskRule>,
     mut closer: Seat<(), DeskView>,
     mut passes: Vec<Pass>,
@@ -90,7 +95,7 @@ fn take_in(
 {
     while let Some(pass) = passes.pop() {
         let Pass { seat, is_spent: _ } = pass;
-        shared.join_seat::<TakeIn>(&mut closer, seat);
+        shared.join_seat::<Reclaim>(&mut closer, seat);
     }
     closer
 }
@@ -146,7 +151,7 @@ impl Desk {
         None
     }
 
-    /// Ends the desk, which takes all its passes back in. Their rows are lawful: each number below
+    /// Ends the desk, which reclaims all its passes. Their rows are lawful: each number below
     /// the count of those drawn stands in one row and there once, no other stands in any, and each
     /// row rises. Where some pass is spent, all numbers below the total were drawn.
     pub fn close(self, passes: Vec<Pass>) -> ClosedDesk
@@ -165,7 +170,7 @@ impl Desk {
     {
         let Desk { table, total } = self;
         let (_, closer) = table.shared.load_new_seat::<StartClosing>(0);
-        let closer = take_in(&table.shared, closer, passes);
+        let closer = reclaim(&table.shared, closer, passes);
         let closed = table.close_with(closer);
         let word = closed.word(0);
         closed.free();

@@ -14,6 +14,8 @@ mod Shares
 mod Takings
 mod Digits
 mod Entries
+mod RowMarks
+mod HouseMarks
 mod Tries
 mod Windows
 mod Roots

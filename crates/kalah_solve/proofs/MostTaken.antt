@@ -1,8 +1,8 @@
 -- The most that a move takes, and what follows a move where few seeds are left.
-use Rattle.std.proofs.Common.{◌≡◌, inl, inr, ℕ, ◌+◌, ◌-◌, ◌<◌, ◌≤◌, arith, sym, subst}
-use Rattle.std.specs.Prelude.{false, Contains, max, length}
+use Rattle.std.proofs.Common.{◌≡◌, ◌≢◌, inl, inr, ℕ, ◌-◌, ◌^◌, ◌<◌, ◌≤◌, get_or, arith, sym, subst}
+use Rattle.std.specs.Prelude.{false, Contains, max, ◌↔◌}
 use Rattle.std.proofs.lemmas.Bool.{cases_eq}
-use Rattle.kalah_rules.specs.Position.{Rows, IsWithinHouses, bare, is_over, seeds, seeds_in_houses}
+use Rattle.kalah_rules.specs.Position.{Rows, IsWithinHouses, bare, is_over, seeds_in_houses}
 use Rattle.kalah_rules.specs.Play.{legal_houses}
 use Rattle.kalah_rules.specs.HousesStep.{houses_step}
 use Rattle.kalah_rules.specs.declared.step.HousesStep.{HousesStep}
@@ -10,57 +10,46 @@ use Rattle.kalah_rules.specs.declared.step.HousesStep.TheVariants.{Again, Turn}
 use Rattle.kalah_rules.proofs.Legal.{legal_holds}
 use Rattle.kalah_solve.specs.StepWorth.{LeadsOn, LeadsTo}
 use Rattle.kalah_solve.specs.Taken.{taken, taken_by_step}
+use Rattle.kalah_solve.specs.RowMarks.{cell, IsLastMark}
+use Rattle.kalah_solve.proofs.RowMarks.{cell_none, gone_before}
 use Rattle.kalah_solve.proofs.StepWorths.{leads_on}
 use Rattle.kalah_solve.proofs.Takings.{taken_most, taken_reached, taken_share}
 
--- no move of the last houses, which were passed, takes more, nor does best play take fewer
-pub record IsMost (a : Rows) (m passed most : ℕ) : Type 0 where
+-- no move takes more but of the houses that are still marked, nor does best play take fewer
+pub record IsMost (a : Rows) (marks most : ℕ) : Type 0 where
   pub reached : most ≤ taken a
-  pub all : (i : ℕ) → Contains (legal_houses (bare a)) i → m < i + passed → taken_by_step (houses_step a i) ≤ most
+  pub all : (i : ℕ) → Contains (legal_houses (bare a)) i → cell marks (i - 1) ≡ 0 → taken_by_step (houses_step a i) ≤ most
 
--- before the last house
-pub most_of_none : (a : Rows) (m : ℕ) → m ≡ length a.own → IsMost a m 0 0
-most_of_none a m side = record {
+-- as long as all houses with seeds are marked
+pub most_of_none : (a : Rows) (marks : ℕ) → ((i : ℕ) → (0 < cell marks i) ↔ (0 < get_or a.own i 0)) → IsMost a marks 0
+most_of_none a marks marked = record {
   reached = omega arith;
-  all = λ i has past. absurd (omega (arith, past, side, (legal_holds (bare a) i has).last));
+  all = λ i has gone. absurd (let some = (marked (i - 1)).1 (legal_holds (bare a) i has).some in omega (arith, gone, some));
 }
 
--- one house more
-module _ (a : Rows) (m passed most : ℕ) (w : IsWithinHouses a) (is : IsMost a m passed most) where
-  -- with what it takes
-  pub most_more : (v new : ℕ) → Contains (legal_houses (bare a)) (m - passed) → v ≡ taken_by_step (houses_step a (m - passed)) → new ≡ max most v →
-      IsMost a m (passed + 1) new
-  most_more v new has v_is new_is = record {
-    reached = omega (arith, new_is, v_is, is.reached, taken_most a w (m - passed) has);
-    all = λ i may past. elim (cases_eq i (m - passed)) [
-      | inl same ↦ rw same (omega (arith, v_is, new_is))
-      | inr other ↦ omega (arith, new_is, is.all i may (omega (arith, past, other)))
-    ];
-  }
+-- the last marked house, with what it takes
+pub most_more : (a : Rows) (marks most h v new : ℕ) → IsWithinHouses a → IsMost a marks most → IsLastMark marks h → Contains (legal_houses (bare a)) h →
+    v ≡ taken_by_step (houses_step a h) → new ≡ max most v → IsMost a (marks - 32 ^ (h - 1)) new
+most_more a marks most h v new w is last has v_is new_is = record {
+  reached = omega (arith, new_is, v_is, is.reached, taken_most a w h has);
+  all = λ i may gone. elim (cases_eq i h) [
+    | inl same ↦ rw same (omega (arith, v_is, new_is))
+    | inr other ↦
+        let first = (legal_holds (bare a) i may).first in
+        let place : i - 1 ≢ h - 1 = omega (arith, first, last.first, other) in
+        omega (arith, new_is, is.all i may (gone_before marks h last (i - 1) place gone))
+  ];
+}
 
-  -- or where it has no seeds
-  pub most_same : seeds a.own (m - passed) ≤ 0 → IsMost a m (passed + 1) most
-  most_same none = record {
-    reached = is.reached;
-    all = λ i may past. elim (cases_eq i (m - passed)) [
-      | inl same ↦ absurd (let some = (legal_holds (bare a) (m - passed) (subst (Contains (legal_houses (bare a))) same may)).some in omega (arith, none, some))
-      | inr other ↦ is.all i may (omega (arith, past, other))
-    ];
-  }
+-- if all seeds are taken, best play takes as many
+pub most_all : (a : Rows) (marks most : ℕ) → IsWithinHouses a → IsMost a marks most → seeds_in_houses (bare a) ≤ most → most ≡ taken a
+most_all a marks most w is full = omega (arith, full, is.reached, (taken_share a w).few)
 
-  -- or where all seeds are taken already
-  pub most_all : seeds_in_houses (bare a) ≤ most → IsMost a m (passed + 1) most
-  most_all full = record {
-    reached = is.reached;
-    all = λ i may past. omega (arith, full, taken_most a w i may, (taken_share a w).few);
-  }
-
--- after the first house it is what best play takes
-pub most_taken : (a : Rows) (m passed most : ℕ) → IsWithinHouses a → is_over (bare a) ≡ false → IsMost a m passed most → m ≤ passed → most ≡ taken a
-most_taken a m passed most w going is all_passed =
+-- and so it does once no house is marked
+pub most_taken : (a : Rows) (marks most : ℕ) → IsWithinHouses a → is_over (bare a) ≡ false → IsMost a marks most → marks ≡ 0 → most ≡ taken a
+most_taken a marks most w going is none =
     let best = taken_reached a w going in
-    let first = (legal_holds (bare a) best.0 best.1).first in
-    omega (arith, is.reached, best.2, is.all best.0 best.1 (omega (arith, first, all_passed)))
+    omega (arith, is.reached, best.2, is.all best.0 best.1 (rw none (cell_none (best.0 - 1))))
 
 -- what follows a move that leads on
 pub record IsAfter (a : Rows) (gained : ℕ) (b : Rows) : Type 0 where

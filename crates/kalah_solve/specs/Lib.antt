@@ -11,3 +11,4 @@ pub mod Endings
 pub mod Places
 pub mod SixValues
 pub mod MoveValues
+pub mod RowMarks

@@ -6,6 +6,7 @@ mod endings;
 mod granting;
 mod key;
 mod laws;
+mod marks;
 mod move_values;
 mod places;
 #[cfg(test)]

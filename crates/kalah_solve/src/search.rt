@@ -25,9 +25,12 @@ const LEAST_WORK: u64 = 60;
 /// With so many nodes a search is long. From then on it has all its places, which cost a short one more than they save.
 const LONG_SEARCH: u64 = 300_000;
 
-/// Once houses with so many seeds or more are searched, the endings of up to 9 seeds are asked for, and until then those of up
-/// to 8: to find more costs the search of few seeds more than it saves.
+/// The endings of up to 9 seeds are asked for once houses with so many seeds or more were searched and the search has `MUCH_WORK`
+/// nodes, and until then those of up to 8: to find more costs the search of few seeds, and a short one, more than it saves.
 const MANY_SEEDS: u8 = 17;
+
+/// So many nodes.
+const MUCH_WORK: u64 = 60_000;
 
 /// A search with its table. What it answers depends on none of its limits.
 #[derive(Drop)]
@@ -37,6 +40,7 @@ pub struct Search<A: Allocator + Clone = Global> {
     least_work: u64,
     knows_endings: bool,
     had_many_seeds: bool,
+    asks_for_nine: bool,
     nodes: u64,
 }
 
@@ -51,6 +55,7 @@ impl<A: Allocator + Clone> Search<A> {
             least_work: LEAST_WORK,
             knows_endings: true,
             had_many_seeds: false,
+            asks_for_nine: false,
             nodes: 0,
         }
     }
@@ -73,6 +78,7 @@ impl<A: Allocator + Clone> Search<A> {
             least_work: 0,
             knows_endings: false,
             had_many_seeds: false,
+            asks_for_nine: false,
             nodes: 0,
         }
     }
@@ -94,6 +100,7 @@ impl<A: Allocator + Clone> Search<A> {
     {
         let seeds = houses.seeds();
         self.had_many_seeds |= seeds >= MANY_SEEDS;
+        self.grow_endings();
         let known = self.known_margins(houses);
         let Some(narrow) = window.narrowed(known) else {
             return window.clamp(known.lo as i32);
@@ -139,25 +146,35 @@ impl<A: Allocator + Clone> Search<A> {
         let mut bar = houses.seeds() / 2 + 1;
         while low < high {
             let asked_bar = bar.clamp(low + 1, high);
-            if self.explore(houses, asked_bar) {
-                low = asked_bar;
-                bar = asked_bar + 1;
+            let bound = self.explore(houses, asked_bar);
+            if asked_bar <= bound {
+                low = bound.min(high);
+                bar = low + 1;
             } else {
-                high = asked_bar - 1;
+                high = bound.max(low);
                 bar = high;
             }
         }
         low
     }
 
-    // Counts one more node, and tells how many there were before. All places are laid out once the search is long.
+    // Counts one more node, and tells how many there were before. Endings grow once it had much work, and all places are laid
+    // out once it is long.
     fn count_node(&mut self) -> u64 {
         let before = self.nodes;
         self.nodes = before.wrapping_add(1);
+        if self.nodes == MUCH_WORK {
+            self.grow_endings();
+        }
         if self.nodes == LONG_SEARCH {
             self.table.lay_out_places();
         }
         before
+    }
+
+    // Asks for the endings of 9 seeds from now on, where it had many seeds and much work.
+    fn grow_endings(&mut self) {
+        self.asks_for_nine |= self.had_many_seeds && self.nodes >= MUCH_WORK;
     }
 
     // What is taken of houses with at most so many seeds is looked up among the endings.
@@ -166,7 +183,7 @@ impl<A: Allocator + Clone> Search<A> {
     {
         if !self.knows_endings {
             0
-        } else if self.had_many_seeds {
+        } else if self.asks_for_nine {
             9
         } else {
             8

@@ -1,10 +1,11 @@
 //! What is known of the seeds that a player takes.
-ghost use Rattle.std.specs.Prelude.{◌≡◌, ◌↔◌, ◌+◌, ◌-◌, ◌*◌, max, min, ◌≤◌, ◌≤ℤ◌, ◌+ℤ◌, ◌-ℤ◌, ℕ, ℤ, pos, IsTrue, false};
+ghost use Rattle.std.specs.Prelude.{◌≡◌, ◌+◌, ◌*◌, max, min, ◌≤◌, ◌<◌, ◌≤ℤ◌, ◌+ℤ◌, ◌-ℤ◌, ℕ, ℤ, pos};
 ghost use Rattle.std.specs.Int.{int_max};
 ghost use Rattle.kalah_rules.specs.Limits.{most_seeds};
 ghost use Rattle.kalah_rules.specs.Position.{bare, seeds_in_houses};
 ghost use Rattle.kalah_solve.specs.Table.{Encloses, within};
 ghost use Rattle.kalah_solve.specs.Taken.{taken, between, IsWithinShare};
+ghost use Rattle.kalah_solve.specs.Tried.{IsSoftBound};
 
 use crate::table::Interval;
 use crate::window::{MOST_MARGIN, Window};
@@ -46,18 +47,20 @@ impl Share {
         Share::whole(houses.seeds())
     }
 
-    // The same share, once it is known whether the player takes at least `bar`.
-    pub(crate) fn learned(self, bar: u8, reached: bool) -> Share
-        requires { 1 ≤ bar }
-        ensures at_least { IsTrue reached → result ≡ between bar self.most }
-        ensures at_most { reached ≡ false → result ≡ between self.least (bar - 1) }
-        ensures held { (t : ℕ) → IsWithinShare self t → (IsTrue reached ↔ bar ≤ t) → IsWithinShare result t }
+    // The same share, once this fail-soft bound is known.
+    pub(crate) fn learned(self, bar: u8, bound: u8) -> Share
+        ensures at_least { bar ≤ bound → result ≡ between bound self.most }
+        ensures at_most { bound < bar → result ≡ between self.least bound }
+        ensures held { (t : ℕ) → IsWithinShare self t → IsSoftBound bar t bound → IsWithinShare result t }
     {
-        if reached {
-            Share { least: bar, ..self }
+        if bar <= bound {
+            Share {
+                least: bound,
+                ..self
+            }
         } else {
             Share {
-                most: bar - 1,
+                most: bound,
                 ..self
             }
         }

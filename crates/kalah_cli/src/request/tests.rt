@@ -112,11 +112,45 @@ fn reads_solve_and_values(rt: HostRuntime) {
     assert_reads(&rt, "values", Question::Values);
 }
 
+// Words of `ask`, what they ask of each line, and the entries of the table.
+const ASKED: &[(&[&str], Question, u32)] = &[
+    (&["kalah", "ask"], Question::BestMove, 65536),
+    (&["k", "ask", "--values"], Question::Values, 65536),
+    (&["kalah", "ask", "--table=1"], Question::BestMove, 1),
+    (
+        &["kalah", "ask", "--table", "1048576", "--values"],
+        Question::Values,
+        1048576,
+    ),
+];
+
+// The words ask this of the standard input, with a table of so many entries.
+fn asks_input(
+    rt: &(impl Abort + AllocGlobal),
+    words: &[&str],
+    asked_for: Question,
+    entries: u32,
+) -> bool {
+    match asked(rt, words) {
+        Some(Request::Ask { question, table }) => (question, table) == (asked_for, entries),
+        _ => false,
+    }
+}
+
+#[test]
+fn reads_ask(rt: HostRuntime) {
+    for (words, question, entries) in ASKED {
+        assert!(rt; asks_input(&rt, *words, *question, *entries), "{words:?}");
+    }
+}
+
 // Words that give no request, and what kind of error they give.
 const REFUSED: &[(&[&str], ErrorKind)] = &[
     (&["kalah"], ErrorKind::MissingSubcommand),
     (&["kalah", "stop"], ErrorKind::InvalidSubcommand),
     (&["kalah", "solve"], ErrorKind::MissingRequiredArgument),
+    (&["kalah", "ask", "a"], ErrorKind::UnknownArgument),
+    (&["kalah", "ask", "--values=1"], ErrorKind::TooManyValues),
     (&["kalah", "--help"], ErrorKind::DisplayHelp),
     (&["kalah", "--version"], ErrorKind::DisplayVersion),
     (&["kalah", "-V"], ErrorKind::DisplayVersion),

@@ -7,10 +7,11 @@ mod solving;
 mod valuing;
 
 use super::run_words;
+use crate::progress::StandardError;
 use crate::status::ExitStatus;
 use kalah_jobs::{Sink, Stream};
 use std::alloc::Global;
-use std::io::{ErrorKind, Write};
+use std::io::{ErrorKind, Input, Write};
 use std::process::Abort;
 use std::rt::Files;
 use std::sync::Wait;
@@ -85,7 +86,11 @@ struct Run {
     err: Vec<u8>,
 }
 
-fn run_on<R: Abort + Files + Threads + Wait + Sync>(rt: &R, alloc: Global, texts: &[&str]) -> Run {
+fn run_on<R: Abort + Files + Input + StandardError + Threads + Wait + Sync>(
+    rt: &R,
+    alloc: Global,
+    texts: &[&str],
+) -> Run {
     let words = words_of(rt, alloc, texts);
     let mut out = Stream::new(Vec::<u8>::new(alloc));
     let mut err = Vec::<u8>::new(alloc);
@@ -105,7 +110,7 @@ fn answers(run: &Run, status: ExitStatus, out: &str, err: &str) -> bool {
 }
 
 // A run of these words ends so.
-fn assert_answers<R: Abort + Files + Threads + Wait + Sync>(
+fn assert_answers<R: Abort + Files + Input + StandardError + Threads + Wait + Sync>(
     rt: &R,
     alloc: Global,
     words: &[&str],
@@ -117,7 +122,11 @@ fn assert_answers<R: Abort + Files + Threads + Wait + Sync>(
 }
 
 // A mistake in these words ends the run with a text on standard error alone.
-fn assert_usage<R: Abort + Files + Threads + Wait + Sync>(rt: &R, alloc: Global, words: &[&str]) {
+fn assert_usage<R: Abort + Files + Input + StandardError + Threads + Wait + Sync>(
+    rt: &R,
+    alloc: Global,
+    words: &[&str],
+) {
     let run = run_on(rt, alloc, words);
     let is_usage = run.status == ExitStatus::Failed
         && run.out.is_empty()
@@ -212,7 +221,11 @@ fn mistakes_in_the_words(rt: HostRuntime) {
 }
 
 // The run of these words writes to the output alone, and is clean.
-fn assert_shown<R: Abort + Files + Threads + Wait + Sync>(rt: &R, alloc: Global, words: &[&str]) {
+fn assert_shown<R: Abort + Files + Input + StandardError + Threads + Wait + Sync>(
+    rt: &R,
+    alloc: Global,
+    words: &[&str],
+) {
     let shown = run_on(rt, alloc, words);
     assert!(rt; shown.status == ExitStatus::Clean, "{words:?}");
     assert!(rt; !shown.out.is_empty() && shown.err.is_empty());
@@ -278,7 +291,7 @@ impl Stopped {
 }
 
 // A run whose output fails at its call of this number, and at each later one.
-fn run_failing<R: Abort + Files + Threads + Wait + Sync>(
+fn run_failing<R: Abort + Files + Input + StandardError + Threads + Wait + Sync>(
     rt: &R,
     alloc: Global,
     texts: &[&str],
@@ -297,7 +310,7 @@ fn run_failing<R: Abort + Files + Threads + Wait + Sync>(
 }
 
 // Where the output fails at its call of this number, the run ends there. It makes so many calls where none fails.
-fn assert_stops_at<R: Abort + Files + Threads + Wait + Sync>(
+fn assert_stops_at<R: Abort + Files + Input + StandardError + Threads + Wait + Sync>(
     rt: &R,
     alloc: Global,
     words: &[&str],
@@ -313,7 +326,7 @@ fn assert_stops_at<R: Abort + Files + Threads + Wait + Sync>(
 }
 
 // It ends at whichever of its calls fails.
-fn assert_stops<R: Abort + Files + Threads + Wait + Sync>(
+fn assert_stops<R: Abort + Files + Input + StandardError + Threads + Wait + Sync>(
     rt: &R,
     alloc: Global,
     words: &[&str],
@@ -339,7 +352,7 @@ fn a_failed_write_of_help_or_of_the_version(rt: HostRuntime) {
 }
 
 // The status of a run whose standard error takes nothing, and how many bytes it took.
-fn run_untold<R: Abort + Files + Threads + Wait + Sync>(
+fn run_untold<R: Abort + Files + Input + StandardError + Threads + Wait + Sync>(
     rt: &R,
     alloc: Global,
     texts: &[&str],

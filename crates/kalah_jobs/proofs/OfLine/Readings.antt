@@ -50,7 +50,7 @@ is_not_read_if_empty text p empty line =
     let read : ◌≡◌ {A = Option Position} None (Some p) = ap written_of (sym empty) ∙ line_is_written text p line in
     cc
 
-long_is_read : (text : List ℕ) → most_bytes < length text → reading_of_text text ≡ Err Long
+pub long_is_read : (text : List ℕ) → most_bytes < length text → reading_of_text text ≡ Err Long
 long_is_read text long = rw (lt-ltb _ _ long) refl
 
 empty_is_read : (text : List ℕ) → text ≡ [] → reading_of_text text ≡ Err Empty

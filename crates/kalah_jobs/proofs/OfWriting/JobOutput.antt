@@ -70,7 +70,7 @@ no_fault true x y one other = one
 no_fault false x y one other = other
 
 -- what is asked of a position makes no fault of it
-asked_fault : (question : Question) (entry : Entry) → is_fault (answer_of (entry_asked question entry)) ≡ is_fault (answer_of entry)
+pub asked_fault : (question : Question) (entry : Entry) → is_fault (answer_of (entry_asked question entry)) ≡ is_fault (answer_of entry)
 unfolding answer_of
 asked_fault BestMove entry = refl
 asked_fault Values (Position p) =

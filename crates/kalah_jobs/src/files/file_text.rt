@@ -1,4 +1,8 @@
 //! A position file as it was read.
+ghost use Rattle.std.specs.Prelude.{◌≡◌};
+ghost use Rattle.kalah_jobs.specs.Files.Jobs.{lines_in};
+
+use crate::files::file_lines::count_lines;
 use std::marker::Model;
 
 /// A position file: the name by which it is answered, and its bytes.
@@ -17,4 +21,13 @@ impl Model for FileText {
     ghost Value = { NamedBytes };
 
     ghost view = { λ f. record { name = string_bytes f.name; bytes = f.bytes.items } };
+}
+
+impl FileText {
+    /// Returns how many lines the file has.
+    pub fn lines(&self) -> usize
+        ensures { result ≡ lines_in self.now }
+    {
+        count_lines(&self.bytes)
+    }
 }

@@ -6,7 +6,6 @@ ghost use Rattle.kalah_jobs.specs.Files.Jobs.{most_files, most_lines, lines_in_a
 
 use crate::files::entry::Entry;
 use crate::files::file_jobs::FileJobs;
-use crate::files::file_lines::count_lines;
 use crate::files::file_text::FileText;
 use crate::files::job::Job;
 use crate::files::question::Question;
@@ -165,7 +164,7 @@ fn has_few_lines(files: &[FileText]) -> bool
 {
     let mut room = MOST_LINES;
     for file in files {
-        let lines = count_lines(&file.bytes);
+        let lines = file.lines();
         if lines > room {
             return false;
         }

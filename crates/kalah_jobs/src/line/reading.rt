@@ -13,7 +13,7 @@ use crate::line::line_fault::LineFault;
 use kalah_rules::{Board, MOST_HOUSES};
 
 /// The most bytes of a line, after its CR is dropped.
-const MOST_BYTES: usize = 80;
+pub(crate) const MOST_BYTES: usize = 80;
 
 // The line without one CR at its end, if it has one.
 fn drop_cr(line: &[u8]) -> &[u8]

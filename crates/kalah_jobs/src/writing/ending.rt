@@ -21,6 +21,17 @@ pub(crate) fn ending_of(taken: &Taken, end: &str) -> StackText
     ending
 }
 
+// An answer in words, and then the end.
+pub(crate) fn words_of(answer: &Answer, end: &str) -> StackText
+    requires { length end.now ≤ 1 }
+    ensures { result ≡ answer_words answer.now ++ end.now }
+{
+    let mut words = StackText::new();
+    words.put(end);
+    put_words(&mut words, answer);
+    words
+}
+
 // Puts the value of a move, behind its house, before what is there.
 #[tactic(auto, using(crate::proofs::OfWriting::Lengths::byte_length))]
 fn put_value(text: &mut StackText, value: MoveValue)

@@ -7,7 +7,7 @@ mod values;
 mod want_of_memory;
 mod writers;
 
-use crate::{Gate, OpenGate, RunFault, Tally, solve_batch, values_batch};
+use crate::{BatchSize, Gate, OpenGate, RunFault, Tally, answer_batch, solve_batch};
 use kalah_jobs::{FileText, Question, Sink, Stream};
 use std::alloc::{AllocError, Global};
 use std::process::Abort;
@@ -150,10 +150,11 @@ fn batch_of<R: Threads + Wait + Sync, G: Gate, W: Sink>(
 ) -> Result<Tally, RunFault>
     requires { W.has_failed out.old ≡ false }
 {
-    match question {
-        Question::BestMove => solve_batch(rt, alloc, files, 2, 16, gate, out),
-        Question::Values => values_batch(rt, alloc, files, 2, 16, gate, out),
-    }
+    let size = BatchSize {
+        workers: 2,
+        table: 16,
+    };
+    answer_batch(rt, alloc, question, files, size, gate, out)
 }
 
 // Entries of a table, from one to the most there may be.

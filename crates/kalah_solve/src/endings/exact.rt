@@ -6,6 +6,7 @@ ghost use Rattle.kalah_rules.specs.HousesStep.{houses_step};
 ghost use Rattle.kalah_solve.specs.Taken.{taken, taken_by_step};
 
 use crate::endings::Endings;
+use crate::marks::{filled_houses, split_last};
 use kalah_rules::{Houses, HousesStep};
 use std::alloc::Allocator;
 
@@ -26,7 +27,7 @@ impl<A: Allocator> Endings<A> {
         taken
     }
 
-    // The same, by trying the moves.
+    // The same, by trying the moves from the store on, until one takes all.
     #[cycle(exact)]
     fn most_taken(&self, houses: &Houses) -> u8
         requires going { is_over (bare houses.now) ≡ false }
@@ -34,12 +35,14 @@ impl<A: Allocator> Endings<A> {
         ensures { result ≡ taken houses.now }
     {
         let seeds = houses.seeds();
-        let m = houses.m();
+        let mut left = filled_houses(houses);
         let mut most = 0;
-        for passed in 0..m {
-            let h = m - passed;
-            if houses.own(h) > 0 && most < seeds {
-                most = most.max(self.move_takes(houses, h));
+        while left > 0 {
+            let (h, rest) = split_last(left);
+            left = rest;
+            most = most.max(self.move_takes(houses, h));
+            if most >= seeds {
+                return most;
             }
         }
         most

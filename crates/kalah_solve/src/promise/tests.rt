@@ -6,19 +6,32 @@ fn houses(rt: &impl Abort, m: u8, own: [u8; 6], other: [u8; 6]) -> Houses {
     Houses::new(m, own, other, Rule::Classic).expect(rt, "beyond the limits")
 }
 
-// What is told of a whole row at once is what its houses tell one by one. The other player has no seeds.
-fn tells_each_house(rt: &impl Abort, m: u8, own: [u8; 6]) {
-    let houses = houses(rt, m, own, [0; 6]);
-    let row = houses.key() % OTHER_ROW;
-    let some = filled(row);
-    let ending = ending_in_store(row, houses.m());
-    for h in 1..houses.m() + 1 {
-        let held = houses.own(h);
+// What is told of a row's first house and the ones after it is what the houses tell one by one, and no more seeds are there.
+fn tells_each_house(rt: &impl Abort, houses: &Houses, row: [u8; 6], (some, ending): (u64, u64)) {
+    let m = houses.m();
+    for h in 1..m + 1 {
+        let held = row[h as usize - 1] as u32;
         let place = 5 * (h as u32 - 1);
         assert!(rt; ((some >> place) % 2 == 1) == (held > 0));
-        assert!(rt; ((ending >> place) % 2 == 1) == (held + h == houses.m() + 1));
+        assert!(rt; ((ending >> place) % 2 == 1) == (held + h as u32 == m as u32 + 1));
     }
-    assert!(rt; sum(row) == houses.seeds() as u32);
+}
+
+// Both rows are told at once: each of them is this one while the other is empty.
+fn tells_both_rows(rt: &impl Abort, m: u8, row: [u8; 6]) {
+    let first = houses(rt, m, row, [0; 6]);
+    let rows = first.key() % SIDE;
+    let marks = (filled(rows), ending_in_store(rows, first.m()));
+    tells_each_house(rt, &first, row, marks);
+    assert!(rt; sum(rows) == first.seeds() as u32);
+    let second = houses(rt, m, [0; 6], row);
+    let rows = second.key() % SIDE;
+    let marks = (
+        filled(rows) / OTHER_ROW,
+        ending_in_store(rows, second.m()) / OTHER_ROW,
+    );
+    tells_each_house(rt, &second, row, marks);
+    assert!(rt; sum(rows / OTHER_ROW) == second.seeds() as u32);
 }
 
 #[test]
@@ -36,7 +49,7 @@ fn rows_are_told_at_once(rt: HostRuntime) {
         (6, [0, 16, 0, 3, 0, 1]),
         (6, [6, 0, 15, 0, 2, 0]),
     ] {
-        tells_each_house(&rt, m, own);
+        tells_both_rows(&rt, m, own);
     }
 }
 

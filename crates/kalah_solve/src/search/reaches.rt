@@ -1,178 +1,220 @@
-//! Tests whether the mover takes at least so many of the seeds in houses, by trying the moves.
-ghost use Rattle.std.specs.Prelude.{◌≡◌, ◌↔◌, ℕ, ◌+◌, ◌-◌, ◌≤◌, ◌<◌, false, IsTrue, IsNone, IfSome, Contains, length};
+//! A bound of the seeds that the mover takes, by trying the moves.
+ghost use Rattle.std.specs.Prelude.{◌≡◌, ◌↔◌, ℕ, ◌+◌, ◌-◌, ◌≤◌, ◌<◌, false, IsTrue, Contains, slice_index};
 ghost use Rattle.kalah_rules.specs.Position.{is_over, bare, seeds_in_houses};
 ghost use Rattle.kalah_rules.specs.Play.{legal_houses};
 ghost use Rattle.kalah_rules.specs.HousesStep.{houses_step};
-ghost use Rattle.kalah_solve.specs.StepWorth.{GoesOn};
+ghost use Rattle.kalah_solve.specs.StepWorth.{GoesOn, GoesOnAt};
 ghost use Rattle.kalah_solve.specs.Taken.{taken, taken_by_step};
-ghost use Rattle.kalah_solve.specs.Tried.{FallsShort, EndsInStore, AreWaiting};
+ghost use Rattle.kalah_solve.specs.Tried.{IsSoftBound, TakesAtMost, EndsInStore, IsLook, AreWaiting};
 
+use crate::marks::{again_houses, other_houses, split_last};
 use crate::promise::promise;
 use crate::ranks::highest;
 use crate::search::Search;
 use kalah_rules::{Houses, HousesStep};
 use std::alloc::Allocator;
 
-// The last of its seeds falls into the store, without a lap.
-fn ends_in_store(houses: &Houses, h: u8) -> bool
-    requires first { 1 ≤ h }
-    requires last { h ≤ length houses.now.own }
-    ensures { IsTrue result ↔ EndsInStore houses.now h }
-{
-    let m = houses.m();
-    houses.own(h) + h == m + 1
+// A turn that was played: what it brought to the store, and the houses that the other player is to move.
+#[derive(Clone, Copy)]
+struct Played {
+    gained: u8,
+    next: Houses,
+}
+
+// What is known of a move once it was played: a bound of what it takes, or the rank with which its turn waits.
+#[derive(Clone, Copy)]
+enum Look {
+    Bounded(u8),
+    Waits(u32, Played),
 }
 
 impl<A: Allocator + Clone> Search<A> {
-    // Whether the mover takes at least `bar` seeds.
+    // A fail-soft bound of the seeds that the mover takes.
     #[cycle(search)]
-    fn reaches(&mut self, houses: &Houses, bar: u8) -> bool
+    fn bound(&mut self, houses: &Houses, bar: u8) -> u8
         requires going { is_over (bare houses.now) ≡ false }
-        ensures { IsTrue result ↔ bar ≤ taken houses.now }
+        ensures { IsSoftBound bar (taken houses.now) result }
     {
         if houses.seeds() <= self.most_at_the_end() {
-            return bar <= self.table.taken(houses);
+            return self.table.taken(houses);
         }
         let known = self.known(houses);
         if bar <= known.least {
-            return true;
+            return known.least;
         }
         if known.most < bar {
-            return false;
+            return known.most;
         }
         let before = self.count_node();
-        let reached = self.explore(houses, bar);
+        let bound = self.explore(houses, bar);
         let work = self.nodes.wrapping_sub(before);
-        self.learn(houses, known.learned(bar, reached), work);
-        reached
+        self.learn(houses, known.learned(bar, bound), work);
+        bound
     }
 
     // The same, by trying the moves.
     #[cycle(search)]
-    pub(super) fn explore(&mut self, houses: &Houses, bar: u8) -> bool
+    pub(super) fn explore(&mut self, houses: &Houses, bar: u8) -> u8
         requires going { is_over (bare houses.now) ≡ false }
-        ensures { IsTrue result ↔ bar ≤ taken houses.now }
+        ensures { IsSoftBound bar (taken houses.now) result }
     {
         let _seeds = houses.seeds();
-        if self.again_reaches(houses, bar) {
-            return true;
+        let again = self.bound_again(houses, bar);
+        if bar <= again {
+            return again;
         }
-        let Some(mut waiting) = self.others_waiting(houses, bar) else {
-            return true;
-        };
-        let mut at = highest(&waiting);
-        while waiting[at] > 0 {
-            waiting[at] = 0;
-            if self.move_reaches(houses, at as u8 + 1, bar) {
-                return true;
-            }
-            at = highest(&waiting);
-        }
-        false
-    }
-
-    // Tries the moves that end in the store, from the store on.
-    #[cycle(search)]
-    fn again_reaches(&mut self, houses: &Houses, bar: u8) -> bool
-        requires going { is_over (bare houses.now) ≡ false }
-        ensures yes { IsTrue result → bar ≤ taken houses.now }
-        ensures no { result ≡ false → (h : ℕ) → Contains (legal_houses (bare houses.now)) h → EndsInStore houses.now h → FallsShort houses.now bar h }
-    {
-        let m = houses.m();
-        for passed in 0..m {
-            let h = m - passed;
-            if ends_in_store(houses, h) && self.move_reaches(houses, h, bar) {
-                return true;
-            }
-        }
-        false
-    }
-
-    // Ranks the other moves, the sooner to be tried the higher, or tells that one of them takes enough at once.
-    #[cycle(search)]
-    fn others_waiting(&mut self, houses: &Houses, bar: u8) -> Option<[u32; 6]>
-        requires going { is_over (bare houses.now) ≡ false }
-        ensures none { IsNone result → bar ≤ taken houses.now }
-        ensures some { IfSome result (λ ranks. AreWaiting houses.now bar ranks) }
-    {
         let mut ranks = [0u32; 6];
-        for h in 1..houses.m() + 1 {
-            if houses.own(h) > 0 && !ends_in_store(houses, h) {
-                ranks[h as usize - 1] = self.rank(houses, h, bar)?;
-            }
+        let mut turns = [Played {
+            gained: 0,
+            next: *houses,
+        }; 6];
+        let others = self.others_waiting(houses, bar, &mut ranks, &mut turns);
+        if bar <= others {
+            return others;
         }
-        Some(ranks)
+        let mut most = again.max(others);
+        let mut at = highest(&ranks);
+        while ranks[at] > 0 {
+            ranks[at] = 0;
+            let turn = turns[at];
+            let bound = self.bound_turn(turn.gained, &turn.next, bar);
+            if bar <= bound {
+                return bound;
+            }
+            most = most.max(bound);
+            at = highest(&ranks);
+        }
+        most
     }
 
-    // How promising the step of house `h` is, where it's a turn after which it has to be searched whether the mover takes
-    // enough.
-    fn promise_of(&self, h: u8, step: &HousesStep, bar: u8) -> Option<u32>
-        ensures { IfSome result (λ rank. 0 < rank) }
-    {
-        match step {
-            HousesStep::Turn(gained, next)
-                if *gained < bar && next.seeds() > self.most_at_the_end() => {
-                Some(promise(h, *gained, next))
-            }
-            _ => None,
-        }
-    }
-
-    // How soon house `h` should be tried: 0 where it falls short, none where it takes enough.
+    // Tries the moves that end in the store, from the store on: the most that they take, or a bound that is enough.
     #[cycle(search)]
-    fn rank(&mut self, houses: &Houses, h: u8, bar: u8) -> Option<u32>
+    fn bound_again(&mut self, houses: &Houses, bar: u8) -> u8
+        requires going { is_over (bare houses.now) ≡ false }
+        ensures lower { bar ≤ result → result ≤ taken houses.now }
+        ensures upper { result < bar → (h : ℕ) → Contains (legal_houses (bare houses.now)) h → EndsInStore houses.now h → TakesAtMost houses.now result h }
+    {
+        let mut left = again_houses(houses);
+        let mut most = 0;
+        while left > 0 {
+            let (h, rest) = split_last(left);
+            left = rest;
+            let bound = self.bound_move(houses, h, bar);
+            if bar <= bound {
+                return bound;
+            }
+            most = most.max(bound);
+        }
+        most
+    }
+
+    // Plays the other moves once each: the most that they take, or a bound that is enough. The turns that wait are written down,
+    // each with its rank, which is 0 for the others.
+    #[cycle(search)]
+    fn others_waiting(
+        &mut self,
+        houses: &Houses,
+        bar: u8,
+        ranks: &mut [u32; 6],
+        turns: &mut [Played; 6],
+    ) -> u8
+        requires going { is_over (bare houses.now) ≡ false }
+        requires none { (k : ℕ) → slice_index ranks.old k ≡ 0 }
+        ensures { AreWaiting houses.now bar result ranks.new turns.new }
+    {
+        let mut most = 0;
+        let mut left = other_houses(houses);
+        while left > 0 {
+            let (h, rest) = split_last(left);
+            left = rest;
+            match self.look(houses, h, bar) {
+                Look::Waits(rank, turn) => {
+                    ranks[h as usize - 1] = rank;
+                    turns[h as usize - 1] = turn;
+                }
+                Look::Bounded(bound) => {
+                    if bar <= bound {
+                        return bound;
+                    }
+                    most = most.max(bound);
+                }
+            }
+        }
+        most
+    }
+
+    // Plays house `h`, which waits if it's a turn that has to be searched.
+    #[cycle(search)]
+    fn look(&mut self, houses: &Houses, h: u8, bar: u8) -> Look
         requires legal { Contains (legal_houses (bare houses.now)) h }
-        ensures none { IsNone result → bar ≤ taken_by_step (houses_step houses.now h) }
-        ensures short { IfSome result (λ rank. rank ≡ 0 → FallsShort houses.now bar h) }
+        ensures { IsLook houses.now bar h result }
     {
         let _seeds = houses.seeds();
         let step = houses.play(h);
-        match self.promise_of(h, &step, bar) {
-            Some(rank) => Some(rank),
-            None => {
-                if self.step_reaches(&step, bar) {
-                    None
-                } else {
-                    Some(0)
-                }
+        match &step {
+            HousesStep::Turn(gained, next)
+                if *gained < bar && next.seeds() > self.most_at_the_end() => {
+                let turn = Played {
+                    gained: *gained,
+                    next: *next,
+                };
+                Look::Waits(promise(h, *gained, next), turn)
             }
+            _ => Look::Bounded(self.bound_step(&step, bar)),
         }
     }
 
     /// Whether house `h` takes at least `bar` seeds.
-    #[cycle(search)]
     pub fn move_reaches(&mut self, houses: &Houses, h: u8, bar: u8) -> bool
         requires legal { Contains (legal_houses (bare houses.now)) h }
         ensures { IsTrue result ↔ bar ≤ taken_by_step (houses_step houses.now h) }
     {
-        let _seeds = houses.seeds();
-        let step = houses.play(h);
-        self.step_reaches(&step, bar)
+        bar <= self.bound_move(houses, h, bar)
     }
 
-    // Whether a step takes at least `bar` seeds.
+    // A fail-soft bound of what house `h` takes.
     #[cycle(search)]
-    fn step_reaches(&mut self, step: &HousesStep, bar: u8) -> bool
+    fn bound_move(&mut self, houses: &Houses, h: u8, bar: u8) -> u8
+        requires legal { Contains (legal_houses (bare houses.now)) h }
+        ensures { IsSoftBound bar (taken_by_step (houses_step houses.now h)) result }
+    {
+        let _seeds = houses.seeds();
+        let step = houses.play(h);
+        self.bound_step(&step, bar)
+    }
+
+    // A fail-soft bound of what a step takes.
+    #[cycle(search)]
+    fn bound_step(&mut self, step: &HousesStep, bar: u8) -> u8
         requires on { GoesOn step.now }
-        ensures { IsTrue result ↔ bar ≤ taken_by_step step.now }
+        ensures { IsSoftBound bar (taken_by_step step.now) result }
     {
         match step {
-            HousesStep::Over { own, .. } => bar <= *own,
+            HousesStep::Over { own, .. } => *own,
             HousesStep::Again(gained, next) => {
-                bar <= *gained || self.reaches(next, bar - *gained)
+                if bar <= *gained {
+                    *gained
+                } else {
+                    *gained + self.bound(next, bar - *gained)
+                }
             }
-            HousesStep::Turn(gained, next) => bar <= *gained || self.leaves(next, bar - *gained),
+            HousesStep::Turn(gained, next) => self.bound_turn(*gained, next, bar),
         }
     }
 
-    // Whether the other player, who is to move, leaves at least `bar` seeds.
+    // A fail-soft bound of what a turn takes, which brought `gained` seeds to the store: those, and what the other player leaves.
     #[cycle(search)]
-    fn leaves(&mut self, houses: &Houses, bar: u8) -> bool
-        requires going { is_over (bare houses.now) ≡ false }
-        requires some { 1 ≤ bar }
-        ensures { IsTrue result ↔ bar + taken houses.now ≤ seeds_in_houses (bare houses.now) }
+    fn bound_turn(&mut self, gained: u8, next: &Houses, bar: u8) -> u8
+        requires on { GoesOnAt gained next.now }
+        ensures { IsSoftBound bar (gained + (seeds_in_houses (bare next.now) - taken next.now)) result }
     {
-        let seeds = houses.seeds();
-        bar <= seeds && !self.reaches(houses, seeds - bar + 1)
+        let all = gained + next.seeds();
+        if bar <= gained {
+            gained
+        } else if all < bar {
+            all
+        } else {
+            all - self.bound(next, all - bar + 1)
+        }
     }
 }

@@ -51,7 +51,7 @@ fn prints_nodes(rt: &(impl Abort + Print), nodes: u64, took: u128) {
 fn games_as_they_begin_take_few_nodes(rt: HostRuntime) {
     let (nodes, took) = nodes_and_time(&rt, &mut new_search(&rt, rt.alloc()));
     prints_nodes(&rt, nodes, took);
-    assert!(rt; nodes < 60_000);
+    assert!(rt; nodes > 48_900 && nodes < 54_000);
 }
 
 // Whether nothing is known of the houses by their place.
@@ -104,11 +104,34 @@ fn two_houses(rt: &impl Abort, first: u8, others: u8) -> Houses {
     Houses::new(2, own, other, Rule::Classic).expect(rt, "beyond the limits")
 }
 
+// From the node after the first `before` on, the endings that are asked for have up to `most` seeds.
+fn asks_for_endings(rt: &impl Abort, search: &mut Search, before: u64, most: u8) {
+    search.nodes = before;
+    search.count_node();
+    assert!(rt; search.most_at_the_end() == most);
+}
+
 #[test]
-fn many_seeds_are_searched_with_larger_endings(rt: HostRuntime) {
+fn endings_grow_once_many_seeds_had_much_work(rt: HostRuntime) {
     let mut search = new_search(&rt, rt.alloc());
-    for (first, others, worth, most) in [(4, 4, -10, 8), (5, 4, -1, 9), (4, 4, -10, 9)] {
-        tells_worth(&rt, &mut search, &two_houses(&rt, first, others), worth);
-        assert!(rt; search.most_at_the_end() == most);
+    for (before, first, worth, most) in [
+        (59_999, 4, -10, 8),
+        (0, 5, -1, 8),
+        (59_998, 4, -10, 8),
+        (59_999, 4, -10, 9),
+        (0, 4, -10, 9),
+    ] {
+        asks_for_endings(&rt, &mut search, before, most);
+        tells_worth(&rt, &mut search, &two_houses(&rt, first, 4), worth);
     }
+}
+
+#[test]
+fn endings_grow_where_many_seeds_come_after_much_work(rt: HostRuntime) {
+    let mut search = new_search(&rt, rt.alloc());
+    asks_for_endings(&rt, &mut search, 59_999, 8);
+    tells_worth(&rt, &mut search, &two_houses(&rt, 4, 4), -10);
+    assert!(rt; search.most_at_the_end() == 8);
+    tells_worth(&rt, &mut search, &two_houses(&rt, 5, 4), -1);
+    assert!(rt; search.most_at_the_end() == 9);
 }

@@ -8,7 +8,7 @@ use Rattle.kalah_cli.proofs.request.batch_request.Goals as goal
 
 pub unwrap-requires : goal.unwrap-requires
 unwrap-requires c =
-    is_there _ c.get_strs.result _ (c.get_strs.ensures ∙ raw_values-rows (found_of c.args.found.now) (codes "file") ∙ c.requires.2.1)
+    is_there _ c.get_strs.result _ (c.get_strs.ensures ∙ raw_values-rows (found_of c.args.found.now) (codes "file") ∙ c.requires.files.1)
 
 pub returns-clause-asked : goal.returns-clause-asked
 returns-clause-asked c =
@@ -16,8 +16,8 @@ returns-clause-asked c =
     let are : Some (map (λ f. f.now) c.in_ok-files.files.items) ≡ all_of (codes "file") (rows_of (found_of c.args.found.now)) =
     ap (λ xs. Some (map (λ f. f.now) xs)) copied ∙ ap (option_map (λ s. map (λ v. v.now) s.now)) (sym c.unwrap.ensures)
     ∙ c.get_strs.ensures ∙ raw_values-rows (found_of c.args.found.now) (codes "file") in
-    answers_are c.args.question (rows_of (found_of c.args.found.now)) c.requires c.option_number-workers.result c.option_number-table.result _
-    c.option_number-workers.ensures c.option_number-table.ensures are
+    answers_are c.args.question (rows_of (found_of c.args.found.now)) c.requires c.option_number-workers.result c.option_number-table.result c.is_set-progress.result _
+    c.option_number-workers.ensures c.option_number-table.ensures c.is_set-progress.ensures are
 
 pub returns-clause-range : goal.returns-clause-range
 returns-clause-range c =

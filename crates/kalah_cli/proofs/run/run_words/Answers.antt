@@ -8,14 +8,15 @@ use Rattle.clap.specs.declared.error.kind.ErrorKind.{ErrorKind}
 use Rattle.clap.specs.declared.error.kind.ErrorKind.TheVariants.{DisplayHelp, DisplayVersion, MissingRequiredArgument, OutOfMemory}
 use Rattle.kalah_jobs.specs.declared.files.question.Question.{Question}
 use Rattle.kalah_jobs.specs.declared.files.question.Question.TheVariants.{BestMove, Values}
+use Rattle.kalah_cli.specs.Ask.{StopsBetweenLines}
 use Rattle.kalah_cli.specs.Command.{kalah_app}
-use Rattle.kalah_cli.specs.Request.{Asked, IsPlainWord, IsTakenAs, answers, asked_for, command_of, moves, play, texts_of}
+use Rattle.kalah_cli.specs.Request.{Asked, IsPlainWord, IsTakenAs, answers, ask, asked_for, command_of, moves, play, texts_of}
 use Rattle.kalah_cli.specs.Runs.{Begins, Does, IsOfLine, IsUnread}
 use Rattle.kalah_cli.specs.declared.status.ExitStatus.TheVariants.{Clean, Failed}
-use Rattle.kalah_cli.proofs.Begun.{begins_none, begun_as}
-use Rattle.kalah_cli.proofs.Laws.{version_of}
+use Rattle.kalah_cli.proofs.Begun.{begins_none, begun_as, stops_before_lines}
+use Rattle.kalah_cli.proofs.Laws.{taken_once, version_of}
 use Rattle.kalah_cli.proofs.Plain.{read_is_plain}
-use Rattle.kalah_cli.proofs.Taken.{done_as, failed_does, fault_at, files_or_none, game_of, line_as, moves_of, no_request, words_at}
+use Rattle.kalah_cli.proofs.Taken.{ask_of, ask_values_of, done_as, failed_does, fault_at, files_or_none, game_of, line_as, moves_of, no_request, words_at}
 use Rattle.kalah_cli.proofs.run.run_words.Goals.{After-drop-words, After-drop-words-2}
 use Rattle.kalah_cli.proofs.run.run_words.Given.{Over}
 use Rattle.kalah_cli.proofs.run.run_words.Goals as goal
@@ -64,9 +65,9 @@ returns-in-Ok-clause-unread g c = λ name line is plain none. elim is [
 -- what is asked of files is done
 done_of_files : (g : Over) (c : After-drop-words g) (question : Question) (name : Text) (files : List Text)
     → texts_of c.args.words.items ≡ name ∷ command_of question ∷ files → All IsPlainWord files
-    → Does (answers question 4 65536 files) (g.O.Sink.written c.args.out.now) (g.O.Sink.written c.run_request.new.out) c.run_request.result
+    → Does (answers question 4 65536 false files) (g.O.Sink.written c.args.out.now) (g.O.Sink.written c.run_request.new.out) c.run_request.result
 done_of_files g c question name files is plain = elim (files_or_none question _ name files is plain) [
-  | inl taken ↦ done g c (answers question 4 65536 files) taken
+  | inl taken ↦ done g c (answers question 4 65536 false files) taken
   | inr missed ↦
       let none = fault_at _ c.args.words.items c.as_slice.ensures.value c.in-Ok.ensures.kinds in
       absurd (let bad : MissingRequiredArgument ∷ [] ≡ [] = sym missed ∙ none in cc)
@@ -77,6 +78,19 @@ returns-in-Ok-clause-solved g c = λ name files is plain. done_of_files g c Best
 
 pub returns-in-Ok-clause-valued : goal.returns-in-Ok-clause-valued
 returns-in-Ok-clause-valued g c = λ name files is plain. done_of_files g c Values name files is plain
+
+pub returns-in-Ok-clause-asked : goal.returns-in-Ok-clause-asked
+returns-in-Ok-clause-asked g c = λ name is. done g c (ask BestMove 65536) (ask_of _ name is)
+
+pub returns-in-Ok-clause-asked_values : goal.returns-in-Ok-clause-asked_values
+returns-in-Ok-clause-asked_values g c = λ name is. done g c (ask Values 65536) (ask_values_of _ name is)
+
+pub returns-in-Ok-clause-unchanged : goal.returns-in-Ok-clause-unchanged
+returns-in-Ok-clause-unchanged g c = λ none. c.run_request.ensures.unchanged (none (asked_for c.in-Ok.request) (taken_as g c))
+
+pub returns-in-Ok-clause-stopped : goal.returns-in-Ok-clause-stopped
+returns-in-Ok-clause-stopped g c = λ question table taken.
+    c.run_request.ensures.stopped question table (taken_once (texts_of c.args.words.items) (asked_for c.in-Ok.request) (ask question table) (taken_as g c) taken)
 
 pub returns-in-Ok-clause-usage : goal.returns-in-Ok-clause-usage
 returns-in-Ok-clause-usage g c = λ faulty no_help no_version. absurd (faulty (fault_at _ c.args.words.items c.as_slice.ensures.value c.in-Ok.ensures.kinds))
@@ -156,7 +170,7 @@ failed_of_none g c missed =
 failed_of_files : (g : Over) (c : After-drop-words-2 g) (question : Question) (name : Text) (files : List Text)
     → texts_of c.args.words.items ≡ name ∷ command_of question ∷ files → All IsPlainWord files → c.refuse.result ≡ Failed
 failed_of_files g c question name files is plain = elim (files_or_none question _ name files is plain) [
-  | inl taken ↦ (failed g c (answers question 4 65536 files) taken).0
+  | inl taken ↦ (failed g c (answers question 4 65536 false files) taken).0
   | inr missed ↦ failed_of_none g c missed
 ]
 
@@ -165,6 +179,20 @@ returns-clause-solved g c = λ name files is plain went. absurd (went (failed_of
 
 pub returns-clause-valued : goal.returns-clause-valued
 returns-clause-valued g c = λ name files is plain went. absurd (went (failed_of_files g c Values name files is plain))
+
+pub returns-clause-asked : goal.returns-clause-asked
+returns-clause-asked g c = λ name is went. absurd (went (failed g c (ask BestMove 65536) (ask_of _ name is)).0)
+
+pub returns-clause-asked_values : goal.returns-clause-asked_values
+returns-clause-asked_values g c = λ name is went. absurd (went (failed g c (ask Values 65536) (ask_values_of _ name is)).0)
+
+pub returns-clause-unchanged : goal.returns-clause-unchanged
+returns-clause-unchanged g c = λ none. c.refuse.ensures.unchanged
+
+pub returns-clause-stopped : goal.returns-clause-stopped
+returns-clause-stopped g c = λ question table taken stopped kept.
+    subst (λ o. StopsBetweenLines question (g.O.Sink.written c.args.out.now) (g.O.Sink.written o)) (sym (failed g c (ask question table) taken).1)
+    (stops_before_lines question (g.O.Sink.written c.args.out.now))
 
 pub returns-clause-usage : goal.returns-clause-usage
 returns-clause-usage g c = λ faulty no_help no_version. c.refuse.ensures.mistake (unasked g c DisplayHelp (λ e. cc) no_help)

@@ -1,7 +1,9 @@
 //! What the help says, and the version.
 use super::{assert_answers, run_on};
+use crate::progress::StandardError;
 use crate::status::ExitStatus;
 use std::alloc::Global;
+use std::io::Input;
 use std::process::Abort;
 use std::rt::Files;
 use std::str;
@@ -16,14 +18,22 @@ const OF_THE_PROGRAM: &[&str] = &[
     "Prints each legal move of a position, and the position after it",
     "Prints the margin of best play and the best house of each position in files",
     "Prints what each move of each position in files is worth",
-    "  -h, --help     Print help\n  -V, --version  Print version\n",
+    "Answers each line of the standard input before it reads on, as `solve` or `values`",
+    "  -h, --help\n          Print help (see a summary with '-h')\n",
+    "  -V, --version\n          Print version\n",
     ABOUT_POSITIONS,
+];
+
+const OF_THE_PROGRAM_IN_SHORT: &[&str] = &[
+    "  -h, --help     Print help (see more with '--help')\n  -V, --version  Print version\n",
+    "`kalah --help` has the form of positions, the rules, the answers and the exit statuses.",
 ];
 
 const ABOUT_POSITIONS: &str = "\
 A position is one line, seen by the player to move: the seeds in that player's houses, a slash, the
 seeds in that player's store, one space, and the same for the other player, as in
     1,1/0 1,1/0
+On a command line it stands in quotes: kalah moves '1,1/0 1,1/0'
 Houses count from 1, and the last one lies next to its owner's store. A side has 1 to 6 houses; all
 houses together hold at most 31 seeds, and a store at most 99.
 
@@ -48,21 +58,40 @@ for each move, in the form of `moves`. With --boards, each position is drawn bel
 `kalah solve FILE..` prints a line for each line of each file, in order:
     FILE:LINE MARGIN house H        the margin of best play, and the first house that attains it
     FILE:LINE MARGIN over           the game is over, with this margin
-    FILE:LINE fault WORD            not a position: long, empty, shape, houses or seeds
+    FILE:LINE fault WORD            not a position
 `kalah values FILE..` prints for each of these lines what each of its moves is worth:
     FILE:LINE H:V H:V ..            each house H that may be moved, and the margin V that its move
                                     gets in best play
     FILE:LINE MARGIN over           as `solve`
     FILE:LINE fault WORD            as `solve`
+`kalah ask` prints for each line of the standard input, before it reads on, what `solve` prints behind
+FILE:LINE, or with --values what `values` prints there.
 A margin is what the player to move ends with less what the other player ends with.
 
+The WORD of a line that is not a position is the first of these that holds:
+    long      it has more than 80 bytes
+    empty     it has no bytes
+    shape     it does not have the form of a position
+    houses    the sides have different numbers of houses, or more than 6
+    seeds     the houses hold more than 31 seeds together
+
 Exit status: 0 if every line was read or help was asked for; 1 if some line was not read; 2 if the
-words, a file, memory, a worker or the output failed, and standard error says which.";
+words, a file, the standard input, memory, a worker or the output failed, and standard error says
+which.";
 
 const OF_MOVES: &[&str] = &[
     "Prints each legal move of a position, and the position after it",
     "<LINE>",
-    "a position, as 1,1/0 1,1/0",
+    "a position in quotes, as '1,1/0 1,1/0'",
+    "    1 1,1/0 0,2/0 turn\n",
+    "`kalah --help` has the rules",
+];
+
+const OF_ASK: &[&str] = &[
+    "--values",
+    "tells what each move is worth, as `values`",
+    "--table <N>",
+    "[default: 65536]",
 ];
 
 // Of `solve` and of `values`.
@@ -73,12 +102,17 @@ const OF_BATCHES: &[&str] = &[
     "--table <N>",
     "how many solved positions each worker remembers, 1 to 1048576",
     "[default: 65536]",
+    "--progress",
+    "shows on standard error how many lines are answered",
     "<FILE>...",
-    "files of positions, one a line",
+    "files of positions, one a line; /dev/stdin for standard input",
+    " /dev/stdin < positions.txt\n",
+    "    first.txt:5 -4 over        the game is over, with this margin\n",
+    "`kalah --help` has the form of positions, the rules, and the words of faults.",
 ];
 
 // The help that these words ask for has each of these parts in it.
-fn assert_says<R: Abort + Files + Threads + Wait + Sync>(
+fn assert_says<R: Abort + Files + Input + StandardError + Threads + Wait + Sync>(
     rt: &R,
     alloc: Global,
     words: &[&str],
@@ -96,9 +130,47 @@ fn assert_says<R: Abort + Files + Threads + Wait + Sync>(
 fn the_help_says_what_there_is_to_ask_for(rt: HostRuntime) {
     let alloc = rt.alloc();
     assert_says(&rt, alloc, &["--help"], OF_THE_PROGRAM);
+    assert_says(&rt, alloc, &["-h"], OF_THE_PROGRAM_IN_SHORT);
     assert_says(&rt, alloc, &["moves", "--help"], OF_MOVES);
+    assert_says(&rt, alloc, &["ask", "--help"], OF_ASK);
     for subcommand in ["solve", "values"] {
         assert_says(&rt, alloc, &[subcommand, "--help"], OF_BATCHES);
+    }
+}
+
+// Words of which the first two behind the subcommand are the halves of a position, or are not.
+const WITHOUT_QUOTES: &[&[&str]] = &[
+    &["moves", "1,1/0", "1,1/0"],
+    &["moves", "--boards", "1,1/0", "1,1/0"],
+    &["play", "1,1/0", "1,1/0", "e"],
+];
+
+const WITH_QUOTES: &[&[&str]] = &[
+    &["moves", "1,1/0 1,1/0", "1"],
+    &["play", "--board", "1,1/0 1,1/0"],
+    &["solve", "a/b", "c/d", "--board"],
+    &["moves"],
+];
+
+// Whether standard error speaks of quotes.
+fn speaks_of_quotes<R: Abort + Files + Input + StandardError + Threads + Wait + Sync>(
+    rt: &R,
+    alloc: Global,
+    words: &[&str],
+) -> bool {
+    let run = run_on(rt, alloc, words);
+    assert!(rt; run.status == ExitStatus::Failed && run.out.is_empty());
+    let text = str::from_utf8(run.err.as_slice()).expect(rt, "no text");
+    text.contains("put it in quotes: '1,1/0 1,1/0'\n")
+}
+
+#[test]
+fn a_position_without_quotes_is_pointed_out(rt: HostRuntime) {
+    for words in WITHOUT_QUOTES {
+        assert!(rt; speaks_of_quotes(&rt, rt.alloc(), *words));
+    }
+    for words in WITH_QUOTES {
+        assert!(rt; !speaks_of_quotes(&rt, rt.alloc(), *words));
     }
 }
 
@@ -119,7 +191,7 @@ fn the_version_is_one_line(rt: HostRuntime) {
             rt.alloc(),
             *words,
             ExitStatus::Clean,
-            ("kalah 1.0.0\n", ""),
+            ("kalah 1.1.0\n", ""),
         );
     }
 }

@@ -1,14 +1,16 @@
 //! Files of odd bytes, and names that no file has.
 use super::{assert_answers, write_file};
+use crate::progress::StandardError;
 use crate::status::ExitStatus;
 use std::alloc::Global;
+use std::io::Input;
 use std::process::Abort;
 use std::rt::Files;
 use std::sync::Wait;
 use std::thread::Threads;
 
 // The file of this name and these bytes is answered by this text.
-fn assert_file_answers<R: Abort + Files + Threads + Wait + Sync>(
+fn assert_file_answers<R: Abort + Files + Input + StandardError + Threads + Wait + Sync>(
     rt: &R,
     alloc: Global,
     name: &str,
@@ -64,13 +66,21 @@ fn a_file_may_end_anywhere(rt: HostRuntime) {
 }
 
 // A file may have this name.
-fn assert_is_a_name<R: Abort + Files + Threads + Wait + Sync>(rt: &R, alloc: Global, name: &str) {
+fn assert_is_a_name<R: Abort + Files + Input + StandardError + Threads + Wait + Sync>(
+    rt: &R,
+    alloc: Global,
+    name: &str,
+) {
     let text = format!(in alloc; "{name}:1 0 house 1\n").expect(rt, "no memory");
     assert_file_answers(rt, alloc, name, b"1/0 1/0", text.as_str());
 }
 
 // No file has this name.
-fn assert_is_not_read<R: Abort + Files + Threads + Wait + Sync>(rt: &R, alloc: Global, name: &str) {
+fn assert_is_not_read<R: Abort + Files + Input + StandardError + Threads + Wait + Sync>(
+    rt: &R,
+    alloc: Global,
+    name: &str,
+) {
     let text = format!(in alloc; "kalah: cannot read {name}\n").expect(rt, "no memory");
     let words = ["solve", name];
     assert_answers(

@@ -1,7 +1,9 @@
 //! Runs of `kalah play`, and of `kalah moves` with boards.
 use super::{assert_answers, assert_stops};
+use crate::progress::StandardError;
 use crate::status::ExitStatus;
 use std::alloc::Global;
+use std::io::Input;
 use std::process::Abort;
 use std::rt::Files;
 use std::sync::Wait;
@@ -61,7 +63,7 @@ const GAMES: &[(&str, &str)] = &[
 ];
 
 // This game is played, with a table of one entry and of many.
-fn assert_plays<R: Abort + Files + Threads + Wait + Sync>(
+fn assert_plays<R: Abort + Files + Input + StandardError + Threads + Wait + Sync>(
     rt: &R,
     alloc: Global,
     line: &str,

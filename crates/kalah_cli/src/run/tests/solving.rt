@@ -1,8 +1,10 @@
 //! Runs of `kalah solve` over files that are written first.
 use super::{assert_answers, run_failing, write_file};
+use crate::progress::StandardError;
 use crate::status::ExitStatus;
 use std::alloc::Global;
 use std::fs;
+use std::io::Input;
 use std::process::Abort;
 use std::rt::Files;
 use std::sync::Wait;
@@ -39,7 +41,7 @@ each_b.txt:2 -2 house 1
 ";
 
 // With these options each line of the batch is answered, in order.
-fn assert_answers_batch<R: Abort + Files + Threads + Wait + Sync>(
+fn assert_answers_batch<R: Abort + Files + Input + StandardError + Threads + Wait + Sync>(
     rt: &R,
     alloc: Global,
     options: &[&str],

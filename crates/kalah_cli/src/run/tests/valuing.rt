@@ -1,7 +1,9 @@
 //! Runs of `kalah values` over files that are written first.
 use super::{assert_answers, assert_stops, write_file};
+use crate::progress::StandardError;
 use crate::status::ExitStatus;
 use std::alloc::Global;
+use std::io::Input;
 use std::process::Abort;
 use std::rt::Files;
 use std::sync::Wait;
@@ -17,7 +19,7 @@ four.txt:4 fault shape
 ";
 
 // With so many workers and entries the values of the four lines are told.
-fn assert_tells_four<R: Abort + Files + Threads + Wait + Sync>(
+fn assert_tells_four<R: Abort + Files + Input + StandardError + Threads + Wait + Sync>(
     rt: &R,
     alloc: Global,
     workers: &str,

@@ -1,49 +1,97 @@
-use Rattle.std.proofs.Common.{sym, ◌∙◌}
-use Rattle.std.specs.Prelude.{None, false}
+use Rattle.std.proofs.Common.{◌≡◌, ℕ, ◌<◌, List, ◌++◌, length, sym, ap, ◌∙◌, subst, arith}
+use Rattle.std.specs.Prelude.{None, false, All, nat_lt, if◌then◌else◌}
+use Rattle.std.proofs.lemmas.List.{length-map}
 use Rattle.kalah_jobs.specs.Collecting.Batch.{AreJobsInSomeOrder}
-use Rattle.kalah_run.specs.Reporting.{IsReporting, Waits, outcomes_in}
-use Rattle.kalah_run.proofs.StaffRuns.{run_jobs, has_worked}
-use Rattle.kalah_run.proofs.BatchEnds.{all_given, all_counted, given_no_output, no_faults}
+use Rattle.kalah_jobs.specs.Collecting.Shares.{times_in}
+use Rattle.kalah_jobs.specs.Files.Jobs.{job_count}
+use Rattle.kalah_run.specs.Desk.Rows.{drawn_numbers, spent_in}
+use Rattle.kalah_run.specs.Desk.States.{PassState, IsPassAt, drawn_rows}
+use Rattle.kalah_run.specs.Queue.States.{GetState, PutState, ArePassesFrom, sent_by}
+use Rattle.kalah_run.specs.Queue.Lists.{Accounts}
+use Rattle.kalah_run.specs.Batch.Work.{Work}
+use Rattle.kalah_run.specs.Batch.OrderedOutput.{HasWritten, Waits, outcomes_in}
+use Rattle.kalah_run.specs.declared.batch.worker.Worker.{Worker}
+use Rattle.kalah_run.proofs.OfBatch.Ends.{all_given, all_counted, given_no_output, no_faults}
+use Rattle.kalah_run.proofs.OfBatch.WorkerRuns.{each_job_got, puts_after, run_at_work, run_passes, run_spent}
 use Rattle.kalah_run.proofs.batch.answer_jobs.Given.{Over}
 use Rattle.kalah_run.proofs.batch.answer_jobs.Goals as goal
-
-pub run_and_report-requires-clause-counts : goal.run_and_report-requires-clause-counts
-run_and_report-requires-clause-counts g c = λ _ _. (c.total-total.ensures.low, (c.in_ok-report.ensures None false).faults)
-
-pub close-requires : goal.close-requires
-close-requires g c =
-    let got = c.in_ok-shifts.ensures.pass in
-    has_worked c.args.jobs.now c.in_ok-staff.staff _ c.in_ok-staff.ensures c.in_ok-shifts.ensures.shifts (got.0, got.1)
-
--- each job's outcome was got once
-each_got : (g : Over) (c : goal.After-drop-report-2 g) → AreJobsInSomeOrder c.args.jobs.now (outcomes_in c.in_ok-shifts.pass.got)
-each_got g c =
-    let staff = c.in_ok-staff.staff in
-    let run = c.in_ok-shifts in
-    let total = c.total-total.ensures in
-    let many = c.in_ok-staff.ensures.total in
-    c.close.ensures c.args.jobs.now
-    (run_jobs staff.desk staff.queue.id c.args.jobs.now staff.shifts.items run.shifts.items run.ensures.shifts)
-    (many ∙ sym total.lines ∙ total.jobs) (run.ensures.pass.2 ∙ total.lines ∙ sym many)
 
 pub returns-then-total-eq0-clause-given : goal.returns-then-total-eq0-clause-given
 returns-then-total-eq0-clause-given g c =
     given_no_output c.args.files.now c.args.jobs.now (g.W.Sink.written c.args.out.now) (g.W.Sink.has_failed c.args.out.now)
-    (sym c.total-total.ensures.lines ∙ c.if-total-eq0.true)
+    (sym c.total.ensures.lines ∙ c.if-total-eq0.true)
 
 pub returns-then-total-eq0-clause-faults : goal.returns-then-total-eq0-clause-faults
-returns-then-total-eq0-clause-faults g c = no_faults c.args.jobs.now (sym c.total-total.ensures.jobs ∙ c.if-total-eq0.true)
+returns-then-total-eq0-clause-faults g c = no_faults c.args.jobs.now (sym c.total.ensures.jobs ∙ c.if-total-eq0.true)
 
--- and all was reported: no line is waited for any more
-reported : (g : Over) (c : goal.After-drop-report-2 g)
-    → IsReporting c.args.files.now c.args.jobs.now (outcomes_in c.in_ok-shifts.pass.got) (g.W.Sink.written c.args.out.now)
-    (g.W.Sink.written c.run_and_report.new.out) (g.W.Sink.has_failed c.run_and_report.new.out) c.in_ok-shifts.report × Waits c.in_ok-shifts.report
-reported g c =
+pub run_and_write-requires-after_bounds : goal.run_and_write-requires-after_bounds
+run_and_write-requires-after_bounds g c κs within =
+    let ready = c.in_ok-desk.ensures in
+    record {
+      at_work = ready.at_work;
+      queue = ap (λ (p : GetState). p.queue) ready.pass;
+      nothing_got = ap (λ (p : GetState). p.got) ready.pass;
+      no_fault = (c.in_ok-output.ensures None false).faults;
+    }
+
+-- ---- the passes come back
+
+pub close-requires-clause-own : goal.close-requires-clause-own
+close-requires-clause-own g c =
+    subst (λ (l : List PassState). All (IsPassAt c.in_ok-desk.field-0.desk) l) (sym c.take_apart-passes.ensures.passes)
+    (run_passes _ _ _ c.in_ok-workers.ensures.ended.all_ran)
+
+pub close-requires-2-clause-puts : goal.close-requires-2-clause-puts
+close-requires-2-clause-puts g c =
+    let run = c.in_ok-workers.ensures.ended in
+    let puts = c.take_apart-passes.ensures.puts in (
+      omega (
+        arith,
+        c.take_apart-passes.result.1.ok,
+        ap (λ (l : List PutState). length l) puts,
+        length-map c.in_ok-workers.field-0.workers.items (λ (w : Worker). w.put),
+        run.all_ran.as_many,
+        run.passes,
+        ap (λ (p : GetState). p.workers) c.in_ok-desk.ensures.pass,
+      ),
+      subst (λ (l : List PutState). ArePassesFrom c.in_ok-desk.field-0.queue.id 0 l) (sym puts)
+          (puts_after _ _ _ 0 run.all_ran c.in_ok-desk.ensures.puts),
+    )
+
+-- ---- all has come and is written
+
+-- each job's outcome was got once
+each_got : (g : Over) (c : goal.After-drop-output-2 g) → AreJobsInSomeOrder c.args.jobs.now (outcomes_in c.in_ok-workers.field-0.pass.got)
+each_got g c =
+    let ready = c.in_ok-desk.ensures in
+    let run = c.in_ok-workers.ensures.ended in
+    let pass = c.in_ok-workers.field-0.pass in
+    let passes = c.take_apart-passes.ensures.passes in
+    let as_many = run.all_ran.as_many ∙ sym (run.passes ∙ ap (λ (p : GetState). p.workers) ready.pass) in
+    let rest = c.close-2.ensures.whole in
+    let some = subst (λ (l : List PassState). 0 < spent_in (drawn_rows l)) (sym passes) (run_spent _ _ _ run.all_ran ready.some) in
+    let drawn = c.close.ensures.whole (c.close.ensures.spent.1 some) ∙ ready.total in
+    let once = λ (x : ℕ). subst (λ (l : List PassState). times_in x (drawn_numbers (drawn_rows l)) ≡ (if nat_lt x c.close.result.drawn then 1 else 0))
+    passes (c.close.ensures.each_once x) in
+    let accounts = subst (λ (l : List PutState). Accounts pass.workers (sent_by l) (pass.got ++ rest.0)) c.take_apart-passes.ensures.puts rest.2 in
+    let work : Work = record { desk = c.in_ok-desk.field-0.desk; queue = c.in_ok-desk.field-0.queue.id; jobs = c.args.jobs.now } in
+    each_job_got work c.in_ok-workers.field-0.workers.items
+    pass.workers c.close.result.drawn pass.got rest.0 (run_at_work _ _ _ run.all_ran) as_many once accounts
+    (drawn ∙ sym c.total.ensures.lines ∙ c.total.ensures.jobs) (run.all_got ∙ ap job_count (c.in_ok-output.ensures None false).of_jobs ∙ sym drawn)
+
+-- and no line is waited for any more
+all_written : (g : Over) (c : goal.After-drop-output-2 g)
+    → HasWritten c.args.files.now c.args.jobs.now (outcomes_in c.in_ok-workers.field-0.pass.got) (g.W.Sink.written c.args.out.now)
+    (g.W.Sink.written c.run_and_write.new.out)
+    (g.W.Sink.has_failed c.run_and_write.new.out) c.in_ok-workers.field-0.output × Waits c.in_ok-workers.field-0.output
+all_written g c =
     let begun = g.W.Sink.written c.args.out.now in
-    c.in_ok-shifts.ensures.way c.args.files.now c.args.jobs.now begun (c.in_ok-report.ensures begun (g.W.Sink.has_failed c.args.out.now))
+    c.in_ok-workers.ensures.ended.progress c.args.files.now c.args.jobs.now begun (c.in_ok-output.ensures begun (g.W.Sink.has_failed c.args.out.now))
 
 pub returns-clause-given : goal.returns-clause-given
-returns-clause-given g c = all_given c.args.files.now c.args.jobs.now _ _ _ _ c.in_ok-shifts.report (each_got g c) (reported g c).0 (reported g c).1
+returns-clause-given g c =
+    all_given c.args.files.now c.args.jobs.now _ _ _ _ c.in_ok-workers.field-0.output (each_got g c) (all_written g c).0 (all_written g c).1
 
 pub returns-clause-faults : goal.returns-clause-faults
-returns-clause-faults g c = all_counted c.args.files.now c.args.jobs.now _ _ _ _ c.in_ok-shifts.report (each_got g c) (reported g c).0 (reported g c).1
+returns-clause-faults g c =
+    all_counted c.args.files.now c.args.jobs.now _ _ _ _ c.in_ok-workers.field-0.output (each_got g c) (all_written g c).0 (all_written g c).1

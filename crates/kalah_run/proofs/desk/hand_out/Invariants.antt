@@ -1,7 +1,7 @@
 use Rattle.std.proofs.Common.{◌≡◌, ◌-◌, []}
 use Rattle.std.specs.Prelude.{vec_capacity}
-use Rattle.kalah_run.specs.declared.desk_rule.DeskView.TheVariants.{Opening}
-use Rattle.kalah_run.specs.DeskStates.{AreNewPasses}
+use Rattle.kalah_run.specs.declared.desk.rule.DeskView.TheVariants.{Opening}
+use Rattle.kalah_run.specs.Desk.States.{AreNewPasses}
 use Rattle.kalah_run.proofs.desk.hand_out.Given as goal
 
 abbrev pub invariant-loop : goal.invariant-loop

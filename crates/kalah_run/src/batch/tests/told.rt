@@ -1,6 +1,6 @@
 //! What the gate is told: of each job once, and that an outcome is handed on only once there is room for it.
 use super::{lines_are_answered, same_lines};
-use crate::staff::QUEUE_CAPACITY;
+use crate::batch::workers::QUEUE_CAPACITY;
 use crate::{Gate, solve_batch};
 use kalah_jobs::Stream;
 use std::alloc::Global;

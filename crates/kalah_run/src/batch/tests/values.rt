@@ -2,8 +2,8 @@
 ghost use Rattle.std.specs.Prelude.{◌<◌, ◌≤◌};
 
 use super::add_file;
-use crate::{OpenGate, Tally, values_batch};
-use kalah_jobs::{FileText, Sink, Stream};
+use crate::{BatchSize, OpenGate, Tally, answer_batch};
+use kalah_jobs::{FileText, Question, Sink, Stream};
 use std::alloc::Global;
 use std::process::Abort;
 use std::sync::Wait;
@@ -55,7 +55,16 @@ fn is_told<R: Threads + Wait + Sync>(
     requires table { (0 < table) × (table ≤ 1048576) }
 {
     let mut out = Stream::new(Vec::<u8>::new(alloc));
-    let tally = values_batch(rt, alloc, files, workers, table, &OpenGate, &mut out);
+    let size = BatchSize { workers, table };
+    let tally = answer_batch(
+        rt,
+        alloc,
+        Question::Values,
+        files,
+        size,
+        &OpenGate,
+        &mut out,
+    );
     let written = out.into_inner();
     tally == Ok(TEN_LINES) && written.as_slice() == VALUES.as_bytes()
 }

@@ -1,6 +1,6 @@
 //! A batch with each request for memory refused in turn.
 use super::{ANSWERS, batch_of, four_files};
-use crate::want_of_memory::mark;
+use crate::tests::want_of_memory::mark;
 use crate::{OpenGate, RunFault, Tally};
 use kalah_jobs::{FileText, Question, Sink, Stream};
 use std::alloc::Global;

@@ -1,11 +1,11 @@
 use Rattle.std.proofs.Common.{rules, ◌≡◌, ◌+◌, ◌<◌, ◌≤◌, ℕ, sym, ap, ◌∙◌, subst}
 use Rattle.std.specs.Prelude.{nat_lt, if◌then◌else◌}
 use Rattle.std.proofs.lemmas.List.{length-map}
-use Rattle.kalah_run.specs.DeskRows.{drawn_in, spent_in, AreLawful}
-use Rattle.kalah_run.specs.DeskStates.{drawn_rows}
-use Rattle.kalah_run.proofs.DeskOnce.{stands_once, stands_nowhere}
-use Rattle.kalah_run.proofs.DeskSeats.{starts_closing}
-use Rattle.kalah_run.proofs.DeskEnds.{ends, drawn_at_end, spent_at_end}
+use Rattle.kalah_run.specs.Desk.Rows.{drawn_in, spent_in, AreLawful}
+use Rattle.kalah_run.specs.Desk.States.{drawn_rows}
+use Rattle.kalah_run.proofs.OfDesk.Once.{stands_once, stands_nowhere}
+use Rattle.kalah_run.proofs.OfDesk.Seats.{starts_closing}
+use Rattle.kalah_run.proofs.OfDesk.Ends.{ends, drawn_at_end, spent_at_end}
 use Rattle.kalah_run.proofs.desk.Desk.close.Goals as goal
 
 pub load_new_seat-closer-requires : goal.load_new_seat-closer-requires
@@ -13,10 +13,12 @@ load_new_seat-closer-requires c = (search rules, starts_closing _ _)
 
 -- the last word, and the rows
 last : (c : goal.After-min)
-    → (c.word-word.result ≡ drawn_in (drawn_rows c.args.passes.items) + spent_in (drawn_rows c.args.passes.items)) × AreLawful c.self.inside.total (drawn_rows c.args.passes.items)
+    → (c.word-word.result ≡ drawn_in (drawn_rows c.args.passes.items) + spent_in (drawn_rows c.args.passes.items))
+    × AreLawful c.self.inside.total (drawn_rows c.args.passes.items)
 last c =
     let all = length-map c.args.passes.items (λ p. p.row) ∙ c.requires.all ∙ sym (ap (λ d. d.passes) c.self.view_is) in
-    let e = ends c.self.inside.table.shared.key _ _ (drawn_rows c.args.passes.items) _ _ _ c.take_in-closer.ensures.1 c.close_with-closed.ensures.values.2 all c.word-word.ensures in
+    let e = ends c.self.inside.table.shared.key _ _ (drawn_rows c.args.passes.items) _ _ _
+    c.reclaim-closer.ensures.1 c.close_with-closed.ensures.values.2 all c.word-word.ensures in
     (e.0, subst (λ (t : ℕ). AreLawful t (drawn_rows c.args.passes.items)) c.self.invariant.2 e.1)
 
 pub returns-clause-lawful : goal.returns-clause-lawful

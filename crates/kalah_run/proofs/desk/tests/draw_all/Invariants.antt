@@ -1,6 +1,6 @@
 use Rattle.std.proofs.Common.{◌-◌}
-use Rattle.kalah_run.specs.DeskRows.{least_above}
-use Rattle.kalah_run.specs.DeskStates.{IsPassAt}
+use Rattle.kalah_run.specs.Desk.Rows.{least_above}
+use Rattle.kalah_run.specs.Desk.States.{IsPassAt}
 use Rattle.kalah_run.proofs.desk.tests.draw_all.Given as goal
 
 abbrev pub invariant-loop-number : goal.invariant-loop-number

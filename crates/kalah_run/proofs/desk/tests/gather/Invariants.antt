@@ -1,5 +1,5 @@
 use Rattle.std.proofs.Common.{◌≡◌, ◌+◌, length, vec_len, All, IfOk}
-use Rattle.kalah_run.specs.DeskStates.{IsPassAt}
+use Rattle.kalah_run.specs.Desk.States.{IsPassAt}
 use Rattle.kalah_run.proofs.desk.tests.gather.Given as goal
 
 abbrev pub invariant-loop-answer : goal.invariant-loop-answer

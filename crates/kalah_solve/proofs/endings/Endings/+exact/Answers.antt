@@ -1,43 +1,57 @@
-use Rattle.std.proofs.Common.{arith, rules, ◌∙◌, ◌-◌}
-use Rattle.kalah_solve.proofs.MostTaken.{most_of_none, most_more, most_same, most_all, most_taken, after_again, after_turn}
-use Rattle.kalah_solve.proofs.Tries.{filled_legal}
+use Rattle.std.proofs.Common.{arith, rules, ◌-◌, ◌^◌}
+use Rattle.kalah_solve.proofs.RowMarks.{marks_fall}
+use Rattle.kalah_solve.proofs.Tries.{marked_legal, marks_fewer, last_legal}
+use Rattle.kalah_solve.proofs.MostTaken.{most_of_none, most_more, most_all, most_taken, after_again, after_turn}
 use Rattle.kalah_solve.proofs.endings.Endings.+exact.Goals as goal
-use Rattle.kalah_solve.proofs.endings.Endings.+exact.Goals.{most_taken-then-own-gt0+then-most-seeds, most_taken-else-own-gt0}
-use Rattle.kalah_solve.proofs.endings.Endings.+exact.Goals.{most_taken-else-own-gt0-via-then-own-gt0+else-most-seeds, most_taken-else-own-gt0-via-else-own-gt0}
 
-pub most_taken-loop-passed-init : goal.most_taken-loop-passed-init
-most_taken-loop-passed-init g t c = most_of_none c.args.houses.now c.m-m.result c.m-m.ensures.side
+pub most_taken-loop-left-init : goal.most_taken-loop-left-init
+most_taken-loop-left-init g t c =
+    let a = c.args.houses.now in
+    let marks = c.filled_houses-left.ensures in
+    record {
+      small = marks.small;
+      legal = λ i some. marked_legal a i marks.limits c.requires.going ((marks.marked i).0 some);
+      is = most_of_none a c.filled_houses-left.result marks.marked;
+    }
 
 pub most_taken-move_takes-requires : goal.most_taken-move_takes-requires
 most_taken-move_takes-requires g t c κs within =
-    let h = c.m-m.result - c.loop-passed.passed in
-    let has = filled_legal c.args.houses.now h c.requires.going (omega (arith, c.loop-passed-test.true)) (omega (arith, c.m-m.ensures.side)) (omega (arith, c.own.ensures.value, c.if-own-gt0.true)) in
+    let has = last_legal c.args.houses.now c.loop-left.left c.split_last-h.result.0 c.split_last-h.ensures.last c.loop-left.invariant.legal in
     (omega arith, (within, (has, c.requires.few)))
 
-pub most_taken-loop-passed-preserved : goal.most_taken-loop-passed-preserved
-most_taken-loop-passed-preserved g t c =
-    let a = c.args.houses.now in
-    let m = c.m-m.result in
-    let passed = c.loop-passed.passed in
-    let most = c.loop-passed.most in
-    let side = c.m-m.ensures in
-    let own = c.own.ensures.value in
-    let before = c.loop-passed.invariant in
-    elim c.if-own-gt0.branch [
-      | most_taken-then-own-gt0+then-most-seeds w ↦
-          let has = filled_legal a (m - passed) c.requires.going (omega (arith, c.loop-passed-test.true)) (omega (arith, side.side)) (omega (arith, own, w.if-own-gt0.true)) in
-          most_more a m passed most side.limits before w.move_takes.result c.if-own-gt0.most has w.move_takes.ensures (w.most-is ∙ search (rules, w.max-most.ensures))
-      | most_taken-else-own-gt0 w ↦ rw w.most-is (elim w.else-own-gt0.branch [
-        | most_taken-else-own-gt0-via-then-own-gt0+else-most-seeds w' ↦
-            most_all a m passed most side.limits before (omega (arith, c.seeds-seeds.ensures.seeds, w'.if-most-seeds.false))
-        | most_taken-else-own-gt0-via-else-own-gt0 w' ↦ most_same a m passed most side.limits before (omega (arith, own, w'.if-own-gt0.false))
-      ])
-    ]
+pub most_taken-returns-then-most-seeds : goal.most_taken-returns-then-most-seeds
+most_taken-returns-then-most-seeds g t c =
+    let marks = c.loop-left.left in
+    let h = c.split_last-h.result.0 in
+    let last = c.split_last-h.ensures.last in
+    let before = c.loop-left.invariant in
+    let limits = c.seeds-seeds.ensures.limits in
+    let has = last_legal c.args.houses.now marks h last before.legal in
+    most_all c.args.houses.now (marks - 32 ^ (h - 1)) c.max-most.result limits
+    (most_more c.args.houses.now marks c.loop-left.most h c.move_takes.result c.max-most.result limits before.is last has c.move_takes.ensures
+    (search (rules, c.max-most.ensures)))
+    (omega (arith, c.if-most-seeds.true, c.seeds-seeds.ensures.seeds))
+
+pub most_taken-loop-left-preserved : goal.most_taken-loop-left-preserved
+most_taken-loop-left-preserved g t c =
+    let marks = c.loop-left.left in
+    let h = c.split_last-h.result.0 in
+    let last = c.split_last-h.ensures.last in
+    let before = c.loop-left.invariant in
+    let has = last_legal c.args.houses.now marks h last before.legal in
+    rw c.split_last-h.ensures.rest (record {
+      small = omega (arith, before.small, marks_fall marks h last);
+      legal = marks_fewer c.args.houses.now marks h last before.legal;
+      is = most_more c.args.houses.now marks c.loop-left.most h c.move_takes.result c.max-most.result c.seeds-seeds.ensures.limits before.is last has c.move_takes.ensures
+          (search (rules, c.max-most.ensures));
+    })
+
+pub most_taken-loop-left-smaller : goal.most_taken-loop-left-smaller
+most_taken-loop-left-smaller g t c = rw c.split_last-h.ensures.rest (marks_fall c.loop-left.left c.split_last-h.result.0 c.split_last-h.ensures.last)
 
 pub most_taken-returns : goal.most_taken-returns
 most_taken-returns g t c =
-    most_taken c.args.houses.now c.m-m.result c.loop-passed.passed c.loop-passed.most c.seeds-seeds.ensures.limits c.requires.going c.loop-passed.invariant
-    c.loop-passed-test.false
+    most_taken c.args.houses.now c.loop-left.left c.loop-left.most c.seeds-seeds.ensures.limits c.requires.going c.loop-left.invariant.is (omega (arith, c.loop-left-test.false))
 
 pub move_takes-taken-requires : goal.move_takes-taken-requires
 move_takes-taken-requires g t c κs within =

@@ -1,121 +1,198 @@
-use Rattle.std.proofs.Common.{arith, refl, sym, ◌+◌, ◌-◌, subst, inl, inr}
-use Rattle.std.proofs.lemmas.Bool.{cases_eq}
-use Rattle.std.proofs.lemmas.Grind.{common_steps}
-use Rattle.kalah_rules.specs.Position.{bare}
-use Rattle.kalah_rules.proofs.Legal.{legal_holds}
-use Rattle.kalah_solve.specs.Tried.{EndsInStore, FallsShort}
+use Rattle.std.proofs.Common.{arith, rules, refl, sym, ◌≡◌, ◌+◌, ◌-◌, subst}
+use Rattle.std.specs.Prelude.{max}
+use Rattle.kalah_solve.specs.StepWorth.{GoesOn, GoesOnAt}
+use Rattle.kalah_solve.specs.Taken.{taken}
+use Rattle.kalah_solve.proofs.RowMarks.{cell_none, marks_fall}
 use Rattle.kalah_solve.proofs.StepWorths.{goes_on, step_falls}
-use Rattle.kalah_solve.proofs.Tries.{filled_legal, move_enough, short_of, says_short, says_enough, ranked_none, ranked_more, ranked_same, untried_fewer, none_untried}
+use Rattle.kalah_solve.proofs.Takings.{taken_share}
+use Rattle.kalah_solve.proofs.Tries.{move_enough, turn_enough, turn_at_most, bound_up_to, bound_left, low_more, ranked_none, ranked_more, ranked_bound, ending_legal, marked_legal, marks_fewer, last_legal, again_none, again_fewer, untried_first, untried_fewer, none_untried}
 use Rattle.kalah_solve.proofs.search.Search.+search.Goals as goal
-use Rattle.kalah_solve.proofs.search.Search.+search.Goals.{again_reaches-else-ends_in_store-via-then-ends_in_store+else-move_reaches, again_reaches-else-ends_in_store-via-else-ends_in_store, others_waiting-then-own-gt0+then-not-ends_in_store+in_ok-ranks, others_waiting-else-own-gt0, others_waiting-else-own-gt0-via-then-own-gt0+else-not-ends_in_store, others_waiting-else-own-gt0-via-else-own-gt0}
 
-pub again_reaches-loop-passed-init : goal.again_reaches-loop-passed-init
-again_reaches-loop-passed-init g t c = λ h has past. absurd (omega (arith, c.m-m.ensures.side, (legal_holds (bare c.args.houses.now) h has).last))
+pub bound_move-bound_step-requires : goal.bound_move-bound_step-requires
+bound_move-bound_step-requires g t c κs within =
+    let limits = c.seeds-seeds.ensures.limits in (
+      omega (arith, step_falls c.args.houses.now c.args.h c.play-step.result limits c.requires.legal c.play-step.ensures),
+      (within, goes_on c.args.houses.now c.args.h c.play-step.result limits c.requires.legal c.play-step.ensures),
+    )
 
-pub again_reaches-returns-clause-no : goal.again_reaches-returns-clause-no
-again_reaches-returns-clause-no g t c = λ e h has ends. c.loop-passed.invariant h has (omega (arith, (legal_holds (bare c.args.houses.now) h has).first)) ends
+pub look-bound_step-requires : goal.look-bound_step-requires
+look-bound_step-requires g t c κs within =
+    let limits = c.seeds-seeds.ensures.limits in (
+      omega (arith, step_falls c.args.houses.now c.args.h c.play-step.result limits c.requires.legal c.play-step.ensures),
+      (within, goes_on c.args.houses.now c.args.h c.play-step.result limits c.requires.legal c.play-step.ensures),
+    )
 
-pub others_waiting-loop-h-init : goal.others_waiting-loop-h-init
-others_waiting-loop-h-init g t c = ranked_none c.args.houses.now c.args.bar
+pub bound_step-overflow_add-result : goal.bound_step-overflow_add-result
+bound_step-overflow_add-result g t c =
+    let on : GoesOnAt c.in-Again.gained c.in-Again.next = subst GoesOn c.in-Again.is c.requires.on in
+    omega (arith, on.few, (taken_share c.in-Again.next on.limits).few, c.if-bar-gained.false, bound_up_to _ _ _ c.bound.ensures)
 
-pub again_reaches-move_reaches-requires : goal.again_reaches-move_reaches-requires
-again_reaches-move_reaches-requires g t c κs within =
-    let m = c.m-m.ensures in
-    let h = c.m-m.result - c.loop-passed.passed in
-    let ends = c.if-ends_in_store.ensures.0 refl in
-    (omega arith, (within, filled_legal c.args.houses.now h c.requires.going (omega arith) (omega (arith, m.side)) (omega (arith, m.side, ends))))
+pub bound_turn-overflow_sub-result : goal.bound_turn-overflow_sub-result
+bound_turn-overflow_sub-result g t c =
+    let few = (taken_share c.args.next.now c.requires.on.limits).few in
+    omega (arith, few, c.seeds.ensures.seeds, c.if-bar-gained.false, c.if-all-bar.false, bound_up_to _ _ _ c.bound.ensures)
 
-pub again_reaches-returns-then-move_reaches-clause-yes : goal.again_reaches-returns-then-move_reaches-clause-yes
-again_reaches-returns-then-move_reaches-clause-yes g t c = λ told.
-    let m = c.m-m.ensures in
-    let h = c.m-m.result - c.loop-passed.passed in
-    let ends = c.if-ends_in_store.ensures.0 refl in
-    let has = filled_legal c.args.houses.now h c.requires.going (omega arith) (omega (arith, m.side)) (omega (arith, m.side, ends)) in
-    move_enough c.args.houses.now c.args.bar h m.limits has (c.if-move_reaches.ensures.0 refl)
+pub bound_turn-returns-else-all-bar : goal.bound_turn-returns-else-all-bar
+bound_turn-returns-else-all-bar g t c =
+    let few = (taken_share c.args.next.now c.requires.on.limits).few in
+    bound_left c.args.bar (c.args.gained + c.seeds.result) _ c.args.gained (taken c.args.next.now) c.bound.result (omega (arith, c.seeds.ensures.seeds)) few
+    c.if-bar-gained.false c.if-all-bar.false c.bound.ensures
 
-pub again_reaches-loop-passed-preserved : goal.again_reaches-loop-passed-preserved
-again_reaches-loop-passed-preserved g t c = λ h has past ends. elim (cases_eq h (c.m-m.result - c.loop-passed.passed)) [
-  | inr other ↦ c.loop-passed.invariant h has (omega (arith, past, other)) ends
-  | inl same ↦ elim c.else-ends_in_store.branch [
-    | again_reaches-else-ends_in_store-via-then-ends_in_store+else-move_reaches w ↦
-        subst (FallsShort c.args.houses.now c.args.bar) (sym same) (short_of _ c.args.bar _ w.if-move_reaches.ensures refl)
-    | again_reaches-else-ends_in_store-via-else-ends_in_store w ↦
-        absurd (let there = w.if-ends_in_store.ensures.1 (subst (EndsInStore c.args.houses.now) same ends) in cc)
-  ]
-]
+pub explore-returns-then-bar-bound : goal.explore-returns-then-bar-bound
+explore-returns-then-bar-bound g t c =
+    let a = c.args.houses.now in
+    let turn = c.loop-ranks.invariant.untried.waiting.each c.loop-ranks.at (omega (arith, c.loop-ranks-test.true)) c.index-turns-at.result in
+    record {
+      lower = turn_enough a c.args.bar (c.loop-ranks.at + 1) _ _ c.seeds-seeds.ensures.limits turn c.bound_turn-bound.ensures;
+      upper = λ short. absurd (omega (arith, short, c.if-bar-bound.true));
+    }
 
-pub explore-returns-then-move_reaches : goal.explore-returns-then-move_reaches
-explore-returns-then-move_reaches g t c =
-    let has = c.loop-waiting.invariant.untried.legal c.loop-waiting.at (omega (arith, c.loop-waiting-test.true)) in
-    says_enough c.args.bar _ (move_enough c.args.houses.now c.args.bar (c.loop-waiting.at + 1) c.seeds-seeds.ensures.limits has (c.if-move_reaches.ensures.0 refl))
-
-pub explore-loop-waiting-preserved : goal.explore-loop-waiting-preserved
-explore-loop-waiting-preserved g t c = record {
-  place = c.highest-at-in-loop-waiting.ensures.place;
-  highest = c.highest-at-in-loop-waiting.ensures.highest;
-  untried = untried_fewer c.args.houses.now c.args.bar c.loop-waiting.waiting c.loop-waiting.at c.loop-waiting.invariant.untried c.loop-waiting.invariant.place
-      (short_of _ c.args.bar _ c.if-move_reaches.ensures refl);
-}
+pub explore-loop-ranks-preserved : goal.explore-loop-ranks-preserved
+explore-loop-ranks-preserved g t c =
+    let before = c.loop-ranks.invariant in
+    let turn = before.untried.waiting.each c.loop-ranks.at (omega (arith, c.loop-ranks-test.true)) c.index-turns-at.result in
+    record {
+      low = omega (arith, c.max-most-in-loop-ranks.ensures, before.low, c.if-bar-bound.false);
+      place = c.highest-at-in-loop-ranks.ensures.place;
+      highest = c.highest-at-in-loop-ranks.ensures.highest;
+      untried = untried_fewer c.args.houses.now c.loop-ranks.most c.loop-ranks.ranks c.others_waiting-others.new.turns c.loop-ranks.at
+          c.bound_turn-bound.result _ before.untried before.place
+          (turn_at_most c.args.houses.now c.args.bar (c.loop-ranks.at + 1) _ _ turn c.bound_turn-bound.ensures c.if-bar-bound.false) c.max-most-in-loop-ranks.ensures;
+    }
 
 pub explore-returns : goal.explore-returns
 explore-returns g t c =
-    let is = c.loop-waiting.invariant in
-    says_short c.args.bar _ (none_untried c.args.houses.now c.args.bar c.loop-waiting.waiting c.loop-waiting.at c.seeds-seeds.ensures.limits c.requires.going
-    is.untried is.highest (omega (arith, c.loop-waiting-test.false)))
+    let is = c.loop-ranks.invariant in
+    record {
+      lower = λ enough. absurd (omega (arith, enough, is.low));
+      upper = λ short. none_untried c.args.houses.now c.loop-ranks.most c.loop-ranks.ranks c.others_waiting-others.new.turns c.loop-ranks.at c.seeds-seeds.ensures.limits c.requires.going
+          is.untried is.highest (omega (arith, c.loop-ranks-test.false));
+    }
 
-pub move_reaches-step_reaches-requires : goal.move_reaches-step_reaches-requires
-move_reaches-step_reaches-requires g t c κs within =
-    let limits = c.seeds-seeds.ensures.limits in (
-      omega (arith, step_falls c.args.houses.now c.args.h c.play-step.result limits c.requires.legal c.play-step.ensures),
-      (within, goes_on c.args.houses.now c.args.h c.play-step.result limits c.requires.legal c.play-step.ensures),
-    )
+pub explore-bound_turn-bound-requires : goal.explore-bound_turn-bound-requires
+explore-bound_turn-bound-requires g t c κs within =
+    let a = c.args.houses.now in
+    let limits = c.seeds-seeds.ensures.limits in
+    let turn = c.loop-ranks.invariant.untried.waiting.each c.loop-ranks.at (omega (arith, c.loop-ranks-test.true)) c.index-turns-at.result in
+    (omega (arith, step_falls a (c.loop-ranks.at + 1) _ limits turn.legal (sym turn.step)), (within, goes_on a (c.loop-ranks.at + 1) _ limits turn.legal (sym turn.step)))
 
-pub reaches-learn-requires : goal.reaches-learn-requires
-reaches-learn-requires g t c = c.learned.ensures.held _ c.known-known.ensures c.explore-reached.ensures
+pub bound_again-loop-left-init : goal.bound_again-loop-left-init
+bound_again-loop-left-init g t c =
+    let a = c.args.houses.now in
+    let marks = c.again_houses-left.ensures in
+    record {
+      small = marks.small;
+      low = λ enough. refl;
+      legal = λ i some. let both = (marks.marked i).0 some in ending_legal a i marks.limits c.requires.going both.0 both.1;
+      tried = again_none a 0 c.again_houses-left.result marks.marked;
+    }
 
-pub others_waiting-rank-requires : goal.others_waiting-rank-requires
-others_waiting-rank-requires g t c κs within =
-    let some = c.own.ensures.value in
-    (omega arith, (within, filled_legal c.args.houses.now c.loop-h.h c.requires.going (omega arith) (omega (arith, c.m-h-end.ensures.side)) (omega (arith, some, c.if-own-gt0.true))))
+pub bound_again-bound_move-bound-requires : goal.bound_again-bound_move-bound-requires
+bound_again-bound_move-bound-requires g t c κs within =
+    (omega arith, (within, last_legal c.args.houses.now c.loop-left.left c.split_last-h.result.0 c.split_last-h.ensures.last c.loop-left.invariant.legal))
 
-pub others_waiting-returns-in_err-ranks-clause-none : goal.others_waiting-returns-in_err-ranks-clause-none
-others_waiting-returns-in_err-ranks-clause-none g t c = λ none.
-    let some = c.own.ensures.value in
-    let has = filled_legal c.args.houses.now c.loop-h.h c.requires.going (omega arith) (omega (arith, c.m-h-end.ensures.side)) (omega (arith, some, c.if-own-gt0.true)) in
-    move_enough c.args.houses.now c.args.bar c.loop-h.h c.m-h-end.ensures.limits has (c.rank.ensures.none (rw c.in_err-ranks.was refl))
+pub bound_again-returns-then-bar-bound-clause-lower : goal.bound_again-returns-then-bar-bound-clause-lower
+bound_again-returns-then-bar-bound-clause-lower g t c =
+    let has = last_legal c.args.houses.now c.loop-left.left c.split_last-h.result.0 c.split_last-h.ensures.last c.loop-left.invariant.legal in
+    move_enough c.args.houses.now c.args.bar c.split_last-h.result.0 _ c.again_houses-left.ensures.limits has c.bound_move-bound.ensures
 
-pub others_waiting-loop-h-preserved : goal.others_waiting-loop-h-preserved
-others_waiting-loop-h-preserved g t c = elim c.if-own-gt0.branch [
-  | others_waiting-then-own-gt0+then-not-ends_in_store+in_ok-ranks w ↦
-      let some = c.own.ensures.value in
-      let side = c.m-h-end.ensures in
-      let has = filled_legal c.args.houses.now c.loop-h.h c.requires.going (omega arith) (omega (arith, side.side)) (omega (arith, some, w.if-own-gt0.true)) in
-      rw w.ranks-is (ranked_more c.args.houses.now c.args.bar c.loop-h.h c.loop-h.ranks w.in_ok-ranks.field-0 c.loop-h.invariant
-      (omega arith) (omega (arith, side.side, side.limits.at_most_six)) has w.in_ok-ranks.ensures.short)
-  | others_waiting-else-own-gt0 w ↦ rw w.ranks-is (ranked_same c.args.houses.now c.args.bar c.loop-h.h c.loop-h.ranks c.loop-h.invariant (λ has. elim w.else-own-gt0.branch [
-    | others_waiting-else-own-gt0-via-then-own-gt0+else-not-ends_in_store w' ↦ w'.if-not-ends_in_store.ensures.0 refl
-    | others_waiting-else-own-gt0-via-else-own-gt0 w' ↦
-        let none = c.own.ensures.value in
-        absurd (omega (arith, none, w'.if-own-gt0.false, (legal_holds (bare c.args.houses.now) c.loop-h.h has).some))
-  ]))
-]
+pub bound_again-loop-left-preserved : goal.bound_again-loop-left-preserved
+bound_again-loop-left-preserved g t c =
+    let a = c.args.houses.now in
+    let marks = c.loop-left.left in
+    let h = c.split_last-h.result.0 in
+    let last = c.split_last-h.ensures.last in
+    let before = c.loop-left.invariant in
+    let new_is : c.max-most.result ≡ max c.loop-left.most c.bound_move-bound.result = search (rules, c.max-most.ensures) in
+    rw c.split_last-h.ensures.rest (record {
+      small = omega (arith, before.small, marks_fall marks h last);
+      low = low_more c.args.bar c.loop-left.most c.bound_move-bound.result c.max-most.result before.low c.if-bar-bound.false new_is;
+      legal = marks_fewer a marks h last before.legal;
+      tried = again_fewer a c.loop-left.most marks h c.bound_move-bound.result c.max-most.result before.tried last (c.bound_move-bound.ensures.upper c.if-bar-bound.false) new_is;
+    })
 
-pub others_waiting-returns-clause-some : goal.others_waiting-returns-clause-some
-others_waiting-returns-clause-some g t c = record {
-  legal = λ k some. (c.loop-h.invariant.legal k some).1;
-  others = λ h has none apart.
-      c.loop-h.invariant.others h has (omega (arith, (legal_holds (bare c.args.houses.now) h has).last, c.m-h-end.ensures.side, c.loop-h-test.false)) none apart;
-}
+pub bound_again-loop-left-smaller : goal.bound_again-loop-left-smaller
+bound_again-loop-left-smaller g t c = rw c.split_last-h.ensures.rest (marks_fall c.loop-left.left c.split_last-h.result.0 c.split_last-h.ensures.last)
 
-pub rank-step_reaches-requires : goal.rank-step_reaches-requires
-rank-step_reaches-requires g t c κs within =
-    let limits = c.seeds-seeds.ensures.limits in (
-      omega (arith, step_falls c.args.houses.now c.args.h c.play-step.result limits c.requires.legal c.play-step.ensures),
-      (within, goes_on c.args.houses.now c.args.h c.play-step.result limits c.requires.legal c.play-step.ensures),
-    )
+pub bound_again-returns-clause-upper : goal.bound_again-returns-clause-upper
+bound_again-returns-clause-upper g t c = λ short h has ends.
+    let none : c.loop-left.left ≡ 0 = omega (arith, c.loop-left-test.false) in
+    c.loop-left.invariant.tried h has ends (rw none (cell_none (h - 1)))
 
-pub rank-returns-in-Some-clause-short : goal.rank-returns-in-Some-clause-short
-rank-returns-in-Some-clause-short g t c = λ none. absurd (omega (arith, none, (legal_holds (bare c.args.houses.now) c.args.h c.requires.legal).first))
+pub others_waiting-loop-left-init : goal.others_waiting-loop-left-init
+others_waiting-loop-left-init g t c =
+    let a = c.args.houses.now in
+    let marks = c.other_houses-left.ensures in
+    record {
+      small = marks.small;
+      low = λ enough. refl;
+      legal = λ i some. marked_legal a i marks.limits c.requires.going ((marks.marked i).0 some).0;
+      ranked = ranked_none a 0 c.other_houses-left.result _ _ (search rules) (search rules) c.requires.none marks.marked;
+    }
 
-pub explore-loop-waiting-smaller : goal.explore-loop-waiting-smaller
-explore-loop-waiting-smaller g t c = grind (arith, common_steps)
+pub others_waiting-look-requires : goal.others_waiting-look-requires
+others_waiting-look-requires g t c κs within =
+    (omega arith, (within, last_legal c.args.houses.now c.loop-left.left c.split_last-h.result.0 c.split_last-h.ensures.last c.loop-left.invariant.legal))
+
+pub others_waiting-returns-then-bar-bound : goal.others_waiting-returns-then-bar-bound
+others_waiting-returns-then-bar-bound g t c =
+    let has = last_legal c.args.houses.now c.loop-left.left c.split_last-h.result.0 c.split_last-h.ensures.last c.loop-left.invariant.legal in
+    record {
+      lower = move_enough c.args.houses.now c.args.bar c.split_last-h.result.0 _ c.other_houses-left.ensures.limits has c.in-Bounded.ensures;
+      waiting = c.loop-left.invariant.ranked.waiting.each;
+      others = λ short. absurd (omega (arith, short, c.if-bar-bound.true));
+    }
+
+pub others_waiting-loop-left-preserved : goal.others_waiting-loop-left-preserved
+others_waiting-loop-left-preserved g t c =
+    let a = c.args.houses.now in
+    let marks = c.loop-left.left in
+    let h = c.split_last-h.result.0 in
+    let last = c.split_last-h.ensures.last in
+    let before = c.loop-left.invariant in
+    let new_is : c.max-most.result ≡ max c.loop-left.most c.in-Bounded.bound = search (rules, c.max-most.ensures) in
+    rw c.split_last-h.ensures.rest (record {
+      small = omega (arith, before.small, marks_fall marks h last);
+      low = low_more c.args.bar c.loop-left.most c.in-Bounded.bound c.max-most.result before.low c.if-bar-bound.false new_is;
+      legal = marks_fewer a marks h last before.legal;
+      ranked = ranked_bound a c.loop-left.most marks h c.loop-left.ranks c.loop-left.turns before.ranked last c.in-Bounded.bound c.max-most.result
+          (c.in-Bounded.ensures.upper c.if-bar-bound.false) new_is;
+    })
+
+pub others_waiting-loop-left-smaller : goal.others_waiting-loop-left-smaller
+others_waiting-loop-left-smaller g t c = rw c.split_last-h.ensures.rest (marks_fall c.loop-left.left c.split_last-h.result.0 c.split_last-h.ensures.last)
+
+pub others_waiting-returns : goal.others_waiting-returns
+others_waiting-returns g t c =
+    let none : c.loop-left.left ≡ 0 = omega (arith, c.loop-left-test.false) in
+    record {
+      lower = λ enough. omega (arith, c.loop-left.invariant.low enough);
+      waiting = c.loop-left.invariant.ranked.waiting.each;
+      others = λ short h has. c.loop-left.invariant.ranked.others h has (rw none (cell_none (h - 1)));
+    }
+
+pub others_waiting-loop-left-preserved-in-Waits : goal.others_waiting-loop-left-preserved-in-Waits
+others_waiting-loop-left-preserved-in-Waits g t c =
+    let a = c.args.houses.now in
+    let marks = c.loop-left.left in
+    let h = c.split_last-h.result.0 in
+    let last = c.split_last-h.ensures.last in
+    let before = c.loop-left.invariant in
+    rw c.split_last-h.ensures.rest (record {
+      small = omega (arith, before.small, marks_fall marks h last);
+      low = before.low;
+      legal = marks_fewer a marks h last before.legal;
+      ranked = ranked_more a c.loop-left.most marks h c.loop-left.ranks c.loop-left.turns before.ranked last c.in-Waits.rank c.in-Waits.turn
+          c.in-Waits.ensures.0 c.in-Waits.ensures.1;
+    })
+
+pub explore-loop-ranks-init : goal.explore-loop-ranks-init
+explore-loop-ranks-init g t c =
+    let others = c.others_waiting-others.ensures in
+    let most_is : c.max-most.result ≡ max c.bound_again-again.result c.others_waiting-others.result = search (rules, c.max-most.ensures) in
+    record {
+      low = omega (arith, most_is, c.if-bar-again.false, c.if-bar-others.false);
+      place = c.highest-at.ensures.place;
+      highest = c.highest-at.ensures.highest;
+      untried = untried_first c.args.houses.now c.args.bar _ _ _ _ c.max-most.result (search rules) others (c.bound_again-again.ensures.upper c.if-bar-again.false) c.if-bar-others.false most_is;
+    }

@@ -1,0 +1,27 @@
+-- What `kalah ask` writes. Which bytes the standard input has no contract knows.
+use Rattle.std.specs.Prelude.{◌≡◌, ◌↔◌, ℕ, List, Option, true}
+use Rattle.std.specs.Io.KnownBytes.{Appends}
+use Rattle.kalah_jobs.specs.Asking.Asked.{answers_to, are_all_read}
+use Rattle.kalah_jobs.specs.Writing.Given.{AppendsStart}
+use Rattle.kalah_jobs.specs.Writing.Splitting.{EndsWithItsLine}
+use Rattle.kalah_jobs.specs.declared.files.question.Question.{Question}
+use Rattle.kalah_cli.specs.declared.status.ExitStatus.{ExitStatus}
+use Rattle.kalah_cli.specs.declared.status.ExitStatus.TheVariants.{Clean}
+
+-- some bytes were read, and between the two states the answers to their lines were written, where this is asked of positions, and
+-- nothing else was; the status is clean exactly where no line is a fault
+pub record AnswersLines (question : Question) (old new : Option (List ℕ)) (status : ExitStatus) : Type 0 where
+  pub read : List ℕ
+  pub written : Appends old new (answers_to question read)
+  pub clean : status ≡ Clean ↔ are_all_read read ≡ true
+
+-- a beginning of these answers was written, and nothing else
+pub record BeginsLines (question : Question) (old new : Option (List ℕ)) : Type 0 where
+  pub read : List ℕ
+  pub start : AppendsStart old new (answers_to question read)
+
+-- the answers to lines that were read whole were written, and nothing else
+pub record StopsBetweenLines (question : Question) (old new : Option (List ℕ)) : Type 0 where
+  pub lines : List ℕ
+  pub ended : EndsWithItsLine lines
+  pub written : Appends old new (answers_to question lines)

@@ -1,0 +1,2 @@
+pub mod AnswersTo
+pub mod Underway

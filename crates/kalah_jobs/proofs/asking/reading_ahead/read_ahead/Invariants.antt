@@ -1,0 +1,7 @@
+use Rattle.std.specs.Io.KnownBytes.{Keeps}
+use Rattle.std.specs.Io.Buffered.{reader_remaining}
+use Rattle.kalah_jobs.proofs.asking.reading_ahead.read_ahead.Given as goal
+
+-- the reader has left what it had
+abbrev pub invariant-loop : goal.invariant-loop
+invariant-loop g l = Keeps (reader_remaining g.I.Read.remaining l.fn.input) (reader_remaining g.I.Read.remaining l.input)

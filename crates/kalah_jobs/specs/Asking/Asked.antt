@@ -1,0 +1,85 @@
+-- What is written where lines come one after another, and each is answered. A reader is seen as the bytes that it has left, and a
+-- sink as those that were written to it, before and after, where these are known.
+use Rattle.std.specs.Prelude.{◌≡◌, ℕ, ◌+◌, ◌≤◌, List, [], ◌∷◌, ◌++◌, Bool, true, not, IfSome, Option, None, Some, length, take, codes, decimal}
+use Rattle.std.specs.List.{flat_map, enumerate_from, list_any}
+use Rattle.std.specs.Io.KnownBytes.{Appends, Consumes}
+use Rattle.kalah_jobs.specs.declared.files.question.Question.{Question}
+use Rattle.kalah_jobs.specs.Line.Line.{most_bytes}
+use Rattle.kalah_jobs.specs.Files.Lines.{line_feed, lines_of, HasNoLineFeed}
+use Rattle.kalah_jobs.specs.Files.NamedBytes.{NamedBytes}
+use Rattle.kalah_jobs.specs.Files.Question.{entry_to}
+use Rattle.kalah_jobs.specs.Writing.Answer.{answer_of, answer_words}
+use Rattle.kalah_jobs.specs.Writing.Output.{is_faulty, output_to, line_output}
+use Rattle.kalah_jobs.specs.Writing.Splitting.{EndsWithItsLine}
+
+-- so many bytes of a line tell what it says: a line of which they are kept, with its CR or not, is too long
+abbrev pub kept_bytes : ℕ
+kept_bytes = most_bytes + 2
+
+-- a byte, or none, as a list
+abbrev pub bytes_of : Option ℕ → List ℕ
+bytes_of None = []
+bytes_of (Some byte) = byte ∷ []
+
+-- the answer to a line, and a line feed
+abbrev pub told : Question → List ℕ → List ℕ
+told question line = answer_words (answer_of (entry_to question line)) ++ line_feed ∷ []
+
+-- the answer to what stands behind the last line feed, if anything does, and whether it is read
+abbrev pub told_last : Question → List ℕ → List ℕ
+told_last question [] = []
+told_last question (byte ∷ line) = told question (byte ∷ line)
+
+abbrev pub is_last_read : List ℕ → Bool
+is_last_read [] = true
+is_last_read (byte ∷ line) = not (is_faulty (byte ∷ line))
+
+-- for each of the lines of the bytes, in order, its answer
+unfoldable pub answers_to : Question → List ℕ → List ℕ
+answers_to question bytes = flat_map (told question) (lines_of bytes)
+
+-- no line of the bytes is answered by a fault
+abbrev pub are_all_read : List ℕ → Bool
+are_all_read bytes = not (list_any is_faulty (lines_of bytes))
+
+-- Some bytes were read, which are all that there were, and the answers to their lines were written, and nothing else was.
+pub record IsAnswered (question : Question) (before after old new : Option (List ℕ)) (all_read : Bool) : Type 0 where
+  pub read : List ℕ
+  pub taken : Consumes before after read
+  pub all : IfSome before (λ bytes. read ≡ bytes)
+  pub written : Appends old new (answers_to question read)
+  pub status : all_read ≡ are_all_read read
+
+-- Lines were read, and then a part of the next one. The answers to the lines were written, and nothing else was.
+pub record IsCutOff (question : Question) (before after old new : Option (List ℕ)) : Type 0 where
+  pub lines : List ℕ
+  pub part : List ℕ
+  pub ended : EndsWithItsLine lines
+  pub unended : HasNoLineFeed part
+  pub taken : Consumes before after (lines ++ part)
+  pub written : Appends old new (answers_to question lines)
+
+-- Lines were read, and then no more than one. The answers to the lines were written, then a beginning of the answer to that one,
+-- and nothing else was.
+pub record IsBegun (question : Question) (before after old new : Option (List ℕ)) : Type 0 where
+  pub lines : List ℕ
+  pub last : List ℕ
+  pub ended : EndsWithItsLine lines
+  pub one : length (lines_of last) ≤ 1
+  pub taken : Consumes before after (lines ++ last)
+  pub count : ℕ
+  pub written : Appends old new (answers_to question lines ++ take count (answers_to question last))
+
+-- what stands before the answer in the answer line of a line, given with its number, which counts from 0: `NAME:LINE `
+abbrev pub place_words : List ℕ → ℕ → List ℕ
+place_words name number = name ++ (codes ":" ++ (decimal (number + 1) ++ codes " "))
+
+-- What is written for lines that are asked of is what is written for a file with these bytes, but for what stands before each
+-- answer; and what begins with whole lines is answered as they are, and then as the rest is.
+pub record AnswersAreThoseOfAFile : Type 0 where
+  pub lines : (question : Question) (name : List ℕ) (number : ℕ) (line : List ℕ) →
+      line_output question name (number, line) ≡ place_words name number ++ told question line
+  pub file : (question : Question) (file : NamedBytes) →
+      output_to question (file ∷ []) ≡ flat_map (λ p. place_words file.name p.0 ++ told question p.1) (enumerate_from 0 (lines_of file.bytes))
+  pub parts : (question : Question) (lines more : List ℕ) → EndsWithItsLine lines →
+      answers_to question (lines ++ more) ≡ answers_to question lines ++ answers_to question more

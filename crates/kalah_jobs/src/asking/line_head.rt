@@ -1,0 +1,55 @@
+//! The first bytes of a line.
+ghost use Rattle.std.specs.Prelude.{◌≡◌, ◌∷◌, [], ◌++◌, length, take, ◌==◌};
+ghost use Rattle.kalah_jobs.specs.Asking.Asked.{kept_bytes};
+
+use crate::line::reading::MOST_BYTES;
+use std::marker::Model;
+
+/// How many bytes of a line are kept: with its CR, one more than a line has that is not too long.
+const ROOM: usize = MOST_BYTES + 2;
+
+/// The first bytes of a line: enough of them to tell what it says, however long it is. It is seen as these bytes.
+#[derive(Drop)]
+pub(crate) struct LineHead {
+    bytes: [u8; ROOM],
+    len: usize,
+}
+
+impl Model for LineHead {
+    ghost use Rattle.std.specs.Prelude.{◌≡◌, ◌≤◌, ℕ, List, length, take};
+
+    ghost Value = { List ℕ };
+
+    ghost view = { λ h. take h.len h.bytes };
+
+    ghost invariant = { λ h. (length h.bytes ≡ 82) × (h.len ≤ 82) };
+}
+
+impl LineHead {
+    // A line without a byte.
+    pub(crate) fn new() -> LineHead
+        ensures { result ≡ [] }
+    {
+        LineHead {
+            bytes: [0; ROOM],
+            len: 0,
+        }
+    }
+
+    // One byte more of the line, which is kept where there is room.
+    pub(crate) fn push(&mut self, byte: u8)
+        ensures { self.new ≡ take kept_bytes (self.old ++ byte ∷ []) }
+    {
+        if self.len < ROOM {
+            self.bytes[self.len] = byte;
+            self.len += 1;
+        }
+    }
+
+    // The bytes.
+    pub(crate) fn bytes(&self) -> &[u8]
+        ensures { result.now ≡ self.now }
+    {
+        &self.bytes[..self.len]
+    }
+}

@@ -1,0 +1,83 @@
+//! The answer to one line.
+ghost use Rattle.std.specs.Prelude.{◌≡◌, ◌↔◌, not, true, false, IfErr, IfOk, IsErrOf, OnOk};
+ghost use Rattle.std.specs.Io.KnownBytes.{Appends};
+ghost use Rattle.kalah_jobs.specs.Asking.Asked.{is_last_read, told, told_last};
+ghost use Rattle.kalah_jobs.specs.Writing.Answer.{is_fault};
+ghost use Rattle.kalah_jobs.specs.Writing.Given.{AppendsStart};
+ghost use Rattle.kalah_jobs.specs.Writing.Output.{is_faulty};
+
+use crate::asking::ask_fault::AskFault;
+use crate::asking::line_head::LineHead;
+use crate::asking::reading_ahead::hand_on;
+use crate::collecting::outcome::Outcome;
+use crate::files::entry::Entry;
+use crate::files::question::Question;
+use crate::writing::answer::Answer;
+use crate::writing::ending::words_of;
+use crate::writing::sink::Sink;
+use kalah_solve::Solver;
+
+// The most seeds in houses of a position that is answered before earlier answers are handed on.
+const FEW_SEEDS: u8 = 9;
+
+// Whether the answer may take a while.
+fn takes_long(entry: &Entry) -> bool {
+    match entry {
+        Entry::Position(board) | Entry::ValuesOf(board) => board.houses().seeds() > FEW_SEEDS,
+        Entry::Bad(_) => false,
+    }
+}
+
+// Whether the answer is to a line that was read.
+fn is_read(answer: &Answer) -> bool
+    ensures { result ≡ not (is_fault answer.now) }
+{
+    !matches!(answer, Answer::Fault(_))
+}
+
+// Writes the answer to a line, and a line feed, and tells whether the line was read.
+#[tactic(auto, using(crate::proofs::OfWriting::JobOutput::asked_fault))]
+pub(crate) fn tell<O: Sink>(
+    line: &LineHead,
+    question: Question,
+    solver: &mut Solver,
+    out: &mut O,
+) -> Result<bool, AskFault>
+    requires { O.has_failed out.old ≡ false }
+    ensures told { OnOk result (Appends (O.written out.old) (O.written out.new) (told question line.now)) }
+    ensures start { AppendsStart (O.written out.old) (O.written out.new) (told question line.now) }
+    ensures read { IfOk result (λ is_read. is_read ≡ not (is_faulty line.now)) }
+    ensures failed { O.has_failed out.new ≡ true ↔ IsErrOf result AskFault.Write }
+    ensures fault { IfErr result (λ fault. fault ≡ AskFault.Write) }
+{
+    let entry = Entry::of_line(question, line.bytes());
+    if takes_long(&entry) {
+        hand_on(out)?;
+    }
+    let answer = Outcome::of(0, 0, entry, solver).answer();
+    match out.write_all(words_of(&answer, "\n").bytes()) {
+        Ok(()) => Ok(is_read(&answer)),
+        Err(_) => Err(AskFault::Write),
+    }
+}
+
+// Writes the answer to what stands behind the last line feed, if anything does, and hands all on. It tells whether the line was
+// read, if there is one.
+pub(crate) fn tell_last<O: Sink>(
+    line: &LineHead,
+    question: Question,
+    solver: &mut Solver,
+    out: &mut O,
+) -> Result<bool, AskFault>
+    requires { O.has_failed out.old ≡ false }
+    ensures told { OnOk result (Appends (O.written out.old) (O.written out.new) (told_last question line.now)) }
+    ensures start { AppendsStart (O.written out.old) (O.written out.new) (told_last question line.now) }
+    ensures read { IfOk result (λ is_read. is_read ≡ is_last_read line.now) }
+    ensures handed_on { OnOk result (O.is_handed_on out.new ≡ true) }
+    ensures failed { O.has_failed out.new ≡ true ↔ IsErrOf result AskFault.Write }
+    ensures fault { IfErr result (λ fault. fault ≡ AskFault.Write) }
+{
+    let is_read = line.bytes().is_empty() || tell(line, question, solver, out)?;
+    hand_on(out)?;
+    Ok(is_read)
+}

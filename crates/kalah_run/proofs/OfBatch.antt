@@ -1,0 +1,9 @@
+pub mod Sendings
+pub mod Giving
+pub mod Progress
+pub mod Outputs
+pub mod PutTogether
+pub mod WorkerRuns
+pub mod Ends
+pub mod NoLine
+pub mod Crossing

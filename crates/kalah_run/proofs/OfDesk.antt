@@ -1,0 +1,7 @@
+pub mod Sums
+pub mod Draws
+pub mod Seats
+pub mod Ends
+pub mod Once
+pub mod Spent
+pub mod Law

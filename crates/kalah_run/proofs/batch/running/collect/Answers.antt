@@ -1,0 +1,68 @@
+use Rattle.std.proofs.Common.{◌≡◌, ◌∷◌, [], ℕ, List, length, false, refl, sym, ap, subst, ◌∙◌, arith, rules}
+use Rattle.std.specs.Io.KnownBytes.{Keeps}
+use Rattle.std.proofs.lemmas.List.{map-append, length-append}
+use Rattle.kalah_jobs.specs.declared.files.job.Job.{Job}
+use Rattle.kalah_run.specs.Queue.States.{GetState, HasGot}
+use Rattle.kalah_run.specs.Batch.OrderedOutput.{HasWritten, Waits, outcomes_in}
+use Rattle.kalah_run.proofs.OfBatch.Outputs.{still_written}
+use Rattle.kalah_run.proofs.batch.running.collect.Given as given
+use Rattle.kalah_run.proofs.batch.running.collect.Goals as goal
+use Rattle.kalah_run.proofs.batch.running.collect.Goals.{in-Some, in-None, then-not-failed, else-not-failed}
+
+pub loop-init : goal.loop-init
+loop-init g c = record {
+  queue = refl;
+  workers = refl;
+  all = ap (λ (l : List (ℕ × Job)). length l) c.requires.first;
+  few = omega (arith, c.requires.none, c.write.ensures.faults);
+  progress = λ files jobs begun so_far.
+      subst (λ (l : List (ℕ × Job)). HasWritten files jobs (outcomes_in l) begun (g.W.Sink.written c.write.new.out) (g.W.Sink.has_failed c.write.new.out)
+      c.write.new.self × Waits c.write.new.self)
+      (sym c.requires.first) (c.write.ensures.progress files jobs [] begun so_far);
+}
+
+-- an outcome was got
+got : (g : given.Over) (c : goal.After-accept g) → HasGot c.loop.pass c.match-get_soon.outcome c.match-get_soon.pass
+got g c = elim c.match-get_soon.branch [
+  | in-Some w ↦ search rules
+  | in-None w ↦ search rules
+]
+
+-- what was written stays
+keeps : (g : given.Over) (c : goal.After-accept g) → Keeps (g.W.Sink.written c.loop.out) (g.W.Sink.written c.match-get_soon.out)
+keeps g c = elim c.match-get_soon.branch [
+  | in-Some w ↦ search rules
+  | in-None w ↦ elim w.if-not-failed.branch [
+    | then-not-failed w' ↦ search rules
+    | else-not-failed w' ↦ search rules
+  ]
+]
+
+-- and a failure is not undone
+sound : (g : given.Over) (c : goal.After-accept g) → g.W.Sink.has_failed c.match-get_soon.out ≡ false → g.W.Sink.has_failed c.loop.out ≡ false
+sound g c = elim c.match-get_soon.branch [
+  | in-Some w ↦ search rules
+  | in-None w ↦ elim w.if-not-failed.branch [
+    | then-not-failed w' ↦ search rules
+    | else-not-failed w' ↦ search rules
+  ]
+]
+
+pub loop-preserved : goal.loop-preserved
+loop-preserved g c =
+    let outcome = c.match-get_soon.outcome in
+    let worker = (got g c).0 in
+    let is = (got g c).2 in
+    let more = ap (λ (p : GetState). p.got) is in
+    record {
+      queue = ap (λ (p : GetState). p.queue) is ∙ c.loop.invariant.queue;
+      workers = ap (λ (p : GetState). p.workers) is ∙ c.loop.invariant.workers;
+      all = ap (λ (l : List (ℕ × Job)). length l) more ∙ length-append c.loop.pass.got ((worker, outcome) ∷ []) ∙ omega (arith, c.loop.invariant.all);
+      few = omega (arith, c.loop.invariant.few, c.accept.ensures.faults);
+      progress = λ files jobs begun so_far.
+          subst (λ (l : List Job). HasWritten files jobs l begun (g.W.Sink.written c.accept.new.out)
+          (g.W.Sink.has_failed c.accept.new.out) c.accept.new.self × Waits c.accept.new.self)
+          (sym (ap (λ (l : List (ℕ × Job)). outcomes_in l) more ∙ map-append (λ (p : ℕ × Job). p.1) c.loop.pass.got ((worker, outcome) ∷ [])))
+          (c.accept.ensures.progress files jobs _ begun
+          (still_written files jobs _ begun _ _ _ _ _ (keeps g c) (sound g c) (c.loop.invariant.progress files jobs begun so_far).0));
+    }

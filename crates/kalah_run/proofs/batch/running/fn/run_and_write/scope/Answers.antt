@@ -1,0 +1,10 @@
+use denote.Param.Send.{sendable}
+use Rattle.std.proofs.Crossing.{crosses}
+use Rattle.kalah_run.proofs.OfBatch.Crossing.{crew_send, worker_send}
+use Rattle.kalah_run.proofs.batch.running.fn.run_and_write.scope.Goals as goal
+
+pub spawn_with-started-requires-send-F : goal.spawn_with-started-requires-send-F
+spawn_with-started-requires-send-F g c κs within = search (sendable, crosses, crew_send) depth 60
+
+pub spawn_with-started-requires-send-T : goal.spawn_with-started-requires-send-T
+spawn_with-started-requires-send-T g c κs within = search (sendable, crosses, worker_send) depth 60

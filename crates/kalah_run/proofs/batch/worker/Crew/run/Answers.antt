@@ -1,0 +1,6 @@
+use denote.Param.Send.{sendable}
+use Rattle.kalah_run.proofs.OfBatch.Crossing.{worker_send}
+use Rattle.kalah_run.proofs.batch.worker.Crew.run.Goals as goal
+
+pub for_each_mut-requires-send-T : goal.for_each_mut-requires-send-T
+for_each_mut-requires-send-T g c κs within = search (sendable, worker_send)

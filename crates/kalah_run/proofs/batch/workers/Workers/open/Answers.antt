@@ -1,0 +1,35 @@
+use Rattle.std.proofs.Common.{◌≡◌, ◌≤◌, List, [], length, sym, ap, ◌∙◌, subst, arith}
+use Rattle.std.specs.Prelude.{All, vec_capacity}
+use Rattle.std.proofs.lemmas.List.{length-map}
+use Rattle.kalah_run.specs.Desk.States.{PassState, AreNewPasses}
+use Rattle.kalah_run.specs.Queue.States.{GetState, PutState, ArePassesFrom}
+use Rattle.kalah_run.specs.declared.batch.worker.Worker.{Worker}
+use Rattle.kalah_run.proofs.OfBatch.WorkerRuns.{new_at_work}
+use Rattle.kalah_run.proofs.batch.workers.Workers.open.Goals as goal
+
+pub returns : goal.returns
+returns c =
+    let workers : List Worker = c.in_ok-list.list.items in
+    let are = c.in_ok-list.ensures in
+    let desk = c.in_ok-desk.ensures in
+    let queue = c.in_ok-queue.queue.id in
+    let opened = c.in_ok-queue.ensures.puts in
+    let count : length workers ≡ c.args.size.workers =
+    sym (length-map workers (λ (w : Worker). w.pass)) ∙ ap (λ (l : List PassState). length l) are.passes ∙ desk.passes.0 in
+    let puts = subst (λ (l : List PutState). ArePassesFrom queue 0 l) (sym are.puts) opened.1 in
+    record {
+      total = desk.desk.0 ∙ c.total.ensures.lines;
+      some = omega (arith, count, c.args.size.few_workers.0);
+      passes = count ∙ sym desk.desk.1;
+      at_work = new_at_work (record { desk = c.in_ok-desk.desk; queue = queue; jobs = c.args.jobs.now }) workers c.args.size.workers
+          (subst (λ (l : List PassState). AreNewPasses c.in_ok-desk.desk c.args.size.workers l) (sym are.passes) desk.passes) puts
+          (subst (λ (l : List PutState). All (λ p. p.sent ≡ []) l) (sym are.puts) opened.2);
+      puts = puts;
+      pass = c.in_ok-queue.ensures.get
+          ∙ ap (λ n. let p : GetState = record { queue = queue; workers = n; got = [] } in p) (sym count);
+      room = record {
+        empty = (c.in_ok-passes.ensures.items, c.in_ok-puts.ensures.items);
+        passes = subst (λ n. n ≤ vec_capacity c.in_ok-passes.passes) (sym count) c.in_ok-passes.ensures.capacity;
+        puts = subst (λ n. n ≤ vec_capacity c.in_ok-puts.puts) (sym count) c.in_ok-puts.ensures.capacity;
+      };
+    }

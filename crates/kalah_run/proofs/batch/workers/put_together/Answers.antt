@@ -1,0 +1,16 @@
+use Rattle.std.proofs.Common.{◌∷◌, ◌++◌, [], sym, ap, ◌∙◌, append_assoc}
+use Rattle.std.specs.Vec.Iter.{into_iter_items}
+use Rattle.kalah_run.proofs.OfBatch.PutTogether.{passes_more, puts_more}
+use Rattle.kalah_run.proofs.batch.workers.put_together.Goals as goal
+
+pub loop-pass-preserved : goal.loop-pass-preserved
+loop-pass-preserved c =
+    let workers = c.loop-pass.workers.items in
+    let more = c.push.new.self.items in
+    record {
+      order = append_assoc c.loop-pass.yielded (c.in-Some.pass ∷ []) (into_iter_items c.next.new.self)
+          ∙ ap (λ l. c.loop-pass.yielded ++ l) (sym c.in-Some.ensures.steps.0) ∙ c.loop-pass.invariant.order;
+      passes = passes_more workers more _ c.loop-pass.yielded c.in_ok-push.ensures.items c.loop-pass.invariant.passes;
+      puts = puts_more workers more _ (into_iter_items c.loop-pass.puts) (into_iter_items c.next-in-loop-pass.new.self) c.args.puts.items
+          c.in_ok-push.ensures.items c.in-Some-next.ensures.items c.loop-pass.invariant.puts;
+    }

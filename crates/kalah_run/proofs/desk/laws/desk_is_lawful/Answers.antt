@@ -1,0 +1,5 @@
+use Rattle.kalah_run.proofs.OfDesk.Law.{desk_is_lawful}
+use Rattle.kalah_run.proofs.desk.laws.desk_is_lawful.Goals as goal
+
+pub returns : goal.returns
+returns c = desk_is_lawful

@@ -1,0 +1,23 @@
+use Rattle.std.proofs.Common.{rules, arith, ◌≡◌, [], ap, ◌∙◌}
+use Rattle.kalah_run.specs.Queue.Steps.{sent_in, after_making_one, one_made}
+use Rattle.kalah_run.proofs.OfQueue.Keeps.{begins, forks}
+use Rattle.kalah_run.proofs.OfQueue.Lists.{one_pass_more, all_and_one}
+use Rattle.kalah_run.proofs.queue.ResultsQueue.open.Goals as goal
+
+pub ruled-requires-clause-rule : goal.ruled-requires-clause-rule
+ruled-requires-clause-rule c = begins
+
+pub another-theirs-requires-clause-rule : goal.another-theirs-requires-clause-rule
+another-theirs-requires-clause-rule c = forks _ _ _ _ c.loop-number.invariant.made
+
+pub loop-number-preserved : goal.loop-number-preserved
+loop-number-preserved c =
+    let so_far = c.loop-number.invariant in
+    let views = c.another-theirs.ensures.rule in record {
+      place = search rules;
+      made = views.0 ∙ ap after_making_one so_far.made;
+      count = search rules;
+      room = omega arith;
+      passes = rw c.push_reserved.ensures.items (one_pass_more _ 0 _ _ so_far.passes (search rules) (search rules));
+      unsent = rw c.push_reserved.ensures.items (all_and_one (λ p. p.sent ≡ []) _ _ so_far.unsent (ap sent_in (views.1 ∙ ap one_made so_far.made)));
+    }

@@ -1,8 +1,0 @@
-use Rattle.std.proofs.Common.{◌∙◌, ap, sym}
-use Rattle.kalah_run.specs.declared.queue_rule.QueueView.TheVariants.{Putting}
-use Rattle.kalah_run.proofs.QueueKeeps.{puts}
-use Rattle.kalah_run.proofs.results_queue.ResultsQueue.put.Goals as goal
-
-pub try_push_as-requires-clause-rule : goal.try_push_as-requires-clause-rule
-try_push_as-requires-clause-rule g c =
-    puts _ _ _ _ c.args.pass.now.sent (c.loop.invariant.view ∙ ap (λ t. Putting t.0 c.args.pass.now.sent) (sym c.loop.invariant.held_back))

@@ -1,0 +1,10 @@
+pub mod Faults
+pub mod NoLine
+pub mod Answering
+pub mod Work
+pub mod AtWork
+pub mod Workers
+pub mod Texts
+pub mod UnderWay
+pub mod OrderedOutput
+pub mod Running

@@ -1,0 +1,30 @@
+-- What a batch promises, whatever is asked of its lines.
+use Rattle.std.specs.Prelude.{◌≡◌, ◌≢◌, ◌↔◌, ◌<◌, ◌≤◌, ℕ, List, Option, Bool, Result, Err, length, true, IfOk, IfErr, OnOk}
+use Rattle.std.specs.Io.KnownBytes.{Appends}
+use Rattle.kalah_jobs.specs.Writing.Given.{AppendsStart}
+use Rattle.kalah_jobs.specs.Files.Jobs.{lines_in_all, most_files, most_lines}
+use Rattle.kalah_jobs.specs.Files.NamedBytes.{NamedBytes}
+use Rattle.kalah_jobs.specs.Writing.Output.{LineCounts, tally_of}
+use Rattle.kalah_run.specs.Batch.NoLine.{AnswersNothing}
+use Rattle.kalah_run.specs.declared.batch.run_fault.RunFault.{RunFault}
+use Rattle.kalah_run.specs.declared.batch.run_fault.RunFault.TheVariants.{TooManyFiles, TooManyLines, NoWorker, Write}
+
+-- The lines of these files have this output, and a sink was `old` before they were answered and is `new` afterwards; `bytes` tells
+-- what was written to a sink.
+pub record AnswersBatch {W : Type 0} (bytes : W → Option (List ℕ)) (has_failed is_handed_on : W → Bool) (output : List ℕ)
+    (files : List NamedBytes) (old new : W) (result : Result LineCounts RunFault) : Type 0 where
+  -- Ok: the output was written, and nothing else, all of it is handed on, and lines and faults are counted
+  pub written : OnOk result (Appends (bytes old) (bytes new) output)
+  pub tally : IfOk result (λ tally. tally ≡ tally_of files)
+  pub handed_on : OnOk result (is_handed_on new ≡ true)
+  -- whatever comes of it: a beginning of the output was written, and nothing else
+  pub start : AppendsStart (bytes old) (bytes new) output
+  -- when each fault comes
+  pub too_many_files : (result ≡ Err TooManyFiles) ↔ (most_files < length files)
+  pub too_many_lines : (result ≡ Err TooManyLines) ↔ ((length files ≤ most_files) × (most_lines < lines_in_all files))
+  pub no_worker : result ≡ Err NoWorker → 0 < lines_in_all files
+  pub write : (result ≡ Err Write) ↔ (has_failed new ≡ true)
+  -- any other fault leaves the output as it was
+  pub untouched : IfErr result (λ e. e ≢ Write → new ≡ old)
+  -- files without a line
+  pub no_line : lines_in_all files ≡ 0 → AnswersNothing (bytes old) (bytes new) result

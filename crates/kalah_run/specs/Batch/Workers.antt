@@ -1,0 +1,23 @@
+-- What is known of the workers of a batch before they run.
+use Rattle.std.specs.Prelude.{◌≡◌, ◌<◌, ◌≤◌, List, [], length, vec_capacity}
+use Rattle.kalah_jobs.specs.declared.files.entry.Entry.{Entry}
+use Rattle.kalah_jobs.specs.Files.Jobs.{job_count}
+use Rattle.kalah_run.specs.Queue.States.{ArePassesFrom}
+use Rattle.kalah_run.specs.Batch.AtWork.{puts_of, AreAtWork}
+use Rattle.kalah_run.specs.declared.batch.workers.Workers.{Workers}
+
+-- the two lists for the passes' return are empty, and have room for them
+pub record HasRoom (w : Workers) : Type 0 where
+  pub empty : (w.passes.items ≡ []) × (w.puts.items ≡ [])
+  pub passes : length w.list.items ≤ vec_capacity w.passes
+  pub puts : length w.list.items ≤ vec_capacity w.puts
+
+-- for these jobs: each worker is at work and has its place, and nothing was got
+pub record AreReady (jobs : List (List Entry)) (w : Workers) : Type 0 where
+  pub total : w.desk.total ≡ job_count jobs
+  pub some : 0 < length w.list.items
+  pub passes : length w.list.items ≡ w.desk.passes
+  pub at_work : AreAtWork (record { desk = w.desk; queue = w.queue.id; jobs = jobs }) w.list.items
+  pub puts : ArePassesFrom w.queue.id 0 (puts_of w.list.items)
+  pub pass : w.pass ≡ record { queue = w.queue.id; workers = length w.list.items; got = [] }
+  pub room : HasRoom w

@@ -1,0 +1,5 @@
+pub mod Rows
+pub mod Kept
+pub mod Steps
+pub mod States
+pub mod Law

@@ -1,0 +1,50 @@
+-- What is kept of the desk's word and of the views of its seats.
+use Rattle.std.specs.Prelude.{◌≡◌, ℕ, ◌+◌, ◌≤◌, List, [], ◌∷◌, length, sum_by, flat_map}
+use mathlib.Core.Option.{some}
+use lib.ListN.{get_elem?}
+use Rattle.atomic_table.specs.Table.{State}
+use Rattle.kalah_jobs.specs.Files.Jobs.{most_lines}
+use Rattle.kalah_run.specs.Limits.{most_workers}
+use Rattle.kalah_run.specs.declared.desk.rule.DrawnRow.{DrawnRow}
+use Rattle.kalah_run.specs.declared.desk.rule.DeskPlan.{DeskPlan}
+use Rattle.kalah_run.specs.declared.desk.rule.DeskView.{DeskView}
+use Rattle.kalah_run.specs.declared.desk.rule.DeskView.TheVariants.{Opening, Drawing, Closing, Ended}
+use Rattle.kalah_run.specs.Desk.Rows.{drawn_in, spent_in, AreLawful}
+
+-- the first seat: all passes are yet to be handed out
+abbrev pub opening_view : DeskPlan → DeskView
+opening_view plan = Opening plan.total 0 plan.passes
+
+abbrev pub ended_view : DeskView
+ended_view = Ended
+
+-- the rows that a seat has
+abbrev pub rows_in : DeskView → List DrawnRow
+rows_in (Drawing total number r) = r ∷ []
+rows_in (Closing rows) = rows
+rows_in _ = []
+
+-- the rows of all passes
+abbrev pub all_rows : List DeskView → List DrawnRow
+all_rows views = flat_map rows_in views
+
+-- how many passes a seat stands for: those that it is to hand out, itself, or those that it took in
+abbrev pub passes_in : DeskView → ℕ
+passes_in (Opening total handed_out left) = left
+passes_in (Drawing total number r) = 1
+passes_in (Closing rows) = length rows
+passes_in Ended = 0
+
+-- where a seat knows a total, it is t
+abbrev pub HasTotal : ℕ → DeskView → Type 0
+HasTotal t (Opening total handed_out left) = total ≡ t
+HasTotal t (Drawing total number r) = total ≡ t
+HasTotal t _ = Unit {0}
+
+-- Between any two steps: the word counts the numbers drawn and the spent passes, no pass is lost, and the rows of all passes are lawful
+pub record IsKept {S : Type 0} (plan : DeskPlan) (s : State S DeskView) : Type 0 where
+  pub few : (plan.total ≤ most_lines) × (plan.passes ≤ most_workers)
+  pub word : s.words ≡ (drawn_in (all_rows s.views) + spent_in (all_rows s.views)) ∷ []
+  pub passes : sum_by passes_in s.views ≡ plan.passes
+  pub lawful : AreLawful plan.total (all_rows s.views)
+  pub totals : (seat : ℕ) (v : DeskView) → get_elem? s.views seat ≡ some v → HasTotal plan.total v

@@ -1,0 +1,60 @@
+-- A desk, a pass and a closed desk, as contracts see them.
+use Rattle.std.specs.Prelude.{◌≡◌, ℕ, ◌<◌, List, [], length, Bool, false, slice_index_or, map}
+use Rattle.atomic_table.specs.Seated.{TableId}
+use Rattle.kalah_run.specs.declared.desk.rule.DrawnRow.{DrawnRow}
+use Rattle.kalah_run.specs.declared.desk.rule.DeskView.{DeskView}
+use Rattle.kalah_run.specs.declared.desk.rule.DeskView.TheVariants.{Drawing}
+use Rattle.kalah_run.specs.Desk.Rows.{drawn_row}
+
+-- which desk it is, the total, and how many passes it has
+pub record DeskState : Type 0 where
+  pub id : TableId
+  pub total : ℕ
+  pub passes : ℕ
+
+-- which desk the pass is of, with its total; the pass's number, and its row
+pub record PassState : Type 0 where
+  pub desk : TableId
+  pub total : ℕ
+  pub number : ℕ
+  pub row : DrawnRow
+
+-- how many numbers were drawn, and whether some pass was answered None
+pub record ClosedDeskState : Type 0 where
+  pub drawn : ℕ
+  pub spent : Bool
+
+-- the pass is of this desk
+abbrev pub IsPassAt : DeskState → PassState → Type 0
+IsPassAt desk pass = (pass.desk ≡ desk.id) × (pass.total ≡ desk.total)
+
+-- a pass that has drawn nothing, and is not spent
+abbrev pub new_pass : DeskState → ℕ → PassState
+new_pass desk number = record { desk = desk.id; total = desk.total; number = number; row = drawn_row [] false }
+
+-- the first passes of the desk, each with its number
+abbrev pub AreNewPasses : DeskState → ℕ → List PassState → Type 0
+AreNewPasses desk count passes = (length passes ≡ count) × ((k : ℕ) (d : PassState) → k < count → slice_index_or passes k d ≡ new_pass desk k)
+
+-- the rows, pass by pass
+abbrev pub drawn_rows : List PassState → List DrawnRow
+drawn_rows passes = map (λ p. p.row) passes
+
+-- the total that a pass's seat knows
+abbrev pub total_in : DeskView → ℕ
+total_in (Drawing total number r) = total
+total_in _ = 0
+
+-- the pass's number
+abbrev pub number_in : DeskView → ℕ
+number_in (Drawing total number r) = number
+number_in _ = 0
+
+-- the pass's row
+abbrev pub row_in : DeskView → DrawnRow
+row_in (Drawing total number r) = r
+row_in _ = drawn_row [] false
+
+-- the view of a pass with these three
+abbrev pub as_pass_view : DeskView → DeskView
+as_pass_view v = Drawing (total_in v) (number_in v) (row_in v)

@@ -1,0 +1,5 @@
+pub mod Lists
+pub mod Rule
+pub mod Steps
+pub mod States
+pub mod Law

@@ -1,0 +1,39 @@
+-- The rule of the results queue: of each worker, what was got and then what the queue holds is what the worker has sent, in its order.
+use Rattle.std.specs.Prelude.{◌≡◌, ℕ, suc, ◌≤◌, List, ◌++◌, length}
+use mathlib.Core.Option.{some}
+use lib.ListN.{get_elem?}
+use Rattle.kalah_jobs.specs.declared.files.job.Job.{Job}
+use Rattle.kalah_jobs.specs.Collecting.Shares.{of}
+use Rattle.kalah_run.specs.declared.queue.rule.QueueView.{QueueView}
+use Rattle.kalah_run.specs.declared.queue.rule.QueueView.TheVariants.{Getting, Putting, Ended}
+use Rattle.kalah_run.specs.Queue.Lists.{Accounts}
+
+-- A pass to put stands behind the one to get, at the place of its worker's number, and knows what that worker has sent. The first `closed` workers have ended.
+pub record FitsPut (pairs : List (ℕ × Job)) (closed place number : ℕ) (sent : List Job) : Type 0 where
+  pub behind : place ≡ suc number
+  pub running : closed ≤ number
+  pub all_sent : sent ≡ of number pairs
+
+-- The one pass to get stands first. It knows how many passes to put were made, what was taken out, and what the workers sent that have ended.
+pub record FitsGet (pairs taken : List (ℕ × Job)) (closed passes place made : ℕ) (got : List (ℕ × Job)) (known : List (List Job)) : Type 0 where
+  pub foremost : place ≡ 0
+  pub count : passes ≡ suc made
+  pub all_got : got ≡ taken
+  pub ended_known : length known ≡ closed
+  pub accounts : Accounts made known pairs
+
+-- the view of the pass at this place fits all pairs, of which so many were taken out
+abbrev pub Fits : List (ℕ × Job) → List (ℕ × Job) → ℕ → ℕ → ℕ → QueueView → Type 0
+Fits pairs taken closed passes place (Putting number sent) = FitsPut pairs closed place number sent
+Fits pairs taken closed passes place (Getting made got known) = FitsGet pairs taken closed passes place made got known
+Fits pairs taken closed passes place Ended = Unit {0}
+
+-- Each pass knows the truth: some pairs were taken out, some workers have ended, and each view fits them and what the queue holds.
+-- The pass to get is there, and stands first.
+pub record IsLawful (items : List (ℕ × Job)) (views : List QueueView) : Type 0 where
+  pub taken : List (ℕ × Job)
+  pub closed : ℕ
+  pub made : ℕ
+  pub known : List (List Job)
+  pub getter : get_elem? views 0 ≡ some (Getting made taken known)
+  pub fits : (place : ℕ) (v : QueueView) → get_elem? views place ≡ some v → Fits (taken ++ items) taken closed (length views) place v

@@ -1,0 +1,64 @@
+-- What each step makes of what a pass of the results queue knows.
+use Rattle.std.specs.Prelude.{◌≡◌, ℕ, ◌+◌, ◌<◌, List, [], ◌∷◌, ◌++◌}
+use Rattle.kalah_jobs.specs.declared.files.job.Job.{Job}
+use Rattle.kalah_run.specs.declared.queue.rule.QueueView.{QueueView}
+use Rattle.kalah_run.specs.declared.queue.rule.QueueView.TheVariants.{Getting, Putting, Ended}
+use Rattle.kalah_run.specs.Queue.Lists.{Accounts}
+
+-- the one pass of a new queue is the one to get
+abbrev pub first_view : QueueView
+first_view = Getting 0 [] []
+
+-- what was put through the pass
+abbrev pub sent_in : QueueView → List Job
+sent_in (Putting number sent) = sent
+sent_in _ = []
+
+-- how many passes to put were made
+abbrev pub made_in : QueueView → ℕ
+made_in (Getting made got known) = made
+made_in _ = 0
+
+-- what was got through the pass
+abbrev pub got_in : QueueView → List (ℕ × Job)
+got_in (Getting made got known) = got
+got_in _ = []
+
+-- what the workers had sent whose passes were reclaimed
+abbrev pub known_in : QueueView → List (List Job)
+known_in (Getting made got known) = known
+known_in _ = []
+
+-- one pass more was made
+abbrev pub after_making_one : QueueView → QueueView
+after_making_one (Getting made got known) = Getting (made + 1) got known
+after_making_one view = view
+
+-- the pass that was made: it has sent nothing
+abbrev pub one_made : QueueView → QueueView
+one_made (Getting made got known) = Putting made []
+one_made _ = Ended
+
+-- the outcome is put behind what was sent
+abbrev pub after_put : QueueView → ℕ × Job → QueueView
+after_put (Putting number sent) pair = Putting number (sent ++ pair.1 ∷ [])
+after_put view pair = view
+
+-- the pair stands behind what was got
+abbrev pub after_get : QueueView → ℕ × Job → QueueView
+after_get (Getting made got known) pair = Getting made (got ++ pair ∷ []) known
+after_get view pair = view
+
+-- the pair is got: it is of a worker for whom a pass was made
+abbrev pub IsGot : QueueView → ℕ × Job → QueueView → Type 0
+IsGot before pair after = (after ≡ after_get before pair) × (pair.0 < made_in before)
+
+-- what the reclaimed pass has sent is known
+abbrev pub after_reclaiming_sent : QueueView → QueueView → QueueView
+after_reclaiming_sent (Getting made got known) other = Getting made got (known ++ sent_in other ∷ [])
+after_reclaiming_sent view other = view
+
+-- what was got and then what the queue holds tells all that is known
+abbrev pub Tells : QueueView → List (ℕ × Job) → Type 0
+Tells (Getting made got known) items = Accounts made known (got ++ items)
+Tells _ items = Unit {0}

@@ -1,0 +1,85 @@
+//! The answers of a batch, written in the order of its lines.
+ghost use Rattle.std.specs.Prelude.{◌≡◌, ◌+◌, ◌^◌, ◌<◌, [], ℕ, List, Option, Bool, length, IfOk, if◌then◌else◌};
+ghost use Rattle.kalah_jobs.specs.Writing.Answer.{is_fault};
+ghost use Rattle.kalah_jobs.specs.Collecting.CollectorState.{HasLinesOf};
+
+use kalah_jobs::{Answer, Collector, FileText, Jobs, Outcome, Sink, write_answer};
+use std::alloc::{AllocError, Global};
+
+/// What came of a batch so far, and how far it is written. `current` is the file whose lines are written next: the
+/// files before it are written wholly.
+#[derive(Drop)]
+pub(crate) struct OrderedOutput<'a> {
+    pub(crate) files: &'a [FileText],
+    pub(crate) jobs: &'a Jobs,
+    pub(crate) collector: Collector,
+    pub(crate) current: u32,
+    pub(crate) faults: u32,
+    ghost as_many: { length jobs.now ≡ length files.now },
+    ghost counts: { HasLinesOf jobs.now collector },
+}
+
+// One for a fault, and else none.
+fn faults_in(answer: Answer) -> u32
+    ensures { result ≡ (if is_fault answer then 1 else 0) }
+{
+    match answer {
+        Answer::Fault(_) => 1,
+        _ => 0,
+    }
+}
+
+impl<'a> OrderedOutput<'a> {
+    ghost use Rattle.kalah_run.specs.Batch.OrderedOutput.{HasWritten, Accepts, WritesReady};
+
+    /// The output of these files, of which nothing has come. It takes all its memory here.
+    pub(crate) fn new(
+        alloc: Global,
+        files: &'a [FileText],
+        jobs: &'a Jobs,
+    ) -> Result<OrderedOutput<'a>, AllocError>
+        requires { length jobs.now ≡ length files.now }
+        ensures { IfOk result (λ r. (begun : Option (List ℕ)) → (failed : Bool) → HasWritten files.now jobs.now [] begun begun failed r) }
+    {
+        let collector = Collector::new(alloc, jobs)?;
+        Ok(OrderedOutput {
+            files,
+            jobs,
+            collector,
+            current: 0,
+            faults: 0,
+        })
+    }
+
+    /// Writes each line that is ready and before which all is written.
+    pub(crate) fn write<W: Sink>(&mut self, out: &mut W)
+        ensures progress { WritesReady self.old (W.written out.old) (W.has_failed out.old) self.new (W.written out.new) (W.has_failed out.new) }
+        ensures faults { self.new.faults ≡ self.old.faults }
+    {
+        while self.current < self.jobs.files() {
+            let f = self.current;
+            if let Some(taken) = self.collector.take(f) {
+                if !out.failed() {
+                    let files = self.files;
+                    let file = &files[f as usize];
+                    let _ = write_answer(out, file.name.as_str(), &taken);
+                }
+            } else if self.collector.ended(f) {
+                self.current += 1;
+            } else {
+                return;
+            }
+        }
+    }
+
+    /// Accepts an outcome, and writes each line that is ready by it and before which all is written.
+    pub(crate) fn accept<W: Sink>(&mut self, outcome: Outcome, out: &mut W)
+        requires { self.old.faults + 1 < 2 ^ 32 }
+        ensures progress { Accepts outcome self.old (W.written out.old) (W.has_failed out.old) self.new (W.written out.new) (W.has_failed out.new) }
+        ensures faults { self.new.faults < self.old.faults + 2 }
+    {
+        self.faults += faults_in(outcome.answer());
+        let _ = self.collector.offer(self.jobs, outcome);
+        self.write(out);
+    }
+}

@@ -1,0 +1,73 @@
+//! A worker of a batch, and how all of them are run.
+use crate::batch::gate::Gate;
+use crate::batch::shared_work::SharedWork;
+use crate::desk::pass::Pass;
+use crate::limits::MOST_WORKERS;
+use crate::queue::passes::PutPass;
+use crossbeam_utils::CachePadded;
+use kalah_jobs::Outcome;
+use kalah_solve::Solver;
+use std::sync::Wait;
+use std::thread;
+use std::thread::Threads;
+
+/// One worker of a batch: what it draws by, what it sends by, and its solver.
+#[derive(Drop)]
+pub(crate) struct Worker {
+    pub(crate) pass: Pass,
+    pub(crate) put: PutPass,
+    // Workers stand side by side in one list, and each thread changes its own solver all the time.
+    pub(crate) solver: CachePadded<Solver>,
+}
+
+impl Worker {
+    ghost use Rattle.kalah_run.specs.Batch.AtWork.{IsAtWork, HasRun};
+    ghost use Rattle.kalah_run.specs.Batch.Work.{work_of};
+
+    // Draws jobs, and solves each and sends its outcome, until there is nothing left to draw.
+    fn run<R: Wait, G: Gate>(&mut self, rt: &R, shared: &SharedWork<'_, G>)
+        requires { IsAtWork (work_of shared.now) self.old }
+        ensures { HasRun (work_of shared.now) self.old self.new }
+    {
+        while let Some(drawn) = shared.desk.draw(&mut self.pass) {
+            shared.gate.before(drawn);
+            let job = shared.jobs.get(drawn);
+            let outcome = Outcome::of(job.file, job.line, job.entry, &mut self.solver);
+            shared.queue.put(rt, &mut self.put, outcome);
+            shared.gate.after(drawn);
+        }
+    }
+}
+
+/// The workers of a batch and what they share, handed over to be run.
+#[derive(Drop)]
+pub(crate) struct Crew<'a, 'b, G: Gate> {
+    pub(crate) shared: &'a SharedWork<'b, G>,
+    pub(crate) workers: Vec<Worker>,
+}
+
+impl<'a, 'b, G: Gate> Crew<'a, 'b, G> {
+    ghost use Rattle.kalah_run.specs.Batch.AtWork.{IsAtWork, AreAtWork, HasRun, HaveRun};
+    ghost use Rattle.kalah_run.specs.Batch.Work.{work_of};
+
+    /// Runs each worker in a thread of its own, as far as threads can be made, and gives the workers back.
+    pub(crate) fn run<R: Threads + Wait + Sync>(self, rt: &R) -> Vec<Worker>
+        requires { AreAtWork (work_of self.shared.now) self.workers.items }
+        ensures { HaveRun (work_of self.entry.shared.now) self.entry.workers.items result.items }
+    {
+        let Crew {
+            shared,
+            mut workers,
+        } = self;
+        thread::for_each_mut(
+            rt,
+            workers.as_mut_slice(),
+            MOST_WORKERS as usize,
+            &|_, worker: &mut Worker|
+                requires { IsAtWork (work_of shared.now) worker.old }
+                ensures { HasRun (work_of shared.entry.now) worker.old worker.new }
+            { worker.run(rt, shared) },
+        );
+        workers
+    }
+}

@@ -1,0 +1,110 @@
+//! The workers of a batch, and where they draw and send.
+ghost use Rattle.std.specs.Prelude.{◌≡◌, ◌≤◌, [], length, vec_len, vec_capacity, IfOk};
+ghost use Rattle.kalah_run.specs.Batch.AtWork.{passes_of, puts_of};
+ghost use Rattle.kalah_run.specs.Batch.Workers.{AreReady};
+
+use crate::batch::size::BatchSize;
+use crate::batch::worker::Worker;
+use crate::desk::Desk;
+use crate::desk::pass::Pass;
+use crate::queue::ResultsQueue;
+use crate::queue::passes::{GetPass, PutPass};
+use crossbeam_utils::CachePadded;
+use kalah_jobs::Jobs;
+use kalah_solve::{Solver, Table};
+use std::alloc::{AllocError, Global};
+
+/// How many outcomes may be on their way to the calling thread.
+pub(crate) const QUEUE_CAPACITY: u32 = 64;
+
+// A solver for one more worker. All share what they learn of endings.
+fn new_solver(alloc: Global, workers: &[Worker], size: BatchSize) -> Result<Solver, AllocError> {
+    match workers.last() {
+        Some(worker) => worker.solver.beside(alloc, size.table),
+        None => Ok(Solver::new(Table::new(alloc, size.table)?)),
+    }
+}
+
+// A worker for each pair of passes, in their order, each with a solver of its own.
+fn put_together(
+    alloc: Global,
+    passes: Vec<Pass>,
+    puts: Vec<PutPass>,
+    size: BatchSize,
+) -> Result<Vec<Worker>, AllocError>
+    requires as_many { length passes.items ≡ length puts.items }
+    ensures passes { IfOk result (λ workers. passes_of workers.items ≡ passes.items) }
+    ensures puts { IfOk result (λ workers. puts_of workers.items ≡ puts.items) }
+{
+    let mut workers = Vec::with_capacity(alloc, passes.len())?;
+    let mut puts = puts.into_iter();
+    for pass in passes {
+        let Some(put) = puts.next() else {
+            unreachable!()
+        };
+        let solver = new_solver(alloc, &workers, size)?;
+        workers.push(Worker {
+            pass,
+            put,
+            solver: CachePadded::new(solver),
+        })?;
+    }
+    Ok(workers)
+}
+
+/// The passes of the workers, in their order, put into two lists that have room for them.
+pub(crate) fn take_apart(
+    workers: Vec<Worker>,
+    mut passes: Vec<Pass>,
+    mut puts: Vec<PutPass>,
+) -> (Vec<Pass>, Vec<PutPass>)
+    requires empty { (passes.items ≡ []) × (puts.items ≡ []) }
+    requires passes_room { vec_len workers ≤ vec_capacity passes }
+    requires puts_room { vec_len workers ≤ vec_capacity puts }
+    ensures passes { result.0.items ≡ passes_of workers.items }
+    ensures puts { result.1.items ≡ puts_of workers.items }
+{
+    for worker in workers {
+        let Worker {
+            pass,
+            put,
+            solver: _,
+        } = worker;
+        passes.push_reserved(pass);
+        puts.push_reserved(put);
+    }
+    (passes, puts)
+}
+
+/// The workers of a batch, the desk at which they draw, the queue through which they send and the pass to get, and two lists
+/// with room for the passes' return.
+#[derive(Drop)]
+pub(crate) struct Workers {
+    pub(crate) desk: Desk,
+    pub(crate) queue: ResultsQueue,
+    pub(crate) list: Vec<Worker>,
+    pub(crate) pass: GetPass,
+    pub(crate) passes: Vec<Pass>,
+    pub(crate) puts: Vec<PutPass>,
+}
+
+impl Workers {
+    /// As many workers for these jobs, with such tables, as the size says. It takes all its memory here.
+    pub(crate) fn open(alloc: Global, jobs: &Jobs, size: BatchSize) -> Result<Workers, AllocError>
+        ensures { IfOk result (AreReady jobs.now) }
+    {
+        let (desk, passes) = Desk::open(alloc, jobs.total(), size.workers)?;
+        let (queue, puts, pass) = ResultsQueue::open(alloc, QUEUE_CAPACITY, size.workers)?;
+        let list = put_together(alloc, passes, puts, size)?;
+        let passes = Vec::with_capacity(alloc, size.workers as usize)?;
+        let puts = Vec::with_capacity(alloc, size.workers as usize)?;
+        Ok(Workers {
+            desk,
+            queue,
+            list,
+            pass,
+            passes,
+            puts,
+        })
+    }
+}

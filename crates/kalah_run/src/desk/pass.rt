@@ -1,0 +1,24 @@
+//! The right to draw numbers at a desk.
+use crate::desk::rule::DeskView;
+use atomic_table::Seat;
+use std::marker::Model;
+
+/// The right to draw numbers at one desk. It is seen as that desk's identity and total, the
+/// pass's number, and the row of the numbers that it has drawn. One that was answered None is
+/// spent: it is answered None for good, and steps on the desk's word no more.
+#[derive(Drop)]
+pub struct Pass {
+    pub(crate) seat: Seat<(), DeskView>,
+    pub(crate) is_spent: bool,
+}
+
+impl Model for Pass {
+    ghost use Rattle.std.specs.Prelude.{◌≡◌, []};
+    ghost use Rattle.kalah_run.specs.Desk.States.{PassState, total_in, number_in, row_in, as_pass_view};
+
+    ghost Value = { PassState };
+
+    ghost view = { λ p. record { desk = p.seat.table_id; total = total_in p.seat.me.0; number = number_in p.seat.me.0; row = row_in p.seat.me.0 } };
+
+    ghost invariant = { λ p. (p.seat.me ≡ (as_pass_view p.seat.me.0, [])) × (p.is_spent ≡ (row_in p.seat.me.0).spent) };
+}

@@ -1,0 +1,83 @@
+//! The rule under which the desk's word is kept, and what each step on it tells.
+use atomic_table::{Join, Play, Split, TableRule};
+use std::collections::LinkedList;
+
+/// The numbers that one pass has drawn, in the order drawn, and whether the pass was answered None.
+/// Contracts speak of rows; no program makes one.
+pub struct DrawnRow {
+    pub numbers: LinkedList<u32>,
+    pub spent: bool,
+}
+
+/// What one seat at the desk's table knows. It exists in contracts alone; no program makes one.
+pub enum DeskView {
+    /// The seat that hands out the passes: the total, how many passes it has handed out, and how
+    /// many are left.
+    Opening(u32, u32, u32),
+    /// The seat of a pass: the total, the pass's number and its row.
+    Drawing(u32, u32, DrawnRow),
+    /// The seat that reclaims the passes: the rows of those that it has reclaimed.
+    Closing(LinkedList<DrawnRow>),
+    /// The seat of a pass that was reclaimed.
+    Ended,
+}
+
+/// What the desk is opened with: numbers below `total`, for so many `passes`.
+#[derive(Drop)]
+pub struct DeskPlan {
+    pub total: u32,
+    pub passes: u32,
+}
+
+/// The rule: between any two steps the rows of all passes are lawful, and the word counts the
+/// numbers drawn and the passes that were answered None.
+pub struct DeskRule;
+
+impl TableRule<(), DeskView, DeskPlan> for DeskRule {
+    ghost use Rattle.kalah_run.specs.Desk.Kept.{IsKept, opening_view};
+
+    ghost holds = { IsKept };
+
+    ghost first = { opening_view };
+}
+
+/// The next pass is handed out.
+pub struct HandOut;
+
+impl Split<DeskView> for HandOut {
+    ghost use Rattle.kalah_run.specs.Desk.Steps.{after_handing_out, pass_handed_out};
+
+    ghost left = { after_handing_out };
+
+    ghost right = { pass_handed_out };
+}
+
+/// A pass draws.
+pub struct DrawNumber;
+
+impl Play<(), DeskView> for DrawNumber {
+    ghost use Rattle.kalah_run.specs.Desk.Steps.{Draws};
+
+    ghost then = { Draws };
+}
+
+/// A new seat comes to reclaim the passes.
+pub struct StartClosing;
+
+impl Play<(), DeskView> for StartClosing {
+    ghost use Rattle.kalah_run.specs.Desk.Steps.{StartsClosing};
+
+    ghost then = { StartsClosing };
+}
+
+/// A pass is reclaimed.
+pub struct Reclaim;
+
+impl Join<DeskView> for Reclaim {
+    ghost use Rattle.kalah_run.specs.Desk.Kept.{ended_view};
+    ghost use Rattle.kalah_run.specs.Desk.Steps.{after_reclaiming_row};
+
+    ghost both = { after_reclaiming_row };
+
+    ghost spent = { ended_view };
+}

@@ -1,0 +1,7 @@
+//! The limits of what is run.
+
+/// The most workers that answer a batch.
+pub const MOST_WORKERS: u32 = 64;
+
+/// The most places of a results queue.
+pub const MOST_PLACES: u32 = 1024;

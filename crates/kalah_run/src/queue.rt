@@ -1,0 +1,219 @@
+//! The results queue: outcomes on their way from many workers to one collector.
+ghost use Rattle.std.specs.Prelude.{◌≡◌, ◌≤◌, ◌<◌, ℕ, List, [], ◌∷◌, ◌++◌, length, All, IfOk, MatchOption, vec_len};
+ghost use Rattle.crossbeam_queue.specs.Passes.{view, IsPassOf};
+ghost use Rattle.kalah_jobs.specs.declared.files.job.Job.{Job};
+ghost use Rattle.kalah_run.specs.Limits.{AreQueuePlaces, AreWorkers};
+ghost use Rattle.kalah_run.specs.declared.queue.rule.QueueView.TheVariants.{Getting};
+ghost use Rattle.kalah_run.specs.Queue.Lists.{Accounts};
+ghost use Rattle.kalah_run.specs.Queue.States.{ArePassesFrom, HasGot, sent_by};
+ghost use Rattle.kalah_run.specs.Queue.Steps.{got_in, made_in};
+
+pub(crate) mod laws;
+pub(crate) mod passes;
+pub(crate) mod rule;
+mod waiting;
+
+use crate::queue::passes::{GetPass, PutPass};
+use crate::queue::rule::{
+    AnotherWorker, Gets, LeftInside, Puts, Reclaims, RuledPass, RuledQueue, Tagged,
+};
+use crate::queue::waiting::{Waiters, Waiting};
+use crossbeam_utils::{Backoff, CachePadded};
+use kalah_jobs::Outcome;
+use std::alloc::{AllocError, Global};
+use std::marker::Model;
+use std::sync::Wait;
+
+#[cfg(test)]
+mod tests;
+
+/// What workers put and one collector gets, in turn: a queue of a fixed capacity that threads share. It is seen as its
+/// identity and its capacity.
+#[derive(Drop)]
+pub struct ResultsQueue {
+    pairs: RuledQueue,
+    // Who waits for an outcome, and who waits for room. Threads change these all the time, and read what lies beside them.
+    getters: CachePadded<Waiters>,
+    putters: CachePadded<Waiters>,
+}
+
+impl Model for ResultsQueue {
+    ghost use Rattle.std.specs.Prelude.{◌≤◌};
+    ghost use Rattle.crossbeam_queue.specs.Passes.{ruled_capacity};
+    ghost use Rattle.kalah_run.specs.Limits.{most_places};
+    ghost use Rattle.kalah_run.specs.Queue.States.{QueueState};
+
+    ghost Value = { QueueState };
+
+    ghost view = { λ q. record { id = q.pairs.table.shared.table_id; capacity = ruled_capacity q.pairs } };
+
+    ghost invariant = { λ q. ruled_capacity q.pairs ≤ most_places };
+}
+
+impl ResultsQueue {
+    /// A queue that holds up to `capacity` outcomes, 1 to 1024, with a pass to put for each of the `workers`, 1 to 64, in
+    /// the order of their numbers from 0 on, and the one pass to get. Nothing was sent or got yet. An error only where
+    /// memory was refused.
+    pub fn open(
+        alloc: Global,
+        capacity: u32,
+        workers: u32,
+    ) -> Result<(ResultsQueue, Vec<PutPass>, GetPass), AllocError>
+        requires capacity { AreQueuePlaces capacity }
+        requires workers { AreWorkers workers }
+        ensures queue { IfOk result (λ r. r.0.capacity ≡ capacity) }
+        ensures puts { IfOk result (λ r. (vec_len r.1 ≡ workers) × ArePassesFrom r.0.id 0 r.1.items × All (λ p. p.sent ≡ []) r.1.items) }
+        ensures get { IfOk result (λ r. r.2 ≡ record { queue = r.0.id; workers = workers; got = [] }) }
+    {
+        let mut puts = Vec::with_capacity(alloc, workers as usize)?;
+        let (pairs, mut ruled) = RuledQueue::ruled(alloc, capacity as usize)?;
+        for number in 0..workers {
+            let theirs = pairs.another::<AnotherWorker>(&mut ruled);
+            puts.push_reserved(PutPass {
+                ruled: theirs,
+                number,
+            });
+        }
+        let queue = ResultsQueue {
+            pairs,
+            getters: CachePadded::new(Waiters::new()),
+            putters: CachePadded::new(Waiters::new()),
+        };
+        Ok((queue, puts, GetPass { ruled, workers }))
+    }
+
+    /// Puts the outcome behind all that this worker has sent. Waits while the queue is full: after a short spin it sleeps.
+    pub fn put<R: Wait>(&self, rt: &R, pass: &mut PutPass, outcome: Outcome)
+        requires { pass.old.queue ≡ self.now.id }
+        ensures { pass.new ≡ record pass.old { sent = pass.old.sent ++ outcome ∷ [] } }
+    {
+        let mut pair = Tagged {
+            worker: pass.number,
+            outcome,
+        };
+        let mut waiting = Waiting::new(&self.putters);
+        for _ in rt.forever() {
+            match self.pairs.try_push_as::<Puts>(&mut pass.ruled, pair) {
+                Ok(()) => {
+                    drop(waiting);
+                    self.getters.call_one();
+                    return;
+                }
+                Err(back) => pair = back,
+            }
+            waiting.pause(rt);
+        }
+        unreachable!()
+    }
+
+    /// Takes an outcome out, the next of one of the workers, and answers it. Waits while there is none: after a short spin it
+    /// sleeps.
+    pub fn get<R: Wait>(&self, rt: &R, pass: &mut GetPass) -> Outcome
+        requires { pass.old.queue ≡ self.now.id }
+        ensures { HasGot pass.old result pass.new }
+    {
+        let mut waiting = Waiting::new(&self.getters);
+        for _ in rt.forever() {
+            if let Some(pair) = self.pairs.try_pop_as::<Gets>(&mut pass.ruled) {
+                drop(waiting);
+                self.putters.call_one();
+                return pair.outcome;
+            }
+            waiting.pause(rt);
+        }
+        unreachable!()
+    }
+
+    // As `get`, but without sleep: None, with nothing got, where so many tries find no outcome. A try that finds none is spent. Only
+    // the first few of them yield the processor, so that they soon end also on a busy machine.
+    pub(crate) fn get_soon(&self, pass: &mut GetPass, tries: &mut u32) -> Option<Outcome>
+        requires { pass.old.queue ≡ self.now.id }
+        ensures pass { MatchOption result (pass.new ≡ pass.old) (λ outcome. HasGot pass.old outcome pass.new) }
+        ensures spent { MatchOption result (tries.new ≡ 0) (λ _. tries.new ≤ tries.old) }
+    {
+        let backoff = Backoff::new();
+        while *tries > 0 {
+            if let Some(pair) = self.pairs.try_pop_as::<Gets>(&mut pass.ruled) {
+                self.putters.call_one();
+                return Some(pair.outcome);
+            }
+            *tries -= 1;
+            if backoff.is_completed() {
+                spin_shortly();
+            } else {
+                backoff.snooze();
+            }
+        }
+        None
+    }
+
+    /// Ends the queue. Reclaims all its passes, those to put in the order of `open`, and says how many outcomes were
+    /// left inside, which are dropped. What was got and then what was left is, of each worker, what that worker sent.
+    pub fn close<R: Wait>(self, rt: &R, puts: Vec<PutPass>, pass: GetPass) -> ClosedQueue
+        requires puts { (vec_len puts ≡ pass.workers) × ArePassesFrom self.id 0 puts.items }
+        requires get { pass.queue ≡ self.id }
+        ensures whole { (rest : List (ℕ × Job)) × (length rest ≡ result.left) × Accounts pass.workers (sent_by puts.items) (pass.got ++ rest) }
+        ensures few { result.left ≤ self.capacity }
+    {
+        let ResultsQueue {
+            pairs,
+            getters: _,
+            putters: _,
+        } = self;
+        let GetPass { ruled, workers: _ } = pass;
+        let mut ruled = reclaim(&pairs, ruled, puts);
+        let left = pairs.len_as::<LeftInside, R>(rt, &mut ruled);
+        ClosedQueue { left: left as u32 }
+    }
+}
+
+/// What is told of a queue that was closed.
+#[derive(Clone, Copy, Debug, PartialEq, Eq)]
+pub struct ClosedQueue {
+    left: u32,
+}
+
+impl Model for ClosedQueue {
+    ghost use Rattle.kalah_run.specs.Queue.States.{ClosedQueueState};
+
+    ghost Value = { ClosedQueueState };
+
+    ghost view = { λ c. record { left = c.left } };
+
+    ghost inverse = { λ c. record { left = c.left } };
+}
+
+impl ClosedQueue {
+    /// How many outcomes were put and not got.
+    pub fn left(&self) -> u32
+        ensures { result ≡ self.now.left }
+    {
+        self.left
+    }
+}
+
+// Lets a fraction of a microsecond pass. It never yields: on a busy machine the other threads then run for some milliseconds.
+fn spin_shortly() {
+    let backoff = Backoff::new();
+    for _ in 0..3 {
+        backoff.spin();
+    }
+}
+
+// Reclaims all passes to put, in the order of their numbers.
+fn reclaim(pairs: &RuledQueue, mut ruled: RuledPass, puts: Vec<PutPass>) -> RuledPass
+    requires place { IsPassOf pairs.now ruled }
+    requires gets { view ruled ≡ Getting (made_in (view ruled)) (got_in (view ruled)) [] }
+    requires puts { ArePassesFrom ruled.table_id 0 puts.items }
+    ensures place { IsPassOf pairs.now result }
+    ensures known { view result ≡ Getting (made_in (view ruled)) (got_in (view ruled)) (sent_by puts.items) }
+{
+    for put in puts {
+        let PutPass {
+            ruled: theirs,
+            number: _,
+        } = put;
+        pairs.absorb::<Reclaims>(&mut ruled, theirs);
+    }
+    ruled
+}

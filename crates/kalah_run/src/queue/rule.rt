@@ -1,0 +1,102 @@
+//! The rule of the results queue, over the pairs that it holds and what each pass knows.
+use crossbeam_queue::{Pass, RuledArrayQueue, protocol};
+use kalah_jobs::Outcome;
+use std::collections::LinkedList;
+use std::marker::Model;
+
+/// An outcome with the number of the worker that put it. It is seen as that pair.
+#[derive(Clone, Copy)]
+pub struct Tagged {
+    pub worker: u32,
+    pub outcome: Outcome,
+}
+
+impl Model for Tagged {
+    ghost use Rattle.std.specs.Prelude.{ℕ};
+    ghost use Rattle.kalah_jobs.specs.declared.files.job.Job.{Job};
+
+    ghost Value = { ℕ × Job };
+
+    ghost view = { λ t. (t.worker, t.outcome) };
+
+    ghost inverse = { λ pair. record { worker = pair.0; outcome = pair.1 } };
+}
+
+/// What one pass of the queue knows. It exists in contracts alone; no program makes one.
+pub enum QueueView {
+    /// The pass to get: how many passes to put were made, the pairs that were got, and what each worker had sent whose
+    /// pass was reclaimed.
+    Getting(u32, LinkedList<Tagged>, LinkedList<LinkedList<Outcome>>),
+    /// The pass to put of one worker: the worker's number, and what it has sent.
+    Putting(u32, LinkedList<Outcome>),
+    /// A pass to put that was reclaimed.
+    Ended,
+}
+
+/// The rule: between any two steps, of each worker, what was got of it and then what the queue holds of it is what it has
+/// sent, in its order.
+pub struct WholeAndInOrder;
+
+impl protocol::Protocol<Tagged, QueueView> for WholeAndInOrder {
+    ghost use Rattle.kalah_run.specs.Queue.Rule.{IsLawful};
+    ghost use Rattle.kalah_run.specs.Queue.Steps.{first_view};
+
+    ghost holds = { IsLawful };
+
+    ghost first = { first_view };
+}
+
+/// A pass to put is made for the next worker.
+pub struct AnotherWorker;
+
+impl protocol::Split<QueueView> for AnotherWorker {
+    ghost use Rattle.kalah_run.specs.Queue.Steps.{after_making_one, one_made};
+
+    ghost left = { after_making_one };
+
+    ghost right = { one_made };
+}
+
+/// A worker puts an outcome.
+pub struct Puts;
+
+impl protocol::Outcome<Tagged, QueueView> for Puts {
+    ghost use Rattle.std.specs.Prelude.{◌≡◌};
+    ghost use Rattle.kalah_run.specs.Queue.Steps.{after_put};
+
+    ghost then = { λ before pair after. after ≡ after_put before pair };
+}
+
+/// The oldest pair is got.
+pub struct Gets;
+
+impl protocol::Outcome<Tagged, QueueView> for Gets {
+    ghost use Rattle.kalah_run.specs.Queue.Steps.{IsGot};
+
+    ghost then = { IsGot };
+}
+
+/// A worker's pass is reclaimed, and what it has sent is known.
+pub struct Reclaims;
+
+impl protocol::Join<QueueView> for Reclaims {
+    ghost use Rattle.kalah_run.specs.declared.queue.rule.QueueView.TheVariants.{Ended};
+    ghost use Rattle.kalah_run.specs.Queue.Steps.{after_reclaiming_sent};
+
+    ghost both = { after_reclaiming_sent };
+
+    ghost spent = { Ended };
+}
+
+/// What was got, and then what the queue holds, is all that the workers have sent whose passes were reclaimed.
+pub struct LeftInside;
+
+impl protocol::Lesson<Tagged, QueueView> for LeftInside {
+    ghost use Rattle.kalah_run.specs.Queue.Steps.{Tells};
+
+    ghost fact = { Tells };
+}
+
+pub(crate) type RuledQueue = RuledArrayQueue<Tagged, QueueView, WholeAndInOrder>;
+
+pub(crate) type RuledPass = Pass<Tagged, QueueView>;

@@ -1,0 +1,97 @@
+//! Marks of houses: a number with five bits for each house of a row, house 1 lowest, and one in those of each house that is marked.
+ghost use Rattle.std.specs.Prelude.{◌≡◌, ◌↔◌, ◌+◌, ◌-◌, ◌≤◌, ◌<◌, ◌^◌, ℕ, min, length, slice_index};
+ghost use Rattle.kalah_rules.specs.Position.{IsWithinHouses};
+ghost use Rattle.kalah_solve.specs.Tried.{EndsInStore};
+ghost use Rattle.kalah_solve.specs.RowMarks.{cell, each, distances, IsLastMark};
+
+use kalah_rules::Houses;
+
+// Where the other player's houses begin in a key.
+const OTHER_ROW: u64 = 0x4000_0000;
+
+// Each house of a row is marked.
+pub(crate) const ONE_EACH: u64 = 0x210_8421;
+
+// A row with fifteen seeds in each house.
+const FIFTEEN_EACH: u64 = 15 * ONE_EACH;
+
+// For each number of houses a side the marks of all of them.
+static ALL_MARKED: [u64; 7] = [0, 1, 0x21, 0x421, 0x8421, 0x10_8421, 0x210_8421];
+
+// For each number of houses a side the row whose houses all end in the store.
+static ALL_END_IN_STORE: [u64; 7] = [0, 1, 0x22, 0x443, 0x8864, 0x11_0C85, 0x221_90A6];
+
+// All houses of a row of `m`.
+fn all_marked(m: u8) -> u64
+    requires { m ≤ 6 }
+    ensures value { result ≡ each m 1 }
+    ensures small { result < 2 ^ 30 }
+{
+    ALL_MARKED[m as usize]
+}
+
+// A row of `m` houses that all end in the store.
+fn all_end_in_store(m: u8) -> u64
+    requires { m ≤ 6 }
+    ensures { result ≡ distances m }
+{
+    ALL_END_IN_STORE[m as usize]
+}
+
+/// The houses of a row that have seeds.
+pub(crate) fn filled(row: u64) -> u64
+    ensures cells { (i : ℕ) → i < 6 → cell result i ≡ min 1 (cell row i) }
+    ensures small { result < 2 ^ 30 }
+{
+    ((((row & FIFTEEN_EACH) + FIFTEEN_EACH) | row) >> 4) & ONE_EACH
+}
+
+/// The houses of a row of `m` whose last seed would fall into the store, without a lap.
+pub(crate) fn ending_in_store(row: u64, m: u8) -> u64
+    requires { m ≤ 6 }
+    ensures inside { (i : ℕ) → i < m → (0 < cell result i) ↔ (cell row i + i ≡ m) }
+    ensures past { (i : ℕ) → i < 6 → m ≤ i → cell row i ≡ 0 → cell result i ≡ 0 }
+    ensures single { (i : ℕ) → i < 6 → cell result i ≤ 1 }
+    ensures small { result < 2 ^ 30 }
+{
+    filled(row ^ all_end_in_store(m)) ^ all_marked(m)
+}
+
+/// The mover's houses that have seeds.
+pub(crate) fn filled_houses(houses: &Houses) -> u64
+    ensures marked { (i : ℕ) → (0 < cell result i) ↔ (0 < slice_index houses.now.own i) }
+    ensures small { result < 2 ^ 30 }
+    ensures limits { IsWithinHouses houses.now }
+{
+    filled(houses.key() % OTHER_ROW)
+}
+
+/// The mover's houses whose last seed would fall into the store, without a lap.
+pub(crate) fn again_houses(houses: &Houses) -> u64
+    ensures marked { (i : ℕ) → (0 < cell result i) ↔ ((i < length houses.now.own) × EndsInStore houses.now (i + 1)) }
+    ensures small { result < 2 ^ 30 }
+    ensures limits { IsWithinHouses houses.now }
+{
+    ending_in_store(houses.key() % OTHER_ROW, houses.m())
+}
+
+/// The mover's other houses that have seeds.
+pub(crate) fn other_houses(houses: &Houses) -> u64
+    ensures marked { (i : ℕ) → (0 < cell result i) ↔ ((0 < slice_index houses.now.own i) × ¬ EndsInStore houses.now (i + 1)) }
+    ensures small { result < 2 ^ 30 }
+    ensures limits { IsWithinHouses houses.now }
+{
+    let row = houses.key() % OTHER_ROW;
+    filled(row) ^ ending_in_store(row, houses.m())
+}
+
+/// The last house that is marked, and the marks without its own.
+pub(crate) fn split_last(marks: u64) -> (u8, u64)
+    requires some { 0 < marks }
+    requires small { marks < 2 ^ 30 }
+    ensures last { IsLastMark marks result.0 }
+    ensures rest { result.1 ≡ marks - 32 ^ (result.0 - 1) }
+{
+    let place = (63 - marks.leading_zeros()) / 5;
+    (place as u8 + 1, marks - (1 << (5 * place)))
+}
