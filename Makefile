@@ -1,12 +1,12 @@
 # kalah: an exact solver of small positions of Kalah, proved.
 
 PREFIX ?= /usr/local
-# How many processors a check may use: by default all there are, but at most one for each 2 GB of memory.
+# How many processors a check may use: by default all of them, but at most one for each 2 GB of memory.
 JOBS ?= $(shell awk -v all="$$(nproc)" '/^MemTotal/ { some = int($$2 / 2000000); print some < 1 ? 1 : some < all ? some : all }' /proc/meminfo)
 
 .PHONY: all check test install uninstall bench clean
 
-# Proves the program and all that it stands on, and builds ./kalah.
+# Proves the program and all that it depends on, and builds ./kalah.
 all: kalah
 
 kalah: FORCE
@@ -15,12 +15,12 @@ kalah: FORCE
 
 FORCE:
 
-# While you work: the proofs and the tests of what has changed, over the work that earlier checks kept.
+# While you work: proves and tests what has changed, over the results that earlier checks kept.
 check:
 	tests/check
 
-# The test suite: every proof from nothing, the tests and the program's stored run; and, over what that has built, mistakes that the prover
-# must refuse, refused memory, the steps by which threads wait, and trials that are drawn. At the end it prints what each stage took.
+# The test suite: every proof from nothing, the tests and the program's stored run; and, over what that has built, seeded mistakes that
+# the prover must refuse, refused memory, the steps by which threads wait, and random trials. At the end it prints the time of each stage.
 test:
 	tests/gate
 

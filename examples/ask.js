@@ -1,4 +1,4 @@
-// Asks one position after another of one run of kalah, which Node gives a socket to read from.
+// Asks one run of kalah about positions one by one; Node gives it a socket to read from.
 //
 //     node examples/ask.js LINE..
 

@@ -1,4 +1,4 @@
-"""Asks one position after another of one run of kalah: each answer is there before the next position is known.
+"""Asks one run of kalah about positions one by one: each answer is there before the next position is known.
 
     python3 examples/ask.py LINE..
 """

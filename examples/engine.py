@@ -1,4 +1,4 @@
-"""A small engine, as somebody might write it: what each move of a position is worth, by recursion over all that can follow. It has a mistake,
+"""A small engine, as a user might write it: the value of each move of a position, by recursion over all that can follow. It has a mistake,
 which docs/COOKBOOK.md finds. It answers lines of both rules with up to 16 seeds in houses; of a larger position it says so.
 
     python3 examples/engine.py FILE
@@ -11,15 +11,15 @@ MOST_SEEDS = 16
 
 
 def read(line):
-    """The houses and the store of the player to move, those of the other player, and whether a last seed that is alone is captured
-    also where the house across is empty."""
+    """Returns the houses and the store of the player to move, those of the other player, and whether a last seed that is alone is
+    captured also if the house across is empty."""
     words = line.split()
     own, other = (side.split("/") for side in words[:2])
     return [(tuple(int(seeds) for seeds in houses.split(",")), int(store)) for houses, store in (own, other)], words[2:] == ["e"]
 
 
 def after(own, other, house, takes_alone):
-    """The two rows after a move, what the mover's store gains, and whether the mover has another move."""
+    """Returns the two rows after a move, what the mover's store gains, and whether the mover has another move."""
     m = len(own)
     cells = [*own, 0, *other]
     seeds, cells[house] = cells[house], 0
@@ -37,7 +37,7 @@ def after(own, other, house, takes_alone):
 
 
 def values(own, other, takes_alone):
-    """Each legal house with the margin that its move gets, from empty stores on."""
+    """Returns each legal house with the margin that its move gets, from empty stores on."""
     found = {}
     for house, seeds in enumerate(own):
         if seeds:
@@ -51,7 +51,7 @@ def values(own, other, takes_alone):
 
 @cache
 def worth(own, other, takes_alone):
-    """The margin of best play, from empty stores on."""
+    """Returns the margin of best play, from empty stores on."""
     if not (any(own) and any(other)):
         return sum(own) - sum(other)
     return max(values(own, other, takes_alone).values())

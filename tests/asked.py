@@ -1,4 +1,4 @@
-"""What tests/agree tries of `kalah ask`: lines are asked while it runs, and each is answered before the next is read."""
+"""The trials of `kalah ask` for tests/agree: lines are sent while it runs, and each is answered before the next is read."""
 
 import os
 import pty
@@ -16,22 +16,22 @@ from differing import Differs, read_soon
 from drawn import SUBCOMMANDS, TABLES
 from reference import Run
 
-# How many questions are asked one by one of a run.
+# The number of lines that are sent one by one to a run.
 QUESTIONS = 500
 
-# Where the lines come from, and in pieces of how many bytes; None is all at once.
+# The source of the lines, and the size of the pieces in bytes; None is all at once.
 INPUTS = [*product(["pipe", "sockets"], [1, 7, None]), ("file", None), ("terminal", None)]
 
-# How many bytes without a line feed come before an answer, and the most memory that may be taken then, in kilobytes.
+# The number of bytes without a line feed before an answer, and the most memory that may be used then, in kilobytes.
 LONG = 100_000_000
 ROOM = 16_384
 
-# What is asked of one solver, so often that it takes long if each question finds what was learned forgotten.
+# The line that one run answers repeatedly, which takes long if what was learned is lost after each answer.
 AGAIN = b"2,3,2,3,2,3/0 3,2,3,2,3,3/0\n"
 
 
 def terminal():
-    """The two ends of a terminal that shows nothing of what is typed."""
+    """Returns the two ends of a terminal that does not echo what is typed."""
     keyboard, screen = pty.openpty()
     modes = termios.tcgetattr(screen)
     modes[3] &= ~termios.ECHO
@@ -40,7 +40,7 @@ def terminal():
 
 
 def two_ends(place):
-    """What is read of such a place, and what is written into it."""
+    """Returns the end of such a source that is read, and the end that is written."""
     if place == "sockets":
         return tuple(end.detach() for end in socket.socketpair())
     return terminal() if place == "terminal" else os.pipe()
@@ -53,17 +53,17 @@ def write_in_pieces(writer, data, size):
 
 
 class AskTrials:
-    """Trials of `ask`, for the class `Trials`."""
+    """The trials of `ask`, for the class `Trials`."""
 
     def form(self):
-        """`solve` or `values`, and the words that ask for it."""
+        """Returns `solve` or `values`, and the arguments of `ask` for it."""
         form, table = self.drawn.card("asked forms", SUBCOMMANDS), self.drawn.card("asked tables", TABLES)
         options = [[] if form == "solve" else ["--values"], [] if table is None else [f"--table={table}"]]
         self.drawn.chance.shuffle(options)
         return form, ["ask", *options[0], *options[1]]
 
     def asked_one_by_one(self):
-        """Each line is asked once the answer to the one before has come. An answer that is held back never comes."""
+        """Each line is sent once the answer to the previous one has come. A run that buffers an answer hangs."""
         form, words = self.form()
         self.put({})
         reader, writer = two_ends(self.drawn.card("asked through", ["pipe", "sockets"]))
@@ -82,12 +82,12 @@ class AskTrials:
             self.compare(Run(want, b"", status), Run(got, process.stderr.read(), process.wait()))
 
     def asked_at_once(self):
-        """Lines from each place, in pieces of each size, are answered as those of a file."""
+        """Lines from each source, in pieces of each size, are answered as those of a file."""
         place, size = self.drawn.card("asked places", INPUTS)
         form, words = self.form()
         data = self.drawn.file(self.drawn.chance.randint(0, 20 if place == "terminal" else 500))
         if place == "terminal":
-            # The keys of a terminal, of which some would be taken for commands, and the key that ends its input.
+            # Only keys that a terminal does not take for commands; the key that ends its input follows.
             data = b"".join(b"%b\n" % line for line in reference.lines_of(data) if len(line) < 1000 and all(32 <= byte < 127 for byte in line))
         self.put({"asked": data})
         want = reference.asked(form, data)
@@ -110,7 +110,7 @@ class AskTrials:
             os.close(writer)
 
     def asked_in_vain(self):
-        """What can't be read is said, behind the answers to what could; and nothing is read behind an answer that nobody takes."""
+        """Input that can't be read is reported, behind the answers to what could; and nothing is read after an answer can't be written."""
         what = self.drawn.card("asked in vain", ["closed", "folder", "unheard"])
         self.put({})
         if what == "closed":
@@ -121,14 +121,14 @@ class AskTrials:
             self.hear_one_answer()
 
     def hear_one_answer(self):
-        """The reader is gone after the first answer."""
+        """The reader of the output closes it after the first answer."""
         reader, writer = os.pipe()
         with self.start(["ask"], stdin=subprocess.PIPE, stdout=writer, bufsize=0) as process:
             os.close(writer)
             process.stdin.write(b"1/0 1/0\n")
             got = read_soon(reader, 10)
             os.close(reader)
-            # It doesn't wait for the end of what it is asked.
+            # It doesn't wait for the end of its input.
             process.stdin.write(b"3/0 3/0\n")
             said = read_soon(process.stderr.fileno(), 20)
             if not said:
@@ -136,7 +136,7 @@ class AskTrials:
             self.compare(Run(b"0 house 1\n", b"kalah: write failed\n", 2), Run(got, said, process.wait()))
 
     def asked_at_length(self):
-        """A line of any length takes no more memory than another."""
+        """A line of any length takes no more memory than any other."""
         self.put({})
         process = self.start(["ask", "--table", "1"], stdin=subprocess.PIPE)
         piece = b"1" * (1 << 20)
@@ -150,7 +150,7 @@ class AskTrials:
             raise Differs(f"{most} KB were taken for a long line")
 
     def asked_again(self):
-        """What was learned for a question is there for the next: a hundred times the same takes little longer than once."""
+        """What was learned for a line is kept for the next: a hundred equal lines take little longer than one."""
         self.put({})
         spent = []
         for times in (1, 100):
@@ -164,7 +164,7 @@ class AskTrials:
             raise Differs(f"one question took {spent[0]:.2f} s, and a hundred times the same {spent[1]:.2f} s")
 
 
-# How often each of these trials is made before all of them are made again.
+# How often each of these trials is made in one round of all of them.
 ASK_KINDS = {
     "asked_one_by_one": 20,
     "asked_at_once": 2 * len(INPUTS),

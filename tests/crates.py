@@ -6,6 +6,6 @@ TOP = Path(__file__).resolve().parent.parent
 
 
 def crates():
-    """The name of each crate, with those of the libraries that it stands on, lowest first."""
+    """Returns the name of each crate, with those of the libraries that it depends on, lowest first."""
     rows = [line.partition(":") for line in (TOP / "crates.txt").read_text().splitlines()]
     return {head.split()[0]: below.split() for head, _, below in rows}

@@ -1,19 +1,19 @@
-"""What a trial that fails says, and how long one waits for what a run writes."""
+"""The error of a trial that fails, and the time that trials wait for the output of a run."""
 
 import os
 import select
 import time
 
-# The seconds after which an answer is taken not to come while the run goes on.
+# The seconds after which an answer is considered missing while the run goes on.
 SOON = 30
 
 
 class Differs(Exception):
-    """A run has left something else than it has to."""
+    """A run has left something else than it must."""
 
 
 def read_soon(reader, size):
-    """What can be read soon, of so many bytes."""
+    """Reads up to `size` bytes, as far as they come soon."""
     got, end = b"", time.monotonic() + SOON
     while len(got) < size and time.monotonic() < end:
         if select.select([reader], [], [], 0.01)[0]:

@@ -1,6 +1,6 @@
-"""What tests/agree draws, all from one seed: numbers, lines, files, names, and the order of words.
+"""The random data of tests/agree, all from one seed: numbers, lines, files, names, and the order of arguments.
 
-Each list in capitals is a deck: every card of it is drawn before any comes again.
+Each list in capitals is a deck: every card of it is drawn before any is repeated.
 """
 
 import random
@@ -18,10 +18,10 @@ TABLES = [1, 2, 3, 15, 16, 17, 255, 256, 4096, 65_535, 65_536, 65_537, 1_000_000
 # How the lines of a file end, and whether the last one has its line feed.
 ENDINGS = [(ending, last) for ending in ([b"\n"], [b"\r\n"], [b"\n", b"\r\n"]) for last in (True, False)]
 
-# What answers files.
+# The subcommands that answer files.
 SUBCOMMANDS = ["solve", "values"]
 
-# How often a name is that of the file before, and how often that of some file before.
+# How often a name is that of the previous file, and how often that of some earlier file.
 REPEATS = [(0, 0), (0.5, 0), (0, 0.5), (0.3, 0.3), (1, 0)]
 
 NAMES = [
@@ -31,7 +31,7 @@ NAMES = [
     *("./a", "folder/a", "./folder//a", "n" * 255, "./" * 600 + "a", "./" * 2045 + "whole", "folder/" + "../folder/" * 408 + "a"),
 ]
 
-# Names that can't be opened as a file, where there is nothing but a file `a` and a folder `folder`.
+# Names that can't be opened as a file if there is only a file `a` and a folder `folder`.
 NO_FILES = ["b", "", "a ", "A", "a/", "a/b", "folder", ".", "/", "no/a", "n" * 256, "n" * 5000, "./" * 2048 + "a"]
 
 # Lines just within the limits and just past them, and lines that are almost of the form.
@@ -47,29 +47,29 @@ LINES_AT_LIMITS = [
 # Moves after which a store has up to 130 seeds.
 FULL_STORES = [b"3/99 %d/0" % seeds for seeds in range(23, 29)] + [b"1/0 %d/99" % seeds for seeds in range(25, 31)]
 
-# What is wrong with a line, one thing or two at once: more than 80 bytes are always wrong in some other way too.
+# The faults of a line, one or two at once: a line of more than 80 bytes always has some other fault too.
 FAULTS = ["shape", "houses", "seeds", "long shape", "long houses", "long seeds", "shape houses", "shape seeds", "houses seeds"]
 
-# The lines of `moves`: these, lines with these faults, or any. No word has a byte of 0.
+# The lines of `moves`: these, lines with these faults, or any. No argument has a byte of 0.
 LINES_OF_MOVES = [*(line for line in LINES_AT_LIMITS if b"\0" not in line), *FULL_STORES, *FAULTS, *[None] * 80]
 
-# How `--boards` stands among the words: not at all, before the line or behind it.
+# The place of `--boards` among the arguments: missing, before the line or behind it.
 BOARDS = [None, 0, 1]
 
-# What is put into a line, in place of a byte of it or before one.
+# The bytes that are put into a line, in place of a byte of it or before one.
 BITS = [b"", b"0", b"1", b"9", b",", b"/", b" ", b" e", b"\r", b"x", b"-", b"\t", b"\0", b"\xff"]
 
-# The most entries of the tables of all workers together, so that there is memory for them.
+# The most entries of the tables of all workers together, so that they fit in memory.
 MOST_ENTRIES = 1 << 24
 
 
 def is_quick(position):
-    """Whether a line has few seeds, or few houses, or is not read."""
+    """Whether a line has few seeds, or few houses, or can't be read."""
     return isinstance(position, str) or len(position.own.houses) < 3 or sum(position.own.houses + position.other.houses) < 10
 
 
 class Deck:
-    """Cards in an order that is drawn, each once before any comes again."""
+    """Cards in random order, each once before any is repeated."""
 
     def __init__(self, cards):
         self.cards, self.left, self.is_through = list(cards), [], False
@@ -89,11 +89,11 @@ class Drawn:
         self.pool = []
 
     def card(self, name, cards):
-        """The next card of the deck of this name, which has these cards."""
+        """Returns the next card of the deck of this name, which has these cards."""
         return self.decks.setdefault(name, Deck(cards)).draw(self.chance)
 
     def is_through(self):
-        """Whether each deck was drawn through."""
+        """Whether each deck was drawn completely."""
         return bool(self.decks) and all(deck.is_through for deck in self.decks.values())
 
     def happens(self, often):
@@ -103,7 +103,7 @@ class Drawn:
         return self.chance.choice([0, 0, 99, self.chance.randint(0, 99)])
 
     def position(self, most_seeds):
-        """The line of a position of up to so many seeds."""
+        """Returns the line of a position of up to `most_seeds` seeds."""
         m = self.chance.randint(1, 6)
         heaps = self.chance.choices(range(2 * m), k=self.chance.randint(1, 2 * m))
         cells = [0] * (2 * m)
@@ -113,7 +113,7 @@ class Drawn:
         return text(Position(own, other, self.happens(0.5))).encode()
 
     def with_stores(self, line):
-        """The line of the same houses with stores."""
+        """Returns the line of the same houses with stores."""
         own, other, takes_empty = read(line)
         own, other = own._replace(store=self.store()), other._replace(store=self.store())
         return text(Position(own, other, takes_empty)).encode()
@@ -123,7 +123,7 @@ class Drawn:
         return line[:at] + self.chance.choice(bits) + line[at + self.chance.randint(0, 1) :]
 
     def faulty(self, faults):
-        """A line with these faults."""
+        """Returns a line with these faults."""
         m = self.chance.randint(1, 6)
         sizes = [m, m]
         if "houses" in faults:
@@ -137,13 +137,13 @@ class Drawn:
         return self.mutated(line, [b"x", b"-", b"\t", b"\xff"]) if "shape" in faults else line
 
     def line(self):
-        """A line that was drawn before, or a new one."""
+        """Returns a line that was drawn before, or a new one."""
         if len(self.pool) < 500 or self.happens(0.02):
             self.pool.append(self.new_line())
         return self.chance.choice(self.pool)
 
     def new_line(self):
-        """A line that the reference answers quickly."""
+        """Returns a line that the reference answers quickly."""
         if self.happens(0.6):
             return self.position(9)
         if self.happens(0.3):
@@ -154,18 +154,18 @@ class Drawn:
         return line if is_quick(read(line)) else self.new_line()
 
     def line_of_moves(self, card):
-        """The line that is the card, a line with these faults, or any line."""
+        """Returns the line that is the card, a line with these faults, or any line."""
         if card is None:
             return self.chance.choice([self.position(31), self.mutated(self.position(31))]).replace(b"\0", b"")
         return self.faulty(card) if card in FAULTS else card
 
     def line_of_play(self, card):
-        """The line that is the card, a line with these faults, or a line that the reference answers quickly."""
+        """Returns the line that is the card, a line with these faults, or a line that the reference answers quickly."""
         line = self.line() if card is None else self.line_of_moves(card)
         return self.line_of_play(card) if b"\0" in line else line
 
     def words_of_line(self, subcommand, line, options):
-        """The words of `moves` or `play` for this line, and whether boards are drawn."""
+        """Returns the arguments of `moves` or `play` for this line, and whether boards are drawn."""
         boards = self.card("boards", BOARDS)
         flag = [] if boards is None else ["--boards"]
         dashes = ["--"] if line.startswith(b"-") or self.happens(0.2) else []
@@ -173,7 +173,7 @@ class Drawn:
         return [subcommand, *words], bool(flag)
 
     def lines(self, count):
-        """So many lines, of which the last is not empty."""
+        """Returns `count` lines; the last is not empty."""
         lines = [self.line() for _ in range(min(count, 200))]
         if count > len(lines):
             lines += self.chance.choices(lines, k=count - len(lines))
@@ -182,21 +182,21 @@ class Drawn:
         return lines
 
     def file(self, count):
-        """The bytes of a file of so many lines."""
+        """Returns the bytes of a file of `count` lines."""
         endings, has_last = self.card("endings", ENDINGS)
         lines = self.lines(count)
         data = b"".join(chain(*zip(lines, self.chance.choices(endings, k=len(lines)))))
         return data if has_last else data.removesuffix(b"\n")
 
     def file_of_bytes(self, size):
-        """The bytes of a file of so many bytes."""
+        """Returns the bytes of a file of `size` bytes."""
         data = b""
         while len(data) < size:
             data += self.file(200) + b"\n"
         return data[: size - 1] + self.chance.choice([data[size - 1 : size], b"\n"]) if size else b""
 
     def names(self, count):
-        """The names of so many files."""
+        """Returns the names of `count` files."""
         last_one, any_one = self.card("repeats", REPEATS)
         names = []
         for number in range(count):
@@ -210,7 +210,7 @@ class Drawn:
         return names
 
     def options(self):
-        """Options of `solve` and `values`, each as one word or two."""
+        """Yields options of `solve` and `values`, each as one or two arguments."""
         table = self.card("tables", TABLES)
         numbers = {"--table": table}
         if self.happens(0.9):
@@ -222,7 +222,7 @@ class Drawn:
                 yield [f"{option}={digits}"] if self.happens(0.5) else [option, digits]
 
     def words(self, subcommand, names):
-        """The words of `solve` or `values` for these files, in one of the orders that are taken."""
+        """Returns the arguments of `solve` or `values` for these files, in one of the accepted orders."""
         flag = next((at for at, name in enumerate(names) if name.startswith("-") and name != "-"), None)
         cut = len(names) if flag is None else flag
         if flag is not None or self.happens(0.3):

@@ -1,6 +1,6 @@
-"""What the program has to answer, read from docs/RULES.md and docs/FORMAT.md and from nothing else.
+"""What the program must answer, by docs/RULES.md and docs/FORMAT.md and nothing else.
 
-Best play is a plain recursion with a memory, quick for few seeds. Each subcommand is a function of what its words ask for.
+Best play is a plain memoized recursion, quick for few seeds. Each subcommand is a function of what its arguments ask for.
 """
 
 import re
@@ -18,11 +18,11 @@ NUMBER = b"(?:0|[1-9][0-9]?)"
 SIDE = b"(%b(?:,%b)*)/(%b)" % (NUMBER, NUMBER, NUMBER)
 FORM = re.compile(b"%b %b( e)?" % (SIDE, SIDE))
 
-# A position is seen by the player to move, and played by the empty-capture rule where `takes_empty`.
+# A position is seen by the player to move, and played by the empty-capture rule if `takes_empty`.
 Side = namedtuple("Side", "houses store")
 Position = namedtuple("Position", "own other takes_empty")
 
-# What a run of the program leaves: the bytes of its two outputs, and its status.
+# The result of a run of the program: the bytes of its two outputs, and its status.
 Run = namedtuple("Run", "out err status")
 
 # The margin of best play and the best house of positions with empty stores.
@@ -30,7 +30,7 @@ known = {}
 
 
 def read(line):
-    """The position that a line writes, or the word for what is wrong with it."""
+    """Returns the position that a line writes, or the word for its fault."""
     line = line.removesuffix(b"\r")
     if len(line) > MOST_BYTES_OF_A_LINE:
         return "long"
@@ -48,7 +48,7 @@ def read(line):
 
 
 def text(position):
-    """The line that writes a position."""
+    """Returns the line that writes a position."""
     own, other = (",".join(map(str, side.houses)) + f"/{side.store}" for side in position[:2])
     return f"{own} {other}" + " e" * position.takes_empty
 
@@ -58,12 +58,12 @@ def is_over(position):
 
 
 def legal(position):
-    """The houses that may be moved, rising."""
+    """Returns the houses that may be moved, in ascending order."""
     return [] if is_over(position) else [house for house, seeds in enumerate(position.own.houses, 1) if seeds]
 
 
 def after(position, house):
-    """The position that a move leads to, and the word for what comes then."""
+    """Returns the position that a move leads to, and the word for what comes then."""
     own, other, takes_empty = position
     m, lap = len(own.houses), 2 * len(own.houses) + 1
     # The cells of a lap, counted from 0: the own houses, the own store (cell m), the other player's houses.
@@ -85,14 +85,14 @@ def after(position, house):
 
 
 def value(position, house):
-    """The margin that a move leads to, as the player sees it who makes it."""
+    """Returns the margin that a move leads to, for the player who makes it."""
     reached, word = after(position, house)
     margin, _ = best_play(reached)
     return -margin if word == "turn" else margin
 
 
 def best_play(position):
-    """The margin of best play and the lowest-numbered best house; the final margin and None where the game is over."""
+    """Returns the margin of best play and the lowest-numbered best house; the final margin and None if the game is over."""
     own, other, takes_empty = position
     if is_over(position):
         return sum(own.houses) + own.store - sum(other.houses) - other.store, None
@@ -107,7 +107,7 @@ def best_play(position):
 
 @lru_cache(1 << 17)
 def answer(subcommand, line):
-    """The answer of `solve` or `values` to a line of a file, behind the file's name and the line's number."""
+    """Returns the answer of `solve` or `values` to a line of a file, behind the file's name and the line's number."""
     position = read(line)
     if isinstance(position, str):
         return b"fault %b" % position.encode()
@@ -126,14 +126,14 @@ def failed(why):
 
 
 def picture(position):
-    """The position as a board, with the player to move below: each number at the right of a column of four."""
+    """Returns the position as a board, with the player to move below: each number at the right of a column of four."""
     own, other, _ = position
     above, below = ("".join(f"{seeds:4}" for seeds in houses) for houses in (other.houses[::-1], own.houses))
     return f"    {above}\n{other.store:4}{' ' * len(below)}{own.store:4}\n    {below}\n"
 
 
 def move_text(house, reached, word, boards):
-    """What `moves` and `play` print of a move, and the board below it where boards are drawn."""
+    """Returns what `moves` and `play` print of a move, and the board below it if boards are drawn."""
     return f"{house} {text(reached)} {word}\n" + picture(reached) * boards
 
 
@@ -159,13 +159,13 @@ def play(line, boards=False):
 
 
 def asked(subcommand, data):
-    """`kalah ask`, of what `solve` or `values` tells of the lines of these bytes."""
+    """`kalah ask`, with the answers of `solve` or `values` to the lines of these bytes."""
     said = [answer(subcommand, line) for line in lines_of(data)]
     return Run(b"".join(words + b"\n" for words in said), b"", int(any(words.startswith(b"fault") for words in said)))
 
 
 def answers(subcommand, files):
-    """`kalah solve FILE..` or `kalah values FILE..`, of pairs of a name and the bytes there, which are None where they can't be
+    """`kalah solve FILE..` or `kalah values FILE..`, of pairs of a name and the bytes there, which are None if they can't be
     read."""
     if any(b"\n" in name for name, _ in files):
         return failed(b"line feed in a file name")

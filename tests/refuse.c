@@ -1,11 +1,11 @@
-/* Refuses requests for memory, and calls that open or read a file. Loaded by LD_PRELOAD into a program as users get it, it
-   counts the calls of all threads from the program's start on, and answers some of them by an error:
+/* Refuses requests for memory, and calls that open or read a file. Loaded by LD_PRELOAD into the unchanged program, it
+   counts the calls of all threads from the program's start on, and lets some of them fail:
 
        REFUSE_MEMORY=5-5    the fifth request for memory alone; REFUSE_MEMORY=5- is the fifth and each later one
        REFUSE_FILES=3-3     the third call that opens or reads a file
        REFUSE_TOLD=FILE     a line for each call that failed, refused here or not: `memory`, or `file` and its path
 
-   What stands behind malloc and its kin is called by the C library's own names, so that nothing has to be looked up. */
+   The functions behind malloc and its kin are called by the C library's own names, so that no look-up is needed. */
 #define _GNU_SOURCE
 #include <errno.h>
 #include <fcntl.h>
@@ -80,7 +80,7 @@ int posix_memalign(void **at, size_t align, size_t size) {
     return 0;
 }
 
-/* What a call gave that opened or read the file of this path; a failure is told. */
+/* The result of a call that opened or read the file of this path; a failure is reported. */
 static long done(long gave, const char *path) {
     int why = errno;
     if (gave < 0) tell("file ", path);

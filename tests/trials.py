@@ -1,4 +1,4 @@
-"""What tests/agree tries: runs of the program, and what has to come of them."""
+"""The trials of tests/agree: runs of the program, and their required results."""
 
 import os
 import pty
@@ -10,7 +10,7 @@ import tempfile
 import time
 import tty
 from contextlib import suppress
-from itertools import product, takewhile, zip_longest
+from itertools import product, zip_longest
 from pathlib import Path
 
 import reference
@@ -21,10 +21,10 @@ from reference import Run
 
 TESTS = Path(__file__).resolve().parent
 
-# The recursion of the reference goes as deep as a game has moves.
+# The recursion of the reference is as deep as a game has moves.
 sys.setrecursionlimit(100_000)
 
-# Words that are not taken, or are no text, where there is a file `a`; those of `solve` are none of `values` either.
+# Arguments that are refused, or are no text, if there is a file `a`; those of `solve` are refused for `values` too.
 MISTAKES = [
     *([], ["stop"], ["help"], ["Solve", "a"], ["--version=1"], ["--versio"], ["-x"], [""], ["--", "solve", "a"], ["--workers", "1", "solve", "a"]),
     *(["moves"], ["moves", "--"], ["moves", "-1/0 1/0"], ["moves", "1/0 1/0", "1/0 1/0"], ["moves", "--workers", "1", "1/0 1/0"]),
@@ -44,12 +44,12 @@ MISTAKES += [["values", *words[1:]] for words in MISTAKES if words[:1] == ["solv
 
 HELP = [["--help"], ["-h"], ["moves", "--help"], ["moves", "-h"], ["play", "--help"], ["solve", "--help"], ["solve", "-h"], ["solve", "a", "-h"], ["values", "--help"], ["values", "a", "-h"], ["ask", "--help"], ["ask", "-h"]]
 
-# Words that ask for the version before anything else.
+# Arguments that ask for the version before anything else.
 VERSION = [["--version"], ["-V"], ["-V", "-h"], ["--version", "stop"], ["-V", "solve", "a"], ["--version", "--version"], ["-V", "--", "a"]]
 
 PROGRAM_NAMES = ["kalah", "./kalah", "/bin/kalah", "k l", "é", "-", "--help"]
 
-# The names that `solve` or `values` is given, and the size of the file `a`, which is all there is.
+# The names that `solve` or `values` is given, and the size of `a`, the only file.
 LIMITS = [
     (["a"] * 256 + ["./a"], 8),
     (["a"] * 398 + ["b"], 8),
@@ -60,12 +60,12 @@ LIMITS = [
     (["a"], reference.MOST_BYTES_OF_A_FILE + 1),
 ]
 
-# Standard streams as a shell takes them, and those of them that take no answer.
+# Redirections of the standard streams, and those among them that accept no answer.
 NO_READER = "a pipe that nobody reads"
 TAKE_NO_ANSWER = [">&-", ">/dev/full", "<&- >&- 2>&-", NO_READER]
 STREAMS = ["<&-", "2>&-", "2>/dev/full", *TAKE_NO_ANSWER]
 
-# Runs that answer, that have a line which isn't read, and that fail, each with each of the standard streams.
+# Runs that answer, that have a line which can't be read, and that fail, each with each of the redirections.
 A_AND_FAULT = b"1/0 1/0\n1/0"
 RUNS = [
     (["moves", "1,1/0 1,1/0"], reference.moves(b"1,1/0 1,1/0")),
@@ -78,31 +78,31 @@ RUNS = [
 ]
 STREAMS_OF_RUNS = list(product(STREAMS, RUNS))
 
-# Where answers are read while the run goes on, and how many lines stand before one that takes long.
+# The output from which answers are read while the run goes on, and the number of lines before one that takes long.
 FIRST_ANSWERS = list(product(["pipe", "terminal", "file"], [1, 64, 65, 1000]))
 
-# Where the first position of a game is read, whose first move takes half a minute with a table of one entry.
+# The output from which the first position of a game is read; its first move takes half a minute with a table of one entry.
 FIRST_PICTURES = ["pipe", "terminal", "file"]
 LONG_GAME = b"3,2,1,4,4,3/0 1,0,1,3,4,5/0"
 
-# How many workers are seen at work.
+# The numbers of workers that are observed at work.
 BUSY_WORKERS = [2, 3, 5, 16, 64]
 
-# How many lines more workers are asked for than there are.
+# The numbers of lines, with more workers than lines.
 FEW_LINES = [1, 2, 3, 7]
 
-# Where standard error goes that progress is shown on.
+# The standard error on which progress is shown.
 PROGRESS = ["pipe", "terminal", "file", "/dev/full", "closed"]
 
-# With a table of one entry each of these lines takes seconds, and there are so many that no run comes to their end.
+# With a table of one entry each of these lines takes seconds, so no run finishes all of them.
 HARD = b"2,3,2,3,2,3/0 3,2,3,2,3,3/0\n" * 1000
 
-# The seconds after which a run is taken to have no end.
+# The seconds after which a run counts as endless.
 PATIENCE = 120
 
 
 def difference(want, got):
-    """What differs first between two runs."""
+    """Returns the first difference between two runs."""
     for stream, wanted, found in (("output", want.out, got.out), ("error", want.err, got.err)):
         for number, (line, other) in enumerate(zip_longest(wanted.split(b"\n"), found.split(b"\n")), 1):
             if line != other:
@@ -122,7 +122,7 @@ def is_text(word):
 
 
 def stored_lines():
-    """The lines of tests/answers.txt, whose answers are known from now on."""
+    """Returns the lines of tests/answers.txt, and makes their answers known to the reference."""
     rows = [row.split("\t") for row in (TESTS / "answers.txt").read_text().splitlines() if not row.startswith("#")]
     for line, answer in rows:
         margin, _, house = answer.split()
@@ -130,15 +130,19 @@ def stored_lines():
     return [line.encode() for line, _ in rows]
 
 
-def printed(word):
-    """What the program prints for this word, as the README shows it."""
-    _, rest = (TESTS.parent / "README.md").read_text().split(f"    $ kalah {word}\n")
-    lines = takewhile(lambda line: not line or line.startswith("    ") and line[4:6] != "$ ", rest.split("\n"))
-    return ("\n".join(line[4:] for line in lines).rstrip("\n") + "\n").encode()
+def version_line():
+    """Returns what the program prints for `--version`, as docs/FORMAT.md shows it."""
+    _, rest = (TESTS.parent / "docs/FORMAT.md").read_text().split("    $ kalah --version\n")
+    return (rest.partition("\n")[0].strip() + "\n").encode()
+
+
+def help_text(name):
+    """Returns the help of a program of this name: that of tests/help.txt, which names it `kalah` in its usage line."""
+    return (TESTS / "help.txt").read_bytes().replace(b"Usage: kalah ", b"Usage: " + name + b" ")
 
 
 def two_ends(place):
-    """The two ends of a pipe, of a terminal or of a new file: what is written into the second is read from the first."""
+    """Returns the two ends of a pipe, of a terminal or of a new file: what is written to the second is read from the first."""
     if place == "pipe":
         return os.pipe()
     if place == "terminal":
@@ -152,7 +156,7 @@ def two_ends(place):
 
 
 def read_all(reader):
-    """What is read until all writers are gone."""
+    """Reads until all writers are closed."""
     got = b""
     with suppress(OSError):
         while piece := os.read(reader, 65536):
@@ -161,7 +165,7 @@ def read_all(reader):
 
 
 def busy_threads(process):
-    """How many threads of the process, but for its first, were at work for two ticks of the clock or more."""
+    """Returns how many threads of the process, except its first, were at work for two ticks of the clock or more."""
     busy = 0
     for thread in Path(f"/proc/{process.pid}/task").iterdir():
         with suppress(FileNotFoundError):
@@ -171,7 +175,7 @@ def busy_threads(process):
 
 
 class Trials(AskTrials):
-    """Trials of a program, each of which draws words and files, runs the program and compares what it leaves."""
+    """Trials of a program. Each draws arguments and files, runs the program and compares the result."""
 
     def __init__(self, program, seed, folder):
         self.program, self.folder, self.files = program, folder, folder / "files"
@@ -181,19 +185,19 @@ class Trials(AskTrials):
         self.kind = self.executable = ""
 
     def make_one(self):
-        """Makes one trial, of a kind that is drawn."""
+        """Makes one trial of a random kind."""
         self.kind = self.drawn.card("kinds", [kind for kind, times in KINDS.items() for _ in range(times)])
         getattr(self, self.kind)()
 
     def put(self, files):
-        """Makes a folder that has these files and a folder `folder`, and nothing else."""
+        """Makes a folder with only these files and a folder `folder`."""
         shutil.rmtree(self.files, ignore_errors=True)
         (self.files / "folder").mkdir(parents=True)
         for name, data in files.items():
             (self.files / name).write_bytes(data)
 
     def start(self, words, name="kalah", executable=None, **streams):
-        """Starts the program, and keeps its words, each with a byte of 0 behind it."""
+        """Starts the program, and stores its arguments, each followed by a byte of 0."""
         (self.folder / "words").write_bytes(b"".join(os.fsencode(word) + b"\0" for word in words))
         self.runs += 1
         self.executable = executable or self.program
@@ -201,11 +205,11 @@ class Trials(AskTrials):
         return subprocess.Popen([name, *words], executable=self.executable, cwd=self.files, **streams)
 
     def words(self):
-        """The words of the last run."""
+        """Returns the arguments of the last run."""
         return (self.folder / "words").read_bytes().split(b"\0")[:-1]
 
     def run(self, words, name="kalah", **streams):
-        """What a run leaves."""
+        """Returns the result of a run."""
         return self.end_of(self.start(words, name, **streams))
 
     def end_of(self, process):
@@ -253,7 +257,7 @@ class Trials(AskTrials):
         self.answer([("a", b"\n".join(lines))], "solve")
 
     def unread_files(self):
-        """The first name that can't be opened is told; files stand before it, and others behind it."""
+        """The first name that can't be opened is reported; there are files before it, and more names behind it."""
         there = ("a", self.drawn.file(2))
         behind = self.drawn.chance.choices([there, *((name, None) for name in NO_FILES)], k=self.drawn.chance.randint(0, 3))
         self.answer([there] * self.drawn.chance.randint(0, 10) + [(self.drawn.card("no files", NO_FILES), None), *behind])
@@ -264,7 +268,7 @@ class Trials(AskTrials):
         self.answer([(name, there.get(os.path.normpath(name))) for name in names])
 
     def a_pipe_as_file(self):
-        """The bytes of a file come piece by piece."""
+        """The bytes of a file arrive in pieces."""
         data = rest = self.drawn.file(self.drawn.chance.randint(0, 500))
         self.put({})
         subcommand = self.subcommand()
@@ -294,7 +298,7 @@ class Trials(AskTrials):
         self.compare(want, self.run(words))
 
     def mistakes(self):
-        """Of what is said of words that are not taken only the beginning is compared: the rest is the command line's own."""
+        """Of the message for refused arguments only the start is compared: the rest is the command line's own."""
         self.put({"a": b"1/0 1/0"})
         words = self.drawn.card("mistakes", MISTAKES)
         got = self.run(words, self.drawn.card("program names", PROGRAM_NAMES))
@@ -304,24 +308,24 @@ class Trials(AskTrials):
             self.compare(reference.failed(b"a word is not UTF-8"), got)
 
     def help(self):
-        """Help names the program by the last part of its first word. That of the program is in the README."""
+        """Help names the program by the last part of its first word. The program's own help is compared whole."""
         self.put({"a": b"1/0 1/0"})
         words, name = self.drawn.card("help", HELP), self.drawn.card("names in help", PROGRAM_NAMES)
-        usage = b"Usage: " + os.path.basename(name).encode() + b" "
+        own_name = os.path.basename(name).encode()
         got = self.run(words, name)
-        want = printed("--help").replace(b"Usage: kalah ", usage) if words == ["--help"] else got.out
-        self.compare(Run(want, b"", 0), got)
+        self.compare(Run(help_text(own_name) if words == ["--help"] else got.out, b"", 0), got)
+        usage = b"Usage: " + own_name + b" "
         if usage not in got.out:
             raise Differs(f"no {usage} in {got.out}")
 
     def version(self):
-        """The version names the program `kalah`, whatever its first word is."""
+        """The version names the program `kalah`, for any first argument."""
         self.put({"a": b"1/0 1/0"})
         words, name = self.drawn.card("version", VERSION), self.drawn.card("names in version", PROGRAM_NAMES)
-        self.compare(Run(printed("--version"), b"", 0), self.run(words, name))
+        self.compare(Run(version_line(), b"", 0), self.run(words, name))
 
     def streams(self):
-        """Standard streams are closed, or take nothing."""
+        """Standard streams are closed, or accept nothing."""
         streams, (words, want) = self.drawn.card("streams", STREAMS_OF_RUNS)
         self.put({"a": A_AND_FAULT})
         if want.out and streams in TAKE_NO_ANSWER:
@@ -377,7 +381,7 @@ class Trials(AskTrials):
             raise Differs("the run has ended, though its first move takes long")
 
     def busy_workers(self):
-        """As many threads are at work side by side as workers are asked for."""
+        """The number of threads that work in parallel is the requested number of workers."""
         workers = self.drawn.card("busy workers", BUSY_WORKERS)
         self.put({"a": HARD})
         with self.start([self.subcommand(), "--table", "1", "--workers", f"{workers}", "a"]) as process:
@@ -390,7 +394,7 @@ class Trials(AskTrials):
             raise Differs(f"{busy} threads are at work")
 
     def few_lines(self):
-        """A run with fewer lines than workers starts one thread, which starts no more than one for each line."""
+        """A run with fewer lines than workers starts one thread, which starts at most one for each line."""
         lines = self.drawn.card("few lines", FEW_LINES)
         self.put({"a": b"".join(HARD.splitlines(keepends=True)[:lines])})
         with self.start([self.subcommand(), "--table", "1", "--workers", "64", "a"]) as process:
@@ -403,7 +407,7 @@ class Trials(AskTrials):
             raise Differs(f"of {threads} threads {busy} are at work on {lines} lines")
 
     def progress(self):
-        """Standard error shows how many lines are answered, and standard output is what it is without."""
+        """Standard error shows how many lines are answered, and standard output is the same as without."""
         place = self.drawn.card("progress", PROGRESS)
         files = [(name, self.drawn.file(self.drawn.chance.choice([0, 1, 7, 150, 2500]))) for name in ("a", "b")]
         self.put(dict(files))
@@ -428,7 +432,7 @@ class Trials(AskTrials):
         self.look_at_progress(shown.decode(), want.out.count(b"\n"), place == "terminal")
 
     def look_at_progress(self, shown, lines, in_place):
-        """The numbers that were shown rise from none to all lines, each with its share."""
+        """The shown numbers rise from none to all lines, each with its share."""
         end = "" if in_place else "\n"
         rows = re.findall(r"\r?kalah: (\d+) of (\d+) lines, (\d+) %\n?", shown)
         counts = [int(answered) for answered, _, _ in rows]
@@ -440,7 +444,7 @@ class Trials(AskTrials):
             raise Differs(f"progress is shown twice for one share: {shown[:300]!r}")
 
 
-# How often each trial is made before all of them are made again.
+# How often each trial is made in one round of all of them.
 KINDS = {
     "many_files": len(FILES),
     "many_bytes": len(BYTES),

@@ -1,4 +1,4 @@
--- What was begun, of what words ask for.
+-- What was begun, of what the arguments ask for.
 use Rattle.std.proofs.Common.{◌≡◌, ◌⊎◌, inl, inr, ℕ, Bool, List, [], ◌∷◌, ◌++◌, Option, ap, append-nil, append_assoc, length, map, refl, subst, sym, take, ◌+◌, ◌∙◌}
 use Rattle.std.specs.Io.KnownBytes.{Appends, Keeps}
 use Rattle.kalah_rules.specs.Position.{Position, HasEqualSides}
@@ -24,15 +24,15 @@ use Rattle.std.proofs.Math.Seq.{take-append-add}
 use Rattle.kalah_cli.proofs.Laws.{taken_once}
 use Rattle.kalah_cli.proofs.Played.{of_any}
 
--- all was written, and then handed on
+-- all was written, and then flushed
 pub begins_all : (old between new : Option (List ℕ)) (bs : List ℕ) → Appends old between bs → Keeps between new → AppendsStart old new bs
 begins_all old between new bs all keeps = start_then old between new bs bs [] (sym (append-nil bs)) all (start_kept_all between new [] keeps)
 
--- the line of a move, and then the position after it, where boards are drawn
+-- the line of a move, and then the position after it, if boards are drawn
 pub move_parts : (boards : Bool) (h : ℕ) (s : Step) → move_lines boards h s ≡ (step_text_of h s ++ line_feed ∷ []) ++ board_lines boards (position_after s)
 move_parts boards h s = sym (append_assoc (step_text_of h s) (line_feed ∷ []) (board_lines boards (position_after s)))
 
--- the position after a step, whatever comes of it
+-- the position after a step, in each case
 pub after_step : (s : Step) (p : Position) → (s ≡ Again p) ⊎ ((s ≡ Turn p) ⊎ (s ≡ Over p)) → p ≡ position_after s
 after_step s p (inl again) = sym (ap position_after again)
 after_step s p (inr (inl turn)) = sym (ap position_after turn)
@@ -47,7 +47,7 @@ unfolding empty_files
 their_names [] = refl
 their_names (name ∷ names) = ap (λ l. name ∷ l) (their_names names)
 
--- where nothing was written, it is a beginning of what any files give
+-- if nothing was written, it is a prefix of the output of any files
 pub begins_nothing : (question : Question) (names : List (List ℕ)) (old : Option (List ℕ)) → BeginsTo question names old old
 begins_nothing question names old = record { files = empty_files names; named = their_names names; start = start_none old _ }
 
@@ -62,7 +62,7 @@ stops_before_lines question old = record {
   written = subst (Appends old old) (sym (no_answers question)) (Appends-nil old);
 }
 
--- what was begun of the answers to lines, and of that to the next one, is a beginning of all of them
+-- a prefix of the answers to lines, and of that to the next one, is a prefix of all of them
 pub lines_begun : (question : Question) (before after old new : Option (List ℕ)) → IsBegun question before after old new → BeginsLines question old new
 lines_begun question before after old new begun =
     let first = answers_to question begun.lines in
@@ -70,7 +70,7 @@ lines_begun question before after old new begun =
     let all = ap (take (length first + begun.count)) (answers_split question begun.lines begun.last begun.ended) ∙ take-append-add first rest begun.count in
     record { read = begun.lines ++ begun.last; start = (length first + begun.count, subst (Appends old new) (sym all) begun.written) }
 
--- where a read failed
+-- if a read failed
 pub lines_cut_off : (question : Question) (before after old new : Option (List ℕ)) → IsCutOff question before after old new → StopsBetweenLines question old new
 lines_cut_off question before after old new cut = record { lines = cut.lines; ended = cut.ended; written = cut.written }
 
@@ -82,13 +82,13 @@ begins_no_game boards p old even = of_any boards p _ even (λ lines. start_none 
 pub even_read : (line : List ℕ) (p : Position) → Reads line p → HasEqualSides p
 even_read line p reads = record { same = reads.sides.same_side }
 
--- so nothing is a beginning of all that is asked
+-- so nothing is a prefix of all that is asked
 pub begins_none : (a : Asked) (old : Option (List ℕ)) → Begins a old old
 begins_none (moves boards line) old = λ p reads. start_none old _
 begins_none (play table boards line) old = λ p reads. begins_no_game boards p old (even_read line p reads)
 begins_none (answers question workers table progress names) old = begins_nothing question names old
 begins_none (ask question table) old = no_lines_begun question old
 
--- what was begun of a request was begun of what its words are taken as
+-- what was begun of a request was begun of what its arguments ask for
 pub begun_as : (words : List Text) (a b : Asked) (old new : Option (List ℕ)) → IsTakenAs words a → IsTakenAs words b → Begins a old new → Begins b old new
 begun_as words a b old new one other begun = subst (λ x. Begins x old new) (taken_once words a b one other) begun

@@ -1,4 +1,4 @@
--- What the getters give, by the rows of the matches.
+-- What the getters return, by the rows of the matches.
 use Rattle.std.proofs.Common.{◌≡◌, ◌∙◌, ◌<◌, ◌≤◌, ℕ, Bool, true, false, refl, sym, ap, subst, List, [], Option, Some, None, Result, Ok, Err, is_some, arith, codes, map, length, inl, inr}
 use Rattle.std.specs.Prelude.{option_map, option_and_then, IfErr, IsErrAnd, MatchResult}
 use Rattle.clap.specs.Values.{kind_of}
@@ -41,7 +41,7 @@ pub number_reads : (E : Type 0) (G : List ℕ → Result ℕ E → Type 0) (t : 
 number_reads E G t (Some v) h only p = (v, refl, (only t (Ok v) h).1)
 number_reads E G t None h only p = absurd (only t (Err h.0) h.1 (p.0, omega arith))
 
--- the typed getter gives the number of the id
+-- the typed getter returns the number of the id
 pub number_read : (E : Type 0) (G : List ℕ → Result ℕ E → Type 0) (f : Found) (id : List ℕ) (r : Option ℕ)
     → ((t : List ℕ) → one_text f id ≡ Some t → ReadsOne G t r)
     → ((u : List ℕ) (x : Result ℕ E) → G u x → ParsesUnsigned 32 10 u x) → HasNumber id most_entries (rows_of f)
@@ -103,7 +103,7 @@ answers_need question m rows taken named listed =
 abbrev Reads : Text → List Row → ℕ → Type 0
 Reads id rows n = (t : List ℕ) → one_of id rows ≡ Some t → n ≡ number_written t
 
--- the getter of a flag tells whether it is set
+-- the getter of a flag determines whether it is set
 pub flag_read : (f : Found) (id : Text) (r : Bool) → HasFlag id (rows_of f) → (one_text f id ≡ None → r ≡ false)
     → (one_text f id ≡ Some (codes "true") → r ≡ true) → (one_text f id ≡ Some (codes "false") → r ≡ false) → r ≡ is_set id (rows_of f)
 flag_read f id r has absent set unset = go (one_of id (rows_of f)) refl
@@ -115,7 +115,7 @@ flag_read f id r has absent set unset = go (one_of id (rows_of f)) refl
       | inr said ↦ let at : one_of id (rows_of f) ≡ Some (codes "false") = is ∙ ap (λ x. Some x) said in rw (unset (one_text-rows f id ∙ at), at) refl
     ]
 
--- what the getters give is what the matches of `play` ask for
+-- what the getters return is what the matches of `play` ask for
 pub game_is : (rows : List Row) (has : IsPlay rows) (table : ℕ) (boards : Bool) (line : Text) → Reads (codes "table") rows table
     → boards ≡ is_set (codes "boards") rows → first_of (codes "line") rows ≡ Some line → play_asked rows ≡ Some (play table boards line)
 game_is rows has table boards line is_table is_boards is_line = rw (has.0.1, is_line, is_table has.0.0 has.0.1, is_boards) refl
@@ -127,7 +127,7 @@ game_in_range rows has table is_table =
     let b = has.0.2 in
     (rw t b.2, rw t b.3)
 
--- what the getters give is what the matches of `ask` ask for
+-- what the getters return is what the matches of `ask` ask for
 pub ask_is : (rows : List Row) (has : IsAsk rows) (table : ℕ) (values : Bool) → Reads (codes "table") rows table → values ≡ is_set (codes "values") rows
     → ask_asked rows ≡ Some (ask (question_of values) table)
 ask_is rows has table values is_table is_values = rw (has.1.1, is_table has.1.0 has.1.1, is_values) refl
@@ -139,7 +139,7 @@ ask_in_range rows has table is_table =
     let b = has.1.2 in
     (rw t b.2, rw t b.3)
 
--- what the getters give is what the matches of `solve` and `values` ask for
+-- what the getters return is what the matches of `solve` and `values` ask for
 pub answers_are : (question : Question) (rows : List Row) (has : IsAnswers rows) (workers table : ℕ) (progress : Bool) (files : List Text)
     → Reads (codes "workers") rows workers → Reads (codes "table") rows table → progress ≡ is_set (codes "progress") rows
     → Some files ≡ all_of (codes "file") rows → answers_asked question rows ≡ Some (answers question workers table progress files)
@@ -160,7 +160,7 @@ answers_in_range rows has workers table files is_workers is_table is_files =
     let b = has.table.2 in
     (rw w a.2, rw w a.3, rw t b.2, rw t b.3, omega arith)
 
--- what the matches ask for is what the words ask for
+-- what the matches ask for is what the arguments ask for
 pub asked_is : (a : App) (words : List Text) (o : Option (Text × List Row)) (x : Asked) → a ≡ kalah_app
     → (is_simple a ≡ true → o ≡ subcommand_of a words) → option_and_then asked_by o ≡ Some x → asked words ≡ Some x
 asked_is a words o x is rows e =
@@ -168,7 +168,7 @@ asked_is a words o x is rows e =
     rows (ap is_simple is ∙ kalah_is_simple) ∙ ap (λ b. subcommand_of b words) is in
     ap (option_and_then asked_by) (sym same) ∙ e
 
--- an error of the parse has a kind of the words' fault
+-- an error of the parse has a kind of the arguments' fault
 pub taken_fault : (a : App) (words : List Text) (e : Error) → a ≡ kalah_app → (is_simple_and_free a ≡ true → HasKind (fault_of a words) e)
     → HasKind (fault_of kalah_app words) e
 taken_fault a words e is has = subst (λ b. HasKind (fault_of b words) e) is (has (ap is_simple_and_free is ∙ app_is_simple))
@@ -182,12 +182,12 @@ pub failed_err : {T E : Type 0} (r : Result T E) (e : E) (Q : E → Type 0) → 
 failed_err (Ok x) e Q is h = absurd is
 failed_err (Err y) e Q is h = subst Q (sym is) h
 
--- an error of words without a fault is want of memory
+-- an error of arguments without a fault is out of memory
 pub by_memory_alone : (words : List Text) (e : Error) → HasKind (fault_of kalah_app words) e → fault_of kalah_app words ≡ [] → kind_of e ≡ OutOfMemory
 by_memory_alone words e has none =
     elim (subst (λ ks. HasKind ks e) none has) [ inl memory ↦ memory | inr bad ↦ absurd bad ]
 
--- want of memory fails as it must, whatever the words
+-- out of memory fails as it must, for any arguments
 pub failed_by_memory : {T : Type 0} (r : Result T Error) (P : T → Type 0) (Q : Error → Type 0) → IsErrAnd r (λ e. kind_of e ≡ OutOfMemory)
     → ((e : Error) → kind_of e ≡ OutOfMemory → Q e) → MatchResult r P Q
 failed_by_memory (Ok x) P Q is all = absurd is

@@ -8,7 +8,7 @@ abbrev pub AllOf : {X : Type 0} → (X → Type 0) → List X → Type 0
 AllOf Q [] = ⊤
 AllOf Q (x ∷ xs) = Q x × AllOf Q xs
 
--- it holds of two lists, so of one after the other
+-- it holds of two lists, so of their concatenation
 pub both_all : {X : Type 0} (Q : X → Type 0) (xs ys : List X) → AllOf Q xs → AllOf Q ys → AllOf Q (xs ++ ys)
 both_all Q [] ys p q = q
 both_all Q (x ∷ xs) ys p q = (p.0, both_all Q xs ys p.1 q)

@@ -1,4 +1,4 @@
--- What the command line makes of words, as laws over the definitions.
+-- How the command line reads arguments, as laws over the definitions.
 use Rattle.std.proofs.Common.{◌≡◌, ◌⊎◌, ℕ, true, false, refl, List, [], ◌∷◌, Some, None, codes, ◌==◌, ◌∙◌, inl, inr, ap, subst}
 use Rattle.clap.specs.Words.{Row, Text, subcommand_of}
 use Rattle.clap.specs.Faults.{fault_of, is_simple_and_free}
@@ -20,7 +20,7 @@ pub app_is_simple : is_simple_and_free kalah_app ≡ true
 unfolding clap_on_literals
 app_is_simple = refl
 
--- the row of a LINE that the words give
+-- the row of a LINE that is given
 abbrev line_row : Text → Row
 line_row line = record {
   id = codes "line";
@@ -30,7 +30,7 @@ line_row line = record {
   reading = AsWritten;
 }
 
--- the row of an option that the words don't give
+-- the row of an option that is not given
 abbrev pub default_row : Text → Text → Row
 default_row id value = record {
   id = id;
@@ -40,39 +40,39 @@ default_row id value = record {
   reading = AsWritten;
 }
 
--- `moves` and a plain word have no fault
+-- `moves` and a plain argument have no fault
 moves_passes : (name : Text) (x : ℕ) (xs : Text) → (x == 45) ≡ false
     → fault_of kalah_app (name ∷ codes "moves" ∷ (x ∷ xs) ∷ []) ≡ []
 unfolding clap_on_literals
 moves_passes name x xs e = simp e refl
 
--- and their matches are that word, with no boards
+-- and their matches are that argument, with no boards
 moves_matches : (name : Text) (x : ℕ) (xs : Text) → (x == 45) ≡ false
     → subcommand_of kalah_app (name ∷ codes "moves" ∷ (x ∷ xs) ∷ [])
     ≡ Some (codes "moves", line_row (x ∷ xs) ∷ default_row (codes "boards") (codes "false") ∷ [])
 unfolding clap_on_literals
 moves_matches name x xs e = simp e refl
 
--- so they are taken as the moves of that word
+-- so they are accepted as the moves of that line
 pub moves_taken : (name line : Text) → IsPlainWord line → IsTakenAs (name ∷ codes "moves" ∷ line ∷ []) (moves false line)
 moves_taken name [] plain = absurd plain
 moves_taken name (x ∷ xs) plain =
     (moves_passes name x xs (ne_eqb _ _ plain), ap (option_and_then asked_by) (moves_matches name x xs (ne_eqb _ _ plain)))
 
--- `play` and a plain word have no fault
+-- `play` and a plain argument have no fault
 play_passes : (name : Text) (x : ℕ) (xs : Text) → (x == 45) ≡ false
     → fault_of kalah_app (name ∷ codes "play" ∷ (x ∷ xs) ∷ []) ≡ []
 unfolding clap_on_literals
 play_passes name x xs e = simp e refl
 
--- and their matches are that word, with a table of the default size and no boards
+-- and their matches are that argument, with a table of the default size and no boards
 play_matches : (name : Text) (x : ℕ) (xs : Text) → (x == 45) ≡ false
     → subcommand_of kalah_app (name ∷ codes "play" ∷ (x ∷ xs) ∷ [])
     ≡ Some (codes "play", line_row (x ∷ xs) ∷ default_row (codes "table") (codes "65536") ∷ default_row (codes "boards") (codes "false") ∷ [])
 unfolding clap_on_literals
 play_matches name x xs e = simp e refl
 
--- so they are taken as the game of that word
+-- so they are accepted as the game of that line
 pub play_taken : (name line : Text) → IsPlainWord line → IsTakenAs (name ∷ codes "play" ∷ line ∷ []) (play 65536 false line)
 play_taken name [] plain = absurd plain
 play_taken name (x ∷ xs) plain =
@@ -118,7 +118,7 @@ version_of words name is = elim is [
   | inr short ↦ ap (fault_of kalah_app) short ∙ short_version_asked name
 ]
 
--- what such words ask for is the moves of the word
+-- such arguments ask for the moves of the line
 pub moves_given : (words : List Text) (a : Asked) → asked words ≡ Some a → (name line : Text) → words ≡ name ∷ codes "moves" ∷ line ∷ []
     → IsPlainWord line → a ≡ moves false line
 moves_given words a is name line same plain =
@@ -126,14 +126,14 @@ moves_given words a is name line same plain =
     let known = (moves_taken name line plain).1 in
     cc
 
--- they are refused for want of memory alone
+-- they are refused only for lack of memory
 pub moves_by_memory : (words : List Text) (e : Error) → HasKind (fault_of kalah_app words) e → (name line : Text) → words ≡ name ∷ codes "moves" ∷ line ∷ []
     → IsPlainWord line → kind_of e ≡ OutOfMemory
 moves_by_memory words e has name line same plain =
     let none : fault_of kalah_app words ≡ [] = ap (fault_of kalah_app) same ∙ (moves_taken name line plain).0 in
     elim (subst (λ ks. HasKind ks e) none has) [ inl memory ↦ memory | inr bad ↦ absurd bad ]
 
--- words are taken as one thing
+-- arguments are accepted as one request
 pub taken_once : (words : List Text) (a b : Asked) → IsTakenAs words a → IsTakenAs words b → a ≡ b
 taken_once words a b p q =
     let x = p.1 in

@@ -1,4 +1,4 @@
--- What clap makes of `solve` or `values` and any number of plain words behind it.
+-- How clap reads `solve` or `values` followed by any number of plain arguments.
 use Rattle.std.proofs.Common.{◌≡◌, ℕ, false, refl, List, [], ◌∷◌, ◌++◌, Some, None, codes, ◌==◌, ◌∙◌, ap, append_assoc, subst, sym}
 use Rattle.std.specs.Prelude.{fold}
 use Rattle.std.specs.List.{All}
@@ -20,7 +20,7 @@ use Rattle.kalah_cli.specs.Command.{answers_app, kalah_app}
 use Rattle.kalah_cli.specs.Request.{IsPlainWord, command_of}
 use Rattle.kalah_cli.proofs.Laws.{default_row}
 
--- ---- one word more
+-- ---- one more argument
 
 -- the subcommand, as clap builds it
 abbrev shape : Text → Shape
@@ -40,7 +40,7 @@ file_rows (file ∷ files) = record {
   reading = AsWritten;
 } ∷ []
 
--- the walk behind a plain word, before which stood these
+-- the walk behind a plain argument, before which stood these
 abbrev behind : List Text → Text → Walk
 behind files word = record {
   held = record { rows = file_rows files; pending = Some (codes "file", word ∷ []); skip = 0 };
@@ -50,13 +50,13 @@ behind files word = record {
   stopped = None;
 }
 
--- where it goes by the first plain word
+-- the walk over the first plain argument
 first_step : (command : Text) (x : ℕ) (xs : Text) → (x == 45) ≡ false
     → walked (rules command) [] (walk_from nothing_held) (x ∷ xs) ≡ behind [] (x ∷ xs)
 unfolding clap_on_literals
 first_step command x xs e = simp e refl
 
--- where by one more
+-- and over one more
 step : (command : Text) (files : List Text) (word : Text) (x : ℕ) (xs : Text) → (x == 45) ≡ false
     → walked (rules command) [] (behind files word) (x ∷ xs) ≡ behind (files ++ word ∷ []) (x ∷ xs)
 unfolding clap_on_literals
@@ -75,7 +75,7 @@ unfolding clap_on_literals
 step_passes command [] word x xs rest e = simp e refl
 step_passes command (file ∷ files) word x xs rest e = simp e refl
 
--- ---- any number of words more
+-- ---- any number of further arguments
 
 -- what is held ends, without a fault, as the row of these files
 abbrev EndsAs : Text → List Text → Held → Type 0
@@ -108,7 +108,7 @@ walk_passes command files word ((x ∷ xs) ∷ rest) plain =
     step_passes command files word x xs rest (ne_eqb _ _ (All-head IsPlainWord (x ∷ xs) rest plain))
     ∙ walk_passes command (files ++ word ∷ []) (x ∷ xs) rest (All-tail IsPlainWord (x ∷ xs) rest plain)
 
--- ---- all words behind the subcommand
+-- ---- all arguments behind the subcommand
 
 all_end : (command file : Text) (files : List Text) → All IsPlainWord (file ∷ files)
     → EndsAs command (file ∷ files) (walk (rules command) [] nothing_held (file ∷ files)).held
@@ -129,7 +129,7 @@ abbrev pub rows_of_files : List Text → List Row
 rows_of_files files = file_rows files ++ default_row (codes "workers") (codes "4") ∷ default_row (codes "table") (codes "65536")
     ∷ default_row (codes "progress") (codes "false") ∷ []
 
--- what the subcommand makes of the files
+-- how the subcommand reads the files
 level_matches : (command file : Text) (files : List Text) → All IsPlainWord (file ∷ files)
     → rows_at (shape command) (file ∷ files) ≡ (command, rows_of_files (file ∷ files))
 unfolding clap_on_literals
@@ -143,9 +143,9 @@ level_passes command file files plain =
     let end = all_end command file files plain in
     rw (all_pass command file files plain, end.1, end.0) refl
 
--- ---- all words of the program
+-- ---- all arguments of the program
 
--- at the subcommand the walk of the program's words stops
+-- at the subcommand the walk of the program's arguments stops
 top_walk : (question : Question) (files : List Text) → walk (built kalah_app).top.rules (names_of (built kalah_app)) nothing_held (command_of question ∷ files)
     ≡ record (walk_from nothing_held) { stopped = Some (command_of question, files) }
 unfolding clap_on_literals
@@ -158,7 +158,7 @@ unfolding clap_on_literals
 top_passes BestMove files = stopped_fault (built kalah_app).top (names_of (built kalah_app)) (walk_from nothing_held) (codes "solve", []) files
 top_passes Values files = stopped_fault (built kalah_app).top (names_of (built kalah_app)) (walk_from nothing_held) (codes "values", []) files
 
--- plain words behind it are its files
+-- plain arguments behind it are its files
 pub files_match : (question : Question) (name file : Text) (files : List Text) → All IsPlainWord (file ∷ files)
     → subcommand_of kalah_app (name ∷ command_of question ∷ file ∷ files) ≡ Some (command_of question, rows_of_files (file ∷ files))
 unfolding clap_on_literals
@@ -176,7 +176,7 @@ files_pass BestMove name file files plain =
 files_pass Values name file files plain =
     rw (top_passes Values (file ∷ files), top_walk Values (file ∷ files), level_passes (codes "values") file files plain) refl
 
--- and where there is none, a file is missing
+-- and if there is none, a file is missing
 pub no_file_is_missed : (question : Question) (name : Text) → fault_of kalah_app (name ∷ command_of question ∷ []) ≡ MissingRequiredArgument ∷ []
 unfolding clap_on_literals
 no_file_is_missed BestMove name = refl

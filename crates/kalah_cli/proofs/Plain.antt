@@ -11,7 +11,7 @@ plain_number (ones ∷ []) n h = λ e. absurd (omega arith)
 plain_number (tens ∷ ones ∷ []) n h = λ e. absurd (omega arith)
 plain_number (a ∷ b ∷ c ∷ rest) n h = absurd h
 
--- what begins with a plain word is a plain word
+-- what begins with a plain argument is a plain argument
 plain_front : (text front rest : List ℕ) → text ≡ front ++ rest → IsPlainWord front → IsPlainWord text
 plain_front text front rest is h = subst IsPlainWord (sym is) (go front h)
   where

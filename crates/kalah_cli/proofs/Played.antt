@@ -37,7 +37,7 @@ best_game p houses final even game =
     let bounded = bounds keeps keeps even game in
     record { game = game; margin = omega (ints, arith, bounded.low best_plays, bounded.high best_plays) }
 
--- what the solver tells where the game goes on
+-- the solver's verdict if the game goes on
 pub best_told : (p : Position) (margin : ℤ) (house : ℕ) → Best margin house ≡ verdict_of p → (is_over p ≡ false) × (house ≡ best_house p)
 best_told p margin house is = elim (cases_Bool (is_over p)) [
   | inl over ↦ absurd (let told : Best margin house ≡ Over (final_margin p) = is ∙ ap (λ b. if b then Over (final_margin p) else Best (worth p) (best_house p)) over in cc)
@@ -47,7 +47,7 @@ best_told p margin house is = elim (cases_Bool (is_over p)) [
       (going, cc)
 ]
 
--- and where it is over
+-- and if it is over
 pub over_told : (p : Position) (margin : ℤ) → Over margin ≡ verdict_of p → is_over p ≡ true
 over_told p margin is = elim (cases_Bool (is_over p)) [
   | inl over ↦ over
@@ -96,7 +96,7 @@ of_any boards p Holds even all =
     let game = game_ends best_house best_house best_is_strategy best_is_strategy p even in
     record { houses = game.0; final = game.1; is_best = best_game p game.0 game.1 even game.2; holds = all (game_lines boards p game.0) }
 
--- what holds of the line of the first move with any lines behind it
+-- what holds of the line of the first move, followed by any lines
 pub of_first : (boards : Bool) (p : Position) (h : ℕ) (s : Step) (Holds : List ℕ → Type 0) → HasEqualSides p → is_over p ≡ false → h ≡ best_house p →
     s ≡ step_of p h → ((lines : List ℕ) → Holds (move_lines boards h s ++ lines)) → OfBestGame boards p Holds
 of_first boards p h s Holds even going best same all =
@@ -110,7 +110,7 @@ of_first boards p h s Holds even going best same all =
       holds = subst (λ hs. Holds (game_lines boards p hs)) (sym first.1) (subst (λ x. Holds (move_lines boards h x ++ lines)) same (all lines));
     }
 
--- what holds of them behind that line, where the rest is of the game from there on
+-- what holds of them behind that line, if the rest is of the game from there on
 of_more : (boards : Bool) (p q : Position) (h : ℕ) (s : Step) (houses : List ℕ) (final : Position) (Rest Holds : List ℕ → Type 0) → HasEqualSides p →
     BestGame p (h ∷ houses) final → s ≡ step_of p h → q ≡ position_after s → Rest (game_lines boards q houses) →
     ((lines : List ℕ) → Rest lines → Holds (move_lines boards h s ++ lines)) → OfBestGame boards p Holds
@@ -157,11 +157,11 @@ kept_appends (Some x) None c bytes p q = absurd p
 kept_appends (Some x) (Some y) None bytes p q = absurd q
 kept_appends (Some x) (Some y) (Some z) bytes p q = q ∙ ap (λ l. l ++ bytes) p
 
--- the line of a move, of which a beginning was written, after nothing was
+-- a prefix of the line of a move was written, after nothing was
 pub begins_move : (old ready new : Option (List ℕ)) (move lines : List ℕ) → Keeps old ready → AppendsStart ready new move → AppendsStart old new (move ++ lines)
 begins_move old ready new move lines keeps start = start_longer old new move lines (start.0, kept_appends old ready new (take start.0 move) keeps start.1)
 
--- all of it, and then a beginning of more lines
+-- all of it, and then a prefix of more lines
 pub begins_on : (old ready moved new : Option (List ℕ)) (move lines : List ℕ) → Keeps old ready → Appends ready moved move → AppendsStart moved new lines
     → AppendsStart old new (move ++ lines)
 begins_on old ready moved new move lines keeps all rest = start_then old moved new (move ++ lines) move lines refl (kept_appends old ready moved move keeps all) rest
@@ -171,7 +171,7 @@ pub goes_on : (old ready moved new : Option (List ℕ)) (move lines : List ℕ) 
     → Appends old new (move ++ lines)
 goes_on old ready moved new move lines keeps all rest = kept_appends old ready new (move ++ lines) keeps (Appends-trans ready moved new move lines all rest)
 
--- what is so is so where a call succeeds
+-- what holds if a call succeeds
 pub on_ok_always : {A E P : Type 0} (r : Result A E) → P → OnOk r P
 on_ok_always (Ok x) p = p
 on_ok_always (Err e) p = tt

@@ -1,4 +1,4 @@
--- What the matches of the five subcommands hold, where the words are taken.
+-- What the matches of the five subcommands hold, if the arguments are accepted.
 use Rattle.std.proofs.Common.{◌≡◌, ◌⊎◌, ◌∙◌, ◌<◌, ℕ, Bool, true, false, refl, ap, subst, sym, inl, inr, List, [], ◌∷◌, Option, Some, None, arith, length, is_some, ◌||◌, not, codes}
 use Rattle.std.specs.Prelude.{find, nat_lt, option_and_then, option_map, slice_get}
 use Rattle.std.specs.Option.{option_map_or}
@@ -30,7 +30,7 @@ use Rattle.kalah_cli.proofs.OfClap.KeptRows.{Gives, kept_level, level_parts}
 abbrev Ranged : Text → ℕ → Row → Type 0
 Ranged id high r = bytes_eq r.id id ≡ true → (r.reading ≡ AsWritten) × AllOf (IsUnsignedIn 1 high) r.values
 
--- a row of the id says true or false, read as it is written
+-- a row of the id is true or false, read as it is written
 abbrev Flagged : Text → Row → Type 0
 Flagged id r = bytes_eq r.id id ≡ true → (r.reading ≡ AsWritten) × AllOf (Accepts false vp.Bool) r.values
 
@@ -91,7 +91,7 @@ line_built = with_index 1 (filled line_rule)
 abbrev help_built : Rule
 help_built = with_index 2 (filled help_rule)
 
--- each gives rows of that kind: the number of workers
+-- each makes rows of that kind: the number of workers
 workers_give : Gives Sound workers_built
 workers_give = record {
   action = inr (inl (inl refl, refl));
@@ -261,7 +261,7 @@ number_in id high rows r found some ranged = go r.values r.reading refl refl som
     go [] how e f lt all is = absurd (omega arith)
     go (v ∷ vs) how e f lt all is = (v, rw (found, e, f, is) refl, all.0)
 
--- the last checks of `solve` and `values` pass only where a file is given
+-- the last checks of `solve` and `values` pass only if a file is given
 file_given : (name : Text) (rows : List Row) → check_fault (answers_shape name) rows false ≡ [] → is_given (codes "file") rows ≡ true
 file_given name rows e = go (is_given (codes "file") rows) e
   where
@@ -269,7 +269,7 @@ file_given name rows e = go (is_given (codes "file") rows) e
     go true f = refl
     go false f = cc
 
--- the last checks of `moves` and `play` pass only where a line is given
+-- the last checks of `moves` and `play` pass only if a line is given
 line_given : (rows : List Row) → check_fault moves_shape rows false ≡ [] → is_given (codes "line") rows ≡ true
 line_given rows e = go (is_given (codes "line") rows) e
   where
@@ -284,7 +284,7 @@ played_line_given rows e = go (is_given (codes "line") rows) e
     go true f = refl
     go false f = cc
 
--- a row that says true or false does so in the text that is read
+-- a row that is true or false is so in the text that is read
 flag_of : (r : Row) (t : Text) → (r.reading ≡ AsWritten) × AllOf (Accepts false vp.Bool) r.values → row_text r ≡ Some t
     → (t ≡ codes "true") ⊎ (t ≡ codes "false")
 flag_of r t ok is = go r.values r.reading ok.1 ok.0 is
@@ -300,7 +300,7 @@ flag_of r t ok is = go r.values r.reading ok.1 ok.0 is
         let same : v ≡ t = (let read = rw as_written at e in cc) in
         subst (λ x. (x ≡ codes "true") ⊎ (x ≡ codes "false")) same (said v (bytes_eq v (codes "true")) refl all.0)
 
--- so rows of which each says of a flag only that say that it is set, that it isn't, or nothing
+-- so if each row states of a flag only that it is set, that it isn't, or nothing, all of them do
 flag_in : (id : Text) (rows : List Row) → ((r : Row) → Sound r → Flagged id r) → AllOf Sound rows → HasFlag id rows
 flag_in id rows flagged all = λ t e. go t (find (λ r. bytes_eq r.id id) rows) refl e
   where
@@ -309,7 +309,7 @@ flag_in id rows flagged all = λ t e. go t (find (λ r. bytes_eq r.id id) rows) 
     go t None is e = cc
     go t (Some r) is e = flag_of r t (flagged r (found_row Sound id rows r all is) (found_named id rows r is)) e
 
--- matches of `solve` or `values` without a fault have what it needs
+-- matches of `solve` or `values` without a fault have what these need
 pub answers_hold : (name : Text) (words : List Text) → level_fault (answers_shape name) [] nothing_held words false [] ≡ []
     → IsAnswers (rows_after (answers_shape name).rules [] words)
 answers_hold name words e =
@@ -385,7 +385,7 @@ ask_holds words e =
     let table = rows_stay (codes "table") (help_built ∷ []) (with_default start table_built) (default_made start table_built (codes "65536") [] refl refl) in
     (flag_in (codes "values") rows (λ r sound. sound.values) level.0, table_in rows level.0 table)
 
--- ---- the subcommand that the words name
+-- ---- the subcommand that the arguments name
 
 -- matches of a subcommand without a fault have the fact
 abbrev Level : (Text → List Row → Type 0) → Shape → Type 0
@@ -404,12 +404,12 @@ entered_holds G a (Some p) all some e = go (find (λ s. answers_to p.0 (label_of
     go None is f g = cc
     go (Some s) is f g = (s.name, rows_after s.rules [] p.1, refl, found_all (Level G) (λ s. answers_to p.0 (label_of s)) a.subs s all is p.1 g)
 
--- the last checks of the program pass only where a subcommand is met
+-- the last checks of the program pass only if a subcommand is met
 needs_subcommand : (rows : List Row) (b : Bool) → check_fault (built kalah_app).top rows b ≡ [] → b ≡ true
 needs_subcommand rows true e = refl
 needs_subcommand rows false e = cc
 
--- words that fail by no kind name a subcommand, whose matches have what it asks for
+-- arguments that fail by no kind name a subcommand, whose matches have what it needs
 pub taken_holds : (words : List Text) → fault_of kalah_app words ≡ []
     → (name : Text) × (rows : List Row) × (subcommand_of kalah_app words ≡ Some (name, rows)) × HasWhatItNeeds name rows
 taken_holds words e =

@@ -1,4 +1,4 @@
--- What words are taken as, and what is done of it.
+-- What arguments are accepted as, and what is done for them.
 use Rattle.std.proofs.Common.{◌≡◌, ◌≢◌, ◌∙◌, ◌⊎◌, inl, inr, ℕ, false, List, [], ◌∷◌, Option, ap, codes, subst, sym, String, Global}
 use Rattle.std.specs.List.{All}
 use Rattle.std.specs.Prelude.{option_and_then}
@@ -19,22 +19,22 @@ use Rattle.kalah_cli.specs.declared.status.ExitStatus.TheVariants.{Clean, Failed
 use Rattle.kalah_cli.proofs.Laws.{ask_taken, ask_values_taken, moves_taken, play_taken, taken_once}
 use Rattle.kalah_cli.proofs.ManyWords.{files_match, files_pass, no_file_is_missed}
 
--- `moves` and a plain word are taken as the moves of that word
+-- `moves` and a plain argument are accepted as the moves of that line
 pub moves_of : (words : List Text) (name line : Text) → words ≡ name ∷ codes "moves" ∷ line ∷ [] → IsPlainWord line → IsTakenAs words (moves false line)
 moves_of words name line is plain = subst (λ ws. IsTakenAs ws (moves false line)) (sym is) (moves_taken name line plain)
 
--- `play` and a plain word as its game
+-- `play` and a plain argument as its game
 pub game_of : (words : List Text) (name line : Text) → words ≡ name ∷ codes "play" ∷ line ∷ [] → IsPlainWord line → IsTakenAs words (play 65536 false line)
 game_of words name line is plain = subst (λ ws. IsTakenAs ws (play 65536 false line)) (sym is) (play_taken name line plain)
 
--- `ask` alone, or with its flag, is taken as asking of the standard input
+-- `ask`, without arguments or with its flag, is accepted as asking of the standard input
 pub ask_of : (words : List Text) (name : Text) → words ≡ name ∷ codes "ask" ∷ [] → IsTakenAs words (ask BestMove 65536)
 ask_of words name is = subst (λ ws. IsTakenAs ws (ask BestMove 65536)) (sym is) (ask_taken name)
 
 pub ask_values_of : (words : List Text) (name : Text) → words ≡ name ∷ codes "ask" ∷ codes "--values" ∷ [] → IsTakenAs words (ask Values 65536)
 ask_values_of words name is = subst (λ ws. IsTakenAs ws (ask Values 65536)) (sym is) (ask_values_taken name)
 
--- `solve` or `values` and plain words are taken as asking this of the files of these names
+-- `solve` or `values` and plain arguments are accepted as asking this of the files of these names
 files_taken : (question : Question) (name file : Text) (files : List Text) → All IsPlainWord (file ∷ files)
     → IsTakenAs (name ∷ command_of question ∷ file ∷ files) (answers question 4 65536 false (file ∷ files))
 files_taken BestMove name file files plain =
@@ -47,13 +47,13 @@ pub files_of : (question : Question) (words : List Text) (name file : Text) (fil
 files_of question words name file files is plain =
     subst (λ ws. IsTakenAs ws (answers question 4 65536 false (file ∷ files))) (sym is) (files_taken question name file files plain)
 
--- and refused where there is none
+-- and refused if there is none
 pub files_or_none : (question : Question) (words : List Text) (name : Text) (files : List Text) → words ≡ name ∷ command_of question ∷ files
     → All IsPlainWord files → IsTakenAs words (answers question 4 65536 false files) ⊎ (fault_of kalah_app words ≡ MissingRequiredArgument ∷ [])
 files_or_none question words name [] is plain = inr (ap (fault_of kalah_app) is ∙ no_file_is_missed question name)
 files_or_none question words name (file ∷ files) is plain = inl (files_of question words name file files is plain)
 
--- what is done of a request is done of what its words are taken as
+-- what is done for a request is done for what its arguments are accepted as
 pub done_as : (words : List Text) (a b : Asked) (old new : Option (List ℕ)) (status : ExitStatus) → IsTakenAs words a → IsTakenAs words b
     → Does a old new status → Does b old new status
 done_as words a b old new status one other done = subst (λ x. Does x old new status) (taken_once words a b one other) done
@@ -62,22 +62,22 @@ done_as words a b old new status one other done = subst (λ x. Does x old new st
 pub line_as : (words : List Text) (a b : Asked) (line : Text) → IsTakenAs words a → IsTakenAs words b → IsOfLine b line → IsOfLine a line
 line_as words a b line one other of = subst (λ x. IsOfLine x line) (taken_once words b a other one) of
 
--- where the program failed nothing is owed
+-- if the program failed nothing is owed
 pub failed_does : (a : Asked) (old new : Option (List ℕ)) (status : ExitStatus) → status ≡ Failed → Does a old new status
 failed_does (moves boards line) old new status failed = λ p reads. (λ e. cc, λ e. absurd (let bad : Failed ≡ Clean = sym failed ∙ e in cc))
 failed_does (play table boards line) old new status failed = λ p reads. (λ e. cc, λ e. absurd (let bad : Failed ≡ Clean = sym failed ∙ e in cc))
 failed_does (answers question workers table progress names) old new status failed = λ went. absurd (went failed)
 failed_does (ask question table) old new status failed = λ went. absurd (went failed)
 
--- equal words are taken as the same
+-- equal arguments are accepted as the same
 pub words_at : (xs ys : List (String Global)) (a : Asked) → xs ≡ ys → IsTakenAs (texts_of ys) a → IsTakenAs (texts_of xs) a
 words_at xs ys a same taken = subst (λ zs. IsTakenAs (texts_of zs) a) (sym same) taken
 
--- equal words have equal faults
+-- equal arguments have equal faults
 pub fault_at : (xs ys : List (String Global)) → xs ≡ ys → fault_of kalah_app (texts_of xs) ≡ [] → fault_of kalah_app (texts_of ys) ≡ []
 fault_at xs ys same none = subst (λ zs. fault_of kalah_app (texts_of zs) ≡ []) same none
 
--- an error of words that ask for no help, or for no version, is no such request
+-- an error of arguments that ask for no help, or for no version, is no such request
 pub no_request : (k : ErrorKind) (xs ys : List (String Global)) (e : Error) → OutOfMemory ≢ k → xs ≡ ys
     → HasKind (fault_of kalah_app (texts_of xs)) e → (IsAmong k (fault_of kalah_app (texts_of ys)) → ⊥) → kind_of e ≢ k
 no_request k xs ys e other same has unasked = λ asked.

@@ -1,4 +1,4 @@
--- What `kalah ask` writes. Which bytes the standard input has no contract knows.
+-- What `kalah ask` writes. No contract knows the bytes of the standard input.
 use Rattle.std.specs.Prelude.{◌≡◌, ◌↔◌, ℕ, List, Option, true}
 use Rattle.std.specs.Io.KnownBytes.{Appends}
 use Rattle.kalah_jobs.specs.Asking.Asked.{answers_to, are_all_read}
@@ -8,19 +8,19 @@ use Rattle.kalah_jobs.specs.declared.files.question.Question.{Question}
 use Rattle.kalah_cli.specs.declared.status.ExitStatus.{ExitStatus}
 use Rattle.kalah_cli.specs.declared.status.ExitStatus.TheVariants.{Clean}
 
--- some bytes were read, and between the two states the answers to their lines were written, where this is asked of positions, and
--- nothing else was; the status is clean exactly where no line is a fault
+-- some bytes were read, and between the two states the answers to their lines were written, if this is asked of positions, and
+-- nothing else was; the status is clean exactly when no line is a fault
 pub record AnswersLines (question : Question) (old new : Option (List ℕ)) (status : ExitStatus) : Type 0 where
   pub read : List ℕ
   pub written : Appends old new (answers_to question read)
   pub clean : status ≡ Clean ↔ are_all_read read ≡ true
 
--- a beginning of these answers was written, and nothing else
+-- a prefix of these answers was written, and nothing else
 pub record BeginsLines (question : Question) (old new : Option (List ℕ)) : Type 0 where
   pub read : List ℕ
   pub start : AppendsStart old new (answers_to question read)
 
--- the answers to lines that were read whole were written, and nothing else
+-- the answers to lines that were read completely were written, and nothing else
 pub record StopsBetweenLines (question : Question) (old new : Option (List ℕ)) : Type 0 where
   pub lines : List ℕ
   pub ended : EndsWithItsLine lines

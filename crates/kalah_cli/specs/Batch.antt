@@ -1,4 +1,4 @@
--- What `kalah solve` and `kalah values` write, by the names of its files. What is in a file on the disk no contract knows.
+-- What `kalah solve` and `kalah values` write, by the names of its files. No contract knows the content of a file on the disk.
 use Rattle.std.specs.Prelude.{◌≡◌, ◌↔◌, ◌==◌, ℕ, Bool, false, List, Option, map}
 use Rattle.std.specs.List.{list_any}
 use Rattle.std.specs.Io.KnownBytes.{Appends}
@@ -14,7 +14,7 @@ use Rattle.kalah_cli.specs.declared.status.ExitStatus.TheVariants.{Clean}
 abbrev pub has_line_feed : List ℕ → Bool
 has_line_feed name = list_any (λ byte. byte == 10) name
 
--- files of these names, in order, hold bytes whose output, where this is asked of their positions, was written between the two
+-- files of these names, in order, hold bytes whose output, if this is asked of their positions, was written between the two
 -- states, and nothing else was; their lines and faults were counted
 pub record CountsTo (question : Question) (names : List (List ℕ)) (old new : Option (List ℕ)) (counts : LineCounts) : Type 0 where
   pub files : List NamedBytes
@@ -22,8 +22,8 @@ pub record CountsTo (question : Question) (names : List (List ℕ)) (old new : O
   pub written : Appends old new (output_to question files)
   pub counted : counts ≡ tally_of files
 
--- files of these names, in order, hold bytes whose output, where this is asked of their positions, was written between the two
--- states, and nothing else was; no name has a line feed in it, and the status is clean exactly where no line of the files is a
+-- files of these names, in order, hold bytes whose output, if this is asked of their positions, was written between the two
+-- states, and nothing else was; no name has a line feed in it, and the status is clean exactly when no line of the files is a
 -- fault
 pub record AnswersTo (question : Question) (names : List (List ℕ)) (old new : Option (List ℕ)) (status : ExitStatus) : Type 0 where
   pub files : List NamedBytes
@@ -32,17 +32,17 @@ pub record AnswersTo (question : Question) (names : List (List ℕ)) (old new : 
   pub written : Appends old new (output_to question files)
   pub clean : status ≡ Clean ↔ (tally_of files).faults ≡ 0
 
--- files of these names, in order, hold bytes of whose output, where this is asked of their positions, a beginning was written
+-- files of these names, in order, hold bytes, and a prefix of their output, if this is asked of their positions, was written
 -- between the two states, and nothing else was
 pub record BeginsTo (question : Question) (names : List (List ℕ)) (old new : Option (List ℕ)) : Type 0 where
   pub files : List NamedBytes
   pub named : map (λ file. file.name) files ≡ names
   pub start : AppendsStart old new (output_to question files)
 
--- where the best move is asked of each position
+-- if the best move is asked of each position
 abbrev pub AnswersFiles : List (List ℕ) → Option (List ℕ) → Option (List ℕ) → ExitStatus → Type 0
 AnswersFiles names old new status = AnswersTo BestMove names old new status
 
--- where the values of its moves are asked
+-- if the values of its moves are asked
 abbrev pub TellsValues : List (List ℕ) → Option (List ℕ) → Option (List ℕ) → ExitStatus → Type 0
 TellsValues names old new status = AnswersTo Values names old new status

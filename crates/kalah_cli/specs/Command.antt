@@ -7,7 +7,7 @@ use Rattle.clap.specs.declared.builder.value_parser.ValueParser.TheVariants.{Uns
 use Rattle.kalah_solve.specs.Table.{most_entries}
 use Rattle.kalah_run.specs.Limits.{most_workers}
 
--- LINE: one value, which must be there
+-- LINE: one value, which is required
 abbrev pub line_rule : Rule
 line_rule = record (new_rule (codes "line")) {
   required = true;
@@ -15,7 +15,7 @@ line_rule = record (new_rule (codes "line")) {
   action = Some Set;
 }
 
--- `--NAME N`: a number from 1 to the most, and the default where it isn't given
+-- `--NAME N`: a number from 1 to the most, and the default if it isn't given
 abbrev pub number_rule : Text → ℕ → Text → Rule
 number_rule name most default = record (new_rule name) {
   long = Some name;
@@ -25,11 +25,11 @@ number_rule name most default = record (new_rule name) {
   defaults = default ∷ [];
 }
 
--- `--workers N`: 1 to the most workers, and 4 where it isn't given
+-- `--workers N`: 1 to the most workers, and 4 if it isn't given
 abbrev pub workers_rule : Rule
 workers_rule = number_rule (codes "workers") most_workers (codes "4")
 
--- `--table N`: 1 to the most entries, and 65536 where it isn't given
+-- `--table N`: 1 to the most entries, and 65536 if it isn't given
 abbrev pub table_rule : Rule
 table_rule = number_rule (codes "table") most_entries (codes "65536")
 

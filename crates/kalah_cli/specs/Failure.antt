@@ -4,7 +4,7 @@ use Rattle.kalah_run.specs.declared.batch.run_fault.RunFault.TheVariants as faul
 use Rattle.kalah_cli.specs.declared.failure.Failure.{Failure}
 use Rattle.kalah_cli.specs.declared.failure.Failure.TheVariants.{TooManyFiles, TooManyLines, OutOfMemory, NoWorker, Write}
 
--- the failure that a fault of the batch is
+-- the failure for a fault of the batch
 abbrev pub failure_of : RunFault → Failure
 failure_of fault.TooManyFiles = TooManyFiles
 failure_of fault.TooManyLines = TooManyLines

@@ -7,14 +7,14 @@ use Rattle.kalah_jobs.specs.Line.Line.{position_after, step_text_of}
 use Rattle.kalah_jobs.specs.Files.Lines.{line_feed}
 use Rattle.kalah_jobs.specs.Writing.Picture.{picture_of}
 
--- the picture of a position, where boards are drawn
+-- the picture of a position, if boards are drawn
 abbrev pub board_lines : Bool → Position → List ℕ
 board_lines boards p = if boards then picture_of p else []
 
--- the line of a move, and below it the position after it, where boards are drawn
+-- the line of a move, and below it the position after it, if boards are drawn
 abbrev pub move_lines : Bool → ℕ → Step → List ℕ
 move_lines boards house step = step_text_of house step ++ line_feed ∷ board_lines boards (position_after step)
 
--- the moves of the legal houses, rising
+-- the moves of the legal houses, in ascending order
 abbrev pub moves_output : Bool → Position → List ℕ
 moves_output boards p = flat_map (λ h. move_lines boards h (step_of p h)) (legal_houses p)

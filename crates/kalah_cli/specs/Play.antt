@@ -9,7 +9,7 @@ use Rattle.kalah_jobs.specs.Writing.Given.{AppendsStart}
 use Rattle.kalah_jobs.specs.Line.Line.{position_after}
 use Rattle.kalah_cli.specs.Moves.{board_lines, move_lines}
 
--- the moves of these houses, in turn, from a position on
+-- the moves of these houses, in order, from a position on
 abbrev pub game_lines : Bool → Position → List ℕ → List ℕ
 game_lines boards p [] = []
 game_lines boards p (h ∷ houses) = move_lines boards h (step_of p h) ++ game_lines boards (position_after (step_of p h)) houses
@@ -31,14 +31,14 @@ pub record OfBestGame (boards : Bool) (p : Position) (Holds : List ℕ → Type 
 abbrev pub WritesGame : Bool → Position → Option (List ℕ) → Option (List ℕ) → Type 0
 WritesGame boards p old new = OfBestGame boards p (λ lines. Appends old new lines)
 
--- a beginning of them was
+-- a prefix of them was
 abbrev pub BeginsGame : Bool → Position → Option (List ℕ) → Option (List ℕ) → Type 0
 BeginsGame boards p old new = OfBestGame boards p (λ lines. AppendsStart old new lines)
 
--- the first position, where boards are drawn, and the moves of that game were written, and nothing else
+-- the first position, if boards are drawn, and the moves of that game were written, and nothing else
 abbrev pub PlaysBest : Bool → Position → Option (List ℕ) → Option (List ℕ) → Type 0
 PlaysBest boards p old new = OfBestGame boards p (λ lines. Appends old new (board_lines boards p ++ lines))
 
--- a beginning of these was
+-- a prefix of these was
 abbrev pub BeginsBest : Bool → Position → Option (List ℕ) → Option (List ℕ) → Type 0
 BeginsBest boards p old new = OfBestGame boards p (λ lines. AppendsStart old new (board_lines boards p ++ lines))

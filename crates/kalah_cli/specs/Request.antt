@@ -1,4 +1,4 @@
--- What the words of a command line ask the program to do.
+-- What the arguments of a command line ask the program to do.
 use Rattle.std.specs.Prelude.{ℕ, Bool, false, List, [], ◌∷◌, Option, Some, codes, ◌<◌, ◌≤◌, ◌≡◌, ◌≢◌, ◌⊎◌, length, map, option_map, string_bytes, option_and_then, if◌then◌else◌, ⊤}
 use Rattle.std.specs.declared.string.String.{String}
 use Rattle.std.specs.Option.{option_map_or}
@@ -19,13 +19,13 @@ use Rattle.kalah_cli.specs.declared.request.Request.TheVariants.{Moves, Play, Ba
 use Rattle.kalah_cli.specs.declared.request.Batch as batch
 
 module _ {A : Type 0} where
-  -- the text of each word
+  -- the text of each argument
   abbrev pub texts_of : List (String A) → List Text
   texts_of words = map string_bytes words
 
--- what can be asked: the moves of a line, with boards drawn or not; the game of best play from a line, found with a table of so
--- many entries; something of each position in files, by so many workers with such tables; or of each line of the standard input, with
--- such a table
+-- what can be asked: the moves of a line, with boards drawn or not; the game of best play from a line, found with a table of a
+-- given size; something of each position in files, by a number of workers with tables of a given size; or of each line of the standard
+-- input, with such a table
 pub data Asked : Type 0 where
   moves : Bool → Text → Asked
   play : ℕ → Bool → Text → Asked
@@ -59,7 +59,7 @@ abbrev pub answers_asked : Question → List Row → Option Asked
 answers_asked question rows = option_and_then (λ w. option_and_then (λ t. option_map (answers question (number_written w) (number_written t) (is_set (codes "progress") rows))
     (all_of (codes "file") rows)) (one_of (codes "table") rows)) (one_of (codes "workers") rows)
 
--- what is asked where the flag `--values` is set, and where it isn't
+-- what is asked if the flag `--values` is set, and if it isn't
 abbrev pub question_of : Bool → Question
 question_of values = if values then Values else BestMove
 
@@ -75,19 +75,19 @@ asked_by p =
     else (if bytes_eq p.0 (codes "solve") then answers_asked BestMove p.1
     else (if bytes_eq p.0 (codes "values") then answers_asked Values p.1 else ask_asked p.1)))
 
--- what the words ask for, read by the command line
+-- what the arguments ask for, read by the command line
 abbrev pub asked : List Text → Option Asked
 asked words = option_and_then asked_by (subcommand_of kalah_app words)
 
--- the command line takes the words, without a fault, as asking for this
+-- the command line accepts the arguments, without a fault, as asking for this
 abbrev pub IsTakenAs : List Text → Asked → Type 0
 IsTakenAs words a = (fault_of kalah_app words ≡ []) × (asked words ≡ Some a)
 
--- the command line refuses the words
+-- the command line refuses the arguments
 abbrev pub IsRefused : List Text → Type 0
 IsRefused words = fault_of kalah_app words ≢ []
 
--- the words don't ask for this: help, or the version
+-- the arguments don't ask for this: help, or the version
 abbrev pub AsksNot : ErrorKind → List Text → Type 0
 AsksNot kind words = IsAmong kind (fault_of kalah_app words) → ⊥
 
@@ -112,7 +112,7 @@ IsInRange (Play line table boards) = (1 ≤ table) × (table ≤ most_entries)
 IsInRange (Batch b) = IsInLimits b
 IsInRange (Ask question table) = (1 ≤ table) × (table ≤ most_entries)
 
--- a word that is no flag: it isn't empty and doesn't begin with `-` (45)
+-- an argument that is no flag: it isn't empty and doesn't begin with `-` (45)
 abbrev pub IsPlainWord : Text → Type 0
 IsPlainWord [] = ⊥
 IsPlainWord (x ∷ xs) = x ≢ 45
@@ -121,7 +121,7 @@ IsPlainWord (x ∷ xs) = x ≢ 45
 abbrev pub HasNumber : Text → ℕ → List Row → Type 0
 HasNumber id high rows = (t : Text) × (one_of id rows ≡ Some t) × IsUnsignedIn 1 high t
 
--- the matches say of the flag that it is set, that it isn't, or nothing
+-- the matches state of the flag that it is set, that it isn't, or nothing
 abbrev pub HasFlag : Text → List Row → Type 0
 HasFlag id rows = (t : Text) → one_of id rows ≡ Some t → (t ≡ codes "true") ⊎ (t ≡ codes "false")
 

@@ -1,4 +1,4 @@
--- What the program does of what it is asked.
+-- What the program does for each request.
 use Rattle.std.specs.Prelude.{◌≡◌, ◌≢◌, ◌++◌, ◌∷◌, ℕ, List, [], Option, codes, ⊤}
 use Rattle.std.specs.Io.KnownBytes.{Appends}
 use Rattle.clap.specs.Words.{Text}
@@ -13,18 +13,18 @@ use Rattle.kalah_cli.specs.Batch.{AnswersTo, BeginsTo}
 use Rattle.kalah_cli.specs.declared.status.ExitStatus.{ExitStatus}
 use Rattle.kalah_cli.specs.declared.status.ExitStatus.TheVariants.{Clean, LineFaults, Failed}
 
--- the line is read as a position of which this is printed, where nothing fails
+-- the line is read as a position, and this is printed for it, if nothing fails
 abbrev pub Prints : Text → (Position → Type 0) → ExitStatus → Type 0
 Prints line printed status = (p : Position) → Reads line p → (status ≢ LineFaults) × (status ≡ Clean → printed p)
 
--- what was asked was written between the two states, where nothing failed
+-- what was asked was written between the two states, if nothing failed
 abbrev pub Does : Asked → Option (List ℕ) → Option (List ℕ) → ExitStatus → Type 0
 Does (moves boards line) old new status = Prints line (λ p. Appends old new (moves_output boards p)) status
 Does (play table boards line) old new status = Prints line (λ p. PlaysBest boards p old new) status
 Does (answers question workers table progress names) old new status = status ≢ Failed → AnswersTo question names old new status
 Does (ask question table) old new status = status ≢ Failed → AnswersLines question old new status
 
--- a beginning of what was asked was written between the two states, and nothing else
+-- a prefix of what was asked was written between the two states, and nothing else
 abbrev pub Begins : Asked → Option (List ℕ) → Option (List ℕ) → Type 0
 Begins (moves boards line) old new = (p : Position) → Reads line p → AppendsStart old new (moves_output boards p)
 Begins (play table boards line) old new = (p : Position) → Reads line p → BeginsBest boards p old new
@@ -45,7 +45,7 @@ IsOfNoInput (play table boards line) = ⊤
 IsOfNoInput (answers question workers table progress names) = ⊤
 IsOfNoInput (ask question table) = ⊥
 
--- what is written where the version is asked for: the program's name, its version and a line feed (10)
+-- what is written if the version is asked for: the program's name, its version and a line feed (10)
 abbrev pub version_line : Text
 version_line = codes "kalah 1.1.0" ++ 10 ∷ []
 

@@ -10,8 +10,8 @@ use kalah_solve::{Solver, Table};
 use std::alloc::Global;
 use std::io::{BufReader, Input, Write};
 
-/// Answers what is asked of each line of the standard input, all with one solver, and reads on only where the answers to all that
-/// was read are out. Memory is asked for before the first read, apart from the entries of the table.
+/// Answers what is asked of each line of the standard input, all with one solver, and reads more only after the answers to all that
+/// was read are written. Memory is requested before the first read, except for the entries of the table.
 pub(crate) fn run_ask<R: Input, O: Sink, E: Write>(
     rt: &R,
     alloc: Global,

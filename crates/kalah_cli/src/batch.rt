@@ -17,21 +17,21 @@ use std::rt::Files;
 use std::sync::Wait;
 use std::thread::Threads;
 
-// Whether the name has a line feed in it, so that its answers could be taken for more than one line.
+// Returns whether the name has a line feed in it, so that its answers could be taken for more than one line.
 fn has_line_feed(name: &str) -> bool
     ensures { result ≡ has_line_feed name.now }
 {
     name.as_bytes().contains(&b'\n')
 }
 
-// Whether one of the names has a line feed in it.
+// Returns whether one of the names has a line feed in it.
 fn any_has_line_feed(names: &[&str]) -> bool
     ensures { result ≡ list_any (λ name. has_line_feed name.now) names.now }
 {
     names.iter().any(|name| has_line_feed(*name))
 }
 
-// Reads the files that are named and writes the answer to what is asked of each line of them.
+// Reads the named files and writes the answer to what is asked of each line of them.
 #[tactic(auto, using(crate::proofs::Names::texts_have_line_feed, crate::proofs::Begun::begins_nothing))]
 fn answer_files<'a, R: Files + Threads + Wait + Sync + StandardError, O: Sink>(
     rt: &R,
@@ -77,7 +77,7 @@ fn answer_files<'a, R: Files + Threads + Wait + Sync + StandardError, O: Sink>(
     }
 }
 
-// What the program ends with once all lines are answered.
+// Returns the exit status once all lines are answered.
 fn status_of(tally: Tally) -> ExitStatus
     ensures clean { result ≡ ExitStatus.Clean ↔ tally.faults ≡ 0 }
     ensures lines { result ≢ ExitStatus.Failed }
@@ -89,7 +89,7 @@ fn status_of(tally: Tally) -> ExitStatus
     }
 }
 
-/// Answers what is asked of each line of the files that are named.
+/// Answers what is asked of each line of the named files.
 pub(crate) fn run_batch<R: Files + Threads + Wait + Sync + StandardError, O: Sink, E: Write>(
     rt: &R,
     alloc: Global,

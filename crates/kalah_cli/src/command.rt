@@ -17,7 +17,7 @@ const ABOUT_SOLVE: &str =
 
 const ABOUT_VALUES: &str = "Prints what each move of each position in files is worth";
 
-// A command of this name, with nothing in it.
+// Makes a command of this name with nothing in it.
 fn named<'a>(alloc: Global, name: &'a str, about: &'a str) -> Command<'a>
     ensures app { app_of result ≡ new_app name.entry.now }
     ensures local { (fields_of result).has_globals ≡ false }
@@ -25,7 +25,7 @@ fn named<'a>(alloc: Global, name: &'a str, about: &'a str) -> Command<'a>
     Command::new(alloc, name).about(about)
 }
 
-// A subcommand of this name, with nothing in it. Its help ends in this text.
+// Makes a subcommand of this name with nothing in it. Its help ends in `long_help`.
 fn subcommand<'a>(alloc: Global, name: &'a str, about: &'a str, long_help: &'a str) -> Command<'a>
     ensures app { app_of result ≡ new_app name.entry.now }
     ensures local { (fields_of result).has_globals ≡ false }
@@ -35,7 +35,7 @@ fn subcommand<'a>(alloc: Global, name: &'a str, about: &'a str, long_help: &'a s
         .after_long_help(long_help)
 }
 
-// The command with one more argument, which is its own alone.
+// Adds an argument that belongs to this command only.
 fn with_arg<'a>(command: Command<'a>, arg: Arg<'a>) -> Result<Command<'a>, AllocError>
     requires arg { arg.global ≡ false }
     requires local { (fields_of command).has_globals ≡ false }
@@ -45,7 +45,7 @@ fn with_arg<'a>(command: Command<'a>, arg: Arg<'a>) -> Result<Command<'a>, Alloc
     command.arg(arg)
 }
 
-// The line of `moves`.
+// The argument `LINE` of `moves` and `play`.
 fn line_arg<'a>(alloc: Global) -> Arg<'a>
     ensures rule { rule_of result ≡ line_rule }
     ensures local { result.global ≡ false }
@@ -57,7 +57,7 @@ fn line_arg<'a>(alloc: Global) -> Arg<'a>
         .required(true)
 }
 
-// A flag.
+// Makes a flag.
 fn flag_arg<'a>(alloc: Global, name: &'a str, help: &'a str) -> Arg<'a>
     ensures rule { rule_of result ≡ flag_rule name.entry.now }
     ensures local { result.global ≡ false }
@@ -68,7 +68,7 @@ fn flag_arg<'a>(alloc: Global, name: &'a str, help: &'a str) -> Arg<'a>
         .action(ArgAction::SetTrue)
 }
 
-// Whether boards are drawn.
+// The flag `--boards`.
 fn boards_arg<'a>(alloc: Global) -> Arg<'a>
     ensures rule { rule_of result ≡ boards_rule }
     ensures local { result.global ≡ false }
@@ -77,7 +77,7 @@ fn boards_arg<'a>(alloc: Global) -> Arg<'a>
     flag_arg(alloc, "boards", help)
 }
 
-// Whether the values of moves are asked for.
+// The flag `--values`.
 fn values_arg<'a>(alloc: Global) -> Arg<'a>
     ensures rule { rule_of result ≡ values_rule }
     ensures local { result.global ≡ false }
@@ -100,7 +100,7 @@ fn moves_command<'a>(alloc: Global) -> Result<Command<'a>, AllocError>
     with_arg(command, line_arg(alloc))
 }
 
-// An option with a number from 1 to the most.
+// Makes an option with a number from 1 to a maximum.
 fn number_arg<'a>(
     alloc: Global,
     name: &'a str,
@@ -120,7 +120,7 @@ fn number_arg<'a>(
         .default_value(default)
 }
 
-// How many workers.
+// The option `--workers`.
 fn workers_arg<'a>(alloc: Global) -> Arg<'a>
     ensures rule { rule_of result ≡ workers_rule }
     ensures local { result.global ≡ false }
@@ -129,7 +129,7 @@ fn workers_arg<'a>(alloc: Global) -> Arg<'a>
     number_arg(alloc, "workers", help, MOST_WORKERS, "4")
 }
 
-// How large the table of each worker is.
+// The option `--table`.
 fn table_arg<'a>(alloc: Global) -> Arg<'a>
     ensures rule { rule_of result ≡ table_rule }
     ensures local { result.global ≡ false }
@@ -150,7 +150,7 @@ fn play_command<'a>(alloc: Global) -> Result<Command<'a>, AllocError>
     with_arg(command, line_arg(alloc))
 }
 
-// Whether progress is shown.
+// The flag `--progress`.
 fn progress_arg<'a>(alloc: Global) -> Arg<'a>
     ensures rule { rule_of result ≡ progress_rule }
     ensures local { result.global ≡ false }
@@ -200,7 +200,7 @@ fn ask_command<'a>(alloc: Global) -> Result<Command<'a>, AllocError>
     with_arg(command, table_arg(alloc))
 }
 
-// The program with no subcommand yet, though it is to be given one. Where it is asked for its version it tells so: the line is
+// Makes the program with no subcommand yet, though it needs one. If it is asked for its version, it says so; the line is
 // written by `refuse`.
 fn program<'a>(alloc: Global) -> Command<'a>
     ensures app { app_of result ≡ program_app }
@@ -215,7 +215,7 @@ fn program<'a>(alloc: Global) -> Command<'a>
         .disable_help_subcommand(true)
 }
 
-// The command with one more subcommand, where there is memory for it.
+// Adds a subcommand, if there is memory for it.
 fn with_command<'a>(
     command: Command<'a>,
     subcommand: Result<Command<'a>, AllocError>,
@@ -229,10 +229,10 @@ fn with_command<'a>(
     command.subcommand(subcommand?)
 }
 
-/// The command line of the program: `moves [--boards] LINE`, `play [--table N] [--boards] LINE`,
+/// Returns the command line of the program: `moves [--boards] LINE`, `play [--table N] [--boards] LINE`,
 /// `solve [--workers N] [--table N] [--progress] FILE..`, `values` with the same arguments and
 /// `ask [--values] [--table N]`, with 1 to 64 workers, 4 by default, and 1 to 1,048,576 entries in the
-/// table of each, 65,536 by default. One of the five is asked for, or help, or the version. It is
+/// table of each, 65,536 by default. It needs one of the five, or a request for help or the version. It is
 /// complete: nothing is added to it before a parse.
 pub fn command<'a>(alloc: Global) -> Result<Command<'a>, AllocError>
     ensures { IfOk result (λ c. app_of c ≡ kalah_app) }

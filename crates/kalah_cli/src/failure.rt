@@ -1,4 +1,4 @@
-//! What makes the program fail, and what it says then.
+//! The failures of the program, and their messages.
 ghost use Rattle.std.specs.Prelude.{◌≡◌};
 ghost use Rattle.kalah_cli.specs.Failure.{failure_of};
 
@@ -7,7 +7,7 @@ use kalah_run::RunFault;
 use std::fmt;
 use std::io::Write;
 
-/// What makes the program fail, apart from a mistake in its words.
+/// Why the program failed, except for mistakes in its arguments.
 #[derive(Clone, Copy)]
 pub(crate) enum Failure<'a> {
     /// The name of a file has a line feed in it.
@@ -25,7 +25,7 @@ pub(crate) enum Failure<'a> {
 }
 
 impl Failure<'_> {
-    /// Says on `err` what failed. Where that can't be written, nothing is said.
+    /// Reports the failure on `err`, and returns the exit status. If the report can't be written, it is dropped.
     pub(crate) fn report<E: Write>(self, err: &mut E) -> ExitStatus
         ensures { result ≡ ExitStatus.Failed }
     {

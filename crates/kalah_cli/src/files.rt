@@ -1,4 +1,4 @@
-//! Files read whole.
+//! Whole files.
 ghost use Rattle.std.specs.Prelude.{◌≡◌, ◌≢◌, ◌<◌, ◌≤◌, IfErr, IfOk, IfSome, IsErrOf, OnOk, length, map};
 ghost use Rattle.std.specs.Io.KnownBytes.{Consumes, IsAtEnd};
 
@@ -12,13 +12,13 @@ use std::rt::Files;
 /// The most bytes of a file.
 const MOST_BYTES: usize = 67_108_864;
 
-/// How many bytes are asked for at once.
+/// How many bytes are requested at once.
 const CHUNK: usize = 4096;
 
 /// Why a file was not read.
 #[derive(Clone, Copy, PartialEq, Eq)]
 pub(crate) enum ReadFault {
-    /// It can't be opened, or a read answered an error, of whatever kind.
+    /// It can't be opened, or a read returned an error of any kind.
     Unreadable,
     /// It has more bytes than the limit.
     TooLong,
@@ -26,8 +26,8 @@ pub(crate) enum ReadFault {
     OutOfMemory,
 }
 
-/// All that the reader has left, where that is at most `limit` bytes. The reader is asked again until
-/// it answers the end, an error, or more bytes than the limit. Any error is the file's fault, also one
+/// Returns all that the reader has left, if that is at most `limit` bytes. The reader is read until
+/// it reports the end, an error, or more bytes than the limit. Any error counts as the file's, also one
 /// of an interrupted call.
 pub(crate) fn read_limited<F: Read>(
     alloc: Global,
@@ -57,7 +57,7 @@ pub(crate) fn read_limited<F: Read>(
     Err(ReadFault::TooLong)
 }
 
-// The file of this name.
+// Reads the file of this name.
 fn read_file<'a, R: Files>(rt: &R, alloc: Global, name: &'a str) -> Result<FileText, Failure<'a>>
     ensures named { IfOk result (λ file. file.name ≡ name.now) }
     ensures within { IfOk result (λ file. length file.bytes ≤ 67108864) }
@@ -77,7 +77,7 @@ fn read_file<'a, R: Files>(rt: &R, alloc: Global, name: &'a str) -> Result<FileT
     }
 }
 
-/// The files of these names, in order, up to the first that is not read.
+/// Reads the files of these names, in order, up to the first that can't be read.
 pub(crate) fn read_files<'a, R: Files>(
     rt: &R,
     alloc: Global,

@@ -1,4 +1,4 @@
-//! A writer that is called no more after its first error.
+//! A writer that is not called again after its first error.
 ghost use Rattle.std.specs.Prelude.{◌≡◌, ◌≢◌, ◌↔◌, [], true, false, IfErr, IfOk, IsErr, IsTrue, OnOk};
 ghost use Rattle.std.specs.IoError.{error_kind};
 ghost use Rattle.std.specs.Io.{WritesAtMost};
@@ -7,8 +7,8 @@ ghost use Rattle.std.specs.Io.KnownBytes.{Keeps, WriteAppends};
 use std::io;
 use std::io::{ErrorKind, Write};
 
-/// A writer that passes its calls on until one fails: from then on each call is answered by an error, and the writer is
-/// called no more. So what a buffer in front of it still holds when a write fails is not written later, when the buffer is
+/// A writer that passes its calls on until one fails: from then on each call returns an error, and the inner writer is
+/// not called again. So what a buffer in front of it still holds when a write fails is not written later, when the buffer is
 /// dropped. An interrupted call has not failed.
 #[derive(Drop)]
 pub(crate) struct Fused<W> {
@@ -17,7 +17,7 @@ pub(crate) struct Fused<W> {
 }
 
 impl<W> Fused<W> {
-    /// The writer, of which no call has failed.
+    /// Makes the writer, with no failed call.
     pub(crate) fn new(writer: W) -> Fused<W>
         ensures writer { result.writer ≡ writer }
         ensures fresh { result.has_failed ≡ false }
@@ -28,7 +28,7 @@ impl<W> Fused<W> {
         }
     }
 
-    // An error where a call has failed.
+    // Returns an error if a call has failed.
     fn check(&self) -> io::Result<()>
         ensures fails { IsErr result ↔ (self.now.has_failed ≡ true) }
         ensures kind { IfErr result (λ e. error_kind e ≡ ErrorKind.BrokenPipe) }
@@ -40,7 +40,7 @@ impl<W> Fused<W> {
     }
 }
 
-// Whether a call that answered this error has failed.
+// Returns whether a call that returned this error has failed.
 fn is_failure(error: &io::Error) -> bool
     ensures { IsTrue result ↔ (error_kind error.now ≢ ErrorKind.Interrupted) }
 {

@@ -8,7 +8,7 @@ pub(crate) const SHORT: &str =
 pub(crate) const SHORT_OF_SUBCOMMAND: &str =
     "`--help` here has more, and `kalah --help` has the form of positions, the rules and the answers.";
 
-/// What follows the long help of the program: all that a newcomer has to know.
+/// What follows the long help of the program: all that a newcomer must know.
 pub(crate) const LONG: &str = "\
 A position is one line, seen by the player to move: the seeds in that player's houses, a slash, the
 seeds in that player's store, one space, and the same for the other player, as in

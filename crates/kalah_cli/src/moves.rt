@@ -14,7 +14,7 @@ use kalah_rules::{Board, Step};
 use std::io;
 use std::io::Write;
 
-// Draws the board, where boards are drawn.
+// Draws the board, if boards are drawn.
 pub(crate) fn write_board<O: Sink>(
     board: &Board,
     boards: bool,
@@ -32,7 +32,7 @@ pub(crate) fn write_board<O: Sink>(
     write_picture(out, board)
 }
 
-// Writes the line of a move, and below it the board after it, where boards are drawn.
+// Writes the line of a move, and below it the board after it, if boards are drawn.
 pub(crate) fn write_move<O: Sink>(
     house: u8,
     step: &Step,
@@ -53,7 +53,7 @@ pub(crate) fn write_move<O: Sink>(
     }
 }
 
-// Writes each legal move of a board, houses rising.
+// Writes each legal move of a board, houses in ascending order.
 fn write_moves<O: Sink>(board: &Board, boards: bool, out: &mut O) -> Result<(), io::Error>
     requires { O.has_failed out.old ≡ false }
     ensures fails { IsErr result ↔ (O.has_failed out.new ≡ true) }
@@ -70,8 +70,8 @@ fn write_moves<O: Sink>(board: &Board, boards: bool, out: &mut O) -> Result<(), 
     out.flush()
 }
 
-/// Prints the moves of the position that the line writes, and draws the board after each where boards are drawn. A line that
-/// is not read is answered by its fault, on `err` alone. It takes no memory.
+/// Prints the moves of the position that the line writes, and draws the board after each if boards are drawn. A line that
+/// can't be read is answered by its fault, on `err` only. It allocates nothing.
 pub(crate) fn run_moves<O: Sink, E: Write>(
     line: &str,
     boards: bool,

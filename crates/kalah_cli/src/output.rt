@@ -6,8 +6,8 @@ use kalah_jobs::{Sink, write_pieces};
 use std::io;
 use std::io::{BufWriter, Write};
 
-/// A sink that holds bytes back in blocks, in the buffer of its writer: they go out where the program is about to wait, so that an
-/// answer is seen as soon as nothing more is ready to be written. All is handed on where the buffer is empty.
+/// A sink that buffers bytes in blocks, in the buffer of its writer: it flushes them when the program is about to wait, so that an
+/// answer is seen as soon as nothing more is ready to be written. All is flushed if the buffer is empty.
 #[derive(Drop)]
 pub(crate) struct PromptStream<W: Write + Drop> {
     writer: BufWriter<W>,
@@ -15,7 +15,7 @@ pub(crate) struct PromptStream<W: Write + Drop> {
 }
 
 impl<W: Write + Drop> PromptStream<W> {
-    /// The sink over a writer with a buffer, of which no call has failed.
+    /// Makes the sink over a buffered writer, with no failed call.
     pub(crate) fn new(writer: BufWriter<W>) -> PromptStream<W>
         ensures writer { result.writer ≡ writer }
         ensures fresh { result.has_failed ≡ false }

@@ -45,7 +45,7 @@ fn write_game<O: Sink>(
     }
 }
 
-// Writes the game of best play from a board on, below the board where boards are drawn.
+// Writes the game of best play from a board on, below the board if boards are drawn.
 fn play<O: Sink>(
     solver: &mut Solver,
     board: &Board,
@@ -64,8 +64,8 @@ fn play<O: Sink>(
 }
 
 /// Prints the game that best play leads to from the position that the line writes, move by move, each as soon as it is found.
-/// A line that is not read is answered by its fault, on `err` alone. Memory is asked for before anything is written, apart
-/// from the entries of the table.
+/// A line that can't be read is answered by its fault, on `err` only. Memory is requested before anything is written, except
+/// for the entries of the table.
 pub(crate) fn run_play<O: Sink, E: Write>(
     alloc: Global,
     line: &str,

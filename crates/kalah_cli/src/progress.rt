@@ -1,4 +1,4 @@
-//! `--progress`: how far a batch is, on standard error.
+//! `--progress`: the progress of a batch, on standard error.
 use kalah_jobs::FileText;
 use kalah_run::Gate;
 use std::io::{Eprint, IsTerminal};
@@ -18,16 +18,16 @@ impl StandardError for HostRuntime {
     }
 }
 
-/// Shows how many lines of a batch are answered: a line for each per cent, or on a terminal one line that is rewritten ten times
-/// as often. Text that standard error does not take is passed over.
+/// Shows how many lines of a batch are answered: one line for each per cent, or on a terminal one line that is rewritten ten times
+/// as often. Text that standard error does not accept is dropped.
 #[derive(Drop)]
 pub(crate) struct Progress<'a, R> {
     rt: &'a R,
-    // How many lines the batch has.
+    // The number of lines of the batch.
     lines: u64,
     is_terminal: bool,
     answered: AtomicU64,
-    // How many lines are answered when the text is shown again. Written under the lock.
+    // The number of answered lines at which the text is shown again. Written under the lock.
     next: AtomicU64,
     writing: Mutex<()>,
 }
@@ -70,7 +70,7 @@ impl<'a, R: StandardError + Wait> Progress<'a, R> {
         }
     }
 
-    // Shows that so many lines are answered, unless another thread has shown this step or a later one.
+    // Shows that `answered` lines are answered, unless another thread has shown this step or a later one.
     fn show(&self, answered: u64) {
         let _writing = self.writing.lock(self.rt);
         if answered < self.next.load(SeqCst) {
@@ -86,7 +86,7 @@ impl<'a, R: StandardError + Wait> Progress<'a, R> {
         let _ = eprint!(self.rt; "{begin}kalah: {answered} of {lines} lines, {per_cent} %{end}");
     }
 
-    // Returns how many lines are answered when the text is shown again.
+    // Returns the number of answered lines at which the text is shown again.
     fn next_after(&self, answered: u64) -> u64 {
         let parts = if self.is_terminal { 1000 } else { 100 };
         let part = share(answered, self.lines, parts).saturating_add(1);

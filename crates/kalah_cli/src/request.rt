@@ -1,4 +1,4 @@
-//! What the words of a command line ask for.
+//! The requests that a command line can make.
 ghost use Rattle.std.specs.Prelude.{◌≡◌, ℕ, All, List, [], ◌∷◌, IfErr, IfOk, MatchResult, Some, codes, false, map, option_and_then};
 ghost use Rattle.clap.specs.Faults.{fault_of};
 ghost use Rattle.clap.specs.Kinds.{FailsBy};
@@ -16,37 +16,37 @@ use kalah_jobs::Question;
 use std::alloc::{AllocError, Global};
 use std::convert::AsStr;
 
-/// What the words ask the program to do.
+/// What the arguments ask the program to do.
 #[derive(Drop)]
 pub enum Request<'a> {
-    /// To print the moves of the position that this line writes, and to draw boards or not.
+    /// Print the moves of the position that this line writes, and draw boards or not.
     Moves {
         line: &'a str,
         boards: bool,
     },
-    /// To print the game of best play from that position, found with a table of so many entries, 1 to 1,048,576.
+    /// Print the game of best play from that position, found with a table of `table` entries, 1 to 1,048,576.
     Play {
         line: &'a str,
         table: u32,
         boards: bool,
     },
-    /// To answer each line of files.
+    /// Answer each line of files.
     Batch(Batch<'a>),
-    /// To answer each line of the standard input, by a solver with a table of so many entries, 1 to 1,048,576.
+    /// Answer each line of the standard input, by a solver with a table of `table` entries, 1 to 1,048,576.
     Ask {
         question: Question,
         table: u32,
     },
 }
 
-/// What is asked of the positions of files, and how they are to be answered.
+/// What is asked of the positions of files, and how they are answered.
 #[derive(Drop)]
 pub struct Batch<'a> {
     /// What is asked of each position.
     pub question: Question,
-    /// How many workers, 1 to 64.
+    /// The number of workers, 1 to 64.
     pub workers: u32,
-    /// How many entries the table of each worker has, 1 to 1,048,576.
+    /// The number of entries of each worker's table, 1 to 1,048,576.
     pub table: u32,
     /// Whether standard error shows how many lines are answered.
     pub progress: bool,
@@ -54,7 +54,7 @@ pub struct Batch<'a> {
     pub files: Vec<&'a str>,
 }
 
-// The number of an option, which has one.
+// Returns the number of an option, which must be there.
 fn option_number(found: &ArgMatches<'_>, id: &str) -> u32
     requires { HasNumber id.now most_entries (rows_of (found_of found.now)) }
     ensures { (t : List ℕ) → one_of id.now (rows_of (found_of found.now)) ≡ Some t
@@ -63,7 +63,7 @@ fn option_number(found: &ArgMatches<'_>, id: &str) -> u32
     found.get_one::<u32>(id).unwrap()
 }
 
-// Whether a flag is given.
+// Returns whether a flag is given.
 fn is_set(found: &ArgMatches<'_>, id: &str) -> bool
     requires { HasFlag id.now (rows_of (found_of found.now)) }
     ensures { result ≡ is_set id.now (rows_of (found_of found.now)) }
@@ -71,7 +71,7 @@ fn is_set(found: &ArgMatches<'_>, id: &str) -> bool
     found.get_flag(id)
 }
 
-// The line of `moves` or `play`, which has one.
+// Returns the line of `moves` or `play`, which must be there.
 fn line_of<'a>(found: &ArgMatches<'a>) -> &'a str
     requires { HasLineArgument (rows_of (found_of found.now)) }
     ensures { first_of (codes "line") (rows_of (found_of found.now)) ≡ Some result.now }
@@ -79,7 +79,7 @@ fn line_of<'a>(found: &ArgMatches<'a>) -> &'a str
     found.get_str("line").unwrap()
 }
 
-// What the matches of `moves` ask for.
+// Returns the request of the matches of `moves`.
 fn moves_request<'a>(found: &ArgMatches<'a>) -> Request<'a>
     requires { IsMoves (rows_of (found_of found.now)) }
     ensures asked { moves_asked (rows_of (found_of found.now)) ≡ Some (asked_for result) }
@@ -91,7 +91,7 @@ fn moves_request<'a>(found: &ArgMatches<'a>) -> Request<'a>
     }
 }
 
-// What the matches of `play` ask for.
+// Returns the request of the matches of `play`.
 fn play_request<'a>(found: &ArgMatches<'a>) -> Request<'a>
     requires { IsPlay (rows_of (found_of found.now)) }
     ensures asked { play_asked (rows_of (found_of found.now)) ≡ Some (asked_for result) }
@@ -104,7 +104,7 @@ fn play_request<'a>(found: &ArgMatches<'a>) -> Request<'a>
     }
 }
 
-// What the matches of `solve` or `values` ask for.
+// Returns the request of the matches of `solve` or `values`.
 fn batch_request<'a>(
     alloc: Global,
     question: Question,
@@ -128,7 +128,7 @@ fn batch_request<'a>(
     }))
 }
 
-// What is asked where the flag `--values` is set, and where it isn't.
+// Returns the question with or without the flag `--values`.
 fn question_of(values: bool) -> Question
     ensures { result ≡ question_of values }
 {
@@ -139,7 +139,7 @@ fn question_of(values: bool) -> Question
     }
 }
 
-// What the matches of `ask` ask for.
+// Returns the request of the matches of `ask`.
 fn ask_request<'a>(found: &ArgMatches<'a>) -> Request<'a>
     requires { IsAsk (rows_of (found_of found.now)) }
     ensures asked { ask_asked (rows_of (found_of found.now)) ≡ Some (asked_for result) }
@@ -151,7 +151,7 @@ fn ask_request<'a>(found: &ArgMatches<'a>) -> Request<'a>
     }
 }
 
-// What the matches of a subcommand, which have what it needs, ask for.
+// Returns the request of the matches of a subcommand, which must have what it needs.
 fn requested<'a>(alloc: Global, matches: &ArgMatches<'a>) -> Result<Request<'a>, AllocError>
     requires { IsTaken (subcommand_rows_of matches.now) }
     ensures asked { IfOk result
@@ -174,23 +174,23 @@ fn requested<'a>(alloc: Global, matches: &ArgMatches<'a>) -> Result<Request<'a>,
     Ok(ask_request(found))
 }
 
-/// What the words ask for, of which the first is the program's name. An error is the command line's
-/// own, with its text: help that was asked for, a mistake in the words, or want of memory.
+/// Parses the arguments, whose first is the program's name. Fails with the command line's own
+/// error and its text: help or the version was asked for, an argument is wrong, or memory was refused.
 pub(crate) fn parse<'a, S: AsStr>(alloc: Global, words: &'a [S]) -> Result<Request<'a>, Error>
     ensures taken { IfOk result
         (λ r. IsTakenAs (map S.text words.entry.now) (asked_for r)) }
     ensures range { IfOk result IsInRange }
     ensures kinds { FailsBy (fault_of kalah_app (map S.text words.entry.now)) result }
 
-    // Words that the command line takes are refused for want of memory alone.
+    // Arguments that the command line accepts fail only if memory was refused.
     ensures refused { IfErr result (λ e. (a : Asked)
         → IsTakenAs (map S.text words.entry.now) a → kind_of e ≡ OutOfMemory) }
 
-    // `moves` and a word that is no flag are always taken, as the moves of that word, with no board drawn.
+    // `moves` and an argument that is no flag are always accepted, as the moves of that line, with no board drawn.
     ensures moves { (name line : List ℕ)
         → map S.text words.entry.now ≡ name ∷ codes "moves" ∷ line ∷ [] → IsPlainWord line
         → MatchResult result (λ r. asked_for r ≡ moves false line) (λ e. kind_of e ≡ OutOfMemory) }
-    // `solve` or `values` and files, one at least, that are no flags are always taken, as asking this of them.
+    // `solve` or `values` and one file or more whose names are no flags are always accepted, as this question for them.
     ensures files { (question : Question) (name file : List ℕ) (files : List (List ℕ))
         → map S.text words.entry.now ≡ name ∷ command_of question ∷ file ∷ files → All IsPlainWord (file ∷ files)
         → MatchResult result (λ r. asked_for r ≡ answers question 4 65536 false (file ∷ files)) (λ e. kind_of e ≡ OutOfMemory) }

@@ -1,4 +1,4 @@
-//! The program, run on its words.
+//! The program, run on its arguments.
 ghost use Rattle.std.specs.Prelude.{◌≡◌, ◌≢◌, ◌<◌, ◌⊎◌, ℕ, All, List, [], ◌∷◌, codes, false, true, vec_len};
 ghost use Rattle.std.specs.Io.KnownBytes.{Appends};
 ghost use Rattle.clap.specs.Values.{kind_of};
@@ -33,7 +33,7 @@ use std::rt::Files;
 use std::sync::Wait;
 use std::thread::Threads;
 
-// Shows the help or the version that was asked for.
+// Shows the requested help or version.
 fn show<O: Sink, E: Write>(text: &str, out: &mut O, err: &mut E) -> ExitStatus
     requires { O.has_failed out.old ≡ false }
     ensures failed { O.has_failed out.new ≡ true → result ≡ ExitStatus.Failed }
@@ -49,8 +49,8 @@ fn show<O: Sink, E: Write>(text: &str, out: &mut O, err: &mut E) -> ExitStatus
     ExitStatus::Clean
 }
 
-// Whether these words seem to ask for the moves or the game of a position that has lost its quotes: of two words in a row each
-// has a slash.
+// Returns whether these arguments seem to ask for the moves or the game of a position that has lost its quotes: of two successive
+// ones each has a slash.
 fn lacks_quotes(words: &[String]) -> bool {
     let Some(subcommand) = words.get(1) else {
         return false;
@@ -61,7 +61,7 @@ fn lacks_quotes(words: &[String]) -> bool {
             .any(|pair| pair.iter().all(|word| word.contains('/')))
 }
 
-// Shows what comes of a parse of these words that gave no request: help or the version on `out`, a mistake in the words on `err`.
+// Reports a parse that made no request: help or the version on `out`, a mistake in the arguments on `err`.
 fn refuse<O: Sink, E: Write>(
     alloc: Global,
     words: &[String],
@@ -97,7 +97,7 @@ fn refuse<O: Sink, E: Write>(
     }
 }
 
-// Does what is asked for.
+// Carries out the request.
 fn run_request<R: Files + Input + StandardError + Threads + Wait + Sync, O: Sink, E: Write>(
     rt: &R,
     alloc: Global,
@@ -130,11 +130,11 @@ fn run_request<R: Files + Input + StandardError + Threads + Wait + Sync, O: Sink
     }
 }
 
-/// Runs the program on its words, of which the first, whatever it is, is the program's name: `moves LINE`
+/// Runs the program on its arguments; the first is always taken as the program's name. `moves LINE`
 /// prints the moves of a position, `play LINE` the game that best play leads to from it, `solve FILE..`
-/// answers each line of files, and `values FILE..` tells what each move of them is worth. `ask` answers each
-/// line of the standard input before it reads on. `--version` prints which version this is. Answers, help and
-/// that go to `out`, and what fails or is not read is said on `err`; a failing write to `err` changes nothing.
+/// answers each line of files, and `values FILE..` prints the value of each of their moves. `ask` answers each
+/// line of the standard input before it reads on. `--version` prints the version. Answers, help and the
+/// version go to `out`; failures and faults are reported on `err`. A failing write to `err` changes nothing.
 pub fn run_words<R: Files + Input + StandardError + Threads + Wait + Sync, O: Sink, E: Write>(
     rt: &R,
     alloc: Global,
@@ -144,51 +144,51 @@ pub fn run_words<R: Files + Input + StandardError + Threads + Wait + Sync, O: Si
 ) -> ExitStatus
     requires sink { O.has_failed out.old ≡ false }
     requires named { 0 < vec_len words }
-    // Words that are taken as asking for something: that is done.
+    // Accepted arguments: the program does what they ask for.
     ensures does { (a : Asked) → IsTakenAs (texts_of words.items) a → Does a (O.written out.old) (O.written out.new) result }
-    // Whatever comes of it: a beginning of what is asked for was written, and nothing else.
+    // In any case: a prefix of what is asked for was written, and nothing else.
     ensures begins { (a : Asked) → IsTakenAs (texts_of words.items) a → Begins a (O.written out.old) (O.written out.new) }
-    // Words that are taken as asking of a line, which is not read.
+    // Accepted arguments about a line that can't be read.
     ensures unread_line { (a : Asked) (line : List ℕ) → IsTakenAs (texts_of words.items) a
         → IsOfLine a line → IsUnread line → (result ≢ ExitStatus.Clean) × (out.new ≡ out.old) }
-    // `moves` and a line that is read: its moves are written, where nothing fails.
+    // `moves` and a line that can be read: its moves are written, if nothing fails.
     ensures moves { (name line : List ℕ) (p : Position) → texts_of words.items ≡ name ∷ codes "moves" ∷ line ∷ [] → Reads line p
         → (result ≢ ExitStatus.LineFaults) × (result ≡ ExitStatus.Clean → Appends (O.written out.old) (O.written out.new) (moves_output false p)) }
-    // `play` and a line that is read: its game of best play is written, where nothing fails.
+    // `play` and a line that can be read: its game of best play is written, if nothing fails.
     ensures played { (name line : List ℕ) (p : Position) → texts_of words.items ≡ name ∷ codes "play" ∷ line ∷ [] → Reads line p
         → (result ≢ ExitStatus.LineFaults) × (result ≡ ExitStatus.Clean → PlaysBest false p (O.written out.old) (O.written out.new)) }
-    // `moves` or `play` and a line that is not read, but is no flag.
+    // `moves` or `play` and a line that can't be read, but is no flag.
     ensures unread { (name line : List ℕ) → (texts_of words.items ≡ name ∷ codes "moves" ∷ line ∷ [])
         ⊎ (texts_of words.items ≡ name ∷ codes "play" ∷ line ∷ []) → IsPlainWord line
         → IsUnread line → (result ≢ ExitStatus.Clean) × (out.new ≡ out.old) }
-    // `solve` or `values`, and files whose names are no flags: what is asked of them is written, where nothing fails.
+    // `solve` or `values`, and files whose names are no flags: what is asked of them is written, if nothing fails.
     ensures solved { (name : List ℕ) (files : List (List ℕ)) → texts_of words.items ≡ name ∷ codes "solve" ∷ files → All IsPlainWord files
         → result ≢ ExitStatus.Failed → AnswersFiles files (O.written out.old) (O.written out.new) result }
     ensures valued { (name : List ℕ) (files : List (List ℕ)) → texts_of words.items ≡ name ∷ codes "values" ∷ files → All IsPlainWord files
         → result ≢ ExitStatus.Failed → TellsValues files (O.written out.old) (O.written out.new) result }
-    // `ask`, or `ask --values`: of some bytes that were read, what is asked of their lines is written, where nothing fails.
+    // `ask`, or `ask --values`: of some bytes that were read, what is asked of their lines is written, if nothing fails.
     ensures asked { (name : List ℕ) → texts_of words.items ≡ name ∷ codes "ask" ∷ [] → result ≢ ExitStatus.Failed
         → AnswersLines BestMove (O.written out.old) (O.written out.new) result }
     ensures asked_values { (name : List ℕ) → texts_of words.items ≡ name ∷ codes "ask" ∷ codes "--values" ∷ []
         → result ≢ ExitStatus.Failed → AnswersLines Values (O.written out.old) (O.written out.new) result }
-    // Words that are not taken, and ask for neither help nor the version.
+    // Arguments that are refused, and ask for neither help nor the version.
     ensures usage { IsRefused (texts_of words.items) → AsksNot DisplayHelp (texts_of words.items)
         → AsksNot DisplayVersion (texts_of words.items) → (result ≡ ExitStatus.Failed) × (out.new ≡ out.old) }
-    // Words that are not taken, and don't ask for help: with status 0 that is the version, and no more.
+    // Arguments that are refused, and don't ask for help: with status 0 the version was written, and no more.
     ensures version { IsRefused (texts_of words.items) → AsksNot DisplayHelp (texts_of words.items)
         → result ≡ ExitStatus.Clean → Appends (O.written out.old) (O.written out.new) version_line }
-    // `--version` or `-V` alone: the version is written, where nothing fails.
+    // `--version` or `-V` alone: the version is written, if nothing fails.
     ensures version_word { (name : List ℕ) → IsVersionWord name (texts_of words.items) → (result ≢ ExitStatus.LineFaults)
         × (result ≡ ExitStatus.Clean → Appends (O.written out.old) (O.written out.new) version_line) }
-    // Words that are not taken have no line.
+    // Arguments that are refused have no line.
     ensures no_line { IsRefused (texts_of words.items) → result ≢ ExitStatus.LineFaults }
-    // Where a write failed the program failed. Where it failed for another cause nothing was written, but for answers of `ask`.
+    // If a write failed, the program failed. If it failed for another cause, nothing was written, except for answers of `ask`.
     ensures failed { O.has_failed out.new ≡ true → result ≡ ExitStatus.Failed }
     ensures unchanged { ((a : Asked) → IsTakenAs (texts_of words.items) a → IsOfNoInput a) → result ≡ ExitStatus.Failed
         → O.has_failed out.new ≡ false → out.new ≡ out.old }
     ensures stopped { (question : Question) (table : ℕ) → IsTakenAs (texts_of words.items) (ask question table) → result ≡ ExitStatus.Failed
         → O.has_failed out.new ≡ false → StopsBetweenLines question (O.written out.old) (O.written out.new) }
-    // Where it did not, nothing that was written is held back.
+    // If it did not, all that was written is flushed.
     ensures handed_on { result ≢ ExitStatus.Failed → O.is_handed_on out.old ≡ true → O.is_handed_on out.new ≡ true }
 {
     match parse(alloc, words.as_slice()) {

@@ -1,20 +1,20 @@
-//! What the program ends with.
+//! The exit status of the program.
 ghost use Rattle.std.specs.Prelude.{◌≡◌};
 ghost use Rattle.kalah_cli.specs.Status.{status_number};
 
-/// What the program ends with.
+/// The exit status of the program.
 #[derive(Clone, Copy, Debug, PartialEq, Eq)]
 pub enum ExitStatus {
     /// Every line was read, or help was asked for.
     Clean,
     /// At least one line was not read.
     LineFaults,
-    /// The words, a file, memory, a worker or a write to the output failed.
+    /// The arguments, a file, memory, a worker or a write to the output failed.
     Failed,
 }
 
 impl ExitStatus {
-    /// The number that the system is given: 0, 1 or 2.
+    /// Returns the number that the system is given: 0, 1 or 2.
     pub fn code(self) -> u8
         ensures { result ≡ status_number self }
     {

@@ -1,11 +1,11 @@
-//! What is said of a line that is not read.
+//! Reports of lines that can't be read.
 ghost use Rattle.std.specs.Prelude.{◌≡◌};
 
 use crate::status::ExitStatus;
 use kalah_jobs::LineFault;
 use std::io::Write;
 
-// Says on `err` why the line is not read. Where that can't be written, nothing is said.
+// Reports on `err` why the line can't be read, and returns the exit status. If the report can't be written, it is dropped.
 pub(crate) fn tell_fault<E: Write>(fault: LineFault, err: &mut E) -> ExitStatus
     ensures { result ≡ ExitStatus.LineFaults }
 {

@@ -1,4 +1,4 @@
-//! Which version this is.
+//! The version of the program.
 
-/// What `--version` prints: the one place in the source that has the number.
+/// What `--version` prints. No other place in the source has the number.
 pub(crate) const VERSION_LINE: &str = "kalah 1.1.0\n";

@@ -1,4 +1,4 @@
-//! Lines that come one after another, each answered before the next is waited for.
+//! Lines answered one by one, each before the program waits for the next.
 pub(crate) mod answer_lines;
 pub(crate) mod ask_fault;
 pub(crate) mod asking_laws;

@@ -1,4 +1,4 @@
-//! Outcomes, and the collector that brings them into the order of their lines.
+//! Outcomes, and the collector that puts them into the order of their lines.
 pub(crate) mod arrivals;
 pub(crate) mod collector;
 pub(crate) mod collector_laws;

@@ -1,4 +1,4 @@
-//! Files, and the jobs that their lines are.
+//! Files, and the jobs that their lines make.
 pub(crate) mod entry;
 pub(crate) mod file_jobs;
 pub(crate) mod file_laws;

@@ -1,5 +1,5 @@
-//! Each request for memory refused in turn. With ample memory these tests just pass. `tests/refuse` runs each of them
-//! again and again, with the first request refused, the second, and so on: it has to pass each time, until the request that
+//! Tests in which each request for memory is refused once. With ample memory these tests just pass. `tests/refuse` runs each of them
+//! repeatedly, with the first request refused, then the second, and so on: the test must pass each time, until the request that
 //! is refused is one of its own marks.
 use crate::{
     Answer, Entry, LineFault, Outcome, Sink, Stream, Taken, answer_text, line_text, read_line,
@@ -11,7 +11,7 @@ use std::alloc::{AllocError, Global};
 use std::process::Abort;
 use std::test::Fail;
 
-// A request that is refused only where none before it was.
+// Makes a request that is refused only if none before it was.
 pub(crate) fn mark(alloc: Global, place: &'static str) -> Result<(), Fail> {
     match Box::new(alloc, 0u8) {
         Ok(_) => Ok(()),
@@ -19,7 +19,7 @@ pub(crate) fn mark(alloc: Global, place: &'static str) -> Result<(), Fail> {
     }
 }
 
-// The position of a line.
+// Reads the position of a line.
 fn read(rt: &impl Abort, line: &str) -> Board {
     read_line(line.as_bytes()).expect(rt, line)
 }
@@ -30,7 +30,7 @@ fn step_of_house_2(rt: &impl Abort, board: &Board) -> Step {
     board.apply(2)
 }
 
-// The text, which was asked for again where memory was refused, is this.
+// The text, at the second try if memory was refused, is this.
 fn assert_text(
     rt: &impl Abort,
     text: Result<String, AllocError>,
@@ -96,7 +96,7 @@ fn texts_of_answers(rt: HostRuntime) -> Result<(), Fail> {
     mark(rt.alloc(), "after all")
 }
 
-// A solver with the smallest table, asked for again where memory was refused.
+// A solver with the smallest table, at the second try if memory was refused.
 fn new_solver(alloc: Global) -> Result<Solver, AllocError> {
     let table = Table::new(alloc, 1).or_else(|_| Table::new(alloc, 1))?;
     Ok(Solver::new(table))
@@ -123,7 +123,7 @@ fn told(line: &str) -> &'static str {
     }
 }
 
-// Lines, and what is told of each.
+// Lines, each with the result of reading it.
 const LINES: &[(&str, &str)] = &[
     ("1,1/0 1,1/0", "read"),
     ("31/99 0/0 e", "read"),

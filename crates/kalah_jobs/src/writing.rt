@@ -1,4 +1,4 @@
-//! Answers in words and pictures, and where they are written.
+//! Answers in words and pictures, and the sinks that they are written to.
 pub(crate) mod answer;
 pub(crate) mod ending;
 pub(crate) mod picture;

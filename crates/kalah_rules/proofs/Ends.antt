@@ -149,7 +149,7 @@ moves_left_falls p q even side (inl fewer) =
     rw side (lower_by_seeds (side_length p) (seeds_in_houses p) (seeds_in_houses q) (distance_to_stores p) (distance_to_stores q) fewer (rw side at (distance_below q even)))
 moves_left_falls p q even side (inr near) = rw (side, near.0) (lower_by_distance (seeds_in_houses p * (side_length p * seeds_in_houses p + 1)) (distance_to_stores q) (distance_to_stores p) near.1)
 
--- the next position has fewer moves left, whoever moves
+-- the next position has fewer moves left, with either player to move
 pub after_fewer : (p : Position) (h : ℕ) → HoldsSeeds p h → HasEqualSides p → moves_left (after p h) < moves_left p
 after_fewer p h holds even = moves_left_falls p (after p h) (after_equal_sides p h) (after_side p h) (after_nearer p h holds even)
 

@@ -1,4 +1,4 @@
--- Where a move on houses leads, and what a board makes of it.
+-- The result of a move on houses, as a board reports it.
 use Rattle.std.proofs.Common.{◌≡◌, ◌≢◌, ℕ, ◌+◌, ◌-◌, ◌*◌, ◌^◌, ◌/◌, ◌≤◌, arith, ap, sym, ◌∙◌, refl, subst}
 use Rattle.std.specs.Prelude.{Bool, true, false, cond, sum, Contains}
 use Rattle.std.proofs.lemmas.Bool.Decides.{nat_tests}
@@ -41,7 +41,7 @@ pub on_cond : {X : Type 0} (P : X → Type 0) (b : Bool) (s t : X) → (b ≡ tr
 on_cond P true s t h k = h refl
 on_cond P false s t h k = k refl
 
--- the other player sees a game that goes on, too
+-- a game that goes on also goes on for the other player
 pub over_swapped : (q : Position) → is_over q ≡ false → is_over (swapped q) ≡ false
 over_swapped q going = grind (arith, nat_tests)
 
@@ -76,7 +76,7 @@ store_small {a} {h} {r} w has shows =
     omega (arith, shows.store, keeps.play, w.few_seeds)
 
 module _ {a : Rows} {h key seeds : ℕ} {r : RowNumbers} (packed : IsPacked key seeds) (view : rows_at key ≡ a) (has : Contains (legal_houses (bare a)) h) (shows : Shows r (after (bare a) h)) where
-  -- what the fields say
+  -- the meaning of the fields
   is : IsPackOf a key seeds
   is = pack_of packed view
 
@@ -144,7 +144,7 @@ module _ {a : Rows} {h key seeds : ℕ} {r : RowNumbers} (packed : IsPacked key 
         (omega (arith, shows.own, shows.other, keeps.other_side, is.limits.same_side)) (omega (arith, shows.store, keeps.play, is.seeds_are)) in
         (there.0, rw (shows.store, there.1) (sym (step_turn q (is_again (bare a) h) going passed)))
 
--- ---- what a board makes of a step
+-- ---- a step on houses, applied to a position
 -- the step of a position whose houses make this one
 abbrev pub step_with : Position → HousesStep → Step
 step_with p (Over own other) = step.Over (with_stores (without_seeds (rows_of p)) (p.own_store + own) (p.other_store + other))

@@ -1,4 +1,4 @@
--- Rows as numbers, and what a key says of its houses.
+-- Rows as numbers, and what a key determines of its houses.
 use Rattle.std.proofs.Common.{◌≡◌, ◌≢◌, inl, inr, ℕ, zero, suc, ◌+◌, ◌*◌, ◌/◌, ◌%◌, ◌^◌, ◌-◌, ◌<◌, ◌≤◌, List, [], ◌∷◌, ◌++◌, length, get_or, take, drop, replicate, arith, rules, Option, Some, None, ap, sym, ◌∙◌, refl, subst, length-take-le, length-append}
 use Rattle.std.specs.Prelude.{sum, nat_eq, All, IsSome, IfSome, ◌↔◌, if◌then◌else◌, ◌==◌}
 use Rattle.std.proofs.lemmas.List.{length-drop, length-replicate, get_or-replicate, take-append-drop}
@@ -45,12 +45,12 @@ number_of-shown m cells same = sym (number_of-append_zeros (take m cells) (6 - l
 pub number_of-cells : (k : ℕ) → number_of (cells 6 k) + 2 ^ 30 * (k / 2 ^ 30) ≡ k
 number_of-cells k = omega arith
 
--- so many cells are read
+-- the number of cells that are read
 pub length-cells : (n k : ℕ) → length (cells n k) ≡ n
 length-cells zero k = refl
 length-cells (suc n) k = omega (arith, length-cells n (k / 32))
 
--- the cells of a row's number are the row, whatever lies above it
+-- the cells of a row's number are the row, with anything above it
 pub cells-number_of : (n : ℕ) (xs : List ℕ) (rest : ℕ) → length xs ≡ n → sum xs ≤ 31 → cells n (number_of xs + 32 ^ n * rest) ≡ xs
 cells-number_of zero [] rest long few = refl
 cells-number_of zero (x ∷ xs) rest long few = absurd (omega arith)
@@ -81,7 +81,7 @@ take-padded xs = take-append_seam xs (replicate (6 - length xs) 0)
 pub drop-padded : (xs : List ℕ) → All (λ x. x ≡ 0) (drop (length xs) (padded xs))
 drop-padded xs = rw (drop-append_seam xs (replicate (6 - length xs) 0)) (All-replicate (λ x. x ≡ 0) (6 - length xs) 0 refl)
 
--- what a key says of its houses
+-- what a key determines of its houses
 pub record KeySays (a : Rows) (k : ℕ) : Type 0 where
   pub own_cells : cells 6 k ≡ padded a.own
   pub other_cells : cells 6 (k / 2 ^ 30) ≡ padded a.other
@@ -103,7 +103,7 @@ pub rule_bit-small : (r : Rule) → rule_bit r ≤ 1
 rule_bit-small Classic = omega arith
 rule_bit-small EmptyCapture = omega arith
 
--- what the key of houses says
+-- the content of the key of houses
 pub key_says : (a : Rows) (k : ℕ) → IsWithinHouses a → key_of a ≡ k → KeySays a k
 key_says a k h e =
     let other_long : length a.other ≤ 6 = omega (arith, h.at_most_six, h.same_side) in
@@ -148,7 +148,7 @@ rule_bit-same EmptyCapture EmptyCapture e = refl
 pub same_rows_of : {a b : Rows} → a.own ≡ b.own → a.other ≡ b.other → a.rule ≡ b.rule → a ≡ b
 same_rows_of x y z = λ i. record { own = x i; other = y i; rule = z i }
 
--- the houses that have a key, told by its parts
+-- the houses that have a key, by its parts
 pub rows_of_key : (a : Rows) (k : ℕ) (rule : Rule) → IsWithinHouses a → key_of a ≡ k → rule_bit rule ≡ k / 2 ^ 63 →
     rows_from (side_at k) (cells 6 k) (cells 6 (k / 2 ^ 30)) rule ≡ a
 rows_of_key a k rule h e bit =
@@ -198,7 +198,7 @@ key_of-small b h =
     let bit = rule_bit-small b.rule in
     omega (arith, h.at_most_six)
 
--- the key of houses, beside their seeds, is those houses packed
+-- the key of houses, with their number of seeds, is those houses packed
 pub packed_as : (b : Rows) (k s : ℕ) → IsWithinHouses b → k ≡ key_of b → s ≡ seeds_in_houses (bare b) → IsPacked k s × (rows_at k ≡ b)
 packed_as b k s h e seeds_are =
     let rows : rows_at k ≡ b = ap rows_at e ∙ rows_at_key b h in (
@@ -214,7 +214,7 @@ packed_as b k s h e seeds_are =
 pub packed_fits : {k s : ℕ} → IsPacked k s → k < 2 ^ 64
 packed_fits {k} is = omega (arith, is.key_is, key_of-small (rows_at k) is.limits)
 
--- what the fields of packed houses say of the houses
+-- what the fields of packed houses determine of the houses
 pub record IsPackOf (a : Rows) (key seeds : ℕ) : Type 0 where
   pub limits : IsWithinHouses a
   pub key_is : key_of a ≡ key
@@ -231,7 +231,7 @@ pack_of is e = record {
 pub above_cells : (b : Rows) (k : ℕ) → IsWithinHouses b → key_of b ≡ k → k / 2 ^ 60 ≡ length b.own + 8 * rule_bit b.rule
 above_cells b k h e = let says = key_says b k h e in let side = says.side in let bit = says.rule in omega arith
 
--- a row is empty exactly where its number is 0
+-- a row is empty exactly when its number is 0
 pub sum-zero : (xs : List ℕ) → number_of xs ≡ 0 → sum xs ≡ 0
 sum-zero [] e = refl
 sum-zero (x ∷ xs) e = let rest = sum-zero xs (omega arith) in let cons = sum_by-cons (λ (y : ℕ). y) x xs in omega arith
@@ -241,7 +241,7 @@ pub number_of-zero : (xs : List ℕ) → sum xs ≡ 0 → number_of xs ≡ 0
 number_of-zero [] e = refl
 number_of-zero (x ∷ xs) e = let cons = sum_by-cons (λ (y : ℕ). y) x xs in let rest = number_of-zero xs (omega arith) in omega arith
 
--- a row's number is 0 where its seeds are none
+-- a row's number is 0 if its seeds are none
 pub no_seeds : (xs : List ℕ) → nat_eq (number_of xs) 0 ≡ nat_eq (sum xs) 0
 no_seeds xs = elim (cases_eq (sum xs) 0) [
   | inl none ↦ rw (none, number_of-zero xs none) refl

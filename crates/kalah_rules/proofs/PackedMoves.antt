@@ -44,7 +44,7 @@ laps_bound c m laps few some e =
     let same : (2 * m + 1) * laps ≡ (2 * m + 1) * (c / (2 * m + 1)) = ap (λ x. (2 * m + 1) * x) e in
     omega arith
 
--- where the rule lets it capture nothing, the rows stay
+-- if the rule lets it capture nothing, the rows stay
 kept_by : (q : Position) (i : ℕ) → captures q.rule (seeds q.other (opposite q i)) ≡ false → (r : RowNumbers) → Shows r q → Shows r (captured q (Some i))
 kept_by q i none r shows = elim (cases_Bool (seeds q.own i == 1)) [
   | inl one ↦ rw (one, none) shows
@@ -123,7 +123,7 @@ module _ (a : Rows) (h : ℕ) (w : IsWithinHouses a) (holds : HoldsSeeds (bare a
         store = omega (arith, store_is);
       }
 
-  -- where they don't come back to the mover's houses
+  -- if they don't come back to the mover's houses
   pub short_shows : (row own_more other other_more last : ℕ) → h + seeds a.own h ≤ lap_length (length a.own) → row ≡ number_of (lifted (bare a) h).own →
       own_more + ones h ≡ number_of (row_of (length a.own) (up_to (h + seeds a.own h))) →
       other ≡ number_of a.other → other_more ≡ number_of (row_of (length a.own) (up_to (h + seeds a.own h - (length a.own + 1)))) →
@@ -218,7 +218,7 @@ captured_keeps q (Some i) = elim (cases_Bool (can_capture q i)) [
   | inr kept ↦ rw kept (record { play = refl; other_store = refl; side = refl; other_side = refl; rule = refl })
 ]
 
--- one thing after another loses none
+-- two steps that lose no seed lose none together
 keeps_then : (p q r : Position) → KeepsSeeds p q → KeepsSeeds q r → KeepsSeeds p r
 keeps_then p q r h k = record {
   play = k.play ∙ h.play;

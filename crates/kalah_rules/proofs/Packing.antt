@@ -77,7 +77,7 @@ number_of-same (suc n) q =
     let times : q * ones (suc n) ≡ q * (ones n + 32 ^ n * 1) = ap (λ z. q * z) (number_of-suc n (λ i. 1)) in
     number_of-suc n (λ i. q) ∙ omega arith ∙ sym times
 
--- one seed in each house, where x lies past them all
+-- one seed in each house, if x lies past them all
 pub number_of-all : (n x : ℕ) → n ≤ x → number_of (row_of n (up_to x)) ≡ ones n
 number_of-all n x h = ap number_of (row_of_same n (λ i. 1) (up_to x) (λ j low high. grind (arith, nat_tests)))
 

@@ -9,7 +9,7 @@ use Rattle.kalah_rules.specs.declared.rule.Rule.{Rule}
 abbrev pub rows_from : ℕ → List ℕ → List ℕ → Rule → Rows
 rows_from m own other rule = record { own = take m own; other = take m other; rule = rule }
 
--- their position, with so much in the stores
+-- their position, with these seeds in the stores
 abbrev pub position_of : ℕ → List ℕ → ℕ → List ℕ → ℕ → Rule → Position
 position_of m own own_store other other_store rule = with_stores (rows_from m own other rule) own_store other_store
 
@@ -21,7 +21,7 @@ pub record CanBeHouses (m : ℕ) (own : List ℕ) (other : List ℕ) : Type 0 wh
   pub other_past : All (λ x. x ≡ 0) (drop m other)
   pub few_seeds : sum own + sum other ≤ most_seeds
 
--- what a position that is written down may be
+-- what is required of a position that is written down
 pub record CanStart (m : ℕ) (own : List ℕ) (own_store : ℕ) (other : List ℕ) (other_store : ℕ) : Type 0 where
   pub houses : CanBeHouses m own other
   pub own_store_low : own_store ≤ most_in_store

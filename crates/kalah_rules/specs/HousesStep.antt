@@ -1,16 +1,16 @@
--- A move on houses alone.
+-- A move on houses without stores.
 use Rattle.std.specs.Prelude.{ℕ, Bool, if◌then◌else◌, ◌+◌, sum}
 use Rattle.kalah_rules.specs.Position.{Position, Rows, rows_of, bare, is_over, swapped}
 use Rattle.kalah_rules.specs.Sowing.{after, is_again}
 use Rattle.kalah_rules.specs.declared.step.HousesStep.{HousesStep}
 use Rattle.kalah_rules.specs.declared.step.HousesStep.TheVariants.{Over, Again, Turn}
 
--- where a position after a move leads, from empty stores: what each player has where the game is over, else what came to
--- the mover's store, with the houses as the player sees them who moves next
+-- what a position after a move leads to, from empty stores: what each player has if the game is over, otherwise what came to
+-- the mover's store, with the houses seen by the player who moves next
 abbrev pub houses_step_to : Position → Bool → HousesStep
 houses_step_to q again =
     if is_over q then Over (q.own_store + sum q.own) (q.other_store + sum q.other) else (if again then Again q.own_store (rows_of q) else Turn q.own_store (rows_of (swapped q)))
 
--- where house h leads
+-- what the move of house h leads to
 abbrev pub houses_step : Rows → ℕ → HousesStep
 houses_step a h = houses_step_to (after (bare a) h) (is_again (bare a) h)

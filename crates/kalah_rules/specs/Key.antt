@@ -1,4 +1,4 @@
--- One number for each value of houses.
+-- A distinct number for each value of houses.
 use Rattle.std.specs.Prelude.{ℕ, zero, suc, ◌+◌, ◌*◌, ◌/◌, ◌%◌, ◌^◌, ◌==◌, List, [], ◌∷◌, length, if◌then◌else◌}
 use Rattle.kalah_rules.specs.declared.rule.Rule.{Rule}
 use Rattle.kalah_rules.specs.declared.rule.Rule.TheVariants.{Classic, EmptyCapture}
@@ -32,7 +32,7 @@ side_at k = k / 2 ^ 60 % 8
 abbrev pub rule_at : ℕ → Rule
 rule_at k = if k / 2 ^ 63 == 0 then Classic else EmptyCapture
 
--- the number is a key: it names 1 to 6 houses a side, its cells past the last house are 0, and they hold few seeds
+-- the number is a key: it names 1 to 6 houses a side, its cells past the last house are 0, and they hold at most 31 seeds
 abbrev pub IsKey : ℕ → Type 0
 IsKey k = CanBeHouses (side_at k) (cells 6 k) (cells 6 (k / 2 ^ 30))
 

@@ -9,7 +9,7 @@ pub data Cell : Type 0 where
   Store : Cell
   Other : ℕ → Cell
 
--- how far a cell lies from own house h, where a side has m houses
+-- how far a cell lies from own house h, if a side has m houses
 abbrev pub distance : ℕ → ℕ → Cell → ℕ
 distance m h (Own i) = own_distance m h i
 distance m h Store = store_distance m h
@@ -21,7 +21,7 @@ IsCellOf m (Own i) = (1 ≤ i) × (i ≤ m)
 IsCellOf m Store = Unit {0}
 IsCellOf m (Other j) = (1 ≤ j) × (j ≤ m)
 
--- one seed more in a cell
+-- one more seed in a cell
 abbrev pub with_seed : Position → Cell → Position
 with_seed p (Own i) = record p { own = slice_set p.own (i - 1) (seeds p.own i + 1) }
 with_seed p Store = record p { own_store = p.own_store + 1 }

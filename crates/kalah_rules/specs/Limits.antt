@@ -1,4 +1,4 @@
--- How large a position may be.
+-- The limits of a position.
 use Rattle.std.specs.Prelude.{ℕ, ◌+◌}
 use Rattle.kalah_rules.specs.declared.limits.TheConstants.{MOST_HOUSES, MOST_SEEDS, MOST_IN_STORE}
 
@@ -10,10 +10,10 @@ most_houses = MOST_HOUSES
 abbrev pub most_seeds : ℕ
 most_seeds = MOST_SEEDS
 
--- seeds in a store of a position that is written down
+-- seeds in a store of a position as it is given
 abbrev pub most_in_store : ℕ
 most_in_store = MOST_IN_STORE
 
--- seeds in a store with all the seeds that could still come to it
+-- seeds in a store together with all that may be added to it
 abbrev pub most_in_play : ℕ
 most_in_play = most_in_store + most_seeds

@@ -5,7 +5,7 @@ use Rattle.kalah_rules.specs.Sowing.{row_of}
 use Rattle.kalah_rules.specs.Key.{number_of, key_of, rows_at}
 use Rattle.kalah_rules.specs.declared.houses.play.RowNumbers.{RowNumbers}
 
--- the key of houses of the game, beside the seeds in them
+-- the key of houses of the game, with the number of seeds in them
 pub record IsPacked (key seeds : ℕ) : Type 0 where
   pub limits : IsWithinHouses (rows_at key)
   pub key_is : key_of (rows_at key) ≡ key

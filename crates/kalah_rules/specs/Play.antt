@@ -1,4 +1,4 @@
--- The moves of a position and where each leads.
+-- The moves of a position and what each leads to.
 use Rattle.std.specs.Prelude.{ℕ, Bool, if◌then◌else◌, nat_lt, List, [], filter}
 use Rattle.std.specs.List.{range_with_len}
 use Rattle.kalah_rules.specs.Position.{Position, side_length, seeds, is_over, swept, swapped}
@@ -6,11 +6,11 @@ use Rattle.kalah_rules.specs.Sowing.{after, is_again}
 use Rattle.kalah_rules.specs.declared.step.Step.{Step}
 use Rattle.kalah_rules.specs.declared.step.Step.TheVariants.{Again, Turn, Over}
 
--- the houses that hold seeds, rising, and none where the game is over
+-- the houses that hold seeds, rising, and none if the game is over
 abbrev pub legal_houses : Position → List ℕ
 legal_houses p = if is_over p then [] else filter (λ i. nat_lt 0 (seeds p.own i)) (range_with_len 1 (side_length p))
 
--- what the position q after a move is: swept where the game is over, else with the sides swapped unless the mover has another move
+-- what the position q after a move becomes: swept if the game is over, otherwise with the sides swapped unless the mover moves again
 abbrev pub step_to : Position → Bool → Step
 step_to q again = if is_over q then Over (swept q) else (if again then Again q else Turn (swapped q))
 

@@ -1,4 +1,4 @@
--- A position of Kalah, from the side of the player to move, and what is read off it.
+-- A position of Kalah, from the side of the player to move, and what is derived from it.
 use Rattle.std.specs.Prelude.{◌≡◌, ℕ, ◌+◌, ◌-◌, ◌≤◌, Bool, ◌||◌, ◌==◌, List, length, replicate, sum, slice_index, ℤ, pos, neg_ℤ, ◌-ℤ◌, ◌≤ℤ◌}
 use Rattle.kalah_rules.specs.Limits.{most_houses, most_seeds, most_in_play}
 use Rattle.kalah_rules.specs.declared.rule.Rule.{Rule}
@@ -15,7 +15,7 @@ pub record Position : Type 0 where
 abbrev pub side_length : Position → ℕ
 side_length p = length p.own
 
--- both players have as many houses
+-- both players have the same number of houses
 pub record HasEqualSides (p : Position) : Type 0 where
   pub same : length p.other ≡ side_length p
 
@@ -62,7 +62,7 @@ swapped p = record p {
   other_store = p.own_store;
 }
 
--- what every board keeps
+-- what holds of every board
 pub record IsWithinLimits (p : Position) : Type 0 where
   pub some_house : 1 ≤ length p.own
   pub at_most_six : length p.own ≤ most_houses
@@ -80,7 +80,7 @@ pub record Rows : Type 0 where
 abbrev pub rows_of : Position → Rows
 rows_of p = record { own = p.own; other = p.other; rule = p.rule }
 
--- the position of these houses, with so much in the stores
+-- the position of these houses, with these seeds in the stores
 abbrev pub with_stores : Rows → ℕ → ℕ → Position
 with_stores a own_store other_store = record {
   own = a.own;
@@ -98,7 +98,7 @@ bare a = with_stores a 0 0
 abbrev pub without_seeds : Rows → Rows
 without_seeds a = record { own = replicate (length a.own) 0; other = replicate (length a.own) 0; rule = a.rule }
 
--- what the houses of every board keep
+-- what holds of the houses of every board
 pub record IsWithinHouses (a : Rows) : Type 0 where
   pub some_house : 1 ≤ length a.own
   pub at_most_six : length a.own ≤ most_houses

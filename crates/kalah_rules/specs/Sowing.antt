@@ -5,7 +5,7 @@ use Rattle.kalah_rules.specs.Position.{Position, side_length, seeds, opposite}
 use Rattle.kalah_rules.specs.declared.rule.Rule.{Rule}
 use Rattle.kalah_rules.specs.declared.rule.Rule.TheVariants.{Classic, EmptyCapture}
 
--- the cells of a lap, where a side has m houses: own houses, own store, other houses
+-- the number of cells of a lap, if a side has m houses: own houses, own store, other houses
 abbrev pub lap_length : ℕ → ℕ
 lap_length m = 2 * m + 1
 
@@ -51,7 +51,7 @@ is_again p h = last_distance p h == store_distance (side_length p) h
 abbrev pub last_house : Position → ℕ → Option ℕ
 last_house p h = find (λ i. own_distance (side_length p) h i == last_distance p h) (range_with_len 1 (side_length p))
 
--- a last seed alone in its house captures where the house across holds seeds; under the empty-capture rule it always does
+-- a last seed alone in its house captures if the house across holds seeds; under the empty-capture rule it always does
 abbrev pub captures : Rule → ℕ → Bool
 captures Classic across = nat_lt 0 across
 captures EmptyCapture across = true

@@ -1,4 +1,4 @@
-//! Boards: positions within the limits, and what is read off them.
+//! Boards: positions within the limits.
 ghost use Rattle.std.specs.Prelude.{◌≡◌, ◌≤◌, ◌↔◌, IsTrue, IsSome, IfSome};
 ghost use Rattle.kalah_rules.specs.Position.{side_length, seeds, is_over, final_margin, IsWithinLimits, rows_of, IsSmallMargin};
 ghost use Rattle.kalah_rules.specs.Cells.{CanStart, position_of};
@@ -12,11 +12,11 @@ use crate::limits::MOST_IN_STORE;
 use crate::rule::Rule;
 use std::marker::Model;
 
-/// A position, from the side of the player to move.
+/// A position within the limits, seen by the player to move, the mover.
 ///
-/// Houses are numbered 1 to `m`; house 1 is the farthest from its owner's store, and the mover's house `i` lies across
-/// from the other player's house `m + 1 - i`. A board has 1 to 6 houses a side, at most 31 seeds in them, and stores
-/// that hold at most 130 together with all of these.
+/// Houses are numbered 1 to `m`. House 1 is the farthest from its owner's store, and the mover's house `i` lies across
+/// from the other player's house `m + 1 - i`. A board has 1 to 6 houses a side and at most 31 seeds in houses. Each
+/// store, together with all seeds in houses, holds at most 130.
 #[derive(Clone, Copy, Debug, PartialEq, Eq)]
 pub struct Board {
     houses: Houses,
@@ -37,8 +37,10 @@ impl Model for Board {
 }
 
 impl Board {
-    /// The position whose houses are the first `m` cells of each row. None where `m` isn't 1 to 6, a cell past the first
-    /// `m` isn't 0, the houses hold more than 31 seeds together, or a store holds more than 99.
+    /// Returns the board whose houses are the first `m` cells of each row.
+    ///
+    /// Returns `None` if `m` isn't 1 to 6, a cell after the first `m` isn't 0, the houses hold more than 31 seeds together,
+    /// or a store holds more than 99.
     pub fn new(
         m: u8,
         own: [u8; 6],
@@ -61,7 +63,7 @@ impl Board {
         })
     }
 
-    /// The houses per side, 1 to 6.
+    /// Returns the number of houses a side, 1 to 6.
     pub fn m(&self) -> u8
         ensures side { result ≡ side_length self.now }
         ensures limits { IsWithinLimits self.now }
@@ -69,7 +71,7 @@ impl Board {
         self.houses.m()
     }
 
-    /// The seeds in the mover's house `i`, which is 1 to `m`.
+    /// Returns the number of seeds in the mover's house `i`, which is 1 to `m`.
     pub fn own(&self, i: u8) -> u8
         requires low { 1 ≤ i }
         requires high { i ≤ side_length self.now }
@@ -78,7 +80,7 @@ impl Board {
         self.houses.own(i)
     }
 
-    /// The seeds in the other player's house `i`, which is 1 to `m`.
+    /// Returns the number of seeds in the other player's house `i`, which is 1 to `m`.
     pub fn other(&self, i: u8) -> u8
         requires low { 1 ≤ i }
         requires high { i ≤ side_length self.now }
@@ -87,35 +89,35 @@ impl Board {
         self.houses.other(i)
     }
 
-    /// The seeds in the mover's store, at most 130.
+    /// Returns the number of seeds in the mover's store, at most 130.
     pub fn own_store(&self) -> u8
         ensures { result ≡ self.now.own_store }
     {
         self.own_store
     }
 
-    /// The seeds in the other player's store, at most 130.
+    /// Returns the number of seeds in the other player's store, at most 130.
     pub fn other_store(&self) -> u8
         ensures { result ≡ self.now.other_store }
     {
         self.other_store
     }
 
-    /// The rule of capture that the game is played by.
+    /// Returns the rule of capture.
     pub fn rule(&self) -> Rule
         ensures { result ≡ self.now.rule }
     {
         self.houses.rule()
     }
 
-    /// The houses and the rule, without the stores.
+    /// Returns the houses and the rule, without the stores.
     pub fn houses(&self) -> Houses
         ensures { result ≡ rows_of self.now }
     {
         self.houses
     }
 
-    /// Whether the game is over: the houses of one of the players are all empty.
+    /// Returns whether the game is over: the houses of one of the players are all empty.
     pub fn is_over(&self) -> bool
         ensures over { result ≡ is_over self.now }
         ensures limits { IsWithinLimits self.now }
@@ -123,7 +125,8 @@ impl Board {
         self.houses.is_over()
     }
 
-    /// The margin of a game that is over: what the mover has in houses and store less what the other player has.
+    /// Returns the margin of a game that is over, -130 to 130: what the mover has in houses and store, less what the
+    /// other player has.
     pub fn returns(&self) -> i32
         requires { IsTrue (is_over self.now) }
         ensures margin { result ≡ final_margin self.now }

@@ -1,4 +1,4 @@
-//! The houses of a board, without the stores, in one number.
+//! The houses of a board without the stores, in one number.
 ghost use Rattle.std.specs.Prelude.{◌≡◌, ◌<◌, ◌≤◌, ◌^◌, ◌↔◌, length, sum, IsSome, IfSome, IsTrue, Some};
 ghost use Rattle.kalah_rules.specs.Position.{Rows, seeds, seeds_in_houses, is_over, bare, without_seeds, IsWithinHouses};
 ghost use Rattle.kalah_rules.specs.Cells.{CanBeHouses, rows_from};
@@ -17,10 +17,10 @@ use crate::row::{is_empty_past, total};
 use crate::rule::Rule;
 use std::marker::Model;
 
-/// The houses of a board and the rule it is played by, without the stores. Stores change neither the legal moves nor
-/// what they do, so this is what a solver needs to look at.
+/// The houses of a board and its rule, without the stores. Stores change neither the legal moves nor what they do, so
+/// this is all that a solver needs.
 ///
-/// They are kept as their key, beside the count of seeds in them, which is as wide as the key: so a copy has no gap.
+/// They are stored as their key and the number of seeds in them, which is as wide as the key, so that a copy has no gap.
 #[derive(Clone, Copy, Debug, PartialEq, Eq)]
 pub struct Houses {
     key: u64,
@@ -46,8 +46,10 @@ impl Model for Houses {
 }
 
 impl Houses {
-    /// The first `m` cells of each row as houses. None where `m` isn't 1 to 6, a cell past the first `m` isn't 0, or the
-    /// houses hold more than 31 seeds together.
+    /// Returns the first `m` cells of each row as houses.
+    ///
+    /// Returns `None` if `m` isn't 1 to 6, a cell after the first `m` isn't 0, or the houses hold more than 31 seeds
+    /// together.
     pub fn new(m: u8, own: [u8; 6], other: [u8; 6], rule: Rule) -> Option<Houses>
         ensures valid { IsSome result ↔ CanBeHouses m own other }
         ensures value { IfSome result (λ a. a ≡ rows_from m own other rule) }
@@ -71,8 +73,10 @@ impl Houses {
         })
     }
 
-    /// The houses of a key. None where the number is no key: exactly where its houses per side aren't 1 to 6, a house past
-    /// the last isn't 0, or the houses hold more than 31 seeds together.
+    /// Returns the houses that have this key.
+    ///
+    /// Returns `None` if and only if the number is no key: its number of houses a side isn't 1 to 6, a house after the last
+    /// isn't 0, or the houses hold more than 31 seeds together.
     pub fn of_key(key: u64) -> Option<Houses>
         ensures valid { IsSome result ↔ IsKey key }
         ensures same { IfSome result (λ a. key_of a ≡ key) }
@@ -86,9 +90,10 @@ impl Houses {
         )
     }
 
-    /// Their key. Own house i stands in the five bits from 5(i - 1), the other player's house i in those from
-    /// 30 + 5(i - 1), the houses per side in bits 60 to 62, and bit 63 is set for the empty-capture rule. Two values of
-    /// houses have one key exactly where they are equal.
+    /// Returns the key of these houses. Different houses have different keys.
+    ///
+    /// Own house i is in the five bits from 5(i - 1) on, the other player's house i in those from 30 + 5(i - 1) on, the
+    /// number of houses a side in bits 60 to 62, and bit 63 is set for the empty-capture rule.
     pub fn key(&self) -> u64
         ensures key { result ≡ key_of self.now }
         ensures limits { IsWithinHouses self.now }
@@ -96,7 +101,7 @@ impl Houses {
         self.key
     }
 
-    /// The seeds in them.
+    /// Returns the number of seeds in the houses of both players, at most 31.
     pub fn seeds(&self) -> u8
         ensures seeds { result ≡ seeds_in_houses (bare self.now) }
         ensures limits { IsWithinHouses self.now }
@@ -104,7 +109,7 @@ impl Houses {
         self.seeds as u8
     }
 
-    /// The houses per side, 1 to 6.
+    /// Returns the number of houses a side, 1 to 6.
     pub fn m(&self) -> u8
         ensures side { result ≡ length self.now.own }
         ensures limits { IsWithinHouses self.now }
@@ -112,14 +117,14 @@ impl Houses {
         (self.key / SIDE % 8) as u8
     }
 
-    /// The rule of capture.
+    /// Returns the rule of capture.
     pub fn rule(&self) -> Rule
         ensures { result ≡ self.now.rule }
     {
         rule_of(self.key / RULE)
     }
 
-    // The mover's houses as a number.
+    // Returns the mover's houses as a number.
     fn own_row(&self) -> u64
         ensures value { result ≡ number_of self.now.own }
         ensures small { result < 2 ^ 30 }
@@ -128,7 +133,7 @@ impl Houses {
         self.key % OTHER_ROW
     }
 
-    // The other player's houses as a number.
+    // Returns the other player's houses as a number.
     fn other_row(&self) -> u64
         ensures value { result ≡ number_of self.now.other }
         ensures small { result < 2 ^ 30 }
@@ -137,7 +142,7 @@ impl Houses {
         self.key / OTHER_ROW % OTHER_ROW
     }
 
-    /// The seeds in the mover's house `i`, which is 1 to `m`.
+    /// Returns the number of seeds in the mover's house `i`, which is 1 to `m`.
     pub fn own(&self, i: u8) -> u8
         requires low { 1 ≤ i }
         requires high { i ≤ length self.now.own }
@@ -147,7 +152,7 @@ impl Houses {
         seeds_at(self.own_row(), i as u32) as u8
     }
 
-    /// The seeds in the other player's house `i`, which is 1 to `m`.
+    /// Returns the number of seeds in the other player's house `i`, which is 1 to `m`.
     pub fn other(&self, i: u8) -> u8
         requires low { 1 ≤ i }
         requires high { i ≤ length self.now.own }
@@ -157,14 +162,14 @@ impl Houses {
         seeds_at(self.other_row(), i as u32) as u8
     }
 
-    /// Whether the game is over: the houses of one of the players are all empty.
+    /// Returns whether the game is over: the houses of one of the players are all empty.
     pub fn is_over(&self) -> bool
         ensures { result ≡ is_over (bare self.now) }
     {
         self.own_row() == 0 || self.other_row() == 0
     }
 
-    // What each player has in houses when the game is over.
+    // Returns the number of seeds that each player has in houses at the end of a game: the mover's, and the other player's.
     pub(crate) fn left(&self) -> (u8, u8)
         requires { IsTrue (is_over (bare self.now)) }
         ensures own { result.0 ≡ sum self.now.own }
@@ -177,7 +182,7 @@ impl Houses {
         }
     }
 
-    // The same houses with no seeds in them.
+    // Returns houses of the same number and rule without seeds.
     pub(crate) fn without_seeds(&self) -> Houses
         ensures { result ≡ without_seeds self.now }
     {

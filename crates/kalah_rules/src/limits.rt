@@ -1,11 +1,11 @@
-//! How large a position may be.
+//! The limits of a position.
 
-/// The most houses that a side has.
+/// The greatest number of houses a side.
 pub const MOST_HOUSES: u8 = 6;
 
-/// The most seeds in the houses of both players together.
+/// The greatest number of seeds in the houses of both players together.
 pub const MOST_SEEDS: u16 = 31;
 
-/// The most seeds in a store of a position that is written down. In play a store can reach 130, since all
-/// the seeds in houses may come to it.
+/// The greatest number of seeds in a store of a position as it is given. In play a store can reach 130, since
+/// all seeds in houses may be added to it.
 pub const MOST_IN_STORE: u8 = 99;

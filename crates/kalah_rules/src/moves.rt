@@ -3,7 +3,7 @@ ghost use Rattle.std.specs.Prelude.{◌≡◌, ℕ, ◌<◌, [], ◌∷◌, ◌+
 
 use std::marker::Model;
 
-/// The houses that may be moved, rising.
+/// The legal moves of a position: the houses that may be moved, in rising order. At most six.
 #[derive(Clone, Copy, Debug, PartialEq, Eq)]
 pub struct Moves {
     houses: [u8; 6],
@@ -26,7 +26,7 @@ impl Model for Moves {
 }
 
 impl Moves {
-    // No moves.
+    // Returns an empty list.
     pub(crate) fn none() -> Moves
         ensures { result ≡ [] }
     {
@@ -36,7 +36,7 @@ impl Moves {
         }
     }
 
-    // One more move.
+    // Appends house `h`.
     pub(crate) fn push(&mut self, h: u8)
         requires { length self.old < 6 }
         ensures { self.new ≡ self.old ++ h ∷ [] }
@@ -45,14 +45,14 @@ impl Moves {
         self.count += 1;
     }
 
-    /// How many there are: 0 where the game is over, and else 1 to 6.
+    /// Returns the number of moves: 0 if the game is over, otherwise 1 to 6.
     pub fn len(&self) -> u8
         ensures { result ≡ length self.now }
     {
         self.count
     }
 
-    /// The house at place `i`, counted from 0.
+    /// Returns the house at index `i`, which is below `len`.
     pub fn get(&self, i: u8) -> u8
         requires { i < length self.now }
         ensures { result ≡ slice_index self.now i }

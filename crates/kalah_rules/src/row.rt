@@ -1,7 +1,7 @@
 //! Rows of six cells.
 ghost use Rattle.std.specs.Prelude.{◌≡◌, ◌≤◌, ◌↔◌, length, sum, drop, IsTrue, All};
 
-// The seeds of a row.
+// Returns the number of seeds of a row.
 pub(crate) fn total(row: &[u8]) -> u16
     requires { length row.now ≤ 6 }
     ensures { result ≡ sum row.now }
@@ -9,7 +9,7 @@ pub(crate) fn total(row: &[u8]) -> u16
     row.iter().map(|seeds| *seeds as u16).sum()
 }
 
-// The cells past the first `m` have no seeds.
+// Returns whether the cells after the first `m` hold no seeds.
 pub(crate) fn is_empty_past(cells: &[u8; 6], m: u8) -> bool
     requires { m ≤ 6 }
     ensures { IsTrue result ↔ All (λ seeds. seeds ≡ 0) (drop m cells.now) }

@@ -1,19 +1,19 @@
 //! The two rules of capture.
 ghost use Rattle.std.specs.Prelude.{◌≡◌};
 
-/// What a last seed captures that falls into an empty house of the mover.
+/// A rule of capture: what happens if the last seed of a move falls into an empty house of the mover.
 #[derive(Clone, Copy, Debug, PartialEq, Eq)]
 pub enum Rule {
-    /// It takes the seeds in the house across with it, and nothing happens where there are none.
+    /// The last seed and the seeds in the house across are captured. If the house across is empty, nothing happens.
     Classic,
-    /// As in `Classic`; and where the house across is empty, the last seed alone goes to the store.
+    /// As `Classic`, but if the house across is empty, the last seed alone is captured.
     EmptyCapture,
 }
 
 impl Rule {
     ghost use Rattle.kalah_rules.specs.Sowing.{captures};
 
-    /// Whether a last seed alone in its house captures, with so many seeds across from it.
+    /// Returns whether a last seed that is alone in its house captures, if the house across holds `across` seeds.
     pub fn captures(self, across: u8) -> bool
         ensures { result ≡ captures self across }
     {

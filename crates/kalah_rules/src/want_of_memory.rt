@@ -1,11 +1,11 @@
-//! No call of the rules takes memory. `tests/refuse` runs this test with its first request refused, and then with its
-//! second: these have to be its two marks.
+//! Shows that no call of the rules requests memory: `tests/refuse` runs this test with its first request refused, and then
+//! with its second, and these must be its two marks.
 use crate::{Board, Houses, Rule, Step};
 use std::alloc::Global;
 use std::process::Abort;
 use std::test::Fail;
 
-// A request that is refused only where none before it was.
+// Requests memory, to mark this place. Fails if that is refused.
 fn mark(alloc: Global, place: &'static str) -> Result<(), Fail> {
     match Box::new(alloc, 0u8) {
         Ok(_) => Ok(()),
@@ -15,7 +15,7 @@ fn mark(alloc: Global, place: &'static str) -> Result<(), Fail> {
 
 const ONES: [u8; 6] = [1, 1, 0, 0, 0, 0];
 
-// The moves of a position of two houses a side, and what each leads to.
+// Asserts the moves of a position of two houses a side, and their results.
 fn moves_are_as_ever(rt: &impl Abort, rule: Rule) -> Result<(), Fail> {
     let board = Board::new(2, ONES, 0, ONES, 0, rule).ok_or("beyond the limits")?;
     assert!(rt; !board.is_over() && board.is_legal(1) && board.is_legal(2));
@@ -30,7 +30,7 @@ fn moves_are_as_ever(rt: &impl Abort, rule: Rule) -> Result<(), Fail> {
     Ok(())
 }
 
-// A game that is over has no moves, and its margin.
+// Asserts that a game that is over has no moves, and its margin.
 fn the_end_is_as_ever(rt: &impl Abort, rule: Rule) -> Result<(), Fail> {
     let over = Board::new(2, [0; 6], 3, [1, 2, 0, 0, 0, 0], 4, rule).ok_or("beyond the limits")?;
     assert!(rt; over.is_over());

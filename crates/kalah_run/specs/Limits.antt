@@ -1,4 +1,4 @@
--- How many workers may answer a batch, how large the table of each may be, and how many places a results queue may have.
+-- The most workers of a batch, the largest table of each, and the most places of a results queue.
 use Rattle.std.specs.Prelude.{◌<◌, ◌≤◌, ℕ}
 use Rattle.kalah_solve.specs.Table.{most_entries}
 use Rattle.kalah_run.specs.declared.limits.TheConstants.{MOST_PLACES, MOST_WORKERS}

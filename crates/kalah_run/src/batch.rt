@@ -52,8 +52,8 @@ fn finish<W: Sink>(out: &mut W) -> Result<(), RunFault>
     }
 }
 
-// Answers the jobs of the files, and writes each answer line as soon as it is ready and all before it are written. Says how
-// many lines were answered by a fault. Where there is no job, no worker is started and nothing fails.
+// Answers the jobs of the files, and writes each answer line once it is ready and all earlier ones are written. Returns how
+// many lines were answered by a fault. If there is no job, no worker is started and nothing fails.
 fn answer_jobs<'a, R: Threads + Wait + Sync, G: Gate, W: Sink>(
     rt: &R,
     alloc: Global,
@@ -105,14 +105,19 @@ fn answer_jobs<'a, R: Threads + Wait + Sync, G: Gate, W: Sink>(
     Ok(output.faults)
 }
 
-/// Answers what is asked of every line of the files, with so many workers and such tables, and writes an answer line for each,
-/// files in order and lines in order, as soon as it is ready and all before it are written; then it flushes the output. Where
-/// it is Ok, just these lines were written, and the tally counts them.
+/// Answers what is asked of every line of the files, with workers and tables of the given size. It writes one answer line for each,
+/// in the order of the files and of their lines, once it is ready and all earlier ones are written; then it flushes the output.
 ///
-/// It is an error, the first that holds: `TooManyFiles`, more than 256; `TooManyLines`, more than 1,000,000 over all files;
-/// `OutOfMemory`, where memory was refused before the first worker began; `NoWorker`, where there is a line and no thread
-/// could be started; for these nothing was written. `Write`, where a write or the flush failed: from then on nothing more
-/// is written, and the rest is still answered; what was written is a beginning of those lines. The gate is told of each job.
+/// If it succeeds, exactly these lines were written, and the tally counts them. The gate is called for each job.
+///
+/// Fails with the first of these that holds:
+/// - `TooManyFiles` if there are more than 256 files;
+/// - `TooManyLines` if they have more than 1,000,000 lines together;
+/// - `OutOfMemory` if memory was refused before the first worker began;
+/// - `NoWorker` if there is a line and no thread could be started;
+/// - `Write` if a write or the flush failed. From then on nothing more is written, and the remaining lines are still solved.
+///
+/// The first four write nothing. After `Write`, what was written is a prefix of the answer lines.
 pub fn answer_batch<R: Threads + Wait + Sync, G: Gate, W: Sink>(
     rt: &R,
     alloc: Global,
@@ -124,7 +129,7 @@ pub fn answer_batch<R: Threads + Wait + Sync, G: Gate, W: Sink>(
 ) -> Result<Tally, RunFault>
     requires fresh { W.has_failed out.old ≡ false }
 
-    // What Ok says, what stands written whatever comes of it, and when each fault comes: a field for each.
+    // What Ok means, what was written in any case, and when each fault comes: a field for each.
     ensures { AnswersBatch W.written W.has_failed W.is_handed_on (output_to question files.now) files.now out.old out.new result }
 {
     let jobs = Jobs::asking(alloc, question, files)?;
@@ -136,8 +141,8 @@ pub fn answer_batch<R: Threads + Wait + Sync, G: Gate, W: Sink>(
     })
 }
 
-/// Solves every line of the files: `answer_batch` where the best move is asked, with so many `workers`, 1 to 64, each with a
-/// table of so many entries, 1 to 1,048,576.
+/// Solves every line of the files: `answer_batch` with the best move asked, by `workers` workers, 1 to 64, each with a table of
+/// `table` entries, 1 to 1,048,576.
 pub fn solve_batch<R: Threads + Wait + Sync, G: Gate, W: Sink>(
     rt: &R,
     alloc: Global,
@@ -151,7 +156,7 @@ pub fn solve_batch<R: Threads + Wait + Sync, G: Gate, W: Sink>(
     requires table { IsTableSize table }
     requires fresh { W.has_failed out.old ≡ false }
 
-    // As `answer_batch` has it.
+    // As in `answer_batch`.
     ensures { AnswersBatch W.written W.has_failed W.is_handed_on (output_of files.now) files.now out.old out.new result }
 {
     let size = BatchSize { workers, table };

@@ -21,8 +21,8 @@ use std::marker::Model;
 #[cfg(test)]
 mod tests;
 
-/// Deals the numbers below a total, each once, to the passes that draw them. It is seen as its
-/// identity, its total and how many passes it has.
+/// Deals the numbers below a total, each once, to the passes that draw them. Contracts see it as its
+/// identity, its total and its number of passes.
 #[derive(Drop)]
 pub struct Desk {
     table: Table<(), DeskView, DeskPlan, DeskRule, Global>,
@@ -42,7 +42,7 @@ impl Model for Desk {
         × (d.table.shared.key.total ≡ d.total) × (d.total ≤ most_lines) };
 }
 
-/// What was drawn at a desk that is closed.
+/// The result of a desk that is closed.
 #[derive(Clone, Copy, Debug, PartialEq, Eq)]
 pub struct ClosedDesk {
     drawn: u32,
@@ -59,7 +59,7 @@ impl Model for ClosedDesk {
     ghost inverse = { λ c. record { drawn = c.drawn; spent = c.spent } };
 }
 
-// The passes of a new desk, each with its number.
+// Makes the passes of a new desk, each with its number.
 fn hand_out(
     alloc: Global,
     shared: &Shared<(), DeskView, DeskPlan, DeskRule>,
@@ -101,8 +101,8 @@ fn reclaim(
 }
 
 impl Desk {
-    /// A desk for the numbers below `total`, at most 1,000,000, and its `passes`, 1 to 64 of them:
-    /// each has an empty row, and none is spent. An error only where memory was refused.
+    /// Opens a desk for the numbers below `total`, at most 1,000,000, with `passes` passes, 1 to 64:
+    /// each has an empty row, and none is spent. Fails with `AllocError` only if memory was refused.
     pub fn open(alloc: Global, total: u32, passes: u32) -> Result<(Desk, Vec<Pass>), AllocError>
         requires total { total ≤ most_lines }
         requires passes { AreWorkers passes }
@@ -115,10 +115,10 @@ impl Desk {
         Ok((Desk { table, total }, handed_out))
     }
 
-    /// A number below the total, which goes to the end of the pass's row and stands in no other
-    /// row; or None where none is left, and then the pass is spent and its row stays. A spent pass
-    /// steps on the word no more, and is answered None for good. A draw is one step on the word:
-    /// it takes no memory, and waits for nothing.
+    /// Draws a number below the total, which goes to the end of the pass's row and stands in no other
+    /// row. Returns `None` if none is left; then the pass is spent and its row stays. A spent pass
+    /// does not step on the word again, and every later draw returns `None`. A draw is one step on the word:
+    /// it allocates nothing and never blocks.
     pub fn draw(&self, pass: &mut Pass) -> Option<u32>
         requires { IsPassAt self.now pass.old }
 
@@ -151,9 +151,9 @@ impl Desk {
         None
     }
 
-    /// Ends the desk, which reclaims all its passes. Their rows are lawful: each number below
+    /// Closes the desk, which reclaims all its passes. Their rows are lawful: each number below
     /// the count of those drawn stands in one row and there once, no other stands in any, and each
-    /// row rises. Where some pass is spent, all numbers below the total were drawn.
+    /// row ascends. If some pass is spent, all numbers below the total were drawn.
     pub fn close(self, passes: Vec<Pass>) -> ClosedDesk
         requires all { length passes.items ≡ self.passes }
         requires own { All (IsPassAt self) passes.items }
@@ -182,14 +182,14 @@ impl Desk {
 }
 
 impl ClosedDesk {
-    /// How many numbers were drawn.
+    /// Returns the number of numbers drawn.
     pub fn drawn(&self) -> u32
         ensures { result ≡ self.now.drawn }
     {
         self.drawn
     }
 
-    /// Whether some pass was answered None, so that all numbers below the total were drawn.
+    /// Returns whether a draw of some pass returned `None`, so that all numbers below the total were drawn.
     pub fn spent(&self) -> bool
         ensures { result ≡ self.now.spent }
     {

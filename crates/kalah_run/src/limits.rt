@@ -1,4 +1,4 @@
-//! The limits of what is run.
+//! The limits of a batch.
 
 /// The most workers that answer a batch.
 pub const MOST_WORKERS: u32 = 64;

@@ -27,12 +27,12 @@ use std::sync::Wait;
 #[cfg(test)]
 mod tests;
 
-/// What workers put and one collector gets, in turn: a queue of a fixed capacity that threads share. It is seen as its
+/// A queue of fixed capacity that threads share: workers put outcomes, and one collector gets them. Contracts see it as its
 /// identity and its capacity.
 #[derive(Drop)]
 pub struct ResultsQueue {
     pairs: RuledQueue,
-    // Who waits for an outcome, and who waits for room. Threads change these all the time, and read what lies beside them.
+    // The threads that wait for an outcome, and those that wait for room. Threads change these all the time, and read what is next to them.
     getters: CachePadded<Waiters>,
     putters: CachePadded<Waiters>,
 }
@@ -51,9 +51,10 @@ impl Model for ResultsQueue {
 }
 
 impl ResultsQueue {
-    /// A queue that holds up to `capacity` outcomes, 1 to 1024, with a pass to put for each of the `workers`, 1 to 64, in
-    /// the order of their numbers from 0 on, and the one pass to get. Nothing was sent or got yet. An error only where
-    /// memory was refused.
+    /// Opens a queue that holds up to `capacity` outcomes, 1 to 1024, with a pass to put for each of the `workers`, 1 to 64, in
+    /// the order of their numbers from 0 on, and the one pass to get. Nothing was sent or got yet.
+    ///
+    /// Fails with `AllocError` only if memory was refused.
     pub fn open(
         alloc: Global,
         capacity: u32,
@@ -82,7 +83,7 @@ impl ResultsQueue {
         Ok((queue, puts, GetPass { ruled, workers }))
     }
 
-    /// Puts the outcome behind all that this worker has sent. Waits while the queue is full: after a short spin it sleeps.
+    /// Puts the outcome behind all that this worker has sent. Blocks while the queue is full: first by spinning briefly, then by sleeping.
     pub fn put<R: Wait>(&self, rt: &R, pass: &mut PutPass, outcome: Outcome)
         requires { pass.old.queue ≡ self.now.id }
         ensures { pass.new ≡ record pass.old { sent = pass.old.sent ++ outcome ∷ [] } }
@@ -106,8 +107,8 @@ impl ResultsQueue {
         unreachable!()
     }
 
-    /// Takes an outcome out, the next of one of the workers, and answers it. Waits while there is none: after a short spin it
-    /// sleeps.
+    /// Removes an outcome, the next of one of the workers, and returns it. Blocks while there is none: first by spinning briefly, then by
+    /// sleeping.
     pub fn get<R: Wait>(&self, rt: &R, pass: &mut GetPass) -> Outcome
         requires { pass.old.queue ≡ self.now.id }
         ensures { HasGot pass.old result pass.new }
@@ -124,7 +125,7 @@ impl ResultsQueue {
         unreachable!()
     }
 
-    // As `get`, but without sleep: None, with nothing got, where so many tries find no outcome. A try that finds none is spent. Only
+    // Like `get`, but never sleeps: returns `None`, with nothing got, if `tries` tries find no outcome. Each such try is spent. Only
     // the first few of them yield the processor, so that they soon end also on a busy machine.
     pub(crate) fn get_soon(&self, pass: &mut GetPass, tries: &mut u32) -> Option<Outcome>
         requires { pass.old.queue ≡ self.now.id }
@@ -147,8 +148,8 @@ impl ResultsQueue {
         None
     }
 
-    /// Ends the queue. Reclaims all its passes, those to put in the order of `open`, and says how many outcomes were
-    /// left inside, which are dropped. What was got and then what was left is, of each worker, what that worker sent.
+    /// Closes the queue. It reclaims all its passes, those to put in the order of `open`, and returns how many outcomes were
+    /// left inside, which are dropped. What was got, followed by what was left, is of each worker what that worker sent.
     pub fn close<R: Wait>(self, rt: &R, puts: Vec<PutPass>, pass: GetPass) -> ClosedQueue
         requires puts { (vec_len puts ≡ pass.workers) × ArePassesFrom self.id 0 puts.items }
         requires get { pass.queue ≡ self.id }
@@ -167,7 +168,7 @@ impl ResultsQueue {
     }
 }
 
-/// What is told of a queue that was closed.
+/// The result of closing a queue.
 #[derive(Clone, Copy, Debug, PartialEq, Eq)]
 pub struct ClosedQueue {
     left: u32,
@@ -184,7 +185,7 @@ impl Model for ClosedQueue {
 }
 
 impl ClosedQueue {
-    /// How many outcomes were put and not got.
+    /// Returns how many outcomes were put and not got.
     pub fn left(&self) -> u32
         ensures { result ≡ self.now.left }
     {
@@ -192,7 +193,7 @@ impl ClosedQueue {
     }
 }
 
-// Lets a fraction of a microsecond pass. It never yields: on a busy machine the other threads then run for some milliseconds.
+// Pauses for a fraction of a microsecond. It never yields: on a busy machine the other threads then run for some milliseconds.
 fn spin_shortly() {
     let backoff = Backoff::new();
     for _ in 0..3 {

@@ -79,7 +79,7 @@ best_is_lowest p even going = record {
 pub best_house_lowest : (p : Position) (h : ℕ) → HasEqualSides p → is_over p ≡ false → IsBestMove p h (worth p) → best_house p ≤ h
 best_house_lowest p h even going is = best_lowest p h going (best_moves_legal p h (worth p) even going is) (best_moves_attain p h even going is)
 
--- the strategy that moves house h wherever it is a best move, and the lowest best house elsewhere
+-- the strategy that moves house h if it is a best move, and else the lowest best house
 pub prefers : ℕ → Position → ℕ → Bool
 prefers h p k = (k == h) && int_eq (value_of_move p k) (worth p)
 
@@ -97,14 +97,14 @@ both_true false b is = absurd (cc)
 pub and_true : (a b : Bool) → a ≡ true → b ≡ true → (a && b) ≡ true
 and_true a b one two = rw (one, two) refl
 
--- only house h is preferred, and only where it is a best move
+-- only house h is preferred, and only if it is a best move
 pub prefers_is : (h : ℕ) (p : Position) (k : ℕ) → prefers h p k ≡ true → (k ≡ h) × (value_of_move p k ≡ worth p)
 unfolding prefers
 prefers_is h p k is =
     let both = both_true (k == h) (int_eq (value_of_move p k) (worth p)) is in
     (eqb-true k h both.0, (Decides-int_eq (value_of_move p k) (worth p)).0 both.1)
 
--- house h is preferred where it attains the worth
+-- house h is preferred if it attains the worth
 pub prefers_best : (h : ℕ) (p : Position) → value_of_move p h ≡ worth p → prefers h p h ≡ true
 unfolding prefers
 prefers_best h p attains =
@@ -122,7 +122,7 @@ pub prefer_attains : (h : ℕ) (p : Position) → HasEqualSides p → is_over p 
 unfolding prefer
 prefer_attains h p even going = found_or (λ k. value_of_move p k ≡ worth p) (prefers h p) (legal_houses p) (best_house p) (best_attains p even going) (λ k has passes. (prefers_is h p k passes).1)
 
--- it moves house h where that attains the worth
+-- it moves house h if that attains the worth
 pub prefer_is : (h : ℕ) (p : Position) → Contains (legal_houses p) h → value_of_move p h ≡ worth p → prefer h p ≡ h
 unfolding prefer
 prefer_is h p has attains = find_is (prefers h p) (legal_houses p) h (best_house p) has (prefers_best h p attains) (λ j passes. (prefers_is h p j passes).0)

@@ -23,7 +23,7 @@ find_more p (x ∷ xs) y h found = elim (cases_Bool (p x)) [
   | inr later ↦ rw later (find_more p xs y h (rw later at found))
 ]
 
--- the last house is found where no earlier one passes
+-- the last house is found if no earlier one passes
 find_last : (p : ℕ → Bool) (xs : List ℕ) (y : ℕ) → ((k : ℕ) → k < length xs → p (get_or xs k 0) ≡ false) → p y ≡ true → find p (xs ++ y ∷ []) ≡ Some y
 find_last p [] y fails here = rw here refl
 find_last p (x ∷ xs) y fails here =
@@ -79,15 +79,15 @@ pub record IsBestOf (f : ℕ → ℤ) (xs : List ℕ) (best : ℤ) (house : ℕ)
 pub best_first : (f : ℕ → ℤ) (x : ℕ) (best : ℤ) → best ≡ f x → IsBestOf f (x ∷ []) best x
 best_first f x best e = record { best_is = e; house_is = rw (eq_yes (f x) best (sym e)) refl }
 
--- the greater of two numbers where the second is
+-- the greater of two numbers if the second is
 int_max_more : (a b : ℤ) → a <ℤ b → int_max a b ≡ b
 int_max_more a b less = grind (arith, ints)
 
--- and where the first is
+-- and if the first is
 int_max_less : (a b : ℤ) → b ≤ℤ a → int_max a b ≡ a
 int_max_less a b less = grind (arith, ints)
 
--- order passes on, where the second step is strict
+-- order passes on, if the second step is strict
 lt_of_le : (a b c : ℤ) → a ≤ℤ b → b <ℤ c → a <ℤ c
 lt_of_le a b c one two = omega (arith, ints)
 
@@ -114,11 +114,11 @@ pub best_first_of : (f : ℕ → ℤ) (xs : List ℕ) (best : ℤ) (house : ℕ)
 best_first_of f [] best house some first e = absurd (omega arith)
 best_first_of f (x ∷ xs) best house some first e = rw first (best_first f x best (rw first at e))
 
--- what the test for less says
+-- the meaning of a passed test for less
 lt_from : (a b : ℤ) → int_lt a b ≡ true → a <ℤ b
 lt_from a b t = grind (arith, ints)
 
--- and where it fails
+-- and of a failed one
 le_from : (a b : ℤ) → int_lt a b ≡ false → b ≤ℤ a
 le_from a b t = grind (arith, ints)
 

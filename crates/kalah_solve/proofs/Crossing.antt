@@ -1,4 +1,4 @@
--- What of this crate may cross threads, where memory is the heap's.
+-- What of this crate may cross threads, if memory is the heap's.
 use denote.Param.Send.{IsSend, IsSync, Frees, sendable}
 use Rattle.std.specs.contracts.alloc.Global as Heap
 use Rattle.std.specs.declared.alloc.Allocator.{Ghosts}

@@ -13,7 +13,7 @@ next_place k = let more : 4 * suc k ≡ 4 + 4 * k = omega arith in rw (more, pow
 higher : (n k : ℕ) → n / 2 ^ (4 * suc k) ≡ n / 16 / 2 ^ (4 * k)
 higher n k = rw (next_place k) (sym (div-div-eq-div-mul n 16 (2 ^ (4 * k))))
 
--- a digit that is put where none was leaves all from a later place on
+-- a digit put at an empty place leaves all from a later place on
 pub same_past : (k e n d : ℕ) → k < e → n / 2 ^ (4 * k) % 16 ≡ 0 → d < 16 → (n + d * 2 ^ (4 * k)) / 2 ^ (4 * e) ≡ n / 2 ^ (4 * e)
 same_past k zero n d later none small = absurd (omega (arith, later))
 same_past zero (suc e) n d later none small =
@@ -39,7 +39,7 @@ same_before j k n d before =
     let all : d * 2 ^ (4 * k) ≡ d * (16 * 2 ^ (4 * past)) * 2 ^ (4 * j) = rw worth (sym (mul_assoc d (16 * 2 ^ (4 * past)) (2 ^ (4 * j)))) in
     rw (all, add-mul-div_right n (d * (16 * 2 ^ (4 * past))) (pow_pos (4 * j))) (omega arith)
 
--- so a digit that is put where none was leaves each other digit
+-- so a digit put at an empty place leaves each other digit
 pub same_elsewhere : (j k n d : ℕ) → j ≢ k → n / 2 ^ (4 * k) % 16 ≡ 0 → d < 16 → (n + d * 2 ^ (4 * k)) / 2 ^ (4 * j) % 16 ≡ n / 2 ^ (4 * j) % 16
 same_elsewhere j k n d other none small = elim (cases_lt j k) [
   | inl before ↦ same_before j k n d before
@@ -52,7 +52,7 @@ digit_small k d place small =
     let power : 2 ^ (4 * k) ≤ 2 ^ 28 = pow_mono {j = 28} (omega (arith, place)) in
     omega (arith, mul-le d (2 ^ (4 * k)) 15 (2 ^ 28) small power)
 
--- to put it where none was leaves a word a word
+-- and with it a word stays a word
 pub put_fits : (k n d : ℕ) → k ≤ 7 → n / 2 ^ (4 * k) % 16 ≡ 0 → d < 16 → n < 2 ^ 64 → n + d * 2 ^ (4 * k) < 2 ^ 64
 put_fits k n d place none small fits =
     let past : (n + d * 2 ^ (4 * k)) / 2 ^ 64 ≡ n / 2 ^ 64 = same_past k 16 n d (omega (arith, place)) none small in

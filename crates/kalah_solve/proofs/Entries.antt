@@ -55,7 +55,7 @@ pub put_or_same : {X E : Type 0} (r : Result X E) (c new : LruCache ℕ Interval
 put_or_same (Ok x) c new k i ok err = inl (rw ok (lookup-put_entries nat_eq c k i nat_eq_equiv))
 put_or_same (Err x) c new k i ok err = inr (ap (λ (d : LruCache ℕ Interval). d.entries) err)
 
--- where there was one, the put succeeds
+-- if there was one, the put succeeds
 pub put_again : {X E : Type 0} (r : Result X E) (c new : LruCache ℕ Interval) (k : ℕ) (i : Interval) →
     OnOk r (new ≡ lru_cache (put_entries nat_eq c k i) c.cap) → (IsSome (lookup (nat_eq k) c.entries) → IsOk r) → IsSome (lookup (nat_eq k) c.entries) →
     lookup (nat_eq k) new.entries ≡ Some i

@@ -57,7 +57,7 @@ find_passes t (x ∷ xs) k has passes = elim (cases_Bool (t x)) [
   ]
 ]
 
--- what a search finds in rising numbers is the lowest that passes
+-- what a search finds in ascending numbers is the lowest that passes
 pub filter_low : (g : ℕ → Bool) (a n h : ℕ) → Contains (filter g (range_with_len a n)) h → a ≤ h
 filter_low g a zero h has = absurd (omega (arith, has.1))
 filter_low g a (suc n) h has = elim (cases_Bool (g a)) [
@@ -87,7 +87,7 @@ find_lowest t g a (suc n) h has passes = elim (cases_Bool (g a)) [
   | inr dropped ↦ rw dropped (find_lowest t g (a + 1) n h (rw dropped at has) passes)
 ]
 
--- also where the list is given by its equation
+-- also if the list is given by its equation
 pub lowest_of : (t g : ℕ → Bool) (a n h : ℕ) (xs : List ℕ) → xs ≡ filter g (range_with_len a n) → Contains xs h → t h ≡ true → unwrap_or (find t xs) 0 ≤ h
 lowest_of t g a n h xs is has passes = rw is (find_lowest t g a n h (rw is at has) passes)
 
@@ -99,7 +99,7 @@ found_or P t (x ∷ xs) d default passes = elim (cases_Bool (t x)) [
   | inr later ↦ rw later (found_or P t xs d default (λ k has. passes k (contains_later x xs k has)))
 ]
 
--- where only one number passes, that one is found
+-- if only one number passes, that one is found
 pub find_is : (t : ℕ → Bool) (xs : List ℕ) (k d : ℕ) → Contains xs k → t k ≡ true → ((j : ℕ) → t j ≡ true → j ≡ k) → unwrap_or (find t xs) d ≡ k
 find_is t [] k d has passes only = absurd (omega (arith, has.1))
 find_is t (x ∷ xs) k d has passes only = elim (cases_Bool (t x)) [

@@ -21,7 +21,7 @@ module _ (a : Rows) (k : ℕ) (w : IsWithinHouses a) (key : key_of a ≡ k) wher
   own_past : (i : ℕ) → length a.own ≤ i → slice_index a.own i ≡ 0
   own_past i past = get_or_past a.own i 0 past
 
-  -- the last seed of a house falls into the store where it holds as many as its distance
+  -- the last seed of a house falls into the store if its number of seeds equals its distance
   ends_at : (i : ℕ) → EndsInStore a (i + 1) ↔ (slice_index a.own i + i ≡ length a.own)
   ends_at i =
       let at : slice_index a.own (i + 1 - 1) ≡ slice_index a.own i = let place : i + 1 - 1 ≡ i = omega arith in ap (λ j. slice_index a.own j) place in

@@ -21,7 +21,7 @@ le_greatest (x ∷ xs) z has =
       | inr rest ↦ All-contains (λ y. y ≤ℤ greatest (x ∷ xs)) xs z bounds.1 rest
     ]
 
--- what a function makes of an element
+-- a function's value at an element is in the mapped list
 map_has : {X Y : Type 0} (f : X → Y) (xs : List X) (x : X) → Contains xs x → Contains (map f xs) (f x)
 map_has f [] x has = absurd (Contains-nil x has)
 map_has f (y ∷ ys) x has = elim (Contains-cons y ys x has) [

@@ -1,4 +1,4 @@
--- What words of endings tell stays true.
+-- What words of endings state stays true.
 use Rattle.std.proofs.Common.{◌≡◌, ◌≢◌, inl, inr, ℕ, suc, ◌+◌, ◌*◌, ◌%◌, ◌^◌, ◌≤◌, arith, sym, ◌∙◌, ap}
 use Rattle.std.proofs.lemmas.Bool.{cases_eq}
 use Rattle.std.proofs.Math.Nat.{zero-div}
@@ -9,7 +9,7 @@ use Rattle.kalah_solve.specs.Taken.{taken}
 use Rattle.kalah_solve.proofs.Digits.{same_past, put_there, same_before, same_elsewhere}
 use Rattle.kalah_solve.proofs.RowRanks.{same_houses, game_small}
 
--- houses of one word and one place in it are one
+-- houses of one word and one place in it are the same
 same_told : (a b : Rows) → IsWithinHouses a → IsWithinHouses b → label_of a ≡ label_of b → rank_of_houses a % 8 ≡ rank_of_houses b % 8 → a ≡ b
 same_told a b ha hb label place =
     same_houses a b ha hb (omega (arith, label, game_small a ha, game_small b hb)) (omega (arith, label, place, game_small a ha, game_small b hb))
@@ -20,12 +20,12 @@ told_nothing label place few =
     let same : label * 2 ^ 32 ≡ 0 + label * 2 ^ 32 = omega arith in
     rw same (same_before place 8 0 label (omega (arith, few)) ∙ ap (λ n. n % 16) (zero-div (2 ^ (4 * place))))
 
--- so it tells nothing
+-- so it states nothing
 pub tells_nothing : (label : ℕ) → TellsTaken (label * 2 ^ 32)
 unfolding TellsTaken
 tells_nothing label a within is told = absurd (told (told_nothing label (rank_of_houses a % 8) (omega arith)))
 
--- after one more is told
+-- after one more entry is stored
 pub tells_more : (word : ℕ) (a : Rows) → TellsTaken word → IsWithinHouses a → told_label word ≡ label_of a → told_at word (rank_of_houses a % 8) ≡ 0 →
     taken a ≤ 9 → TellsTaken (word + suc (taken a) * 2 ^ (4 * (rank_of_houses a % 8)))
 unfolding TellsTaken
@@ -44,7 +44,7 @@ tells_more word a before ha label none few b hb label_b told =
           rw there (before b hb one (rw there at told))
     ]
 
--- so what is told of houses is right
+-- so a stored entry is right
 pub told : (word : ℕ) (a : Rows) → TellsTaken word → IsWithinHouses a → told_label word ≡ label_of a → told_at word (rank_of_houses a % 8) ≢ 0 →
     told_at word (rank_of_houses a % 8) ≡ suc (taken a)
 unfolding TellsTaken

@@ -1,4 +1,4 @@
--- The most that a move takes, and what follows a move where few seeds are left.
+-- The most that a move takes, and what follows a move if few seeds are left.
 use Rattle.std.proofs.Common.{◌≡◌, ◌≢◌, inl, inr, ℕ, ◌-◌, ◌^◌, ◌<◌, ◌≤◌, get_or, arith, sym, subst}
 use Rattle.std.specs.Prelude.{false, Contains, max, ◌↔◌}
 use Rattle.std.proofs.lemmas.Bool.{cases_eq}

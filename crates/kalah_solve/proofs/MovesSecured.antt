@@ -1,4 +1,4 @@
--- What a move secures, and that the values of the moves tell the verdict.
+-- What a move secures, and that the values of the moves determine the verdict.
 use Rattle.std.proofs.Common.{◌≡◌, ℕ, ◌<◌, inl, inr, List, [], ◌∷◌, arith, ap, sym, subst, ◌∙◌, refl, eq-eqb}
 use Rattle.std.specs.Prelude.{Bool, true, false, ◌&&◌, ◌==◌, Contains, All, map, find, option_map, unwrap_or, if◌then◌else◌, ℤ, neg_ℤ, ◌≤ℤ◌}
 use Rattle.std.specs.Ordering.{int_eq}
@@ -26,11 +26,11 @@ use Rattle.kalah_solve.proofs.BestMoves.{both_true, and_true}
 
 -- ---- a strategy that begins with a move
 
--- house h, where n moves are left
+-- house h, if n moves are left
 begins_with : ℕ → ℕ → Position → ℕ → Bool
 begins_with n h p k = (k == h) && (moves_left p == n)
 
--- the strategy that moves house h where n moves are left and it is legal, and the lowest best house elsewhere
+-- the strategy that moves house h if n moves are left and it is legal, and the lowest best house elsewhere
 beginning : ℕ → ℕ → Strategy
 beginning n h p = unwrap_or (find (begins_with n h p) (legal_houses p)) (best_house p)
 
@@ -58,7 +58,7 @@ beginning_is : (h : ℕ) (p : Position) → Contains (legal_houses p) h → begi
 unfolding beginning
 beginning_is h p has = find_is (begins_with (moves_left p) h p) (legal_houses p) h (best_house p) has (is_passes h p) (λ j passes. (passes_is (moves_left p) h p j passes).0)
 
--- and moves the lowest best house where fewer moves are left
+-- and moves the lowest best house if fewer moves are left
 beginning_later : (n h : ℕ) (p : Position) → moves_left p < n → beginning n h p ≡ best_house p
 unfolding beginning
 beginning_later n h p fewer = found_or (λ k. k ≡ best_house p) (begins_with n h p) (legal_houses p) (best_house p) refl
@@ -66,7 +66,7 @@ beginning_later n h p fewer = found_or (λ k. k ≡ best_house p) (begins_with n
 
 -- ---- games with few moves left
 
--- where fewer than n moves are left, a way whose houses are all of a wider way
+-- for fewer than n moves left: each house of a way is one of a wider way
 record IsWithinBelow (n : ℕ) (way wider : Way) : Type 0 where
   pub widens : (p : Position) (h : ℕ) → moves_left p < n → Contains (way p) h → Contains (wider p) h
 
@@ -82,11 +82,11 @@ widened_below {mine} {theirs} {mine'} {theirs'} {p} n m t mk tk even low (passes
     let turned = swap_fewer (after p h) (after_equal_sides p h) in
     passes_turn going (m.widens p h low has) turn (widened_below n t m tk mk (swapped_equal_sides (after p h) (after_equal_sides p h)) (omega arith) rest)
 
--- after its beginning the strategy plays the lowest best house
+-- after its first move the strategy plays the lowest best house
 later_best : (n h : ℕ) → IsWithinBelow n (follow (beginning n h)) (follow best_house)
 later_best n h = record { widens = λ p k low has. subst (λ j. Contains (j ∷ []) k) (beginning_later n h p low) has }
 
--- who is bound by the rules alone is bound by them
+-- each way is within itself
 same_below : (n : ℕ) (way : Way) → IsWithinBelow n way way
 same_below n way = record { widens = λ p k low has. has }
 
@@ -99,7 +99,7 @@ on_low v u z is low = omega (arith, ints)
 on_high : (v u z : ℤ) → v ≡ u → z ≤ℤ u → z ≤ℤ v
 on_high v u z is high = omega (arith, ints)
 
--- and where the turn passes
+-- and if the turn passes
 passed_low : (v u z : ℤ) → v ≡ neg_ℤ u → z ≤ℤ u → v ≤ℤ neg_ℤ z
 passed_low v u z is high = omega (arith, ints)
 
@@ -180,11 +180,11 @@ houses_of : (p : Position) (xs : List ℕ) → map (λ v. v.house) (map (move_va
 houses_of p [] = refl
 houses_of p (x ∷ xs) = ap (λ ys. x ∷ ys) (houses_of p xs)
 
--- no value tells nothing
+-- no values state nothing
 tell_none : (p : Position) → All (λ (v : MoveValue). IsWorthOfMove p v.house v.value) []
 tell_none p = All-from_get_or (λ (v : MoveValue). IsWorthOfMove p v.house v.value) [] (move_value p 0) (λ i within. absurd (omega arith))
 
--- the values of the moves are what these secure; where the game is over there are none
+-- the values of the moves are what these secure; if the game is over there are none
 pub values_tell : (p : Position) → HasEqualSides p → TellMoves p (values_of p)
 values_tell p even = record {
   houses = houses_of p (legal_houses p);
@@ -196,7 +196,7 @@ values_tell p even = record {
   ];
 }
 
--- the values alone
+-- only the values
 values_alone : (p : Position) (xs : List ℕ) → map (λ v. v.value) (map (move_value p) xs) ≡ map (value_of_move p) xs
 values_alone p [] = refl
 values_alone p (x ∷ xs) = ap (λ ys. value_of_move p x ∷ ys) (values_alone p xs)

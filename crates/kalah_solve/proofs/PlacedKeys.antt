@@ -1,4 +1,4 @@
--- What the places of houses tell stays true: a key's place, and what the place leaves open of it, tell the key.
+-- What the places of houses state stays true: a key's place, and what the place leaves open of it, determine the key.
 use Rattle.std.proofs.Common.{◌≡◌, inl, inr, ℕ, ◌+◌, ◌*◌, ◌/◌, ◌%◌, ◌^◌, ◌<◌, ◌≤◌, List, length, get_or, arith, ap, sym, subst, refl, ◌∙◌}
 use Rattle.std.specs.Prelude.{slice_set, replicate}
 use Rattle.std.proofs.lemmas.Nat.{mul-mod_first}
@@ -15,7 +15,7 @@ use Rattle.kalah_solve.specs.Taken.{taken, between, IsWithinShare}
 use Rattle.kalah_solve.proofs.Takings.{taken_share}
 use Rattle.kalah_solve.specs.declared.places.Place.{Place}
 
--- a mixed key tells the key
+-- a mixed key determines the key
 unmixed : (k : ℕ) → k < 2 ^ 64 → (mixed k * 17428512612931826493) % 2 ^ 64 ≡ k
 unfolding mixed
 unmixed k small = mul-mod_first (k * 11400714819323198485) 17428512612931826493 (2 ^ 64) ∙ omega (arith, small)
@@ -68,7 +68,7 @@ shares_more places a number at p enough before within is place inside rest known
     ] in
     rw count after_b
 
--- places that all tell what is known of all houses
+-- places that all hold what is known of all houses
 pub shares_unknown : (count : ℕ) (p : Place) → told_share p ≡ between 0 most_seeds → TellShares (replicate count p)
 shares_unknown count p unknown a number d within is inside rest =
     let at = place_among (length (replicate count p)) number in

@@ -35,7 +35,7 @@ rows_within p limits = record {
   few_seeds = limits.few_seeds;
 }
 
--- the whole window tells the worth
+-- in the whole window the answer is the worth
 whole_window : (found lo hi z : ℤ) → lo ≡ least_margin → hi ≡ most_margin → least_margin ≤ℤ z → z ≤ℤ most_margin → found ≡ within lo hi z → found ≡ z
 whole_window found lo hi z lo_is hi_is low high e = omega (arith, ints, clamps, e, lo_is, hi_is, low, high)
 
@@ -66,7 +66,7 @@ module _ (a : Rows) (w : IsWithinHouses a) where
   root_is i inside short is =
       sym (ap (λ o. unwrap_or o 0) (find_at (λ h. int_eq (value_of_move (bare a) h) (houses_worth a)) (legal_houses (bare a)) i inside short (eq_yes _ _ is)))
 
-  -- a house that takes enough, where those before it fall short
+  -- a house that takes enough, if those before it fall short
   pub root_found : (i : ℕ) → i < length (legal_houses (bare a)) → FallShort a i → taken a ≤ taken_by_step (houses_step a (get_or (legal_houses (bare a)) i 0)) →
       get_or (legal_houses (bare a)) i 0 ≡ best_house (bare a)
   root_found i inside short enough = root_is i inside short (enough_is _ (Contains-get_or (legal_houses (bare a)) i 0 inside) enough)
@@ -79,7 +79,7 @@ module _ (a : Rows) (w : IsWithinHouses a) where
     | inr other ↦ short k (omega arith)
   ]
 
-  -- where all but the last fall short, it is the last
+  -- if all but the last fall short, it is the last
   pub root_last : (n : ℕ) → is_over (bare a) ≡ false → length (legal_houses (bare a)) ≡ n + 1 → FallShort a n → get_or (legal_houses (bare a)) n 0 ≡ best_house (bare a)
   root_last n going many short =
       let one = greatest_is_one (value_of_move (bare a)) (legal_houses (bare a)) (omega (arith, many)) in
@@ -106,7 +106,7 @@ margin_small p best margin limits best_is e =
       high = omega (arith, ints, e, best_is, bounds.high, limits.own_store_low);
     }
 
--- the margin that is told of the best of the houses: with the difference of the stores, in thirty-two bits
+-- the reported margin of the best of the houses: with the difference of the stores, in thirty-two bits
 abbrev pub told : ℤ → ℕ → ℕ → ℤ
 told best own other = to_z w32 (of_z w32 (to_z w32 (of_z w32 best) +ℤ to_z w32 (of_z w32 (to_z w32 own -ℤ to_z w32 other))))
 

@@ -35,7 +35,7 @@ others_stay (suc q) (suc i) n low high other =
     let rest : (n - 32 ^ suc q) / 32 ≡ n / 32 - 32 ^ q = omega (arith, next_power q, low) in
     ap (λ k. cell k i) rest ∙ others_stay q i (n / 32) (omega (arith, next_power q, low)) (omega (arith, next_power (suc q), high)) (λ same. other (ap suc same))
 
--- so what is left of some marks without the last was there before, and each that is gone was that one or was gone
+-- so what is left of some marks without the last was there before, and each that is missing was that one or was not marked
 module _ (marks h : ℕ) (is : IsLastMark marks h) where
   pub last_marked : 0 < cell marks (h - 1)
   last_marked = top_cell (h - 1) marks is.low is.high
@@ -157,7 +157,7 @@ pub cell_xor : (i a b : ℕ) → cell (bit_xor a b) i ≡ bit_xor (cell a i) (ce
 cell_xor zero a b = xor_mod a b 5
 cell_xor (suc i) a b = ap (λ k. cell k i) (xor_shr a b 5) ∙ cell_xor i (a / 32) (b / 32)
 
--- two numbers are apart by nothing where they are equal
+-- two numbers are apart by nothing if they are equal
 xor_same : (a b : ℕ) → a ≡ b → bit_xor a b ≡ 0
 xor_same a b same = rw same (omega (arith, xor_add_and b b, and_self b))
 
@@ -182,7 +182,7 @@ cell_of_distances zero i few = cell_none i ∙ omega arith
 cell_of_distances (suc m) zero few = omega (arith, few)
 cell_of_distances (suc m) (suc i) few = ap (λ j. cell j i) (later_cells (suc m) (distances m) (omega (arith, few))) ∙ cell_of_distances m i (omega (arith, few)) ∙ omega arith
 
--- one mark, of a cell that holds as many as its distance
+-- one mark, of a cell whose value equals its distance
 one_ending : (x d : ℕ) → (0 < bit_xor (min 1 (bit_xor x d)) 1) ↔ (x ≡ d)
 one_ending x d = elim (cases_eq x d) [
   | inl same ↦

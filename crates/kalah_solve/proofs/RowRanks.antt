@@ -1,4 +1,4 @@
--- The rank of a row tells the row.
+-- The rank of a row determines the row.
 use Rattle.std.proofs.Common.{◌≡◌, inl, inr, ℕ, zero, suc, ◌+◌, ◌*◌, ◌/◌, ◌%◌, ◌^◌, ◌-◌, ◌<◌, ◌≤◌, List, [], ◌∷◌, ◌++◌}
 use Rattle.std.proofs.Common.{length, get_or, drop, arith, ap, sym, refl, length-append}
 use Rattle.std.specs.Prelude.{sum}
@@ -106,11 +106,11 @@ rank_same (x ∷ xs) (y ∷ ys) long same =
     let here : x ≡ y = omega (arith, ap sum rest) in
     rw (here, rest) refl
 
--- a game is told by four bits
+-- a game's number fits four bits
 pub game_small : (a : Rows) → IsWithinHouses a → game_of a ≤ 15
 game_small a ha = omega (arith, ha.at_most_six, rule_bit-small a.rule)
 
--- houses of one game with one rank are one
+-- houses of one game with one rank are the same
 pub same_houses : (a b : Rows) → IsWithinHouses a → IsWithinHouses b → game_of a ≡ game_of b → rank_of_houses a ≡ rank_of_houses b → a ≡ b
 same_houses a b ha hb game rank =
     let side : length a.own ≡ length b.own = omega (arith, game, ha.at_most_six, hb.at_most_six) in
@@ -121,7 +121,7 @@ same_houses a b ha hb game rank =
     let other : a.other ≡ b.other = append_cancel_left a.own a.other b.other (rw (← own) at row) in
     same_key a b ha hb (omega (arith, game, ap number_of own, ap number_of other))
 
--- a row's number tells its sums
+-- a row's number determines its sums
 sums_by_number : (xs : List ℕ) → 31 * sums_number xs + sum xs ≡ 32 * number_of xs
 sums_by_number [] = refl
 sums_by_number (x ∷ xs) = omega (arith, sums_by_number xs, sum_by-cons (λ (y : ℕ). y) x xs)

@@ -1,4 +1,4 @@
--- Where a move on houses leads, and what it is worth.
+-- The result of a move on houses, and its worth.
 use Rattle.std.proofs.Common.{◌≡◌, ℕ, ◌<◌, arith, ap, sym, ◌∙◌, subst, inl, inr}
 use Rattle.std.specs.Prelude.{Bool, Contains, if◌then◌else◌, pos, neg_ℤ, ◌+ℤ◌, ◌-ℤ◌}
 use Rattle.std.proofs.lemmas.Int.{ints}
@@ -22,7 +22,7 @@ use Rattle.kalah_solve.proofs.Stores.{worth_of_rows}
 worth_again : (q : Position) → q.other_store ≡ 0 → worth q ≡ pos q.own_store +ℤ houses_worth (rows_of q)
 worth_again q none = worth_of_rows q ∙ omega (arith, ints)
 
--- the same where the turn passes
+-- the same if the turn passes
 worth_turn : (q : Position) → q.other_store ≡ 0 → neg_ℤ (worth (swapped q)) ≡ pos q.own_store -ℤ houses_worth (rows_of (swapped q))
 worth_turn q none = ap neg_ℤ (worth_of_rows (swapped q)) ∙ omega (arith, ints)
 
@@ -62,7 +62,7 @@ leads_on a h w has =
       limits = swapped_within q within;
     }))
 
--- ---- what the search asks of a step
+-- ---- what the search needs of a step
 goes_on_of : (a : Rows) (s : HousesStep) → IsWithinHouses a → LeadsOn a s → GoesOn s
 goes_on_of a (Over own other) w leads = omega (arith, leads, w.few_seeds)
 goes_on_of a (Again gained b) w leads = record { few = omega (arith, leads.kept, w.few_seeds); going = leads.going; limits = leads.limits }

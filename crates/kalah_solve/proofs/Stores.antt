@@ -60,7 +60,7 @@ worth_zero : (p : Position) → worth_within zero p ≡ final_margin p
 unfolding worth_within
 worth_zero p = refl
 
--- the worth is shifted by what was added, whatever the count of moves
+-- the worth is shifted by what was added, for any count of moves
 worth_with_more : (n a b : ℕ) (p : Position) → worth_within n (with_more a b p) ≡ worth_within n p +ℤ (pos a -ℤ pos b)
 worth_with_more zero a b p = worth_zero (with_more a b p) ∙ final_with_more a b p ∙ ap (λ z. z +ℤ (pos a -ℤ pos b)) (sym (worth_zero p))
 worth_with_more (suc n) a b p = elim (cases_Bool (is_over p)) [
@@ -94,11 +94,11 @@ find_same : (p q : ℕ → Bool) (xs : List ℕ) → ((h : ℕ) → p h ≡ q h)
 find_same p q [] same = refl
 find_same p q (x ∷ xs) same = rw (same x, find_same p q xs same) refl
 
--- two shifted numbers are equal where the two were
+-- two shifted numbers are equal if the two were
 int_eq_shift : (x y d : ℤ) → int_eq (x +ℤ d) (y +ℤ d) ≡ int_eq x y
 int_eq_shift x y d = grind (arith, ints)
 
--- the best house is the same, whatever was added
+-- the best house is the same, for any stores added
 best_with_more : (a b : ℕ) (p : Position) → best_house (with_more a b p) ≡ best_house p
 best_with_more a b p = ap (λ o. unwrap_or o 0) (find_same _ _ (legal_houses p) (λ h.
     let value = value_with_more worth worth a b p h (worth_shift a b (after p h)) (worth_shift b a (swapped (after p h))) in

@@ -15,7 +15,7 @@ use Rattle.kalah_solve.specs.RowMarks.{cell, IsLastMark}
 use Rattle.kalah_solve.proofs.RowMarks.{last_marked, left_before, gone_before}
 use Rattle.kalah_solve.proofs.Takings.{taken_most, taken_reached}
 
--- what a test says, and what it says where it fails
+-- the meaning of a passed test, and of a failed one
 pub enough_of : (r : Bool) (bar x : ℕ) → (IsTrue r ↔ bar ≤ x) → r ≡ true → bar ≤ x
 enough_of r bar x says here = says.0 here
 
@@ -29,7 +29,7 @@ short_of r bar x says fails = elim (cases_lt x bar) [
 pub bound_itself : (bar number bound : ℕ) → bound ≡ number → IsSoftBound bar number bound
 bound_itself bar number bound is = record { lower = λ enough. omega (arith, is); upper = λ short. omega (arith, is) }
 
--- a bound tells whether the number is at least `bar`
+-- a bound determines whether the number is at least `bar`
 pub bound_reaches : (bar number bound : ℕ) → IsSoftBound bar number bound → bar ≤ bound → bar ≤ number
 bound_reaches bar number bound is enough = omega (arith, enough, is.lower enough)
 
@@ -46,14 +46,14 @@ bound_up_to bar number bound is = elim (cases_lt bound bar) [
   | inr enough ↦ omega (arith, is.lower enough)
 ]
 
--- the most of some bounds that fall short falls short too, but where nothing does
+-- the most of some bounds that fall short falls short too, unless it is 0
 pub low_more : (bar most bound new : ℕ) → (bar ≤ most → most ≡ 0) → bound < bar → new ≡ max most bound → bar ≤ new → new ≡ 0
 low_more bar most bound new low short is enough = elim (cases_lt most bar) [
   | inl less ↦ absurd (omega (arith, is, short, less, enough))
   | inr more ↦ absurd (omega (arith, short, more, low more))
 ]
 
--- a bound of a number is one of the same and so many more
+-- `more` added to a number and its bound
 pub bound_more : (bar number bound more : ℕ) → more < bar → IsSoftBound (bar - more) number bound → IsSoftBound bar (more + number) (more + bound)
 bound_more bar number bound more few is = record {
   lower = λ enough. omega (arith, is.lower (omega (arith, enough)));
@@ -69,7 +69,7 @@ bound_left bar all seeds gained number bound is few low high b = elim (cases_lt 
       record { lower = λ reached. absurd (omega (arith, reached, enough, low, is, least, few)); upper = λ short. omega (arith, is, few, least) }
 ]
 
--- a house with seeds may be moved, where the game goes on
+-- a house with seeds may be moved, if the game goes on
 pub filled_legal : (a : Rows) (h : ℕ) → is_over (bare a) ≡ false → 1 ≤ h → h ≤ length a.own → 0 < seeds a.own h → Contains (legal_houses (bare a)) h
 filled_legal a h going first last some = holds_legal (bare a) h (record { first = first; last = last; some = some }) going
 
@@ -124,7 +124,7 @@ turns_fewer a ranks turns at are place = let inside : at < length ranks = omega 
   ];
 }
 
--- each house with a rank waits, and each other one that may be moved takes at most so many seeds, or ends in the store, or is
+-- each house with a rank waits, and each other one that may be moved takes at most `most` seeds, or ends in the store, or is
 -- still marked
 pub record AreRanked (a : Rows) (most marks : ℕ) (ranks : List ℕ) (turns : List Played) : Type 0 where
   pub waiting : AreTurns a ranks turns
@@ -149,7 +149,7 @@ module _ (a : Rows) (most marks h : ℕ) (ranks : List ℕ) (turns : List Played
     ];
   }
 
-  -- or takes at most so many
+  -- or takes at most `bound`
   pub ranked_bound : (bound new : ℕ) → TakesAtMost a bound h → new ≡ max most bound → AreRanked a new (marks - 32 ^ (h - 1)) ranks turns
   ranked_bound bound new takes new_is = record {
     waiting = is.waiting;
@@ -200,7 +200,7 @@ last_legal a marks h last legal =
     let at : h - 1 + 1 ≡ h = omega (arith, last.first) in
     subst (Contains (legal_houses (bare a))) at (legal (h - 1) (last_marked marks h last))
 
--- each house that ends in the store is still marked, or takes at most so many seeds
+-- each house that ends in the store is still marked, or takes at most `most` seeds
 abbrev pub AreAgain : Rows → ℕ → ℕ → Type 0
 AreAgain a most marks = (h : ℕ) → Contains (legal_houses (bare a)) h → EndsInStore a h → cell marks (h - 1) ≡ 0 → TakesAtMost a most h
 
@@ -221,7 +221,7 @@ again_fewer a most marks h bound new are last takes new_is i may ends gone = eli
       omega (arith, new_is, are i may ends (gone_before marks h last (i - 1) place gone))
 ]
 
--- the moves with a rank are still to be tried, and the others take at most so many seeds
+-- the moves with a rank are still to be tried, and the others take at most `most` seeds
 pub record AreUntried (a : Rows) (most : ℕ) (ranks : List ℕ) (turns : List Played) : Type 0 where
   pub waiting : AreTurns a ranks turns
   pub tried : (h : ℕ) → Contains (legal_houses (bare a)) h → get_or ranks (h - 1) 0 ≡ 0 → TakesAtMost a most h

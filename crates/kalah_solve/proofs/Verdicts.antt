@@ -1,4 +1,4 @@
--- The verdict tells best play, and no other does.
+-- The verdict states best play, and no other does.
 use Rattle.std.proofs.Common.{◌≡◌, ◌≤◌, arith, ap, sym, subst, ◌∙◌, refl}
 use Rattle.std.specs.Prelude.{Bool, true, false, if◌then◌else◌}
 use Rattle.kalah_rules.specs.Position.{Position, HasEqualSides, is_over, final_margin}
@@ -19,7 +19,7 @@ pub tells_either : (p : Position) (over : Bool) → (over ≡ true → TellsBest
 tells_either p true at_end going = at_end refl
 tells_either p false at_end going = going refl
 
--- the verdict tells how best play ends
+-- the verdict states how best play ends
 pub verdict_tells : (p : Position) (v : Verdict) → HasEqualSides p → v ≡ verdict_of p → TellsBestPlay p v
 verdict_tells p v even is =
     let tells = tells_either p (is_over p)
@@ -27,7 +27,7 @@ verdict_tells p v even is =
     (λ going. record { going = going; best = best_move p even; lowest = λ h is. best_house_lowest p h even going is }) in
     subst (λ u. TellsBestPlay p u) (sym is) tells
 
--- and what tells it is the verdict
+-- and each that states it is the verdict
 verdict_told : (p : Position) (v : Verdict) → HasEqualSides p → TellsBestPlay p v → v ≡ verdict_of p
 verdict_told p (Best margin house) even tells =
     let margin_is : margin ≡ worth p = best_play_is_one p margin (worth p) even tells.best.best_play (worth_is_best p even) in

@@ -1,4 +1,4 @@
--- What the search tells in a window.
+-- The answer of the search in a window.
 use Rattle.std.proofs.Common.{◌≡◌, ◌∙◌, ◌≤◌, ◌*◌, ◌*ℤ◌, ℕ, ap, arith, w32, to_z, of_z}
 use Rattle.std.specs.Prelude.{ℤ, ◌≤ℤ◌, ◌<ℤ◌, ◌-ℤ◌, pos, max, min}
 use Rattle.std.specs.Int.{int_max, int_min}
@@ -16,7 +16,7 @@ use Rattle.kalah_solve.proofs.Takings.{taken_share, worth_of_taken}
 pub known_answers : (lo hi z : ℤ) (k : Interval) → lo <ℤ hi → Encloses k z → int_min hi k.hi ≤ℤ int_max lo k.lo → within lo hi k.lo ≡ within lo hi z
 known_answers lo hi z k ordered holds none = omega (arith, ints, clamps, ordered, holds.low, holds.high, none)
 
--- what the mover takes, raised and lowered to the shares that a window tells apart, makes the worth in the window
+-- what the mover takes, raised and lowered to the shares that a window distinguishes, makes the worth in the window
 pub told_by_share : (a : Rows) (lo hi : ℤ) (n t : ℕ) (asked : Share) → IsWithinHouses a → n ≡ seeds_in_houses (bare a) → asked.least ≤ asked.most → asked.most ≤ most_seeds →
     ((u : ℕ) → u ≤ n → within lo hi (pos (2 * max asked.least (min asked.most u)) -ℤ pos n) ≡ within lo hi (pos (2 * u) -ℤ pos n)) →
     t ≡ max asked.least (min asked.most (taken a)) → {answer : ℤ} → answer ≡ within lo hi (to_z w32 (of_z w32 (to_z w32 (of_z w32 (pos 2 *ℤ to_z w32 t)) -ℤ to_z w32 n))) →

@@ -18,7 +18,7 @@ use Rattle.kalah_rules.proofs.Ends.{after_equal_sides, after_fewer, swap_fewer}
 use Rattle.kalah_solve.specs.Laws.{CountPlaysNoPart}
 use Rattle.kalah_solve.specs.Worth.{value_by, greatest, worth_within, worth, value_of_move}
 
--- where no moves are left there are no seeds in houses
+-- if no moves are left there are no seeds in houses
 none_left : (s m w : ℕ) → s * (m * s + 1) + w ≡ 0 → s ≡ 0
 none_left s m w none = omega arith
 
@@ -37,7 +37,7 @@ board_equal_sides p limits = record { same = limits.same_side }
 pub swapped_equal_sides : (p : Position) → HasEqualSides p → HasEqualSides (swapped p)
 swapped_equal_sides p even = record { same = sym even.same }
 
--- the same list where a function gives the same at each element
+-- the same list if two functions agree on each element
 map_same : (f g : ℕ → ℤ) (xs : List ℕ) → ((h : ℕ) → Contains xs h → f h ≡ g h) → map f xs ≡ map g xs
 map_same f g [] same = refl
 map_same f g (x ∷ xs) same =
@@ -49,18 +49,18 @@ map_same f g (x ∷ xs) same =
 value_same : (v w : Position → ℤ) (p : Position) (h : ℕ) → v (after p h) ≡ w (after p h) → v (swapped (after p h)) ≡ w (swapped (after p h)) → value_by v p h ≡ value_by w p h
 value_same v w p h again turn = rw (again, turn) refl
 
--- one move more, where the game goes on
+-- one move more, if the game goes on
 pub worth_more : (n : ℕ) (p : Position) → is_over p ≡ false → worth_within (suc n) p ≡ greatest (map (value_by (worth_within n) p) (legal_houses p))
 unfolding worth_within
 worth_more n p going = ap (λ (b : Bool). if b then final_margin p else greatest (map (value_by (worth_within n) p) (legal_houses p))) going
 
--- the final margin, where it does not
+-- the final margin, if it does not
 pub worth_over : (n : ℕ) (p : Position) → is_over p ≡ true → worth_within n p ≡ final_margin p
 unfolding worth_within
 worth_over zero p over = refl
 worth_over (suc n) p over = ap (λ (b : Bool). if b then final_margin p else greatest (map (value_by (worth_within n) p) (legal_houses p))) over
 
--- two counts that are high enough give the same
+-- two counts that are high enough give the same worth
 pub worth_same : (n k : ℕ) (p : Position) → HasEqualSides p → moves_left p ≤ n → moves_left p ≤ k → worth_within n p ≡ worth_within k p
 worth_same zero k p even n_high k_high =
     let over = over_at_end p (omega arith) in
@@ -111,23 +111,23 @@ final_margin-swept q =
     let other : sum (replicate (side_length q) 0) + (q.other_store + sum q.other) ≡ sum q.other + q.other_store = omega (arith, none) in
     rw (own, other) refl
 
--- what a step says
+-- the step of a move
 abbrev step_by : Bool → Bool → Position → Step
 step_by b a q = if b then Over (swept q) else (if a then Again q else Turn (swapped q))
 
--- it says that the game is over only where it is, with the houses swept
+-- it ends the game only if the game is over, with the houses swept
 pub over_step : (b a : Bool) (q e : Position) → Over e ≡ step_by b a q → (b ≡ true) × (e ≡ swept q)
 over_step true a q e is = (refl, cc)
 over_step false true q e is = cc
 over_step false false q e is = cc
 
--- it says that the mover moves again only where that is so
+-- it lets the mover move again only if that is so
 pub again_step : (b a : Bool) (q e : Position) → Again e ≡ step_by b a q → (b ≡ false) × (a ≡ true) × (e ≡ q)
 again_step true a q e is = cc
 again_step false true q e is = (refl, refl, cc)
 again_step false false q e is = cc
 
--- it says that the turn passes only where that is so, with the sides swapped
+-- it passes the turn only if that is so, with the sides swapped
 pub turn_step : (b a : Bool) (q e : Position) → Turn e ≡ step_by b a q → (b ≡ false) × (a ≡ false) × (e ≡ swapped q)
 turn_step true a q e is = cc
 turn_step false true q e is = cc
@@ -145,7 +145,7 @@ value_of_over p h e is =
     let step = over_step (is_over (after p h)) (is_again p h) (after p h) e is in
     rw (step.1, step.0) (final_margin-swept (after p h))
 
--- where the turn passes
+-- if the turn passes
 pub value_of_turn : (p : Position) (h : ℕ) (e : Position) → Turn e ≡ step_of p h → neg_ℤ (worth e) ≡ value_of_move p h
 value_of_turn p h e is =
     let step = turn_step (is_over (after p h)) (is_again p h) (after p h) e is in
@@ -157,7 +157,7 @@ again_fewer p h e even is_legal is =
     let step = again_step (is_over (after p h)) (is_again p h) (after p h) e is in
     rw step.2 (after_fewer p h (legal_holds p h is_legal) even)
 
--- where the turn passes
+-- if the turn passes
 pub turn_fewer : (p : Position) (h : ℕ) (e : Position) → HasEqualSides p → Contains (legal_houses p) h → Turn e ≡ step_of p h → moves_left e < moves_left p
 turn_fewer p h e even is_legal is =
     let step = turn_step (is_over (after p h)) (is_again p h) (after p h) e is in

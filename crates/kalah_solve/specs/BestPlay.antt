@@ -8,7 +8,7 @@ use Rattle.kalah_rules.specs.Play.{legal_houses}
 abbrev pub Strategy : Type 0
 Strategy = Position → ℕ
 
--- it keeps to the rules: it moves a legal house wherever the game goes on
+-- it keeps to the rules: it moves a legal house if the game goes on
 pub record IsStrategy (s : Strategy) : Type 0 where
   pub moves : (p : Position) → HasEqualSides p → is_over p ≡ false → Contains (legal_houses p) (s p)
 
@@ -21,7 +21,7 @@ abbrev pub follow : Strategy → Way
 follow s p = s p ∷ []
 
 -- a game from p, in which the player to move plays the way `mine` and the opponent the way `theirs`: the houses that are
--- moved, in turn, and the position at the end, seen by the player who is to move at p
+-- moved, in order, and the position at the end, seen by the player who is to move at p
 pub data Game : Way → Way → Position → List ℕ → Position → Type 0 where
   is_at_end : {mine theirs : Way} {p : Position} → is_over p ≡ true → Game mine theirs p [] p
   moves_on : {mine theirs : Way} {p : Position} {h : ℕ} {houses : List ℕ} {final : Position} →
@@ -31,11 +31,11 @@ pub data Game : Way → Way → Position → List ℕ → Position → Type 0 wh
       is_over p ≡ false → Contains (mine p) h → is_again p h ≡ false →
       Game theirs mine (swapped (after p h)) houses final → Game mine theirs p (h ∷ houses) (swapped final)
 
--- each game in which the player to move follows `mine` ends with at least v for that player, whatever the opponent moves
+-- each game in which the player to move follows `mine` ends with at least v for that player, for any play of the opponent
 abbrev pub Secures : Strategy → Position → ℤ → Type 0
 Secures mine p v = (houses : List ℕ) (final : Position) → Game (follow mine) legal_houses p houses final → v ≤ℤ final_margin final
 
--- each game in which the opponent follows `theirs` ends with at most v for the player to move, whatever that player moves
+-- each game in which the opponent follows `theirs` ends with at most v for the player to move, for any play of that player
 abbrev pub HoldsTo : Strategy → Position → ℤ → Type 0
 HoldsTo theirs p v = (houses : List ℕ) (final : Position) → Game legal_houses (follow theirs) p houses final → final_margin final ≤ℤ v
 

@@ -1,10 +1,10 @@
--- What the places of endings keep.
+-- What the words of endings store.
 use Rattle.std.specs.Prelude.{◌≡◌, ℕ, ◌+◌, ◌*◌, ◌/◌, ◌%◌, ◌^◌, ◌<◌, ◌≢◌, suc, List, slice_index}
 use Rattle.kalah_rules.specs.Position.{Rows, IsWithinHouses}
 use Rattle.kalah_solve.specs.RowRank.{choose, game_of, rank_of_houses}
 use Rattle.kalah_solve.specs.Taken.{taken}
 
--- what cell k of the choices holds: in how many ways j + 1 of s + j things can be chosen, where k is 10 * j + s
+-- cell k of the choices: the number of ways to choose j + 1 of s + j things, where k is 10 * j + s
 abbrev pub choice_at : ℕ → ℕ
 choice_at k = choose (k % 10 + k / 10) (suc (k / 10))
 
@@ -12,20 +12,20 @@ choice_at k = choose (k % 10 + k / 10) (suc (k / 10))
 abbrev pub AreChoices : ℕ → List ℕ → Type 0
 AreChoices n choices = (k : ℕ) → k < n → slice_index choices k ≡ choice_at k
 
--- what cell k of the pairs holds: what two cells of a row add to its rank, with so many pairs past them and so many seeds from
+-- cell k of the pairs: what two cells of a row add to its rank, with `past` pairs past them and given numbers of seeds from
 -- either on, where k is 320 * past + 32 * from the second on + from the first on
 abbrev pub pair_at : ℕ → ℕ
 pair_at k = choose (k % 32 + 2 * (k / 320) + 1) (2 * (k / 320) + 2) + choose (k / 32 % 10 + 2 * (k / 320)) (2 * (k / 320) + 1)
 
--- the first n cells hold that, where there are few seeds
+-- the first n cells hold that, if there are few seeds
 abbrev pub ArePairs : ℕ → List ℕ → Type 0
 ArePairs n pairs = (k : ℕ) → k < n → k % 32 < 10 → slice_index pairs k ≡ pair_at k
 
--- which houses a word of endings tells of: those of this game with this eighth of their rank
+-- the houses that a word of endings covers: those of this game with this eighth of their rank
 abbrev pub label_of : Rows → ℕ
 label_of a = game_of a + 16 * (rank_of_houses a / 8)
 
--- the word tells that in its upper half
+-- the word stores that label in its upper half
 abbrev pub told_label : ℕ → ℕ
 told_label word = word / 2 ^ 32
 
@@ -33,7 +33,7 @@ told_label word = word / 2 ^ 32
 abbrev pub told_at : ℕ → ℕ → ℕ
 told_at word at = word / 2 ^ (4 * at) % 16
 
--- what it tells is what the mover takes
+-- what it states is what the mover takes
 unfoldable pub TellsTaken : ℕ → Type 0
 TellsTaken word = (a : Rows) → IsWithinHouses a → told_label word ≡ label_of a → told_at word (rank_of_houses a % 8) ≢ 0 →
     told_at word (rank_of_houses a % 8) ≡ suc (taken a)

@@ -98,6 +98,6 @@ abbrev pub BestMovesAttain : Type 0
 BestMovesAttain = (p : Position) (h : ℕ) → HasEqualSides p → is_over p ≡ false →
     IsBestMove p h (worth p) ↔ (Contains (legal_houses p) h × (value_of_move p h ≡ worth p))
 
--- one verdict alone tells best play
+-- only one verdict states best play
 abbrev pub BestVerdictIsOne : Type 0
 BestVerdictIsOne = (p : Position) (v w : Verdict) → HasEqualSides p → TellsBestPlay p v → TellsBestPlay p w → v ≡ w

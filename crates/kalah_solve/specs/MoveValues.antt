@@ -14,7 +14,7 @@ use Rattle.kalah_solve.specs.declared.verdict.Verdict.TheVariants.{Best}
 abbrev pub move_value : Position → ℕ → MoveValue
 move_value p h = record { house = h; value = value_of_move p h }
 
--- each legal house, rising, with the value of its move; none where the game is over
+-- each legal house, in ascending order, with the value of its move; none if the game is over
 abbrev pub values_of : Position → List MoveValue
 values_of p = map (move_value p) (legal_houses p)
 
@@ -28,7 +28,7 @@ pub record IsWorthOfMove (p : Position) (h : ℕ) (v : ℤ) : Type 0 where
   pub secured : (mine : Strategy) × IsStrategy mine × (mine p ≡ h) × Secures mine p v
   pub held : (theirs : Strategy) × IsStrategy theirs × HoldsMoveTo theirs p h v
 
--- the houses are the legal ones, rising, each with what its move secures and no more
+-- the houses are the legal ones, in ascending order, each with what its move secures and no more
 pub record TellMoves (p : Position) (values : List MoveValue) : Type 0 where
   pub houses : map (λ v. v.house) values ≡ legal_houses p
   pub worth : All (λ v. IsWorthOfMove p v.house v.value) values

@@ -6,7 +6,7 @@ abbrev pub cell : ℕ → ℕ → ℕ
 cell n zero = n % 32
 cell n (suc i) = cell (n / 32) i
 
--- so many in each of the first cells
+-- d in each of the first cells
 abbrev pub each : ℕ → ℕ → ℕ
 each zero d = 0
 each (suc k) d = each k d * 32 + d

@@ -1,15 +1,15 @@
--- A number for each row of cells with few seeds, so that all such rows can stand in a short list.
+-- A number for each row of cells with few seeds, so that a short list has room for all such rows.
 use Rattle.std.specs.Prelude.{ℕ, zero, suc, ◌+◌, ◌*◌, List, [], ◌∷◌, ◌++◌, length, sum}
 use Rattle.kalah_rules.specs.Position.{Rows}
 use Rattle.kalah_rules.specs.Key.{rule_bit}
 
--- in how many ways k of n things can be chosen
+-- the number of ways to choose k of n things
 unfoldable pub choose : ℕ → ℕ → ℕ
 choose n zero = 1
 choose zero (suc k) = 0
 choose (suc n) (suc k) = choose n k + choose n (suc k)
 
--- the rank of a row among all rows of as many cells: first come those with fewer seeds, and of those with as many seeds
+-- the rank of a row among all rows of the same length: first come those with fewer seeds, and of those with equally many seeds
 -- the ones with fewer seeds past the first cell
 abbrev pub row_rank : List ℕ → ℕ
 row_rank [] = 0
@@ -24,6 +24,6 @@ sums_number (x ∷ xs) = x + sum xs + 32 * sums_number xs
 abbrev pub rank_of_houses : Rows → ℕ
 rank_of_houses a = row_rank (a.own ++ a.other)
 
--- the game that houses are of: how many there are per side, and 8 more for the empty-capture rule
+-- the game that houses belong to: how many there are per side, and 8 more for the empty-capture rule
 abbrev pub game_of : Rows → ℕ
 game_of a = length a.own + 8 * rule_bit a.rule

@@ -4,7 +4,7 @@ use Rattle.std.proofs.Common.{arith, length-take-le}
 use Rattle.kalah_rules.specs.Limits.{most_houses}
 use Rattle.kalah_solve.specs.declared.move_values.MoveValue.{MoveValue}
 
--- what stands past the last value
+-- fills the cells past the last value
 abbrev pub no_value : MoveValue
 no_value = record { house = 0; value = pos 0 }
 

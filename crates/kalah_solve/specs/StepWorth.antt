@@ -1,4 +1,4 @@
--- What a move on houses alone is worth.
+-- The worth of a move on houses without stores.
 use Rattle.std.specs.Prelude.{ℕ, ◌≡◌, ◌+◌, ◌<◌, ◌≤◌, false, ℤ, pos, ◌+ℤ◌, ◌-ℤ◌}
 use Rattle.kalah_rules.specs.Position.{Rows, IsWithinHouses, bare, seeds_in_houses, is_over}
 use Rattle.kalah_rules.specs.Limits.{most_seeds}
@@ -7,13 +7,13 @@ use Rattle.kalah_rules.specs.declared.step.HousesStep.{HousesStep}
 use Rattle.kalah_rules.specs.declared.step.HousesStep.TheVariants.{Over, Again, Turn}
 use Rattle.kalah_solve.specs.Worth.{houses_worth}
 
--- what a step is worth to the mover, where best play follows
+-- what a step is worth to the mover, if best play follows
 abbrev pub worth_of_step : HousesStep → ℤ
 worth_of_step (Over own other) = pos own -ℤ pos other
 worth_of_step (Again gained b) = pos gained +ℤ houses_worth b
 worth_of_step (Turn gained b) = pos gained -ℤ houses_worth b
 
--- the houses b go on from a, with so many seeds fewer
+-- the houses b go on from a, with `gained` seeds fewer
 pub record LeadsTo (a : Rows) (gained : ℕ) (b : Rows) : Type 0 where
   pub kept : gained + seeds_in_houses (bare b) ≡ seeds_in_houses (bare a)
   pub fewer : moves_left (bare b) < moves_left (bare a)

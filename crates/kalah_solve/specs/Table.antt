@@ -1,4 +1,4 @@
--- What a table of intervals keeps, and what a window asks.
+-- What a table of intervals stores, and the numbers that a window distinguishes.
 use Rattle.std.specs.Prelude.{◌≡◌, ℕ, List, Contains, ℤ, pos, neg_ℤ, ◌≤ℤ◌}
 use Rattle.std.specs.Int.{int_max, int_min}
 use Rattle.kalah_rules.specs.Position.{Rows, IsWithinHouses}
@@ -8,7 +8,7 @@ use Rattle.kalah_solve.specs.Worth.{houses_worth}
 use Rattle.kalah_solve.specs.declared.table.Interval.{Interval}
 use Rattle.kalah_solve.specs.declared.table.TheConstants.{MOST_ENTRIES}
 
--- entries that a table can have
+-- the most entries of a table
 abbrev pub most_entries : ℕ
 most_entries = MOST_ENTRIES
 

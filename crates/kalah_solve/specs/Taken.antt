@@ -15,13 +15,13 @@ count (negsuc n) = 0
 unfoldable pub taken : Rows → ℕ
 taken a = count (houses_worth a +ℤ pos (seeds_in_houses (bare a))) / 2
 
--- what the mover takes by a step, where best play follows; after a turn it is what the other player leaves
+-- what the mover takes by a step, if best play follows; after a turn it is what the other player leaves
 abbrev pub taken_by_step : HousesStep → ℕ
 taken_by_step (Over own other) = own
 taken_by_step (Again gained b) = gained + taken b
 taken_by_step (Turn gained b) = gained + (seeds_in_houses (bare b) - taken b)
 
--- at least so many seeds, and at most so many
+-- at least `least` seeds, and at most `most`
 abbrev pub between : ℕ → ℕ → Share
 between least most = record { least = least; most = most }
 

@@ -14,7 +14,7 @@ pub record IsSoftBound (bar number bound : ℕ) : Type 0 where
   pub lower : bar ≤ bound → bound ≤ number
   pub upper : bound < bar → number ≤ bound
 
--- the move of house h takes at most so many seeds
+-- the move of house h takes at most `most` seeds
 abbrev pub TakesAtMost : Rows → ℕ → ℕ → Type 0
 TakesAtMost a most h = taken_by_step (houses_step a h) ≤ most
 

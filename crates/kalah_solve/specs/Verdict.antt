@@ -33,7 +33,7 @@ pub record TellsEnd (p : Position) (margin : ℤ) : Type 0 where
   pub final : margin ≡ final_margin p
   pub best_play : IsBestPlay p margin
 
--- the verdict tells the margin of best play and the lowest best move, or the margin of a game that is over
+-- the verdict states the margin of best play and the lowest best move, or the margin of a game that is over
 abbrev pub TellsBestPlay : Position → Verdict → Type 0
 TellsBestPlay p (Best margin house) = TellsBestMove p margin house
 TellsBestPlay p (Over margin) = TellsEnd p margin

@@ -18,7 +18,7 @@ abbrev pub greatest : List ℤ → ℤ
 greatest [] = pos 0
 greatest (x ∷ xs) = fold int_max x xs
 
--- the margin of best play, where at most n moves are left
+-- the margin of best play, if at most n moves are left
 unfoldable pub worth_within : ℕ → Position → ℤ
 worth_within zero p = final_margin p
 worth_within (suc n) p = if is_over p then final_margin p else greatest (map (value_by (worth_within n) p) (legal_houses p))

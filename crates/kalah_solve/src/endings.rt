@@ -1,4 +1,4 @@
-//! What the mover takes of houses with few seeds, exactly, each once it is known.
+//! The exact number of seeds that the mover takes from houses with few seeds, kept once it is known.
 ghost use Rattle.std.specs.Prelude.{◌≡◌, ◌≤◌, ◌<◌, ◌+◌, ◌*◌, ◌/◌, ◌%◌, ◌^◌, ◌++◌, ℕ, IfSome};
 ghost use Rattle.kalah_rules.specs.Position.{bare, seeds_in_houses, IsWithinHouses};
 ghost use Rattle.kalah_rules.specs.Key.{number_of};
@@ -20,11 +20,11 @@ use std::marker::Model;
 use std::sync::atomic::AtomicIn;
 use std::sync::atomic::Ordering::Relaxed;
 
-// Where the other player's houses begin in a key.
+// The place value of the other player's first house in a key.
 const OTHER_ROW: u64 = 0x4000_0000;
 
-/// What is known of houses with at most 9 seeds: a word for each eight of them whose ranks follow one another. Threads may share
-/// it, since what a word tells is true, whoever wrote it.
+/// The known endings of houses with at most 9 seeds: one word for each eight of them with consecutive ranks. Threads may share
+/// it, since what a word states is true, whichever thread wrote it.
 #[derive(Drop)]
 pub(crate) struct Endings<A: Allocator = Global> {
     words: Vec<AtomicIn<TrueWord>, A>,
@@ -41,7 +41,7 @@ impl<A: Allocator> Model for Endings<A> {
     ghost invariant = { λ e. ArePairs 1920 e.pairs };
 }
 
-// What cell `i` of the choices holds, by the cells before it.
+// Returns cell `i` of the choices, from the cells before it.
 fn choice(choices: &[u32; 120], i: usize) -> u32
     requires inside { i < 120 }
     requires before { AreChoices i choices.now }
@@ -56,7 +56,7 @@ fn choice(choices: &[u32; 120], i: usize) -> u32
     choices[i - 10] + choices[i - 1]
 }
 
-// The choices.
+// Returns the table of choices.
 fn choices() -> [u32; 120]
     ensures { AreChoices 120 result }
 {
@@ -67,7 +67,7 @@ fn choices() -> [u32; 120]
     choices
 }
 
-// What cell `i` of the pairs holds, by the choices.
+// Returns cell `i` of the pairs, from the choices.
 fn pair(choices: &[u32; 120], i: usize) -> u32
     requires inside { i < 1920 }
     requires choices { AreChoices 120 choices.now }
@@ -82,7 +82,7 @@ fn pair(choices: &[u32; 120], i: usize) -> u32
     choices[10 * (past + 1) + first] + choices[10 * past + second]
 }
 
-// The pairs.
+// Returns the table of pairs.
 fn pairs() -> [u32; 1920]
     ensures { ArePairs 1920 result }
 {
@@ -94,7 +94,7 @@ fn pairs() -> [u32; 1920]
     pairs
 }
 
-// The houses of both players as one row, as a number with five bits for each.
+// Returns the houses of both players as one row: a number with five bits for each house.
 fn joined_rows(houses: &Houses) -> u64
     ensures row { result ≡ number_of (houses.now.own ++ houses.now.other) }
     ensures small { result < 2 ^ 60 }
@@ -105,7 +105,7 @@ fn joined_rows(houses: &Houses) -> u64
     key % OTHER_ROW + (other << (5 * houses.m() as u32))
 }
 
-// The seeds in that row from each house on, as a number with five bits for each.
+// Returns the number of seeds in that row from each house on: a number with five bits for each.
 fn sums_of(houses: &Houses) -> u64
     ensures sums { result ≡ sums_number (houses.now.own ++ houses.now.other) }
     ensures limits { IsWithinHouses houses.now }
@@ -114,7 +114,7 @@ fn sums_of(houses: &Houses) -> u64
     seeds + (joined_rows(houses) - seeds) / 31 * 32
 }
 
-// The game that houses are of.
+// Returns the game that the houses belong to: houses a side and rule, as `game_of` numbers it.
 fn game_of(houses: &Houses) -> u8
     ensures game { result ≡ game_of houses.now }
     ensures small { result < 16 }
@@ -124,7 +124,9 @@ fn game_of(houses: &Houses) -> u8
 }
 
 impl<A: Allocator> Endings<A> {
-    /// With nothing known, and memory for all words. It fails where there is none.
+    /// Makes a table with nothing known and room for all words.
+    ///
+    /// Fails with `AllocError` if there is no memory for it.
     pub(crate) fn new(alloc: A) -> Result<Endings<A>, AllocError> {
         Ok(Endings {
             words: untold_words(alloc)?,
@@ -132,7 +134,7 @@ impl<A: Allocator> Endings<A> {
         })
     }
 
-    // What two cells add to the rank of a row, with so many pairs past them, by the seeds from each of them on.
+    // Returns what two cells add to the rank of a row, with `past` pairs past them, from the number of seeds from each of them on.
     fn pair(&self, past: usize, sums: u64) -> u32
         requires past { past < 6 }
         requires first { sums % 32 < 10 }
@@ -142,7 +144,7 @@ impl<A: Allocator> Endings<A> {
         self.pairs[320 * past + sums as usize]
     }
 
-    // The rank of the houses among those of their game, two of them at a time.
+    // Returns the rank of the houses among those of their game, two cells at a time.
     fn rank(&self, houses: &Houses) -> u32
         requires { seeds_in_houses (bare houses.now) ≤ 9 }
         ensures rank { result ≡ rank_of_houses houses.now }
@@ -158,13 +160,13 @@ impl<A: Allocator> Endings<A> {
         rank
     }
 
-    // The word of houses of this rank in their game.
+    // Returns the word of the houses of this rank in their game.
     fn word(&self, houses: &Houses, rank: u32) -> Option<&AtomicIn<TrueWord>> {
         let first = FIRST_WORDS[game_of(houses) as usize] as usize;
         self.words.get(first + rank as usize / 8)
     }
 
-    // What the mover takes of them, where it is known.
+    // Returns how many seeds the mover takes, if it is known.
     fn get(&self, houses: &Houses, rank: u32) -> Option<u8>
         requires { rank ≡ rank_of_houses houses.now }
         ensures { IfSome result (λ t. t ≡ taken houses.now) }
@@ -180,7 +182,7 @@ impl<A: Allocator> Endings<A> {
         Some(told as u8 - 1)
     }
 
-    // Keeps what the mover takes of them.
+    // Stores how many seeds the mover takes.
     fn keep(&self, houses: &Houses, rank: u32, known: u8)
         requires rank { rank ≡ rank_of_houses houses.now }
         requires small { rank < 2 ^ 21 }

@@ -1,8 +1,8 @@
-//! An allocator that refuses requests, to see what calls do where there is no memory.
+//! An allocator that refuses requests, to test what calls do if there is no memory.
 use std::alloc::{AllocError, Allocator};
 use std::cell::Cell;
 
-/// The requests that came so far, and which are refused: those from `refused_from` on and before `granted_from`, counted
+/// The number of requests so far, and which of them are refused: those from `refused_from` on and before `granted_from`, counted
 /// from 0 in the order in which they come.
 #[derive(Drop)]
 pub struct Requests {
@@ -13,7 +13,7 @@ pub struct Requests {
 }
 
 impl Requests {
-    // Counts a request, and tells whether it is refused.
+    // Counts a request, and returns whether it is refused.
     fn refuses_next(&self) -> bool {
         let number = self.made.get();
         self.made.set(number.saturating_add(1));
@@ -25,8 +25,8 @@ impl Requests {
     }
 }
 
-/// An allocator that passes some requests on to another, and refuses the others. A `&` to it can be copied, and each copy
-/// counts on.
+/// An allocator that passes some requests on to another one, and refuses the others. A `&` to it can be copied, and all copies
+/// share its count.
 #[derive(Drop)]
 pub struct Granting<B: Allocator> {
     inner: B,
@@ -34,12 +34,12 @@ pub struct Granting<B: Allocator> {
 }
 
 impl<B: Allocator> Granting<B> {
-    /// It grants the first so many requests, and refuses each later one.
+    /// Makes an allocator that grants the first `grants` requests and refuses each later one.
     pub fn new(inner: B, grants: u32) -> Granting<B> {
         Granting::refusing(inner, grants, u32::MAX)
     }
 
-    /// It grants so many requests, refuses the next one, and grants each later one.
+    /// Makes an allocator that grants `before` requests, refuses the next one, and grants each later one.
     pub fn but_one(inner: B, before: u32) -> Granting<B> {
         Granting::refusing(inner, before, before.saturating_add(1))
     }
@@ -54,12 +54,12 @@ impl<B: Allocator> Granting<B> {
         Granting { inner, requests }
     }
 
-    /// How many requests it was asked for.
+    /// Returns how many requests were made.
     pub fn made(&self) -> u32 {
         self.requests.made.get()
     }
 
-    /// How many of them it refused.
+    /// Returns how many requests were refused.
     pub fn refused(&self) -> u32 {
         self.requests.refused.get()
     }

@@ -1,11 +1,11 @@
-//! One number for each value of houses, which a table keeps them under.
+//! A distinct number for each value of houses, by which a table keeps them.
 ghost use Rattle.std.specs.Prelude.{◌≡◌, ◌↔◌, IsSome, IfSome, Some};
 ghost use Rattle.kalah_rules.specs.Position.{Rows, IsWithinHouses};
 ghost use Rattle.kalah_rules.specs.Key.{key_of, IsKey};
 
 use kalah_rules::Houses;
 
-/// The key of houses, `Houses::key`, which has its layout. Two values of houses have one key exactly where they are equal.
+/// Returns the key of the houses: `Houses::key`, with its layout. Two values of houses have the same key exactly when they are equal.
 pub fn pack(houses: &Houses) -> u64
     ensures key { result ≡ key_of houses.now }
     ensures limits { IsWithinHouses houses.now }
@@ -13,7 +13,7 @@ pub fn pack(houses: &Houses) -> u64
     houses.key()
 }
 
-/// The houses of a key, `Houses::of_key`. None exactly where the number is no key.
+/// Returns the houses of a key: `Houses::of_key`. Returns `None` exactly when the number is no key.
 pub fn unpack(key: u64) -> Option<Houses>
     ensures valid { IsSome result ↔ IsKey key }
     ensures same { IfSome result (λ a. key_of a ≡ key) }

@@ -2,8 +2,8 @@
 ghost use Rattle.kalah_solve.specs.Laws.{WorthOfOver, WorthIsGreatestValue, WorthIsMostOfMoves, GameThatGoesOnHasMove, CountPlaysNoPart, BestHouseIsLowest, StoresShiftWorth, StoresKeepBestHouse, StrategiesPlayAGame, StrategiesPlayOneGame, GamesEnd, WorthIsBestPlay, BestPlayIsOne, BestHouseIsBestPlay, BestPlayAgainstStrategies, BestMovesAttain, BestVerdictIsOne};
 ghost use Rattle.kalah_solve.specs.MoveValues.{ValueIsWorthOfMove, WorthOfMoveIsOne, ValuesTellVerdict};
 
-/// What the worth of a position is: that of a game that is over is its final margin, and that of any other position is
-/// the greatest value of a legal move, of which there is one at least.
+/// The worth of a position: that of a game that is over is its final margin, and that of any other position is
+/// the greatest value of a legal move. Such a position has at least one legal move.
 pub fn worth_is_greatest_value()
     ensures over { WorthOfOver }
     ensures going { WorthIsGreatestValue }
@@ -17,7 +17,7 @@ pub fn best_house_is_lowest()
     ensures { BestHouseIsLowest }
 {}
 
-/// Stores do not influence play: the worth of a position is what the stores differ by and the worth of its houses with
+/// Stores do not influence play: the worth of a position is the difference of the stores plus the worth of its houses with
 /// empty stores, and the best house is the same for any stores.
 pub fn stores_only_shift()
     ensures worth { StoresShiftWorth }
@@ -25,7 +25,7 @@ pub fn stores_only_shift()
 {}
 
 /// Two players that follow strategies play a game to its end, and only one. No game by the rules has more moves than
-/// were left, and each ends in a position that is over.
+/// `moves_left`, and each ends in a position that is over.
 pub fn players_play_one_game()
     ensures game { StrategiesPlayAGame }
     ensures one { StrategiesPlayOneGame }
@@ -33,7 +33,7 @@ pub fn players_play_one_game()
 {}
 
 /// The worth of a position is the margin of best play: the player to move has a strategy that gets at least as much
-/// whatever the other player moves, the other player has one that allows no more, and no other margin is both. Always
+/// against any play of the other player, the other player has one that allows no more, and no other margin is both. Always
 /// moving the lowest best house is such a strategy, for either player and in every position.
 pub fn worth_is_best_play()
     ensures worth { WorthIsBestPlay }
@@ -47,7 +47,7 @@ pub fn best_moves_attain_worth()
     ensures { BestMovesAttain }
 {}
 
-/// What the solver says of best play leaves no second verdict.
+/// There is only one verdict of best play: any verdict that states it is the solver's.
 pub fn best_verdict_is_one()
     ensures { BestVerdictIsOne }
 {}
@@ -59,7 +59,7 @@ pub fn value_is_worth_of_move()
     ensures one { WorthOfMoveIsOne }
 {}
 
-/// The greatest of the moves' values and the first house that has it are what the solver tells of a game that goes on.
+/// In a game that goes on, the verdict is the greatest of the moves' values and the first house that has it.
 pub fn values_tell_verdict()
     ensures { ValuesTellVerdict }
 {}

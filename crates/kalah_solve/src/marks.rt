@@ -1,4 +1,4 @@
-//! Marks of houses: a number with five bits for each house of a row, house 1 lowest, and one in those of each house that is marked.
+//! Marks of houses: a number with five bits for each house of a row, house 1 lowest, which are 1 if the house is marked and else 0.
 ghost use Rattle.std.specs.Prelude.{◌≡◌, ◌↔◌, ◌+◌, ◌-◌, ◌≤◌, ◌<◌, ◌^◌, ℕ, min, length, slice_index};
 ghost use Rattle.kalah_rules.specs.Position.{IsWithinHouses};
 ghost use Rattle.kalah_solve.specs.Tried.{EndsInStore};
@@ -6,7 +6,7 @@ ghost use Rattle.kalah_solve.specs.RowMarks.{cell, each, distances, IsLastMark};
 
 use kalah_rules::Houses;
 
-// Where the other player's houses begin in a key.
+// The place value of the other player's first house in a key.
 const OTHER_ROW: u64 = 0x4000_0000;
 
 // Each house of a row is marked.
@@ -15,13 +15,13 @@ pub(crate) const ONE_EACH: u64 = 0x210_8421;
 // A row with fifteen seeds in each house.
 const FIFTEEN_EACH: u64 = 15 * ONE_EACH;
 
-// For each number of houses a side the marks of all of them.
+// The marks of all houses, by the number of houses a side.
 static ALL_MARKED: [u64; 7] = [0, 1, 0x21, 0x421, 0x8421, 0x10_8421, 0x210_8421];
 
-// For each number of houses a side the row whose houses all end in the store.
+// The row whose houses all end in the store, by the number of houses a side.
 static ALL_END_IN_STORE: [u64; 7] = [0, 1, 0x22, 0x443, 0x8864, 0x11_0C85, 0x221_90A6];
 
-// All houses of a row of `m`.
+// Returns the marks of all `m` houses of a row.
 fn all_marked(m: u8) -> u64
     requires { m ≤ 6 }
     ensures value { result ≡ each m 1 }
@@ -30,7 +30,7 @@ fn all_marked(m: u8) -> u64
     ALL_MARKED[m as usize]
 }
 
-// A row of `m` houses that all end in the store.
+// Returns the row of `m` houses that all end in the store.
 fn all_end_in_store(m: u8) -> u64
     requires { m ≤ 6 }
     ensures { result ≡ distances m }
@@ -38,7 +38,7 @@ fn all_end_in_store(m: u8) -> u64
     ALL_END_IN_STORE[m as usize]
 }
 
-/// The houses of a row that have seeds.
+/// Returns the houses of a row that have seeds, marked.
 pub(crate) fn filled(row: u64) -> u64
     ensures cells { (i : ℕ) → i < 6 → cell result i ≡ min 1 (cell row i) }
     ensures small { result < 2 ^ 30 }
@@ -46,7 +46,7 @@ pub(crate) fn filled(row: u64) -> u64
     ((((row & FIFTEEN_EACH) + FIFTEEN_EACH) | row) >> 4) & ONE_EACH
 }
 
-/// The houses of a row of `m` whose last seed would fall into the store, without a lap.
+/// Returns the houses of a row of `m` whose last seed would fall into the store without a lap, marked.
 pub(crate) fn ending_in_store(row: u64, m: u8) -> u64
     requires { m ≤ 6 }
     ensures inside { (i : ℕ) → i < m → (0 < cell result i) ↔ (cell row i + i ≡ m) }
@@ -57,7 +57,7 @@ pub(crate) fn ending_in_store(row: u64, m: u8) -> u64
     filled(row ^ all_end_in_store(m)) ^ all_marked(m)
 }
 
-/// The mover's houses that have seeds.
+/// Returns the mover's houses that have seeds, marked.
 pub(crate) fn filled_houses(houses: &Houses) -> u64
     ensures marked { (i : ℕ) → (0 < cell result i) ↔ (0 < slice_index houses.now.own i) }
     ensures small { result < 2 ^ 30 }
@@ -66,7 +66,7 @@ pub(crate) fn filled_houses(houses: &Houses) -> u64
     filled(houses.key() % OTHER_ROW)
 }
 
-/// The mover's houses whose last seed would fall into the store, without a lap.
+/// Returns the mover's houses whose last seed would fall into the store without a lap, marked.
 pub(crate) fn again_houses(houses: &Houses) -> u64
     ensures marked { (i : ℕ) → (0 < cell result i) ↔ ((i < length houses.now.own) × EndsInStore houses.now (i + 1)) }
     ensures small { result < 2 ^ 30 }
@@ -75,7 +75,7 @@ pub(crate) fn again_houses(houses: &Houses) -> u64
     ending_in_store(houses.key() % OTHER_ROW, houses.m())
 }
 
-/// The mover's other houses that have seeds.
+/// Returns the mover's other houses that have seeds, marked.
 pub(crate) fn other_houses(houses: &Houses) -> u64
     ensures marked { (i : ℕ) → (0 < cell result i) ↔ ((0 < slice_index houses.now.own i) × ¬ EndsInStore houses.now (i + 1)) }
     ensures small { result < 2 ^ 30 }
@@ -85,7 +85,7 @@ pub(crate) fn other_houses(houses: &Houses) -> u64
     filled(row) ^ ending_in_store(row, houses.m())
 }
 
-/// The last house that is marked, and the marks without its own.
+/// Returns the last marked house, and the marks without it.
 pub(crate) fn split_last(marks: u64) -> (u8, u64)
     requires some { 0 < marks }
     requires small { marks < 2 ^ 30 }

@@ -1,9 +1,9 @@
-//! What each move of a position is worth.
+//! The value of each move of a position.
 ghost use Rattle.std.specs.Prelude.{◌≡◌, ◌<◌, ◌≤◌, [], ◌∷◌, ◌++◌, length, slice_get, Some};
 
 use std::marker::Model;
 
-/// What a move is worth.
+/// A legal move and its value.
 #[derive(Clone, Copy, Debug, PartialEq, Eq)]
 pub struct MoveValue {
     /// The house that is moved, 1 to 6.
@@ -12,10 +12,10 @@ pub struct MoveValue {
     pub value: i16,
 }
 
-// What stands past the last value.
+// Fills the cells past the last value.
 const NO_VALUE: MoveValue = MoveValue { house: 0, value: 0 };
 
-/// What the moves of a position are worth, one after another as their houses rise. They are at most six, and take no memory.
+/// The values of the legal moves of a position, with their houses in ascending order. They are at most six, and need no allocation.
 #[derive(Clone, Copy, Debug, PartialEq, Eq)]
 pub struct MoveValues {
     values: [MoveValue; 6],
@@ -39,7 +39,7 @@ impl Model for MoveValues {
 }
 
 impl MoveValues {
-    // No values.
+    // Makes an empty list.
     pub(crate) fn none() -> MoveValues
         ensures { result ≡ [] }
     {
@@ -49,7 +49,7 @@ impl MoveValues {
         }
     }
 
-    // One more value.
+    // Appends a value.
     pub(crate) fn push(&mut self, value: MoveValue)
         requires { length self.old < 6 }
         ensures { self.new ≡ self.old ++ value ∷ [] }
@@ -58,7 +58,7 @@ impl MoveValues {
         self.count += 1;
     }
 
-    /// How many there are: 0 where the game is over, and else 1 to 6.
+    /// Returns the number of values: 0 if the game is over, and else 1 to 6.
     pub fn len(&self) -> u8
         ensures is { result ≡ length self.now }
         ensures few { result ≤ 6 }
@@ -66,7 +66,7 @@ impl MoveValues {
         self.count
     }
 
-    /// The value at place `i`, counted from 0.
+    /// Returns the value at index `i`, counted from 0.
     pub fn get(&self, i: u8) -> MoveValue
         requires { i < length self.now }
         ensures { slice_get self.now i ≡ Some result }

@@ -1,4 +1,4 @@
-//! Places for what is known of houses: the last that was kept in a place is there, and nothing is searched for.
+//! A table of places for what is known of houses. Each place keeps the houses stored last; nothing is searched for.
 ghost use Rattle.std.specs.Prelude.{◌≡◌, ◌≤◌, ◌<◌, ◌*◌, ◌/◌, ◌^◌, ℕ, length};
 ghost use Rattle.kalah_rules.specs.Limits.{most_seeds};
 ghost use Rattle.kalah_rules.specs.Position.{IsWithinHouses};
@@ -11,17 +11,17 @@ use kalah_rules::{Houses, MOST_SEEDS};
 use std::alloc::{AllocError, Allocator, Global};
 use std::marker::Model;
 
-// So many places there are at least: a place and what it leaves open of a key tell the key.
+// The least number of places: enough that a place and what it leaves open of a key determine the key.
 const LEAST_PLACES: usize = 1024;
 
-// By this number a key is mixed.
+// The factor by which a key is mixed.
 const MIX: u64 = 0x9E37_79B9_7F4A_7C15;
 
-// So many numbers can be what a place leaves open.
+// The number of values of what a place leaves open.
 const OPEN: u64 = 0x40_0000_0000_0000;
 
-// What is known of some houses that have this place, in one number: from bit 10 on what the place leaves open of their key, and
-// below it the most and the least that the mover takes. At first it is what is known of all houses.
+// What is known of some houses that have this place, as one number: from bit 10 on what the place leaves open of their key, and
+// below it the most and the least that the mover takes. Initially it holds what is known of all houses.
 #[derive(Clone, Copy)]
 struct Place {
     told: u64,
@@ -56,7 +56,7 @@ impl Place {
     }
 }
 
-/// So many places, each shared by many houses.
+/// A fixed number of places, each shared by many houses.
 #[derive(Drop)]
 pub(crate) struct Places<A: Allocator = Global> {
     places: Vec<Place, A>,
@@ -74,7 +74,7 @@ impl<A: Allocator> Model for Places<A> {
     ghost invariant = { λ p. AreEnough (length p.places.items) × TellShares p.places.items };
 }
 
-// The key of the houses, mixed.
+// Returns the mixed key of the houses.
 fn mixed_key(houses: &Houses) -> u64
     ensures mixed { result ≡ mixed (key_of houses.now) }
     ensures small { result < 2 ^ 64 }
@@ -83,7 +83,7 @@ fn mixed_key(houses: &Houses) -> u64
     houses.key().wrapping_mul(MIX)
 }
 
-// The place of a mixed key among so many.
+// Returns the place of a mixed key among `count` places.
 fn place_of(mixed: u64, count: usize) -> usize
     requires { count ≤ 2 ^ 32 }
     ensures { result ≡ place_among count mixed }
@@ -91,7 +91,7 @@ fn place_of(mixed: u64, count: usize) -> usize
     ((mixed >> 32) * count as u64 >> 32) as usize
 }
 
-// What its place leaves open of it.
+// Returns what its place leaves open of a mixed key.
 fn rest_of(mixed: u64) -> u64
     ensures rest { result ≡ left_open mixed }
     ensures small { result < 2 ^ 54 }
@@ -100,7 +100,9 @@ fn rest_of(mixed: u64) -> u64
 }
 
 impl<A: Allocator> Places<A> {
-    /// So many places, and no fewer than 1,024. It fails where there is no memory for them.
+    /// Makes `count` places, or 1,024 if that is more.
+    ///
+    /// Fails with `AllocError` if there is no memory for them.
     pub(crate) fn new(alloc: A, count: u32) -> Result<Places<A>, AllocError> {
         let unknown = Place::of(0, Share::whole(MOST_SEEDS as u8));
         let count = LEAST_PLACES.max(count as usize);
@@ -113,7 +115,7 @@ impl<A: Allocator> Places<A> {
         self.places.len()
     }
 
-    /// What the place of the houses tells of them.
+    /// Returns what the place of the houses states of them: the share that the mover takes.
     pub(crate) fn look_up(&self, houses: &Houses) -> Share
         ensures { IsWithinShare result (taken houses.now) }
     {
@@ -124,7 +126,7 @@ impl<A: Allocator> Places<A> {
         }
     }
 
-    /// Keeps in the place of the houses that the mover's share is within this one.
+    /// Stores in the place of the houses that the mover's share is within this one.
     pub(crate) fn keep(&mut self, houses: &Houses, share: Share)
         requires { IsWithinShare share (taken houses.now) }
     {

@@ -1,5 +1,5 @@
 //! The margin of best play by its definition: every game that the rules allow is played to its end, with no table and
-//! no window. It is slow, and so plainly right that a faster search can be tested against it.
+//! no window. It is slow, but simple enough that a faster search can be tested against it.
 ghost use Rattle.std.specs.Prelude.{◌≡◌, Contains};
 ghost use Rattle.kalah_rules.specs.Position.{IsSmallMargin};
 ghost use Rattle.kalah_rules.specs.Play.{legal_houses};
@@ -12,7 +12,7 @@ mod tests;
 use crate::verdict::Verdict;
 use kalah_rules::{Board, Step};
 
-// The margin of best play.
+// Returns the margin of best play.
 #[cycle(worth)]
 fn worth(board: &Board) -> i32
     ensures worth { result ≡ worth board.now }
@@ -29,7 +29,7 @@ fn worth(board: &Board) -> i32
     best
 }
 
-/// The margin of best play after the move of house `h`, for the player who makes that move.
+/// Returns the margin of best play after the move of house `h`, for the player who makes that move.
 #[cycle(worth)]
 pub(crate) fn value_of_move(board: &Board, h: u8) -> i32
     requires { Contains (legal_houses board.now) h }
@@ -43,7 +43,7 @@ pub(crate) fn value_of_move(board: &Board, h: u8) -> i32
     }
 }
 
-/// What `Solver::solve` answers.
+/// Returns what `Solver::solve` must answer.
 pub(crate) fn solve(board: &Board) -> Verdict
     ensures verdict { result ≡ verdict_of board.now }
     ensures best_play { TellsBestPlay board.now result }

@@ -1,4 +1,4 @@
-//! How promising a turn is, before anything is known of what it leads to. It orders the moves, and says nothing of their worth.
+//! An estimate of how good a turn is, before its outcome is known. It orders the moves, and states nothing about their worth.
 ghost use Rattle.std.specs.Prelude.{◌≡◌, ◌≤◌, ◌<◌};
 ghost use Rattle.kalah_rules.specs.Position.{IsWithinHouses};
 
@@ -8,17 +8,17 @@ mod tests;
 use crate::marks::ONE_EACH;
 use kalah_rules::Houses;
 
-// Where the other player's houses begin in a key.
+// The place value of the other player's first house in a key.
 const OTHER_ROW: u64 = 0x4000_0000;
 
-// Where the houses end in a key.
+// The place value just past the houses in a key.
 const SIDE: u64 = 0x1000_0000_0000_0000;
 
-// By this a row becomes two rows, each of them the same.
+// Multiplied by this, a row becomes two equal rows.
 const BOTH: u64 = OTHER_ROW + 1;
 
-// For each number of houses a side the row whose houses all end in the store: so many seeds as it stands before it, and more than
-// a row can have past the last house. Both rows are this one.
+// The row whose houses all end in the store, by the number of houses a side: each house holds as many seeds as its distance from
+// the store. Past the last house stand more seeds than a row can have. Both rows are this one.
 static ALL_END_IN_STORE: [u64; 7] = [
     0x3FFF_FFFF * BOTH,
     0x3FFF_FFE1 * BOTH,
@@ -29,28 +29,28 @@ static ALL_END_IN_STORE: [u64; 7] = [
     0x0221_90A6 * BOTH,
 ];
 
-// The houses of both rows that have seeds, marked.
+// Returns the houses of both rows that have seeds, marked.
 fn filled(rows: u64) -> u64 {
     const FIFTEEN_EACH: u64 = 15 * ONE_EACH * BOTH;
     (((rows & FIFTEEN_EACH).wrapping_add(FIFTEEN_EACH) | rows) >> 4) & (ONE_EACH * BOTH)
 }
 
-// The houses of both rows whose last seed would fall into the store of their player, without a lap, marked.
+// Returns the houses of both rows whose last seed would fall into the store of their player without a lap, marked.
 fn ending_in_store(rows: u64, m: u8) -> u64
     requires { m ≤ 6 }
 {
     filled(rows ^ ALL_END_IN_STORE[m as usize]) ^ (ONE_EACH * BOTH)
 }
 
-// The seeds in the first row, which are at most 31.
+// Returns the number of seeds in the first row, which is at most 31.
 fn sum(rows: u64) -> u32
     ensures { result < 32 }
 {
     ((rows.wrapping_mul(ONE_EACH) >> 25) % 32) as u32
 }
 
-/// How promising a turn of house `h` is, which brought so many seeds to the store and leaves these houses to the other player.
-/// Most of all it counts what came to the store, and how few houses the other player can choose from; then what lies in the mover's
+/// Returns the estimate for a turn of house `h` that brought `gained` seeds to the store and leaves these houses to the other player.
+/// It counts most of all what came to the store, and how few houses the other player can choose from; then what lies in the mover's
 /// own houses, how many of those could move again, and how near to the store they are.
 pub(crate) fn promise(h: u8, gained: u8, next: &Houses) -> u32
     ensures { 0 < result }

@@ -1,7 +1,7 @@
 //! The highest of the ranks of six houses.
 ghost use Rattle.std.specs.Prelude.{ℕ, ◌<◌, ◌≤◌, slice_index};
 
-/// The place of the highest rank, and the last of equal ones.
+/// Returns the index of the highest rank, or of the last one if several are equal.
 pub fn highest(ranks: &[u32; 6]) -> usize
     ensures place { result < 6 }
     ensures highest { (k : ℕ) → slice_index ranks.now k ≤ slice_index ranks.now result }

@@ -1,4 +1,4 @@
-//! The search: what houses are worth in a window, told by one test after another of what the mover takes.
+//! The search: it computes what houses are worth in a window, by successive tests of what the mover takes.
 ghost use Rattle.std.specs.Prelude.{◌≡◌, ◌+◌, ◌≤◌, ◌<◌, false, ◌≤ℤ◌, max, min, [], IfOk};
 ghost use Rattle.kalah_rules.specs.Limits.{most_seeds};
 ghost use Rattle.kalah_rules.specs.Position.{is_over, bare};
@@ -16,23 +16,23 @@ use crate::window::Window;
 use kalah_rules::Houses;
 use std::alloc::{AllocError, Allocator, Global};
 
-/// What is known of houses with at most so many seeds is kept in their place, and of others among the entries.
+/// What is known of houses with at most this many seeds is kept in their place, and of others among the entries.
 const MOST_PLACED: u8 = 20;
 
 /// An answer that took fewer nodes than this is not worth an entry.
 const LEAST_WORK: u64 = 60;
 
-/// With so many nodes a search is long. From then on it has all its places, which cost a short one more than they save.
+/// A search with this many nodes is long. From then on it has all its places, which cost a short one more than they save.
 const LONG_SEARCH: u64 = 300_000;
 
-/// The endings of up to 9 seeds are asked for once houses with so many seeds or more were searched and the search has `MUCH_WORK`
-/// nodes, and until then those of up to 8: to find more costs the search of few seeds, and a short one, more than it saves.
+/// The endings of up to 9 seeds are used once houses with this many seeds or more were searched and the search has `MUCH_WORK`
+/// nodes, and until then those of up to 8: finding more costs a search of few seeds, or a short one, more than it saves.
 const MANY_SEEDS: u8 = 17;
 
-/// So many nodes.
+/// The number of nodes from which the endings of 9 seeds pay.
 const MUCH_WORK: u64 = 60_000;
 
-/// A search with its table. What it answers depends on none of its limits.
+/// A search with its table. Its results depend on none of its limits.
 #[derive(Drop)]
 pub struct Search<A: Allocator + Clone = Global> {
     table: Table<A>,
@@ -45,7 +45,7 @@ pub struct Search<A: Allocator + Clone = Global> {
 }
 
 impl<A: Allocator + Clone> Search<A> {
-    /// A search with this table.
+    /// Makes a search with this table.
     pub fn new(table: Table<A>) -> Search<A>
         ensures { result.table ≡ table }
     {
@@ -60,7 +60,7 @@ impl<A: Allocator + Clone> Search<A> {
         }
     }
 
-    /// A search with an empty table of its own, that shares with this one what is known of endings.
+    /// Makes a search with an empty table of its own that shares with this one what is known of endings.
     pub fn beside(&self, alloc: A, capacity: u32) -> Result<Search<A>, AllocError>
         requires low { 1 ≤ capacity }
         requires high { capacity ≤ most_entries }
@@ -69,7 +69,7 @@ impl<A: Allocator + Clone> Search<A> {
         Ok(Search::new(self.table.beside(alloc, capacity)?))
     }
 
-    /// A search that keeps every answer among the entries of its table.
+    /// Makes a search that keeps every answer among the entries of its table.
     #[cfg(test)]
     pub fn with_all_entries(table: Table<A>) -> Search<A> {
         Search {
@@ -117,7 +117,7 @@ impl<A: Allocator + Clone> Search<A> {
         answer
     }
 
-    // An interval that holds the worth of the houses.
+    // Returns an interval that holds the worth of the houses.
     fn known_margins(&mut self, houses: &Houses) -> Interval
         ensures holds { Encloses result (houses_worth houses.now) }
         ensures least { least_margin ≤ℤ houses_worth houses.now }
@@ -158,7 +158,7 @@ impl<A: Allocator + Clone> Search<A> {
         low
     }
 
-    // Counts one more node, and tells how many there were before. Endings grow once it had much work, and all places are laid
+    // Counts one more node, and returns how many there were before. Endings grow once the search had much work, and all places are laid
     // out once it is long.
     fn count_node(&mut self) -> u64 {
         let before = self.nodes;
@@ -172,12 +172,12 @@ impl<A: Allocator + Clone> Search<A> {
         before
     }
 
-    // Asks for the endings of 9 seeds from now on, where it had many seeds and much work.
+    // Uses the endings of 9 seeds from now on, if the search had many seeds and much work.
     fn grow_endings(&mut self) {
         self.asks_for_nine |= self.had_many_seeds && self.nodes >= MUCH_WORK;
     }
 
-    // What is taken of houses with at most so many seeds is looked up among the endings.
+    // Returns the most seeds for which the result is looked up among the endings.
     fn most_at_the_end(&self) -> u8
         ensures { result ≤ 9 }
     {
@@ -190,7 +190,7 @@ impl<A: Allocator + Clone> Search<A> {
         }
     }
 
-    // What is known of the seeds that the mover takes.
+    // Returns what is known of the seeds that the mover takes.
     fn known(&mut self, houses: &Houses) -> Share
         ensures { IsWithinShare result (taken houses.now) }
     {
@@ -204,7 +204,7 @@ impl<A: Allocator + Clone> Search<A> {
         }
     }
 
-    // Keeps what was learned of them, by so much work.
+    // Stores what was learned of the houses by `work` nodes.
     fn learn(&mut self, houses: &Houses, share: Share, work: u64)
         requires { IsWithinShare share (taken houses.now) }
     {
@@ -216,7 +216,7 @@ impl<A: Allocator + Clone> Search<A> {
         }
     }
 
-    // Makes an entry of what was learned of their worth, unless it took too little work.
+    // Stores what was learned of their worth as an entry, unless it took too little work.
     fn learn_margins(&mut self, houses: &Houses, interval: Interval, work: u64)
         requires { Encloses interval (houses_worth houses.now) }
     {

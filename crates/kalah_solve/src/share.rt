@@ -1,4 +1,4 @@
-//! What is known of the seeds that a player takes.
+//! Bounds on the number of seeds that a player takes.
 ghost use Rattle.std.specs.Prelude.{◌≡◌, ◌+◌, ◌*◌, max, min, ◌≤◌, ◌<◌, ◌≤ℤ◌, ◌+ℤ◌, ◌-ℤ◌, ℕ, ℤ, pos};
 ghost use Rattle.std.specs.Int.{int_max};
 ghost use Rattle.kalah_rules.specs.Limits.{most_seeds};
@@ -11,14 +11,14 @@ use crate::table::Interval;
 use crate::window::{MOST_MARGIN, Window};
 use kalah_rules::Houses;
 
-/// At least so many of the seeds in houses, and at most so many.
+/// Bounds on the number of seeds in houses that a player takes, both inclusive.
 #[derive(Clone, Copy, Debug, PartialEq, Eq)]
 pub(crate) struct Share {
     pub least: u8,
     pub most: u8,
 }
 
-// Half of a number, rounded down, and 0 for one below 0.
+// Returns half of a number, rounded down, or 0 if it is negative.
 pub(crate) fn half(number: i32) -> u8
     requires { number ≤ℤ pos 255 }
     ensures low { pos (result + result) ≤ℤ int_max (pos 0) number }
@@ -28,7 +28,7 @@ pub(crate) fn half(number: i32) -> u8
 }
 
 impl Share {
-    // What a player can take of so many seeds.
+    // Returns what a player can take of `seeds` seeds.
     pub(crate) fn whole(seeds: u8) -> Share
         ensures is { result ≡ between 0 seeds }
         ensures held { (t : ℕ) → t ≤ seeds → IsWithinShare result t }
@@ -39,7 +39,7 @@ impl Share {
         }
     }
 
-    // What the mover can take of the seeds in these houses.
+    // Returns what the mover can take of the seeds in these houses.
     pub(crate) fn unknown(houses: &Houses) -> Share
         ensures is { result ≡ between 0 (seeds_in_houses (bare houses.now)) }
         ensures held { IsWithinShare result (taken houses.now) }
@@ -47,7 +47,7 @@ impl Share {
         Share::whole(houses.seeds())
     }
 
-    // The same share, once this fail-soft bound is known.
+    // Returns the same share, narrowed by a fail-soft bound.
     pub(crate) fn learned(self, bar: u8, bound: u8) -> Share
         ensures at_least { bar ≤ bound → result ≡ between bound self.most }
         ensures at_most { bound < bar → result ≡ between self.least bound }
@@ -66,7 +66,7 @@ impl Share {
         }
     }
 
-    // Which shares of so many seeds a window of margins tells apart.
+    // Returns the shares of `seeds` seeds that a window of margins distinguishes.
     pub(crate) fn of_window(window: Window, seeds: u8) -> Share
         requires { seeds ≤ most_seeds }
         ensures ordered { result.least ≤ result.most }
@@ -80,7 +80,7 @@ impl Share {
         }
     }
 
-    // What a margin in the interval says of the share of so many seeds.
+    // Returns the share of `seeds` seeds that a margin in the interval allows.
     pub(crate) fn of_margins(interval: Interval, seeds: u8) -> Share
         requires { seeds ≤ most_seeds }
         ensures held { (t : ℕ) → t ≤ seeds → Encloses interval (pos (t + t) -ℤ pos seeds) → IsWithinShare result t }
@@ -93,7 +93,7 @@ impl Share {
         }
     }
 
-    // The margins of the shares of so many seeds.
+    // Returns the margins of the shares of `seeds` seeds.
     pub(crate) fn margins(self, seeds: u8) -> Interval
         requires { seeds ≤ most_seeds }
         ensures held { (t : ℕ) → t ≤ seeds → IsWithinShare self t → Encloses result (pos (t + t) -ℤ pos seeds) }

@@ -1,4 +1,4 @@
-//! The solver.
+//! The solver: the worth of positions, by a search with a table.
 ghost use Rattle.std.specs.Prelude.{◌≡◌, ◌≤◌, [], IfOk, false};
 ghost use Rattle.kalah_rules.specs.Position.{is_over, bare};
 ghost use Rattle.kalah_rules.specs.Play.{legal_houses};
@@ -19,23 +19,24 @@ use crate::window::Window;
 use kalah_rules::{Board, Houses, Moves};
 use std::alloc::{AllocError, Allocator, Global};
 
-/// Tells what positions are worth, by a search that keeps what it learns in a table.
+/// Computes what positions are worth, by a search that keeps what it learns in a table.
 #[derive(Drop)]
 pub struct Solver<A: Allocator + Clone = Global> {
     search: Search<A>,
 }
 
 impl<A: Allocator + Clone> Solver<A> {
-    /// A solver with this table. The table decides how long an answer takes, and never what it is.
+    /// Makes a solver with this table. The table decides how long an answer takes, never what it is.
     pub fn new(table: Table<A>) -> Solver<A> {
         Solver {
             search: Search::new(table),
         }
     }
 
-    /// A solver with an empty table of its own, with room for `capacity` entries, which is 1 to 1,048,576. What one of the two learns
-    /// of endings the other knows too, and so do solvers beside either, in whatever threads they are. It fails only where
-    /// memory was refused.
+    /// Makes a solver with an empty table of its own, with room for `capacity` entries, 1 to 1,048,576. The two share what they learn
+    /// of endings, also with the solvers made from either, and also if they run in different threads.
+    ///
+    /// Fails with `AllocError` only if memory was refused.
     pub fn beside(&self, alloc: A, capacity: u32) -> Result<Solver<A>, AllocError>
         requires low { 1 ≤ capacity }
         requires high { capacity ≤ most_entries }
@@ -45,9 +46,9 @@ impl<A: Allocator + Clone> Solver<A> {
         Ok(Solver { search })
     }
 
-    /// What the position is worth to the player to move: the final margin of a game that is over, and else the margin
+    /// Returns what the position is worth to the player to move: the final margin of a game that is over, and else the margin
     /// of best play with the lowest house that attains it. What the table learns on the way is kept for later
-    /// positions; where there is no memory for an entry, it is left out.
+    /// positions; if there is no memory for an entry, it is left out.
     pub fn solve(&mut self, board: &Board) -> Verdict
         ensures verdict { result ≡ verdict_of board.now }
         ensures best_play { TellsBestPlay board.now result }
@@ -66,7 +67,7 @@ impl<A: Allocator + Clone> Solver<A> {
         Verdict::Best { margin, house }
     }
 
-    // The first house that takes as many seeds as best play. Where all but the last fall short, it is the last.
+    // Returns the first house that takes as many seeds as best play. If all but the last fall short, it is the last.
     fn first_house(&mut self, houses: &Houses, moves: &Moves, bar: u8) -> u8
         requires moves { moves.now ≡ legal_houses (bare houses.now) }
         requires going { is_over (bare houses.now) ≡ false }

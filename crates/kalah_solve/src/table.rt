@@ -19,25 +19,25 @@ use std::marker::Model;
 use std::num::NonZeroUsize;
 use std::sync::Arc;
 
-/// The most entries that a table has room for.
+/// The most entries that a table can have room for.
 pub const MOST_ENTRIES: u32 = 1_048_576;
 
-/// So many places there are at most until all are laid out: they are made at once, and stay in the nearest cache.
+/// The most places that a table has until all are laid out: they are made at once, and stay in the nearest cache.
 const FIRST_PLACES: u32 = 4096;
 
 /// The numbers from `lo` to `hi`.
 #[derive(Clone, Copy, Debug, PartialEq, Eq)]
 pub struct Interval {
-    /// The least.
+    /// The least number.
     pub lo: i8,
-    /// The greatest.
+    /// The greatest number.
     pub hi: i8,
 }
 
 impl Interval {
     ghost use Rattle.kalah_solve.specs.Table.{Encloses, from_to, least_margin, most_margin, within};
 
-    // All that houses can be worth.
+    // Returns the interval of all margins that houses can be worth.
     pub(crate) fn whole() -> Interval
         ensures is { result ≡ from_to least_margin most_margin }
         ensures held { (z : ℤ) → least_margin ≤ℤ z → z ≤ℤ most_margin → Encloses result z }
@@ -48,7 +48,7 @@ impl Interval {
         }
     }
 
-    // What the answer of a search in a window tells: an answer inside the window is the worth, one at
+    // Returns what the answer of a search in a window implies: an answer inside the window is the worth, one at
     // its lower end is an upper bound, and one at its upper end a lower bound.
     pub(crate) fn learned(window: Window, answer: i32) -> Interval
         requires least { window.lo ≤ℤ answer }
@@ -77,7 +77,7 @@ impl Interval {
         }
     }
 
-    // What both intervals share.
+    // Returns what both intervals share.
     pub(crate) fn shared(self, with: Interval) -> Interval
         ensures held { (z : ℤ) → Encloses self z → Encloses with z → Encloses result z }
         ensures no_more { (z : ℤ) → Encloses result z → Encloses self z × Encloses with z }
@@ -89,8 +89,8 @@ impl Interval {
     }
 }
 
-/// Intervals that hold the worth of houses, under their keys. When it is full, the entry that was not used for the
-/// longest time makes room for a new one.
+/// Intervals that hold the worth of houses, by their keys. If the table is full, a new entry replaces the least recently used
+/// one.
 #[derive(Drop)]
 pub struct Table<A: Allocator + Clone = Global> {
     entries: LruCache<u64, Interval, DefaultHasher, A>,
@@ -114,7 +114,9 @@ impl<A: Allocator + Clone> Table<A> {
     ghost use Rattle.kalah_solve.specs.Table.{Encloses, AreTrue, most_entries};
     ghost use Rattle.kalah_solve.specs.Taken.{taken, IsWithinShare};
 
-    /// An empty table with room for `capacity` entries, which is 1 to 1,048,576. It fails only where memory was refused.
+    /// Makes an empty table with room for `capacity` entries, 1 to 1,048,576.
+    ///
+    /// Fails with `AllocError` only if memory was refused.
     pub fn new(alloc: A, capacity: u32) -> Result<Table<A>, AllocError>
         requires low { 1 ≤ capacity }
         requires high { capacity ≤ most_entries }
@@ -125,7 +127,7 @@ impl<A: Allocator + Clone> Table<A> {
         Table::with_endings(alloc, capacity, endings)
     }
 
-    // An empty table that shares with this one what is known of endings. It fails only where memory was refused.
+    // Makes an empty table that shares with this one what is known of endings. It fails only if memory was refused.
     pub(crate) fn beside(&self, alloc: A, capacity: u32) -> Result<Table<A>, AllocError>
         requires low { 1 ≤ capacity }
         requires high { capacity ≤ most_entries }
@@ -134,7 +136,7 @@ impl<A: Allocator + Clone> Table<A> {
         Table::with_endings(alloc, capacity, Arc::try_clone(&self.endings)?)
     }
 
-    // An empty table with these endings.
+    // Makes an empty table with these endings.
     fn with_endings(
         alloc: A,
         capacity: u32,
@@ -154,13 +156,13 @@ impl<A: Allocator + Clone> Table<A> {
         })
     }
 
-    // As many places as there is room for entries, with nothing known. It fails where there is no memory for them.
+    // Makes as many places as there is room for entries, with nothing known. It fails if there is no memory for them.
     fn all_places(&self) -> Result<Places<A>, AllocError> {
         let count = self.entries.cap().get().min(MOST_ENTRIES as usize);
         Places::new(self.entries.allocator().clone()?, count as u32)
     }
 
-    // Lays out all places, where there is memory for them. What the first ones told is forgotten.
+    // Lays out all places, if there is memory for them. The contents of the first ones are dropped.
     pub(crate) fn lay_out_places(&mut self)
         ensures { self.new ≡ self.old }
     {
@@ -169,14 +171,14 @@ impl<A: Allocator + Clone> Table<A> {
         }
     }
 
-    // What the place of the houses tells of them.
+    // Returns what the place of the houses states of them.
     pub(crate) fn look_up_place(&self, houses: &Houses) -> Share
         ensures { IsWithinShare result (taken houses.now) }
     {
         self.places.look_up(houses)
     }
 
-    // Keeps in the place of the houses that the mover's share is within this one.
+    // Stores in the place of the houses that the mover's share is within this one.
     pub(crate) fn keep_place(&mut self, houses: &Houses, share: Share)
         requires { IsWithinShare share (taken houses.now) }
         ensures { self.new ≡ self.old }
@@ -184,7 +186,7 @@ impl<A: Allocator + Clone> Table<A> {
         self.places.keep(houses, share);
     }
 
-    // What the mover takes of houses with few seeds.
+    // Returns how many seeds the mover takes from houses with few seeds.
     pub(crate) fn taken(&mut self, houses: &Houses) -> u8
         requires going { is_over (bare houses.now) ≡ false }
         requires few { seeds_in_houses (bare houses.now) ≤ 9 }
@@ -194,7 +196,7 @@ impl<A: Allocator + Clone> Table<A> {
         self.endings.taken(houses)
     }
 
-    // What is known of the houses, which become the most recently used.
+    // Returns the interval known for the houses, which become the most recently used.
     pub(crate) fn look_up(&mut self, houses: &Houses) -> Option<Interval>
         ensures found { result ≡ lookup (nat_eq (key_of houses.now)) self.old }
         ensures holds { IfSome result (λ i. Encloses i (houses_worth houses.now)) }
@@ -203,7 +205,7 @@ impl<A: Allocator + Clone> Table<A> {
         self.entries.get(&key).copied()
     }
 
-    // Keeps that the worth of the houses is in the interval, unless there is no memory for it. An entry that is there takes none.
+    // Stores that the worth of the houses is in the interval, unless there is no memory for it. Replacing an entry needs none.
     pub(crate) fn keep(&mut self, houses: &Houses, interval: Interval)
         requires { Encloses interval (houses_worth houses.now) }
         ensures kept { (lookup (nat_eq (key_of houses.now)) self.new ≡ Some interval) ⊎ (self.new ≡ self.old) }

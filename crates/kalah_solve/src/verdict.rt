@@ -1,6 +1,6 @@
 //! What a position is worth.
 
-/// What a position is worth to the player to move, and by which house.
+/// The worth of a position to the player to move, and the house that attains it.
 #[derive(Clone, Copy, Debug, PartialEq, Eq)]
 pub enum Verdict {
     /// The margin of best play, -130 to 130, and the lowest house that attains it, 1 to 6.

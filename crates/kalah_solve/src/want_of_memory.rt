@@ -1,5 +1,5 @@
-//! Each request for memory of the global allocator refused in turn. With ample memory these tests just pass.
-//! `tests/refuse` runs each of them again and again, with the first request refused, the second, and so on: it has to
+//! Tests in which each request for memory of the global allocator is refused once. With ample memory these tests just pass.
+//! `tests/refuse` runs each of them repeatedly, with the first request refused, then the second, and so on: the test must
 //! pass each time, until the request that is refused is one of its own marks.
 use crate::{Solver, Table, Verdict, pack, unpack};
 use kalah_rules::{Board, Houses, Rule};
@@ -7,7 +7,7 @@ use std::alloc::{AllocError, Global};
 use std::process::Abort;
 use std::test::Fail;
 
-// A request that is refused only where none before it was.
+// Makes a request that is refused only if none before it was.
 fn mark(alloc: Global, place: &'static str) -> Result<(), Fail> {
     match Box::new(alloc, 0u8) {
         Ok(_) => Ok(()),
@@ -15,14 +15,14 @@ fn mark(alloc: Global, place: &'static str) -> Result<(), Fail> {
     }
 }
 
-// A table with one entry, asked for again if need be.
+// Makes a table with one entry, at the second try if the first was refused.
 fn new_table(alloc: Global) -> Result<Table, AllocError> {
     Table::new(alloc, 1).or_else(|_| Table::new(alloc, 1))
 }
 
 const ONES: [u8; 6] = [1, 1, 0, 0, 0, 0];
 
-// Both ways between the houses and their key.
+// Packs and unpacks houses.
 fn packs(rt: &impl Abort) {
     let houses = Houses::new(2, ONES, ONES, Rule::Classic).expect(rt, "beyond the limits");
     assert!(rt; pack(&houses) == 0x2000_0008_4000_0021);
@@ -39,7 +39,7 @@ fn a_key_and_a_solver_take_no_memory(rt: HostRuntime) -> Result<(), Fail> {
     mark(alloc, "after all")
 }
 
-// Two positions that differ in their stores alone.
+// Solves two positions that differ only in their stores.
 fn tells_both(rt: &impl Abort, solver: &mut Solver) {
     for (own_store, other_store, margin) in [(0, 0, 2), (9, 4, 7)] {
         let board = Board::new(2, ONES, own_store, ONES, other_store, Rule::Classic);

@@ -5,11 +5,11 @@ ghost use Rattle.kalah_solve.specs.Table.{Encloses, least_margin, most_margin, w
 use crate::table::Interval;
 use kalah_rules::MOST_SEEDS;
 
-/// The most that houses can be worth, to one player or to the other.
+/// The greatest margin that houses can have, to one player or to the other.
 pub(crate) const MOST_MARGIN: i8 = MOST_SEEDS as i8;
 
-/// The alpha-beta window: the margins that a search tells apart. What is worth less than its lower end is told as that
-/// end, and what is worth more than its upper end as that one.
+/// The alpha-beta window: the margins that a search distinguishes. A worth below its lower end is reported as that
+/// end, and a worth above its upper end as the upper end.
 #[derive(Clone, Copy)]
 pub struct Window {
     pub lo: i32,
@@ -20,7 +20,7 @@ pub struct Window {
 }
 
 impl Window {
-    /// All that houses can be worth.
+    /// Returns the window of all margins that houses can have.
     pub fn whole() -> Window
         ensures lo { result.lo ≡ least_margin }
         ensures hi { result.hi ≡ most_margin }
@@ -31,7 +31,7 @@ impl Window {
         }
     }
 
-    /// The margins among these that the interval leaves open. None where it tells the answer.
+    /// Returns the margins in this window that the interval leaves open, or `None` if it determines the answer.
     pub fn narrowed(self, known: Interval) -> Option<Window>
         ensures within_known { IfSome result (λ narrow. (known.lo ≤ℤ narrow.lo) × (narrow.hi ≤ℤ known.hi)) }
         ensures some { IfSome result (λ narrow. (z : ℤ) → Encloses known z → within narrow.lo narrow.hi z ≡ within self.lo self.hi z) }
@@ -46,7 +46,7 @@ impl Window {
         }
     }
 
-    /// The margin, raised to the lower end and lowered to the upper one.
+    /// Returns the margin, raised to the lower end and lowered to the upper one.
     pub fn clamp(self, margin: i32) -> i32
         ensures { result ≡ within self.lo self.hi margin }
     {

@@ -28,7 +28,7 @@ impl Input for Typed {
     }
 }
 
-// What is asked of the lines of these bytes is answered by this text, and ends so.
+// The lines of these bytes are answered by this text, and the run ends so.
 fn assert_asked(
     rt: &(impl Abort + AllocGlobal),
     question: Question,

@@ -2,7 +2,7 @@ use super::Failure;
 use crate::status::ExitStatus;
 use std::process::Abort;
 
-// The failure is said in this text.
+// The failure is reported by this text.
 fn assert_said(rt: &(impl Abort + AllocGlobal), failure: Failure<'_>, text: &str) {
     let mut err = Vec::<u8>::new(rt.alloc());
     assert!(rt; failure.report(&mut err) == ExitStatus::Failed);

@@ -3,7 +3,7 @@ use std::io;
 use std::io::{ErrorKind, Read};
 use std::process::Abort;
 
-/// Gives its bytes three at a time, and answers an error of its kind at its `fails_at`th call, counted
+/// A reader of its bytes, three at a time. It returns an error of its kind at its `fails_at`th call, counted
 /// from 1, and at no other.
 #[derive(Drop)]
 struct FailingOnce<'a> {
@@ -26,7 +26,7 @@ impl Read for FailingOnce<'_> {
 
 const TEN: &[u8] = b"0123456789";
 
-// The reader is asked five times, the last of which answers the end. It is not asked again after an error.
+// The reader is called five times, and the last call reports the end. It is not called again after an error.
 fn assert_fails_at(rt: &(impl Abort + AllocGlobal), kind: ErrorKind, k: u32) {
     let mut reader = FailingOnce {
         rest: TEN,

@@ -4,7 +4,7 @@ use std::io;
 use std::io::{BufWriter, ErrorKind, Write};
 use std::process::Abort;
 
-/// Counts its calls, and answers an error of its kind at its `fails_at`th call, counted from 1, and at no other.
+/// Counts its calls, and returns an error of its kind only at call number `fails_at`, counted from 1.
 #[derive(Drop)]
 struct FailingOnce<'a> {
     calls: &'a Cell<u32>,
@@ -27,13 +27,13 @@ impl Write for FailingOnce<'_> {
     }
 }
 
-// Whether a line goes out in a write and a flush.
+// Whether a line is written in a write and a flush.
 fn is_written(rt: &impl Abort, out: &mut impl Write, line: &str) -> bool {
     out.write_all(line.as_bytes()).expect(rt, line);
     out.flush().is_ok()
 }
 
-// Of three lines the second is not written, and stays in the buffer.
+// Of three lines the second can't be written, and stays in the buffer.
 #[test]
 fn nothing_follows_a_failed_write(rt: HostRuntime) {
     let calls = Cell::new(0);

@@ -3,12 +3,12 @@ use clap::error::ErrorKind;
 use kalah_jobs::Question;
 use std::process::Abort;
 
-// What the words ask for, if they ask for something.
+// What the arguments ask for, if they are accepted.
 fn asked<'a>(rt: &(impl Abort + AllocGlobal), words: &'a [&'a str]) -> Option<Request<'a>> {
     parse(rt.alloc(), words).ok()
 }
 
-// The words ask this of files, with so many workers and entries.
+// The arguments ask this of files, with these numbers of workers and of entries.
 fn asks(
     rt: &(impl Abort + AllocGlobal),
     words: &[&str],
@@ -33,14 +33,14 @@ fn fails_with(rt: &(impl Abort + AllocGlobal), words: &[&str], kind: ErrorKind) 
     }
 }
 
-// Words of `moves`, and whether boards are drawn.
+// Arguments of `moves`, and whether boards are drawn.
 const MOVES: &[(&[&str], bool)] = &[
     (&["kalah", "moves", "1,1/0 1,1/0"], false),
     (&["k", "moves", "--boards", "1,1/0 1,1/0"], true),
     (&["kalah", "moves", "1,1/0 1,1/0", "--boards"], true),
 ];
 
-// The words ask for the moves of the position, and to draw boards or not.
+// The arguments ask for the moves of the position, and to draw boards or not.
 fn asks_moves(rt: &(impl Abort + AllocGlobal), words: &[&str], is_drawn: bool) -> bool {
     match asked(rt, words) {
         Some(Request::Moves { line, boards }) => line == "1,1/0 1,1/0" && boards == is_drawn,
@@ -55,7 +55,7 @@ fn reads_moves(rt: HostRuntime) {
     }
 }
 
-// Words of `play`, the entries of the table and whether boards are drawn.
+// Arguments of `play`, the entries of the table and whether boards are drawn.
 const GAMES: &[(&[&str], u32, bool)] = &[
     (&["kalah", "play", "1/0 1/0"], 65536, false),
     (
@@ -70,7 +70,7 @@ const GAMES: &[(&[&str], u32, bool)] = &[
     ),
 ];
 
-// The words ask for the game, with a table of so many entries, and to draw boards or not.
+// The arguments ask for the game, with a table of `entries` entries, and to draw boards or not.
 fn asks_game(
     rt: &(impl Abort + AllocGlobal),
     words: &[&str],
@@ -96,7 +96,7 @@ fn reads_play(rt: HostRuntime) {
     }
 }
 
-// The words of a subcommand that answers files, with and without options.
+// The arguments of a subcommand that answers files, with and without options.
 fn assert_reads(rt: &(impl Abort + AllocGlobal), name: &str, question: Question) {
     let words = ["kalah", name, "a", "b"];
     assert!(rt; asks(rt, &words, question, (4, 65536), &["a", "b"]));
@@ -112,7 +112,7 @@ fn reads_solve_and_values(rt: HostRuntime) {
     assert_reads(&rt, "values", Question::Values);
 }
 
-// Words of `ask`, what they ask of each line, and the entries of the table.
+// Arguments of `ask`, the question that they ask of each line, and the entries of the table.
 const ASKED: &[(&[&str], Question, u32)] = &[
     (&["kalah", "ask"], Question::BestMove, 65536),
     (&["k", "ask", "--values"], Question::Values, 65536),
@@ -124,7 +124,7 @@ const ASKED: &[(&[&str], Question, u32)] = &[
     ),
 ];
 
-// The words ask this of the standard input, with a table of so many entries.
+// The arguments ask this of the standard input, with a table of `entries` entries.
 fn asks_input(
     rt: &(impl Abort + AllocGlobal),
     words: &[&str],
@@ -144,7 +144,7 @@ fn reads_ask(rt: HostRuntime) {
     }
 }
 
-// Words that give no request, and what kind of error they give.
+// Arguments that make no request, and the kind of their error.
 const REFUSED: &[(&[&str], ErrorKind)] = &[
     (&["kalah"], ErrorKind::MissingSubcommand),
     (&["kalah", "stop"], ErrorKind::InvalidSubcommand),

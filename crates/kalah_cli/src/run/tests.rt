@@ -18,7 +18,7 @@ use std::sync::Wait;
 use std::thread::Threads;
 use std::{fs, io};
 
-/// Answers an error at its `fails_at`th call, counted from 1, and at each later one.
+/// Returns an error at its `fails_at`th call, counted from 1, and at each later one.
 #[derive(Drop)]
 struct Failing {
     bytes: Vec<u8>,
@@ -59,7 +59,7 @@ impl Write for Failing {
     }
 }
 
-// The words of the command line, of which the first is the program's name.
+// The arguments of the command line; the first is the program's name.
 fn words_of(rt: &impl Abort, alloc: Global, texts: &[&str]) -> Vec<String>
     ensures { 0 < vec_len result }
 {
@@ -78,7 +78,7 @@ fn write_file<R: Abort + Files>(rt: &R, name: &str, bytes: &[u8]) {
     fs::write(rt, name, bytes).expect(rt, name);
 }
 
-/// What the program writes for the words after its name, and its status.
+/// What the program writes for the arguments after its name, and its status.
 #[derive(Drop)]
 struct Run {
     status: ExitStatus,
@@ -109,7 +109,7 @@ fn answers(run: &Run, status: ExitStatus, out: &str, err: &str) -> bool {
         && run.err.as_slice() == err.as_bytes()
 }
 
-// A run of these words ends so.
+// A run with these arguments ends so.
 fn assert_answers<R: Abort + Files + Input + StandardError + Threads + Wait + Sync>(
     rt: &R,
     alloc: Global,
@@ -121,7 +121,7 @@ fn assert_answers<R: Abort + Files + Input + StandardError + Threads + Wait + Sy
     assert!(rt; answers(&run, status, out, err), "{words:?}");
 }
 
-// A mistake in these words ends the run with a text on standard error alone.
+// A mistake in these arguments ends the run with a text on standard error only.
 fn assert_usage<R: Abort + Files + Input + StandardError + Threads + Wait + Sync>(
     rt: &R,
     alloc: Global,
@@ -134,7 +134,7 @@ fn assert_usage<R: Abort + Files + Input + StandardError + Threads + Wait + Sync
     assert!(rt; is_usage, "{words:?}");
 }
 
-// Lines, and what `moves` prints of them.
+// Lines, and what `moves` prints for them.
 const MOVES: &[(&str, &str)] = &[
     ("1,1/0 1,1/0", "1 1,1/0 0,2/0 turn\n2 1,0/1 1,1/0 again\n"),
     ("3/0 3/0", "1 0/6 0/0 over\n"),
@@ -158,7 +158,7 @@ fn shows_the_moves_of_a_position(rt: HostRuntime) {
     }
 }
 
-// Lines that are not read, and what is said of them.
+// Lines that can't be read, and their messages.
 const UNREAD: &[(&str, &str)] = &[
     ("1/0", "fault shape\n"),
     ("", "fault empty\n"),
@@ -180,7 +180,7 @@ fn a_line_that_is_not_read_is_answered_by_its_fault(rt: HostRuntime) {
     }
 }
 
-// Words that the program does not take.
+// Arguments that the program refuses.
 const MISTAKES: &[&[&str]] = &[
     &[],
     &["stop"],
@@ -220,7 +220,7 @@ fn mistakes_in_the_words(rt: HostRuntime) {
     }
 }
 
-// The run of these words writes to the output alone, and is clean.
+// The run with these arguments writes to the output only, and is clean.
 fn assert_shown<R: Abort + Files + Input + StandardError + Threads + Wait + Sync>(
     rt: &R,
     alloc: Global,
@@ -231,7 +231,7 @@ fn assert_shown<R: Abort + Files + Input + StandardError + Threads + Wait + Sync
     assert!(rt; !shown.out.is_empty() && shown.err.is_empty());
 }
 
-// Words that ask for help.
+// Arguments that ask for help.
 const HELP: &[&[&str]] = &[
     &["--help"],
     &["-h"],
@@ -248,7 +248,7 @@ fn help_goes_to_the_output(rt: HostRuntime) {
     }
 }
 
-// Words of which not all files are read, and what is said of it.
+// Arguments with a file that can't be read, and the message.
 const NOT_READ: &[(&[&str], &str)] = &[
     (
         &["solve", "kalah_run_one.txt", "kalah_run_none.txt", "/"],
@@ -269,7 +269,7 @@ fn a_file_that_is_not_read(rt: HostRuntime) {
     }
 }
 
-/// What came of a run whose output failed, or took all.
+/// The result of a run whose output failed, or accepted all.
 #[derive(Drop)]
 struct Stopped {
     status: ExitStatus,
@@ -279,7 +279,7 @@ struct Stopped {
 }
 
 impl Stopped {
-    // The run ended as it should where its output failed, or took all.
+    // Whether the run ended as it must, given whether its output failed or accepted all.
     fn is_told(&self) -> bool {
         let (status, err) = if self.has_failed {
             (ExitStatus::Failed, "kalah: write failed\n")
@@ -290,7 +290,7 @@ impl Stopped {
     }
 }
 
-// A run whose output fails at its call of this number, and at each later one.
+// A run whose output fails at its call number `fails_at`, and at each later one.
 fn run_failing<R: Abort + Files + Input + StandardError + Threads + Wait + Sync>(
     rt: &R,
     alloc: Global,
@@ -309,7 +309,7 @@ fn run_failing<R: Abort + Files + Input + StandardError + Threads + Wait + Sync>
     }
 }
 
-// Where the output fails at its call of this number, the run ends there. It makes so many calls where none fails.
+// If the output fails at its call number `k`, the run ends there. It makes `calls` calls if none fails.
 fn assert_stops_at<R: Abort + Files + Input + StandardError + Threads + Wait + Sync>(
     rt: &R,
     alloc: Global,
@@ -325,7 +325,7 @@ fn assert_stops_at<R: Abort + Files + Input + StandardError + Threads + Wait + S
     assert!(rt; run.is_told(), "at {k}");
 }
 
-// It ends at whichever of its calls fails.
+// It ends at each of its calls that fails.
 fn assert_stops<R: Abort + Files + Input + StandardError + Threads + Wait + Sync>(
     rt: &R,
     alloc: Global,
@@ -351,7 +351,7 @@ fn a_failed_write_of_help_or_of_the_version(rt: HostRuntime) {
     }
 }
 
-// The status of a run whose standard error takes nothing, and how many bytes it took.
+// The status of a run whose standard error accepts nothing, and how many bytes it took.
 fn run_untold<R: Abort + Files + Input + StandardError + Threads + Wait + Sync>(
     rt: &R,
     alloc: Global,

@@ -36,7 +36,7 @@ lines_of_ended [] none = refl
 lines_of_ended (byte ∷ piece) none =
     lines_of-byte byte (piece ++ line_feed ∷ []) (All-head IsOther byte piece none) ∙ ap (onto_first byte) (lines_of_ended piece (All-tail IsOther byte piece none))
 
--- a piece that isn't empty is one line where nothing follows
+-- a piece that isn't empty is one line if nothing follows
 pub lines_of_open : (byte : ℕ) (piece : List ℕ) → HasNoLineFeed (byte ∷ piece) → lines_of (byte ∷ piece) ≡ (byte ∷ piece) ∷ []
 unfolding lines_of
 lines_of_open byte [] none = lines_of-byte byte [] (All-head IsOther byte [] none)
@@ -82,7 +82,7 @@ both_read true false = refl
 both_read false true = refl
 both_read false false = refl
 
--- all are read where one more is, and those before
+-- all are read if one more is, and those before
 pub all_read_more : (lines more line : List ℕ) → EndsWithItsLine lines → lines_of more ≡ line ∷ []
     → are_all_read (lines ++ more) ≡ (not (is_faulty line) && are_all_read lines)
 all_read_more lines more line ends one =
@@ -106,12 +106,12 @@ long_reading : (line : List ℕ) → most_bytes < length (without_cr line) → r
 unfolding reading_of
 long_reading line long = long_is_read (without_cr line) long
 
--- a line of so many bytes is too long
+-- a line of `kept_bytes` bytes is too long
 too_long : (line : List ℕ) → kept_bytes ≤ length line → entry_of line ≡ Bad Long
 unfolding entry_of
 too_long line long = ap entry_of_reading (long_reading line (omega (arith, cr_is_one line, long)))
 
--- so the bytes that are kept say what the line says
+-- so the bytes that are kept determine the entry of the line
 pub kept_says : (line : List ℕ) → entry_of (take kept_bytes line) ≡ entry_of line
 kept_says line = elim (cases_lt kept_bytes (length line)) [
   | inl long ↦

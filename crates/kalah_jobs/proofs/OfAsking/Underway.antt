@@ -12,7 +12,7 @@ use Rattle.kalah_jobs.specs.Writing.Output.{is_faulty}
 use Rattle.kalah_jobs.specs.Writing.Splitting.{EndsWithItsLine}
 use Rattle.kalah_jobs.proofs.OfAsking.AnswersTo.{IsOther, all_read_more, answers_to_more, answers_to_one, kept_faulty, kept_more, kept_told, last_read, last_told, lines_of_ended, no_answers, none_unread, one_line, answers_split}
 
--- Lines were read, and a part of the next one, of which the first bytes are kept. The lines were answered.
+-- Lines were read, and a part of the next one, whose first bytes are kept. The lines were answered.
 pub record Underway (question : Question) (before now old new : Option (List ℕ)) (line : List ℕ) (all_read : Bool) : Type 0 where
   pub lines : List ℕ
   pub part : List ℕ
@@ -141,11 +141,11 @@ begun_line question before now next old new kept more line all_read u end keeps 
           (subst (λ l. Appends kept more (take start.0 l)) told_part start.1);
     }
 
--- what stands behind the last line feed is answered, whatever was kept of it
+-- what stands behind the last line feed is answered by the part that was kept
 told_part : (question : Question) (line part : List ℕ) → line ≡ take kept_bytes part → HasNoLineFeed part → told_last question line ≡ answers_to question part
 told_part question line part kept none = ap (told_last question) kept ∙ sym (last_told question part none)
 
--- nothing is left, and the answer to what stands behind the last line feed was begun
+-- nothing is left, and a prefix of the answer to what stands behind the last line feed was written
 pub begun_last : (question : Question) (before now next old new kept more : Option (List ℕ)) (line : List ℕ) (all_read : Bool)
     → Underway question before now old new line all_read → Consumes now next [] → Keeps new kept
     → AppendsStart kept more (told_last question line) → IsBegun question before next old more

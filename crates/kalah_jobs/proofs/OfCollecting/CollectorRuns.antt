@@ -1,4 +1,4 @@
--- After any list of offers and takes a collector has what the list says.
+-- After any list of offers and takes a collector has the state that the list determines.
 use Rattle.std.proofs.Common.{◌≡◌, ℕ, zero, suc, ◌+◌, ◌<◌, ◌≤◌, ◌==◌, ⊎_elim, List, [], ◌∷◌, ◌++◌, length, map, get_or, take, replicate, true, false, if◌then◌else◌, Bool, refl, sym, ap, ◌∙◌, subst, arith, eq-eqb, ne_eqb}
 use Rattle.std.specs.Prelude.{Option, Some, None, IsSome, IsSomeAnd, Contains, Result, Ok, Err, slice_get}
 use Rattle.std.specs.List.{enumerate_from}
@@ -21,12 +21,12 @@ use Rattle.kalah_jobs.specs.Collecting.Held.{HoldsOffered}
 use Rattle.kalah_jobs.proofs.OfCollecting.Fronts.{front_within, front_came, front_set, front_least}
 use Rattle.kalah_jobs.proofs.OfCollecting.CollectorSteps.{state_same, state_other, lines_are, wanted_file, holds_accepted, holds_refused, holds_take, some_value, is_some_of}
 
--- what the events say of what was taken
+-- what was taken, by the events
 pub record HoldsTaken (jobs : List (List Entry)) (events : List Event) (files : List FileState) : Type 0 where
   pub taken : (f : ℕ) → takes f events ≡ take (state_of files f).taken (answered_lines (entries_of jobs f))
   pub within : (f : ℕ) → (state_of files f).taken ≤ front (state_of files f)
 
--- what the events say of the collector
+-- the state of the collector, by the events
 pub record Kept (jobs : List (List Entry)) (events : List Event) (files : List FileState) : Type 0 where
   pub offered : HoldsOffered jobs (offers events) files
   pub took : HoldsTaken jobs events files
@@ -42,7 +42,7 @@ if_append : (b : Bool) (t : Taken) (xs ys : List Taken) → (if b then t ∷ (xs
 if_append true t xs ys = refl
 if_append false t xs ys = refl
 
--- what a take gave, and then more
+-- the result of a take, and then more
 with_taken_append : (f g : ℕ) (gave : Option Taken) (xs ys : List Taken) → with_taken f g gave (xs ++ ys) ≡ with_taken f g gave xs ++ ys
 with_taken_append f g None xs ys = refl
 with_taken_append f g (Some t) xs ys = if_append (g == f) t xs ys
@@ -58,7 +58,7 @@ takes_append f (Took g gave ∷ xs) ys =
 takes_offered : (f : ℕ) (xs : List Event) (o : Job) (gave : Result ℕ Refusal) → takes f (xs ++ Offered o gave ∷ []) ≡ takes f xs
 takes_offered f xs o gave = takes_append f xs (Offered o gave ∷ []) ∙ append-nil (takes f xs)
 
--- nor does a take that gave nothing
+-- nor does a take that returned nothing
 takes_none : (f g : ℕ) (xs : List Event) → takes f (xs ++ Took g None ∷ []) ≡ takes f xs
 takes_none f g xs = takes_append f xs (Took g None ∷ []) ∙ append-nil (takes f xs)
 
@@ -150,7 +150,7 @@ first_lines_more jobs past files f t holds is_next =
     let low : n < length xs = (let a = slice_get_within (entries_of jobs f) n w.entry at in let b = answered_many (entries_of jobs f) in omega arith) in
     ap (λ x. take n xs ++ x ∷ []) (sym here) ∙ sym (take_more xs n t low)
 
--- what the events say is kept by each event
+-- the state by the events is kept by each event
 module _ {jobs : List (List Entry)} {events : List Event} {files : List FileState} (kept : Kept jobs events files) where
   -- by an accepted offer
   offered_ok : (o : Job) (ready : ℕ) → IsWanted jobs files o
@@ -185,7 +185,7 @@ module _ {jobs : List (List Entry)} {events : List Event} {files : List FileStat
     };
   }
 
-  -- by a take that gave nothing
+  -- by a take that returned nothing
   took_none : (f : ℕ) → Kept jobs (events ++ Took f None ∷ []) files
   took_none f = record {
     offered = subst (λ (l : List Job). HoldsOffered jobs l files) (sym (offers_took events f None)) kept.offered;
@@ -195,7 +195,7 @@ module _ {jobs : List (List Entry)} {events : List Event} {files : List FileStat
     };
   }
 
-  -- by one that gave a line
+  -- by one that returned a line
   took_some : (f : ℕ) (t : Taken) → f < length files → IsNext (state_of files f) t → Kept jobs (events ++ Took f (Some t) ∷ []) (after_take files f)
   took_some f t low is_next =
       let after : List FileState = after_take files f in
@@ -259,7 +259,7 @@ none_replicate zero k = refl
 none_replicate (suc n) zero = refl
 none_replicate (suc n) (suc k) = none_replicate n k
 
--- nothing has come of new files
+-- no answer has come for new files
 new_none : (jobs : List (List Entry)) (f k : ℕ) → came_for (state_of (new_files jobs) f) k ≡ None
 new_none [] f k = refl
 new_none (entries ∷ jobs) zero k = none_replicate (length entries) k
@@ -278,7 +278,7 @@ new_taken [] f = refl
 new_taken (entries ∷ jobs) zero = refl
 new_taken (entries ∷ jobs) (suc f) = new_taken jobs f
 
--- what the empty list of events says of new files
+-- new files are the state by the empty list of events
 pub start : (jobs : List (List Entry)) → Kept jobs [] (new_files jobs)
 start jobs = record {
   offered = record {
@@ -292,7 +292,7 @@ start jobs = record {
   };
 }
 
--- a fact of the value, where there is one
+-- a fact of the value, if there is one
 and_from : {X : Type 0} (o : Option X) (P : X → Type 0) (x : X) → o ≡ Some x → P x → IsSomeAnd o P
 and_from {X} o P x e p = subst (λ (y : Option X). IsSomeAnd y P) (sym e) p
 
@@ -301,7 +301,7 @@ and_parts : {X : Type 0} (o : Option X) (P : X → Type 0) → IsSomeAnd o P →
 and_parts None P h = absurd h
 and_parts (Some x) P h = (x, refl, h)
 
--- what the events say is what the law says
+-- the state by the events is that of the law
 pub meets : (jobs : List (List Entry)) (events : List Event) (files : List FileState) → Kept jobs events files → Meets jobs events files
 meets jobs events files kept =
     let came : (f k : ℕ) → Came jobs events f k → IsSome (came_for (state_of files f) k) =

@@ -1,4 +1,4 @@
--- Each offer and each take keeps what the offers say of the collector.
+-- Each offer and each take keeps the state that the offers determine.
 use Rattle.std.proofs.Common.{◌≡◌, ◌≢◌, ℕ, zero, suc, ◌<◌, ◌⊎◌, ⊎_elim, inl, inr, List, [], ◌∷◌, ◌++◌, length, map, set, get_or, refl, sym, ap, ◌∙◌, subst, arith, length-set, get_or-set_other, get_or-set_same}
 use Rattle.std.specs.Prelude.{Option, Some, None, is_some, IsSome, Contains}
 use Rattle.std.proofs.lemmas.Bool.{cases_eq, false≢true}
@@ -29,7 +29,7 @@ state_other files f g s ne = get_or-set_other files f g s no_file ne
 pub files_many : (jobs : List (List Entry)) (files : List FileState) → HasLinesOf jobs files → length files ≡ length jobs
 files_many jobs files h = sym (length-map files line_count) ∙ ap (λ (l : List ℕ). length l) h ∙ length-map jobs (λ (entries : List Entry). length entries)
 
--- each file has as many lines as its jobs, also where there is no such file
+-- each file has as many lines as its jobs, also if there is no such file
 pub lines_are : (jobs : List (List Entry)) (files : List FileState) → HasLinesOf jobs files → (f : ℕ) → line_count (state_of files f) ≡ length (entries_of jobs f)
 lines_are [] [] h f = refl
 lines_are [] (s ∷ files) h f = cc
@@ -43,7 +43,7 @@ counts_set [] f s same = refl
 counts_set (x ∷ files) zero s same = ap (λ n. n ∷ map line_count files) same
 counts_set (x ∷ files) (suc f) s same = ap (λ l. line_count x ∷ l) (counts_set files f s same)
 
--- what an accepted offer tells
+-- what an accepted offer implies
 pub wanted_file : (jobs : List (List Entry)) (files : List FileState) (o : Job) → IsWanted jobs files o → o.file < length files
 wanted_file jobs files o w = w.0.0.0.0
 
@@ -108,7 +108,7 @@ after_cases files o a file_low line_low f k =
     (λ (np : f ≡ o.file → ⊥). inr (record { apart = λ h. np h.0; kept = ap (λ t. came_for t k) (state_other files o.file f w np) }))
     (cases_eq f o.file)
 
--- a number of lines stays where an answer is put down
+-- a number of lines stays if an answer is put down
 counts_offer : (jobs : List (List Entry)) (files : List FileState) (f k : ℕ) (a : Answer) → HasLinesOf jobs files → HasLinesOf jobs (after_offer files f k a)
 counts_offer jobs files f k a h = counts_set files f (with_answer (state_of files f) k a) (length-set (state_of files f).arrived k (Some a)) ∙ h
 
@@ -161,7 +161,7 @@ file_there [] f k low = absurd (omega arith)
 file_there (s ∷ files) zero k low = omega arith
 file_there (s ∷ files) (suc f) k low = let h = file_there files f k low in omega arith
 
--- where a line is offered with its entry and refused, it had come before
+-- if a line is offered with its entry and refused, it had come before
 pub refused_came : (jobs : List (List Entry)) (files : List FileState) (f k : ℕ) (e : Entry) (r : Refusal) → HasLinesOf jobs files → entry_at jobs f k ≡ Some e
     → IsRefusedFor jobs files (line_job f k e) r → IsSome (came_for (state_of files f) k)
 refused_came jobs files f k e NoSuchFile h is refused = absurd (let low = file_there files f k (line_there jobs files f k e h is) in omega arith)
@@ -171,7 +171,7 @@ refused_came jobs files f k e NoSuchLine h is refused = absurd (let low = line_t
 refused_came jobs files f k e WrongPosition h is refused = absurd (refused.1 is)
 refused_came jobs files f k e Double h is refused = refused.1
 
--- a refused offer changes nothing, and what holds stays true of one offer more
+-- a refused offer changes nothing, and what holds stays true with one more offer
 pub holds_refused : (jobs : List (List Entry)) (past : List Job) (files : List FileState) (o : Job) (r : Refusal) → HoldsOffered jobs past files → IsRefusedFor jobs files o r
     → HoldsOffered jobs (past ++ o ∷ []) files
 holds_refused jobs past files o r holds refused = record {

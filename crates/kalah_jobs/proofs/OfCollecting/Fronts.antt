@@ -1,4 +1,4 @@
--- How far the lines of a file have come from the first on.
+-- How many of the first lines of a file have come without a gap.
 use Rattle.std.proofs.Common.{◌≡◌, ℕ, zero, suc, ◌+◌, ◌<◌, ◌≤◌, List, [], ◌∷◌, length, set, get_or, replicate, true, false, refl, arith}
 use Rattle.std.specs.Prelude.{Option, Some, None, is_some}
 use Rattle.std.proofs.Common.{⊎_elim}
@@ -41,18 +41,18 @@ front_set (None ∷ xs) k a = omega arith
 front_set (Some b ∷ xs) zero a = omega arith
 front_set (Some b ∷ xs) (suc k) a = omega (arith, front_set xs k a)
 
--- where nothing came the front is at the first line
+-- if nothing came, the front is at the first line
 pub front_none : (n : ℕ) → front_of (replicate n None) ≡ 0
 front_none zero = refl
 front_none (suc n) = refl
 
--- where all lines came the front is at the end
+-- if all lines came the front is at the end
 pub front_full : (xs : List (Option Answer)) → ((k : ℕ) → k < length xs → is_some (get_or xs k None) ≡ true) → front_of xs ≡ length xs
 front_full [] all = refl
 front_full (None ∷ xs) all = let h = all 0 (omega arith) in cc
 front_full (Some a ∷ xs) all = omega (arith, front_full xs (λ k low. all (suc k) (omega arith)))
 
--- where the first m lines have come, the front has come so far
+-- if the first m lines have come, the front has come so far
 pub front_least : (xs : List (Option Answer)) (m : ℕ) → ((k : ℕ) → k < m → is_some (get_or xs k None) ≡ true) → m ≤ front_of xs
 front_least xs m all =
     ⊎_elim

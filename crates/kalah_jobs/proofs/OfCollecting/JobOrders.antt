@@ -55,11 +55,11 @@ times_append : (o : Job) (xs ys : List Job) → times o (xs ++ ys) ≡ times o x
 unfolding times
 times_append o xs ys = sum_by-append (λ x. cond (same_job o x) 1 0) xs ys
 
--- one more where it is the offer
+-- one more if it is the offer
 times_yes : (o x : Job) (xs : List Job) → same_job o x ≡ true → times o (x ∷ xs) ≡ times o xs + 1
 times_yes o x xs h = times_cons o x xs ∙ ap (λ (b : Bool). cond b 1 0 + times o xs) h ∙ omega arith
 
--- as often where it is another
+-- the same number if it is another
 times_no : (o x : Job) (xs : List Job) → same_job o x ≡ false → times o (x ∷ xs) ≡ times o xs
 times_no o x xs h = times_cons o x xs ∙ ap (λ (b : Bool). cond b 1 0 + times o xs) h ∙ omega arith
 
@@ -263,7 +263,7 @@ module _ {jobs : List (List Entry)} {past : List Job} {files : List FileState} (
   each_accepted after (Ok ready) step = refl
   each_accepted after (Err r) step = absurd (not_refused r step.cause)
 
--- where each job was offered, each file has ended
+-- if each job was offered, each file has ended
 pub fronts_full : (jobs : List (List Entry)) (past : List Job) (files : List FileState) → AreJobsInSomeOrder jobs past
     → HoldsOffered jobs past files → (f : ℕ) → HasEnded (state_of files f)
 fronts_full jobs past files h holds f =

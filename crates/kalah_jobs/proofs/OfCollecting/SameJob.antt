@@ -1,11 +1,11 @@
--- A test by which one offer is found in a list: it holds of that offer alone.
+-- A test by which one offer is found in a list: it holds only of that offer.
 use Rattle.std.proofs.Common.{◌≡◌, Bool, true, false, ◌&&◌, ◌==◌, refl, ap, ◌∙◌, eq-eqb}
 use Rattle.std.proofs.lemmas.Bool.{and_parts, and_from, eqb-true, false≢true}
 use Rattle.std.specs.Coded.{Coded, codes}
 use base.Stored.{Gv, gnil, gnum, gcons}
 use Rattle.kalah_jobs.specs.declared.files.job.Job.{Job}
 
--- jobs told apart by a code
+-- jobs distinguished by a code
 coded_job : Coded Job
 coded_job = hlevel codes
 

@@ -76,7 +76,7 @@ counted {X} p n (t ∷ ts) below =
     let b : count_by p (map (λ (u : ℕ × X). u.1) ts) ≡ total n g = counted p n ts (All-tail P t ts below) in
     omega (arith, sum_by-cons (λ (x : X). cond (p x) 1 0) t.1 (map (λ (u : ℕ × X). u.1) ts))
 
--- a test of what f gives
+-- a test of the results of f
 pub count_map : {X : Type 0} (p : X → Bool) (f : ℕ → X) (xs : List ℕ) → count_by p (map f xs) ≡ count_by (λ x. p (f x)) xs
 count_map p f [] = refl
 count_map {X} p f (x ∷ xs) = omega (arith, count_map p f xs, sum_by-cons (λ (y : X). cond (p y) 1 0) (f x) (map f xs), sum_by-cons (λ y. cond (p (f y)) 1 0) x xs)
@@ -110,7 +110,7 @@ count_split q m (z ∷ zs) below =
 unfoldable pub count_below : ℕ → (ℕ → Bool) → ℕ
 count_below n q = total n (λ x. cond (q x) 1 0)
 
--- where no number from n on stands in the list, all are below n
+-- if no number from n on stands in the list, all are below n
 all_below : (n : ℕ) (xs : List ℕ) → ((x : ℕ) → n ≤ x → count_by (λ y. y == x) xs ≡ 0) → All (λ x. x < n) xs
 all_below n [] none = All-nil (λ x. x < n)
 all_below n (z ∷ zs) none =
@@ -124,7 +124,7 @@ count_flat : (q : ℕ → Bool) (rows : List (List ℕ)) → count_by q (flat_ma
 count_flat q [] = refl
 count_flat q (r ∷ rs) = omega (arith, count_flat q rs, sum_by-cons (λ r. count_by q r) r rs, sum_by-append (λ x. cond (q x) 1 0) r (flat_map (λ r. r) rs))
 
--- lawful rows have of the numbers that pass a test as many as there are
+-- in lawful rows, as many numbers pass a test as among all numbers below n
 rows_count : (n : ℕ) (rows : List (List ℕ)) (q : ℕ → Bool) → ((x : ℕ) → times_in x rows ≡ (if nat_lt x n then 1 else 0)) → sum_by (λ r. count_by q r) rows ≡ count_below n q
 unfolding count_below chosen
 rows_count n rows q once =
@@ -135,7 +135,7 @@ rows_count n rows q once =
     sym (count_flat q rows) ∙ count_split q n flat low
     ∙ total_same n (λ x. chosen (q x) (count_by (λ y. y == x) flat)) (λ x. cond (q x) 1 0) (λ x l. ap (chosen (q x)) (one x l))
 
--- whatever is asked of a result, as many of those that were got pass as of the results of all numbers
+-- for each test, the number of received results that pass it equals that of the results of all numbers
 pub got_all_once : {X : Type 0} (p : X → Bool) (n : ℕ) (f : ℕ → X) (rows : List (List ℕ)) (got : List (ℕ × X)) → AreShared n f rows got
     → count_by p (map (λ t. t.1) got) ≡ count_below n (λ x. p (f x))
 got_all_once {X} p n f rows got s =
@@ -157,7 +157,7 @@ unfolding count_below total
 below_true zero = refl
 below_true (suc n) = let a = below_true n in omega arith
 
--- where as many were got as there are, nothing is left
+-- if as many were got as there are, nothing is left
 pub nothing_left : {X : Type 0} (n : ℕ) (f : ℕ → X) (rows : List (List ℕ)) (got rest : List (ℕ × X)) → AreShared n f rows (got ++ rest) → length got ≡ n → rest ≡ []
 nothing_left {X} n f rows got rest s whole =
     let all : List (ℕ × X) = got ++ rest in

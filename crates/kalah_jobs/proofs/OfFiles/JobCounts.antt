@@ -1,4 +1,4 @@
--- How many jobs stand before each file, and where in the list of jobs a line stands.
+-- The number of jobs before each file, and the place of a line in the list of jobs.
 use Rattle.std.proofs.Common.{◌≡◌, ℕ, zero, suc, ◌+◌, ◌-◌, ◌<◌, ◌≤◌, ⊎_elim, true, false, List, [], ◌∷◌, ◌++◌, length, get_or, take, refl, ap, sym, ◌∙◌, arith, length-append}
 use Rattle.std.specs.Prelude.{Some, slice_get, slice_index_or}
 use Rattle.std.specs.List.Sorted.{IsNonDecreasing, IsPartitionPoint}
@@ -51,7 +51,7 @@ length-jobs_from f (entries ∷ jobs) =
 pub length-job_list : (jobs : List (List Entry)) → length (job_list jobs) ≡ job_count jobs
 length-job_list jobs = length-jobs_from 0 jobs
 
--- ---- where a line stands in the list of jobs
+-- ---- the place of a line in the list of jobs
 
 slice_get-append_left : {X : Type 0} (xs ys : List X) (i : ℕ) (x : X) → slice_get xs i ≡ Some x → slice_get (xs ++ ys) i ≡ Some x
 slice_get-append_left [] ys i x is = cc
@@ -94,13 +94,13 @@ slice_get-job_list jobs f k n e number is = slice_get-jobs_from 0 f f k n jobs e
 
 -- ---- starts
 
--- an element that is there is read whatever the default is
+-- an element that is there is read for any default
 pub get_or_any : {X : Type 0} (xs : List X) (i : ℕ) (d e : X) → i < length xs → get_or xs i d ≡ get_or xs i e
 get_or_any [] i d e low = absurd (omega arith)
 get_or_any (x ∷ xs) zero d e low = refl
 get_or_any (x ∷ xs) (suc i) d e low = get_or_any xs i d e (omega arith)
 
--- the starts rise
+-- the starts ascend
 pub starts_rise : (jobs : List (List Entry)) (starts : List ℕ) → length starts ≡ length jobs
     → ((f : ℕ) → f < length jobs → get_or starts f 0 ≡ job_count (take f jobs)) → IsNonDecreasing starts
 starts_rise jobs starts as_many before i j d low high =

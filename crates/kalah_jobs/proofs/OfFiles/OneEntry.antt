@@ -1,4 +1,4 @@
--- Each line says one thing.
+-- Each line has one entry.
 use Rattle.std.proofs.Common.{◌≡◌, ℕ, List, Result, Ok, Err, refl, ap, sym}
 use Rattle.kalah_rules.specs.Position as position
 use Rattle.kalah_jobs.specs.Line.Reading.{reading_of}

@@ -1,4 +1,4 @@
--- Two boards are equal by `==` just where they show the same position.
+-- Two boards are equal by `==` exactly when they show the same position.
 use Rattle.std.proofs.Common.{◌≡◌, true, Bool, ◌&&◌, ◌==◌}
 use Rattle.std.proofs.lemmas.Bool.{and_parts, eqb-true}
 use Rattle.kalah_rules.specs.Position.{Position, IsWithinLimits, rows_of, seeds_in_houses}

@@ -36,7 +36,7 @@ lines_of-last byte (another ∷ bytes) before =
     lines_of-byte byte (another ∷ bytes) (before 0 (omega arith))
     ∙ ap (λ lines. onto_first byte lines) (lines_of-last another bytes (λ k h. before (suc k) (omega arith)))
 
--- the same, where what follows is cut out of the bytes
+-- the same, if what follows is cut out of the bytes
 pub lines_of-first_cut : (bytes : List ℕ) (i n : ℕ) → i < length bytes → length bytes ≤ n + (i + 1) → get_or bytes i 0 ≡ line_feed
     → ((k : ℕ) → k < i → get_or bytes k 0 ≢ line_feed) → lines_of bytes ≡ take i bytes ∷ lines_of (take n (drop (i + 1) bytes))
 lines_of-first_cut bytes i n low high is before =

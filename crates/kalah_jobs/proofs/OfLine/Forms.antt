@@ -30,7 +30,7 @@ parts_of_line own other EmptyCapture own_lacks other_lacks =
     ∙ parts_of_more space own (other ++ ending_of EmptyCapture) own_lacks
     ∙ ap (λ (more : List (List ℕ)). own ∷ more) (parts_of_more space other (codes "e") other_lacks)
 
--- the parts after the sides, where they name a rule, are its ending
+-- the parts after the sides, if they name a rule, are its ending
 line_of_parts : (text own other : List ℕ) (ending : List (List ℕ)) (rule : Rule) → rule_of ending ≡ Some rule → parts_at space text ≡ own ∷ other ∷ ending →
     text ≡ own ++ space ∷ other ++ ending_of rule
 line_of_parts text own other [] rule e parts =

@@ -9,7 +9,7 @@ use Rattle.kalah_jobs.specs.Line.Reading.{◌>>=◌, parts_at, number_read, numb
 use Rattle.kalah_jobs.proofs.OfLine.Cuts.{Lacks, parts_of_one, parts_of_more, text_of_one, text_of_two}
 use Rattle.kalah_jobs.proofs.OfLine.Numbers.{number_of_is_number, number_is_read, number_lacks}
 
--- the value of a step that gave one
+-- the value of a step that succeeded
 pub bind_some : {A B : Type 0} (r : Option A) (f : A → Option B) (y : B) → (r >>= f) ≡ Some y → (x : A) × ((r ≡ Some x) × (f x ≡ Some y))
 bind_some None f y e = absurd cc
 bind_some (Some x) f y e = (x, (refl, e))

@@ -1,4 +1,4 @@
--- What a line without an ending means, and that the ending alone names the rule.
+-- What a line without an ending means, and that only the ending names the rule.
 use Rattle.std.proofs.Common.{◌≡◌, ℕ, ◌≤◌, ◌↔◌, List, [], ◌∷◌, ◌++◌, ◌∙◌, refl, ap, sym, arith}
 use Rattle.std.specs.Prelude.{codes}
 use Rattle.std.proofs.lemmas.List.{append-nil}

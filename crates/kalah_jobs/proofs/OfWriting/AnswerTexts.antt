@@ -146,7 +146,7 @@ parts_of_values_tell (v ∷ vs) (w ∷ ws) small also e = values_tell (v ∷ vs)
 
 -- ---- the words of faults
 
--- the third byte of a word tells its fault
+-- the third byte of a word determines its fault
 abbrev fault_by : ℕ → LineFault
 fault_by byte = if byte == 110 then Long else (if byte == 112 then Empty else (if byte == 97 then Shape else (if byte == 117 then Houses else Seeds)))
 

@@ -1,4 +1,4 @@
--- What is told of files and what is told of their jobs is the same.
+-- What is stated of files and what is stated of their jobs is the same.
 use Rattle.std.proofs.Common.{◌≡◌, ℕ, suc, ◌+◌, ◌<◌, List, [], ◌∷◌, ◌++◌, length, map, get_or, cond, refl, ap, sym, ◌∙◌, arith}
 use Rattle.std.specs.Prelude.{sum_by, count_by, Bool, true, false, if◌then◌else◌}
 use Rattle.std.specs.List.{flat_map, enumerate_from}
@@ -60,7 +60,7 @@ same_lines : (question : Question) (files : List NamedBytes) → (tally_of files
 unfolding tally_of
 same_lines question files = sym (length-job_list (jobs_to question files) ∙ job_count-jobs_to question files)
 
--- one where the test passes
+-- one if the test passes
 abbrev one_if : {X : Type 0} → (X → Bool) → X → ℕ
 one_if p x = cond (p x) 1 0
 

@@ -1,4 +1,4 @@
--- Columns of numbers: one more in front, and what they tell.
+-- Columns of numbers: one more in front, and what they determine.
 use Rattle.std.proofs.Common.{◌≡◌, ℕ, zero, suc, ◌+◌, ◌-◌, ◌*◌, ◌<◌, ◌≤◌, List, [], ◌∷◌, ◌++◌, length, get_or, drop, flat_map, replicate, sum, decimal, false, cond, ◌==◌, inl, inr, refl, sym, ap, ap₂, ◌∙◌, append_assoc, append-nil, length-append, arith}
 use Rattle.std.specs.List.{range_with_len}
 use Rattle.std.proofs.lemmas.Bool.{cases_eq, ne_eqb}
@@ -14,7 +14,7 @@ use Rattle.kalah_jobs.specs.Writing.Picture.{cell, column_width, empty_columns, 
 use Rattle.kalah_jobs.specs.declared.writing.player.Player.{Player}
 use Rattle.kalah_jobs.specs.declared.writing.player.Player.TheVariants.{Mover, Other}
 
--- so many columns of numbers, from one on
+-- n columns of numbers, from column `from` on
 abbrev pub columns : (ℕ → ℕ) → ℕ → ℕ → List ℕ
 columns f from n = flat_map (λ column. cell (f column)) (range_with_len from n)
 
@@ -29,7 +29,7 @@ columns_before f m column n old before after is low high so_far e =
     ∙ sym (append_assoc (cell (f column)) (columns f (column + 1) (m - column)) old)
     ∙ ap₂ (λ (i k : ℕ). columns f i k ++ old) (sym place) (sym count)
 
--- ---- what is drawn tells the numbers
+-- ---- the picture determines the numbers
 
 -- lists with equal fronts of one length
 split_same : (xs ys tail end : List ℕ) → length xs ≡ length ys → xs ++ tail ≡ ys ++ end → (xs ≡ ys) × (tail ≡ end)
@@ -71,7 +71,7 @@ shorn_number zero low =
 shorn_number (suc n) low =
     shorn_other (decimal (suc n)) (decimal_nonempty (suc n) (omega arith)) (omega (arith, first_decimal (suc n) (omega arith) (omega arith)))
 
--- a column tells its number
+-- a column determines its number
 cell_same : (m n : ℕ) → m < 1000 → n < 1000 → cell m ≡ cell n → m ≡ n
 cell_same m n low also e =
     decimal_injective m n (omega arith) (omega arith)
@@ -86,7 +86,7 @@ length-cell n low =
     let blanks : length (replicate (column_width - length (decimal n)) space) ≡ column_width - length (decimal n) = length-replicate (column_width - length (decimal n)) space in
     omega (arith, short, both, blanks)
 
--- so many columns tell each of their numbers, and what stands behind them
+-- n columns determine each of their numbers, and what stands behind them
 columns_same : (f g : ℕ → ℕ) (from n : ℕ) (tail end : List ℕ) → ((c : ℕ) → from ≤ c → c < from + n → (f c < 1000) × (g c < 1000)) →
     columns f from n ++ tail ≡ columns g from n ++ end → ((c : ℕ) → from ≤ c → c < from + n → f c ≡ g c) × (tail ≡ end)
 columns_same f g from zero tail end low e = (λ c is within. absurd (omega (arith, is, within)), e)

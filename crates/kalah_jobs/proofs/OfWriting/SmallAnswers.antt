@@ -1,4 +1,4 @@
--- The numbers of every answer that is told are ones that a game can have.
+-- The numbers of every answer are ones that a game can have.
 use Rattle.std.proofs.Common.{◌≡◌, ℕ, ◌≤◌, List, [], ◌∷◌, All, Result, Ok, Err, refl, sym, arith}
 use Rattle.std.specs.Prelude.{Bool, true, false, if◌then◌else◌, IfOk}
 use Rattle.std.proofs.lemmas.List.{append_cancel_right}

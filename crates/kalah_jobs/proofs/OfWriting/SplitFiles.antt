@@ -16,7 +16,7 @@ use Rattle.kalah_jobs.proofs.OfFiles.SplitLines.{lines_of-feed, lines_of-byte, l
 zero-add : (n : ℕ) → 0 + n ≡ n
 zero-add n = omega arith
 
--- so many lines and faults
+-- the counts, from their two numbers
 abbrev counts : ℕ → ℕ → LineCounts
 counts lines faults = record { lines = lines; faults = faults }
 
@@ -46,7 +46,7 @@ onto_first-append byte (line ∷ lines) more some = refl
 some_lines : (front : List ℕ) → 0 < length (lines_of (front ++ line_feed ∷ []))
 some_lines front = omega (arith, length-lines_of front line_feed)
 
--- a line feed alone is one line without bytes, and no bytes have no lines
+-- a line feed by itself is one line without bytes, and no bytes have no lines
 one_feed : lines_of (line_feed ∷ []) ≡ [] ∷ []
 unfolding lines_of
 one_feed = refl

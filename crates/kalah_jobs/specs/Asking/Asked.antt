@@ -12,7 +12,7 @@ use Rattle.kalah_jobs.specs.Writing.Answer.{answer_of, answer_words}
 use Rattle.kalah_jobs.specs.Writing.Output.{is_faulty, output_to, line_output}
 use Rattle.kalah_jobs.specs.Writing.Splitting.{EndsWithItsLine}
 
--- so many bytes of a line tell what it says: a line of which they are kept, with its CR or not, is too long
+-- the bytes of a line that are kept, enough to determine its entry: a line with that many, with its CR or not, is too long
 abbrev pub kept_bytes : ℕ
 kept_bytes = most_bytes + 2
 
@@ -59,7 +59,7 @@ pub record IsCutOff (question : Question) (before after old new : Option (List �
   pub taken : Consumes before after (lines ++ part)
   pub written : Appends old new (answers_to question lines)
 
--- Lines were read, and then no more than one. The answers to the lines were written, then a beginning of the answer to that one,
+-- Lines were read, and then no more than one. The answers to the lines were written, then a prefix of the answer to that one,
 -- and nothing else was.
 pub record IsBegun (question : Question) (before after old new : Option (List ℕ)) : Type 0 where
   pub lines : List ℕ

@@ -1,4 +1,4 @@
--- The jobs of a batch in any order, and what follows where each is offered once.
+-- The jobs of a batch in any order, and what follows if each is offered once.
 use Rattle.std.specs.Prelude.{◌≡◌, ℕ, List, ◌∷◌, ◌++◌, length, map, count_by, slice_index_or, Bool, Result, IsOk}
 use Rattle.kalah_jobs.specs.declared.files.entry.Entry.{Entry}
 use Rattle.kalah_jobs.specs.declared.files.entry.Entry.TheVariants.{Bad}
@@ -11,20 +11,20 @@ use Rattle.kalah_jobs.specs.Collecting.CollectorEvents.{Event, offers, Offers}
 use Rattle.kalah_jobs.specs.Collecting.CollectorLaw.{Runs}
 use Rattle.kalah_jobs.specs.Collecting.Shares.{AreShared}
 
--- job number n; the second part is what is said past the last job
+-- job number n; the second part is the value past the last job
 abbrev pub job : List (List Entry) → ℕ → Job
 job jobs n = slice_index_or (job_list jobs) n (line_job 0 0 (Bad Empty))
 
--- The list has each job once and nothing else, in some order: whatever is asked of an offer, as many pass as of the jobs.
+-- The list has each job once and nothing else, in some order: for each test, the number of offers that pass equals that of the jobs.
 pub record AreJobsInSomeOrder (jobs : List (List Entry)) (got : List Job) : Type 0 where
   pub same_counts : (p : Job → Bool) → count_by p got ≡ count_by p (job_list jobs)
 
--- Where each job was drawn once and sent by the worker that drew it, and as many were got as there are jobs, each job was got once.
+-- If each job was drawn once and sent by the worker that drew it, and all jobs were received, each job was received once.
 abbrev pub SharesLaw : Type 0
 SharesLaw = (jobs : List (List Entry)) (rows : List (List ℕ)) (got rest : List (ℕ × Job))
     → AreShared (length (job_list jobs)) (job jobs) rows (got ++ rest) → length got ≡ length (job_list jobs) → AreJobsInSomeOrder jobs (map (λ t. t.1) got)
 
--- Where each job is offered once, in any order and with any takes between, each offer is accepted.
+-- If each job is offered once, in any order and with any takes between, each offer is accepted.
 abbrev pub OffersLaw : Type 0
 OffersLaw = (jobs : List (List Entry)) (past : List Event) (o : Job) (rest : List Job) (files after : List FileState) (gave : Result ℕ Refusal)
     → AreJobsInSomeOrder jobs (offers past ++ o ∷ rest) → Runs jobs (new_files jobs) past files → Offers jobs files o gave after → IsOk gave

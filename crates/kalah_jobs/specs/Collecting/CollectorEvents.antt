@@ -1,4 +1,4 @@
--- What offers and takes do, and what a list of them says without the collector.
+-- What offers and takes do, and what a list of them determines without the collector.
 use Rattle.std.specs.Prelude.{◌≡◌, ℕ, ◌+◌, ◌<◌, ◌≤◌, ◌==◌, if◌then◌else◌, List, [], ◌∷◌, length, map, Option, Some, None, Result, MatchOption, MatchResult, IsSomeAnd, Contains}
 use Rattle.std.specs.List.{enumerate_from}
 use Rattle.kalah_jobs.specs.declared.files.entry.Entry.{Entry}
@@ -10,7 +10,7 @@ use Rattle.kalah_jobs.specs.Files.JobList.{entries_of, entry_at, line_job}
 use Rattle.kalah_jobs.specs.Collecting.CollectorState.{FileState, state_of, front, IsNext, HasNoNext, after_offer, after_take}
 use Rattle.kalah_jobs.specs.Collecting.Refusals.{IsWanted, IsRefusedFor}
 
--- an offer is accepted: the answer of its entry is kept, and so many lines of its file became ready
+-- an offer is accepted: the answer of its entry is kept, and `ready` lines of its file became ready
 pub record Accepts (jobs : List (List Entry)) (files : List FileState) (o : Job) (ready : ℕ) (after : List FileState) : Type 0 where
   pub wanted : IsWanted jobs files o
   pub kept : after ≡ after_offer files o.file o.line (answer_of o.entry)
@@ -21,26 +21,26 @@ pub record Refuses (jobs : List (List Entry)) (files : List FileState) (o : Job)
   pub cause : IsRefusedFor jobs files o refusal
   pub unchanged : after ≡ files
 
--- what an offer gives, and what it makes of the files
+-- the result of an offer, and the files after it
 abbrev pub Offers : List (List Entry) → List FileState → Job → Result ℕ Refusal → List FileState → Type 0
 Offers jobs files o gave after = MatchResult gave (λ ready. Accepts jobs files o ready after) (λ refusal. Refuses jobs files o refusal after)
 
--- a take gives the next line of the file
+-- a take returns the next line of the file
 pub record Gives (files : List FileState) (f : ℕ) (gave : Taken) (after : List FileState) : Type 0 where
   pub file_there : f < length files
   pub next_line : IsNext (state_of files f) gave
   pub kept : after ≡ after_take files f
 
--- a take gives nothing, and nothing is changed
+-- a take returns nothing, and nothing is changed
 pub record GivesNothing (files : List FileState) (f : ℕ) (after : List FileState) : Type 0 where
   pub none_ready : HasNoNext (state_of files f)
   pub unchanged : after ≡ files
 
--- what a take of file f gives, and what it makes of the files
+-- the result of a take of file f, and the files after it
 abbrev pub Takes : List FileState → ℕ → Option Taken → List FileState → Type 0
 Takes files f gave after = MatchOption gave (GivesNothing files f after) (λ taken. Gives files f taken after)
 
--- an offer with the answer to it, or a take of a file with what it gave
+-- an offer with the answer to it, or a take of a file with its result
 pub data Event : Type 0 where
   Offered : Job → Result ℕ Refusal → Event
   Took : ℕ → Option Taken → Event
@@ -51,12 +51,12 @@ offers [] = []
 offers (Offered o gave ∷ events) = o ∷ offers events
 offers (Took f gave ∷ events) = offers events
 
--- what a take of file g gave, put before `rest` where it is file f that is asked for
+-- the result of a take of file g, put before `rest` if the file is f
 abbrev pub with_taken : ℕ → ℕ → Option Taken → List Taken → List Taken
 with_taken f g None rest = rest
 with_taken f g (Some t) rest = if g == f then t ∷ rest else rest
 
--- what the takes of file f gave, in order
+-- the results of the takes of file f, in order
 abbrev pub takes : ℕ → List Event → List Taken
 takes f [] = []
 takes f (Offered o gave ∷ events) = takes f events

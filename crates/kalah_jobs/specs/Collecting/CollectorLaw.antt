@@ -1,11 +1,11 @@
--- The law of a collector: after any list of offers and takes it has what the list says, and nothing else.
+-- The law of a collector: after any list of offers and takes its state is the one that the list determines.
 use Rattle.std.specs.Prelude.{◌≡◌, ℕ, ◌≤◌, ◌↔◌, List, [], ◌∷◌, take, IsSome}
 use Rattle.kalah_jobs.specs.declared.files.entry.Entry.{Entry}
 use Rattle.kalah_jobs.specs.Files.JobList.{entries_of}
 use Rattle.kalah_jobs.specs.Collecting.CollectorState.{FileState, state_of, new_files, front, came_for, HasLinesOf}
 use Rattle.kalah_jobs.specs.Collecting.CollectorEvents.{Event, Offered, Took, Offers, Takes, takes, Came, IsFront, answered_lines}
 
--- what an event makes of the files
+-- the files after an event
 abbrev pub Happens : List (List Entry) → List FileState → Event → List FileState → Type 0
 Happens jobs files (Offered o gave) after = Offers jobs files o gave after
 Happens jobs files (Took f gave) after = Takes files f gave after
@@ -15,7 +15,7 @@ abbrev pub Runs : List (List Entry) → List FileState → List Event → List F
 Runs jobs files [] after = files ≡ after
 Runs jobs files (e ∷ events) after = (between : List FileState) × Happens jobs files e between × Runs jobs between events after
 
--- The files are what the events say: they have the jobs' lines, those came that were offered with their entry, each file is ready
+-- The files are as the events determine: they have the jobs' lines, those came that were offered with their entry, each file is ready
 -- as far as they came without a gap, and what was taken are its first lines, each with the answer of its entry.
 pub record Meets (jobs : List (List Entry)) (events : List Event) (files : List FileState) : Type 0 where
   pub counts : HasLinesOf jobs files

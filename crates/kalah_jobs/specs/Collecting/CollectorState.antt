@@ -9,7 +9,7 @@ pub record FileState : Type 0 where
   pub arrived : List (Option Answer)
   pub taken : ℕ
 
--- how many lines the file has
+-- the number of lines of the file
 abbrev pub line_count : FileState → ℕ
 line_count s = length s.arrived
 
@@ -17,13 +17,13 @@ line_count s = length s.arrived
 abbrev pub came_for : FileState → ℕ → Option Answer
 came_for s k = slice_index_or s.arrived k None
 
--- how many lines come before the first that is missing
+-- the number of lines before the first that is missing
 abbrev pub front_of : List (Option Answer) → ℕ
 front_of [] = 0
 front_of (None ∷ rest) = 0
 front_of (Some answer ∷ rest) = front_of rest + 1
 
--- how many lines are ready or taken
+-- the number of lines that are ready or taken
 abbrev pub front : FileState → ℕ
 front s = front_of s.arrived
 
@@ -31,11 +31,11 @@ front s = front_of s.arrived
 abbrev pub HasEnded : FileState → Type 0
 HasEnded s = front s ≡ line_count s
 
--- a file of so many lines, of which none has come
+-- a file of n lines with no answer yet
 abbrev pub new_file : ℕ → FileState
 new_file n = record { arrived = replicate n None; taken = 0 }
 
--- what is said of a file that is not there
+-- the state of a file that is not there
 abbrev pub no_file : FileState
 no_file = record { arrived = []; taken = 0 }
 

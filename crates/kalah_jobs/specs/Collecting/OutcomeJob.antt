@@ -6,7 +6,7 @@ use Rattle.kalah_jobs.specs.Writing.Answer.{answer_of}
 use Rattle.kalah_jobs.specs.declared.files.job.Job.{Job}
 use Rattle.kalah_jobs.specs.declared.collecting.outcome.Outcome.TheInside.{Inside}
 
--- what stands in an outcome, seen from outside
+-- the content of an outcome, seen from outside
 abbrev pub job_of : Inside → Job
 job_of o = record { file = o.file; line = o.line; entry = o.entry }
 
@@ -14,6 +14,6 @@ job_of o = record { file = o.file; line = o.line; entry = o.entry }
 abbrev pub outcome_of : Job → Inside
 outcome_of o = record { file = o.file; line = o.line; entry = o.entry; answer = answer_of o.entry }
 
--- the answer of an outcome is determined by its entry, so its offer gives it back
+-- the answer of an outcome is determined by its entry, so its offer determines the outcome
 pub outcome_again : (o : Inside) → o.answer ≡ answer_of o.entry → outcome_of (job_of o) ≡ o
 outcome_again o h = sym (ap (λ (a : Answer). let same : Inside = record { file = o.file; line = o.line; entry = o.entry; answer = a } in same) h)

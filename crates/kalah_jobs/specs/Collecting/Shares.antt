@@ -1,16 +1,16 @@
--- Jobs that are shared out among workers, and what is got of them.
+-- Jobs that are shared out among workers, and the results received.
 use Rattle.std.specs.Prelude.{◌≡◌, ℕ, ◌<◌, ◌==◌, nat_lt, if◌then◌else◌, List, [], ◌∷◌, length, map, sum_by, count_by, All, slice_index_or}
 
 -- how often x stands in the rows
 abbrev pub times_in : ℕ → List (List ℕ) → ℕ
 times_in x rows = sum_by (λ r. count_by (λ y. y == x) r) rows
 
--- what worker w sent, of all that was got: pairs of a worker and what it sent
+-- what worker w sent, of all that was received: pairs of a worker and what it sent
 abbrev pub of : {X : Type 0} → ℕ → List (ℕ × X) → List X
 of w [] = []
 of w (t ∷ ts) = if t.0 == w then t.1 ∷ of w ts else of w ts
 
--- Each number below n stands in the rows once and no other does; what was got is, of each worker, what f gives for its row, in order.
+-- Each number below n stands in the rows once and no other does; what was received is, of each worker, f of its row, in order.
 pub record AreShared {X : Type 0} (n : ℕ) (f : ℕ → X) (rows : List (List ℕ)) (got : List (ℕ × X)) : Type 0 where
   pub each_once : (x : ℕ) → times_in x rows ≡ (if nat_lt x n then 1 else 0)
   pub workers : All (λ t. t.0 < length rows) got

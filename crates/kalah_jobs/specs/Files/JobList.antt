@@ -3,11 +3,11 @@ use Rattle.std.specs.Prelude.{ℕ, suc, List, [], ◌∷◌, ◌++◌, Option, s
 use Rattle.kalah_jobs.specs.declared.files.entry.Entry.{Entry}
 use Rattle.kalah_jobs.specs.declared.files.job.Job.{Job}
 
--- the entries of file f; none where there is no such file
+-- the entries of file f; none if there is no such file
 abbrev pub entries_of : List (List Entry) → ℕ → List Entry
 entries_of jobs f = slice_index_or jobs f []
 
--- the entry of line k of file f, where there is such a line
+-- the entry of line k of file f, if there is such a line
 abbrev pub entry_at : List (List Entry) → ℕ → ℕ → Option Entry
 entry_at jobs f k = slice_get (entries_of jobs f) k
 

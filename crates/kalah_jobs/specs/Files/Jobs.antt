@@ -8,39 +8,39 @@ use Rattle.kalah_jobs.specs.declared.files.jobs.TheConstants.{MOST_FILES, MOST_L
 use Rattle.kalah_jobs.specs.declared.files.question.Question.{Question}
 use Rattle.kalah_jobs.specs.declared.files.question.Question.TheVariants.{BestMove}
 
--- files of a batch
+-- the most files of a batch
 abbrev pub most_files : ℕ
 most_files = MOST_FILES
 
--- lines of a batch, over all files
+-- the most lines of a batch, over all files
 abbrev pub most_lines : ℕ
 most_lines = MOST_LINES
 
--- how many lines a file has
+-- the number of lines of a file
 abbrev pub lines_in : NamedBytes → ℕ
 lines_in file = length (lines_of file.bytes)
 
--- how many lines all files have together
+-- the number of lines of all files together
 abbrev pub lines_in_all : List NamedBytes → ℕ
 lines_in_all files = sum_by lines_in files
 
--- what the lines of some bytes say, in order, with this asked of their positions
+-- the entries of the lines of some bytes, in order, with this asked of their positions
 unfoldable pub entries_to : Question → List ℕ → List Entry
 entries_to question bytes = map (entry_to question) (lines_of bytes)
 
--- what the lines of each file say, in order, with this asked of their positions
+-- the entries of the lines of each file, in order, with this asked of their positions
 abbrev pub jobs_to : Question → List NamedBytes → List (List Entry)
 jobs_to question files = map (λ file. entries_to question file.bytes) files
 
--- the same, where the best move is asked
+-- the same, if the best move is asked
 abbrev pub jobs_of : List NamedBytes → List (List Entry)
 jobs_of files = jobs_to BestMove files
 
--- how many jobs there are
+-- the number of jobs
 abbrev pub job_count : List (List Entry) → ℕ
 job_count jobs = sum_by length jobs
 
--- the jobs are within the limits, and for each file `starts` has how many jobs the files before it have
+-- the jobs are within the limits, and `starts` has for each file the number of jobs of the files before it
 pub record AreCounted (jobs : List (List Entry)) (starts : List ℕ) (total : ℕ) : Type 0 where
   pub few_files : length jobs ≤ most_files
   pub few_lines : job_count jobs ≤ most_lines

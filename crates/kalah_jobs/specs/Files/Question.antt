@@ -6,7 +6,7 @@ use Rattle.kalah_jobs.specs.declared.files.entry.Entry.TheVariants.{Position, Va
 use Rattle.kalah_jobs.specs.declared.files.question.Question.{Question}
 use Rattle.kalah_jobs.specs.declared.files.question.Question.TheVariants.{BestMove, Values}
 
--- what a line says, with this asked of its position
+-- the entry of a line, with this asked of its position
 abbrev pub entry_asked : Question → Entry → Entry
 entry_asked BestMove entry = entry
 entry_asked Values (Position p) = ValuesOf p

@@ -42,7 +42,7 @@ without_cr [] = []
 without_cr (byte ∷ []) = if byte == carriage_return then [] else byte ∷ []
 without_cr (byte ∷ more ∷ rest) = byte ∷ without_cr (more ∷ rest)
 
--- the text writes the number: `0`, or one or two digits of which the first is not `0`
+-- the text writes the number: `0`, or one or two digits that do not start with `0`
 abbrev pub IsNumber : List ℕ → ℕ → Type 0
 IsNumber [] n = ⊥
 IsNumber (ones ∷ []) n = IsAsciiDigit ones × (n ≡ ones - zero_digit)
@@ -92,7 +92,7 @@ pub record Reads (line : List ℕ) (p : Position) : Type 0 where
   pub sides : HasSidesInLimits p
   pub few_seeds : seeds_in_houses p ≤ most_seeds
 
--- where each fault holds, of a line without its CR
+-- each fault, of a line without its CR
 abbrev pub Holds : LineFault → List ℕ → Type 0
 Holds Long text = most_bytes < length text
 Holds Empty text = text ≡ []

@@ -17,7 +17,7 @@ EveryLineIsItsText = (line : List ℕ) (p : Position) → Reads line p → witho
 abbrev pub EveryTextIsReadBack : Type 0
 EveryTextIsReadBack = (p : Position) → IsWithinLimits p → p.own_store ≤ most_in_store → p.other_store ≤ most_in_store → Reads (line_text_of p) p
 
--- the line is read as the position by a program that knows no ending and takes at most so many seeds
+-- the line is read as the position by a program that knows no ending and accepts at most `seeds` seeds
 pub record ReadsPlainly (seeds : ℕ) (line : List ℕ) (p : Position) : Type 0 where
   pub few_bytes : length (without_cr line) ≤ most_bytes
   pub own_text : List ℕ

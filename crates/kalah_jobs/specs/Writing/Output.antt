@@ -18,7 +18,7 @@ use Rattle.kalah_jobs.specs.declared.files.question.Question.TheVariants.{BestMo
 abbrev pub answered : List ℕ → ℕ → Entry → List ℕ
 answered name number entry = answer_line name (record { line = number; answer = answer_of entry }) ++ line_feed ∷ []
 
--- the same for a line of a file, given with its number, where this is asked of its position
+-- the same for a line of a file, given with its number, if this is asked of its position
 abbrev pub line_output : Question → List ℕ → ℕ × List ℕ → List ℕ
 line_output question name p = answered name p.0 (entry_to question p.1)
 
@@ -30,11 +30,11 @@ file_output question file = flat_map (line_output question file.name) (enumerate
 unfoldable pub output_to : Question → List NamedBytes → List ℕ
 output_to question files = flat_map (file_output question) files
 
--- where the best move is asked of each position
+-- if the best move is asked of each position
 abbrev pub output_of : List NamedBytes → List ℕ
 output_of files = output_to BestMove files
 
--- where the values of its moves are asked
+-- if the values of its moves are asked
 abbrev pub values_output_of : List NamedBytes → List ℕ
 values_output_of files = output_to Values files
 
@@ -42,7 +42,7 @@ values_output_of files = output_to Values files
 abbrev pub is_faulty : List ℕ → Bool
 is_faulty line = is_fault (answer_of (entry_of line))
 
--- how many lines were answered, and how many of them by a fault
+-- the number of lines answered, and the number of faults among them
 pub record LineCounts : Type 0 where
   pub lines : ℕ
   pub faults : ℕ
@@ -53,9 +53,9 @@ tally_of files = record {
   faults = sum_by (λ file. count_by is_faulty (lines_of file.bytes)) files;
 }
 
--- ---- the same, told by jobs
+-- ---- the same, stated by jobs
 
--- the text of a line, given with its number and entry, where `text` gives the text of what is taken of a file
+-- the text of a line, given with its number and entry, if `text` gives the text of what is taken of a file
 abbrev pub text_of_line : (ℕ → Taken → List ℕ) → ℕ → ℕ × Entry → List ℕ
 text_of_line text f p = text f (record { line = p.0; answer = answer_of p.1 })
 
@@ -71,7 +71,7 @@ text_of_jobs text jobs = flat_map (text_of_file text) (enumerate_from 0 jobs)
 abbrev pub answer_text_of : List (List ℕ) → ℕ → Taken → List ℕ
 answer_text_of names f taken = answer_line (slice_index_or names f []) taken ++ line_feed ∷ []
 
--- for each job in order its answer line, where the files have these names
+-- for each job in order its answer line, if the files have these names
 abbrev pub output_of_jobs : List (List ℕ) → List (List Entry) → List ℕ
 output_of_jobs names jobs = text_of_jobs (answer_text_of names) jobs
 
@@ -83,7 +83,7 @@ names_of files = map (λ file. file.name) files
 abbrev pub is_faulty_job : Job → Bool
 is_faulty_job o = is_fault (answer_of o.entry)
 
--- what is told of files and what is told of their jobs is the same, whatever is asked of their positions
+-- what is stated of files and what is stated of their jobs is the same, for each question
 pub record FilesAreTheirJobs : Type 0 where
   pub output : (question : Question) (files : List NamedBytes) → output_to question files ≡ output_of_jobs (names_of files) (jobs_to question files)
   pub lines : (question : Question) (files : List NamedBytes) → (tally_of files).lines ≡ length (job_list (jobs_to question files))

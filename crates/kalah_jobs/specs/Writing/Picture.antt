@@ -16,11 +16,11 @@ column_width = 4
 abbrev pub cell : ℕ → List ℕ
 cell n = replicate (column_width - length (decimal n)) space ++ decimal n
 
--- so many columns with nothing in them
+-- n columns with nothing in them
 abbrev pub empty_columns : ℕ → List ℕ
 empty_columns n = replicate (column_width * n) space
 
--- the house that a player has in a column: the mover's houses rise from left to right, and the other player's fall
+-- the house that a player has in a column: the mover's houses ascend from left to right, and the other player's descend
 abbrev pub house_in : Player → Position → ℕ → ℕ
 house_in Mover p column = column
 house_in Other p column = opposite p column
@@ -43,7 +43,7 @@ picture_of p = houses_line Other p ++ (line_feed ∷ stores_line p ++ (line_feed
 
 -- ---- laws
 
--- two positions of one rule that are drawn alike are the same
+-- two positions of one rule with the same picture are the same
 abbrev pub PicturesTellPositions : Type 0
 PicturesTellPositions = (p q : Position) → IsWithinLimits p → IsWithinLimits q → p.rule ≡ q.rule → picture_of p ≡ picture_of q → p ≡ q
 

@@ -18,8 +18,8 @@ use Rattle.kalah_jobs.specs.Files.Question.{entry_to}
 abbrev pub counted_together : LineCounts → LineCounts → LineCounts
 counted_together one other = record { lines = one.lines + other.lines; faults = one.faults + other.faults }
 
--- what is written for files is what is written for the first of them, and then what is written for the others; and so many lines
--- and faults are counted as for both
+-- the output for files is the output for the first of them, followed by the output for the others; the counts of lines
+-- and faults are the sums of both
 pub record OutputSplitsByFiles : Type 0 where
   pub asked : (question : Question) (first others : List NamedBytes) →
       output_to question (first ++ others) ≡ output_to question first ++ output_to question others
@@ -30,16 +30,16 @@ pub record OutputSplitsByFiles : Type 0 where
 abbrev pub EndsWithItsLine : List ℕ → Type 0
 EndsWithItsLine bytes = (bytes ≡ []) ⊎ ((front : List ℕ) × (bytes ≡ front ++ line_feed ∷ []))
 
--- what is written for the lines of some bytes of a file, of which the first has this number
+-- what is written for the lines of some bytes of a file, if the first line has this number
 abbrev pub output_from : ℕ → Question → List ℕ → List ℕ → List ℕ
 output_from number question name bytes = flat_map (line_output question name) (enumerate_from number (lines_of bytes))
 
--- what is counted of a file with these bytes, whatever its name is
+-- what is counted of a file with these bytes, for any name
 abbrev pub tally_in : List ℕ → LineCounts
 tally_in bytes = tally_of (record { name = []; bytes = bytes } ∷ [])
 
 -- the lines of two parts of a file are those of the first and then those of the second, and so are their answers: the lines of
--- the second have the numbers that come after those of the first; and so many lines and faults are counted as in both
+-- the second have the numbers that come after those of the first; and lines and faults are counted as in both
 pub record IsSplit (first second : List ℕ) : Type 0 where
   pub lines : lines_of (first ++ second) ≡ lines_of first ++ lines_of second
   pub output : (number : ℕ) (question : Question) (name : List ℕ) →
@@ -47,7 +47,7 @@ pub record IsSplit (first second : List ℕ) : Type 0 where
       ≡ output_from number question name first ++ output_from (number + length (lines_of first)) question name second
   pub counts : tally_in (first ++ second) ≡ counted_together (tally_in first) (tally_in second)
 
--- a file has its lines from number 0 on, is counted by its bytes alone, and can be cut wherever a line ends
+-- a file has its lines from number 0 on, is counted by its bytes alone, and can be cut between any two lines
 pub record FilesSplitBetweenLines : Type 0 where
   pub whole : (question : Question) (file : NamedBytes) →
       output_to question (file ∷ []) ≡ output_from 0 question file.name file.bytes
@@ -61,7 +61,7 @@ HasSmallNumbers (Over margin) = IsSmallMargin margin
 HasSmallNumbers (Values values) = All (λ v. IsSmallMargin v.value × (v.house ≤ most_houses)) values
 HasSmallNumbers (Fault fault) = Unit {0}
 
--- and those of every answer that is told are: of a line of any bytes, whatever is asked, and of any board
+-- and those of every answer are: for a line of any bytes, to any question, and for any board
 pub record AnswersHaveSmallNumbers : Type 0 where
   pub lines : (question : Question) (line : List ℕ) → HasSmallNumbers (answer_of (entry_to question line))
   pub best_moves : (p : position.Position) → IsWithinLimits p → HasSmallNumbers (answer_of (Position p))

@@ -7,7 +7,7 @@ module _ {W : Type 0} where
   abbrev pub stream_writer : Stream W → W
   stream_writer s = s.writer
 
-  -- whether a call of the writer has answered an error
+  -- whether a call of the writer has returned an error
   abbrev pub stream_failed : Stream W → Bool
   stream_failed s = s.has_failed
 

@@ -1,4 +1,4 @@
-//! Lines answered as they come.
+//! Lines of a reader, answered as they come.
 ghost use Rattle.std.specs.Prelude.{◌≡◌, ◌↔◌, true, false, IfOk, IsErrOf};
 ghost use Rattle.std.specs.Io.Buffered.{reader_remaining};
 ghost use Rattle.kalah_jobs.specs.Asking.Asked.{IsAnswered, IsBegun, IsCutOff};
@@ -12,17 +12,19 @@ use crate::writing::sink::Sink;
 use kalah_solve::Solver;
 use std::io::{BufReader, Read};
 
-/// What ends a line.
+/// The byte that ends a line.
 const LINE_FEED: u8 = b'\n';
 
-/// Answers what is asked of each line of the reader, up to its end, and tells whether each line was read as a position. A line ends
-/// as in a file of positions: with a line feed, or at the end where it isn't empty. Each answer is written as a batch writes it,
-/// without the file's name and the line's number, with a line feed behind it. Lines may be any number and as long as they like: no
-/// memory is taken but what the solver asks for, which keeps what it learns for the lines to come.
+/// Answers what is asked of each line of the reader, up to its end, and returns whether each line was read as a position. A line ends
+/// as in a file of positions: with a line feed, or at the end if it isn't empty. Each answer is written as a batch writes it,
+/// without the file's name and the line's number, followed by a line feed. The number and the length of the lines are unlimited:
+/// only the solver takes memory, and it keeps what it learns for later lines.
 ///
-/// The reader is read only where all lines that it gave were answered, and then nothing is held back. Before a position with many
-/// seeds is looked at, earlier answers are handed on. An interrupted read is made again. Where a read fails, all lines before are
-/// answered; where a write fails, nothing is read any more.
+/// Before each read of the reader, all lines that it gave have been answered and the answers flushed. Answers are also flushed
+/// before a position with many seeds is solved. An interrupted read is repeated.
+///
+/// Fails with `Read` if a read fails; then all earlier lines were answered. Fails with `Write` if a write fails; then nothing
+/// more is read.
 pub fn answer_lines<I: Read + Drop, O: Sink>(
     input: &mut BufReader<I>,
     question: Question,
@@ -31,17 +33,17 @@ pub fn answer_lines<I: Read + Drop, O: Sink>(
 ) -> Result<bool, AskFault>
     requires { O.has_failed out.old ≡ false }
 
-    // Where nothing fails: all was read, and the answers to all its lines were written, and nothing else was.
+    // If nothing fails: all was read, and the answers to all its lines were written, and nothing else was.
     ensures answered { IfOk result (λ all_read. IsAnswered question (reader_remaining I.remaining input.old)
         (reader_remaining I.remaining input.new) (O.written out.old) (O.written out.new) all_read) }
-    // Where a read fails: all lines that had come were answered.
+    // If a read fails: all lines that had come were answered.
     ensures cut_off { IsErrOf result AskFault.Read → IsCutOff question (reader_remaining I.remaining input.old)
         (reader_remaining I.remaining input.new) (O.written out.old) (O.written out.new) }
-    // Whatever comes of it: a beginning of the answers was written, and at most one line was read that is not answered.
+    // In any case: a prefix of the answers was written, and at most one line was read that is not answered.
     ensures begins { IsBegun question (reader_remaining I.remaining input.old) (reader_remaining I.remaining input.new)
         (O.written out.old) (O.written out.new) }
     ensures failed { O.has_failed out.new ≡ true ↔ IsErrOf result AskFault.Write }
-    // Where no write failed, nothing that was written is held back.
+    // If no write failed, all that was written is flushed.
     ensures handed_on { O.has_failed out.new ≡ false → O.is_handed_on out.new ≡ true }
 {
     let mut line = LineHead::new();

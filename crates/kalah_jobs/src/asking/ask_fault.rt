@@ -1,7 +1,7 @@
-//! What ends the answers to lines before the last of them.
+//! Errors that end the answers to lines before the last line.
 use thiserror::Error;
 
-/// What ends the answers to lines before the last of them.
+/// An error that ends the answers to lines before the last line.
 #[derive(Clone, Copy, Debug, PartialEq, Eq, Error)]
 pub enum AskFault {
     /// A read failed.

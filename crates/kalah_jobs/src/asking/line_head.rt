@@ -5,10 +5,10 @@ ghost use Rattle.kalah_jobs.specs.Asking.Asked.{kept_bytes};
 use crate::line::reading::MOST_BYTES;
 use std::marker::Model;
 
-/// How many bytes of a line are kept: with its CR, one more than a line has that is not too long.
+/// The number of bytes of a line that are kept: one more than the longest allowed line has with its CR.
 const ROOM: usize = MOST_BYTES + 2;
 
-/// The first bytes of a line: enough of them to tell what it says, however long it is. It is seen as these bytes.
+/// The first bytes of a line: enough to determine its entry, however long it is. Contracts see it as these bytes.
 #[derive(Drop)]
 pub(crate) struct LineHead {
     bytes: [u8; ROOM],
@@ -26,7 +26,7 @@ impl Model for LineHead {
 }
 
 impl LineHead {
-    // A line without a byte.
+    // Makes an empty head.
     pub(crate) fn new() -> LineHead
         ensures { result ≡ [] }
     {
@@ -36,7 +36,7 @@ impl LineHead {
         }
     }
 
-    // One byte more of the line, which is kept where there is room.
+    // Appends one byte of the line, which is kept if there is room.
     pub(crate) fn push(&mut self, byte: u8)
         ensures { self.new ≡ take kept_bytes (self.old ++ byte ∷ []) }
     {
@@ -46,7 +46,7 @@ impl LineHead {
         }
     }
 
-    // The bytes.
+    // Returns the bytes.
     pub(crate) fn bytes(&self) -> &[u8]
         ensures { result.now ≡ self.now }
     {

@@ -1,4 +1,4 @@
-//! The bytes of a reader one by one, with nothing held back where it is read.
+//! The bytes of a reader one by one; all output is flushed before a read.
 ghost use Rattle.std.specs.Prelude.{◌≡◌, ◌↔◌, [], true, false, None, IfErr, IfOk, IsErrOf, OnErr, OnOk};
 ghost use Rattle.std.specs.Io.KnownBytes.{Consumes, IsAtEnd, Keeps};
 ghost use Rattle.std.specs.Io.Buffered.{reader_buffer, reader_remaining};
@@ -8,7 +8,7 @@ use crate::asking::ask_fault::AskFault;
 use crate::writing::sink::Sink;
 use std::io::{BufRead, BufReader, ErrorKind, Read};
 
-// Hands on what the sink holds back.
+// Flushes the sink.
 pub(crate) fn hand_on<O: Sink>(out: &mut O) -> Result<(), AskFault>
     requires { O.has_failed out.old ≡ false }
     ensures failed { O.has_failed out.new ≡ true ↔ IsErrOf result AskFault.Write }
@@ -22,9 +22,9 @@ pub(crate) fn hand_on<O: Sink>(out: &mut O) -> Result<(), AskFault>
     }
 }
 
-// Reads, where no byte is left that was read ahead. An interrupted read is made again.
+// Reads, if no byte is left that was read ahead. An interrupted read is repeated.
 fn read_ahead<I: Read + Drop, O: Sink>(input: &mut BufReader<I>, out: &O) -> Result<(), AskFault>
-    // Nothing that was written is held back.
+    // All that was written is flushed.
     requires handed_on { O.is_handed_on out.now ≡ true }
     ensures keeps { Keeps (reader_remaining I.remaining input.old) (reader_remaining I.remaining input.new) }
     ensures end { OnOk result (reader_buffer input.new ≡ []
@@ -42,7 +42,7 @@ fn read_ahead<I: Read + Drop, O: Sink>(input: &mut BufReader<I>, out: &O) -> Res
     Err(AskFault::Read)
 }
 
-// The next byte, or none at the end. Where a read fails, nothing was held back.
+// Returns the next byte, or `None` at the end. If a read fails, all output was flushed.
 pub(crate) fn next_byte<I: Read + Drop, O: Sink>(
     input: &mut BufReader<I>,
     out: &mut O,

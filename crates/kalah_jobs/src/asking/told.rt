@@ -17,10 +17,10 @@ use crate::writing::ending::words_of;
 use crate::writing::sink::Sink;
 use kalah_solve::Solver;
 
-// The most seeds in houses of a position that is answered before earlier answers are handed on.
+// The most seeds in houses of a position that is solved before earlier answers are flushed.
 const FEW_SEEDS: u8 = 9;
 
-// Whether the answer may take a while.
+// Returns whether the answer may take a while.
 fn takes_long(entry: &Entry) -> bool {
     match entry {
         Entry::Position(board) | Entry::ValuesOf(board) => board.houses().seeds() > FEW_SEEDS,
@@ -28,14 +28,14 @@ fn takes_long(entry: &Entry) -> bool {
     }
 }
 
-// Whether the answer is to a line that was read.
+// Returns whether the answer is to a line that was read.
 fn is_read(answer: &Answer) -> bool
     ensures { result ≡ not (is_fault answer.now) }
 {
     !matches!(answer, Answer::Fault(_))
 }
 
-// Writes the answer to a line, and a line feed, and tells whether the line was read.
+// Writes the answer to a line, and a line feed, and returns whether the line was read.
 #[tactic(auto, using(crate::proofs::OfWriting::JobOutput::asked_fault))]
 pub(crate) fn tell<O: Sink>(
     line: &LineHead,
@@ -61,7 +61,7 @@ pub(crate) fn tell<O: Sink>(
     }
 }
 
-// Writes the answer to what stands behind the last line feed, if anything does, and hands all on. It tells whether the line was
+// Writes the answer to what stands behind the last line feed, if anything does, and flushes. Returns whether the line was
 // read, if there is one.
 pub(crate) fn tell_last<O: Sink>(
     line: &LineHead,

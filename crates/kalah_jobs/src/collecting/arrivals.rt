@@ -1,4 +1,4 @@
-//! What has come for one file.
+//! The answers that have come for one file.
 ghost use Rattle.std.specs.Prelude.{◌≡◌, ◌+◌, ◌<◌, ◌≤◌, ◌↔◌, ◌==◌, IfOk, IsTrue, IsSome, MatchOption, MatchBool, None, length};
 ghost use Rattle.kalah_jobs.specs.Collecting.CollectorState.{new_file, line_count, front, front_of, came_for, with_answer, HasEnded, with_one_taken, IsNext, HasNoNext};
 ghost use Rattle.kalah_jobs.specs.Files.Jobs.{most_lines};
@@ -7,7 +7,7 @@ use crate::writing::answer::{Answer, Taken};
 use std::alloc::{AllocError, Global};
 use std::marker::Model;
 
-/// The answers that came for the lines of a file.
+/// The answers that have come for the lines of a file.
 #[derive(Drop)]
 pub(crate) struct Arrivals {
     slots: Vec<Option<Answer>>,
@@ -27,7 +27,7 @@ impl Model for Arrivals {
     ghost invariant = { λ a. (a.ready ≡ front_of a.slots.items) × (a.taken ≤ a.ready) × (length a.slots.items ≤ most_lines) };
 }
 
-// The first slot with nothing in it, where those below `from` are full.
+// Returns the first empty slot, if those below `from` are full.
 #[tactic(auto, using(crate::proofs::OfCollecting::Fronts::front_within, crate::proofs::OfCollecting::Fronts::front_more, crate::proofs::OfCollecting::Fronts::front_stops))]
 fn first_gap(slots: &[Option<Answer>], from: u32) -> u32
     requires full { from ≤ front_of slots.now }
@@ -42,7 +42,7 @@ fn first_gap(slots: &[Option<Answer>], from: u32) -> u32
 }
 
 impl Arrivals {
-    // A file of so many lines, of which none has come.
+    // Makes the state of a file of `lines` lines with no answer yet.
     #[tactic(auto, using(crate::proofs::OfCollecting::Fronts::front_none))]
     pub(crate) fn new(alloc: Global, lines: u32) -> Result<Arrivals, AllocError>
         requires { lines ≤ most_lines }
@@ -56,28 +56,28 @@ impl Arrivals {
         })
     }
 
-    // Whether every line is ready or taken.
+    // Returns whether every line is ready or taken.
     pub(crate) fn ended(&self) -> bool
         ensures { IsTrue result ↔ HasEnded self.now }
     {
         self.ready as usize == self.slots.len()
     }
 
-    // Whether every line was taken.
+    // Returns whether every line was taken.
     pub(crate) fn all_taken(&self) -> bool
         ensures { result ≡ (self.now.taken == line_count self.now) }
     {
         self.taken as usize == self.slots.len()
     }
 
-    // Whether there is a line of this number.
+    // Returns whether there is a line of this number.
     pub(crate) fn has_line(&self, line: u32) -> bool
         ensures { IsTrue result ↔ line < line_count self.now }
     {
         (line as usize) < self.slots.len()
     }
 
-    // Whether the answer of a line has come.
+    // Returns whether the answer of a line has come.
     pub(crate) fn has_come(&self, line: u32) -> bool
         requires { line < line_count self.now }
         ensures { MatchBool result (IsSome (came_for self.now line)) (came_for self.now line ≡ None) }
@@ -85,7 +85,7 @@ impl Arrivals {
         self.slots[line as usize].is_some()
     }
 
-    // Keeps the answer of a line, and says how many lines became ready.
+    // Stores the answer of a line, and returns how many lines became ready.
     #[tactic(auto, using(crate::proofs::OfCollecting::Fronts::front_set))]
     pub(crate) fn accept(&mut self, line: u32, answer: Answer) -> u32
         requires within { line < line_count self.old }
@@ -99,7 +99,7 @@ impl Arrivals {
         self.ready - before
     }
 
-    // The next line that is ready and was not taken.
+    // Returns the next line that is ready and was not taken.
     #[tactic(auto, using(crate::proofs::OfCollecting::Fronts::front_within, crate::proofs::OfCollecting::Fronts::front_came))]
     pub(crate) fn take(&mut self) -> Option<Taken>
         ensures { MatchOption result (HasNoNext self.old × (self.new ≡ self.old)) (λ taken. IsNext self.old taken × (self.new ≡ with_one_taken self.old)) }

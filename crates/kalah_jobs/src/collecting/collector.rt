@@ -1,4 +1,4 @@
-//! The collector: outcomes come in any order, and the answers of each file are given in the order of its lines.
+//! The collector: outcomes come in any order, and the answers of each file are returned in the order of its lines.
 ghost use Rattle.std.specs.Prelude.{◌≡◌, ◌<◌, ◌↔◌, IfOk, IsTrue, All, length, map};
 ghost use Rattle.kalah_jobs.specs.Collecting.CollectorState.{state_of, line_count, HasEnded, new_files, HasLinesOf};
 ghost use Rattle.kalah_jobs.specs.Collecting.CollectorEvents.{Offers, Takes};
@@ -15,7 +15,7 @@ use std::marker::Model;
 #[cfg(test)]
 mod tests;
 
-/// Takes outcomes in any order, and gives the answers of each file in the order of its lines.
+/// Accepts outcomes in any order, and returns the answers of each file in the order of its lines.
 #[derive(Drop)]
 pub struct Collector {
     files: Vec<Arrivals>,
@@ -31,7 +31,9 @@ impl Model for Collector {
 }
 
 impl Collector {
-    /// A collector for these jobs, to which nothing has come. It takes all its memory here.
+    /// Makes a collector for these jobs, to which nothing has come. It allocates all its memory here.
+    ///
+    /// Fails with `AllocError` only if memory was refused.
     pub fn new(alloc: Global, jobs: &Jobs) -> Result<Collector, AllocError>
         ensures empty { IfOk result (λ c. c ≡ new_files jobs.now) }
         ensures counts { IfOk result (λ c. HasLinesOf jobs.now c) }
@@ -43,9 +45,10 @@ impl Collector {
         Ok(Collector { files })
     }
 
-    /// Takes an outcome in, and says how many lines of its file became ready by it: a line is ready once it and all lines
-    /// before it have been accepted. A refusal changes nothing, and is the first that holds: `NoSuchFile`, `FileEnded`,
-    /// `NoSuchLine`, `WrongPosition`, `Double`. The jobs are those that the collector was made for.
+    /// Accepts an outcome, and returns how many lines of its file became ready by it: a line is ready once it and all lines
+    /// before it have been accepted. The jobs must be those that the collector was made for.
+    ///
+    /// A refusal changes nothing. It is the first that holds: `NoSuchFile`, `FileEnded`, `NoSuchLine`, `WrongPosition`, `Double`.
     pub fn offer(&mut self, jobs: &Jobs, outcome: Outcome) -> Result<u32, Refusal>
         requires { HasLinesOf jobs.now self.old }
         ensures offers { Offers jobs.now self.old outcome result self.new }
@@ -71,7 +74,7 @@ impl Collector {
         Ok(file.accept(outcome.line(), outcome.answer()))
     }
 
-    /// The first line of a file that is ready and was not taken, with its answer. None, with nothing changed, where there
+    /// Takes the first line of a file that is ready and was not taken, with its answer. Returns `None`, with nothing changed, if there
     /// is no such line or no such file.
     pub fn take(&mut self, f: u32) -> Option<Taken>
         ensures takes { Takes self.old f result self.new }
@@ -83,14 +86,14 @@ impl Collector {
         self.files[f as usize].take()
     }
 
-    /// Whether every line of a file is ready or taken; false where there is no such file.
+    /// Returns whether every line of a file is ready or taken; false if there is no such file.
     pub fn ended(&self, f: u32) -> bool
         ensures { IsTrue result ↔ ((f < length self.now) × HasEnded (state_of self.now f)) }
     {
         (f as usize) < self.files.len() && self.files[f as usize].ended()
     }
 
-    /// Whether every line of every file was taken.
+    /// Returns whether every line of every file was taken.
     pub fn all_taken(&self) -> bool
         ensures { IsTrue result ↔ All (λ s. s.taken ≡ line_count s) self.now }
     {

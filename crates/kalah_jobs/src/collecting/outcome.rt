@@ -1,4 +1,4 @@
-//! What a worker found for a line of a file.
+//! The answer that a worker found for a line of a file.
 ghost use Rattle.std.specs.Prelude.{◌≡◌};
 ghost use Rattle.kalah_jobs.specs.Writing.Answer.{answer_of};
 
@@ -7,8 +7,8 @@ use crate::writing::answer::Answer;
 use kalah_solve::{Solver, Verdict};
 use std::marker::Model;
 
-/// The answer to one line, with the file, the line and what the line says. Its answer is always the one that belongs to
-/// its entry; file and line may be any numbers, and a collector refuses an outcome that is none of its jobs.
+/// The answer to one line, with the file, the line and the line's entry. Its answer always belongs to
+/// its entry. File and line may be any numbers; a collector refuses an outcome that is none of its jobs.
 #[derive(Clone, Copy, Debug, PartialEq, Eq)]
 pub struct Outcome {
     file: u32,
@@ -36,7 +36,7 @@ impl Model for Outcome {
 }
 
 impl Outcome {
-    /// The outcome of a line that says `entry`: the solver answers what is asked of a position, and a line that was not
+    /// Solves one line and returns the outcome: the solver answers what is asked of a position, and a line that was not
     /// read is answered by its fault.
     #[tactic(auto, unfolding(crate::specs::Writing::Answer::answer_of))]
     pub fn of(file: u32, line: u32, entry: Entry, solver: &mut Solver) -> Outcome
@@ -61,28 +61,28 @@ impl Outcome {
         }
     }
 
-    /// The number of the file, from 0 on.
+    /// Returns the number of the file, from 0 on.
     pub fn file(&self) -> u32
         ensures { result ≡ self.now.file }
     {
         self.file
     }
 
-    /// The number of the line in its file, from 0 on.
+    /// Returns the number of the line in its file, from 0 on.
     pub fn line(&self) -> u32
         ensures { result ≡ self.now.line }
     {
         self.line
     }
 
-    /// What the line says.
+    /// Returns the entry of the line.
     pub fn entry(&self) -> Entry
         ensures { result ≡ self.now.entry }
     {
         self.entry
     }
 
-    /// The answer to the line.
+    /// Returns the answer to the line.
     pub fn answer(&self) -> Answer
         ensures { result ≡ answer_of self.now.entry }
     {

@@ -1,6 +1,6 @@
 //! Why an outcome is refused.
 
-/// Why a collector refuses an outcome, in the order in which the causes are looked at.
+/// Why a collector refuses an outcome, in the order in which the causes are tested.
 #[derive(Clone, Copy, Debug, PartialEq, Eq)]
 pub enum Refusal {
     /// There is no file of that number.

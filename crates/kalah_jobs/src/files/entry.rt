@@ -1,4 +1,4 @@
-//! What a line of a file says, and what is asked of it.
+//! The content of a line of a file, and what is asked of it.
 ghost use Rattle.std.specs.Prelude.{◌≡◌};
 ghost use Rattle.kalah_jobs.specs.Files.Question.{entry_to};
 
@@ -7,19 +7,19 @@ use crate::line::line_fault::LineFault;
 use crate::line::reading::read_line;
 use kalah_rules::Board;
 
-/// What a line of a file says, and what is asked of its position.
+/// The content of a line of a file, and what is asked of its position.
 #[derive(Clone, Copy, Debug, PartialEq, Eq)]
 pub enum Entry {
-    /// The position that the line writes, and its best move is asked.
+    /// The position that the line writes; its best move is asked.
     Position(Board),
-    /// The position that the line writes, and the value of each of its moves is asked.
+    /// The position that the line writes; the value of each of its moves is asked.
     ValuesOf(Board),
     /// Why the line is not read.
     Bad(LineFault),
 }
 
 impl Entry {
-    // What the line says, with this asked of its position.
+    // Returns the content of the line, with this question.
     #[tactic(auto, unfolding(crate::specs::Files::Entry::entry_of))]
     pub(crate) fn of_line(question: Question, line: &[u8]) -> Entry
         ensures { result ≡ entry_to question line.now }

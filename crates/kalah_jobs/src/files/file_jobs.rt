@@ -1,4 +1,4 @@
-//! What the lines of a file say.
+//! The entries of the lines of a file.
 ghost use Rattle.std.specs.Prelude.{◌≡◌, ◌<◌, ◌≤◌, length, IfOk, slice_get, Some};
 ghost use Rattle.kalah_jobs.specs.Files.Lines.{lines_of};
 ghost use Rattle.kalah_jobs.specs.Files.Jobs.{most_lines, entries_to};
@@ -9,7 +9,7 @@ use crate::files::question::Question;
 use std::alloc::{AllocError, Global};
 use std::marker::Model;
 
-// What the lines of a file say, in order.
+// The entries of the lines of a file, in order.
 #[derive(Drop)]
 pub(crate) struct FileJobs {
     entries: Vec<Entry>,
@@ -29,7 +29,7 @@ impl Model for FileJobs {
 }
 
 impl FileJobs {
-    // What the lines of some bytes say, with this asked of their positions.
+    // Reads the lines of some bytes into entries with this question.
     pub(crate) fn of_bytes(
         alloc: Global,
         question: Question,
@@ -48,7 +48,7 @@ impl FileJobs {
         Ok(FileJobs { entries })
     }
 
-    // How many lines there are.
+    // Returns how many lines there are.
     pub(crate) fn lines(&self) -> u32
         ensures is { result ≡ length self.now }
         ensures low { result ≤ most_lines }
@@ -56,7 +56,7 @@ impl FileJobs {
         self.entries.len() as u32
     }
 
-    // What a line says.
+    // Returns the entry of a line.
     pub(crate) fn entry(&self, line: u32) -> Entry
         requires { line < length self.now }
         ensures { slice_get self.now line ≡ Some result }

@@ -2,10 +2,10 @@
 ghost use Rattle.std.specs.Prelude.{◌≡◌, ◌<◌, ◌≤◌, ◌==◌, ◌∷◌, length, count_by};
 ghost use Rattle.kalah_jobs.specs.Files.Lines.{line_feed, lines_of};
 
-// What ends a line.
+// The byte that ends a line.
 const LINE_FEED: u8 = b'\n';
 
-// The first line of some bytes, and the bytes after it.
+// Returns the first line of some bytes, and the bytes after it.
 pub(crate) fn first_line(bytes: &[u8]) -> (&[u8], &[u8])
     requires { 0 < length bytes.now }
     ensures lines { lines_of bytes.now ≡ result.0.now ∷ lines_of result.1.now }
@@ -19,7 +19,7 @@ pub(crate) fn first_line(bytes: &[u8]) -> (&[u8], &[u8])
     (bytes, &bytes[bytes.len()..])
 }
 
-// How many lines there are. The last byte ends one, or stands in one that is not ended.
+// Returns the number of lines. The last byte ends a line, or stands in one that is not ended.
 pub(crate) fn count_lines(bytes: &[u8]) -> usize
     ensures { result ≡ length (lines_of bytes.now) }
 {
@@ -29,7 +29,7 @@ pub(crate) fn count_lines(bytes: &[u8]) -> usize
     }
 }
 
-// How many line feeds there are.
+// Returns the number of line feeds.
 fn count_feeds(bytes: &[u8]) -> usize
     ensures is { result ≡ count_by (λ byte. byte == line_feed) bytes.now }
     ensures low { result ≤ length bytes.now }

@@ -10,7 +10,7 @@ use std::marker::Model;
 pub struct FileText {
     /// The name, as it stands before each answer line.
     pub name: String,
-    /// The bytes, whatever they are.
+    /// The bytes, with no restriction.
     pub bytes: Vec<u8>,
 }
 

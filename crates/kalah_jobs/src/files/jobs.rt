@@ -16,10 +16,10 @@ use thiserror::Error;
 /// The most files of a batch.
 pub const MOST_FILES: usize = 256;
 
-/// The most lines of a batch, over all its files.
+/// The most lines of a batch, in all its files together.
 pub const MOST_LINES: usize = 1_000_000;
 
-/// Why files are no batch: the first of these that holds.
+/// Why files make no batch: the first of these that holds.
 #[derive(Clone, Copy, Debug, PartialEq, Eq, Error)]
 pub enum JobsFault {
     /// There are more than 256 files.
@@ -28,7 +28,7 @@ pub enum JobsFault {
     /// The files have more than 1,000,000 lines together.
     #[error("too many lines")]
     TooManyLines,
-    /// The memory for the jobs was refused.
+    /// Memory for the jobs was refused.
     #[error("out of memory")]
     OutOfMemory,
 }
@@ -43,8 +43,8 @@ impl From<AllocError> for JobsFault {
     }
 }
 
-/// The jobs of a batch: for each file, in order, what its lines say, in order. Files, lines and jobs count from 0, and jobs
-/// run over the files in order and over the lines of each in order. There are at most 256 files and 1,000,000 lines.
+/// The jobs of a batch: for each file, in order, the entries of its lines, in order. Files, lines and jobs count from 0, and jobs
+/// are numbered file by file, and line by line in each. There are at most 256 files and 1,000,000 lines.
 #[derive(Drop)]
 pub struct Jobs {
     files: Vec<FileJobs>,
@@ -66,7 +66,7 @@ impl Model for Jobs {
 }
 
 impl Jobs {
-    /// The jobs of these files, where the best move is asked of each position: as `asking` gives them.
+    /// Makes the jobs of these files, with the best move asked of each position. Fails as `asking` does.
     pub fn of_files(alloc: Global, files: &[FileText]) -> Result<Jobs, JobsFault>
         ensures too_many_files { (result ≡ Err JobsFault.TooManyFiles) ↔ (most_files < length files.now) }
         ensures too_many_lines { (result ≡ Err JobsFault.TooManyLines)
@@ -76,9 +76,10 @@ impl Jobs {
         Jobs::asking(alloc, Question::BestMove, files)
     }
 
-    /// The jobs of these files: each line of each file, with what it says and what is asked of its position. More than 256
-    /// files are refused as `TooManyFiles`, then more than 1,000,000 lines as `TooManyLines`, both before any memory is
-    /// taken. `OutOfMemory` comes only where memory was refused.
+    /// Makes the jobs of these files: each line of each file, with its entry and what is asked of its position.
+    ///
+    /// Fails with `TooManyFiles` if there are more than 256 files, else with `TooManyLines` if they have more than 1,000,000 lines
+    /// together; both are tested before any allocation. Fails with `OutOfMemory` only if memory was refused.
     pub fn asking(alloc: Global, question: Question, files: &[FileText]) -> Result<Jobs, JobsFault>
         ensures too_many_files { (result ≡ Err JobsFault.TooManyFiles) ↔ (most_files < length files.now) }
         ensures too_many_lines { (result ≡ Err JobsFault.TooManyLines)
@@ -107,7 +108,7 @@ impl Jobs {
         })
     }
 
-    /// How many jobs there are, at most 1,000,000: the lines of all files.
+    /// Returns the number of jobs, at most 1,000,000: the lines of all files.
     pub fn total(&self) -> u32
         ensures lines { result ≡ job_count self.now }
         ensures jobs { result ≡ length (job_list self.now) }
@@ -116,7 +117,7 @@ impl Jobs {
         self.total
     }
 
-    /// How many files there are, at most 256.
+    /// Returns the number of files, at most 256.
     pub fn files(&self) -> u32
         ensures is { result ≡ length self.now }
         ensures low { result ≤ most_files }
@@ -124,7 +125,7 @@ impl Jobs {
         self.files.len() as u32
     }
 
-    /// How many lines a file has, at most 1,000,000. The file has to be below `files`.
+    /// Returns the number of lines of file `f`, at most 1,000,000. The file must be below `files`.
     pub fn lines(&self, f: u32) -> u32
         requires { f < length self.now }
         ensures is { result ≡ length (entries_of self.now f) }
@@ -133,7 +134,7 @@ impl Jobs {
         self.files[f as usize].lines()
     }
 
-    // What a line of a file says.
+    // Returns the entry of a line of a file.
     pub(crate) fn entry(&self, f: u32, line: u32) -> Entry
         requires file { f < length self.now }
         requires line { line < length (entries_of self.now f) }
@@ -142,7 +143,7 @@ impl Jobs {
         self.files[f as usize].entry(line)
     }
 
-    /// The job of this number, which has to be below `total`.
+    /// Returns job `n`, which must be below `total`.
     pub fn get(&self, n: u32) -> Job
         requires { n < job_count self.now }
         ensures { slice_get (job_list self.now) n ≡ Some (line_job result.file result.line result.entry) }
@@ -158,7 +159,7 @@ impl Jobs {
     }
 }
 
-// Whether the files have no more lines together than a batch may have.
+// Returns whether the files together have at most as many lines as a batch may have.
 fn has_few_lines(files: &[FileText]) -> bool
     ensures { IsTrue result ↔ (lines_in_all files.now ≤ most_lines) }
 {

@@ -1,10 +1,10 @@
-//! Whether two lines say the same.
+//! Equality of entries.
 ghost use Rattle.std.specs.Prelude.{◌≡◌, ◌↔◌, IsTrue};
 
 use crate::files::entry::Entry;
 use kalah_rules::Board;
 
-// Whether two lines say the same.
+// Returns whether two entries are equal.
 pub(crate) fn is_same_entry(a: &Entry, b: &Entry) -> bool
     ensures { IsTrue result ↔ (a.now ≡ b.now) }
 {
@@ -16,7 +16,7 @@ pub(crate) fn is_same_entry(a: &Entry, b: &Entry) -> bool
     }
 }
 
-// Whether two boards show the same position.
+// Returns whether two boards show the same position.
 fn is_same_board(p: &Board, q: &Board) -> bool
     ensures { IsTrue result ↔ (p.now ≡ q.now) }
 {

@@ -1,4 +1,4 @@
-//! The form of a position line.
+//! The form of a position line, before its limits are tested.
 ghost use Rattle.std.specs.Prelude.{◌≡◌, ◌≤◌, [], length};
 ghost use Rattle.std.specs.Option.{option_map, option_map_or};
 ghost use Rattle.kalah_jobs.specs.Line.Line.{space, most_bytes};
@@ -16,7 +16,7 @@ pub(crate) struct Form {
     pub(crate) rule: Rule,
 }
 
-// The rule of what stands after the second side.
+// Returns the rule that the text after the second side names.
 fn read_rule(ending: Option<&[u8]>) -> Option<Rule>
     ensures { result ≡ rule_of (option_map_or (λ text. parts_at space text.now) ending.entry []) }
 {
@@ -33,7 +33,7 @@ impl Form {
     ghost use Rattle.kalah_jobs.specs.Line.Reading.{written_of};
     ghost use Rattle.kalah_jobs.specs.Line.Form.{position_shown};
 
-    // The two sides of a text, with one space between them, and the rule that its ending names.
+    // Reads the two sides of a text, with one space between them, and the rule that its ending names.
     pub(crate) fn read(text: &[u8]) -> Option<Form>
         requires { length text.now ≤ most_bytes }
         ensures { option_map position_shown result ≡ written_of text.now }

@@ -9,7 +9,7 @@ pub enum LineFault {
     Long,
     /// It has no bytes.
     Empty,
-    /// It is not two sides of at least one house each, with nothing else but the ending of the rule.
+    /// It is not two sides of at least one house each, followed by nothing but the ending of the rule.
     Shape,
     /// The sides differ in length, or have more than 6 houses.
     Houses,
@@ -18,7 +18,7 @@ pub enum LineFault {
 }
 
 impl LineFault {
-    /// The word that is printed for the fault.
+    /// Returns the word that is printed for the fault.
     pub fn word(self) -> &'static str
         ensures { result.now ≡ word_of self }
     {

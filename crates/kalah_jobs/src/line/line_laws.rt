@@ -1,4 +1,4 @@
-//! Laws of lines, over the definitions that the contracts cite.
+//! Laws of lines, over the definitions that the contracts use.
 ghost use Rattle.kalah_jobs.specs.Line.LineLaws.{NoLineReadsTwice, EveryLineIsItsText, EveryTextIsReadBack, PlainLinesReadTheSame, OnlyTheEndingNamesTheRule};
 
 /// No line is read as two positions.
@@ -16,8 +16,8 @@ pub fn every_text_is_read_back()
     ensures { EveryTextIsReadBack }
 {}
 
-/// A line of two sides alone, with fewer seeds than are allowed, is read as a program reads it that knows the classic rule
-/// alone and allows fewer seeds.
+/// A line of two sides alone, with fewer seeds than allowed, is read as by a program that knows only the classic rule
+/// and allows fewer seeds.
 pub fn plain_lines_read_the_same()
     ensures { PlainLinesReadTheSame }
 {}

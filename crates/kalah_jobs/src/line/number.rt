@@ -2,7 +2,7 @@
 ghost use Rattle.std.specs.Prelude.{◌≡◌, ◌≤◌, IfSome};
 ghost use Rattle.kalah_jobs.specs.Line.Reading.{number_read};
 
-// The number that the text writes: `0`, or one or two digits of which the first is not `0`.
+// Returns the number that the text writes: `0`, or one or two digits that do not start with `0`.
 pub(crate) fn read_number(text: &[u8]) -> Option<u8>
     ensures value { result ≡ number_read text.now }
     ensures low { IfSome result (λ n. n ≤ 99) }

@@ -18,7 +18,7 @@ use kalah_rules::{Board, Rule, Step};
 use std::alloc::{AllocError, Global};
 use std::io;
 
-// Puts a player's houses, a slash and the player's store before what is there.
+// Puts a player's houses, a slash and the player's store in front of the text.
 #[tactic(auto, using(crate::proofs::OfWriting::Lengths::byte_length))]
 fn put_side(text: &mut StackText, board: &Board, player: Player)
     requires { length text.old + 27 ≤ ROOM }
@@ -36,7 +36,7 @@ fn put_side(text: &mut StackText, board: &Board, player: Player)
     }
 }
 
-// The ending of a line that names its rule.
+// Returns the ending of a line that names its rule.
 fn ending(rule: Rule) -> &'static str
     ensures ending { result.now ≡ ending_of rule }
     ensures short { length result.now ≤ 2 }
@@ -47,7 +47,7 @@ fn ending(rule: Rule) -> &'static str
     }
 }
 
-// Puts the line that writes a board before what is there.
+// Puts the line that writes a board in front of the text.
 #[tactic(auto, unfolding(crate::specs::Line::Line::line_text_of))]
 fn put_board(text: &mut StackText, board: &Board)
     requires { length text.old + 57 ≤ ROOM }
@@ -62,8 +62,10 @@ fn put_board(text: &mut StackText, board: &Board)
     put_side(text, board, Player::Mover);
 }
 
-/// The line that writes a board, as `read_line` reads it: `1,1/0 1,1/0`, with ` e` at its end where the rule is
-/// `Rule::EmptyCapture`. Both stores have to be at most 99, as of every board that was read.
+/// Returns the line that writes a board, as `read_line` reads it: `1,1/0 1,1/0`, with ` e` at its end if the rule is
+/// `Rule::EmptyCapture`. Both stores must be at most 99, as in every board that was read.
+///
+/// Fails with `AllocError` only if memory was refused.
 pub fn line_text(alloc: Global, board: &Board) -> Result<String, AllocError>
     requires own_low { board.now.own_store ≤ most_in_store }
     requires other_low { board.now.other_store ≤ most_in_store }
@@ -75,7 +77,7 @@ pub fn line_text(alloc: Global, board: &Board) -> Result<String, AllocError>
     String::from_str(alloc, text.as_str())
 }
 
-// The board that a step leads to, and its word.
+// Returns the board that a step leads to, and its word.
 fn parts_of_step(step: &Step) -> (&Board, &'static str)
     ensures board { result.0.now ≡ position_after step.now }
     ensures word { result.1.now ≡ word_of_step step.now }
@@ -88,7 +90,7 @@ fn parts_of_step(step: &Step) -> (&Board, &'static str)
     }
 }
 
-// Puts the text of a move before what is there.
+// Puts the text of a move in front of the text.
 #[tactic(auto, unfolding(crate::specs::Line::Line::step_text_of), using(crate::proofs::OfWriting::Lengths::byte_length))]
 fn put_step(text: &mut StackText, h: u8, step: &Step)
     requires { length text.old ≤ 1 }
@@ -112,8 +114,8 @@ pub fn step_text(alloc: Global, h: u8, step: &Step) -> Result<String, AllocError
     String::from_str(alloc, text.as_str())
 }
 
-/// Writes the text of a move, as `step_text` has it, and a line feed. It takes no memory. It is an error exactly where the
-/// sink has failed afterwards; then a beginning of the line was written, and nothing else.
+/// Writes the text of a move, as `step_text` returns it, and a line feed. It allocates nothing. It fails exactly when the
+/// sink has failed afterwards; then a prefix of the line was written, and nothing else.
 pub fn write_step<W: Sink>(out: &mut W, h: u8, step: &Step) -> Result<(), io::Error>
     requires { W.has_failed out.old ≡ false }
     ensures fails { IsErr result ↔ (W.has_failed out.new ≡ true) }

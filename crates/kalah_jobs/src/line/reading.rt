@@ -15,7 +15,7 @@ use kalah_rules::{Board, MOST_HOUSES};
 /// The most bytes of a line, after its CR is dropped.
 pub(crate) const MOST_BYTES: usize = 80;
 
-// The line without one CR at its end, if it has one.
+// Returns the line without one CR at its end, if it has one.
 fn drop_cr(line: &[u8]) -> &[u8]
     ensures { result.now ≡ without_cr line.now }
 {
@@ -25,7 +25,7 @@ fn drop_cr(line: &[u8]) -> &[u8]
     }
 }
 
-// The position of a line whose CR is dropped, or its first fault.
+// Returns the position of a line whose CR is dropped, or its first fault.
 fn read_text(text: &[u8]) -> Result<Board, LineFault>
     ensures { result ≡ reading_of_text text.now }
 {
@@ -48,11 +48,12 @@ fn read_text(text: &[u8]) -> Result<Board, LineFault>
     board.ok_or(LineFault::Seeds)
 }
 
-/// The position that a line writes, such as `1,1/0 1,1/0`: the mover's houses with a comma between each two, a slash and
+/// Returns the position that a line writes, such as `1,1/0 1,1/0`: the mover's houses with a comma between each two, a slash and
 /// the mover's store, one space, and the same of the other player. A line that ends in a space and `e` is played under
-/// `Rule::EmptyCapture`, any other under `Rule::Classic`. A number is `0`, or one or two digits of which the first is not
-/// `0`. One CR at the end is dropped before anything is looked at. Where no position is read, the answer is the first
-/// fault that holds, in the order of `LineFault`.
+/// `Rule::EmptyCapture`, any other under `Rule::Classic`. A number is `0`, or one or two digits that do not start with
+/// `0`. One CR at the end is dropped first.
+///
+/// Fails with the first fault that holds, in the order of `LineFault`, if the line writes no position within the limits.
 pub fn read_line(bytes: &[u8]) -> Result<Board, LineFault>
     // A position that is read is the one that the line writes, within the limits, and the line is its text.
     ensures reads { IfOk result (λ p. Reads bytes.now p) }

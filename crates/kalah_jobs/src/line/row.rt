@@ -6,7 +6,7 @@ use crate::line::number::read_number;
 use crate::line::parts::cut;
 use std::marker::Model;
 
-/// As many numbers as 80 bytes can hold, with a byte between each two.
+/// The most numbers that 80 bytes can hold, with a byte between each two.
 const MOST_NUMBERS: usize = 40;
 
 /// The seeds in each house of a side, in the order of the line. The cells past the last one hold 0.
@@ -31,7 +31,7 @@ impl Row {
     ghost use Rattle.kalah_jobs.specs.Line.Line.{comma, most_bytes};
     ghost use Rattle.kalah_jobs.specs.Line.Reading.{parts_at, numbers_read};
 
-    // No houses.
+    // Makes a row without houses.
     pub(crate) fn new() -> Row
         ensures { result ≡ [] }
     {
@@ -41,7 +41,7 @@ impl Row {
         }
     }
 
-    // The numbers of a text, with a comma between each two.
+    // Reads the numbers of a text, with a comma between each two.
     pub(crate) fn read(text: &[u8]) -> Option<Row>
         requires { length text.now ≤ most_bytes }
         ensures { result ≡ numbers_read (parts_at comma text.now) }
@@ -56,7 +56,7 @@ impl Row {
         Some(row)
     }
 
-    // One more house.
+    // Appends one house.
     pub(crate) fn push(&mut self, seeds: u8)
         requires { length self.old < MOST_NUMBERS }
         ensures { self.new ≡ self.old ++ seeds ∷ [] }
@@ -65,14 +65,14 @@ impl Row {
         self.count += 1;
     }
 
-    // How many houses there are.
+    // Returns the number of houses.
     pub(crate) fn len(&self) -> u8
         ensures { result ≡ length self.now }
     {
         self.count as u8
     }
 
-    // The houses in six cells, with 0 past the last one.
+    // Returns the houses in six cells, with 0 past the last one.
     pub(crate) fn six_cells(&self) -> [u8; 6]
         requires { length self.now ≤ 6 }
         ensures { result ≡ padded self.now }

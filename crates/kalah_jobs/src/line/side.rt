@@ -19,7 +19,7 @@ impl Side {
     ghost use Rattle.kalah_jobs.specs.Line.Line.{most_bytes};
     ghost use Rattle.kalah_jobs.specs.Line.Reading.{side_of};
 
-    // The houses before the one slash of a text, and the store after it.
+    // Reads the houses before the one slash of a text, and the store after it.
     pub(crate) fn read(text: &[u8]) -> Option<Side>
         requires { length text.now ≤ most_bytes }
         ensures { option_map (λ side. (side.houses, side.store)) result ≡ side_of text.now }

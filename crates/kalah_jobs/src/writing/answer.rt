@@ -1,21 +1,21 @@
-//! What is answered to a line.
+//! The answer to a line.
 use crate::line::line_fault::LineFault;
 use kalah_solve::MoveValues;
 
-/// What is answered to a line of a file.
+/// The answer to a line of a file.
 #[derive(Clone, Copy, Debug, PartialEq, Eq)]
 pub enum Answer {
     /// The margin of best play, and the lowest house that attains it.
     Best { margin: i32, house: u8 },
     /// The margin of a game that is over.
     Over { margin: i32 },
-    /// Each legal house, rising, with the margin that its move gets in best play.
+    /// Each legal house, in ascending order, with the margin that its move gets in best play.
     Values(MoveValues),
     /// Why the line is not read.
     Fault(LineFault),
 }
 
-/// A line of a file with its answer, as it is taken to be written.
+/// A line of a file with its answer, as a collector returns it to be written.
 #[derive(Clone, Copy, Debug, PartialEq, Eq)]
 pub struct Taken {
     /// The number of the line in its file, from 0 on.

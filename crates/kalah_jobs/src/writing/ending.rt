@@ -1,4 +1,4 @@
-//! What stands in an answer line behind the name of the file, put together on the stack.
+//! The part of an answer line behind the name of the file, built on the stack.
 ghost use Rattle.std.specs.Prelude.{◌≡◌, ◌+◌, ◌≤◌, ◌++◌, length, codes, decimal};
 ghost use Rattle.kalah_jobs.specs.Writing.Answer.{answer_words, value_words, values_words};
 
@@ -21,7 +21,7 @@ pub(crate) fn ending_of(taken: &Taken, end: &str) -> StackText
     ending
 }
 
-// An answer in words, and then the end.
+// Builds an answer in words, followed by `end`.
 pub(crate) fn words_of(answer: &Answer, end: &str) -> StackText
     requires { length end.now ≤ 1 }
     ensures { result ≡ answer_words answer.now ++ end.now }
@@ -32,7 +32,7 @@ pub(crate) fn words_of(answer: &Answer, end: &str) -> StackText
     words
 }
 
-// Puts the value of a move, behind its house, before what is there.
+// Puts the value of a move, with its house before it, in front of the text.
 #[tactic(auto, using(crate::proofs::OfWriting::Lengths::byte_length))]
 fn put_value(text: &mut StackText, value: MoveValue)
     requires { length text.old + 15 ≤ ROOM }
@@ -44,7 +44,7 @@ fn put_value(text: &mut StackText, value: MoveValue)
     text.put_number(u64::from(value.house));
 }
 
-// Puts the values of the moves, with a space between any two, before what is there.
+// Puts the values of the moves, with a space between any two, in front of the text.
 fn put_values(text: &mut StackText, values: &MoveValues)
     requires { length text.old + 96 ≤ ROOM }
     ensures values { text.new ≡ values_words values.now ++ text.old }
@@ -62,7 +62,7 @@ fn put_values(text: &mut StackText, values: &MoveValues)
     }
 }
 
-// Puts what stands in an answer line after the number of the line before what is there.
+// Puts the part of an answer line after the number of the line in front of the text.
 #[tactic(auto, using(crate::proofs::OfWriting::Lengths::byte_length, crate::proofs::OfWriting::Lengths::fault_length))]
 fn put_words(text: &mut StackText, answer: &Answer)
     requires { length text.old + 96 ≤ ROOM }

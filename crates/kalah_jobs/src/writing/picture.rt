@@ -17,7 +17,7 @@ use std::io;
 /// The bytes of a column.
 const COLUMN: usize = 4;
 
-// Puts a number, at the right of a column, before what is there.
+// Puts a number, right-aligned in a column, in front of the text.
 #[tactic(auto, using(crate::proofs::OfWriting::Lengths::byte_length))]
 fn put_cell(text: &mut StackText, number: u8)
     requires { length text.old + 4 ≤ ROOM }
@@ -29,7 +29,7 @@ fn put_cell(text: &mut StackText, number: u8)
     text.put_blanks(end - text.len());
 }
 
-// The house that a player has in a column.
+// Returns the house that a player has in a column.
 fn house_in(player: Player, board: &Board, column: u8) -> u8
     requires low { 1 ≤ column }
     requires high { column ≤ side_length board.now }
@@ -43,7 +43,7 @@ fn house_in(player: Player, board: &Board, column: u8) -> u8
     }
 }
 
-// Puts an empty column and a player's houses, a column each, before what is there.
+// Puts an empty column and a player's houses, a column each, in front of the text.
 fn put_houses(text: &mut StackText, board: &Board, player: Player)
     requires { length text.old + 28 ≤ ROOM }
     ensures houses { text.new ≡ houses_line player board.now ++ text.old }
@@ -57,7 +57,7 @@ fn put_houses(text: &mut StackText, board: &Board, player: Player)
     text.put_blanks(COLUMN);
 }
 
-// The picture of a board.
+// Returns the picture of a board.
 #[tactic(auto, unfolding(crate::specs::Writing::Picture::picture_of))]
 fn picture(board: &Board) -> StackText
     ensures { result ≡ picture_of board.now }
@@ -75,10 +75,10 @@ fn picture(board: &Board) -> StackText
     text
 }
 
-/// Draws a board in three lines: the houses of the other player, from the last to the first; the stores, of which the
-/// mover's stands at the right; and the houses of the mover, from the first to the last. Each number stands at the right of
-/// a column of four bytes. It takes no memory, and is an error exactly where the sink has failed afterwards; then a
-/// beginning of the picture was written, and nothing else.
+/// Draws a board in three lines: the houses of the other player, from the last to the first; the stores, with the
+/// mover's at the right; and the houses of the mover, from the first to the last. Each number is right-aligned in
+/// a column of four bytes. It allocates nothing. It fails exactly when the sink has failed afterwards; then a
+/// prefix of the picture was written, and nothing else.
 pub fn write_picture<W: Sink>(out: &mut W, board: &Board) -> Result<(), io::Error>
     requires { W.has_failed out.old ≡ false }
     ensures fails { IsErr result ↔ (W.has_failed out.new ≡ true) }
@@ -88,7 +88,7 @@ pub fn write_picture<W: Sink>(out: &mut W, board: &Board) -> Result<(), io::Erro
     out.write_all(picture(board).bytes())
 }
 
-/// Two boards of one rule that are drawn alike are the same.
+/// Two boards of one rule with the same picture are the same.
 pub fn pictures_tell_positions()
     ensures { PicturesTellPositions }
 {}

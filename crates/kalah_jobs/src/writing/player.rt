@@ -5,7 +5,7 @@ ghost use Rattle.kalah_jobs.specs.Writing.Player.{houses_of, store_of};
 
 use kalah_rules::Board;
 
-/// Whose houses and store are looked at.
+/// One of the two players of a board.
 #[derive(Clone, Copy)]
 pub(crate) enum Player {
     /// The player to move.
@@ -15,7 +15,7 @@ pub(crate) enum Player {
 }
 
 impl Player {
-    // The seeds in the player's house `i`.
+    // Returns the number of seeds in the player's house `i`.
     pub(crate) fn seeds(self, board: &Board, i: u8) -> u8
         requires low { 1 ≤ i }
         requires high { i ≤ side_length board.now }
@@ -27,7 +27,7 @@ impl Player {
         }
     }
 
-    // The seeds in the player's store.
+    // Returns the number of seeds in the player's store.
     pub(crate) fn store(self, board: &Board) -> u8
         ensures { result ≡ store_of self board.now }
     {

@@ -10,8 +10,8 @@ use std::str;
 /// The most bytes of such a text.
 pub(crate) const ROOM: usize = 128;
 
-/// A text of at most 128 bytes, which takes no memory but the stack's. It is put together from its end on: each piece goes
-/// before those that are there. It is seen as its bytes, which are of UTF-8.
+/// A text of at most 128 bytes, which needs no allocation. It is built from its end: each piece is put in front
+/// of those that are there. Contracts see it as its bytes, which are UTF-8.
 #[derive(Drop)]
 pub(crate) struct StackText {
     bytes: [u8; ROOM],
@@ -29,7 +29,7 @@ impl Model for StackText {
 }
 
 impl StackText {
-    // A text without a byte.
+    // Makes an empty text.
     pub(crate) fn new() -> StackText
         ensures { result ≡ [] }
     {
@@ -39,7 +39,7 @@ impl StackText {
         }
     }
 
-    // The bytes.
+    // Returns the bytes.
     pub(crate) fn bytes(&self) -> &[u8]
         ensures bytes { result.now ≡ self.now }
         ensures text { IsUtf8 result.now }
@@ -47,14 +47,14 @@ impl StackText {
         &self.bytes[self.start..]
     }
 
-    // The text.
+    // Returns the text.
     pub(crate) fn as_str(&self) -> &str
         ensures { result.now ≡ self.now }
     {
         str::from_utf8(self.bytes()).unwrap()
     }
 
-    // How many bytes there are.
+    // Returns the number of bytes.
     pub(crate) fn len(&self) -> usize
         ensures { result ≡ length self.now }
     {
@@ -72,7 +72,7 @@ impl StackText {
         self.bytes[self.start..end].copy_from_slice(piece.as_bytes());
     }
 
-    // Puts so many blanks before what is there.
+    // Puts `n` blanks in front of the text.
     pub(crate) fn put_blanks(&mut self, n: usize)
         requires { n + length self.old ≤ ROOM }
         ensures blanks { self.new ≡ replicate n space ++ self.old }
@@ -83,7 +83,7 @@ impl StackText {
         self.bytes[self.start..end].fill(b' ');
     }
 
-    // Puts a number in digits before what is there.
+    // Puts a number in digits in front of the text.
     pub(crate) fn put_number(&mut self, n: u64)
         requires { length (decimal n) + length self.old ≤ ROOM }
         ensures number { self.new ≡ decimal n ++ self.old }
@@ -92,7 +92,7 @@ impl StackText {
         self.start = write_digits(n, &mut self.bytes, self.start);
     }
 
-    // Puts a margin in digits, with `-` in front where it is negative, before what is there.
+    // Puts a margin in digits, with `-` before it if it is negative, in front of the text.
     #[tactic(auto, using(crate::proofs::OfWriting::Lengths::margin_length))]
     pub(crate) fn put_margin(&mut self, margin: i32)
         requires { length self.old + 11 ≤ ROOM }

@@ -9,7 +9,7 @@ use std::io;
 use std::io::{ErrorKind, Write};
 
 /// Writes all the bytes, in as many calls as the writer needs, and doesn't flush it. A call that was interrupted has taken
-/// nothing, and is made again. Where another call fails, or takes no byte, it is an error: then a beginning of the bytes was
+/// nothing, and is repeated. It fails if another call fails, or takes no byte: then a prefix of the bytes was
 /// written, and nothing else.
 pub fn write_pieces<W: Write>(writer: &mut W, bytes: &[u8]) -> io::Result<()>
     ensures adds { OnOk result
@@ -31,8 +31,8 @@ pub fn write_pieces<W: Write>(writer: &mut W, bytes: &[u8]) -> io::Result<()>
     Err(io::Error::from(ErrorKind::Interrupted))
 }
 
-/// The sink over a writer, with that writer's bytes. It fails where a call of the writer answers an
-/// error, also because the writer took no byte; an interrupted call is tried again and is no error.
+/// The sink over a writer, with that writer's bytes. It fails if a call of the writer returns an
+/// error, or if the writer takes no byte; an interrupted call is repeated and is no error.
 #[derive(Drop)]
 pub struct Stream<W> {
     writer: W,
@@ -42,7 +42,7 @@ pub struct Stream<W> {
 }
 
 impl<W> Stream<W> {
-    /// A stream of which no call has failed.
+    /// Makes a stream with no failed call.
     pub fn new(writer: W) -> Stream<W>
         ensures writer { stream_writer result ≡ writer }
         ensures fresh { stream_failed result ≡ false }
@@ -55,7 +55,7 @@ impl<W> Stream<W> {
         }
     }
 
-    /// Gives the writer back.
+    /// Returns the writer.
     pub fn into_inner(self) -> W
         ensures { result ≡ stream_writer self }
     {

@@ -1,4 +1,4 @@
-//! Answer lines written to a sink, with no memory.
+//! Answer lines written to a sink, without allocation.
 ghost use Rattle.std.specs.Prelude.{◌≡◌, ◌↔◌, ◌∷◌, [], ◌++◌, true, false, IsErr, OnOk};
 ghost use Rattle.std.specs.Io.KnownBytes.{Appends};
 ghost use Rattle.kalah_jobs.specs.Writing.Given.{AppendsStart};

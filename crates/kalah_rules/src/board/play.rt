@@ -1,4 +1,4 @@
-//! Moves: which are legal, and what each leads to.
+//! The legal moves of a board, and their results.
 ghost use Rattle.std.specs.Prelude.{◌≡◌, ◌↔◌, IsTrue, Contains};
 ghost use Rattle.kalah_rules.specs.Position.{IsWithinLimits};
 ghost use Rattle.kalah_rules.specs.Sowing.{after};
@@ -11,7 +11,7 @@ impl Board {
     ghost use Rattle.kalah_rules.specs.Play.{legal_houses, step_of};
     ghost use Rattle.kalah_rules.specs.Measure.{IsNearerEnd};
 
-    /// Whether the mover's house `h` may be moved: it holds seeds, and the game isn't over. Any `h` may be asked.
+    /// Returns whether the mover's house `h` may be moved: it holds seeds, and the game isn't over. `h` may be any number.
     pub fn is_legal(&self, h: u8) -> bool
         ensures { IsTrue result ↔ Contains (legal_houses self.now) h }
     {
@@ -21,7 +21,7 @@ impl Board {
         self.own(h) > 0
     }
 
-    /// The mover's houses that may be moved, rising: those that hold seeds, and none where the game is over.
+    /// Returns the mover's houses that may be moved, in rising order: those that hold seeds, or none if the game is over.
     pub fn legal(&self) -> Moves
         ensures { result ≡ legal_houses self.now }
     {
@@ -37,7 +37,9 @@ impl Board {
         moves
     }
 
-    /// Plays the mover's house `h`, which is legal, as `Houses::play` does, and puts what comes to the stores there.
+    /// Plays the mover's house `h`, which must be legal, and returns the board after the move.
+    ///
+    /// The rules are those of `Houses::play`; seeds that it brings to a store are added there.
     pub fn apply(&self, h: u8) -> Step
         requires { Contains (legal_houses self.now) h }
         ensures step { result ≡ step_of self.now h }

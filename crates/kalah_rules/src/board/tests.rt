@@ -3,7 +3,7 @@ mod walk;
 use crate::{Board, Houses, Rule, Step};
 use std::process::Abort;
 
-// A board of one house a side.
+// Returns a board of one house a side.
 fn single(
     rt: &impl Abort,
     own: u8,
@@ -17,7 +17,7 @@ fn single(
     Board::new(1, own, own_store, other, other_store, rule).expect(rt, "beyond the limits")
 }
 
-// A board of two houses a side.
+// Returns a board of two houses a side.
 fn double(
     rt: &impl Abort,
     own: [u8; 2],
@@ -31,7 +31,7 @@ fn double(
     Board::new(2, own, own_store, other, other_store, rule).expect(rt, "beyond the limits")
 }
 
-// The move of house `h` is legal and leads to `step`.
+// Asserts that the move of house `h` is legal and has the result `step`.
 fn assert_leads(rt: &impl Abort, start: &Board, h: u8, step: Step) {
     assert!(rt; start.is_legal(h));
     assert!(rt; start.apply(h) == step);

@@ -1,20 +1,20 @@
-//! Rows of houses as numbers, five bits a house, house 1 lowest.
+//! Rows of houses as numbers, with five bits for each house, house 1 lowest.
 ghost use Rattle.std.specs.Prelude.{◌≡◌, ◌+◌, ◌-◌, ◌*◌, ◌/◌, ◌%◌, ◌^◌, ◌<◌, ◌≤◌, length, sum};
 ghost use Rattle.kalah_rules.specs.Key.{number_of, cells, rule_bit};
 ghost use Rattle.kalah_rules.specs.Packed.{ones, ones_up_to};
 
 use crate::rule::Rule;
 
-// Where the other player's houses begin in a key.
+// The factor of the other player's houses in a key: they begin at bit 30.
 pub(super) const OTHER_ROW: u64 = 0x4000_0000;
 
-// Where the count of houses per side begins in a key.
+// The factor of the number of houses a side in a key: it begins at bit 60.
 pub(super) const SIDE: u64 = 0x1000_0000_0000_0000;
 
-// The bit of the rule in a key.
+// The bit of the rule in a key, bit 63.
 pub(super) const RULE: u64 = 0x8000_0000_0000_0000;
 
-// A row as a number.
+// Returns a row as a number.
 pub(super) fn number_of(cells: &[u8; 6]) -> u64
     requires { sum cells.now ≤ 31 }
     ensures value { result ≡ number_of cells.now }
@@ -27,7 +27,7 @@ pub(super) fn number_of(cells: &[u8; 6]) -> u64
     number
 }
 
-// The cells of the lowest thirty bits.
+// Returns the cells of the lowest thirty bits.
 pub(super) fn cells_of(number: u64) -> [u8; 6]
     ensures { result ≡ cells 6 number }
 {
@@ -46,7 +46,7 @@ pub(super) fn cells_of(number: u64) -> [u8; 6]
     ]
 }
 
-// The bit that stands for a rule.
+// Returns the bit of a rule.
 pub(super) fn rule_number(rule: Rule) -> u64
     ensures value { result ≡ rule_bit rule }
     ensures small { result ≤ 1 }
@@ -57,7 +57,7 @@ pub(super) fn rule_number(rule: Rule) -> u64
     }
 }
 
-// The rule that a bit stands for.
+// Returns the rule of a bit.
 pub(super) fn rule_of(bit: u64) -> Rule
     requires { bit ≤ 1 }
     ensures { rule_bit result ≡ bit }
@@ -69,7 +69,7 @@ pub(super) fn rule_of(bit: u64) -> Rule
     }
 }
 
-// The seeds in house `i` of a row.
+// Returns the number of seeds in house `i` of a row.
 pub(super) fn seeds_at(row: u64, i: u32) -> u64
     requires low { 1 ≤ i }
     requires high { i ≤ 6 }
@@ -78,7 +78,7 @@ pub(super) fn seeds_at(row: u64, i: u32) -> u64
     (row >> (5 * (i - 1))) % 32
 }
 
-// A row with so many seeds in house `i`, and none elsewhere.
+// Returns a row with `seeds` seeds in house `i`, and none elsewhere.
 pub(super) fn alone(i: u32, seeds: u64) -> u64
     requires low { 1 ≤ i }
     requires high { i ≤ 6 }
@@ -90,7 +90,7 @@ pub(super) fn alone(i: u32, seeds: u64) -> u64
 
 static ONES: [u64; 7] = [0, 1, 33, 1057, 33825, 1082401, 34636833];
 
-// A row with one seed in each of the first `n` houses.
+// Returns a row with one seed in each of the first `n` houses.
 pub(super) fn one_each(n: u32) -> u64
     requires { n ≤ 6 }
     ensures value { result ≡ ones n }
@@ -99,7 +99,7 @@ pub(super) fn one_each(n: u32) -> u64
     ONES[n as usize]
 }
 
-// A row of `m` houses with one seed in each house up to `x`.
+// Returns a row of `m` houses with one seed in each house up to `x`.
 pub(super) fn one_each_up_to(m: u32, x: u32) -> u64
     requires { m ≤ 6 }
     ensures value { result ≡ ones_up_to m x }
@@ -108,7 +108,7 @@ pub(super) fn one_each_up_to(m: u32, x: u32) -> u64
     one_each(if x < m { x } else { m })
 }
 
-// A row of `m` houses with so many seeds in each.
+// Returns a row of `m` houses with `seeds` seeds in each.
 pub(super) fn so_many_each(m: u32, seeds: u32) -> u64
     requires side { m ≤ 6 }
     requires few { seeds ≤ 10 }
@@ -118,8 +118,8 @@ pub(super) fn so_many_each(m: u32, seeds: u32) -> u64
     seeds as u64 * one_each(m)
 }
 
-// What a sowing of so many whole laps from house `h` of `m`, and then of one up to the cell at place `reach`, brings to
-// the mover's houses. Places go round from house 1, and the store has place m + 1.
+// Returns what the mover's houses gain by a sowing from house `h` of `m`: `laps` whole laps, and then one seed for each cell up
+// to place `reach`. Places are counted round the lap from house 1 on; the store has place m + 1.
 pub(super) fn own_gains(m: u32, h: u32, laps: u32, reach: u32) -> u64
     requires first { 1 ≤ h }
     requires last { h ≤ m }
@@ -133,7 +133,7 @@ pub(super) fn own_gains(m: u32, h: u32, laps: u32, reach: u32) -> u64
     so_many_each(m, laps) + past + one_each_up_to(m, reach.saturating_sub(2 * m + 1))
 }
 
-// What it brings to the other player's houses.
+// Returns what the other player's houses gain by the same sowing.
 pub(super) fn other_gains(m: u32, laps: u32, reach: u32) -> u64
     requires side { m ≤ 6 }
     requires few { laps ≤ 10 }

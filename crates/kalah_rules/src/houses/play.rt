@@ -1,4 +1,4 @@
-//! The one sowing: moves on houses, by whole rows.
+//! Moves on houses, computed by whole rows. Boards and the search both play by these.
 ghost use Rattle.std.specs.Prelude.{◌≡◌, ◌+◌, ◌^◌, ◌<◌, ◌≤◌, length, Some, Contains};
 ghost use Rattle.kalah_rules.specs.Position.{bare, seeds, IsWithinHouses};
 ghost use Rattle.kalah_rules.specs.Key.{number_of};
@@ -10,7 +10,7 @@ use crate::houses::Houses;
 use crate::houses::numbers::{OTHER_ROW, SIDE, alone, one_each, other_gains, own_gains, seeds_at};
 use crate::step::HousesStep;
 
-// The rows of a position as numbers, and what its own store holds.
+// The rows of a position as numbers, and the number of seeds in its own store.
 #[derive(Clone, Copy)]
 pub(super) struct RowNumbers {
     own: u64,
@@ -22,7 +22,7 @@ impl Houses {
     ghost use Rattle.kalah_rules.specs.Packed.{Shows};
     ghost use Rattle.kalah_rules.specs.HousesStep.{houses_step};
 
-    // The mover's row without the seeds of house `h`.
+    // Returns the mover's row without the seeds of house `h`.
     fn lifted_row(&self, h: u32) -> u64
         requires { HoldsSeeds (bare self.now) h }
         ensures row { result ≡ number_of (lifted (bare self.now) h).own }
@@ -33,7 +33,7 @@ impl Houses {
         row - alone(h, seeds_at(row, h))
     }
 
-    // The rows after house `h` is sown, whose last seed falls into the mover's house `reach` before the store.
+    // Sows house `h`, if its last seed falls into the mover's house `reach`, before the store.
     fn sow_in_row(&self, h: u32, reach: u32) -> RowNumbers
         requires holds { HoldsSeeds (bare self.now) h }
         requires reach { reach ≡ h + seeds self.now.own h }
@@ -47,7 +47,7 @@ impl Houses {
         }
     }
 
-    // The same, where it falls into the store or into a house of the other player, at place `reach`.
+    // Sows house `h`, if its last seed falls into the store or into a house of the other player, at place `reach`.
     fn sow_past_row(&self, h: u32, reach: u32) -> RowNumbers
         requires holds { HoldsSeeds (bare self.now) h }
         requires reach { reach ≡ h + seeds self.now.own h }
@@ -63,7 +63,7 @@ impl Houses {
         }
     }
 
-    // The same, where `count` seeds go round to the mover's houses again.
+    // Sows the `count` seeds of house `h`, for any `count`: they may go round to the mover's houses again.
     fn sow_laps(&self, h: u32, count: u32) -> RowNumbers
         requires holds { HoldsSeeds (bare self.now) h }
         requires count { count ≡ seeds self.now.own h }
@@ -80,7 +80,7 @@ impl Houses {
         }
     }
 
-    // The rows of a sowing, after the last seed fell into the mover's house `i`.
+    // Returns the rows after the capture that the last seed makes in the mover's house `i`, if it makes one.
     fn capture(&self, h: u32, rows: RowNumbers, i: u32) -> RowNumbers
         requires holds { HoldsSeeds (bare self.now) h }
         requires shows { Shows rows (sown (bare self.now) h) }
@@ -103,7 +103,7 @@ impl Houses {
         }
     }
 
-    // The rows after the move of house `h`, and whether its last seed falls into the own store.
+    // Returns the rows after the move of house `h`, and whether its last seed falls into the own store.
     #[inline(always)]
     fn after(&self, h: u8) -> (RowNumbers, bool)
         requires { HoldsSeeds (bare self.now) h }
@@ -123,7 +123,7 @@ impl Houses {
         }
     }
 
-    // The same, where its seeds go round to the mover's houses again.
+    // Returns the same, by the sowing for any number of seeds.
     fn after_lap(&self, h: u8) -> (RowNumbers, bool)
         requires { HoldsSeeds (bare self.now) h }
         ensures rows { Shows result.0 (after (bare self.now) h) }
@@ -144,12 +144,13 @@ impl Houses {
         }
     }
 
-    /// Plays the mover's house `h`, which is legal.
+    /// Plays the mover's house `h`, which must be legal.
     ///
-    /// Its seeds are sown one a cell: the mover's houses after `h`, the mover's store, the other player's houses, the
-    /// mover's houses up to `h`, and round again; the other player's store is skipped. A last seed in the mover's store
-    /// gives another move. A last seed in an empty house of the mover captures, as the rule says. Where the houses of
-    /// one player are then all empty, the game is over and each player's houses are swept into that player's store.
+    /// Its seeds are sown one into each cell: the mover's houses after `h`, the mover's store, the other player's houses,
+    /// the mover's houses up to `h`, and round again; the other player's store is skipped. If the last seed falls into the
+    /// mover's store, the mover moves again. If it falls into an empty house of the mover, it captures as the rule says.
+    /// If the houses of one player are then all empty, the game is over, and each player's houses are swept into that
+    /// player's store.
     #[inline(always)]
     pub fn play(&self, h: u8) -> HousesStep
         requires { Contains (legal_houses (bare self.now)) h }

@@ -1,7 +1,7 @@
 use crate::{Board, Houses, HousesStep, Rule};
 use std::process::Abort;
 
-// Two houses a side, under the classic rule.
+// Returns two houses a side, under the classic rule.
 fn two(rt: &impl Abort, own: [u8; 2], other: [u8; 2]) -> Houses {
     let own = [own[0], own[1], 0, 0, 0, 0];
     let other = [other[0], other[1], 0, 0, 0, 0];
@@ -18,7 +18,7 @@ fn houses_have_the_key_of_the_layout(rt: HostRuntime) {
     assert!(rt; !houses.is_over());
 }
 
-// The move of house `h` is legal and leads to `step`.
+// Asserts that the move of house `h` is legal and has the result `step`.
 fn assert_brings(rt: &impl Abort, own: [u8; 2], h: u8, step: HousesStep) {
     let own = [own[0], own[1], 0, 0, 0, 0];
     let other = [1, 1, 0, 0, 0, 0];

@@ -53,7 +53,7 @@ appended_kept (Some xs) None after bytes wrote kept = absurd wrote
 appended_kept (Some xs) (Some ys) None bytes wrote kept = absurd kept
 appended_kept (Some xs) (Some ys) (Some zs) bytes wrote kept = kept ∙ wrote
 
--- jobs that are none have no text
+-- an empty list of jobs has no text
 pub no_texts : (text : ℕ → Taken → List ℕ) (f : ℕ) (jobs : List (List Entry)) → job_count jobs ≡ 0
     → flat_map (text_of_file text) (enumerate_from f jobs) ≡ []
 no_texts text f [] none = refl

@@ -1,4 +1,4 @@
--- What a batch answers whose files have no line follows from what it answers to any files.
+-- The result of a batch whose files have no line follows from that of a batch of any files.
 use Rattle.std.proofs.Common.{◌≡◌, ◌≢◌, ◌⊎◌, ◌∙◌, ℕ, zero, suc, ◌<◌, ◌≤◌, List, [], ◌++◌, append-nil, ap, arith, inl, inr, length, refl, sym, take}
 use Rattle.std.specs.Prelude.{◌↔◌, Option, None, Some, Result, Ok, Err, IfOk}
 use Rattle.std.specs.Io.KnownBytes.{Appends, Keeps}
@@ -24,7 +24,7 @@ appends_none None new bytes none appends = tt
 appends_none (Some xs) None bytes none appends = absurd appends
 appends_none (Some xs) (Some ys) bytes none appends = appends ∙ (ap (λ l. xs ++ l) none ∙ append-nil xs)
 
--- a beginning of nothing is nothing
+-- a prefix of nothing is nothing
 starts_none : (old new : Option (List ℕ)) (bytes : List ℕ) → bytes ≡ [] → AppendsStart old new bytes → Keeps old new
 starts_none old new bytes none start = appends_none old new (take start.0 bytes) (ap (take start.0) none ∙ take_none start.0) start.1
 

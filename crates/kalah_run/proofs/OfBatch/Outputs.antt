@@ -35,7 +35,7 @@ faults_more past o faults more before is =
     let one : count_by is_faulty_job (o ∷ []) ≡ (if is_faulty_job o then 1 else 0) = omega arith in
     omega (arith, all, one, before, is)
 
--- an output of the same files goes on, where what is under way does
+-- an output advances with the state of what is under way
 pub written_on : (files : List NamedBytes) (jobs : List (List Entry)) (past : List Job) (begun out more : Option (List ℕ)) (failed fails : Bool)
     (r after : OrderedOutput) → after.files.now ≡ r.files.now → after.jobs.now ≡ r.jobs.now → after.faults ≡ r.faults
     → (IsUnderWay (text_of r.files.now) r.jobs.now past r.collector r.current begun out failed
@@ -53,7 +53,7 @@ written_on files jobs past begun out more failed fails r after same_files same_j
       faults = same_faults ∙ is.faults;
     }
 
--- an output stands where what was written is handed on
+-- an output stays written if what was written is flushed
 pub still_written : (files : List NamedBytes) (jobs : List (List Entry)) (past : List Job) (begun out later : Option (List ℕ))
     (failed fails : Bool) (r : OrderedOutput) → Keeps out later → (fails ≡ false → failed ≡ false)
     → HasWritten files jobs past begun out failed r → HasWritten files jobs past begun later fails r
@@ -70,7 +70,7 @@ still_written files jobs past begun out later failed fails r keeps sound is = re
   faults = is.faults;
 }
 
--- what a call that wrote all, or failed, did where it has not failed
+-- what a call that wrote all, or failed, did if it has not failed
 pub whole_where_sound : {A E : Type 0} (all : Type 0) (r : Result A E) (failed : Bool) → (IsErr r → failed ≡ true) → OnOk r all
     → failed ≡ false → all
 whole_where_sound all (Ok x) failed fails wrote sound = wrote

@@ -97,7 +97,7 @@ module _ (text : ℕ → Taken → List ℕ) (jobs : List (List Entry)) where
 -- a step of a batch that is under way
 module _ {text : ℕ → Taken → List ℕ} {jobs : List (List Entry)} {past : List Job} {files : List FileState} {f : ℕ} {begun out : Option (List ℕ)}
     {failed : Bool} (progress : IsUnderWay text jobs past files f begun out failed) where
-  -- A line is taken, and its text given to the sink.
+  -- A line is taken, and its text passed to the sink.
   pub wrote_line : (after : List FileState) (t : Taken) (more : Option (List ℕ)) (fails : Bool) → Takes files f (Some t) after
       → ((given : List ℕ) → WasGiven begun out failed given → WasGiven begun more fails (given ++ text f t))
       → IsUnderWay text jobs past after f begun more fails
@@ -138,7 +138,7 @@ module _ {text : ℕ → Taken → List ℕ} {jobs : List (List Entry)} {past : 
   pub wrote_nothing : (after : List FileState) → Takes files f None after → IsUnderWay text jobs past after f begun out failed
   wrote_nothing after step = subst (λ (s : List FileState). IsUnderWay text jobs past s f begun out failed) (sym step.unchanged) progress
 
-  -- a file is written wholly, and the next is the one at hand
+  -- a file is completely written, and the next becomes the current one
   pub wrote_file : f < length files → HasEnded (state_of files f) → front (state_of files f) ≤ (state_of files f).taken
       → IsUnderWay text jobs past files (f + 1) begun out failed
   wrote_file low ended all =
@@ -204,7 +204,7 @@ module _ {text : ℕ → Taken → List ℕ} {jobs : List (List Entry)} {past : 
   progress_offered o after (Err r) step =
       subst (λ (s : List FileState). IsUnderWay text jobs (past ++ o ∷ []) s f begun out failed) (sym step.unchanged) (progress_refused o r step.cause)
 
-  -- Each job was offered once, and the file at hand isn't one that has still to be waited for.
+  -- Each job was offered once, and the current file, if there is one, has not ended.
   module _ (each : AreJobsInSomeOrder jobs past) (waits : f < length files → HasEnded (state_of files f) → ⊥) where
     -- so it is past the last
     past_all : length files ≤ f

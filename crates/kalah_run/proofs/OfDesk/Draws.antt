@@ -1,4 +1,4 @@
--- A draw keeps the rule, and tells what it is to tell.
+-- A draw keeps the rule, and returns what it must.
 use Rattle.std.proofs.Common.{◌≡◌, ⊎_elim, ℕ, ◌+◌, ◌%◌, ◌^◌, ◌<◌, ◌≤◌, List, [], ◌∷◌, ◌++◌, length, set, get_or, true, false, cond, refl, sym, ap, ◌∙◌, subst, arith, length-append}
 use Rattle.std.specs.Prelude.{◌==◌, nat_lt, sum_by, count_by, All, AllPairs, MatchBool, if◌then◌else◌, slice_index}
 use Rattle.std.proofs.lemmas.List.Sums.{sum_by_push, count_by-le-length, get_or-le-sum_by}
@@ -54,7 +54,7 @@ one_more x c n same = grind (arith, nat_tests)
 module _ {S : Type 0} (plan : DeskPlan) (s : State S DeskView) (seat total number : ℕ) (numbers : List ℕ) (n : ℕ) (kept : IsKept plan s)
     (at : get_elem? s.views seat ≡ some (unspent_view total number numbers))
     (is : n ≡ drawn_in (all_rows s.views) + spent_in (all_rows s.views)) where
-  -- n is below the total: the rows stay lawful with n at the end of the pass's row, where it is above all others, and the count is
+  -- n is below the total: the rows stay lawful with n at the end of the pass's row, if it is above all others, and the count is
   -- one more
   draws_some : n < total → AreLawful plan.total (all_rows (set s.views seat (drawn_view total number numbers n)))
       × (drawn_in (all_rows (set s.views seat (drawn_view total number numbers n)))

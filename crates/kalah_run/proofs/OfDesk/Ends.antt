@@ -1,4 +1,4 @@
--- What the last word and the closing seat say of the rows.
+-- What the last word and the closing seat determine of the rows.
 use Rattle.std.proofs.Common.{◌≡◌, ⊎_elim, ℕ, ◌+◌, ◌<◌, ◌≤◌, List, [], ◌∷◌, length, sym, ap, ◌∙◌, subst, arith}
 use Rattle.std.specs.Prelude.{nat_lt, min, IsTrue}
 use Rattle.std.proofs.lemmas.Bool.{cases_lt}
@@ -14,7 +14,7 @@ use Rattle.kalah_run.specs.Desk.Rows.{drawn_in, spent_in, AreLawful}
 use Rattle.kalah_run.specs.Desk.Kept.{all_rows, IsKept}
 use Rattle.kalah_run.proofs.OfDesk.Sums.{has_all}
 
--- where the closing seat has a row for each pass, these rows are lawful, and the word counts them
+-- if the closing seat has a row for each pass, these rows are lawful, and the word counts them
 settles : {S : Type 0} (plan : DeskPlan) (seat : ℕ) (rows : List DrawnRow) (s : State S DeskView)
     → Seen {S = S} (IsKept plan) seat (Closing rows) s → length rows ≡ plan.passes
     → (s.words ≡ (drawn_in rows + spent_in rows) ∷ []) × AreLawful plan.total rows
@@ -42,7 +42,7 @@ drawn_at_end total word rows is lawful =
     ⊎_elim (λ (some_spent : 0 < spent_in rows). let full = lawful.spent some_spent in omega arith)
     (λ (few : spent_in rows ≤ 0). omega arith) (cases_lt 0 (spent_in rows))
 
--- the last word is above the total exactly where some pass is spent
+-- the last word is above the total exactly when some pass is spent
 pub spent_at_end : (total word : ℕ) (rows : List DrawnRow) → word ≡ drawn_in rows + spent_in rows → AreLawful total rows
     → (IsTrue (nat_lt total word) → 0 < spent_in rows) × (0 < spent_in rows → IsTrue (nat_lt total word))
 spent_at_end total word rows is lawful =

@@ -1,4 +1,4 @@
--- What the rule of the desk says, in plain words.
+-- The rule of the desk, in plain words.
 use Rattle.std.proofs.Common.{List, arith}
 use Rattle.std.specs.Prelude.{⊤}
 use Rattle.std.proofs.lemmas.List.Sums.{count_by-le-length}

@@ -1,4 +1,4 @@
--- What a user of a closed desk wants of its passes: some pass is spent, and the row of each.
+-- What a user of a closed desk needs of its passes: some pass is spent, and the row of each.
 use Rattle.std.proofs.Common.{◌≡◌, ℕ, zero, suc, ◌<◌, List, [], ◌∷◌, length, Bool, true, cond, refl, ap, ◌∙◌, arith}
 use Rattle.std.specs.Prelude.{slice_index_or}
 use Rattle.std.proofs.lemmas.List.{length-map}
@@ -7,7 +7,7 @@ use Rattle.kalah_run.specs.declared.desk.rule.DrawnRow.{DrawnRow}
 use Rattle.kalah_run.specs.Desk.Rows.{drawn_numbers, spent_in}
 use Rattle.kalah_run.specs.Desk.States.{PassState, drawn_rows}
 
--- where the pass at k is spent, some pass is
+-- if the pass at k is spent, some pass is
 pub some_spent : (passes : List PassState) (k : ℕ) (d : PassState) → k < length passes
     → (slice_index_or passes k d).row.spent ≡ true → 0 < spent_in (drawn_rows passes)
 some_spent [] k d within spent = absurd (omega arith)

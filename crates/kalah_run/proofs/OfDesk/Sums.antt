@@ -108,7 +108,7 @@ pub rows_within_passes : (views : List DeskView) → length (all_rows views) ≤
 rows_within_passes [] = omega arith
 rows_within_passes (x ∷ xs) = omega (arith, rows_within_passes xs, rows_within_one x, sum_by-cons passes_in x xs, length-append (rows_in x) (all_rows xs))
 
--- where no seat stands for a pass there is no row
+-- if no seat stands for a pass there is no row
 no_passes_no_rows : (views : List DeskView) → sum_by passes_in views ≡ 0 → all_rows views ≡ []
 no_passes_no_rows views none = empty (all_rows views) (omega (arith, rows_within_passes views))
   where

@@ -85,7 +85,7 @@ puts n place v x sent e = subst (λ (u : QueueView). Pushes IsLawful n place u x
 
 -- ---- the oldest pair is got
 
--- the view of another pass says nothing of what was taken out
+-- the view of another pass states nothing of what was taken out
 fits_taken : (pairs taken after : List (ℕ × Job)) (closed passes place : ℕ) → place ≡ 0
     → (j : ℕ) (u : QueueView) → j ≢ place → Fits pairs taken closed passes j u → Fits pairs after closed passes j u
 fits_taken pairs taken after closed passes place foremost j (Putting number sent) other h = h
@@ -125,7 +125,7 @@ gets place v made got known e = subst (λ (u : QueueView). Pops IsLawful place u
 
 -- ---- a pass is made for the next worker
 
--- the views of the other passes fit where there is a pass more
+-- the views of the other passes fit if there is a pass more
 fits_made : (pairs taken : List (ℕ × Job)) (closed passes after place : ℕ) → place ≡ 0
     → (j : ℕ) (u : QueueView) → j ≢ place → Fits pairs taken closed passes j u → Fits pairs taken closed after j u
 fits_made pairs taken closed passes after place foremost j (Putting number sent) other h = h
@@ -174,7 +174,7 @@ forks place v made got e = subst (λ (u : QueueView). Forks IsLawful place u (af
 
 -- ---- a worker's pass is reclaimed
 
--- the views of the other passes fit where one worker more has ended
+-- the views of the other passes fit if one worker more has ended
 fits_ended : (pairs taken : List (ℕ × Job)) (closed passes place ended : ℕ) → place ≡ 0 → ended ≡ suc closed
     → (j : ℕ) (u : QueueView) → j ≢ place → j ≢ ended → Fits pairs taken closed passes j u → Fits pairs taken (closed + 1) passes j u
 fits_ended pairs taken closed passes place ended foremost is j (Putting number sent) other apart h =

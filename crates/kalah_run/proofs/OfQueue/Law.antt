@@ -1,4 +1,4 @@
--- What the rule of the results queue says, in plain words.
+-- The rule of the results queue, in plain words.
 use Rattle.std.proofs.Common.{◌≡◌, ℕ, suc, ◌<◌, List, ◌++◌, length, sym, arith}
 use Rattle.kalah_jobs.specs.declared.files.job.Job.{Job}
 use Rattle.kalah_run.specs.declared.queue.rule.QueueView.{QueueView}

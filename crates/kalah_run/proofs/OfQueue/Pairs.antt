@@ -1,4 +1,4 @@
--- What the pairs tell of one worker, and of all.
+-- What the pairs determine of one worker, and of all.
 use Rattle.std.proofs.Common.{◌≡◌, ◌≢◌, ℕ, zero, suc, ◌+◌, ◌<◌, ◌≤◌, ◌==◌, if◌then◌else◌, Bool, true, false, List, [], ◌∷◌, ◌++◌, length, All, slice_index_or, refl, sym, ap, ◌∙◌, eq-eqb, ne_eqb, arith}
 use Rattle.std.proofs.lemmas.List.{append-nil}
 use Rattle.std.proofs.lemmas.List.Elements.{All-append}

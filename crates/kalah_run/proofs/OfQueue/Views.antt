@@ -24,7 +24,7 @@ at_end (x ∷ xs) a b zero e = inl e
 at_end (x ∷ xs) a b (suc place) e =
     ⊎_elim (λ (h : get_elem? xs place ≡ some b). inl h) (λ (h : (place ≡ length xs) × (a ≡ b)). inr (ap suc h.0, h.1)) (at_end xs a b place e)
 
--- where one view changes, its fact is shown anew and the others' may change with it
+-- if one view changes, its fact is shown anew and the others' may change with it
 pub each_set : (F : ℕ → QueueView → Type 0) (views : List QueueView) (place : ℕ) (w : QueueView) → F place w
     → ((j : ℕ) (u : QueueView) → j ≢ place → get_elem? views j ≡ some u → F j u) → Each F (set views place w)
 each_set F views place w mine others j u e =
@@ -33,26 +33,26 @@ each_set F views place w mine others j u e =
 
 -- ---- the first view
 
--- it changes where it is set
+-- it changes if it is set
 pub first_set : (views : List QueueView) (place : ℕ) (v w : QueueView) → place ≡ 0 → get_elem? views 0 ≡ some v
     → get_elem? (set views place w) 0 ≡ some w
 first_set [] place v w is e = absurd (some-ne-none v (sym e))
 first_set (x ∷ xs) zero v w is e = refl
 first_set (x ∷ xs) (suc place) v w is e = absurd (omega arith)
 
--- it stays where another is set
+-- it stays if another is set
 pub first_same : (views : List QueueView) (place : ℕ) (v w : QueueView) → 0 < place → get_elem? views 0 ≡ some v
     → get_elem? (set views place w) 0 ≡ some v
 first_same [] place v w behind e = absurd (some-ne-none v (sym e))
 first_same (x ∷ xs) zero v w behind e = absurd (omega arith)
 first_same (x ∷ xs) (suc place) v w behind e = e
 
--- and where there is one more
+-- and if there is one more
 pub first_longer : (views : List QueueView) (v w : QueueView) → get_elem? views 0 ≡ some v → get_elem? (views ++ w ∷ []) 0 ≡ some v
 first_longer [] v w e = absurd (some-ne-none v (sym e))
 first_longer (x ∷ xs) v w e = e
 
--- one view alone
+-- a single view
 pub each_one : (F : ℕ → QueueView → Type 0) (v : QueueView) → F 0 v → Each F (v ∷ [])
 each_one F v p zero u e = subst (λ (y : QueueView). F 0 y) (some-injective v u e) p
 each_one F v p (suc place) u e = absurd (some-ne-none u (sym e))

@@ -1,4 +1,4 @@
--- What a batch promises, whatever is asked of its lines.
+-- What a batch promises, for each question.
 use Rattle.std.specs.Prelude.{◌≡◌, ◌≢◌, ◌↔◌, ◌<◌, ◌≤◌, ℕ, List, Option, Bool, Result, Err, length, true, IfOk, IfErr, OnOk}
 use Rattle.std.specs.Io.KnownBytes.{Appends}
 use Rattle.kalah_jobs.specs.Writing.Given.{AppendsStart}
@@ -9,15 +9,15 @@ use Rattle.kalah_run.specs.Batch.NoLine.{AnswersNothing}
 use Rattle.kalah_run.specs.declared.batch.run_fault.RunFault.{RunFault}
 use Rattle.kalah_run.specs.declared.batch.run_fault.RunFault.TheVariants.{TooManyFiles, TooManyLines, NoWorker, Write}
 
--- The lines of these files have this output, and a sink was `old` before they were answered and is `new` afterwards; `bytes` tells
--- what was written to a sink.
+-- The lines of these files have this output, and a sink was `old` before they were answered and is `new` afterwards; `bytes` is
+-- what was written to a sink, if that is known.
 pub record AnswersBatch {W : Type 0} (bytes : W → Option (List ℕ)) (has_failed is_handed_on : W → Bool) (output : List ℕ)
     (files : List NamedBytes) (old new : W) (result : Result LineCounts RunFault) : Type 0 where
-  -- Ok: the output was written, and nothing else, all of it is handed on, and lines and faults are counted
+  -- Ok: the output was written, and nothing else, all of it is flushed, and lines and faults are counted
   pub written : OnOk result (Appends (bytes old) (bytes new) output)
   pub tally : IfOk result (λ tally. tally ≡ tally_of files)
   pub handed_on : OnOk result (is_handed_on new ≡ true)
-  -- whatever comes of it: a beginning of the output was written, and nothing else
+  -- in any case: a prefix of the output was written, and nothing else
   pub start : AppendsStart (bytes old) (bytes new) output
   -- when each fault comes
   pub too_many_files : (result ≡ Err TooManyFiles) ↔ (most_files < length files)

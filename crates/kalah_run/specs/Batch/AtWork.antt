@@ -6,7 +6,7 @@ use Rattle.kalah_run.specs.Queue.States.{PutState}
 use Rattle.kalah_run.specs.Batch.Work.{Work, drawn_jobs}
 use Rattle.kalah_run.specs.declared.batch.worker.Worker.{Worker}
 
--- what the workers draw by, and what they send by
+-- the passes by which the workers draw, and those by which they send
 abbrev pub passes_of : List Worker → List PassState
 passes_of workers = map (λ w. w.pass) workers
 

@@ -28,12 +28,12 @@ outcomes_in pairs = map (λ pair. pair.1) pairs
 
 -- ---- an output before and after, each with what the sink has then, and whether it has failed
 
--- An output writes what is ready, and waits then.
+-- An output writes what is ready, and then waits.
 abbrev pub WritesReady : OrderedOutput → Option (List ℕ) → Bool → OrderedOutput → Option (List ℕ) → Bool → Type 0
 WritesReady r out failed after more fails = (files : List NamedBytes) → (jobs : List (List Entry)) → (past : List Job) → (begun : Option (List ℕ))
     → HasWritten files jobs past begun out failed r → HasWritten files jobs past begun more fails after × Waits after
 
--- It accepts one outcome more.
+-- It accepts one more outcome.
 abbrev pub Accepts : Job → OrderedOutput → Option (List ℕ) → Bool → OrderedOutput → Option (List ℕ) → Bool → Type 0
 Accepts o r out failed after more fails = (files : List NamedBytes) → (jobs : List (List Entry)) → (past : List Job) → (begun : Option (List ℕ))
     → HasWritten files jobs past begun out failed r → HasWritten files jobs (past ++ o ∷ []) begun more fails after × Waits after

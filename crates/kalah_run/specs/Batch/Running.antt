@@ -16,7 +16,7 @@ pub record CanRun (work : Work) (workers : List Worker) (pass : GetState) (outpu
   pub nothing_got : pass.got ≡ []
   pub no_fault : output.faults ≡ 0
 
--- Each worker has run. As many outcomes were got as there are jobs, and the output has accepted them, where a sink was `old` and is `new`.
+-- Each worker has run. One outcome was received for each job, and the output has accepted them, if a sink was `old` and is `new`.
 pub record HasEnded {W : Type 0} (bytes : W → Option (List ℕ)) (has_failed : W → Bool) (work : Work) (workers : List Worker)
     (pass : GetState) (output : OrderedOutput) (old new : W) (ran : Ran) : Type 0 where
   pub all_ran : HaveRun work workers ran.workers.items

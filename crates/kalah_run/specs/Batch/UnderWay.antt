@@ -12,7 +12,7 @@ use Rattle.kalah_jobs.specs.Writing.Output.{text_of_line, text_of_file}
 use Rattle.kalah_jobs.specs.Writing.Given.{AppendsStart}
 
 -- A sink that had `begun` was given bs, in order. It has all of them behind that, unless a call of it has failed; and then it
--- has a beginning of them, and nothing else.
+-- has a prefix of them, and nothing else.
 pub record WasGiven (begun out : Option (List ℕ)) (failed : Bool) (bs : List ℕ) : Type 0 where
   pub start : AppendsStart begun out bs
   pub whole : failed ≡ false → Appends begun out bs
@@ -22,7 +22,7 @@ unfoldable pub written_upto : (ℕ → Taken → List ℕ) → List (List Entry)
 written_upto text jobs f n =
     flat_map (text_of_file text) (take f (enumerate_from 0 jobs)) ++ flat_map (text_of_line text f) (take n (enumerate_from 0 (entries_of jobs f)))
 
--- With these offers made, the files before f are taken wholly and those behind it not at all. The sink was given the text of each
+-- With these offers made, the files before f are completely taken and those behind it not at all. The sink was given the text of each
 -- line that was taken, in order.
 pub record IsUnderWay (text : ℕ → Taken → List ℕ) (jobs : List (List Entry)) (past : List Job) (files : List FileState) (f : ℕ)
     (begun out : Option (List ℕ)) (failed : Bool) : Type 0 where

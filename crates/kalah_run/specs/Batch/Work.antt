@@ -1,4 +1,4 @@
--- What the workers of a batch are to do.
+-- The work of the workers of a batch.
 use Rattle.std.specs.Prelude.{ℕ, List, map}
 use Rattle.atomic_table.specs.Seated.{TableId}
 use Rattle.kalah_jobs.specs.declared.files.entry.Entry.{Entry}

@@ -28,14 +28,14 @@ rows_in _ = []
 abbrev pub all_rows : List DeskView → List DrawnRow
 all_rows views = flat_map rows_in views
 
--- how many passes a seat stands for: those that it is to hand out, itself, or those that it took in
+-- the number of passes of a seat: those that it is to hand out, itself, or those that it took in
 abbrev pub passes_in : DeskView → ℕ
 passes_in (Opening total handed_out left) = left
 passes_in (Drawing total number r) = 1
 passes_in (Closing rows) = length rows
 passes_in Ended = 0
 
--- where a seat knows a total, it is t
+-- if a seat knows a total, it is t
 abbrev pub HasTotal : ℕ → DeskView → Type 0
 HasTotal t (Opening total handed_out left) = total ≡ t
 HasTotal t (Drawing total number r) = total ≡ t

@@ -1,4 +1,4 @@
--- The rows of a desk: for each pass the numbers that it has drawn, and whether it was answered None.
+-- The rows of a desk: for each pass the numbers that it has drawn, and whether it is spent.
 use Rattle.std.specs.Prelude.{◌≡◌, ◌≢◌, ℕ, ◌+◌, ◌<◌, ◌≤◌, ◌==◌, List, length, map, fold, Bool, nat_lt, if◌then◌else◌, sum_by, count_by, All, AllPairs, slice_index_or}
 use Rattle.kalah_jobs.specs.Collecting.Shares.{times_in}
 use Rattle.kalah_run.specs.declared.desk.rule.DrawnRow.{DrawnRow}
@@ -10,16 +10,16 @@ drawn_row numbers spent = record { numbers = numbers; spent = spent }
 abbrev pub drawn_numbers : List DrawnRow → List (List ℕ)
 drawn_numbers rows = map (λ r. r.numbers) rows
 
--- how many numbers stand in the rows
+-- the number of numbers in the rows
 abbrev pub drawn_in : List DrawnRow → ℕ
 drawn_in rows = sum_by (λ r. length r.numbers) rows
 
--- how many passes were answered None
+-- the number of spent passes
 abbrev pub spent_in : List DrawnRow → ℕ
 spent_in rows = count_by (λ r. r.spent) rows
 
--- With c numbers in the rows, at most the total: each number below c stands there once and no other stands there; each row rises; a pass is
--- spent only where c is the total
+-- With c numbers in the rows, at most the total: each number below c stands there once, no other stands there, each row ascends; a pass is
+-- spent only if c is the total
 pub record AreLawful (total : ℕ) (rows : List DrawnRow) : Type 0 where
   pub within : drawn_in rows ≤ total
   pub each_once : (x : ℕ) → times_in x (drawn_numbers rows) ≡ (if nat_lt x (drawn_in rows) then 1 else 0)
@@ -37,6 +37,6 @@ pub record StandsOnce (x : ℕ) (rows : List DrawnRow) : Type 0 where
 abbrev pub StandsNowhere : ℕ → List DrawnRow → Type 0
 StandsNowhere x rows = All (λ r. count_by (λ y. y == x) r.numbers ≡ 0) rows
 
--- one above the last number of a row, and 0 for an empty row: it grows with each draw, so what it leaves of the total is a measure for a loop that draws
+-- one above the last number of a row, and 0 for an empty row: it grows with each draw, so the total bounds the draws of a loop
 abbrev pub least_above : List ℕ → ℕ
 least_above numbers = fold (λ above x. x + 1) 0 numbers

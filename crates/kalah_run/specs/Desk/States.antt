@@ -6,20 +6,20 @@ use Rattle.kalah_run.specs.declared.desk.rule.DeskView.{DeskView}
 use Rattle.kalah_run.specs.declared.desk.rule.DeskView.TheVariants.{Drawing}
 use Rattle.kalah_run.specs.Desk.Rows.{drawn_row}
 
--- which desk it is, the total, and how many passes it has
+-- the identity of the desk, the total, and the number of passes
 pub record DeskState : Type 0 where
   pub id : TableId
   pub total : ℕ
   pub passes : ℕ
 
--- which desk the pass is of, with its total; the pass's number, and its row
+-- the desk of the pass, with its total; the pass's number, and its row
 pub record PassState : Type 0 where
   pub desk : TableId
   pub total : ℕ
   pub number : ℕ
   pub row : DrawnRow
 
--- how many numbers were drawn, and whether some pass was answered None
+-- how many numbers were drawn, and whether some pass is spent
 pub record ClosedDeskState : Type 0 where
   pub drawn : ℕ
   pub spent : Bool

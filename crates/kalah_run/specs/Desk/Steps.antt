@@ -1,4 +1,4 @@
--- What each step at the desk tells, and which views it leaves.
+-- What each step at the desk returns, and which views it leaves.
 use Rattle.std.specs.Prelude.{◌≡◌, ℕ, ◌+◌, ◌-◌, ◌<◌, [], ◌∷◌, ◌++◌, true, false, nat_lt, All, MatchBool}
 use Rattle.atomic_table.specs.Table.{Me, Step}
 use Rattle.kalah_run.specs.declared.desk.rule.DeskView.{DeskView}
@@ -6,7 +6,7 @@ use Rattle.kalah_run.specs.declared.desk.rule.DeskView.TheVariants.{Opening, Dra
 use Rattle.kalah_run.specs.Desk.Rows.{drawn_row}
 use Rattle.kalah_run.specs.Desk.Kept.{rows_in}
 
--- The view w after a draw that found n: where n is below the total it ends the row, above all numbers there; else the pass is spent
+-- The view w after a draw that found n: if n is below the total it ends the row, above all numbers there; else the pass is spent
 abbrev pub DrawsFrom : DeskView → ℕ → DeskView → Type 0
 DrawsFrom (Drawing total number r) n w =
     MatchBool (nat_lt n total)
@@ -14,7 +14,7 @@ DrawsFrom (Drawing total number r) n w =
     (w ≡ Drawing total number (drawn_row r.numbers true))
 DrawsFrom _ n w = Unit {0}
 
--- a pass draws, and its seat holds what it held
+-- a pass draws from what its seat holds
 abbrev pub Draws : {S : Type 0} → Step S → Me S DeskView → ℕ → Me S DeskView → Type 0
 Draws step me n now = (now.1 ≡ me.1) × DrawsFrom me.0 n now.0
 

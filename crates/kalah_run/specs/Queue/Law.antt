@@ -1,4 +1,4 @@
--- What the rule of the results queue says, in plain words.
+-- The rule of the results queue, in plain words.
 use Rattle.std.specs.Prelude.{◌≡◌, ℕ, ◌<◌, List, ◌++◌, length, All, slice_index_or, []}
 use mathlib.Core.Option.{some}
 use lib.ListN.{get_elem?}
@@ -22,6 +22,6 @@ pub record IsWholeAndInOrder (items : List (ℕ × Job)) (views : List QueueView
       → (worker < workers) × (of worker (got ++ items) ≡ sent)
   pub reclaimed : (worker : ℕ) → worker < length ended → of worker (got ++ items) ≡ slice_index_or ended worker []
 
--- between any two steps of any threads, whatever the queue holds
+-- between any two steps of any threads, for any contents of the queue
 abbrev pub QueueIsLawful : Type 0
 QueueIsLawful = (items : List (ℕ × Job)) (views : List QueueView) → IsLawful items views → IsWholeAndInOrder items views

@@ -3,7 +3,7 @@ use Rattle.std.specs.Prelude.{◌≡◌, ℕ, ◌<◌, List, [], length, slice_i
 use Rattle.kalah_jobs.specs.declared.files.job.Job.{Job}
 use Rattle.kalah_jobs.specs.Collecting.Shares.{of}
 
--- The pairs of a worker and its outcome tell all that was sent: each is of one of so many workers, and those of a worker in the list `sent`
+-- The pairs of a worker and its outcome are all that was sent: each is of a worker below `workers`, and those of a worker in list `sent`
 -- are what it sent, whole and in its order.
 pub record Accounts (workers : ℕ) (sent : List (List Job)) (pairs : List (ℕ × Job)) : Type 0 where
   pub below : All (λ pair. pair.0 < workers) pairs

@@ -1,4 +1,4 @@
--- The rule of the results queue: of each worker, what was got and then what the queue holds is what the worker has sent, in its order.
+-- The rule of the results queue: of each worker, what was got, followed by what the queue holds, is what the worker has sent, in its order.
 use Rattle.std.specs.Prelude.{◌≡◌, ℕ, suc, ◌≤◌, List, ◌++◌, length}
 use mathlib.Core.Option.{some}
 use lib.ListN.{get_elem?}
@@ -22,7 +22,7 @@ pub record FitsGet (pairs taken : List (ℕ × Job)) (closed passes place made :
   pub ended_known : length known ≡ closed
   pub accounts : Accounts made known pairs
 
--- the view of the pass at this place fits all pairs, of which so many were taken out
+-- the view of the pass at this place fits all pairs, if the first `taken` were taken out
 abbrev pub Fits : List (ℕ × Job) → List (ℕ × Job) → ℕ → ℕ → ℕ → QueueView → Type 0
 Fits pairs taken closed passes place (Putting number sent) = FitsPut pairs closed place number sent
 Fits pairs taken closed passes place (Getting made got known) = FitsGet pairs taken closed passes place made got known

@@ -3,7 +3,7 @@ use Rattle.std.specs.Prelude.{◌≡◌, ℕ, suc, ◌<◌, List, [], ◌∷◌,
 use Rattle.atomic_table.specs.Seated.{TableId}
 use Rattle.kalah_jobs.specs.declared.files.job.Job.{Job}
 
--- which queue it is, and how many pairs fill it
+-- the identity of the queue, and its capacity
 pub record QueueState : Type 0 where
   pub id : TableId
   pub capacity : ℕ
@@ -14,7 +14,7 @@ pub record PutState : Type 0 where
   pub number : ℕ
   pub sent : List Job
 
--- the queue that the pass gets from, how many workers there are, and all pairs that were got, in order: a worker's number and its outcome
+-- the queue that the pass gets from, the number of workers, and all pairs that were got, in order: a worker's number and its outcome
 pub record GetState : Type 0 where
   pub queue : TableId
   pub workers : ℕ

@@ -1,4 +1,4 @@
--- What each step makes of what a pass of the results queue knows.
+-- How each step changes what a pass of the results queue knows.
 use Rattle.std.specs.Prelude.{◌≡◌, ℕ, ◌+◌, ◌<◌, List, [], ◌∷◌, ◌++◌}
 use Rattle.kalah_jobs.specs.declared.files.job.Job.{Job}
 use Rattle.kalah_run.specs.declared.queue.rule.QueueView.{QueueView}
@@ -14,7 +14,7 @@ abbrev pub sent_in : QueueView → List Job
 sent_in (Putting number sent) = sent
 sent_in _ = []
 
--- how many passes to put were made
+-- the number of passes to put that were made
 abbrev pub made_in : QueueView → ℕ
 made_in (Getting made got known) = made
 made_in _ = 0
@@ -24,7 +24,7 @@ abbrev pub got_in : QueueView → List (ℕ × Job)
 got_in (Getting made got known) = got
 got_in _ = []
 
--- what the workers had sent whose passes were reclaimed
+-- what the workers whose passes were reclaimed had sent
 abbrev pub known_in : QueueView → List (List Job)
 known_in (Getting made got known) = known
 known_in _ = []
@@ -58,7 +58,7 @@ abbrev pub after_reclaiming_sent : QueueView → QueueView → QueueView
 after_reclaiming_sent (Getting made got known) other = Getting made got (known ++ sent_in other ∷ [])
 after_reclaiming_sent view other = view
 
--- what was got and then what the queue holds tells all that is known
+-- what was got, followed by what the queue holds, is all that is known
 abbrev pub Tells : QueueView → List (ℕ × Job) → Type 0
 Tells (Getting made got known) items = Accounts made known (got ++ items)
 Tells _ items = Unit {0}

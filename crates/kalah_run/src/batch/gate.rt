@@ -1,12 +1,12 @@
-//! Who is told when a worker begins a job and when it has handed the outcome on.
+//! The gate: an observer that workers call before each job and after its outcome is sent.
 
-/// A worker calls `before` when it has a job and hasn't begun it, and `after` once the outcome of that job is made and
-/// handed on. Many workers may call at once.
+/// A worker calls `before` when it has drawn a job and has not started it, and `after` once the outcome of that job is
+/// sent. Many workers may call at once.
 pub trait Gate: Sync {
-    /// A worker has the job of this number, and hasn't begun it.
+    /// A worker has drawn job `job`, and has not started it.
     fn before(&self, job: u32);
 
-    /// The outcome of the job of this number is handed on.
+    /// The outcome of job `job` is sent.
     fn after(&self, job: u32);
 }
 

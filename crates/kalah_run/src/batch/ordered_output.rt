@@ -6,8 +6,8 @@ ghost use Rattle.kalah_jobs.specs.Collecting.CollectorState.{HasLinesOf};
 use kalah_jobs::{Answer, Collector, FileText, Jobs, Outcome, Sink, write_answer};
 use std::alloc::{AllocError, Global};
 
-/// What came of a batch so far, and how far it is written. `current` is the file whose lines are written next: the
-/// files before it are written wholly.
+/// What has come for a batch, and how much of it is written. `current` is the file whose lines are written next: the
+/// files before it are completely written.
 #[derive(Drop)]
 pub(crate) struct OrderedOutput<'a> {
     pub(crate) files: &'a [FileText],
@@ -19,7 +19,7 @@ pub(crate) struct OrderedOutput<'a> {
     ghost counts: { HasLinesOf jobs.now collector },
 }
 
-// One for a fault, and else none.
+// Returns 1 for a fault, and else 0.
 fn faults_in(answer: Answer) -> u32
     ensures { result ≡ (if is_fault answer then 1 else 0) }
 {
@@ -32,7 +32,7 @@ fn faults_in(answer: Answer) -> u32
 impl<'a> OrderedOutput<'a> {
     ghost use Rattle.kalah_run.specs.Batch.OrderedOutput.{HasWritten, Accepts, WritesReady};
 
-    /// The output of these files, of which nothing has come. It takes all its memory here.
+    /// Makes the output of these files, with no outcome yet. It allocates all its memory here.
     pub(crate) fn new(
         alloc: Global,
         files: &'a [FileText],
@@ -51,7 +51,7 @@ impl<'a> OrderedOutput<'a> {
         })
     }
 
-    /// Writes each line that is ready and before which all is written.
+    /// Writes the next lines in output order, as far as they are ready.
     pub(crate) fn write<W: Sink>(&mut self, out: &mut W)
         ensures progress { WritesReady self.old (W.written out.old) (W.has_failed out.old) self.new (W.written out.new) (W.has_failed out.new) }
         ensures faults { self.new.faults ≡ self.old.faults }
@@ -72,7 +72,7 @@ impl<'a> OrderedOutput<'a> {
         }
     }
 
-    /// Accepts an outcome, and writes each line that is ready by it and before which all is written.
+    /// Accepts an outcome, and then writes the next lines in output order, as far as they are ready.
     pub(crate) fn accept<W: Sink>(&mut self, outcome: Outcome, out: &mut W)
         requires { self.old.faults + 1 < 2 ^ 32 }
         ensures progress { Accepts outcome self.old (W.written out.old) (W.has_failed out.old) self.new (W.written out.new) (W.has_failed out.new) }

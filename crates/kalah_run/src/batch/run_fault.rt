@@ -1,11 +1,11 @@
-//! Why a batch has no tally.
+//! Errors of a batch.
 ghost use Rattle.std.specs.Prelude.{◌≡◌};
 
 use kalah_jobs::JobsFault;
 use std::alloc::AllocError;
 use thiserror::Error;
 
-/// Why a batch has no tally: the first of these that holds.
+/// Why a batch failed: the first of these that holds.
 #[derive(Clone, Copy, Debug, PartialEq, Eq, Error)]
 pub enum RunFault {
     /// There are more than 256 files.

@@ -1,4 +1,4 @@
-//! One thread runs the workers, while the calling thread accepts what they send.
+//! Runs the workers on one thread, while the calling thread accepts what they send.
 ghost use Rattle.std.specs.Prelude.{◌≡◌, [], length, IfErr, IfOk, OnErr};
 ghost use Rattle.std.specs.Thread.{IsSync};
 ghost use Rattle.kalah_jobs.specs.Files.Jobs.{job_count};
@@ -20,14 +20,14 @@ use std::sync::Wait;
 use std::thread;
 use std::thread::{Promise, Threads};
 
-/// With each outcome so many tries more are made for the next, before the thread sleeps. So tries that find nothing take a
+/// Each outcome adds this many tries for the next one before the thread sleeps. So tries that find nothing take a
 /// small share of the time that the outcomes took.
 const TRIES_FOR_EACH: u32 = 16;
 
-/// At most so many tries are saved up: those of a full queue. They take longer than to wake a worker that found it full.
+/// The most tries that are saved up: those of a full queue. They take longer than waking a worker that found it full.
 const MOST_TRIES: u32 = TRIES_FOR_EACH * QUEUE_CAPACITY;
 
-/// What comes back of a run: the workers, the pass to get, and the output.
+/// The result of a run: the workers, the pass to get, and the output.
 #[derive(Drop)]
 pub(crate) struct Ran<'a> {
     pub(crate) workers: Vec<Worker>,
@@ -35,7 +35,7 @@ pub(crate) struct Ran<'a> {
     pub(crate) output: OrderedOutput<'a>,
 }
 
-// What the thread gives back is the list of workers that it was given, and each has run.
+// The thread returns the list of workers that it was given, and each has run.
 #[derive(Drop)]
 struct AllHaveRun<'a, 'b, G: Gate>(Snapshot<Crew<'a, 'b, G>>);
 
@@ -46,8 +46,8 @@ impl<'a, 'b, G: Gate> Promise<Vec<Worker>> for AllHaveRun<'a, 'b, G> {
     ghost kept_by = { λ p r. HaveRun (work_of p.0.value.shared.now) p.0.value.workers.items r.items };
 }
 
-// Accepts the outcome of each job, and writes each line once it is ready and all before it are written. Where no outcome
-// comes soon, the output may hand on what it holds back before the wait.
+// Accepts the outcome of each job, and writes each line once it is ready and all earlier ones are written. If no outcome
+// comes soon, the output may flush what it buffers before the wait.
 fn collect<R: Wait, W: Sink>(
     rt: &R,
     queue: &ResultsQueue,
@@ -81,8 +81,8 @@ fn collect<R: Wait, W: Sink>(
     }
 }
 
-/// Runs the crew on further threads, and meanwhile accepts the outcome of each job and writes what is ready. What was handed
-/// over is given back. `NoWorker` where no thread could be started; then nothing is written.
+/// Runs the crew on further threads, and meanwhile accepts the outcome of each job and writes what is ready. Returns what was handed
+/// over. Fails with `NoWorker` if no thread could be started; then nothing is written.
 pub(crate) fn run_and_write<'a, R: Threads + Wait + Sync, G: Gate, W: Sink>(
     rt: &R,
     crew: Crew<'_, '_, G>,

@@ -7,7 +7,7 @@ use crate::desk::Desk;
 use crate::queue::ResultsQueue;
 use kalah_jobs::Jobs;
 
-/// What all workers of a batch share: where they draw and send, the jobs, and who is told.
+/// What all workers of a batch share: the desk at which they draw, the queue through which they send, the jobs, and the gate.
 #[derive(Drop)]
 pub(crate) struct SharedWork<'a, G: Gate> {
     pub(crate) desk: &'a Desk,

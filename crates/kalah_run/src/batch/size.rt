@@ -1,8 +1,8 @@
-//! How many workers answer a batch, and how large their tables are.
+//! The number of workers of a batch, and the size of their tables.
 ghost use Rattle.std.specs.Prelude.{◌≡◌, ◌<◌, min};
 ghost use Rattle.kalah_run.specs.Limits.{AreWorkers, IsTableSize};
 
-/// How many workers answer a batch, 1 to 64, and how many entries each one's table has, 1 to 1,048,576.
+/// The number of workers of a batch, 1 to 64, and the number of entries of each one's table, 1 to 1,048,576.
 #[derive(Clone, Copy)]
 pub struct BatchSize {
     pub workers: u32,
@@ -12,7 +12,7 @@ pub struct BatchSize {
 }
 
 impl BatchSize {
-    /// Returns the size with no more workers than there are lines, of which there is at least one.
+    /// Returns the size with no more workers than lines. There must be at least one line.
     pub(crate) fn for_lines(self, lines: u32) -> BatchSize
         requires { 0 < lines }
         ensures workers { result.workers ≡ min self.workers lines }

@@ -1,12 +1,12 @@
-//! What a batch counts.
+//! The counts of a batch.
 use std::marker::Model;
 
-/// What a batch has answered.
+/// How many lines a batch has answered.
 #[derive(Clone, Copy, Debug, PartialEq, Eq)]
 pub struct Tally {
-    /// How many lines were answered.
+    /// The number of lines that were answered.
     pub lines: u32,
-    /// How many of them were answered by a fault.
+    /// The number of lines that were answered by a fault.
     pub faults: u32,
 }
 

@@ -61,14 +61,14 @@ fn add_file(rt: &impl Abort, alloc: Global, files: &mut Vec<FileText>, name: &st
     files.push(file).expect(rt, "no memory");
 }
 
-// One file of so many lines `1/0 1/0`.
+// One file of `count` lines `1/0 1/0`.
 fn same_lines(rt: &impl Abort, alloc: Global, count: u32) -> [FileText; 1] {
     let text = "1/0 1/0\n".repeat(alloc, count as usize);
     let text = text.expect(rt, "no memory");
     [file_of(alloc, "n", text.as_bytes()).expect(rt, "no memory")]
 }
 
-// The answers to so many lines `1/0 1/0` of a file `n`.
+// The answers to `count` lines `1/0 1/0` of a file `n`.
 fn same_answers(rt: &impl Abort, alloc: Global, count: u32) -> String {
     let mut text = String::new(alloc);
     for line in 0..count {
@@ -104,7 +104,7 @@ fn answers<R: Threads + Wait + Sync, G: Gate>(
         && written.as_slice() == text.as_bytes()
 }
 
-// The batch of so many lines `1/0 1/0` writes their answers.
+// The batch of `count` lines `1/0 1/0` writes their answers.
 fn lines_are_answered<R: Abort + Threads + Wait + Sync, G: Gate>(
     rt: &R,
     alloc: Global,
@@ -139,7 +139,7 @@ fn one_file_answers<R: Abort + Threads + Wait + Sync>(
     answers(rt, alloc, &[file], workers, table, &OpenGate, text, faults)
 }
 
-// A batch of two workers that asks this.
+// A batch of two workers with this question.
 fn batch_of<R: Threads + Wait + Sync, G: Gate, W: Sink>(
     rt: &R,
     alloc: Global,
@@ -157,10 +157,10 @@ fn batch_of<R: Threads + Wait + Sync, G: Gate, W: Sink>(
     answer_batch(rt, alloc, question, files, size, gate, out)
 }
 
-// Entries of a table, from one to the most there may be.
+// Sizes of a table, from one entry to the most allowed.
 const TABLES: [u32; 8] = [1, 2, 255, 4096, 65_535, 65_536, 65_537, 1_048_576];
 
-// The four files are answered by each number of workers, each with such a table.
+// The four files are answered by each number of workers, each with a table of this size.
 fn answered_by_any_number<R: Abort + Threads + Wait + Sync>(
     rt: &R,
     alloc: Global,
@@ -230,7 +230,7 @@ fn any_number_of_files_is_answered(rt: HostRuntime) {
     }
 }
 
-// Numbers of lines, few of them and more than the queue has places.
+// Numbers of lines, from few to more than the queue has places.
 const LINES: &[u32] = &[63, 64, 65, 200, 65_535, 65_536, 65_537];
 
 #[test]
@@ -260,7 +260,7 @@ fn a_name_of_any_length_is_written(rt: HostRuntime) {
     }
 }
 
-// What the batch of these files answers.
+// The result of the batch of these files.
 fn fault_of<R: Threads + Wait + Sync>(
     rt: &R,
     alloc: Global,
@@ -274,7 +274,7 @@ fn fault_of<R: Threads + Wait + Sync>(
     tally.err()
 }
 
-// As many empty files as there may be, and one more, which has too many lines.
+// The most empty files allowed, and one more, which has too many lines.
 fn too_many_files(rt: &impl Abort, alloc: Global) -> Vec<FileText> {
     let mut files = Vec::new(alloc);
     for _ in 0..256 {

@@ -11,12 +11,12 @@ use std::sync::Wait;
 use std::thread;
 use std::thread::Threads;
 
-/// One worker of a batch: what it draws by, what it sends by, and its solver.
+/// One worker of a batch: the pass by which it draws, the pass by which it sends, and its solver.
 #[derive(Drop)]
 pub(crate) struct Worker {
     pub(crate) pass: Pass,
     pub(crate) put: PutPass,
-    // Workers stand side by side in one list, and each thread changes its own solver all the time.
+    // Workers are adjacent in one list, and each thread changes its own solver all the time.
     pub(crate) solver: CachePadded<Solver>,
 }
 
@@ -24,7 +24,7 @@ impl Worker {
     ghost use Rattle.kalah_run.specs.Batch.AtWork.{IsAtWork, HasRun};
     ghost use Rattle.kalah_run.specs.Batch.Work.{work_of};
 
-    // Draws jobs, and solves each and sends its outcome, until there is nothing left to draw.
+    // Draws jobs, solves each and sends its outcome, until there is nothing left to draw.
     fn run<R: Wait, G: Gate>(&mut self, rt: &R, shared: &SharedWork<'_, G>)
         requires { IsAtWork (work_of shared.now) self.old }
         ensures { HasRun (work_of shared.now) self.old self.new }
@@ -50,7 +50,7 @@ impl<'a, 'b, G: Gate> Crew<'a, 'b, G> {
     ghost use Rattle.kalah_run.specs.Batch.AtWork.{IsAtWork, AreAtWork, HasRun, HaveRun};
     ghost use Rattle.kalah_run.specs.Batch.Work.{work_of};
 
-    /// Runs each worker in a thread of its own, as far as threads can be made, and gives the workers back.
+    /// Runs each worker in a thread of its own, as far as threads can be started, and returns the workers.
     pub(crate) fn run<R: Threads + Wait + Sync>(self, rt: &R) -> Vec<Worker>
         requires { AreAtWork (work_of self.shared.now) self.workers.items }
         ensures { HaveRun (work_of self.entry.shared.now) self.entry.workers.items result.items }

@@ -1,4 +1,4 @@
-//! The workers of a batch, and where they draw and send.
+//! The workers of a batch, with their desk and queue.
 ghost use Rattle.std.specs.Prelude.{◌≡◌, ◌≤◌, [], length, vec_len, vec_capacity, IfOk};
 ghost use Rattle.kalah_run.specs.Batch.AtWork.{passes_of, puts_of};
 ghost use Rattle.kalah_run.specs.Batch.Workers.{AreReady};
@@ -14,10 +14,10 @@ use kalah_jobs::Jobs;
 use kalah_solve::{Solver, Table};
 use std::alloc::{AllocError, Global};
 
-/// How many outcomes may be on their way to the calling thread.
+/// The most outcomes that may be on their way to the calling thread.
 pub(crate) const QUEUE_CAPACITY: u32 = 64;
 
-// A solver for one more worker. All share what they learn of endings.
+// Makes a solver for one more worker. All share what they learn of endings.
 fn new_solver(alloc: Global, workers: &[Worker], size: BatchSize) -> Result<Solver, AllocError> {
     match workers.last() {
         Some(worker) => worker.solver.beside(alloc, size.table),
@@ -25,7 +25,7 @@ fn new_solver(alloc: Global, workers: &[Worker], size: BatchSize) -> Result<Solv
     }
 }
 
-// A worker for each pair of passes, in their order, each with a solver of its own.
+// Makes a worker for each pair of passes, in their order, each with a solver of its own.
 fn put_together(
     alloc: Global,
     passes: Vec<Pass>,
@@ -52,7 +52,7 @@ fn put_together(
     Ok(workers)
 }
 
-/// The passes of the workers, in their order, put into two lists that have room for them.
+/// Moves the passes of the workers, in their order, into two lists that have room for them.
 pub(crate) fn take_apart(
     workers: Vec<Worker>,
     mut passes: Vec<Pass>,
@@ -89,7 +89,7 @@ pub(crate) struct Workers {
 }
 
 impl Workers {
-    /// As many workers for these jobs, with such tables, as the size says. It takes all its memory here.
+    /// Makes the workers for these jobs, of the given size. It allocates all its memory here.
     pub(crate) fn open(alloc: Global, jobs: &Jobs, size: BatchSize) -> Result<Workers, AllocError>
         ensures { IfOk result (AreReady jobs.now) }
     {

@@ -1,4 +1,4 @@
-//! The law of the rule under which passes draw side by side, on a function of its own.
+//! The law of the rule under which passes draw in parallel, on a function of its own.
 ghost use Rattle.kalah_run.specs.Desk.Law.{DeskIsLawful};
 
 /// Between any two steps of any threads at a desk, each number below the count of those drawn stands in the row of one pass, and

@@ -3,9 +3,9 @@ use crate::desk::rule::DeskView;
 use atomic_table::Seat;
 use std::marker::Model;
 
-/// The right to draw numbers at one desk. It is seen as that desk's identity and total, the
-/// pass's number, and the row of the numbers that it has drawn. One that was answered None is
-/// spent: it is answered None for good, and steps on the desk's word no more.
+/// The right to draw numbers at one desk. Contracts see it as that desk's identity and total, the
+/// pass's number, and the row of the numbers that it has drawn. A pass is spent once a draw of it
+/// returned `None`: every later draw returns `None` too, and does not step on the desk's word.
 #[derive(Drop)]
 pub struct Pass {
     pub(crate) seat: Seat<(), DeskView>,

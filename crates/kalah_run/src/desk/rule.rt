@@ -1,15 +1,15 @@
-//! The rule under which the desk's word is kept, and what each step on it tells.
+//! The rule under which the desk's word is kept, and what each step on it returns.
 use atomic_table::{Join, Play, Split, TableRule};
 use std::collections::LinkedList;
 
-/// The numbers that one pass has drawn, in the order drawn, and whether the pass was answered None.
-/// Contracts speak of rows; no program makes one.
+/// The numbers that one pass has drawn, in the order drawn, and whether the pass is spent.
+/// It is used in contracts only; no program makes one.
 pub struct DrawnRow {
     pub numbers: LinkedList<u32>,
     pub spent: bool,
 }
 
-/// What one seat at the desk's table knows. It exists in contracts alone; no program makes one.
+/// What one seat at the desk's table knows. It is used in contracts only; no program makes one.
 pub enum DeskView {
     /// The seat that hands out the passes: the total, how many passes it has handed out, and how
     /// many are left.
@@ -22,7 +22,7 @@ pub enum DeskView {
     Ended,
 }
 
-/// What the desk is opened with: numbers below `total`, for so many `passes`.
+/// The plan with which the desk is opened: numbers below `total`, for `passes` passes.
 #[derive(Drop)]
 pub struct DeskPlan {
     pub total: u32,
@@ -30,7 +30,7 @@ pub struct DeskPlan {
 }
 
 /// The rule: between any two steps the rows of all passes are lawful, and the word counts the
-/// numbers drawn and the passes that were answered None.
+/// numbers drawn and the spent passes.
 pub struct DeskRule;
 
 impl TableRule<(), DeskView, DeskPlan> for DeskRule {

@@ -7,7 +7,7 @@ use std::process::Abort;
 use std::thread;
 use std::thread::Threads;
 
-// Draws with the pass until it is answered None. The answer has the numbers drawn, in order.
+// Draws with the pass until a draw returns `None`. Returns the numbers drawn, in order.
 fn draw_all(desk: &Desk, alloc: Global, mut pass: Pass) -> Result<(Pass, Vec<u32>), AllocError>
     requires { IsPassAt desk.now pass }
     ensures { IfOk result (λ r. IsPassAt desk.now r.0) }
@@ -40,7 +40,7 @@ fn gather(
     (passes, all)
 }
 
-// What the one pass of a desk draws first, and what the desk tells once it is closed.
+// What the one pass of a desk draws first, and what the desk reports once it is closed.
 fn drawn_first(rt: &impl Abort, alloc: Global, total: u32) -> (Option<u32>, (u32, bool))
     requires { total ≤ 1000000 }
 {
@@ -84,7 +84,7 @@ fn are_all_below(numbers: &[u32], limit: usize) -> bool {
     numbers.len() == limit
 }
 
-// All passes draw side by side, each in a thread of its own. They come back with all numbers that they drew.
+// All passes draw in parallel, each in a thread of its own. They come back with all numbers that they drew.
 fn draw_in_threads<R: Abort + Threads + Sync>(
     rt: &R,
     alloc: Global,
@@ -99,7 +99,7 @@ fn draw_in_threads<R: Abort + Threads + Sync>(
     gather(rt, alloc, desk, answers.expect(rt, "no memory"))
 }
 
-// What 64 threads draw of 1000 numbers, sorted, and what the desk then tells.
+// What 64 threads draw of 1000 numbers, sorted, and what the desk then reports.
 fn drawn_by_threads<R: Abort + Threads + Sync>(rt: &R, alloc: Global) -> (Vec<u32>, (u32, bool)) {
     let (desk, passes) = Desk::open(alloc, 1000, 64).expect(rt, "no memory");
     let (passes, mut numbers) = draw_in_threads(rt, alloc, &desk, passes);

@@ -1,4 +1,4 @@
-//! The law of the rule under which workers send side by side, on a function of its own.
+//! The law of the rule under which workers send in parallel, on a function of its own.
 ghost use Rattle.kalah_run.specs.Queue.Law.{QueueIsLawful};
 
 /// Between any two steps of any threads at a results queue, one pass gets, each outcome that was got or is inside is of one of the

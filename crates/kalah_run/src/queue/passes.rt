@@ -1,8 +1,8 @@
-//! The passes of a results queue: what each keeps, and what contracts see of it.
+//! The passes of a results queue: what each stores, and what contracts see of it.
 use crate::queue::rule::RuledPass;
 use std::marker::Model;
 
-/// One worker's right to put. It is seen as the identity of its queue, the worker's number, and all that was put through
+/// One worker's right to put. Contracts see it as the identity of its queue, the worker's number, and all that was put through
 /// it, in order.
 #[derive(Drop)]
 pub struct PutPass {
@@ -24,7 +24,7 @@ impl Model for PutPass {
     ghost invariant = { λ p. (p.ruled.me.1 ≡ []) × (view_of p.ruled ≡ Putting p.number (sent_in (view_of p.ruled))) };
 }
 
-/// The one right to get. It is seen as the identity of its queue, the number of workers, and all pairs of a worker and
+/// The one right to get. Contracts see it as the identity of its queue, the number of workers, and all pairs of a worker and
 /// its outcome that were got, in order.
 #[derive(Drop)]
 pub struct GetPass {

@@ -4,7 +4,7 @@ use kalah_jobs::Outcome;
 use std::collections::LinkedList;
 use std::marker::Model;
 
-/// An outcome with the number of the worker that put it. It is seen as that pair.
+/// An outcome with the number of the worker that put it. Contracts see it as that pair.
 #[derive(Clone, Copy)]
 pub struct Tagged {
     pub worker: u32,
@@ -22,7 +22,7 @@ impl Model for Tagged {
     ghost inverse = { λ pair. record { worker = pair.0; outcome = pair.1 } };
 }
 
-/// What one pass of the queue knows. It exists in contracts alone; no program makes one.
+/// What one pass of the queue knows. It is used in contracts only; no program makes one.
 pub enum QueueView {
     /// The pass to get: how many passes to put were made, the pairs that were got, and what each worker had sent whose
     /// pass was reclaimed.
@@ -33,7 +33,7 @@ pub enum QueueView {
     Ended,
 }
 
-/// The rule: between any two steps, of each worker, what was got of it and then what the queue holds of it is what it has
+/// The rule: between any two steps, for each worker, what was got of it, followed by what the queue holds of it, is what it has
 /// sent, in its order.
 pub struct WholeAndInOrder;
 
@@ -88,7 +88,7 @@ impl protocol::Join<QueueView> for Reclaims {
     ghost spent = { Ended };
 }
 
-/// What was got, and then what the queue holds, is all that the workers have sent whose passes were reclaimed.
+/// What was got, followed by what the queue holds, is all that the workers whose passes were reclaimed have sent.
 pub struct LeftInside;
 
 impl protocol::Lesson<Tagged, QueueView> for LeftInside {

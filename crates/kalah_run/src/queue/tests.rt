@@ -13,7 +13,7 @@ use std::sync::Wait;
 use std::thread;
 use std::thread::Threads;
 
-// How many lines each of the files has that threads put.
+// The number of lines of each file whose outcomes threads put.
 const LINES: u32 = 200;
 
 // The outcomes of the lines of a file, all of them empty, in their order.
@@ -27,7 +27,7 @@ fn outcomes_of(rt: &impl Abort, alloc: Global, file: u32) -> Vec<Outcome> {
     outcomes
 }
 
-// What is got of two outcomes that two workers put, and how many are left.
+// What is got of two outcomes that two workers put, and how many are left inside.
 fn through_one_thread<R: Abort + Wait>(
     rt: &R,
     alloc: Global,
@@ -47,7 +47,7 @@ fn two_workers_outcomes_are_got(rt: HostRuntime) {
     assert!(rt; got == sent && left == 0);
 }
 
-// What so many tries get of a queue into which the outcome was put so often, and how many of them are left.
+// What `tries` tries get of a queue into which the outcome was put `times` times, and how many of them are left.
 fn got_soon<R: Abort + Wait>(
     rt: &R,
     alloc: Global,
@@ -78,7 +78,7 @@ fn put_all<R: Wait>(rt: &R, queue: &ResultsQueue, mut pass: PutPass, outcomes: &
     }
 }
 
-// Puts as many outcomes as the queue has places: none has to wait.
+// Fills all places of the queue: no put has to wait.
 fn fill<R: Abort + Wait>(rt: &R, alloc: Global, capacity: u32, outcome: Outcome)
     requires { (0 < capacity) × (capacity ≤ 1024) }
 {
@@ -95,7 +95,7 @@ fn a_queue_may_have_any_number_of_places(rt: HostRuntime) {
     }
 }
 
-// How many passes to put a queue for so many workers has, and how many outcomes are left in it.
+// How many passes to put a queue for `workers` workers has, and how many outcomes are left in it.
 fn opened_for<R: Abort + Wait>(rt: &R, alloc: Global, workers: u32) -> (usize, u32)
     requires { (0 < workers) × (workers ≤ 64) }
 {
@@ -176,7 +176,7 @@ fn through_threads<R: Abort + Threads + Wait + Sync>(
     got
 }
 
-// What comes through a queue of two places that is opened for it.
+// What comes out of a queue of two places that is opened for it.
 fn through_queue<R: Abort + Threads + Wait + Sync>(
     rt: &R,
     alloc: Global,

@@ -1,35 +1,35 @@
-//! Waiting for what other threads bring about: a short spin, and then sleep. No contract speaks of it, and no answer rests
+//! Waiting for events of other threads: first by spinning briefly, then by sleeping. No contract mentions it, and no answer depends
 //! on it: a thread that is woken tries for itself.
 //!
-//! Why nobody sleeps beside a thing that came and stays: a sleeper announced itself, was there to be called, took back any
-//! call from before, and only then tried and found nothing. So whatever came after that try found it announced. Either it
-//! called, or a call was under way that went out after the sleeper had taken back those from before. Such a call ends the
-//! sleep, or that of another thread, which is not back yet: that one tries later than the thing came, and calls the next.
-//! All steps are in one order (`SeqCst`).
+//! Why no thread sleeps while what it waits for is there: a sleeper announces itself, registers to be woken, clears any earlier
+//! wake-up, and only then tries and finds nothing. So anything that arrives after that try sees the announcement. Either its thread
+//! wakes a sleeper, or a wake-up is in progress that was sent after the sleeper cleared the earlier ones. Such a wake-up ends this
+//! sleep, or that of another thread which has not resumed yet: that one tries after the arrival, and wakes the next.
+//! All steps are in one total order (`SeqCst`).
 use crossbeam_utils::Backoff;
 use crossbeam_utils::sync::{EventCount, Key};
 use std::sync::Wait;
 use std::sync::atomic::AtomicU64;
 use std::sync::atomic::Ordering::SeqCst;
 
-/// A pause that spins takes so many steps of its backoff, one of which is twice as long as the one before. Each try reads what the
-/// other side changes, and so holds it up: a full queue moves on faster where it isn't tried after each outcome.
+/// A pause that spins takes this many steps of its backoff; each step is twice as long as the one before. Each try reads what the
+/// other side changes, and so delays it: a full queue moves on faster if it isn't tried after each outcome.
 const STEPS: u32 = 6;
 
-/// The threads that wait for one thing, such as room in a queue. They are called one at a time: a call goes out only where
-/// none is under way, and a thread that was called, and got what it waited for, calls the next. So a thing that comes for
+/// The threads that wait for the same event, such as room in a queue. They are woken sequentially: a wake-up is sent only if
+/// none is in progress, and a thread that was woken, and got what it waited for, wakes the next. So room for
 /// one thread doesn't wake all of them.
 #[derive(Drop)]
 pub(crate) struct Waiters {
     event: EventCount,
-    // The threads that have announced that they will sleep, and don't have what they wait for.
+    // The number of threads that have announced that they will sleep, and don't have what they wait for.
     announced: AtomicU64,
-    // 1 from a call on, until a thread that was announced tries again.
+    // 1 from a wake-up on, until a thread that was announced tries again.
     called: AtomicU64,
 }
 
 impl Waiters {
-    /// Nobody waits.
+    /// Makes an empty list of waiters.
     pub(crate) fn new() -> Waiters {
         Waiters {
             event: EventCount::new(),
@@ -38,16 +38,16 @@ impl Waiters {
         }
     }
 
-    /// Calls one of the threads that wait, if there is any. It is called after what they wait for has come: a thread
-    /// that has announced itself and then found nothing is called, or another one is that will call it.
+    /// Wakes one of the threads that wait, if there is any. It must be used after what they wait for has come: a thread
+    /// that has announced itself and then found nothing is woken, or another one is that will wake it.
     pub(crate) fn call_one(&self) {
         if self.announced.load(SeqCst) > 0 && self.called.swap(1, SeqCst) == 0 {
             self.event.notify_one();
         }
     }
 
-    // One more thread will sleep, unless its next try finds something. A call from before may have found nobody, so it
-    // is taken back, once the thread is there to be called.
+    // Announces one more thread, which will sleep unless its next try finds something. An earlier wake-up may have found no thread, so it
+    // is cleared once the thread is registered to be woken.
     fn enter(&self) -> Key<'_> {
         self.announced.fetch_add(1, SeqCst);
         let key = self.event.prepare_wait();
@@ -55,14 +55,14 @@ impl Waiters {
         key
     }
 
-    // A thread that was announced is back, and tries for itself.
+    // An announced thread has resumed, and tries for itself.
     fn leave(&self) {
         self.announced.fetch_sub(1, SeqCst);
         self.called.store(0, SeqCst);
     }
 }
 
-/// One thread's wait, which ends where it is dropped: the thread then has what it waited for. Between two pauses it tries.
+/// One thread's wait, which ends when it is dropped: the thread then has what it waited for. Between two pauses it tries.
 pub(crate) struct Waiting<'a> {
     waiters: &'a Waiters,
     backoff: Backoff,
@@ -71,7 +71,7 @@ pub(crate) struct Waiting<'a> {
 }
 
 impl<'a> Waiting<'a> {
-    /// A wait that begins.
+    /// Starts a wait.
     pub(crate) fn new(waiters: &'a Waiters) -> Waiting<'a> {
         Waiting {
             waiters,
@@ -81,8 +81,8 @@ impl<'a> Waiting<'a> {
         }
     }
 
-    /// Lets some time pass. At first it spins. Then it announces that it will sleep, and the thread tries once more: what
-    /// comes before the announcement is found by that try, and what comes after it ends the sleep. The next pause sleeps.
+    /// Pauses: first by spinning, later by announcing that the thread will sleep, after which it tries once more. What
+    /// came before the announcement is found by that try, and what comes after it ends the sleep. The next pause sleeps.
     pub(crate) fn pause<R: Wait>(&mut self, rt: &R) {
         if let Some(key) = self.key.take() {
             key.wait(rt);
@@ -99,7 +99,7 @@ impl<'a> Waiting<'a> {
 }
 
 impl Drop for Waiting<'_> {
-    // A thread that was announced may have been called, so it calls the next.
+    // An announced thread may have been woken, so it wakes the next.
     fn drop(self) {
         let Waiting {
             waiters,

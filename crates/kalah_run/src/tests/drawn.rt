@@ -1,7 +1,7 @@
 //! Numbers that tests draw: the same ones in each run.
 ghost use Rattle.std.specs.Prelude.{◌<◌};
 
-/// Draws one number after another from a sequence that its first one decides.
+/// Draws numbers from a sequence that its first number determines.
 #[derive(Drop)]
 pub(crate) struct Drawn {
     state: u64,
@@ -12,7 +12,7 @@ impl Drawn {
         Drawn { state: first }
     }
 
-    /// A number below `limit`.
+    /// Returns a number below `limit`.
     pub(crate) fn below(&mut self, limit: u32) -> u32
         requires { 0 < limit }
         ensures { result < limit }

@@ -1,5 +1,5 @@
-//! Each request for memory refused in turn. With ample memory these tests just pass. `tests/refuse` runs each of them
-//! again and again, with the first request refused, the second, and so on: it has to pass each time, until the request that
+//! Tests in which each request for memory is refused once. With ample memory these tests just pass. `tests/refuse` runs each of them
+//! repeatedly, with the first request refused, then the second, and so on: the test must pass each time, until the request that
 //! is refused is one of its own marks.
 ghost use Rattle.std.specs.Prelude.{◌≡◌, ◌<◌, All, length, vec_len};
 ghost use Rattle.kalah_run.specs.Desk.States.{IsPassAt};
@@ -13,7 +13,7 @@ use std::process::Abort;
 use std::sync::Wait;
 use std::test::Fail;
 
-// A request that is refused only where none before it was.
+// Makes a request that is refused only if none before it was.
 pub(crate) fn mark(alloc: Global, place: &'static str) -> Result<(), Fail> {
     match Box::new(alloc, 0u8) {
         Ok(_) => Ok(()),
@@ -31,7 +31,7 @@ pub(crate) fn draw_by(desk: &Desk, passes: &mut Vec<Pass>, k: usize) -> Option<u
     desk.draw(&mut passes[k])
 }
 
-// What two passes draw of three numbers in turn, and what the desk then tells.
+// What two passes draw of three numbers, alternately, and what the desk then reports.
 fn drawn_in_turn(opened: (Desk, Vec<Pass>)) -> ([Option<u32>; 5], (u32, bool))
     requires many { (opened.0.passes ≡ 2) × (length opened.1.items ≡ 2) }
     requires own { All (IsPassAt opened.0) opened.1.items }

@@ -1,4 +1,4 @@
-//! What the mover takes of houses with few seeds, by trying each move to the end.
+//! The number of seeds that the mover takes from houses with few seeds, by trying each move to the end.
 ghost use Rattle.std.specs.Prelude.{◌≡◌, ◌≤◌, ◌<◌, false, Contains};
 ghost use Rattle.kalah_rules.specs.Position.{bare, seeds_in_houses, is_over};
 ghost use Rattle.kalah_rules.specs.Play.{legal_houses};
@@ -11,7 +11,7 @@ use kalah_rules::{Houses, HousesStep};
 use std::alloc::Allocator;
 
 impl<A: Allocator> Endings<A> {
-    /// How many of the seeds in the houses the mover takes.
+    /// Returns how many of the seeds in the houses the mover takes in best play.
     #[cycle(exact)]
     pub(crate) fn taken(&self, houses: &Houses) -> u8
         requires going { is_over (bare houses.now) ≡ false }
@@ -27,7 +27,7 @@ impl<A: Allocator> Endings<A> {
         taken
     }
 
-    // The same, by trying the moves from the store on, until one takes all.
+    // The same, by trying the moves from the one nearest the store on, until one takes all.
     #[cycle(exact)]
     fn most_taken(&self, houses: &Houses) -> u8
         requires going { is_over (bare houses.now) ≡ false }
@@ -48,7 +48,7 @@ impl<A: Allocator> Endings<A> {
         most
     }
 
-    // What house `h` takes.
+    // Returns how many seeds the move of house `h` takes.
     #[cycle(exact)]
     fn move_takes(&self, houses: &Houses, h: u8) -> u8
         requires legal { Contains (legal_houses (bare houses.now)) h }

@@ -8,12 +8,12 @@ use kalah_rules::{Board, Rule};
 use std::alloc::Global;
 use std::process::Abort;
 
-// No endings known.
+// Endings with nothing known.
 fn new_endings(rt: &impl Abort, alloc: Global) -> Endings {
     Endings::new(alloc).expect(rt, "no memory for endings")
 }
 
-// Three cells of at most 6 seeds each, read off a number.
+// Three cells of at most 6 seeds each, decoded from a number.
 fn cells_of(number: u32) -> [u8; 6] {
     let first = (number % 7) as u8;
     let second = (number / 7 % 7) as u8;
@@ -21,7 +21,7 @@ fn cells_of(number: u32) -> [u8; 6] {
     [first, second, third, 0, 0, 0]
 }
 
-// What the mover takes, by the plain recursion. None where the game is over.
+// What the mover takes, by the plain recursion. None if the game is over.
 fn plainly_taken(board: &Board) -> Option<i32> {
     match plain::solve(board) {
         Verdict::Over { .. } => None,
@@ -29,7 +29,7 @@ fn plainly_taken(board: &Board) -> Option<i32> {
     }
 }
 
-// The board's ending is that of the plain recursion. It tells whether the board has an ending to compare.
+// The board's ending agrees with the plain recursion. Returns whether the board has an ending to compare.
 fn agrees_with_plain(rt: &impl Abort, endings: &Endings, board: &Board) -> bool {
     if board.is_over() || board.houses().seeds() > 6 {
         return false;
@@ -39,7 +39,7 @@ fn agrees_with_plain(rt: &impl Abort, endings: &Endings, board: &Board) -> bool 
     true
 }
 
-// Each board with so many houses a side and at most 6 seeds, twice; it tells how many there are.
+// Compares each board with `m` houses a side and at most 6 seeds, twice. Returns how many there are.
 fn agrees_with_plain_with(rt: &impl Abort, endings: &Endings, m: u8, rule: Rule) -> u32 {
     let mut boards = 0u32;
     for number in 0..117_649u32 {
@@ -65,7 +65,7 @@ fn endings_agree_with_plain(rt: HostRuntime) {
     }
 }
 
-// Where the ending of the houses stands: eight of them in each word.
+// The place of the ending of the houses: eight of them in each word.
 fn place(endings: &Endings, houses: &Houses) -> Option<usize>
     requires { seeds_in_houses (bare houses.now) ≤ 9 }
 {

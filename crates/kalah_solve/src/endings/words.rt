@@ -1,4 +1,4 @@
-//! Words of endings: each tells what the mover takes of eight values of houses.
+//! Words of endings: each stores how many seeds the mover takes, for eight values of houses.
 ghost use Rattle.std.specs.Prelude.{◌≡◌, ◌<◌, ◌+◌, ◌*◌, ◌^◌};
 ghost use Rattle.kalah_rules.specs.Position.{IsWithinHouses};
 ghost use Rattle.kalah_solve.specs.RowRank.{rank_of_houses};
@@ -9,15 +9,15 @@ use kalah_rules::Houses;
 use std::alloc::{AllocError, Allocator};
 use std::sync::atomic::{AtomicIn, Rule};
 
-// In how many words the endings of houses with at most 9 seeds stand, by both rules, with 1 to 6 houses a side.
+// The number of words for all endings of houses with at most 9 seeds, by both rules, with 1 to 6 houses a side.
 const WORDS: usize = 104_104;
 
-// Where the words of a game begin.
+// The index of the first word of each game.
 pub(super) const FIRST_WORDS: [u32; 16] = [
     0, 0, 7, 97, 723, 3_762, 15_310, 0, 0, 52_052, 52_059, 52_149, 52_775, 55_814, 67_362, 0,
 ];
 
-// What a word of endings tells is true.
+// What a word of endings states is true.
 pub(super) struct TrueWord;
 
 impl Rule for TrueWord {
@@ -26,7 +26,7 @@ impl Rule for TrueWord {
     ghost invariant = { TellsTaken };
 }
 
-// Which word tells of houses of this rank in their game.
+// Returns the label of the word for houses of this rank in their game.
 pub(super) fn label_of(houses: &Houses, rank: u32) -> u64
     requires rank { rank ≡ rank_of_houses houses.now }
     ensures label { result ≡ label_of houses.now }
@@ -35,7 +35,7 @@ pub(super) fn label_of(houses: &Houses, rank: u32) -> u64
     game_of(houses) as u64 + 16 * (rank as u64 / 8)
 }
 
-// What a word tells at one of its eight places: 0, or one more than is taken.
+// Returns entry `at` of a word: 0 if nothing is known, else one more than the mover takes.
 pub(super) fn told_at(word: u64, at: u32) -> u64
     requires { at < 8 }
     ensures { result ≡ told_at word at }
@@ -43,7 +43,7 @@ pub(super) fn told_at(word: u64, at: u32) -> u64
     (word >> (4 * at)) % 16
 }
 
-// The word that was found where this label is due, or one that tells nothing yet.
+// Returns the word that was found if it has this label, else an empty word with the label.
 pub(super) fn begun(label: u64, found: u64) -> u64
     requires small { label < 2 ^ 32 }
     requires found { TellsTaken found }
@@ -57,7 +57,7 @@ pub(super) fn begun(label: u64, found: u64) -> u64
     }
 }
 
-// The word once it tells that, at a place where it told nothing.
+// Returns the word with `told` stored at a place that was empty.
 pub(super) fn told_more(word: u64, at: u32, told: u64) -> u64
     requires place { at < 8 }
     requires nothing { told_at word at ≡ 0 }
@@ -67,7 +67,7 @@ pub(super) fn told_more(word: u64, at: u32, told: u64) -> u64
     word + (told << (4 * at))
 }
 
-// No endings known.
+// Returns words with no ending known.
 pub(super) fn untold_words<A: Allocator>(
     alloc: A,
 ) -> Result<Vec<AtomicIn<TrueWord>, A>, AllocError> {

@@ -12,7 +12,7 @@ fn over(margin: i32) -> Verdict {
     Verdict::Over { margin }
 }
 
-// What a position with one house a side is worth, within the limits; the last number of each side is its store.
+// The worth of positions with one house a side, within the limits; the last number of each side is its store.
 fn one(rule: Rule, own: [u8; 2], other: [u8; 2]) -> Option<Verdict> {
     let own_houses = [own[0], 0, 0, 0, 0, 0];
     let other_houses = [other[0], 0, 0, 0, 0, 0];

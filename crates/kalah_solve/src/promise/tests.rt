@@ -6,7 +6,7 @@ fn houses(rt: &impl Abort, m: u8, own: [u8; 6], other: [u8; 6]) -> Houses {
     Houses::new(m, own, other, Rule::Classic).expect(rt, "beyond the limits")
 }
 
-// What is told of a row's first house and the ones after it is what the houses tell one by one, and no more seeds are there.
+// The marks of a row agree with each of its houses, and mark nothing else.
 fn tells_each_house(rt: &impl Abort, houses: &Houses, row: [u8; 6], (some, ending): (u64, u64)) {
     let m = houses.m();
     for h in 1..m + 1 {
@@ -17,7 +17,7 @@ fn tells_each_house(rt: &impl Abort, houses: &Houses, row: [u8; 6], (some, endin
     }
 }
 
-// Both rows are told at once: each of them is this one while the other is empty.
+// Both rows are marked at once: each of them is this one while the other is empty.
 fn tells_both_rows(rt: &impl Abort, m: u8, row: [u8; 6]) {
     let first = houses(rt, m, row, [0; 6]);
     let rows = first.key() % SIDE;

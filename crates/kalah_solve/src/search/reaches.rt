@@ -14,14 +14,14 @@ use crate::search::Search;
 use kalah_rules::{Houses, HousesStep};
 use std::alloc::Allocator;
 
-// A turn that was played: what it brought to the store, and the houses that the other player is to move.
+// A turn that was played: what it brought to the store, and the houses from which the other player moves.
 #[derive(Clone, Copy)]
 struct Played {
     gained: u8,
     next: Houses,
 }
 
-// What is known of a move once it was played: a bound of what it takes, or the rank with which its turn waits.
+// What is known of a move once it was played: a bound of what it takes, or the rank with which its turn waits to be searched.
 #[derive(Clone, Copy)]
 enum Look {
     Bounded(u8),
@@ -29,7 +29,7 @@ enum Look {
 }
 
 impl<A: Allocator + Clone> Search<A> {
-    // A fail-soft bound of the seeds that the mover takes.
+    // Returns a fail-soft bound of the number of seeds that the mover takes.
     #[cycle(search)]
     fn bound(&mut self, houses: &Houses, bar: u8) -> u8
         requires going { is_over (bare houses.now) ≡ false }
@@ -87,7 +87,7 @@ impl<A: Allocator + Clone> Search<A> {
         most
     }
 
-    // Tries the moves that end in the store, from the store on: the most that they take, or a bound that is enough.
+    // Tries the moves that end in the store, the nearest to it first. Returns the most that they take, or a bound that is enough.
     #[cycle(search)]
     fn bound_again(&mut self, houses: &Houses, bar: u8) -> u8
         requires going { is_over (bare houses.now) ≡ false }
@@ -108,8 +108,8 @@ impl<A: Allocator + Clone> Search<A> {
         most
     }
 
-    // Plays the other moves once each: the most that they take, or a bound that is enough. The turns that wait are written down,
-    // each with its rank, which is 0 for the others.
+    // Plays each of the other moves once. Returns the most that they take, or a bound that is enough. The turns that wait are written
+    // down, each with its rank, which is 0 for the others.
     #[cycle(search)]
     fn others_waiting(
         &mut self,
@@ -143,7 +143,7 @@ impl<A: Allocator + Clone> Search<A> {
         most
     }
 
-    // Plays house `h`, which waits if it's a turn that has to be searched.
+    // Plays house `h`. It waits if it is a turn that must be searched.
     #[cycle(search)]
     fn look(&mut self, houses: &Houses, h: u8, bar: u8) -> Look
         requires legal { Contains (legal_houses (bare houses.now)) h }
@@ -164,7 +164,7 @@ impl<A: Allocator + Clone> Search<A> {
         }
     }
 
-    /// Whether house `h` takes at least `bar` seeds.
+    /// Returns whether house `h` takes at least `bar` seeds.
     pub fn move_reaches(&mut self, houses: &Houses, h: u8, bar: u8) -> bool
         requires legal { Contains (legal_houses (bare houses.now)) h }
         ensures { IsTrue result ↔ bar ≤ taken_by_step (houses_step houses.now h) }
@@ -172,7 +172,7 @@ impl<A: Allocator + Clone> Search<A> {
         bar <= self.bound_move(houses, h, bar)
     }
 
-    // A fail-soft bound of what house `h` takes.
+    // Returns a fail-soft bound of what house `h` takes.
     #[cycle(search)]
     fn bound_move(&mut self, houses: &Houses, h: u8, bar: u8) -> u8
         requires legal { Contains (legal_houses (bare houses.now)) h }
@@ -183,7 +183,7 @@ impl<A: Allocator + Clone> Search<A> {
         self.bound_step(&step, bar)
     }
 
-    // A fail-soft bound of what a step takes.
+    // Returns a fail-soft bound of what a step takes.
     #[cycle(search)]
     fn bound_step(&mut self, step: &HousesStep, bar: u8) -> u8
         requires on { GoesOn step.now }
@@ -202,7 +202,7 @@ impl<A: Allocator + Clone> Search<A> {
         }
     }
 
-    // A fail-soft bound of what a turn takes, which brought `gained` seeds to the store: those, and what the other player leaves.
+    // Returns a fail-soft bound of what a turn takes: the `gained` seeds that it brought to the store, and what the other player leaves.
     #[cycle(search)]
     fn bound_turn(&mut self, gained: u8, next: &Houses, bar: u8) -> u8
         requires on { GoesOnAt gained next.now }

@@ -1,4 +1,4 @@
-//! How many nodes the search takes, and how long for each: `rt test -- nodes`.
+//! The number of nodes of the search, and the time for each: `rt test -- nodes`.
 use super::*;
 use kalah_rules::Rule;
 use std::alloc::Global;
@@ -6,7 +6,7 @@ use std::io::Print;
 use std::process::Abort;
 use std::time::{Clock, Instant};
 
-// All houses hold the same, as games begin.
+// All houses hold the same number of seeds, as in the start of a game.
 fn begun(rt: &impl Abort, m: u8, seeds: u8) -> Houses {
     let mut row = [0u8; 6];
     for i in 0..m.min(6) as usize {
@@ -26,7 +26,7 @@ fn tells_worth(rt: &impl Abort, search: &mut Search, houses: &Houses, worth: i32
     assert!(rt; search.search(houses, Window::whole()) == worth);
 }
 
-// How many nodes games take as they begin, one after another.
+// How many nodes the starts of games take, in order.
 fn nodes_of_games(rt: &impl Abort, search: &mut Search) -> u64 {
     for (m, seeds, worth) in [(2, 7, 8), (3, 5, 6), (4, 3, 6), (5, 3, 6), (6, 2, 6)] {
         tells_worth(rt, search, &begun(rt, m, seeds), worth);
@@ -34,14 +34,14 @@ fn nodes_of_games(rt: &impl Abort, search: &mut Search) -> u64 {
     search.nodes
 }
 
-// With how many nanoseconds.
+// And how many nanoseconds.
 fn nodes_and_time(rt: &(impl Abort + Clock), search: &mut Search) -> (u64, u128) {
     let start = Instant::now(rt).expect(rt, "no clock");
     let nodes = nodes_of_games(rt, search);
     (nodes, start.elapsed(rt).expect(rt, "no clock").as_nanos())
 }
 
-// Prints how long each node took.
+// Prints the time for each node.
 fn prints_nodes(rt: &(impl Abort + Print), nodes: u64, took: u128) {
     let took = took / (nodes as u128).max(1);
     println!(rt; "{nodes} nodes, {took} ns a node").expect(rt, "no output");
@@ -59,7 +59,7 @@ fn is_unknown(search: &Search, houses: &Houses) -> bool {
     search.table.look_up_place(houses) == Share::unknown(houses)
 }
 
-// After house 1 of `5,5` against `5,5` the other player has `next`, of which something is known.
+// After house 1 of `5,5` against `5,5` the other player has `next`, and something is known of them.
 fn learns_of_next(rt: &impl Abort, search: &mut Search, next: &Houses) {
     assert!(rt; is_unknown(search, next));
     tells_worth(rt, search, &begun(rt, 2, 5), 6);
@@ -79,7 +79,7 @@ fn what_is_learned_of_a_move_is_kept_in_its_place(rt: HostRuntime) {
     learns_of_next(&rt, &mut new_search(&rt, rt.alloc()), &next);
 }
 
-// Places are laid out anew at the node that makes it long.
+// Places are laid out anew at the node that makes the search long.
 fn becomes_long(rt: &impl Abort, search: &mut Search, next: &Houses) {
     search.nodes = LONG_SEARCH - 2;
     search.count_node();
@@ -97,14 +97,14 @@ fn a_long_search_has_all_its_places(rt: HostRuntime) {
     tells_worth(&rt, &mut search, &begun(&rt, 2, 5), 6);
 }
 
-// Two houses a side, of which the mover's first holds one seed more than the others, or not.
+// Two houses a side; the mover's first one holds `first` seeds, and each other house `others`.
 fn two_houses(rt: &impl Abort, first: u8, others: u8) -> Houses {
     let own = [first, others, 0, 0, 0, 0];
     let other = [others, others, 0, 0, 0, 0];
     Houses::new(2, own, other, Rule::Classic).expect(rt, "beyond the limits")
 }
 
-// From the node after the first `before` on, the endings that are asked for have up to `most` seeds.
+// From the node after the first `before` on, the endings in use have up to `most` seeds.
 fn asks_for_endings(rt: &impl Abort, search: &mut Search, before: u64, most: u8) {
     search.nodes = before;
     search.count_node();

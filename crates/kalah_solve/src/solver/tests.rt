@@ -17,7 +17,7 @@ fn best(margin: i32, house: u8) -> Verdict {
     Verdict::Best { margin, house }
 }
 
-// A table of so many entries, which are 1 to 1,048,576.
+// A table with room for `entries` entries, 1 to 1,048,576.
 fn table_of<A: Allocator + Clone>(
     rt: &impl Abort,
     alloc: A,
@@ -27,7 +27,7 @@ fn table_of<A: Allocator + Clone>(
     Table::new(alloc, entries)
 }
 
-// A solver with such a table.
+// A solver with a table of this size.
 fn solver_of(rt: &impl Abort, alloc: Global, entries: u32) -> Solver {
     Solver::new(table_of(rt, alloc, entries).expect(rt, "no memory for a table"))
 }
@@ -58,7 +58,7 @@ fn tells<A: Allocator + Clone>(
     assert!(rt; solver.solve(board) == verdict);
 }
 
-// Two positions that differ in their stores alone.
+// Two positions that differ only in their stores.
 fn tells_same_houses<A: Allocator + Clone>(rt: &impl Abort, solver: &mut Solver<A>) {
     let bare = two(rt, Rule::Classic, [1, 1, 0], [1, 1, 0]);
     let rich = two(rt, Rule::Classic, [1, 1, 9], [1, 1, 4]);
@@ -66,7 +66,7 @@ fn tells_same_houses<A: Allocator + Clone>(rt: &impl Abort, solver: &mut Solver<
     tells(rt, solver, &rich, best(7, 2));
 }
 
-// Those, and then those of which something is kept.
+// Those, and then those that leave entries.
 fn tells_shared_entries(rt: &impl Abort, solver: &mut Solver) {
     tells_same_houses(rt, solver);
     tables::tells_busy_houses(rt, solver);
@@ -110,7 +110,7 @@ fn tells_two_houses<A: Allocator + Clone>(rt: &impl Abort, solver: &mut Solver<A
     tells(rt, solver, &over, Verdict::Over { margin: -4 });
 }
 
-// Those, and then those of which something is kept, over so many entries.
+// Those, and then those that leave entries, with a table of `entries` entries.
 fn tells_worked_positions(rt: &impl Abort, alloc: Global, entries: u32) {
     let mut solver = solver_of(rt, alloc, entries);
     tells_one_house(rt, &mut solver);
@@ -128,7 +128,7 @@ fn tells_worked_positions_with_a_large_table(rt: HostRuntime) {
     tells_worked_positions(&rt, rt.alloc(), 65_536);
 }
 
-// Positions that tell the rules apart.
+// Positions whose worth differs between the rules.
 fn tells_rules(rt: &impl Abort, solver: &mut Solver) {
     for (rule, own, other, margin) in [
         (Rule::Classic, [1, 0, 0], [0, 2, 0], 1),
@@ -139,7 +139,7 @@ fn tells_rules(rt: &impl Abort, solver: &mut Solver) {
     }
 }
 
-// Those, and then those of which something is kept by each rule.
+// Those, and then those that leave entries by each rule.
 fn tells_entries_of_rules(rt: &impl Abort, solver: &mut Solver) {
     tells_rules(rt, solver);
     tables::tells_busy_houses(rt, solver);
@@ -151,7 +151,7 @@ fn rules_have_entries_of_their_own(rt: HostRuntime) {
     tells_entries_of_rules(&rt, &mut solver_of(&rt, rt.alloc(), 4));
 }
 
-// A search in this window has this answer, after which this is known.
+// A search in this window has this answer, after which this interval is known.
 fn leaves(
     rt: &impl Abort,
     search: &mut Search,
@@ -164,7 +164,7 @@ fn leaves(
     assert!(rt; search.entry(houses) == Some(known));
 }
 
-// Three windows, one after another.
+// Three windows, in order.
 fn leaves_intervals(rt: &impl Abort, search: &mut Search) {
     let houses = one(rt, 3, 3).houses();
     let low = Window { lo: -2, hi: 2 };
@@ -201,7 +201,7 @@ fn agrees_by_each_rule(rt: &impl Abort, solver: &mut Solver) {
     agrees_with_plain(rt, solver, Rule::EmptyCapture);
 }
 
-// Those, and then those of which something is kept, over so many entries.
+// Those, and then those that leave entries, with a table of `entries` entries.
 fn agrees_with_entries(rt: &impl Abort, alloc: Global, entries: u32) {
     let mut solver = solver_of(rt, alloc, entries);
     agrees_by_each_rule(rt, &mut solver);

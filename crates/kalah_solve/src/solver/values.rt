@@ -1,4 +1,4 @@
-//! What each move of a position is worth.
+//! The value of each move of a position.
 ghost use Rattle.std.specs.Prelude.{◌≡◌, Contains};
 ghost use Rattle.kalah_rules.specs.Position.{IsSmallMargin};
 ghost use Rattle.kalah_rules.specs.Play.{legal_houses};
@@ -12,9 +12,9 @@ use kalah_rules::{Board, Step};
 use std::alloc::Allocator;
 
 impl<A: Allocator + Clone> Solver<A> {
-    /// What each move of the position is worth to the player to move, as the houses rise: the margin that it gets in best
-    /// play, which is what the move secures and no more. None where the game is over. The moves share what the table
-    /// learns, which is kept for later positions; where there is no memory for an entry, it is left out.
+    /// Returns the value of each legal move to the player to move, with the houses in ascending order: the margin that the move gets
+    /// in best play, which is what it secures and no more. The list is empty if the game is over. The moves share what the table
+    /// learns, which is kept for later positions; if there is no memory for an entry, it is left out.
     pub fn values(&mut self, board: &Board) -> MoveValues
         ensures values { result ≡ values_of board.now }
         ensures best_play { TellMoves board.now result }
@@ -28,7 +28,7 @@ impl<A: Allocator + Clone> Solver<A> {
         values
     }
 
-    // The house `h`, with what its move is worth.
+    // Returns the house `h` with the value of its move.
     fn move_value(&mut self, board: &Board, h: u8) -> MoveValue
         requires { Contains (legal_houses board.now) h }
         ensures { result ≡ move_value board.now h }
@@ -39,7 +39,7 @@ impl<A: Allocator + Clone> Solver<A> {
         }
     }
 
-    // The margin of best play after the move of house `h`, for the player who makes that move.
+    // Returns the margin of best play after the move of house `h`, for the player who makes that move.
     fn value_of_move(&mut self, board: &Board, h: u8) -> i32
         requires { Contains (legal_houses board.now) h }
         ensures value { result ≡ value_of_move board.now h }
@@ -52,7 +52,7 @@ impl<A: Allocator + Clone> Solver<A> {
         }
     }
 
-    // The margin of best play of the position.
+    // Returns the margin of best play of the position.
     fn margin(&mut self, board: &Board) -> i32
         ensures worth { result ≡ worth board.now }
         ensures small { IsSmallMargin result }

@@ -7,13 +7,13 @@ fn new_table(rt: &impl Abort, alloc: Global) -> Table {
     Table::new(alloc, 1).expect(rt, "no memory for a table")
 }
 
-// One beside it.
+// A table beside it.
 fn beside(rt: &impl Abort, alloc: Global, table: &Table) -> Table {
     let other = table.beside(alloc, 1);
     other.expect(rt, "no memory for a table")
 }
 
-// So many tables share the endings of this one.
+// Whether `tables` tables share the endings of this one.
 fn is_one_of(table: &Table, tables: usize) -> bool {
     Arc::strong_count(&table.endings) == tables
 }
@@ -49,7 +49,7 @@ fn requests(rt: &impl Abort, alloc: Global) -> u32 {
     heap.made()
 }
 
-// No more of them are granted.
+// With only these granted.
 fn keeps_its_first_places(rt: &impl Abort, heap: &Granting<Global>) {
     let mut table = large_table(rt, heap);
     table.lay_out_places();

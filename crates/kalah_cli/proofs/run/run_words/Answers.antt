@@ -21,18 +21,18 @@ use Rattle.kalah_cli.proofs.run.run_words.Goals.{After-drop-words, After-drop-wo
 use Rattle.kalah_cli.proofs.run.run_words.Given.{Over}
 use Rattle.kalah_cli.proofs.run.run_words.Goals as goal
 
--- ---- the words are taken
+-- ---- the arguments are accepted
 
 -- as the request
 taken_as : (g : Over) (c : After-drop-words g) → IsTakenAs (texts_of c.args.words.items) (asked_for c.in-Ok.request)
 taken_as g c = words_at c.args.words.items _ (asked_for c.in-Ok.request) (sym c.as_slice.ensures.value) c.in-Ok.ensures.taken
 
--- so what they are taken as is done
+-- so what they ask for is done
 done : (g : Over) (c : After-drop-words g) (a : Asked) → IsTakenAs (texts_of c.args.words.items) a
     → Does a (g.O.Sink.written c.args.out.now) (g.O.Sink.written c.run_request.new.out) c.run_request.result
 done g c a taken = done_as (texts_of c.args.words.items) (asked_for c.in-Ok.request) a _ _ _ (taken_as g c) taken c.run_request.ensures.does
 
--- and nothing where it is asked of a line that is not read
+-- and nothing if it is asked of a line that is not read
 undone : (g : Over) (c : After-drop-words g) (a : Asked) (line : List ℕ) → IsTakenAs (texts_of c.args.words.items) a → IsOfLine a line → IsUnread line
     → (c.run_request.result ≢ Clean) × (c.run_request.new.out ≡ c.args.out.now)
 undone g c a line taken of none =
@@ -109,7 +109,7 @@ returns-in-Ok-clause-no_line g c = λ faulty. absurd (faulty (fault_at _ c.args.
 
 -- ---- the parse failed
 
--- where the words are taken as something, for want of memory
+-- if the arguments are accepted, but memory was refused
 failed : (g : Over) (c : After-drop-words-2 g) (a : Asked) → IsTakenAs (texts_of c.args.words.items) a
     → (c.refuse.result ≡ Failed) × (c.refuse.new.out ≡ c.args.out.now)
 failed g c a taken = c.refuse.ensures.mistake (λ help.
@@ -151,22 +151,22 @@ returns-clause-unread g c = λ name line is plain none. elim is [
   | inr played ↦ unwritten g c (play 65536 false line) (game_of _ name line played plain)
 ]
 
--- words that don't ask for this don't get it
+-- arguments that don't ask for this don't get it
 unasked : (g : Over) (c : After-drop-words-2 g) (k : ErrorKind) → OutOfMemory ≢ k
     → (IsAmong k (fault_of kalah_app (texts_of c.args.words.items)) → ⊥) → kind_of c.in-Err.error ≢ k
 unasked g c k other none = no_request k _ c.args.words.items c.in-Err.error other c.as_slice.ensures.value c.in-Err.ensures.kinds none
 
--- words that ask for one thing alone ask for nothing else
+-- arguments that ask for a single thing ask for nothing else
 not_asked : {kinds : Kinds} (k alone : ErrorKind) → k ≢ alone → kinds ≡ alone ∷ [] → IsAmong k kinds → ⊥
 not_asked k alone other is among = elim (subst (IsAmong k) is among) [ inl same ↦ other same | inr bad ↦ bad ]
 
--- where a file is missing the program fails
+-- if a file is missing the program fails
 failed_of_none : (g : Over) (c : After-drop-words-2 g) → fault_of kalah_app (texts_of c.args.words.items) ≡ MissingRequiredArgument ∷ [] → c.refuse.result ≡ Failed
 failed_of_none g c missed =
     (c.refuse.ensures.mistake (unasked g c DisplayHelp (λ e. cc) (not_asked DisplayHelp MissingRequiredArgument (λ e. cc) missed))
     (unasked g c DisplayVersion (λ e. cc) (not_asked DisplayVersion MissingRequiredArgument (λ e. cc) missed))).0
 
--- so where something is asked of files
+-- so if something is asked of files
 failed_of_files : (g : Over) (c : After-drop-words-2 g) (question : Question) (name : Text) (files : List Text)
     → texts_of c.args.words.items ≡ name ∷ command_of question ∷ files → All IsPlainWord files → c.refuse.result ≡ Failed
 failed_of_files g c question name files is plain = elim (files_or_none question _ name files is plain) [
@@ -185,6 +185,9 @@ returns-clause-asked g c = λ name is went. absurd (went (failed g c (ask BestMo
 
 pub returns-clause-asked_values : goal.returns-clause-asked_values
 returns-clause-asked_values g c = λ name is went. absurd (went (failed g c (ask Values 65536) (ask_values_of _ name is)).0)
+
+pub returns-clause-unchanged : goal.returns-clause-unchanged
+returns-clause-unchanged g c = λ none. c.refuse.ensures.unchanged
 
 pub returns-clause-stopped : goal.returns-clause-stopped
 returns-clause-stopped g c = λ question table taken stopped kept.

@@ -1,4 +1,4 @@
-//! What the help says, and the version.
+//! The texts of the help and of the version.
 use super::{assert_answers, run_on};
 use crate::progress::StandardError;
 use crate::status::ExitStatus;
@@ -111,7 +111,7 @@ const OF_BATCHES: &[&str] = &[
     "`kalah --help` has the form of positions, the rules, and the words of faults.",
 ];
 
-// The help that these words ask for has each of these parts in it.
+// The help that these arguments ask for has each of these parts in it.
 fn assert_says<R: Abort + Files + Input + StandardError + Threads + Wait + Sync>(
     rt: &R,
     alloc: Global,
@@ -138,7 +138,7 @@ fn the_help_says_what_there_is_to_ask_for(rt: HostRuntime) {
     }
 }
 
-// Words of which the first two behind the subcommand are the halves of a position, or are not.
+// Arguments whose first two behind the subcommand are the halves of a position, or are not.
 const WITHOUT_QUOTES: &[&[&str]] = &[
     &["moves", "1,1/0", "1,1/0"],
     &["moves", "--boards", "1,1/0", "1,1/0"],
@@ -152,7 +152,7 @@ const WITH_QUOTES: &[&[&str]] = &[
     &["moves"],
 ];
 
-// Whether standard error speaks of quotes.
+// Whether the message on standard error mentions quotes.
 fn speaks_of_quotes<R: Abort + Files + Input + StandardError + Threads + Wait + Sync>(
     rt: &R,
     alloc: Global,
@@ -174,7 +174,7 @@ fn a_position_without_quotes_is_pointed_out(rt: HostRuntime) {
     }
 }
 
-// Words that ask for the version before anything else.
+// Arguments that ask for the version before anything else.
 const OF_THE_VERSION: &[&[&str]] = &[
     &["--version"],
     &["-V"],

@@ -26,7 +26,7 @@ fn assert_file_answers<R: Abort + Files + Input + StandardError + Threads + Wait
     assert_answers(rt, alloc, &["solve", name], status, (text, ""));
 }
 
-// Bytes of a file, and how they are answered.
+// Bytes of a file, and their answers.
 const ODD: &[(&[u8], &str)] = &[
     (b"\n\r", "odd.txt:1 fault empty\nodd.txt:2 fault empty\n"),
     (b"\xEF\xBB\xBF1/0 1/0", "odd.txt:1 fault shape\n"),

@@ -82,7 +82,7 @@ fn plays_the_game_of_best_play(rt: HostRuntime) {
     }
 }
 
-// Words, and what they print with boards.
+// Arguments, and what they print with boards.
 const DRAWN: &[(&[&str], &str)] = &[
     (
         &["play", "--boards", "1,1/0 1,1/0"],
@@ -138,7 +138,7 @@ fn draws_boards_below_their_lines(rt: HostRuntime) {
     }
 }
 
-// Words of lines that are not read, and what is said of them.
+// Arguments with lines that can't be read, and their messages.
 const UNREAD: &[(&[&str], &str)] = &[
     (&["play", "01/0 1/0"], "fault shape\n"),
     (&["play", "--boards", ""], "fault empty\n"),

@@ -14,7 +14,7 @@ const ONE_AND_TWO: &str = "1/0 1/0\n2/0 2/0";
 
 const THREE_AND_FAULTS: &str = "3/0 3/0\r\n\r\n01/0 1/0\r\n";
 
-// The words of `solve` with these options and files.
+// The arguments of `solve` with these options and files.
 fn solve_words<'a>(
     rt: &impl Abort,
     alloc: Global,
@@ -150,7 +150,7 @@ fn too_many_lines(rt: HostRuntime) {
     );
 }
 
-// A file may have 67,108,864 bytes, and not one more.
+// A file may have 67,108,864 bytes, but not one more.
 #[test]
 fn a_file_of_the_greatest_size_is_read(rt: HostRuntime) {
     let alloc = rt.alloc();

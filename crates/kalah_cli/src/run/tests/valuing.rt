@@ -18,7 +18,7 @@ four.txt:3 -4 over
 four.txt:4 fault shape
 ";
 
-// With so many workers and entries the values of the four lines are told.
+// With `workers` workers and `table` entries the values of the four lines are printed.
 fn assert_tells_four<R: Abort + Files + Input + StandardError + Threads + Wait + Sync>(
     rt: &R,
     alloc: Global,
@@ -45,7 +45,7 @@ fn tells_the_value_of_each_move(rt: HostRuntime) {
     }
 }
 
-// Files that are answered, and how.
+// Files, and their answers.
 const ANSWERED: &[(&[u8], &str, ExitStatus)] = &[
     (b"", "", ExitStatus::Clean),
     (b"1,1/9 1,1/4", "v.txt:1 1:3 2:7\n", ExitStatus::Clean),
@@ -74,7 +74,7 @@ fn tells_both_rules_odd_bytes_and_no_line(rt: HostRuntime) {
     }
 }
 
-// Words whose files are not all read, and what is said of it.
+// Arguments with files that can't all be read, and their messages.
 const NOT_READ: &[(&[&str], &str)] = &[
     (&["values", "/", "x.txt"], "kalah: cannot read /\n"),
     (

@@ -6,7 +6,7 @@ use std::io;
 use std::io::{BufReader, ErrorKind, Read, Write};
 use std::process::Abort;
 
-// What is written for the bytes of a reader, and how that ends.
+// What is written for the bytes of a reader, and the result.
 fn told(
     rt: &(impl Abort + AllocGlobal),
     question: Question,
@@ -71,7 +71,7 @@ fn each_line_is_answered_by_values(rt: HostRuntime) {
     assert!(rt; is_told(&rt, Question::Values, bytes, text, false));
 }
 
-// So many bytes `x`, and then this end, are answered by this text.
+// `n` bytes `x`, followed by `end`, are answered by this text.
 fn assert_long(rt: &(impl Abort + AllocGlobal), n: usize, end: &[u8], text: &str) {
     let mut bytes = Vec::<u8>::new(rt.alloc());
     for _ in 0..n {
@@ -97,7 +97,7 @@ fn the_rest_of_a_long_line_is_no_line(rt: HostRuntime) {
     assert_long(&rt, 80, b"\r", "fault shape\n");
 }
 
-/// Gives its bytes one by one, is interrupted before each, and answers an error at the end of them.
+/// A reader of its bytes one by one. It is interrupted before each, and returns an error at their end.
 #[derive(Drop)]
 struct Halting {
     bytes: &'static [u8],
@@ -135,7 +135,7 @@ fn lines_before_a_read_that_fails_are_answered(rt: HostRuntime) {
     assert!(rt; end == Err(AskFault::Read));
 }
 
-/// Takes so many bytes, and answers an error to the byte after them.
+/// Takes a fixed number of bytes, and returns an error at the byte after them.
 #[derive(Drop)]
 struct Narrow {
     bytes: Vec<u8>,
@@ -160,7 +160,7 @@ impl Write for Narrow {
     }
 }
 
-// With so much room a beginning is written, and no line is read behind the one whose answer fails.
+// With room for `room` bytes a prefix is written, and no line is read behind the one whose answer fails.
 fn assert_begun(rt: &(impl Abort + AllocGlobal), room: usize) {
     let mut solver = Solver::new(Table::new(rt.alloc(), 16).expect(rt, "no memory"));
     let bytes = b"1/0 1/0\nx\n3/0 3/0\n".as_slice();

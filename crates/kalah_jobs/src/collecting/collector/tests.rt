@@ -1,4 +1,4 @@
-//! Offers in each order, with doubles and strangers between them, and what is taken.
+//! Offers in each order, with duplicates and unknown results between them, and what is taken.
 ghost use Rattle.kalah_jobs.specs.Collecting.CollectorState.{HasLinesOf};
 
 mod want_of_memory;
@@ -10,10 +10,10 @@ use kalah_solve::Solver;
 use std::alloc::{AllocError, Global};
 use std::process::Abort;
 
-// What is answered to an offer.
+// The result of an offer.
 type Answered = Result<u32, Refusal>;
 
-/// A collector under test, with its jobs and a solver for what is offered to it.
+/// A collector under test, with its jobs and a solver for the offers.
 #[derive(Drop)]
 struct Trial {
     jobs: Jobs,
@@ -23,18 +23,18 @@ struct Trial {
 }
 
 impl Trial {
-    // For the jobs of two files, to which nothing has come.
+    // A collector for the jobs of two files, with no answer yet.
     fn new(rt: &(impl Abort + AllocGlobal)) -> Trial {
         want_of_memory::trial_of(rt).expect(rt, "no memory")
     }
 
-    // Offers a line that says `entry`.
+    // Offers a line with the entry `entry`.
     fn offer(&mut self, (file, line): (u32, u32), entry: Entry) -> Answered {
         let outcome = Outcome::of(file, line, entry, &mut self.solver);
         self.collector.offer(&self.jobs, outcome)
     }
 
-    // Offers a line that says `entry`, which is answered so.
+    // Offers a line with the entry `entry`, and compares the answer.
     fn assert_answers(
         &mut self,
         rt: &impl Abort,
@@ -46,7 +46,7 @@ impl Trial {
         assert!(rt; told == answered, "{place:?} with {entry:?}");
     }
 
-    // Offers a line with so many seeds, which is answered so.
+    // Offers a line with `seeds` seeds, and compares the answer.
     fn assert_offer(&mut self, rt: &impl Abort, place: (u32, u32), seeds: u8, answered: Answered) {
         self.assert_answers(rt, place, one_house(rt, seeds, Rule::Classic), answered);
     }
@@ -57,7 +57,7 @@ impl Trial {
         assert!(rt; self.collector.take(0) == Some(Taken { line, answer }));
     }
 
-    // There is no line of this file to be taken.
+    // There is no line of this file to take.
     fn assert_takes_none(&mut self, rt: &impl Abort, f: u32) {
         assert!(rt; self.collector.take(f).is_none(), "of file {f}");
     }
@@ -74,7 +74,7 @@ impl Trial {
         assert!(rt; self.collector.all_taken());
     }
 
-    // Makes each offer, after which all is there to be taken.
+    // Makes each offer, after which all lines can be taken.
     fn assert_each_offer(&mut self, rt: &impl Abort) {
         for (place, seeds, (_, _, own)) in EACH_OFFER {
             self.assert_offer(rt, *place, *seeds, *own);
@@ -83,7 +83,7 @@ impl Trial {
     }
 }
 
-// A board of one house a side with so many seeds in each, and empty stores.
+// A board of one house a side with `seeds` seeds in each, and empty stores.
 fn one_house(rt: &impl Abort, seeds: u8, rule: Rule) -> Entry {
     let cells = [seeds, 0, 0, 0, 0, 0];
     let board = Board::new(1, cells, 0, cells, 0, rule);
@@ -104,7 +104,7 @@ fn two_texts(alloc: Global) -> Result<Vec<FileText>, AllocError> {
     Ok(files)
 }
 
-// What is answered to a stranger for the line past the last of the first file, to a stranger with the offer's own file and
+// The results of an unknown outcome for the line past the last of the first file, of one with the offer's own file and
 // line and another entry, and to the offer itself.
 type EachAnswered = (Answered, Answered, Answered);
 
@@ -130,7 +130,7 @@ const EACH_OFFER: &[((u32, u32), u8, EachAnswered)] = &[
     ((1, 0), 1, (ENDED, ENDED, ENDED)),
 ];
 
-// Every line of a file is ready or taken, or not.
+// Whether every line of a file is ready or taken.
 fn assert_ended(rt: &impl Abort, trial: &Trial, f: u32, ended: bool) {
     assert!(rt; trial.collector.ended(f) == ended, "of file {f}");
 }
@@ -144,7 +144,7 @@ fn answers_each_offer(rt: HostRuntime) {
     trial.assert_each_offer(&rt);
 }
 
-// Gives the lines once each, where the second one comes first.
+// Takes each line once, with the second one offered first.
 fn assert_gives_each_once(rt: &impl Abort, trial: &mut Trial) {
     trial.assert_offer(rt, (0, 1), 2, Ok(0));
     trial.assert_takes_none(rt, 0);
@@ -166,7 +166,7 @@ const TWO: (u32, u8) = (1, 2);
 
 const THREE: (u32, u8) = (2, 3);
 
-// The lines in each order, and how many become ready by each.
+// The lines in each order, and how many become ready by each offer.
 const ORDERS: &[[((u32, u8), u32); 3]] = &[
     [(ONE, 1), (TWO, 1), (THREE, 1)],
     [(ONE, 1), (THREE, 0), (TWO, 2)],
@@ -211,7 +211,7 @@ fn refuses_a_position_under_the_other_rule(rt: HostRuntime) {
     trial.assert_offer(&rt, (0, 0), 1, Ok(1));
 }
 
-// Offers a line after three strangers: one for a file that is not there, one for a line past the last, and one with the
+// Offers a line after three unknown results: one for a file that is not there, one for a line past the last, and one with the
 // offer's own file and line and another entry. The last two and the offer itself are answered so.
 fn assert_after_strangers(
     rt: &impl Abort,

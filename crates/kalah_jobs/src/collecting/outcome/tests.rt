@@ -7,12 +7,12 @@ fn new_solver(rt: &(impl Abort + AllocGlobal)) -> Solver {
     Solver::new(Table::new(rt.alloc(), 16).expect(rt, "no memory"))
 }
 
-// What a line says that is read.
+// The entry of a line that is read.
 fn entry_of(rt: &impl Abort, line: &[u8]) -> Entry {
     Entry::Position(read_line(line).expect(rt, "not read"))
 }
 
-// The outcome of a line keeps the line and what it says, and has this answer.
+// The outcome of a line keeps the line and its entry, and has this answer.
 fn assert_outcome(
     rt: &impl Abort,
     solver: &mut Solver,

@@ -19,7 +19,7 @@ fn files(rt: &(impl Abort + AllocGlobal), texts: &[&[u8]]) -> Vec<FileText> {
     files
 }
 
-// A file of so many empty lines.
+// A file of `count` empty lines.
 fn empty_lines(rt: &(impl Abort + AllocGlobal), count: usize) -> FileText {
     FileText {
         name: String::from_str(rt.alloc(), "a.txt").expect(rt, "no memory"),
@@ -40,13 +40,13 @@ fn assert_fault(rt: &(impl Abort + AllocGlobal), files: &[FileText], fault: Jobs
     );
 }
 
-// The job of this number.
+// Job number `n`.
 fn job_at(rt: &impl Abort, jobs: &Jobs, n: u32) -> Job {
     assert!(rt; n < jobs.total());
     jobs.get(n)
 }
 
-// The job of this number is this line of this file, with this fault.
+// Job number `n` is this line of this file, with this fault.
 fn assert_job(rt: &impl Abort, jobs: &Jobs, n: u32, (file, line): (u32, u32), fault: LineFault) {
     let entry = Entry::Bad(fault);
     assert!(rt; job_at(rt, jobs, n) == Job { file, line, entry });
@@ -91,7 +91,7 @@ fn more_than_256_files_are_too_many(rt: HostRuntime) {
     assert_fault(&rt, files(&rt, &empty).as_slice(), JobsFault::TooManyFiles);
 }
 
-// The files are a batch of so many lines, and there is a collector for them.
+// The files are a batch of `lines` lines, and there is a collector for them.
 fn assert_batch(rt: &(impl Abort + AllocGlobal), files: &[FileText], lines: usize) {
     let jobs = jobs_of(rt, files);
     assert!(rt; jobs.files() as usize == files.len() && jobs.total() as usize == lines);
@@ -107,7 +107,7 @@ fn there_may_be_any_number_of_files(rt: HostRuntime) {
     }
 }
 
-// Numbers of lines, from few to the most there may be.
+// Numbers of lines, from few to the most allowed.
 const LINES: &[usize] = &[
     0, 1, 64, 65, 4096, 4097, 65_535, 65_536, 65_537, 100_000, 262_144, 262_145, 524_289, 777_777,
     999_999, 1_000_000,
@@ -168,12 +168,12 @@ fn files_are_counted_before_lines(rt: HostRuntime) {
     assert_fault(&rt, files.as_slice(), JobsFault::TooManyFiles);
 }
 
-// The jobs of five files, of which three are empty.
+// The jobs of five files; three are empty.
 fn jobs_of_five_files(rt: &(impl Abort + AllocGlobal)) -> Jobs {
     jobs_of(rt, files(rt, &[b"", b"x\n\n", b"", b"\ny", b""]).as_slice())
 }
 
-// A file has so many lines.
+// File `f` has `lines` lines.
 fn assert_lines(rt: &impl Abort, jobs: &Jobs, f: u32, lines: u32) {
     assert!(rt; f < jobs.files());
     assert!(rt; jobs.lines(f) == lines, "of file {f}");

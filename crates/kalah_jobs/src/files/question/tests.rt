@@ -1,4 +1,4 @@
-//! Lines of which the values of the moves are asked.
+//! Lines with the values of the moves asked.
 use crate::{
     Answer, Collector, Entry, FileText, Job, Jobs, Outcome, Question, Refusal, Sink, Stream, Taken,
     answer_text, read_line, write_answer,
@@ -6,7 +6,7 @@ use crate::{
 use kalah_solve::{Solver, Table};
 use std::process::Abort;
 
-// The jobs of a file of these bytes, asking for values.
+// The jobs of a file of these bytes, with values asked.
 fn jobs_of(rt: &(impl Abort + AllocGlobal), bytes: &[u8]) -> Jobs {
     let file = FileText {
         name: String::from_str(rt.alloc(), "b.txt").expect(rt, "no memory"),
@@ -53,7 +53,7 @@ fn each_line_is_answered_by_its_values(rt: HostRuntime) {
     }
 }
 
-// The answer that tells the values of a line.
+// The answer with the values of a line.
 fn values_of(rt: &(impl Abort + AllocGlobal), line: &[u8]) -> Answer {
     let board = read_line(line).expect(rt, "not read");
     Outcome::of(0, 0, Entry::ValuesOf(board), &mut new_solver(rt)).answer()

@@ -19,7 +19,7 @@ fn assert_printed(rt: &(impl Abort + AllocGlobal), line: &str, h: u8, text: &str
     assert!(rt; printed.as_str() == text, "{text}");
 }
 
-// A line is read, and written as it was.
+// A line is read, and then written unchanged.
 fn assert_read_back(rt: &(impl Abort + AllocGlobal), line: &str) {
     let board = read_line(line.as_bytes()).expect(rt, line);
     let text = line_text(rt.alloc(), &board).expect(rt, "no memory");
@@ -33,7 +33,7 @@ fn lines_are_written_as_they_were_read(rt: HostRuntime) {
     }
 }
 
-// Lines, houses that are moved, and the text of these moves.
+// Lines, houses to move, and the text of these moves.
 const STEPS: &[(&str, u8, &str)] = &[
     ("1,1/0 1,1/0", 1, "1 1,1/0 0,2/0 turn"),
     ("1,1/0 1,1/0", 2, "2 1,0/1 1,1/0 again"),
@@ -67,7 +67,7 @@ fn a_step_is_written_as_it_is_printed(rt: HostRuntime) {
     }
 }
 
-// A line is read back whose first store holds so many seeds.
+// A line whose first store holds `seeds` seeds is read back.
 fn assert_store(rt: &(impl Abort + AllocGlobal), seeds: u8) {
     assert!(rt; seeds <= 99);
     let line = format!(in rt.alloc(); "1/{seeds} 1/{}", 99 - seeds);

@@ -2,7 +2,7 @@ use crate::{Entry, LineFault, Question, read_line};
 use kalah_rules::{Board, Rule};
 use std::process::Abort;
 
-// The line is not read, for this fault.
+// The line can't be read, for this fault.
 fn assert_fault(rt: &impl Abort, line: &[u8], fault: LineFault) {
     assert!(rt; read_line(line).err() == Some(fault));
     assert!(rt; Entry::of_line(Question::BestMove, line) == Entry::Bad(fault));

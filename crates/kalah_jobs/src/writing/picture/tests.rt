@@ -2,7 +2,7 @@ use crate::{Stream, read_line, write_picture};
 use kalah_rules::{Board, Step};
 use std::process::Abort;
 
-// Lines, and how their positions are drawn.
+// Lines, and the pictures of their positions.
 const PICTURES: &[(&str, &str)] = &[
     ("8/0 23/99", "      23\n  99       0\n       8\n"),
     (
@@ -24,7 +24,7 @@ fn read(rt: &impl Abort, line: &str) -> Board {
     read_line(line.as_bytes()).expect(rt, line)
 }
 
-// The position is drawn so.
+// The position has this picture.
 fn assert_drawn(rt: &(impl Abort + AllocGlobal), board: &Board, picture: &str) {
     let mut out = Stream::new(Vec::<u8>::new(rt.alloc()));
     write_picture(&mut out, board).expect(rt, "not drawn");

@@ -5,7 +5,7 @@ use std::io;
 use std::io::{ErrorKind, Write};
 use std::process::Abort;
 
-/// Answers an error of its kind at its `fails_at`th call, counted from 1, and at no other.
+/// Returns an error of its kind only at call number `fails_at`, counted from 1.
 #[derive(Drop)]
 struct FailingOnce {
     bytes: Vec<u8>,
@@ -48,7 +48,7 @@ impl Write for FailingOnce {
     }
 }
 
-/// Takes one byte a call, until one fails.
+/// Takes one byte a call, until a call fails.
 #[derive(Drop)]
 struct Narrow {
     writer: FailingOnce,
@@ -100,7 +100,7 @@ impl Write for Counting {
     }
 }
 
-// How many bytes come to the writer of a stream that takes the piece.
+// How many bytes reach the writer of a stream that takes the piece.
 fn passed_on(piece: &[u8]) -> Option<usize> {
     let mut out = Stream::new(Counting { bytes: 0 });
     out.write_all(piece).ok()?;

@@ -5,7 +5,7 @@ use std::io;
 use std::io::{ErrorKind, Write};
 use std::process::Abort;
 
-/// Answers an error at its `fails_at`th write, counted from 1, and at any later one.
+/// Returns an error at its `fails_at`th write, counted from 1, and at any later one.
 #[derive(Drop)]
 struct FailingFrom {
     bytes: Vec<u8>,

@@ -1,4 +1,4 @@
-//! Moves as people make them, seed by seed: the yardstick of the code, which adds whole rows.
+//! Moves seed by seed, as people make them. The tests compare the code, which adds whole rows, with these.
 ghost use Rattle.std.specs.Prelude.{◌≤◌};
 
 use crate::row::total;
@@ -48,20 +48,20 @@ impl Lap {
         }
     }
 
-    // Some seeds more in a cell.
+    // Adds seeds to a cell.
     fn add(&mut self, place: usize, seeds: u8) {
         let sum = self.seeds(place).wrapping_add(seeds);
         self.set(place, sum);
     }
 
-    // The seeds of a cell, which are taken out of it.
+    // Empties a cell and returns its seeds.
     fn take(&mut self, place: usize) -> u8 {
         let seeds = self.seeds(place);
         self.set(place, 0);
         seeds
     }
 
-    // Lifts the seeds of house `h` and drops one into each cell that follows. Gives the place of the last.
+    // Lifts the seeds of house `h` and drops one into each cell that follows. Returns the place of the last.
     fn sow(&mut self, h: u8) -> usize {
         let mut place = (h as usize).saturating_sub(1);
         let hand = self.take(place);
@@ -73,7 +73,7 @@ impl Lap {
         place
     }
 
-    // The capture, where the last seed fell at this place.
+    // Captures, if the rule says so of a last seed at this place.
     fn capture(&mut self, last: usize) {
         let store = self.store();
         if last >= store || self.seeds(last) != 1 {
@@ -87,7 +87,7 @@ impl Lap {
         self.add(store, caught);
     }
 
-    // The houses of the mover, or of the other player.
+    // Returns the houses of the mover, or of the other player.
     fn row(&self, first: usize) -> [u8; 6] {
         let mut row = [0u8; 6];
         for i in 0..6usize {
@@ -102,7 +102,7 @@ impl Lap {
         self.row(first) == [0; 6]
     }
 
-    // The seeds of each player's houses come to that player's store.
+    // Sweeps each player's houses into that player's store.
     fn sweep(&mut self) {
         let store = self.store();
         for i in 0..store {
@@ -113,7 +113,7 @@ impl Lap {
         }
     }
 
-    // The board of the lap, and as the other player sees it.
+    // Returns the board of the lap, and the same seen by the other player.
     fn boards(&self) -> (Option<Board>, Option<Board>) {
         let (own, own_store) = (self.row(0), self.seeds(self.store()));
         let (other, other_store) = (self.row(self.store() + 1), self.other_store);
@@ -124,7 +124,7 @@ impl Lap {
     }
 }
 
-// Where the move of house `h` leads.
+// Returns the result of the move of house `h`.
 fn walked(board: &Board, h: u8) -> Option<Step> {
     let mut lap = Lap::of(board);
     let last = lap.sow(h);
@@ -140,7 +140,7 @@ fn walked(board: &Board, h: u8) -> Option<Step> {
     }
 }
 
-// Each legal move of the board leads where it leads seed by seed. Gives how many there are.
+// Asserts that each legal move of the board has the result that it has seed by seed. Returns the number of moves.
 fn assert_walked(rt: &impl Abort, board: &Board) -> u8 {
     let moves = board.legal();
     for i in 0..moves.len() {
@@ -150,7 +150,7 @@ fn assert_walked(rt: &impl Abort, board: &Board) -> u8 {
     moves.len()
 }
 
-// The lowest six digits of a number to the base of seven, in the first of twelve cells.
+// Returns the lowest six digits of a number in base seven, in the first of twelve cells.
 fn digits(number: u32) -> [u8; 12] {
     let mut digits = [0u8; 12];
     let mut rest = number;
@@ -161,7 +161,7 @@ fn digits(number: u32) -> [u8; 12] {
     digits
 }
 
-// The board with these seeds in the houses of the mover, and then in those of the other player.
+// Returns the board with these seeds in the houses of the mover, and then in those of the other player.
 fn board_of(m: u8, cells: &[u8; 12], stores: (u8, u8), rule: Rule) -> Option<Board> {
     let mut own = [0u8; 6];
     let mut other = [0u8; 6];
@@ -193,7 +193,7 @@ fn every_small_board_is_played_seed_by_seed(rt: HostRuntime) {
     assert!(rt; boards == 2 * (28 + 210 + 924));
 }
 
-// The next of numbers that look drawn.
+// Returns the next pseudo-random number.
 fn next(state: &mut u64) -> u64 {
     *state = state
         .wrapping_mul(0x5851_f42d_4c95_7f2d)
@@ -201,7 +201,7 @@ fn next(state: &mut u64) -> u64 {
     *state >> 33
 }
 
-// A board of up to 31 seeds with stores, and one of its rules.
+// Returns a board of up to 31 seeds with stores, under one of the rules.
 fn drawn(state: &mut u64) -> Option<Board> {
     let m = (next(state) % 6) as u8 + 1;
     let mut cells = [0u8; 12];

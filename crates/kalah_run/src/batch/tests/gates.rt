@@ -1,4 +1,4 @@
-//! Batches in which workers wait for one another: jobs are solved side by side, drawn by whoever is free, and written
+//! Batches in which workers wait for one another: jobs are solved in parallel, drawn by any free worker, and written
 //! while later ones are under way.
 use super::{lines_are_answered, same_lines};
 use crate::{Gate, Tally, solve_batch};
@@ -7,12 +7,12 @@ use std::io::Write;
 use std::sync::atomic::{AtomicBool, AtomicU32, Ordering};
 use std::{io, thread};
 
-// How often a gate looks for what it waits for.
+// How often a gate tests what it waits for.
 const TURNS: u32 = 10_000_000;
 
 const TWO: &str = "n:1 0 house 1\nn:2 0 house 1\n";
 
-// Looks many times whether the flag is set; false where it gave up.
+// Tests many times whether the flag is set; false if it gave up.
 fn is_set(flag: &AtomicBool) -> bool {
     for _ in 0..TURNS {
         if flag.load(Ordering::SeqCst) {
@@ -23,7 +23,7 @@ fn is_set(flag: &AtomicBool) -> bool {
     false
 }
 
-/// A flag for each of four jobs, and whether someone gave up waiting for one.
+/// A flag for each of four jobs, and whether a worker gave up waiting for one.
 #[derive(Drop)]
 struct Flags {
     jobs: [AtomicBool; 4],
@@ -80,7 +80,7 @@ impl Gate for SecondFirst {
     }
 }
 
-/// Each of so many jobs begins only once all are drawn.
+/// Each of `jobs` jobs begins only once all are drawn.
 #[derive(Drop)]
 struct AllDrawn {
     jobs: u32,
@@ -142,7 +142,7 @@ impl Gate for WrittenFirst<'_> {
     fn after(&self, _job: u32) {}
 }
 
-/// Tells when it has taken a whole line.
+/// Announces when it has taken a whole line.
 #[derive(Drop)]
 struct Telling<'a> {
     bytes: Vec<u8>,

@@ -29,7 +29,7 @@ fn a_line_of_over_80_bytes_is_too_long(rt: HostRuntime) {
     assert!(rt; one_file_answers(&rt, rt.alloc(), "n", &long, 2, 16, "n:1 fault long\n", 1));
 }
 
-// What a batch writes of the file where it ends after so many bytes, and how many of its lines are faults.
+// What a batch writes of the first `end` bytes of the file, and how many of its lines are faults.
 fn written_up_to(end: usize) -> (&'static str, u32) {
     match end {
         0 => ("", 0),

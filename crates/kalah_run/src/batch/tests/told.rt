@@ -1,4 +1,4 @@
-//! What the gate is told: of each job once, and that an outcome is handed on only once there is room for it.
+//! What the gate observes: each job once, and that an outcome is sent only once there is room for it.
 use super::{lines_are_answered, same_lines};
 use crate::batch::workers::QUEUE_CAPACITY;
 use crate::{Gate, solve_batch};
@@ -9,10 +9,10 @@ use std::process::Abort;
 use std::sync::atomic::{AtomicBool, AtomicU32, Ordering};
 use std::{hint, io, thread};
 
-// How often the writer looks for what it waits for.
+// How often the writer tests what it waits for.
 const TURNS: u32 = 10_000_000;
 
-/// How often each job began and was handed on, and whether one was told of out of its turn.
+/// How often each job began and was sent, and whether a job was reported in the wrong order.
 #[derive(Drop)]
 struct Told {
     begun: Vec<AtomicU32>,
@@ -20,7 +20,7 @@ struct Told {
     out_of_turn: AtomicBool,
 }
 
-// So many counts of none.
+// A count of 0 for each of `jobs` jobs.
 fn no_counts(rt: &impl Abort, alloc: Global, jobs: u32) -> Vec<AtomicU32> {
     let mut counts = Vec::new(alloc);
     for _ in 0..jobs {
@@ -29,7 +29,7 @@ fn no_counts(rt: &impl Abort, alloc: Global, jobs: u32) -> Vec<AtomicU32> {
     counts
 }
 
-// How often the job was told of; none where there is no such job.
+// How often the job was reported; 0 if there is no such job.
 fn times(counts: &[AtomicU32], job: u32) -> u32 {
     match counts.get(job as usize) {
         Some(count) => count.load(Ordering::SeqCst),
@@ -37,14 +37,14 @@ fn times(counts: &[AtomicU32], job: u32) -> u32 {
     }
 }
 
-// The job was told of once more.
+// Counts one more report of the job.
 fn count(counts: &[AtomicU32], job: u32) {
     if let Some(count) = counts.get(job as usize) {
         count.fetch_add(1, Ordering::SeqCst);
     }
 }
 
-// Whether each job was told of once.
+// Whether each job was reported once.
 fn are_once(counts: &[AtomicU32]) -> bool {
     for count in counts {
         if count.load(Ordering::SeqCst) != 1 {
@@ -70,7 +70,7 @@ impl Gate for Told {
     }
 }
 
-// So many jobs, with numbers of one byte, two and three.
+// The number of jobs: enough for numbers of one byte, two and three.
 const MANY: u32 = 65_600;
 
 #[test]
@@ -86,13 +86,13 @@ fn the_gate_is_told_of_each_job_once(rt: HostRuntime) {
     assert!(rt; in_turn && are_once(&gate.begun) && are_once(&gate.handed_on));
 }
 
-// So many outcomes are got, or wait in the queue, while the first line is written.
+// The number of outcomes that are got, or wait in the queue, while the first line is written.
 const ROOM: u32 = QUEUE_CAPACITY + 1;
 
-// How many turns a job is given to be handed on though there is no room.
+// How many turns the test waits for a job to be sent though there is no room.
 const A_WHILE: u32 = 1_000_000;
 
-/// How many jobs have begun, and how many are handed on.
+/// How many jobs have begun, and how many are sent.
 #[derive(Drop)]
 struct Counts {
     begun: AtomicU32,
@@ -115,8 +115,8 @@ impl Gate for Counting<'_> {
     }
 }
 
-/// Takes its first bytes only once a job has begun for whose outcome there is no room, and keeps how many jobs were
-/// handed on by then.
+/// Takes its first bytes only once a job has begun whose outcome finds no room, and stores how many jobs were
+/// sent by then.
 #[derive(Drop)]
 struct Slow<'a> {
     bytes: Vec<u8>,

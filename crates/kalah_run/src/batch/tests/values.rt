@@ -43,7 +43,7 @@ fn three_files(rt: &impl Abort, alloc: Global) -> Vec<FileText> {
     files
 }
 
-// Whether the batch tells the values of all moves, and counts the lines.
+// Whether the batch writes the values of all moves, and counts the lines.
 fn is_told<R: Threads + Wait + Sync>(
     rt: &R,
     alloc: Global,

@@ -1,4 +1,4 @@
-//! A batch with each request for memory refused in turn.
+//! A batch with each request for memory refused once.
 use super::{ANSWERS, batch_of, four_files};
 use crate::tests::want_of_memory::mark;
 use crate::{OpenGate, RunFault, Tally};
@@ -19,7 +19,7 @@ b.txt:1 1:0
 b.txt:2 1:-2
 ";
 
-// What the batch of the files answers, with a writer that has all its room. Where it is refused, nothing was written, and
+// The result of the batch of the files, with a writer that has all its room. If memory is refused, nothing was written, and
 // else all answers.
 fn answer_of<R: Abort + Threads + Wait + Sync>(
     rt: &R,
@@ -40,7 +40,7 @@ fn answer_of<R: Abort + Threads + Wait + Sync>(
     Ok(answer)
 }
 
-// The files are answered, at the second try where memory was refused at the first.
+// The files are answered, at the second try if memory was refused at the first.
 fn is_answered<R: Abort + Threads + Wait + Sync>(
     rt: &R,
     alloc: Global,

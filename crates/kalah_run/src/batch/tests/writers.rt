@@ -16,10 +16,10 @@ const SEVEN_LINES: Tally = Tally {
     faults: 2,
 };
 
-// In so many calls of the writer the answer line of a position goes out.
+// The number of calls of the writer by which the answer line of a position goes out.
 const CALLS_OF_A_LINE: u32 = 2;
 
-/// Takes the bytes of so many calls, answers an error at each later one, and counts the calls after the first error.
+/// Accepts the bytes of `calls_left` calls, returns an error at each later one, and counts the calls after the first error.
 #[derive(Drop)]
 struct Failing {
     bytes: Vec<u8>,
@@ -77,7 +77,7 @@ impl Gate for Counting {
     }
 }
 
-/// What came of a batch with a writer that fails.
+/// The result of a batch with a writer that fails.
 #[derive(Drop)]
 struct Run {
     tally: Result<Tally, RunFault>,
@@ -105,7 +105,7 @@ fn run_with<R: Threads + Wait + Sync>(
     }
 }
 
-// Whether no call of the writer fails where so many may be made. One that fails ends the writing and nothing else.
+// Whether no call of the writer fails if `calls` calls may be made. One that fails ends the writing and nothing else.
 fn is_whole<R: Abort + Threads + Wait + Sync>(
     rt: &R,
     alloc: Global,
@@ -123,7 +123,7 @@ fn is_whole<R: Abort + Threads + Wait + Sync>(
     is_whole
 }
 
-// How many calls of the writer may fail until none does.
+// Returns the least number of calls of the writer with which none fails.
 fn failures<R: Abort + Threads + Wait + Sync>(rt: &R, alloc: Global, question: Question) -> u32 {
     let files = four_files(alloc).expect(rt, "no memory");
     for calls in 0..100u32 {
@@ -152,7 +152,7 @@ fn all_jobs_are_done_though_the_writer_takes_one_line(rt: HostRuntime) {
     assert!(rt; (came, line) == ((Err(RunFault::Write), 200, 0), true));
 }
 
-/// Takes all bytes, and answers an error at the flush.
+/// Takes all bytes, and returns an error at the flush.
 #[derive(Drop)]
 struct Unflushed {
     bytes: Vec<u8>,
@@ -168,7 +168,7 @@ impl Write for Unflushed {
     }
 }
 
-// Whether all is written, and the flush alone is the write that fails.
+// Whether all is written, and only the flush fails.
 fn is_all_written<R: Threads + Wait + Sync>(
     rt: &R,
     alloc: Global,

@@ -1,4 +1,4 @@
-//! Many small batches through queues of every capacity, which run full and empty beside one another, with more threads than
+//! Many small batches through queues of every capacity, which run full and empty in parallel, with more threads than
 //! processors: a wake-up that is lost leaves a thread asleep, and the test has no end.
 ghost use Rattle.std.specs.Prelude.{◌≡◌, ◌<◌, ◌≤◌, ◌*◌, All};
 ghost use Rattle.std.specs.Thread.{IsSync};
@@ -12,7 +12,7 @@ use std::sync::Wait;
 use std::thread;
 use std::thread::Threads;
 
-// Puts the outcome so many times.
+// Puts the outcome repeatedly.
 pub(super) fn put_often<R: Wait>(
     rt: &R,
     queue: &ResultsQueue,
@@ -27,7 +27,7 @@ pub(super) fn put_often<R: Wait>(
     }
 }
 
-// Each worker puts the outcome so many times, in a thread of its own.
+// Each worker puts the outcome repeatedly, in a thread of its own.
 fn put_all<R: Threads + Wait + Sync>(
     rt: &R,
     queue: &ResultsQueue,
@@ -49,7 +49,7 @@ fn put_all<R: Threads + Wait + Sync>(
     );
 }
 
-// Gets so many outcomes.
+// Gets `total` outcomes.
 fn get_all<R: Wait>(rt: &R, queue: &ResultsQueue, mut pass: GetPass, total: u32)
     requires { pass.queue ≡ queue.now.id }
 {
@@ -82,7 +82,7 @@ fn through_threads<R: Threads + Wait + Sync>(
     );
 }
 
-/// A queue of so many places, and how many outcomes each of some workers puts.
+/// The number of places of a queue, and the number of outcomes that each of some workers puts.
 #[derive(Clone, Copy)]
 struct Batch {
     capacity: u32,
@@ -109,7 +109,7 @@ impl Batch {
         }
     }
 
-    // Brings all outcomes through a queue.
+    // Sends all outcomes through a queue.
     fn run<R: Threads + Wait + Sync>(
         &self,
         rt: &R,
@@ -123,13 +123,13 @@ impl Batch {
     }
 }
 
-/// How many streams of batches run beside one another in a test.
+/// How many streams of batches run in parallel in a test.
 const STREAMS: usize = 8;
 
 /// How many batches each stream has: those of both tests have a thousand together.
 const BATCHES: u32 = 63;
 
-// The batches of a stream, one after another.
+// Runs the batches of a stream sequentially.
 fn run_stream<R: Threads + Wait + Sync>(
     rt: &R,
     alloc: Global,

@@ -45,7 +45,7 @@ impl Places {
         self.taken.fetch_add(1, SeqCst);
     }
 
-    // Gives so many places in one go, and then waits until they are taken.
+    // Gives `count` places in one go, and then waits until they are taken.
     fn give<R: Wait>(&self, rt: &R, count: u32) {
         let taken = self.taken.load(SeqCst);
         for _ in 0..count {
@@ -61,7 +61,7 @@ impl Places {
     }
 }
 
-// One thread gives places to so many others, some in one go, and lets them fall asleep before it, or not.
+// One thread gives places to `takers` others, some in one go, and lets them fall asleep before it, or not.
 fn give_in_bursts<R: Wait>(rt: &R, places: &Places, takers: u32, drawn: &mut Drawn) {
     let mut left = takers;
     for _ in 0..takers {
@@ -77,7 +77,7 @@ fn give_in_bursts<R: Wait>(rt: &R, places: &Places, takers: u32, drawn: &mut Dra
     }
 }
 
-// Whether each place is taken, again and again: each time by other threads.
+// Whether each place is taken, repeatedly, each time by other threads.
 fn all_are_taken<R: Threads + Wait + Sync>(
     rt: &R,
     alloc: Global,
@@ -100,7 +100,7 @@ fn all_are_taken<R: Threads + Wait + Sync>(
     Ok(true)
 }
 
-// Eight streams beside one another, with more threads than processors.
+// Eight streams in parallel, with more threads than processors.
 #[test]
 fn each_place_that_is_given_is_taken(rt: HostRuntime) {
     let streams = thread::map_indices(

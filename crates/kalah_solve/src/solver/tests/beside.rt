@@ -1,21 +1,21 @@
-//! Solvers beside each other: each has a table of its own, and what is known of endings is one.
+//! Solvers that share endings: each has a table of its own.
 use super::*;
 use crate::granting::Granting;
 
-// A solver beside this one, with such a table.
+// A solver beside this one, with a table of this size.
 fn beside(rt: &impl Abort, alloc: Global, solver: &Solver, entries: u32) -> Solver {
     assert!(rt; 1 <= entries && entries <= 1_048_576);
     let other = solver.beside(alloc, entries);
     other.expect(rt, "no memory for a table")
 }
 
-// A solver asks for what another may have kept, and keeps it in its own table.
+// A solver uses what another may have kept, and keeps it in its own table.
 fn keeps_entries(rt: &impl Abort, solver: &mut Solver) {
     tables::tells_busy_houses(rt, solver);
     tables::keeps_the_last_two(rt, solver);
 }
 
-// Both do, one after the other.
+// Both do, sequentially.
 fn keep_entries_apart(rt: &impl Abort, alloc: Global, entries: u32) {
     let mut first = solver_of(rt, alloc, entries);
     let mut second = beside(rt, alloc, &first, entries);
@@ -40,15 +40,15 @@ fn are_made<A: Allocator + Copy>(rt: &impl Abort, alloc: A, entries: u32) -> boo
     }
 }
 
-// They are refused where a request is, and only there, with so many requests granted, of as many as there are. It tells how
-// many came.
+// They are refused exactly when a request is, with `grants` of `all` requests granted. Returns how many
+// requests there were.
 fn ask_for_memory(rt: &impl Abort, alloc: Global, entries: u32, (grants, all): (u32, u32)) -> u32 {
     let heap = Granting::new(alloc, grants);
     assert!(rt; are_made(rt, &heap, entries) == (heap.refused() == 0));
     memory::requests_made(rt, &heap, grants == all)
 }
 
-// With all requests granted, and with any number fewer.
+// With all requests granted, and with each smaller number.
 #[test]
 fn solvers_are_refused_only_where_memory_is(rt: HostRuntime) {
     for entries in [1, 65_536] {

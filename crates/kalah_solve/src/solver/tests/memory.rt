@@ -1,4 +1,4 @@
-//! Want of memory: an answer for which there is none is left out of the table, and verdicts stay the same.
+//! Out of memory: an answer that finds no memory is left out of the table, and verdicts stay the same.
 use super::*;
 use crate::granting::Granting;
 
@@ -29,7 +29,7 @@ fn tells_worth<A: Allocator + Clone>(
     assert!(rt; solver.search.search(houses, Window::whole()) == worth);
 }
 
-// Positions with so many seeds that some answers are kept.
+// Positions with enough seeds that some answers are kept.
 fn tells_many_seeds<A: Allocator + Clone>(rt: &impl Abort, solver: &mut Solver<A>) {
     for (own, other, margin) in [(8, 7, -9), (16, 15, 7)] {
         tells(rt, solver, &one(rt, own, other), best(margin, 1));
@@ -38,19 +38,19 @@ fn tells_many_seeds<A: Allocator + Clone>(rt: &impl Abort, solver: &mut Solver<A
     tells(rt, solver, &fives, best(6, 1));
 }
 
-// A start with so much to search that an answer is kept, however much of it is known by places.
+// A start with so much to search that an answer is kept, even with much of it known by places.
 fn tells_three_houses<A: Allocator + Clone>(rt: &impl Abort, solver: &mut Solver<A>) {
     let fours = tables::three(rt, Rule::Classic, [4, 4, 4], [4, 4, 4], (0, 0));
     tells(rt, solver, &fours, best(2, 1));
 }
 
-// How many requests came. None of them was refused if all were to be granted, and else some.
+// Returns how many requests came. None of them was refused if all were to be granted, and else some.
 pub(super) fn requests_made(rt: &impl Abort, heap: &Granting<Global>, grants_all: bool) -> u32 {
     assert!(rt; (heap.refused() == 0) == grants_all);
     heap.made()
 }
 
-// Two positions that differ in their stores alone, with one entry for both, unless there is no memory for the table.
+// Two positions that differ only in their stores, with one entry for both, unless there is no memory for the table.
 fn tells_both<A: Allocator + Clone>(
     rt: &impl Abort,
     table: Result<Table<A>, AllocError>,
@@ -73,7 +73,7 @@ fn no_memory_makes_no_table(rt: HostRuntime) {
     assert!(rt; heap.refused() == 1);
 }
 
-// The same with so many requests granted, of as many as there are. It tells how many came.
+// The same with `grants` of `all` requests granted. Returns how many requests there were.
 fn tells_both_granted(
     rt: &impl Abort,
     alloc: Global,
@@ -85,7 +85,7 @@ fn tells_both_granted(
     requests_made(rt, &heap, grants == all)
 }
 
-// The last run is granted as many requests as there are, and the others fewer.
+// The last run has all requests granted, and the others fewer.
 #[test]
 fn one_entry_is_granted_some_requests(rt: HostRuntime) {
     for keeps_all in [false, true] {
@@ -101,12 +101,12 @@ pub(super) fn requests_of_a_table(rt: &impl Abort, alloc: Global) -> u32 {
     tables::asks_for_a_table(rt, alloc, 1_024, (u32::MAX, u32::MAX))
 }
 
-// The verdicts of a large table that has to ask for its entries.
+// The verdicts of a large table that must request memory for its entries.
 fn tells_many_with<A: Allocator + Clone>(rt: &impl Abort, alloc: A) {
     tells_many_seeds(rt, &mut solver_with(rt, Table::new(alloc, 1_024), true));
 }
 
-// The same with so many requests granted, of as many as there are. It tells how many came.
+// The same with `grants` of `all` requests granted. Returns how many requests there were.
 fn tells_many_granted(rt: &impl Abort, alloc: Global, (grants, all): (u32, u32)) -> u32 {
     let heap = Granting::new(alloc, grants);
     tells_many_with(rt, &heap);
@@ -123,7 +123,7 @@ fn large_table_is_granted_some_entries(rt: HostRuntime) {
     }
 }
 
-// All verdicts, one after another.
+// All verdicts, in order.
 fn tells_all<A: Allocator + Clone>(rt: &impl Abort, solver: &mut Solver<A>) {
     tells_one_house(rt, solver);
     tells_two_houses(rt, solver);
@@ -143,7 +143,7 @@ fn has_entry<A: Allocator + Clone>(
     assert!(rt; solver.search.entry(&houses) == entry);
 }
 
-// All verdicts of a table that gets no entry from `alloc`, of which `heap` counts the requests, and no entry is there in the end.
+// All verdicts of a table that gets no entry from `alloc`, whose requests `heap` counts, and no entry is there in the end.
 fn tells_all_without_entries<A: Allocator + Clone>(
     rt: &impl Abort,
     alloc: A,
@@ -164,19 +164,19 @@ fn every_entry_is_refused(rt: HostRuntime) {
     }
 }
 
-// A large table, asked for again if need be.
+// A large table, at the second try if memory was refused.
 fn large_table<A: Allocator + Copy>(alloc: A) -> Result<Table<A>, AllocError> {
     Table::new(alloc, 1_024).or_else(|_| Table::new(alloc, 1_024))
 }
 
-// The verdicts where one request was refused, after which the table takes an entry.
+// The verdicts if one request was refused, after which the table takes an entry.
 fn goes_on_after_a_refusal<A: Allocator + Copy>(rt: &impl Abort, alloc: A) {
     let mut solver = solver_with(rt, large_table(alloc), true);
     tells_many_seeds(rt, &mut solver);
     has_entry(rt, &mut solver, Some(Interval { lo: 7, hi: 7 }));
 }
 
-// The same with the request after so many refused, of as many as there are. It tells how many came.
+// The same with the request after `before` of `all` refused. Returns how many requests there were.
 fn goes_on_but_one(rt: &impl Abort, alloc: Global, (before, all): (u32, u32)) -> u32 {
     let heap = Granting::but_one(alloc, before);
     goes_on_after_a_refusal(rt, &heap);

@@ -1,11 +1,11 @@
-//! Positions of which the tables keep something, as the program has them: with so many seeds, and so much to try.
+//! Positions that leave entries and places in the tables, as in the program: with many seeds and much to try.
 use super::*;
 use crate::granting::Granting;
 
 // Three houses a side with their rule.
 type Busy = (Rule, [u8; 3], [u8; 3]);
 
-// Those for which so much is tried that an answer is kept, each with its margin; the best house is the first.
+// Those that take so much work that an answer is kept, each with its margin; the best house is the first.
 fn busy() -> [(Busy, i8); 6] {
     [
         ((Rule::Classic, [3, 3, 3], [2, 3, 2]), 2),
@@ -17,7 +17,7 @@ fn busy() -> [(Busy, i8); 6] {
     ]
 }
 
-// A board with three houses a side and these stores.
+// A board with three houses a side and given stores.
 pub(super) fn three(
     rt: &impl Abort,
     rule: Rule,
@@ -31,7 +31,7 @@ pub(super) fn three(
     board.expect(rt, "beyond the limits")
 }
 
-// How many nodes the verdict takes, which has to be this one.
+// Returns how many nodes the verdict takes, and asserts the verdict.
 fn nodes_for(rt: &impl Abort, solver: &mut Solver, board: &Board, verdict: Verdict) -> u64 {
     let before = solver.search.nodes();
     tells(rt, solver, board, verdict);
@@ -47,7 +47,7 @@ fn is_kept(rt: &impl Abort, solver: &mut Solver, board: &Board, worth: i8) {
     assert!(rt; solver.search.entry(&board.houses()) == Some(kept));
 }
 
-// They leave an entry, by which fewer nodes tell the same houses with other stores.
+// They leave an entry, by which the same houses with other stores take fewer nodes.
 fn leaves_an_entry(rt: &impl Abort, solver: &mut Solver, (rule, own, other): Busy, margin: i8) {
     let bare = three(rt, rule, own, other, (0, 0));
     let first = nodes_for(rt, solver, &bare, best(i32::from(margin), 1));
@@ -85,7 +85,7 @@ pub(super) fn agree_with_plain(rt: &impl Abort, solver: &mut Solver) {
     }
 }
 
-// Six houses a side with many seeds, so that endings of nine are asked for, which take so many nodes together that the search
+// Six houses a side with many seeds, so that endings of nine are used. Together they take enough nodes that the search
 // is long.
 fn tells_hard_houses(rt: &impl Abort, solver: &mut Solver) {
     for (rule, margin) in [(Rule::Classic, -6), (Rule::EmptyCapture, -4)] {
@@ -96,7 +96,7 @@ fn tells_hard_houses(rt: &impl Abort, solver: &mut Solver) {
     assert!(rt; solver.search.nodes() >= 300_000);
 }
 
-// The verdict takes no node where it `is_looked_up`, and only there.
+// The verdict takes no node if it `is_looked_up`, and only then.
 fn looks_up(
     rt: &impl Abort,
     solver: &mut Solver,
@@ -107,7 +107,7 @@ fn looks_up(
     assert!(rt; (nodes_for(rt, solver, board, verdict) == 0) == is_looked_up);
 }
 
-// Those of 7 and 8 seeds are looked up from the first node on, and those of 9 once many seeds were searched, as where it
+// Those of 7 and 8 seeds are looked up from the first node on, and those of 9 once many seeds were searched, which holds if it
 // `is_long`.
 fn looks_up_endings(rt: &impl Abort, solver: &mut Solver, is_long: bool) {
     for (rule, own, margin, house, at_once) in [
@@ -122,7 +122,7 @@ fn looks_up_endings(rt: &impl Abort, solver: &mut Solver, is_long: bool) {
     }
 }
 
-// Over so many entries, after hard houses where the search `is_long`.
+// With `entries` entries, after hard houses if the search `is_long`.
 fn looks_up_endings_with(rt: &impl Abort, alloc: Global, entries: u32, is_long: bool) {
     let mut solver = solver_of(rt, alloc, entries);
     if is_long {
@@ -150,14 +150,14 @@ fn nodes_after_start(rt: &impl Abort, solver: &mut Solver, alone: u64) -> u64 {
     nodes_for_next(rt, solver)
 }
 
-// How many it takes alone and after four seeds in each house, each with a table of so many entries.
+// How many nodes it takes alone and after four seeds in each house, each with a table of `entries` entries.
 fn nodes_of_both(rt: &impl Abort, alloc: Global, entries: u32) -> (u64, u64) {
     let alone = nodes_for_next(rt, &mut solver_of(rt, alloc, entries));
     let after = nodes_after_start(rt, &mut solver_of(rt, alloc, entries), alone);
     (alone, after)
 }
 
-// After house 1 the other player has a row with one house empty, of which a large table knows.
+// After house 1 the other player has a row with one house empty, which a large table knows.
 #[test]
 fn what_was_learned_of_a_move_serves_the_next_position(rt: HostRuntime) {
     for entries in [1, 65_536] {
@@ -166,8 +166,8 @@ fn what_was_learned_of_a_move_serves_the_next_position(rt: HostRuntime) {
     }
 }
 
-// Three houses a side with so few seeds that all that follows has places, asked twice: an entry tells their worth, and the places
-// which house attains it.
+// Three houses a side with so few seeds that all that follows has places, solved twice: an entry gives their worth, and the places
+// determine which house attains it.
 fn looks_up_places(rt: &impl Abort, solver: &mut Solver, rule: Rule) {
     let bare = three(rt, rule, [3, 3, 3], [4, 3, 4], (0, 0));
     let rich = three(rt, rule, [3, 3, 3], [4, 3, 4], (5, 3));
@@ -186,7 +186,7 @@ fn what_is_kept_in_places_is_looked_up(rt: HostRuntime) {
 // How many entries a table may have: the fewest, the most, and some between, round a power of two.
 const ENTRIES: [u32; 7] = [1, 2, 65_535, 65_536, 65_537, 524_288, 1_048_576];
 
-// What is told over such a table.
+// Verdicts and values with a table of `entries` entries.
 fn tells_with(rt: &impl Abort, alloc: Global, entries: u32) {
     let mut solver = solver_of(rt, alloc, entries);
     tells_busy_houses(rt, &mut solver);
@@ -201,13 +201,13 @@ fn a_table_may_have_any_number_of_entries(rt: HostRuntime) {
     }
 }
 
-// Whether there is memory for a table of so many entries.
+// Returns whether there is memory for a table of `entries` entries.
 pub(super) fn is_made<A: Allocator + Clone>(rt: &impl Abort, alloc: A, entries: u32) -> bool {
     table_of(rt, alloc, entries).is_ok()
 }
 
-// It is refused where one of its requests is, and only there, with so many requests granted, of as many as there are. It tells
-// how many came.
+// It is refused exactly when one of its requests is, with `grants` of `all` requests granted. Returns how many requests there
+// were.
 pub(super) fn asks_for_a_table(
     rt: &impl Abort,
     alloc: Global,
@@ -219,7 +219,7 @@ pub(super) fn asks_for_a_table(
     memory::requests_made(rt, &heap, grants == all)
 }
 
-// With all requests granted, and with any number fewer.
+// With all requests granted, and with each smaller number.
 #[test]
 fn a_table_is_refused_only_where_memory_is(rt: HostRuntime) {
     for entries in ENTRIES {

@@ -33,7 +33,7 @@ fn tells_worked_values<A: Allocator + Clone>(rt: &impl Abort, solver: &mut Solve
     tells_values(rt, solver, &empty_capture, &[(1, -1)]);
 }
 
-// Over so many entries, with every answer kept if it `keeps_all`.
+// With `entries` entries; every answer is kept if it `keeps_all`.
 fn tells_worked_values_with<A: Allocator + Clone>(
     rt: &impl Abort,
     alloc: A,

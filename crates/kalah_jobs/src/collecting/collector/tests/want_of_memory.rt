@@ -1,4 +1,4 @@
-//! Jobs and their collector with each request for memory refused in turn.
+//! Jobs and their collector with each request for memory refused once.
 use super::{ONE, THREE, TWO, Trial, one_house, two_texts};
 use crate::want_of_memory::mark;
 use crate::{Collector, Job, Jobs, JobsFault};
@@ -8,7 +8,7 @@ use std::alloc::{AllocError, Global};
 use std::process::Abort;
 use std::test::Fail;
 
-// The jobs of two files, asked for again where memory was refused.
+// The jobs of two files, at the second try if memory was refused.
 fn jobs_of_two(rt: &(impl Abort + AllocGlobal)) -> Result<Jobs, JobsFault> {
     let alloc = rt.alloc();
     let files = two_texts(alloc).or_else(|_| two_texts(alloc))?;
@@ -21,13 +21,13 @@ fn jobs_of_two(rt: &(impl Abort + AllocGlobal)) -> Result<Jobs, JobsFault> {
     }
 }
 
-// A solver with a small table, asked for again where memory was refused.
+// A solver with a small table, at the second try if memory was refused.
 fn new_solver(alloc: Global) -> Result<Solver, AllocError> {
     let table = Table::new(alloc, 16).or_else(|_| Table::new(alloc, 16))?;
     Ok(Solver::new(table))
 }
 
-// A collector for the jobs, asked for again where memory was refused, and a solver likewise.
+// A collector for the jobs and a solver, each at the second try if memory was refused.
 pub(super) fn trial_of(rt: &(impl Abort + AllocGlobal)) -> Result<Trial, JobsFault> {
     let jobs = jobs_of_two(rt)?;
     let solver = new_solver(rt.alloc())?;
@@ -42,7 +42,7 @@ pub(super) fn trial_of(rt: &(impl Abort + AllocGlobal)) -> Result<Trial, JobsFau
     })
 }
 
-// The job of this number is the line of this number of the first file, with so many seeds.
+// Job `line` is line `line` of the first file, with `seeds` seeds.
 fn assert_job(rt: &impl Abort, jobs: &Jobs, (line, seeds): (u32, u8)) {
     assert!(rt; line < jobs.total());
     let entry = one_house(rt, seeds, Rule::Classic);
@@ -58,7 +58,7 @@ fn assert_jobs(rt: &impl Abort, jobs: &Jobs) {
     assert_job(rt, jobs, THREE);
 }
 
-// The jobs and the collector take no memory.
+// The jobs and the collector need no memory.
 fn assert_trial(rt: &(impl Abort + AllocGlobal), trial: &mut Trial) -> Result<(), Fail> {
     mark(rt.alloc(), "before the calls without memory")?;
     assert_jobs(rt, &trial.jobs);

@@ -45,7 +45,7 @@ pub overflow_add-margin : goal.overflow_add-margin
 overflow_add-margin g c =
     told_fits c.args.board.now c.search-best.result c.own_store.result c.other_store.result c.is_over.ensures.limits (found g c) c.own_store.ensures c.other_store.ensures
 
--- the house that is told
+-- the reported house
 house_is : (g : given.Over) (c : goal.After-other_store g) → c.first_house-house.result ≡ best_house c.args.board.now
 house_is g c = c.first_house-house.ensures ∙ ap (λ (a : Rows). best_house (bare a)) c.houses-houses.ensures ∙ sym (best_of_rows c.args.board.now)
 

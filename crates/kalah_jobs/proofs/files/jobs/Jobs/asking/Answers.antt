@@ -5,7 +5,7 @@ use Rattle.kalah_jobs.proofs.OfFiles.JobCounts.{counted_low, counted_more, count
 use Rattle.kalah_jobs.proofs.files.jobs.Jobs.asking.Goals as goal
 use Rattle.kalah_jobs.proofs.files.jobs.Jobs.asking.Goals.{After-lines-total}
 
--- the row of a file says what its lines say
+-- the row of a file has the entries of its lines
 row_read : (c : After-lines-total) → c.in_ok-row.row ≡ entries_to c.args.question c.file-item.result.bytes
 row_read c = c.in_ok-row.ensures ∙ ap (entries_to c.args.question) (c.deref.ensures.value ∙ ap (λ (f : NamedBytes). f.bytes) c.file.view_is)
 
