@@ -1,9 +1,9 @@
 -- A move on the numbers of two rows.
 use Rattle.std.proofs.Common.{◌≡◌, ◌≢◌, ℕ, ◌+◌, ◌-◌, ◌*◌, ◌/◌, ◌%◌, ◌^◌, ◌<◌, ◌≤◌, inl, inr, List, length, arith, ap, sym, ◌∙◌, refl, subst, eq-eqb}
-use Rattle.std.specs.Prelude.{true, false, slice_set, slice_index, sum, nat_lt, if◌then◌else◌, ◌==◌, Option, Some, None}
+use Rattle.std.specs.Prelude.{true, false, slice_set, slice_index, sum, nat_lt, if◌then◌else◌, ◌==◌, ◌&&◌, Option, Some, None, MatchBool}
 use Rattle.std.proofs.lemmas.Nat.{mod_below, mul-le}
 use Rattle.std.proofs.Math.Nat.{mul-div-le, div-eq_of_lt, mod-eq_of_lt}
-use Rattle.std.proofs.lemmas.Bool.{cases_Bool, cases_eq, cases_lt, eqb-true}
+use Rattle.std.proofs.lemmas.Bool.{cases_Bool, cases_eq, cases_lt, eqb-true, eqb-false}
 use Rattle.std.proofs.lemmas.Bool.Decides.{nat_tests}
 use Rattle.std.proofs.lemmas.List.{set_past, get_or_past}
 use Rattle.std.proofs.lemmas.List.Sums.{sum_by-set}
@@ -31,6 +31,15 @@ pub record KeepsSeeds (p q : Position) : Type 0 where
 sow_rule : (p : Position) (h k : ℕ) → (sow p h k).rule ≡ p.rule
 unfolding sow
 sow_rule p h k = refl
+
+-- where nothing is caught the rows stay
+unchanged : (r : RowNumbers) (x y last taken k j : ℕ) {p : Position} → (last ≡ 0) × (taken ≡ 0) → x ≡ k * last → y ≡ j * taken → Shows r p →
+    Shows (record { own = r.own - x; other = r.other - y; store = r.store + last + taken }) p
+unchanged r x y last taken k j none x_is y_is shows = record {
+  own = omega (arith, rw none.0 at x_is, shows.own);
+  other = omega (arith, rw none.1 at y_is, shows.other);
+  store = omega (arith, none.0, none.1, shows.store);
+}
 
 -- the rule lets the last seed capture
 captured_some : (p : Position) (i : ℕ) → seeds p.own i ≡ 1 → captures p.rule (seeds p.other (opposite p i)) ≡ true → captured p (Some i) ≡ capture p i
@@ -159,18 +168,18 @@ module _ (a : Rows) (h : ℕ) (w : IsWithinHouses a) (holds : HoldsSeeds (bare a
       rw at (ap (λ n. n / 32 ^ (opposite q i - 1) % 32) shows.other ∙ read_seeds q.other (opposite q i - 1) (omega arith) (omega (arith, few)))
 
   -- the last seed captures nothing
-  pub shows_more : (r : RowNumbers) (i : ℕ) → Shows r q → seeds q.own i ≢ 1 → Shows r (captured q (Some i))
+  shows_more : (r : RowNumbers) (i : ℕ) → Shows r q → seeds q.own i ≢ 1 → Shows r (captured q (Some i))
   shows_more r i shows more = elim (cases_Bool (seeds q.own i == 1)) [
     | inl one ↦ absurd (more (eqb-true (seeds q.own i) 1 one))
     | inr other ↦ rw other shows
   ]
 
   -- or the rule does not let it
-  pub shows_none : (r : RowNumbers) (i : ℕ) → Shows r q → captures a.rule (seeds q.other (opposite q i)) ≡ false → Shows r (captured q (Some i))
+  shows_none : (r : RowNumbers) (i : ℕ) → Shows r q → captures a.rule (seeds q.other (opposite q i)) ≡ false → Shows r (captured q (Some i))
   shows_none r i shows kept = kept_by q i (rw sown_keeps.rule kept) r shows
 
   -- it captures
-  pub shows_capture : (r : RowNumbers) (i x y : ℕ) → Shows r q → 1 ≤ i → i ≤ length a.own → seeds q.own i ≡ 1 →
+  shows_capture : (r : RowNumbers) (i x y : ℕ) → Shows r q → 1 ≤ i → i ≤ length a.own → seeds q.own i ≡ 1 →
       captures a.rule (seeds q.other (opposite q i)) ≡ true →
       x ≡ 32 ^ (i - 1) * 1 → y ≡ 32 ^ (length a.own + 1 - i - 1) * seeds q.other (opposite q i) →
       Shows (record { own = r.own - x; other = r.other - y; store = r.store + 1 + seeds q.other (opposite q i) }) (captured q (Some i))
@@ -191,6 +200,27 @@ module _ (a : Rows) (h : ℕ) (w : IsWithinHouses a) (holds : HoldsSeeds (bare a
         other = omega arith;
         store = omega arith;
       })
+
+  -- so what is caught is taken off both rows and goes to the store
+  pub shows_caught : (r : RowNumbers) (i here across last taken x y : ℕ) → Shows r q → 1 ≤ i → i ≤ length a.own →
+      here ≡ seeds q.own i → across ≡ seeds q.other (opposite q i) →
+      MatchBool ((here == 1) && captures a.rule across) ((last ≡ 1) × (taken ≡ across)) ((last ≡ 0) × (taken ≡ 0)) →
+      x ≡ 32 ^ (i - 1) * last → y ≡ 32 ^ (length a.own + 1 - i - 1) * taken →
+      Shows (record { own = r.own - x; other = r.other - y; store = r.store + last + taken }) (captured q (Some i))
+  shows_caught r i here across last taken x y shows low high here_is across_is told x_is y_is = elim (cases_Bool (here == 1)) [
+    | inr more ↦
+        let none : (last ≡ 0) × (taken ≡ 0) = rw more at told in
+        unchanged r x y last taken _ _ none x_is y_is (shows_more r i shows (λ one. absurd (eqb-false here 1 more (here_is ∙ one))))
+    | inl one ↦ elim (cases_Bool (captures a.rule across)) [
+      | inr kept ↦
+          let none : (last ≡ 0) × (taken ≡ 0) = rw (one, kept) at told in
+          unchanged r x y last taken _ _ none x_is y_is (shows_none r i shows (rw across_is at kept))
+      | inl some ↦
+          let both : (last ≡ 1) × (taken ≡ across) = rw (one, some) at told in
+          rw (both.0, both.1, across_is) (shows_capture r i x y shows low high (sym here_is ∙ eqb-true here 1 one) (rw across_is at some)
+          (rw both.0 at x_is) (rw (both.1, across_is) at y_is))
+    ]
+  ]
 
 -- ---- the whole move
 -- a house that is emptied

@@ -7,11 +7,14 @@ use Rattle.std.proofs.Math.ListN.{length-set}
 use Rattle.kalah_rules.specs.Position.{Rows, IsWithinHouses, seeds, seeds_in_houses, is_over, bare}
 use Rattle.kalah_rules.specs.Play.{legal_houses}
 use Rattle.kalah_rules.specs.HousesStep.{houses_step}
+use Rattle.kalah_rules.specs.declared.step.HousesStep.TheVariants.{Turn}
 use Rattle.kalah_rules.proofs.Legal.{holds_legal, legal_holds}
 use Rattle.kalah_solve.specs.Taken.{taken, taken_by_step}
 use Rattle.kalah_solve.specs.Tried.{IsSoftBound, TakesAtMost, EndsInStore, IsTurnOf, AreWaiting}
 use Rattle.kalah_solve.specs.declared.search.reaches.Played.{Played}
 use Rattle.kalah_solve.specs.RowMarks.{cell, IsLastMark}
+use Rattle.kalah_solve.specs.StepWorth.{GoesOnAt}
+use Rattle.kalah_solve.proofs.StepWorths.{goes_on}
 use Rattle.kalah_solve.proofs.RowMarks.{last_marked, left_before, gone_before}
 use Rattle.kalah_solve.proofs.Takings.{taken_most, taken_reached}
 
@@ -90,6 +93,12 @@ turn_enough a bar h bound t w turn is = move_enough a bar h bound w turn.legal (
 pub turn_at_most : (a : Rows) (bar h bound : ℕ) (t : Played) → IsTurnOf a h t →
     IsSoftBound bar (t.gained + (seeds_in_houses (bare t.next) - taken t.next)) bound → bound < bar → TakesAtMost a bound h
 turn_at_most a bar h bound t turn is short = (turn_bound a bar h bound t turn is).upper short
+
+-- and it brought few seeds
+pub gained_few : (a : Rows) (h : ℕ) (t : Played) → IsWithinHouses a → IsTurnOf a h t → t.gained < 256
+gained_few a h t w turn =
+    let on : GoesOnAt t.gained t.next = goes_on a h (Turn t.gained t.next) w turn.legal (sym turn.step) in
+    omega (arith, on.few)
 
 -- best play takes no more than each legal move does
 pub all_at_most : (a : Rows) (most : ℕ) → IsWithinHouses a → is_over (bare a) ≡ false →

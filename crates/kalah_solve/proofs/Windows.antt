@@ -25,3 +25,13 @@ told_by_share a lo hi n t asked w all ordered few apart is e =
     let margin : to_z w32 (of_z w32 (to_z w32 (of_z w32 (pos 2 *ℤ to_z w32 t)) -ℤ to_z w32 n)) ≡ pos (2 * t) -ℤ pos n = omega (arith, ints, is, ordered, few, all, w.few_seeds) in
     let worth_is : pos (2 * taken a) -ℤ pos n ≡ houses_worth a = omega (arith, ints, worth_of_taken a w, all) in
     e ∙ ap (within lo hi) margin ∙ ap (λ s. within lo hi (pos (2 * s) -ℤ pos n)) is ∙ apart (taken a) (omega (arith, (taken_share a w).few, all)) ∙ ap (within lo hi) worth_is
+
+-- so does what the mover takes of an ending
+pub told_by_taken : (a : Rows) (lo hi : ℤ) (n t : ℕ) → IsWithinHouses a → n ≡ seeds_in_houses (bare a) → t ≡ taken a →
+    {answer : ℤ} → answer ≡ within lo hi (to_z w32 (of_z w32 (to_z w32 (of_z w32 (pos 2 *ℤ to_z w32 t)) -ℤ to_z w32 n))) →
+    answer ≡ within lo hi (houses_worth a)
+told_by_taken a lo hi n t w all is e =
+    let few = (taken_share a w).few in
+    let margin : to_z w32 (of_z w32 (to_z w32 (of_z w32 (pos 2 *ℤ to_z w32 t)) -ℤ to_z w32 n)) ≡ houses_worth a =
+    omega (arith, ints, is, all, few, w.few_seeds, worth_of_taken a w) in
+    e ∙ ap (within lo hi) margin

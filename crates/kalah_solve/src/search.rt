@@ -93,7 +93,7 @@ impl<A: Allocator + Clone> Search<A> {
         self.nodes
     }
 
-    /// The worth of the houses, raised to the window's lower end and lowered to its upper one.
+    /// The worth of the houses, raised to the window's lower end and lowered to its upper one. That of an ending is looked up.
     pub fn search(&mut self, houses: &Houses, window: Window) -> i32
         requires going { is_over (bare houses.now) ≡ false }
         ensures { result ≡ within window.lo window.hi (houses_worth houses.now) }
@@ -101,6 +101,10 @@ impl<A: Allocator + Clone> Search<A> {
         let seeds = houses.seeds();
         self.had_many_seeds |= seeds >= MANY_SEEDS;
         self.grow_endings();
+        if seeds <= self.most_at_the_end() {
+            let taken = self.table.taken(houses);
+            return window.clamp(2 * taken as i32 - seeds as i32);
+        }
         let known = self.known_margins(houses);
         let Some(narrow) = window.narrowed(known) else {
             return window.clamp(known.lo as i32);
@@ -130,17 +134,13 @@ impl<A: Allocator + Clone> Search<A> {
         }
     }
 
-    // The seeds that the mover takes, raised to the least of the share and lowered to its most: those of an ending are
-    // looked up, and tests close in on others.
+    // The seeds that the mover takes, raised to the least of the share and lowered to its most: tests close in on them.
     fn taken_within(&mut self, houses: &Houses, asked: Share) -> u8
         requires going { is_over (bare houses.now) ≡ false }
         requires ordered { asked.least ≤ asked.most }
         requires high { asked.most ≤ most_seeds }
         ensures { result ≡ max asked.least (min asked.most (taken houses.now)) }
     {
-        if houses.seeds() <= self.most_at_the_end() {
-            return self.table.taken(houses).clamp(asked.least, asked.most);
-        }
         let mut low = asked.least;
         let mut high = asked.most;
         let mut bar = houses.seeds() / 2 + 1;

@@ -19,8 +19,13 @@ pub fn write_answer<W: Sink>(out: &mut W, name: &str, taken: &Taken) -> Result<(
         (Appends (W.written out.old) (W.written out.new) (answer_line name.now taken.now ++ line_feed ∷ [])) }
     ensures start { AppendsStart (W.written out.old) (W.written out.new) (answer_line name.now taken.now ++ line_feed ∷ []) }
 {
+    let mut line = ending_of(taken, "\n");
+    if line.has_room(name.len()) {
+        line.put(name);
+        return out.write_all(line.bytes());
+    }
     out.write_all(name.as_bytes())?;
-    out.write_all(ending_of(taken, "\n").bytes())
+    out.write_all(line.bytes())
 }
 
 #[cfg(test)]

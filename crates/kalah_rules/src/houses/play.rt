@@ -1,13 +1,14 @@
-//! Moves on houses, computed by whole rows. Boards and the search both play by these.
-ghost use Rattle.std.specs.Prelude.{◌≡◌, ◌+◌, ◌^◌, ◌<◌, ◌≤◌, length, Some, Contains};
+//! The one sowing: moves on houses, by whole rows.
+ghost use Rattle.std.specs.Prelude.{◌≡◌, ◌+◌, ◌^◌, ◌<◌, ◌≤◌, ◌==◌, ◌&&◌, length, Some, Contains, MatchBool};
 ghost use Rattle.kalah_rules.specs.Position.{bare, seeds, IsWithinHouses};
 ghost use Rattle.kalah_rules.specs.Key.{number_of};
 ghost use Rattle.kalah_rules.specs.Lap.{HoldsSeeds, lifted};
 ghost use Rattle.kalah_rules.specs.Play.{legal_houses};
-ghost use Rattle.kalah_rules.specs.Sowing.{lap_length, sown, captured, after, is_again};
+ghost use Rattle.kalah_rules.specs.Sowing.{lap_length, sown, captures, captured, after, is_again};
 
 use crate::houses::Houses;
 use crate::houses::numbers::{OTHER_ROW, SIDE, alone, one_each, other_gains, own_gains, seeds_at};
+use crate::rule::Rule;
 use crate::step::HousesStep;
 
 // The rows of a position as numbers, and the number of seeds in its own store.
@@ -16,6 +17,23 @@ pub(super) struct RowNumbers {
     own: u64,
     other: u64,
     store: u64,
+}
+
+// What goes to the store where the last seed makes the seeds of its house `here` and so many lie across: that seed and those, or
+// nothing. Which of them is hard to foresee, so both are told as numbers, by which a row changes without a branch.
+fn caught(rule: Rule, here: u64, across: u64) -> (u64, u64)
+    requires { across < 32 }
+    ensures caught { MatchBool ((here == 1) && captures rule across)
+        ((result.0 ≡ 1) × (result.1 ≡ across)) ((result.0 ≡ 0) × (result.1 ≡ 0)) }
+    ensures here { result.0 ≤ here }
+    ensures across { result.1 ≤ across }
+{
+    let captures = rule.captures(across as u8);
+    if here == 1 && captures {
+        (1, across)
+    } else {
+        (0, 0)
+    }
 }
 
 impl Houses {
@@ -89,17 +107,12 @@ impl Houses {
         ensures { Shows result (captured (sown (bare self.now) h) (Some i)) }
     {
         let across = self.m() as u32 + 1 - i;
-        let taken = seeds_at(rows.other, across);
-        if seeds_at(rows.own, i) != 1 {
-            return rows;
-        }
-        if !self.rule().captures(taken as u8) {
-            return rows;
-        }
+        let here = seeds_at(rows.own, i);
+        let (last, taken) = caught(self.rule(), here, seeds_at(rows.other, across));
         RowNumbers {
-            own: rows.own - alone(i, 1),
+            own: rows.own - alone(i, last),
             other: rows.other - alone(across, taken),
-            store: rows.store + 1 + taken,
+            store: rows.store + last + taken,
         }
     }
 

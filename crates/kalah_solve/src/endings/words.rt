@@ -73,7 +73,7 @@ pub(super) fn untold_words<A: Allocator>(
 ) -> Result<Vec<AtomicIn<TrueWord>, A>, AllocError> {
     let mut words = Vec::with_capacity(alloc, WORDS)?;
     for _ in 0..WORDS {
-        words.push(AtomicIn::new(0))?;
+        words.push_reserved(AtomicIn::new(0));
     }
     Ok(words)
 }

@@ -14,11 +14,22 @@ use crate::search::Search;
 use kalah_rules::{Houses, HousesStep};
 use std::alloc::Allocator;
 
-// A turn that was played: what it brought to the store, and the houses from which the other player moves.
+// A turn that was played: what it brought to the store, and the houses from which the other player moves. The number is as wide as
+// a key, so a copy has no gap.
 #[derive(Clone, Copy)]
 struct Played {
-    gained: u8,
+    gained: u64,
     next: Houses,
+}
+
+impl Played {
+    // What it brought to the store.
+    fn gained(&self) -> u8
+        requires { self.now.gained < 256 }
+        ensures { result ≡ self.now.gained }
+    {
+        self.gained as u8
+    }
 }
 
 // What is known of a move once it was played: a bound of what it takes, or the rank with which its turn waits to be searched.
@@ -77,7 +88,7 @@ impl<A: Allocator + Clone> Search<A> {
         while ranks[at] > 0 {
             ranks[at] = 0;
             let turn = turns[at];
-            let bound = self.bound_turn(turn.gained, &turn.next, bar);
+            let bound = self.bound_turn(turn.gained(), &turn.next, bar);
             if bar <= bound {
                 return bound;
             }
@@ -155,7 +166,7 @@ impl<A: Allocator + Clone> Search<A> {
             HousesStep::Turn(gained, next)
                 if *gained < bar && next.seeds() > self.most_at_the_end() => {
                 let turn = Played {
-                    gained: *gained,
+                    gained: *gained as u64,
                     next: *next,
                 };
                 Look::Waits(promise(h, *gained, next), turn)

@@ -186,9 +186,6 @@ returns-clause-asked g c = λ name is went. absurd (went (failed g c (ask BestMo
 pub returns-clause-asked_values : goal.returns-clause-asked_values
 returns-clause-asked_values g c = λ name is went. absurd (went (failed g c (ask Values 65536) (ask_values_of _ name is)).0)
 
-pub returns-clause-unchanged : goal.returns-clause-unchanged
-returns-clause-unchanged g c = λ none. c.refuse.ensures.unchanged
-
 pub returns-clause-stopped : goal.returns-clause-stopped
 returns-clause-stopped g c = λ question table taken stopped kept.
     subst (λ o. StopsBetweenLines question (g.O.Sink.written c.args.out.now) (g.O.Sink.written o)) (sym (failed g c (ask question table) taken).1)

@@ -5,7 +5,7 @@ use Rattle.kalah_solve.specs.Taken.{taken}
 use Rattle.kalah_solve.proofs.RowMarks.{cell_none, marks_fall}
 use Rattle.kalah_solve.proofs.StepWorths.{goes_on, step_falls}
 use Rattle.kalah_solve.proofs.Takings.{taken_share}
-use Rattle.kalah_solve.proofs.Tries.{move_enough, turn_enough, turn_at_most, bound_up_to, bound_left, low_more, ranked_none, ranked_more, ranked_bound, ending_legal, marked_legal, marks_fewer, last_legal, again_none, again_fewer, untried_first, untried_fewer, none_untried}
+use Rattle.kalah_solve.proofs.Tries.{move_enough, turn_enough, turn_at_most, gained_few, bound_up_to, bound_left, low_more, ranked_none, ranked_more, ranked_bound, ending_legal, marked_legal, marks_fewer, last_legal, again_none, again_fewer, untried_first, untried_fewer, none_untried}
 use Rattle.kalah_solve.proofs.search.Search.+search.Goals as goal
 
 pub bound_move-bound_step-requires : goal.bound_move-bound_step-requires
@@ -43,7 +43,7 @@ explore-returns-then-bar-bound g t c =
     let a = c.args.houses.now in
     let turn = c.loop-ranks.invariant.untried.waiting.each c.loop-ranks.at (omega (arith, c.loop-ranks-test.true)) c.index-turns-at.result in
     record {
-      lower = turn_enough a c.args.bar (c.loop-ranks.at + 1) _ _ c.seeds-seeds.ensures.limits turn c.bound_turn-bound.ensures;
+      lower = turn_enough a c.args.bar (c.loop-ranks.at + 1) _ _ c.seeds-seeds.ensures.limits turn (rw c.gained.ensures at c.bound_turn-bound.ensures);
       upper = λ short. absurd (omega (arith, short, c.if-bar-bound.true));
     }
 
@@ -57,7 +57,7 @@ explore-loop-ranks-preserved g t c =
       highest = c.highest-at-in-loop-ranks.ensures.highest;
       untried = untried_fewer c.args.houses.now c.loop-ranks.most c.loop-ranks.ranks c.others_waiting-others.new.turns c.loop-ranks.at
           c.bound_turn-bound.result _ before.untried before.place
-          (turn_at_most c.args.houses.now c.args.bar (c.loop-ranks.at + 1) _ _ turn c.bound_turn-bound.ensures c.if-bar-bound.false) c.max-most-in-loop-ranks.ensures;
+          (turn_at_most c.args.houses.now c.args.bar (c.loop-ranks.at + 1) _ _ turn (rw c.gained.ensures at c.bound_turn-bound.ensures) c.if-bar-bound.false) c.max-most-in-loop-ranks.ensures;
     }
 
 pub explore-returns : goal.explore-returns
@@ -73,8 +73,15 @@ pub explore-bound_turn-bound-requires : goal.explore-bound_turn-bound-requires
 explore-bound_turn-bound-requires g t c κs within =
     let a = c.args.houses.now in
     let limits = c.seeds-seeds.ensures.limits in
+    let turn = c.loop-ranks.invariant.untried.waiting.each c.loop-ranks.at (omega (arith, c.loop-ranks-test.true)) c.index-turns-at.result in (
+      omega (arith, step_falls a (c.loop-ranks.at + 1) _ limits turn.legal (sym turn.step)),
+      (within, rw c.gained.ensures (goes_on a (c.loop-ranks.at + 1) _ limits turn.legal (sym turn.step))),
+    )
+
+pub explore-gained-requires : goal.explore-gained-requires
+explore-gained-requires g t c =
     let turn = c.loop-ranks.invariant.untried.waiting.each c.loop-ranks.at (omega (arith, c.loop-ranks-test.true)) c.index-turns-at.result in
-    (omega (arith, step_falls a (c.loop-ranks.at + 1) _ limits turn.legal (sym turn.step)), (within, goes_on a (c.loop-ranks.at + 1) _ limits turn.legal (sym turn.step)))
+    gained_few c.args.houses.now (c.loop-ranks.at + 1) _ c.seeds-seeds.ensures.limits turn
 
 pub bound_again-loop-left-init : goal.bound_again-loop-left-init
 bound_again-loop-left-init g t c =

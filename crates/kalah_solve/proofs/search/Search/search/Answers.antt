@@ -1,7 +1,7 @@
 use Rattle.std.proofs.Common.{arith, rules, ◌∙◌, w32, SFits}
 use Rattle.std.proofs.lemmas.Int.{ints, clamps, to_z-of_z}
 use Rattle.kalah_solve.specs.Worth.{houses_worth}
-use Rattle.kalah_solve.proofs.Windows.{told_by_share}
+use Rattle.kalah_solve.proofs.Windows.{told_by_share, told_by_taken}
 use Rattle.kalah_solve.proofs.search.Search.search.Goals as goal
 
 pub learned-requires-clause-least : goal.learned-requires-clause-least
@@ -25,3 +25,9 @@ returns g c =
     let told = told_by_share c.args.houses.now _ _ _ c.taken_within-taken.result c.of_window.result c.seeds-seeds.ensures.limits c.seeds-seeds.ensures.seeds
     c.of_window.ensures.ordered c.of_window.ensures.high c.of_window.ensures.apart c.taken_within-taken.ensures c.clamp-answer.ensures in
     to_z-of_z w32 _ fits ∙ told ∙ c.in-Some.ensures.some (houses_worth c.args.houses.now) c.known_margins-known.ensures.holds
+
+pub returns-then-seeds-most_at_the_end : goal.returns-then-seeds-most_at_the_end
+returns-then-seeds-most_at_the_end g c =
+    let fits : SFits w32 c.clamp.result = search rules in
+    let seeds = c.seeds-seeds.ensures in
+    to_z-of_z w32 _ fits ∙ told_by_taken c.args.houses.now _ _ _ c.taken-taken.result seeds.limits seeds.seeds c.taken-taken.ensures.taken c.clamp.ensures
