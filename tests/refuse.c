@@ -1,15 +1,21 @@
-/* Refuses requests for memory, and calls that open or read a file. Loaded by LD_PRELOAD into the unchanged program, it
-   counts the calls of all threads from the program's start on, and lets some of them fail:
+/* Refuses requests for memory, calls that open or read a file, threads, and writes to the standard output. Loaded by LD_PRELOAD
+   into the unchanged program, it counts the calls of all threads from the program's start on, and lets some of them fail:
 
        REFUSE_MEMORY=5-5    the fifth request for memory alone; REFUSE_MEMORY=5- is the fifth and each later one
        REFUSE_FILES=3-3     the third call that opens or reads a file
-       REFUSE_TOLD=FILE     a line for each call that failed, refused here or not: `memory`, or `file` and its path
+       REFUSE_THREADS=1-    the first thread and each later one
+       REFUSE_WRITES=2-2    the second write to the standard output alone
+       REFUSE_TOLD=FILE     a line for each call that failed, refused here or not: `memory`, `thread`, `file` and its path, or `write` and
+                            how many bytes the writes before it took
 
-   The functions behind malloc and its kin are called by the C library's own names, so that no look-up is needed. */
+   The functions behind malloc and its kin are called by the C library's own names, so that no look-up is needed; what starts
+   a thread is looked up once, at the start. */
 #define _GNU_SOURCE
+#include <dlfcn.h>
 #include <errno.h>
 #include <fcntl.h>
 #include <limits.h>
+#include <pthread.h>
 #include <stdarg.h>
 #include <stdatomic.h>
 #include <stdio.h>
@@ -26,7 +32,9 @@ struct calls {
     unsigned long first, last;
 };
 
-static struct calls requests, reads;
+static struct calls requests, reads, threads, writes;
+static atomic_ulong taken;
+static int (*start)(pthread_t *, const pthread_attr_t *, void *(*)(void *), void *);
 static const char *told;
 
 static void read_range(struct calls *calls, const char *text) {
@@ -40,6 +48,10 @@ __attribute__((constructor)) static void begin(void) {
     told = getenv("REFUSE_TOLD");
     read_range(&requests, getenv("REFUSE_MEMORY"));
     read_range(&reads, getenv("REFUSE_FILES"));
+    read_range(&threads, getenv("REFUSE_THREADS"));
+    read_range(&writes, getenv("REFUSE_WRITES"));
+    *(void **)&start = dlsym(RTLD_NEXT, "pthread_create");
+    atomic_store(&requests.made, 0);
 }
 
 static int refuses_next(struct calls *calls) {
@@ -103,4 +115,25 @@ ssize_t read(int file, void *to, size_t count) {
     if (readlink(link, path, sizeof path - 1) < 0) path[0] = 0;
     errno = EIO;
     return done(refuses_next(&reads) ? -1 : syscall(SYS_read, file, to, count), path);
+}
+
+int pthread_create(pthread_t *thread, const pthread_attr_t *with, void *(*run)(void *), void *on) {
+    int why = refuses_next(&threads) ? EAGAIN : start(thread, with, run, on);
+    if (why) tell("thread", "");
+    return why;
+}
+
+ssize_t write(int file, const void *from, size_t count) {
+    char before[32];
+    long gave;
+    if (file != STDOUT_FILENO) return syscall(SYS_write, file, from, count);
+    if (!refuses_next(&writes)) {
+        gave = syscall(SYS_write, file, from, count);
+        if (gave >= 0) atomic_fetch_add(&taken, gave);
+        return gave;
+    }
+    snprintf(before, sizeof before, "%lu", atomic_load(&taken));
+    tell("write ", before);
+    errno = EIO;
+    return -1;
 }

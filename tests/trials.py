@@ -4,6 +4,7 @@ import os
 import pty
 import re
 import shutil
+import socket
 import subprocess
 import sys
 import tempfile
@@ -46,6 +47,34 @@ HELP = [["--help"], ["-h"], ["moves", "--help"], ["moves", "-h"], ["play", "--he
 
 # Arguments that ask for the version before anything else.
 VERSION = [["--version"], ["-V"], ["-V", "-h"], ["--version", "stop"], ["-V", "solve", "a"], ["--version", "--version"], ["-V", "--", "a"]]
+
+# Words that are not taken, and all that is said of them.
+FOR_MORE = "\n\nFor more information, try '--help'.\n"
+USAGES = [
+    (["stop"], f"error: unrecognized subcommand 'stop'\n\nUsage: kalah <COMMAND>{FOR_MORE}"),
+    (["moves"], f"error: the following required arguments were not provided:\n  <LINE>\n\nUsage: kalah moves <LINE>{FOR_MORE}"),
+    (["solve"], f"error: the following required arguments were not provided:\n  <FILE>...\n\nUsage: kalah solve <FILE>...{FOR_MORE}"),
+    (["solve", "--workers=0", "a"], f"error: invalid value '0' for '--workers <N>': 0 is not in 1..=64{FOR_MORE}"),
+    (["values", "a", "--table=0"], f"error: invalid value '0' for '--table <N>': 0 is not in 1..=1048576{FOR_MORE}"),
+    (
+        ["play", "--board", "1/0 1/0"],
+        "error: unexpected argument '--board' found\n\n  tip: a similar argument exists: '--boards'\n\n"
+        f"Usage: kalah play --boards <LINE>{FOR_MORE}",
+    ),
+]
+
+# What the help of a subcommand says of its options and arguments.
+BOARDS_HELP = "draws each position below its line, the player to move at the bottom"
+WORKERS_HELP = "how many workers solve side by side, 1 to 64"
+PROGRESS_HELP = "shows on standard error how many lines are answered"
+FILE_HELP = "files of positions, one a line; /dev/stdin for standard input"
+HELP_OF_OPTIONS = {
+    "moves": [BOARDS_HELP],
+    "play": [BOARDS_HELP],
+    "solve": [WORKERS_HELP, PROGRESS_HELP, FILE_HELP],
+    "values": [WORKERS_HELP, PROGRESS_HELP, FILE_HELP],
+    "ask": ["tells what each move is worth, as `values`"],
+}
 
 PROGRAM_NAMES = ["kalah", "./kalah", "/bin/kalah", "k l", "é", "-", "--help"]
 
@@ -164,14 +193,19 @@ def read_all(reader):
     return got
 
 
-def busy_threads(process):
-    """Returns how many threads of the process, except its first, were at work for two ticks of the clock or more."""
-    busy = 0
+def ticks_of(process):
+    """Returns the processor time of each thread of the process, in ticks of the clock."""
+    ticks = {}
     for thread in Path(f"/proc/{process.pid}/task").iterdir():
         with suppress(FileNotFoundError):
             numbers = (thread / "stat").read_text().rpartition(")")[2].split()
-            busy += thread.name != str(process.pid) and int(numbers[11]) + int(numbers[12]) >= 2
-    return busy
+            ticks[int(thread.name)] = int(numbers[11]) + int(numbers[12])
+    return ticks
+
+
+def busy_threads(process):
+    """How many threads of the process, but for its first, were at work for two ticks of the clock or more."""
+    return sum(thread != process.pid and ticks >= 2 for thread, ticks in ticks_of(process).items())
 
 
 class Trials(AskTrials):
@@ -443,6 +477,73 @@ class Trials(AskTrials):
         if len(set(steps)) < len(steps):
             raise Differs(f"progress is shown twice for one share: {shown[:300]!r}")
 
+    def one_pipe_twice(self):
+        """A file is read for each time that it is named: of a pipe, all there is the first time, and nothing more."""
+        data, subcommand = self.drawn.file(self.drawn.chance.randint(1, 50)), self.subcommand()
+        self.put({})
+        process = self.start([subcommand, *["/dev/stdin"] * 3], stdin=subprocess.PIPE)
+        with suppress(BrokenPipeError):
+            process.stdin.write(data)
+        want = reference.answers(subcommand, [(b"/dev/stdin", data), (b"/dev/stdin", b""), (b"/dev/stdin", b"")])
+        self.compare(want, self.end_of(process))
+
+    def help_of_options(self):
+        """Each help says of its options and its argument what they are for."""
+        self.put({})
+        word, texts = self.drawn.card("help of options", list(HELP_OF_OPTIONS.items()))
+        got = self.run([word, "--help"])
+        lost = [text for text in texts if text not in " ".join(got.out.decode().split())]
+        self.compare(Run(got.out, b"", 0), got)
+        if lost:
+            raise Differs(f"the help of {word} does not say: {lost}")
+
+    def usage(self):
+        """All that is said of words that are not taken."""
+        words, said = self.drawn.card("usages", USAGES)
+        self.put({"a": b"1/0 1/0"})
+        self.compare(Run(b"", said.encode(), 2), self.run(words))
+
+    def many_large_tables(self):
+        """As many workers as there may be, each with as large a table as there may be."""
+        data = self.drawn.file(200)
+        self.put({"a": data})
+        subcommand = self.subcommand()
+        self.compare(reference.answers(subcommand, [(b"a", data)]), self.run([subcommand, "--workers=64", "--table=1048576", "a"]))
+
+    def no_word(self):
+        """Without any word, not even a name, nothing is written to the standard output. Newer systems hand over an empty word."""
+        self.put({})
+        words = "import ctypes, sys; libc = ctypes.CDLL(None); libc.execve(sys.argv[1].encode(), (ctypes.c_char_p * 1)(), (ctypes.c_char_p * 1)())"
+        got = self.run(["-c", words, str(self.program)], executable=sys.executable)
+        self.compare(Run(b"", got.err, 2), got)
+
+    def few_writes(self):
+        """Lines that are answered quickly go out together."""
+        lines = 10_000
+        self.put({"a": b"1/0 1/0\n" * lines})
+        want = reference.answers("solve", [(b"a", b"1/0 1/0\n" * lines)])
+        reader, writer = socket.socketpair(socket.AF_UNIX, socket.SOCK_SEQPACKET)
+        with reader, self.start(["solve", "--workers=2", "a"], stdout=writer) as process:
+            writer.close()
+            pieces = list(iter(lambda: reader.recv(1 << 20), b""))
+            self.compare(want, self.end_of(process)._replace(out=b"".join(pieces)))
+        if len(pieces) > lines // 4:
+            raise Differs(f"{lines} lines went out in {len(pieces)} writes")
+
+    def waits_at_rest(self):
+        """While one worker is at work, the other threads take almost no processor time."""
+        self.put({"a": HARD})
+        with self.start([self.subcommand(), "--table", "1", "--workers", "1", "a"]) as process:
+            end = time.monotonic() + SOON
+            while busy_threads(process) < 1 and time.monotonic() < end:
+                time.sleep(0.05)
+            before = sorted(ticks_of(process).values())[:-1]
+            time.sleep(1)
+            after = sorted(ticks_of(process).values())[:-1]
+            process.kill()
+        if sum(after) - sum(before) > os.sysconf("SC_CLK_TCK") // 5:
+            raise Differs(f"in a second the threads that wait took {sum(after) - sum(before)} ticks of the clock")
+
 
 # How often each trial is made in one round of all of them.
 KINDS = {
@@ -465,4 +566,11 @@ KINDS = {
     "few_lines": len(FEW_LINES),
     "progress": 4 * len(PROGRESS),
     **ASK_KINDS,
+    "one_pipe_twice": 2,
+    "help_of_options": len(HELP_OF_OPTIONS),
+    "usage": len(USAGES),
+    "many_large_tables": 1,
+    "no_word": 1,
+    "few_writes": 1,
+    "waits_at_rest": 1,
 }

@@ -12,10 +12,9 @@ use kalah_run::MOST_WORKERS;
 use kalah_solve::MOST_ENTRIES;
 use std::alloc::{AllocError, Global};
 
-const ABOUT_SOLVE: &str =
-    "Prints the margin of best play and the best house of each position in files";
+const ABOUT_SOLVE: &str = "Prints the best house and the margin of best play of each position";
 
-const ABOUT_VALUES: &str = "Prints what each move of each position in files is worth";
+const ABOUT_VALUES: &str = "Prints what each move of each position is worth";
 
 // Makes a command of this name with nothing in it.
 fn named<'a>(alloc: Global, name: &'a str, about: &'a str) -> Command<'a>
@@ -73,7 +72,7 @@ fn boards_arg<'a>(alloc: Global) -> Arg<'a>
     ensures rule { rule_of result ≡ boards_rule }
     ensures local { result.global ≡ false }
 {
-    let help = "draws each position below its line, the player to move at the bottom";
+    let help = "draws each position below its line";
     flag_arg(alloc, "boards", help)
 }
 
@@ -85,7 +84,7 @@ fn values_arg<'a>(alloc: Global) -> Arg<'a>
     flag_arg(
         alloc,
         "values",
-        "tells what each move is worth, as `values`",
+        "prints what each move is worth, as `values`",
     )
 }
 
@@ -125,7 +124,7 @@ fn workers_arg<'a>(alloc: Global) -> Arg<'a>
     ensures rule { rule_of result ≡ workers_rule }
     ensures local { result.global ≡ false }
 {
-    let help = "how many workers solve side by side, 1 to 64";
+    let help = "solves up to N lines in parallel, 1 to 64";
     number_arg(alloc, "workers", help, MOST_WORKERS, "4")
 }
 
@@ -134,7 +133,7 @@ fn table_arg<'a>(alloc: Global) -> Arg<'a>
     ensures rule { rule_of result ≡ table_rule }
     ensures local { result.global ≡ false }
 {
-    let help = "how many solved positions each worker remembers, 1 to 1048576";
+    let help = "table entries of each worker, 1 to 1048576";
     number_arg(alloc, "table", help, MOST_ENTRIES, "65536")
 }
 
@@ -193,8 +192,7 @@ fn ask_command<'a>(alloc: Global) -> Result<Command<'a>, AllocError>
     ensures app { IfOk result (λ c. app_of c ≡ ask_app) }
     ensures local { IfOk result (λ c. (fields_of c).has_globals ≡ false) }
 {
-    let about =
-        "Answers each line of the standard input before it reads on, as `solve` or `values`";
+    let about = "Answers each line of standard input before it reads the next";
     let command = subcommand(alloc, "ask", about, help::LONG_OF_ASK);
     let command = with_arg(command, values_arg(alloc))?;
     with_arg(command, table_arg(alloc))

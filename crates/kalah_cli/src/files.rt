@@ -1,16 +1,14 @@
 //! Whole files.
 ghost use Rattle.std.specs.Prelude.{◌≡◌, ◌≢◌, ◌<◌, ◌≤◌, IfErr, IfOk, IfSome, IsErrOf, OnOk, length, map};
 ghost use Rattle.std.specs.Io.KnownBytes.{Consumes, IsAtEnd};
+ghost use Rattle.kalah_jobs.specs.Limits.{most_file_bytes};
 
 use crate::failure::Failure;
-use kalah_jobs::FileText;
+use kalah_jobs::{FileText, MOST_FILE_BYTES};
 use std::alloc::Global;
 use std::fs;
 use std::io::Read;
 use std::rt::Files;
-
-/// The most bytes of a file.
-const MOST_BYTES: usize = 67_108_864;
 
 /// How many bytes are requested at once.
 const CHUNK: usize = 4096;
@@ -60,13 +58,13 @@ pub(crate) fn read_limited<F: Read>(
 // Reads the file of this name.
 fn read_file<'a, R: Files>(rt: &R, alloc: Global, name: &'a str) -> Result<FileText, Failure<'a>>
     ensures named { IfOk result (λ file. file.name ≡ name.now) }
-    ensures within { IfOk result (λ file. length file.bytes ≤ 67108864) }
+    ensures within { IfOk result (λ file. length file.bytes ≤ most_file_bytes) }
     ensures not_written { IfErr result (λ failure. failure ≢ Failure.Write) }
 {
     let Ok(mut file) = fs::open(rt, name) else {
         return Err(Failure::Unreadable(name));
     };
-    let bytes = match read_limited(alloc, &mut file, MOST_BYTES) {
+    let bytes = match read_limited(alloc, &mut file, MOST_FILE_BYTES) {
         Ok(bytes) => bytes,
         Err(ReadFault::OutOfMemory) => return Err(Failure::OutOfMemory),
         Err(_) => return Err(Failure::Unreadable(name)),

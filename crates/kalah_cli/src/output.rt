@@ -46,10 +46,6 @@ impl<W: Write + Drop> Sink for PromptStream<W> {
         flushed
     }
 
-    fn before_waiting(&mut self) {
-        let _ = self.flush();
-    }
-
     fn failed(&self) -> bool {
         self.has_failed
     }

@@ -1,5 +1,6 @@
 pub mod Asking
 pub mod Collecting
 pub mod Files
+pub mod Limits
 pub mod Line
 pub mod Writing

@@ -4,6 +4,7 @@
 mod asking;
 mod collecting;
 mod files;
+mod limits;
 mod line;
 #[cfg(test)]
 mod want_of_memory;
@@ -22,8 +23,11 @@ pub use files::entry::Entry;
 pub use files::file_laws::{entries_are_one, files_are_their_jobs, lines_are_one};
 pub use files::file_text::FileText;
 pub use files::job::Job;
-pub use files::jobs::{Jobs, JobsFault, MOST_FILES, MOST_LINES};
+pub use files::jobs::{Jobs, JobsFault};
 pub use files::question::Question;
+pub use limits::{
+    MOST_FILE_BYTES, MOST_FILES, MOST_LINE_BYTES, MOST_LINES, limits_of_reading,
+};
 pub use line::line_fault::LineFault;
 pub use line::line_laws::{
     every_line_is_its_text, every_text_is_read_back, no_line_reads_twice,

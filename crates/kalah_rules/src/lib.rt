@@ -15,7 +15,7 @@ mod want_of_memory;
 pub use board::Board;
 pub use houses::Houses;
 pub use laws::{every_move_nears_end, sowing_is_seed_by_seed};
-pub use limits::{MOST_HOUSES, MOST_IN_STORE, MOST_SEEDS};
+pub use limits::{MOST_HOUSES, MOST_IN_STORE, MOST_SEEDS, limits_of_positions};
 pub use moves::Moves;
 pub use rule::Rule;
 pub use step::{HousesStep, Step};

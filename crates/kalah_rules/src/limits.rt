@@ -1,11 +1,21 @@
-//! The limits of a position.
+//! How large a position may be.
+ghost use Rattle.std.specs.Prelude.{◌≡◌};
+ghost use Rattle.kalah_rules.specs.Limits.{most_houses, most_in_play, most_in_store, most_seeds};
 
-/// The greatest number of houses a side.
+/// The most houses that a side has.
 pub const MOST_HOUSES: u8 = 6;
 
-/// The greatest number of seeds in the houses of both players together.
+/// The most seeds in the houses of both players together.
 pub const MOST_SEEDS: u16 = 31;
 
-/// The greatest number of seeds in a store of a position as it is given. In play a store can reach 130, since
-/// all seeds in houses may be added to it.
+/// The most seeds in a store of a position that is written down. In play a store can reach 130, since all
+/// the seeds in houses may come to it.
 pub const MOST_IN_STORE: u8 = 99;
+
+/// The limits of a position, as numbers. A law over the definitions that contracts cite.
+pub fn limits_of_positions()
+    ensures houses { most_houses ≡ 6 }
+    ensures seeds { most_seeds ≡ 31 }
+    ensures in_store { most_in_store ≡ 99 }
+    ensures in_play { most_in_play ≡ 130 }
+{}

@@ -1,7 +1,7 @@
 //! The desk: its passes draw the numbers below a total from one word, each number once.
 ghost use Rattle.std.specs.Prelude.{◌≡◌, ℕ, ◌<◌, ◌≤◌, ◌↔◌, [], ◌∷◌, ◌++◌, length, true, false, nat_lt, if◌then◌else◌, All, IfOk, IfSome, IfNone, IsTrue};
 ghost use Rattle.kalah_jobs.specs.Collecting.Shares.{times_in};
-ghost use Rattle.kalah_jobs.specs.Files.Jobs.{most_lines};
+ghost use Rattle.kalah_jobs.specs.Limits.{most_lines};
 ghost use Rattle.kalah_run.specs.Limits.{AreWorkers};
 ghost use Rattle.kalah_run.specs.Desk.Rows.{drawn_row, drawn_numbers, drawn_in, spent_in, AreLawful, StandsOnce, StandsNowhere};
 ghost use Rattle.kalah_run.specs.Desk.Kept.{opening_view};
@@ -32,7 +32,7 @@ pub struct Desk {
 impl Model for Desk {
     ghost use Rattle.std.specs.Prelude.{◌≡◌, ◌≤◌};
     ghost use Rattle.kalah_run.specs.Desk.States.{DeskState};
-    ghost use Rattle.kalah_jobs.specs.Files.Jobs.{most_lines};
+    ghost use Rattle.kalah_jobs.specs.Limits.{most_lines};
 
     ghost Value = { DeskState };
 

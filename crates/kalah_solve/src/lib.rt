@@ -30,5 +30,5 @@ pub use laws::{
 };
 pub use move_values::{MoveValue, MoveValues};
 pub use solver::Solver;
-pub use table::{Interval, MOST_ENTRIES, Table};
+pub use table::{Interval, MOST_ENTRIES, Table, limit_of_tables};
 pub use verdict::Verdict;

@@ -33,8 +33,8 @@ impl<A: Allocator + Clone> Solver<A> {
         }
     }
 
-    /// Makes a solver with an empty table of its own, with room for `capacity` entries, 1 to 1,048,576. The two share what they learn
-    /// of endings, also with the solvers made from either, and also if they run in different threads.
+    /// Makes a solver with an empty table of its own, with room for `capacity` entries, 1 to 1,048,576. What one of the two learns of
+    /// endings the other may know too, and so may the solvers made from either, also if they run in different threads.
     ///
     /// Fails with `AllocError` only if memory was refused.
     pub fn beside(&self, alloc: A, capacity: u32) -> Result<Solver<A>, AllocError>

@@ -3,6 +3,7 @@ ghost use Rattle.std.specs.Prelude.{◌≡◌, ◌≤◌, ◌⊎◌, ℕ, [], na
 ghost use Rattle.std.specs.Map.{lookup};
 ghost use Rattle.kalah_rules.specs.Key.{key_of};
 ghost use Rattle.kalah_rules.specs.Position.{bare, is_over, seeds_in_houses};
+ghost use Rattle.kalah_solve.specs.Table.{most_entries};
 ghost use Rattle.kalah_solve.specs.Worth.{houses_worth};
 
 #[cfg(test)]
@@ -21,6 +22,11 @@ use std::sync::Arc;
 
 /// The most entries that a table can have room for.
 pub const MOST_ENTRIES: u32 = 1_048_576;
+
+/// States the limit of a table as a number: a law over the definition that contracts cite.
+pub fn limit_of_tables()
+    ensures { most_entries ≡ 1048576 }
+{}
 
 /// The most places that a table has until all are laid out: they are made at once, and stay in the nearest cache.
 const FIRST_PLACES: u32 = 4096;
@@ -111,7 +117,7 @@ impl<A: Allocator + Clone> Model for Table<A> {
 }
 
 impl<A: Allocator + Clone> Table<A> {
-    ghost use Rattle.kalah_solve.specs.Table.{Encloses, AreTrue, most_entries};
+    ghost use Rattle.kalah_solve.specs.Table.{Encloses, AreTrue};
     ghost use Rattle.kalah_solve.specs.Taken.{taken, IsWithinShare};
 
     /// Makes an empty table with room for `capacity` entries, 1 to 1,048,576.

@@ -13,7 +13,8 @@ use Rattle.kalah_jobs.specs.Files.Entry.{entry_of, entry_of_reading}
 use Rattle.kalah_jobs.specs.declared.files.entry.Entry.TheVariants.{Bad}
 use Rattle.kalah_jobs.specs.Files.Lines.{line_feed, lines_of, HasNoLineFeed}
 use Rattle.kalah_jobs.specs.Files.Question.{entry_asked, entry_to}
-use Rattle.kalah_jobs.specs.Line.Line.{most_bytes, without_cr}
+use Rattle.kalah_jobs.specs.Limits.{most_bytes}
+use Rattle.kalah_jobs.specs.Line.Line.{without_cr}
 use Rattle.kalah_jobs.specs.Line.Reading.{reading_of}
 use Rattle.kalah_jobs.specs.declared.line.line_fault.LineFault.TheVariants.{Long}
 use Rattle.kalah_jobs.specs.Writing.Answer.{answer_of, answer_words, is_fault}

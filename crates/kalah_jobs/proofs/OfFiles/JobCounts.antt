@@ -10,7 +10,8 @@ use Rattle.std.proofs.Math.Seq.{get_or-append_seam}
 use Rattle.kalah_jobs.specs.declared.files.entry.Entry.{Entry}
 use Rattle.kalah_jobs.specs.Files.NamedBytes.{NamedBytes}
 use Rattle.kalah_jobs.specs.Files.JobList.{entries_of, line_job, file_jobs, jobs_from, job_list}
-use Rattle.kalah_jobs.specs.Files.Jobs.{most_files, most_lines, lines_in_all, lines_in, entries_to, jobs_to, job_count, AreCounted}
+use Rattle.kalah_jobs.specs.Limits.{most_files, most_lines}
+use Rattle.kalah_jobs.specs.Files.Jobs.{lines_in_all, lines_in, entries_to, jobs_to, job_count, AreCounted}
 use Rattle.kalah_jobs.specs.Files.Lines.{lines_of}
 use Rattle.kalah_jobs.specs.Files.Question.{entry_to}
 use Rattle.kalah_jobs.specs.declared.files.question.Question.{Question}

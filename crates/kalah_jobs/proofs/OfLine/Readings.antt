@@ -7,7 +7,8 @@ use Rattle.std.proofs.lemmas.Bool.Decides.{eqb_tells}
 use Rattle.kalah_rules.specs.Limits.{most_houses, most_seeds}
 use Rattle.kalah_rules.specs.Position.{Position, side_length, seeds_in_houses}
 use Rattle.kalah_jobs.specs.Line.LineFault.{order_of}
-use Rattle.kalah_jobs.specs.Line.Line.{most_bytes, without_cr, IsLineOf, HasSidesInLimits, Reads, Holds, HasFault}
+use Rattle.kalah_jobs.specs.Limits.{most_bytes}
+use Rattle.kalah_jobs.specs.Line.Line.{without_cr, IsLineOf, HasSidesInLimits, Reads, Holds, HasFault}
 use Rattle.kalah_jobs.specs.Line.Reading.{written_of, admitted, admitted_if_written, reading_of_text, reading_of}
 use Rattle.kalah_jobs.specs.declared.line.line_fault.LineFault.{LineFault}
 use Rattle.kalah_jobs.specs.declared.line.line_fault.LineFault.TheVariants.{Long, Empty, Shape, Houses, Seeds}

@@ -8,7 +8,8 @@ use Rattle.kalah_rules.specs.Limits.{most_in_store}
 use Rattle.kalah_rules.specs.Position.{Position, IsWithinLimits}
 use Rattle.kalah_rules.specs.declared.rule.Rule.{Rule}
 use Rattle.kalah_rules.specs.declared.rule.Rule.TheVariants.{Classic, EmptyCapture}
-use Rattle.kalah_jobs.specs.Line.Line.{comma, slash, space, most_bytes, without_cr, ending_of, AreHouses, IsSide, IsLineOf, Reads, side_text, line_text_of}
+use Rattle.kalah_jobs.specs.Limits.{most_bytes}
+use Rattle.kalah_jobs.specs.Line.Line.{comma, slash, space, without_cr, ending_of, AreHouses, IsSide, IsLineOf, Reads, side_text, line_text_of}
 use Rattle.kalah_jobs.specs.Line.Reading.{reading_of}
 use Rattle.kalah_jobs.specs.declared.line.line_fault.LineFault.{LineFault}
 use Rattle.kalah_jobs.proofs.OfLine.Numbers.{number_text, number_low, decimal_is_number}

@@ -4,7 +4,7 @@ use Rattle.std.specs.Prelude.{◌≡◌, ℕ, ◌+◌, ◌≤◌, List, [], ◌�
 use Rattle.std.specs.List.{flat_map, enumerate_from, list_any}
 use Rattle.std.specs.Io.KnownBytes.{Appends, Consumes}
 use Rattle.kalah_jobs.specs.declared.files.question.Question.{Question}
-use Rattle.kalah_jobs.specs.Line.Line.{most_bytes}
+use Rattle.kalah_jobs.specs.Limits.{most_bytes}
 use Rattle.kalah_jobs.specs.Files.Lines.{line_feed, lines_of, HasNoLineFeed}
 use Rattle.kalah_jobs.specs.Files.NamedBytes.{NamedBytes}
 use Rattle.kalah_jobs.specs.Files.Question.{entry_to}

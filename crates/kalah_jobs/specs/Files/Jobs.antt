@@ -4,17 +4,9 @@ use Rattle.kalah_jobs.specs.declared.files.entry.Entry.{Entry}
 use Rattle.kalah_jobs.specs.Files.NamedBytes.{NamedBytes}
 use Rattle.kalah_jobs.specs.Files.Lines.{lines_of}
 use Rattle.kalah_jobs.specs.Files.Question.{entry_to}
-use Rattle.kalah_jobs.specs.declared.files.jobs.TheConstants.{MOST_FILES, MOST_LINES}
+use Rattle.kalah_jobs.specs.Limits.{most_files, most_lines}
 use Rattle.kalah_jobs.specs.declared.files.question.Question.{Question}
 use Rattle.kalah_jobs.specs.declared.files.question.Question.TheVariants.{BestMove}
-
--- the most files of a batch
-abbrev pub most_files : ℕ
-most_files = MOST_FILES
-
--- the most lines of a batch, over all files
-abbrev pub most_lines : ℕ
-most_lines = MOST_LINES
 
 -- the number of lines of a file
 abbrev pub lines_in : NamedBytes → ℕ

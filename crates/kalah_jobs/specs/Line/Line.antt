@@ -8,13 +8,10 @@ use Rattle.kalah_rules.specs.declared.rule.Rule.{Rule}
 use Rattle.kalah_rules.specs.declared.rule.Rule.TheVariants.{Classic, EmptyCapture}
 use Rattle.kalah_rules.specs.declared.step.Step.{Step}
 use Rattle.kalah_rules.specs.declared.step.Step.TheVariants.{Again, Turn, Over}
+use Rattle.kalah_jobs.specs.Limits.{most_bytes}
 use Rattle.kalah_jobs.specs.Line.LineFault.{order_of}
 use Rattle.kalah_jobs.specs.declared.line.line_fault.LineFault.{LineFault}
 use Rattle.kalah_jobs.specs.declared.line.line_fault.LineFault.TheVariants.{Long, Empty, Shape, Houses, Seeds}
-
--- bytes of a line, after its CR is dropped
-abbrev pub most_bytes : ℕ
-most_bytes = 80
 
 -- the byte of `0`, after which come those of the other digits
 abbrev pub zero_digit : ℕ

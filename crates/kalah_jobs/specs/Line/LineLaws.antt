@@ -3,7 +3,8 @@ use Rattle.std.specs.Prelude.{◌≡◌, ℕ, ◌≤◌, ◌↔◌, List, ◌∷
 use Rattle.kalah_rules.specs.Limits.{most_in_store, most_seeds}
 use Rattle.kalah_rules.specs.Position.{Position, IsWithinLimits, seeds_in_houses}
 use Rattle.kalah_rules.specs.declared.rule.Rule.TheVariants.{Classic, EmptyCapture}
-use Rattle.kalah_jobs.specs.Line.Line.{space, most_bytes, without_cr, IsSide, HasSidesInLimits, Reads, line_text_of}
+use Rattle.kalah_jobs.specs.Limits.{most_bytes}
+use Rattle.kalah_jobs.specs.Line.Line.{space, without_cr, IsSide, HasSidesInLimits, Reads, line_text_of}
 
 -- no line is read as two positions
 abbrev pub NoLineReadsTwice : Type 0

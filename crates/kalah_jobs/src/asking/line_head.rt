@@ -2,11 +2,11 @@
 ghost use Rattle.std.specs.Prelude.{◌≡◌, ◌∷◌, [], ◌++◌, length, take, ◌==◌};
 ghost use Rattle.kalah_jobs.specs.Asking.Asked.{kept_bytes};
 
-use crate::line::reading::MOST_BYTES;
+use crate::limits::MOST_LINE_BYTES;
 use std::marker::Model;
 
 /// The number of bytes of a line that are kept: one more than the longest allowed line has with its CR.
-const ROOM: usize = MOST_BYTES + 2;
+const ROOM: usize = MOST_LINE_BYTES + 2;
 
 /// The first bytes of a line: enough to determine its entry, however long it is. Contracts see it as these bytes.
 #[derive(Drop)]

@@ -1,7 +1,7 @@
 //! The answers that have come for one file.
 ghost use Rattle.std.specs.Prelude.{◌≡◌, ◌+◌, ◌<◌, ◌≤◌, ◌↔◌, ◌==◌, IfOk, IsTrue, IsSome, MatchOption, MatchBool, None, length};
 ghost use Rattle.kalah_jobs.specs.Collecting.CollectorState.{new_file, line_count, front, front_of, came_for, with_answer, HasEnded, with_one_taken, IsNext, HasNoNext};
-ghost use Rattle.kalah_jobs.specs.Files.Jobs.{most_lines};
+ghost use Rattle.kalah_jobs.specs.Limits.{most_lines};
 
 use crate::writing::answer::{Answer, Taken};
 use std::alloc::{AllocError, Global};
@@ -18,7 +18,7 @@ pub(crate) struct Arrivals {
 impl Model for Arrivals {
     ghost use Rattle.std.specs.Prelude.{◌≡◌, ◌≤◌, length};
     ghost use Rattle.kalah_jobs.specs.Collecting.CollectorState.{FileState, front_of};
-    ghost use Rattle.kalah_jobs.specs.Files.Jobs.{most_lines};
+    ghost use Rattle.kalah_jobs.specs.Limits.{most_lines};
 
     ghost Value = { FileState };
 

@@ -1,7 +1,8 @@
 //! The entries of the lines of a file.
 ghost use Rattle.std.specs.Prelude.{◌≡◌, ◌<◌, ◌≤◌, length, IfOk, slice_get, Some};
 ghost use Rattle.kalah_jobs.specs.Files.Lines.{lines_of};
-ghost use Rattle.kalah_jobs.specs.Files.Jobs.{most_lines, entries_to};
+ghost use Rattle.kalah_jobs.specs.Limits.{most_lines};
+ghost use Rattle.kalah_jobs.specs.Files.Jobs.{entries_to};
 
 use crate::files::entry::Entry;
 use crate::files::file_lines::{count_lines, first_line};
@@ -21,7 +22,7 @@ impl Model for FileJobs {
 
     ghost Value = { List Entry };
 
-    ghost use Rattle.kalah_jobs.specs.Files.Jobs.{most_lines};
+    ghost use Rattle.kalah_jobs.specs.Limits.{most_lines};
 
     ghost view = { λ j. j.entries.items };
 

@@ -2,22 +2,18 @@
 ghost use Rattle.std.specs.Prelude.{◌≡◌, ◌<◌, ◌≤◌, ◌↔◌, length, IfOk, IsTrue, slice_get, slice_index, ℕ, Some, Err};
 ghost use Rattle.std.specs.List.Sorted.{IsNonDecreasing};
 ghost use Rattle.kalah_jobs.specs.Files.JobList.{entries_of, line_job, job_list};
-ghost use Rattle.kalah_jobs.specs.Files.Jobs.{most_files, most_lines, lines_in_all, jobs_of, jobs_to, job_count};
+ghost use Rattle.kalah_jobs.specs.Limits.{most_files, most_lines};
+ghost use Rattle.kalah_jobs.specs.Files.Jobs.{lines_in_all, jobs_of, jobs_to, job_count};
 
 use crate::files::entry::Entry;
 use crate::files::file_jobs::FileJobs;
 use crate::files::file_text::FileText;
 use crate::files::job::Job;
 use crate::files::question::Question;
+use crate::limits::{MOST_FILES, MOST_LINES};
 use std::alloc::{AllocError, Global};
 use std::marker::Model;
 use thiserror::Error;
-
-/// The most files of a batch.
-pub const MOST_FILES: usize = 256;
-
-/// The most lines of a batch, in all its files together.
-pub const MOST_LINES: usize = 1_000_000;
 
 /// Why files make no batch: the first of these that holds.
 #[derive(Clone, Copy, Debug, PartialEq, Eq, Error)]

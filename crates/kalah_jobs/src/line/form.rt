@@ -1,7 +1,8 @@
 //! The form of a position line, before its limits are tested.
 ghost use Rattle.std.specs.Prelude.{◌≡◌, ◌≤◌, [], length};
 ghost use Rattle.std.specs.Option.{option_map, option_map_or};
-ghost use Rattle.kalah_jobs.specs.Line.Line.{space, most_bytes};
+ghost use Rattle.kalah_jobs.specs.Limits.{most_bytes};
+ghost use Rattle.kalah_jobs.specs.Line.Line.{space};
 ghost use Rattle.kalah_jobs.specs.Line.Reading.{rule_of, parts_at};
 
 use crate::line::parts::cut;

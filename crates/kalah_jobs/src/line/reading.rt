@@ -8,12 +8,10 @@ ghost use Rattle.kalah_jobs.specs.Line.Reading.{reading_of_text, reading_of};
 #[cfg(test)]
 mod tests;
 
+use crate::limits::MOST_LINE_BYTES;
 use crate::line::form::Form;
 use crate::line::line_fault::LineFault;
 use kalah_rules::{Board, MOST_HOUSES};
-
-/// The most bytes of a line, after its CR is dropped.
-pub(crate) const MOST_BYTES: usize = 80;
 
 // Returns the line without one CR at its end, if it has one.
 fn drop_cr(line: &[u8]) -> &[u8]
@@ -29,7 +27,7 @@ fn drop_cr(line: &[u8]) -> &[u8]
 fn read_text(text: &[u8]) -> Result<Board, LineFault>
     ensures { result ≡ reading_of_text text.now }
 {
-    if text.len() > MOST_BYTES {
+    if text.len() > MOST_LINE_BYTES {
         return Err(LineFault::Long);
     }
     if text.is_empty() {

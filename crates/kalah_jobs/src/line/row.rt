@@ -28,7 +28,8 @@ impl Model for Row {
 }
 
 impl Row {
-    ghost use Rattle.kalah_jobs.specs.Line.Line.{comma, most_bytes};
+    ghost use Rattle.kalah_jobs.specs.Limits.{most_bytes};
+    ghost use Rattle.kalah_jobs.specs.Line.Line.{comma};
     ghost use Rattle.kalah_jobs.specs.Line.Reading.{parts_at, numbers_read};
 
     // Makes a row without houses.

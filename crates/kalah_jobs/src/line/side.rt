@@ -16,7 +16,7 @@ pub(crate) struct Side {
 
 impl Side {
     ghost use Rattle.std.specs.Option.{option_map};
-    ghost use Rattle.kalah_jobs.specs.Line.Line.{most_bytes};
+    ghost use Rattle.kalah_jobs.specs.Limits.{most_bytes};
     ghost use Rattle.kalah_jobs.specs.Line.Reading.{side_of};
 
     // Reads the houses before the one slash of a text, and the store after it.

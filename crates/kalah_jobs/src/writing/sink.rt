@@ -1,7 +1,7 @@
 //! The sinks that answers are written to: bytes go out in order until a call fails, and none after that.
 ghost use Rattle.std.specs.Prelude.{◌≡◌, ◌↔◌, ℕ, List, Bool, true, false, Option, OnOk, IsErr};
 ghost use Rattle.std.specs.Io.KnownBytes.{Appends, Keeps};
-ghost use Rattle.kalah_jobs.specs.Writing.Given.{AppendsStart};
+ghost use Rattle.kalah_jobs.specs.Writing.Given.{AppendsStart, IsReady};
 
 use std::io;
 
@@ -15,6 +15,9 @@ pub trait Sink {
 
     /// Whether all that was written is flushed. By default a sink buffers nothing.
     ghost is_handed_on: { Self → Bool } = { λ _. true };
+
+    /// Whether the sink may keep bytes in its buffer while the caller waits. By default it keeps none then.
+    ghost may_hold_back: { Self → Bool } = { λ _. false };
 
     /// Writes all the bytes, and nothing else. It fails exactly when the sink has failed
     /// afterwards; then a prefix of the bytes was written, and nothing else.
@@ -32,12 +35,15 @@ pub trait Sink {
         ensures hands_on { OnOk result (is_handed_on self.new ≡ true) }
         ensures keeps { Keeps (written self.old) (written self.new) };
 
-    /// Announces that the caller is about to wait for what it will write next. A sink that buffers bytes may flush them here; nothing
-    /// is written, and if the flush fails the sink has failed afterwards. By default a sink does nothing here.
+    /// Announces that the caller is about to wait for what it will write next. Afterwards nothing is buffered, unless the sink has
+    /// failed or may keep bytes while the caller waits (`may_hold_back`). Nothing is written. By default it is a flush.
     fn before_waiting(&mut self)
         requires { has_failed self.old ≡ false }
+        ensures ready { IsReady (has_failed self.new) (may_hold_back self.new) (is_handed_on self.new) }
         ensures keeps { Keeps (written self.old) (written self.new) }
-    {}
+    {
+        let _ = self.flush();
+    }
 
     /// Returns whether a call has failed.
     fn failed(&self) -> bool

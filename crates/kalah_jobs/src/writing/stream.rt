@@ -75,6 +75,8 @@ impl<W: Write> Sink for Stream<W> {
 
     ghost is_handed_on = { stream_flushed };
 
+    ghost may_hold_back = { λ _. true };
+
     fn write_all(&mut self, bytes: &[u8]) -> Result<(), io::Error> {
         let written = write_pieces(&mut self.writer, bytes);
         self.has_failed = written.is_err();
@@ -88,6 +90,9 @@ impl<W: Write> Sink for Stream<W> {
         self.is_flushed = flushed.is_ok();
         flushed
     }
+
+    // The writer is flushed at the end alone.
+    fn before_waiting(&mut self) {}
 
     fn failed(&self) -> bool {
         self.has_failed

@@ -5,7 +5,8 @@ use Rattle.std.specs.Io.KnownBytes.{Appends, Keeps}
 use Rattle.kalah_jobs.specs.declared.files.question.Question.{Question}
 use Rattle.kalah_jobs.specs.Writing.Given.{AppendsStart}
 use Rattle.kalah_jobs.specs.Files.JobList.{job_list}
-use Rattle.kalah_jobs.specs.Files.Jobs.{jobs_to, lines_in_all, most_files, most_lines}
+use Rattle.kalah_jobs.specs.Limits.{most_files, most_lines}
+use Rattle.kalah_jobs.specs.Files.Jobs.{jobs_to, lines_in_all}
 use Rattle.kalah_jobs.specs.Files.NamedBytes.{NamedBytes}
 use Rattle.kalah_jobs.specs.Writing.Output.{LineCounts, answer_text_of, names_of, output_to, tally_of}
 use Rattle.kalah_jobs.proofs.OfFiles.JobCounts.{job_count-jobs_to, length-job_list}

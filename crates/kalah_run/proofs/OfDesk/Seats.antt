@@ -10,7 +10,7 @@ use mathlib.Core.Option.{some, none, some-injective, some-ne-none}
 use lib.ListN.{get_elem?}
 use Rattle.atomic_table.specs.Table.{step, opening, Splits, Joins, Enters}
 use Rattle.atomic_table.proofs.Lists.{at_set}
-use Rattle.kalah_jobs.specs.Files.Jobs.{most_lines}
+use Rattle.kalah_jobs.specs.Limits.{most_lines}
 use Rattle.kalah_run.specs.Limits.{most_workers}
 use Rattle.kalah_run.specs.declared.desk.rule.DrawnRow.{DrawnRow}
 use Rattle.kalah_run.specs.declared.desk.rule.DeskPlan.{DeskPlan}

@@ -2,7 +2,8 @@
 use Rattle.std.specs.Prelude.{◌≡◌, ◌≢◌, ◌↔◌, ◌<◌, ◌≤◌, ℕ, List, Option, Bool, Result, Err, length, true, IfOk, IfErr, OnOk}
 use Rattle.std.specs.Io.KnownBytes.{Appends}
 use Rattle.kalah_jobs.specs.Writing.Given.{AppendsStart}
-use Rattle.kalah_jobs.specs.Files.Jobs.{lines_in_all, most_files, most_lines}
+use Rattle.kalah_jobs.specs.Limits.{most_files, most_lines}
+use Rattle.kalah_jobs.specs.Files.Jobs.{lines_in_all}
 use Rattle.kalah_jobs.specs.Files.NamedBytes.{NamedBytes}
 use Rattle.kalah_jobs.specs.Writing.Output.{LineCounts, tally_of}
 use Rattle.kalah_run.specs.Batch.NoLine.{AnswersNothing}

@@ -3,7 +3,7 @@ use Rattle.std.specs.Prelude.{◌≡◌, ℕ, ◌+◌, ◌≤◌, List, [], ◌�
 use mathlib.Core.Option.{some}
 use lib.ListN.{get_elem?}
 use Rattle.atomic_table.specs.Table.{State}
-use Rattle.kalah_jobs.specs.Files.Jobs.{most_lines}
+use Rattle.kalah_jobs.specs.Limits.{most_lines}
 use Rattle.kalah_run.specs.Limits.{most_workers}
 use Rattle.kalah_run.specs.declared.desk.rule.DrawnRow.{DrawnRow}
 use Rattle.kalah_run.specs.declared.desk.rule.DeskPlan.{DeskPlan}

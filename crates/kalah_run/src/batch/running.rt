@@ -1,11 +1,13 @@
 //! Runs the workers on one thread, while the calling thread accepts what they send.
-ghost use Rattle.std.specs.Prelude.{◌≡◌, [], length, IfErr, IfOk, OnErr};
+ghost use Rattle.std.specs.Prelude.{◌≡◌, ◌+◌, [], length, min, IfErr, IfOk, OnErr};
 ghost use Rattle.std.specs.Thread.{IsSync};
 ghost use Rattle.kalah_jobs.specs.Files.Jobs.{job_count};
+ghost use Rattle.kalah_jobs.specs.Writing.Given.{IsReady};
 ghost use Rattle.kalah_run.specs.Batch.AtWork.{AreAtWork, HaveRun};
 ghost use Rattle.kalah_run.specs.Batch.OrderedOutput.{AcceptsAll, outcomes_in};
 ghost use Rattle.kalah_run.specs.Batch.Running.{CanRun, HasEnded};
 ghost use Rattle.kalah_run.specs.Batch.Work.{work_of};
+ghost use Rattle.kalah_run.specs.Queue.States.{HasGot};
 
 use crate::batch::gate::Gate;
 use crate::batch::ordered_output::OrderedOutput;
@@ -14,7 +16,7 @@ use crate::batch::worker::{Crew, Worker};
 use crate::batch::workers::QUEUE_CAPACITY;
 use crate::queue::ResultsQueue;
 use crate::queue::passes::GetPass;
-use kalah_jobs::Sink;
+use kalah_jobs::{Outcome, Sink};
 use std::snapshot::Snapshot;
 use std::sync::Wait;
 use std::thread;
@@ -46,8 +48,26 @@ impl<'a, 'b, G: Gate> Promise<Vec<Worker>> for AllHaveRun<'a, 'b, G> {
     ghost kept_by = { λ p r. HaveRun (work_of p.0.value.shared.now) p.0.value.workers.items r.items };
 }
 
+// Returns the tries that are left, together with those that one more outcome adds.
+fn with_more(tries: u32) -> u32
+    ensures { result ≡ min (tries + TRIES_FOR_EACH) MOST_TRIES }
+{
+    tries.saturating_add(TRIES_FOR_EACH).min(MOST_TRIES)
+}
+
+// Gets an outcome that may come late. No other call of this thread sleeps while outcomes are to come.
+fn get_later<R: Wait, W: Sink>(rt: &R, queue: &ResultsQueue, pass: &mut GetPass, out: &W) -> Outcome
+    requires pass { pass.old.queue ≡ queue.now.id }
+    // The sink has flushed all that was written, unless it may keep bytes in its buffer while its caller waits.
+    requires ready { IsReady (W.has_failed out.now) (W.may_hold_back out.now) (W.is_handed_on out.now) }
+    ensures { HasGot pass.old result pass.new }
+{
+    let _ = out;
+    queue.get(rt, pass)
+}
+
 // Accepts the outcome of each job, and writes each line once it is ready and all earlier ones are written. If no outcome
-// comes soon, the output may flush what it buffers before the wait.
+// comes soon, the output flushes what it buffers before the wait.
 fn collect<R: Wait, W: Sink>(
     rt: &R,
     queue: &ResultsQueue,
@@ -67,14 +87,14 @@ fn collect<R: Wait, W: Sink>(
     output.write(out);
     let mut tries = 0u32;
     for _ in 0..total {
-        tries = tries.saturating_add(TRIES_FOR_EACH).min(MOST_TRIES);
+        tries = with_more(tries);
         let outcome = match queue.get_soon(pass, &mut tries) {
             Some(outcome) => outcome,
             None => {
                 if !out.failed() {
                     out.before_waiting();
                 }
-                queue.get(rt, pass)
+                get_later(rt, queue, pass, out)
             }
         };
         output.accept(outcome, out);

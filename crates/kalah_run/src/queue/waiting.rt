@@ -6,6 +6,14 @@
 //! wakes a sleeper, or a wake-up is in progress that was sent after the sleeper cleared the earlier ones. Such a wake-up ends this
 //! sleep, or that of another thread which has not resumed yet: that one tries after the arrival, and wakes the next.
 //! All steps are in one total order (`SeqCst`).
+//!
+//! A try can also fail because another thread is in the way. If that thread has claimed a place and has not finished its step, what
+//! the sleeper waits for arrives with that step, after the try, and its thread wakes a sleeper. If a worker lost a place to another
+//! worker, it may sleep though there is room: what the other worker has put will be got, and that `get` wakes it. So it sleeps until
+//! the next outcome is got at the latest, and for no longer than a full queue would make it sleep.
+//!
+//! `tests/wakes` reads these steps here and in `queue.rt`, in their order, and goes through each order in which a few threads can
+//! take them, with the steps of the queue below.
 use crossbeam_utils::Backoff;
 use crossbeam_utils::sync::{EventCount, Key};
 use std::sync::Wait;

@@ -1,16 +1,25 @@
 //! Batches in which workers wait for one another: jobs are solved in parallel, drawn by any free worker, and written
 //! while later ones are under way.
-use super::{lines_are_answered, same_lines};
+ghost use Rattle.std.specs.Prelude.{Some};
+
+use super::{ONE_AND_TWO, answers, file_of, lines_are_answered};
 use crate::{Gate, Tally, solve_batch};
-use kalah_jobs::Stream;
+use kalah_jobs::{FileText, Sink, Stream, write_pieces};
+use std::alloc::Global;
 use std::io::Write;
+use std::process::Abort;
 use std::sync::atomic::{AtomicBool, AtomicU32, Ordering};
 use std::{io, thread};
 
 // How often a gate tests what it waits for.
 const TURNS: u32 = 10_000_000;
 
-const TWO: &str = "n:1 0 house 1\nn:2 0 house 1\n";
+const TWO: &str = "n:1 0 house 1\nn:2 -2 house 1\n";
+
+// A file of two lines whose answers are `TWO`.
+fn two_lines(rt: &impl Abort, alloc: Global) -> [FileText; 1] {
+    [file_of(alloc, "n", ONE_AND_TWO.as_bytes()).expect(rt, "no memory")]
+}
 
 // Tests many times whether the flag is set; false if it gave up.
 fn is_set(flag: &AtomicBool) -> bool {
@@ -163,12 +172,44 @@ impl Write for Telling<'_> {
     }
 }
 
+/// A sink of three calls. It sets the flag when it is flushed after a whole line.
+#[derive(Drop)]
+struct ThreeCalls<'a> {
+    bytes: Vec<u8>,
+    has_failed: bool,
+    flushed: &'a Flags,
+}
+
+impl Sink for ThreeCalls<'_> {
+    ghost written = { λ s. Some s.bytes.items };
+
+    ghost has_failed = { λ s. s.has_failed };
+
+    fn write_all(&mut self, bytes: &[u8]) -> Result<(), io::Error> {
+        let written = write_pieces(&mut self.bytes, bytes);
+        self.has_failed = written.is_err();
+        written
+    }
+
+    fn flush(&mut self) -> Result<(), io::Error> {
+        if self.bytes.contains(&b'\n') {
+            self.flushed.set(0);
+        }
+        Ok(())
+    }
+
+    fn failed(&self) -> bool {
+        self.has_failed
+    }
+}
+
 #[test]
 fn a_later_job_is_done_while_an_earlier_one_waits(rt: HostRuntime) {
     let gate = SecondFirst {
         done: Flags::none(),
     };
-    assert!(rt; lines_are_answered(&rt, rt.alloc(), 2, 2, 16, &gate));
+    let files = two_lines(&rt, rt.alloc());
+    assert!(rt; answers(&rt, rt.alloc(), &files, 2, 16, &gate, TWO, 0));
     assert!(rt; gate.done.came());
 }
 
@@ -203,7 +244,7 @@ fn a_free_worker_takes_whatever_is_left(rt: HostRuntime) {
 #[test]
 fn a_line_is_written_before_the_next_job_begins(rt: HostRuntime) {
     let alloc = rt.alloc();
-    let files = same_lines(&rt, alloc, 2);
+    let files = two_lines(&rt, alloc);
     let written = Flags::none();
     let gate = WrittenFirst { written: &written };
     let mut out = Stream::new(Telling {
@@ -218,4 +259,20 @@ fn a_line_is_written_before_the_next_job_begins(rt: HostRuntime) {
     assert!(rt; tally == Ok(all));
     assert!(rt; out.into_inner().bytes.as_slice() == TWO.as_bytes());
     assert!(rt; written.came());
+}
+
+#[test]
+fn a_line_is_handed_on_before_the_next_job_begins(rt: HostRuntime) {
+    let alloc = rt.alloc();
+    let files = two_lines(&rt, alloc);
+    let flushed = Flags::none();
+    let gate = WrittenFirst { written: &flushed };
+    let mut out = ThreeCalls {
+        bytes: Vec::new(alloc),
+        has_failed: false,
+        flushed: &flushed,
+    };
+    assert!(rt; solve_batch(&rt, alloc, &files, 1, 16, &gate, &mut out).is_ok());
+    assert!(rt; out.bytes.as_slice() == TWO.as_bytes());
+    assert!(rt; flushed.came());
 }

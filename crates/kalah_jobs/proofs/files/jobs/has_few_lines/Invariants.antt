@@ -1,5 +1,6 @@
 use Rattle.std.proofs.Common.{◌≡◌, ◌+◌, take}
-use Rattle.kalah_jobs.specs.Files.Jobs.{lines_in_all, most_lines}
+use Rattle.kalah_jobs.specs.Limits.{most_lines}
+use Rattle.kalah_jobs.specs.Files.Jobs.{lines_in_all}
 use Rattle.kalah_jobs.proofs.files.jobs.has_few_lines.Given as goal
 
 abbrev pub invariant-loop-file : goal.invariant-loop-file
