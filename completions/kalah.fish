@@ -8,9 +8,10 @@ complete -c kalah -n __fish_use_subcommand -a play -d 'Print the game that best 
 complete -c kalah -n __fish_use_subcommand -a solve -d 'Print the margin of best play and the best house of each position in files'
 complete -c kalah -n __fish_use_subcommand -a values -d 'Print what each move of each position in files is worth'
 complete -c kalah -n __fish_use_subcommand -a ask -d 'Answer each line of the standard input before it reads on, as solve or values'
+complete -c kalah -n __fish_use_subcommand -a steps -d 'Print each legal move of each position in files, and the position after it'
 complete -c kalah -n '__fish_seen_subcommand_from ask' -l values -d 'Print what each move is worth, as values does'
 complete -c kalah -n '__fish_seen_subcommand_from moves play' -l boards -d 'Draw each position below its line'
 complete -c kalah -n '__fish_seen_subcommand_from play solve values ask' -l table -x -d 'How many solved positions each worker remembers, 1 to 1048576'
-complete -c kalah -n '__fish_seen_subcommand_from solve values' -l workers -x -d 'How many workers solve in parallel, 1 to 64'
-complete -c kalah -n '__fish_seen_subcommand_from solve values' -l progress -d 'Show on standard error how many lines are answered'
-complete -c kalah -n '__fish_seen_subcommand_from solve values' -F
+complete -c kalah -n '__fish_seen_subcommand_from solve values steps' -l workers -x -d 'How many workers solve in parallel, 1 to 64'
+complete -c kalah -n '__fish_seen_subcommand_from solve values steps' -l progress -d 'Show on standard error how many lines are answered'
+complete -c kalah -n '__fish_seen_subcommand_from solve values steps' -F

@@ -18,8 +18,9 @@ TABLES = [1, 2, 3, 15, 16, 17, 255, 256, 4096, 65_535, 65_536, 65_537, 1_000_000
 # How the lines of a file end, and whether the last one has its line feed.
 ENDINGS = [(ending, last) for ending in ([b"\n"], [b"\r\n"], [b"\n", b"\r\n"]) for last in (True, False)]
 
-# The subcommands that answer files.
-SUBCOMMANDS = ["solve", "values"]
+# What answers files, by a search or without one.
+SEARCHING = ["solve", "values"]
+SUBCOMMANDS = [*SEARCHING, "steps"]
 
 # How often a name is that of the previous file, and how often that of some earlier file.
 REPEATS = [(0, 0), (0.5, 0), (0, 0.5), (0.3, 0.3), (1, 0)]
@@ -27,7 +28,7 @@ REPEATS = [(0, 0), (0.5, 0), (0, 0.5), (0.3, 0.3), (1, 0)]
 NAMES = [
     *(" ", " a", "a ", "  a  ", "a b", "\ta", "a\t", "a\r", "\u00a0a", "a\u2028", "a:1", "a:1 0 house 1", "a.txt", "4", "=", "+4"),
     *("é", "日本語", "🌱", "e\u0301", "\u202ea", "\ufeffa", "%s{}", "$HOME", "*?[a]", "\\", "'\"`", "#", "~", "\x01\x1b[2J\x7f"),
-    *("-", "--", "-a", "--workers", "--table=1", "--help", "-h", "--version", "-V", "-1", "moves", "solve", "values", "help"),
+    *("-", "--", "-a", "--workers", "--table=1", "--help", "-h", "--version", "-V", "-1", "moves", "solve", "values", "steps", "help"),
     *("./a", "folder/a", "./folder//a", "n" * 255, "./" * 600 + "a", "./" * 2045 + "whole", "folder/" + "../folder/" * 408 + "a"),
 ]
 
@@ -209,9 +210,9 @@ class Drawn:
                 names.append(self.card("names", NAMES) if self.happens(0.3) else f"file {number}")
         return names
 
-    def options(self):
-        """Yields options of `solve` and `values`, each as one or two arguments."""
-        table = self.card("tables", TABLES)
+    def options(self, subcommand):
+        """Options of a subcommand that answers files, each as one word or two. Only those that search have a table."""
+        table = self.card("tables", TABLES) if subcommand in SEARCHING else None
         numbers = {"--table": table}
         if self.happens(0.9):
             few = MOST_ENTRIES // len(WORKERS) < (table or 0)
@@ -222,12 +223,12 @@ class Drawn:
                 yield [f"{option}={digits}"] if self.happens(0.5) else [option, digits]
 
     def words(self, subcommand, names):
-        """Returns the arguments of `solve` or `values` for these files, in one of the accepted orders."""
+        """The words of a subcommand for these files, in one of the orders that are taken."""
         flag = next((at for at, name in enumerate(names) if name.startswith("-") and name != "-"), None)
         cut = len(names) if flag is None else flag
         if flag is not None or self.happens(0.3):
             cut = self.chance.randint(0, cut)
         pieces = [[name] for name in names[:cut]]
-        for option in self.options():
+        for option in self.options(subcommand):
             pieces.insert(self.chance.randint(0, len(pieces)), option)
         return [subcommand, *chain(*pieces), *(["--"] if cut < len(names) else []), *names[cut:]]

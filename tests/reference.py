@@ -117,6 +117,15 @@ def answer(subcommand, line):
     return b"%d over" % margin if house is None else b"%d house %d" % (margin, house)
 
 
+@lru_cache(1 << 17)
+def texts(subcommand, line):
+    """What stands behind the file's name and the line's number in each of the lines that answer a line of a file."""
+    position = read(line)
+    if subcommand != "steps" or isinstance(position, str) or is_over(position):
+        return [answer(subcommand, line)]
+    return [move_text(house, *after(position, house), False).encode().removesuffix(b"\n") for house in legal(position)]
+
+
 def lines_of(data):
     return data.removesuffix(b"\n").split(b"\n") if data else []
 
@@ -165,8 +174,8 @@ def asked(subcommand, data):
 
 
 def answers(subcommand, files):
-    """`kalah solve FILE..` or `kalah values FILE..`, of pairs of a name and the bytes there, which are None if they can't be
-    read."""
+    """`kalah solve FILE..`, `kalah values FILE..` or `kalah steps FILE..`, of pairs of a name and the bytes there, which are None
+    where they can't be read."""
     if any(b"\n" in name for name, _ in files):
         return failed(b"line feed in a file name")
     for name, data in files:
@@ -177,6 +186,6 @@ def answers(subcommand, files):
     batch = [(name, lines_of(data)) for name, data in files]
     if sum(len(lines) for _, lines in batch) > MOST_LINES:
         return failed(b"too many lines")
-    said = [(name, number, answer(subcommand, line)) for name, lines in batch for number, line in enumerate(lines, 1)]
+    said = [(name, number, words) for name, lines in batch for number, line in enumerate(lines, 1) for words in texts(subcommand, line)]
     has_fault = any(words.startswith(b"fault") for _, _, words in said)
     return Run(b"".join([b"%b:%d %b\n" % line for line in said]), b"", int(has_fault))

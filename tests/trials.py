@@ -17,7 +17,7 @@ from pathlib import Path
 import reference
 from asked import ASK_KINDS, AskTrials
 from differing import SOON, Differs, read_soon
-from drawn import BYTES, FILES, LINES, LINES_OF_MOVES, NO_FILES, SUBCOMMANDS, TABLES, Drawn
+from drawn import BYTES, FILES, LINES, LINES_OF_MOVES, NO_FILES, SEARCHING, SUBCOMMANDS, TABLES, Drawn
 from reference import Run
 
 TESTS = Path(__file__).resolve().parent
@@ -25,7 +25,7 @@ TESTS = Path(__file__).resolve().parent
 # The recursion of the reference is as deep as a game has moves.
 sys.setrecursionlimit(100_000)
 
-# Arguments that are refused, or are no text, if there is a file `a`; those of `solve` are refused for `values` too.
+# Words that are not taken, or are no text, where there is a file `a`; those of `solve` are none of `values` or `steps` either.
 MISTAKES = [
     *([], ["stop"], ["help"], ["Solve", "a"], ["--version=1"], ["--versio"], ["-x"], [""], ["--", "solve", "a"], ["--workers", "1", "solve", "a"]),
     *(["moves"], ["moves", "--"], ["moves", "-1/0 1/0"], ["moves", "1/0 1/0", "1/0 1/0"], ["moves", "--workers", "1", "1/0 1/0"]),
@@ -41,9 +41,10 @@ MISTAKES = [
     *([b"\xff"], ["moves", b"1/0 1/0\x80"], ["solve", "a", b"\xed\xa0\x80"], ["solve", "a", "--workers", b"4\xc3"]),
 ]
 
-MISTAKES += [["values", *words[1:]] for words in MISTAKES if words[:1] == ["solve"]]
+MISTAKES += [[other, *words[1:]] for other in ("values", "steps") for words in MISTAKES if words[:1] == ["solve"]]
+MISTAKES += [["steps", "--table", "1", "a"], ["steps", "a", "--table=65536"], ["steps", "--boards", "a"]]
 
-HELP = [["--help"], ["-h"], ["moves", "--help"], ["moves", "-h"], ["play", "--help"], ["solve", "--help"], ["solve", "-h"], ["solve", "a", "-h"], ["values", "--help"], ["values", "a", "-h"], ["ask", "--help"], ["ask", "-h"]]
+HELP = [["--help"], ["-h"], ["moves", "--help"], ["moves", "-h"], ["play", "--help"], ["solve", "--help"], ["solve", "-h"], ["solve", "a", "-h"], ["values", "--help"], ["values", "a", "-h"], ["steps", "--help"], ["steps", "a", "-h"], ["ask", "--help"], ["ask", "-h"]]
 
 # Arguments that ask for the version before anything else.
 VERSION = [["--version"], ["-V"], ["-V", "-h"], ["--version", "stop"], ["-V", "solve", "a"], ["--version", "--version"], ["-V", "--", "a"]]
@@ -78,7 +79,7 @@ HELP_OF_OPTIONS = {
 
 PROGRAM_NAMES = ["kalah", "./kalah", "/bin/kalah", "k l", "é", "-", "--help"]
 
-# The names that `solve` or `values` is given, and the size of `a`, the only file.
+# The names that a subcommand is given which answers files, and the size of the file `a`, which is all there is.
 LIMITS = [
     (["a"] * 256 + ["./a"], 8),
     (["a"] * 398 + ["b"], 8),
@@ -104,6 +105,7 @@ RUNS = [
     (["solve", "a", "a"], reference.answers("solve", [(b"a", A_AND_FAULT), (b"a", A_AND_FAULT)])),
     (["solve", "a", "b"], reference.answers("solve", [(b"a", A_AND_FAULT), (b"b", None)])),
     (["values", "a", "a"], reference.answers("values", [(b"a", A_AND_FAULT), (b"a", A_AND_FAULT)])),
+    (["steps", "a", "a"], reference.answers("steps", [(b"a", A_AND_FAULT), (b"a", A_AND_FAULT)])),
 ]
 STREAMS_OF_RUNS = list(product(STREAMS, RUNS))
 
@@ -262,6 +264,9 @@ class Trials(AskTrials):
     def subcommand(self):
         return self.drawn.card("subcommands", SUBCOMMANDS)
 
+    def searching(self):
+        return self.drawn.card("searching", SEARCHING)
+
     def answer(self, named, subcommand=None):
         """Files of these names are answered. One that has no bytes can't be read."""
         subcommand = subcommand or self.subcommand()
@@ -288,7 +293,7 @@ class Trials(AskTrials):
 
     def stored_answers(self):
         lines = [self.drawn.with_stores(self.drawn.card("stored", self.stored)) for _ in range(60)]
-        self.answer([("a", b"\n".join(lines))], "solve")
+        self.answer([("a", b"\n".join(lines))], self.drawn.card("of stored", ["solve", "steps"]))
 
     def unread_files(self):
         """The first name that can't be opened is reported; there are files before it, and more names behind it."""
@@ -384,7 +389,7 @@ class Trials(AskTrials):
         place, lines = self.drawn.card("first answers", FIRST_ANSWERS)
         data = self.drawn.file(lines)
         self.put({"a": data, "b": HARD})
-        subcommand = self.subcommand()
+        subcommand = self.searching()
         want = reference.answers(subcommand, [(b"a", data)]).out
         reader, writer = two_ends(place)
         workers = f"{self.drawn.chance.randint(1, 16)}"
@@ -418,7 +423,7 @@ class Trials(AskTrials):
         """The number of threads that work in parallel is the requested number of workers."""
         workers = self.drawn.card("busy workers", BUSY_WORKERS)
         self.put({"a": HARD})
-        with self.start([self.subcommand(), "--table", "1", "--workers", f"{workers}", "a"]) as process:
+        with self.start([self.searching(), "--table", "1", "--workers", f"{workers}", "a"]) as process:
             end = time.monotonic() + SOON
             while busy_threads(process) < workers and time.monotonic() < end:
                 time.sleep(0.05)
@@ -431,7 +436,7 @@ class Trials(AskTrials):
         """A run with fewer lines than workers starts one thread, which starts at most one for each line."""
         lines = self.drawn.card("few lines", FEW_LINES)
         self.put({"a": b"".join(HARD.splitlines(keepends=True)[:lines])})
-        with self.start([self.subcommand(), "--table", "1", "--workers", "64", "a"]) as process:
+        with self.start([self.searching(), "--table", "1", "--workers", "64", "a"]) as process:
             end = time.monotonic() + SOON
             while busy_threads(process) < lines and time.monotonic() < end:
                 time.sleep(0.05)
@@ -463,7 +468,7 @@ class Trials(AskTrials):
             out.seek(0)
             self.compare(want._replace(err=shown), Run(out.read(), shown, process.returncode))
         os.close(reader)
-        self.look_at_progress(shown.decode(), want.out.count(b"\n"), place == "terminal")
+        self.look_at_progress(shown.decode(), sum(len(reference.lines_of(data)) for _, data in files), place == "terminal")
 
     def look_at_progress(self, shown, lines, in_place):
         """The shown numbers rise from none to all lines, each with its share."""

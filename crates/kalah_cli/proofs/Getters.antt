@@ -1,5 +1,5 @@
 -- What the getters return, by the rows of the matches.
-use Rattle.std.proofs.Common.{◌≡◌, ◌∙◌, ◌<◌, ◌≤◌, ℕ, Bool, true, false, refl, sym, ap, subst, List, [], Option, Some, None, Result, Ok, Err, is_some, arith, codes, map, length, inl, inr}
+use Rattle.std.proofs.Common.{◌≡◌, ◌≢◌, ◌∙◌, ◌<◌, ◌≤◌, ℕ, Bool, true, false, refl, sym, ap, subst, List, [], Option, Some, None, Result, Ok, Err, is_some, arith, codes, map, length, inl, inr}
 use Rattle.std.specs.Prelude.{option_map, option_and_then, IfErr, IsErrAnd, MatchResult}
 use Rattle.clap.specs.Values.{kind_of}
 use Rattle.clap.specs.declared.error.kind.ErrorKind.TheVariants.{OutOfMemory}
@@ -23,8 +23,8 @@ use Rattle.clap.proofs.WalkLemmas.{one_text-rows}
 use Rattle.kalah_solve.specs.Table.{most_entries}
 use Rattle.kalah_run.specs.Limits.{most_workers}
 use Rattle.kalah_jobs.specs.declared.files.question.Question.{Question}
-use Rattle.kalah_jobs.specs.declared.files.question.Question.TheVariants.{BestMove, Values}
-use Rattle.kalah_cli.specs.Request.{Asked, HasFlag, HasNumber, HasWhatItNeeds, IsAnswers, IsAsk, IsPlay, IsTaken, answers, answers_asked, ask, ask_asked, asked, asked_by, command_of, is_set, number_written, play, play_asked, question_of}
+use Rattle.kalah_jobs.specs.declared.files.question.Question.TheVariants.{BestMove, Values, Steps}
+use Rattle.kalah_cli.specs.Request.{Asked, HasFlag, HasNumber, HasWhatItNeeds, IsAnswers, IsAsk, IsPlay, IsSteps, IsTaken, answers, answers_asked, ask, ask_asked, asked, asked_by, command_of, files_asked, is_set, number_written, play, play_asked, question_of}
 use Rattle.kalah_cli.specs.Command.{kalah_app}
 use Rattle.kalah_cli.proofs.Laws.{app_is_simple}
 use Rattle.kalah_cli.proofs.Subcommands.{taken_holds}
@@ -83,21 +83,39 @@ other_name : {Q : Type 0} (a b : Text) → bytes_eq a b ≡ false → a ≡ b �
 other_name a b differs is = absurd (let both : true ≡ false = sym ((bytes_eq-Decides a b).1 is) ∙ differs in cc)
 
 -- `solve` and `values` have what both need
-answers_have : (question : Question) (rows : List Row) → HasWhatItNeeds (command_of question) rows → IsAnswers rows
-answers_have BestMove rows (inl one) = other_name (codes "solve") (codes "moves") refl one.0
-answers_have BestMove rows (inr (inl one)) = other_name (codes "solve") (codes "play") refl one.0
-answers_have BestMove rows (inr (inr (inl files))) = files.1
-answers_have BestMove rows (inr (inr (inr one))) = other_name (codes "solve") (codes "ask") refl one.0
-answers_have Values rows (inl one) = other_name (codes "values") (codes "moves") refl one.0
-answers_have Values rows (inr (inl one)) = other_name (codes "values") (codes "play") refl one.0
-answers_have Values rows (inr (inr (inl files))) = files.1
-answers_have Values rows (inr (inr (inr one))) = other_name (codes "values") (codes "ask") refl one.0
+answers_have : (question : Question) → question ≢ Steps → (rows : List Row) → HasWhatItNeeds (command_of question) rows → IsAnswers rows
+answers_have BestMove other rows (inl one) = other_name (codes "solve") (codes "moves") refl one.0
+answers_have BestMove other rows (inr (inl one)) = other_name (codes "solve") (codes "play") refl one.0
+answers_have BestMove other rows (inr (inr (inl files))) = files.1
+answers_have BestMove other rows (inr (inr (inr (inl one)))) = other_name (codes "solve") (codes "ask") refl one.0
+answers_have BestMove other rows (inr (inr (inr (inr one)))) = other_name (codes "solve") (codes "steps") refl one.0
+answers_have Values other rows (inl one) = other_name (codes "values") (codes "moves") refl one.0
+answers_have Values other rows (inr (inl one)) = other_name (codes "values") (codes "play") refl one.0
+answers_have Values other rows (inr (inr (inl files))) = files.1
+answers_have Values other rows (inr (inr (inr (inl one)))) = other_name (codes "values") (codes "ask") refl one.0
+answers_have Values other rows (inr (inr (inr (inr one)))) = other_name (codes "values") (codes "steps") refl one.0
+answers_have Steps other rows has = absurd (other refl)
 
-pub answers_need : (question : Question) (m : ArgMatches) (rows : List Row) → IsTaken (subcommand_rows_of m)
+-- `steps` has what it needs
+steps_have : (rows : List Row) → HasWhatItNeeds (codes "steps") rows → IsSteps rows
+steps_have rows (inl one) = other_name (codes "steps") (codes "moves") refl one.0
+steps_have rows (inr (inl one)) = other_name (codes "steps") (codes "play") refl one.0
+steps_have rows (inr (inr (inl (inl solve, has)))) = other_name (codes "steps") (codes "solve") refl solve
+steps_have rows (inr (inr (inl (inr values, has)))) = other_name (codes "steps") (codes "values") refl values
+steps_have rows (inr (inr (inr (inl one)))) = other_name (codes "steps") (codes "ask") refl one.0
+steps_have rows (inr (inr (inr (inr one)))) = one.1
+
+pub answers_need : (question : Question) → question ≢ Steps → (m : ArgMatches) (rows : List Row) → IsTaken (subcommand_rows_of m)
     → subcommand_name_of m ≡ Some (command_of question) → option_map (λ p. p.1) (subcommand_rows_of m) ≡ Some rows → IsAnswers rows
-answers_need question m rows taken named listed =
+answers_need question other m rows taken named listed =
     let same : option_map (λ (p : Text × List Row). p.0) (subcommand_rows_of m) ≡ subcommand_name_of m = first_of_both _ _ _ in
-    answers_have question rows (needed (subcommand_rows_of m) (command_of question) rows taken (same ∙ named) listed)
+    answers_have question other rows (needed (subcommand_rows_of m) (command_of question) rows taken (same ∙ named) listed)
+
+pub steps_need : (m : ArgMatches) (rows : List Row) → IsTaken (subcommand_rows_of m)
+    → subcommand_name_of m ≡ Some (codes "steps") → option_map (λ p. p.1) (subcommand_rows_of m) ≡ Some rows → IsSteps rows
+steps_need m rows taken named listed =
+    let same : option_map (λ (p : Text × List Row). p.0) (subcommand_rows_of m) ≡ subcommand_name_of m = first_of_both _ _ _ in
+    steps_have rows (needed (subcommand_rows_of m) (codes "steps") rows taken (same ∙ named) listed)
 
 -- the number is that of the text of the id
 abbrev Reads : Text → List Row → ℕ → Type 0
@@ -139,26 +157,34 @@ ask_in_range rows has table is_table =
     let b = has.1.2 in
     (rw t b.2, rw t b.3)
 
--- what the getters return is what the matches of `solve` and `values` ask for
-pub answers_are : (question : Question) (rows : List Row) (has : IsAnswers rows) (workers table : ℕ) (progress : Bool) (files : List Text)
-    → Reads (codes "workers") rows workers → Reads (codes "table") rows table → progress ≡ is_set (codes "progress") rows
-    → Some files ≡ all_of (codes "file") rows → answers_asked question rows ≡ Some (answers question workers table progress files)
-answers_are question rows has workers table progress files is_workers is_table is_progress is_files =
-    rw (has.workers.1, has.table.1, ← is_files, is_workers has.workers.0 has.workers.1, is_table has.table.0 has.table.1, is_progress) refl
+-- what the getters give is what the matches of a subcommand with files ask for
+pub files_are : (question : Question) (rows : List Row) (has : IsSteps rows) (workers table : ℕ) (progress : Bool) (files : List Text)
+    → Reads (codes "workers") rows workers → progress ≡ is_set (codes "progress") rows
+    → Some files ≡ all_of (codes "file") rows → files_asked question table rows ≡ Some (answers question workers table progress files)
+files_are question rows has workers table progress files is_workers is_progress is_files =
+    rw (has.workers.1, ← is_files, is_workers has.workers.0 has.workers.1, is_progress) refl
 
 -- and it is in range
-pub answers_in_range : (rows : List Row) (has : IsAnswers rows) (workers table : ℕ) (files : List (Bor Text)) → Reads (codes "workers") rows workers
-    → Reads (codes "table") rows table → Some (map (λ f. f.now) files) ≡ all_of (codes "file") rows
-    → (1 ≤ workers) × (workers ≤ most_workers) × (1 ≤ table) × (table ≤ most_entries) × (0 < length files)
-answers_in_range rows has workers table files is_workers is_table is_files =
+pub files_in_range : (rows : List Row) (has : IsSteps rows) (workers : ℕ) (files : List (Bor Text)) → Reads (codes "workers") rows workers
+    → Some (map (λ f. f.now) files) ≡ all_of (codes "file") rows → (1 ≤ workers) × (workers ≤ most_workers) × (0 < length files)
+files_in_range rows has workers files is_workers is_files =
     let w = is_workers has.workers.0 has.workers.1 in
-    let t = is_table has.table.0 has.table.1 in
     let same : map (λ f. f.now) files ≡ has.files.0 = cc in
     let len : length (map (λ f. f.now) files) ≡ length files = simp length-map in
     let some : 0 < length (map (λ f. f.now) files) = rw same has.files.2 in
     let a = has.workers.2 in
+    (rw w a.2, rw w a.3, omega arith)
+
+-- and so it is of `solve` and `values`, with the table
+pub answers_are : (question : Question) (rows : List Row) (has : IsAnswers rows) (table : ℕ) (a : Asked) → Reads (codes "table") rows table
+    → files_asked question table rows ≡ Some a → answers_asked question rows ≡ Some a
+answers_are question rows has table a is_table asks = rw (has.table.1, ← is_table has.table.0 has.table.1) asks
+
+pub table_in_range : (rows : List Row) (has : IsAnswers rows) (table : ℕ) → Reads (codes "table") rows table → (1 ≤ table) × (table ≤ most_entries)
+table_in_range rows has table is_table =
+    let t = is_table has.table.0 has.table.1 in
     let b = has.table.2 in
-    (rw w a.2, rw w a.3, rw t b.2, rw t b.3, omega arith)
+    (rw t b.2, rw t b.3)
 
 -- what the matches ask for is what the arguments ask for
 pub asked_is : (a : App) (words : List Text) (o : Option (Text × List Row)) (x : Asked) → a ≡ kalah_app

@@ -1,4 +1,4 @@
--- What the matches of the five subcommands hold, if the arguments are accepted.
+-- What the matches of the subcommands hold, where the words are taken.
 use Rattle.std.proofs.Common.{◌≡◌, ◌⊎◌, ◌∙◌, ◌<◌, ℕ, Bool, true, false, refl, ap, subst, sym, inl, inr, List, [], ◌∷◌, Option, Some, None, arith, length, is_some, ◌||◌, not, codes}
 use Rattle.std.specs.Prelude.{find, nat_lt, option_and_then, option_map, slice_get}
 use Rattle.std.specs.Option.{option_map_or}
@@ -18,8 +18,8 @@ use Rattle.clap.specs.declared.builder.value_parser.ValueParser.TheVariants as v
 use Rattle.clap.specs.declared.builder.action.ArgAction.TheVariants.{Append, Help, Set, SetTrue}
 use Rattle.kalah_solve.specs.Table.{most_entries}
 use Rattle.kalah_run.specs.Limits.{most_workers}
-use Rattle.kalah_cli.specs.Command.{answers_app, ask_app, boards_rule, file_rule, kalah_app, line_rule, moves_app, play_app, progress_rule, table_rule, values_rule, workers_rule}
-use Rattle.kalah_cli.specs.Request.{HasFlag, HasLineArgument, HasNumber, HasWhatItNeeds, IsAnswers, IsAsk, IsMoves, IsPlay}
+use Rattle.kalah_cli.specs.Command.{answers_app, ask_app, boards_rule, file_rule, kalah_app, line_rule, moves_app, play_app, progress_rule, steps_app, table_rule, values_rule, workers_rule}
+use Rattle.kalah_cli.specs.Request.{HasFlag, HasLineArgument, HasNumber, HasWhatItNeeds, IsAnswers, IsAsk, IsMoves, IsPlay, IsSteps}
 use Rattle.kalah_cli.proofs.Items.{AllOf, both_all, found_all, more_than}
 use Rattle.kalah_cli.proofs.OfClap.FoundRows.{values_pass, default_made, given_row, found_row, rows_stay, row_in, found_named}
 use Rattle.kalah_cli.proofs.OfClap.KeptRows.{Gives, kept_level, level_parts}
@@ -65,6 +65,10 @@ answers_shape name = built_leaf (inherited (marked_built (with_leaf_noted kalah_
 -- `ask`, as built under the program
 abbrev ask_shape : Shape
 ask_shape = built_leaf (inherited (marked_built (with_leaf_noted kalah_app.top)) ask_app.top)
+
+-- `steps`, as built under the program
+abbrev steps_shape : Shape
+steps_shape = built_leaf (inherited (marked_built (with_leaf_noted kalah_app.top)) steps_app.top)
 
 -- the arguments, as built
 abbrev workers_built : Rule
@@ -249,6 +253,9 @@ answers_give name = (workers_give, (table_gives, (progress_gives, (file_gives, (
 ask_gives : AllOf (Gives Sound) ask_shape.rules
 ask_gives = (values_give, (table_gives, (help_gives, tt)))
 
+steps_give : AllOf (Gives Sound) steps_shape.rules
+steps_give = (workers_give, (progress_gives, (file_gives, (help_gives, tt))))
+
 -- ---- what is there
 
 -- a row of numbers in range has a number in range
@@ -309,6 +316,26 @@ flag_in id rows flagged all = λ t e. go t (find (λ r. bytes_eq r.id id) rows) 
     go t None is e = cc
     go t (Some r) is e = flag_of r t (flagged r (found_row Sound id rows r all is) (found_named id rows r is)) e
 
+steps_file_given : (rows : List Row) → check_fault steps_shape rows false ≡ [] → is_given (codes "file") rows ≡ true
+steps_file_given rows e = go (is_given (codes "file") rows) e
+  where
+    go : (b : Bool) → check_kinds false false (not b || (false || false)) ≡ [] → b ≡ true
+    go true f = refl
+    go false f = cc
+
+-- rows with an entry for the workers, to which a file is given, have what `steps` needs
+files_in : (rows : List Row) → AllOf Sound rows → (workers : Row) × (find (λ r. bytes_eq r.id (codes "workers")) rows ≡ Some workers)
+    → is_given (codes "file") rows ≡ true → IsSteps rows
+files_in rows all workers given =
+    let file = given_row (codes "file") rows given in
+    let workers_sound = found_row Sound (codes "workers") rows workers.0 all workers.1 in
+    let file_sound = found_row Sound (codes "file") rows file.0 all file.1 in record {
+      workers = number_in (codes "workers") most_workers rows workers.0 workers.1 workers_sound.some
+          (workers_sound.workers (found_named (codes "workers") rows workers.0 workers.1));
+      progress = flag_in (codes "progress") rows (λ r sound. sound.progress) all;
+      files = (file.0.values, ap (option_map (λ (r : Row). r.values)) file.1, file_sound.some);
+    }
+
 -- matches of `solve` or `values` without a fault have what these need
 pub answers_hold : (name : Text) (words : List Text) → level_fault (answers_shape name) [] nothing_held words false [] ≡ []
     → IsAnswers (rows_after (answers_shape name).rules [] words)
@@ -322,17 +349,22 @@ answers_hold name words e =
     let table = row_in (codes "table") rows (rows_stay (codes "table") (progress_built ∷ file_built ∷ help_built ∷ [])
     (with_default (with_default start workers_built) table_built)
     (default_made (with_default start workers_built) table_built (codes "65536") [] refl refl)) in
-    let file = given_row (codes "file") rows (file_given name rows level.1) in
-    let workers_sound = found_row Sound (codes "workers") rows workers.0 level.0 workers.1 in
-    let table_sound = found_row Sound (codes "table") rows table.0 level.0 table.1 in
-    let file_sound = found_row Sound (codes "file") rows file.0 level.0 file.1 in record {
-      workers = number_in (codes "workers") most_workers rows workers.0 workers.1 workers_sound.some
-          (workers_sound.workers (found_named (codes "workers") rows workers.0 workers.1));
+    let table_sound = found_row Sound (codes "table") rows table.0 level.0 table.1 in record {
       table = number_in (codes "table") most_entries rows table.0 table.1 table_sound.some
           (table_sound.table (found_named (codes "table") rows table.0 table.1));
-      progress = flag_in (codes "progress") rows (λ r sound. sound.progress) level.0;
-      files = (file.0.values, ap (option_map (λ (r : Row). r.values)) file.1, file_sound.some);
+      others = files_in rows level.0 workers (file_given name rows level.1);
     }
+
+-- matches of `steps` without a fault have what it needs
+pub steps_hold : (words : List Text) → level_fault steps_shape [] nothing_held words false [] ≡ []
+    → IsSteps (rows_after steps_shape.rules [] words)
+steps_hold words e =
+    let level = kept_level Sound steps_shape steps_give [] words false [] e in
+    let rows = rows_after steps_shape.rules [] words in
+    let start = (settled steps_shape.rules (walk steps_shape.rules [] nothing_held words).held).rows in
+    let workers = row_in (codes "workers") rows (rows_stay (codes "workers") (progress_built ∷ file_built ∷ help_built ∷ [])
+    (with_default start workers_built) (default_made start workers_built (codes "4") [] refl refl)) in
+    files_in rows level.0 workers (steps_file_given rows level.1)
 
 -- a row with a value has a first value
 first_in : (id : Text) (rows : List Row) (r : Row) → find (λ r. bytes_eq r.id id) rows ≡ Some r → 0 < length r.values
@@ -425,7 +457,10 @@ taken_holds words e =
           λ words f. inr (inr (inl (inl refl, answers_hold (codes "solve") words f))),
           (
             λ words f. inr (inr (inl (inr refl, answers_hold (codes "values") words f))),
-            (λ words f. inr (inr (inr (refl, ask_holds words f))), tt),
+            (
+              λ words f. inr (inr (inr (inl (refl, ask_holds words f)))),
+              (λ words f. inr (inr (inr (inr (refl, steps_hold words f)))), tt),
+            ),
           ),
         ),
       ),

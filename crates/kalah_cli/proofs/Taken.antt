@@ -10,9 +10,9 @@ use Rattle.clap.specs.declared.error.Error.{Error}
 use Rattle.clap.specs.declared.error.kind.ErrorKind.{ErrorKind}
 use Rattle.clap.specs.declared.error.kind.ErrorKind.TheVariants.{MissingRequiredArgument, OutOfMemory}
 use Rattle.kalah_jobs.specs.declared.files.question.Question.{Question}
-use Rattle.kalah_jobs.specs.declared.files.question.Question.TheVariants.{BestMove, Values}
+use Rattle.kalah_jobs.specs.declared.files.question.Question.TheVariants.{BestMove, Values, Steps}
 use Rattle.kalah_cli.specs.Command.{kalah_app}
-use Rattle.kalah_cli.specs.Request.{Asked, texts_of, IsPlainWord, IsTakenAs, answers, ask, asked_by, command_of, moves, play}
+use Rattle.kalah_cli.specs.Request.{Asked, texts_of, IsPlainWord, IsTakenAs, answers, ask, asked_by, command_of, moves, play, table_of}
 use Rattle.kalah_cli.specs.Runs.{Does, IsOfLine}
 use Rattle.kalah_cli.specs.declared.status.ExitStatus.{ExitStatus}
 use Rattle.kalah_cli.specs.declared.status.ExitStatus.TheVariants.{Clean, Failed}
@@ -34,22 +34,24 @@ ask_of words name is = subst (λ ws. IsTakenAs ws (ask BestMove 65536)) (sym is)
 pub ask_values_of : (words : List Text) (name : Text) → words ≡ name ∷ codes "ask" ∷ codes "--values" ∷ [] → IsTakenAs words (ask Values 65536)
 ask_values_of words name is = subst (λ ws. IsTakenAs ws (ask Values 65536)) (sym is) (ask_values_taken name)
 
--- `solve` or `values` and plain arguments are accepted as asking this of the files of these names
+-- `solve`, `values` or `steps` and plain words are taken as asking this of the files of these names
 files_taken : (question : Question) (name file : Text) (files : List Text) → All IsPlainWord (file ∷ files)
-    → IsTakenAs (name ∷ command_of question ∷ file ∷ files) (answers question 4 65536 false (file ∷ files))
+    → IsTakenAs (name ∷ command_of question ∷ file ∷ files) (answers question 4 (table_of question) false (file ∷ files))
 files_taken BestMove name file files plain =
     (files_pass BestMove name file files plain, ap (option_and_then asked_by) (files_match BestMove name file files plain))
 files_taken Values name file files plain =
     (files_pass Values name file files plain, ap (option_and_then asked_by) (files_match Values name file files plain))
+files_taken Steps name file files plain =
+    (files_pass Steps name file files plain, ap (option_and_then asked_by) (files_match Steps name file files plain))
 
 pub files_of : (question : Question) (words : List Text) (name file : Text) (files : List Text) → words ≡ name ∷ command_of question ∷ file ∷ files
-    → All IsPlainWord (file ∷ files) → IsTakenAs words (answers question 4 65536 false (file ∷ files))
+    → All IsPlainWord (file ∷ files) → IsTakenAs words (answers question 4 (table_of question) false (file ∷ files))
 files_of question words name file files is plain =
-    subst (λ ws. IsTakenAs ws (answers question 4 65536 false (file ∷ files))) (sym is) (files_taken question name file files plain)
+    subst (λ ws. IsTakenAs ws (answers question 4 (table_of question) false (file ∷ files))) (sym is) (files_taken question name file files plain)
 
 -- and refused if there is none
 pub files_or_none : (question : Question) (words : List Text) (name : Text) (files : List Text) → words ≡ name ∷ command_of question ∷ files
-    → All IsPlainWord files → IsTakenAs words (answers question 4 65536 false files) ⊎ (fault_of kalah_app words ≡ MissingRequiredArgument ∷ [])
+    → All IsPlainWord files → IsTakenAs words (answers question 4 (table_of question) false files) ⊎ (fault_of kalah_app words ≡ MissingRequiredArgument ∷ [])
 files_or_none question words name [] is plain = inr (ap (fault_of kalah_app) is ∙ no_file_is_missed question name)
 files_or_none question words name (file ∷ files) is plain = inl (files_of question words name file files is plain)
 

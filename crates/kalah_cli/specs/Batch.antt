@@ -1,4 +1,4 @@
--- What `kalah solve` and `kalah values` write, by the names of its files. No contract knows the content of a file on the disk.
+-- What `kalah solve`, `kalah values` and `kalah steps` write, by the names of its files. What is in a file on the disk no contract knows.
 use Rattle.std.specs.Prelude.{◌≡◌, ◌↔◌, ◌==◌, ℕ, Bool, false, List, Option, map}
 use Rattle.std.specs.List.{list_any}
 use Rattle.std.specs.Io.KnownBytes.{Appends}
@@ -6,7 +6,7 @@ use Rattle.kalah_jobs.specs.Writing.Given.{AppendsStart}
 use Rattle.kalah_jobs.specs.Files.NamedBytes.{NamedBytes}
 use Rattle.kalah_jobs.specs.Writing.Output.{LineCounts, output_to, tally_of}
 use Rattle.kalah_jobs.specs.declared.files.question.Question.{Question}
-use Rattle.kalah_jobs.specs.declared.files.question.Question.TheVariants.{BestMove, Values}
+use Rattle.kalah_jobs.specs.declared.files.question.Question.TheVariants.{BestMove, Values, Steps}
 use Rattle.kalah_cli.specs.declared.status.ExitStatus.{ExitStatus}
 use Rattle.kalah_cli.specs.declared.status.ExitStatus.TheVariants.{Clean}
 
@@ -46,3 +46,7 @@ AnswersFiles names old new status = AnswersTo BestMove names old new status
 -- if the values of its moves are asked
 abbrev pub TellsValues : List (List ℕ) → Option (List ℕ) → Option (List ℕ) → ExitStatus → Type 0
 TellsValues names old new status = AnswersTo Values names old new status
+
+-- where the steps of its moves are asked
+abbrev pub TellsSteps : List (List ℕ) → Option (List ℕ) → Option (List ℕ) → ExitStatus → Type 0
+TellsSteps names old new status = AnswersTo Steps names old new status

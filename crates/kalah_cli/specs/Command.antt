@@ -82,11 +82,19 @@ values_app = answers_app (codes "values")
 abbrev pub ask_app : App
 ask_app = with_rule (with_rule (new_app (codes "ask")) values_rule) table_rule
 
+-- `steps [--workers N] [--progress] FILE..`
+abbrev pub steps_app : App
+steps_app = with_rule (with_rule (with_rule (new_app (codes "steps")) workers_rule) progress_rule) file_rule
+
 -- the program with no subcommand yet
 abbrev pub program_app : App
 program_app = on_top (λ s. record s { has_version = true; subcommand_required = true; disable_help_subcommand = true }) (new_app (codes "kalah"))
 
--- the program, which is always given one of the five subcommands
-abbrev pub kalah_app : App
-kalah_app =
+-- the program with the subcommands that search
+abbrev solvers_app : App
+solvers_app =
     with_subcommand (with_subcommand (with_subcommand (with_subcommand (with_subcommand program_app moves_app.top) play_app.top) solve_app.top) values_app.top) ask_app.top
+
+-- the program, which is always given one of its subcommands
+abbrev pub kalah_app : App
+kalah_app = with_subcommand solvers_app steps_app.top

@@ -10,7 +10,7 @@ use Rattle.clap.specs.declared.error.kind.ErrorKind.{ErrorKind}
 use Rattle.clap.specs.Values.{IsUnsignedIn}
 use Rattle.clap.specs.Words.{Row, Text, all_of, first_of, one_of, subcommand_of}
 use Rattle.kalah_jobs.specs.declared.files.question.Question.{Question}
-use Rattle.kalah_jobs.specs.declared.files.question.Question.TheVariants.{BestMove, Values}
+use Rattle.kalah_jobs.specs.declared.files.question.Question.TheVariants.{BestMove, Values, Steps}
 use Rattle.kalah_solve.specs.Table.{most_entries}
 use Rattle.kalah_run.specs.Limits.{most_workers}
 use Rattle.kalah_cli.specs.Command.{kalah_app}
@@ -36,6 +36,13 @@ pub data Asked : Type 0 where
 abbrev pub command_of : Question → Text
 command_of BestMove = codes "solve"
 command_of Values = codes "values"
+command_of Steps = codes "steps"
+
+-- how many entries the tables have where the words don't say so: steps need none, and the least is one
+abbrev pub table_of : Question → ℕ
+table_of BestMove = 65536
+table_of Values = 65536
+table_of Steps = 1
 
 -- the number that a text of digits writes
 abbrev pub number_written : Text → ℕ
@@ -54,10 +61,18 @@ abbrev pub play_asked : List Row → Option Asked
 play_asked rows = option_and_then (λ t. option_map (play (number_written t) (is_set (codes "boards") rows)) (first_of (codes "line") rows))
     (one_of (codes "table") rows)
 
+-- what the matches of a subcommand with files ask for, where tables have so many entries
+abbrev pub files_asked : Question → ℕ → List Row → Option Asked
+files_asked question table rows =
+    option_and_then (λ w. option_map (answers question (number_written w) table (is_set (codes "progress") rows)) (all_of (codes "file") rows)) (one_of (codes "workers") rows)
+
 -- what the matches of `solve` or `values` ask for
 abbrev pub answers_asked : Question → List Row → Option Asked
-answers_asked question rows = option_and_then (λ w. option_and_then (λ t. option_map (answers question (number_written w) (number_written t) (is_set (codes "progress") rows))
-    (all_of (codes "file") rows)) (one_of (codes "table") rows)) (one_of (codes "workers") rows)
+answers_asked question rows = option_and_then (λ t. files_asked question (number_written t) rows) (one_of (codes "table") rows)
+
+-- what the matches of `steps` ask for
+abbrev pub steps_asked : List Row → Option Asked
+steps_asked rows = files_asked Steps (table_of Steps) rows
 
 -- what is asked if the flag `--values` is set, and if it isn't
 abbrev pub question_of : Bool → Question
@@ -73,7 +88,8 @@ asked_by p =
     if bytes_eq p.0 (codes "moves") then moves_asked p.1
     else (if bytes_eq p.0 (codes "play") then play_asked p.1
     else (if bytes_eq p.0 (codes "solve") then answers_asked BestMove p.1
-    else (if bytes_eq p.0 (codes "values") then answers_asked Values p.1 else ask_asked p.1)))
+    else (if bytes_eq p.0 (codes "values") then answers_asked Values p.1
+    else (if bytes_eq p.0 (codes "ask") then ask_asked p.1 else steps_asked p.1))))
 
 -- what the arguments ask for, read by the command line
 abbrev pub asked : List Text → Option Asked
@@ -125,12 +141,16 @@ HasNumber id high rows = (t : Text) × (one_of id rows ≡ Some t) × IsUnsigned
 abbrev pub HasFlag : Text → List Row → Type 0
 HasFlag id rows = (t : Text) → one_of id rows ≡ Some t → (t ≡ codes "true") ⊎ (t ≡ codes "false")
 
--- the matches have what `solve` and `values` need
-pub record IsAnswers (rows : List Row) : Type 0 where
+-- the matches have what `steps` needs
+pub record IsSteps (rows : List Row) : Type 0 where
   pub workers : HasNumber (codes "workers") most_workers rows
-  pub table : HasNumber (codes "table") most_entries rows
   pub progress : HasFlag (codes "progress") rows
   pub files : (fs : List Text) × (all_of (codes "file") rows ≡ Some fs) × (0 < length fs)
+
+-- the matches have what `solve` and `values` need
+pub record IsAnswers (rows : List Row) : Type 0 where
+  pub table : HasNumber (codes "table") most_entries rows
+  pub others : IsSteps rows
 
 -- the matches have a line
 abbrev pub HasLineArgument : List Row → Type 0
@@ -153,6 +173,7 @@ abbrev pub HasWhatItNeeds : Text → List Row → Type 0
 HasWhatItNeeds name rows = ((name ≡ codes "moves") × IsMoves rows) ⊎ ((name ≡ codes "play") × IsPlay rows)
     ⊎ (((name ≡ codes "solve") ⊎ (name ≡ codes "values")) × IsAnswers rows)
     ⊎ ((name ≡ codes "ask") × IsAsk rows)
+    ⊎ ((name ≡ codes "steps") × IsSteps rows)
 
 -- a subcommand was met, and its matches have what it needs
 abbrev pub IsTaken : Option (Text × List Row) → Type 0

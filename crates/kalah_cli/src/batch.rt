@@ -1,4 +1,4 @@
-//! `kalah solve FILE..` and `kalah values FILE..`.
+//! `kalah solve FILE..`, `kalah values FILE..` and `kalah steps FILE..`.
 ghost use Rattle.std.specs.Prelude.{◌≡◌, ◌≢◌, ◌↔◌, Err, IfErr, IfOk, IsErrOf, OnOk, false, map, true};
 ghost use Rattle.std.specs.List.{list_any};
 ghost use Rattle.kalah_cli.specs.Request.{IsInLimits};

@@ -2,7 +2,7 @@
 ghost use Rattle.std.specs.Prelude.{◌≡◌, IfOk, false};
 ghost use Rattle.clap.specs.Words.{App, app_of, new_app, rule_of, with_rule, with_subcommand};
 ghost use Rattle.clap.specs.declared.builder.command.Command.TheViews.{out-Command as fields_of};
-ghost use Rattle.kalah_cli.specs.Command.{answers_app, ask_app, boards_rule, file_rule, flag_rule, kalah_app, line_rule, moves_app, number_rule, play_app, program_app, progress_rule, table_rule, values_rule, workers_rule};
+ghost use Rattle.kalah_cli.specs.Command.{answers_app, ask_app, boards_rule, file_rule, flag_rule, kalah_app, line_rule, moves_app, number_rule, play_app, program_app, progress_rule, steps_app, table_rule, values_rule, workers_rule};
 
 use crate::help;
 use crate::version::VERSION_LINE;
@@ -12,11 +12,15 @@ use kalah_run::MOST_WORKERS;
 use kalah_solve::MOST_ENTRIES;
 use std::alloc::{AllocError, Global};
 
-const ABOUT_SOLVE: &str = "Prints the best house and the margin of best play of each position";
+const ABOUT_SOLVE: &str =
+    "Prints the margin of best play and the best house of each position in files";
 
-const ABOUT_VALUES: &str = "Prints what each move of each position is worth";
+const ABOUT_VALUES: &str = "Prints what each move of each position in files is worth";
 
-// Makes a command of this name with nothing in it.
+const ABOUT_STEPS: &str =
+    "Prints each legal move of each position in files, and the position after it";
+
+// A command of this name, with nothing in it.
 fn named<'a>(alloc: Global, name: &'a str, about: &'a str) -> Command<'a>
     ensures app { app_of result ≡ new_app name.entry.now }
     ensures local { (fields_of result).has_globals ≡ false }
@@ -24,7 +28,7 @@ fn named<'a>(alloc: Global, name: &'a str, about: &'a str) -> Command<'a>
     Command::new(alloc, name).about(about)
 }
 
-// Makes a subcommand of this name with nothing in it. Its help ends in `long_help`.
+// A subcommand of this name, with nothing in it. Its help ends in this text.
 fn subcommand<'a>(alloc: Global, name: &'a str, about: &'a str, long_help: &'a str) -> Command<'a>
     ensures app { app_of result ≡ new_app name.entry.now }
     ensures local { (fields_of result).has_globals ≡ false }
@@ -34,7 +38,7 @@ fn subcommand<'a>(alloc: Global, name: &'a str, about: &'a str, long_help: &'a s
         .after_long_help(long_help)
 }
 
-// Adds an argument that belongs to this command only.
+// The command with one more argument, which is its own alone.
 fn with_arg<'a>(command: Command<'a>, arg: Arg<'a>) -> Result<Command<'a>, AllocError>
     requires arg { arg.global ≡ false }
     requires local { (fields_of command).has_globals ≡ false }
@@ -44,7 +48,7 @@ fn with_arg<'a>(command: Command<'a>, arg: Arg<'a>) -> Result<Command<'a>, Alloc
     command.arg(arg)
 }
 
-// The argument `LINE` of `moves` and `play`.
+// The line of `moves`.
 fn line_arg<'a>(alloc: Global) -> Arg<'a>
     ensures rule { rule_of result ≡ line_rule }
     ensures local { result.global ≡ false }
@@ -56,7 +60,7 @@ fn line_arg<'a>(alloc: Global) -> Arg<'a>
         .required(true)
 }
 
-// Makes a flag.
+// A flag.
 fn flag_arg<'a>(alloc: Global, name: &'a str, help: &'a str) -> Arg<'a>
     ensures rule { rule_of result ≡ flag_rule name.entry.now }
     ensures local { result.global ≡ false }
@@ -67,16 +71,16 @@ fn flag_arg<'a>(alloc: Global, name: &'a str, help: &'a str) -> Arg<'a>
         .action(ArgAction::SetTrue)
 }
 
-// The flag `--boards`.
+// Whether boards are drawn.
 fn boards_arg<'a>(alloc: Global) -> Arg<'a>
     ensures rule { rule_of result ≡ boards_rule }
     ensures local { result.global ≡ false }
 {
-    let help = "draws each position below its line";
+    let help = "draws each position below its line, the player to move at the bottom";
     flag_arg(alloc, "boards", help)
 }
 
-// The flag `--values`.
+// Whether the values of moves are asked for.
 fn values_arg<'a>(alloc: Global) -> Arg<'a>
     ensures rule { rule_of result ≡ values_rule }
     ensures local { result.global ≡ false }
@@ -84,7 +88,7 @@ fn values_arg<'a>(alloc: Global) -> Arg<'a>
     flag_arg(
         alloc,
         "values",
-        "prints what each move is worth, as `values`",
+        "tells what each move is worth, as `values`",
     )
 }
 
@@ -99,7 +103,7 @@ fn moves_command<'a>(alloc: Global) -> Result<Command<'a>, AllocError>
     with_arg(command, line_arg(alloc))
 }
 
-// Makes an option with a number from 1 to a maximum.
+// An option with a number from 1 to the most.
 fn number_arg<'a>(
     alloc: Global,
     name: &'a str,
@@ -119,21 +123,21 @@ fn number_arg<'a>(
         .default_value(default)
 }
 
-// The option `--workers`.
+// How many workers.
 fn workers_arg<'a>(alloc: Global) -> Arg<'a>
     ensures rule { rule_of result ≡ workers_rule }
     ensures local { result.global ≡ false }
 {
-    let help = "solves up to N lines in parallel, 1 to 64";
+    let help = "how many workers solve side by side, 1 to 64";
     number_arg(alloc, "workers", help, MOST_WORKERS, "4")
 }
 
-// The option `--table`.
+// How large the table of each worker is.
 fn table_arg<'a>(alloc: Global) -> Arg<'a>
     ensures rule { rule_of result ≡ table_rule }
     ensures local { result.global ≡ false }
 {
-    let help = "table entries of each worker, 1 to 1048576";
+    let help = "how many solved positions each worker remembers, 1 to 1048576";
     number_arg(alloc, "table", help, MOST_ENTRIES, "65536")
 }
 
@@ -149,7 +153,7 @@ fn play_command<'a>(alloc: Global) -> Result<Command<'a>, AllocError>
     with_arg(command, line_arg(alloc))
 }
 
-// The flag `--progress`.
+// Whether progress is shown.
 fn progress_arg<'a>(alloc: Global) -> Arg<'a>
     ensures rule { rule_of result ≡ progress_rule }
     ensures local { result.global ≡ false }
@@ -158,7 +162,7 @@ fn progress_arg<'a>(alloc: Global) -> Arg<'a>
     flag_arg(alloc, "progress", help)
 }
 
-// The files of `solve` and `values`.
+// The files of `solve`, `values` and `steps`.
 fn file_arg<'a>(alloc: Global) -> Arg<'a>
     ensures rule { rule_of result ≡ file_rule }
     ensures local { result.global ≡ false }
@@ -192,13 +196,25 @@ fn ask_command<'a>(alloc: Global) -> Result<Command<'a>, AllocError>
     ensures app { IfOk result (λ c. app_of c ≡ ask_app) }
     ensures local { IfOk result (λ c. (fields_of c).has_globals ≡ false) }
 {
-    let about = "Answers each line of standard input before it reads the next";
+    let about =
+        "Answers each line of the standard input before it reads on, as `solve` or `values`";
     let command = subcommand(alloc, "ask", about, help::LONG_OF_ASK);
     let command = with_arg(command, values_arg(alloc))?;
     with_arg(command, table_arg(alloc))
 }
 
-// Makes the program with no subcommand yet, though it needs one. If it is asked for its version, it says so; the line is
+// `steps [--workers N] [--progress] FILE..`.
+fn steps_command<'a>(alloc: Global) -> Result<Command<'a>, AllocError>
+    ensures app { IfOk result (λ c. app_of c ≡ steps_app) }
+    ensures local { IfOk result (λ c. (fields_of c).has_globals ≡ false) }
+{
+    let command = subcommand(alloc, "steps", ABOUT_STEPS, help::LONG_OF_STEPS);
+    let command = with_arg(command, workers_arg(alloc))?;
+    let command = with_arg(command, progress_arg(alloc))?;
+    with_arg(command, file_arg(alloc))
+}
+
+// The program with no subcommand yet, though it is to be given one. Where it is asked for its version it tells so: the line is
 // written by `refuse`.
 fn program<'a>(alloc: Global) -> Command<'a>
     ensures app { app_of result ≡ program_app }
@@ -213,7 +229,7 @@ fn program<'a>(alloc: Global) -> Command<'a>
         .disable_help_subcommand(true)
 }
 
-// Adds a subcommand, if there is memory for it.
+// The command with one more subcommand, where there is memory for it.
 fn with_command<'a>(
     command: Command<'a>,
     subcommand: Result<Command<'a>, AllocError>,
@@ -227,11 +243,11 @@ fn with_command<'a>(
     command.subcommand(subcommand?)
 }
 
-/// Returns the command line of the program: `moves [--boards] LINE`, `play [--table N] [--boards] LINE`,
-/// `solve [--workers N] [--table N] [--progress] FILE..`, `values` with the same arguments and
-/// `ask [--values] [--table N]`, with 1 to 64 workers, 4 by default, and 1 to 1,048,576 entries in the
-/// table of each, 65,536 by default. It needs one of the five, or a request for help or the version. It is
-/// complete: nothing is added to it before a parse.
+/// The command line of the program: `moves [--boards] LINE`, `play [--table N] [--boards] LINE`,
+/// `solve [--workers N] [--table N] [--progress] FILE..`, `values` with the same arguments,
+/// `ask [--values] [--table N]` and `steps [--workers N] [--progress] FILE..`, with 1 to 64 workers, 4 by
+/// default, and 1 to 1,048,576 entries in the table of each, 65,536 by default. One of these is asked for,
+/// or help, or the version. It is complete: nothing is added to it before a parse.
 pub fn command<'a>(alloc: Global) -> Result<Command<'a>, AllocError>
     ensures { IfOk result (λ c. app_of c ≡ kalah_app) }
 {
@@ -241,5 +257,6 @@ pub fn command<'a>(alloc: Global) -> Result<Command<'a>, AllocError>
     let command = with_command(command, solve)?;
     let values = answers_command(alloc, "values", ABOUT_VALUES, help::LONG_OF_VALUES);
     let command = with_command(command, values)?;
-    with_command(command, ask_command(alloc))
+    let command = with_command(command, ask_command(alloc))?;
+    with_command(command, steps_command(alloc))
 }

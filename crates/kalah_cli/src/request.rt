@@ -1,5 +1,5 @@
 //! The requests that a command line can make.
-ghost use Rattle.std.specs.Prelude.{◌≡◌, ℕ, All, List, [], ◌∷◌, IfErr, IfOk, MatchResult, Some, codes, false, map, option_and_then};
+ghost use Rattle.std.specs.Prelude.{◌≡◌, ℕ, All, List, [], ◌∷◌, IfErr, IfOk, MatchResult, Some, codes, false, map, option_and_then, ◌≤◌};
 ghost use Rattle.clap.specs.Faults.{fault_of};
 ghost use Rattle.clap.specs.Kinds.{FailsBy};
 ghost use Rattle.clap.specs.Simple.{subcommand_rows_of};
@@ -8,7 +8,7 @@ ghost use Rattle.clap.specs.Words.{found_of, kind_of};
 ghost use Rattle.clap.specs.declared.error.kind.ErrorKind.TheVariants.{OutOfMemory};
 ghost use Rattle.kalah_solve.specs.Table.{most_entries};
 ghost use Rattle.kalah_cli.specs.Command.{kalah_app};
-ghost use Rattle.kalah_cli.specs.Request.{Asked, HasFlag, HasLineArgument, HasNumber, IsAnswers, IsAsk, IsInRange, IsMoves, IsPlainWord, IsPlay, IsTaken, IsTakenAs, answers, answers_asked, ask_asked, asked_by, asked_for, command_of, is_set, moves, moves_asked, number_written, play_asked, question_of};
+ghost use Rattle.kalah_cli.specs.Request.{Asked, HasFlag, HasLineArgument, HasNumber, IsAnswers, IsAsk, IsInRange, IsMoves, IsPlainWord, IsPlay, IsSteps, IsTaken, IsTakenAs, answers, answers_asked, ask_asked, asked_by, asked_for, command_of, files_asked, is_set, moves, moves_asked, number_written, play_asked, question_of, table_of};
 
 use crate::command::command;
 use clap::{ArgMatches, Error};
@@ -104,7 +104,36 @@ fn play_request<'a>(found: &ArgMatches<'a>) -> Request<'a>
     }
 }
 
-// Returns the request of the matches of `solve` or `values`.
+// The entries of a table where steps are asked, which need none.
+const TABLE_OF_STEPS: u32 = 1;
+
+// What the matches of a subcommand with files ask for, where each worker has such a table.
+fn files_request<'a>(
+    alloc: Global,
+    question: Question,
+    table: u32,
+    found: &ArgMatches<'a>,
+) -> Result<Request<'a>, AllocError>
+    requires files { IsSteps (rows_of (found_of found.now)) }
+    requires low { 1 ≤ table }
+    requires high { table ≤ most_entries }
+    ensures asked { IfOk result
+        (λ r. files_asked question table (rows_of (found_of found.now)) ≡ Some (asked_for r)) }
+    ensures range { IfOk result IsInRange }
+{
+    let workers = option_number(found, "workers");
+    let progress = is_set(found, "progress");
+    let files = found.get_strs("file").unwrap().to_vec(alloc)?;
+    Ok(Request::Batch(Batch {
+        question,
+        workers,
+        table,
+        progress,
+        files,
+    }))
+}
+
+// What the matches of `solve` or `values` ask for.
 fn batch_request<'a>(
     alloc: Global,
     question: Question,
@@ -115,17 +144,8 @@ fn batch_request<'a>(
         (λ r. answers_asked question (rows_of (found_of found.now)) ≡ Some (asked_for r)) }
     ensures range { IfOk result IsInRange }
 {
-    let workers = option_number(found, "workers");
     let table = option_number(found, "table");
-    let progress = is_set(found, "progress");
-    let files = found.get_strs("file").unwrap().to_vec(alloc)?;
-    Ok(Request::Batch(Batch {
-        question,
-        workers,
-        table,
-        progress,
-        files,
-    }))
+    files_request(alloc, question, table, found)
 }
 
 // Returns the question with or without the flag `--values`.
@@ -170,8 +190,11 @@ fn requested<'a>(alloc: Global, matches: &ArgMatches<'a>) -> Result<Request<'a>,
     if let Some(found) = matches.subcommand_matches("values") {
         return batch_request(alloc, Question::Values, found);
     }
-    let found = matches.subcommand_matches("ask").unwrap();
-    Ok(ask_request(found))
+    if let Some(found) = matches.subcommand_matches("ask") {
+        return Ok(ask_request(found));
+    }
+    let found = matches.subcommand_matches("steps").unwrap();
+    files_request(alloc, Question::Steps, TABLE_OF_STEPS, found)
 }
 
 /// Parses the arguments, whose first is the program's name. Fails with the command line's own
@@ -190,10 +213,10 @@ pub(crate) fn parse<'a, S: AsStr>(alloc: Global, words: &'a [S]) -> Result<Reque
     ensures moves { (name line : List ℕ)
         → map S.text words.entry.now ≡ name ∷ codes "moves" ∷ line ∷ [] → IsPlainWord line
         → MatchResult result (λ r. asked_for r ≡ moves false line) (λ e. kind_of e ≡ OutOfMemory) }
-    // `solve` or `values` and one file or more whose names are no flags are always accepted, as this question for them.
+    // `solve`, `values` or `steps` and files, one at least, that are no flags are always taken, as asking this of them.
     ensures files { (question : Question) (name file : List ℕ) (files : List (List ℕ))
         → map S.text words.entry.now ≡ name ∷ command_of question ∷ file ∷ files → All IsPlainWord (file ∷ files)
-        → MatchResult result (λ r. asked_for r ≡ answers question 4 65536 false (file ∷ files)) (λ e. kind_of e ≡ OutOfMemory) }
+        → MatchResult result (λ r. asked_for r ≡ answers question 4 (table_of question) false (file ∷ files)) (λ e. kind_of e ≡ OutOfMemory) }
 {
     let matches = command(alloc)?.try_get_matches_from(words)?;
     Ok(requested(alloc, &matches)?)

@@ -12,7 +12,7 @@ ghost use Rattle.kalah_cli.specs.Moves.{moves_output};
 ghost use Rattle.kalah_cli.specs.Play.{PlaysBest};
 ghost use Rattle.kalah_cli.specs.Request.{Asked, AsksNot, IsInRange, IsPlainWord, IsRefused, IsTakenAs, IsVersionWord, ask, asked_for, texts_of};
 ghost use Rattle.kalah_cli.specs.Runs.{Begins, Does, IsOfLine, IsOfNoInput, IsUnread, version_line};
-ghost use Rattle.kalah_cli.specs.Batch.{AnswersFiles, TellsValues};
+ghost use Rattle.kalah_cli.specs.Batch.{AnswersFiles, TellsSteps, TellsValues};
 
 use crate::ask::run_ask;
 use crate::batch::run_batch;
@@ -132,9 +132,9 @@ fn run_request<R: Files + Input + StandardError + Threads + Wait + Sync, O: Sink
 
 /// Runs the program on its arguments; the first is always taken as the program's name. `moves LINE`
 /// prints the moves of a position, `play LINE` the game that best play leads to from it, `solve FILE..`
-/// answers each line of files, and `values FILE..` prints the value of each of their moves. `ask` answers each
-/// line of the standard input before it reads on. `--version` prints the version. Answers, help and the
-/// version go to `out`; failures and faults are reported on `err`. A failing write to `err` changes nothing.
+/// answers each line of files, `values FILE..` tells what each move of them is worth, and `steps FILE..` what it
+/// leads to. `ask` answers each line of the standard input before it reads on. `--version` prints which version this is. Answers, help and
+/// that go to `out`, and what fails or is not read is said on `err`; a failing write to `err` changes nothing.
 pub fn run_words<R: Files + Input + StandardError + Threads + Wait + Sync, O: Sink, E: Write>(
     rt: &R,
     alloc: Global,
@@ -166,6 +166,9 @@ pub fn run_words<R: Files + Input + StandardError + Threads + Wait + Sync, O: Si
         → result ≢ ExitStatus.Failed → AnswersFiles files (O.written out.old) (O.written out.new) result }
     ensures valued { (name : List ℕ) (files : List (List ℕ)) → texts_of words.items ≡ name ∷ codes "values" ∷ files → All IsPlainWord files
         → result ≢ ExitStatus.Failed → TellsValues files (O.written out.old) (O.written out.new) result }
+    // `steps`, and files whose names are no flags: so are their steps.
+    ensures stepped { (name : List ℕ) (files : List (List ℕ)) → texts_of words.items ≡ name ∷ codes "steps" ∷ files → All IsPlainWord files
+        → result ≢ ExitStatus.Failed → TellsSteps files (O.written out.old) (O.written out.new) result }
     // `ask`, or `ask --values`: of some bytes that were read, what is asked of their lines is written, if nothing fails.
     ensures asked { (name : List ℕ) → texts_of words.items ≡ name ∷ codes "ask" ∷ [] → result ≢ ExitStatus.Failed
         → AnswersLines BestMove (O.written out.old) (O.written out.new) result }

@@ -3,8 +3,11 @@ pub mod Lengths
 pub mod Utf8Texts
 pub mod JobOutput
 pub mod Starts
+pub mod StepLines
 pub mod Joined
 pub mod Pictures
 pub mod SplitFiles
+pub mod NumberTexts
+pub mod StepTexts
 pub mod AnswerTexts
 pub mod SmallAnswers

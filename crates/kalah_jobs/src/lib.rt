@@ -25,9 +25,7 @@ pub use files::file_text::FileText;
 pub use files::job::Job;
 pub use files::jobs::{Jobs, JobsFault};
 pub use files::question::Question;
-pub use limits::{
-    MOST_FILE_BYTES, MOST_FILES, MOST_LINE_BYTES, MOST_LINES, limits_of_reading,
-};
+pub use limits::{MOST_FILE_BYTES, MOST_FILES, MOST_LINE_BYTES, MOST_LINES, limits_of_reading};
 pub use line::line_fault::LineFault;
 pub use line::line_laws::{
     every_line_is_its_text, every_text_is_read_back, no_line_reads_twice,

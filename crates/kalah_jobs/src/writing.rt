@@ -7,5 +7,6 @@ pub(crate) mod printed;
 pub(crate) mod sink;
 pub(crate) mod splitting;
 pub(crate) mod stack_text;
+pub(crate) mod steps;
 pub(crate) mod stream;
 pub(crate) mod written;

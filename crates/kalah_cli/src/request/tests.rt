@@ -112,6 +112,14 @@ fn reads_solve_and_values(rt: HostRuntime) {
     assert_reads(&rt, "values", Question::Values);
 }
 
+#[test]
+fn reads_steps(rt: HostRuntime) {
+    let words = ["kalah", "steps", "a", "b"];
+    assert!(rt; asks(&rt, &words, Question::Steps, (4, 1), &["a", "b"]));
+    let words = ["k", "steps", "a", "--workers=64", "b", "--progress"];
+    assert!(rt; asks(&rt, &words, Question::Steps, (64, 1), &["a", "b"]));
+}
+
 // Arguments of `ask`, the question that they ask of each line, and the entries of the table.
 const ASKED: &[(&[&str], Question, u32)] = &[
     (&["kalah", "ask"], Question::BestMove, 65536),
@@ -149,6 +157,11 @@ const REFUSED: &[(&[&str], ErrorKind)] = &[
     (&["kalah"], ErrorKind::MissingSubcommand),
     (&["kalah", "stop"], ErrorKind::InvalidSubcommand),
     (&["kalah", "solve"], ErrorKind::MissingRequiredArgument),
+    (&["kalah", "steps"], ErrorKind::MissingRequiredArgument),
+    (
+        &["kalah", "steps", "--table", "1", "a"],
+        ErrorKind::UnknownArgument,
+    ),
     (&["kalah", "ask", "a"], ErrorKind::UnknownArgument),
     (&["kalah", "ask", "--values=1"], ErrorKind::TooManyValues),
     (&["kalah", "--help"], ErrorKind::DisplayHelp),

@@ -4,6 +4,7 @@ mod help;
 mod hostile;
 mod playing;
 mod solving;
+mod stepping;
 mod valuing;
 
 use super::run_words;

@@ -1,14 +1,20 @@
 -- What is answered, line by line.
-use Rattle.std.proofs.Common.{◌≡◌, ◌≢◌, ◌∙◌, ℕ, zero, suc, ◌+◌, ◌<◌, ◌≤◌, Bool, true, false, List, [], ◌∷◌, ◌++◌, length, take, inl, inr, refl, sym, ap, ap₂, arith, append-nil, append_assoc, Err, not, ◌||◌, ◌&&◌}
-use Rattle.std.specs.Prelude.{codes, decimal}
-use Rattle.std.specs.List.{flat_map, enumerate_from, list_any, onto_first}
+use Rattle.std.proofs.Common.{◌≡◌, ◌≢◌, ◌∙◌, ℕ, zero, suc, ◌+◌, ◌<◌, ◌≤◌, Bool, true, false, List, [], ◌∷◌, ◌++◌, length, take, inl, inr, refl, sym, ap, ap₂, arith, append-nil, append_assoc, map, Err, not, ◌||◌, ◌&&◌}
+use Rattle.std.specs.Prelude.{Result, Ok, if◌then◌else◌}
+use Rattle.std.specs.List.{flat_map, enumerate_from, join_with_byte, list_any, onto_first}
 use Rattle.std.proofs.lemmas.Bool.{cases_lt}
 use Rattle.std.proofs.lemmas.Grind.{flat_map-append}
 use Rattle.std.proofs.lemmas.List.{length-take-le, take_all}
 use Rattle.std.proofs.lemmas.List.Elements.{All-head, All-tail}
 use Rattle.std.proofs.lemmas.List.Folds.{list_any-append}
+use Rattle.kalah_rules.specs.Position as position
+use Rattle.kalah_rules.specs.Position.{is_over}
 use Rattle.kalah_jobs.specs.declared.files.question.Question.{Question}
-use Rattle.kalah_jobs.specs.Asking.Asked.{kept_bytes, told, told_last, is_last_read, answers_to, are_all_read, place_words, AnswersAreThoseOfAFile}
+use Rattle.kalah_jobs.specs.declared.files.question.Question.TheVariants.{BestMove, Values, Steps}
+use Rattle.kalah_jobs.specs.declared.writing.answer.Answer.{Answer}
+use Rattle.kalah_jobs.specs.declared.writing.answer.Answer.TheVariants as answer
+use Rattle.kalah_jobs.specs.declared.line.line_fault.LineFault.{LineFault}
+use Rattle.kalah_jobs.specs.Asking.Asked.{kept_bytes, told, told_last, is_last_read, answers_to, are_all_read, texts_told, AnswersAreThoseOfAFile}
 use Rattle.kalah_jobs.specs.Files.Entry.{entry_of, entry_of_reading}
 use Rattle.kalah_jobs.specs.declared.files.entry.Entry.TheVariants.{Bad}
 use Rattle.kalah_jobs.specs.Files.Lines.{line_feed, lines_of, HasNoLineFeed}
@@ -17,7 +23,7 @@ use Rattle.kalah_jobs.specs.Limits.{most_bytes}
 use Rattle.kalah_jobs.specs.Line.Line.{without_cr}
 use Rattle.kalah_jobs.specs.Line.Reading.{reading_of}
 use Rattle.kalah_jobs.specs.declared.line.line_fault.LineFault.TheVariants.{Long}
-use Rattle.kalah_jobs.specs.Writing.Answer.{answer_of, answer_words, is_fault}
+use Rattle.kalah_jobs.specs.Writing.Answer.{answer_of, answer_texts, answer_words, is_fault, place_words, IsOfOneLine}
 use Rattle.kalah_jobs.specs.Writing.Output.{is_faulty, line_output}
 use Rattle.kalah_jobs.specs.Writing.Splitting.{EndsWithItsLine}
 use Rattle.kalah_jobs.proofs.OfFiles.SplitLines.{lines_of-byte}
@@ -151,28 +157,53 @@ last_read lines (byte ∷ piece) ends none =
 
 -- ---- the law
 
--- an answer line is the place, and then the answer
-line_parts : (question : Question) (name : List ℕ) (number : ℕ) (line : List ℕ) →
-    line_output question name (number, line) ≡ place_words name number ++ told question line
-line_parts question name number line =
-    let digits = decimal (number + 1) in
-    let words = answer_words (answer_of (entry_to question line)) in
-    append_assoc name (codes ":" ++ (digits ++ (codes " " ++ words))) (line_feed ∷ [])
-    ∙ ap (λ l. name ++ (codes ":" ++ l)) (append_assoc digits (codes " " ++ words) (line_feed ∷ []))
-    ∙ ap (λ l. name ++ (codes ":" ++ l)) (sym (append_assoc digits (codes " ") (words ++ line_feed ∷ [])))
-    ∙ sym (append_assoc name (codes ":" ++ (digits ++ codes " ")) (words ++ line_feed ∷ []))
+-- an answer of one line has one text
+pub one_text : (a : Answer) → IsOfOneLine a → answer_texts a ≡ answer_words a ∷ []
+one_text (answer.Best margin house) one = refl
+one_text (answer.Over margin) one = refl
+one_text (answer.Values values) one = refl
+one_text (answer.Steps p) one = absurd one
+one_text (answer.Fault fault) one = refl
 
-lines_parts : (question : Question) (name : List ℕ) (number : ℕ) (lines : List (List ℕ)) →
+one_of_two : (over : Bool) (a b : Answer) → IsOfOneLine a → IsOfOneLine b → IsOfOneLine (if over then a else b)
+one_of_two true a b one other = one
+one_of_two false a b one other = other
+
+-- where no steps are asked an answer is of one line
+one_line_read : (question : Question) → question ≢ Steps → (r : Result position.Position LineFault) → IsOfOneLine (answer_of (entry_asked question (entry_of_reading r)))
+unfolding answer_of
+one_line_read BestMove other (Ok p) = one_of_two (is_over p) _ _ tt tt
+one_line_read BestMove other (Err fault) = tt
+one_line_read Values other (Ok p) = one_of_two (is_over p) _ _ tt tt
+one_line_read Values other (Err fault) = tt
+one_line_read Steps other r = absurd (other refl)
+
+one_line_asked : (question : Question) → question ≢ Steps → (line : List ℕ) → IsOfOneLine (answer_of (entry_to question line))
+unfolding entry_of
+one_line_asked question other line = one_line_read question other (reading_of line)
+
+-- so its answer line is the place, and then the answer
+line_parts : (question : Question) → question ≢ Steps → (name : List ℕ) (number : ℕ) (line : List ℕ) →
+    line_output question name (number, line) ≡ place_words name number ++ told question line
+line_parts question other name number line =
+    let place = place_words name number in
+    let answer = answer_of (entry_to question line) in
+    ap (λ (texts : List (List ℕ)). join_with_byte line_feed (map (λ text. place ++ text) texts) ++ line_feed ∷ []) (one_text answer (one_line_asked question other line))
+    ∙ append_assoc place (answer_words answer) (line_feed ∷ [])
+
+lines_parts : (question : Question) → question ≢ Steps → (name : List ℕ) (number : ℕ) (lines : List (List ℕ)) →
     flat_map (line_output question name) (enumerate_from number lines)
     ≡ flat_map (λ p. place_words name p.0 ++ told question p.1) (enumerate_from number lines)
-lines_parts question name number [] = refl
-lines_parts question name number (line ∷ lines) =
-    ap₂ (λ (l m : List ℕ). l ++ m) (line_parts question name number line) (lines_parts question name (number + 1) lines)
+lines_parts question other name number [] = refl
+lines_parts question other name number (line ∷ lines) =
+    ap₂ (λ (l m : List ℕ). l ++ m) (line_parts question other name number line) (lines_parts question other name (number + 1) lines)
 
 pub answers_are_those_of_a_file : AnswersAreThoseOfAFile
 answers_are_those_of_a_file = record {
   lines = line_parts;
-  file = λ question file.
-      files_split_between_lines.whole question file ∙ lines_parts question file.name 0 (lines_of file.bytes);
+  file = λ question other file.
+      files_split_between_lines.whole question file ∙ lines_parts question other file.name 0 (lines_of file.bytes);
+  texts = λ question line. refl;
+  placed = λ question name number line. refl;
   parts = answers_split;
 }

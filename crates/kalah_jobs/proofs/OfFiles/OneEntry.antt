@@ -4,7 +4,7 @@ use Rattle.kalah_rules.specs.Position as position
 use Rattle.kalah_jobs.specs.Line.Reading.{reading_of}
 use Rattle.kalah_jobs.specs.declared.line.line_fault.LineFault.{LineFault}
 use Rattle.kalah_jobs.specs.declared.files.entry.Entry.{Entry}
-use Rattle.kalah_jobs.specs.declared.files.entry.Entry.TheVariants.{Position, ValuesOf, Bad}
+use Rattle.kalah_jobs.specs.declared.files.entry.Entry.TheVariants.{Position, ValuesOf, StepsOf, Bad}
 use Rattle.kalah_jobs.specs.Files.Entry.{Says, entry_of_reading, entry_of, EntriesAreOne}
 use Rattle.kalah_jobs.proofs.OfLine.Readings.{reads_is_reading, fault_is_reading, reading_reads, reading_has_fault}
 
@@ -20,6 +20,7 @@ says_once : (line : List ℕ) (entry : Entry) → Says line entry → entry ≡ 
 unfolding entry_of
 says_once line (Position p) is = ap entry_of_reading (sym (reads_is_reading line p is))
 says_once line (ValuesOf p) is = absurd is
+says_once line (StepsOf p) is = absurd is
 says_once line (Bad fault) is = ap entry_of_reading (sym (fault_is_reading line fault is))
 
 pub entries_are_one : EntriesAreOne

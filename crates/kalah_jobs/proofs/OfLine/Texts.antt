@@ -53,7 +53,7 @@ abbrev pub AllShort : List ℕ → Type 0
 AllShort [] = Unit {0}
 AllShort (n ∷ ns) = (n ≤ 99) × AllShort ns
 
-short_from_sum : (houses : List ℕ) → sum houses ≤ 99 → AllShort houses
+pub short_from_sum : (houses : List ℕ) → sum houses ≤ 99 → AllShort houses
 short_from_sum [] few = tt
 short_from_sum (n ∷ houses) few =
     let total : sum (n ∷ houses) ≡ n + sum houses = sum_by-cons (λ x. x) n houses in

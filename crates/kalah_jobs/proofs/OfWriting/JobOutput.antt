@@ -14,9 +14,9 @@ use Rattle.kalah_jobs.specs.Files.Lines.{line_feed, lines_of}
 use Rattle.kalah_jobs.specs.Files.Entry.{entry_of}
 use Rattle.kalah_jobs.specs.Files.Question.{entry_asked, entry_to}
 use Rattle.kalah_jobs.specs.declared.files.question.Question.{Question}
-use Rattle.kalah_jobs.specs.declared.files.question.Question.TheVariants.{BestMove, Values}
+use Rattle.kalah_jobs.specs.declared.files.question.Question.TheVariants.{BestMove, Values, Steps}
 use Rattle.kalah_jobs.specs.declared.files.entry.Entry.{Entry}
-use Rattle.kalah_jobs.specs.declared.files.entry.Entry.TheVariants.{Position, ValuesOf, Bad}
+use Rattle.kalah_jobs.specs.declared.files.entry.Entry.TheVariants.{Position, ValuesOf, StepsOf, Bad}
 use Rattle.kalah_jobs.specs.Writing.Answer.{answer_of, answer_line, is_fault}
 use Rattle.kalah_jobs.specs.Files.JobList.{line_job, file_jobs, jobs_from, job_list}
 use Rattle.kalah_jobs.specs.Files.Jobs.{entries_to, jobs_to}
@@ -77,7 +77,18 @@ asked_fault Values (Position p) =
     no_fault (is_over p) (answer.Over (final_margin p)) (answer.Values (values_of p)) refl refl
     ∙ sym (no_fault (is_over p) (answer.Over (final_margin p)) (answer.Best (worth p) (best_house p)) refl refl)
 asked_fault Values (ValuesOf p) = refl
+asked_fault Values (StepsOf p) =
+    no_fault (is_over p) (answer.Over (final_margin p)) (answer.Values (values_of p)) refl refl
+    ∙ sym (no_fault (is_over p) (answer.Over (final_margin p)) (answer.Steps p) refl refl)
 asked_fault Values (Bad fault) = refl
+asked_fault Steps (Position p) =
+    no_fault (is_over p) (answer.Over (final_margin p)) (answer.Steps p) refl refl
+    ∙ sym (no_fault (is_over p) (answer.Over (final_margin p)) (answer.Best (worth p) (best_house p)) refl refl)
+asked_fault Steps (ValuesOf p) =
+    no_fault (is_over p) (answer.Over (final_margin p)) (answer.Steps p) refl refl
+    ∙ sym (no_fault (is_over p) (answer.Over (final_margin p)) (answer.Values (values_of p)) refl refl)
+asked_fault Steps (StepsOf p) = refl
+asked_fault Steps (Bad fault) = refl
 
 faults_of_lines : (question : Question) (f k : ℕ) (lines : List (List ℕ)) → count_by is_faulty_job (file_jobs f k (map (entry_to question) lines)) ≡ count_by is_faulty lines
 faults_of_lines question f k [] = refl

@@ -14,10 +14,10 @@ use Rattle.kalah_solve.proofs.SmallMargins.{final_margin_small, worth_small, val
 use Rattle.kalah_jobs.specs.declared.writing.answer.Answer.{Answer}
 use Rattle.kalah_jobs.specs.declared.writing.answer.Answer.TheVariants as answer
 use Rattle.kalah_jobs.specs.declared.writing.answer.Answer.TheVariants.{Best, Over}
-use Rattle.kalah_jobs.specs.declared.files.entry.Entry.TheVariants.{Position, ValuesOf}
+use Rattle.kalah_jobs.specs.declared.files.entry.Entry.TheVariants.{Position, ValuesOf, StepsOf}
 use Rattle.kalah_jobs.specs.declared.line.line_fault.LineFault.{LineFault}
 use Rattle.kalah_jobs.specs.declared.files.question.Question.{Question}
-use Rattle.kalah_jobs.specs.declared.files.question.Question.TheVariants.{BestMove, Values}
+use Rattle.kalah_jobs.specs.declared.files.question.Question.TheVariants.{BestMove, Values, Steps}
 use Rattle.kalah_jobs.specs.Writing.Answer.{answer_of, answer_line}
 use Rattle.kalah_jobs.specs.Files.Entry.{entry_of_reading, entry_of}
 use Rattle.kalah_jobs.specs.Line.Line.{Reads}
@@ -56,6 +56,12 @@ small_values p limits = small_by_case (is_over p) (Over (final_margin p)) (answe
     (λ over. final_margin_small p limits)
     (λ going. small_moves p limits)
 
+small_steps : (p : position.Position) → IsWithinLimits p → HasSmallNumbers (answer_of (StepsOf p))
+unfolding answer_of
+small_steps p limits = small_by_case (is_over p) (Over (final_margin p)) (answer.Steps p)
+    (λ over. final_margin_small p limits)
+    (λ going. (limits, going))
+
 -- ---- lines
 
 -- a position that is read is within the limits
@@ -80,15 +86,17 @@ small_reading : (question : Question) (r : Result position.Position LineFault) �
 unfolding answer_of
 small_reading BestMove (Ok p) limits = small_best_move p limits
 small_reading Values (Ok p) limits = small_values p limits
+small_reading Steps (Ok p) limits = small_steps p limits
 small_reading BestMove (Err fault) limits = tt
 small_reading Values (Err fault) limits = tt
+small_reading Steps (Err fault) limits = tt
 
 small_line : (question : Question) (line : List ℕ) → HasSmallNumbers (answer_of (entry_to question line))
 unfolding entry_of
 small_line question line = small_reading question (reading_of line) (reading_within line (reading_of line) refl)
 
 pub answers_have_small_numbers : AnswersHaveSmallNumbers
-answers_have_small_numbers = record { lines = small_line; best_moves = small_best_move; values = small_values }
+answers_have_small_numbers = record { lines = small_line; best_moves = small_best_move; values = small_values; steps = small_steps }
 
 -- ---- what is written
 

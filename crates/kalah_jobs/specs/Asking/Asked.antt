@@ -1,14 +1,15 @@
 -- What is written where lines come one after another, and each is answered. A reader is seen as the bytes that it has left, and a
 -- sink as those that were written to it, before and after, where these are known.
-use Rattle.std.specs.Prelude.{◌≡◌, ℕ, ◌+◌, ◌≤◌, List, [], ◌∷◌, ◌++◌, Bool, true, not, IfSome, Option, None, Some, length, take, codes, decimal}
-use Rattle.std.specs.List.{flat_map, enumerate_from, list_any}
+use Rattle.std.specs.Prelude.{◌≡◌, ◌≢◌, ℕ, ◌+◌, ◌≤◌, List, [], ◌∷◌, ◌++◌, Bool, true, not, IfSome, Option, None, Some, length, take, map}
+use Rattle.std.specs.List.{flat_map, enumerate_from, join_with_byte, list_any}
 use Rattle.std.specs.Io.KnownBytes.{Appends, Consumes}
 use Rattle.kalah_jobs.specs.declared.files.question.Question.{Question}
+use Rattle.kalah_jobs.specs.declared.files.question.Question.TheVariants.{Steps}
 use Rattle.kalah_jobs.specs.Limits.{most_bytes}
 use Rattle.kalah_jobs.specs.Files.Lines.{line_feed, lines_of, HasNoLineFeed}
 use Rattle.kalah_jobs.specs.Files.NamedBytes.{NamedBytes}
 use Rattle.kalah_jobs.specs.Files.Question.{entry_to}
-use Rattle.kalah_jobs.specs.Writing.Answer.{answer_of, answer_words}
+use Rattle.kalah_jobs.specs.Writing.Answer.{answer_of, answer_texts, answer_words, place_words}
 use Rattle.kalah_jobs.specs.Writing.Output.{is_faulty, output_to, line_output}
 use Rattle.kalah_jobs.specs.Writing.Splitting.{EndsWithItsLine}
 
@@ -70,16 +71,20 @@ pub record IsBegun (question : Question) (before after old new : Option (List �
   pub count : ℕ
   pub written : Appends old new (answers_to question lines ++ take count (answers_to question last))
 
--- what stands before the answer in the answer line of a line, given with its number, which counts from 0: `NAME:LINE `
-abbrev pub place_words : List ℕ → ℕ → List ℕ
-place_words name number = name ++ (codes ":" ++ (decimal (number + 1) ++ codes " "))
+-- the texts of the answer to a line
+abbrev pub texts_told : Question → List ℕ → List (List ℕ)
+texts_told question line = answer_texts (answer_of (entry_to question line))
 
 -- What is written for lines that are asked of is what is written for a file with these bytes, but for what stands before each
--- answer; and what begins with whole lines is answered as they are, and then as the rest is.
+-- answer, or before each of its texts where steps are asked; and what begins with whole lines is answered as they are, and then
+-- as the rest is.
 pub record AnswersAreThoseOfAFile : Type 0 where
-  pub lines : (question : Question) (name : List ℕ) (number : ℕ) (line : List ℕ) →
+  pub lines : (question : Question) → question ≢ Steps → (name : List ℕ) (number : ℕ) (line : List ℕ) →
       line_output question name (number, line) ≡ place_words name number ++ told question line
-  pub file : (question : Question) (file : NamedBytes) →
+  pub file : (question : Question) → question ≢ Steps → (file : NamedBytes) →
       output_to question (file ∷ []) ≡ flat_map (λ p. place_words file.name p.0 ++ told question p.1) (enumerate_from 0 (lines_of file.bytes))
+  pub texts : (question : Question) (line : List ℕ) → told question line ≡ join_with_byte line_feed (texts_told question line) ++ line_feed ∷ []
+  pub placed : (question : Question) (name : List ℕ) (number : ℕ) (line : List ℕ) → line_output question name (number, line)
+      ≡ join_with_byte line_feed (map (λ text. place_words name number ++ text) (texts_told question line)) ++ line_feed ∷ []
   pub parts : (question : Question) (lines more : List ℕ) → EndsWithItsLine lines →
       answers_to question (lines ++ more) ≡ answers_to question lines ++ answers_to question more

@@ -5,13 +5,14 @@ use Rattle.kalah_jobs.specs.Line.Line.{Reads, HasFault}
 use Rattle.kalah_jobs.specs.Line.Reading.{reading_of}
 use Rattle.kalah_jobs.specs.declared.line.line_fault.LineFault.{LineFault}
 use Rattle.kalah_jobs.specs.declared.files.entry.Entry.{Entry}
-use Rattle.kalah_jobs.specs.declared.files.entry.Entry.TheVariants.{Position, ValuesOf, Bad}
+use Rattle.kalah_jobs.specs.declared.files.entry.Entry.TheVariants.{Position, ValuesOf, StepsOf, Bad}
 
 -- the content of the line: it is read as the position, or the fault is the first that holds of it. A question is no part
 -- of a line
 abbrev pub Says : List ℕ → Entry → Type 0
 Says line (Position p) = Reads line p
 Says line (ValuesOf p) = ⊥
+Says line (StepsOf p) = ⊥
 Says line (Bad fault) = HasFault line fault
 
 -- the position that was read, or the fault that was found

@@ -1,18 +1,21 @@
 -- The answer to a line, and how it is printed.
-use Rattle.std.specs.Prelude.{ℕ, ◌+◌, List, ◌++◌, map, if◌then◌else◌, Bool, true, false, codes, decimal}
+use Rattle.std.specs.Prelude.{ℕ, ◌+◌, List, [], ◌∷◌, ◌++◌, map, if◌then◌else◌, Bool, true, false, codes, decimal, ⊤}
 use Rattle.std.specs.Fmt.{signed_decimal}
 use Rattle.std.specs.List.{join_with_byte}
+use Rattle.kalah_rules.specs.Play.{legal_houses, step_of}
 use Rattle.kalah_rules.specs.Position as position
 use Rattle.kalah_rules.specs.Position.{is_over, final_margin}
+use Rattle.kalah_rules.specs.declared.step.Step.{Step}
 use Rattle.kalah_solve.specs.Worth.{worth, best_house}
 use Rattle.kalah_solve.specs.MoveValues.{values_of}
 use Rattle.kalah_solve.specs.declared.move_values.MoveValue.{MoveValue}
-use Rattle.kalah_jobs.specs.Line.Line.{space}
+use Rattle.kalah_jobs.specs.Files.Lines.{line_feed}
+use Rattle.kalah_jobs.specs.Line.Line.{space, step_text_of}
 use Rattle.kalah_jobs.specs.Line.LineFault.{word_of}
 use Rattle.kalah_jobs.specs.declared.files.entry.Entry.{Entry}
-use Rattle.kalah_jobs.specs.declared.files.entry.Entry.TheVariants.{Position, ValuesOf, Bad}
+use Rattle.kalah_jobs.specs.declared.files.entry.Entry.TheVariants.{Position, ValuesOf, StepsOf, Bad}
 use Rattle.kalah_jobs.specs.declared.writing.answer.Answer.{Answer}
-use Rattle.kalah_jobs.specs.declared.writing.answer.Answer.TheVariants.{Best, Over, Values, Fault}
+use Rattle.kalah_jobs.specs.declared.writing.answer.Answer.TheVariants.{Best, Over, Values, Steps, Fault}
 use Rattle.kalah_jobs.specs.declared.writing.answer.Taken.{Taken}
 
 -- the final margin of a game that is over, and else the margin of best play and the lowest house that attains it
@@ -23,10 +26,15 @@ answer_of_position p = if is_over p then Over (final_margin p) else Best (worth 
 abbrev pub answer_of_values : position.Position → Answer
 answer_of_values p = if is_over p then Over (final_margin p) else Values (values_of p)
 
+-- the final margin of a game that is over, and else the steps of the position
+abbrev pub answer_of_steps : position.Position → Answer
+answer_of_steps p = if is_over p then Over (final_margin p) else Steps p
+
 -- the answer to what a line says, and is asked
 unfoldable pub answer_of : Entry → Answer
 answer_of (Position p) = answer_of_position p
 answer_of (ValuesOf p) = answer_of_values p
+answer_of (StepsOf p) = answer_of_steps p
 answer_of (Bad fault) = Fault fault
 
 -- the line was not read
@@ -34,6 +42,7 @@ abbrev pub is_fault : Answer → Bool
 is_fault (Best margin house) = false
 is_fault (Over margin) = false
 is_fault (Values values) = false
+is_fault (Steps p) = false
 is_fault (Fault fault) = true
 
 -- `H:V`
@@ -44,13 +53,35 @@ value_words v = decimal v.house ++ (codes ":" ++ signed_decimal v.value)
 abbrev pub values_words : List MoveValue → List ℕ
 values_words values = join_with_byte space (map value_words values)
 
--- `MARGIN house H`, `MARGIN over`, `H:V H:V ..` or `fault WORD`
-abbrev pub answer_words : Answer → List ℕ
-answer_words (Best margin house) = signed_decimal margin ++ (codes " house " ++ decimal house)
-answer_words (Over margin) = signed_decimal margin ++ codes " over"
-answer_words (Values values) = values_words values
-answer_words (Fault fault) = codes "fault " ++ word_of fault
+-- `H POSITION again`, `H POSITION turn` or `H POSITION over` for each legal house, rising
+abbrev pub steps_texts : position.Position → List (List ℕ)
+steps_texts p = map (λ h. step_text_of h (step_of p h)) (legal_houses p)
 
--- `NAME:LINE ANSWER`, where lines count from 1
+-- the texts of an answer, each of which has a line of its own: those of steps, and else one, `MARGIN house H`, `MARGIN over`,
+-- `H:V H:V ..` or `fault WORD`
+abbrev pub answer_texts : Answer → List (List ℕ)
+answer_texts (Best margin house) = (signed_decimal margin ++ (codes " house " ++ decimal house)) ∷ []
+answer_texts (Over margin) = (signed_decimal margin ++ codes " over") ∷ []
+answer_texts (Values values) = values_words values ∷ []
+answer_texts (Steps p) = steps_texts p
+answer_texts (Fault fault) = (codes "fault " ++ word_of fault) ∷ []
+
+-- the answer isn't of steps, so that it has one text
+abbrev pub IsOfOneLine : Answer → Type 0
+IsOfOneLine (Best margin house) = ⊤
+IsOfOneLine (Over margin) = ⊤
+IsOfOneLine (Values values) = ⊤
+IsOfOneLine (Steps p) = ⊥
+IsOfOneLine (Fault fault) = ⊤
+
+-- the texts with a line feed between any two
+abbrev pub answer_words : Answer → List ℕ
+answer_words answer = join_with_byte line_feed (answer_texts answer)
+
+-- what stands before each text in the line that has it, of a line given with its number, which counts from 0: `NAME:LINE `
+abbrev pub place_words : List ℕ → ℕ → List ℕ
+place_words name number = name ++ (codes ":" ++ (decimal (number + 1) ++ codes " "))
+
+-- `NAME:LINE TEXT`, where lines count from 1, for each text of the answer, with a line feed between any two
 abbrev pub answer_line : List ℕ → Taken → List ℕ
-answer_line name taken = name ++ (codes ":" ++ (decimal (taken.line + 1) ++ (codes " " ++ answer_words taken.answer)))
+answer_line name taken = join_with_byte line_feed (map (λ text. place_words name taken.line ++ text) (answer_texts taken.answer))

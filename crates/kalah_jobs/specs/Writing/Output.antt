@@ -12,9 +12,9 @@ use Rattle.kalah_jobs.specs.Files.JobList.{job_list}
 use Rattle.kalah_jobs.specs.Files.Question.{entry_to}
 use Rattle.kalah_jobs.specs.Files.Jobs.{jobs_to}
 use Rattle.kalah_jobs.specs.declared.files.question.Question.{Question}
-use Rattle.kalah_jobs.specs.declared.files.question.Question.TheVariants.{BestMove, Values}
+use Rattle.kalah_jobs.specs.declared.files.question.Question.TheVariants.{BestMove, Values, Steps}
 
--- the answer line of a line with this entry, followed by a line feed; the number counts from 0
+-- the answer line of a line with this entry, or its lines, each followed by a line feed; the number counts from 0
 abbrev pub answered : List ℕ → ℕ → Entry → List ℕ
 answered name number entry = answer_line name (record { line = number; answer = answer_of entry }) ++ line_feed ∷ []
 
@@ -37,6 +37,10 @@ output_of files = output_to BestMove files
 -- if the values of its moves are asked
 abbrev pub values_output_of : List NamedBytes → List ℕ
 values_output_of files = output_to Values files
+
+-- where the steps of its moves are asked
+abbrev pub steps_output_of : List NamedBytes → List ℕ
+steps_output_of files = output_to Steps files
 
 -- the line is answered by a fault, whatever is asked
 abbrev pub is_faulty : List ℕ → Bool

@@ -13,8 +13,8 @@ use crate::collecting::outcome::Outcome;
 use crate::files::entry::Entry;
 use crate::files::question::Question;
 use crate::writing::answer::Answer;
-use crate::writing::ending::words_of;
 use crate::writing::sink::Sink;
+use crate::writing::written::write_words;
 use kalah_solve::Solver;
 
 // The most seeds in houses of a position that is solved before earlier answers are flushed.
@@ -24,7 +24,7 @@ const FEW_SEEDS: u8 = 9;
 fn takes_long(entry: &Entry) -> bool {
     match entry {
         Entry::Position(board) | Entry::ValuesOf(board) => board.houses().seeds() > FEW_SEEDS,
-        Entry::Bad(_) => false,
+        Entry::StepsOf(_) | Entry::Bad(_) => false,
     }
 }
 
@@ -55,7 +55,7 @@ pub(crate) fn tell<O: Sink>(
         hand_on(out)?;
     }
     let answer = Outcome::of(0, 0, entry, solver).answer();
-    match out.write_all(words_of(&answer, "\n").bytes()) {
+    match write_words(out, &answer) {
         Ok(()) => Ok(is_read(&answer)),
         Err(_) => Err(AskFault::Write),
     }

@@ -47,10 +47,11 @@ impl Outcome {
                 Verdict::Best { margin, house } => Answer::Best { margin, house },
                 Verdict::Over { margin } => Answer::Over { margin },
             },
-            Entry::ValuesOf(board) if board.is_over() => Answer::Over {
+            Entry::ValuesOf(board) | Entry::StepsOf(board) if board.is_over() => Answer::Over {
                 margin: board.returns(),
             },
             Entry::ValuesOf(board) => Answer::Values(solver.values(board)),
+            Entry::StepsOf(board) => Answer::Steps(*board),
             Entry::Bad(fault) => Answer::Fault(*fault),
         };
         Outcome {

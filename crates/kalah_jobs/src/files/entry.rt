@@ -14,6 +14,8 @@ pub enum Entry {
     Position(Board),
     /// The position that the line writes; the value of each of its moves is asked.
     ValuesOf(Board),
+    /// The position that the line writes, and the steps of its moves are asked.
+    StepsOf(Board),
     /// Why the line is not read.
     Bad(LineFault),
 }
@@ -27,6 +29,7 @@ impl Entry {
         match (read_line(line), question) {
             (Ok(board), Question::BestMove) => Entry::Position(board),
             (Ok(board), Question::Values) => Entry::ValuesOf(board),
+            (Ok(board), Question::Steps) => Entry::StepsOf(board),
             (Err(fault), _) => Entry::Bad(fault),
         }
     }

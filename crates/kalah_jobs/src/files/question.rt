@@ -7,6 +7,8 @@ pub enum Question {
     BestMove,
     /// Each legal house, with the margin that its move gets in best play.
     Values,
+    /// Each legal house, with what its move leads to. This takes no search.
+    Steps,
 }
 
 #[cfg(test)]

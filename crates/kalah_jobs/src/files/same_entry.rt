@@ -11,6 +11,7 @@ pub(crate) fn is_same_entry(a: &Entry, b: &Entry) -> bool
     match (a, b) {
         (Entry::Position(p), Entry::Position(q)) => is_same_board(p, q),
         (Entry::ValuesOf(p), Entry::ValuesOf(q)) => is_same_board(p, q),
+        (Entry::StepsOf(p), Entry::StepsOf(q)) => is_same_board(p, q),
         (Entry::Bad(x), Entry::Bad(y)) => x == y,
         _ => false,
     }

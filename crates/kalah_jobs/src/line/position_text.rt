@@ -94,7 +94,8 @@ fn parts_of_step(step: &Step) -> (&Board, &'static str)
 #[tactic(auto, unfolding(crate::specs::Line::Line::step_text_of), using(crate::proofs::OfWriting::Lengths::byte_length))]
 fn put_step(text: &mut StackText, h: u8, step: &Step)
     requires { length text.old ≤ 1 }
-    ensures { text.new ≡ step_text_of h step.now ++ text.old }
+    ensures step { text.new ≡ step_text_of h step.now ++ text.old }
+    ensures short { length text.new ≤ 68 }
 {
     let (board, word) = parts_of_step(step);
     text.put(word);
@@ -104,14 +105,24 @@ fn put_step(text: &mut StackText, h: u8, step: &Step)
     text.put_number(u64::from(h));
 }
 
+// The text of a move, and then the end.
+pub(crate) fn text_of_step(h: u8, step: &Step, end: &str) -> StackText
+    requires { length end.now ≤ 1 }
+    ensures text { result ≡ step_text_of h step.now ++ end.now }
+    ensures short { length result ≤ 68 }
+{
+    let mut text = StackText::new();
+    text.put(end);
+    put_step(&mut text, h, step);
+    text
+}
+
 /// The text of a move: the house, the board after it and `again`, `turn` or `over`, as `1 1,1/0 0,2/0 turn`. The board is
 /// written as by `line_text`, with stores of up to three digits.
 pub fn step_text(alloc: Global, h: u8, step: &Step) -> Result<String, AllocError>
     ensures { IfOk result (λ text. string_bytes text ≡ step_text_of h step.now) }
 {
-    let mut text = StackText::new();
-    put_step(&mut text, h, step);
-    String::from_str(alloc, text.as_str())
+    String::from_str(alloc, text_of_step(h, step, "").as_str())
 }
 
 /// Writes the text of a move, as `step_text` returns it, and a line feed. It allocates nothing. It fails exactly when the
@@ -123,8 +134,5 @@ pub fn write_step<W: Sink>(out: &mut W, h: u8, step: &Step) -> Result<(), io::Er
         (Appends (W.written out.old) (W.written out.new) (step_text_of h step.now ++ line_feed ∷ [])) }
     ensures start { AppendsStart (W.written out.old) (W.written out.new) (step_text_of h step.now ++ line_feed ∷ []) }
 {
-    let mut text = StackText::new();
-    text.put("\n");
-    put_step(&mut text, h, step);
-    out.write_all(text.bytes())
+    out.write_all(text_of_step(h, step, "\n").bytes())
 }

@@ -1,5 +1,6 @@
 //! The answer to a line.
 use crate::line::line_fault::LineFault;
+use kalah_rules::Board;
 use kalah_solve::MoveValues;
 
 /// The answer to a line of a file.
@@ -11,6 +12,8 @@ pub enum Answer {
     Over { margin: i32 },
     /// Each legal house, in ascending order, with the margin that its move gets in best play.
     Values(MoveValues),
+    /// Each legal house of this position, rising, with what its move leads to. It is worked out where it is written.
+    Steps(Board),
     /// Why the line is not read.
     Fault(LineFault),
 }

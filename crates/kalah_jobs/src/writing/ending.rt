@@ -1,15 +1,29 @@
 //! The part of an answer line behind the name of the file, built on the stack.
 ghost use Rattle.std.specs.Prelude.{◌≡◌, ◌+◌, ◌≤◌, ◌++◌, length, codes, decimal};
-ghost use Rattle.kalah_jobs.specs.Writing.Answer.{answer_words, value_words, values_words};
+ghost use Rattle.kalah_jobs.specs.Writing.Answer.{answer_words, value_words, values_words, IsOfOneLine};
 
 use crate::writing::answer::{Answer, Taken};
 use crate::writing::stack_text::{ROOM, StackText};
 use kalah_solve::{MoveValue, MoveValues};
 
+// What stands between the name and the text in the answer line of a line.
+#[tactic(auto, using(crate::proofs::OfWriting::Lengths::number_length))]
+pub(crate) fn place_of(line: u32) -> StackText
+    ensures place { result ≡ codes ":" ++ (decimal (line + 1) ++ codes " ") }
+    ensures short { length result ≤ 22 }
+{
+    let mut place = StackText::new();
+    place.put(" ");
+    place.put_number(u64::from(line) + 1);
+    place.put(":");
+    place
+}
+
 // What stands behind the name in the answer line of a line, and then the end.
 #[tactic(auto, using(crate::proofs::OfWriting::Lengths::number_length))]
 pub(crate) fn ending_of(taken: &Taken, end: &str) -> StackText
-    requires { length end.now ≤ 1 }
+    requires end { length end.now ≤ 1 }
+    requires one_line { IsOfOneLine taken.now.answer }
     ensures { result ≡ codes ":" ++ (decimal (taken.now.line + 1) ++ (codes " " ++ (answer_words taken.now.answer ++ end.now))) }
 {
     let mut ending = StackText::new();
@@ -23,7 +37,8 @@ pub(crate) fn ending_of(taken: &Taken, end: &str) -> StackText
 
 // Builds an answer in words, followed by `end`.
 pub(crate) fn words_of(answer: &Answer, end: &str) -> StackText
-    requires { length end.now ≤ 1 }
+    requires end { length end.now ≤ 1 }
+    requires one_line { IsOfOneLine answer.now }
     ensures { result ≡ answer_words answer.now ++ end.now }
 {
     let mut words = StackText::new();
@@ -65,7 +80,8 @@ fn put_values(text: &mut StackText, values: &MoveValues)
 // Puts the part of an answer line after the number of the line in front of the text.
 #[tactic(auto, using(crate::proofs::OfWriting::Lengths::byte_length, crate::proofs::OfWriting::Lengths::fault_length))]
 fn put_words(text: &mut StackText, answer: &Answer)
-    requires { length text.old + 96 ≤ ROOM }
+    requires room { length text.old + 96 ≤ ROOM }
+    requires one_line { IsOfOneLine answer.now }
     ensures words { text.new ≡ answer_words answer.now ++ text.old }
     ensures short { length text.new ≤ length text.old + 96 }
 {
@@ -80,6 +96,7 @@ fn put_words(text: &mut StackText, answer: &Answer)
             text.put_margin(margin);
         }
         Answer::Values(values) => put_values(text, &values),
+        Answer::Steps(_) => {}
         Answer::Fault(fault) => {
             text.put(fault.word());
             text.put("fault ");

@@ -1,7 +1,7 @@
 use Rattle.std.proofs.Common.{◌≡◌, ap, codes, ◌∙◌}
 use Rattle.std.proofs.lemmas.Result.{IfOk-weaker}
 use Rattle.clap.specs.Words.{app_of, with_subcommand}
-use Rattle.kalah_cli.specs.Command.{answers_app, ask_app, kalah_app, moves_app, play_app}
+use Rattle.kalah_cli.specs.Command.{answers_app, ask_app, kalah_app, moves_app, play_app, steps_app}
 use Rattle.kalah_cli.proofs.command.command.Goals as goal
 
 pub returns : goal.returns
@@ -12,6 +12,7 @@ returns c =
     let three = c.in_ok-command-3.ensures.app solve c.answers_command-solve.ensures.app ∙ ap (λ a. with_subcommand a solve.top) two in
     let values = answers_app (codes "values") in
     let four = c.in_ok-command-4.ensures.app values c.answers_command-values.ensures.app ∙ ap (λ a. with_subcommand a values.top) three in
-    IfOk-weaker c.with_command-5.result _ (λ r. app_of r ≡ kalah_app)
-    (λ r given. given ask_app c.ask_command.ensures.app ∙ ap (λ a. with_subcommand a ask_app.top) four)
-    c.with_command-5.ensures.app
+    let five = c.in_ok-command-5.ensures.app ask_app c.ask_command.ensures.app ∙ ap (λ a. with_subcommand a ask_app.top) four in
+    IfOk-weaker c.with_command-6.result _ (λ r. app_of r ≡ kalah_app)
+    (λ r given. given steps_app c.steps_command.ensures.app ∙ ap (λ a. with_subcommand a steps_app.top) five)
+    c.with_command-6.ensures.app

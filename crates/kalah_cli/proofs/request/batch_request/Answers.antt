@@ -1,29 +1,21 @@
-use Rattle.std.proofs.Common.{◌≡◌, ◌∙◌, Some, ap, codes, map, sym}
-use Rattle.std.specs.Prelude.{option_map}
-use Rattle.clap.specs.Walk.{all_of, rows_of}
+use Rattle.std.proofs.Common.{◌≡◌, Some}
+use Rattle.std.proofs.lemmas.Result.{IfOk-weaker}
+use Rattle.clap.specs.Walk.{rows_of}
 use Rattle.clap.specs.Words.{found_of}
-use Rattle.clap.proofs.WalkLemmas.{raw_values-rows}
-use Rattle.kalah_cli.proofs.Getters.{answers_are, answers_in_range, is_there}
+use Rattle.kalah_cli.specs.Request.{answers_asked, asked_for}
+use Rattle.kalah_cli.proofs.Getters.{answers_are, table_in_range}
 use Rattle.kalah_cli.proofs.request.batch_request.Goals as goal
 
-pub unwrap-requires : goal.unwrap-requires
-unwrap-requires c =
-    is_there _ c.get_strs.result _ (c.get_strs.ensures ∙ raw_values-rows (found_of c.args.found.now) (codes "file") ∙ c.requires.files.1)
+pub files_request-requires : goal.files_request-requires
+files_request-requires c =
+    let limits = table_in_range (rows_of (found_of c.args.found.now)) c.requires c.option_number-table.result c.option_number-table.ensures in record {
+      files = c.requires.others;
+      low = limits.0;
+      high = limits.1;
+    }
 
 pub returns-clause-asked : goal.returns-clause-asked
 returns-clause-asked c =
-    let copied : c.in_ok-files.files.items ≡ c.unwrap.result.now = c.in_ok-files.ensures.items_if_clones_equal (λ x y h. h) in
-    let are : Some (map (λ f. f.now) c.in_ok-files.files.items) ≡ all_of (codes "file") (rows_of (found_of c.args.found.now)) =
-    ap (λ xs. Some (map (λ f. f.now) xs)) copied ∙ ap (option_map (λ s. map (λ v. v.now) s.now)) (sym c.unwrap.ensures)
-    ∙ c.get_strs.ensures ∙ raw_values-rows (found_of c.args.found.now) (codes "file") in
-    answers_are c.args.question (rows_of (found_of c.args.found.now)) c.requires c.option_number-workers.result c.option_number-table.result c.is_set-progress.result _
-    c.option_number-workers.ensures c.option_number-table.ensures c.is_set-progress.ensures are
-
-pub returns-clause-range : goal.returns-clause-range
-returns-clause-range c =
-    let copied : c.in_ok-files.files.items ≡ c.unwrap.result.now = c.in_ok-files.ensures.items_if_clones_equal (λ x y h. h) in
-    let are : Some (map (λ f. f.now) c.in_ok-files.files.items) ≡ all_of (codes "file") (rows_of (found_of c.args.found.now)) =
-    ap (λ xs. Some (map (λ f. f.now) xs)) copied ∙ ap (option_map (λ s. map (λ v. v.now) s.now)) (sym c.unwrap.ensures)
-    ∙ c.get_strs.ensures ∙ raw_values-rows (found_of c.args.found.now) (codes "file") in
-    answers_in_range (rows_of (found_of c.args.found.now)) c.requires c.option_number-workers.result c.option_number-table.result c.in_ok-files.files.items
-    c.option_number-workers.ensures c.option_number-table.ensures are
+    IfOk-weaker c.files_request.result _ (λ r. answers_asked c.args.question (rows_of (found_of c.args.found.now)) ≡ Some (asked_for r))
+    (λ r given. answers_are c.args.question (rows_of (found_of c.args.found.now)) c.requires c.option_number-table.result (asked_for r) c.option_number-table.ensures given)
+    c.files_request.ensures.asked

@@ -23,6 +23,11 @@ returns-in_err-matches-clause-refused g c =
     (λ a taken. by_memory_alone (map g.S.AsStr.text c.args.words.now) c.in_err-matches.field-0.0
     (taken_fault _ _ c.in_err-matches.field-0.0 c.in_ok-command.ensures c.in_err-matches.ensures.kinds) taken.0)
 
+pub returns-in_err-matches-clause-kinds : goal.returns-in_err-matches-clause-kinds
+returns-in_err-matches-clause-kinds g c =
+    failed_as c.from_residual-in_err-matches.result c.in_err-matches.field-0.0 _ _ c.from_residual-in_err-matches.ensures.1
+    (taken_fault _ _ c.in_err-matches.field-0.0 c.in_ok-command.ensures c.in_err-matches.ensures.kinds)
+
 pub returns-clause-moves : goal.returns-clause-moves
 returns-clause-moves g c =
     moves_given _ _ (asked_is _ _ _ _ c.in_ok-command.ensures (λ simple. (c.in_ok-matches.ensures.matches simple).1) c.in_ok-requested.ensures.asked)

@@ -7,10 +7,10 @@ use Rattle.clap.specs.Words.{Text}
 use Rattle.clap.specs.declared.error.kind.ErrorKind.{ErrorKind}
 use Rattle.clap.specs.declared.error.kind.ErrorKind.TheVariants.{DisplayHelp, DisplayVersion, MissingRequiredArgument, OutOfMemory}
 use Rattle.kalah_jobs.specs.declared.files.question.Question.{Question}
-use Rattle.kalah_jobs.specs.declared.files.question.Question.TheVariants.{BestMove, Values}
+use Rattle.kalah_jobs.specs.declared.files.question.Question.TheVariants.{BestMove, Values, Steps}
 use Rattle.kalah_cli.specs.Ask.{StopsBetweenLines}
 use Rattle.kalah_cli.specs.Command.{kalah_app}
-use Rattle.kalah_cli.specs.Request.{Asked, IsPlainWord, IsTakenAs, answers, ask, asked_for, command_of, moves, play, texts_of}
+use Rattle.kalah_cli.specs.Request.{Asked, IsPlainWord, IsTakenAs, answers, ask, asked_for, command_of, moves, play, table_of, texts_of}
 use Rattle.kalah_cli.specs.Runs.{Begins, Does, IsOfLine, IsUnread}
 use Rattle.kalah_cli.specs.declared.status.ExitStatus.TheVariants.{Clean, Failed}
 use Rattle.kalah_cli.proofs.Begun.{begins_none, begun_as, stops_before_lines}
@@ -65,9 +65,9 @@ returns-in-Ok-clause-unread g c = λ name line is plain none. elim is [
 -- what is asked of files is done
 done_of_files : (g : Over) (c : After-drop-words g) (question : Question) (name : Text) (files : List Text)
     → texts_of c.args.words.items ≡ name ∷ command_of question ∷ files → All IsPlainWord files
-    → Does (answers question 4 65536 false files) (g.O.Sink.written c.args.out.now) (g.O.Sink.written c.run_request.new.out) c.run_request.result
+    → Does (answers question 4 (table_of question) false files) (g.O.Sink.written c.args.out.now) (g.O.Sink.written c.run_request.new.out) c.run_request.result
 done_of_files g c question name files is plain = elim (files_or_none question _ name files is plain) [
-  | inl taken ↦ done g c (answers question 4 65536 false files) taken
+  | inl taken ↦ done g c (answers question 4 (table_of question) false files) taken
   | inr missed ↦
       let none = fault_at _ c.args.words.items c.as_slice.ensures.value c.in-Ok.ensures.kinds in
       absurd (let bad : MissingRequiredArgument ∷ [] ≡ [] = sym missed ∙ none in cc)
@@ -78,6 +78,9 @@ returns-in-Ok-clause-solved g c = λ name files is plain. done_of_files g c Best
 
 pub returns-in-Ok-clause-valued : goal.returns-in-Ok-clause-valued
 returns-in-Ok-clause-valued g c = λ name files is plain. done_of_files g c Values name files is plain
+
+pub returns-in-Ok-clause-stepped : goal.returns-in-Ok-clause-stepped
+returns-in-Ok-clause-stepped g c = λ name files is plain. done_of_files g c Steps name files is plain
 
 pub returns-in-Ok-clause-asked : goal.returns-in-Ok-clause-asked
 returns-in-Ok-clause-asked g c = λ name is. done g c (ask BestMove 65536) (ask_of _ name is)
@@ -170,7 +173,7 @@ failed_of_none g c missed =
 failed_of_files : (g : Over) (c : After-drop-words-2 g) (question : Question) (name : Text) (files : List Text)
     → texts_of c.args.words.items ≡ name ∷ command_of question ∷ files → All IsPlainWord files → c.refuse.result ≡ Failed
 failed_of_files g c question name files is plain = elim (files_or_none question _ name files is plain) [
-  | inl taken ↦ (failed g c (answers question 4 65536 false files) taken).0
+  | inl taken ↦ (failed g c (answers question 4 (table_of question) false files) taken).0
   | inr missed ↦ failed_of_none g c missed
 ]
 
@@ -179,6 +182,9 @@ returns-clause-solved g c = λ name files is plain went. absurd (went (failed_of
 
 pub returns-clause-valued : goal.returns-clause-valued
 returns-clause-valued g c = λ name files is plain went. absurd (went (failed_of_files g c Values name files is plain))
+
+pub returns-clause-stepped : goal.returns-clause-stepped
+returns-clause-stepped g c = λ name files is plain went. absurd (went (failed_of_files g c Steps name files is plain))
 
 pub returns-clause-asked : goal.returns-clause-asked
 returns-clause-asked g c = λ name is went. absurd (went (failed g c (ask BestMove 65536) (ask_of _ name is)).0)

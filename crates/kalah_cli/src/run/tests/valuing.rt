@@ -81,10 +81,11 @@ const NOT_READ: &[(&[&str], &str)] = &[
         &["values", "/", "x\ny"],
         "kalah: line feed in a file name\n",
     ),
+    (&["steps", "/", "x.txt"], "kalah: cannot read /\n"),
 ];
 
 #[test]
-fn values_of_files_that_are_not_read(rt: HostRuntime) {
+fn values_and_steps_of_files_that_are_not_read(rt: HostRuntime) {
     for (words, text) in NOT_READ {
         assert_answers(&rt, rt.alloc(), *words, ExitStatus::Failed, ("", *text));
     }

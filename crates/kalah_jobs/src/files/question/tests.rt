@@ -1,4 +1,4 @@
-//! Lines with the values of the moves asked.
+//! Lines of which the values of the moves, or their steps, are asked.
 use crate::{
     Answer, Collector, Entry, FileText, Job, Jobs, Outcome, Question, Refusal, Sink, Stream, Taken,
     answer_text, read_line, write_answer,
@@ -6,13 +6,13 @@ use crate::{
 use kalah_solve::{Solver, Table};
 use std::process::Abort;
 
-// The jobs of a file of these bytes, with values asked.
-fn jobs_of(rt: &(impl Abort + AllocGlobal), bytes: &[u8]) -> Jobs {
+// The jobs of a file of these bytes, asking this.
+fn jobs_of(rt: &(impl Abort + AllocGlobal), question: Question, bytes: &[u8]) -> Jobs {
     let file = FileText {
         name: String::from_str(rt.alloc(), "b.txt").expect(rt, "no memory"),
         bytes: bytes.to_vec(rt.alloc()).expect(rt, "no memory"),
     };
-    Jobs::asking(rt.alloc(), Question::Values, &[file]).expect(rt, "no jobs")
+    Jobs::asking(rt.alloc(), question, &[file]).expect(rt, "no jobs")
 }
 
 // A solver with a small table.
@@ -47,9 +47,28 @@ const VALUES: &[&str] = &[
 
 #[test]
 fn each_line_is_answered_by_its_values(rt: HostRuntime) {
-    let jobs = jobs_of(&rt, LINES);
+    let jobs = jobs_of(&rt, Question::Values, LINES);
     for (n, want) in VALUES.iter().enumerate() {
         assert_written(&rt, "b.txt", &taken(&rt, &jobs, n as u32), want);
+    }
+}
+
+const STEPS: &[&str] = &[
+    "b.txt:1 1 1,1/0 0,2/0 turn\nb.txt:1 2 1,0/1 1,1/0 again\n",
+    "b.txt:2 1 0/1 0/3 over\n",
+    "b.txt:3 -4 over\n",
+    "b.txt:4 fault shape\n",
+    "b.txt:5 1 0,0/1 0,0/2 e over\n",
+];
+
+#[test]
+fn each_line_is_answered_by_its_steps(rt: HostRuntime) {
+    let jobs = jobs_of(&rt, Question::Steps, LINES);
+    for (n, want) in STEPS.iter().enumerate() {
+        let taken = taken(&rt, &jobs, n as u32);
+        assert_written(&rt, "b.txt", &taken, want);
+        let text = answer_text(rt.alloc(), "b.txt", &taken).expect(&rt, "no memory");
+        assert!(rt; want.strip_suffix("\n") == Some(text.as_str()), "{want}");
     }
 }
 
@@ -74,12 +93,14 @@ fn the_values_of_six_moves_are_printed_as_they_are_written(rt: HostRuntime) {
 
 #[test]
 fn an_answer_to_another_question_is_refused(rt: HostRuntime) {
-    let jobs = jobs_of(&rt, b"2/0 2/0");
+    let jobs = jobs_of(&rt, Question::Values, b"2/0 2/0");
     let mut collector = Collector::new(rt.alloc(), &jobs).expect(&rt, "no memory");
     let mut solver = new_solver(&rt);
     let board = read_line(b"2/0 2/0").expect(&rt, "not read");
     let best = Outcome::of(0, 0, Entry::Position(board), &mut solver);
     assert!(rt; collector.offer(&jobs, best) == Err(Refusal::WrongPosition));
+    let steps = Outcome::of(0, 0, Entry::StepsOf(board), &mut solver);
+    assert!(rt; collector.offer(&jobs, steps) == Err(Refusal::WrongPosition));
     let values = Outcome::of(0, 0, Entry::ValuesOf(board), &mut solver);
     assert!(rt; collector.offer(&jobs, values) == Ok(1));
 }

@@ -1,4 +1,4 @@
-//! Batches that ask for the values of the moves.
+//! Batches that ask for the values of the moves, or for their steps.
 ghost use Rattle.std.specs.Prelude.{◌<◌, ◌≤◌};
 
 use super::add_file;
@@ -26,6 +26,24 @@ b.txt:3 -4 over
 b.txt:4 fault shape
 ";
 
+const STEPS: &str = "\
+b.txt:1 1 1,1/0 0,2/0 turn
+b.txt:1 2 1,0/1 1,1/0 again
+b.txt:2 1 0/1 0/3 over
+b.txt:3 -4 over
+b.txt:4 fault shape
+c.txt:1 1 0,0/1 0,0/2 e over
+c.txt:2 1 0,2/0 0,1/0 turn
+b.txt:1 1 1,1/0 0,2/0 turn
+b.txt:1 2 1,0/1 1,1/0 again
+b.txt:2 1 0/1 0/3 over
+b.txt:3 -4 over
+b.txt:4 fault shape
+";
+
+// What is asked of the files, and what is written.
+const TOLD: &[(Question, &str)] = &[(Question::Values, VALUES), (Question::Steps, STEPS)];
+
 const TEN_LINES: Tally = Tally {
     lines: 10,
     faults: 2,
@@ -43,11 +61,12 @@ fn three_files(rt: &impl Abort, alloc: Global) -> Vec<FileText> {
     files
 }
 
-// Whether the batch writes the values of all moves, and counts the lines.
+// Whether the batch tells what is asked of all moves, and counts the lines.
 fn is_told<R: Threads + Wait + Sync>(
     rt: &R,
     alloc: Global,
     files: &[FileText],
+    told: &(Question, &str),
     workers: u32,
     table: u32,
 ) -> bool
@@ -56,28 +75,22 @@ fn is_told<R: Threads + Wait + Sync>(
 {
     let mut out = Stream::new(Vec::<u8>::new(alloc));
     let size = BatchSize { workers, table };
-    let tally = answer_batch(
-        rt,
-        alloc,
-        Question::Values,
-        files,
-        size,
-        &OpenGate,
-        &mut out,
-    );
+    let tally = answer_batch(rt, alloc, told.0, files, size, &OpenGate, &mut out);
     let written = out.into_inner();
-    tally == Ok(TEN_LINES) && written.as_slice() == VALUES.as_bytes()
+    tally == Ok(TEN_LINES) && written.as_slice() == told.1.as_bytes()
 }
 
 #[test]
-fn the_values_of_all_moves_are_told_in_order(rt: HostRuntime) {
+fn what_is_asked_of_all_moves_is_told_in_order(rt: HostRuntime) {
     let files = three_files(&rt, rt.alloc());
-    for workers in [1, 2, 64] {
-        for table in [1, 65_536] {
-            assert!(rt;
-                is_told(&rt, rt.alloc(), files.as_slice(), workers, table),
-                "{workers} {table}"
-            );
+    for told in TOLD {
+        for workers in [1, 2, 64] {
+            for table in [1, 65_536] {
+                assert!(rt;
+                    is_told(&rt, rt.alloc(), files.as_slice(), told, workers, table),
+                    "{workers} {table}"
+                );
+            }
         }
     }
 }

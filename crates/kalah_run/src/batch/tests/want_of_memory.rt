@@ -19,6 +19,16 @@ b.txt:1 1:0
 b.txt:2 1:-2
 ";
 
+const STEPS: &str = "\
+b.txt:1 1 0/1 0/1 over
+b.txt:2 1 0/1 0/3 over
+c.txt:1 1 0/6 0/0 over
+c.txt:2 fault empty
+c.txt:3 fault shape
+b.txt:1 1 0/1 0/1 over
+b.txt:2 1 0/1 0/3 over
+";
+
 // The result of the batch of the files, with a writer that has all its room. If memory is refused, nothing was written, and
 // else all answers.
 fn answer_of<R: Abort + Threads + Wait + Sync>(
@@ -34,6 +44,7 @@ fn answer_of<R: Abort + Threads + Wait + Sync>(
     let text = match (&answer, question) {
         (Ok(_), Question::BestMove) => ANSWERS,
         (Ok(_), Question::Values) => VALUES,
+        (Ok(_), Question::Steps) => STEPS,
         (Err(_), _) => "",
     };
     assert!(rt; out.into_inner().as_slice() == text.as_bytes());
@@ -68,4 +79,9 @@ fn a_batch_of_two_workers(rt: HostRuntime) -> Result<(), Fail> {
 #[test]
 fn values_by_two_workers(rt: HostRuntime) -> Result<(), Fail> {
     is_answered(&rt, rt.alloc(), Question::Values)
+}
+
+#[test]
+fn steps_by_two_workers(rt: HostRuntime) -> Result<(), Fail> {
+    is_answered(&rt, rt.alloc(), Question::Steps)
 }

@@ -136,7 +136,7 @@ fn failures<R: Abort + Threads + Wait + Sync>(rt: &R, alloc: Global, question: Q
 
 #[test]
 fn every_failing_call_ends_the_writing_and_nothing_else(rt: HostRuntime) {
-    for question in [Question::BestMove, Question::Values] {
+    for question in [Question::BestMove, Question::Values, Question::Steps] {
         let failures = failures(&rt, rt.alloc(), question);
         assert!(rt; failures > 7 && failures < 100);
     }

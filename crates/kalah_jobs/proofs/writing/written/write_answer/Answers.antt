@@ -1,45 +1,30 @@
-use Rattle.std.proofs.Common.{◌≡◌, ◌∷◌, [], ◌++◌, ℕ, List, append_assoc, sym, subst, refl, ap, ◌∙◌}
-use Rattle.std.specs.Prelude.{◌+◌, OnOk, codes, decimal}
+use Rattle.std.proofs.Common.{◌≡◌, ◌+◌, ◌++◌, ◌∷◌, [], ◌∙◌, List, ℕ, ap₂, map, subst, sym}
+use Rattle.std.specs.Prelude.{OnOk, codes, decimal}
+use Rattle.std.specs.List.{join_with_byte}
 use Rattle.std.specs.Io.KnownBytes.{Appends}
-use Rattle.kalah_jobs.specs.declared.writing.answer.Taken.{Taken}
-use Rattle.kalah_jobs.specs.Writing.Answer.{answer_line, answer_words}
-use Rattle.kalah_jobs.specs.Writing.Given.{AppendsStart}
+use Rattle.kalah_rules.specs.Position.{Position}
 use Rattle.kalah_jobs.specs.Files.Lines.{line_feed}
-use Rattle.kalah_jobs.proofs.OfWriting.Starts.{start_longer, start_then}
+use Rattle.kalah_jobs.specs.Writing.Answer.{answer_line, answer_texts, steps_texts}
+use Rattle.kalah_jobs.specs.Writing.Given.{AppendsStart}
+use Rattle.kalah_jobs.specs.declared.writing.answer.Answer.{Answer}
+use Rattle.kalah_jobs.specs.declared.writing.answer.Answer.TheVariants.{Steps}
+use Rattle.kalah_jobs.specs.declared.writing.answer.Taken.{Taken}
 use Rattle.kalah_jobs.proofs.writing.written.write_answer.Goals as goal
 
--- the line's name, and then its ending
-line_is : (name bytes : List ℕ) (taken : Taken) → bytes ≡ name
-    → answer_line name taken ++ line_feed ∷ [] ≡ bytes ++ (codes ":" ++ (decimal (taken.line + 1) ++ (codes " " ++ (answer_words taken.answer ++ line_feed ∷ []))))
-line_is name bytes taken is =
-    let number = decimal (taken.line + 1) in
-    let words = codes " " ++ answer_words taken.answer in
-    append_assoc name (codes ":" ++ (number ++ words)) (line_feed ∷ []) ∙ ap (λ l. name ++ (codes ":" ++ l)) (append_assoc number words (line_feed ∷ []))
-    ∙ ap (λ l. l ++ (codes ":" ++ (number ++ (words ++ line_feed ∷ [])))) (sym is)
+-- the lines of the steps of a position are the answer line
+steps_line : (name place : List ℕ) (taken : Taken) (p : Position) → taken.answer ≡ Steps p → place ≡ codes ":" ++ (decimal (taken.line + 1) ++ codes " ")
+    → join_with_byte line_feed (map (λ text. (name ++ place) ++ text) (steps_texts p)) ++ line_feed ∷ [] ≡ answer_line name taken ++ line_feed ∷ []
+steps_line name place taken p answer is =
+    ap₂ (λ (l : List ℕ) (a : Answer). join_with_byte line_feed (map (λ text. (name ++ l) ++ text) (answer_texts a)) ++ line_feed ∷ []) is (sym answer)
 
--- all of it is one piece where there is room
-piece_is : (name ending bytes : List ℕ) (taken : Taken) → bytes ≡ name ++ ending
-    → ending ≡ codes ":" ++ (decimal (taken.line + 1) ++ (codes " " ++ (answer_words taken.answer ++ line_feed ∷ []))) → bytes ≡ answer_line name taken ++ line_feed ∷ []
-piece_is name ending bytes taken is ending_is = is ∙ ap (λ e. name ++ e) ending_is ∙ sym (line_is name name taken refl)
+pub returns-in-Steps-clause-adds : goal.returns-in-Steps-clause-adds
+returns-in-Steps-clause-adds g c =
+    subst (λ l. OnOk c.write_steps.result (Appends (g.W.Sink.written c.args.out.now) (g.W.Sink.written c.write_steps.new.out) l))
+    (steps_line c.args.name.now c.as_str.result.now c.args.taken.now c.in-Steps.board c.in-Steps.is (c.as_str.ensures ∙ c.place_of.ensures.place))
+    c.write_steps.ensures.adds
 
-pub returns-then-has_room-clause-adds : goal.returns-then-has_room-clause-adds
-returns-then-has_room-clause-adds g c =
-    let piece = piece_is c.args.name.now c.ending_of-line.result c.bytes.result.now c.args.taken.now (c.bytes.ensures.bytes ∙ c.put.ensures.piece) c.ending_of-line.ensures in
-    subst (λ l. OnOk c.write_all.result (Appends (g.W.Sink.written c.args.out.now) (g.W.Sink.written c.write_all.new.self) l)) piece c.write_all.ensures.adds
-
-pub returns-then-has_room-clause-start : goal.returns-then-has_room-clause-start
-returns-then-has_room-clause-start g c =
-    let piece = piece_is c.args.name.now c.ending_of-line.result c.bytes.result.now c.args.taken.now (c.bytes.ensures.bytes ∙ c.put.ensures.piece) c.ending_of-line.ensures in
-    subst (λ l. AppendsStart (g.W.Sink.written c.args.out.now) (g.W.Sink.written c.write_all.new.self) l) piece c.write_all.ensures.start
-
-pub returns-in_err-write_all-clause-start : goal.returns-in_err-write_all-clause-start
-returns-in_err-write_all-clause-start g c =
-    let line = line_is c.args.name.now c.as_bytes.result.now c.args.taken.now c.as_bytes.ensures.value in
-    subst (λ l. AppendsStart (g.W.Sink.written c.args.out.now) (g.W.Sink.written c.write_all-2.new.self) l) (sym line)
-    (start_longer _ _ c.as_bytes.result.now _ c.write_all-2.ensures.start)
-
-pub returns-clause-start : goal.returns-clause-start
-returns-clause-start g c =
-    let line = line_is c.args.name.now c.as_bytes.result.now c.args.taken.now c.as_bytes.ensures.value in
-    start_then _ _ _ _ c.as_bytes.result.now c.bytes-2.result.now (line ∙ ap (λ l. c.as_bytes.result.now ++ l) (sym (c.bytes-2.ensures.bytes ∙ c.ending_of-line.ensures)))
-    c.in_ok-write_all.ensures.adds c.write_all-3.ensures.start
+pub returns-in-Steps-clause-start : goal.returns-in-Steps-clause-start
+returns-in-Steps-clause-start g c =
+    subst (λ l. AppendsStart (g.W.Sink.written c.args.out.now) (g.W.Sink.written c.write_steps.new.out) l)
+    (steps_line c.args.name.now c.as_str.result.now c.args.taken.now c.in-Steps.board c.in-Steps.is (c.as_str.ensures ∙ c.place_of.ensures.place))
+    c.write_steps.ensures.start

@@ -1,0 +1,93 @@
+//! The steps of a position, a line each.
+ghost use Rattle.std.specs.Prelude.{◌≡◌, ◌≤◌, ◌∷◌, [], ◌++◌, ◌↔◌, if◌then◌else◌, true, false, IsErr, OnOk, length, map, string_bytes};
+ghost use Rattle.std.specs.List.{join_with_byte};
+ghost use Rattle.std.specs.Io.KnownBytes.{Appends};
+ghost use Rattle.kalah_jobs.specs.Files.Lines.{line_feed};
+ghost use Rattle.kalah_jobs.specs.Line.Line.{step_text_of};
+ghost use Rattle.kalah_jobs.specs.Writing.Answer.{steps_texts};
+ghost use Rattle.kalah_jobs.specs.Writing.Given.{AppendsStart};
+
+use crate::line::position_text::text_of_step;
+use crate::writing::sink::Sink;
+use kalah_rules::{Board, Step};
+use std::alloc::AllocError;
+use std::io;
+
+// Writes the line of a move: the name, the place, the text of the move and a line feed.
+fn write_step_line<W: Sink>(
+    out: &mut W,
+    name: &str,
+    place: &str,
+    h: u8,
+    step: &Step,
+) -> Result<(), io::Error>
+    requires whole { W.has_failed out.old ≡ false }
+    requires place { length place.now ≤ 22 }
+    ensures fails { IsErr result ↔ (W.has_failed out.new ≡ true) }
+    ensures adds { OnOk result (Appends (W.written out.old) (W.written out.new)
+        (((name.now ++ place.now) ++ step_text_of h step.now) ++ line_feed ∷ [])) }
+    ensures start { AppendsStart (W.written out.old) (W.written out.new)
+        (((name.now ++ place.now) ++ step_text_of h step.now) ++ line_feed ∷ []) }
+{
+    let mut text = text_of_step(h, step, "\n");
+    text.put(place);
+    out.write_all(name.as_bytes())?;
+    out.write_all(text.bytes())
+}
+
+/// Writes a line for each legal house of a board, rising: the name, the place and the text of its move. Where there is none it is
+/// an empty line.
+pub(crate) fn write_steps<W: Sink>(
+    out: &mut W,
+    name: &str,
+    place: &str,
+    board: &Board,
+) -> Result<(), io::Error>
+    requires whole { W.has_failed out.old ≡ false }
+    requires place { length place.now ≤ 22 }
+    ensures fails { IsErr result ↔ (W.has_failed out.new ≡ true) }
+    ensures adds { OnOk result (Appends (W.written out.old) (W.written out.new)
+        (join_with_byte line_feed (map (λ text. (name.now ++ place.now) ++ text) (steps_texts board.now)) ++ line_feed ∷ [])) }
+    ensures start { AppendsStart (W.written out.old) (W.written out.new)
+        (join_with_byte line_feed (map (λ text. (name.now ++ place.now) ++ text) (steps_texts board.now)) ++ line_feed ∷ []) }
+{
+    let moves = board.legal();
+    if moves.len() == 0 {
+        return out.write_all(b"\n");
+    }
+    for i in 0..moves.len() {
+        let h = moves.get(i);
+        write_step_line(out, name, place, h, &board.apply(h))?;
+    }
+    Ok(())
+}
+
+// What stands before a line: nothing before the first.
+fn before_line(is_first: bool) -> &'static str
+    ensures { result.now ≡ (if is_first then [] else line_feed ∷ []) }
+{
+    if is_first { "" } else { "\n" }
+}
+
+/// Pushes a line for each legal house of a board, rising, with a line feed between any two: the name, the place and the text of
+/// its move.
+pub(crate) fn push_steps(
+    text: &mut String,
+    name: &str,
+    place: &str,
+    board: &Board,
+) -> Result<(), AllocError>
+    ensures { OnOk result (string_bytes text.new ≡ string_bytes text.old
+        ++ join_with_byte line_feed (map (λ text. (name.now ++ place.now) ++ text) (steps_texts board.now))) }
+{
+    let moves = board.legal();
+    for i in 0..moves.len() {
+        let h = moves.get(i);
+        let step = text_of_step(h, &board.apply(h), "");
+        text.push_str(before_line(i == 0))?;
+        text.push_str(name)?;
+        text.push_str(place)?;
+        text.push_str(step.as_str())?;
+    }
+    Ok(())
+}
