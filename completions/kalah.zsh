@@ -10,10 +10,11 @@ _kalah() {
             local -a subcommands=(
                 'moves:print each legal move of a position, and the position after it'
                 'play:print the game that best play leads to from a position, move by move'
-                'solve:print the margin of best play and the best house of each position in files'
-                'values:print what each move of each position in files is worth'
-                'ask:answer each line of the standard input before it reads on, as solve or values'
-                'steps:print each legal move of each position in files, and the position after it'
+                'solve:print the best house and the margin of best play of each position'
+                'values:print what each move of each position is worth'
+                'ask:answer each line of standard input before it reads the next'
+                'steps:print each legal move of each position, and what it leads to'
+                'show:draw a position, and below each house what its move is worth'
             )
             _describe subcommand subcommands
             ;;
@@ -21,10 +22,11 @@ _kalah() {
             local boards='--boards[draw each position below its line]'
             local workers='--workers=[how many workers solve in parallel, 1 to 64]:workers: '
             local progress='--progress[show on standard error how many lines are answered]'
-            local table='--table=[how many solved positions each worker remembers, 1 to 1048576]:entries: '
+            local table='--table=[table entries of each worker, 1 to 1048576]:entries: '
             case $line[1] in
                 moves) _arguments $help $boards '1:position in quotes: ' ;;
-                play) _arguments $help $table $boards '1:position in quotes: ' ;;
+                play) _arguments $help $table $boards '--first=[begin with this house, 1 to 6]:house: ' '1:position in quotes: ' ;;
+                show) _arguments $help '--plain[draw the position alone]' $table '1:position in quotes: ' ;;
                 ask) _arguments $help '--values[print what each move is worth, as values does]' $table ;;
                 solve | values) _arguments $help $workers $table $progress '*:file of positions:_files' ;;
                 steps) _arguments $help $workers $progress '*:file of positions:_files' ;;

@@ -13,7 +13,7 @@ from pathlib import Path
 
 import reference
 from differing import Differs, read_soon
-from drawn import SUBCOMMANDS, TABLES
+from drawn import SEARCHING, TABLES
 from reference import Run
 
 # The number of lines that are sent one by one to a run.
@@ -57,7 +57,7 @@ class AskTrials:
 
     def form(self):
         """Returns `solve` or `values`, and the arguments of `ask` for it."""
-        form, table = self.drawn.card("asked forms", SUBCOMMANDS), self.drawn.card("asked tables", TABLES)
+        form, table = self.drawn.card("asked forms", SEARCHING), self.drawn.card("asked tables", TABLES)
         options = [[] if form == "solve" else ["--values"], [] if table is None else [f"--table={table}"]]
         self.drawn.chance.shuffle(options)
         return form, ["ask", *options[0], *options[1]]

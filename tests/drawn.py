@@ -57,6 +57,15 @@ LINES_OF_MOVES = [*(line for line in LINES_AT_LIMITS if b"\0" not in line), *FUL
 # The place of `--boards` among the arguments: missing, before the line or behind it.
 BOARDS = [None, 0, 1]
 
+# The house that a game is asked to begin with: none, one that has seeds or any of the six, which may be empty or not there.
+FIRST = [None, "a house with seeds", *range(1, 7)]
+
+# How `--plain` stands among the words of `show`.
+PLAIN = [None, 0, 1]
+
+# Stores with which values are wide.
+WIDE = [(99, 0), (0, 99), (98, 0), (0, 98), (99, 1), (1, 99), (99, 99)]
+
 # The bytes that are put into a line, in place of a byte of it or before one.
 BITS = [b"", b"0", b"1", b"9", b",", b"/", b" ", b" e", b"\r", b"x", b"-", b"\t", b"\0", b"\xff"]
 
@@ -165,10 +174,27 @@ class Drawn:
         line = self.line() if card is None else self.line_of_moves(card)
         return self.line_of_play(card) if b"\0" in line else line
 
-    def words_of_line(self, subcommand, line, options):
-        """Returns the arguments of `moves` or `play` for this line, and whether boards are drawn."""
-        boards = self.card("boards", BOARDS)
-        flag = [] if boards is None else ["--boards"]
+    def wide(self, line):
+        """The line of the same houses with stores that make its values wide, if it is read."""
+        position = read(line)
+        if isinstance(position, str):
+            return line
+        own, other = self.card("wide", WIDE)
+        sides = position.own._replace(store=own), position.other._replace(store=other)
+        return text(Position(*sides, position.takes_empty)).encode()
+
+    def first(self, line):
+        """A house for a game to begin with, or None."""
+        house, position = self.card("first", FIRST), read(line)
+        if house != "a house with seeds":
+            return house
+        houses = [1] if isinstance(position, str) else [i for i, seeds in enumerate(position.own.houses, 1) if seeds] or [1]
+        return self.chance.choice(houses)
+
+    def words_of_line(self, subcommand, line, options, name="boards", places=BOARDS):
+        """The words of `moves`, `play` or `show` for this line, and whether the flag of this name is set."""
+        boards = self.card(name, places)
+        flag = [] if boards is None else [f"--{name}"]
         dashes = ["--"] if line.startswith(b"-") or self.happens(0.2) else []
         words = [*flag, *options, *dashes, line] if dashes or not boards else [*options, line, *flag]
         return [subcommand, *words], bool(flag)

@@ -154,12 +154,36 @@ def moves(line, boards=False):
     return Run("".join(move_text(house, *after(position, house), boards) for house in legal(position)).encode(), b"", 0)
 
 
-def play(line, boards=False):
-    """`kalah play LINE`."""
+def line_below(position):
+    """What stands below the picture of a position: the margin of a game that is over, or the value of each move below its house, and
+    nothing behind the last one."""
+    if is_over(position):
+        return f"over, margin {best_play(position)[0]}\n"
+    row = ["    "] * (1 + len(position.own.houses))
+    for house in legal(position):
+        row[house] = f"{value(position, house):4}"
+    return "".join(row).rstrip() + "\n"
+
+
+def show(line, plain=False):
+    """`kalah show LINE`."""
     position = read(line)
     if isinstance(position, str):
         return Run(b"", f"fault {position}\n".encode(), 1)
+    return Run((picture(position) + ("" if plain else line_below(position))).encode(), b"", 0)
+
+
+def play(line, boards=False, first=None):
+    """`kalah play LINE`, which begins with house `first` if there is one."""
+    position = read(line)
+    if isinstance(position, str):
+        return Run(b"", f"fault {position}\n".encode(), 1)
+    if first is not None and first not in legal(position):
+        return failed(b"house %d can't be moved" % first)
     said, word = picture(position) * boards, ""
+    if first is not None:
+        position, word = after(position, first)
+        said += move_text(first, position, word, boards)
     while word != "over" and not is_over(position):
         _, house = best_play(position)
         position, word = after(position, house)

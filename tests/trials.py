@@ -17,7 +17,7 @@ from pathlib import Path
 import reference
 from asked import ASK_KINDS, AskTrials
 from differing import SOON, Differs, read_soon
-from drawn import BYTES, FILES, LINES, LINES_OF_MOVES, NO_FILES, SEARCHING, SUBCOMMANDS, TABLES, Drawn
+from drawn import BYTES, FILES, LINES, LINES_OF_MOVES, NO_FILES, PLAIN, SEARCHING, SUBCOMMANDS, TABLES, Drawn
 from reference import Run
 
 TESTS = Path(__file__).resolve().parent
@@ -33,6 +33,10 @@ MISTAKES = [
     *(["ask", "a"], ["ask", "--values=1"], ["ask", "--values", "--values"], ["ask", "--workers", "1"], ["ask", "--table=0"], ["ask", "-V"]),
     *(["stop", "-V"], ["moves", "--version"], ["play", "-V", "1/0 1/0"], ["solve", "--version", "a"], ["solve", "a", "-V"]),
     *(["play"], ["play", "--"], ["play", "1/0 1/0", "1/0 1/0"], ["play", "--workers", "1", "1/0 1/0"], ["play", "--table", "1/0 1/0"]),
+    *(["play", f"--first={n}", "1/0 1/0"] for n in ("", "0", "7", "-1", "a", "1.0", 2**32 + 1)),
+    *(["play", "--first", "1/0 1/0"], ["play", "--first=1", "--first=1", "1/0 1/0"], ["moves", "--first=1", "1/0 1/0"], ["show", "--first=1", "1/0 1/0"]),
+    *(["show"], ["show", "--"], ["show", "-1/0 1/0"], ["show", "1/0 1/0", "1/0 1/0"], ["show", "--boards", "1/0 1/0"], ["show", "--plain=1", "1/0 1/0"]),
+    *(["show", "--plain", "--plain", "1/0 1/0"], ["show", "--table=0", "1/0 1/0"], ["show", "--workers", "1", "1/0 1/0"], ["show", b"1/0 1/0\x80"]),
     *(["play", "--boards=1", "1/0 1/0"], ["play", "--board", "1/0 1/0"], ["play", "--table=0", "1/0 1/0"], ["play", "--table=1048577", "1/0 1/0"]),
     *(["solve"], ["solve", "--"], ["solve", "--workers", "1"], ["solve", "--workers", "a"], ["solve", "a", "--table"], ["solve", "a", "-b"]),
     *(["solve", "--worker", "1", "a"], ["solve", "a", "--workers", "1", "--workers", "1"], ["solve", "a", "--table=1", "--table=1"]),
@@ -44,7 +48,7 @@ MISTAKES = [
 MISTAKES += [[other, *words[1:]] for other in ("values", "steps") for words in MISTAKES if words[:1] == ["solve"]]
 MISTAKES += [["steps", "--table", "1", "a"], ["steps", "a", "--table=65536"], ["steps", "--boards", "a"]]
 
-HELP = [["--help"], ["-h"], ["moves", "--help"], ["moves", "-h"], ["play", "--help"], ["solve", "--help"], ["solve", "-h"], ["solve", "a", "-h"], ["values", "--help"], ["values", "a", "-h"], ["steps", "--help"], ["steps", "a", "-h"], ["ask", "--help"], ["ask", "-h"]]
+HELP = [["--help"], ["-h"], ["moves", "--help"], ["moves", "-h"], ["play", "--help"], ["solve", "--help"], ["solve", "-h"], ["solve", "a", "-h"], ["values", "--help"], ["values", "a", "-h"], ["steps", "--help"], ["steps", "a", "-h"], ["ask", "--help"], ["ask", "-h"], ["show", "--help"], ["show", "-h"]]
 
 # Arguments that ask for the version before anything else.
 VERSION = [["--version"], ["-V"], ["-V", "-h"], ["--version", "stop"], ["-V", "solve", "a"], ["--version", "--version"], ["-V", "--", "a"]]
@@ -65,8 +69,8 @@ USAGES = [
 ]
 
 # What the help of a subcommand says of its options and arguments.
-BOARDS_HELP = "draws each position below its line, the player to move at the bottom"
-WORKERS_HELP = "how many workers solve side by side, 1 to 64"
+BOARDS_HELP = "draws each position below its line"
+WORKERS_HELP = "solves up to N lines in parallel, 1 to 64"
 PROGRESS_HELP = "shows on standard error how many lines are answered"
 FILE_HELP = "files of positions, one a line; /dev/stdin for standard input"
 HELP_OF_OPTIONS = {
@@ -74,7 +78,7 @@ HELP_OF_OPTIONS = {
     "play": [BOARDS_HELP],
     "solve": [WORKERS_HELP, PROGRESS_HELP, FILE_HELP],
     "values": [WORKERS_HELP, PROGRESS_HELP, FILE_HELP],
-    "ask": ["tells what each move is worth, as `values`"],
+    "ask": ["prints what each move is worth, as `values`"],
 }
 
 PROGRAM_NAMES = ["kalah", "./kalah", "/bin/kalah", "k l", "é", "-", "--help"]
@@ -102,6 +106,11 @@ RUNS = [
     (["moves", "1/0"], reference.moves(b"1/0")),
     (["play", "--boards", "3,3/0 3,3/0"], reference.play(b"3,3/0 3,3/0", True)),
     (["play", "1/0"], reference.play(b"1/0")),
+    (["play", "--first=2", "3,3/0 3,3/0"], reference.play(b"3,3/0 3,3/0", False, 2)),
+    (["play", "--first=1", "0,3/0 3,3/0"], reference.play(b"0,3/0 3,3/0", False, 1)),
+    (["show", "3,3/0 3,3/0"], reference.show(b"3,3/0 3,3/0")),
+    (["show", "--plain", "3,3/0 3,3/0"], reference.show(b"3,3/0 3,3/0", True)),
+    (["show", "1/0"], reference.show(b"1/0")),
     (["solve", "a", "a"], reference.answers("solve", [(b"a", A_AND_FAULT), (b"a", A_AND_FAULT)])),
     (["solve", "a", "b"], reference.answers("solve", [(b"a", A_AND_FAULT), (b"b", None)])),
     (["values", "a", "a"], reference.answers("values", [(b"a", A_AND_FAULT), (b"a", A_AND_FAULT)])),
@@ -112,8 +121,8 @@ STREAMS_OF_RUNS = list(product(STREAMS, RUNS))
 # The output from which answers are read while the run goes on, and the number of lines before one that takes long.
 FIRST_ANSWERS = list(product(["pipe", "terminal", "file"], [1, 64, 65, 1000]))
 
-# The output from which the first position of a game is read; its first move takes half a minute with a table of one entry.
-FIRST_PICTURES = ["pipe", "terminal", "file"]
+# Where the first position of a game, or a picture, is read; its first move takes half a minute with a table of one entry.
+FIRST_PICTURES = list(product(["pipe", "terminal", "file"], [["play", "--boards"], ["show"]]))
 LONG_GAME = b"3,2,1,4,4,3/0 1,0,1,3,4,5/0"
 
 # The numbers of workers that are observed at work.
@@ -328,12 +337,26 @@ class Trials(AskTrials):
         line = self.drawn.line_of_play(self.drawn.card("lines of play", LINES_OF_MOVES))
         table = self.drawn.card("tables of play", TABLES)
         options = [] if table is None else [f"--table={table}"]
-        self.run_on_line(line, self.drawn.words_of_line("play", line, options), reference.play)
+        first = self.drawn.first(line)
+        options += [] if first is None else self.drawn.chance.choice([[f"--first={first}"], ["--first", f"{first}"]])
+        self.run_on_line(line, self.drawn.words_of_line("play", line, options), reference.play, first)
 
-    def run_on_line(self, line, drawn, answer):
-        words, boards = drawn
+    def show(self):
+        line = self.drawn.line_of_play(self.drawn.card("lines of show", LINES_OF_MOVES))
+        line = self.drawn.wide(line) if self.drawn.happens(0.5) else line
+        table = self.drawn.card("tables of show", TABLES)
+        options = [] if table is None else [f"--table={table}"]
+        self.run_on_line(line, self.drawn.words_of_line("show", line, options, "plain", PLAIN), reference.show)
+
+    def plain_positions(self):
+        """Of any position a plain picture comes at once: nothing is searched for it."""
+        line = self.drawn.position(31)
+        self.run_on_line(line, (["show", "--plain", "--table=1", line], True), reference.show)
+
+    def run_on_line(self, line, drawn, answer, *more):
+        words, flag = drawn
         self.put({})
-        want = answer(line, boards) if is_text(line) else reference.failed(b"a word is not UTF-8")
+        want = answer(line, flag, *more) if is_text(line) else reference.failed(b"a word is not UTF-8")
         self.compare(want, self.run(words))
 
     def mistakes(self):
@@ -404,12 +427,12 @@ class Trials(AskTrials):
             raise Differs("the run has ended, though its last lines take long")
 
     def first_picture(self):
-        """The first position of a game is read while its first move is being found."""
-        place = self.drawn.card("first pictures", FIRST_PICTURES)
+        """The first position of a game is read while its first move is being found, and a picture while its values are."""
+        place, words = self.drawn.card("first pictures", FIRST_PICTURES)
         want = reference.picture(reference.read(LONG_GAME)).encode()
         self.put({})
         reader, writer = two_ends(place)
-        with self.start(["play", "--boards", "--table", "1", LONG_GAME], stdout=writer) as process:
+        with self.start([*words, "--table", "1", LONG_GAME], stdout=writer) as process:
             got = read_soon(reader, len(want))
             has_ended = process.poll() is not None
             process.kill()
@@ -561,6 +584,8 @@ KINDS = {
     "a_pipe_as_file": 10,
     "moves": len(LINES_OF_MOVES),
     "play": len(LINES_OF_MOVES),
+    "show": len(LINES_OF_MOVES),
+    "plain_positions": 10,
     "mistakes": len(MISTAKES),
     "help": len(HELP),
     "version": len(VERSION),

@@ -1,19 +1,26 @@
 -- What was begun, of what the arguments ask for.
-use Rattle.std.proofs.Common.{◌≡◌, ◌⊎◌, inl, inr, ℕ, Bool, List, [], ◌∷◌, ◌++◌, Option, ap, append-nil, append_assoc, length, map, refl, subst, sym, take, ◌+◌, ◌∙◌}
+use Rattle.std.proofs.Common.{◌≡◌, ◌⊎◌, inl, inr, ℕ, Bool, List, [], ◌∷◌, ◌++◌, None, Option, Some, true, false, ap, append-nil, append_assoc, length, map, refl, subst, sym, take, ◌+◌, ◌∙◌}
 use Rattle.std.specs.Io.KnownBytes.{Appends, Keeps}
-use Rattle.kalah_rules.specs.Position.{Position, HasEqualSides}
+use Rattle.std.specs.Prelude.{if◌then◌else◌}
+use Rattle.kalah_rules.specs.Position.{Position, HasEqualSides, is_over, swapped, swept}
+use Rattle.kalah_rules.specs.Play.{step_of}
+use Rattle.kalah_rules.specs.Sowing.{after, is_again}
+use Rattle.kalah_rules.proofs.Ends.{after_equal_sides}
+use Rattle.kalah_solve.proofs.Worths.{swapped_equal_sides}
 use Rattle.kalah_rules.specs.declared.step.Step.{Step}
 use Rattle.kalah_rules.specs.declared.step.Step.TheVariants.{Again, Over, Turn}
 use Rattle.kalah_jobs.specs.Writing.Given.{AppendsStart}
 use Rattle.kalah_jobs.specs.Line.Line.{Reads, position_after, step_text_of}
 use Rattle.kalah_jobs.specs.Files.Lines.{line_feed}
+use Rattle.kalah_jobs.specs.Writing.Picture.{picture_of}
+use Rattle.kalah_jobs.specs.Writing.Shown.{shown_of, values_line}
 use Rattle.kalah_jobs.specs.Files.NamedBytes.{NamedBytes}
 use Rattle.kalah_jobs.specs.declared.files.question.Question.{Question}
 use Rattle.kalah_jobs.proofs.OfWriting.Starts.{start_kept_all, start_none, start_then}
 use Rattle.clap.specs.Words.{Text}
 use Rattle.kalah_cli.specs.Moves.{board_lines, move_lines}
-use Rattle.kalah_cli.specs.Play.{BeginsBest}
-use Rattle.kalah_cli.specs.Request.{Asked, IsTakenAs, answers, ask, moves, play}
+use Rattle.kalah_cli.specs.Play.{BeginsBest, BeginsToPlay}
+use Rattle.kalah_cli.specs.Request.{Asked, IsTakenAs, answers, ask, moves, play, show}
 use Rattle.kalah_cli.specs.Runs.{Begins}
 use Rattle.kalah_cli.specs.Ask.{BeginsLines, StopsBetweenLines}
 use Rattle.kalah_cli.specs.Batch.{BeginsTo}
@@ -31,6 +38,11 @@ begins_all old between new bs all keeps = start_then old between new bs bs [] (s
 -- the line of a move, and then the position after it, if boards are drawn
 pub move_parts : (boards : Bool) (h : ℕ) (s : Step) → move_lines boards h s ≡ (step_text_of h s ++ line_feed ∷ []) ++ board_lines boards (position_after s)
 move_parts boards h s = sym (append_assoc (step_text_of h s) (line_feed ∷ []) (board_lines boards (position_after s)))
+
+-- the picture, and then the line below it
+pub shown_parts : (p : Position) → shown_of p ≡ picture_of p ++ (values_line p ++ line_feed ∷ [])
+unfolding shown_of
+shown_parts p = refl
 
 -- the position after a step, in each case
 pub after_step : (s : Step) (p : Position) → (s ≡ Again p) ⊎ ((s ≡ Turn p) ⊎ (s ≡ Over p)) → p ≡ position_after s
@@ -82,12 +94,31 @@ begins_no_game boards p old even = of_any boards p _ even (λ lines. start_none 
 pub even_read : (line : List ℕ) (p : Position) → Reads line p → HasEqualSides p
 even_read line p reads = record { same = reads.sides.same_side }
 
+-- and so has the position after any move
+pub even_after : (p : Position) (h : ℕ) → HasEqualSides (position_after (step_of p h))
+even_after p h = go (is_over (after p h)) (is_again p h)
+  where
+    go : (over again : Bool)
+        → HasEqualSides (position_after (if over then Over (swept (after p h)) else (if again then Again (after p h) else Turn (swapped (after p h)))))
+    go true again = record { same = refl }
+    go false true = after_equal_sides p h
+    go false false = swapped_equal_sides (after p h) (after_equal_sides p h)
+
+-- nothing is a prefix of a game, with a first house or without
+pub begins_no_play : (first : Option ℕ) (boards : Bool) (p : Position) (old : Option (List ℕ)) → HasEqualSides p → BeginsToPlay first boards p old old
+begins_no_play None boards p old even = record { moved = λ may. begins_no_game boards p old even; unmoved = λ not. start_none old [] }
+begins_no_play (Some h) boards p old even = record {
+  moved = λ may. of_any boards (position_after (step_of p h)) _ (even_after p h) (λ lines. start_none old _);
+  unmoved = λ not. start_none old [];
+}
+
 -- so nothing is a prefix of all that is asked
 pub begins_none : (a : Asked) (old : Option (List ℕ)) → Begins a old old
 begins_none (moves boards line) old = λ p reads. start_none old _
-begins_none (play table boards line) old = λ p reads. begins_no_game boards p old (even_read line p reads)
+begins_none (play first table boards line) old = λ p reads. begins_no_play first boards p old (even_read line p reads)
 begins_none (answers question workers table progress names) old = begins_nothing question names old
 begins_none (ask question table) old = no_lines_begun question old
+begins_none (show plain table line) old = λ p reads. start_none old _
 
 -- what was begun of a request was begun of what its arguments ask for
 pub begun_as : (words : List Text) (a b : Asked) (old new : Option (List ℕ)) → IsTakenAs words a → IsTakenAs words b → Begins a old new → Begins b old new

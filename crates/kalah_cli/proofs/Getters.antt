@@ -1,5 +1,5 @@
 -- What the getters return, by the rows of the matches.
-use Rattle.std.proofs.Common.{◌≡◌, ◌≢◌, ◌∙◌, ◌<◌, ◌≤◌, ℕ, Bool, true, false, refl, sym, ap, subst, List, [], Option, Some, None, Result, Ok, Err, is_some, arith, codes, map, length, inl, inr}
+use Rattle.std.proofs.Common.{◌≡◌, ◌≢◌, ◌∙◌, ◌<◌, ◌≤◌, ℕ, Bool, true, false, refl, sym, ap, subst, List, [], Option, Some, None, Result, Ok, Err, is_some, arith, codes, map, length, inl, inr, IfSome}
 use Rattle.std.specs.Prelude.{option_map, option_and_then, IfErr, IsErrAnd, MatchResult}
 use Rattle.clap.specs.Values.{kind_of}
 use Rattle.clap.specs.declared.error.kind.ErrorKind.TheVariants.{OutOfMemory}
@@ -20,11 +20,12 @@ use Rattle.clap.specs.declared.parser.matches.ArgMatches.{ArgMatches}
 use Rattle.clap.specs.Words.{subcommand_name_of}
 use Rattle.clap.proofs.OnLiterals.{clap_on_literals}
 use Rattle.clap.proofs.WalkLemmas.{one_text-rows}
+use Rattle.kalah_rules.specs.Limits.{most_houses}
 use Rattle.kalah_solve.specs.Table.{most_entries}
 use Rattle.kalah_run.specs.Limits.{most_workers}
 use Rattle.kalah_jobs.specs.declared.files.question.Question.{Question}
 use Rattle.kalah_jobs.specs.declared.files.question.Question.TheVariants.{BestMove, Values, Steps}
-use Rattle.kalah_cli.specs.Request.{Asked, HasFlag, HasNumber, HasWhatItNeeds, IsAnswers, IsAsk, IsPlay, IsSteps, IsTaken, answers, answers_asked, ask, ask_asked, asked, asked_by, command_of, files_asked, is_set, number_written, play, play_asked, question_of}
+use Rattle.kalah_cli.specs.Request.{Asked, HasFlag, HasNumber, HasWhatItNeeds, IsAnswers, IsAsk, IsPlay, IsSteps, IsTaken, answers, answers_asked, ask, ask_asked, asked, asked_by, command_of, files_asked, is_set, number_written, play, play_asked, question_of, IsShow, MayHaveNumber, number_given, show, show_asked}
 use Rattle.kalah_cli.specs.Command.{kalah_app}
 use Rattle.kalah_cli.proofs.Laws.{app_is_simple}
 use Rattle.kalah_cli.proofs.Subcommands.{taken_holds}
@@ -49,6 +50,28 @@ pub number_read : (E : Type 0) (G : List ℕ → Result ℕ E → Type 0) (f : F
 number_read E G f id r reads only has =
     let got = number_reads E G has.0 r (reads has.0 (one_text-rows f id ∙ has.1)) only has.2 in
     (got.0, got.1, λ t e. let same : t ≡ has.0 = cc in rw same got.2)
+
+-- and that of an option that may be left out its number, if there is one
+pub given_read : (E : Type 0) (G : List ℕ → Result ℕ E → Type 0) (f : Found) (id : List ℕ) (r : Option ℕ) → (one_text f id ≡ None → r ≡ None)
+    → ((t : List ℕ) → one_text f id ≡ Some t → ReadsOne G t r)
+    → ((u : List ℕ) (x : Result ℕ E) → G u x → ParsesUnsigned 32 10 u x) → MayHaveNumber id most_houses (rows_of f)
+    → r ≡ number_given id (rows_of f)
+given_read E G f id r absent reads only may = go (one_of id (rows_of f)) refl
+  where
+    go : (o : Option Text) → one_of id (rows_of f) ≡ o → r ≡ number_given id (rows_of f)
+    go None is = rw is (absent (one_text-rows f id ∙ is))
+    go (Some t) is =
+        let low = may t is in
+        let got = number_reads E G t r (reads t (one_text-rows f id ∙ is)) only (low.0, low.1, low.2, omega (arith, low.3)) in
+        rw is (got.1 ∙ ap (λ n. Some n) got.2)
+
+-- which is low
+pub given_low : (id : Text) (rows : List Row) (r : Option ℕ) → MayHaveNumber id most_houses rows → r ≡ number_given id rows → IfSome r (λ h. h ≤ most_houses)
+given_low id rows r may same = subst (λ o. IfSome o (λ h. h ≤ most_houses)) (sym same) (go (one_of id rows) refl)
+  where
+    go : (o : Option Text) → one_of id rows ≡ o → IfSome (option_map number_written o) (λ h. h ≤ most_houses)
+    go None is = tt
+    go (Some h) is = (may h is).3
 
 -- the parse of the program is exact
 kalah_is_simple : is_simple kalah_app ≡ true
@@ -88,34 +111,69 @@ answers_have BestMove other rows (inl one) = other_name (codes "solve") (codes "
 answers_have BestMove other rows (inr (inl one)) = other_name (codes "solve") (codes "play") refl one.0
 answers_have BestMove other rows (inr (inr (inl files))) = files.1
 answers_have BestMove other rows (inr (inr (inr (inl one)))) = other_name (codes "solve") (codes "ask") refl one.0
-answers_have BestMove other rows (inr (inr (inr (inr one)))) = other_name (codes "solve") (codes "steps") refl one.0
+answers_have BestMove other rows (inr (inr (inr (inr (inl one))))) = other_name (codes "solve") (codes "steps") refl one.0
+answers_have BestMove other rows (inr (inr (inr (inr (inr one))))) = other_name (codes "solve") (codes "show") refl one.0
 answers_have Values other rows (inl one) = other_name (codes "values") (codes "moves") refl one.0
 answers_have Values other rows (inr (inl one)) = other_name (codes "values") (codes "play") refl one.0
 answers_have Values other rows (inr (inr (inl files))) = files.1
 answers_have Values other rows (inr (inr (inr (inl one)))) = other_name (codes "values") (codes "ask") refl one.0
-answers_have Values other rows (inr (inr (inr (inr one)))) = other_name (codes "values") (codes "steps") refl one.0
+answers_have Values other rows (inr (inr (inr (inr (inl one))))) = other_name (codes "values") (codes "steps") refl one.0
+answers_have Values other rows (inr (inr (inr (inr (inr one))))) = other_name (codes "values") (codes "show") refl one.0
 answers_have Steps other rows has = absurd (other refl)
 
--- `steps` has what it needs
+-- what the subcommand that was entered needs, by its name
+met : (name : Text) (m : ArgMatches) (rows : List Row) → IsTaken (subcommand_rows_of m) → subcommand_name_of m ≡ Some name
+    → option_map (λ p. p.1) (subcommand_rows_of m) ≡ Some rows → HasWhatItNeeds name rows
+met name m rows taken named listed =
+    let same : option_map (λ (p : Text × List Row). p.0) (subcommand_rows_of m) ≡ subcommand_name_of m = first_of_both _ _ _ in
+    needed (subcommand_rows_of m) name rows taken (same ∙ named) listed
+
+-- `play` has what it needs
+game_have : (rows : List Row) → HasWhatItNeeds (codes "play") rows → IsPlay rows
+game_have rows (inl one) = other_name (codes "play") (codes "moves") refl one.0
+game_have rows (inr (inl own)) = own.1
+game_have rows (inr (inr (inl inl one, files))) = other_name (codes "play") (codes "solve") refl one
+game_have rows (inr (inr (inl inr one, files))) = other_name (codes "play") (codes "values") refl one
+game_have rows (inr (inr (inr (inl one)))) = other_name (codes "play") (codes "ask") refl one.0
+game_have rows (inr (inr (inr (inr (inl one))))) = other_name (codes "play") (codes "steps") refl one.0
+game_have rows (inr (inr (inr (inr (inr one))))) = other_name (codes "play") (codes "show") refl one.0
+
+pub game_need : (m : ArgMatches) (rows : List Row) → IsTaken (subcommand_rows_of m) → subcommand_name_of m ≡ Some (codes "play")
+    → option_map (λ p. p.1) (subcommand_rows_of m) ≡ Some rows → IsPlay rows
+game_need m rows taken named listed = game_have rows (met (codes "play") m rows taken named listed)
+
+-- and so has `steps`
 steps_have : (rows : List Row) → HasWhatItNeeds (codes "steps") rows → IsSteps rows
 steps_have rows (inl one) = other_name (codes "steps") (codes "moves") refl one.0
 steps_have rows (inr (inl one)) = other_name (codes "steps") (codes "play") refl one.0
-steps_have rows (inr (inr (inl (inl solve, has)))) = other_name (codes "steps") (codes "solve") refl solve
-steps_have rows (inr (inr (inl (inr values, has)))) = other_name (codes "steps") (codes "values") refl values
+steps_have rows (inr (inr (inl inl one, files))) = other_name (codes "steps") (codes "solve") refl one
+steps_have rows (inr (inr (inl inr one, files))) = other_name (codes "steps") (codes "values") refl one
 steps_have rows (inr (inr (inr (inl one)))) = other_name (codes "steps") (codes "ask") refl one.0
-steps_have rows (inr (inr (inr (inr one)))) = one.1
+steps_have rows (inr (inr (inr (inr (inl own))))) = own.1
+steps_have rows (inr (inr (inr (inr (inr one))))) = other_name (codes "steps") (codes "show") refl one.0
+
+pub steps_need : (m : ArgMatches) (rows : List Row) → IsTaken (subcommand_rows_of m) → subcommand_name_of m ≡ Some (codes "steps")
+    → option_map (λ p. p.1) (subcommand_rows_of m) ≡ Some rows → IsSteps rows
+steps_need m rows taken named listed = steps_have rows (met (codes "steps") m rows taken named listed)
+
+-- and so has `show`
+show_have : (rows : List Row) → HasWhatItNeeds (codes "show") rows → IsShow rows
+show_have rows (inl one) = other_name (codes "show") (codes "moves") refl one.0
+show_have rows (inr (inl one)) = other_name (codes "show") (codes "play") refl one.0
+show_have rows (inr (inr (inl inl one, files))) = other_name (codes "show") (codes "solve") refl one
+show_have rows (inr (inr (inl inr one, files))) = other_name (codes "show") (codes "values") refl one
+show_have rows (inr (inr (inr (inl one)))) = other_name (codes "show") (codes "ask") refl one.0
+show_have rows (inr (inr (inr (inr (inl one))))) = other_name (codes "show") (codes "steps") refl one.0
+show_have rows (inr (inr (inr (inr (inr own))))) = own.1
+
+pub show_need : (m : ArgMatches) (rows : List Row) → IsTaken (subcommand_rows_of m) → subcommand_name_of m ≡ Some (codes "show")
+    → option_map (λ p. p.1) (subcommand_rows_of m) ≡ Some rows → IsShow rows
+show_need m rows taken named listed = show_have rows (met (codes "show") m rows taken named listed)
 
 pub answers_need : (question : Question) → question ≢ Steps → (m : ArgMatches) (rows : List Row) → IsTaken (subcommand_rows_of m)
     → subcommand_name_of m ≡ Some (command_of question) → option_map (λ p. p.1) (subcommand_rows_of m) ≡ Some rows → IsAnswers rows
 answers_need question other m rows taken named listed =
-    let same : option_map (λ (p : Text × List Row). p.0) (subcommand_rows_of m) ≡ subcommand_name_of m = first_of_both _ _ _ in
-    answers_have question other rows (needed (subcommand_rows_of m) (command_of question) rows taken (same ∙ named) listed)
-
-pub steps_need : (m : ArgMatches) (rows : List Row) → IsTaken (subcommand_rows_of m)
-    → subcommand_name_of m ≡ Some (codes "steps") → option_map (λ p. p.1) (subcommand_rows_of m) ≡ Some rows → IsSteps rows
-steps_need m rows taken named listed =
-    let same : option_map (λ (p : Text × List Row). p.0) (subcommand_rows_of m) ≡ subcommand_name_of m = first_of_both _ _ _ in
-    steps_have rows (needed (subcommand_rows_of m) (codes "steps") rows taken (same ∙ named) listed)
+    answers_have question other rows (met (command_of question) m rows taken named listed)
 
 -- the number is that of the text of the id
 abbrev Reads : Text → List Row → ℕ → Type 0
@@ -134,15 +192,29 @@ flag_read f id r has absent set unset = go (one_of id (rows_of f)) refl
     ]
 
 -- what the getters return is what the matches of `play` ask for
-pub game_is : (rows : List Row) (has : IsPlay rows) (table : ℕ) (boards : Bool) (line : Text) → Reads (codes "table") rows table
-    → boards ≡ is_set (codes "boards") rows → first_of (codes "line") rows ≡ Some line → play_asked rows ≡ Some (play table boards line)
-game_is rows has table boards line is_table is_boards is_line = rw (has.0.1, is_line, is_table has.0.0 has.0.1, is_boards) refl
+pub game_is : (rows : List Row) (has : IsPlay rows) (table : ℕ) (boards : Bool) (first : Option ℕ) (line : Text) → Reads (codes "table") rows table
+    → boards ≡ is_set (codes "boards") rows → first ≡ number_given (codes "first") rows → first_of (codes "line") rows ≡ Some line
+    → play_asked rows ≡ Some (play first table boards line)
+game_is rows has table boards first line is_table is_boards is_first is_line =
+    rw (has.table.1, is_line, is_table has.table.0 has.table.1, is_boards, is_first) refl
 
 -- and it is in range
 pub game_in_range : (rows : List Row) (has : IsPlay rows) (table : ℕ) → Reads (codes "table") rows table → (1 ≤ table) × (table ≤ most_entries)
 game_in_range rows has table is_table =
-    let t = is_table has.0.0 has.0.1 in
-    let b = has.0.2 in
+    let t = is_table has.table.0 has.table.1 in
+    let b = has.table.2 in
+    (rw t b.2, rw t b.3)
+
+-- what the getters give is what the matches of `show` ask for
+pub show_is : (rows : List Row) (has : IsShow rows) (table : ℕ) (plain : Bool) (line : Text) → Reads (codes "table") rows table
+    → plain ≡ is_set (codes "plain") rows → first_of (codes "line") rows ≡ Some line → show_asked rows ≡ Some (show plain table line)
+show_is rows has table plain line is_table is_plain is_line = rw (has.1.1, is_line, is_table has.1.0 has.1.1, is_plain) refl
+
+-- and it is in range
+pub show_in_range : (rows : List Row) (has : IsShow rows) (table : ℕ) → Reads (codes "table") rows table → (1 ≤ table) × (table ≤ most_entries)
+show_in_range rows has table is_table =
+    let t = is_table has.1.0 has.1.1 in
+    let b = has.1.2 in
     (rw t b.2, rw t b.3)
 
 -- what the getters return is what the matches of `ask` ask for

@@ -4,7 +4,7 @@ use Rattle.clap.specs.Words.{Row, Text, subcommand_of}
 use Rattle.clap.specs.Faults.{fault_of, is_simple_and_free}
 use Rattle.clap.proofs.OnLiterals.{clap_on_literals}
 use Rattle.kalah_cli.specs.Command.{kalah_app}
-use Rattle.kalah_cli.specs.Request.{Asked, IsPlainWord, IsTakenAs, ask, asked, asked_by, moves, play}
+use Rattle.kalah_cli.specs.Request.{Asked, IsPlainWord, IsTakenAs, ask, asked, asked_by, moves, play, show}
 use Rattle.kalah_jobs.specs.declared.files.question.Question.TheVariants.{BestMove, Values}
 use Rattle.std.specs.Prelude.{option_and_then}
 use Rattle.std.proofs.lemmas.Bool.{ne_eqb}
@@ -73,10 +73,40 @@ unfolding clap_on_literals
 play_matches name x xs e = simp e refl
 
 -- so they are accepted as the game of that line
-pub play_taken : (name line : Text) → IsPlainWord line → IsTakenAs (name ∷ codes "play" ∷ line ∷ []) (play 65536 false line)
+pub play_taken : (name line : Text) → IsPlainWord line → IsTakenAs (name ∷ codes "play" ∷ line ∷ []) (play None 65536 false line)
 play_taken name [] plain = absurd plain
 play_taken name (x ∷ xs) plain =
     (play_passes name x xs (ne_eqb _ _ plain), ap (option_and_then asked_by) (play_matches name x xs (ne_eqb _ _ plain)))
+
+-- `show` and a plain word have no fault, and neither have `show --plain` and one
+show_passes : (name : Text) (x : ℕ) (xs : Text) → (x == 45) ≡ false
+    → fault_of kalah_app (name ∷ codes "show" ∷ (x ∷ xs) ∷ []) ≡ []
+unfolding clap_on_literals
+show_passes name x xs e = simp e refl
+
+show_plain_passes : (name : Text) (x : ℕ) (xs : Text) → (x == 45) ≡ false
+    → fault_of kalah_app (name ∷ codes "show" ∷ codes "--plain" ∷ (x ∷ xs) ∷ []) ≡ []
+unfolding clap_on_literals
+show_plain_passes name x xs e = simp e refl
+
+-- they ask for the picture of that word, with a table of the default size
+show_asks : (name : Text) (x : ℕ) (xs : Text) → (x == 45) ≡ false
+    → asked (name ∷ codes "show" ∷ (x ∷ xs) ∷ []) ≡ Some (show false 65536 (x ∷ xs))
+unfolding clap_on_literals
+show_asks name x xs e = simp e refl
+
+show_plain_asks : (name : Text) (x : ℕ) (xs : Text) → (x == 45) ≡ false
+    → asked (name ∷ codes "show" ∷ codes "--plain" ∷ (x ∷ xs) ∷ []) ≡ Some (show true 65536 (x ∷ xs))
+unfolding clap_on_literals
+show_plain_asks name x xs e = simp e refl
+
+pub show_taken : (name line : Text) → IsPlainWord line → IsTakenAs (name ∷ codes "show" ∷ line ∷ []) (show false 65536 line)
+show_taken name [] plain = absurd plain
+show_taken name (x ∷ xs) plain = (show_passes name x xs (ne_eqb _ _ plain), show_asks name x xs (ne_eqb _ _ plain))
+
+pub show_plain_taken : (name line : Text) → IsPlainWord line → IsTakenAs (name ∷ codes "show" ∷ codes "--plain" ∷ line ∷ []) (show true 65536 line)
+show_plain_taken name [] plain = absurd plain
+show_plain_taken name (x ∷ xs) plain = (show_plain_passes name x xs (ne_eqb _ _ plain), show_plain_asks name x xs (ne_eqb _ _ plain))
 
 -- `ask` has no fault, and neither has `ask --values`
 ask_passes : (name : Text) → fault_of kalah_app (name ∷ codes "ask" ∷ []) ≡ []

@@ -23,8 +23,8 @@ use Rattle.kalah_solve.proofs.Worths.{again_step, over_step, turn_step}
 use Rattle.kalah_jobs.specs.Line.Line.{position_after}
 use Rattle.kalah_jobs.specs.Writing.Given.{AppendsStart}
 use Rattle.kalah_jobs.proofs.OfWriting.Starts.{start_longer, start_then}
-use Rattle.kalah_cli.specs.Moves.{move_lines}
-use Rattle.kalah_cli.specs.Play.{IsBestGame, OfBestGame, game_lines}
+use Rattle.kalah_cli.specs.Moves.{board_lines, move_lines}
+use Rattle.kalah_cli.specs.Play.{IsBestGame, OfBestGame, OfGame, game_lines}
 
 -- both players always move the lowest best house
 abbrev pub BestGame : Position → List ℕ → Position → Type 0
@@ -180,3 +180,12 @@ on_ok_always (Err e) p = tt
 pub of_board_lines : (boards : Bool) (p : Position) (Lines Holds : List ℕ → Type 0) → ((lines : List ℕ) → Lines lines → Holds lines) → OfBestGame boards p Lines
     → OfBestGame boards p Holds
 of_board_lines boards p Lines Holds more game = record { houses = game.houses; final = game.final; is_best = game.is_best; holds = more _ game.holds }
+
+-- and behind the first picture and the move that is asked for, where the game goes on from the position after it
+pub behind_move : (boards : Bool) (p next : Position) (h : ℕ) (s : Step) (Lines Holds : List ℕ → Type 0) → s ≡ step_of p h → next ≡ position_after s
+    → ((lines : List ℕ) → Lines lines → Holds (board_lines boards p ++ (move_lines boards h s ++ lines))) → OfBestGame boards next Lines
+    → OfGame (Some h) boards p Holds
+behind_move boards p next h s Lines Holds same is more game =
+    of_board_lines boards (position_after (step_of p h)) Lines (λ lines. Holds (board_lines boards p ++ (move_lines boards h (step_of p h) ++ lines)))
+    (λ lines rest. subst (λ x. Holds (board_lines boards p ++ (move_lines boards h x ++ lines))) same (more lines rest))
+    (subst (λ q. OfBestGame boards q Lines) (is ∙ ap position_after same) game)

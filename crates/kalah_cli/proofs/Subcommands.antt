@@ -1,4 +1,4 @@
--- What the matches of the subcommands hold, where the words are taken.
+-- What the matches of the six subcommands hold, where the words are taken.
 use Rattle.std.proofs.Common.{◌≡◌, ◌⊎◌, ◌∙◌, ◌<◌, ℕ, Bool, true, false, refl, ap, subst, sym, inl, inr, List, [], ◌∷◌, Option, Some, None, arith, length, is_some, ◌||◌, not, codes}
 use Rattle.std.specs.Prelude.{find, nat_lt, option_and_then, option_map, slice_get}
 use Rattle.std.specs.Option.{option_map_or}
@@ -16,10 +16,11 @@ use Rattle.clap.specs.declared.builder.value_parser.Reading.TheVariants.{AsWritt
 use Rattle.clap.specs.declared.builder.value_parser.ValueParser.TheVariants.{Unsigned}
 use Rattle.clap.specs.declared.builder.value_parser.ValueParser.TheVariants as vp
 use Rattle.clap.specs.declared.builder.action.ArgAction.TheVariants.{Append, Help, Set, SetTrue}
+use Rattle.kalah_rules.specs.Limits.{most_houses}
 use Rattle.kalah_solve.specs.Table.{most_entries}
 use Rattle.kalah_run.specs.Limits.{most_workers}
-use Rattle.kalah_cli.specs.Command.{answers_app, ask_app, boards_rule, file_rule, kalah_app, line_rule, moves_app, play_app, progress_rule, steps_app, table_rule, values_rule, workers_rule}
-use Rattle.kalah_cli.specs.Request.{HasFlag, HasLineArgument, HasNumber, HasWhatItNeeds, IsAnswers, IsAsk, IsMoves, IsPlay, IsSteps}
+use Rattle.kalah_cli.specs.Command.{answers_app, ask_app, boards_rule, file_rule, kalah_app, line_rule, moves_app, play_app, progress_rule, steps_app, table_rule, values_rule, workers_rule, first_rule, plain_rule, show_app}
+use Rattle.kalah_cli.specs.Request.{HasFlag, HasLineArgument, HasNumber, HasWhatItNeeds, IsAnswers, IsAsk, IsMoves, IsPlay, IsSteps, IsShow, MayHaveNumber}
 use Rattle.kalah_cli.proofs.Items.{AllOf, both_all, found_all, more_than}
 use Rattle.kalah_cli.proofs.OfClap.FoundRows.{values_pass, default_made, given_row, found_row, rows_stay, row_in, found_named}
 use Rattle.kalah_cli.proofs.OfClap.KeptRows.{Gives, kept_level, level_parts}
@@ -42,6 +43,8 @@ pub record Sound (r : Row) : Type 0 where
   pub boards : Flagged (codes "boards") r
   pub progress : Flagged (codes "progress") r
   pub values : Flagged (codes "values") r
+  pub first : Ranged (codes "first") most_houses r
+  pub plain : Flagged (codes "plain") r
 
 -- a row of another id
 elsewhere : {Q : Type 0} (id other : Text) (r : Row) → bytes_eq r.id other ≡ true → bytes_eq other id ≡ false → bytes_eq r.id id ≡ true → Q
@@ -70,6 +73,10 @@ ask_shape = built_leaf (inherited (marked_built (with_leaf_noted kalah_app.top))
 abbrev steps_shape : Shape
 steps_shape = built_leaf (inherited (marked_built (with_leaf_noted kalah_app.top)) steps_app.top)
 
+-- `show`, as built under the program
+abbrev show_shape : Shape
+show_shape = built_leaf (inherited (marked_built (with_leaf_noted kalah_app.top)) show_app.top)
+
 -- the arguments, as built
 abbrev workers_built : Rule
 workers_built = with_index 1 (filled workers_rule)
@@ -85,6 +92,12 @@ progress_built = with_index 1 (filled progress_rule)
 
 abbrev values_built : Rule
 values_built = with_index 1 (filled values_rule)
+
+abbrev first_built : Rule
+first_built = with_index 1 (filled first_rule)
+
+abbrev plain_built : Rule
+plain_built = with_index 1 (filled plain_rule)
 
 abbrev file_built : Rule
 file_built = with_index 1 (filled file_rule)
@@ -106,6 +119,8 @@ workers_give = record {
     boards = λ bad. cc;
     progress = λ bad. cc;
     values = λ bad. cc;
+    first = λ bad. cc;
+    plain = λ bad. cc;
   };
   more = λ s r vs is p e. record {
     some = more_than r.values vs p.some;
@@ -114,6 +129,8 @@ workers_give = record {
     boards = elsewhere (codes "boards") (codes "workers") r is refl;
     progress = elsewhere (codes "progress") (codes "workers") r is refl;
     values = elsewhere (codes "values") (codes "workers") r is refl;
+    first = elsewhere (codes "first") (codes "workers") r is refl;
+    plain = elsewhere (codes "plain") (codes "workers") r is refl;
   };
 }
 
@@ -128,6 +145,8 @@ table_gives = record {
     boards = λ bad. cc;
     progress = λ bad. cc;
     values = λ bad. cc;
+    first = λ bad. cc;
+    plain = λ bad. cc;
   };
   more = λ s r vs is p e. record {
     some = more_than r.values vs p.some;
@@ -136,6 +155,8 @@ table_gives = record {
     boards = elsewhere (codes "boards") (codes "table") r is refl;
     progress = elsewhere (codes "progress") (codes "table") r is refl;
     values = elsewhere (codes "values") (codes "table") r is refl;
+    first = elsewhere (codes "first") (codes "table") r is refl;
+    plain = elsewhere (codes "plain") (codes "table") r is refl;
   };
 }
 
@@ -150,6 +171,8 @@ boards_give = record {
     boards = λ same. (refl, values_pass false vp.Bool (v ∷ vs) e);
     progress = λ bad. cc;
     values = λ bad. cc;
+    first = λ bad. cc;
+    plain = λ bad. cc;
   };
   more = λ s r vs is p e. record {
     some = more_than r.values vs p.some;
@@ -158,6 +181,8 @@ boards_give = record {
     boards = λ same. ((p.boards same).0, both_all _ r.values vs (p.boards same).1 (values_pass false vp.Bool vs e));
     progress = elsewhere (codes "progress") (codes "boards") r is refl;
     values = elsewhere (codes "values") (codes "boards") r is refl;
+    first = elsewhere (codes "first") (codes "boards") r is refl;
+    plain = elsewhere (codes "plain") (codes "boards") r is refl;
   };
 }
 
@@ -172,6 +197,8 @@ progress_gives = record {
     boards = λ bad. cc;
     progress = λ same. (refl, values_pass false vp.Bool (v ∷ vs) e);
     values = λ bad. cc;
+    first = λ bad. cc;
+    plain = λ bad. cc;
   };
   more = λ s r vs is p e. record {
     some = more_than r.values vs p.some;
@@ -180,6 +207,8 @@ progress_gives = record {
     boards = elsewhere (codes "boards") (codes "progress") r is refl;
     progress = λ same. ((p.progress same).0, both_all _ r.values vs (p.progress same).1 (values_pass false vp.Bool vs e));
     values = elsewhere (codes "values") (codes "progress") r is refl;
+    first = elsewhere (codes "first") (codes "progress") r is refl;
+    plain = elsewhere (codes "plain") (codes "progress") r is refl;
   };
 }
 
@@ -194,6 +223,8 @@ values_give = record {
     boards = λ bad. cc;
     progress = λ bad. cc;
     values = λ same. (refl, values_pass false vp.Bool (v ∷ vs) e);
+    first = λ bad. cc;
+    plain = λ bad. cc;
   };
   more = λ s r vs is p e. record {
     some = more_than r.values vs p.some;
@@ -202,6 +233,60 @@ values_give = record {
     boards = elsewhere (codes "boards") (codes "values") r is refl;
     progress = elsewhere (codes "progress") (codes "values") r is refl;
     values = λ same. ((p.values same).0, both_all _ r.values vs (p.values same).1 (values_pass false vp.Bool vs e));
+    first = elsewhere (codes "first") (codes "values") r is refl;
+    plain = elsewhere (codes "plain") (codes "values") r is refl;
+  };
+}
+
+-- the house that a game begins with
+first_gives : Gives Sound first_built
+first_gives = record {
+  action = inr (inl (inl refl, refl));
+  first = λ s v vs e. record {
+    some = omega arith;
+    workers = λ bad. cc;
+    table = λ bad. cc;
+    boards = λ bad. cc;
+    progress = λ bad. cc;
+    values = λ bad. cc;
+    first = λ same. (refl, values_pass false (Unsigned 1 most_houses) (v ∷ vs) e);
+    plain = λ bad. cc;
+  };
+  more = λ s r vs is p e. record {
+    some = more_than r.values vs p.some;
+    workers = elsewhere (codes "workers") (codes "first") r is refl;
+    table = elsewhere (codes "table") (codes "first") r is refl;
+    boards = elsewhere (codes "boards") (codes "first") r is refl;
+    progress = elsewhere (codes "progress") (codes "first") r is refl;
+    values = elsewhere (codes "values") (codes "first") r is refl;
+    first = λ same. ((p.first same).0, both_all _ r.values vs (p.first same).1 (values_pass false (Unsigned 1 most_houses) vs e));
+    plain = elsewhere (codes "plain") (codes "first") r is refl;
+  };
+}
+
+-- whether values are left out
+plain_gives : Gives Sound plain_built
+plain_gives = record {
+  action = inr (inr (refl, omega arith));
+  first = λ s v vs e. record {
+    some = omega arith;
+    workers = λ bad. cc;
+    table = λ bad. cc;
+    boards = λ bad. cc;
+    progress = λ bad. cc;
+    values = λ bad. cc;
+    first = λ bad. cc;
+    plain = λ same. (refl, values_pass false vp.Bool (v ∷ vs) e);
+  };
+  more = λ s r vs is p e. record {
+    some = more_than r.values vs p.some;
+    workers = elsewhere (codes "workers") (codes "plain") r is refl;
+    table = elsewhere (codes "table") (codes "plain") r is refl;
+    boards = elsewhere (codes "boards") (codes "plain") r is refl;
+    progress = elsewhere (codes "progress") (codes "plain") r is refl;
+    values = elsewhere (codes "values") (codes "plain") r is refl;
+    first = elsewhere (codes "first") (codes "plain") r is refl;
+    plain = λ same. ((p.plain same).0, both_all _ r.values vs (p.plain same).1 (values_pass false vp.Bool vs e));
   };
 }
 
@@ -210,8 +295,9 @@ other_gives : (a : Rule) → (action_of a ≡ Help)
     ⊎ ((((action_of a ≡ Set) ⊎ (action_of a ≡ Append)) × (nat_lt 0 (unwrap_or_range a.range).start_inclusive ≡ true))
     ⊎ ((action_of a ≡ SetTrue) × (0 < length a.missing)))
     → bytes_eq a.id (codes "workers") ≡ false → bytes_eq a.id (codes "table") ≡ false → bytes_eq a.id (codes "boards") ≡ false
-    → bytes_eq a.id (codes "progress") ≡ false → bytes_eq a.id (codes "values") ≡ false → Gives Sound a
-other_gives a action no_workers no_table no_boards no_progress no_values = record {
+    → bytes_eq a.id (codes "progress") ≡ false → bytes_eq a.id (codes "values") ≡ false → bytes_eq a.id (codes "first") ≡ false
+    → bytes_eq a.id (codes "plain") ≡ false → Gives Sound a
+other_gives a action no_workers no_table no_boards no_progress no_values no_first no_plain = record {
   action = action;
   first = λ s v vs e. record {
     some = omega arith;
@@ -220,6 +306,8 @@ other_gives a action no_workers no_table no_boards no_progress no_values = recor
     boards = λ bad. cc;
     progress = λ bad. cc;
     values = λ bad. cc;
+    first = λ bad. cc;
+    plain = λ bad. cc;
   };
   more = λ s r vs is p e. record {
     some = more_than r.values vs p.some;
@@ -228,24 +316,26 @@ other_gives a action no_workers no_table no_boards no_progress no_values = recor
     boards = elsewhere (codes "boards") a.id r is no_boards;
     progress = elsewhere (codes "progress") a.id r is no_progress;
     values = elsewhere (codes "values") a.id r is no_values;
+    first = elsewhere (codes "first") a.id r is no_first;
+    plain = elsewhere (codes "plain") a.id r is no_plain;
   };
 }
 
 file_gives : Gives Sound file_built
-file_gives = other_gives file_built (inr (inl (inr refl, refl))) refl refl refl refl refl
+file_gives = other_gives file_built (inr (inl (inr refl, refl))) refl refl refl refl refl refl refl
 
 line_gives : Gives Sound line_built
-line_gives = other_gives line_built (inr (inl (inl refl, refl))) refl refl refl refl refl
+line_gives = other_gives line_built (inr (inl (inl refl, refl))) refl refl refl refl refl refl refl
 
 help_gives : Gives Sound help_built
-help_gives = other_gives help_built (inl refl) refl refl refl refl refl
+help_gives = other_gives help_built (inl refl) refl refl refl refl refl refl refl
 
 -- so the arguments of each subcommand do
 moves_give : AllOf (Gives Sound) moves_shape.rules
 moves_give = (boards_give, (line_gives, (help_gives, tt)))
 
 play_gives : AllOf (Gives Sound) play_shape.rules
-play_gives = (table_gives, (boards_give, (line_gives, (help_gives, tt))))
+play_gives = (table_gives, (boards_give, (first_gives, (line_gives, (help_gives, tt)))))
 
 answers_give : (name : Text) → AllOf (Gives Sound) (answers_shape name).rules
 answers_give name = (workers_give, (table_gives, (progress_gives, (file_gives, (help_gives, tt)))))
@@ -255,6 +345,9 @@ ask_gives = (values_give, (table_gives, (help_gives, tt)))
 
 steps_give : AllOf (Gives Sound) steps_shape.rules
 steps_give = (workers_give, (progress_gives, (file_gives, (help_gives, tt))))
+
+show_gives : AllOf (Gives Sound) show_shape.rules
+show_gives = (plain_gives, (table_gives, (line_gives, (help_gives, tt))))
 
 -- ---- what is there
 
@@ -276,7 +369,7 @@ file_given name rows e = go (is_given (codes "file") rows) e
     go true f = refl
     go false f = cc
 
--- the last checks of `moves` and `play` pass only if a line is given
+-- the last checks of `moves`, `play` and `show` pass only where a line is given
 line_given : (rows : List Row) → check_fault moves_shape rows false ≡ [] → is_given (codes "line") rows ≡ true
 line_given rows e = go (is_given (codes "line") rows) e
   where
@@ -290,6 +383,32 @@ played_line_given rows e = go (is_given (codes "line") rows) e
     go : (b : Bool) → check_kinds false false (not b || (false || false)) ≡ [] → b ≡ true
     go true f = refl
     go false f = cc
+
+shown_line_given : (rows : List Row) → check_fault show_shape rows false ≡ [] → is_given (codes "line") rows ≡ true
+shown_line_given rows e = go (is_given (codes "line") rows) e
+  where
+    go : (b : Bool) → check_kinds false false (not b || (false || false)) ≡ [] → b ≡ true
+    go true f = refl
+    go false f = cc
+
+-- a row of numbers in range has one in the text that is read
+number_of : (high : ℕ) (r : Row) (t : Text) → (r.reading ≡ AsWritten) × AllOf (IsUnsignedIn 1 high) r.values → row_text r ≡ Some t → IsUnsignedIn 1 high t
+number_of high r t ok is = go r.values r.reading ok.1 ok.0 is
+  where
+    go : (vs : List Text) (how : Reading) → AllOf (IsUnsignedIn 1 high) vs → how ≡ AsWritten → option_map (read_as how) (slice_get vs 0) ≡ Some t
+        → IsUnsignedIn 1 high t
+    go [] how all as_written e = cc
+    go (v ∷ vs) how all as_written e =
+        let same : v ≡ t = (let read = rw as_written at e in cc) in
+        subst (IsUnsignedIn 1 high) same all.0
+
+-- so rows of which each is so have such a number, or none
+number_may_be_in : (id : Text) (high : ℕ) (rows : List Row) → ((r : Row) → Sound r → Ranged id high r) → AllOf Sound rows → MayHaveNumber id high rows
+number_may_be_in id high rows ranged all = λ t e. go t (find (λ r. bytes_eq r.id id) rows) refl e
+  where
+    go : (t : Text) (o : Option Row) → find (λ r. bytes_eq r.id id) rows ≡ o → option_and_then row_text o ≡ Some t → IsUnsignedIn 1 high t
+    go t None is e = cc
+    go t (Some r) is e = number_of high r t (ranged r (found_row Sound id rows r all is) (found_named id rows r is)) e
 
 -- a row that is true or false is so in the text that is read
 flag_of : (r : Row) (t : Text) → (r.reading ≡ AsWritten) × AllOf (Accepts false vp.Bool) r.values → row_text r ≡ Some t
@@ -403,9 +522,14 @@ play_holds words e =
     let level = kept_level Sound play_shape play_gives [] words false [] e in
     let rows = rows_after play_shape.rules [] words in
     let start = (settled play_shape.rules (walk play_shape.rules [] nothing_held words).held).rows in
-    let table = rows_stay (codes "table") (boards_built ∷ line_built ∷ help_built ∷ []) (with_default start table_built)
+    let table = rows_stay (codes "table") (boards_built ∷ first_built ∷ line_built ∷ help_built ∷ []) (with_default start table_built)
     (default_made start table_built (codes "65536") [] refl refl) in
-    (table_in rows level.0 table, flag_in (codes "boards") rows (λ r sound. sound.boards) level.0, line_in rows level.0 (played_line_given rows level.1))
+    record {
+      table = table_in rows level.0 table;
+      boards = flag_in (codes "boards") rows (λ r sound. sound.boards) level.0;
+      first = number_may_be_in (codes "first") most_houses rows (λ r sound. sound.first) level.0;
+      line = line_in rows level.0 (played_line_given rows level.1);
+    }
 
 -- matches of `ask` without a fault have what it needs
 pub ask_holds : (words : List Text) → level_fault ask_shape [] nothing_held words false [] ≡ []
@@ -416,6 +540,17 @@ ask_holds words e =
     let start = with_default (settled ask_shape.rules (walk ask_shape.rules [] nothing_held words).held).rows values_built in
     let table = rows_stay (codes "table") (help_built ∷ []) (with_default start table_built) (default_made start table_built (codes "65536") [] refl refl) in
     (flag_in (codes "values") rows (λ r sound. sound.values) level.0, table_in rows level.0 table)
+
+-- matches of `show` without a fault have what it needs
+pub show_holds : (words : List Text) → level_fault show_shape [] nothing_held words false [] ≡ []
+    → IsShow (rows_after show_shape.rules [] words)
+show_holds words e =
+    let level = kept_level Sound show_shape show_gives [] words false [] e in
+    let rows = rows_after show_shape.rules [] words in
+    let start = with_default (settled show_shape.rules (walk show_shape.rules [] nothing_held words).held).rows plain_built in
+    let table = rows_stay (codes "table") (line_built ∷ help_built ∷ []) (with_default start table_built)
+    (default_made start table_built (codes "65536") [] refl refl) in
+    (flag_in (codes "plain") rows (λ r sound. sound.plain) level.0, table_in rows level.0 table, line_in rows level.0 (shown_line_given rows level.1))
 
 -- ---- the subcommand that the arguments name
 
@@ -459,7 +594,10 @@ taken_holds words e =
             λ words f. inr (inr (inl (inr refl, answers_hold (codes "values") words f))),
             (
               λ words f. inr (inr (inr (inl (refl, ask_holds words f)))),
-              (λ words f. inr (inr (inr (inr (refl, steps_hold words f)))), tt),
+              (
+                λ words f. inr (inr (inr (inr (inl (refl, steps_hold words f))))),
+                (λ words f. inr (inr (inr (inr (inr (refl, show_holds words f))))), tt),
+              ),
             ),
           ),
         ),

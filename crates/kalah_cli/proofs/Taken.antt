@@ -1,5 +1,5 @@
 -- What arguments are accepted as, and what is done for them.
-use Rattle.std.proofs.Common.{◌≡◌, ◌≢◌, ◌∙◌, ◌⊎◌, inl, inr, ℕ, false, List, [], ◌∷◌, Option, ap, codes, subst, sym, String, Global}
+use Rattle.std.proofs.Common.{◌≡◌, ◌≢◌, ◌∙◌, ◌⊎◌, inl, inr, ℕ, false, true, List, [], ◌∷◌, None, Option, ap, codes, subst, sym, String, Global}
 use Rattle.std.specs.List.{All}
 use Rattle.std.specs.Prelude.{option_and_then}
 use Rattle.clap.specs.Values.{kind_of}
@@ -12,11 +12,11 @@ use Rattle.clap.specs.declared.error.kind.ErrorKind.TheVariants.{MissingRequired
 use Rattle.kalah_jobs.specs.declared.files.question.Question.{Question}
 use Rattle.kalah_jobs.specs.declared.files.question.Question.TheVariants.{BestMove, Values, Steps}
 use Rattle.kalah_cli.specs.Command.{kalah_app}
-use Rattle.kalah_cli.specs.Request.{Asked, texts_of, IsPlainWord, IsTakenAs, answers, ask, asked_by, command_of, moves, play, table_of}
-use Rattle.kalah_cli.specs.Runs.{Does, IsOfLine}
+use Rattle.kalah_cli.specs.Request.{Asked, texts_of, IsPlainWord, IsTakenAs, answers, ask, asked_by, command_of, moves, play, table_of, show}
+use Rattle.kalah_cli.specs.Runs.{Does, IsOfLine, IsUnmoved}
 use Rattle.kalah_cli.specs.declared.status.ExitStatus.{ExitStatus}
 use Rattle.kalah_cli.specs.declared.status.ExitStatus.TheVariants.{Clean, Failed}
-use Rattle.kalah_cli.proofs.Laws.{ask_taken, ask_values_taken, moves_taken, play_taken, taken_once}
+use Rattle.kalah_cli.proofs.Laws.{ask_taken, ask_values_taken, moves_taken, play_taken, show_plain_taken, show_taken, taken_once}
 use Rattle.kalah_cli.proofs.ManyWords.{files_match, files_pass, no_file_is_missed}
 
 -- `moves` and a plain argument are accepted as the moves of that line
@@ -24,8 +24,16 @@ pub moves_of : (words : List Text) (name line : Text) → words ≡ name ∷ cod
 moves_of words name line is plain = subst (λ ws. IsTakenAs ws (moves false line)) (sym is) (moves_taken name line plain)
 
 -- `play` and a plain argument as its game
-pub game_of : (words : List Text) (name line : Text) → words ≡ name ∷ codes "play" ∷ line ∷ [] → IsPlainWord line → IsTakenAs words (play 65536 false line)
-game_of words name line is plain = subst (λ ws. IsTakenAs ws (play 65536 false line)) (sym is) (play_taken name line plain)
+pub game_of : (words : List Text) (name line : Text) → words ≡ name ∷ codes "play" ∷ line ∷ [] → IsPlainWord line → IsTakenAs words (play None 65536 false line)
+game_of words name line is plain = subst (λ ws. IsTakenAs ws (play None 65536 false line)) (sym is) (play_taken name line plain)
+
+-- `show` and a plain word as its picture, with values or plain
+pub show_of : (words : List Text) (name line : Text) → words ≡ name ∷ codes "show" ∷ line ∷ [] → IsPlainWord line → IsTakenAs words (show false 65536 line)
+show_of words name line is plain = subst (λ ws. IsTakenAs ws (show false 65536 line)) (sym is) (show_taken name line plain)
+
+pub show_plain_of : (words : List Text) (name line : Text) → words ≡ name ∷ codes "show" ∷ codes "--plain" ∷ line ∷ [] → IsPlainWord line
+    → IsTakenAs words (show true 65536 line)
+show_plain_of words name line is plain = subst (λ ws. IsTakenAs ws (show true 65536 line)) (sym is) (show_plain_taken name line plain)
 
 -- `ask`, without arguments or with its flag, is accepted as asking of the standard input
 pub ask_of : (words : List Text) (name : Text) → words ≡ name ∷ codes "ask" ∷ [] → IsTakenAs words (ask BestMove 65536)
@@ -64,12 +72,17 @@ done_as words a b old new status one other done = subst (λ x. Does x old new st
 pub line_as : (words : List Text) (a b : Asked) (line : Text) → IsTakenAs words a → IsTakenAs words b → IsOfLine b line → IsOfLine a line
 line_as words a b line one other of = subst (λ x. IsOfLine x line) (taken_once words b a other one) of
 
+-- and so is a game that can't begin as it is asked for
+pub unmoved_as : (words : List Text) (a b : Asked) → IsTakenAs words a → IsTakenAs words b → IsUnmoved b → IsUnmoved a
+unmoved_as words a b one other unmoved = subst IsUnmoved (taken_once words b a other one) unmoved
+
 -- if the program failed nothing is owed
 pub failed_does : (a : Asked) (old new : Option (List ℕ)) (status : ExitStatus) → status ≡ Failed → Does a old new status
 failed_does (moves boards line) old new status failed = λ p reads. (λ e. cc, λ e. absurd (let bad : Failed ≡ Clean = sym failed ∙ e in cc))
-failed_does (play table boards line) old new status failed = λ p reads. (λ e. cc, λ e. absurd (let bad : Failed ≡ Clean = sym failed ∙ e in cc))
+failed_does (play first table boards line) old new status failed = λ p reads. (λ e. cc, λ e. absurd (let bad : Failed ≡ Clean = sym failed ∙ e in cc))
 failed_does (answers question workers table progress names) old new status failed = λ went. absurd (went failed)
 failed_does (ask question table) old new status failed = λ went. absurd (went failed)
+failed_does (show plain table line) old new status failed = λ p reads. (λ e. cc, λ e. absurd (let bad : Failed ≡ Clean = sym failed ∙ e in cc))
 
 -- equal arguments are accepted as the same
 pub words_at : (xs ys : List (String Global)) (a : Asked) → xs ≡ ys → IsTakenAs (texts_of ys) a → IsTakenAs (texts_of xs) a

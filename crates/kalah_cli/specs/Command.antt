@@ -4,6 +4,7 @@ use Rattle.clap.specs.Words.{App, Rule, Text, new_app, new_rule, with_rule, with
 use Rattle.clap.specs.Simple.{on_top}
 use Rattle.clap.specs.declared.builder.action.ArgAction.TheVariants.{Append, Set, SetTrue}
 use Rattle.clap.specs.declared.builder.value_parser.ValueParser.TheVariants.{Unsigned}
+use Rattle.kalah_rules.specs.Limits.{most_houses}
 use Rattle.kalah_solve.specs.Table.{most_entries}
 use Rattle.kalah_run.specs.Limits.{most_workers}
 
@@ -33,6 +34,15 @@ workers_rule = number_rule (codes "workers") most_workers (codes "4")
 abbrev pub table_rule : Rule
 table_rule = number_rule (codes "table") most_entries (codes "65536")
 
+-- `--first H`: the number of a house, or nothing
+abbrev pub first_rule : Rule
+first_rule = record (new_rule (codes "first")) {
+  long = Some (codes "first");
+  value_names = 1;
+  action = Some Set;
+  parser = Some (Unsigned 1 most_houses);
+}
+
 -- `--NAME`, a flag
 abbrev pub flag_rule : Text → Rule
 flag_rule name = record (new_rule name) {
@@ -52,6 +62,10 @@ boards_rule = flag_rule (codes "boards")
 abbrev pub values_rule : Rule
 values_rule = flag_rule (codes "values")
 
+-- `--plain`
+abbrev pub plain_rule : Rule
+plain_rule = flag_rule (codes "plain")
+
 -- FILE..: at least one
 abbrev pub file_rule : Rule
 file_rule = record (new_rule (codes "file")) {
@@ -64,9 +78,9 @@ file_rule = record (new_rule (codes "file")) {
 abbrev pub moves_app : App
 moves_app = with_rule (with_rule (new_app (codes "moves")) boards_rule) line_rule
 
--- `play [--table N] [--boards] LINE`
+-- `play [--table N] [--boards] [--first H] LINE`
 abbrev pub play_app : App
-play_app = with_rule (with_rule (with_rule (new_app (codes "play")) table_rule) boards_rule) line_rule
+play_app = with_rule (with_rule (with_rule (with_rule (new_app (codes "play")) table_rule) boards_rule) first_rule) line_rule
 
 -- `NAME [--workers N] [--table N] [--progress] FILE..`
 abbrev pub answers_app : Text → App
@@ -86,6 +100,10 @@ ask_app = with_rule (with_rule (new_app (codes "ask")) values_rule) table_rule
 abbrev pub steps_app : App
 steps_app = with_rule (with_rule (with_rule (new_app (codes "steps")) workers_rule) progress_rule) file_rule
 
+-- `show [--plain] [--table N] LINE`
+abbrev pub show_app : App
+show_app = with_rule (with_rule (with_rule (new_app (codes "show")) plain_rule) table_rule) line_rule
+
 -- the program with no subcommand yet
 abbrev pub program_app : App
 program_app = on_top (λ s. record s { has_version = true; subcommand_required = true; disable_help_subcommand = true }) (new_app (codes "kalah"))
@@ -97,4 +115,4 @@ solvers_app =
 
 -- the program, which is always given one of its subcommands
 abbrev pub kalah_app : App
-kalah_app = with_subcommand solvers_app steps_app.top
+kalah_app = with_subcommand (with_subcommand solvers_app steps_app.top) show_app.top

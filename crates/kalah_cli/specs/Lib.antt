@@ -4,6 +4,7 @@ pub mod Status
 pub mod Failure
 pub mod Moves
 pub mod Play
+pub mod Show
 pub mod Batch
 pub mod Ask
 pub mod Runs

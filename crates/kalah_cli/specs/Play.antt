@@ -1,8 +1,8 @@
 -- What `kalah play` prints.
-use Rattle.std.specs.Prelude.{◌≡◌, ℕ, List, [], ◌∷◌, ◌++◌, Bool, Option}
+use Rattle.std.specs.Prelude.{◌≡◌, ℕ, List, [], ◌∷◌, ◌++◌, Bool, Option, Some, None, Contains, ⊤}
 use Rattle.std.specs.Io.KnownBytes.{Appends}
 use Rattle.kalah_rules.specs.Position.{Position, final_margin}
-use Rattle.kalah_rules.specs.Play.{step_of}
+use Rattle.kalah_rules.specs.Play.{legal_houses, step_of}
 use Rattle.kalah_solve.specs.BestPlay.{Game, follow}
 use Rattle.kalah_solve.specs.Worth.{best_house, worth}
 use Rattle.kalah_jobs.specs.Writing.Given.{AppendsStart}
@@ -42,3 +42,25 @@ PlaysBest boards p old new = OfBestGame boards p (λ lines. Appends old new (boa
 -- a prefix of these was
 abbrev pub BeginsBest : Bool → Position → Option (List ℕ) → Option (List ℕ) → Type 0
 BeginsBest boards p old new = OfBestGame boards p (λ lines. AppendsStart old new (board_lines boards p ++ lines))
+
+-- ---- a game with a first move that is asked for
+
+-- the house that is asked for may be moved
+abbrev pub MayBegin : Option ℕ → Position → Type 0
+MayBegin None p = ⊤
+MayBegin (Some h) p = Contains (legal_houses p) h
+
+-- of what is printed of the game that begins with this house, and goes on with best play of both from the position after it, this holds
+abbrev pub OfGame : Option ℕ → Bool → Position → (List ℕ → Type 0) → Type 0
+OfGame None boards p Holds = OfBestGame boards p (λ lines. Holds (board_lines boards p ++ lines))
+OfGame (Some h) boards p Holds =
+    OfBestGame boards (position_after (step_of p h)) (λ lines. Holds (board_lines boards p ++ (move_lines boards h (step_of p h) ++ lines)))
+
+-- the house may be moved, and that game was written, and nothing else
+abbrev pub Plays : Option ℕ → Bool → Position → Option (List ℕ) → Option (List ℕ) → Type 0
+Plays first boards p old new = MayBegin first p × OfGame first boards p (λ text. Appends old new text)
+
+-- a prefix of that game was written, and nothing if the house may not be moved
+pub record BeginsToPlay (first : Option ℕ) (boards : Bool) (p : Position) (old new : Option (List ℕ)) : Type 0 where
+  pub moved : MayBegin first p → OfGame first boards p (λ text. AppendsStart old new text)
+  pub unmoved : (MayBegin first p → ⊥) → AppendsStart old new []

@@ -11,11 +11,12 @@ use Rattle.clap.specs.Values.{IsUnsignedIn}
 use Rattle.clap.specs.Words.{Row, Text, all_of, first_of, one_of, subcommand_of}
 use Rattle.kalah_jobs.specs.declared.files.question.Question.{Question}
 use Rattle.kalah_jobs.specs.declared.files.question.Question.TheVariants.{BestMove, Values, Steps}
+use Rattle.kalah_rules.specs.Limits.{most_houses}
 use Rattle.kalah_solve.specs.Table.{most_entries}
 use Rattle.kalah_run.specs.Limits.{most_workers}
 use Rattle.kalah_cli.specs.Command.{kalah_app}
 use Rattle.kalah_cli.specs.declared.request.Request.{Request}
-use Rattle.kalah_cli.specs.declared.request.Request.TheVariants.{Moves, Play, Batch, Ask}
+use Rattle.kalah_cli.specs.declared.request.Request.TheVariants.{Moves, Play, Batch, Ask, Show}
 use Rattle.kalah_cli.specs.declared.request.Batch as batch
 
 module _ {A : Type 0} where
@@ -23,14 +24,15 @@ module _ {A : Type 0} where
   abbrev pub texts_of : List (String A) → List Text
   texts_of words = map string_bytes words
 
--- what can be asked: the moves of a line, with boards drawn or not; the game of best play from a line, found with a table of a
--- given size; something of each position in files, by a number of workers with tables of a given size; or of each line of the standard
--- input, with such a table
+-- what can be asked: the moves of a line, with boards drawn or not; the game of best play from a line, or behind its move of a house,
+-- found with a table of so many entries; something of each position in files, by so many workers with such tables; or of each line of
+-- the standard input, with such a table; or a picture of a line, plain or with what its moves are worth, found with such a table
 pub data Asked : Type 0 where
   moves : Bool → Text → Asked
-  play : ℕ → Bool → Text → Asked
+  play : Option ℕ → ℕ → Bool → Text → Asked
   answers : Question → ℕ → ℕ → Bool → List Text → Asked
   ask : Question → ℕ → Asked
+  show : Bool → ℕ → Text → Asked
 
 -- the subcommand that asks this of files
 abbrev pub command_of : Question → Text
@@ -48,6 +50,10 @@ table_of Steps = 1
 abbrev pub number_written : Text → ℕ
 number_written text = digits_value 10 (without_leading_plus text)
 
+-- the number that the matches have under the name, if there is one
+abbrev pub number_given : Text → List Row → Option ℕ
+number_given id rows = option_map number_written (one_of id rows)
+
 -- whether the matches have the flag
 abbrev pub is_set : Text → List Row → Bool
 is_set id rows = option_map_or (λ t. bytes_eq t (codes "true")) (one_of id rows) false
@@ -58,7 +64,8 @@ moves_asked rows = option_map (moves (is_set (codes "boards") rows)) (first_of (
 
 -- what the matches of `play` ask for
 abbrev pub play_asked : List Row → Option Asked
-play_asked rows = option_and_then (λ t. option_map (play (number_written t) (is_set (codes "boards") rows)) (first_of (codes "line") rows))
+play_asked rows =
+    option_and_then (λ t. option_map (play (number_given (codes "first") rows) (number_written t) (is_set (codes "boards") rows)) (first_of (codes "line") rows))
     (one_of (codes "table") rows)
 
 -- what the matches of a subcommand with files ask for, where tables have so many entries
@@ -82,6 +89,11 @@ question_of values = if values then Values else BestMove
 abbrev pub ask_asked : List Row → Option Asked
 ask_asked rows = option_map (λ t. ask (question_of (is_set (codes "values") rows)) (number_written t)) (one_of (codes "table") rows)
 
+-- what the matches of `show` ask for
+abbrev pub show_asked : List Row → Option Asked
+show_asked rows = option_and_then (λ t. option_map (show (is_set (codes "plain") rows) (number_written t)) (first_of (codes "line") rows))
+    (one_of (codes "table") rows)
+
 -- what a subcommand with its matches asks for
 abbrev pub asked_by : Text × List Row → Option Asked
 asked_by p =
@@ -89,7 +101,8 @@ asked_by p =
     else (if bytes_eq p.0 (codes "play") then play_asked p.1
     else (if bytes_eq p.0 (codes "solve") then answers_asked BestMove p.1
     else (if bytes_eq p.0 (codes "values") then answers_asked Values p.1
-    else (if bytes_eq p.0 (codes "ask") then ask_asked p.1 else steps_asked p.1))))
+    else (if bytes_eq p.0 (codes "ask") then ask_asked p.1
+    else (if bytes_eq p.0 (codes "steps") then steps_asked p.1 else show_asked p.1)))))
 
 -- what the arguments ask for, read by the command line
 abbrev pub asked : List Text → Option Asked
@@ -114,9 +127,10 @@ IsVersionWord name words = (words ≡ name ∷ codes "--version" ∷ []) ⊎ (wo
 -- what a request asks for
 abbrev pub asked_for : Request → Asked
 asked_for (Moves line boards) = moves boards line.now
-asked_for (Play line table boards) = play table boards line.now
+asked_for (Play line table boards first) = play first table boards line.now
 asked_for (Batch b) = answers b.question b.workers b.table b.progress (map (λ f. f.now) b.files.items)
 asked_for (Ask question table) = ask question table
+asked_for (Show line table plain) = show plain table line.now
 
 -- workers and entries are in their ranges, and there is a file
 abbrev pub IsInLimits : batch.Batch → Type 0
@@ -124,9 +138,10 @@ IsInLimits b = (1 ≤ b.workers) × (b.workers ≤ most_workers) × (1 ≤ b.tab
 
 abbrev pub IsInRange : Request → Type 0
 IsInRange (Moves line boards) = ⊤
-IsInRange (Play line table boards) = (1 ≤ table) × (table ≤ most_entries)
+IsInRange (Play line table boards first) = (1 ≤ table) × (table ≤ most_entries)
 IsInRange (Batch b) = IsInLimits b
 IsInRange (Ask question table) = (1 ≤ table) × (table ≤ most_entries)
+IsInRange (Show line table plain) = (1 ≤ table) × (table ≤ most_entries)
 
 -- an argument that is no flag: it isn't empty and doesn't begin with `-` (45)
 abbrev pub IsPlainWord : Text → Type 0
@@ -136,6 +151,10 @@ IsPlainWord (x ∷ xs) = x ≢ 45
 -- the matches have a number from 1 to `high` under the name
 abbrev pub HasNumber : Text → ℕ → List Row → Type 0
 HasNumber id high rows = (t : Text) × (one_of id rows ≡ Some t) × IsUnsignedIn 1 high t
+
+-- the matches have a number from 1 to `high` under the name, or none
+abbrev pub MayHaveNumber : Text → ℕ → List Row → Type 0
+MayHaveNumber id high rows = (t : Text) → one_of id rows ≡ Some t → IsUnsignedIn 1 high t
 
 -- the matches state of the flag that it is set, that it isn't, or nothing
 abbrev pub HasFlag : Text → List Row → Type 0
@@ -161,12 +180,19 @@ abbrev pub IsMoves : List Row → Type 0
 IsMoves rows = HasFlag (codes "boards") rows × HasLineArgument rows
 
 -- the matches have what `play` needs
-abbrev pub IsPlay : List Row → Type 0
-IsPlay rows = HasNumber (codes "table") most_entries rows × HasFlag (codes "boards") rows × HasLineArgument rows
+pub record IsPlay (rows : List Row) : Type 0 where
+  pub table : HasNumber (codes "table") most_entries rows
+  pub boards : HasFlag (codes "boards") rows
+  pub first : MayHaveNumber (codes "first") most_houses rows
+  pub line : HasLineArgument rows
 
 -- the matches have what `ask` needs
 abbrev pub IsAsk : List Row → Type 0
 IsAsk rows = HasFlag (codes "values") rows × HasNumber (codes "table") most_entries rows
+
+-- the matches have what `show` needs
+abbrev pub IsShow : List Row → Type 0
+IsShow rows = HasFlag (codes "plain") rows × HasNumber (codes "table") most_entries rows × HasLineArgument rows
 
 -- the matches have what the subcommand of this name needs
 abbrev pub HasWhatItNeeds : Text → List Row → Type 0
@@ -174,6 +200,7 @@ HasWhatItNeeds name rows = ((name ≡ codes "moves") × IsMoves rows) ⊎ ((name
     ⊎ (((name ≡ codes "solve") ⊎ (name ≡ codes "values")) × IsAnswers rows)
     ⊎ ((name ≡ codes "ask") × IsAsk rows)
     ⊎ ((name ≡ codes "steps") × IsSteps rows)
+    ⊎ ((name ≡ codes "show") × IsShow rows)
 
 -- a subcommand was met, and its matches have what it needs
 abbrev pub IsTaken : Option (Text × List Row) → Type 0

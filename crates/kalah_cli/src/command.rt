@@ -2,23 +2,26 @@
 ghost use Rattle.std.specs.Prelude.{◌≡◌, IfOk, false};
 ghost use Rattle.clap.specs.Words.{App, app_of, new_app, rule_of, with_rule, with_subcommand};
 ghost use Rattle.clap.specs.declared.builder.command.Command.TheViews.{out-Command as fields_of};
-ghost use Rattle.kalah_cli.specs.Command.{answers_app, ask_app, boards_rule, file_rule, flag_rule, kalah_app, line_rule, moves_app, number_rule, play_app, program_app, progress_rule, steps_app, table_rule, values_rule, workers_rule};
+ghost use Rattle.kalah_cli.specs.Command.{answers_app, ask_app, boards_rule, file_rule, flag_rule, kalah_app, line_rule, moves_app, number_rule, play_app, program_app, progress_rule, steps_app, table_rule, values_rule, workers_rule, first_rule, plain_rule, show_app};
 
 use crate::help;
 use crate::version::VERSION_LINE;
 use clap::builder::ValueParser;
 use clap::{Arg, ArgAction, Command};
+use kalah_rules::MOST_HOUSES;
 use kalah_run::MOST_WORKERS;
 use kalah_solve::MOST_ENTRIES;
 use std::alloc::{AllocError, Global};
 
-const ABOUT_SOLVE: &str =
-    "Prints the margin of best play and the best house of each position in files";
+const ABOUT_SOLVE: &str = "Prints the best house and the margin of best play of each position";
 
-const ABOUT_VALUES: &str = "Prints what each move of each position in files is worth";
+const ABOUT_VALUES: &str = "Prints what each move of each position is worth";
 
-const ABOUT_STEPS: &str =
-    "Prints each legal move of each position in files, and the position after it";
+const ABOUT_STEPS: &str = "Prints each legal move of each position, and what it leads to";
+
+const TABLE_OF_ONE: &str = "table entries of the search, 1 to 1048576";
+
+const TABLE_OF_WORKERS: &str = "table entries of each worker, 1 to 1048576";
 
 // A command of this name, with nothing in it.
 fn named<'a>(alloc: Global, name: &'a str, about: &'a str) -> Command<'a>
@@ -48,7 +51,7 @@ fn with_arg<'a>(command: Command<'a>, arg: Arg<'a>) -> Result<Command<'a>, Alloc
     command.arg(arg)
 }
 
-// The line of `moves`.
+// The line of `moves`, `play` or `show`.
 fn line_arg<'a>(alloc: Global) -> Arg<'a>
     ensures rule { rule_of result ≡ line_rule }
     ensures local { result.global ≡ false }
@@ -76,7 +79,7 @@ fn boards_arg<'a>(alloc: Global) -> Arg<'a>
     ensures rule { rule_of result ≡ boards_rule }
     ensures local { result.global ≡ false }
 {
-    let help = "draws each position below its line, the player to move at the bottom";
+    let help = "draws each position below its line";
     flag_arg(alloc, "boards", help)
 }
 
@@ -88,7 +91,7 @@ fn values_arg<'a>(alloc: Global) -> Arg<'a>
     flag_arg(
         alloc,
         "values",
-        "tells what each move is worth, as `values`",
+        "prints what each move is worth, as `values`",
     )
 }
 
@@ -128,28 +131,53 @@ fn workers_arg<'a>(alloc: Global) -> Arg<'a>
     ensures rule { rule_of result ≡ workers_rule }
     ensures local { result.global ≡ false }
 {
-    let help = "how many workers solve side by side, 1 to 64";
+    let help = "solves up to N lines in parallel, 1 to 64";
     number_arg(alloc, "workers", help, MOST_WORKERS, "4")
 }
 
-// How large the table of each worker is.
-fn table_arg<'a>(alloc: Global) -> Arg<'a>
+// How large a table is, with this help.
+fn table_arg<'a>(alloc: Global, help: &'a str) -> Arg<'a>
     ensures rule { rule_of result ≡ table_rule }
     ensures local { result.global ≡ false }
 {
-    let help = "how many solved positions each worker remembers, 1 to 1048576";
     number_arg(alloc, "table", help, MOST_ENTRIES, "65536")
 }
 
-// `play [--table N] [--boards] LINE`.
+// The house that a game begins with.
+fn first_arg<'a>(alloc: Global) -> Arg<'a>
+    ensures rule { rule_of result ≡ first_rule }
+    ensures local { result.global ≡ false }
+{
+    Arg::new(alloc, "first")
+        .long("first")
+        .value_name("H")
+        .help("begins with house H, 1 to 6, and goes on with best play")
+        .action(ArgAction::Set)
+        .value_parser(ValueParser::unsigned(1, MOST_HOUSES as u64))
+}
+
+// Whether values are left out.
+fn plain_arg<'a>(alloc: Global) -> Arg<'a>
+    ensures rule { rule_of result ≡ plain_rule }
+    ensures local { result.global ≡ false }
+{
+    flag_arg(
+        alloc,
+        "plain",
+        "draws the position alone, and searches nothing",
+    )
+}
+
+// `play [--table N] [--boards] [--first H] LINE`.
 fn play_command<'a>(alloc: Global) -> Result<Command<'a>, AllocError>
     ensures app { IfOk result (λ c. app_of c ≡ play_app) }
     ensures local { IfOk result (λ c. (fields_of c).has_globals ≡ false) }
 {
     let about = "Prints the game that best play leads to from a position, move by move";
-    let command = subcommand(alloc, "play", about, help::LONG_OF_A_LINE);
-    let command = with_arg(command, table_arg(alloc))?;
+    let command = subcommand(alloc, "play", about, help::LONG_OF_PLAY);
+    let command = with_arg(command, table_arg(alloc, TABLE_OF_ONE))?;
     let command = with_arg(command, boards_arg(alloc))?;
+    let command = with_arg(command, first_arg(alloc))?;
     with_arg(command, line_arg(alloc))
 }
 
@@ -186,7 +214,7 @@ fn answers_command<'a>(
 {
     let command = subcommand(alloc, name, about, long_help);
     let command = with_arg(command, workers_arg(alloc))?;
-    let command = with_arg(command, table_arg(alloc))?;
+    let command = with_arg(command, table_arg(alloc, TABLE_OF_WORKERS))?;
     let command = with_arg(command, progress_arg(alloc))?;
     with_arg(command, file_arg(alloc))
 }
@@ -196,11 +224,22 @@ fn ask_command<'a>(alloc: Global) -> Result<Command<'a>, AllocError>
     ensures app { IfOk result (λ c. app_of c ≡ ask_app) }
     ensures local { IfOk result (λ c. (fields_of c).has_globals ≡ false) }
 {
-    let about =
-        "Answers each line of the standard input before it reads on, as `solve` or `values`";
+    let about = "Answers each line of standard input before it reads the next";
     let command = subcommand(alloc, "ask", about, help::LONG_OF_ASK);
     let command = with_arg(command, values_arg(alloc))?;
-    with_arg(command, table_arg(alloc))
+    with_arg(command, table_arg(alloc, TABLE_OF_ONE))
+}
+
+// `show [--plain] [--table N] LINE`.
+fn show_command<'a>(alloc: Global) -> Result<Command<'a>, AllocError>
+    ensures app { IfOk result (λ c. app_of c ≡ show_app) }
+    ensures local { IfOk result (λ c. (fields_of c).has_globals ≡ false) }
+{
+    let about = "Draws a position, and below each house what its move is worth";
+    let command = subcommand(alloc, "show", about, help::LONG_OF_SHOW);
+    let command = with_arg(command, plain_arg(alloc))?;
+    let command = with_arg(command, table_arg(alloc, TABLE_OF_ONE))?;
+    with_arg(command, line_arg(alloc))
 }
 
 // `steps [--workers N] [--progress] FILE..`.
@@ -243,11 +282,11 @@ fn with_command<'a>(
     command.subcommand(subcommand?)
 }
 
-/// The command line of the program: `moves [--boards] LINE`, `play [--table N] [--boards] LINE`,
+/// The command line of the program: `moves [--boards] LINE`, `play [--table N] [--boards] [--first H] LINE`,
 /// `solve [--workers N] [--table N] [--progress] FILE..`, `values` with the same arguments,
-/// `ask [--values] [--table N]` and `steps [--workers N] [--progress] FILE..`, with 1 to 64 workers, 4 by
-/// default, and 1 to 1,048,576 entries in the table of each, 65,536 by default. One of these is asked for,
-/// or help, or the version. It is complete: nothing is added to it before a parse.
+/// `ask [--values] [--table N]` and `show [--plain] [--table N] LINE`, with 1 to 64 workers, 4 by default,
+/// 1 to 1,048,576 entries in a table, 65,536 by default, and a house from 1 to 6. One of the six is asked
+/// for, or help, or the version. It is complete: nothing is added to it before a parse.
 pub fn command<'a>(alloc: Global) -> Result<Command<'a>, AllocError>
     ensures { IfOk result (λ c. app_of c ≡ kalah_app) }
 {
@@ -258,5 +297,6 @@ pub fn command<'a>(alloc: Global) -> Result<Command<'a>, AllocError>
     let values = answers_command(alloc, "values", ABOUT_VALUES, help::LONG_OF_VALUES);
     let command = with_command(command, values)?;
     let command = with_command(command, ask_command(alloc))?;
-    with_command(command, steps_command(alloc))
+    let command = with_command(command, steps_command(alloc))?;
+    with_command(command, show_command(alloc))
 }

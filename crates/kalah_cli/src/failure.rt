@@ -18,6 +18,8 @@ pub(crate) enum Failure<'a> {
     TooManyLines,
     OutOfMemory,
     NoWorker,
+    /// A house may not be moved, with which a game was to begin.
+    Unmoved(u8),
     /// A read of the standard input failed.
     StandardInput,
     /// A write to the standard output failed.
@@ -57,6 +59,7 @@ impl fmt::Display for Failure<'_> {
             Failure::TooManyLines => f.write_str("too many lines"),
             Failure::OutOfMemory => f.write_str("out of memory"),
             Failure::NoWorker => f.write_str("no worker could be started"),
+            Failure::Unmoved(house) => write!(f, "house {house} can't be moved"),
             Failure::StandardInput => f.write_str("cannot read standard input"),
             Failure::Write => f.write_str("write failed"),
         }

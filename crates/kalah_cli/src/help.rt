@@ -2,55 +2,73 @@
 
 /// What follows the short help of the program, which `-h` prints.
 pub(crate) const SHORT: &str =
-    "`kalah --help` has the form of positions, the rules, the answers and the exit statuses.";
+    "`kalah --help` explains positions, the rules, answers and exit statuses.";
 
 /// What follows the short help of a subcommand.
 pub(crate) const SHORT_OF_SUBCOMMAND: &str =
-    "`--help` here has more, and `kalah --help` has the form of positions, the rules and the answers.";
+    "`--help` has more; `kalah --help` has the rules and the form of positions.";
 
 /// What follows the long help of the program: all that a newcomer has to know.
 pub(crate) const LONG: &str = "\
-A position is one line, seen by the player to move: the seeds in that player's houses, a slash, the
-seeds in that player's store, one space, and the same for the other player, as in
+A position is one line, seen by the player to move: the seeds in that player's
+houses, a slash, the seeds in that player's store, a space, and the same for the
+other player:
     1,1/0 1,1/0
-On a command line it stands in quotes: kalah moves '1,1/0 1,1/0'
-Houses count from 1, and the last one lies next to its owner's store. A side has 1 to 6 houses; all
-houses together hold at most 31 seeds, and a store at most 99.
+On a command line it needs quotes: kalah moves '1,1/0 1,1/0'
+Houses count from 1, and the last one lies next to its owner's store. A side has
+1 to 6 houses. All houses together hold at most 31 seeds, and a store at most
+99.
 
-A move lifts the seeds of an own house and sows them one by one: the own houses after it, the own
-store, the other player's houses, and round again, never the other player's store. Who sows the last
-seed into the own store moves again. A last seed that is alone in an own house is captured together
-with the seeds in the house across, if there are any there. The game is over once the houses of one
-player are all empty; what is left in houses goes to their owner's store.
-A line that ends in ` e`, as 1,1/0 1,1/0 e, is played under the empty-capture rule: a last seed that
-is alone in an own house is captured also where the house across is empty.
+The rules: on your turn, choose one of your houses with seeds in it. Take them
+all out and sow them, one into each cell: your houses after it, your store, your
+opponent's houses, your houses from 1 on, and so on round the board, but never
+your opponent's store. If the last seed falls into your store, you move again.
+If it falls into an empty house of yours (the one that you chose is empty, too),
+and the house across has seeds, you capture it and all of these: they go to your
+store. The game is over when the houses of one player are all empty. Seeds left
+in houses go to their owner's store.
+A line that ends in ` e`, such as 1,1/0 1,1/0 e, is played under the
+empty-capture rule: you capture a last seed in an empty house of yours even if
+the house across is empty.
 
-`kalah moves LINE` prints a line for each house H that may be moved, with the position after it:
-    H POSITION again        the player to move has another move
-    H POSITION turn         the other player is to move, and the position is seen by that player
-    H POSITION over         the game is over
-`kalah play LINE` prints the game in which each player always moves the lowest best house, a line
-for each move, in the form of `moves`. With --boards, each position is drawn below its line, as
-1,2,3/4 5,6,7/8 here: the player to move sits below, with houses from left to right.
+`kalah moves LINE` prints a line for each house H that may be moved, with the
+position after the move:
+    H POSITION again  the same player moves again
+    H POSITION turn   the other player is to move, and the position is seen by
+                      that player
+    H POSITION over   the game is over
+`kalah play LINE` prints the game in which each player always moves the lowest
+best house, a line for each move as `moves` prints it. With --boards, each
+position is drawn below its line, with the player to move at the bottom and
+houses from left to right. This is 1,2,3/4 5,6,7/8:
        7   6   5
    8               4
        1   2   3
+With --first H the game begins with house H, and goes on with best play.
+`kalah show LINE` draws a position, and below each house what its move is worth;
+with --plain the picture alone. This is 3,3,3/0 3,3,3/0:
+       3   3   3
+   0               0
+       3   3   3
+       2   2  -4
 `kalah solve FILE..` prints a line for each line of each file, in order:
-    FILE:LINE MARGIN house H        the margin of best play, and the first house that attains it
-    FILE:LINE MARGIN over           the game is over, with this margin
-    FILE:LINE fault WORD            not a position
-`kalah values FILE..` prints for each of these lines what each of its moves is worth:
-    FILE:LINE H:V H:V ..            each house H that may be moved, and the margin V that its move
-                                    gets in best play
-    FILE:LINE MARGIN over           as `solve`
-    FILE:LINE fault WORD            as `solve`
-`kalah ask` prints for each line of the standard input, before it reads on, what `solve` prints behind
-FILE:LINE, or with --values what `values` prints there.
-`kalah steps FILE..` prints for each of the lines of files a line for each house H that may be moved:
-    FILE:LINE H POSITION again      behind FILE:LINE as `moves`, or with turn or over
-    FILE:LINE MARGIN over           as `solve`
-    FILE:LINE fault WORD            as `solve`
-A margin is what the player to move ends with less what the other player ends with.
+    FILE:LINE MARGIN house H  the margin of best play, and the first best house
+    FILE:LINE MARGIN over     the game is over, with this margin
+    FILE:LINE fault WORD      not a position
+`kalah values FILE..` prints for each of these lines what each move is worth:
+    FILE:LINE H:V H:V ..      each house H that may be moved, and the margin V
+                              that its move gets in best play
+    FILE:LINE MARGIN over     as `solve`
+    FILE:LINE fault WORD      as `solve`
+`kalah steps FILE..` prints for each of these lines a line for each house H that
+may be moved:
+    FILE:LINE H POSITION again  as `moves` prints it, or with turn or over
+    FILE:LINE MARGIN over       as `solve`
+    FILE:LINE fault WORD        as `solve`
+`kalah ask` prints for each line of standard input, before it reads on, what
+`solve` prints after FILE:LINE, or with --values what `values` prints there.
+A margin is what the player to move ends with, less what the other player ends
+with.
 
 The WORD of a line that is not a position is the first of these that holds:
     long      it has more than 80 bytes
@@ -59,59 +77,95 @@ The WORD of a line that is not a position is the first of these that holds:
     houses    the sides have different numbers of houses, or more than 6
     seeds     the houses hold more than 31 seeds together
 
-Exit status: 0 if every line was read or help was asked for; 1 if some line was not read; 2 if the
-words, a file, the standard input, memory, a worker or the output failed, and standard error says
-which.";
+Exit status: 0 if every line was read or help was printed; 1 if some line was
+not read; 2 if the arguments, a file, standard input, memory, a worker or the
+output failed, and standard error says which.";
 
-/// What follows the long help of `moves` and `play`.
+/// What follows the long help of `moves`.
 pub(crate) const LONG_OF_A_LINE: &str = "\
-A position is one argument, so it stands in quotes. Seen by the player to move, it is the seeds in that
-player's houses, a slash, the seeds in that player's store, one space, and the same for the other
-player. The line of a move has its house, the position after it, and again, turn or over:
+A position is one argument, so it needs quotes: '1,1/0 1,1/0'. Seen by the
+player to move, it is the seeds in that player's houses, a slash, the seeds in
+that player's store, a space, and the same for the other player. The line of a
+move has its house, the position after it, and again, turn or over:
     1 1,1/0 0,2/0 turn
-`kalah --help` has the rules, both forms of a position, and what the words mean.";
+`kalah --help` has the rules and the meaning of these words.";
+
+/// What follows the long help of `play`.
+pub(crate) const LONG_OF_PLAY: &str = "\
+A position is one argument, so it needs quotes: '1,1/0 1,1/0'. Seen by the
+player to move, it is the seeds in that player's houses, a slash, the seeds in
+that player's store, a space, and the same for the other player. The line of a
+move has its house, the position after it, and again, turn or over:
+    1 1,1/0 0,2/0 turn
+With --first H the first line is the move of house H. It fails if that house
+can't be moved. The search runs in one thread, with one table of its own.
+`kalah --help` has the rules and the meaning of these words.";
+
+/// What follows the long help of `show`.
+pub(crate) const LONG_OF_SHOW: &str = "\
+A position is one argument, so it needs quotes: '1,1/0 1,1/0'. Seen by the
+player to move, it is the seeds in that player's houses, a slash, the seeds in
+that player's store, a space, and the same for the other player. The player
+to move sits at the bottom, with houses from left to right, and below each house
+stands the margin that its move gets in best play:
+       3   3   3
+   0               0
+       3   3   3
+       2   2  -4
+Nothing stands below a house that can't be moved. If the game is over, the last
+line has its margin:
+    over, margin 3
+A margin below -99 fills its column and touches the one before it. The search
+runs in one thread, with one table of its own.
+`kalah --help` has the rules and the form of positions.";
 
 /// What follows the long help of `solve`.
 pub(crate) const LONG_OF_SOLVE: &str = "\
-A FILE has one position a line, as 1,1/0 1,1/0, and may be a pipe, or /dev/stdin for standard input:
+A FILE has one position a line, such as 1,1/0 1,1/0. It may be a pipe, or
+/dev/stdin for standard input:
     kalah solve /dev/stdin < positions.txt
-`kalah ask` reads a standard input that is a socket, or another user's, which can't be opened so.
+If standard input is a socket or belongs to another user, use `kalah ask`.
 Each line of each file gets an answer line, in order:
-    first.txt:1 2 house 2      the margin of best play, and the first house that attains it
+    first.txt:1 2 house 2      the margin of best play, and the first best house
     first.txt:5 -4 over        the game is over, with this margin
     first.txt:9 fault shape    not a position
 `kalah --help` has the form of positions, the rules, and the words of faults.";
 
 /// What follows the long help of `values`.
 pub(crate) const LONG_OF_VALUES: &str = "\
-A FILE has one position a line, as 1,1/0 1,1/0, and may be a pipe, or /dev/stdin for standard input:
+A FILE has one position a line, such as 1,1/0 1,1/0. It may be a pipe, or
+/dev/stdin for standard input:
     kalah values /dev/stdin < positions.txt
-`kalah ask --values` reads a standard input that is a socket, or another user's, which can't be opened so.
+If standard input is a socket or belongs to another user, use `kalah ask`.
 Each line of each file gets an answer line, in order:
-    first.txt:1 1:-2 2:2       each house that may be moved, and the margin that its move gets
+    first.txt:1 1:-2 2:2       each house that may be moved, and its margin
     first.txt:5 -4 over        the game is over, with this margin
     first.txt:9 fault shape    not a position
 `kalah --help` has the form of positions, the rules, and the words of faults.";
 
 /// What follows the long help of `ask`.
 pub(crate) const LONG_OF_ASK: &str = "\
-Each line of the standard input is a position, as 1,1/0 1,1/0, and gets an answer line before the next
-line is read, so a program can ask one position after another:
-    2 house 2      the margin of best play, and the first house that attains it; with --values 1:-2 2:2,
-                   each house that may be moved, and the margin that its move gets
+Each line of standard input is a position, such as 1,1/0 1,1/0, and gets an
+answer line before the next line is read. So a program can ask for positions one
+by one:
+    2 house 2      the margin of best play, and the first best house
+    1:-2 2:2       with --values: each house that may be moved, and its margin
     -4 over        the game is over, with this margin
     fault shape    not a position
 `kalah --help` has the form of positions, the rules, and the words of faults.";
 
 /// What follows the long help of `steps`.
 pub(crate) const LONG_OF_STEPS: &str = "\
-A FILE has one position a line, as 1,1/0 1,1/0, and may be a pipe, or /dev/stdin for standard input:
+A FILE has one position a line, such as 1,1/0 1,1/0. It may be a pipe, or
+/dev/stdin for standard input:
     kalah steps /dev/stdin < positions.txt
-Each line of each file gets a line for each house that may be moved, or one line, in order:
-    first.txt:1 1 1,1/0 0,2/0 turn    the house, the position after its move, and again, turn or over
-    first.txt:5 -4 over               the game is over, with this margin
-    first.txt:9 fault shape           not a position
-`kalah --help` has the rules, the form of positions, and the words of steps and faults.";
+Each line of each file gets a line for each house that may be moved, or one
+line, in order:
+    first.txt:1 1 1,1/0 0,2/0 turn  the house, the position after its move, and
+                                    again, turn or over
+    first.txt:5 -4 over             the game is over, with this margin
+    first.txt:9 fault shape         not a position
+`kalah --help` has the form of positions, the rules, and the words of faults.";
 
 /// What is added to the error for arguments that seem to be one position without quotes.
 pub(crate) const QUOTES: &str =

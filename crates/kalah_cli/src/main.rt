@@ -1,5 +1,5 @@
-//! Solves small positions of Kalah: `kalah moves LINE`, `kalah play LINE`, `kalah solve FILE..`, `kalah values FILE..` and
-//! `kalah ask`.
+//! Solves small positions of Kalah: `kalah moves LINE`, `kalah play LINE`, `kalah solve FILE..`, `kalah values FILE..`,
+//! `kalah ask` and `kalah show LINE`.
 #![tactic(auto)]
 
 mod ask;
@@ -17,6 +17,7 @@ mod play;
 mod progress;
 mod request;
 mod run;
+mod show;
 mod status;
 mod unread;
 mod version;

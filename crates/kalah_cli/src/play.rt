@@ -1,9 +1,12 @@
 //! `kalah play LINE`.
-ghost use Rattle.std.specs.Prelude.{◌≡◌, ◌≢◌, ◌↔◌, ◌≤◌, IsErr, OnOk, false, true};
+ghost use Rattle.std.specs.Prelude.{◌≡◌, ◌≢◌, ◌↔◌, ◌≤◌, Contains, IfNone, IfSome, IsErr, OnOk, Some, false, true};
+ghost use Rattle.kalah_rules.specs.Play.{legal_houses};
 ghost use Rattle.kalah_rules.specs.Position.{Position};
 ghost use Rattle.kalah_solve.specs.Table.{most_entries};
 ghost use Rattle.kalah_jobs.specs.Line.Line.{Reads};
-ghost use Rattle.kalah_cli.specs.Play.{BeginsBest, BeginsGame, PlaysBest, WritesGame};
+ghost use Rattle.kalah_cli.specs.Play.{BeginsBest, BeginsGame, BeginsToPlay, MayBegin, OfGame, Plays, PlaysBest, WritesGame};
+ghost use Rattle.std.specs.Io.KnownBytes.{Appends};
+ghost use Rattle.kalah_jobs.specs.Writing.Given.{AppendsStart};
 
 use crate::failure::Failure;
 use crate::moves::{write_board, write_move};
@@ -63,14 +66,72 @@ fn play<O: Sink>(
     write_game(solver, board, boards, out)
 }
 
-/// Prints the game that best play leads to from the position that the line writes, move by move, each as soon as it is found.
-/// A line that can't be read is answered by its fault, on `err` only. Memory is requested before anything is written, except
-/// for the entries of the table.
+// Writes the move of house `h` of a board and the game of best play behind it, below the board where boards are drawn.
+fn play_from<O: Sink>(
+    solver: &mut Solver,
+    board: &Board,
+    h: u8,
+    boards: bool,
+    out: &mut O,
+) -> Result<(), io::Error>
+    requires legal { Contains (legal_houses board.now) h }
+    requires sink { O.has_failed out.old ≡ false }
+    ensures fails { IsErr result ↔ (O.has_failed out.new ≡ true) }
+    ensures game { OnOk result (OfGame (Some h) boards board.now (λ text. Appends (O.written out.old) (O.written out.new) text)) }
+    ensures begins { OfGame (Some h) boards board.now (λ text. AppendsStart (O.written out.old) (O.written out.new) text) }
+    ensures handed_on { OnOk result (O.is_handed_on out.new ≡ true) }
+{
+    let step = board.apply(h);
+    write_board(board, boards, out)?;
+    write_move(h, &step, boards, out)?;
+    match step {
+        Step::Again(next) | Step::Turn(next) | Step::Over(next) => {
+            write_game(solver, &next, boards, out)
+        }
+    }
+}
+
+// Writes the game of best play from a board on, or behind the move of the first house, below the board where boards are drawn.
+fn play_asked<O: Sink>(
+    solver: &mut Solver,
+    board: &Board,
+    first: Option<u8>,
+    boards: bool,
+    out: &mut O,
+) -> Result<(), io::Error>
+    requires house { MayBegin first board.now }
+    requires sink { O.has_failed out.old ≡ false }
+    ensures fails { IsErr result ↔ (O.has_failed out.new ≡ true) }
+    ensures game { OnOk result (Plays first boards board.now (O.written out.old) (O.written out.new)) }
+    ensures begins { BeginsToPlay first boards board.now (O.written out.old) (O.written out.new) }
+    ensures handed_on { OnOk result (O.is_handed_on out.new ≡ true) }
+{
+    match first {
+        Some(h) => play_from(solver, board, h, boards, out),
+        None => play(solver, board, boards, out),
+    }
+}
+
+// The house that a game is to begin with, if it may not be moved.
+fn unmoved_house(board: &Board, first: Option<u8>) -> Option<u8>
+    ensures some { IfSome result (λ h. MayBegin first board.now → ⊥) }
+    ensures none { IfNone result (MayBegin first board.now) }
+{
+    match first {
+        Some(h) if !board.is_legal(h) => Some(h),
+        _ => None,
+    }
+}
+
+/// Prints the game that best play leads to from the position that the line writes, move by move, each as soon as it is found; or
+/// the move of house `first` and the game of best play behind it. A line that is not read is answered by its fault, and a house that
+/// may not be moved is said, on `err` alone. Memory is asked for before anything is written, apart from the entries of the table.
 pub(crate) fn run_play<O: Sink, E: Write>(
     alloc: Global,
     line: &str,
     table: u32,
     boards: bool,
+    first: Option<u8>,
     out: &mut O,
     err: &mut E,
 ) -> ExitStatus
@@ -79,8 +140,10 @@ pub(crate) fn run_play<O: Sink, E: Write>(
     requires sink { O.has_failed out.old ≡ false }
     ensures read { (p : Position) → Reads line.now p → (result ≢ ExitStatus.LineFaults)
         × (result ≡ ExitStatus.Clean
-        → PlaysBest boards p (O.written out.old) (O.written out.new)) }
-    ensures begins { (p : Position) → Reads line.now p → BeginsBest boards p (O.written out.old) (O.written out.new) }
+        → Plays first boards p (O.written out.old) (O.written out.new)) }
+    ensures begins { (p : Position) → Reads line.now p → BeginsToPlay first boards p (O.written out.old) (O.written out.new) }
+    ensures unmoved { (p : Position) → Reads line.now p → (MayBegin first p → ⊥)
+        → (result ≡ ExitStatus.Failed) × (out.new ≡ out.old) }
     ensures unread { ((p : Position) → Reads line.now p → ⊥)
         → (result ≡ ExitStatus.LineFaults) × (out.new ≡ out.old) }
     ensures failed { O.has_failed out.new ≡ true → result ≡ ExitStatus.Failed }
@@ -92,10 +155,13 @@ pub(crate) fn run_play<O: Sink, E: Write>(
         Ok(board) => board,
         Err(fault) => return tell_fault(fault, err),
     };
+    if let Some(h) = unmoved_house(&board, first) {
+        return Failure::Unmoved(h).report(err);
+    }
     let Ok(table) = Table::new(alloc, table) else {
         return Failure::OutOfMemory.report(err);
     };
-    match play(&mut Solver::new(table), &board, boards, out) {
+    match play_asked(&mut Solver::new(table), &board, first, boards, out) {
         Ok(()) => ExitStatus::Clean,
         Err(_) => Failure::Write.report(err),
     }

@@ -1,14 +1,15 @@
 //! The requests that a command line can make.
-ghost use Rattle.std.specs.Prelude.{◌≡◌, ℕ, All, List, [], ◌∷◌, IfErr, IfOk, MatchResult, Some, codes, false, map, option_and_then, ◌≤◌};
+ghost use Rattle.std.specs.Prelude.{◌≡◌, ℕ, All, List, [], ◌∷◌, IfErr, IfOk, MatchResult, Some, codes, false, map, option_and_then, ◌≤◌, IfSome};
 ghost use Rattle.clap.specs.Faults.{fault_of};
 ghost use Rattle.clap.specs.Kinds.{FailsBy};
 ghost use Rattle.clap.specs.Simple.{subcommand_rows_of};
 ghost use Rattle.clap.specs.Walk.{first_of, one_of, rows_of};
 ghost use Rattle.clap.specs.Words.{found_of, kind_of};
 ghost use Rattle.clap.specs.declared.error.kind.ErrorKind.TheVariants.{OutOfMemory};
+ghost use Rattle.kalah_rules.specs.Limits.{most_houses};
 ghost use Rattle.kalah_solve.specs.Table.{most_entries};
 ghost use Rattle.kalah_cli.specs.Command.{kalah_app};
-ghost use Rattle.kalah_cli.specs.Request.{Asked, HasFlag, HasLineArgument, HasNumber, IsAnswers, IsAsk, IsInRange, IsMoves, IsPlainWord, IsPlay, IsSteps, IsTaken, IsTakenAs, answers, answers_asked, ask_asked, asked_by, asked_for, command_of, files_asked, is_set, moves, moves_asked, number_written, play_asked, question_of, table_of};
+ghost use Rattle.kalah_cli.specs.Request.{Asked, HasFlag, HasLineArgument, HasNumber, IsAnswers, IsAsk, IsInRange, IsMoves, IsPlainWord, IsPlay, IsSteps, IsTaken, IsTakenAs, answers, answers_asked, ask_asked, asked_by, asked_for, command_of, files_asked, is_set, moves, moves_asked, number_written, play_asked, question_of, table_of, IsShow, MayHaveNumber, number_given, show_asked};
 
 use crate::command::command;
 use clap::{ArgMatches, Error};
@@ -24,11 +25,13 @@ pub enum Request<'a> {
         line: &'a str,
         boards: bool,
     },
-    /// Print the game of best play from that position, found with a table of `table` entries, 1 to 1,048,576.
+    /// To print the game of best play from that position, or behind its move of house `first`, 1 to 6. The search has `table` entries,
+    /// 1 to 1,048,576.
     Play {
         line: &'a str,
         table: u32,
         boards: bool,
+        first: Option<u8>,
     },
     /// Answer each line of files.
     Batch(Batch<'a>),
@@ -36,6 +39,13 @@ pub enum Request<'a> {
     Ask {
         question: Question,
         table: u32,
+    },
+    /// To draw the position that this line writes, plain or with what its moves are worth. The search has `table` entries, 1 to
+    /// 1,048,576.
+    Show {
+        line: &'a str,
+        table: u32,
+        plain: bool,
     },
 }
 
@@ -63,6 +73,34 @@ fn option_number(found: &ArgMatches<'_>, id: &str) -> u32
     found.get_one::<u32>(id).unwrap()
 }
 
+// The number of an option that may be left out.
+fn given_number(found: &ArgMatches<'_>, id: &str) -> Option<u32>
+    requires { MayHaveNumber id.now most_houses (rows_of (found_of found.now)) }
+    ensures number { result ≡ number_given id.now (rows_of (found_of found.now)) }
+    ensures low { IfSome result (λ h. h ≤ most_houses) }
+{
+    found.get_one::<u32>(id)
+}
+
+// A house in one byte.
+fn in_one_byte(house: Option<u32>) -> Option<u8>
+    requires { IfSome house (λ h. h ≤ most_houses) }
+    ensures { result ≡ house }
+{
+    match house {
+        Some(h) => Some(h as u8),
+        None => None,
+    }
+}
+
+// The house of an option that may be left out.
+fn given_house(found: &ArgMatches<'_>, id: &str) -> Option<u8>
+    requires { MayHaveNumber id.now most_houses (rows_of (found_of found.now)) }
+    ensures { result ≡ number_given id.now (rows_of (found_of found.now)) }
+{
+    in_one_byte(given_number(found, id))
+}
+
 // Returns whether a flag is given.
 fn is_set(found: &ArgMatches<'_>, id: &str) -> bool
     requires { HasFlag id.now (rows_of (found_of found.now)) }
@@ -71,7 +109,7 @@ fn is_set(found: &ArgMatches<'_>, id: &str) -> bool
     found.get_flag(id)
 }
 
-// Returns the line of `moves` or `play`, which must be there.
+// The line of `moves`, `play` or `show`, which has one.
 fn line_of<'a>(found: &ArgMatches<'a>) -> &'a str
     requires { HasLineArgument (rows_of (found_of found.now)) }
     ensures { first_of (codes "line") (rows_of (found_of found.now)) ≡ Some result.now }
@@ -101,6 +139,7 @@ fn play_request<'a>(found: &ArgMatches<'a>) -> Request<'a>
         line: line_of(found),
         table: option_number(found, "table"),
         boards: is_set(found, "boards"),
+        first: given_house(found, "first"),
     }
 }
 
@@ -171,6 +210,19 @@ fn ask_request<'a>(found: &ArgMatches<'a>) -> Request<'a>
     }
 }
 
+// What the matches of `show` ask for.
+fn show_request<'a>(found: &ArgMatches<'a>) -> Request<'a>
+    requires { IsShow (rows_of (found_of found.now)) }
+    ensures asked { show_asked (rows_of (found_of found.now)) ≡ Some (asked_for result) }
+    ensures range { IsInRange result }
+{
+    Request::Show {
+        line: line_of(found),
+        table: option_number(found, "table"),
+        plain: is_set(found, "plain"),
+    }
+}
+
 // Returns the request of the matches of a subcommand, which must have what it needs.
 fn requested<'a>(alloc: Global, matches: &ArgMatches<'a>) -> Result<Request<'a>, AllocError>
     requires { IsTaken (subcommand_rows_of matches.now) }
@@ -193,8 +245,11 @@ fn requested<'a>(alloc: Global, matches: &ArgMatches<'a>) -> Result<Request<'a>,
     if let Some(found) = matches.subcommand_matches("ask") {
         return Ok(ask_request(found));
     }
-    let found = matches.subcommand_matches("steps").unwrap();
-    files_request(alloc, Question::Steps, TABLE_OF_STEPS, found)
+    if let Some(found) = matches.subcommand_matches("steps") {
+        return files_request(alloc, Question::Steps, TABLE_OF_STEPS, found);
+    }
+    let found = matches.subcommand_matches("show").unwrap();
+    Ok(show_request(found))
 }
 
 /// Parses the arguments, whose first is the program's name. Fails with the command line's own

@@ -5,13 +5,15 @@ ghost use Rattle.clap.specs.Values.{kind_of};
 ghost use Rattle.clap.specs.declared.error.kind.ErrorKind.TheVariants.{DisplayHelp, DisplayVersion};
 ghost use Rattle.kalah_rules.specs.Position.{Position};
 ghost use Rattle.kalah_jobs.specs.Line.Line.{Reads};
+ghost use Rattle.kalah_jobs.specs.Writing.Picture.{picture_of};
+ghost use Rattle.kalah_jobs.specs.Writing.Shown.{shown_of};
 ghost use Rattle.kalah_jobs.specs.declared.files.question.Question.{Question};
 ghost use Rattle.kalah_jobs.specs.declared.files.question.Question.TheVariants.{BestMove, Values};
 ghost use Rattle.kalah_cli.specs.Ask.{AnswersLines, StopsBetweenLines};
 ghost use Rattle.kalah_cli.specs.Moves.{moves_output};
 ghost use Rattle.kalah_cli.specs.Play.{PlaysBest};
 ghost use Rattle.kalah_cli.specs.Request.{Asked, AsksNot, IsInRange, IsPlainWord, IsRefused, IsTakenAs, IsVersionWord, ask, asked_for, texts_of};
-ghost use Rattle.kalah_cli.specs.Runs.{Begins, Does, IsOfLine, IsOfNoInput, IsUnread, version_line};
+ghost use Rattle.kalah_cli.specs.Runs.{Begins, Does, IsOfLine, IsOfNoInput, IsUnread, version_line, IsUnmoved};
 ghost use Rattle.kalah_cli.specs.Batch.{AnswersFiles, TellsSteps, TellsValues};
 
 use crate::ask::run_ask;
@@ -22,6 +24,7 @@ use crate::moves::run_moves;
 use crate::play::run_play;
 use crate::progress::StandardError;
 use crate::request::{Request, parse};
+use crate::show::run_show;
 use crate::status::ExitStatus;
 use crate::version::VERSION_LINE;
 use clap::Error;
@@ -49,13 +52,13 @@ fn show<O: Sink, E: Write>(text: &str, out: &mut O, err: &mut E) -> ExitStatus
     ExitStatus::Clean
 }
 
-// Returns whether these arguments seem to ask for the moves or the game of a position that has lost its quotes: of two successive
-// ones each has a slash.
+// Whether these words seem to ask for the moves, the game or the picture of a position that has lost its quotes: of two words in a row each
+// has a slash.
 fn lacks_quotes(words: &[String]) -> bool {
     let Some(subcommand) = words.get(1) else {
         return false;
     };
-    ["moves", "play"].contains(&subcommand.as_str())
+    ["moves", "play", "show"].contains(&subcommand.as_str())
         && words
             .windows(2)
             .any(|pair| pair.iter().all(|word| word.contains('/')))
@@ -111,6 +114,7 @@ fn run_request<R: Files + Input + StandardError + Threads + Wait + Sync, O: Sink
     ensures begins { Begins (asked_for request.now) (O.written out.old) (O.written out.new) }
     ensures unread { (line : List ℕ) → IsOfLine (asked_for request.now) line → IsUnread line
         → (result ≡ ExitStatus.LineFaults) × (out.new ≡ out.old) }
+    ensures unmoved { IsUnmoved (asked_for request.now) → (result ≡ ExitStatus.Failed) × (out.new ≡ out.old) }
     ensures failed { O.has_failed out.new ≡ true → result ≡ ExitStatus.Failed }
     ensures unchanged { IsOfNoInput (asked_for request.now) → result ≡ ExitStatus.Failed → O.has_failed out.new ≡ false
         → out.new ≡ out.old }
@@ -124,17 +128,20 @@ fn run_request<R: Files + Input + StandardError + Threads + Wait + Sync, O: Sink
             line,
             table,
             boards,
-        } => run_play(alloc, line, *table, *boards, out, err),
+            first,
+        } => run_play(alloc, line, *table, *boards, *first, out, err),
         Request::Batch(batch) => run_batch(rt, alloc, batch, out, err),
         Request::Ask { question, table } => run_ask(rt, alloc, *question, *table, out, err),
+        Request::Show { line, table, plain } => run_show(alloc, line, *table, *plain, out, err),
     }
 }
 
 /// Runs the program on its arguments; the first is always taken as the program's name. `moves LINE`
 /// prints the moves of a position, `play LINE` the game that best play leads to from it, `solve FILE..`
-/// answers each line of files, `values FILE..` tells what each move of them is worth, and `steps FILE..` what it
-/// leads to. `ask` answers each line of the standard input before it reads on. `--version` prints which version this is. Answers, help and
-/// that go to `out`, and what fails or is not read is said on `err`; a failing write to `err` changes nothing.
+/// answers each line of files, and `values FILE..` tells what each move of them is worth. `ask` answers each
+/// line of the standard input before it reads on, and `show LINE` draws a position with what its moves are
+/// worth. `--version` prints which version this is. Answers, help and that go to `out`, and what fails or is
+/// not read is said on `err`; a failing write to `err` changes nothing.
 pub fn run_words<R: Files + Input + StandardError + Threads + Wait + Sync, O: Sink, E: Write>(
     rt: &R,
     alloc: Global,
@@ -151,12 +158,19 @@ pub fn run_words<R: Files + Input + StandardError + Threads + Wait + Sync, O: Si
     // Accepted arguments about a line that can't be read.
     ensures unread_line { (a : Asked) (line : List ℕ) → IsTakenAs (texts_of words.items) a
         → IsOfLine a line → IsUnread line → (result ≢ ExitStatus.Clean) × (out.new ≡ out.old) }
+    // Words that are taken as asking for a game that begins with a house that may not be moved.
+    ensures unmoved { (a : Asked) → IsTakenAs (texts_of words.items) a → IsUnmoved a → (result ≡ ExitStatus.Failed) × (out.new ≡ out.old) }
     // `moves` and a line that can be read: its moves are written, if nothing fails.
     ensures moves { (name line : List ℕ) (p : Position) → texts_of words.items ≡ name ∷ codes "moves" ∷ line ∷ [] → Reads line p
         → (result ≢ ExitStatus.LineFaults) × (result ≡ ExitStatus.Clean → Appends (O.written out.old) (O.written out.new) (moves_output false p)) }
     // `play` and a line that can be read: its game of best play is written, if nothing fails.
     ensures played { (name line : List ℕ) (p : Position) → texts_of words.items ≡ name ∷ codes "play" ∷ line ∷ [] → Reads line p
         → (result ≢ ExitStatus.LineFaults) × (result ≡ ExitStatus.Clean → PlaysBest false p (O.written out.old) (O.written out.new)) }
+    // `show`, or `show --plain`, and a line that is read: its picture is written, with what its moves are worth, or alone.
+    ensures shown { (name line : List ℕ) (p : Position) → texts_of words.items ≡ name ∷ codes "show" ∷ line ∷ [] → Reads line p
+        → (result ≢ ExitStatus.LineFaults) × (result ≡ ExitStatus.Clean → Appends (O.written out.old) (O.written out.new) (shown_of p)) }
+    ensures shown_plain { (name line : List ℕ) (p : Position) → texts_of words.items ≡ name ∷ codes "show" ∷ codes "--plain" ∷ line ∷ [] → Reads line p
+        → (result ≢ ExitStatus.LineFaults) × (result ≡ ExitStatus.Clean → Appends (O.written out.old) (O.written out.new) (picture_of p)) }
     // `moves` or `play` and a line that can't be read, but is no flag.
     ensures unread { (name line : List ℕ) → (texts_of words.items ≡ name ∷ codes "moves" ∷ line ∷ [])
         ⊎ (texts_of words.items ≡ name ∷ codes "play" ∷ line ∷ []) → IsPlainWord line

@@ -11,3 +11,4 @@ pub mod NumberTexts
 pub mod StepTexts
 pub mod AnswerTexts
 pub mod SmallAnswers
+pub mod Shown

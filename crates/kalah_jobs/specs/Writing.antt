@@ -4,4 +4,5 @@ pub mod Output
 pub mod Stream
 pub mod Given
 pub mod Picture
+pub mod Shown
 pub mod Splitting

@@ -36,6 +36,7 @@ pub use line::reading::read_line;
 pub use writing::answer::{Answer, Taken};
 pub use writing::picture::{picture_lines_are_short, pictures_tell_positions, write_picture};
 pub use writing::printed::answer_text;
+pub use writing::shown::{shown_tells_values, write_values};
 pub use writing::sink::Sink;
 pub use writing::splitting::{
     answer_lines_tell_answers, answers_have_small_numbers, files_split_between_lines,

@@ -3,7 +3,7 @@
 //! is refused is one of its own marks.
 use crate::{
     Answer, Entry, LineFault, Outcome, Sink, Stream, Taken, answer_text, line_text, read_line,
-    step_text, write_answer, write_picture, write_step,
+    step_text, write_answer, write_picture, write_step, write_values,
 };
 use kalah_rules::{Board, Step};
 use kalah_solve::{Solver, Table};
@@ -202,5 +202,16 @@ fn moves_and_boards_are_written_without_memory(rt: HostRuntime) -> Result<(), Fa
     write_move(&rt, &mut out);
     let want = "2 1,0/1 1,1/0 again\n       1   1\n   0           0\n       1   1\n";
     assert_written(&rt, out, want);
+    mark(rt.alloc(), "after all")
+}
+
+#[test]
+fn values_are_written_below_a_picture_without_memory(rt: HostRuntime) -> Result<(), Fail> {
+    let board = read(&rt, "1,1/0 1,1/0");
+    let values = new_solver(rt.alloc())?.values(&board);
+    let mut out = roomy_stream(rt.alloc())?;
+    assert!(rt; !out.failed());
+    write_values(&mut out, &board, &values).expect(&rt, "not written");
+    assert_written(&rt, out, "      -2   2\n");
     mark(rt.alloc(), "after all")
 }

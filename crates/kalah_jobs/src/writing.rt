@@ -4,6 +4,7 @@ pub(crate) mod ending;
 pub(crate) mod picture;
 pub(crate) mod player;
 pub(crate) mod printed;
+pub(crate) mod shown;
 pub(crate) mod sink;
 pub(crate) mod splitting;
 pub(crate) mod stack_text;

@@ -33,7 +33,8 @@ unfolding sow
 sow_rule p h k = refl
 
 -- where nothing is caught the rows stay
-unchanged : (r : RowNumbers) (x y last taken k j : ℕ) {p : Position} → (last ≡ 0) × (taken ≡ 0) → x ≡ k * last → y ≡ j * taken → Shows r p →
+unchanged : (r : RowNumbers) (x y last taken k j : ℕ) {p : Position} → (last ≡ 0) × (taken ≡ 0) →
+    x ≡ k * last → y ≡ j * taken → Shows r p →
     Shows (record { own = r.own - x; other = r.other - y; store = r.store + last + taken }) p
 unchanged r x y last taken k j none x_is y_is shows = record {
   own = omega (arith, rw none.0 at x_is, shows.own);

@@ -22,6 +22,8 @@ fn each_failure_is_said_in_its_words(rt: HostRuntime) {
         Failure::NoWorker,
         "kalah: no worker could be started\n",
     );
+    let unmoved = "kalah: house 3 can't be moved\n";
+    assert_said(&rt, Failure::Unmoved(3), unmoved);
     let unread = "kalah: cannot read standard input\n";
     assert_said(&rt, Failure::StandardInput, unread);
     assert_said(&rt, Failure::Write, "kalah: write failed\n");

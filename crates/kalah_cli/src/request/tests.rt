@@ -55,27 +55,42 @@ fn reads_moves(rt: HostRuntime) {
     }
 }
 
-// Arguments of `play`, the entries of the table and whether boards are drawn.
-const GAMES: &[(&[&str], u32, bool)] = &[
-    (&["kalah", "play", "1/0 1/0"], 65536, false),
+// Words of `play`, the entries of the table, whether boards are drawn, and the house that begins.
+const GAMES: &[(&[&str], u32, bool, Option<u8>)] = &[
+    (&["kalah", "play", "1/0 1/0"], 65536, false, None),
     (
         &["k", "play", "--boards", "1/0 1/0", "--table", "1"],
         1,
         true,
+        None,
     ),
     (
         &["kalah", "play", "--table=1048576", "--", "1/0 1/0"],
         1048576,
         false,
+        None,
+    ),
+    (
+        &["kalah", "play", "--first", "6", "1/0 1/0"],
+        65536,
+        false,
+        Some(6),
+    ),
+    (
+        &["kalah", "play", "1/0 1/0", "--boards", "--first=1"],
+        65536,
+        true,
+        Some(1),
     ),
 ];
 
-// The arguments ask for the game, with a table of `entries` entries, and to draw boards or not.
+// The words ask for the game, with a table of this size, to draw boards or not, and to begin with this house or none.
 fn asks_game(
     rt: &(impl Abort + AllocGlobal),
     words: &[&str],
     entries: u32,
     is_drawn: bool,
+    house: Option<u8>,
 ) -> bool {
     match asked(rt, words) {
         Some(
@@ -83,16 +98,49 @@ fn asks_game(
                 line,
                 table,
                 boards,
+                first,
             },
-        ) => line == "1/0 1/0" && (table, boards) == (entries, is_drawn),
+        ) => line == "1/0 1/0" && (table, boards, first) == (entries, is_drawn, house),
         _ => false,
     }
 }
 
 #[test]
 fn reads_play(rt: HostRuntime) {
-    for (words, entries, is_drawn) in GAMES {
-        assert!(rt; asks_game(&rt, *words, *entries, *is_drawn), "{words:?}");
+    for (words, entries, is_drawn, house) in GAMES {
+        assert!(rt;
+            asks_game(&rt, *words, *entries, *is_drawn, *house),
+            "{words:?}"
+        );
+    }
+}
+
+// Words of `show`, the entries of the table and whether the picture is plain.
+const SHOWN: &[(&[&str], u32, bool)] = &[
+    (&["kalah", "show", "1/0 1/0"], 65536, false),
+    (&["kalah", "show", "--plain", "1/0 1/0"], 65536, true),
+    (&["kalah", "show", "1/0 1/0", "--table=1"], 1, false),
+];
+
+// The words ask for the picture, with a table of this size, plain or not.
+fn asks_picture(
+    rt: &(impl Abort + AllocGlobal),
+    words: &[&str],
+    entries: u32,
+    is_plain: bool,
+) -> bool {
+    match asked(rt, words) {
+        Some(Request::Show { line, table, plain }) => {
+            line == "1/0 1/0" && (table, plain) == (entries, is_plain)
+        }
+        _ => false,
+    }
+}
+
+#[test]
+fn reads_show(rt: HostRuntime) {
+    for (words, entries, is_plain) in SHOWN {
+        assert!(rt; asks_picture(&rt, *words, *entries, *is_plain), "{words:?}");
     }
 }
 

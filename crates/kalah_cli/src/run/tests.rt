@@ -3,6 +3,7 @@ ghost use Rattle.std.specs.Prelude.{◌≡◌, ◌<◌, Some, vec_len};
 mod help;
 mod hostile;
 mod playing;
+mod showing;
 mod solving;
 mod stepping;
 mod valuing;

@@ -14,7 +14,7 @@ use Rattle.kalah_jobs.specs.declared.files.question.Question.TheVariants.{BestMo
 use Rattle.kalah_jobs.specs.declared.writing.answer.Answer.{Answer}
 use Rattle.kalah_jobs.specs.declared.writing.answer.Answer.TheVariants as answer
 use Rattle.kalah_jobs.specs.declared.line.line_fault.LineFault.{LineFault}
-use Rattle.kalah_jobs.specs.Asking.Asked.{kept_bytes, told, told_last, is_last_read, answers_to, are_all_read, texts_told, AnswersAreThoseOfAFile}
+use Rattle.kalah_jobs.specs.Asking.Asked.{kept_bytes, told, told_last, is_last_read, answers_to, are_all_read, AnswersAreThoseOfAFile}
 use Rattle.kalah_jobs.specs.Files.Entry.{entry_of, entry_of_reading}
 use Rattle.kalah_jobs.specs.declared.files.entry.Entry.TheVariants.{Bad}
 use Rattle.kalah_jobs.specs.Files.Lines.{line_feed, lines_of, HasNoLineFeed}

@@ -1,9 +1,8 @@
 -- What the text of an answer tells.
-use Rattle.std.proofs.Common.{◌≡◌, ◌≢◌, ℕ, ◌+◌, ◌<◌, ◌≤◌, false, ◌==◌, List, [], ◌∷◌, ◌++◌, length, map, get_or, All, refl, sym, ap, ap₂, ◌∙◌, length-append, arith}
+use Rattle.std.proofs.Common.{◌≡◌, ℕ, ◌<◌, ◌≤◌, false, ◌==◌, List, [], ◌∷◌, ◌++◌, length, map, get_or, All, refl, sym, ap, ap₂, ◌∙◌, length-append, arith}
 use Rattle.std.specs.Prelude.{if◌then◌else◌, codes, decimal, ℤ}
 use Rattle.std.specs.Fmt.{signed_decimal}
 use Rattle.std.proofs.lemmas.Bool.{ne_eqb}
-use Rattle.std.proofs.lemmas.Fmt.{decimal_nonempty}
 use Rattle.std.proofs.lemmas.List.{append_cancel_left}
 use Rattle.std.proofs.lemmas.List.Elements.{All-cons, All-append, All-head, All-tail}
 use Rattle.kalah_rules.specs.Limits.{most_houses}
@@ -25,7 +24,7 @@ use Rattle.kalah_jobs.proofs.OfWriting.StepTexts.{StepsBegin, steps_begin, steps
 
 -- ---- the text of a value
 
-abbrev IsSmallValue : MoveValue → Type 0
+abbrev pub IsSmallValue : MoveValue → Type 0
 IsSmallValue v = IsSmallMargin v.value × (v.house ≤ most_houses)
 
 value_parts : (v : MoveValue) → IsSmallValue v → parts_at colon (value_words v) ≡ decimal v.house ∷ signed_decimal v.value ∷ []

@@ -58,7 +58,7 @@ pub some_signed : (z : ℤ) → IsSmallMargin z → 0 < length (signed_decimal z
 some_signed (pos n) small = decimal_nonempty n (omega (arith, ints, small.high))
 some_signed (negsuc n) small = omega arith
 
-small_mag : (z : ℤ) → IsSmallMargin z → mag z < 2 ^ 63
+pub small_mag : (z : ℤ) → IsSmallMargin z → mag z < 2 ^ 63
 small_mag (pos n) small = omega (arith, ints, small.high)
 small_mag (negsuc n) small = omega (arith, ints, small.low)
 

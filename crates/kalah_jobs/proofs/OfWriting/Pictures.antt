@@ -32,7 +32,7 @@ columns_before f m column n old before after is low high so_far e =
 -- ---- the picture determines the numbers
 
 -- lists with equal fronts of one length
-split_same : (xs ys tail end : List ℕ) → length xs ≡ length ys → xs ++ tail ≡ ys ++ end → (xs ≡ ys) × (tail ≡ end)
+pub split_same : (xs ys tail end : List ℕ) → length xs ≡ length ys → xs ++ tail ≡ ys ++ end → (xs ≡ ys) × (tail ≡ end)
 split_same [] [] tail end long e = (refl, e)
 split_same [] (y ∷ ys) tail end long e = absurd (omega (arith, long))
 split_same (x ∷ xs) [] tail end long e = absurd (omega (arith, long))
@@ -42,23 +42,23 @@ split_same (x ∷ xs) (y ∷ ys) tail end long e =
     (ap₂ (λ (z : ℕ) (zs : List ℕ). z ∷ zs) here rest.0, rest.1)
 
 -- a text without the blanks at its beginning
-abbrev shorn : List ℕ → List ℕ
+abbrev pub shorn : List ℕ → List ℕ
 shorn [] = []
 shorn (byte ∷ rest) = cond (byte == space) (shorn rest) (byte ∷ rest)
 
-shorn_blanks : (k : ℕ) (text : List ℕ) → shorn (replicate k space ++ text) ≡ shorn text
+pub shorn_blanks : (k : ℕ) (text : List ℕ) → shorn (replicate k space ++ text) ≡ shorn text
 shorn_blanks zero text = refl
 shorn_blanks (suc k) text = shorn_blanks k text
 
 -- a text that begins with another byte stays
-shorn_other : (text : List ℕ) → 0 < length text → 33 ≤ get_or text 0 0 → shorn text ≡ text
+pub shorn_other : (text : List ℕ) → 0 < length text → 33 ≤ get_or text 0 0 → shorn text ≡ text
 shorn_other [] some high = absurd (omega (arith, some))
 shorn_other (byte ∷ rest) some high =
     let differs : (byte == space) ≡ false = ne_eqb byte space (λ e. omega (arith, high, e)) in
     ap (λ b. cond b (shorn rest) (byte ∷ rest)) differs
 
 -- as a number does
-number_begins : (text : List ℕ) (n : ℕ) → IsNumber text n → (0 < length text) × (33 ≤ get_or text 0 0)
+pub number_begins : (text : List ℕ) (n : ℕ) → IsNumber text n → (0 < length text) × (33 ≤ get_or text 0 0)
 number_begins [] n h = absurd h
 number_begins (ones ∷ []) n h = (omega arith, omega (arith, h.0))
 number_begins (tens ∷ ones ∷ []) n h = (omega arith, omega (arith, h.0))
@@ -119,19 +119,19 @@ house_low : (row : List ℕ) (i : ℕ) → i < length row → sum row ≤ 31 →
 house_low row i within few = omega (arith, few, get_or-le-sum_by (λ x. x) row i 0 within)
 
 -- so are all that stand in the columns
-seeds_low : (player : Player) (p : Position) → IsWithinLimits p → (c : ℕ) → 1 ≤ c → c < 1 + side_length p → seeds_in player p c < 1000
+pub seeds_low : (player : Player) (p : Position) → IsWithinLimits p → (c : ℕ) → 1 ≤ c → c < 1 + side_length p → seeds_in player p c < 1000
 seeds_low Mover p limits c some within = house_low p.own (c - 1) (omega (arith, some, within)) (omega (arith, limits.few_seeds))
 seeds_low Other p limits c some within =
     house_low p.other (opposite p c - 1) (omega (arith, some, within, limits.same_side)) (omega (arith, limits.few_seeds))
 
-length-houses_line : (player : Player) (p : Position) → IsWithinLimits p → length (houses_line player p) ≡ 4 + 4 * side_length p
+pub length-houses_line : (player : Player) (p : Position) → IsWithinLimits p → length (houses_line player p) ≡ 4 + 4 * side_length p
 length-houses_line player p limits =
     let both = length-append (empty_columns 1) (columns (seeds_in player p) 1 (side_length p)) in
     let row = length-columns (seeds_in player p) 1 (side_length p) (seeds_low player p limits) in
     let blanks = length-replicate (column_width * 1) space in
     omega (arith, both, row, blanks)
 
-length-stores_line : (p : Position) → IsWithinLimits p → length (stores_line p) ≡ 8 + 4 * side_length p
+pub length-stores_line : (p : Position) → IsWithinLimits p → length (stores_line p) ≡ 8 + 4 * side_length p
 length-stores_line p limits =
     let all = length-append (cell p.other_store) (empty_columns (side_length p) ++ cell p.own_store) in
     let rest = length-append (empty_columns (side_length p)) (cell p.own_store) in
@@ -140,7 +140,7 @@ length-stores_line p limits =
     let blanks = length-replicate (column_width * side_length p) space in
     omega (arith, all, rest, other, own, blanks)
 
-length-picture : (p : Position) → IsWithinLimits p → length (picture_of p) ≡ 19 + 12 * side_length p
+pub length-picture : (p : Position) → IsWithinLimits p → length (picture_of p) ≡ 19 + 12 * side_length p
 unfolding picture_of
 length-picture p limits =
     let below = length-append (houses_line Mover p) (line_feed ∷ []) in

@@ -43,7 +43,7 @@ small_best_move p limits = small_by_case (is_over p) (Over (final_margin p)) (Be
     (λ going. (worth_small p limits, best_house_small p limits going))
 
 -- the value of each legal house
-small_moves : (p : position.Position) → IsWithinLimits p → All (λ (v : MoveValue). IsSmallMargin v.value × (v.house ≤ most_houses)) (values_of p)
+pub small_moves : (p : position.Position) → IsWithinLimits p → All (λ (v : MoveValue). IsSmallMargin v.value × (v.house ≤ most_houses)) (values_of p)
 small_moves p limits = All-map (λ (v : MoveValue). IsSmallMargin v.value × (v.house ≤ most_houses)) (move_value p) (legal_houses p)
     (All-from_get_or (λ h. IsSmallMargin (value_of_move p h) × (h ≤ most_houses)) (legal_houses p) 0
     (λ i within.

@@ -5,7 +5,6 @@ use Rattle.std.specs.List.{join_with_byte}
 use Rattle.kalah_rules.specs.Play.{legal_houses, step_of}
 use Rattle.kalah_rules.specs.Position as position
 use Rattle.kalah_rules.specs.Position.{is_over, final_margin}
-use Rattle.kalah_rules.specs.declared.step.Step.{Step}
 use Rattle.kalah_solve.specs.Worth.{worth, best_house}
 use Rattle.kalah_solve.specs.MoveValues.{values_of}
 use Rattle.kalah_solve.specs.declared.move_values.MoveValue.{MoveValue}

@@ -15,7 +15,7 @@ use kalah_rules::Board;
 use std::io;
 
 /// The bytes of a column.
-const COLUMN: usize = 4;
+pub(crate) const COLUMN: usize = 4;
 
 // Puts a number, right-aligned in a column, in front of the text.
 #[tactic(auto, using(crate::proofs::OfWriting::Lengths::byte_length))]

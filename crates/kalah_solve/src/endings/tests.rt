@@ -117,3 +117,26 @@ fn an_ending_is_known_once_it_was_asked_for(rt: HostRuntime) {
     assert!(rt; endings.taken(&houses) == 6);
     assert!(rt; endings.get(&houses, rank) == Some(6));
 }
+
+// How many words there are for houses with at most 9 seeds, eight in each word, with 1 to 6 houses a side.
+const WORDS_OF_SIDES: [u32; 6] = [7, 90, 626, 3_039, 11_548, 36_742];
+
+// The words of the six games from `game` on begin at `first` and follow one another. Returns the word after the last of them.
+fn follow_one_another(rt: &impl Abort, game: usize, first: u32) -> u32
+    requires { game ≤ 9 }
+{
+    let mut next = first;
+    for m in 0..6usize {
+        assert!(rt; FIRST_WORDS[game + m] == next);
+        next = next.wrapping_add(WORDS_OF_SIDES[m]);
+    }
+    next
+}
+
+#[test]
+fn each_game_has_words_of_its_own(rt: HostRuntime) {
+    let endings = new_endings(&rt, rt.alloc());
+    let classic = follow_one_another(&rt, 1, 0);
+    let all = follow_one_another(&rt, 9, classic);
+    assert!(rt; endings.words.len() == all as usize);
+}

@@ -1,3 +1,5 @@
+ghost use Rattle.std.specs.Prelude.{◌≤◌};
+
 use super::*;
 use crate::granting::Granting;
 use std::process::Abort;
@@ -60,4 +62,23 @@ fn keeps_its_first_places(rt: &impl Abort, heap: &Granting<Global>) {
 fn the_first_places_stay_where_there_is_no_memory_for_all(rt: HostRuntime) {
     let requests = requests(&rt, rt.alloc());
     keeps_its_first_places(&rt, &Granting::new(rt.alloc(), requests));
+}
+
+// A table of this capacity has room for that many entries, and so has one beside another.
+fn assert_capacity(rt: &impl Abort, alloc: Global, capacity: u32)
+    requires low { 1 ≤ capacity }
+    requires high { capacity ≤ 1048576 }
+{
+    let table = Table::new(alloc, capacity).expect(rt, "no memory for a table");
+    assert!(rt; table.entries.cap().get() == capacity as usize);
+    let other = new_table(rt, alloc).beside(alloc, capacity);
+    let other = other.expect(rt, "no memory for a table");
+    assert!(rt; other.entries.cap().get() == capacity as usize);
+}
+
+#[test]
+fn a_table_has_its_capacity(rt: HostRuntime) {
+    for capacity in [1, 2, 4_096, 65_535, 65_536, 65_537, 1_048_575, 1_048_576] {
+        assert_capacity(&rt, rt.alloc(), capacity);
+    }
 }

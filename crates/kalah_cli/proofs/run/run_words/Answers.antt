@@ -1,4 +1,4 @@
-use Rattle.std.proofs.Common.{◌≡◌, ◌≢◌, ◌∙◌, ℕ, List, [], ◌∷◌, false, inl, inr, refl, subst, sym}
+use Rattle.std.proofs.Common.{◌≡◌, ◌≢◌, ◌∙◌, ℕ, List, [], ◌∷◌, None, false, true, inl, inr, refl, subst, sym}
 use Rattle.std.specs.List.{All}
 use Rattle.clap.specs.Faults.{fault_of}
 use Rattle.clap.specs.Kinds.{IsAmong, Kinds}
@@ -10,13 +10,13 @@ use Rattle.kalah_jobs.specs.declared.files.question.Question.{Question}
 use Rattle.kalah_jobs.specs.declared.files.question.Question.TheVariants.{BestMove, Values, Steps}
 use Rattle.kalah_cli.specs.Ask.{StopsBetweenLines}
 use Rattle.kalah_cli.specs.Command.{kalah_app}
-use Rattle.kalah_cli.specs.Request.{Asked, IsPlainWord, IsTakenAs, answers, ask, asked_for, command_of, moves, play, table_of, texts_of}
+use Rattle.kalah_cli.specs.Request.{Asked, IsPlainWord, IsTakenAs, answers, ask, asked_for, command_of, moves, play, table_of, texts_of, show}
 use Rattle.kalah_cli.specs.Runs.{Begins, Does, IsOfLine, IsUnread}
 use Rattle.kalah_cli.specs.declared.status.ExitStatus.TheVariants.{Clean, Failed}
 use Rattle.kalah_cli.proofs.Begun.{begins_none, begun_as, stops_before_lines}
 use Rattle.kalah_cli.proofs.Laws.{taken_once, version_of}
 use Rattle.kalah_cli.proofs.Plain.{read_is_plain}
-use Rattle.kalah_cli.proofs.Taken.{ask_of, ask_values_of, done_as, failed_does, fault_at, files_or_none, game_of, line_as, moves_of, no_request, words_at}
+use Rattle.kalah_cli.proofs.Taken.{ask_of, ask_values_of, done_as, failed_does, fault_at, files_or_none, game_of, line_as, moves_of, no_request, show_of, show_plain_of, unmoved_as, words_at}
 use Rattle.kalah_cli.proofs.run.run_words.Goals.{After-drop-words, After-drop-words-2}
 use Rattle.kalah_cli.proofs.run.run_words.Given.{Over}
 use Rattle.kalah_cli.proofs.run.run_words.Goals as goal
@@ -50,16 +50,28 @@ returns-in-Ok-clause-begins g c = λ a taken.
 pub returns-in-Ok-clause-unread_line : goal.returns-in-Ok-clause-unread_line
 returns-in-Ok-clause-unread_line g c = undone g c
 
+pub returns-in-Ok-clause-unmoved : goal.returns-in-Ok-clause-unmoved
+returns-in-Ok-clause-unmoved g c = λ a taken unmoved.
+    c.run_request.ensures.unmoved (unmoved_as (texts_of c.args.words.items) (asked_for c.in-Ok.request) a (taken_as g c) taken unmoved)
+
 pub returns-in-Ok-clause-moves : goal.returns-in-Ok-clause-moves
 returns-in-Ok-clause-moves g c = λ name line p is reads. done g c (moves false line) (moves_of _ name line is (read_is_plain line p reads)) p reads
 
 pub returns-in-Ok-clause-played : goal.returns-in-Ok-clause-played
-returns-in-Ok-clause-played g c = λ name line p is reads. done g c (play 65536 false line) (game_of _ name line is (read_is_plain line p reads)) p reads
+returns-in-Ok-clause-played g c = λ name line p is reads.
+    let played = done g c (play None 65536 false line) (game_of _ name line is (read_is_plain line p reads)) p reads in
+    (played.0, λ clean. (played.1 clean).1)
+
+pub returns-in-Ok-clause-shown : goal.returns-in-Ok-clause-shown
+returns-in-Ok-clause-shown g c = λ name line p is reads. done g c (show false 65536 line) (show_of _ name line is (read_is_plain line p reads)) p reads
+
+pub returns-in-Ok-clause-shown_plain : goal.returns-in-Ok-clause-shown_plain
+returns-in-Ok-clause-shown_plain g c = λ name line p is reads. done g c (show true 65536 line) (show_plain_of _ name line is (read_is_plain line p reads)) p reads
 
 pub returns-in-Ok-clause-unread : goal.returns-in-Ok-clause-unread
 returns-in-Ok-clause-unread g c = λ name line is plain none. elim is [
   | inl moved ↦ undone g c (moves false line) line (moves_of _ name line moved plain) refl none
-  | inr played ↦ undone g c (play 65536 false line) line (game_of _ name line played plain) refl none
+  | inr played ↦ undone g c (play None 65536 false line) line (game_of _ name line played plain) refl none
 ]
 
 -- what is asked of files is done
@@ -140,18 +152,31 @@ returns-clause-begins g c = λ a taken.
 pub returns-clause-unread_line : goal.returns-clause-unread_line
 returns-clause-unread_line g c = λ a line taken of none. unwritten g c a taken
 
+pub returns-clause-unmoved : goal.returns-clause-unmoved
+returns-clause-unmoved g c = λ a taken unmoved. failed g c a taken
+
 pub returns-clause-moves : goal.returns-clause-moves
 returns-clause-moves g c = λ name line p is reads.
     failed_does (moves false line) _ _ _ (failed g c (moves false line) (moves_of _ name line is (read_is_plain line p reads))).0 p reads
 
 pub returns-clause-played : goal.returns-clause-played
 returns-clause-played g c = λ name line p is reads.
-    failed_does (play 65536 false line) _ _ _ (failed g c (play 65536 false line) (game_of _ name line is (read_is_plain line p reads))).0 p reads
+    let played = failed_does (play None 65536 false line) (g.O.Sink.written c.args.out.now) (g.O.Sink.written c.refuse.new.out) c.refuse.result
+    (failed g c (play None 65536 false line) (game_of _ name line is (read_is_plain line p reads))).0 p reads in
+    (played.0, λ clean. (played.1 clean).1)
+
+pub returns-clause-shown : goal.returns-clause-shown
+returns-clause-shown g c = λ name line p is reads.
+    failed_does (show false 65536 line) _ _ _ (failed g c (show false 65536 line) (show_of _ name line is (read_is_plain line p reads))).0 p reads
+
+pub returns-clause-shown_plain : goal.returns-clause-shown_plain
+returns-clause-shown_plain g c = λ name line p is reads.
+    failed_does (show true 65536 line) _ _ _ (failed g c (show true 65536 line) (show_plain_of _ name line is (read_is_plain line p reads))).0 p reads
 
 pub returns-clause-unread : goal.returns-clause-unread
 returns-clause-unread g c = λ name line is plain none. elim is [
   | inl moved ↦ unwritten g c (moves false line) (moves_of _ name line moved plain)
-  | inr played ↦ unwritten g c (play 65536 false line) (game_of _ name line played plain)
+  | inr played ↦ unwritten g c (play None 65536 false line) (game_of _ name line played plain)
 ]
 
 -- arguments that don't ask for this don't get it

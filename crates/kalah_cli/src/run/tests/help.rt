@@ -16,10 +16,11 @@ const OF_THE_PROGRAM: &[&str] = &[
     "solve",
     "values",
     "Prints each legal move of a position, and the position after it",
-    "Prints the margin of best play and the best house of each position in files",
-    "Prints what each move of each position in files is worth",
-    "Answers each line of the standard input before it reads on, as `solve` or `values`",
-    "Prints each legal move of each position in files, and the position after it",
+    "Prints the best house and the margin of best play of each position",
+    "Prints what each move of each position is worth",
+    "Answers each line of standard input before it reads the next",
+    "Prints each legal move of each position, and what it leads to",
+    "Draws a position, and below each house what its move is worth",
     "  -h, --help\n          Print help (see a summary with '-h')\n",
     "  -V, --version\n          Print version\n",
     ABOUT_POSITIONS,
@@ -27,51 +28,69 @@ const OF_THE_PROGRAM: &[&str] = &[
 
 const OF_THE_PROGRAM_IN_SHORT: &[&str] = &[
     "  -h, --help     Print help (see more with '--help')\n  -V, --version  Print version\n",
-    "`kalah --help` has the form of positions, the rules, the answers and the exit statuses.",
+    "`kalah --help` explains positions, the rules, answers and exit statuses.",
 ];
 
 const ABOUT_POSITIONS: &str = "\
-A position is one line, seen by the player to move: the seeds in that player's houses, a slash, the
-seeds in that player's store, one space, and the same for the other player, as in
+A position is one line, seen by the player to move: the seeds in that player's
+houses, a slash, the seeds in that player's store, a space, and the same for the
+other player:
     1,1/0 1,1/0
-On a command line it stands in quotes: kalah moves '1,1/0 1,1/0'
-Houses count from 1, and the last one lies next to its owner's store. A side has 1 to 6 houses; all
-houses together hold at most 31 seeds, and a store at most 99.
+On a command line it needs quotes: kalah moves '1,1/0 1,1/0'
+Houses count from 1, and the last one lies next to its owner's store. A side has
+1 to 6 houses. All houses together hold at most 31 seeds, and a store at most
+99.
 
-A move lifts the seeds of an own house and sows them one by one: the own houses after it, the own
-store, the other player's houses, and round again, never the other player's store. Who sows the last
-seed into the own store moves again. A last seed that is alone in an own house is captured together
-with the seeds in the house across, if there are any there. The game is over once the houses of one
-player are all empty; what is left in houses goes to their owner's store.
-A line that ends in ` e`, as 1,1/0 1,1/0 e, is played under the empty-capture rule: a last seed that
-is alone in an own house is captured also where the house across is empty.
+The rules: on your turn, choose one of your houses with seeds in it. Take them
+all out and sow them, one into each cell: your houses after it, your store, your
+opponent's houses, your houses from 1 on, and so on round the board, but never
+your opponent's store. If the last seed falls into your store, you move again.
+If it falls into an empty house of yours (the one that you chose is empty, too),
+and the house across has seeds, you capture it and all of these: they go to your
+store. The game is over when the houses of one player are all empty. Seeds left
+in houses go to their owner's store.
+A line that ends in ` e`, such as 1,1/0 1,1/0 e, is played under the
+empty-capture rule: you capture a last seed in an empty house of yours even if
+the house across is empty.
 
-`kalah moves LINE` prints a line for each house H that may be moved, with the position after it:
-    H POSITION again        the player to move has another move
-    H POSITION turn         the other player is to move, and the position is seen by that player
-    H POSITION over         the game is over
-`kalah play LINE` prints the game in which each player always moves the lowest best house, a line
-for each move, in the form of `moves`. With --boards, each position is drawn below its line, as
-1,2,3/4 5,6,7/8 here: the player to move sits below, with houses from left to right.
+`kalah moves LINE` prints a line for each house H that may be moved, with the
+position after the move:
+    H POSITION again  the same player moves again
+    H POSITION turn   the other player is to move, and the position is seen by
+                      that player
+    H POSITION over   the game is over
+`kalah play LINE` prints the game in which each player always moves the lowest
+best house, a line for each move as `moves` prints it. With --boards, each
+position is drawn below its line, with the player to move at the bottom and
+houses from left to right. This is 1,2,3/4 5,6,7/8:
        7   6   5
    8               4
        1   2   3
+With --first H the game begins with house H, and goes on with best play.
+`kalah show LINE` draws a position, and below each house what its move is worth;
+with --plain the picture alone. This is 3,3,3/0 3,3,3/0:
+       3   3   3
+   0               0
+       3   3   3
+       2   2  -4
 `kalah solve FILE..` prints a line for each line of each file, in order:
-    FILE:LINE MARGIN house H        the margin of best play, and the first house that attains it
-    FILE:LINE MARGIN over           the game is over, with this margin
-    FILE:LINE fault WORD            not a position
-`kalah values FILE..` prints for each of these lines what each of its moves is worth:
-    FILE:LINE H:V H:V ..            each house H that may be moved, and the margin V that its move
-                                    gets in best play
-    FILE:LINE MARGIN over           as `solve`
-    FILE:LINE fault WORD            as `solve`
-`kalah ask` prints for each line of the standard input, before it reads on, what `solve` prints behind
-FILE:LINE, or with --values what `values` prints there.
-`kalah steps FILE..` prints for each of the lines of files a line for each house H that may be moved:
-    FILE:LINE H POSITION again      behind FILE:LINE as `moves`, or with turn or over
-    FILE:LINE MARGIN over           as `solve`
-    FILE:LINE fault WORD            as `solve`
-A margin is what the player to move ends with less what the other player ends with.
+    FILE:LINE MARGIN house H  the margin of best play, and the first best house
+    FILE:LINE MARGIN over     the game is over, with this margin
+    FILE:LINE fault WORD      not a position
+`kalah values FILE..` prints for each of these lines what each move is worth:
+    FILE:LINE H:V H:V ..      each house H that may be moved, and the margin V
+                              that its move gets in best play
+    FILE:LINE MARGIN over     as `solve`
+    FILE:LINE fault WORD      as `solve`
+`kalah steps FILE..` prints for each of these lines a line for each house H that
+may be moved:
+    FILE:LINE H POSITION again  as `moves` prints it, or with turn or over
+    FILE:LINE MARGIN over       as `solve`
+    FILE:LINE fault WORD        as `solve`
+`kalah ask` prints for each line of standard input, before it reads on, what
+`solve` prints after FILE:LINE, or with --values what `values` prints there.
+A margin is what the player to move ends with, less what the other player ends
+with.
 
 The WORD of a line that is not a position is the first of these that holds:
     long      it has more than 80 bytes
@@ -80,9 +99,9 @@ The WORD of a line that is not a position is the first of these that holds:
     houses    the sides have different numbers of houses, or more than 6
     seeds     the houses hold more than 31 seeds together
 
-Exit status: 0 if every line was read or help was asked for; 1 if some line was not read; 2 if the
-words, a file, the standard input, memory, a worker or the output failed, and standard error says
-which.";
+Exit status: 0 if every line was read or help was printed; 1 if some line was
+not read; 2 if the arguments, a file, standard input, memory, a worker or the
+output failed, and standard error says which.";
 
 const OF_MOVES: &[&str] = &[
     "Prints each legal move of a position, and the position after it",
@@ -94,7 +113,7 @@ const OF_MOVES: &[&str] = &[
 
 const OF_ASK: &[&str] = &[
     "--values",
-    "tells what each move is worth, as `values`",
+    "prints what each move is worth, as `values`",
     "--table <N>",
     "[default: 65536]",
 ];
@@ -102,10 +121,10 @@ const OF_ASK: &[&str] = &[
 // Of `solve` and of `values`.
 const OF_BATCHES: &[&str] = &[
     "--workers <N>",
-    "how many workers solve side by side, 1 to 64",
+    "solves up to N lines in parallel, 1 to 64",
     "[default: 4]",
     "--table <N>",
-    "how many solved positions each worker remembers, 1 to 1048576",
+    "table entries of each worker, 1 to 1048576",
     "[default: 65536]",
     "--progress",
     "shows on standard error how many lines are answered",
@@ -114,6 +133,23 @@ const OF_BATCHES: &[&str] = &[
     " /dev/stdin < positions.txt\n",
     "    first.txt:5 -4 over        the game is over, with this margin\n",
     "`kalah --help` has the form of positions, the rules, and the words of faults.",
+];
+
+const OF_PLAY: &[&str] = &[
+    "Prints the game that best play leads to from a position, move by move",
+    "table entries of the search, 1 to 1048576",
+    "--first <H>",
+    "begins with house H, 1 to 6, and goes on with best play",
+    "The search runs in one thread, with one table of its own.",
+];
+
+const OF_SHOW: &[&str] = &[
+    "Draws a position, and below each house what its move is worth",
+    "--plain",
+    "draws the position alone, and searches nothing",
+    "table entries of the search, 1 to 1048576",
+    "       3   3   3\n       2   2  -4\n",
+    "    over, margin 3\n",
 ];
 
 // The help that these words ask for has each of these parts in it.
@@ -138,6 +174,8 @@ fn the_help_says_what_there_is_to_ask_for(rt: HostRuntime) {
     assert_says(&rt, alloc, &["-h"], OF_THE_PROGRAM_IN_SHORT);
     assert_says(&rt, alloc, &["moves", "--help"], OF_MOVES);
     assert_says(&rt, alloc, &["ask", "--help"], OF_ASK);
+    assert_says(&rt, alloc, &["play", "--help"], OF_PLAY);
+    assert_says(&rt, alloc, &["show", "--help"], OF_SHOW);
     for subcommand in ["solve", "values"] {
         assert_says(&rt, alloc, &[subcommand, "--help"], OF_BATCHES);
     }
@@ -148,6 +186,7 @@ const WITHOUT_QUOTES: &[&[&str]] = &[
     &["moves", "1,1/0", "1,1/0"],
     &["moves", "--boards", "1,1/0", "1,1/0"],
     &["play", "1,1/0", "1,1/0", "e"],
+    &["show", "1,1/0", "1,1/0"],
 ];
 
 const WITH_QUOTES: &[&[&str]] = &[

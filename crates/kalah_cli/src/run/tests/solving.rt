@@ -126,6 +126,23 @@ rules.txt:6 16 over
 }
 
 #[test]
+fn games_that_are_over(rt: HostRuntime) {
+    write_file(&rt, "ended.txt", b"0/0 0/0\n0/0 0/0 e\n31/99 0/0\n");
+    for word in ["solve", "values"] {
+        assert_answers(
+            &rt,
+            rt.alloc(),
+            &[word, "ended.txt"],
+            ExitStatus::Clean,
+            (
+                "ended.txt:1 0 over\nended.txt:2 0 over\nended.txt:3 130 over\n",
+                "",
+            ),
+        );
+    }
+}
+
+#[test]
 fn too_many_files(rt: HostRuntime) {
     let alloc = rt.alloc();
     write_file(&rt, "many_a.txt", b"");

@@ -28,7 +28,12 @@ fn assert_read_back(rt: &(impl Abort + AllocGlobal), line: &str) {
 
 #[test]
 fn lines_are_written_as_they_were_read(rt: HostRuntime) {
-    for line in ["1,1/0 1,1/0", "31/99 0/0", "1,2,3,4,5,0/10 0,0,0,0,0,9/8 e"] {
+    for line in [
+        "1,1/0 1,1/0",
+        "31/99 0/0",
+        "1,2,3,4,5,0/10 0,0,0,0,0,9/8 e",
+        "10,10,11,0,0,0/99 0,0,0,0,0,0/99 e",
+    ] {
         assert_read_back(&rt, line);
     }
 }

@@ -45,3 +45,23 @@ fn a_name_is_printed_as_it_is(rt: HostRuntime) {
         assert_text(&rt, name, 9, Answer::Over { margin: 1 }, text);
     }
 }
+
+// A name of this size is printed whole.
+fn assert_long_name(rt: &(impl Abort + AllocGlobal), size: usize) {
+    let name = "n".repeat(rt.alloc(), size).expect(rt, "no memory");
+    let text = format!(in rt.alloc(); "{name}:1 1 over").expect(rt, "no memory");
+    assert_text(
+        rt,
+        name.as_str(),
+        0,
+        Answer::Over { margin: 1 },
+        text.as_str(),
+    );
+}
+
+#[test]
+fn a_name_of_any_length_is_printed(rt: HostRuntime) {
+    for size in [255, 256, 257, 4096, 65_536, 100_000] {
+        assert_long_name(&rt, size);
+    }
+}

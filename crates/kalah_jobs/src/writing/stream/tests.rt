@@ -64,6 +64,31 @@ impl Write for Narrow {
     }
 }
 
+/// Takes a byte a call, and is interrupted `times` times before each.
+#[derive(Drop)]
+struct Interrupted {
+    bytes: usize,
+    times: u32,
+    left: u32,
+}
+
+impl Write for Interrupted {
+    fn write(&mut self, buf: &[u8]) -> io::Result<usize> {
+        if self.left > 0 {
+            self.left -= 1;
+            return Err(io::Error::from(ErrorKind::Interrupted));
+        }
+        self.left = self.times;
+        let taken = buf.len().min(1);
+        self.bytes = self.bytes.saturating_add(taken);
+        Ok(taken)
+    }
+
+    fn flush(&mut self) -> io::Result<()> {
+        Ok(())
+    }
+}
+
 /// Takes no byte.
 #[derive(Drop)]
 struct Full {
@@ -142,6 +167,26 @@ fn tries_an_interrupted_call_again(rt: HostRuntime) {
     let writer = out.into_inner();
     assert!(rt; writer.calls == 2);
     assert!(rt; writer.bytes.as_slice() == b"ab".as_slice());
+}
+
+// The bytes of a piece that come to a writer which takes one at a time, and is interrupted so often before each.
+fn passed_on_at_last(piece: &[u8], times: u32) -> Option<usize> {
+    let mut out = Stream::new(Interrupted {
+        bytes: 0,
+        times,
+        left: times,
+    });
+    out.write_all(piece).ok()?;
+    Some(out.into_inner().bytes)
+}
+
+#[test]
+fn tries_until_all_is_taken(rt: HostRuntime) {
+    let bytes = vec![in rt.alloc(); b'x'; 100_000].expect(&rt, "no memory");
+    for (size, times) in [(100_000, 0), (100_000, 1), (3, 100_000), (1000, 300)] {
+        let piece = bytes.as_slice().get(..size).unwrap_or(&[]);
+        assert!(rt; passed_on_at_last(piece, times) == Some(size), "{size}");
+    }
 }
 
 #[test]

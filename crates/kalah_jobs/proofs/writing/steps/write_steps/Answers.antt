@@ -7,7 +7,6 @@ use Rattle.std.proofs.lemmas.List.{take_all}
 use Rattle.kalah_rules.specs.Play.{step_of}
 use Rattle.kalah_jobs.specs.Files.Lines.{line_feed}
 use Rattle.kalah_jobs.specs.Line.Line.{step_text_of}
-use Rattle.kalah_jobs.specs.Writing.Answer.{steps_texts}
 use Rattle.kalah_jobs.specs.Writing.Given.{AppendsStart}
 use Rattle.kalah_jobs.proofs.OfWriting.Starts.{start_longer, start_none, start_then}
 use Rattle.kalah_jobs.proofs.OfWriting.StepLines.{first_moves, lines_end, one_more}

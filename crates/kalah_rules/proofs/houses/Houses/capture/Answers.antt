@@ -18,7 +18,14 @@ returns c =
     c.alone.ensures (rw side at c.alone-2.ensures)
 
 pub overflow_add-result : goal.overflow_add-result
-overflow_add-result c = omega (arith, store_few c.args.self.now c.args.h c.m.ensures.limits c.requires.holds, c.requires.shows.store, c.caught-last.ensures.here, c.seeds_at-here.ensures)
+overflow_add-result c =
+    omega (
+      arith,
+      store_few c.args.self.now c.args.h c.m.ensures.limits c.requires.holds,
+      c.requires.shows.store,
+      c.caught-last.ensures.here,
+      c.seeds_at-here.ensures,
+    )
 
 pub overflow_add-result-2 : goal.overflow_add-result-2
 overflow_add-result-2 c =

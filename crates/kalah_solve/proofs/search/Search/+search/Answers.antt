@@ -57,7 +57,8 @@ explore-loop-ranks-preserved g t c =
       highest = c.highest-at-in-loop-ranks.ensures.highest;
       untried = untried_fewer c.args.houses.now c.loop-ranks.most c.loop-ranks.ranks c.others_waiting-others.new.turns c.loop-ranks.at
           c.bound_turn-bound.result _ before.untried before.place
-          (turn_at_most c.args.houses.now c.args.bar (c.loop-ranks.at + 1) _ _ turn (rw c.gained.ensures at c.bound_turn-bound.ensures) c.if-bar-bound.false) c.max-most-in-loop-ranks.ensures;
+          (turn_at_most c.args.houses.now c.args.bar (c.loop-ranks.at + 1) _ _ turn (rw c.gained.ensures at c.bound_turn-bound.ensures)
+          c.if-bar-bound.false) c.max-most-in-loop-ranks.ensures;
     }
 
 pub explore-returns : goal.explore-returns

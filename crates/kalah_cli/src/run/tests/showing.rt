@@ -1,0 +1,157 @@
+//! Runs of `kalah show`, and of `kalah play` with a first house.
+use super::{assert_answers, assert_stops, assert_usage};
+use crate::status::ExitStatus;
+
+// Words, and the picture that they print.
+const SHOWN: &[(&[&str], &str)] = &[
+    (
+        &["show", "3,3,3/0 3,3,3/0"],
+        "       3   3   3
+   0               0
+       3   3   3
+       2   2  -4
+",
+    ),
+    (
+        &["show", "--plain", "3,3,3/0 3,3,3/0"],
+        "       3   3   3
+   0               0
+       3   3   3
+",
+    ),
+    (
+        &["show", "--table", "1", "0,1,1/0 1,1,3/99"],
+        "       3   1   1
+  99               0
+       0   1   1
+        -104-100
+",
+    ),
+    (
+        &["show", "1,0,0,0,0,0/0 0,0,0,0,0,1/0 e"],
+        "       1   0   0   0   0   0
+   0                           0
+       1   0   0   0   0   0
+       0
+",
+    ),
+    (
+        &["show", "3/99 28/0"],
+        "      28
+   0      99
+       3
+     130
+",
+    ),
+    (
+        &["show", "0,0/5 1,0/1"],
+        "       0   1
+   1           5
+       0   0
+over, margin 3
+",
+    ),
+];
+
+#[test]
+fn draws_a_position_with_what_its_moves_are_worth(rt: HostRuntime) {
+    for (words, text) in SHOWN {
+        assert_answers(&rt, rt.alloc(), *words, ExitStatus::Clean, (*text, ""));
+    }
+}
+
+// Words, and the game that they print.
+const PLAYED: &[(&[&str], &str)] = &[
+    (
+        &["play", "--first", "1", "1,1/0 1,1/0"],
+        "1 1,1/0 0,2/0 turn\n1 0,2/0 0,2/0 turn\n2 0,0/1 0,0/3 over\n",
+    ),
+    (
+        &["play", "--first=2", "1,1/0 1,1/0"],
+        "2 1,0/1 1,1/0 again\n1 0,0/3 0,0/1 over\n",
+    ),
+    (
+        &["play", "3/0 3/0", "--first=1", "--boards"],
+        "       3
+   0       0
+       3
+1 0/6 0/0 over
+       0
+   0       6
+       0
+",
+    ),
+];
+
+#[test]
+fn plays_from_a_first_house_on(rt: HostRuntime) {
+    for (words, game) in PLAYED {
+        assert_answers(&rt, rt.alloc(), *words, ExitStatus::Clean, (*game, ""));
+    }
+}
+
+// Words with a house that may not be moved: it is empty, there is none, or the game is over.
+const UNMOVED: &[(&[&str], &str)] = &[
+    (
+        &["play", "--first=1", "0,1/0 1,1/0"],
+        "kalah: house 1 can't be moved\n",
+    ),
+    (
+        &["play", "--first=3", "--boards", "1,1/0 1,1/0"],
+        "kalah: house 3 can't be moved\n",
+    ),
+    (
+        &["play", "--first=2", "1,1/0 0,0/0"],
+        "kalah: house 2 can't be moved\n",
+    ),
+];
+
+#[test]
+fn says_which_house_may_not_be_moved(rt: HostRuntime) {
+    for (words, said) in UNMOVED {
+        assert_answers(&rt, rt.alloc(), *words, ExitStatus::Failed, ("", *said));
+    }
+}
+
+// Words that are not taken: a house is a number from 1 to 6, and `show` takes no boards.
+const NOT_TAKEN: &[&[&str]] = &[
+    &["play", "--first=0", "1/0 1/0"],
+    &["play", "--first=7", "1/0 1/0"],
+    &["play", "--first", "1/0 1/0"],
+    &["show", "--boards", "1/0 1/0"],
+    &["show", "--table=0", "1/0 1/0"],
+    &["show"],
+];
+
+#[test]
+fn takes_no_other_words(rt: HostRuntime) {
+    for words in NOT_TAKEN {
+        assert_usage(&rt, rt.alloc(), *words);
+    }
+}
+
+#[test]
+fn tells_the_fault_of_a_line_before_its_house(rt: HostRuntime) {
+    for words in [
+        ["show", "--plain", "01/0 1/0"],
+        ["show", "--table=1", "01/0 1/0"],
+        ["play", "--first=3", "01/0 1/0"],
+    ] {
+        let fault = ("", "fault shape\n");
+        assert_answers(
+            &rt,
+            rt.alloc(),
+            words.as_slice(),
+            ExitStatus::LineFaults,
+            fault,
+        );
+    }
+}
+
+// The picture is written, flushed before the search, and again behind the values.
+#[test]
+fn stops_at_a_failed_write(rt: HostRuntime) {
+    assert_stops(&rt, rt.alloc(), &["show", "1,1/0 1,1/0"], 4);
+    assert_stops(&rt, rt.alloc(), &["show", "--plain", "1,1/0 1,1/0"], 2);
+    assert_stops(&rt, rt.alloc(), &["play", "--first=2", "1,1/0 1,1/0"], 4);
+}

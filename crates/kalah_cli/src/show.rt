@@ -1,0 +1,93 @@
+//! `kalah show LINE`.
+ghost use Rattle.std.specs.Prelude.{◌≡◌, ◌≢◌, ◌↔◌, ◌≤◌, IsErr, OnOk, false, true};
+ghost use Rattle.std.specs.Io.KnownBytes.{Appends};
+ghost use Rattle.kalah_rules.specs.Position.{Position};
+ghost use Rattle.kalah_solve.specs.Table.{most_entries};
+ghost use Rattle.kalah_jobs.specs.Line.Line.{Reads};
+ghost use Rattle.kalah_jobs.specs.Writing.Given.{AppendsStart};
+ghost use Rattle.kalah_jobs.specs.Writing.Picture.{picture_of};
+ghost use Rattle.kalah_jobs.specs.Writing.Shown.{shown_of};
+ghost use Rattle.kalah_cli.specs.Show.{show_output};
+
+use crate::failure::Failure;
+use crate::status::ExitStatus;
+use crate::unread::tell_fault;
+use kalah_jobs::{Sink, read_line, write_picture, write_values};
+use kalah_rules::Board;
+use kalah_solve::{Solver, Table};
+use std::alloc::Global;
+use std::io;
+use std::io::Write;
+
+// Draws a board.
+fn write_plain<O: Sink>(board: &Board, out: &mut O) -> Result<(), io::Error>
+    requires { O.has_failed out.old ≡ false }
+    ensures fails { IsErr result ↔ (O.has_failed out.new ≡ true) }
+    ensures adds { OnOk result (Appends (O.written out.old) (O.written out.new) (picture_of board.now)) }
+    ensures start { AppendsStart (O.written out.old) (O.written out.new) (picture_of board.now) }
+    ensures handed_on { OnOk result (O.is_handed_on out.new ≡ true) }
+{
+    write_picture(out, board)?;
+    out.flush()
+}
+
+// Draws a board, which is seen before the search begins, and writes below it what each move is worth.
+fn write_shown<O: Sink>(solver: &mut Solver, board: &Board, out: &mut O) -> Result<(), io::Error>
+    requires { O.has_failed out.old ≡ false }
+    ensures fails { IsErr result ↔ (O.has_failed out.new ≡ true) }
+    ensures adds { OnOk result (Appends (O.written out.old) (O.written out.new) (shown_of board.now)) }
+    ensures start { AppendsStart (O.written out.old) (O.written out.new) (shown_of board.now) }
+    ensures handed_on { OnOk result (O.is_handed_on out.new ≡ true) }
+{
+    write_plain(board, out)?;
+    let values = solver.values(board);
+    write_values(out, board, &values)?;
+    out.flush()
+}
+
+/// Draws the position that the line writes, and writes below it what each move is worth, if it isn't to be plain. A line that is
+/// not read is answered by its fault, on `err` alone. A plain picture needs no memory; else it is asked for before anything is
+/// written, apart from the entries of the table.
+pub(crate) fn run_show<O: Sink, E: Write>(
+    alloc: Global,
+    line: &str,
+    table: u32,
+    plain: bool,
+    out: &mut O,
+    err: &mut E,
+) -> ExitStatus
+    requires low { 1 ≤ table }
+    requires high { table ≤ most_entries }
+    requires sink { O.has_failed out.old ≡ false }
+    ensures read { (p : Position) → Reads line.now p → (result ≢ ExitStatus.LineFaults)
+        × (result ≡ ExitStatus.Clean
+        → Appends (O.written out.old) (O.written out.new) (show_output plain p)) }
+    ensures begins { (p : Position) → Reads line.now p
+        → AppendsStart (O.written out.old) (O.written out.new) (show_output plain p) }
+    ensures unread { ((p : Position) → Reads line.now p → ⊥)
+        → (result ≡ ExitStatus.LineFaults) × (out.new ≡ out.old) }
+    ensures failed { O.has_failed out.new ≡ true → result ≡ ExitStatus.Failed }
+    ensures unchanged { result ≡ ExitStatus.Failed → O.has_failed out.new ≡ false
+        → out.new ≡ out.old }
+    // A plain picture fails only where a write does: nothing is searched for it.
+    ensures searchless { plain ≡ true → result ≡ ExitStatus.Failed → O.has_failed out.new ≡ true }
+    ensures handed_on { result ≢ ExitStatus.Failed → O.is_handed_on out.old ≡ true → O.is_handed_on out.new ≡ true }
+{
+    let board = match read_line(line.as_bytes()) {
+        Ok(board) => board,
+        Err(fault) => return tell_fault(fault, err),
+    };
+    if plain {
+        return match write_plain(&board, out) {
+            Ok(()) => ExitStatus::Clean,
+            Err(_) => Failure::Write.report(err),
+        };
+    }
+    let Ok(table) = Table::new(alloc, table) else {
+        return Failure::OutOfMemory.report(err);
+    };
+    match write_shown(&mut Solver::new(table), &board, out) {
+        Ok(()) => ExitStatus::Clean,
+        Err(_) => Failure::Write.report(err),
+    }
+}

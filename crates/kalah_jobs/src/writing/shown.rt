@@ -1,0 +1,94 @@
+//! What each move is worth, below the picture of a board.
+ghost use Rattle.std.specs.Prelude.{◌≡◌, ◌↔◌, ◌≤◌, ◌+◌, ◌-◌, ◌*◌, ◌∷◌, [], ◌++◌, drop, true, false, IsErr, OnOk, length};
+ghost use Rattle.std.specs.Io.KnownBytes.{Appends};
+ghost use Rattle.kalah_rules.specs.Limits.{most_houses};
+ghost use Rattle.kalah_rules.specs.Position.{IsSmallMargin};
+ghost use Rattle.kalah_solve.specs.MoveValues.{values_of};
+ghost use Rattle.kalah_jobs.specs.Files.Lines.{line_feed};
+ghost use Rattle.kalah_jobs.specs.Writing.Given.{AppendsStart};
+ghost use Rattle.kalah_jobs.specs.Writing.Shown.{Rise, ShownTellsValues, over_words, value_cell, value_columns, values_line};
+ghost use Rattle.kalah_jobs.specs.Writing.Splitting.{HasSmallNumbers};
+ghost use Rattle.kalah_jobs.specs.declared.writing.answer.Answer.TheVariants.{Values};
+
+#[cfg(test)]
+mod tests;
+
+use crate::writing::picture::COLUMN;
+use crate::writing::sink::Sink;
+use crate::writing::stack_text::{ROOM, StackText};
+use kalah_rules::Board;
+use kalah_solve::{MoveValue, MoveValues};
+use std::io;
+
+// Puts the value of a move, at the right of a column, before what is there.
+#[tactic(auto, using(crate::proofs::OfWriting::Shown::value_length))]
+fn put_value_cell(text: &mut StackText, value: MoveValue)
+    requires small { IsSmallMargin value.value }
+    requires room { length text.old + 11 ≤ ROOM }
+    ensures cell { text.new ≡ value_cell value.value ++ text.old }
+    ensures longer { length text.new ≡ 4 + length text.old }
+{
+    let end = text.len() + COLUMN;
+    text.put_margin(i32::from(value.value));
+    text.put_blanks(end - text.len());
+}
+
+// Puts the values from place `i` on before what is there, each in the column of its house, where `behind` columns are filled already.
+fn put_columns(text: &mut StackText, values: &MoveValues, i: u8, behind: u8)
+    requires room { length text.old + 39 ≤ ROOM }
+    requires within { i ≤ length values.now }
+    requires behind { behind ≤ most_houses + 1 }
+    requires rise { Rise behind (drop i values.now) }
+    requires small { HasSmallNumbers (Values (drop i values.now)) }
+    ensures row { text.new ≡ value_columns behind (drop i values.now) ++ text.old }
+    ensures short { length text.new ≤ length text.old + 4 * (most_houses + 1 - behind) }
+{
+    if i == values.len() {
+        return;
+    }
+    let value = values.get(i);
+    put_columns(text, values, i + 1, value.house + 1);
+    put_value_cell(text, value);
+    text.put_blanks(COLUMN * usize::from(value.house - behind));
+}
+
+// The line below the picture of a board with these values.
+fn line_below(board: &Board, values: &MoveValues) -> StackText
+    requires { values.now ≡ values_of board.now }
+    ensures { result ≡ values_line board.now ++ line_feed ∷ [] }
+{
+    let mut text = StackText::new();
+    text.put("\n");
+    if board.is_over() {
+        text.put_margin(board.returns());
+        text.put("over, margin ");
+    } else {
+        put_columns(&mut text, values, 0, 0);
+    }
+    text
+}
+
+/// Writes the line that stands below the picture of a board: what each move is worth, as `values` has it, at the right of the
+/// column of its house, with nothing below a house that may not be moved and nothing behind the last value; or `over, margin M`
+/// where the game is over. It takes no memory, and is an error exactly where the sink has failed afterwards; then a beginning
+/// of the line was written, and nothing else.
+pub fn write_values<W: Sink>(
+    out: &mut W,
+    board: &Board,
+    values: &MoveValues,
+) -> Result<(), io::Error>
+    requires sink { W.has_failed out.old ≡ false }
+    requires values { values.now ≡ values_of board.now }
+    ensures fails { IsErr result ↔ (W.has_failed out.new ≡ true) }
+    ensures adds { OnOk result
+        (Appends (W.written out.old) (W.written out.new) (values_line board.now ++ line_feed ∷ [])) }
+    ensures start { AppendsStart (W.written out.old) (W.written out.new) (values_line board.now ++ line_feed ∷ []) }
+{
+    out.write_all(line_below(board, values).bytes())
+}
+
+/// Two boards of one rule that are shown alike, with a picture and the line below it, are the same; and so are two lists of values
+/// that stand alike in their columns. No line has more than 32 bytes.
+pub fn shown_tells_values()
+    ensures { ShownTellsValues }
+{}

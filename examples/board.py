@@ -1,0 +1,61 @@
+"""Draws a position as a board in SVG, with the player to move below.
+
+    python3 examples/board.py LINE > board.svg
+
+Each house is a circle with its number of seeds, and a store stands at each end. It takes any position that `kalah show` takes, and
+doesn't check it. Other programs call `svg`.
+"""
+
+import sys
+from collections import namedtuple
+
+# What a board holds: the seeds in the houses of a player, and in the store.
+Side = namedtuple("Side", "houses store")
+
+CELL, STORE, MARGIN = 60, 54, 10
+FONT = 'font-family="sans-serif" text-anchor="middle" dominant-baseline="central"'
+
+
+def read(line):
+    """The two sides of a line: that of the player to move, and that of the other player."""
+    sides = (word.split("/") for word in line.split()[:2])
+    return [Side(tuple(map(int, houses.split(","))), int(store)) for houses, store in sides]
+
+
+def text(x, y, words, size=20, color="#222"):
+    return f'<text x="{x}" y="{y}" font-size="{size}" fill="{color}" {FONT}>{words}</text>'
+
+
+def house(x, y, seeds, is_marked):
+    color = "#e8a33d" if is_marked else "#fff8ea"
+    number = text(x, y, seeds, color="#222" if seeds else "#999")
+    return f'<circle cx="{x}" cy="{y}" r="24" fill="{color}" stroke="#7a5230" stroke-width="2"/>{number}'
+
+
+def store(x, seeds):
+    box = f'<rect x="{x}" y="{MARGIN}" width="{STORE}" height="{2 * CELL}" rx="24" fill="#fff8ea" stroke="#7a5230" stroke-width="2"/>'
+    return box + text(x + STORE / 2, MARGIN + CELL, seeds, 24)
+
+
+def svg(below, above, marked=None, title="A position of Kalah"):
+    """The board with these sides. The marked house is one of ("below", H) and ("above", H). The houses above go from right to left, as
+    that player sees them."""
+    m = len(below.houses)
+    width, height = 2 * MARGIN + 2 * STORE + CELL * m, 2 * MARGIN + 2 * CELL
+    parts = [
+        f'<svg xmlns="http://www.w3.org/2000/svg" width="{width}" height="{height}" viewBox="0 0 {width} {height}" role="img">',
+        f"<title>{title}</title>",
+        f'<rect width="{width}" height="{height}" rx="28" fill="#c98f4e"/>',
+        store(MARGIN, above.store),
+        store(width - MARGIN - STORE, below.store),
+    ]
+    for place in range(m):
+        x = MARGIN + STORE + CELL * place + CELL / 2
+        parts.append(house(x, MARGIN + CELL / 2, above.houses[m - 1 - place], marked == ("above", m - place)))
+        parts.append(house(x, MARGIN + CELL * 3 / 2, below.houses[place], marked == ("below", place + 1)))
+    return "\n".join([*parts, "</svg>"])
+
+
+if __name__ == "__main__":
+    line = sys.argv[1]
+    print(svg(*read(line), title=f"Kalah, the player below moves: {line}"))
