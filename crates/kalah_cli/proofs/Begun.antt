@@ -6,7 +6,7 @@ use Rattle.kalah_rules.specs.Position.{Position, HasEqualSides, is_over, swapped
 use Rattle.kalah_rules.specs.Play.{step_of}
 use Rattle.kalah_rules.specs.Sowing.{after, is_again}
 use Rattle.kalah_rules.proofs.Ends.{after_equal_sides}
-use Rattle.kalah_solve.proofs.Worths.{swapped_equal_sides}
+use Rattle.kalah_solve.proofs.OfSolver.Worths.{swapped_equal_sides}
 use Rattle.kalah_rules.specs.declared.step.Step.{Step}
 use Rattle.kalah_rules.specs.declared.step.Step.TheVariants.{Again, Over, Turn}
 use Rattle.kalah_jobs.specs.Writing.Given.{AppendsStart}
@@ -36,7 +36,8 @@ pub begins_all : (old between new : Option (List ℕ)) (bs : List ℕ) → Appen
 begins_all old between new bs all keeps = start_then old between new bs bs [] (sym (append-nil bs)) all (start_kept_all between new [] keeps)
 
 -- the line of a move, and then the position after it, if boards are drawn
-pub move_parts : (boards : Bool) (h : ℕ) (s : Step) → move_lines boards h s ≡ (step_text_of h s ++ line_feed ∷ []) ++ board_lines boards (position_after s)
+pub move_parts : (boards : Bool) (h : ℕ) (s : Step) →
+    move_lines boards h s ≡ (step_text_of h s ++ line_feed ∷ []) ++ board_lines boards (position_after s)
 move_parts boards h s = sym (append_assoc (step_text_of h s) (line_feed ∷ []) (board_lines boards (position_after s)))
 
 -- the picture, and then the line below it
@@ -83,7 +84,8 @@ lines_begun question before after old new begun =
     record { read = begun.lines ++ begun.last; start = (length first + begun.count, subst (Appends old new) (sym all) begun.written) }
 
 -- if a read failed
-pub lines_cut_off : (question : Question) (before after old new : Option (List ℕ)) → IsCutOff question before after old new → StopsBetweenLines question old new
+pub lines_cut_off : (question : Question) (before after old new : Option (List ℕ)) → IsCutOff question before after old new →
+    StopsBetweenLines question old new
 lines_cut_off question before after old new cut = record { lines = cut.lines; ended = cut.ended; written = cut.written }
 
 -- and of the game from any position
@@ -121,5 +123,6 @@ begins_none (ask question table) old = no_lines_begun question old
 begins_none (show plain table line) old = λ p reads. start_none old _
 
 -- what was begun of a request was begun of what its arguments ask for
-pub begun_as : (words : List Text) (a b : Asked) (old new : Option (List ℕ)) → IsTakenAs words a → IsTakenAs words b → Begins a old new → Begins b old new
+pub begun_as : (words : List Text) (a b : Asked) (old new : Option (List ℕ)) → IsTakenAs words a → IsTakenAs words b → Begins a old new →
+    Begins b old new
 begun_as words a b old new one other begun = subst (λ x. Begins x old new) (taken_once words a b one other) begun

@@ -21,7 +21,7 @@ use Rattle.clap.specs.Words.{subcommand_name_of}
 use Rattle.clap.proofs.OnLiterals.{clap_on_literals}
 use Rattle.clap.proofs.WalkLemmas.{one_text-rows}
 use Rattle.kalah_rules.specs.Limits.{most_houses}
-use Rattle.kalah_solve.specs.Table.{most_entries}
+use Rattle.kalah_solve.specs.Table.Entries.{most_entries}
 use Rattle.kalah_run.specs.Limits.{most_workers}
 use Rattle.kalah_jobs.specs.declared.files.question.Question.{Question}
 use Rattle.kalah_jobs.specs.declared.files.question.Question.TheVariants.{BestMove, Values, Steps}
@@ -52,7 +52,8 @@ number_read E G f id r reads only has =
     (got.0, got.1, λ t e. let same : t ≡ has.0 = cc in rw same got.2)
 
 -- and that of an option that may be left out its number, if there is one
-pub given_read : (E : Type 0) (G : List ℕ → Result ℕ E → Type 0) (f : Found) (id : List ℕ) (r : Option ℕ) → (one_text f id ≡ None → r ≡ None)
+pub given_read : (E : Type 0) (G : List ℕ → Result ℕ E → Type 0) (f : Found) (id : List ℕ) (r : Option ℕ) →
+    (one_text f id ≡ None → r ≡ None)
     → ((t : List ℕ) → one_text f id ≡ Some t → ReadsOne G t r)
     → ((u : List ℕ) (x : Result ℕ E) → G u x → ParsesUnsigned 32 10 u x) → MayHaveNumber id most_houses (rows_of f)
     → r ≡ number_given id (rows_of f)
@@ -66,7 +67,8 @@ given_read E G f id r absent reads only may = go (one_of id (rows_of f)) refl
         rw is (got.1 ∙ ap (λ n. Some n) got.2)
 
 -- which is low
-pub given_low : (id : Text) (rows : List Row) (r : Option ℕ) → MayHaveNumber id most_houses rows → r ≡ number_given id rows → IfSome r (λ h. h ≤ most_houses)
+pub given_low : (id : Text) (rows : List Row) (r : Option ℕ) → MayHaveNumber id most_houses rows → r ≡ number_given id rows →
+    IfSome r (λ h. h ≤ most_houses)
 given_low id rows r may same = subst (λ o. IfSome o (λ h. h ≤ most_houses)) (sym same) (go (one_of id rows) refl)
   where
     go : (o : Option Text) → one_of id rows ≡ o → IfSome (option_map number_written o) (λ h. h ≤ most_houses)
@@ -79,7 +81,8 @@ unfolding clap_on_literals
 kalah_is_simple = refl
 
 -- a parse that succeeds has no fault
-pub taken_none : (a : App) (words : List Text) → a ≡ kalah_app → (is_simple_and_free a ≡ true → fault_of a words ≡ []) → fault_of kalah_app words ≡ []
+pub taken_none : (a : App) (words : List Text) → a ≡ kalah_app → (is_simple_and_free a ≡ true → fault_of a words ≡ []) →
+    fault_of kalah_app words ≡ []
 taken_none a words is none = subst (λ b. fault_of b words ≡ []) is (none (ap is_simple_and_free is ∙ app_is_simple))
 
 -- a parse that succeeds has what its subcommand needs
@@ -90,14 +93,16 @@ taken_is a words o is none rows =
     (got.0, got.1, rows (ap is_simple is ∙ kalah_is_simple) ∙ ap (λ b. subcommand_of b words) is ∙ got.2, got.3)
 
 -- what a subcommand that was entered needs, by its name and its rows
-needed : (o : Option (Text × List Row)) (name : Text) (rows : List Row) → IsTaken o → option_map (λ p. p.0) o ≡ Some name → option_map (λ p. p.1) o ≡ Some rows
+needed : (o : Option (Text × List Row)) (name : Text) (rows : List Row) → IsTaken o → option_map (λ p. p.0) o ≡ Some name →
+    option_map (λ p. p.1) o ≡ Some rows
     → HasWhatItNeeds name rows
 needed o name rows taken named listed =
     let named_so : taken.0 ≡ name = (let e = ap (option_map (λ p. p.0)) (sym taken.2) ∙ named in cc) in
     let listed_so : taken.1 ≡ rows = (let e = ap (option_map (λ p. p.1)) (sym taken.2) ∙ listed in cc) in
     subst (HasWhatItNeeds name) listed_so (subst (λ n. HasWhatItNeeds n taken.1) named_so taken.3)
 
-first_of_both : {A : Type 0} (f : A → Text) (g : A → List Row) (o : Option A) → option_map (λ (p : Text × List Row). p.0) (option_map (λ b. (f b, g b)) o) ≡ option_map f o
+first_of_both : {A : Type 0} (f : A → Text) (g : A → List Row) (o : Option A) →
+    option_map (λ (p : Text × List Row). p.0) (option_map (λ b. (f b, g b)) o) ≡ option_map f o
 first_of_both f g None = refl
 first_of_both f g (Some b) = refl
 
@@ -128,12 +133,27 @@ met name m rows taken named listed =
     let same : option_map (λ (p : Text × List Row). p.0) (subcommand_rows_of m) ≡ subcommand_name_of m = first_of_both _ _ _ in
     needed (subcommand_rows_of m) name rows taken (same ∙ named) listed
 
+-- what the subcommand that was entered asks for, by its name and its rows
+asked_of : (o : Option (Text × List Row)) (name : Text) (rows : List Row) → option_map (λ p. p.0) o ≡ Some name → option_map (λ p. p.1) o ≡ Some rows
+    → option_and_then asked_by o ≡ asked_by (name, rows)
+asked_of None name rows named listed = absurd (let bad : None ≡ Some name = named in cc)
+asked_of (Some p) name rows named listed =
+    let named_so : p.0 ≡ name = (let e : Some p.0 ≡ Some name = named in cc) in
+    let listed_so : p.1 ≡ rows = (let e : Some p.1 ≡ Some rows = listed in cc) in
+    subst (λ n. asked_by p ≡ asked_by (n, rows)) named_so (subst (λ r. asked_by p ≡ asked_by (p.0, r)) listed_so refl)
+
+pub asked_so : (name : Text) (m : ArgMatches) (rows : List Row) → subcommand_name_of m ≡ Some name
+    → option_map (λ p. p.1) (subcommand_rows_of m) ≡ Some rows → option_and_then asked_by (subcommand_rows_of m) ≡ asked_by (name, rows)
+asked_so name m rows named listed =
+    let same : option_map (λ (p : Text × List Row). p.0) (subcommand_rows_of m) ≡ subcommand_name_of m = first_of_both _ _ _ in
+    asked_of (subcommand_rows_of m) name rows (same ∙ named) listed
+
 -- `play` has what it needs
 game_have : (rows : List Row) → HasWhatItNeeds (codes "play") rows → IsPlay rows
 game_have rows (inl one) = other_name (codes "play") (codes "moves") refl one.0
 game_have rows (inr (inl own)) = own.1
-game_have rows (inr (inr (inl inl one, files))) = other_name (codes "play") (codes "solve") refl one
-game_have rows (inr (inr (inl inr one, files))) = other_name (codes "play") (codes "values") refl one
+game_have rows (inr (inr (inl (inl one, files)))) = other_name (codes "play") (codes "solve") refl one
+game_have rows (inr (inr (inl (inr one, files)))) = other_name (codes "play") (codes "values") refl one
 game_have rows (inr (inr (inr (inl one)))) = other_name (codes "play") (codes "ask") refl one.0
 game_have rows (inr (inr (inr (inr (inl one))))) = other_name (codes "play") (codes "steps") refl one.0
 game_have rows (inr (inr (inr (inr (inr one))))) = other_name (codes "play") (codes "show") refl one.0
@@ -142,12 +162,26 @@ pub game_need : (m : ArgMatches) (rows : List Row) → IsTaken (subcommand_rows_
     → option_map (λ p. p.1) (subcommand_rows_of m) ≡ Some rows → IsPlay rows
 game_need m rows taken named listed = game_have rows (met (codes "play") m rows taken named listed)
 
+-- and so has `ask`
+ask_have : (rows : List Row) → HasWhatItNeeds (codes "ask") rows → IsAsk rows
+ask_have rows (inl one) = other_name (codes "ask") (codes "moves") refl one.0
+ask_have rows (inr (inl one)) = other_name (codes "ask") (codes "play") refl one.0
+ask_have rows (inr (inr (inl (inl one, files)))) = other_name (codes "ask") (codes "solve") refl one
+ask_have rows (inr (inr (inl (inr one, files)))) = other_name (codes "ask") (codes "values") refl one
+ask_have rows (inr (inr (inr (inl own)))) = own.1
+ask_have rows (inr (inr (inr (inr (inl one))))) = other_name (codes "ask") (codes "steps") refl one.0
+ask_have rows (inr (inr (inr (inr (inr one))))) = other_name (codes "ask") (codes "show") refl one.0
+
+pub ask_need : (m : ArgMatches) (rows : List Row) → IsTaken (subcommand_rows_of m) → subcommand_name_of m ≡ Some (codes "ask")
+    → option_map (λ p. p.1) (subcommand_rows_of m) ≡ Some rows → IsAsk rows
+ask_need m rows taken named listed = ask_have rows (met (codes "ask") m rows taken named listed)
+
 -- and so has `steps`
 steps_have : (rows : List Row) → HasWhatItNeeds (codes "steps") rows → IsSteps rows
 steps_have rows (inl one) = other_name (codes "steps") (codes "moves") refl one.0
 steps_have rows (inr (inl one)) = other_name (codes "steps") (codes "play") refl one.0
-steps_have rows (inr (inr (inl inl one, files))) = other_name (codes "steps") (codes "solve") refl one
-steps_have rows (inr (inr (inl inr one, files))) = other_name (codes "steps") (codes "values") refl one
+steps_have rows (inr (inr (inl (inl one, files)))) = other_name (codes "steps") (codes "solve") refl one
+steps_have rows (inr (inr (inl (inr one, files)))) = other_name (codes "steps") (codes "values") refl one
 steps_have rows (inr (inr (inr (inl one)))) = other_name (codes "steps") (codes "ask") refl one.0
 steps_have rows (inr (inr (inr (inr (inl own))))) = own.1
 steps_have rows (inr (inr (inr (inr (inr one))))) = other_name (codes "steps") (codes "show") refl one.0
@@ -160,8 +194,8 @@ steps_need m rows taken named listed = steps_have rows (met (codes "steps") m ro
 show_have : (rows : List Row) → HasWhatItNeeds (codes "show") rows → IsShow rows
 show_have rows (inl one) = other_name (codes "show") (codes "moves") refl one.0
 show_have rows (inr (inl one)) = other_name (codes "show") (codes "play") refl one.0
-show_have rows (inr (inr (inl inl one, files))) = other_name (codes "show") (codes "solve") refl one
-show_have rows (inr (inr (inl inr one, files))) = other_name (codes "show") (codes "values") refl one
+show_have rows (inr (inr (inl (inl one, files)))) = other_name (codes "show") (codes "solve") refl one
+show_have rows (inr (inr (inl (inr one, files)))) = other_name (codes "show") (codes "values") refl one
 show_have rows (inr (inr (inr (inl one)))) = other_name (codes "show") (codes "ask") refl one.0
 show_have rows (inr (inr (inr (inr (inl one))))) = other_name (codes "show") (codes "steps") refl one.0
 show_have rows (inr (inr (inr (inr (inr own))))) = own.1

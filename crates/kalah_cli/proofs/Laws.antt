@@ -157,7 +157,8 @@ moves_given words a is name line same plain =
     cc
 
 -- they are refused only for lack of memory
-pub moves_by_memory : (words : List Text) (e : Error) → HasKind (fault_of kalah_app words) e → (name line : Text) → words ≡ name ∷ codes "moves" ∷ line ∷ []
+pub moves_by_memory : (words : List Text) (e : Error) → HasKind (fault_of kalah_app words) e → (name line : Text) →
+    words ≡ name ∷ codes "moves" ∷ line ∷ []
     → IsPlainWord line → kind_of e ≡ OutOfMemory
 moves_by_memory words e has name line same plain =
     let none : fault_of kalah_app words ≡ [] = ap (fault_of kalah_app) same ∙ (moves_taken name line plain).0 in

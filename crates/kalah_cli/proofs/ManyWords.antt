@@ -84,7 +84,8 @@ first_passes Values x xs rest e = simp e refl
 first_passes Steps x xs rest e = simp e refl
 
 step_passes : (question : Question) (files : List Text) (word : Text) (x : ℕ) (xs : Text) (rest : List Text) → (x == 45) ≡ false
-    → walk_fault (shape question) [] (behind files word) ((x ∷ xs) ∷ rest) ≡ walk_fault (shape question) [] (behind (files ++ word ∷ []) (x ∷ xs)) rest
+    → walk_fault (shape question) [] (behind files word) ((x ∷ xs) ∷ rest)
+    ≡ walk_fault (shape question) [] (behind (files ++ word ∷ []) (x ∷ xs)) rest
 unfolding clap_on_literals
 step_passes BestMove [] word x xs rest e = simp e refl
 step_passes BestMove (file ∷ files) word x xs rest e = simp e refl
@@ -184,7 +185,8 @@ level_passes Steps file files plain =
 -- ---- all arguments of the program
 
 -- at the subcommand the walk of the program's arguments stops
-top_walk : (question : Question) (files : List Text) → walk (built kalah_app).top.rules (names_of (built kalah_app)) nothing_held (command_of question ∷ files)
+top_walk : (question : Question) (files : List Text) →
+    walk (built kalah_app).top.rules (names_of (built kalah_app)) nothing_held (command_of question ∷ files)
     ≡ record (walk_from nothing_held) { stopped = Some (command_of question, files) }
 unfolding clap_on_literals
 top_walk BestMove files = sym (walk_stopped (built kalah_app).top.rules (names_of (built kalah_app)) (walk_from nothing_held) (codes "solve") [] files)

@@ -10,16 +10,16 @@ use Rattle.kalah_rules.specs.Sowing.{after, is_again}
 use Rattle.kalah_rules.specs.Play.{legal_houses, step_of}
 use Rattle.kalah_rules.specs.declared.step.Step.TheVariants as step
 use Rattle.kalah_rules.specs.declared.step.Step.{Step}
-use Rattle.kalah_solve.specs.BestPlay.{Game, follow}
-use Rattle.kalah_solve.specs.BestPlay.Game.{is_at_end, moves_on, passes_turn}
-use Rattle.kalah_solve.specs.Verdict.{verdict_of}
-use Rattle.kalah_solve.specs.Worth.{best_house, worth}
-use Rattle.kalah_solve.specs.declared.verdict.Verdict.TheVariants.{Best, Over}
-use Rattle.kalah_solve.proofs.Finds.{contains_first}
-use Rattle.kalah_solve.proofs.Games.{followed, game_ends, strategy_keeps}
-use Rattle.kalah_solve.proofs.Secured.{best_is_strategy, best_plays, bounds}
-use Rattle.kalah_solve.proofs.Values.{over_swapped}
-use Rattle.kalah_solve.proofs.Worths.{again_step, over_step, turn_step}
+use Rattle.kalah_solve.specs.Solver.BestPlay.{Game, follow}
+use Rattle.kalah_solve.specs.Solver.BestPlay.Game.{is_at_end, moves_on, passes_turn}
+use Rattle.kalah_solve.specs.Solver.Verdict.{verdict_of}
+use Rattle.kalah_solve.specs.Solver.Worth.{best_house, worth}
+use Rattle.kalah_solve.specs.declared.solver.verdict.Verdict.TheVariants.{Best, Over}
+use Rattle.kalah_solve.proofs.OfSolver.Finds.{contains_first}
+use Rattle.kalah_solve.proofs.OfSolver.Games.{followed, game_ends, strategy_keeps}
+use Rattle.kalah_solve.proofs.OfSolver.Secured.{best_is_strategy, best_plays, bounds}
+use Rattle.kalah_solve.proofs.OfSolver.Values.{over_swapped}
+use Rattle.kalah_solve.proofs.OfSolver.Worths.{again_step, over_step, turn_step}
 use Rattle.kalah_jobs.specs.Line.Line.{position_after}
 use Rattle.kalah_jobs.specs.Writing.Given.{AppendsStart}
 use Rattle.kalah_jobs.proofs.OfWriting.Starts.{start_longer, start_then}
@@ -40,7 +40,8 @@ best_game p houses final even game =
 -- the solver's verdict if the game goes on
 pub best_told : (p : Position) (margin : ℤ) (house : ℕ) → Best margin house ≡ verdict_of p → (is_over p ≡ false) × (house ≡ best_house p)
 best_told p margin house is = elim (cases_Bool (is_over p)) [
-  | inl over ↦ absurd (let told : Best margin house ≡ Over (final_margin p) = is ∙ ap (λ b. if b then Over (final_margin p) else Best (worth p) (best_house p)) over in cc)
+  | inl over ↦ absurd (let told : Best margin house ≡ Over (final_margin p) =
+      is ∙ ap (λ b. if b then Over (final_margin p) else Best (worth p) (best_house p)) over in cc)
   | inr going ↦
       let told : Best margin house ≡ Best (worth p) (best_house p) =
       is ∙ ap (λ b. if b then Over (final_margin p) else Best (worth p) (best_house p)) going in
@@ -51,7 +52,8 @@ best_told p margin house is = elim (cases_Bool (is_over p)) [
 pub over_told : (p : Position) (margin : ℤ) → Over margin ≡ verdict_of p → is_over p ≡ true
 over_told p margin is = elim (cases_Bool (is_over p)) [
   | inl over ↦ over
-  | inr going ↦ absurd (let told : Over margin ≡ Best (worth p) (best_house p) = is ∙ ap (λ b. if b then Over (final_margin p) else Best (worth p) (best_house p)) going in cc)
+  | inr going ↦ absurd (let told : Over margin ≡ Best (worth p) (best_house p) =
+      is ∙ ap (λ b. if b then Over (final_margin p) else Best (worth p) (best_house p)) going in cc)
 ]
 
 -- the best house is legal
@@ -60,7 +62,8 @@ best_is_legal p house even going best = rw best (best_is_strategy.moves p even g
 
 -- ---- a move more in front
 
-again_game : (p q : Position) (h : ℕ) (houses : List ℕ) (final : Position) → is_over p ≡ false → h ≡ best_house p → step.Again q ≡ step_of p h →
+again_game : (p q : Position) (h : ℕ) (houses : List ℕ) (final : Position) → is_over p ≡ false → h ≡ best_house p →
+    step.Again q ≡ step_of p h →
     BestGame q houses final → BestGame p (h ∷ houses) final
 again_game p q h houses final going best is game =
     let moved_to = again_step (is_over (after p h)) (is_again p h) (after p h) q is in
@@ -72,7 +75,8 @@ turn_game p q h houses final going best is game =
     let moved_to = turn_step (is_over (after p h)) (is_again p h) (after p h) q is in
     passes_turn going (rw best (contains_first (best_house p) [])) moved_to.1 (subst (λ r. BestGame r houses final) moved_to.2 game)
 
-over_game : (p e : Position) (h : ℕ) → is_over p ≡ false → h ≡ best_house p → step.Over e ≡ step_of p h → (final : Position) × BestGame p (h ∷ []) final
+over_game : (p e : Position) (h : ℕ) → is_over p ≡ false → h ≡ best_house p → step.Over e ≡ step_of p h →
+    (final : Position) × BestGame p (h ∷ []) final
 over_game p e h going best is =
     let moved_to = over_step (is_over (after p h)) (is_again p h) (after p h) e is in
     let moved : Contains (follow best_house p) h = (rw best (contains_first (best_house p) [])) in
@@ -85,19 +89,23 @@ over_game p e h going best is =
 first_move : (h : ℕ) {p : Position} {houses : List ℕ} {final : Position} → BestGame p houses final → is_over p ≡ false → h ≡ best_house p →
     (rest : List ℕ) × (houses ≡ h ∷ rest)
 first_move h (is_at_end over) going best = absurd (let both : true ≡ false = sym over ∙ going in cc)
-first_move h {p = p} (moves_on {h = k} {houses = rest} _ has again game) going best = (rest, ap (λ j. j ∷ rest) (sym (followed best_house p k has) ∙ sym best))
-first_move h {p = p} (passes_turn {h = k} {houses = rest} _ has turn game) going best = (rest, ap (λ j. j ∷ rest) (sym (followed best_house p k has) ∙ sym best))
+first_move h {p = p} (moves_on {h = k} {houses = rest} _ has again game) going best =
+    (rest, ap (λ j. j ∷ rest) (sym (followed best_house p k has) ∙ sym best))
+first_move h {p = p} (passes_turn {h = k} {houses = rest} _ has turn game) going best =
+    (rest, ap (λ j. j ∷ rest) (sym (followed best_house p k has) ∙ sym best))
 
 -- ---- what holds of the lines of its moves
 
 -- what holds of any lines
-pub of_any : (boards : Bool) (p : Position) (Holds : List ℕ → Type 0) → HasEqualSides p → ((lines : List ℕ) → Holds lines) → OfBestGame boards p Holds
+pub of_any : (boards : Bool) (p : Position) (Holds : List ℕ → Type 0) → HasEqualSides p → ((lines : List ℕ) → Holds lines) →
+    OfBestGame boards p Holds
 of_any boards p Holds even all =
     let game = game_ends best_house best_house best_is_strategy best_is_strategy p even in
     record { houses = game.0; final = game.1; is_best = best_game p game.0 game.1 even game.2; holds = all (game_lines boards p game.0) }
 
 -- what holds of the line of the first move, followed by any lines
-pub of_first : (boards : Bool) (p : Position) (h : ℕ) (s : Step) (Holds : List ℕ → Type 0) → HasEqualSides p → is_over p ≡ false → h ≡ best_house p →
+pub of_first : (boards : Bool) (p : Position) (h : ℕ) (s : Step) (Holds : List ℕ → Type 0) → HasEqualSides p → is_over p ≡ false →
+    h ≡ best_house p →
     s ≡ step_of p h → ((lines : List ℕ) → Holds (move_lines boards h s ++ lines)) → OfBestGame boards p Holds
 of_first boards p h s Holds even going best same all =
     let game = game_ends best_house best_house best_is_strategy best_is_strategy p even in
@@ -111,7 +119,8 @@ of_first boards p h s Holds even going best same all =
     }
 
 -- what holds of them behind that line, if the rest is of the game from there on
-of_more : (boards : Bool) (p q : Position) (h : ℕ) (s : Step) (houses : List ℕ) (final : Position) (Rest Holds : List ℕ → Type 0) → HasEqualSides p →
+of_more : (boards : Bool) (p q : Position) (h : ℕ) (s : Step) (houses : List ℕ) (final : Position) (Rest Holds : List ℕ → Type 0) →
+    HasEqualSides p →
     BestGame p (h ∷ houses) final → s ≡ step_of p h → q ≡ position_after s → Rest (game_lines boards q houses) →
     ((lines : List ℕ) → Rest lines → Holds (move_lines boards h s ++ lines)) → OfBestGame boards p Holds
 of_more boards p q h s houses final Rest Holds even game same next rest more = record {
@@ -122,22 +131,26 @@ of_more boards p q h s houses final Rest Holds even game same next rest more = r
       (more (game_lines boards (position_after s) houses) (subst (λ r. Rest (game_lines boards r houses)) next rest));
 }
 
-pub of_again : (boards : Bool) (p q : Position) (h : ℕ) (s : Step) (Rest Holds : List ℕ → Type 0) → HasEqualSides p → is_over p ≡ false → h ≡ best_house p →
+pub of_again : (boards : Bool) (p q : Position) (h : ℕ) (s : Step) (Rest Holds : List ℕ → Type 0) → HasEqualSides p →
+    is_over p ≡ false → h ≡ best_house p →
     s ≡ step_of p h → s ≡ step.Again q → ((lines : List ℕ) → Rest lines → Holds (move_lines boards h s ++ lines)) → OfBestGame boards q Rest →
     OfBestGame boards p Holds
 of_again boards p q h s Rest Holds even going best same is more rest =
     of_more boards p q h s rest.houses rest.final Rest Holds even (again_game p q h rest.houses rest.final going best (sym is ∙ same) rest.is_best.game) same
     (ap position_after (sym is)) rest.holds more
 
-pub of_turn : (boards : Bool) (p q : Position) (h : ℕ) (s : Step) (Rest Holds : List ℕ → Type 0) → HasEqualSides p → is_over p ≡ false → h ≡ best_house p →
+pub of_turn : (boards : Bool) (p q : Position) (h : ℕ) (s : Step) (Rest Holds : List ℕ → Type 0) → HasEqualSides p → is_over p ≡ false →
+    h ≡ best_house p →
     s ≡ step_of p h → s ≡ step.Turn q → ((lines : List ℕ) → Rest lines → Holds (move_lines boards h s ++ lines)) → OfBestGame boards q Rest →
     OfBestGame boards p Holds
 of_turn boards p q h s Rest Holds even going best same is more rest =
-    of_more boards p q h s rest.houses (swapped rest.final) Rest Holds even (turn_game p q h rest.houses rest.final going best (sym is ∙ same) rest.is_best.game)
+    of_more boards p q h s rest.houses (swapped rest.final) Rest Holds even
+    (turn_game p q h rest.houses rest.final going best (sym is ∙ same) rest.is_best.game)
     same (ap position_after (sym is)) rest.holds more
 
 -- the last move
-pub of_last : (boards : Bool) (p e : Position) (h : ℕ) (s : Step) (Holds : List ℕ → Type 0) → HasEqualSides p → is_over p ≡ false → h ≡ best_house p →
+pub of_last : (boards : Bool) (p e : Position) (h : ℕ) (s : Step) (Holds : List ℕ → Type 0) → HasEqualSides p → is_over p ≡ false →
+    h ≡ best_house p →
     s ≡ step_of p h → s ≡ step.Over e → Holds (move_lines boards h s ++ []) → OfBestGame boards p Holds
 of_last boards p e h s Holds even going best same is holds =
     let game = over_game p e h going best (sym is ∙ same) in
@@ -158,13 +171,16 @@ kept_appends (Some x) (Some y) None bytes p q = absurd q
 kept_appends (Some x) (Some y) (Some z) bytes p q = q ∙ ap (λ l. l ++ bytes) p
 
 -- a prefix of the line of a move was written, after nothing was
-pub begins_move : (old ready new : Option (List ℕ)) (move lines : List ℕ) → Keeps old ready → AppendsStart ready new move → AppendsStart old new (move ++ lines)
+pub begins_move : (old ready new : Option (List ℕ)) (move lines : List ℕ) → Keeps old ready → AppendsStart ready new move →
+    AppendsStart old new (move ++ lines)
 begins_move old ready new move lines keeps start = start_longer old new move lines (start.0, kept_appends old ready new (take start.0 move) keeps start.1)
 
 -- all of it, and then a prefix of more lines
-pub begins_on : (old ready moved new : Option (List ℕ)) (move lines : List ℕ) → Keeps old ready → Appends ready moved move → AppendsStart moved new lines
+pub begins_on : (old ready moved new : Option (List ℕ)) (move lines : List ℕ) → Keeps old ready → Appends ready moved move →
+    AppendsStart moved new lines
     → AppendsStart old new (move ++ lines)
-begins_on old ready moved new move lines keeps all rest = start_then old moved new (move ++ lines) move lines refl (kept_appends old ready moved move keeps all) rest
+begins_on old ready moved new move lines keeps all rest =
+    start_then old moved new (move ++ lines) move lines refl (kept_appends old ready moved move keeps all) rest
 
 -- all of both
 pub goes_on : (old ready moved new : Option (List ℕ)) (move lines : List ℕ) → Keeps old ready → Appends ready moved move → Appends moved new lines
@@ -177,12 +193,14 @@ on_ok_always (Ok x) p = p
 on_ok_always (Err e) p = tt
 
 -- what holds of the lines of the game holds of them behind the first picture
-pub of_board_lines : (boards : Bool) (p : Position) (Lines Holds : List ℕ → Type 0) → ((lines : List ℕ) → Lines lines → Holds lines) → OfBestGame boards p Lines
+pub of_board_lines : (boards : Bool) (p : Position) (Lines Holds : List ℕ → Type 0) → ((lines : List ℕ) → Lines lines → Holds lines) →
+    OfBestGame boards p Lines
     → OfBestGame boards p Holds
 of_board_lines boards p Lines Holds more game = record { houses = game.houses; final = game.final; is_best = game.is_best; holds = more _ game.holds }
 
 -- and behind the first picture and the move that is asked for, where the game goes on from the position after it
-pub behind_move : (boards : Bool) (p next : Position) (h : ℕ) (s : Step) (Lines Holds : List ℕ → Type 0) → s ≡ step_of p h → next ≡ position_after s
+pub behind_move : (boards : Bool) (p next : Position) (h : ℕ) (s : Step) (Lines Holds : List ℕ → Type 0) → s ≡ step_of p h →
+    next ≡ position_after s
     → ((lines : List ℕ) → Lines lines → Holds (board_lines boards p ++ (move_lines boards h s ++ lines))) → OfBestGame boards next Lines
     → OfGame (Some h) boards p Holds
 behind_move boards p next h s Lines Holds same is more game =

@@ -17,7 +17,7 @@ use Rattle.clap.specs.declared.builder.value_parser.ValueParser.TheVariants.{Uns
 use Rattle.clap.specs.declared.builder.value_parser.ValueParser.TheVariants as vp
 use Rattle.clap.specs.declared.builder.action.ArgAction.TheVariants.{Append, Help, Set, SetTrue}
 use Rattle.kalah_rules.specs.Limits.{most_houses}
-use Rattle.kalah_solve.specs.Table.{most_entries}
+use Rattle.kalah_solve.specs.Table.Entries.{most_entries}
 use Rattle.kalah_run.specs.Limits.{most_workers}
 use Rattle.kalah_cli.specs.Command.{answers_app, ask_app, boards_rule, file_rule, kalah_app, line_rule, moves_app, play_app, progress_rule, steps_app, table_rule, values_rule, workers_rule, first_rule, plain_rule, show_app}
 use Rattle.kalah_cli.specs.Request.{HasFlag, HasLineArgument, HasNumber, HasWhatItNeeds, IsAnswers, IsAsk, IsMoves, IsPlay, IsSteps, IsShow, MayHaveNumber}
@@ -392,7 +392,8 @@ shown_line_given rows e = go (is_given (codes "line") rows) e
     go false f = cc
 
 -- a row of numbers in range has one in the text that is read
-number_of : (high : ℕ) (r : Row) (t : Text) → (r.reading ≡ AsWritten) × AllOf (IsUnsignedIn 1 high) r.values → row_text r ≡ Some t → IsUnsignedIn 1 high t
+number_of : (high : ℕ) (r : Row) (t : Text) → (r.reading ≡ AsWritten) × AllOf (IsUnsignedIn 1 high) r.values → row_text r ≡ Some t →
+    IsUnsignedIn 1 high t
 number_of high r t ok is = go r.values r.reading ok.1 ok.0 is
   where
     go : (vs : List Text) (how : Reading) → AllOf (IsUnsignedIn 1 high) vs → how ≡ AsWritten → option_map (read_as how) (slice_get vs 0) ≡ Some t
@@ -403,7 +404,8 @@ number_of high r t ok is = go r.values r.reading ok.1 ok.0 is
         subst (IsUnsignedIn 1 high) same all.0
 
 -- so rows of which each is so have such a number, or none
-number_may_be_in : (id : Text) (high : ℕ) (rows : List Row) → ((r : Row) → Sound r → Ranged id high r) → AllOf Sound rows → MayHaveNumber id high rows
+number_may_be_in : (id : Text) (high : ℕ) (rows : List Row) → ((r : Row) → Sound r → Ranged id high r) → AllOf Sound rows →
+    MayHaveNumber id high rows
 number_may_be_in id high rows ranged all = λ t e. go t (find (λ r. bytes_eq r.id id) rows) refl e
   where
     go : (t : Text) (o : Option Row) → find (λ r. bytes_eq r.id id) rows ≡ o → option_and_then row_text o ≡ Some t → IsUnsignedIn 1 high t
@@ -415,7 +417,8 @@ flag_of : (r : Row) (t : Text) → (r.reading ≡ AsWritten) × AllOf (Accepts f
     → (t ≡ codes "true") ⊎ (t ≡ codes "false")
 flag_of r t ok is = go r.values r.reading ok.1 ok.0 is
   where
-    said : (v : Text) (b : Bool) → bytes_eq v (codes "true") ≡ b → (b || bytes_eq v (codes "false")) ≡ true → (v ≡ codes "true") ⊎ (v ≡ codes "false")
+    said : (v : Text) (b : Bool) → bytes_eq v (codes "true") ≡ b → (b || bytes_eq v (codes "false")) ≡ true →
+        (v ≡ codes "true") ⊎ (v ≡ codes "false")
     said v true e h = inl ((bytes_eq-Decides v (codes "true")).0 e)
     said v false e h = inr ((bytes_eq-Decides v (codes "false")).0 h)
 

@@ -20,15 +20,18 @@ use Rattle.kalah_cli.proofs.Laws.{ask_taken, ask_values_taken, moves_taken, play
 use Rattle.kalah_cli.proofs.ManyWords.{files_match, files_pass, no_file_is_missed}
 
 -- `moves` and a plain argument are accepted as the moves of that line
-pub moves_of : (words : List Text) (name line : Text) → words ≡ name ∷ codes "moves" ∷ line ∷ [] → IsPlainWord line → IsTakenAs words (moves false line)
+pub moves_of : (words : List Text) (name line : Text) → words ≡ name ∷ codes "moves" ∷ line ∷ [] → IsPlainWord line →
+    IsTakenAs words (moves false line)
 moves_of words name line is plain = subst (λ ws. IsTakenAs ws (moves false line)) (sym is) (moves_taken name line plain)
 
 -- `play` and a plain argument as its game
-pub game_of : (words : List Text) (name line : Text) → words ≡ name ∷ codes "play" ∷ line ∷ [] → IsPlainWord line → IsTakenAs words (play None 65536 false line)
+pub game_of : (words : List Text) (name line : Text) → words ≡ name ∷ codes "play" ∷ line ∷ [] → IsPlainWord line →
+    IsTakenAs words (play None 65536 false line)
 game_of words name line is plain = subst (λ ws. IsTakenAs ws (play None 65536 false line)) (sym is) (play_taken name line plain)
 
 -- `show` and a plain word as its picture, with values or plain
-pub show_of : (words : List Text) (name line : Text) → words ≡ name ∷ codes "show" ∷ line ∷ [] → IsPlainWord line → IsTakenAs words (show false 65536 line)
+pub show_of : (words : List Text) (name line : Text) → words ≡ name ∷ codes "show" ∷ line ∷ [] → IsPlainWord line →
+    IsTakenAs words (show false 65536 line)
 show_of words name line is plain = subst (λ ws. IsTakenAs ws (show false 65536 line)) (sym is) (show_taken name line plain)
 
 pub show_plain_of : (words : List Text) (name line : Text) → words ≡ name ∷ codes "show" ∷ codes "--plain" ∷ line ∷ [] → IsPlainWord line
@@ -59,7 +62,8 @@ files_of question words name file files is plain =
 
 -- and refused if there is none
 pub files_or_none : (question : Question) (words : List Text) (name : Text) (files : List Text) → words ≡ name ∷ command_of question ∷ files
-    → All IsPlainWord files → IsTakenAs words (answers question 4 (table_of question) false files) ⊎ (fault_of kalah_app words ≡ MissingRequiredArgument ∷ [])
+    → All IsPlainWord files → IsTakenAs words (answers question 4 (table_of question) false files)
+    ⊎ (fault_of kalah_app words ≡ MissingRequiredArgument ∷ [])
 files_or_none question words name [] is plain = inr (ap (fault_of kalah_app) is ∙ no_file_is_missed question name)
 files_or_none question words name (file ∷ files) is plain = inl (files_of question words name file files is plain)
 

@@ -5,7 +5,7 @@ use Rattle.clap.specs.Simple.{on_top}
 use Rattle.clap.specs.declared.builder.action.ArgAction.TheVariants.{Append, Set, SetTrue}
 use Rattle.clap.specs.declared.builder.value_parser.ValueParser.TheVariants.{Unsigned}
 use Rattle.kalah_rules.specs.Limits.{most_houses}
-use Rattle.kalah_solve.specs.Table.{most_entries}
+use Rattle.kalah_solve.specs.Table.Entries.{most_entries}
 use Rattle.kalah_run.specs.Limits.{most_workers}
 
 -- LINE: one value, which is required
@@ -111,7 +111,8 @@ program_app = on_top (λ s. record s { has_version = true; subcommand_required =
 -- the program with the subcommands that search
 abbrev solvers_app : App
 solvers_app =
-    with_subcommand (with_subcommand (with_subcommand (with_subcommand (with_subcommand program_app moves_app.top) play_app.top) solve_app.top) values_app.top) ask_app.top
+    with_subcommand (with_subcommand (with_subcommand (with_subcommand (with_subcommand program_app moves_app.top) play_app.top) solve_app.top)
+    values_app.top) ask_app.top
 
 -- the program, which is always given one of its subcommands
 abbrev pub kalah_app : App

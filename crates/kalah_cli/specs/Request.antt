@@ -12,7 +12,7 @@ use Rattle.clap.specs.Words.{Row, Text, all_of, first_of, one_of, subcommand_of}
 use Rattle.kalah_jobs.specs.declared.files.question.Question.{Question}
 use Rattle.kalah_jobs.specs.declared.files.question.Question.TheVariants.{BestMove, Values, Steps}
 use Rattle.kalah_rules.specs.Limits.{most_houses}
-use Rattle.kalah_solve.specs.Table.{most_entries}
+use Rattle.kalah_solve.specs.Table.Entries.{most_entries}
 use Rattle.kalah_run.specs.Limits.{most_workers}
 use Rattle.kalah_cli.specs.Command.{kalah_app}
 use Rattle.kalah_cli.specs.declared.request.Request.{Request}
@@ -65,13 +65,15 @@ moves_asked rows = option_map (moves (is_set (codes "boards") rows)) (first_of (
 -- what the matches of `play` ask for
 abbrev pub play_asked : List Row → Option Asked
 play_asked rows =
-    option_and_then (λ t. option_map (play (number_given (codes "first") rows) (number_written t) (is_set (codes "boards") rows)) (first_of (codes "line") rows))
+    option_and_then (λ t. option_map (play (number_given (codes "first") rows) (number_written t) (is_set (codes "boards") rows))
+    (first_of (codes "line") rows))
     (one_of (codes "table") rows)
 
 -- what the matches of a subcommand with files ask for, where tables have so many entries
 abbrev pub files_asked : Question → ℕ → List Row → Option Asked
 files_asked question table rows =
-    option_and_then (λ w. option_map (answers question (number_written w) table (is_set (codes "progress") rows)) (all_of (codes "file") rows)) (one_of (codes "workers") rows)
+    option_and_then (λ w. option_map (answers question (number_written w) table (is_set (codes "progress") rows)) (all_of (codes "file") rows))
+    (one_of (codes "workers") rows)
 
 -- what the matches of `solve` or `values` ask for
 abbrev pub answers_asked : Question → List Row → Option Asked

@@ -1,6 +1,6 @@
 //! `kalah ask`.
 ghost use Rattle.std.specs.Prelude.{◌≡◌, ◌≢◌, ◌≤◌, false, true};
-ghost use Rattle.kalah_solve.specs.Table.{most_entries};
+ghost use Rattle.kalah_solve.specs.Table.Entries.{most_entries};
 ghost use Rattle.kalah_cli.specs.Ask.{AnswersLines, BeginsLines, StopsBetweenLines};
 
 use crate::failure::Failure;

@@ -7,7 +7,7 @@ ghost use Rattle.kalah_jobs.specs.Files.Entry.{entry_of};
 ghost use Rattle.kalah_jobs.specs.Files.Lines.{line_feed};
 ghost use Rattle.kalah_jobs.specs.Writing.Answer.{answer_line, answer_of};
 ghost use Rattle.kalah_jobs.specs.Writing.Output.{tally_of};
-ghost use Rattle.kalah_solve.specs.Worth.{worth};
+ghost use Rattle.kalah_solve.specs.Solver.Worth.{worth};
 
 use kalah_jobs::{Entry, FileText, Outcome, Sink, Stream, Taken, read_line, write_answer};
 use kalah_rules::{Board, Rule, Step};

@@ -2,7 +2,7 @@
 ghost use Rattle.std.specs.Prelude.{◌≡◌, ◌≢◌, ◌↔◌, ◌≤◌, Contains, IfNone, IfSome, IsErr, OnOk, Some, false, true};
 ghost use Rattle.kalah_rules.specs.Play.{legal_houses};
 ghost use Rattle.kalah_rules.specs.Position.{Position};
-ghost use Rattle.kalah_solve.specs.Table.{most_entries};
+ghost use Rattle.kalah_solve.specs.Table.Entries.{most_entries};
 ghost use Rattle.kalah_jobs.specs.Line.Line.{Reads};
 ghost use Rattle.kalah_cli.specs.Play.{BeginsBest, BeginsGame, BeginsToPlay, MayBegin, OfGame, Plays, PlaysBest, WritesGame};
 ghost use Rattle.std.specs.Io.KnownBytes.{Appends};

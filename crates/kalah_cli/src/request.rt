@@ -7,7 +7,7 @@ ghost use Rattle.clap.specs.Walk.{first_of, one_of, rows_of};
 ghost use Rattle.clap.specs.Words.{found_of, kind_of};
 ghost use Rattle.clap.specs.declared.error.kind.ErrorKind.TheVariants.{OutOfMemory};
 ghost use Rattle.kalah_rules.specs.Limits.{most_houses};
-ghost use Rattle.kalah_solve.specs.Table.{most_entries};
+ghost use Rattle.kalah_solve.specs.Table.Entries.{most_entries};
 ghost use Rattle.kalah_cli.specs.Command.{kalah_app};
 ghost use Rattle.kalah_cli.specs.Request.{Asked, HasFlag, HasLineArgument, HasNumber, IsAnswers, IsAsk, IsInRange, IsMoves, IsPlainWord, IsPlay, IsSteps, IsTaken, IsTakenAs, answers, answers_asked, ask_asked, asked_by, asked_for, command_of, files_asked, is_set, moves, moves_asked, number_written, play_asked, question_of, table_of, IsShow, MayHaveNumber, number_given, show_asked};
 

@@ -169,7 +169,8 @@ pub fn run_words<R: Files + Input + StandardError + Threads + Wait + Sync, O: Si
     // `show`, or `show --plain`, and a line that is read: its picture is written, with what its moves are worth, or alone.
     ensures shown { (name line : List ℕ) (p : Position) → texts_of words.items ≡ name ∷ codes "show" ∷ line ∷ [] → Reads line p
         → (result ≢ ExitStatus.LineFaults) × (result ≡ ExitStatus.Clean → Appends (O.written out.old) (O.written out.new) (shown_of p)) }
-    ensures shown_plain { (name line : List ℕ) (p : Position) → texts_of words.items ≡ name ∷ codes "show" ∷ codes "--plain" ∷ line ∷ [] → Reads line p
+    ensures shown_plain { (name line : List ℕ) (p : Position) →
+        texts_of words.items ≡ name ∷ codes "show" ∷ codes "--plain" ∷ line ∷ [] → Reads line p
         → (result ≢ ExitStatus.LineFaults) × (result ≡ ExitStatus.Clean → Appends (O.written out.old) (O.written out.new) (picture_of p)) }
     // `moves` or `play` and a line that can't be read, but is no flag.
     ensures unread { (name line : List ℕ) → (texts_of words.items ≡ name ∷ codes "moves" ∷ line ∷ [])

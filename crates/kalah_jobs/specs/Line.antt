@@ -1,6 +1,6 @@
-pub mod Row
+pub mod HouseNumbers
 pub mod Line
 pub mod LineFault
 pub mod Reading
-pub mod Form
+pub mod ParsedLine
 pub mod LineLaws

@@ -1,7 +1,7 @@
 //! Lines answered one by one, each before the program waits for the next.
 pub(crate) mod answer_lines;
 pub(crate) mod ask_fault;
-pub(crate) mod asking_laws;
+pub(crate) mod laws;
 pub(crate) mod line_head;
 pub(crate) mod reading_ahead;
 pub(crate) mod told;

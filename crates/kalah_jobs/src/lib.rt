@@ -7,40 +7,40 @@ mod files;
 mod limits;
 mod line;
 #[cfg(test)]
-mod want_of_memory;
+mod tests;
 mod writing;
 
 pub use asking::answer_lines::answer_lines;
 pub use asking::ask_fault::AskFault;
-pub use asking::asking_laws::answers_are_those_of_a_file;
+pub use asking::laws::answers_are_those_of_a_file;
 pub use collecting::collector::Collector;
-pub use collecting::collector_laws::{
+pub use collecting::laws::{
     accepts_each_job_once, answers_in_one_way, gets_each_job_once, keeps_its_law,
 };
 pub use collecting::outcome::Outcome;
 pub use collecting::refusal::Refusal;
 pub use files::entry::Entry;
-pub use files::file_laws::{entries_are_one, files_are_their_jobs, lines_are_one};
 pub use files::file_text::FileText;
 pub use files::job::Job;
 pub use files::jobs::{Jobs, JobsFault};
+pub use files::laws::{entries_are_one, files_are_their_jobs, lines_are_one};
 pub use files::question::Question;
 pub use limits::{MOST_FILE_BYTES, MOST_FILES, MOST_LINE_BYTES, MOST_LINES, limits_of_reading};
-pub use line::line_fault::LineFault;
-pub use line::line_laws::{
+pub use line::laws::{
     every_line_is_its_text, every_text_is_read_back, no_line_reads_twice,
     only_the_ending_names_the_rule, plain_lines_read_the_same,
 };
-pub use line::position_text::{line_text, step_text, write_step};
+pub use line::line_fault::LineFault;
 pub use line::reading::read_line;
 pub use writing::answer::{Answer, Taken};
-pub use writing::picture::{picture_lines_are_short, pictures_tell_positions, write_picture};
-pub use writing::printed::answer_text;
-pub use writing::shown::{shown_tells_values, write_values};
-pub use writing::sink::Sink;
-pub use writing::splitting::{
+pub use writing::laws::{
     answer_lines_tell_answers, answers_have_small_numbers, files_split_between_lines,
     output_splits_by_files, what_is_written_tells_answers,
 };
+pub use writing::picture::{picture_lines_are_short, pictures_tell_positions, write_picture};
+pub use writing::position_text::{line_text, step_text, write_step};
+pub use writing::printed::answer_text;
+pub use writing::shown::{shown_tells_values, write_values};
+pub use writing::sink::Sink;
 pub use writing::stream::{Stream, write_pieces};
 pub use writing::written::write_answer;

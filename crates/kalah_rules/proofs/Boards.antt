@@ -17,9 +17,11 @@ sum-shown : (m : ℕ) (cells : List ℕ) → padded (take m cells) ≡ cells →
 sum-shown m cells same = sym (sum-padded (take m cells)) ∙ ap sum same
 
 -- the key that is made of the cells is that of their houses
-pub packed_new : (m : ℕ) (own other : List ℕ) (rule : Rule) (own_number other_number bit seeds : ℕ) → length own ≡ 6 → length other ≡ 6 → CanBeHouses m own other →
+pub packed_new : (m : ℕ) (own other : List ℕ) (rule : Rule) (own_number other_number bit seeds : ℕ) → length own ≡ 6 →
+    length other ≡ 6 → CanBeHouses m own other →
     own_number ≡ number_of own → other_number ≡ number_of other → bit ≡ rule_bit rule → seeds ≡ sum own + sum other →
-    IsPacked (own_number + 2 ^ 30 * other_number + 2 ^ 60 * (m + 8 * bit)) seeds × (rows_at (own_number + 2 ^ 30 * other_number + 2 ^ 60 * (m + 8 * bit)) ≡ rows_from m own other rule)
+    IsPacked (own_number + 2 ^ 30 * other_number + 2 ^ 60 * (m + 8 * bit)) seeds
+    × (rows_at (own_number + 2 ^ 30 * other_number + 2 ^ 60 * (m + 8 * bit)) ≡ rows_from m own other rule)
 packed_new m own other rule own_number other_number bit seeds own_long other_long can own_is other_is bit_is seeds_are =
     let own_shown : length (take m own) ≡ m = length-take-le m own (omega (arith, can.at_most_six)) in
     let other_shown : length (take m other) ≡ m = length-take-le m other (omega (arith, can.at_most_six)) in
@@ -35,4 +37,5 @@ packed_new m own other rule own_number other_number bit seeds own_long other_lon
       same_side = other_shown ∙ sym own_shown;
       few_seeds = omega (arith, own_sum, other_sum, can.few_seeds);
     } in
-    packed_as (rows_from m own other rule) _ seeds limits (omega (arith, own_same, other_same, own_is, other_is, bit_is, own_shown)) (omega (arith, own_sum, other_sum, seeds_are))
+    packed_as (rows_from m own other rule) _ seeds limits (omega (arith, own_same, other_same, own_is, other_is, bit_is, own_shown))
+    (omega (arith, own_sum, other_sum, seeds_are))

@@ -33,15 +33,19 @@ gain_some n c d pos reach = elim (cases_lt c n) [
   | inr large ↦ omega (arith, le-div 1 c n pos (omega arith))
 ]
 
-store_gains : (p : Position) (h : ℕ) → (sown p h).own_store ≡ p.own_store + gain (lap_length (side_length p)) (seeds p.own h) (store_distance (side_length p) h)
+store_gains : (p : Position) (h : ℕ) →
+    (sown p h).own_store ≡ p.own_store + gain (lap_length (side_length p)) (seeds p.own h) (store_distance (side_length p) h)
 unfolding sow
 store_gains p h = refl
 
-pub row_distance-more : (row : List ℕ) (i : ℕ) → 1 ≤ i → i ≤ length row → row_distance (slice_set row (i - 1) (seeds row i + 1)) ≡ row_distance row + (length row + 1 - i)
+pub row_distance-more : (row : List ℕ) (i : ℕ) → 1 ≤ i → i ≤ length row →
+    row_distance (slice_set row (i - 1) (seeds row i + 1)) ≡ row_distance row + (length row + 1 - i)
 row_distance-more row i low high = more_once (seeds row i) (length row + 1 - i) _ _ (row_distance-set row i (seeds row i + 1) low high)
 
-way_with_seed : (q : Position) (i : ℕ) → 1 ≤ i → i ≤ length q.own → distance_to_stores (with_seed q (Own i)) ≡ distance_to_stores q + (length q.own + 1 - i)
-way_with_seed q i low high = ap (λ x. x + row_distance q.other) (row_distance-more q.own i low high) ∙ swap_last (row_distance q.own) (length q.own + 1 - i) (row_distance q.other)
+way_with_seed : (q : Position) (i : ℕ) → 1 ≤ i → i ≤ length q.own →
+    distance_to_stores (with_seed q (Own i)) ≡ distance_to_stores q + (length q.own + 1 - i)
+way_with_seed q i low high = ap (λ x. x + row_distance q.other) (row_distance-more q.own i low high)
+    ∙ swap_last (row_distance q.own) (length q.own + 1 - i) (row_distance q.other)
 
 -- the cell of the next seed, while sowing has not reached the store
 next_house : (m h k : ℕ) → k + 1 + h ≤ m → own_distance m h (h + (k + 1)) ≡ k % lap_length m + 1
@@ -52,7 +56,8 @@ next_house m h k near =
 
 -- sowing that does not reach the store brings each seed nearer
 module _ (p : Position) (h : ℕ) (holds : HoldsSeeds p h) (same : length p.other ≡ side_length p) where
-  way_more : (k : ℕ) → k + 1 + h ≤ side_length p → distance_to_stores (sow p h (k + 1)) ≡ distance_to_stores (sow p h k) + (side_length p + 1 - (h + (k + 1)))
+  way_more : (k : ℕ) → k + 1 + h ≤ side_length p →
+      distance_to_stores (sow p h (k + 1)) ≡ distance_to_stores (sow p h k) + (side_length p + 1 - (h + (k + 1)))
   way_more k near =
       let side : length (sow p h k).own ≡ side_length p = (sow_side p h k).0 in
       let low : 1 ≤ h + (k + 1) = omega arith in
@@ -67,11 +72,13 @@ module _ (p : Position) (h : ℕ) (holds : HoldsSeeds p h) (same : length p.othe
   way_falls zero near =
       rw (sow_none p h holds.first holds.last same) (omega (arith, row_distance-set p.own h 0 holds.first holds.last))
   way_falls (suc k) near =
-      rw (← add-one k) (fall_step _ _ _ _ k (side_length p - h) (side_length p + 1 - (h + (k + 1))) (way_falls k (omega arith)) (way_more k (omega arith)) (omega arith))
+      rw (← add-one k) (fall_step _ _ _ _ k (side_length p - h) (side_length p + 1 - (h + (k + 1))) (way_falls k (omega arith))
+      (way_more k (omega arith)) (omega arith))
 
   -- all seeds fall before the store
   pub way_falls_all : seeds p.own h + h ≤ side_length p → distance_to_stores (sown p h) < distance_to_stores p
-  way_falls_all near = fall_all (distance_to_stores (sown p h)) (distance_to_stores p) (seeds p.own h) (side_length p) h holds.last (holds.some) (way_falls (seeds p.own h) near)
+  way_falls_all near = fall_all (distance_to_stores (sown p h)) (distance_to_stores p) (seeds p.own h) (side_length p) h holds.last (holds.some)
+      (way_falls (seeds p.own h) near)
 
   -- a seed that reaches the store leaves fewer in houses
   pub houses_fall : side_length p < seeds p.own h + h → seeds_in_houses (sown p h) < seeds_in_houses p
@@ -146,8 +153,10 @@ distance_below p even =
 
 pub moves_left_falls : (p q : Position) → HasEqualSides q → side_length q ≡ side_length p → IsNearerEnd q p → moves_left q < moves_left p
 moves_left_falls p q even side (inl fewer) =
-    rw side (lower_by_seeds (side_length p) (seeds_in_houses p) (seeds_in_houses q) (distance_to_stores p) (distance_to_stores q) fewer (rw side at (distance_below q even)))
-moves_left_falls p q even side (inr near) = rw (side, near.0) (lower_by_distance (seeds_in_houses p * (side_length p * seeds_in_houses p + 1)) (distance_to_stores q) (distance_to_stores p) near.1)
+    rw side (lower_by_seeds (side_length p) (seeds_in_houses p) (seeds_in_houses q) (distance_to_stores p) (distance_to_stores q) fewer
+    (rw side at (distance_below q even)))
+moves_left_falls p q even side (inr near) =
+    rw (side, near.0) (lower_by_distance (seeds_in_houses p * (side_length p * seeds_in_houses p + 1)) (distance_to_stores q) (distance_to_stores p) near.1)
 
 -- the next position has fewer moves left, with either player to move
 pub after_fewer : (p : Position) (h : ℕ) → HoldsSeeds p h → HasEqualSides p → moves_left (after p h) < moves_left p

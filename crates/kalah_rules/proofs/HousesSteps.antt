@@ -70,12 +70,14 @@ swapped_within q w = record {
 }
 
 -- ---- what `play` computes
-pub store_small : {a : Rows} {h : ℕ} {r : RowNumbers} → IsWithinHouses a → Contains (legal_houses (bare a)) h → Shows r (after (bare a) h) → r.store ≤ 31
+pub store_small : {a : Rows} {h : ℕ} {r : RowNumbers} → IsWithinHouses a → Contains (legal_houses (bare a)) h → Shows r (after (bare a) h) →
+    r.store ≤ 31
 store_small {a} {h} {r} w has shows =
     let keeps = after_keeps a h w (legal_holds (bare a) h has) in
     omega (arith, shows.store, keeps.play, w.few_seeds)
 
-module _ {a : Rows} {h key seeds : ℕ} {r : RowNumbers} (packed : IsPacked key seeds) (view : rows_at key ≡ a) (has : Contains (legal_houses (bare a)) h) (shows : Shows r (after (bare a) h)) where
+module _ {a : Rows} {h key seeds : ℕ} {r : RowNumbers} (packed : IsPacked key seeds) (view : rows_at key ≡ a)
+    (has : Contains (legal_houses (bare a)) h) (shows : Shows r (after (bare a) h)) where
   -- the meaning of the fields
   is : IsPackOf a key seeds
   is = pack_of packed view
@@ -167,7 +169,8 @@ step_with_to p q false false side rule none is =
     rw is (ap step.Turn (same_position refl (omega arith) refl (omega arith) refl))
 
 -- the step of a board is that of its houses
-pub step_is : (p : Position) (h : ℕ) → IsWithinHouses (rows_of p) → HoldsSeeds (bare (rows_of p)) h → step_with p (houses_step (rows_of p) h) ≡ step_of p h
+pub step_is : (p : Position) (h : ℕ) → IsWithinHouses (rows_of p) → HoldsSeeds (bare (rows_of p)) h →
+    step_with p (houses_step (rows_of p) h) ≡ step_of p h
 step_is p h w holds =
     let q = after (bare (rows_of p)) h in
     let keeps = after_keeps (rows_of p) h w holds in
@@ -219,7 +222,8 @@ pub record IsStepOf (p : Position) (h : ℕ) (s : HousesStep) : Type 0 where
   pub nearer : IsNearerEnd (after p h) p
 
 pub board_step : {b : Rows} {own_store other_store h : ℕ} {p : Position} {s t : HousesStep} → IsWithinLimits (with_stores b own_store other_store) →
-    with_stores b own_store other_store ≡ p → Contains (legal_houses p) h → t ≡ s → t ≡ houses_step b h → IsStepOf (with_stores b own_store other_store) h s
+    with_stores b own_store other_store ≡ p → Contains (legal_houses p) h → t ≡ s → t ≡ houses_step b h →
+    IsStepOf (with_stores b own_store other_store) h s
 board_step {b} {own_store} {other_store} {h} l view has to is =
     let p = with_stores b own_store other_store in
     let legal = subst (λ (x : Position). Contains (legal_houses x) h) (sym view) has in

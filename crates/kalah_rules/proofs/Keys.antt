@@ -18,7 +18,8 @@ use Rattle.kalah_rules.specs.Packed.{IsPacked}
 use Rattle.kalah_rules.specs.Key.{number_of, cells, rule_bit, key_of, side_at, rule_at, rows_at, IsKey}
 
 -- zeros past the houses are what a row is padded with
-pub padded_from_zeros : (m : ℕ) (cells : List ℕ) → length cells ≡ 6 → m ≤ 6 → All (λ x. x ≡ 0) (drop m cells) → padded (take m cells) ≡ cells
+pub padded_from_zeros : (m : ℕ) (cells : List ℕ) → length cells ≡ 6 → m ≤ 6 → All (λ x. x ≡ 0) (drop m cells) →
+    padded (take m cells) ≡ cells
 padded_from_zeros m cells long high zeros =
     let shown : length (take m cells) ≡ m = length-take-le m cells (omega arith) in
     let past : drop m cells ≡ replicate (6 - m) 0 =
@@ -158,8 +159,10 @@ rows_of_key a k rule h e bit =
     same_rows_of own_shown other_shown (rule_bit-same rule a.rule (bit ∙ says.rule))
 
 -- the parts of a key make the key
-key_from_parts : (k side : ℕ) (own other : List ℕ) (rule : Rule) → number_of own + 2 ^ 30 * (k / 2 ^ 30) ≡ k → number_of other + 2 ^ 30 * (k / 2 ^ 30 / 2 ^ 30) ≡ k / 2 ^ 30 →
-    padded (take side own) ≡ own → padded (take side other) ≡ other → length (take side own) ≡ side → side ≡ k / 2 ^ 60 % 8 → rule_bit rule ≡ k / 2 ^ 63 →
+key_from_parts : (k side : ℕ) (own other : List ℕ) (rule : Rule) → number_of own + 2 ^ 30 * (k / 2 ^ 30) ≡ k →
+    number_of other + 2 ^ 30 * (k / 2 ^ 30 / 2 ^ 30) ≡ k / 2 ^ 30 →
+    padded (take side own) ≡ own → padded (take side other) ≡ other → length (take side own) ≡ side → side ≡ k / 2 ^ 60 % 8 →
+    rule_bit rule ≡ k / 2 ^ 63 →
     key_of (rows_from side own other rule) ≡ k
 key_from_parts k side own other rule own_is other_is own_padded other_padded long side_is bit =
     let own_same = number_of-shown side own own_padded in
@@ -307,7 +310,8 @@ module _ (k : ℕ) (rule : Rule) (bit : rule_bit rule ≡ k / 2 ^ 63) where
   unpacks_same (Some a) valid value = ap key_of value ∙ key_of_rows k rule (valid.0 (search rules)) bit
 
   -- and the houses of a key are found
-  pub unpacks_found : (o : Option Rows) → (IsSome o ↔ IsKey k) → IfSome o (λ a. a ≡ parts) → (a : Rows) → IsWithinHouses a → key_of a ≡ k → o ≡ Some a
+  pub unpacks_found : (o : Option Rows) → (IsSome o ↔ IsKey k) → IfSome o (λ a. a ≡ parts) → (a : Rows) → IsWithinHouses a →
+      key_of a ≡ k → o ≡ Some a
   unpacks_found None valid value a h e = absurd (grind (arith, valid.1 (key_holds a k h e)))
   unpacks_found (Some b) valid value a h e = ap Some (value ∙ rows_of_key a k rule h e bit)
 

@@ -16,10 +16,12 @@ use Rattle.kalah_rules.proofs.Sown.{own_distance_apart, own_from_store, own_from
 -- one number more at the end of a range
 pub range_more : (a n : ℕ) → range_with_len a (n + 1) ≡ range_with_len a n ++ (a + n) ∷ []
 range_more a zero = ap (λ x. x ∷ []) (omega arith)
-range_more a (suc n) = rw (add-one (suc n)) (ap (λ xs. a ∷ xs) (rw (add-one n) at (range_more (a + 1) n) ∙ ap (λ x. range_with_len (a + 1) n ++ x ∷ []) (omega arith)))
+range_more a (suc n) = rw (add-one (suc n))
+    (ap (λ xs. a ∷ xs) (rw (add-one n) at (range_more (a + 1) n) ∙ ap (λ x. range_with_len (a + 1) n ++ x ∷ []) (omega arith)))
 
 -- the first number of a range that passes
-pub find_in_range : (f : ℕ → Bool) (a n i : ℕ) → a ≤ i → i < a + n → f i ≡ true → ((j : ℕ) → a ≤ j → j < i → f j ≡ false) → find f (range_with_len a n) ≡ Some i
+pub find_in_range : (f : ℕ → Bool) (a n i : ℕ) → a ≤ i → i < a + n → f i ≡ true →
+    ((j : ℕ) → a ≤ j → j < i → f j ≡ false) → find f (range_with_len a n) ≡ Some i
 find_in_range f a zero i low high here before = absurd (omega arith)
 find_in_range f a (suc n) i low high here before = elim (cases_eq a i) [
   | inl e ↦ rw (e, here) refl
@@ -39,7 +41,8 @@ eqb_no : (a b : ℕ) → a ≢ b → (a == b) ≡ false
 eqb_no a b ne = grind (arith, nat_tests)
 
 -- the house in which the last seed falls
-pub last_house_own : (p : Position) (h i : ℕ) → HoldsSeeds p h → 1 ≤ i → i ≤ side_length p → own_distance (side_length p) h i ≡ last_distance p h → last_house p h ≡ Some i
+pub last_house_own : (p : Position) (h i : ℕ) → HoldsSeeds p h → 1 ≤ i → i ≤ side_length p →
+    own_distance (side_length p) h i ≡ last_distance p h → last_house p h ≡ Some i
 last_house_own p h i holds low high at = find_in_range (λ j. own_distance (side_length p) h j == last_distance p h) 1 (side_length p) i low (omega arith)
     (eq-eqb (own_distance (side_length p) h i) (last_distance p h) at)
     (λ j j_low j_high. eqb_no (own_distance (side_length p) h j) (last_distance p h) (λ e.
@@ -51,7 +54,8 @@ last_house_store p h holds at = find_none (λ j. own_distance (side_length p) h 
     (λ j j_low j_high. eqb_no (own_distance (side_length p) h j) (last_distance p h) (λ e.
     own_from_store (side_length p) h holds.first holds.last j j_low (omega arith) (e ∙ sym at)))
 
-pub last_house_other : (p : Position) (h i : ℕ) → HoldsSeeds p h → 1 ≤ i → i ≤ side_length p → other_distance (side_length p) h i ≡ last_distance p h → last_house p h ≡ None
+pub last_house_other : (p : Position) (h i : ℕ) → HoldsSeeds p h → 1 ≤ i → i ≤ side_length p →
+    other_distance (side_length p) h i ≡ last_distance p h → last_house p h ≡ None
 last_house_other p h i holds low high at = find_none (λ j. own_distance (side_length p) h j == last_distance p h) 1 (side_length p)
     (λ j j_low j_high. eqb_no (own_distance (side_length p) h j) (last_distance p h) (λ e.
     own_from_other (side_length p) h holds.first holds.last j i j_low (omega arith) low high (e ∙ sym at)))
@@ -101,7 +105,8 @@ holds_legal p h holds going = rw going
     (contains_range (λ i. nat_lt 0 (seeds p.own i)) 1 (side_length p) h holds.first (omega (arith, holds.last)) (lt-ltb 0 (seeds p.own h) holds.some))
 
 -- one house more
-pub filter_range_more : (f : ℕ → Bool) (a n j : ℕ) → a + n ≡ j → filter f (range_with_len a (n + 1)) ≡ filter f (range_with_len a n) ++ cond (f j) (j ∷ []) []
+pub filter_range_more : (f : ℕ → Bool) (a n j : ℕ) → a + n ≡ j →
+    filter f (range_with_len a (n + 1)) ≡ filter f (range_with_len a n) ++ cond (f j) (j ∷ []) []
 filter_range_more f a n j at = rw (range_more a n, at) (filter-append f (range_with_len a n) (j ∷ []))
 
 pub length-filter_range : (f : ℕ → Bool) (a n : ℕ) → length (filter f (range_with_len a n)) ≤ n

@@ -43,7 +43,8 @@ unchanged r x y last taken k j none x_is y_is shows = record {
 }
 
 -- the rule lets the last seed capture
-captured_some : (p : Position) (i : ℕ) → seeds p.own i ≡ 1 → captures p.rule (seeds p.other (opposite p i)) ≡ true → captured p (Some i) ≡ capture p i
+captured_some : (p : Position) (i : ℕ) → seeds p.own i ≡ 1 → captures p.rule (seeds p.other (opposite p i)) ≡ true →
+    captured p (Some i) ≡ capture p i
 captured_some p i one some = rw (eq-eqb (seeds p.own i) 1 one, some)
 
 -- thirty-one seeds make few laps
@@ -55,7 +56,8 @@ laps_bound c m laps few some e =
     omega arith
 
 -- if the rule lets it capture nothing, the rows stay
-kept_by : (q : Position) (i : ℕ) → captures q.rule (seeds q.other (opposite q i)) ≡ false → (r : RowNumbers) → Shows r q → Shows r (captured q (Some i))
+kept_by : (q : Position) (i : ℕ) → captures q.rule (seeds q.other (opposite q i)) ≡ false → (r : RowNumbers) → Shows r q →
+    Shows r (captured q (Some i))
 kept_by q i none r shows = elim (cases_Bool (seeds q.own i == 1)) [
   | inl one ↦ rw (one, none) shows
   | inr more ↦ rw more shows
@@ -102,7 +104,8 @@ module _ (a : Rows) (h : ℕ) (w : IsWithinHouses a) (holds : HoldsSeeds (bare a
   other_is = rw w.same_side at (other_sown a.other h (seeds a.own h) holds.first (rw w.same_side holds.last))
 
   -- and what comes to the store
-  pub store_is : q.own_store ≡ seeds a.own h / lap_length (length a.own) + (if nat_lt (length a.own) (h + seeds a.own h % lap_length (length a.own)) then 1 else 0)
+  pub store_is : q.own_store ≡ seeds a.own h / lap_length (length a.own) +
+      (if nat_lt (length a.own) (h + seeds a.own h % lap_length (length a.own)) then 1 else 0)
   unfolding sow
   store_is = let last = holds.last in let first = holds.first in grind (arith, nat_tests)
 
@@ -134,7 +137,8 @@ module _ (a : Rows) (h : ℕ) (w : IsWithinHouses a) (holds : HoldsSeeds (bare a
       }
 
   -- if they don't come back to the mover's houses
-  pub short_shows : (row own_more other other_more last : ℕ) → h + seeds a.own h ≤ lap_length (length a.own) → row ≡ number_of (lifted (bare a) h).own →
+  pub short_shows : (row own_more other other_more last : ℕ) → h + seeds a.own h ≤ lap_length (length a.own) →
+      row ≡ number_of (lifted (bare a) h).own →
       own_more + ones h ≡ number_of (row_of (length a.own) (up_to (h + seeds a.own h))) →
       other ≡ number_of a.other → other_more ≡ number_of (row_of (length a.own) (up_to (h + seeds a.own h - (length a.own + 1)))) →
       last ≡ (if nat_lt (length a.own) (h + seeds a.own h) then 1 else 0) →
@@ -144,7 +148,8 @@ module _ (a : Rows) (h : ℕ) (w : IsWithinHouses a) (holds : HoldsSeeds (bare a
       let back : h + seeds a.own h - lap_length (length a.own) ≡ 0 = omega (arith, near) in
       let nothing = number_of-up_to (length a.own) 0 (omega arith) in
       let no_laps : 0 + last ≡ last = omega arith in
-      rw no_laps at (sown_shows (length a.own) 0 (seeds a.own h) refl (sym (div-eq_of_lt below)) (sym (mod-eq_of_lt below)) row own_more other other_more last row_is
+      rw no_laps at (sown_shows (length a.own) 0 (seeds a.own h) refl (sym (div-eq_of_lt below))
+      (sym (mod-eq_of_lt below)) row own_more other other_more last row_is
       (rw back (omega (arith, own_more_is, nothing))) other_is' (omega (arith, other_more_is)) last_is)
 
   -- the sowing leaves few seeds
@@ -160,7 +165,8 @@ module _ (a : Rows) (h : ℕ) (w : IsWithinHouses a) (holds : HoldsSeeds (bare a
   read_own r i shows low high = ap (λ n. n / 32 ^ (i - 1) % 32) shows.own ∙ read_seeds q.own (i - 1) (omega (arith, sown_keeps.side)) (omega (arith, few))
 
   -- the house across
-  pub read_across : (r : RowNumbers) (i : ℕ) → Shows r q → 1 ≤ i → i ≤ length a.own → r.other / 32 ^ (length a.own + 1 - i - 1) % 32 ≡ seeds q.other (opposite q i)
+  pub read_across : (r : RowNumbers) (i : ℕ) → Shows r q → 1 ≤ i → i ≤ length a.own →
+      r.other / 32 ^ (length a.own + 1 - i - 1) % 32 ≡ seeds q.other (opposite q i)
   read_across r i shows low high =
       let side = sown_keeps.side in
       let other_side = sown_keeps.other_side in
@@ -291,7 +297,8 @@ module _ (p : Position) (h : ℕ) (holds : HoldsSeeds p h) (r : RowNumbers) wher
       subst (λ z. Shows r z) (after_at p h (Some i) (last_house_own p h i holds (omega arith) within at)) shows
 
   -- or goes round to one before
-  pub after_round : lap_length (side_length p) < h + last_distance p h → Shows r (captured (sown p h) (Some (h + last_distance p h - lap_length (side_length p)))) → Shows r (after p h)
+  pub after_round : lap_length (side_length p) < h + last_distance p h →
+      Shows r (captured (sown p h) (Some (h + last_distance p h - lap_length (side_length p)))) → Shows r (after p h)
   after_round round shows =
       let last = holds.last in
       let i = h + last_distance p h - lap_length (side_length p) in

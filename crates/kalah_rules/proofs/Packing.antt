@@ -93,7 +93,8 @@ number_of-up_to (suc n) x h = elim (cases_eq x (suc n)) [
 ]
 
 -- a row whose house h is emptied
-pub lifted_row : (xs : List ℕ) (h : ℕ) → 1 ≤ h → h ≤ length xs → row_of (length xs) (λ i. if i == h then 0 else seeds xs i) ≡ slice_set xs (h - 1) 0
+pub lifted_row : (xs : List ℕ) (h : ℕ) → 1 ≤ h → h ≤ length xs →
+    row_of (length xs) (λ i. if i == h then 0 else seeds xs i) ≡ slice_set xs (h - 1) 0
 lifted_row xs h low high = sym (same_as_row (slice_set xs (h - 1) 0) (length xs) _ (length-slice_set xs (h - 1) 0) (λ i i_low i_high. elim (cases_eq i h) [
   | inl here ↦
       let empty : seeds (slice_set xs (h - 1) 0) i ≡ 0 = rw here (seeds-set_same xs h 0 low high) in
@@ -114,7 +115,8 @@ other_lap m h r j low high j_low = grind (arith, nat_tests)
 
 -- ---- what a sowing adds
 pub own_sown : (xs : List ℕ) (h c : ℕ) → 1 ≤ h → h ≤ length xs →
-    number_of (row_of (length xs) (λ i. (if i == h then 0 else seeds xs i) + gain (lap_length (length xs)) c (own_distance (length xs) h i))) + ones h + 32 ^ (h - 1) * seeds xs h
+    number_of (row_of (length xs) (λ i. (if i == h then 0 else seeds xs i) + gain (lap_length (length xs)) c (own_distance (length xs) h i))) + ones
+    h + 32 ^ (h - 1) * seeds xs h
     ≡ number_of xs + c / lap_length (length xs) * ones (length xs) + number_of (row_of (length xs) (up_to (h + c % lap_length (length xs))))
     + number_of (row_of (length xs) (up_to (h + c % lap_length (length xs) - lap_length (length xs))))
 own_sown xs h c low high =
@@ -129,7 +131,8 @@ own_sown xs h c low high =
     let past : ℕ → ℕ = up_to (h + r) in
     let round : ℕ → ℕ = up_to (h + r - n) in
     let each : row_of m (λ i. sown i + up_to h i) ≡ row_of m (λ i. q + kept i + past i + round i) =
-    row_of_same m (λ i. q + kept i + past i + round i) (λ i. sown i + up_to h i) (λ i i_low i_high. omega (arith, own_lap m h r i low high few i_low i_high)) in
+    row_of_same m (λ i. q + kept i + past i + round i) (λ i. sown i + up_to h i)
+    (λ i i_low i_high. omega (arith, own_lap m h r i low high few i_low i_high)) in
     let left = number_of-plus m sown (up_to h) in
     let first = number_of-plus m (λ i. q) kept in
     let second = number_of-plus m (λ i. q + kept i) past in
@@ -152,7 +155,8 @@ other_sown ys h c low high =
     let r = c % n in
     let past : ℕ → ℕ = up_to (h + r - (m + 1)) in
     let each : row_of m (λ j. seeds ys j + gain n c (other_distance m h j)) ≡ row_of m (λ j. q + seeds ys j + past j) =
-    row_of_same m (λ j. q + seeds ys j + past j) (λ j. seeds ys j + gain n c (other_distance m h j)) (λ j j_low j_high. omega (arith, other_lap m h r j low high j_low)) in
+    row_of_same m (λ j. q + seeds ys j + past j) (λ j. seeds ys j + gain n c (other_distance m h j))
+    (λ j j_low j_high. omega (arith, other_lap m h r j low high j_low)) in
     let first = number_of-plus m (λ j. q) (seeds ys) in
     let second = number_of-plus m (λ j. q + seeds ys j) past in
     let whole = number_of-same m q in

@@ -10,7 +10,8 @@ use Rattle.std.proofs.lemmas.Bool.{cases_eq}
 use Rattle.kalah_rules.specs.Position.{Position, seeds}
 use Rattle.kalah_rules.specs.Sowing.{row_of}
 
-pub same_position : {p q : Position} → p.own ≡ q.own → p.own_store ≡ q.own_store → p.other ≡ q.other → p.other_store ≡ q.other_store → p.rule ≡ q.rule → p ≡ q
+pub same_position : {p q : Position} → p.own ≡ q.own → p.own_store ≡ q.own_store → p.other ≡ q.other →
+    p.other_store ≡ q.other_store → p.rule ≡ q.rule → p ≡ q
 same_position a b c d e = λ i. record { own = a i; own_store = b i; other = c i; other_store = d i; rule = e i }
 
 pub length-row_of : (n : ℕ) (f : ℕ → ℕ) → length (row_of n f) ≡ n
@@ -27,7 +28,8 @@ same_rows xs ys long each = same_number_lists xs ys long (λ k h.
     let at : k + 1 - 1 ≡ k = omega arith in
     rw at at (each (k + 1) low high))
 
-pub same_as_row : (xs : List ℕ) (n : ℕ) (f : ℕ → ℕ) → length xs ≡ n → ((i : ℕ) → 1 ≤ i → i ≤ n → seeds xs i ≡ f i) → xs ≡ row_of n f
+pub same_as_row : (xs : List ℕ) (n : ℕ) (f : ℕ → ℕ) → length xs ≡ n → ((i : ℕ) → 1 ≤ i → i ≤ n → seeds xs i ≡ f i) →
+    xs ≡ row_of n f
 same_as_row xs n f long each = same_rows xs (row_of n f) (long ∙ sym (length-row_of n f)) (λ i low high.
     let high' : i ≤ n = omega arith in
     each i low high' ∙ sym (seeds-row_of n f i low high'))
@@ -51,7 +53,8 @@ pub row_of_same : (n : ℕ) (f g : ℕ → ℕ) → ((j : ℕ) → 1 ≤ j → j
 row_of_same n f g each = same_as_row (row_of n g) n f (length-row_of n g) (λ j low high. seeds-row_of n g j low high ∙ each j low high)
 
 -- one seed more in house i
-pub row_of_more : (n : ℕ) (f g : ℕ → ℕ) (i : ℕ) → 1 ≤ i → i ≤ n → g i ≡ f i + 1 → ((j : ℕ) → 1 ≤ j → j ≤ n → j ≢ i → g j ≡ f j) →
+pub row_of_more : (n : ℕ) (f g : ℕ → ℕ) (i : ℕ) → 1 ≤ i → i ≤ n → g i ≡ f i + 1 →
+    ((j : ℕ) → 1 ≤ j → j ≤ n → j ≢ i → g j ≡ f j) →
     row_of n g ≡ slice_set (row_of n f) (i - 1) (seeds (row_of n f) i + 1)
 row_of_more n f g i low high here others =
     let long : i ≤ length (row_of n f) = omega (arith, length-row_of n f) in
@@ -59,5 +62,6 @@ row_of_more n f g i low high here others =
     (length-slice_set (row_of n f) (i - 1) (seeds (row_of n f) i + 1) ∙ length-row_of n f)
     (λ j j_low j_high. elim (cases_eq j i) [
       | inl e ↦ rw e (seeds-set_same (row_of n f) i (seeds (row_of n f) i + 1) low long ∙ ap (λ x. x + 1) (seeds-row_of n f i low high) ∙ sym here)
-      | inr ne ↦ seeds-set_other (row_of n f) i j (seeds (row_of n f) i + 1) low j_low ne ∙ seeds-row_of n f j j_low j_high ∙ sym (others j j_low j_high ne)
+      | inr ne ↦ seeds-set_other (row_of n f) i j (seeds (row_of n f) i + 1) low j_low ne ∙ seeds-row_of n f j j_low j_high
+          ∙ sym (others j j_low j_high ne)
     ]))

@@ -49,7 +49,8 @@ module _ (p : Position) (h : ℕ) (low : 1 ≤ h) (high : h ≤ side_length p) w
   unfolding sow
   sow_none same = same_position
       (sym (same_as_row (slice_set p.own (h - 1) 0) (side_length p) _ (length-slice_set p.own (h - 1) 0) (λ i i_low i_high.
-      let none : gain (lap_length (side_length p)) 0 (own_distance (side_length p) h i) ≡ 0 = gain_none _ _ lap_pos (own_distance_low (side_length p) h low high i i_low i_high) in
+      let none : gain (lap_length (side_length p)) 0 (own_distance (side_length p) h i) ≡ 0 =
+      gain_none _ _ lap_pos (own_distance_low (side_length p) h low high i i_low i_high) in
       elim (cases_eq i h) [
         | inl here ↦
             let empty : seeds (slice_set p.own (h - 1) 0) i ≡ 0 = rw here (seeds-set_same p.own h 0 low high) in
@@ -64,17 +65,21 @@ module _ (p : Position) (h : ℕ) (low : 1 ≤ h) (high : h ≤ side_length p) w
       refl refl
 
   -- a cell away from the next distance gets nothing
-  own_kept : (k d : ℕ) → d ≡ k % lap_length (side_length p) + 1 → (j : ℕ) → 1 ≤ j → j ≤ side_length p → own_distance (side_length p) h j ≢ d →
+  own_kept : (k d : ℕ) → d ≡ k % lap_length (side_length p) + 1 → (j : ℕ) → 1 ≤ j → j ≤ side_length p →
+      own_distance (side_length p) h j ≢ d →
       gain (lap_length (side_length p)) (k + 1) (own_distance (side_length p) h j) ≡ gain (lap_length (side_length p)) k (own_distance (side_length p) h j)
   own_kept k d next j j_low j_high ne =
-      gain_same _ k _ (own_distance_low (side_length p) h low high j j_low j_high) (own_distance_high (side_length p) h low high j j_low j_high) (λ e. ne (e ∙ sym next))
+      gain_same _ k _ (own_distance_low (side_length p) h low high j j_low j_high) (own_distance_high (side_length p) h low high j j_low j_high)
+      (λ e. ne (e ∙ sym next))
 
   store_kept : (k d : ℕ) → d ≡ k % lap_length (side_length p) + 1 → store_distance (side_length p) h ≢ d →
-      p.own_store + gain (lap_length (side_length p)) (k + 1) (store_distance (side_length p) h) ≡ p.own_store + gain (lap_length (side_length p)) k (store_distance (side_length p) h)
+      p.own_store + gain (lap_length (side_length p)) (k + 1) (store_distance (side_length p) h)
+      ≡ p.own_store + gain (lap_length (side_length p)) k (store_distance (side_length p) h)
   store_kept k d next ne = ap (λ x. p.own_store + x) (gain_same _ k _ store_low store_high (λ e. ne (e ∙ sym next)))
 
   other_kept : (k d : ℕ) → d ≡ k % lap_length (side_length p) + 1 → (j : ℕ) → j ≤ side_length p → other_distance (side_length p) h j ≢ d →
-      gain (lap_length (side_length p)) (k + 1) (other_distance (side_length p) h j) ≡ gain (lap_length (side_length p)) k (other_distance (side_length p) h j)
+      gain (lap_length (side_length p)) (k + 1) (other_distance (side_length p) h j)
+      ≡ gain (lap_length (side_length p)) k (other_distance (side_length p) h j)
   other_kept k d next j j_high ne = gain_same _ k _ (other_low j) (other_high j j_high) (λ e. ne (e ∙ sym next))
 
   -- one seed more goes to the cell at the next distance
@@ -83,18 +88,28 @@ module _ (p : Position) (h : ℕ) (low : 1 ≤ h) (high : h ≤ side_length p) w
   unfolding sow
   sow_more k (Own i) is_cell next = same_position
       (row_of_more (side_length p) _ _ i is_cell.0 is_cell.1
-      (omega (arith, gain_more _ k _ (own_distance_low (side_length p) h low high i is_cell.0 is_cell.1) (own_distance_high (side_length p) h low high i is_cell.0 is_cell.1) next))
-      (λ j j_low j_high ne. omega (arith, own_kept k _ next j j_low j_high (own_distance_apart (side_length p) h low high j i j_low j_high is_cell.0 is_cell.1 ne))))
+      (omega (
+        arith,
+        gain_more _ k _ (own_distance_low (side_length p) h low high i is_cell.0 is_cell.1)
+            (own_distance_high (side_length p) h low high i is_cell.0 is_cell.1) next,
+      ))
+      (λ j j_low j_high ne. omega (
+        arith,
+        own_kept k _ next j j_low j_high (own_distance_apart (side_length p) h low high j i j_low j_high is_cell.0 is_cell.1 ne),
+      )))
       (store_kept k _ next (λ e. own_from_store (side_length p) h low high i is_cell.0 is_cell.1 (sym e)))
-      (row_of_same (side_length p) _ _ (λ j j_low j_high. omega (arith, other_kept k _ next j j_high (λ e. own_from_other (side_length p) h low high i j is_cell.0 is_cell.1 j_low j_high (sym e)))))
+      (row_of_same (side_length p) _ _ (λ j j_low j_high. omega
+      (arith, other_kept k _ next j j_high (λ e. own_from_other (side_length p) h low high i j is_cell.0 is_cell.1 j_low j_high (sym e)))))
       refl refl
   sow_more k Store is_cell next = same_position
-      (row_of_same (side_length p) _ _ (λ j j_low j_high. omega (arith, own_kept k _ next j j_low j_high (own_from_store (side_length p) h low high j j_low j_high))))
+      (row_of_same (side_length p) _ _ (λ j j_low j_high. omega
+      (arith, own_kept k _ next j j_low j_high (own_from_store (side_length p) h low high j j_low j_high))))
       (omega (arith, gain_more _ k _ store_low store_high next))
       (row_of_same (side_length p) _ _ (λ j j_low j_high. omega (arith, other_kept k _ next j j_high (omega arith))))
       refl refl
   sow_more k (Other i) is_cell next = same_position
-      (row_of_same (side_length p) _ _ (λ j j_low j_high. omega (arith, own_kept k _ next j j_low j_high (own_from_other (side_length p) h low high j i j_low j_high is_cell.0 is_cell.1))))
+      (row_of_same (side_length p) _ _ (λ j j_low j_high. omega
+      (arith, own_kept k _ next j j_low j_high (own_from_other (side_length p) h low high j i j_low j_high is_cell.0 is_cell.1))))
       (store_kept k _ next (omega arith))
       (row_of_more (side_length p) _ _ i is_cell.0 is_cell.1
       (omega (arith, gain_more _ k _ (other_low i) (other_high i is_cell.1) next))
@@ -146,7 +161,8 @@ pub record HasSown (p : Position) (c k : ℕ) (q : Position) : Type 0 where
 
 -- each seed goes to one cell
 pub sow_adds : (p : Position) (h : ℕ) → 1 ≤ h → h ≤ side_length p → (k : ℕ) →
-    (cell : Cell) × IsCellOf (side_length p) cell × (distance (side_length p) h cell ≡ k % lap_length (side_length p) + 1) → AddsOne (sow p h k) (sow p h (k + 1))
+    (cell : Cell) × IsCellOf (side_length p) cell × (distance (side_length p) h cell ≡ k % lap_length (side_length p) + 1) →
+    AddsOne (sow p h k) (sow p h (k + 1))
 sow_adds p h low high k (cell, is_cell, next) =
     let side = sow_side p h k in
     rw (sow_more p h low high k cell is_cell next) (with_seed_adds (sow p h k) cell (side.1 ∙ sym side.0) (rw side.0 is_cell))
@@ -158,7 +174,8 @@ next_cell p h low high k =
     let pos : 0 < lap_length (side_length p) = omega arith in
     cell_at (side_length p) h (k % lap_length (side_length p) + 1) low high (omega arith) (omega (arith, mod_below k (lap_length (side_length p)) pos))
 
-pub sow_keeps : (p : Position) (h : ℕ) → 1 ≤ h → h ≤ side_length p → length p.other ≡ side_length p → (k : ℕ) → HasSown p (seeds p.own h) k (sow p h k)
+pub sow_keeps : (p : Position) (h : ℕ) → 1 ≤ h → h ≤ side_length p → length p.other ≡ side_length p → (k : ℕ) →
+    HasSown p (seeds p.own h) k (sow p h k)
 sow_keeps p h low high same zero =
     let e = sum-slice_set p.own h 0 low high in
     rw (sow_none p h low high same) (record { houses = omega (arith, e); play = omega (arith, e) })

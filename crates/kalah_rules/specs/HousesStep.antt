@@ -9,7 +9,8 @@ use Rattle.kalah_rules.specs.declared.step.HousesStep.TheVariants.{Over, Again, 
 -- the mover's store, with the houses seen by the player who moves next
 abbrev pub houses_step_to : Position → Bool → HousesStep
 houses_step_to q again =
-    if is_over q then Over (q.own_store + sum q.own) (q.other_store + sum q.other) else (if again then Again q.own_store (rows_of q) else Turn q.own_store (rows_of (swapped q)))
+    if is_over q then Over (q.own_store + sum q.own) (q.other_store + sum q.other) else
+    (if again then Again q.own_store (rows_of q) else Turn q.own_store (rows_of (swapped q)))
 
 -- what the move of house h leads to
 abbrev pub houses_step : Rows → ℕ → HousesStep

@@ -10,7 +10,7 @@ mod row;
 mod rule;
 mod step;
 #[cfg(test)]
-mod want_of_memory;
+mod tests;
 
 pub use board::Board;
 pub use houses::Houses;

@@ -1,6 +1,6 @@
 -- The most workers of a batch, the largest table of each, and the most places of a results queue.
 use Rattle.std.specs.Prelude.{◌<◌, ◌≤◌, ℕ}
-use Rattle.kalah_solve.specs.Table.{most_entries}
+use Rattle.kalah_solve.specs.Table.Entries.{most_entries}
 use Rattle.kalah_run.specs.declared.limits.TheConstants.{MOST_PLACES, MOST_WORKERS}
 
 abbrev pub most_workers : ℕ

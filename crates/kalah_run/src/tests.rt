@@ -1,3 +1,3 @@
 //! What the tests of several modules share.
 pub(crate) mod drawn;
-pub(crate) mod want_of_memory;
+pub(crate) mod out_of_memory;

@@ -8,7 +8,7 @@ use Rattle.std.proofs.lemmas.List.{get_or_past}
 use Rattle.kalah_rules.specs.Position.{Rows, IsWithinHouses}
 use Rattle.kalah_rules.specs.Key.{key_of}
 use Rattle.kalah_rules.proofs.Keys.{own_number_at}
-use Rattle.kalah_solve.specs.Tried.{EndsInStore}
+use Rattle.kalah_solve.specs.Search.Tried.{EndsInStore}
 use Rattle.kalah_solve.specs.RowMarks.{cell}
 use Rattle.kalah_solve.proofs.RowMarks.{cell_of_row, cell_past, one_other}
 
@@ -28,7 +28,8 @@ module _ (a : Rows) (k : ℕ) (w : IsWithinHouses a) (key : key_of a ≡ k) wher
       (λ ends. omega (arith, at, ends), λ is. omega (arith, at, is))
 
   -- what is marked has seeds
-  pub filled_marked : (n i : ℕ) → n < 2 ^ 30 → ((j : ℕ) → j < 6 → cell n j ≡ min 1 (cell (k % 2 ^ 30) j)) → (0 < cell n i) ↔ (0 < slice_index a.own i)
+  pub filled_marked : (n i : ℕ) → n < 2 ^ 30 → ((j : ℕ) → j < 6 → cell n j ≡ min 1 (cell (k % 2 ^ 30) j)) →
+      (0 < cell n i) ↔ (0 < slice_index a.own i)
   filled_marked n i small cells = elim (cases_lt i 6) [
     | inl inside ↦
         let is = cells i inside in
@@ -59,7 +60,8 @@ module _ (a : Rows) (k : ℕ) (w : IsWithinHouses a) (key : key_of a ≡ k) wher
     ]
 
     -- and those of the others with seeds
-    pub other_marked : (f i : ℕ) → f < 2 ^ 30 → ((j : ℕ) → j < 6 → cell f j ≡ min 1 (cell (k % 2 ^ 30) j)) → ((j : ℕ) → j < 6 → cell n j ≤ 1) →
+    pub other_marked : (f i : ℕ) → f < 2 ^ 30 → ((j : ℕ) → j < 6 → cell f j ≡ min 1 (cell (k % 2 ^ 30) j)) →
+        ((j : ℕ) → j < 6 → cell n j ≤ 1) →
         cell (bit_xor f n) i ≡ bit_xor (cell f i) (cell n i) →
         (0 < cell (bit_xor f n) i) ↔ ((0 < slice_index a.own i) × ¬ EndsInStore a (i + 1))
     other_marked f i few cells single apart = elim (cases_lt i 6) [
@@ -69,8 +71,11 @@ module _ (a : Rows) (k : ℕ) (w : IsWithinHouses a) (key : key_of a ≡ k) wher
           λ some. let both = again.0 some in let ends = (ends_at i).0 both.1 in let before = both.0 in omega (arith, ends, own_cell i, before) in
           let one = one_other (cell (k % 2 ^ 30) i) (cell f i) (cell n i) (cells i low) (single i low) within in (
             λ some. let both = one.0 (omega (arith, apart, some)) in
-                let filled : 0 < slice_index a.own i = let has = both.0 in omega (arith, has, own_cell i) in
-                (filled, λ ends. both.1 (again.1 (elim (cases_lt i (length a.own)) [ inl before ↦ before | inr beyond ↦ absurd (omega (arith, filled, own_past i beyond)) ], ends))),
+                let filled : 0 < slice_index a.own i = let has = both.0 in omega (arith, has, own_cell i) in (
+                  filled,
+                  λ ends. both.1 (again.1
+                      (elim (cases_lt i (length a.own)) [ inl before ↦ before | inr beyond ↦ absurd (omega (arith, filled, own_past i beyond)) ], ends)),
+                ),
             λ both. let has = both.0 in
                 let marked = one.1 (omega (arith, has, own_cell i), λ some. both.1 (again.0 some).1) in
                 omega (arith, apart, marked),

@@ -33,7 +33,8 @@ others_stay zero (suc i) n low high other = let same : (n - 1) / 32 ≡ n / 32 =
 others_stay (suc q) zero n low high other = omega (arith, next_power q, low)
 others_stay (suc q) (suc i) n low high other =
     let rest : (n - 32 ^ suc q) / 32 ≡ n / 32 - 32 ^ q = omega (arith, next_power q, low) in
-    ap (λ k. cell k i) rest ∙ others_stay q i (n / 32) (omega (arith, next_power q, low)) (omega (arith, next_power (suc q), high)) (λ same. other (ap suc same))
+    ap (λ k. cell k i) rest ∙ others_stay q i (n / 32) (omega (arith, next_power q, low)) (omega (arith, next_power (suc q), high))
+    (λ same. other (ap suc same))
 
 -- so what is left of some marks without the last was there before, and each that is missing was that one or was not marked
 module _ (marks h : ℕ) (is : IsLastMark marks h) where
@@ -64,8 +65,10 @@ last_by_zeros marks zeros some small is =
     let q = (63 - zeros) / 5 in
     let at : q + 1 - 1 ≡ q = omega arith in
     let place : 63 - zeros ≡ top.0 = omega (arith, is, top.1) in
-    let low : 32 ^ q ≤ marks = let power : 2 ^ (5 * q) ≤ 2 ^ top.0 = pow_mono {i = 5 * q} (omega (arith, place)) in omega (arith, power, pow_five q, top.2) in
-    let high : marks < 32 ^ suc q = let power : 2 ^ suc top.0 ≤ 2 ^ (5 * suc q) = pow_mono {i = suc top.0} (omega (arith, place)) in omega (arith, power, pow_five (suc q), top.3) in
+    let low : 32 ^ q ≤ marks = let power : 2 ^ (5 * q) ≤ 2 ^ top.0 = pow_mono {i = 5 * q} (omega (arith, place)) in
+    omega (arith, power, pow_five q, top.2) in
+    let high : marks < 32 ^ suc q = let power : 2 ^ suc top.0 ≤ 2 ^ (5 * suc q) = pow_mono {i = suc top.0} (omega (arith, place)) in
+    omega (arith, power, pow_five (suc q), top.3) in
     record {
       first = omega arith;
       last = elim (cases_lt q 6) [
@@ -132,9 +135,11 @@ filled_step k x r small =
     let d = bit_or (low + 15) x in
     let rest = bit_or (high + fifteens) r in
     let d_small : d < 32 = or_lt 5 (low + 15) x (omega (arith, low_is)) small in
-    let either : bit_or ((high + fifteens) * 32 + (low + 15)) (r * 32 + x) ≡ rest * 32 + d = or_block 5 (high + fifteens) r (low + 15) x (omega (arith, low_is)) small in
+    let either : bit_or ((high + fifteens) * 32 + (low + 15)) (r * 32 + x) ≡ rest * 32 + d =
+    or_block 5 (high + fifteens) r (low + 15) x (omega (arith, low_is)) small in
     let halved : (rest * 32 + d) / 16 ≡ rest / 16 * 32 + (rest % 16 * 2 + d / 16) = omega (arith, d_small) in
-    let marks : bit_and (rest / 16 * 32 + (rest % 16 * 2 + d / 16)) (each k 1 * 32 + 1) ≡ bit_and (rest / 16) (each k 1) * 32 + bit_and (rest % 16 * 2 + d / 16) 1 =
+    let marks : bit_and (rest / 16 * 32 + (rest % 16 * 2 + d / 16)) (each k 1 * 32 + 1)
+    ≡ bit_and (rest / 16) (each k 1) * 32 + bit_and (rest % 16 * 2 + d / 16) 1 =
     and_block 5 (rest / 16) (each k 1) (rest % 16 * 2 + d / 16) 1 (omega (arith, d_small)) (omega arith) in
     let parity : bit_and (rest % 16 * 2 + d / 16) 1 ≡ (rest % 16 * 2 + d / 16) % 2 = and_mask (rest % 16 * 2 + d / 16) 1 in
     let one : d / 16 ≡ min 1 x = one_filled x small in
@@ -145,12 +150,15 @@ pub filled_cell : (k n i : ℕ) → i < k → cell (filled_cells k n) i ≡ min 
 filled_cell zero n i inside = absurd (omega (arith, inside))
 filled_cell (suc k) n zero inside =
     let parts : n ≡ n / 32 * 32 + n % 32 = omega arith in
-    let step : filled_cells (suc k) n ≡ filled_cells k (n / 32) * 32 + min 1 (n % 32) = ap (λ j. filled_cells (suc k) j) parts ∙ filled_step k (n % 32) (n / 32) (omega arith) in
+    let step : filled_cells (suc k) n ≡ filled_cells k (n / 32) * 32 + min 1 (n % 32) =
+    ap (λ j. filled_cells (suc k) j) parts ∙ filled_step k (n % 32) (n / 32) (omega arith) in
     ap (λ j. j % 32) step ∙ first_cell (min 1 (n % 32)) (filled_cells k (n / 32)) (omega arith)
 filled_cell (suc k) n (suc i) inside =
     let parts : n ≡ n / 32 * 32 + n % 32 = omega arith in
-    let step : filled_cells (suc k) n ≡ filled_cells k (n / 32) * 32 + min 1 (n % 32) = ap (λ j. filled_cells (suc k) j) parts ∙ filled_step k (n % 32) (n / 32) (omega arith) in
-    ap (λ j. cell (j / 32) i) step ∙ ap (λ j. cell j i) (later_cells (min 1 (n % 32)) (filled_cells k (n / 32)) (omega arith)) ∙ filled_cell k (n / 32) i (omega (arith, inside))
+    let step : filled_cells (suc k) n ≡ filled_cells k (n / 32) * 32 + min 1 (n % 32) =
+    ap (λ j. filled_cells (suc k) j) parts ∙ filled_step k (n % 32) (n / 32) (omega arith) in
+    ap (λ j. cell (j / 32) i) step ∙ ap (λ j. cell j i) (later_cells (min 1 (n % 32)) (filled_cells k (n / 32)) (omega arith))
+    ∙ filled_cell k (n / 32) i (omega (arith, inside))
 
 -- ---- cells that are compared
 pub cell_xor : (i a b : ℕ) → cell (bit_xor a b) i ≡ bit_xor (cell a i) (cell b i)
@@ -180,7 +188,8 @@ past_each (suc k) (suc i) past = ap (λ j. cell j i) (later_cells 1 (each k 1) (
 pub cell_of_distances : (m i : ℕ) → m ≤ 6 → cell (distances m) i ≡ m - i
 cell_of_distances zero i few = cell_none i ∙ omega arith
 cell_of_distances (suc m) zero few = omega (arith, few)
-cell_of_distances (suc m) (suc i) few = ap (λ j. cell j i) (later_cells (suc m) (distances m) (omega (arith, few))) ∙ cell_of_distances m i (omega (arith, few)) ∙ omega arith
+cell_of_distances (suc m) (suc i) few = ap (λ j. cell j i) (later_cells (suc m) (distances m) (omega (arith, few)))
+    ∙ cell_of_distances m i (omega (arith, few)) ∙ omega arith
 
 -- one mark, of a cell whose value equals its distance
 one_ending : (x d : ℕ) → (0 < bit_xor (min 1 (bit_xor x d)) 1) ↔ (x ≡ d)
@@ -208,8 +217,11 @@ module _ (f d e m n i : ℕ) (few : m ≤ 6) (d_is : d ≡ distances m) (e_is : 
   ending_marked inside =
       let is : cell (bit_xor f e) i ≡ bit_xor (min 1 (bit_xor (cell n i) (m - i))) 1 =
       ending_cell ∙ ap (λ j. bit_xor (min 1 (bit_xor (cell n i) (m - i))) j) (cell_of_each m i inside) in
-      let one = one_ending (cell n i) (m - i) in
-      (λ some. omega (arith, inside, one.0 (omega (arith, is, some))), λ ends. let same : cell n i ≡ m - i = omega (arith, ends) in omega (arith, is, one.1 same))
+      let one = one_ending (cell n i) (m - i) in (
+        λ some. omega (arith, inside, one.0 (omega (arith, is, some))),
+        λ ends. let same : cell n i ≡ m - i = omega (arith, ends) in
+            omega (arith, is, one.1 same),
+      )
 
   pub ending_past : m ≤ i → cell n i ≡ 0 → cell (bit_xor f e) i ≡ 0
   ending_past past none =
@@ -218,7 +230,8 @@ module _ (f d e m n i : ℕ) (few : m ≤ 6) (d_is : d ≡ distances m) (e_is : 
 
   pub ending_single : cell (bit_xor f e) i ≤ 1
   ending_single =
-      let one : cell (each m 1) i < 2 = elim (cases_lt i m) [ inl inside ↦ omega (arith, cell_of_each m i inside) | inr past ↦ omega (arith, past_each m i past) ] in
+      let one : cell (each m 1) i < 2 = elim
+      (cases_lt i m) [ inl inside ↦ omega (arith, cell_of_each m i inside) | inr past ↦ omega (arith, past_each m i past) ] in
       omega (arith, ending_cell, xor_lt 1 (min 1 (bit_xor (cell n i) (m - i))) (cell (each m 1) i) (omega arith) one)
 
 -- one mark, of a cell that is filled and not among others that are

@@ -1,14 +1,5 @@
-pub mod Worth
-pub mod BestPlay
-pub mod Verdict
-pub mod Laws
-pub mod StepWorth
+pub mod Solver
 pub mod Table
-pub mod Taken
-pub mod Tried
-pub mod RowRank
-pub mod Endings
-pub mod Places
-pub mod SixValues
-pub mod MoveValues
+pub mod Bounds
+pub mod Search
 pub mod RowMarks

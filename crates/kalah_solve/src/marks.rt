@@ -1,7 +1,7 @@
 //! Marks of houses: a number with five bits for each house of a row, house 1 lowest, which are 1 if the house is marked and else 0.
 ghost use Rattle.std.specs.Prelude.{◌≡◌, ◌↔◌, ◌+◌, ◌-◌, ◌≤◌, ◌<◌, ◌^◌, ℕ, min, length, slice_index};
 ghost use Rattle.kalah_rules.specs.Position.{IsWithinHouses};
-ghost use Rattle.kalah_solve.specs.Tried.{EndsInStore};
+ghost use Rattle.kalah_solve.specs.Search.Tried.{EndsInStore};
 ghost use Rattle.kalah_solve.specs.RowMarks.{cell, each, distances, IsLastMark};
 
 use kalah_rules::Houses;

@@ -2,17 +2,21 @@
 ghost use Rattle.std.specs.Prelude.{◌≡◌, ◌+◌, ◌≤◌, ◌<◌, false, ◌≤ℤ◌, max, min, [], IfOk};
 ghost use Rattle.kalah_rules.specs.Limits.{most_seeds};
 ghost use Rattle.kalah_rules.specs.Position.{is_over, bare};
-ghost use Rattle.kalah_solve.specs.Worth.{houses_worth};
-ghost use Rattle.kalah_solve.specs.Table.{Encloses, least_margin, most_margin, most_entries, within};
-ghost use Rattle.kalah_solve.specs.Taken.{taken, IsWithinShare};
+ghost use Rattle.kalah_solve.specs.Solver.Worth.{houses_worth};
+ghost use Rattle.kalah_solve.specs.Bounds.Intervals.{Encloses, least_margin, most_margin, within};
+ghost use Rattle.kalah_solve.specs.Table.Entries.{most_entries};
+ghost use Rattle.kalah_solve.specs.Bounds.Won.{won, IsWithinBounds};
 
+pub(crate) mod move_order;
+pub(crate) mod ranks;
 mod reaches;
 #[cfg(test)]
 mod tests;
 
-use crate::share::Share;
-use crate::table::{Interval, Table};
-use crate::window::Window;
+use crate::bounds::interval::Interval;
+use crate::bounds::seed_bounds::SeedBounds;
+use crate::bounds::window::Window;
+use crate::table::Table;
 use kalah_rules::Houses;
 use std::alloc::{AllocError, Allocator, Global};
 
@@ -38,8 +42,8 @@ pub struct Search<A: Allocator + Clone = Global> {
     table: Table<A>,
     most_placed: u8,
     least_work: u64,
-    knows_endings: bool,
-    had_many_seeds: bool,
+    uses_endings: bool,
+    seen_many_seeds: bool,
     asks_for_nine: bool,
     nodes: u64,
 }
@@ -53,20 +57,20 @@ impl<A: Allocator + Clone> Search<A> {
             table,
             most_placed: MOST_PLACED,
             least_work: LEAST_WORK,
-            knows_endings: true,
-            had_many_seeds: false,
+            uses_endings: true,
+            seen_many_seeds: false,
             asks_for_nine: false,
             nodes: 0,
         }
     }
 
     /// Makes a search with an empty table of its own that shares with this one what is known of endings.
-    pub fn beside(&self, alloc: A, capacity: u32) -> Result<Search<A>, AllocError>
+    pub fn sharing_endings(&self, alloc: A, capacity: u32) -> Result<Search<A>, AllocError>
         requires low { 1 ≤ capacity }
         requires high { capacity ≤ most_entries }
         ensures { IfOk result (λ s. s.table ≡ []) }
     {
-        Ok(Search::new(self.table.beside(alloc, capacity)?))
+        Ok(Search::new(self.table.sharing_endings(alloc, capacity)?))
     }
 
     /// Makes a search that keeps every answer among the entries of its table.
@@ -76,8 +80,8 @@ impl<A: Allocator + Clone> Search<A> {
             table,
             most_placed: 0,
             least_work: 0,
-            knows_endings: false,
-            had_many_seeds: false,
+            uses_endings: false,
+            seen_many_seeds: false,
             asks_for_nine: false,
             nodes: 0,
         }
@@ -99,25 +103,21 @@ impl<A: Allocator + Clone> Search<A> {
         ensures { result ≡ within window.lo window.hi (houses_worth houses.now) }
     {
         let seeds = houses.seeds();
-        self.had_many_seeds |= seeds >= MANY_SEEDS;
+        self.seen_many_seeds |= seeds >= MANY_SEEDS;
         self.grow_endings();
-        if seeds <= self.most_at_the_end() {
-            let taken = self.table.taken(houses);
-            return window.clamp(2 * taken as i32 - seeds as i32);
+        if seeds <= self.max_ending_seeds() {
+            let won = self.table.won(houses);
+            return window.clamp(2 * won as i32 - seeds as i32);
         }
         let known = self.known_margins(houses);
         let Some(narrow) = window.narrowed(known) else {
             return window.clamp(known.lo as i32);
         };
         let before = self.nodes;
-        let taken = self.taken_within(houses, Share::of_window(narrow, seeds));
-        let answer = narrow.clamp(2 * taken as i32 - seeds as i32);
+        let won = self.won_within(houses, SeedBounds::of_window(narrow, seeds));
+        let answer = narrow.clamp(2 * won as i32 - seeds as i32);
         let work = self.nodes.wrapping_sub(before);
-        self.learn_margins(
-            houses,
-            Interval::learned(narrow, answer).shared(known),
-            work,
-        );
+        self.learn_margins(houses, narrow.interval_of(answer).intersection(known), work);
         answer
     }
 
@@ -135,11 +135,11 @@ impl<A: Allocator + Clone> Search<A> {
     }
 
     // The seeds that the mover takes, raised to the least of the share and lowered to its most: tests close in on them.
-    fn taken_within(&mut self, houses: &Houses, asked: Share) -> u8
+    fn won_within(&mut self, houses: &Houses, asked: SeedBounds) -> u8
         requires going { is_over (bare houses.now) ≡ false }
         requires ordered { asked.least ≤ asked.most }
         requires high { asked.most ≤ most_seeds }
-        ensures { result ≡ max asked.least (min asked.most (taken houses.now)) }
+        ensures { result ≡ max asked.least (min asked.most (won houses.now)) }
     {
         let mut low = asked.least;
         let mut high = asked.most;
@@ -167,21 +167,21 @@ impl<A: Allocator + Clone> Search<A> {
             self.grow_endings();
         }
         if self.nodes == LONG_SEARCH {
-            self.table.lay_out_places();
+            self.table.grow();
         }
         before
     }
 
     // Uses the endings of 9 seeds from now on, if the search had many seeds and much work.
     fn grow_endings(&mut self) {
-        self.asks_for_nine |= self.had_many_seeds && self.nodes >= MUCH_WORK;
+        self.asks_for_nine |= self.seen_many_seeds && self.nodes >= MUCH_WORK;
     }
 
     // Returns the most seeds for which the result is looked up among the endings.
-    fn most_at_the_end(&self) -> u8
+    fn max_ending_seeds(&self) -> u8
         ensures { result ≤ 9 }
     {
-        if !self.knows_endings {
+        if !self.uses_endings {
             0
         } else if self.asks_for_nine {
             9
@@ -191,28 +191,28 @@ impl<A: Allocator + Clone> Search<A> {
     }
 
     // Returns what is known of the seeds that the mover takes.
-    fn known(&mut self, houses: &Houses) -> Share
-        ensures { IsWithinShare result (taken houses.now) }
+    fn known(&mut self, houses: &Houses) -> SeedBounds
+        ensures { IsWithinBounds result (won houses.now) }
     {
         let seeds = houses.seeds();
         if seeds <= self.most_placed {
             return self.table.look_up_place(houses);
         }
         match self.table.look_up(houses) {
-            Some(margins) => Share::of_margins(margins, seeds),
-            None => Share::unknown(houses),
+            Some(margins) => SeedBounds::of_margins(margins, seeds),
+            None => SeedBounds::unknown(houses),
         }
     }
 
     // Stores what was learned of the houses by `work` nodes.
-    fn learn(&mut self, houses: &Houses, share: Share, work: u64)
-        requires { IsWithinShare share (taken houses.now) }
+    fn learn(&mut self, houses: &Houses, bounds: SeedBounds, work: u64)
+        requires { IsWithinBounds bounds (won houses.now) }
     {
         let seeds = houses.seeds();
         if seeds <= self.most_placed {
-            self.table.keep_place(houses, share);
+            self.table.keep_place(houses, bounds);
         } else {
-            self.learn_margins(houses, share.margins(seeds), work);
+            self.learn_margins(houses, bounds.margins(seeds), work);
         }
     }
 

@@ -2,20 +2,23 @@
 ghost use Rattle.std.specs.Prelude.{◌≡◌, ◌≤◌, [], IfOk, false};
 ghost use Rattle.kalah_rules.specs.Position.{is_over, bare};
 ghost use Rattle.kalah_rules.specs.Play.{legal_houses};
-ghost use Rattle.kalah_solve.specs.Worth.{best_house};
-ghost use Rattle.kalah_solve.specs.Table.{most_entries};
-ghost use Rattle.kalah_solve.specs.Taken.{taken};
-ghost use Rattle.kalah_solve.specs.Verdict.{verdict_of, TellsBestPlay, IsSmallVerdict};
+ghost use Rattle.kalah_solve.specs.Solver.Worth.{best_house};
+ghost use Rattle.kalah_solve.specs.Table.Entries.{most_entries};
+ghost use Rattle.kalah_solve.specs.Bounds.Won.{won};
+ghost use Rattle.kalah_solve.specs.Solver.Verdict.{verdict_of, TellsBestPlay, IsSmallVerdict};
 
+pub(crate) mod laws;
+pub(crate) mod move_values;
 #[cfg(test)]
 mod tests;
 mod values;
+pub(crate) mod verdict;
 
+use crate::bounds::seed_bounds::half;
+use crate::bounds::window::Window;
 use crate::search::Search;
-use crate::share::half;
+use crate::solver::verdict::Verdict;
 use crate::table::Table;
-use crate::verdict::Verdict;
-use crate::window::Window;
 use kalah_rules::{Board, Houses, Moves};
 use std::alloc::{AllocError, Allocator, Global};
 
@@ -37,12 +40,12 @@ impl<A: Allocator + Clone> Solver<A> {
     /// endings the other may know too, and so may the solvers made from either, also if they run in different threads.
     ///
     /// Fails with `AllocError` only if memory was refused.
-    pub fn beside(&self, alloc: A, capacity: u32) -> Result<Solver<A>, AllocError>
+    pub fn sharing_endings(&self, alloc: A, capacity: u32) -> Result<Solver<A>, AllocError>
         requires low { 1 ≤ capacity }
         requires high { capacity ≤ most_entries }
         ensures { IfOk result (λ s. s.search.table ≡ []) }
     {
-        let search = self.search.beside(alloc, capacity)?;
+        let search = self.search.sharing_endings(alloc, capacity)?;
         Ok(Solver { search })
     }
 
@@ -71,7 +74,7 @@ impl<A: Allocator + Clone> Solver<A> {
     fn first_house(&mut self, houses: &Houses, moves: &Moves, bar: u8) -> u8
         requires moves { moves.now ≡ legal_houses (bare houses.now) }
         requires going { is_over (bare houses.now) ≡ false }
-        requires best { bar ≡ taken houses.now }
+        requires best { bar ≡ won houses.now }
         ensures { result ≡ best_house (bare houses.now) }
     {
         let _seeds = houses.seeds();

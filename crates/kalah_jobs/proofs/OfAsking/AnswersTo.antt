@@ -41,7 +41,8 @@ pub lines_of_ended : (piece : List ℕ) → HasNoLineFeed piece → lines_of (pi
 unfolding lines_of
 lines_of_ended [] none = refl
 lines_of_ended (byte ∷ piece) none =
-    lines_of-byte byte (piece ++ line_feed ∷ []) (All-head IsOther byte piece none) ∙ ap (onto_first byte) (lines_of_ended piece (All-tail IsOther byte piece none))
+    lines_of-byte byte (piece ++ line_feed ∷ []) (All-head IsOther byte piece none)
+    ∙ ap (onto_first byte) (lines_of_ended piece (All-tail IsOther byte piece none))
 
 -- a piece that isn't empty is one line if nothing follows
 pub lines_of_open : (byte : ℕ) (piece : List ℕ) → HasNoLineFeed (byte ∷ piece) → lines_of (byte ∷ piece) ≡ (byte ∷ piece) ∷ []
@@ -93,7 +94,8 @@ both_read false false = refl
 pub all_read_more : (lines more line : List ℕ) → EndsWithItsLine lines → lines_of more ≡ line ∷ []
     → are_all_read (lines ++ more) ≡ (not (is_faulty line) && are_all_read lines)
 all_read_more lines more line ends one =
-    ap (λ (l : List (List ℕ)). not (list_any is_faulty l)) ((files_split_between_lines.parts lines more ends).lines ∙ ap (λ (l : List (List ℕ)). lines_of lines ++ l) one)
+    ap (λ (l : List (List ℕ)). not (list_any is_faulty l))
+    ((files_split_between_lines.parts lines more ends).lines ∙ ap (λ (l : List (List ℕ)). lines_of lines ++ l) one)
     ∙ ap not (list_any-append is_faulty (lines_of lines) (line ∷ []))
     ∙ both_read (list_any is_faulty (lines_of lines)) (is_faulty line)
 
@@ -170,7 +172,8 @@ one_of_two true a b one other = one
 one_of_two false a b one other = other
 
 -- where no steps are asked an answer is of one line
-one_line_read : (question : Question) → question ≢ Steps → (r : Result position.Position LineFault) → IsOfOneLine (answer_of (entry_asked question (entry_of_reading r)))
+one_line_read : (question : Question) → question ≢ Steps → (r : Result position.Position LineFault) →
+    IsOfOneLine (answer_of (entry_asked question (entry_of_reading r)))
 unfolding answer_of
 one_line_read BestMove other (Ok p) = one_of_two (is_over p) _ _ tt tt
 one_line_read BestMove other (Err fault) = tt
@@ -188,7 +191,8 @@ line_parts : (question : Question) → question ≢ Steps → (name : List ℕ) 
 line_parts question other name number line =
     let place = place_words name number in
     let answer = answer_of (entry_to question line) in
-    ap (λ (texts : List (List ℕ)). join_with_byte line_feed (map (λ text. place ++ text) texts) ++ line_feed ∷ []) (one_text answer (one_line_asked question other line))
+    ap (λ (texts : List (List ℕ)). join_with_byte line_feed (map (λ text. place ++ text) texts) ++ line_feed ∷ [])
+    (one_text answer (one_line_asked question other line))
     ∙ append_assoc place (answer_words answer) (line_feed ∷ [])
 
 lines_parts : (question : Question) → question ≢ Steps → (name : List ℕ) (number : ℕ) (lines : List (List ℕ)) →

@@ -24,7 +24,8 @@ pub record Underway (question : Question) (before now old new : Option (List ℕ
   pub status : all_read ≡ are_all_read lines
 
 -- nothing was read yet
-pub nothing_read : (question : Question) (before old : Option (List ℕ)) (line : List ℕ) → line ≡ [] → Underway question before before old old line true
+pub nothing_read : (question : Question) (before old : Option (List ℕ)) (line : List ℕ) → line ≡ [] →
+    Underway question before before old old line true
 nothing_read question before old line empty = record {
   lines = [];
   part = [];
@@ -46,7 +47,8 @@ byte_read question before now next old new kept line all_read byte u other taken
   ended = u.ended;
   unended = All-push IsOther u.part byte u.unended other;
   kept = ap (λ l. take kept_bytes (l ++ byte ∷ [])) u.kept ∙ kept_more u.part byte;
-  taken = subst (Consumes before next) (append_assoc u.lines u.part (byte ∷ [])) (Consumes-trans before now next (u.lines ++ u.part) (byte ∷ []) u.taken taken);
+  taken = subst (Consumes before next) (append_assoc u.lines u.part (byte ∷ []))
+      (Consumes-trans before now next (u.lines ++ u.part) (byte ∷ []) u.taken taken);
   written = Appends-kept old new kept (answers_to question u.lines) u.written keeps;
   status = u.status;
 }
@@ -142,7 +144,8 @@ begun_line question before now next old new kept more line all_read u end keeps 
     }
 
 -- what stands behind the last line feed is answered by the part that was kept
-told_part : (question : Question) (line part : List ℕ) → line ≡ take kept_bytes part → HasNoLineFeed part → told_last question line ≡ answers_to question part
+told_part : (question : Question) (line part : List ℕ) → line ≡ take kept_bytes part → HasNoLineFeed part →
+    told_last question line ≡ answers_to question part
 told_part question line part kept none = ap (told_last question) kept ∙ sym (last_told question part none)
 
 -- nothing is left, and a prefix of the answer to what stands behind the last line feed was written

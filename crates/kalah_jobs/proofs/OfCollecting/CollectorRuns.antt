@@ -109,7 +109,8 @@ module _ (files : List FileState) (o : Job) (a : Answer) (low : o.file < length 
 
 -- a line that was taken, by its parts
 pub taken_is : (t : Taken) (k : ℕ) (e : Entry) → t.line ≡ k → t.answer ≡ answer_of e → t ≡ answered_line (k, e)
-taken_is t k e p q = ap (λ x. let r : Taken = record { line = x; answer = t.answer } in r) p ∙ ap (λ y. let r : Taken = record { line = k; answer = y } in r) q
+taken_is t k e p q = ap (λ x. let r : Taken = record { line = x; answer = t.answer } in r) p
+    ∙ ap (λ y. let r : Taken = record { line = k; answer = y } in r) q
 
 -- a numbered list has each element with its number
 pub numbered_at : {X : Type 0} (xs : List X) (n : ℕ) (d : X) → n < length xs → get_or (enumerate_from 0 xs) n (0, d) ≡ (n, get_or xs n d)
@@ -123,7 +124,8 @@ numbered_is {X} xs n x is =
     numbered_at xs n x (slice_get_within xs n x is) ∙ ap {B = ℕ × X} (λ y. (n, y)) (get_or_from_slice_get xs n x x is)
 
 -- the line at a place of the answered lines
-pub answered_at : (entries : List Entry) (n : ℕ) (e : Entry) (d : Taken) → slice_get entries n ≡ Some e → get_or (answered_lines entries) n d ≡ answered_line (n, e)
+pub answered_at : (entries : List Entry) (n : ℕ) (e : Entry) (d : Taken) → slice_get entries n ≡ Some e →
+    get_or (answered_lines entries) n d ≡ answered_line (n, e)
 answered_at entries n e d is =
     let xs : List (ℕ × Entry) = enumerate_from 0 entries in
     let low : n < length entries = slice_get_within entries n e is in
@@ -139,8 +141,10 @@ offers_took : (events : List Event) (f : ℕ) (gave : Option Taken) → offers (
 offers_took events f gave = offers_append events (Took f gave ∷ []) ∙ append-nil (offers events)
 
 -- the list of the first lines grows by the line that is taken
-pub first_lines_more : (jobs : List (List Entry)) (past : List Job) (files : List FileState) (f : ℕ) (t : Taken) → HoldsOffered jobs past files → IsNext (state_of files f) t
-    → take (state_of files f).taken (answered_lines (entries_of jobs f)) ++ t ∷ [] ≡ take ((state_of files f).taken + 1) (answered_lines (entries_of jobs f))
+pub first_lines_more : (jobs : List (List Entry)) (past : List Job) (files : List FileState) (f : ℕ) (t : Taken) →
+    HoldsOffered jobs past files → IsNext (state_of files f) t
+    → take (state_of files f).taken (answered_lines (entries_of jobs f)) ++ t ∷ []
+    ≡ take ((state_of files f).taken + 1) (answered_lines (entries_of jobs f))
 first_lines_more jobs past files f t holds is_next =
     let n : ℕ = (state_of files f).taken in
     let xs : List Taken = answered_lines (entries_of jobs f) in

@@ -27,10 +27,12 @@ state_other files f g s ne = get_or-set_other files f g s no_file ne
 
 -- the counts of lines, file by file
 pub files_many : (jobs : List (List Entry)) (files : List FileState) → HasLinesOf jobs files → length files ≡ length jobs
-files_many jobs files h = sym (length-map files line_count) ∙ ap (λ (l : List ℕ). length l) h ∙ length-map jobs (λ (entries : List Entry). length entries)
+files_many jobs files h = sym (length-map files line_count) ∙ ap (λ (l : List ℕ). length l) h
+    ∙ length-map jobs (λ (entries : List Entry). length entries)
 
 -- each file has as many lines as its jobs, also if there is no such file
-pub lines_are : (jobs : List (List Entry)) (files : List FileState) → HasLinesOf jobs files → (f : ℕ) → line_count (state_of files f) ≡ length (entries_of jobs f)
+pub lines_are : (jobs : List (List Entry)) (files : List FileState) → HasLinesOf jobs files → (f : ℕ) →
+    line_count (state_of files f) ≡ length (entries_of jobs f)
 lines_are [] [] h f = refl
 lines_are [] (s ∷ files) h f = cc
 lines_are (entries ∷ jobs) [] h f = cc
@@ -38,7 +40,8 @@ lines_are (entries ∷ jobs) (s ∷ files) h zero = cc
 lines_are (entries ∷ jobs) (s ∷ files) h (suc f) = lines_are jobs files (cc) f
 
 -- a change that keeps a file's number of lines keeps all counts
-pub counts_set : (files : List FileState) (f : ℕ) (s : FileState) → line_count s ≡ line_count (state_of files f) → map line_count (set files f s) ≡ map line_count files
+pub counts_set : (files : List FileState) (f : ℕ) (s : FileState) → line_count s ≡ line_count (state_of files f) →
+    map line_count (set files f s) ≡ map line_count files
 counts_set [] f s same = refl
 counts_set (x ∷ files) zero s same = ap (λ n. n ∷ map line_count files) same
 counts_set (x ∷ files) (suc f) s same = ap (λ l. line_count x ∷ l) (counts_set files f s same)
@@ -96,7 +99,8 @@ after_cases files o a file_low line_low f k =
     let R : Type 0 = IsHere files o a f k ⊎ IsElsewhere files o a f k in
     ⊎_elim {C = R}
     (λ (p : f ≡ o.file).
-    let here : state_of (after_offer files o.file o.line a) f ≡ w = ap (λ g. state_of (after_offer files o.file o.line a) g) p ∙ state_same files o.file w file_low in
+    let here : state_of (after_offer files o.file o.line a) f ≡ w =
+    ap (λ g. state_of (after_offer files o.file o.line a) g) p ∙ state_same files o.file w file_low in
     ⊎_elim {C = R}
     (λ (q : k ≡ o.line).
     let new : came_for w o.line ≡ Some a = get_or-set_same s.arrived o.line (Some a) None line_low in
@@ -109,7 +113,8 @@ after_cases files o a file_low line_low f k =
     (cases_eq f o.file)
 
 -- a number of lines stays if an answer is put down
-counts_offer : (jobs : List (List Entry)) (files : List FileState) (f k : ℕ) (a : Answer) → HasLinesOf jobs files → HasLinesOf jobs (after_offer files f k a)
+counts_offer : (jobs : List (List Entry)) (files : List FileState) (f k : ℕ) (a : Answer) → HasLinesOf jobs files →
+    HasLinesOf jobs (after_offer files f k a)
 counts_offer jobs files f k a h = counts_set files f (with_answer (state_of files f) k a) (length-set (state_of files f).arrived k (Some a)) ∙ h
 
 -- an accepted offer keeps what holds
@@ -152,7 +157,8 @@ holds_accepted jobs past files o holds wanted =
     }
 
 -- a line of the jobs is a line of the files
-line_there : (jobs : List (List Entry)) (files : List FileState) (f k : ℕ) (e : Entry) → HasLinesOf jobs files → entry_at jobs f k ≡ Some e → k < line_count (state_of files f)
+line_there : (jobs : List (List Entry)) (files : List FileState) (f k : ℕ) (e : Entry) → HasLinesOf jobs files →
+    entry_at jobs f k ≡ Some e → k < line_count (state_of files f)
 line_there jobs files f k e h is = let m = lines_are jobs files h f in let low = slice_get_within (entries_of jobs f) k e is in omega arith
 
 -- a file with a line is there
@@ -162,7 +168,8 @@ file_there (s ∷ files) zero k low = omega arith
 file_there (s ∷ files) (suc f) k low = let h = file_there files f k low in omega arith
 
 -- if a line is offered with its entry and refused, it had come before
-pub refused_came : (jobs : List (List Entry)) (files : List FileState) (f k : ℕ) (e : Entry) (r : Refusal) → HasLinesOf jobs files → entry_at jobs f k ≡ Some e
+pub refused_came : (jobs : List (List Entry)) (files : List FileState) (f k : ℕ) (e : Entry) (r : Refusal) → HasLinesOf jobs files →
+    entry_at jobs f k ≡ Some e
     → IsRefusedFor jobs files (line_job f k e) r → IsSome (came_for (state_of files f) k)
 refused_came jobs files f k e NoSuchFile h is refused = absurd (let low = file_there files f k (line_there jobs files f k e h is) in omega arith)
 refused_came jobs files f k e FileEnded h is refused =
@@ -172,7 +179,8 @@ refused_came jobs files f k e WrongPosition h is refused = absurd (refused.1 is)
 refused_came jobs files f k e Double h is refused = refused.1
 
 -- a refused offer changes nothing, and what holds stays true with one more offer
-pub holds_refused : (jobs : List (List Entry)) (past : List Job) (files : List FileState) (o : Job) (r : Refusal) → HoldsOffered jobs past files → IsRefusedFor jobs files o r
+pub holds_refused : (jobs : List (List Entry)) (past : List Job) (files : List FileState) (o : Job) (r : Refusal) → HoldsOffered jobs past files →
+    IsRefusedFor jobs files o r
     → HoldsOffered jobs (past ++ o ∷ []) files
 holds_refused jobs past files o r holds refused = record {
   counts = holds.counts;
@@ -192,7 +200,8 @@ holds_refused jobs past files o r holds refused = record {
 }
 
 -- a take changes nothing of what came
-pub came_after_take : (files : List FileState) (f : ℕ) → f < length files → (g : ℕ) → (state_of (after_take files f) g).arrived ≡ (state_of files g).arrived
+pub came_after_take : (files : List FileState) (f : ℕ) → f < length files → (g : ℕ) →
+    (state_of (after_take files f) g).arrived ≡ (state_of files g).arrived
 came_after_take files f low g =
     ⊎_elim
     (λ (p : g ≡ f).
@@ -203,7 +212,8 @@ came_after_take files f low g =
     (cases_eq g f)
 
 -- so a take keeps what holds
-pub holds_take : (jobs : List (List Entry)) (past : List Job) (files : List FileState) (f : ℕ) → f < length files → HoldsOffered jobs past files → HoldsOffered jobs past (after_take files f)
+pub holds_take : (jobs : List (List Entry)) (past : List Job) (files : List FileState) (f : ℕ) → f < length files →
+    HoldsOffered jobs past files → HoldsOffered jobs past (after_take files f)
 holds_take jobs past files f low holds = record {
   counts = counts_set files f (with_one_taken (state_of files f)) refl ∙ holds.counts;
   came = λ g k e is has. ap (λ (xs : List (Option Answer)). get_or xs k None) (came_after_take files f low g) ∙ holds.came g k e is has;

@@ -56,6 +56,7 @@ front_full (Some a ∷ xs) all = omega (arith, front_full xs (λ k low. all (suc
 pub front_least : (xs : List (Option Answer)) (m : ℕ) → ((k : ℕ) → k < m → is_some (get_or xs k None) ≡ true) → m ≤ front_of xs
 front_least xs m all =
     ⊎_elim
-    (λ (short : front_of xs < m). let more : front_of xs + 1 ≤ front_of xs = front_more xs (front_of xs) (omega arith) (all (front_of xs) short) in absurd (omega arith))
+    (λ (short : front_of xs < m). let more : front_of xs + 1 ≤ front_of xs = front_more xs (front_of xs) (omega arith) (all (front_of xs) short) in
+    absurd (omega arith))
     (λ (long : m ≤ front_of xs). long)
     (cases_lt (front_of xs) m)

@@ -100,12 +100,14 @@ times_from_contains o (x ∷ xs) (suc k, low, is) =
 lines_before : (o : Job) (f k : ℕ) (entries : List Entry) → o.line < k → times o (file_jobs f k entries) ≡ 0
 lines_before o f k [] low = times_nil o
 lines_before o f k (e ∷ entries) low =
-    times_no o (line_job f k e) (file_jobs f (suc k) entries) (differ_line o (line_job f k e) (λ q. omega arith)) ∙ lines_before o f (suc k) entries (omega arith)
+    times_no o (line_job f k e) (file_jobs f (suc k) entries) (differ_line o (line_job f k e) (λ q. omega arith))
+    ∙ lines_before o f (suc k) entries (omega arith)
 
 -- an offer of another file does not stand among a file's lines
 lines_elsewhere : (o : Job) (f k : ℕ) (entries : List Entry) → (f ≡ o.file → ⊥) → times o (file_jobs f k entries) ≡ 0
 lines_elsewhere o f k [] ne = times_nil o
-lines_elsewhere o f k (e ∷ entries) ne = times_no o (line_job f k e) (file_jobs f (suc k) entries) (differ_file o (line_job f k e) ne) ∙ lines_elsewhere o f (suc k) entries ne
+lines_elsewhere o f k (e ∷ entries) ne =
+    times_no o (line_job f k e) (file_jobs f (suc k) entries) (differ_file o (line_job f k e) ne) ∙ lines_elsewhere o f (suc k) entries ne
 
 -- an offer stands among a file's lines at most once
 lines_once : (o : Job) (f k : ℕ) (entries : List Entry) → times o (file_jobs f k entries) ≤ 1
@@ -202,16 +204,19 @@ job_from o f (entries ∷ jobs) has =
     (Contains-append_cases (file_jobs f 0 entries) (jobs_from (suc f) jobs) o has)
 
 -- each line is among the jobs
-line_has : (f k l j : ℕ) (e : Entry) (entries : List Entry) → l ≡ k + j → slice_get entries j ≡ Some e → Contains (file_jobs f k entries) (line_job f l e)
+line_has : (f k l j : ℕ) (e : Entry) (entries : List Entry) → l ≡ k + j → slice_get entries j ≡ Some e →
+    Contains (file_jobs f k entries) (line_job f l e)
 line_has f k l j e [] at is = absurd (let bad : None ≡ Some e = is in cc)
 line_has f k l zero e (x ∷ entries) at is =
     let x_is : x ≡ e = cc in
     subst (λ y. Contains (file_jobs f k (x ∷ entries)) (line_job f l y)) x_is
     (subst (λ m. Contains (file_jobs f k (x ∷ entries)) (line_job f m x)) (omega arith) (contains_first (line_job f k x) (file_jobs f (suc k) entries)))
-line_has f k l (suc j) e (x ∷ entries) at is = contains_later (line_job f k x) (line_job f l e) (file_jobs f (suc k) entries) (line_has f (suc k) l j e entries (omega arith) is)
+line_has f k l (suc j) e (x ∷ entries) at is =
+    contains_later (line_job f k x) (line_job f l e) (file_jobs f (suc k) entries) (line_has f (suc k) l j e entries (omega arith) is)
 
 -- each line of each file is among the jobs
-job_has : (f g i k : ℕ) (e : Entry) (jobs : List (List Entry)) → g ≡ f + i → entry_at jobs i k ≡ Some e → Contains (jobs_from f jobs) (line_job g k e)
+job_has : (f g i k : ℕ) (e : Entry) (jobs : List (List Entry)) → g ≡ f + i → entry_at jobs i k ≡ Some e →
+    Contains (jobs_from f jobs) (line_job g k e)
 job_has f g i k e [] at is = absurd (let bad : None ≡ Some e = is in cc)
 job_has f g zero k e (entries ∷ jobs) at is =
     subst (λ h. Contains (jobs_from f (entries ∷ jobs)) (line_job h k e)) (omega arith)
@@ -225,7 +230,8 @@ unfolding times
 same_times jobs got h o = h.same_counts (λ x. same_job o x)
 
 -- so each line was offered with its entry
-pub each_came : (jobs : List (List Entry)) (got : List Job) → AreJobsInSomeOrder jobs got → (f k : ℕ) (e : Entry) → entry_at jobs f k ≡ Some e → Contains got (line_job f k e)
+pub each_came : (jobs : List (List Entry)) (got : List Job) → AreJobsInSomeOrder jobs got → (f k : ℕ) (e : Entry) →
+    entry_at jobs f k ≡ Some e → Contains got (line_job f k e)
 each_came jobs got h f k e is =
     let o : Job = line_job f k e in
     let a = times_from_contains o (job_list jobs) (job_has 0 f f k e jobs (omega arith) is) in

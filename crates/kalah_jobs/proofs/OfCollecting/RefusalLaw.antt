@@ -23,7 +23,8 @@ none_is_not_some : (x : Option Answer) → x ≡ None → IsSome x → ⊥
 none_is_not_some x none some = false≢true (sym (ap (λ (y : Option Answer). is_some y) none) ∙ some)
 
 -- an offer that is wanted meets no refusal
-pub wanted_or_refused : (jobs : List (List Entry)) (files : List FileState) (o : Job) (r : Refusal) → IsWanted jobs files o → IsRefusedFor jobs files o r → ⊥
+pub wanted_or_refused : (jobs : List (List Entry)) (files : List FileState) (o : Job) (r : Refusal) → IsWanted jobs files o →
+    IsRefusedFor jobs files o r → ⊥
 wanted_or_refused jobs files o NoSuchFile wanted refused = there files o refused wanted.0.0.0.0
 wanted_or_refused jobs files o FileEnded wanted refused = wanted.0.0.0.1 refused.1
 wanted_or_refused jobs files o NoSuchLine wanted refused = within files o refused.1 wanted.0.0
@@ -31,7 +32,8 @@ wanted_or_refused jobs files o WrongPosition wanted refused = refused.1 wanted.0
 wanted_or_refused jobs files o Double wanted refused = none_is_not_some (came_for (state_of files o.file) o.line) wanted.1 refused.1
 
 -- and no offer meets two
-pub refused_for_one : (jobs : List (List Entry)) (files : List FileState) (o : Job) (q r : Refusal) → IsRefusedFor jobs files o q → IsRefusedFor jobs files o r → q ≡ r
+pub refused_for_one : (jobs : List (List Entry)) (files : List FileState) (o : Job) (q r : Refusal) → IsRefusedFor jobs files o q →
+    IsRefusedFor jobs files o r → q ≡ r
 refused_for_one jobs files o NoSuchFile NoSuchFile a b = refl
 refused_for_one jobs files o NoSuchFile FileEnded a b = absurd (there files o a b.0)
 refused_for_one jobs files o NoSuchFile NoSuchLine a b = absurd (there files o a b.0.0)

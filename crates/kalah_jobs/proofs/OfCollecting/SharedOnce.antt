@@ -22,7 +22,8 @@ total_same zero f g h = refl
 total_same (suc n) f g h = let a = total_same n f g (λ w lt. h w (omega arith)) in let b : f n ≡ g n = h n (omega arith) in omega arith
 
 -- one term is greater by d
-pub total_one : (n : ℕ) (f g : ℕ → ℕ) (k d : ℕ) → k < n → f k ≡ g k + d → ((w : ℕ) → w ≢ k → f w ≡ g w) → total n f ≡ total n g + d
+pub total_one : (n : ℕ) (f g : ℕ → ℕ) (k d : ℕ) → k < n → f k ≡ g k + d → ((w : ℕ) → w ≢ k → f w ≡ g w) →
+    total n f ≡ total n g + d
 unfolding total
 total_one zero f g k d lt e h = absurd (omega arith)
 total_one (suc n) f g k d lt e h =
@@ -69,7 +70,8 @@ counted {X} p n (t ∷ ts) below =
     let f : ℕ → ℕ = λ w. count_by p (of w (t ∷ ts)) in
     let g : ℕ → ℕ = λ w. count_by p (of w ts) in
     let one : f t.0 ≡ g t.0 + cond (p t.1) 1 0 =
-    ap (λ (b : Bool). count_by p (if b then t.1 ∷ of t.0 ts else of t.0 ts)) (eq-eqb t.0 t.0 refl) ∙ omega (arith, sum_by-cons (λ (x : X). cond (p x) 1 0) t.1 (of t.0 ts)) in
+    ap (λ (b : Bool). count_by p (if b then t.1 ∷ of t.0 ts else of t.0 ts)) (eq-eqb t.0 t.0 refl)
+    ∙ omega (arith, sum_by-cons (λ (x : X). cond (p x) 1 0) t.1 (of t.0 ts)) in
     let other : (w : ℕ) → w ≢ t.0 → f w ≡ g w =
     (λ w ne. ap (λ (b : Bool). count_by p (if b then t.1 ∷ of w ts else of w ts)) (ne_eqb t.0 w (λ q. ne (sym q)))) in
     let a : total n f ≡ total n g + cond (p t.1) 1 0 = total_one n f g t.0 (cond (p t.1) 1 0) h one other in
@@ -79,22 +81,31 @@ counted {X} p n (t ∷ ts) below =
 -- a test of the results of f
 pub count_map : {X : Type 0} (p : X → Bool) (f : ℕ → X) (xs : List ℕ) → count_by p (map f xs) ≡ count_by (λ x. p (f x)) xs
 count_map p f [] = refl
-count_map {X} p f (x ∷ xs) = omega (arith, count_map p f xs, sum_by-cons (λ (y : X). cond (p y) 1 0) (f x) (map f xs), sum_by-cons (λ y. cond (p (f y)) 1 0) x xs)
+count_map {X} p f (x ∷ xs) = omega (
+  arith,
+  count_map p f xs,
+  sum_by-cons (λ (y : X). cond (p y) 1 0) (f x) (map f xs),
+  sum_by-cons (λ y. cond (p (f y)) 1 0) x xs,
+)
 
 -- the numbers in a list that pass a test, counted number by number
 chosen : Bool → ℕ → ℕ
 chosen b c = cond b c 0
 
 -- as many pass as there are numbers that pass, each as often as it stands in the list
-count_split : (q : ℕ → Bool) (m : ℕ) (xs : List ℕ) → All (λ x. x < m) xs → count_by q xs ≡ total m (λ x. chosen (q x) (count_by (λ y. y == x) xs))
+count_split : (q : ℕ → Bool) (m : ℕ) (xs : List ℕ) → All (λ x. x < m) xs →
+    count_by q xs ≡ total m (λ x. chosen (q x) (count_by (λ y. y == x) xs))
 unfolding chosen
-count_split q m [] below = sym (total_none m (λ x. chosen (q x) 0) (λ x lt. elim (q x) as (λ (b : Bool). chosen b 0 ≡ 0) [ true ↦ refl | false ↦ refl ]))
+count_split q m [] below = sym (total_none m (λ x. chosen (q x) 0)
+    (λ x lt. elim (q x) as (λ (b : Bool). chosen b 0 ≡ 0) [ true ↦ refl | false ↦ refl ]))
 count_split q m (z ∷ zs) below =
     let P : ℕ → Type 0 = λ x. x < m in
     let f : ℕ → ℕ = λ x. chosen (q x) (count_by (λ y. y == x) (z ∷ zs)) in
     let g : ℕ → ℕ = λ x. chosen (q x) (count_by (λ y. y == x) zs) in
-    let step : (x : ℕ) → count_by (λ y. y == x) (z ∷ zs) ≡ cond (z == x) 1 0 + count_by (λ y. y == x) zs = λ x. sum_by-cons (λ y. cond (y == x) 1 0) z zs in
-    let here : count_by (λ y. y == z) (z ∷ zs) ≡ count_by (λ y. y == z) zs + 1 = step z ∙ ap (λ (b : Bool). cond b 1 0 + count_by (λ y. y == z) zs) (eq-eqb z z refl) ∙ omega arith in
+    let step : (x : ℕ) → count_by (λ y. y == x) (z ∷ zs) ≡ cond (z == x) 1 0 + count_by (λ y. y == x) zs =
+    λ x. sum_by-cons (λ y. cond (y == x) 1 0) z zs in
+    let here : count_by (λ y. y == z) (z ∷ zs) ≡ count_by (λ y. y == z) zs + 1 =
+    step z ∙ ap (λ (b : Bool). cond b 1 0 + count_by (λ y. y == z) zs) (eq-eqb z z refl) ∙ omega arith in
     let one : f z ≡ g z + cond (q z) 1 0 = more (q z) (count_by (λ y. y == z) (z ∷ zs)) (count_by (λ y. y == z) zs) here in
     let other : (x : ℕ) → x ≢ z → f x ≡ g x =
     λ x ne. ap (chosen (q x)) (step x ∙ ap (λ (b : Bool). cond b 1 0 + count_by (λ y. y == x) zs) (ne_eqb z x (λ e. ne (sym e))) ∙ omega arith) in
@@ -114,8 +125,10 @@ count_below n q = total n (λ x. cond (q x) 1 0)
 all_below : (n : ℕ) (xs : List ℕ) → ((x : ℕ) → n ≤ x → count_by (λ y. y == x) xs ≡ 0) → All (λ x. x < n) xs
 all_below n [] none = All-nil (λ x. x < n)
 all_below n (z ∷ zs) none =
-    let step : (x : ℕ) → count_by (λ y. y == x) (z ∷ zs) ≡ cond (z == x) 1 0 + count_by (λ y. y == x) zs = λ x. sum_by-cons (λ y. cond (y == x) 1 0) z zs in
-    let here : count_by (λ y. y == z) (z ∷ zs) ≡ 1 + count_by (λ y. y == z) zs = step z ∙ ap (λ (b : Bool). cond b 1 0 + count_by (λ y. y == z) zs) (eq-eqb z z refl) in
+    let step : (x : ℕ) → count_by (λ y. y == x) (z ∷ zs) ≡ cond (z == x) 1 0 + count_by (λ y. y == x) zs =
+    λ x. sum_by-cons (λ y. cond (y == x) 1 0) z zs in
+    let here : count_by (λ y. y == z) (z ∷ zs) ≡ 1 + count_by (λ y. y == z) zs =
+    step z ∙ ap (λ (b : Bool). cond b 1 0 + count_by (λ y. y == z) zs) (eq-eqb z z refl) in
     let low : z < n = ⊎_elim (λ (l : z < n). l) (λ (g : n ≤ z). absurd (let h = none z g in omega arith)) (cases_lt z n) in
     All-cons (λ x. x < n) z zs low (all_below n zs (λ x g. let h = none x g in omega (arith, step x)))
 
@@ -125,7 +138,8 @@ count_flat q [] = refl
 count_flat q (r ∷ rs) = omega (arith, count_flat q rs, sum_by-cons (λ r. count_by q r) r rs, sum_by-append (λ x. cond (q x) 1 0) r (flat_map (λ r. r) rs))
 
 -- in lawful rows, as many numbers pass a test as among all numbers below n
-rows_count : (n : ℕ) (rows : List (List ℕ)) (q : ℕ → Bool) → ((x : ℕ) → times_in x rows ≡ (if nat_lt x n then 1 else 0)) → sum_by (λ r. count_by q r) rows ≡ count_below n q
+rows_count : (n : ℕ) (rows : List (List ℕ)) (q : ℕ → Bool) → ((x : ℕ) → times_in x rows ≡ (if nat_lt x n then 1 else 0)) →
+    sum_by (λ r. count_by q r) rows ≡ count_below n q
 unfolding count_below chosen
 rows_count n rows q once =
     let flat : List ℕ = flat_map (λ r. r) rows in
@@ -158,7 +172,8 @@ below_true zero = refl
 below_true (suc n) = let a = below_true n in omega arith
 
 -- if as many were got as there are, nothing is left
-pub nothing_left : {X : Type 0} (n : ℕ) (f : ℕ → X) (rows : List (List ℕ)) (got rest : List (ℕ × X)) → AreShared n f rows (got ++ rest) → length got ≡ n → rest ≡ []
+pub nothing_left : {X : Type 0} (n : ℕ) (f : ℕ → X) (rows : List (List ℕ)) (got rest : List (ℕ × X)) →
+    AreShared n f rows (got ++ rest) → length got ≡ n → rest ≡ []
 nothing_left {X} n f rows got rest s whole =
     let all : List (ℕ × X) = got ++ rest in
     let a : count_by (λ (x : X). true) (map (λ (t : ℕ × X). t.1) all) ≡ count_below n (λ x. true) = got_all_once (λ (x : X). true) n f rows all s in

@@ -89,7 +89,8 @@ slice_get-jobs_from f (suc g) h k n (entries ∷ jobs) e file number is =
     ∙ slice_get-jobs_from (suc f) g h k m jobs e (omega arith) refl is
 
 -- line k of file f comes after the jobs of the files before f
-pub slice_get-job_list : (jobs : List (List Entry)) (f k n : ℕ) (e : Entry) → n ≡ job_count (take f jobs) + k → slice_get (entries_of jobs f) k ≡ Some e
+pub slice_get-job_list : (jobs : List (List Entry)) (f k n : ℕ) (e : Entry) → n ≡ job_count (take f jobs) + k →
+    slice_get (entries_of jobs f) k ≡ Some e
     → slice_get (job_list jobs) n ≡ Some (line_job f k e)
 slice_get-job_list jobs f k n e number is = slice_get-jobs_from 0 f f k n jobs e (omega arith) number is
 
@@ -181,8 +182,10 @@ job_count-jobs_to question (file ∷ files) =
     )
 
 -- the lines of one file more are no more than those of all files
-pub counted_low : (question : Question) (files : List NamedBytes) (jobs : List (List Entry)) (starts : List ℕ) (total i : ℕ) (file : NamedBytes) (row : List Entry)
-    → AreCountedUpto question (take i files) jobs starts total → i < length files → file ≡ get_or files i file → row ≡ entries_to question file.bytes
+pub counted_low : (question : Question) (files : List NamedBytes) (jobs : List (List Entry)) (starts : List ℕ) (total i : ℕ) (file : NamedBytes)
+    (row : List Entry)
+    → AreCountedUpto question (take i files) jobs starts total → i < length files → file ≡ get_or files i file →
+    row ≡ entries_to question file.bytes
     → total + length row ≤ lines_in_all files
 counted_low question files jobs starts total i file row counted low is read =
     let all : lines_in_all (take i files) + lines_in (get_or files i file) ≤ lines_in_all files = sum_by_more_le lines_in files i file low in
@@ -191,8 +194,10 @@ counted_low question files jobs starts total i file row counted low is read =
     omega (arith, counted.all, ap length read, length-entries_to question file.bytes, all, here, so_far)
 
 -- one file more is read
-pub counted_more : (question : Question) (files : List NamedBytes) (jobs : List (List Entry)) (starts : List ℕ) (total i lines : ℕ) (file : NamedBytes) (row : List Entry)
-    → AreCountedUpto question (take i files) jobs starts total → i < length files → file ≡ get_or files i file → row ≡ entries_to question file.bytes
+pub counted_more : (question : Question) (files : List NamedBytes) (jobs : List (List Entry)) (starts : List ℕ) (total i lines : ℕ)
+    (file : NamedBytes) (row : List Entry)
+    → AreCountedUpto question (take i files) jobs starts total → i < length files → file ≡ get_or files i file →
+    row ≡ entries_to question file.bytes
     → lines ≡ length row → AreCountedUpto question (take (i + 1) files) (jobs ++ row ∷ []) (starts ++ total ∷ []) (total + lines)
 counted_more question files jobs starts total i lines file row counted low is read many =
     let more : take (i + 1) files ≡ take i files ++ file ∷ [] = take_more files i file low ∙ ap (λ x. take i files ++ x ∷ []) (sym is) in
@@ -203,7 +208,8 @@ counted_more question files jobs starts total i lines file row counted low is re
           ∙ ap (λ r. jobs_to question (take i files) ++ r ∷ []) read
           ∙ sym (map-append (λ (f : NamedBytes). entries_to question f.bytes) (take i files) (file ∷ []))
           ∙ ap (jobs_to question) (sym more);
-      all = let pushed : job_count (jobs ++ row ∷ []) ≡ job_count jobs + length row = sum_by_push length jobs row in omega (arith, counted.all, pushed, many);
+      all = let pushed : job_count (jobs ++ row ∷ []) ≡ job_count jobs + length row = sum_by_push length jobs row in
+          omega (arith, counted.all, pushed, many);
       as_many = omega (arith, as_many, length-append starts (total ∷ []), length-append jobs (row ∷ []));
       before = λ f f_low.
           ⊎_elim

@@ -107,10 +107,12 @@ lines_of-open byte (another ∷ line) whole =
     lines_of-byte byte (another ∷ line) (All-head IsNoFeed byte (another ∷ line) whole)
     ∙ ap (λ lines. onto_first byte lines) (lines_of-open another line (All-tail IsNoFeed byte (another ∷ line) whole))
 
-lines_of-feeds : (pieces : List (List ℕ)) (rest : List ℕ) → All HasNoLineFeed pieces → lines_of (with_line_feeds pieces ++ rest) ≡ pieces ++ lines_of rest
+lines_of-feeds : (pieces : List (List ℕ)) (rest : List ℕ) → All HasNoLineFeed pieces →
+    lines_of (with_line_feeds pieces ++ rest) ≡ pieces ++ lines_of rest
 lines_of-feeds [] rest whole = refl
 lines_of-feeds (piece ∷ pieces) rest whole =
-    ap lines_of (append_assoc (piece ++ line_feed ∷ []) (with_line_feeds pieces) rest ∙ append_assoc piece (line_feed ∷ []) (with_line_feeds pieces ++ rest))
+    ap lines_of (append_assoc (piece ++ line_feed ∷ []) (with_line_feeds pieces) rest
+    ∙ append_assoc piece (line_feed ∷ []) (with_line_feeds pieces ++ rest))
     ∙ lines_of-ended piece (with_line_feeds pieces ++ rest) (All-head HasNoLineFeed piece pieces whole)
     ∙ ap (λ lines. piece ∷ lines) (lines_of-feeds pieces rest (All-tail HasNoLineFeed piece pieces whole))
 

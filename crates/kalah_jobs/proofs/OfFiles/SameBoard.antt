@@ -20,7 +20,8 @@ same_board_means p q p_limits q_limits h =
     let a = and_parts (x_key && x_seeds) ((p.own_store == q.own_store) && (p.other_store == q.other_store)) h in
     let b = and_parts x_key x_seeds a.0 in
     let c = and_parts (p.own_store == q.own_store) (p.other_store == q.other_store) a.1 in
-    let rows : rows_of p ≡ rows_of q = same_key (rows_of p) (rows_of q) (rows_within p p_limits) (rows_within q q_limits) (eqb-true (key_of (rows_of p)) (key_of (rows_of q)) b.0) in
+    let rows : rows_of p ≡ rows_of q = same_key (rows_of p) (rows_of q) (rows_within p p_limits) (rows_within q q_limits)
+    (eqb-true (key_of (rows_of p)) (key_of (rows_of q)) b.0) in
     let own_store : p.own_store ≡ q.own_store = eqb-true p.own_store q.own_store c.0 in
     let other_store : p.other_store ≡ q.other_store = eqb-true p.other_store q.other_store c.1 in
     λ i. record { own = (rows i).own; own_store = own_store i; other = (rows i).other; other_store = other_store i; rule = (rows i).rule }

@@ -19,7 +19,8 @@ unfolding lines_of
 lines_of-byte byte bytes not = grind arith
 
 -- the first line ends at the first line feed
-pub lines_of-first : (bytes : List ℕ) (i : ℕ) → i < length bytes → get_or bytes i 0 ≡ line_feed → ((k : ℕ) → k < i → get_or bytes k 0 ≢ line_feed)
+pub lines_of-first : (bytes : List ℕ) (i : ℕ) → i < length bytes → get_or bytes i 0 ≡ line_feed →
+    ((k : ℕ) → k < i → get_or bytes k 0 ≢ line_feed)
     → lines_of bytes ≡ take i bytes ∷ lines_of (drop (suc i) bytes)
 lines_of-first [] i low is before = absurd (omega arith)
 lines_of-first (byte ∷ bytes) zero low is before = lines_of-feed byte bytes is
@@ -70,4 +71,9 @@ pub length-lines_of : (front : List ℕ) (last : ℕ) → length (lines_of (fron
 unfolding lines_of
 length-lines_of [] last = grind arith
 length-lines_of (byte ∷ front) last =
-    grind (arith, length-lines_of front last, length-onto_first-same byte (lines_of (front ++ last ∷ [])), sum_by-cons (λ (b : ℕ). if b == line_feed then 1 else 0) byte front)
+    grind (
+      arith,
+      length-lines_of front last,
+      length-onto_first-same byte (lines_of (front ++ last ∷ [])),
+      sum_by-cons (λ (b : ℕ). if b == line_feed then 1 else 0) byte front,
+    )

@@ -5,7 +5,7 @@ use Rattle.std.specs.Borrow.{Bor}
 use Rattle.std.proofs.lemmas.List.{take-replicate, length_push}
 use Rattle.std.proofs.Math.Seq.{take-append-add}
 use Rattle.kalah_rules.specs.Cells.{padded}
-use Rattle.kalah_jobs.specs.Line.Row.{IsPadded}
+use Rattle.kalah_jobs.specs.Line.HouseNumbers.{IsPadded}
 use Rattle.kalah_jobs.specs.Line.Line.{comma}
 use Rattle.kalah_jobs.specs.Line.Reading.{◌>>=◌, parts_at, number_read, numbers_read}
 
@@ -43,7 +43,8 @@ number_has_bytes : (text : List ℕ) (n : ℕ) → number_read text ≡ Some n �
 number_has_bytes [] n e = absurd cc
 number_has_bytes (byte ∷ text) n e = omega arith
 
-put_after : (row : List ℕ) (n : ℕ) (r : Option (List ℕ)) → option_map (λ more. row ++ more) (r >>= λ more. Some (n ∷ more)) ≡ option_map (λ more. (row ++ n ∷ []) ++ more) r
+put_after : (row : List ℕ) (n : ℕ) (r : Option (List ℕ)) →
+    option_map (λ more. row ++ more) (r >>= λ more. Some (n ∷ more)) ≡ option_map (λ more. (row ++ n ∷ []) ++ more) r
 put_after row n None = refl
 put_after row n (Some more) = ap (λ (xs : List ℕ). Some xs) (sym (append_assoc row (n ∷ []) more))
 
@@ -55,7 +56,8 @@ pub record IsCut (left number : List ℕ) (after : Option (Bor (List ℕ))) : Ty
 module _ (text row : List ℕ) (rest : Option (Bor (List ℕ))) (left : Bor (List ℕ)) (number : List ℕ) (after : Option (Bor (List ℕ)))
     (so_far : IsReading text row rest) (is : rest ≡ Some left) (cut : IsCut left.now number after) where
   -- what is read of the rest
-  read_of_rest : option_map (λ more. row ++ more) (number_read number >>= λ n. numbers_read (parts_left after) >>= λ more. Some (n ∷ more)) ≡ numbers_read (parts_at comma text)
+  read_of_rest : option_map (λ more. row ++ more) (number_read number >>= λ n. numbers_read (parts_left after) >>= λ more. Some (n ∷ more))
+      ≡ numbers_read (parts_at comma text)
   read_of_rest = ap (λ parts. option_map (λ more. row ++ more) (numbers_read parts)) (sym (ap parts_left is ∙ cut.parts)) ∙ so_far.read
 
   pub is_shorter : bytes_left after < bytes_left rest
@@ -65,7 +67,8 @@ module _ (text row : List ℕ) (rest : Option (Bor (List ℕ))) (left : Bor (Lis
   has_room n some = omega (arith, so_far.room, ap bytes_left is, cut.lengths, number_has_bytes number n some)
 
   pub stops : number_read number ≡ None → numbers_read (parts_at comma text) ≡ None
-  stops none = sym read_of_rest ∙ ap (λ r. option_map (λ more. row ++ more) (r >>= λ n. numbers_read (parts_left after) >>= λ more. Some (n ∷ more))) none
+  stops none = sym read_of_rest ∙ ap (λ r. option_map (λ more. row ++ more)
+      (r >>= λ n. numbers_read (parts_left after) >>= λ more. Some (n ∷ more))) none
 
   pub goes_on : (n : ℕ) → number_read number ≡ Some n → IsReading text (row ++ n ∷ []) after
   goes_on n some = record {
@@ -75,6 +78,7 @@ module _ (text row : List ℕ) (rest : Option (Bor (List ℕ))) (left : Bor (Lis
         ∙ read_of_rest;
   }
 
-pub ends : (text row : List ℕ) (rest : Option (Bor (List ℕ))) → IsReading text row rest → rest ≡ None → numbers_read (parts_at comma text) ≡ Some row
+pub ends : (text row : List ℕ) (rest : Option (Bor (List ℕ))) → IsReading text row rest → rest ≡ None →
+    numbers_read (parts_at comma text) ≡ Some row
 ends text row rest so_far is =
     sym so_far.read ∙ ap (λ r. option_map (λ more. row ++ more) (numbers_read (parts_left r))) is ∙ ap (λ (xs : List ℕ). Some xs) (append-nil row)

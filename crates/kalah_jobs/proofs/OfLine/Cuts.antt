@@ -33,11 +33,13 @@ text_of_one byte text only e = sym (join_with_byte-slice_split byte text) ∙ ap
 pub text_of_two : (byte : ℕ) (text first second : List ℕ) → parts_at byte text ≡ first ∷ second ∷ [] → text ≡ first ++ byte ∷ second
 text_of_two byte text first second e = sym (join_with_byte-slice_split byte text) ∙ ap (join_with_byte byte) e
 
-pub text_of_three : (byte : ℕ) (text first second third : List ℕ) → parts_at byte text ≡ first ∷ second ∷ third ∷ [] → text ≡ first ++ byte ∷ (second ++ byte ∷ third)
+pub text_of_three : (byte : ℕ) (text first second third : List ℕ) → parts_at byte text ≡ first ∷ second ∷ third ∷ [] →
+    text ≡ first ++ byte ∷ (second ++ byte ∷ third)
 text_of_three byte text first second third e = sym (join_with_byte-slice_split byte text) ∙ ap (join_with_byte byte) e
 
 -- one more byte that is another
-pub lacks_more : (byte : ℕ) (text : List ℕ) (i : ℕ) → i < length text → get_or text i 0 ≢ byte → Lacks byte (take i text) → Lacks byte (take (i + 1) text)
+pub lacks_more : (byte : ℕ) (text : List ℕ) (i : ℕ) → i < length text → get_or text i 0 ≢ byte → Lacks byte (take i text) →
+    Lacks byte (take (i + 1) text)
 lacks_more byte text i lt other lacks =
     rw (take_more text i 0 lt)
     (All-append (λ b. (b == byte) ≡ false) (take i text) (get_or text i 0 ∷ []) lacks

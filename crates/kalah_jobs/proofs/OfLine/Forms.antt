@@ -24,14 +24,16 @@ rule_of_ending EmptyCapture = refl
 parts_of_line : (own other : List ℕ) (rule : Rule) → Lacks space own → Lacks space other →
     parts_at space (own ++ space ∷ other ++ ending_of rule) ≡ own ∷ other ∷ ending_parts rule
 parts_of_line own other Classic own_lacks other_lacks =
-    ap (parts_at space) (append-nil (own ++ space ∷ other)) ∙ parts_of_more space own other own_lacks ∙ ap (λ (more : List (List ℕ)). own ∷ more) (parts_of_one space other other_lacks)
+    ap (parts_at space) (append-nil (own ++ space ∷ other)) ∙ parts_of_more space own other own_lacks
+    ∙ ap (λ (more : List (List ℕ)). own ∷ more) (parts_of_one space other other_lacks)
 parts_of_line own other EmptyCapture own_lacks other_lacks =
     ap (parts_at space) (append_assoc own (space ∷ other) (ending_of EmptyCapture))
     ∙ parts_of_more space own (other ++ ending_of EmptyCapture) own_lacks
     ∙ ap (λ (more : List (List ℕ)). own ∷ more) (parts_of_more space other (codes "e") other_lacks)
 
 -- the parts after the sides, if they name a rule, are its ending
-line_of_parts : (text own other : List ℕ) (ending : List (List ℕ)) (rule : Rule) → rule_of ending ≡ Some rule → parts_at space text ≡ own ∷ other ∷ ending →
+line_of_parts : (text own other : List ℕ) (ending : List (List ℕ)) (rule : Rule) → rule_of ending ≡ Some rule →
+    parts_at space text ≡ own ∷ other ∷ ending →
     text ≡ own ++ space ∷ other ++ ending_of rule
 line_of_parts text own other [] rule e parts =
     let is : Classic ≡ rule = cc in

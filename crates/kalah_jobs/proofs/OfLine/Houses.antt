@@ -20,12 +20,14 @@ some_is x y e = cc
 -- ---- houses
 
 -- a house before others
-are_more : (text first rest : List ℕ) (n : ℕ) (more : List ℕ) → text ≡ first ++ comma ∷ rest → IsNumber first n → AreHouses rest more → AreHouses text (n ∷ more)
+are_more : (text first rest : List ℕ) (n : ℕ) (more : List ℕ) → text ≡ first ++ comma ∷ rest → IsNumber first n →
+    AreHouses rest more → AreHouses text (n ∷ more)
 are_more text first rest n [] parts number others = absurd others
 are_more text first rest n (m ∷ more) parts number others = (first, (rest, (parts, number, others)))
 
 -- numbers that are read from pieces are the houses of the pieces with commas between them
-pieces_are_houses : (pieces : List (List ℕ)) (houses : List ℕ) → 0 < length pieces → numbers_read pieces ≡ Some houses → AreHouses (join_with_byte comma pieces) houses
+pieces_are_houses : (pieces : List (List ℕ)) (houses : List ℕ) → 0 < length pieces → numbers_read pieces ≡ Some houses →
+    AreHouses (join_with_byte comma pieces) houses
 pieces_are_houses [] houses some e = absurd (omega arith)
 pieces_are_houses (piece ∷ []) houses some e =
     let read = bind_some (number_read piece) (λ n. numbers_read [] >>= λ more. Some (n ∷ more)) houses e in
@@ -47,7 +49,8 @@ pub houses_are_read : (text houses : List ℕ) → AreHouses text houses → num
 houses_are_read text [] h = absurd h
 houses_are_read text (n ∷ []) h = rw (parts_of_one comma text (number_lacks comma text n (lit< tt) h), number_is_read text n h) refl
 houses_are_read text (n ∷ m ∷ houses) h =
-    let cut : parts_at comma text ≡ h.0 ∷ parts_at comma h.1.0 = ap (parts_at comma) h.1.1.0 ∙ parts_of_more comma h.0 h.1.0 (number_lacks comma h.0 n (lit< tt) h.1.1.1) in
+    let cut : parts_at comma text ≡ h.0 ∷ parts_at comma h.1.0 =
+    ap (parts_at comma) h.1.1.0 ∙ parts_of_more comma h.0 h.1.0 (number_lacks comma h.0 n (lit< tt) h.1.1.1) in
     let others = houses_are_read h.1.0 (m ∷ houses) h.1.1.2 in
     rw (cut, number_is_read h.0 n h.1.1.1, others) refl
 
@@ -59,13 +62,15 @@ houses_lack byte text (n ∷ m ∷ houses) low other h =
     let rest = houses_lack byte h.1.0 (m ∷ houses) low other h.1.1.2 in
     let front = number_lacks byte h.0 n low h.1.1.1 in
     subst (Lacks byte) (sym h.1.1.0)
-    (All-append (λ b. (b == byte) ≡ false) h.0 (comma ∷ h.1.0) front (All-cons (λ b. (b == byte) ≡ false) comma h.1.0 (ne_eqb comma byte (λ e. other (sym e))) rest))
+    (All-append (λ b. (b == byte) ≡ false) h.0 (comma ∷ h.1.0) front
+    (All-cons (λ b. (b == byte) ≡ false) comma h.1.0 (ne_eqb comma byte (λ e. other (sym e))) rest))
 
 -- ---- sides
 
 -- a side that is read was cut in two
 side_from_two : (parts : List (List ℕ)) (side : List ℕ × ℕ) → side_from parts ≡ Some side →
-    (houses : List ℕ) × ((store : List ℕ) × ((parts ≡ houses ∷ store ∷ []) × (numbers_read (parts_at comma houses) ≡ Some side.0) × (number_read store ≡ Some side.1)))
+    (houses : List ℕ) × ((store : List ℕ)
+    × ((parts ≡ houses ∷ store ∷ []) × (numbers_read (parts_at comma houses) ≡ Some side.0) × (number_read store ≡ Some side.1)))
 side_from_two [] side e = absurd cc
 side_from_two (a ∷ []) side e = absurd cc
 side_from_two (a ∷ b ∷ []) side e =
@@ -90,13 +95,15 @@ pub side_is_read : (text houses : List ℕ) (store : ℕ) → IsSide text houses
 side_is_read text houses store side =
     let front = parts_of_more slash side.houses_text side.store_text (houses_lack slash side.houses_text houses (lit< tt) (λ e. cc) side.houses_written) in
     let back = parts_of_one slash side.store_text (number_lacks slash side.store_text store (lit< tt) side.store_written) in
-    let two : parts_at slash text ≡ side.houses_text ∷ side.store_text ∷ [] = ap (parts_at slash) side.parts ∙ front ∙ ap (λ (more : List (List ℕ)). side.houses_text ∷ more) back in
+    let two : parts_at slash text ≡ side.houses_text ∷ side.store_text ∷ [] =
+    ap (parts_at slash) side.parts ∙ front ∙ ap (λ (more : List (List ℕ)). side.houses_text ∷ more) back in
     let number = number_is_read side.store_text store side.store_written in
     let row = houses_are_read side.houses_text houses side.houses_written in
     rw (two, number, row) refl
 
 -- no other byte below the digits stands in a side
-pub side_lacks : (byte : ℕ) (text houses : List ℕ) (store : ℕ) → byte < 48 → byte ≢ comma → byte ≢ slash → IsSide text houses store → Lacks byte text
+pub side_lacks : (byte : ℕ) (text houses : List ℕ) (store : ℕ) → byte < 48 → byte ≢ comma → byte ≢ slash →
+    IsSide text houses store → Lacks byte text
 side_lacks byte text houses store low no_comma no_slash side =
     let front = houses_lack byte side.houses_text houses low no_comma side.houses_written in
     let back = number_lacks byte side.store_text store low side.store_written in
@@ -110,9 +117,11 @@ houses_are_some text [] h = absurd h
 houses_are_some text (n ∷ houses) h = omega arith
 
 -- what follows the first slash and is no number makes no side
-pub no_store_no_side : (text houses store : List ℕ) → parts_at slash text ≡ houses ∷ parts_at slash store → number_read store ≡ None → side_of text ≡ None
+pub no_store_no_side : (text houses store : List ℕ) → parts_at slash text ≡ houses ∷ parts_at slash store → number_read store ≡ None →
+    side_of text ≡ None
 no_store_no_side text houses store cut none = ap side_from cut ∙ by_parts (parts_at slash store) refl where
   by_parts : (parts : List (List ℕ)) → parts_at slash store ≡ parts → side_from (houses ∷ parts) ≡ None
   by_parts [] e = refl
-  by_parts (only ∷ []) e = ap (λ r. r >>= λ n. numbers_read (parts_at comma houses) >>= λ row. Some (row, n)) (ap number_read (sym (text_of_one slash store only e)) ∙ none)
+  by_parts (only ∷ []) e = ap (λ r. r >>= λ n. numbers_read (parts_at comma houses) >>= λ row. Some (row, n))
+      (ap number_read (sym (text_of_one slash store only e)) ∙ none)
   by_parts (first ∷ second ∷ more) e = refl

@@ -32,7 +32,8 @@ number_ends_without_cr byte (tens ∷ ones ∷ []) n h = rw (ne_eqb ones 13 (λ 
 number_ends_without_cr byte (a ∷ b ∷ c ∷ rest) n h = absurd h
 
 -- a longer ending names no rule
-parts_name_no_rule : (text : List ℕ) (parts : List (List ℕ)) → 2 ≤ length text → parts_at space text ≡ parts → 0 < length parts → rule_of parts ≡ None
+parts_name_no_rule : (text : List ℕ) (parts : List (List ℕ)) → 2 ≤ length text → parts_at space text ≡ parts → 0 < length parts →
+    rule_of parts ≡ None
 parts_name_no_rule text [] long e some = absurd (omega arith)
 parts_name_no_rule text ([] ∷ more) long e some = refl
 parts_name_no_rule text ((byte ∷ []) ∷ []) long e some = absurd (omega (arith, ap length (text_of_one space text (byte ∷ []) e)))

@@ -50,7 +50,8 @@ pub number_is_read : (text : List ℕ) (n : ℕ) → IsNumber text n → number_
 number_is_read [] n h = absurd h
 number_is_read (ones ∷ []) n h = cond-true _ _ _ (passes_as_digit ones h.0) ∙ ap (λ (m : ℕ). Some m) (sym h.1)
 number_is_read (tens ∷ ones ∷ []) n h =
-    cond-true _ _ _ (both_true (both_true (passes_as_digit tens h.0) (passes_as_not_zero tens h.1)) (passes_as_digit ones h.2)) ∙ ap (λ (m : ℕ). Some m) (sym h.3)
+    cond-true _ _ _ (both_true (both_true (passes_as_digit tens h.0) (passes_as_not_zero tens h.1)) (passes_as_digit ones h.2))
+    ∙ ap (λ (m : ℕ). Some m) (sym h.3)
 number_is_read (a ∷ b ∷ c ∷ rest) n h = absurd h
 
 -- ---- the text of a number
@@ -82,7 +83,8 @@ decimal_is_number n low = elim (cases_lt n 10) [
   | inl lt ↦ rw (decimal_digit n lt) ((omega arith, omega arith), omega arith)
   | inr le ↦
       let high : n / 10 < 10 = omega arith in
-      rw (decimal_step n le (omega arith), decimal_digit (n / 10) high) ((omega arith, omega arith), (λ z. omega arith), (omega arith, omega arith), omega arith)
+      rw (decimal_step n le (omega arith), decimal_digit (n / 10) high)
+      ((omega arith, omega arith), (λ z. omega arith), (omega arith, omega arith), omega arith)
 ]
 
 -- ---- the bytes of a number

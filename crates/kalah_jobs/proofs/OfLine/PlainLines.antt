@@ -56,12 +56,19 @@ rule_of_end : (rule : Rule) (text own other front : List ℕ) → text ≡ own +
 rule_of_end EmptyCapture text own other front parts digit ends = refl
 rule_of_end Classic text own other front parts digit ends =
     let last : 101 ≡ last_or space other =
-    sym (last_or-append 0 front 32 (101 ∷ [])) ∙ ap (last_or 0) (sym ends ∙ parts ∙ append-nil (own ++ space ∷ other)) ∙ last_or-append 0 own space other in
+    sym (last_or-append 0 front 32 (101 ∷ [])) ∙ ap (last_or 0) (sym ends ∙ parts ∙ append-nil (own ++ space ∷ other))
+    ∙ last_or-append 0 own space other in
     absurd (omega (arith, last, digit))
 
-pub ending_names_rule : (line : List ℕ) (p : Position) → Reads line p → ((p.rule ≡ EmptyCapture) ↔ ((front : List ℕ) × (without_cr line ≡ front ++ codes " e")))
+pub ending_names_rule : (line : List ℕ) (p : Position) → Reads line p →
+    ((p.rule ≡ EmptyCapture) ↔ ((front : List ℕ) × (without_cr line ≡ front ++ codes " e")))
 ending_names_rule line p reads =
     let form = reads.form in (
-      λ is. (form.own_text ++ space ∷ form.other_text, form.parts ∙ ap (λ (rule : Rule). form.own_text ++ space ∷ form.other_text ++ ending_of rule) is),
-      λ ends. rule_of_end p.rule (without_cr line) form.own_text form.other_text ends.0 form.parts (side_ends_in_digit space form.other_text p.other p.other_store form.other_side) ends.1,
+      λ is. (
+        form.own_text ++ space ∷ form.other_text,
+        form.parts
+            ∙ ap (λ (rule : Rule). form.own_text ++ space ∷ form.other_text ++ ending_of rule) is,
+      ),
+      λ ends. rule_of_end p.rule (without_cr line) form.own_text form.other_text ends.0 form.parts
+          (side_ends_in_digit space form.other_text p.other p.other_store form.other_side) ends.1,
     )

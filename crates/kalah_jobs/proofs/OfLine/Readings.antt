@@ -117,7 +117,8 @@ abbrev IsReadOrFaulty : List ℕ → Type 0
 IsReadOrFaulty line = ((p : Position) × Reads line p) ⊎ ((fault : LineFault) × HasFault line fault)
 
 -- a line of the right form
-with_form : (line : List ℕ) (p : Position) → length (without_cr line) ≤ most_bytes → without_cr line ≢ [] → IsLineOf (without_cr line) p → IsReadOrFaulty line
+with_form : (line : List ℕ) (p : Position) → length (without_cr line) ≤ most_bytes → without_cr line ≢ [] →
+    IsLineOf (without_cr line) p → IsReadOrFaulty line
 with_form line p few some form =
     let text : List ℕ = without_cr line in
     let not_long : ¬ Holds Long text = λ long. omega (arith, few, long) in
@@ -126,11 +127,25 @@ with_form line p few some form =
       | inl sides ↦ elim (cases_lt most_seeds (seeds_in_houses p)) [
         | inl many ↦
             let fit : ¬ Holds Houses text = λ h. h.1.1 (subst HasSidesInLimits (one_position text p h.0 form h.1.0) sides) in
-            inr (Seeds, record { holds = (p, (form, many)); first = no_fault_before text 5 (omega arith) (λ _. not_long) (λ _. some) (λ _. not_shape) (λ _. fit) })
+            inr (
+              Seeds,
+              record {
+                holds = (p, (form, many));
+                first =
+                    no_fault_before text 5 (omega arith) (λ _. not_long) (λ _. some) (λ _. not_shape) (λ _. fit);
+              },
+            )
         | inr few_seeds ↦ inl (p, record { few_bytes = few; form = form; sides = sides; few_seeds = few_seeds })
       ]
       | inr none ↦
-          inr (Houses, record { holds = (p, (form, none)); first = no_fault_before text 4 (omega arith) (λ _. not_long) (λ _. some) (λ _. not_shape) (λ lt. absurd (omega (arith, lt))) })
+          inr (
+            Houses,
+            record {
+              holds = (p, (form, none));
+              first =
+                  no_fault_before text 4 (omega arith) (λ _. not_long) (λ _. some) (λ _. not_shape) (λ lt. absurd (omega (arith, lt)));
+            },
+          )
     ]
 
 -- a line of few bytes, and of some

@@ -26,7 +26,8 @@ houses_text text (n ∷ m ∷ houses) h =
 
 is_side_text : (text houses : List ℕ) (store : ℕ) → IsSide text houses store → text ≡ side_text houses store
 is_side_text text houses store side =
-    side.parts ∙ ap₂ (λ (a b : List ℕ). a ++ slash ∷ b) (houses_text side.houses_text houses side.houses_written) (number_text side.store_text store side.store_written)
+    side.parts ∙ ap₂ (λ (a b : List ℕ). a ++ slash ∷ b) (houses_text side.houses_text houses side.houses_written)
+    (number_text side.store_text store side.store_written)
 
 pub is_line_text : (text : List ℕ) (p : Position) → IsLineOf text p → text ≡ line_text_of p
 unfolding line_text_of
@@ -40,10 +41,13 @@ text_if_ok line (Ok p) e = is_line_text (without_cr line) p (reading_reads line 
 text_if_ok line (Err fault) e = tt
 
 -- stores that are written have at most two digits
-pub stores_if_ok : (line : List ℕ) (r : Result Position LineFault) → r ≡ reading_of line → IfOk r (λ p. (p.own_store ≤ most_in_store) × (p.other_store ≤ most_in_store))
+pub stores_if_ok : (line : List ℕ) (r : Result Position LineFault) → r ≡ reading_of line →
+    IfOk r (λ p. (p.own_store ≤ most_in_store) × (p.other_store ≤ most_in_store))
 stores_if_ok line (Ok p) e =
-    let form = (reading_reads line p (sym e)).form in
-    (number_low form.own_side.store_text p.own_store form.own_side.store_written, number_low form.other_side.store_text p.other_store form.other_side.store_written)
+    let form = (reading_reads line p (sym e)).form in (
+      number_low form.own_side.store_text p.own_store form.own_side.store_written,
+      number_low form.other_side.store_text p.other_store form.other_side.store_written,
+    )
 stores_if_ok line (Err fault) e = tt
 
 -- ---- the text of a position writes it
@@ -81,7 +85,8 @@ text_is_line p limits own_low other_low = record {
   other_text = side_text p.other p.other_store;
   parts = refl;
   own_side = text_is_side p.own p.own_store limits.some_house (short_from_sum p.own (omega (arith, limits.few_seeds))) own_low;
-  other_side = text_is_side p.other p.other_store (omega (arith, limits.some_house, limits.same_side)) (short_from_sum p.other (omega (arith, limits.few_seeds))) other_low;
+  other_side = text_is_side p.other p.other_store (omega (arith, limits.some_house, limits.same_side))
+      (short_from_sum p.other (omega (arith, limits.few_seeds))) other_low;
 }
 
 -- ---- how long a text is
@@ -114,7 +119,8 @@ text_has_few_bytes p limits own_low other_low =
     omega (
       arith,
       side_text_length p.own p.own_store limits.at_most_six (short_from_sum p.own (omega (arith, limits.few_seeds))) own_low,
-      side_text_length p.other p.other_store (omega (arith, limits.at_most_six, limits.same_side)) (short_from_sum p.other (omega (arith, limits.few_seeds))) other_low,
+      side_text_length p.other p.other_store (omega (arith, limits.at_most_six, limits.same_side))
+          (short_from_sum p.other (omega (arith, limits.few_seeds))) other_low,
       ending_length p.rule,
       length-append (own ++ space ∷ other) (ending_of p.rule),
       length-append own (space ∷ other),

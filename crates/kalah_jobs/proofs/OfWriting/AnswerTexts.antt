@@ -8,7 +8,7 @@ use Rattle.std.proofs.lemmas.List.Elements.{All-cons, All-append, All-head, All-
 use Rattle.kalah_rules.specs.Limits.{most_houses}
 use Rattle.kalah_rules.specs.Position as position
 use Rattle.kalah_rules.specs.Position.{IsSmallMargin}
-use Rattle.kalah_solve.specs.declared.move_values.MoveValue.{MoveValue}
+use Rattle.kalah_solve.specs.declared.solver.move_values.MoveValue.{MoveValue}
 use Rattle.kalah_jobs.specs.declared.writing.answer.Answer.{Answer}
 use Rattle.kalah_jobs.specs.declared.writing.answer.Answer.TheVariants.{Best, Over, Values, Steps, Fault}
 use Rattle.kalah_jobs.specs.declared.line.line_fault.LineFault.{LineFault}
@@ -30,7 +30,8 @@ IsSmallValue v = IsSmallMargin v.value × (v.house ≤ most_houses)
 value_parts : (v : MoveValue) → IsSmallValue v → parts_at colon (value_words v) ≡ decimal v.house ∷ signed_decimal v.value ∷ []
 value_parts v small =
     parts_of_more colon (decimal v.house) (signed_decimal v.value) (decimal_lacks colon (no_digit colon colon_is_other) v.house (omega (arith, small.1)))
-    ∙ ap (λ (parts : List (List ℕ)). decimal v.house ∷ parts) (parts_of_one colon (signed_decimal v.value) (signed_lacks colon colon_is_other v.value small.0))
+    ∙ ap (λ (parts : List (List ℕ)). decimal v.house ∷ parts)
+    (parts_of_one colon (signed_decimal v.value) (signed_lacks colon colon_is_other v.value small.0))
 
 value_tells : (v w : MoveValue) → IsSmallValue v → IsSmallValue w → value_words v ≡ value_words w → v ≡ w
 value_tells v w small also e =
@@ -43,8 +44,10 @@ value_tells v w small also e =
 
 value_lacks : (v : MoveValue) → IsSmallValue v → Lacks space (value_words v)
 value_lacks v small =
-    All-append (λ x. (x == space) ≡ false) (decimal v.house) (colon ∷ signed_decimal v.value) (decimal_lacks space (no_digit space space_is_other) v.house (omega (arith, small.1)))
-    (All-cons (λ x. (x == space) ≡ false) colon (signed_decimal v.value) (ne_eqb colon space (λ e. omega (arith, e))) (signed_lacks space space_is_other v.value small.0))
+    All-append (λ x. (x == space) ≡ false) (decimal v.house) (colon ∷ signed_decimal v.value)
+    (decimal_lacks space (no_digit space space_is_other) v.house (omega (arith, small.1)))
+    (All-cons (λ x. (x == space) ≡ false) colon (signed_decimal v.value) (ne_eqb colon space (λ e. omega (arith, e)))
+    (signed_lacks space space_is_other v.value small.0))
 
 -- a text without a colon is none
 no_value : (text : List ℕ) → parts_at colon text ≡ text ∷ [] → (v : MoveValue) → IsSmallValue v → text ≡ value_words v → ⊥
@@ -79,7 +82,8 @@ values_parts (v ∷ w ∷ vs) small =
     ∙ ap (λ (parts : List (List ℕ)). value_words v ∷ parts) (values_parts (w ∷ vs) (All-tail IsSmallValue v (w ∷ vs) small))
 
 -- they do not begin with a text without a colon
-no_values : (first : List ℕ) (rest : List (List ℕ)) → parts_at colon first ≡ first ∷ [] → 0 < length first → (vs : List MoveValue) → All IsSmallValue vs →
+no_values : (first : List ℕ) (rest : List (List ℕ)) → parts_at colon first ≡ first ∷ [] → 0 < length first → (vs : List MoveValue) →
+    All IsSmallValue vs →
     first ∷ rest ≡ parts_of_values vs → ⊥
 no_values first rest one some [] small e =
     let none : first ≡ [] = cc e in
@@ -152,7 +156,8 @@ answer_parts (Fault fault) one small = fault_parts fault
 no_colon : (margin : ℤ) → IsSmallMargin margin → parts_at colon (signed_decimal margin) ≡ signed_decimal margin ∷ []
 no_colon margin small = parts_of_one colon (signed_decimal margin) (signed_lacks colon colon_is_other margin small)
 
-no_answer_but_values : (a : Answer) → IsOfOneLine a → HasSmallNumbers a → (vs : List MoveValue) → All IsSmallValue vs → parts_of_answer a ≡ parts_of_values vs → a ≡ Values vs
+no_answer_but_values : (a : Answer) → IsOfOneLine a → HasSmallNumbers a → (vs : List MoveValue) → All IsSmallValue vs →
+    parts_of_answer a ≡ parts_of_values vs → a ≡ Values vs
 no_answer_but_values (Best margin house) one small vs also e =
     absurd (no_values (signed_decimal margin) (codes "house" ∷ decimal house ∷ []) (no_colon margin small.0) (some_signed margin small.0) vs also e)
 no_answer_but_values (Over margin) one small vs also e =
@@ -161,7 +166,8 @@ no_answer_but_values (Values values) one small vs also e = ap Values (parts_of_v
 no_answer_but_values (Steps p) one small vs also e = absurd one
 no_answer_but_values (Fault fault) one small vs also e = absurd (no_values (codes "fault") (word_of fault ∷ []) refl (omega arith) vs also e)
 
-answers_tell : (a b : Answer) → IsOfOneLine a → IsOfOneLine b → HasSmallNumbers a → HasSmallNumbers b → parts_of_answer a ≡ parts_of_answer b → a ≡ b
+answers_tell : (a b : Answer) → IsOfOneLine a → IsOfOneLine b → HasSmallNumbers a → HasSmallNumbers b →
+    parts_of_answer a ≡ parts_of_answer b → a ≡ b
 answers_tell a (Values values) one other small also e = no_answer_but_values a one small values also e
 answers_tell (Values values) b one other small also e = sym (no_answer_but_values b other also values small (sym e))
 answers_tell (Steps p) b one other small also e = absurd one
@@ -172,16 +178,20 @@ answers_tell (Best margin house) (Best margin' house') one other small also e =
 answers_tell (Best margin house) (Over margin') one other small also e = absurd (cc e)
 answers_tell (Best margin house) (Fault fault) one other small also e = absurd (cc e)
 answers_tell (Over margin) (Best margin' house') one other small also e = absurd (cc e)
-answers_tell (Over margin) (Over margin') one other small also e = ap Over (signed_tells margin margin' small also (let first : signed_decimal margin ≡ signed_decimal margin' = cc e in first))
+answers_tell (Over margin) (Over margin') one other small also e =
+    ap Over (signed_tells margin margin' small also (let first : signed_decimal margin ≡ signed_decimal margin' = cc e in first))
 answers_tell (Over margin) (Fault fault) one other small also e = absurd (over_is_no_word fault (let second : codes "over" ≡ word_of fault = cc e in second))
 answers_tell (Fault fault) (Best margin' house') one other small also e = absurd (cc e)
-answers_tell (Fault fault) (Over margin') one other small also e = absurd (over_is_no_word fault (let second : codes "over" ≡ word_of fault = cc (sym e) in second))
-answers_tell (Fault fault) (Fault fault') one other small also e = ap Fault (word_tells fault fault' (let second : word_of fault ≡ word_of fault' = cc e in second))
+answers_tell (Fault fault) (Over margin') one other small also e =
+    absurd (over_is_no_word fault (let second : codes "over" ≡ word_of fault = cc (sym e) in second))
+answers_tell (Fault fault) (Fault fault') one other small also e =
+    ap Fault (word_tells fault fault' (let second : word_of fault ≡ word_of fault' = cc e in second))
 
 -- ---- answers of one line, and steps
 
 -- the answer line of an answer of one line is the place, and then the answer
-pub one_line_parts : (name : List ℕ) (line : ℕ) (a : Answer) → IsOfOneLine a → answer_line name (record { line = line; answer = a }) ≡ place_words name line ++ answer_words a
+pub one_line_parts : (name : List ℕ) (line : ℕ) (a : Answer) → IsOfOneLine a →
+    answer_line name (record { line = line; answer = a }) ≡ place_words name line ++ answer_words a
 one_line_parts name line (Best margin house) one = refl
 one_line_parts name line (Over margin) one = refl
 one_line_parts name line (Values values) one = refl
@@ -209,12 +219,14 @@ words_have_no_slash Shape = refl
 words_have_no_slash Houses = refl
 words_have_no_slash Seeds = refl
 
-no_steps : (a : Answer) → IsOfOneLine a → HasSmallNumbers a → (start : StepsBegin) → start.first ∷ start.second ∷ start.rest ≡ parts_of_answer a → ⊥
+no_steps : (a : Answer) → IsOfOneLine a → HasSmallNumbers a → (start : StepsBegin) →
+    start.first ∷ start.second ∷ start.rest ≡ parts_of_answer a → ⊥
 no_steps (Best margin house) one small start e = no_letters start (codes "house") refl (let second : start.second ≡ codes "house" = cc e in second)
 no_steps (Over margin) one small start e = no_letters start (codes "over") refl (let second : start.second ≡ codes "over" = cc e in second)
 no_steps (Values values) one small start e = no_values start.first (start.second ∷ start.rest) start.no_colon start.some values small e
 no_steps (Steps p) one small start e = one
-no_steps (Fault fault) one small start e = no_letters start (word_of fault) (words_have_no_slash fault) (let second : start.second ≡ word_of fault = cc e in second)
+no_steps (Fault fault) one small start e =
+    no_letters start (word_of fault) (words_have_no_slash fault) (let second : start.second ≡ word_of fault = cc e in second)
 
 -- so the lines of steps are no line of another answer
 no_step_line : (name : List ℕ) (line : ℕ) (p : position.Position) (b : Answer) → IsOfOneLine b → HasSmallNumbers (Steps p) → HasSmallNumbers b →

@@ -4,8 +4,8 @@ use Rattle.std.specs.Prelude.{sum_by, count_by, Bool, true, false, if◌then◌e
 use Rattle.std.specs.List.{flat_map, enumerate_from}
 use Rattle.std.proofs.lemmas.List.Sums.{sum_by-cons, sum_by-append}
 use Rattle.kalah_rules.specs.Position.{is_over, final_margin}
-use Rattle.kalah_solve.specs.Worth.{worth, best_house}
-use Rattle.kalah_solve.specs.MoveValues.{values_of}
+use Rattle.kalah_solve.specs.Solver.Worth.{worth, best_house}
+use Rattle.kalah_solve.specs.Solver.MoveValues.{values_of}
 use Rattle.kalah_jobs.specs.declared.writing.answer.Taken.{Taken}
 use Rattle.kalah_jobs.specs.declared.writing.answer.Answer.{Answer}
 use Rattle.kalah_jobs.specs.declared.writing.answer.Answer.TheVariants as answer
@@ -32,7 +32,8 @@ lines_told : (question : Question) (text : ℕ → Taken → List ℕ) (n : ℕ)
     → flat_map (line_output question name) (enumerate_from k lines) ≡ flat_map (text_of_line text n) (enumerate_from k (map (entry_to question) lines))
 lines_told question text n name k [] under = refl
 lines_told question text n name k (line ∷ lines) under =
-    ap (λ bytes. bytes ++ flat_map (line_output question name) (enumerate_from (k + 1) lines)) (sym (under (record { line = k; answer = answer_of (entry_to question line) })))
+    ap (λ bytes. bytes ++ flat_map (line_output question name) (enumerate_from (k + 1) lines))
+    (sym (under (record { line = k; answer = answer_of (entry_to question line) })))
     ∙ ap (λ bytes. text n (record { line = k; answer = answer_of (entry_to question line) }) ++ bytes) (lines_told question text n name (k + 1) lines under)
 
 file_told : (question : Question) (text : ℕ → Taken → List ℕ) (n : ℕ) (file : NamedBytes) → IsUnder text n file.name
@@ -90,7 +91,8 @@ asked_fault Steps (ValuesOf p) =
 asked_fault Steps (StepsOf p) = refl
 asked_fault Steps (Bad fault) = refl
 
-faults_of_lines : (question : Question) (f k : ℕ) (lines : List (List ℕ)) → count_by is_faulty_job (file_jobs f k (map (entry_to question) lines)) ≡ count_by is_faulty lines
+faults_of_lines : (question : Question) (f k : ℕ) (lines : List (List ℕ)) →
+    count_by is_faulty_job (file_jobs f k (map (entry_to question) lines)) ≡ count_by is_faulty lines
 faults_of_lines question f k [] = refl
 faults_of_lines question f k (line ∷ lines) =
     sum_by-cons (one_if is_faulty_job) (line_job f k (entry_to question line)) (file_jobs f (suc k) (map (entry_to question) lines))
@@ -98,7 +100,8 @@ faults_of_lines question f k (line ∷ lines) =
     ∙ ap (λ m. one_if is_faulty line + m) (faults_of_lines question f (suc k) lines)
     ∙ sym (sum_by-cons (one_if is_faulty) line lines)
 
-faults_of_file : (question : Question) (f : ℕ) (bytes : List ℕ) → count_by is_faulty_job (file_jobs f 0 (entries_to question bytes)) ≡ count_by is_faulty (lines_of bytes)
+faults_of_file : (question : Question) (f : ℕ) (bytes : List ℕ) →
+    count_by is_faulty_job (file_jobs f 0 (entries_to question bytes)) ≡ count_by is_faulty (lines_of bytes)
 unfolding entries_to
 faults_of_file question f bytes = faults_of_lines question f 0 (lines_of bytes)
 

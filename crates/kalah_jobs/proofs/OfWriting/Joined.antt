@@ -8,7 +8,8 @@ module _ {A : Type 0} (byte : ℕ) (text_of : A → List ℕ) where
   joined_from items i = join_with_byte byte (map text_of (drop i items))
 
   -- the last text
-  pub last_joined : (items : List A) (i : ℕ) (item other : A) → get_or items i other ≡ item → length items ≡ i + 1 → text_of item ≡ joined_from items i
+  pub last_joined : (items : List A) (i : ℕ) (item other : A) → get_or items i other ≡ item → length items ≡ i + 1 →
+      text_of item ≡ joined_from items i
   last_joined [] i item other is many = absurd (omega arith)
   last_joined (x ∷ []) zero item other is many = ap text_of (sym is)
   last_joined (x ∷ y ∷ items) zero item other is many = absurd (omega arith)
@@ -23,7 +24,8 @@ module _ {A : Type 0} (byte : ℕ) (text_of : A → List ℕ) where
   joined_before (x ∷ items) (suc i) item other is within = joined_before items i item other is (omega arith)
 
   -- one text and the byte before what stands there
-  pub before_those : (items : List A) (i : ℕ) (item other : A) (old after : List ℕ) → get_or items (i - 1) other ≡ item → 0 < i → i < length items →
+  pub before_those : (items : List A) (i : ℕ) (item other : A) (old after : List ℕ) → get_or items (i - 1) other ≡ item → 0 < i →
+      i < length items →
       after ≡ text_of item ++ byte ∷ (joined_from items i ++ old) → after ≡ joined_from items (i - 1) ++ old
   before_those items i item other old after is low within e =
       let place : suc (i - 1) ≡ i = omega arith in

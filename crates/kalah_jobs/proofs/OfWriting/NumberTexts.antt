@@ -41,7 +41,8 @@ pub decimal_lacks : (byte : ℕ) → IsNoDigit byte → (n : ℕ) → n < 2 ^ 64
 decimal_lacks byte other n low =
     decimal_by_steps (λ m ds. Lacks byte ds)
     (λ m small. one_lacks byte (48 + m) (other (48 + m) (omega arith) (omega arith)))
-    (λ m ds high lacks. All-append (λ x. (x == byte) ≡ false) ds ((48 + m % 10) ∷ []) lacks (one_lacks byte (48 + m % 10) (other (48 + m % 10) (omega arith) (omega arith))))
+    (λ m ds high lacks. All-append (λ x. (x == byte) ≡ false) ds ((48 + m % 10) ∷ []) lacks
+    (one_lacks byte (48 + m % 10) (other (48 + m % 10) (omega arith) (omega arith))))
     n low
 
 -- a byte that is neither a digit nor a minus is no digit

@@ -83,7 +83,8 @@ length-cell n low =
     let short = length-decimal-le 3 n (omega arith) (omega arith) (omega arith) in
     let both : length (cell n) ≡ length (replicate (column_width - length (decimal n)) space) + length (decimal n) =
     length-append (replicate (column_width - length (decimal n)) space) (decimal n) in
-    let blanks : length (replicate (column_width - length (decimal n)) space) ≡ column_width - length (decimal n) = length-replicate (column_width - length (decimal n)) space in
+    let blanks : length (replicate (column_width - length (decimal n)) space) ≡ column_width - length (decimal n) =
+    length-replicate (column_width - length (decimal n)) space in
     omega (arith, short, both, blanks)
 
 -- n columns determine each of their numbers, and what stands behind them
@@ -160,7 +161,8 @@ lines_are_short p limits =
 -- ---- pictures of positions
 
 -- as many columns that are drawn alike hold the same
-line_tells : (f g : ℕ → ℕ) (m n : ℕ) → m ≡ n → ((c : ℕ) → 1 ≤ c → c < 1 + m → f c < 1000) → ((c : ℕ) → 1 ≤ c → c < 1 + n → g c < 1000) →
+line_tells : (f g : ℕ → ℕ) (m n : ℕ) → m ≡ n → ((c : ℕ) → 1 ≤ c → c < 1 + m → f c < 1000) →
+    ((c : ℕ) → 1 ≤ c → c < 1 + n → g c < 1000) →
     empty_columns 1 ++ columns f 1 m ≡ empty_columns 1 ++ columns g 1 n → (c : ℕ) → 1 ≤ c → c < 1 + m → f c ≡ g c
 line_tells f g m n same low also e =
     let rows = (split_same (empty_columns 1) (empty_columns 1) (columns f 1 m) (columns g 1 n) refl e).1 in
@@ -183,7 +185,8 @@ stores_tell p q p_limits q_limits same e =
     let q_own : q.own_store < 1000 = omega (arith, q_limits.own_store_low) in
     let p_other : p.other_store < 1000 = omega (arith, p_limits.other_store_low) in
     let q_other : q.other_store < 1000 = omega (arith, q_limits.other_store_low) in
-    let first = split_same (cell p.other_store) (cell q.other_store) (empty_columns (side_length p) ++ cell p.own_store) (empty_columns (side_length q) ++ cell q.own_store)
+    let first = split_same (cell p.other_store) (cell q.other_store) (empty_columns (side_length p) ++ cell p.own_store)
+    (empty_columns (side_length q) ++ cell q.own_store)
     (length-cell p.other_store p_other ∙ sym (length-cell q.other_store q_other)) e in
     let last = split_same (empty_columns (side_length p)) (empty_columns (side_length q)) (cell p.own_store) (cell q.own_store)
     (ap (λ m. length (empty_columns m)) same) first.1 in
@@ -196,16 +199,20 @@ pictures_tell p q p_limits q_limits rule e =
     let above = split_same (houses_line Other p) (houses_line Other q) (line_feed ∷ stores_line p ++ (line_feed ∷ houses_line Mover p ++ line_feed ∷ []))
     (line_feed ∷ stores_line q ++ (line_feed ∷ houses_line Mover q ++ line_feed ∷ []))
     (omega (arith, same, length-houses_line Other p p_limits, length-houses_line Other q q_limits)) e in
-    let rest : stores_line p ++ (line_feed ∷ houses_line Mover p ++ line_feed ∷ []) ≡ stores_line q ++ (line_feed ∷ houses_line Mover q ++ line_feed ∷ []) =
+    let rest : stores_line p ++ (line_feed ∷ houses_line Mover p ++ line_feed ∷ []) ≡ stores_line q
+    ++ (line_feed ∷ houses_line Mover q ++ line_feed ∷ []) =
     ap (drop 1) above.1 in
-    let between = split_same (stores_line p) (stores_line q) (line_feed ∷ houses_line Mover p ++ line_feed ∷ []) (line_feed ∷ houses_line Mover q ++ line_feed ∷ [])
+    let between = split_same (stores_line p) (stores_line q) (line_feed ∷ houses_line Mover p ++ line_feed ∷ [])
+    (line_feed ∷ houses_line Mover q ++ line_feed ∷ [])
     (omega (arith, same, length-stores_line p p_limits, length-stores_line q q_limits)) rest in
     let last : houses_line Mover p ++ line_feed ∷ [] ≡ houses_line Mover q ++ line_feed ∷ [] = ap (drop 1) between.1 in
     let below = split_same (houses_line Mover p) (houses_line Mover q) (line_feed ∷ []) (line_feed ∷ [])
     (omega (arith, same, length-houses_line Mover p p_limits, length-houses_line Mover q q_limits)) last in
     let stores = stores_tell p q p_limits q_limits same between.0 in
-    let own_at = line_tells (seeds_in Mover p) (seeds_in Mover q) (side_length p) (side_length q) same (seeds_low Mover p p_limits) (seeds_low Mover q q_limits) below.0 in
-    let other_at = line_tells (seeds_in Other p) (seeds_in Other q) (side_length p) (side_length q) same (seeds_low Other p p_limits) (seeds_low Other q q_limits) above.0 in
+    let own_at = line_tells (seeds_in Mover p) (seeds_in Mover q) (side_length p) (side_length q) same (seeds_low Mover p p_limits)
+    (seeds_low Mover q q_limits) below.0 in
+    let other_at = line_tells (seeds_in Other p) (seeds_in Other q) (side_length p) (side_length q) same (seeds_low Other p p_limits)
+    (seeds_low Other q q_limits) above.0 in
     let own : p.own ≡ q.own = row_same p.own q.own same own_at in
     let other : p.other ≡ q.other = row_same p.other q.other (omega (arith, same, p_limits.same_side, q_limits.same_side)) (λ i some within.
     let p_place : side_length p + 1 - (side_length p + 1 - i) ≡ i = omega (arith, within, p_limits.same_side) in

@@ -12,9 +12,9 @@ use Rattle.std.proofs.lemmas.Simd.{length-replicate}
 use Rattle.kalah_rules.specs.Limits.{most_houses}
 use Rattle.kalah_rules.specs.Position.{Position, IsSmallMargin, IsWithinLimits, final_margin, is_over, seeds, side_length}
 use Rattle.kalah_rules.specs.Play.{legal_houses}
-use Rattle.kalah_solve.specs.MoveValues.{move_value, values_of}
-use Rattle.kalah_solve.specs.declared.move_values.MoveValue.{MoveValue}
-use Rattle.kalah_solve.proofs.SmallMargins.{final_margin_small}
+use Rattle.kalah_solve.specs.Solver.MoveValues.{move_value, values_of}
+use Rattle.kalah_solve.specs.declared.solver.move_values.MoveValue.{MoveValue}
+use Rattle.kalah_solve.proofs.OfSolver.SmallMargins.{final_margin_small}
 use Rattle.kalah_jobs.specs.Files.Lines.{line_feed}
 use Rattle.kalah_jobs.specs.Line.Line.{space}
 use Rattle.kalah_jobs.specs.Line.Reading.{parts_at}
@@ -56,7 +56,8 @@ pub column_before : (behind : ℕ) (v : MoveValue) (vs : List MoveValue) (old ro
     → cell ≡ value_cell v.value ++ row → after ≡ empty_columns (v.house - behind) ++ cell → after ≡ value_columns behind (v ∷ vs) ++ old
 column_before behind v vs old row cell after is next e =
     let below = value_columns (v.house + 1) vs in
-    e ∙ ap (λ ws. empty_columns (v.house - behind) ++ ws) (next ∙ ap (λ ws. value_cell v.value ++ ws) is ∙ sym (append_assoc (value_cell v.value) below old))
+    e ∙ ap (λ ws. empty_columns (v.house - behind) ++ ws)
+    (next ∙ ap (λ ws. value_cell v.value ++ ws) is ∙ sym (append_assoc (value_cell v.value) below old))
     ∙ sym (append_assoc (empty_columns (v.house - behind)) (value_cell v.value ++ below) old)
 
 -- what is known of the value at place i, and of those behind it
@@ -131,7 +132,11 @@ pub line_is_short : (p : Position) → IsWithinLimits p → length (values_line 
 line_is_short p limits = go (is_over p)
   where
     go : (b : Bool) → length (if b then over_words (final_margin p) else value_columns 0 (values_of p)) ≤ 32
-    go true = omega (arith, value_length (final_margin p) (final_margin_small p limits), length-append (codes "over, margin ") (signed_decimal (final_margin p)))
+    go true = omega (
+      arith,
+      value_length (final_margin p) (final_margin_small p limits),
+      length-append (codes "over, margin ") (signed_decimal (final_margin p)),
+    )
     go false =
         let have = have_columns p limits in
         omega (arith, length-columns 0 (values_of p) (omega arith) (rise_from_none (values_of p) have.0) have.1)
@@ -159,7 +164,8 @@ value_is_there v small e =
     omega (arith, some_signed v small, ap length none)
 
 one_column_more : (n : ℕ) (text : List ℕ) → empty_columns (suc n) ++ text ≡ empty_columns 1 ++ (empty_columns n ++ text)
-one_column_more n text = ap (λ k. replicate k space ++ text) (let more : column_width * suc n ≡ suc (suc (suc (suc (column_width * n)))) = omega arith in more)
+one_column_more n text = ap (λ k. replicate k space ++ text)
+    (let more : column_width * suc n ≡ suc (suc (suc (suc (column_width * n)))) = omega arith in more)
 
 -- what two texts with a value behind empty columns share
 record SameColumn (a b : ℕ) (v w : ℤ) (r s : List ℕ) : Type 0 where
@@ -200,9 +206,11 @@ columns_tell behind (v ∷ vs) [] rise rising small also e = absurd (no_column b
 columns_tell behind (v ∷ vs) (w ∷ ws) rise rising small also e =
     let one = All-head IsSmallValue v vs small in
     let two = All-head IsSmallValue w ws also in
-    let same = same_column (v.house - behind) (w.house - behind) v.value w.value (value_columns (v.house + 1) vs) (value_columns (w.house + 1) ws) one.0 two.0 e in
+    let same = same_column (v.house - behind) (w.house - behind) v.value w.value (value_columns (v.house + 1) vs)
+    (value_columns (w.house + 1) ws) one.0 two.0 e in
     let house : v.house ≡ w.house = omega (arith, same.columns, rise.0, rising.0) in
-    let rest = columns_tell (v.house + 1) vs ws rise.1 (subst (λ h. Rise (h + 1) ws) (sym house) rising.1) (All-tail IsSmallValue v vs small) (All-tail IsSmallValue w ws also)
+    let rest = columns_tell (v.house + 1) vs ws rise.1 (subst (λ h. Rise (h + 1) ws) (sym house) rising.1) (All-tail IsSmallValue v vs small)
+    (All-tail IsSmallValue w ws also)
     (same.rest ∙ ap (λ h. value_columns (h + 1) ws) (sym house)) in
     let first : v ≡ w = ap₂ (λ (h : ℕ) (z : ℤ). let made : MoveValue = record { house = h; value = z } in made) house same.value in
     ap₂ (λ (x : MoveValue) (xs : List MoveValue). x ∷ xs) first rest
@@ -236,7 +244,8 @@ rest_of p = (stores_line p ++ (line_feed ∷ houses_line Mover p ++ line_feed �
 
 shown_begins : (p : Position) → shown_of p ≡ houses_line Other p ++ line_feed ∷ rest_of p
 unfolding shown_of picture_of
-shown_begins p = append_assoc (houses_line Other p) (line_feed ∷ stores_line p ++ (line_feed ∷ houses_line Mover p ++ line_feed ∷ [])) (values_line p ++ line_feed ∷ [])
+shown_begins p = append_assoc (houses_line Other p) (line_feed ∷ stores_line p ++ (line_feed ∷ houses_line Mover p ++ line_feed ∷ []))
+    (values_line p ++ line_feed ∷ [])
 
 first_part : (p : Position) → IsWithinLimits p → parts_at line_feed (shown_of p) ≡ houses_line Other p ∷ parts_at line_feed (rest_of p)
 first_part p limits = ap (parts_at line_feed) (shown_begins p) ∙ parts_of_more line_feed (houses_line Other p) (rest_of p) (first_line_lacks p limits)

@@ -7,10 +7,10 @@ use Rattle.kalah_rules.specs.Limits.{most_houses}
 use Rattle.kalah_rules.specs.Position as position
 use Rattle.kalah_rules.specs.Position.{IsWithinLimits, IsSmallMargin, is_over, final_margin}
 use Rattle.kalah_rules.specs.Play.{legal_houses}
-use Rattle.kalah_solve.specs.Worth.{worth, best_house, value_of_move}
-use Rattle.kalah_solve.specs.MoveValues.{move_value, values_of}
-use Rattle.kalah_solve.specs.declared.move_values.MoveValue.{MoveValue}
-use Rattle.kalah_solve.proofs.SmallMargins.{final_margin_small, worth_small, value_small, house_small, best_house_small}
+use Rattle.kalah_solve.specs.Solver.Worth.{worth, best_house, value_of_move}
+use Rattle.kalah_solve.specs.Solver.MoveValues.{move_value, values_of}
+use Rattle.kalah_solve.specs.declared.solver.move_values.MoveValue.{MoveValue}
+use Rattle.kalah_solve.proofs.OfSolver.SmallMargins.{final_margin_small, worth_small, value_small, house_small, best_house_small}
 use Rattle.kalah_jobs.specs.declared.writing.answer.Answer.{Answer}
 use Rattle.kalah_jobs.specs.declared.writing.answer.Answer.TheVariants as answer
 use Rattle.kalah_jobs.specs.declared.writing.answer.Answer.TheVariants.{Best, Over}
@@ -32,7 +32,8 @@ use Rattle.kalah_jobs.proofs.OfLine.Readings.{reading_reads}
 
 -- ---- boards
 
-small_by_case : (over : Bool) (a b : Answer) → (over ≡ true → HasSmallNumbers a) → (over ≡ false → HasSmallNumbers b) → HasSmallNumbers (if over then a else b)
+small_by_case : (over : Bool) (a b : Answer) → (over ≡ true → HasSmallNumbers a) → (over ≡ false → HasSmallNumbers b) →
+    HasSmallNumbers (if over then a else b)
 small_by_case true a b at_end going_on = at_end refl
 small_by_case false a b at_end going_on = going_on refl
 
@@ -82,7 +83,8 @@ reading_within : (line : List ℕ) (r : Result position.Position LineFault) → 
 reading_within line (Ok p) e = read_within line p (reading_reads line p (sym e))
 reading_within line (Err fault) e = tt
 
-small_reading : (question : Question) (r : Result position.Position LineFault) → IfOk r IsWithinLimits → HasSmallNumbers (answer_of (entry_asked question (entry_of_reading r)))
+small_reading : (question : Question) (r : Result position.Position LineFault) → IfOk r IsWithinLimits →
+    HasSmallNumbers (answer_of (entry_asked question (entry_of_reading r)))
 unfolding answer_of
 small_reading BestMove (Ok p) limits = small_best_move p limits
 small_reading Values (Ok p) limits = small_values p limits

@@ -22,7 +22,8 @@ counts lines faults = record { lines = lines; faults = faults }
 
 -- ---- files
 
-output_of_both : (question : Question) (first others : List NamedBytes) → output_to question (first ++ others) ≡ output_to question first ++ output_to question others
+output_of_both : (question : Question) (first others : List NamedBytes) →
+    output_to question (first ++ others) ≡ output_to question first ++ output_to question others
 unfolding output_to
 output_of_both question first others = flat_map-append (file_output question) first others
 
@@ -80,7 +81,8 @@ enumerate_from-append number [] more = ap (λ k. enumerate_from k more) (let e :
 enumerate_from-append number (line ∷ lines) more =
     ap (λ (rest : List (ℕ × List ℕ)). (number, line) ∷ rest)
     (enumerate_from-append (number + 1) lines more
-    ∙ ap (λ k. enumerate_from (number + 1) lines ++ enumerate_from k more) (let e : number + 1 + length lines ≡ number + suc (length lines) = omega arith in e))
+    ∙ ap (λ k. enumerate_from (number + 1) lines ++ enumerate_from k more)
+    (let e : number + 1 + length lines ≡ number + suc (length lines) = omega arith in e))
 
 output_split : (first second : List ℕ) → EndsWithItsLine first → (number : ℕ) (question : Question) (name : List ℕ) →
     output_from number question name (first ++ second)
@@ -88,7 +90,8 @@ output_split : (first second : List ℕ) → EndsWithItsLine first → (number :
 output_split first second ends number question name =
     ap (λ (lines : List (List ℕ)). flat_map (line_output question name) (enumerate_from number lines)) (lines_split first second ends)
     ∙ ap (flat_map (line_output question name)) (enumerate_from-append number (lines_of first) (lines_of second))
-    ∙ flat_map-append (line_output question name) (enumerate_from number (lines_of first)) (enumerate_from (number + length (lines_of first)) (lines_of second))
+    ∙ flat_map-append (line_output question name) (enumerate_from number (lines_of first))
+    (enumerate_from (number + length (lines_of first)) (lines_of second))
 
 whole_file : (question : Question) (file : NamedBytes) → output_to question (file ∷ []) ≡ output_from 0 question file.name file.bytes
 unfolding output_to

@@ -16,7 +16,8 @@ pub start_kept_all : (old new : Option (List ℕ)) (bs : List ℕ) → Keeps old
 start_kept_all old new bs kept = (0, Appends-kept old old new [] (Appends-nil old) kept)
 
 -- a first part of the bytes, and then a prefix of the rest
-pub start_then : (old between new : Option (List ℕ)) (bs done rest : List ℕ) → bs ≡ done ++ rest → Appends old between done → AppendsStart between new rest
+pub start_then : (old between new : Option (List ℕ)) (bs done rest : List ℕ) → bs ≡ done ++ rest → Appends old between done →
+    AppendsStart between new rest
     → AppendsStart old new bs
 start_then old between new bs done rest parts first start =
     let is : take (length done + start.0) bs ≡ done ++ take start.0 rest = ap (take (length done + start.0)) parts ∙ take-append-add done rest start.0 in

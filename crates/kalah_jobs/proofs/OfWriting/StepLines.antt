@@ -13,7 +13,8 @@ one_more one moves i house within is =
     ap (flat_map one) (take_more moves i 0 within ∙ ap (λ h. take i moves ++ h ∷ []) (sym is)) ∙ sym (flat_map_more one [] (take i moves) house)
 
 -- the first moves, and then the others
-pub first_moves : (one : ℕ → List ℕ) (moves others : List ℕ) (i : ℕ) → moves ≡ others → flat_map one (take i moves) ++ flat_map one (drop i moves) ≡ flat_map one others
+pub first_moves : (one : ℕ → List ℕ) (moves others : List ℕ) (i : ℕ) → moves ≡ others →
+    flat_map one (take i moves) ++ flat_map one (drop i moves) ≡ flat_map one others
 first_moves one moves others i same =
     sym (flat_map-append one (take i moves) (drop i moves)) ∙ ap (flat_map one) (take-append-drop i moves ∙ same)
 
@@ -36,7 +37,8 @@ module _ (place : List ℕ) (text : ℕ → List ℕ) where
   joined_lines moves = join_with_byte line_feed (map (λ t. place ++ t) (map text moves))
 
   -- where there are some, each with a line feed
-  pub lines_end : (moves : List ℕ) → 0 < length moves → joined_lines moves ++ line_feed ∷ [] ≡ flat_map (λ h. (place ++ text h) ++ line_feed ∷ []) moves
+  pub lines_end : (moves : List ℕ) → 0 < length moves →
+      joined_lines moves ++ line_feed ∷ [] ≡ flat_map (λ h. (place ++ text h) ++ line_feed ∷ []) moves
   lines_end [] some = absurd (omega (arith, some))
   lines_end (h ∷ []) some = sym (append-nil ((place ++ text h) ++ line_feed ∷ []))
   lines_end (h ∷ k ∷ moves) some =
@@ -58,4 +60,5 @@ module _ (place : List ℕ) (text : ℕ → List ℕ) where
   pub line_more : (moves : List ℕ) (i : ℕ) → i < length moves →
       joined_lines (take (i + 1) moves) ≡ joined_lines (take i moves) ++ (cond (i == 0) [] (line_feed ∷ []) ++ (place ++ text (get_or moves i 0)))
   line_more moves i within =
-      ap (λ n. joined_lines (take n moves)) (add-one i) ∙ one_line_more moves i within ∙ ap (λ l. joined_lines (take i moves) ++ (l ++ (place ++ text (get_or moves i 0)))) (before_by_test i)
+      ap (λ n. joined_lines (take n moves)) (add-one i) ∙ one_line_more moves i within
+      ∙ ap (λ l. joined_lines (take i moves) ++ (l ++ (place ++ text (get_or moves i 0)))) (before_by_test i)

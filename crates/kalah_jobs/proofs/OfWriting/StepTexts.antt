@@ -19,8 +19,8 @@ use Rattle.kalah_rules.specs.declared.step.HousesStep.TheVariants as houses
 use Rattle.kalah_rules.proofs.HousesSteps.{IsStepWithin, step_is, step_with, step_within, rows_within}
 use Rattle.kalah_rules.proofs.Legal.{legal_holds}
 use Rattle.kalah_rules.proofs.Rows.{same_position}
-use Rattle.kalah_solve.proofs.SmallMargins.{house_small}
-use Rattle.kalah_solve.proofs.Worths.{legal_some}
+use Rattle.kalah_solve.proofs.OfSolver.SmallMargins.{house_small}
+use Rattle.kalah_solve.proofs.OfSolver.Worths.{legal_some}
 use Rattle.kalah_jobs.specs.Files.Lines.{line_feed}
 use Rattle.kalah_jobs.specs.Line.Line.{comma, ending_of, line_text_of, position_after, side_text, slash, space, step_text_of, word_of_step}
 use Rattle.kalah_jobs.specs.Line.Reading.{parts_at}
@@ -63,7 +63,8 @@ feed_is_none = record { no_digit = λ b low high e. omega (arith, low, e); no_co
 short_lacks : (byte : ℕ) → IsNoDigit byte → (n : ℕ) → n ≤ 99 → Lacks byte (decimal n)
 short_lacks byte other n low = decimal_lacks byte other n (omega (arith, low))
 
-houses_lack : (byte : ℕ) → IsNoDigit byte → comma ≢ byte → (houses : List ℕ) → AllShort houses → Lacks byte (join_with_byte comma (map decimal houses))
+houses_lack : (byte : ℕ) → IsNoDigit byte → comma ≢ byte → (houses : List ℕ) → AllShort houses →
+    Lacks byte (join_with_byte comma (map decimal houses))
 houses_lack byte other no_comma [] short = All-nil (λ x. (x == byte) ≡ false)
 houses_lack byte other no_comma (n ∷ []) short = short_lacks byte other n short.0
 houses_lack byte other no_comma (n ∷ m ∷ houses) short =
@@ -89,13 +90,15 @@ slash_is_no_digit b low high e = omega (arith, low, e)
 comma_is_no_digit : IsNoDigit comma
 comma_is_no_digit b low high e = omega (arith, low, e)
 
-side_parts : (houses : List ℕ) (store : ℕ) → IsShortSide houses store → parts_at slash (side_text houses store) ≡ join_with_byte comma (map decimal houses) ∷ decimal store ∷ []
+side_parts : (houses : List ℕ) (store : ℕ) → IsShortSide houses store →
+    parts_at slash (side_text houses store) ≡ join_with_byte comma (map decimal houses) ∷ decimal store ∷ []
 side_parts houses store side =
     let row = join_with_byte comma (map decimal houses) in
     parts_of_more slash row (decimal store) (houses_lack slash slash_is_no_digit (λ e. omega (arith, e)) houses side.short)
     ∙ ap (λ (parts : List (List ℕ)). row ∷ parts) (parts_of_one slash (decimal store) (decimal_lacks slash slash_is_no_digit store side.low))
 
-houses_parts : (houses : List ℕ) → 1 ≤ length houses → AllShort houses → parts_at comma (join_with_byte comma (map decimal houses)) ≡ map decimal houses
+houses_parts : (houses : List ℕ) → 1 ≤ length houses → AllShort houses →
+    parts_at comma (join_with_byte comma (map decimal houses)) ≡ map decimal houses
 houses_parts [] some short = absurd (omega (arith, some))
 houses_parts (n ∷ []) some short = parts_of_one comma (decimal n) (short_lacks comma comma_is_no_digit n short.0)
 houses_parts (n ∷ m ∷ houses) some short =
@@ -109,7 +112,8 @@ numbers_tell (n ∷ ns) [] short also e = absurd (cc e)
 numbers_tell (n ∷ ns) (m ∷ ms) short also e =
     let here : decimal n ≡ decimal m = cc e in
     let rest : map decimal ns ≡ map decimal ms = cc e in
-    ap₂ (λ (x : ℕ) (xs : List ℕ). x ∷ xs) (decimal_injective n m (omega (arith, short.0)) (omega (arith, also.0)) here) (numbers_tell ns ms short.1 also.1 rest)
+    ap₂ (λ (x : ℕ) (xs : List ℕ). x ∷ xs) (decimal_injective n m (omega (arith, short.0)) (omega (arith, also.0)) here)
+    (numbers_tell ns ms short.1 also.1 rest)
 
 side_tells : (ns ms : List ℕ) (s t : ℕ) → IsShortSide ns s → IsShortSide ms t → side_text ns s ≡ side_text ms t → (ns ≡ ms) × (s ≡ t)
 side_tells ns ms s t one other e =
@@ -169,7 +173,8 @@ end_parts EmptyCapture word = codes "e" ∷ word ∷ []
 parts_of_end : (rule : Rule) (side : List ℕ) (s : Step) → Lacks space side →
     parts_at space (side ++ (ending_of rule ++ space ∷ word_of_step s)) ≡ side ∷ end_parts rule (word_of_step s)
 parts_of_end Classic side s lacks =
-    parts_of_more space side (word_of_step s) lacks ∙ ap (λ (parts : List (List ℕ)). side ∷ parts) (parts_of_one space (word_of_step s) (word_lacks_space s))
+    parts_of_more space side (word_of_step s) lacks
+    ∙ ap (λ (parts : List (List ℕ)). side ∷ parts) (parts_of_one space (word_of_step s) (word_lacks_space s))
 parts_of_end EmptyCapture side s lacks =
     parts_of_more space side (codes "e" ++ space ∷ word_of_step s) lacks
     ∙ ap (λ (parts : List (List ℕ)). side ∷ parts) (parts_of_more space (codes "e") (word_of_step s) (lacks_by_test space (codes "e") refl))
@@ -200,10 +205,12 @@ first_parts : (h : ℕ) (s : Step) (more : List ℕ) → IsToldStep h s →
 first_parts h s more told =
     let end = other_text s ++ (ending_of (position_after s).rule ++ space ∷ word_of_step s) in
     ap (λ l. parts_at space (l ++ more)) (step_is_parts h s)
-    ∙ ap (parts_at space) (append_assoc (decimal h) (space ∷ (own_text s ++ space ∷ end)) more ∙ ap (λ l. decimal h ++ space ∷ l) (append_assoc (own_text s) (space ∷ end) more))
+    ∙ ap (parts_at space) (append_assoc (decimal h) (space ∷ (own_text s ++ space ∷ end)) more
+    ∙ ap (λ l. decimal h ++ space ∷ l) (append_assoc (own_text s) (space ∷ end) more))
     ∙ parts_of_more space (decimal h) (own_text s ++ space ∷ (end ++ more)) (house_lacks space space_is_none.no_digit h told.0)
     ∙ ap (λ (parts : List (List ℕ)). decimal h ∷ parts)
-    (parts_of_more space (own_text s) (end ++ more) (side_lacks space space_is_none (position_after s).own (position_after s).own_store (own_side (position_after s) told.1)))
+    (parts_of_more space (own_text s) (end ++ more)
+    (side_lacks space space_is_none (position_after s).own (position_after s).own_store (own_side (position_after s) told.1)))
 
 step_parts : (h : ℕ) (s : Step) → IsToldStep h s →
     parts_at space (step_text_of h s) ≡ decimal h ∷ own_text s ∷ other_text s ∷ end_parts (position_after s).rule (word_of_step s)
@@ -282,7 +289,8 @@ module _ (place : List ℕ) where
       let first : t ≡ u = cc parts in
       omega (arith, ap length texts, ap length first, length-append u (line_feed ∷ rest))
 
-  placed_tell : (ts us : List (List ℕ)) → All (Lacks line_feed) ts → All (Lacks line_feed) us → 0 < length ts → 0 < length us → placed_texts ts ≡ placed_texts us → ts ≡ us
+  placed_tell : (ts us : List (List ℕ)) → All (Lacks line_feed) ts → All (Lacks line_feed) us → 0 < length ts → 0 < length us →
+      placed_texts ts ≡ placed_texts us → ts ≡ us
   placed_tell [] us lacks also some more e = absurd (omega (arith, some))
   placed_tell (t ∷ ts) [] lacks also some more e = absurd (omega (arith, more))
   placed_tell (t ∷ []) (u ∷ []) lacks also some more e = ap (λ (l : List ℕ). l ∷ []) (append_cancel_left place _ _ e)
@@ -291,9 +299,11 @@ module _ (place : List ℕ) where
   placed_tell (t ∷ s ∷ ts) (u ∷ []) lacks also some more e =
       absurd (one_is_not_more u t (placed_texts (s ∷ ts)) (All-head (Lacks line_feed) u [] also) (All-head (Lacks line_feed) t (s ∷ ts) lacks) (sym e))
   placed_tell (t ∷ s ∷ ts) (u ∷ v ∷ us) lacks also some more e =
-      let both = first_same t u (placed_texts (s ∷ ts)) (placed_texts (v ∷ us)) (All-head (Lacks line_feed) t (s ∷ ts) lacks) (All-head (Lacks line_feed) u (v ∷ us) also) e in
+      let both = first_same t u (placed_texts (s ∷ ts)) (placed_texts (v ∷ us)) (All-head (Lacks line_feed) t (s ∷ ts) lacks)
+      (All-head (Lacks line_feed) u (v ∷ us) also) e in
       ap₂ (λ (l : List ℕ) (ls : List (List ℕ)). l ∷ ls) both.0
-      (placed_tell (s ∷ ts) (v ∷ us) (All-tail (Lacks line_feed) t (s ∷ ts) lacks) (All-tail (Lacks line_feed) u (v ∷ us) also) (omega arith) (omega arith) both.1)
+      (placed_tell (s ∷ ts) (v ∷ us) (All-tail (Lacks line_feed) t (s ∷ ts) lacks) (All-tail (Lacks line_feed) u (v ∷ us) also) (omega arith)
+      (omega arith) both.1)
 
 -- ---- the steps of a position
 
@@ -308,7 +318,8 @@ told_step : (p : Position) (h : ℕ) → IsWithinLimits p → Contains (legal_ho
 told_step p h limits has =
     let holds = legal_holds (bare (rows_of p)) h has in (
       house_small p h limits has,
-      subst (λ s. IsWithinLimits (position_after s)) (step_is p h (rows_within p limits) holds) (within_after p (houses_step (rows_of p) h) (step_within p h limits holds)),
+      subst (λ s. IsWithinLimits (position_after s)) (step_is p h (rows_within p limits) holds)
+          (within_after p (houses_step (rows_of p) h) (step_within p h limits holds)),
     )
 
 told_steps : (p : Position) → IsWithinLimits p → All (λ h. IsToldStep h (step_of p h)) (legal_houses p)
@@ -329,7 +340,8 @@ texts_tell p q (h ∷ hs) [] told also e = absurd (cc e)
 texts_tell p q (h ∷ hs) (k ∷ ks) told also e =
     let here : step_text_of h (step_of p h) ≡ step_text_of k (step_of q k) = cc e in
     let rest : map (λ j. step_text_of j (step_of p j)) hs ≡ map (λ j. step_text_of j (step_of q j)) ks = cc e in
-    let one = step_tells h k (step_of p h) (step_of q k) (All-head (λ j. IsToldStep j (step_of p j)) h hs told) (All-head (λ j. IsToldStep j (step_of q j)) k ks also) here in
+    let one = step_tells h k (step_of p h) (step_of q k) (All-head (λ j. IsToldStep j (step_of p j)) h hs told)
+    (All-head (λ j. IsToldStep j (step_of q j)) k ks also) here in
     ap₂ (λ (x : ℕ × Step) (xs : List (ℕ × Step)). x ∷ xs) (ap₂ (λ (j : ℕ) (s : Step). let both : ℕ × Step = (j, s) in both) one.0 one.1)
     (texts_tell p q hs ks (All-tail (λ j. IsToldStep j (step_of p j)) h hs told) (All-tail (λ j. IsToldStep j (step_of q j)) k ks also) rest)
 
@@ -361,7 +373,8 @@ first_text : (place t : List ℕ) (ts : List (List ℕ)) → (more : List ℕ) �
 first_text place t [] = ([], ap (λ l. place ++ l) (sym (append-nil t)))
 first_text place t (u ∷ ts) = (line_feed ∷ placed_texts place (u ∷ ts), append_assoc place t (line_feed ∷ placed_texts place (u ∷ ts)))
 
-begins_with : (h : ℕ) (s : Step) (more : List ℕ) → IsToldStep h s → (start : StepsBegin) × (parts_at space (step_text_of h s ++ more) ≡ start.first ∷ start.second ∷ start.rest)
+begins_with : (h : ℕ) (s : Step) (more : List ℕ) → IsToldStep h s →
+    (start : StepsBegin) × (parts_at space (step_text_of h s ++ more) ≡ start.first ∷ start.second ∷ start.rest)
 begins_with h s more told =
     let p = position_after s in
     let start : StepsBegin = record {

@@ -22,7 +22,8 @@ pub record AreJobsInSomeOrder (jobs : List (List Entry)) (got : List Job) : Type
 -- If each job was drawn once and sent by the worker that drew it, and all jobs were received, each job was received once.
 abbrev pub SharesLaw : Type 0
 SharesLaw = (jobs : List (List Entry)) (rows : List (List ℕ)) (got rest : List (ℕ × Job))
-    → AreShared (length (job_list jobs)) (job jobs) rows (got ++ rest) → length got ≡ length (job_list jobs) → AreJobsInSomeOrder jobs (map (λ t. t.1) got)
+    → AreShared (length (job_list jobs)) (job jobs) rows (got ++ rest) → length got ≡ length (job_list jobs) →
+    AreJobsInSomeOrder jobs (map (λ t. t.1) got)
 
 -- If each job is offered once, in any order and with any takes between, each offer is accepted.
 abbrev pub OffersLaw : Type 0

@@ -17,5 +17,6 @@ pub record IsAnswered (jobs : List (List Entry)) (past : List Job) (f k : ℕ) (
 -- What came are the answers of the lines that were offered with their entry, and nothing else.
 pub record HoldsOffered (jobs : List (List Entry)) (past : List Job) (files : List FileState) : Type 0 where
   pub counts : HasLinesOf jobs files
-  pub came : (f k : ℕ) (e : Entry) → entry_at jobs f k ≡ Some e → Contains past (line_job f k e) → came_for (state_of files f) k ≡ Some (answer_of e)
+  pub came : (f k : ℕ) (e : Entry) → entry_at jobs f k ≡ Some e → Contains past (line_job f k e) →
+      came_for (state_of files f) k ≡ Some (answer_of e)
   pub only : (f k : ℕ) (a : Answer) → came_for (state_of files f) k ≡ Some a → IsAnswered jobs past f k a

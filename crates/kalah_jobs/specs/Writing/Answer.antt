@@ -5,9 +5,9 @@ use Rattle.std.specs.List.{join_with_byte}
 use Rattle.kalah_rules.specs.Play.{legal_houses, step_of}
 use Rattle.kalah_rules.specs.Position as position
 use Rattle.kalah_rules.specs.Position.{is_over, final_margin}
-use Rattle.kalah_solve.specs.Worth.{worth, best_house}
-use Rattle.kalah_solve.specs.MoveValues.{values_of}
-use Rattle.kalah_solve.specs.declared.move_values.MoveValue.{MoveValue}
+use Rattle.kalah_solve.specs.Solver.Worth.{worth, best_house}
+use Rattle.kalah_solve.specs.Solver.MoveValues.{values_of}
+use Rattle.kalah_solve.specs.declared.solver.move_values.MoveValue.{MoveValue}
 use Rattle.kalah_jobs.specs.Files.Lines.{line_feed}
 use Rattle.kalah_jobs.specs.Line.Line.{space, step_text_of}
 use Rattle.kalah_jobs.specs.Line.LineFault.{word_of}

@@ -2,8 +2,8 @@
 use Rattle.std.specs.Prelude.{◌≡◌, ℕ, ℤ, ◌+◌, ◌-◌, ◌≤◌, List, [], ◌∷◌, ◌++◌, if◌then◌else◌, codes, length, replicate, ⊤}
 use Rattle.std.specs.Fmt.{signed_decimal}
 use Rattle.kalah_rules.specs.Position.{Position, IsWithinLimits, final_margin, is_over}
-use Rattle.kalah_solve.specs.MoveValues.{values_of}
-use Rattle.kalah_solve.specs.declared.move_values.MoveValue.{MoveValue}
+use Rattle.kalah_solve.specs.Solver.MoveValues.{values_of}
+use Rattle.kalah_solve.specs.declared.solver.move_values.MoveValue.{MoveValue}
 use Rattle.kalah_jobs.specs.Files.Lines.{line_feed}
 use Rattle.kalah_jobs.specs.Line.Line.{space}
 use Rattle.kalah_jobs.specs.Writing.Picture.{column_width, empty_columns, picture_of}

@@ -102,7 +102,8 @@ impl Arrivals {
     // Returns the next line that is ready and was not taken.
     #[tactic(auto, using(crate::proofs::OfCollecting::Fronts::front_within, crate::proofs::OfCollecting::Fronts::front_came))]
     pub(crate) fn take(&mut self) -> Option<Taken>
-        ensures { MatchOption result (HasNoNext self.old × (self.new ≡ self.old)) (λ taken. IsNext self.old taken × (self.new ≡ with_one_taken self.old)) }
+        ensures { MatchOption result (HasNoNext self.old × (self.new ≡ self.old))
+            (λ taken. IsNext self.old taken × (self.new ≡ with_one_taken self.old)) }
     {
         if self.taken == self.ready {
             return None;

@@ -9,8 +9,8 @@ ghost use Rattle.kalah_jobs.specs.Line.Reading.{reading_of_text, reading_of};
 mod tests;
 
 use crate::limits::MOST_LINE_BYTES;
-use crate::line::form::Form;
 use crate::line::line_fault::LineFault;
+use crate::line::parsed_line::ParsedLine;
 use kalah_rules::{Board, MOST_HOUSES};
 
 // Returns the line without one CR at its end, if it has one.
@@ -33,7 +33,7 @@ fn read_text(text: &[u8]) -> Result<Board, LineFault>
     if text.is_empty() {
         return Err(LineFault::Empty);
     }
-    let Some(Form { own, other, rule }) = Form::read(text) else {
+    let Some(ParsedLine { own, other, rule }) = ParsedLine::read(text) else {
         return Err(LineFault::Shape);
     };
     let m = own.houses.len();

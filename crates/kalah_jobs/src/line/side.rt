@@ -1,14 +1,14 @@
 //! One side of a position line: its houses and its store.
 ghost use Rattle.std.specs.Prelude.{◌≡◌, ◌≤◌, length};
 
+use crate::line::house_numbers::HouseNumbers;
 use crate::line::number::read_number;
 use crate::line::parts::cut;
-use crate::line::row::Row;
 
 /// A side as it is written.
 #[derive(Drop)]
 pub(crate) struct Side {
-    pub(crate) houses: Row,
+    pub(crate) houses: HouseNumbers,
     pub(crate) store: u8,
     ghost some_house: { 1 ≤ length houses },
     ghost low_store: { store ≤ 99 },
@@ -26,7 +26,7 @@ impl Side {
     {
         let (houses, store) = cut(text, b'/');
         let store = read_number(store?)?;
-        let houses = Row::read(houses)?;
+        let houses = HouseNumbers::read(houses)?;
         Some(Side { houses, store })
     }
 }

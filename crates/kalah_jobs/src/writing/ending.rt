@@ -13,9 +13,9 @@ pub(crate) fn place_of(line: u32) -> StackText
     ensures short { length result ≤ 22 }
 {
     let mut place = StackText::new();
-    place.put(" ");
-    place.put_number(u64::from(line) + 1);
-    place.put(":");
+    place.prepend(" ");
+    place.prepend_number(u64::from(line) + 1);
+    place.prepend(":");
     place
 }
 
@@ -27,11 +27,11 @@ pub(crate) fn ending_of(taken: &Taken, end: &str) -> StackText
     ensures { result ≡ codes ":" ++ (decimal (taken.now.line + 1) ++ (codes " " ++ (answer_words taken.now.answer ++ end.now))) }
 {
     let mut ending = StackText::new();
-    ending.put(end);
-    put_words(&mut ending, &taken.answer);
-    ending.put(" ");
-    ending.put_number(u64::from(taken.line) + 1);
-    ending.put(":");
+    ending.prepend(end);
+    prepend_words(&mut ending, &taken.answer);
+    ending.prepend(" ");
+    ending.prepend_number(u64::from(taken.line) + 1);
+    ending.prepend(":");
     ending
 }
 
@@ -42,25 +42,25 @@ pub(crate) fn words_of(answer: &Answer, end: &str) -> StackText
     ensures { result ≡ answer_words answer.now ++ end.now }
 {
     let mut words = StackText::new();
-    words.put(end);
-    put_words(&mut words, answer);
+    words.prepend(end);
+    prepend_words(&mut words, answer);
     words
 }
 
 // Puts the value of a move, with its house before it, in front of the text.
 #[tactic(auto, using(crate::proofs::OfWriting::Lengths::byte_length))]
-fn put_value(text: &mut StackText, value: MoveValue)
+fn prepend_value(text: &mut StackText, value: MoveValue)
     requires { length text.old + 15 ≤ ROOM }
     ensures value { text.new ≡ value_words value ++ text.old }
     ensures short { length text.new ≤ length text.old + 15 }
 {
-    text.put_margin(i32::from(value.value));
-    text.put(":");
-    text.put_number(u64::from(value.house));
+    text.prepend_margin(i32::from(value.value));
+    text.prepend(":");
+    text.prepend_number(u64::from(value.house));
 }
 
 // Puts the values of the moves, with a space between any two, in front of the text.
-fn put_values(text: &mut StackText, values: &MoveValues)
+fn prepend_values(text: &mut StackText, values: &MoveValues)
     requires { length text.old + 96 ≤ ROOM }
     ensures values { text.new ≡ values_words values.now ++ text.old }
     ensures short { length text.new ≤ length text.old + 96 }
@@ -69,17 +69,17 @@ fn put_values(text: &mut StackText, values: &MoveValues)
         return;
     }
     let mut i = values.len() - 1;
-    put_value(text, values.get(i));
+    prepend_value(text, values.get(i));
     while i > 0 {
         i -= 1;
-        text.put(" ");
-        put_value(text, values.get(i));
+        text.prepend(" ");
+        prepend_value(text, values.get(i));
     }
 }
 
 // Puts the part of an answer line after the number of the line in front of the text.
 #[tactic(auto, using(crate::proofs::OfWriting::Lengths::byte_length, crate::proofs::OfWriting::Lengths::fault_length))]
-fn put_words(text: &mut StackText, answer: &Answer)
+fn prepend_words(text: &mut StackText, answer: &Answer)
     requires room { length text.old + 96 ≤ ROOM }
     requires one_line { IsOfOneLine answer.now }
     ensures words { text.new ≡ answer_words answer.now ++ text.old }
@@ -87,19 +87,19 @@ fn put_words(text: &mut StackText, answer: &Answer)
 {
     match *answer {
         Answer::Best { margin, house } => {
-            text.put_number(u64::from(house));
-            text.put(" house ");
-            text.put_margin(margin);
+            text.prepend_number(u64::from(house));
+            text.prepend(" house ");
+            text.prepend_margin(margin);
         }
         Answer::Over { margin } => {
-            text.put(" over");
-            text.put_margin(margin);
+            text.prepend(" over");
+            text.prepend_margin(margin);
         }
-        Answer::Values(values) => put_values(text, &values),
+        Answer::Values(values) => prepend_values(text, &values),
         Answer::Steps(_) => {}
         Answer::Fault(fault) => {
-            text.put(fault.word());
-            text.put("fault ");
+            text.prepend(fault.word());
+            text.prepend("fault ");
         }
     }
 }

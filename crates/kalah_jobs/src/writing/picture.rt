@@ -25,8 +25,8 @@ fn put_cell(text: &mut StackText, number: u8)
     ensures longer { length text.new ≡ 4 + length text.old }
 {
     let end = text.len() + COLUMN;
-    text.put_number(u64::from(number));
-    text.put_blanks(end - text.len());
+    text.prepend_number(u64::from(number));
+    text.prepend_blanks(end - text.len());
 }
 
 // Returns the house that a player has in a column.
@@ -44,7 +44,7 @@ fn house_in(player: Player, board: &Board, column: u8) -> u8
 }
 
 // Puts an empty column and a player's houses, a column each, in front of the text.
-fn put_houses(text: &mut StackText, board: &Board, player: Player)
+fn prepend_houses(text: &mut StackText, board: &Board, player: Player)
     requires { length text.old + 28 ≤ ROOM }
     ensures houses { text.new ≡ houses_line player board.now ++ text.old }
     ensures longer { length text.new ≡ 4 + 4 * side_length board.now + length text.old }
@@ -54,7 +54,7 @@ fn put_houses(text: &mut StackText, board: &Board, player: Player)
         put_cell(text, player.seeds(board, house_in(player, board, column)));
         column -= 1;
     }
-    text.put_blanks(COLUMN);
+    text.prepend_blanks(COLUMN);
 }
 
 // Returns the picture of a board.
@@ -64,14 +64,14 @@ fn picture(board: &Board) -> StackText
 {
     let m = usize::from(board.m());
     let mut text = StackText::new();
-    text.put("\n");
-    put_houses(&mut text, board, Player::Mover);
-    text.put("\n");
+    text.prepend("\n");
+    prepend_houses(&mut text, board, Player::Mover);
+    text.prepend("\n");
     put_cell(&mut text, board.own_store());
-    text.put_blanks(COLUMN * m);
+    text.prepend_blanks(COLUMN * m);
     put_cell(&mut text, board.other_store());
-    text.put("\n");
-    put_houses(&mut text, board, Player::Other);
+    text.prepend("\n");
+    prepend_houses(&mut text, board, Player::Other);
     text
 }
 

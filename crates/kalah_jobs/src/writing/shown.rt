@@ -3,7 +3,7 @@ ghost use Rattle.std.specs.Prelude.{◌≡◌, ◌↔◌, ◌≤◌, ◌+◌, �
 ghost use Rattle.std.specs.Io.KnownBytes.{Appends};
 ghost use Rattle.kalah_rules.specs.Limits.{most_houses};
 ghost use Rattle.kalah_rules.specs.Position.{IsSmallMargin};
-ghost use Rattle.kalah_solve.specs.MoveValues.{values_of};
+ghost use Rattle.kalah_solve.specs.Solver.MoveValues.{values_of};
 ghost use Rattle.kalah_jobs.specs.Files.Lines.{line_feed};
 ghost use Rattle.kalah_jobs.specs.Writing.Given.{AppendsStart};
 ghost use Rattle.kalah_jobs.specs.Writing.Shown.{Rise, ShownTellsValues, over_words, value_cell, value_columns, values_line};
@@ -29,8 +29,8 @@ fn put_value_cell(text: &mut StackText, value: MoveValue)
     ensures longer { length text.new ≡ 4 + length text.old }
 {
     let end = text.len() + COLUMN;
-    text.put_margin(i32::from(value.value));
-    text.put_blanks(end - text.len());
+    text.prepend_margin(i32::from(value.value));
+    text.prepend_blanks(end - text.len());
 }
 
 // Puts the values from place `i` on before what is there, each in the column of its house, where `behind` columns are filled already.
@@ -49,7 +49,7 @@ fn put_columns(text: &mut StackText, values: &MoveValues, i: u8, behind: u8)
     let value = values.get(i);
     put_columns(text, values, i + 1, value.house + 1);
     put_value_cell(text, value);
-    text.put_blanks(COLUMN * usize::from(value.house - behind));
+    text.prepend_blanks(COLUMN * usize::from(value.house - behind));
 }
 
 // The line below the picture of a board with these values.
@@ -58,10 +58,10 @@ fn line_below(board: &Board, values: &MoveValues) -> StackText
     ensures { result ≡ values_line board.now ++ line_feed ∷ [] }
 {
     let mut text = StackText::new();
-    text.put("\n");
+    text.prepend("\n");
     if board.is_over() {
-        text.put_margin(board.returns());
-        text.put("over, margin ");
+        text.prepend_margin(board.returns());
+        text.prepend("over, margin ");
     } else {
         put_columns(&mut text, values, 0, 0);
     }

@@ -69,7 +69,7 @@ impl StackText {
     }
 
     // Puts a piece before what is there.
-    pub(crate) fn put(&mut self, piece: &str)
+    pub(crate) fn prepend(&mut self, piece: &str)
         requires { length piece.now + length self.old ≤ ROOM }
         ensures piece { self.new ≡ piece.now ++ self.old }
         ensures longer { length self.new ≡ length piece.now + length self.old }
@@ -80,7 +80,7 @@ impl StackText {
     }
 
     // Puts `n` blanks in front of the text.
-    pub(crate) fn put_blanks(&mut self, n: usize)
+    pub(crate) fn prepend_blanks(&mut self, n: usize)
         requires { n + length self.old ≤ ROOM }
         ensures blanks { self.new ≡ replicate n space ++ self.old }
         ensures longer { length self.new ≡ n + length self.old }
@@ -91,7 +91,7 @@ impl StackText {
     }
 
     // Puts a number in digits in front of the text.
-    pub(crate) fn put_number(&mut self, n: u64)
+    pub(crate) fn prepend_number(&mut self, n: u64)
         requires { length (decimal n) + length self.old ≤ ROOM }
         ensures number { self.new ≡ decimal n ++ self.old }
         ensures longer { length self.new ≡ length (decimal n) + length self.old }
@@ -101,14 +101,14 @@ impl StackText {
 
     // Puts a margin in digits, with `-` before it if it is negative, in front of the text.
     #[tactic(auto, using(crate::proofs::OfWriting::Lengths::margin_length))]
-    pub(crate) fn put_margin(&mut self, margin: i32)
+    pub(crate) fn prepend_margin(&mut self, margin: i32)
         requires { length self.old + 11 ≤ ROOM }
         ensures margin { self.new ≡ signed_decimal margin ++ self.old }
         ensures short { length self.new ≤ length self.old + 11 }
     {
-        self.put_number(u64::from(margin.unsigned_abs()));
+        self.prepend_number(u64::from(margin.unsigned_abs()));
         if margin < 0 {
-            self.put("-");
+            self.prepend("-");
         }
     }
 }

@@ -7,7 +7,7 @@ ghost use Rattle.kalah_jobs.specs.Line.Line.{step_text_of};
 ghost use Rattle.kalah_jobs.specs.Writing.Answer.{steps_texts};
 ghost use Rattle.kalah_jobs.specs.Writing.Given.{AppendsStart};
 
-use crate::line::position_text::text_of_step;
+use crate::writing::position_text::text_of_step;
 use crate::writing::sink::Sink;
 use kalah_rules::{Board, Step};
 use std::alloc::AllocError;
@@ -30,7 +30,7 @@ fn write_step_line<W: Sink>(
         (((name.now ++ place.now) ++ step_text_of h step.now) ++ line_feed ∷ []) }
 {
     let mut text = text_of_step(h, step, "\n");
-    text.put(place);
+    text.prepend(place);
     out.write_all(name.as_bytes())?;
     out.write_all(text.bytes())
 }

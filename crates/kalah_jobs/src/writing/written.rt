@@ -22,7 +22,7 @@ fn write_one_line<W: Sink>(out: &mut W, name: &str, taken: &Taken) -> Result<(),
 {
     let mut line = ending_of(taken, "\n");
     if line.has_room(name.len()) {
-        line.put(name);
+        line.prepend(name);
         return out.write_all(line.bytes());
     }
     out.write_all(name.as_bytes())?;

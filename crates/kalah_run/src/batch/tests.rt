@@ -2,9 +2,9 @@ ghost use Rattle.std.specs.Prelude.{◌≡◌, ◌<◌, ◌≤◌, Some, false};
 
 mod gates;
 mod hostile;
+mod out_of_memory;
 mod told;
 mod values;
-mod want_of_memory;
 mod writers;
 
 use crate::{BatchSize, Gate, OpenGate, RunFault, Tally, answer_batch, solve_batch};

@@ -20,7 +20,7 @@ pub(crate) const QUEUE_CAPACITY: u32 = 64;
 // Makes a solver for one more worker. All share what they learn of endings.
 fn new_solver(alloc: Global, workers: &[Worker], size: BatchSize) -> Result<Solver, AllocError> {
     match workers.last() {
-        Some(worker) => worker.solver.beside(alloc, size.table),
+        Some(worker) => worker.solver.sharing_endings(alloc, size.table),
         None => Ok(Solver::new(Table::new(alloc, size.table)?)),
     }
 }

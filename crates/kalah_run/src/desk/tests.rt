@@ -2,7 +2,7 @@ ghost use Rattle.std.specs.Prelude.{◌≡◌, ◌≤◌, length, All, IfOk};
 ghost use Rattle.kalah_run.specs.Desk.States.{IsPassAt};
 
 use super::*;
-use crate::tests::want_of_memory::draw_by;
+use crate::tests::out_of_memory::draw_by;
 use std::process::Abort;
 use std::thread;
 use std::thread::Threads;

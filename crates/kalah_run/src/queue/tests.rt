@@ -3,7 +3,7 @@ ghost use Rattle.std.specs.Prelude.{◌≡◌, ◌<◌, ◌≤◌};
 mod flow;
 
 use self::flow::put_often;
-use crate::tests::want_of_memory::{put_two, two_outcomes};
+use crate::tests::out_of_memory::{put_two, two_outcomes};
 use crate::{GetPass, PutPass, ResultsQueue};
 use kalah_jobs::{Entry, LineFault, Outcome};
 use kalah_solve::{Solver, Table};

@@ -3,14 +3,14 @@ ghost use Rattle.std.specs.Prelude.{◌≡◌, ◌↔◌, ℕ, ◌+◌, ◌-◌,
 ghost use Rattle.kalah_rules.specs.Position.{is_over, bare, seeds_in_houses};
 ghost use Rattle.kalah_rules.specs.Play.{legal_houses};
 ghost use Rattle.kalah_rules.specs.HousesStep.{houses_step};
-ghost use Rattle.kalah_solve.specs.StepWorth.{GoesOn, GoesOnAt};
-ghost use Rattle.kalah_solve.specs.Taken.{taken, taken_by_step};
-ghost use Rattle.kalah_solve.specs.Tried.{IsSoftBound, TakesAtMost, EndsInStore, IsLook, AreWaiting};
+ghost use Rattle.kalah_solve.specs.Solver.StepWorth.{GoesOn, GoesOnAt};
+ghost use Rattle.kalah_solve.specs.Bounds.Won.{won, won_by_step};
+ghost use Rattle.kalah_solve.specs.Search.Tried.{IsSoftBound, WinsAtMost, EndsInStore, IsLook, AreWaiting};
 
 use crate::marks::{again_houses, other_houses, split_last};
-use crate::promise::promise;
-use crate::ranks::highest;
 use crate::search::Search;
+use crate::search::move_order::priority;
+use crate::search::ranks::highest;
 use kalah_rules::{Houses, HousesStep};
 use std::alloc::Allocator;
 
@@ -44,10 +44,10 @@ impl<A: Allocator + Clone> Search<A> {
     #[cycle(search)]
     fn bound(&mut self, houses: &Houses, bar: u8) -> u8
         requires going { is_over (bare houses.now) ≡ false }
-        ensures { IsSoftBound bar (taken houses.now) result }
+        ensures { IsSoftBound bar (won houses.now) result }
     {
-        if houses.seeds() <= self.most_at_the_end() {
-            return self.table.taken(houses);
+        if houses.seeds() <= self.max_ending_seeds() {
+            return self.table.won(houses);
         }
         let known = self.known(houses);
         if bar <= known.least {
@@ -67,7 +67,7 @@ impl<A: Allocator + Clone> Search<A> {
     #[cycle(search)]
     pub(super) fn explore(&mut self, houses: &Houses, bar: u8) -> u8
         requires going { is_over (bare houses.now) ≡ false }
-        ensures { IsSoftBound bar (taken houses.now) result }
+        ensures { IsSoftBound bar (won houses.now) result }
     {
         let _seeds = houses.seeds();
         let again = self.bound_again(houses, bar);
@@ -102,8 +102,9 @@ impl<A: Allocator + Clone> Search<A> {
     #[cycle(search)]
     fn bound_again(&mut self, houses: &Houses, bar: u8) -> u8
         requires going { is_over (bare houses.now) ≡ false }
-        ensures lower { bar ≤ result → result ≤ taken houses.now }
-        ensures upper { result < bar → (h : ℕ) → Contains (legal_houses (bare houses.now)) h → EndsInStore houses.now h → TakesAtMost houses.now result h }
+        ensures lower { bar ≤ result → result ≤ won houses.now }
+        ensures upper { result < bar → (h : ℕ) → Contains (legal_houses (bare houses.now)) h → EndsInStore houses.now h →
+            WinsAtMost houses.now result h }
     {
         let mut left = again_houses(houses);
         let mut most = 0;
@@ -164,12 +165,12 @@ impl<A: Allocator + Clone> Search<A> {
         let step = houses.play(h);
         match &step {
             HousesStep::Turn(gained, next)
-                if *gained < bar && next.seeds() > self.most_at_the_end() => {
+                if *gained < bar && next.seeds() > self.max_ending_seeds() => {
                 let turn = Played {
                     gained: *gained as u64,
                     next: *next,
                 };
-                Look::Waits(promise(h, *gained, next), turn)
+                Look::Waits(priority(h, *gained, next), turn)
             }
             _ => Look::Bounded(self.bound_step(&step, bar)),
         }
@@ -178,7 +179,7 @@ impl<A: Allocator + Clone> Search<A> {
     /// Returns whether house `h` takes at least `bar` seeds.
     pub fn move_reaches(&mut self, houses: &Houses, h: u8, bar: u8) -> bool
         requires legal { Contains (legal_houses (bare houses.now)) h }
-        ensures { IsTrue result ↔ bar ≤ taken_by_step (houses_step houses.now h) }
+        ensures { IsTrue result ↔ bar ≤ won_by_step (houses_step houses.now h) }
     {
         bar <= self.bound_move(houses, h, bar)
     }
@@ -187,7 +188,7 @@ impl<A: Allocator + Clone> Search<A> {
     #[cycle(search)]
     fn bound_move(&mut self, houses: &Houses, h: u8, bar: u8) -> u8
         requires legal { Contains (legal_houses (bare houses.now)) h }
-        ensures { IsSoftBound bar (taken_by_step (houses_step houses.now h)) result }
+        ensures { IsSoftBound bar (won_by_step (houses_step houses.now h)) result }
     {
         let _seeds = houses.seeds();
         let step = houses.play(h);
@@ -198,7 +199,7 @@ impl<A: Allocator + Clone> Search<A> {
     #[cycle(search)]
     fn bound_step(&mut self, step: &HousesStep, bar: u8) -> u8
         requires on { GoesOn step.now }
-        ensures { IsSoftBound bar (taken_by_step step.now) result }
+        ensures { IsSoftBound bar (won_by_step step.now) result }
     {
         match step {
             HousesStep::Over { own, .. } => *own,
@@ -217,7 +218,7 @@ impl<A: Allocator + Clone> Search<A> {
     #[cycle(search)]
     fn bound_turn(&mut self, gained: u8, next: &Houses, bar: u8) -> u8
         requires on { GoesOnAt gained next.now }
-        ensures { IsSoftBound bar (gained + (seeds_in_houses (bare next.now) - taken next.now)) result }
+        ensures { IsSoftBound bar (gained + (seeds_in_houses (bare next.now) - won next.now)) result }
     {
         let all = gained + next.seeds();
         if bar <= gained {

@@ -1,13 +1,13 @@
-mod beside;
 mod memory;
+mod sharing_endings;
 mod tables;
 mod values;
 
 use super::*;
+use crate::bounds::interval::Interval;
 use crate::key::{pack, unpack};
-use crate::plain;
 use crate::search::Search;
-use crate::table::Interval;
+use crate::tests::plain;
 use kalah_rules::{Houses, Rule};
 use std::alloc::{AllocError, Global};
 use std::process::Abort;

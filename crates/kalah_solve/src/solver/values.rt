@@ -2,12 +2,12 @@
 ghost use Rattle.std.specs.Prelude.{◌≡◌, Contains};
 ghost use Rattle.kalah_rules.specs.Position.{IsSmallMargin};
 ghost use Rattle.kalah_rules.specs.Play.{legal_houses};
-ghost use Rattle.kalah_solve.specs.Worth.{worth, value_of_move};
-ghost use Rattle.kalah_solve.specs.MoveValues.{move_value, values_of, TellMoves};
+ghost use Rattle.kalah_solve.specs.Solver.Worth.{worth, value_of_move};
+ghost use Rattle.kalah_solve.specs.Solver.MoveValues.{move_value, values_of, TellMoves};
 
 use super::Solver;
-use crate::move_values::{MoveValue, MoveValues};
-use crate::window::Window;
+use crate::bounds::window::Window;
+use crate::solver::move_values::{MoveValue, MoveValues};
 use kalah_rules::{Board, Step};
 use std::alloc::Allocator;
 

@@ -1,7 +1,7 @@
 ghost use Rattle.std.specs.Prelude.{◌≤◌};
 
 use super::*;
-use crate::granting::Granting;
+use crate::tests::granting::Granting;
 use std::process::Abort;
 
 // A table with one entry.
@@ -10,8 +10,8 @@ fn new_table(rt: &impl Abort, alloc: Global) -> Table {
 }
 
 // A table beside it.
-fn beside(rt: &impl Abort, alloc: Global, table: &Table) -> Table {
-    let other = table.beside(alloc, 1);
+fn sharing_endings(rt: &impl Abort, alloc: Global, table: &Table) -> Table {
+    let other = table.sharing_endings(alloc, 1);
     other.expect(rt, "no memory for a table")
 }
 
@@ -24,8 +24,8 @@ fn is_one_of(table: &Table, tables: usize) -> bool {
 fn tables_beside_each_other_share_endings(rt: HostRuntime) {
     let first = new_table(&rt, rt.alloc());
     let apart = new_table(&rt, rt.alloc());
-    let second = beside(&rt, rt.alloc(), &first);
-    let third = beside(&rt, rt.alloc(), &second);
+    let second = sharing_endings(&rt, rt.alloc(), &first);
+    let third = sharing_endings(&rt, rt.alloc(), &second);
     assert!(rt; is_one_of(&first, 3) && is_one_of(&second, 3) && is_one_of(&third, 3));
     assert!(rt; is_one_of(&apart, 1));
 }
@@ -40,7 +40,7 @@ fn large_table<A: Allocator + Clone>(rt: &impl Abort, alloc: A) -> Table<A> {
 #[test]
 fn all_places_are_laid_out(rt: HostRuntime) {
     let mut table = large_table(&rt, rt.alloc());
-    table.lay_out_places();
+    table.grow();
     assert!(rt; table.places.len() == 65_536);
 }
 
@@ -54,7 +54,7 @@ fn requests(rt: &impl Abort, alloc: Global) -> u32 {
 // With only these granted.
 fn keeps_its_first_places(rt: &impl Abort, heap: &Granting<Global>) {
     let mut table = large_table(rt, heap);
-    table.lay_out_places();
+    table.grow();
     assert!(rt; heap.refused() == 1 && table.places.len() == 4_096);
 }
 
@@ -71,7 +71,7 @@ fn assert_capacity(rt: &impl Abort, alloc: Global, capacity: u32)
 {
     let table = Table::new(alloc, capacity).expect(rt, "no memory for a table");
     assert!(rt; table.entries.cap().get() == capacity as usize);
-    let other = new_table(rt, alloc).beside(alloc, capacity);
+    let other = new_table(rt, alloc).sharing_endings(alloc, capacity);
     let other = other.expect(rt, "no memory for a table");
     assert!(rt; other.entries.cap().get() == capacity as usize);
 }

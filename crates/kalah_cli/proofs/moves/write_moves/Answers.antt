@@ -19,7 +19,8 @@ one_more one moves i house within is =
     ap (flat_map one) (take_more moves i 0 within ∙ ap (λ h. take i moves ++ h ∷ []) (sym is)) ∙ sym (flat_map_more one [] (take i moves) house)
 
 -- the first moves, and then the others
-first_moves : (one : ℕ → List ℕ) (moves others : List ℕ) (i : ℕ) → moves ≡ others → flat_map one (take i moves) ++ flat_map one (drop i moves) ≡ flat_map one others
+first_moves : (one : ℕ → List ℕ) (moves others : List ℕ) (i : ℕ) → moves ≡ others →
+    flat_map one (take i moves) ++ flat_map one (drop i moves) ≡ flat_map one others
 first_moves one moves others i same =
     sym (flat_map-append one (take i moves) (drop i moves)) ∙ ap (flat_map one) (take-append-drop i moves ∙ same)
 
@@ -28,7 +29,8 @@ loop-i-preserved g c =
     let one : ℕ → List ℕ = λ h. move_lines c.args.boards h (step_of c.args.board.now h) in
     let house = c.get-house.result in
     let more = one_more one c.legal-moves.result c.loop-i.i house (omega (arith, c.loop-i-test.true, c.len-i-end.ensures)) c.get-house.ensures in
-    let first = subst (λ s. Appends (g.O.Sink.written c.loop-i.out) (g.O.Sink.written c.write_move.new.out) (move_lines c.args.boards house s)) c.apply.ensures.step
+    let first = subst (λ s. Appends (g.O.Sink.written c.loop-i.out) (g.O.Sink.written c.write_move.new.out) (move_lines c.args.boards house s))
+    c.apply.ensures.step
     c.in_ok-write_move.ensures.adds in
     record {
       same = c.loop-i.invariant.same;

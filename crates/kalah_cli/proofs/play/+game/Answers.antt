@@ -2,14 +2,15 @@ use Rattle.std.proofs.Common.{[], arith, sym, ◌∙◌}
 use Rattle.std.proofs.KnownBytes.{Appends-nil}
 use Rattle.std.proofs.lemmas.Bool.{false_from_ne_true, false≢true}
 use Rattle.std.proofs.lemmas.Result.{on_ok_weaker}
-use Rattle.kalah_solve.proofs.Worths.{again_fewer, board_equal_sides, turn_fewer}
+use Rattle.kalah_solve.proofs.OfSolver.Worths.{again_fewer, board_equal_sides, turn_fewer}
 use Rattle.kalah_jobs.proofs.OfWriting.Starts.{start_kept_all}
 use Rattle.kalah_cli.proofs.Played.{begins_move, begins_on, best_is_legal, best_told, goes_on, kept_appends, of_again, of_any, of_end, of_first, of_last, of_turn, on_ok_always, over_told}
 use Rattle.kalah_cli.proofs.play.+game.Goals as goal
 
 pub returns-in_err-flush-clause-begins : goal.returns-in_err-flush-clause-begins
 returns-in_err-flush-clause-begins g t c =
-    of_any c.args.boards c.args.board.now _ (board_equal_sides c.args.board.now c.m-side.ensures.limits) (λ lines. start_kept_all _ _ lines c.flush.ensures.keeps)
+    of_any c.args.boards c.args.board.now _ (board_equal_sides c.args.board.now c.m-side.ensures.limits)
+    (λ lines. start_kept_all _ _ lines c.flush.ensures.keeps)
 
 pub returns-in-Over-clause-game : goal.returns-in-Over-clause-game
 returns-in-Over-clause-game g t c =
@@ -18,7 +19,8 @@ returns-in-Over-clause-game g t c =
 
 pub returns-in-Over-clause-begins : goal.returns-in-Over-clause-begins
 returns-in-Over-clause-begins g t c =
-    of_any c.args.boards c.args.board.now _ (board_equal_sides c.args.board.now c.m-side.ensures.limits) (λ lines. start_kept_all _ _ lines c.flush.ensures.keeps)
+    of_any c.args.boards c.args.board.now _ (board_equal_sides c.args.board.now c.m-side.ensures.limits)
+    (λ lines. start_kept_all _ _ lines c.flush.ensures.keeps)
 
 pub apply-step-requires : goal.apply-step-requires
 apply-step-requires g t c =

@@ -2,7 +2,7 @@ use Rattle.std.proofs.Common.{refl}
 use Rattle.std.proofs.KnownBytes.{Appends-trans}
 use Rattle.std.proofs.lemmas.Result.{on_ok_weaker}
 use Rattle.kalah_jobs.proofs.OfWriting.Starts.{start_longer, start_then}
-use Rattle.kalah_solve.proofs.Worths.{board_equal_sides}
+use Rattle.kalah_solve.proofs.OfSolver.Worths.{board_equal_sides}
 use Rattle.kalah_cli.specs.Moves.{board_lines}
 use Rattle.kalah_cli.proofs.Played.{of_any, of_board_lines}
 use Rattle.kalah_cli.proofs.play.play.Goals as goal
@@ -15,10 +15,12 @@ returns-in_err-write_board-clause-begins g c =
 pub returns-clause-game : goal.returns-clause-game
 returns-clause-game g c =
     on_ok_weaker c.write_game.result
-    (of_board_lines c.args.boards c.args.board.now _ _ (λ lines rest. Appends-trans _ _ _ (board_lines c.args.boards c.args.board.now) lines c.in_ok-write_board.ensures.adds rest))
+    (of_board_lines c.args.boards c.args.board.now _ _
+    (λ lines rest. Appends-trans _ _ _ (board_lines c.args.boards c.args.board.now) lines c.in_ok-write_board.ensures.adds rest))
     c.write_game.ensures.game
 
 pub returns-clause-begins : goal.returns-clause-begins
 returns-clause-begins g c =
     of_board_lines c.args.boards c.args.board.now _ _
-    (λ lines rest. start_then _ _ _ _ (board_lines c.args.boards c.args.board.now) lines refl c.in_ok-write_board.ensures.adds rest) c.write_game.ensures.begins
+    (λ lines rest. start_then _ _ _ _ (board_lines c.args.boards c.args.board.now) lines refl c.in_ok-write_board.ensures.adds rest)
+    c.write_game.ensures.begins

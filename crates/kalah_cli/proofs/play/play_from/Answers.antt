@@ -31,7 +31,8 @@ returns-clause-game g c =
     (λ lines. Appends (g.O.Sink.written c.write_move.new.out) (g.O.Sink.written c.write_game.new.out) lines)
     (λ text. Appends (g.O.Sink.written c.args.out.now) (g.O.Sink.written c.write_game.new.out) text)
     c.apply-step.ensures.step (after_step s c.in-Again.next c.in-Again.is)
-    (λ lines rest. Appends-trans _ _ _ (board_lines c.args.boards c.args.board.now) (move_lines c.args.boards c.args.h s ++ lines) c.in_ok-write_board.ensures.adds
+    (λ lines rest. Appends-trans _ _ _ (board_lines c.args.boards c.args.board.now)
+    (move_lines c.args.boards c.args.h s ++ lines) c.in_ok-write_board.ensures.adds
     (Appends-trans _ _ _ (move_lines c.args.boards c.args.h s) lines c.in_ok-write_move.ensures.adds rest)))
     c.write_game.ensures.game
 
@@ -42,6 +43,7 @@ returns-clause-begins g c =
     (λ lines. AppendsStart (g.O.Sink.written c.write_move.new.out) (g.O.Sink.written c.write_game.new.out) lines)
     (λ text. AppendsStart (g.O.Sink.written c.args.out.now) (g.O.Sink.written c.write_game.new.out) text)
     c.apply-step.ensures.step (after_step s c.in-Again.next c.in-Again.is)
-    (λ lines rest. start_then _ _ _ _ (board_lines c.args.boards c.args.board.now) (move_lines c.args.boards c.args.h s ++ lines) refl c.in_ok-write_board.ensures.adds
+    (λ lines rest. start_then _ _ _ _ (board_lines c.args.boards c.args.board.now)
+    (move_lines c.args.boards c.args.h s ++ lines) refl c.in_ok-write_board.ensures.adds
     (start_then _ _ _ _ (move_lines c.args.boards c.args.h s) lines refl c.in_ok-write_move.ensures.adds rest))
     c.write_game.ensures.begins

@@ -17,5 +17,6 @@ files_request-requires c =
 pub returns-clause-asked : goal.returns-clause-asked
 returns-clause-asked c =
     IfOk-weaker c.files_request.result _ (λ r. answers_asked c.args.question (rows_of (found_of c.args.found.now)) ≡ Some (asked_for r))
-    (λ r given. answers_are c.args.question (rows_of (found_of c.args.found.now)) c.requires c.option_number-table.result (asked_for r) c.option_number-table.ensures given)
+    (λ r given. answers_are c.args.question (rows_of (found_of c.args.found.now)) c.requires c.option_number-table.result
+    (asked_for r) c.option_number-table.ensures given)
     c.files_request.ensures.asked

@@ -66,7 +66,8 @@ pub returns-in-Ok-clause-shown : goal.returns-in-Ok-clause-shown
 returns-in-Ok-clause-shown g c = λ name line p is reads. done g c (show false 65536 line) (show_of _ name line is (read_is_plain line p reads)) p reads
 
 pub returns-in-Ok-clause-shown_plain : goal.returns-in-Ok-clause-shown_plain
-returns-in-Ok-clause-shown_plain g c = λ name line p is reads. done g c (show true 65536 line) (show_plain_of _ name line is (read_is_plain line p reads)) p reads
+returns-in-Ok-clause-shown_plain g c = λ name line p is reads. done g c (show true 65536 line)
+    (show_plain_of _ name line is (read_is_plain line p reads)) p reads
 
 pub returns-in-Ok-clause-unread : goal.returns-in-Ok-clause-unread
 returns-in-Ok-clause-unread g c = λ name line is plain none. elim is [
@@ -77,7 +78,8 @@ returns-in-Ok-clause-unread g c = λ name line is plain none. elim is [
 -- what is asked of files is done
 done_of_files : (g : Over) (c : After-drop-words g) (question : Question) (name : Text) (files : List Text)
     → texts_of c.args.words.items ≡ name ∷ command_of question ∷ files → All IsPlainWord files
-    → Does (answers question 4 (table_of question) false files) (g.O.Sink.written c.args.out.now) (g.O.Sink.written c.run_request.new.out) c.run_request.result
+    → Does (answers question 4 (table_of question) false files) (g.O.Sink.written c.args.out.now)
+    (g.O.Sink.written c.run_request.new.out) c.run_request.result
 done_of_files g c question name files is plain = elim (files_or_none question _ name files is plain) [
   | inl taken ↦ done g c (answers question 4 (table_of question) false files) taken
   | inr missed ↦
@@ -105,7 +107,8 @@ returns-in-Ok-clause-unchanged g c = λ none. c.run_request.ensures.unchanged (n
 
 pub returns-in-Ok-clause-stopped : goal.returns-in-Ok-clause-stopped
 returns-in-Ok-clause-stopped g c = λ question table taken.
-    c.run_request.ensures.stopped question table (taken_once (texts_of c.args.words.items) (asked_for c.in-Ok.request) (ask question table) (taken_as g c) taken)
+    c.run_request.ensures.stopped question table
+    (taken_once (texts_of c.args.words.items) (asked_for c.in-Ok.request) (ask question table) (taken_as g c) taken)
 
 pub returns-in-Ok-clause-usage : goal.returns-in-Ok-clause-usage
 returns-in-Ok-clause-usage g c = λ faulty no_help no_version. absurd (faulty (fault_at _ c.args.words.items c.as_slice.ensures.value c.in-Ok.ensures.kinds))
@@ -189,7 +192,8 @@ not_asked : {kinds : Kinds} (k alone : ErrorKind) → k ≢ alone → kinds ≡ 
 not_asked k alone other is among = elim (subst (IsAmong k) is among) [ inl same ↦ other same | inr bad ↦ bad ]
 
 -- if a file is missing the program fails
-failed_of_none : (g : Over) (c : After-drop-words-2 g) → fault_of kalah_app (texts_of c.args.words.items) ≡ MissingRequiredArgument ∷ [] → c.refuse.result ≡ Failed
+failed_of_none : (g : Over) (c : After-drop-words-2 g) → fault_of kalah_app (texts_of c.args.words.items) ≡ MissingRequiredArgument ∷ [] →
+    c.refuse.result ≡ Failed
 failed_of_none g c missed =
     (c.refuse.ensures.mistake (unasked g c DisplayHelp (λ e. cc) (not_asked DisplayHelp MissingRequiredArgument (λ e. cc) missed))
     (unasked g c DisplayVersion (λ e. cc) (not_asked DisplayVersion MissingRequiredArgument (λ e. cc) missed))).0
@@ -230,5 +234,8 @@ pub returns-clause-version : goal.returns-clause-version
 returns-clause-version g c = λ faulty no_help. c.refuse.ensures.version (unasked g c DisplayHelp (λ e. cc) no_help)
 
 pub returns-clause-version_word : goal.returns-clause-version_word
-returns-clause-version_word g c = λ name is.
-    (c.refuse.ensures.no_line, c.refuse.ensures.version (unasked g c DisplayHelp (λ e. cc) (not_asked DisplayHelp DisplayVersion (λ e. cc) (version_of _ name is))))
+returns-clause-version_word g c = λ name is. (
+  c.refuse.ensures.no_line,
+  c.refuse.ensures.version
+      (unasked g c DisplayHelp (λ e. cc) (not_asked DisplayHelp DisplayVersion (λ e. cc) (version_of _ name is))),
+)

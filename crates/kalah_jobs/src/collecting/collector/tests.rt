@@ -1,7 +1,7 @@
 //! Offers in each order, with duplicates and unknown results between them, and what is taken.
 ghost use Rattle.kalah_jobs.specs.Collecting.CollectorState.{HasLinesOf};
 
-mod want_of_memory;
+mod out_of_memory;
 
 use crate::{Answer, Collector, Entry, FileText, Jobs, LineFault, Outcome, Refusal, Taken};
 use Refusal::{Double, FileEnded, NoSuchFile, NoSuchLine, WrongPosition};
@@ -25,7 +25,7 @@ struct Trial {
 impl Trial {
     // A collector for the jobs of two files, with no answer yet.
     fn new(rt: &(impl Abort + AllocGlobal)) -> Trial {
-        want_of_memory::trial_of(rt).expect(rt, "no memory")
+        out_of_memory::trial_of(rt).expect(rt, "no memory")
     }
 
     // Offers a line with the entry `entry`.

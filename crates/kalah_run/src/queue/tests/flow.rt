@@ -4,7 +4,7 @@ ghost use Rattle.std.specs.Prelude.{◌≡◌, ◌<◌, ◌≤◌, ◌*◌, All}
 ghost use Rattle.std.specs.Thread.{IsSync};
 
 use crate::tests::drawn::Drawn;
-use crate::tests::want_of_memory::two_outcomes;
+use crate::tests::out_of_memory::two_outcomes;
 use crate::{GetPass, PutPass, ResultsQueue};
 use kalah_jobs::Outcome;
 use std::alloc::{AllocError, Global};

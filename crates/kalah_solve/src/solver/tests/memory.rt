@@ -1,6 +1,6 @@
 //! Out of memory: an answer that finds no memory is left out of the table, and verdicts stay the same.
 use super::*;
-use crate::granting::Granting;
+use crate::tests::granting::Granting;
 
 // A solver with this table, into which the search puts every answer if it `keeps_all`.
 pub(super) fn solver_with<A: Allocator + Clone>(

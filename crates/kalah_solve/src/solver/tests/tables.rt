@@ -1,6 +1,6 @@
 //! Positions that leave entries and places in the tables, as in the program: with many seeds and much to try.
 use super::*;
-use crate::granting::Granting;
+use crate::tests::granting::Granting;
 
 // Three houses a side with their rule.
 type Busy = (Rule, [u8; 3], [u8; 3]);

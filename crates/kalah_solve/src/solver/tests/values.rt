@@ -1,7 +1,7 @@
 //! The values of the moves.
 use super::*;
-use crate::granting::Granting;
-use crate::move_values::MoveValue;
+use crate::solver::move_values::MoveValue;
+use crate::tests::granting::Granting;
 
 // The houses with their values, in order.
 pub(super) fn tells_values<A: Allocator + Clone>(
@@ -67,8 +67,8 @@ fn agrees_with_plain_values(rt: &impl Abort, solver: &mut Solver, board: &Board)
     for i in 0..moves.len() {
         let house = moves.get(i);
         let value = plain::value_of_move(board, house);
-        let told = values.get(i);
-        assert!(rt; (told.house, i32::from(told.value)) == (house, value));
+        let stored = values.get(i);
+        assert!(rt; (stored.house, i32::from(stored.value)) == (house, value));
     }
 }
 

@@ -7,7 +7,8 @@ use Rattle.kalah_jobs.proofs.asking.answer_lines.answer_lines.Goals.{then-byte-e
 use Rattle.kalah_jobs.proofs.asking.answer_lines.answer_lines.Goals as goal
 
 -- what was taken is this byte, or none
-taken_is : (before after : Option (List ℕ)) (byte other : Option ℕ) → byte ≡ other → Consumes before after (bytes_of byte) → Consumes before after (bytes_of other)
+taken_is : (before after : Option (List ℕ)) (byte other : Option ℕ) → byte ≡ other → Consumes before after (bytes_of byte) →
+    Consumes before after (bytes_of other)
 taken_is before after byte other is taken = subst (λ b. Consumes before after (bytes_of b)) is taken
 
 pub loop-init : goal.loop-init
@@ -23,7 +24,8 @@ returns-in_err-byte-clause-begins g c =
 
 pub returns-in_err-tell_last-clause-begins : goal.returns-in_err-tell_last-clause-begins
 returns-in_err-tell_last-clause-begins g c =
-    begun_last _ _ _ _ _ _ _ _ _ _ c.loop.invariant.0 (taken_is _ _ _ _ c.in_default.is c.in_ok-byte.ensures.taken) c.in_ok-byte.ensures.keeps c.tell_last.ensures.start
+    begun_last _ _ _ _ _ _ _ _ _ _ c.loop.invariant.0
+    (taken_is _ _ _ _ c.in_default.is c.in_ok-byte.ensures.taken) c.in_ok-byte.ensures.keeps c.tell_last.ensures.start
 
 pub returns-in_default-clause-answered : goal.returns-in_default-clause-answered
 returns-in_default-clause-answered g c =
@@ -32,7 +34,8 @@ returns-in_default-clause-answered g c =
 
 pub returns-in_default-clause-begins : goal.returns-in_default-clause-begins
 returns-in_default-clause-begins g c =
-    begun_last _ _ _ _ _ _ _ _ _ _ c.loop.invariant.0 (taken_is _ _ _ _ c.in_default.is c.in_ok-byte.ensures.taken) c.in_ok-byte.ensures.keeps c.tell_last.ensures.start
+    begun_last _ _ _ _ _ _ _ _ _ _ c.loop.invariant.0
+    (taken_is _ _ _ _ c.in_default.is c.in_ok-byte.ensures.taken) c.in_ok-byte.ensures.keeps c.tell_last.ensures.start
 
 pub returns-in_err-all_read-clause-begins : goal.returns-in_err-all_read-clause-begins
 returns-in_err-all_read-clause-begins g c =
@@ -44,7 +47,8 @@ loop-preserved g c = elim c.if-byte-eq-LINE_FEED.branch [
   | then-byte-eq-LINE_FEED+in_ok-all_read w ↦
       let is = c.in-Some.is ∙ ap (λ byte. Some byte) w.if-byte-eq-LINE_FEED.true in
       let told = w.in_ok-all_read.ensures in
-      let read = line_read _ _ _ _ _ _ _ _ _ _ _ c.loop.invariant.0 (taken_is _ _ _ _ is c.in_ok-byte.ensures.taken) c.in_ok-byte.ensures.keeps told.told told.read in
+      let read = line_read _ _ _ _ _ _ _ _ _ _ _ c.loop.invariant.0
+      (taken_is _ _ _ _ is c.in_ok-byte.ensures.taken) c.in_ok-byte.ensures.keeps told.told told.read in
       rw (w.out-is, w.line-is, w.all_read-is, w.new-line-then-byte-eq-LINE_FEED.ensures) (read, search rules)
   | else-byte-eq-LINE_FEED w ↦
       let taken = taken_is _ _ _ _ c.in-Some.is c.in_ok-byte.ensures.taken in

@@ -9,4 +9,5 @@ returns-in-Some c =
 
 pub returns-in_default : goal.returns-in_default
 returns-in_default c =
-    sym (ap without_cr c.in-Some.ensures.cases.0 ∙ without_cr-other c.in-Some.text.now c.in-Some.last.now c.if-last-eq13.false ∙ sym c.in-Some.ensures.cases.0)
+    sym (ap without_cr c.in-Some.ensures.cases.0 ∙ without_cr-other c.in-Some.text.now c.in-Some.last.now c.if-last-eq13.false
+    ∙ sym c.in-Some.ensures.cases.0)

@@ -26,7 +26,8 @@ loop-i-preserved g c =
     let one : ℕ → List ℕ = λ h. (place ++ step_text_of h (step_of c.args.board.now h)) ++ line_feed ∷ [] in
     let h = c.get-h.result in
     let more = one_more one c.legal-moves.result c.loop-i.i h (omega (arith, c.loop-i-test.true, c.len-i-end.ensures)) c.get-h.ensures in
-    let first = subst (λ s. Appends (g.W.Sink.written c.loop-i.out) (g.W.Sink.written c.write_step_line.new.out) ((place ++ step_text_of h s) ++ line_feed ∷ []))
+    let first = subst (λ s. Appends (g.W.Sink.written c.loop-i.out) (g.W.Sink.written c.write_step_line.new.out)
+    ((place ++ step_text_of h s) ++ line_feed ∷ []))
     c.apply.ensures.step c.in_ok-write_step_line.ensures.adds in
     record {
       same = c.loop-i.invariant.same;
@@ -45,7 +46,8 @@ returns-in_err-write_step_line-clause-start g c =
     let h = c.get-h.result in
     let low : i < length moves = omega (arith, c.loop-i-test.true, c.len-i-end.ensures) in
     let more = one_more one moves i h low c.get-h.ensures in
-    let first = subst (λ s. AppendsStart (g.W.Sink.written c.loop-i.out) (g.W.Sink.written c.write_step_line.new.out) ((place ++ step_text_of h s) ++ line_feed ∷ []))
+    let first = subst (λ s. AppendsStart (g.W.Sink.written c.loop-i.out) (g.W.Sink.written c.write_step_line.new.out)
+    ((place ++ step_text_of h s) ++ line_feed ∷ []))
     c.apply.ensures.step c.write_step_line.ensures.start in
     let so_far = start_then (g.W.Sink.written c.args.out.now) _ _ _ (flat_map one (take i moves)) (one h) more c.loop-i.invariant.adds first in
     subst (AppendsStart (g.W.Sink.written c.args.out.now) (g.W.Sink.written c.write_step_line.new.out))
@@ -54,7 +56,8 @@ returns-in_err-write_step_line-clause-start g c =
 
 -- all moves are told
 all_told : (place : List ℕ) (text : ℕ → List ℕ) (moves others : List ℕ) (i : ℕ) → moves ≡ others → 0 < length moves → length moves ≤ i →
-    flat_map (λ h. (place ++ text h) ++ line_feed ∷ []) (take i moves) ≡ join_with_byte line_feed (map (λ t. place ++ t) (map text others)) ++ line_feed ∷ []
+    flat_map (λ h. (place ++ text h) ++ line_feed ∷ []) (take i moves) ≡ join_with_byte line_feed (map (λ t. place ++ t) (map text others))
+    ++ line_feed ∷ []
 all_told place text moves others i same some all =
     ap (flat_map (λ h. (place ++ text h) ++ line_feed ∷ [])) (take_all i moves all) ∙ sym (lines_end place text moves some)
     ∙ ap (λ ms. join_with_byte line_feed (map (λ t. place ++ t) (map text ms)) ++ line_feed ∷ []) same

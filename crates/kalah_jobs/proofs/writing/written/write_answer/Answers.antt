@@ -12,7 +12,8 @@ use Rattle.kalah_jobs.specs.declared.writing.answer.Taken.{Taken}
 use Rattle.kalah_jobs.proofs.writing.written.write_answer.Goals as goal
 
 -- the lines of the steps of a position are the answer line
-steps_line : (name place : List ℕ) (taken : Taken) (p : Position) → taken.answer ≡ Steps p → place ≡ codes ":" ++ (decimal (taken.line + 1) ++ codes " ")
+steps_line : (name place : List ℕ) (taken : Taken) (p : Position) → taken.answer ≡ Steps p →
+    place ≡ codes ":" ++ (decimal (taken.line + 1) ++ codes " ")
     → join_with_byte line_feed (map (λ text. (name ++ place) ++ text) (steps_texts p)) ++ line_feed ∷ [] ≡ answer_line name taken ++ line_feed ∷ []
 steps_line name place taken p answer is =
     ap₂ (λ (l : List ℕ) (a : Answer). join_with_byte line_feed (map (λ text. (name ++ l) ++ text) (answer_texts a)) ++ line_feed ∷ []) is (sym answer)

@@ -12,7 +12,8 @@ pub invariant_of-result : goal.invariant_of-result
 invariant_of-result c = rw c.without_seeds.ensures (board_step c.self.invariant c.self.view_is c.requires c.in-Over.is c.play.ensures).within
 
 pub returns-in-Over-clause-step : goal.returns-in-Over-clause-step
-returns-in-Over-clause-step c = rw (← c.self.view_is, c.without_seeds.ensures) (board_step c.self.invariant c.self.view_is c.requires c.in-Over.is c.play.ensures).same
+returns-in-Over-clause-step c = rw (← c.self.view_is, c.without_seeds.ensures)
+    (board_step c.self.invariant c.self.view_is c.requires c.in-Over.is c.play.ensures).same
 
 pub returns-in-Over-clause-nearer_end : goal.returns-in-Over-clause-nearer_end
 returns-in-Over-clause-nearer_end c = rw (← c.self.view_is) (board_step c.self.invariant c.self.view_is c.requires c.in-Over.is c.play.ensures).nearer

@@ -12,7 +12,8 @@ returns-then-h-lt1 c = (
       elim c.then-h-lt1.branch [
         | then-h-lt1-via-then-h-lt1 w ↦ absurd (omega (arith, holds.first))
         | then-h-lt1-via-else-h-lt1+then-h-m w ↦ absurd (omega (arith, holds.last))
-        | then-h-lt1-via-else-h-lt1+else-h-m+then-is_over w ↦ sym (legal_going c.args.self.now c.args.h has) ∙ sym w.is_over.ensures.over ∙ w.if-is_over.true
+        | then-h-lt1-via-else-h-lt1+else-h-m+then-is_over w ↦
+            sym (legal_going c.args.self.now c.args.h has) ∙ sym w.is_over.ensures.over ∙ w.if-is_over.true
       ],
 )
 

@@ -23,4 +23,5 @@ returns-then-reach-m-2-clause-rows c =
     let side = c.m-m.ensures.side in
     let last : c.own.result ≡ last_distance p c.args.h =
     omega (arith, seeds, short_distance p c.args.h c.requires c.sow_past_row.result (omega (arith, c.if-reach-m-2.true, seeds, side))) in
-    after_past p c.args.h c.requires c.sow_past_row.result (omega (arith, last, c.if-reach-m.false, side)) (omega (arith, last, c.if-reach-m-2.true, side)) c.sow_past_row.ensures
+    after_past p c.args.h c.requires c.sow_past_row.result (omega (arith, last, c.if-reach-m.false, side))
+    (omega (arith, last, c.if-reach-m-2.true, side)) c.sow_past_row.ensures

@@ -25,4 +25,5 @@ returns-else-end-lap-clause-rows c =
     let p = bare c.args.self.now in
     let last : (c.own-count.result - 1) % (2 * c.m-m.result + 1) + 1 ≡ last_distance p c.args.h = rw (c.own-count.ensures.value, c.m-m.ensures.side) refl in
     let side = c.m-m.ensures.side in
-    after_past p c.args.h c.requires c.sow_laps-rows.result (omega (arith, last, c.if-end-m.false, side)) (omega (arith, last, c.if-end-lap.false, side)) c.sow_laps-rows.ensures
+    after_past p c.args.h c.requires c.sow_laps-rows.result (omega (arith, last, c.if-end-m.false, side))
+    (omega (arith, last, c.if-end-lap.false, side)) c.sow_laps-rows.ensures

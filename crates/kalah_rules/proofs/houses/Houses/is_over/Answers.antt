@@ -7,4 +7,12 @@ pub returns-then-own_row-eq0 : goal.returns-then-own_row-eq0
 returns-then-own_row-eq0 c = grind (arith, nat_tests, no_seeds c.args.self.now.own, c.own_row.ensures.value, c.if-own_row-eq0.true)
 
 pub returns-else-own_row-eq0 : goal.returns-else-own_row-eq0
-returns-else-own_row-eq0 c = grind (arith, nat_tests, no_seeds c.args.self.now.own, no_seeds c.args.self.now.other, c.own_row.ensures.value, c.other_row.ensures.value, c.if-own_row-eq0.false)
+returns-else-own_row-eq0 c = grind (
+  arith,
+  nat_tests,
+  no_seeds c.args.self.now.own,
+  no_seeds c.args.self.now.other,
+  c.own_row.ensures.value,
+  c.other_row.ensures.value,
+  c.if-own_row-eq0.false,
+)

@@ -4,7 +4,8 @@ use Rattle.kalah_rules.proofs.houses.Houses.new.Goals as goal
 
 pub invariant_of-result : goal.invariant_of-result
 invariant_of-result c =
-    (packed_new c.args.m c.args.own c.args.other c.args.rule c.number_of.result c.number_of-2.result c.rule_number.result c.saturating_add-seeds.result (search rules) (search rules)
+    (packed_new c.args.m c.args.own c.args.other c.args.rule c.number_of.result c.number_of-2.result c.rule_number.result
+    c.saturating_add-seeds.result (search rules) (search rules)
     (record {
       some_house = omega arith;
       at_most_six = omega arith;
@@ -16,7 +17,8 @@ invariant_of-result c =
 
 pub returns-clause-value : goal.returns-clause-value
 returns-clause-value c =
-    (packed_new c.args.m c.args.own c.args.other c.args.rule c.number_of.result c.number_of-2.result c.rule_number.result c.saturating_add-seeds.result (search rules) (search rules)
+    (packed_new c.args.m c.args.own c.args.other c.args.rule c.number_of.result c.number_of-2.result c.rule_number.result
+    c.saturating_add-seeds.result (search rules) (search rules)
     (record {
       some_house = omega arith;
       at_most_six = omega arith;

@@ -6,7 +6,8 @@ use Rattle.kalah_rules.proofs.houses.Houses.sow_laps.Goals.{then-reach-m, else-r
 
 pub own_gains-requires-clause-few : goal.own_gains-requires-clause-few
 own_gains-requires-clause-few c =
-    laps_few c.args.self.now c.args.h c.m-m.ensures.limits c.requires.holds (c.args.count / (2 * c.m-m.result + 1)) (rw (c.requires.count, c.m-m.ensures.side) refl)
+    laps_few c.args.self.now c.args.h c.m-m.ensures.limits c.requires.holds (c.args.count / (2 * c.m-m.result + 1))
+    (rw (c.requires.count, c.m-m.ensures.side) refl)
 
 pub returns : goal.returns
 returns c =

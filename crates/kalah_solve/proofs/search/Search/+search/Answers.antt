@@ -1,11 +1,11 @@
 use Rattle.std.proofs.Common.{arith, rules, refl, sym, ◌≡◌, ◌+◌, ◌-◌, subst}
 use Rattle.std.specs.Prelude.{max}
-use Rattle.kalah_solve.specs.StepWorth.{GoesOn, GoesOnAt}
-use Rattle.kalah_solve.specs.Taken.{taken}
+use Rattle.kalah_solve.specs.Solver.StepWorth.{GoesOn, GoesOnAt}
+use Rattle.kalah_solve.specs.Bounds.Won.{won}
 use Rattle.kalah_solve.proofs.RowMarks.{cell_none, marks_fall}
-use Rattle.kalah_solve.proofs.StepWorths.{goes_on, step_falls}
-use Rattle.kalah_solve.proofs.Takings.{taken_share}
-use Rattle.kalah_solve.proofs.Tries.{move_enough, turn_enough, turn_at_most, gained_few, bound_up_to, bound_left, low_more, ranked_none, ranked_more, ranked_bound, ending_legal, marked_legal, marks_fewer, last_legal, again_none, again_fewer, untried_first, untried_fewer, none_untried}
+use Rattle.kalah_solve.proofs.OfSolver.StepWorths.{goes_on, step_falls}
+use Rattle.kalah_solve.proofs.OfBounds.Winnings.{taken_share}
+use Rattle.kalah_solve.proofs.OfSearch.Tries.{move_enough, turn_enough, turn_at_most, gained_few, bound_up_to, bound_left, low_more, ranked_none, ranked_more, ranked_bound, ending_legal, marked_legal, marks_fewer, last_legal, again_none, again_fewer, untried_first, untried_fewer, none_untried}
 use Rattle.kalah_solve.proofs.search.Search.+search.Goals as goal
 
 pub bound_move-bound_step-requires : goal.bound_move-bound_step-requires
@@ -35,7 +35,7 @@ bound_turn-overflow_sub-result g t c =
 pub bound_turn-returns-else-all-bar : goal.bound_turn-returns-else-all-bar
 bound_turn-returns-else-all-bar g t c =
     let few = (taken_share c.args.next.now c.requires.on.limits).few in
-    bound_left c.args.bar (c.args.gained + c.seeds.result) _ c.args.gained (taken c.args.next.now) c.bound.result (omega (arith, c.seeds.ensures.seeds)) few
+    bound_left c.args.bar (c.args.gained + c.seeds.result) _ c.args.gained (won c.args.next.now) c.bound.result (omega (arith, c.seeds.ensures.seeds)) few
     c.if-bar-gained.false c.if-all-bar.false c.bound.ensures
 
 pub explore-returns-then-bar-bound : goal.explore-returns-then-bar-bound
@@ -66,7 +66,8 @@ explore-returns g t c =
     let is = c.loop-ranks.invariant in
     record {
       lower = λ enough. absurd (omega (arith, enough, is.low));
-      upper = λ short. none_untried c.args.houses.now c.loop-ranks.most c.loop-ranks.ranks c.others_waiting-others.new.turns c.loop-ranks.at c.seeds-seeds.ensures.limits c.requires.going
+      upper = λ short. none_untried c.args.houses.now c.loop-ranks.most c.loop-ranks.ranks c.others_waiting-others.new.turns c.loop-ranks.at
+          c.seeds-seeds.ensures.limits c.requires.going
           is.untried is.highest (omega (arith, c.loop-ranks-test.false));
     }
 
@@ -116,7 +117,8 @@ bound_again-loop-left-preserved g t c =
       small = omega (arith, before.small, marks_fall marks h last);
       low = low_more c.args.bar c.loop-left.most c.bound_move-bound.result c.max-most.result before.low c.if-bar-bound.false new_is;
       legal = marks_fewer a marks h last before.legal;
-      tried = again_fewer a c.loop-left.most marks h c.bound_move-bound.result c.max-most.result before.tried last (c.bound_move-bound.ensures.upper c.if-bar-bound.false) new_is;
+      tried = again_fewer a c.loop-left.most marks h c.bound_move-bound.result c.max-most.result before.tried last
+          (c.bound_move-bound.ensures.upper c.if-bar-bound.false) new_is;
     })
 
 pub bound_again-loop-left-smaller : goal.bound_again-loop-left-smaller
@@ -202,5 +204,6 @@ explore-loop-ranks-init g t c =
       low = omega (arith, most_is, c.if-bar-again.false, c.if-bar-others.false);
       place = c.highest-at.ensures.place;
       highest = c.highest-at.ensures.highest;
-      untried = untried_first c.args.houses.now c.args.bar _ _ _ _ c.max-most.result (search rules) others (c.bound_again-again.ensures.upper c.if-bar-again.false) c.if-bar-others.false most_is;
+      untried = untried_first c.args.houses.now c.args.bar _ _ _ _ c.max-most.result (search rules) others
+          (c.bound_again-again.ensures.upper c.if-bar-again.false) c.if-bar-others.false most_is;
     }

@@ -3,9 +3,9 @@ use Rattle.std.proofs.Common.{◌+◌, ◌*◌, ◌^◌, ◌<◌, ◌≤◌, ◌
 use Rattle.std.specs.Prelude.{sum, Contains}
 use Rattle.kalah_rules.specs.Play.{legal_houses}
 use Rattle.kalah_rules.specs.Measure.{moves_left}
-use Rattle.kalah_solve.specs.StepWorth.{moves_after}
+use Rattle.kalah_solve.specs.Solver.StepWorth.{moves_after}
 use Rattle.kalah_solve.specs.RowMarks.{cell}
-use Rattle.kalah_solve.proofs.Tries.{AreAgain, AreRanked, AreUntried}
+use Rattle.kalah_solve.proofs.OfSearch.Tries.{AreAgain, AreRanked, AreUntried}
 use Rattle.kalah_solve.proofs.search.Search.+search.Given as goal
 
 abbrev pub decreases-bound : goal.decreases-bound

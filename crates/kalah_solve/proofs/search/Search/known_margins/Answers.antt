@@ -1,4 +1,4 @@
-use Rattle.kalah_solve.proofs.Takings.{worth_low, worth_high}
+use Rattle.kalah_solve.proofs.OfBounds.Winnings.{worth_low, worth_high}
 use Rattle.kalah_solve.proofs.search.Search.known_margins.Goals as goal
 
 pub returns-in-Some-clause-least : goal.returns-in-Some-clause-least
@@ -8,7 +8,8 @@ pub returns-in-Some-clause-most : goal.returns-in-Some-clause-most
 returns-in-Some-clause-most g c = worth_high c.args.houses.now c.seeds-seeds.ensures.limits
 
 pub returns-in-None-clause-holds : goal.returns-in-None-clause-holds
-returns-in-None-clause-holds g c = c.whole.ensures.held _ (worth_low c.args.houses.now c.seeds-seeds.ensures.limits) (worth_high c.args.houses.now c.seeds-seeds.ensures.limits)
+returns-in-None-clause-holds g c = c.whole.ensures.held _ (worth_low c.args.houses.now c.seeds-seeds.ensures.limits)
+    (worth_high c.args.houses.now c.seeds-seeds.ensures.limits)
 
 pub returns-in-None-clause-least : goal.returns-in-None-clause-least
 returns-in-None-clause-least g c = worth_low c.args.houses.now c.seeds-seeds.ensures.limits

@@ -1,9 +1,9 @@
 use Rattle.std.proofs.Common.{arith, refl, ap, ◌∙◌, ◌≡◌, ◌<◌, ◌-◌, length, get_or}
 use Rattle.kalah_rules.specs.Play.{legal_houses}
 use Rattle.kalah_rules.specs.Position.{bare}
-use Rattle.kalah_solve.proofs.Worths.{legal_some}
-use Rattle.kalah_solve.proofs.Roots.{root_found, root_short, root_last}
-use Rattle.kalah_solve.proofs.Tries.{enough_of, short_of}
+use Rattle.kalah_solve.proofs.OfSolver.Worths.{legal_some}
+use Rattle.kalah_solve.proofs.OfSolver.Roots.{root_found, root_short, root_last}
+use Rattle.kalah_solve.proofs.OfSearch.Tries.{enough_of, short_of}
 use Rattle.kalah_solve.proofs.solver.Solver.first_house.Goals as goal
 
 pub overflow_sub-last : goal.overflow_sub-last
@@ -35,4 +35,5 @@ returns g c =
     let some = legal_some (bare a) c.requires.going in
     let last = c.len-last.result - 1 in
     let place : c.get.result ≡ get_or (legal_houses (bare a)) last 0 = c.get.ensures ∙ ap (λ xs. get_or xs last 0) c.requires.moves in
-    place ∙ root_last a c.seeds-seeds.ensures.limits last c.requires.going (omega (arith, c.len-last.ensures, many, some)) (λ k low. c.loop-i.invariant k (omega (arith, low)))
+    place ∙ root_last a c.seeds-seeds.ensures.limits last c.requires.going (omega (arith, c.len-last.ensures, many, some))
+    (λ k low. c.loop-i.invariant k (omega (arith, low)))

@@ -1,9 +1,9 @@
 use Rattle.std.proofs.Common.{rules, sym, ◌∙◌, ◌≡◌, w32, SFits}
 use Rattle.std.proofs.lemmas.Int.{to_z-of_z}
 use Rattle.kalah_rules.specs.Position.{rows_of}
-use Rattle.kalah_solve.specs.Worth.{houses_worth}
-use Rattle.kalah_solve.proofs.Roots.{root_worth, told_fits, told_small, told_worth}
-use Rattle.kalah_solve.proofs.Worths.{worth_of_over}
+use Rattle.kalah_solve.specs.Solver.Worth.{houses_worth}
+use Rattle.kalah_solve.proofs.OfSolver.Roots.{root_worth, told_fits, told_small, told_worth}
+use Rattle.kalah_solve.proofs.OfSolver.Worths.{worth_of_over}
 use Rattle.kalah_solve.proofs.solver.Solver.margin.Given.{Over}
 use Rattle.kalah_solve.proofs.solver.Solver.margin.Goals as goal
 
@@ -20,12 +20,15 @@ found g c =
 
 pub overflow_add-result : goal.overflow_add-result
 overflow_add-result g c =
-    told_fits c.args.board.now c.search-best.result c.own_store.result c.other_store.result c.is_over.ensures.limits (found g c) c.own_store.ensures c.other_store.ensures
+    told_fits c.args.board.now c.search-best.result c.own_store.result c.other_store.result c.is_over.ensures.limits
+    (found g c) c.own_store.ensures c.other_store.ensures
 
 pub returns-clause-worth : goal.returns-clause-worth
 returns-clause-worth g c =
-    told_worth c.args.board.now c.search-best.result c.own_store.result c.other_store.result c.is_over.ensures.limits (found g c) c.own_store.ensures c.other_store.ensures
+    told_worth c.args.board.now c.search-best.result c.own_store.result c.other_store.result c.is_over.ensures.limits
+    (found g c) c.own_store.ensures c.other_store.ensures
 
 pub returns-clause-small : goal.returns-clause-small
 returns-clause-small g c =
-    told_small c.args.board.now c.search-best.result c.own_store.result c.other_store.result c.is_over.ensures.limits (found g c) c.own_store.ensures c.other_store.ensures
+    told_small c.args.board.now c.search-best.result c.own_store.result c.other_store.result c.is_over.ensures.limits
+    (found g c) c.own_store.ensures c.other_store.ensures

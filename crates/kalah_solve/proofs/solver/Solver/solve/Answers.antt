@@ -2,15 +2,15 @@ use Rattle.std.proofs.Common.{arith, rules, refl, sym, ap, ◌∙◌, ◌≡◌,
 use Rattle.std.proofs.lemmas.Int.{ints, to_z-of_z}
 use Rattle.kalah_rules.specs.Play.{legal_houses}
 use Rattle.kalah_rules.specs.Position.{Rows, rows_of, bare, seeds_in_houses}
-use Rattle.kalah_solve.specs.Worth.{houses_worth, best_house}
-use Rattle.kalah_solve.specs.declared.verdict.Verdict.TheVariants.{Best, Over}
-use Rattle.kalah_solve.proofs.Bests.{verdict_by, verdict_of_over, small_best}
-use Rattle.kalah_solve.proofs.Roots.{root_worth, told, told_fits, told_small, told_worth}
-use Rattle.kalah_solve.proofs.Stores.{best_of_rows}
-use Rattle.kalah_solve.proofs.Takings.{worth_low, worth_high, half_is}
-use Rattle.kalah_solve.proofs.Values.{best_found}
-use Rattle.kalah_solve.proofs.Verdicts.{verdict_tells}
-use Rattle.kalah_solve.proofs.Worths.{board_equal_sides}
+use Rattle.kalah_solve.specs.Solver.Worth.{houses_worth, best_house}
+use Rattle.kalah_solve.specs.declared.solver.verdict.Verdict.TheVariants.{Best, Over}
+use Rattle.kalah_solve.proofs.OfSolver.Bests.{verdict_by, verdict_of_over, small_best}
+use Rattle.kalah_solve.proofs.OfSolver.Roots.{root_worth, stored, told_fits, told_small, told_worth}
+use Rattle.kalah_solve.proofs.OfSolver.Stores.{best_of_rows}
+use Rattle.kalah_solve.proofs.OfBounds.Winnings.{worth_low, worth_high, half_is}
+use Rattle.kalah_solve.proofs.OfSolver.Values.{best_found}
+use Rattle.kalah_solve.proofs.OfSolver.Verdicts.{verdict_tells}
+use Rattle.kalah_solve.proofs.OfSolver.Worths.{board_equal_sides}
 use Rattle.kalah_solve.proofs.solver.Solver.solve.Given as given
 use Rattle.kalah_solve.proofs.solver.Solver.solve.Goals as goal
 
@@ -31,7 +31,8 @@ first_house-house-requires-clause-best g c =
     let found = root_worth c.args.board.now a c.search-best.result c.whole.result.lo c.whole.result.hi c.is_over.ensures.limits c.houses-houses.ensures
     c.whole.ensures.lo c.whole.ensures.hi c.search-best.ensures in
     let best : c.search-best.result ≡ houses_worth a = found ∙ sym (ap houses_worth c.houses-houses.ensures) in
-    let sum : to_z w32 (of_z w32 (to_z w32 (of_z w32 c.search-best.result) +ℤ to_z w32 c.seeds.result)) ≡ houses_worth a +ℤ pos (seeds_in_houses (bare a)) =
+    let sum : to_z w32 (of_z w32 (to_z w32 (of_z w32 c.search-best.result) +ℤ to_z w32 c.seeds.result))
+    ≡ houses_worth a +ℤ pos (seeds_in_houses (bare a)) =
     omega (arith, ints, best, c.seeds.ensures.seeds, limits.few_seeds, worth_low a limits, worth_high a limits) in
     half_is a (houses_worth a) c.half-bar.result limits refl (record { low = rw sum at c.half-bar.ensures.low; high = rw sum at c.half-bar.ensures.high })
 
@@ -43,7 +44,8 @@ found g c =
 
 pub overflow_add-margin : goal.overflow_add-margin
 overflow_add-margin g c =
-    told_fits c.args.board.now c.search-best.result c.own_store.result c.other_store.result c.is_over.ensures.limits (found g c) c.own_store.ensures c.other_store.ensures
+    told_fits c.args.board.now c.search-best.result c.own_store.result c.other_store.result c.is_over.ensures.limits
+    (found g c) c.own_store.ensures c.other_store.ensures
 
 -- the reported house
 house_is : (g : given.Over) (c : goal.After-other_store g) → c.first_house-house.result ≡ best_house c.args.board.now
@@ -52,18 +54,19 @@ house_is g c = c.first_house-house.ensures ∙ ap (λ (a : Rows). best_house (ba
 pub returns-clause-verdict : goal.returns-clause-verdict
 returns-clause-verdict g c =
     let p = c.args.board.now in
-    verdict_by p (told c.search-best.result c.own_store.result c.other_store.result) c.first_house-house.result (sym c.if-is_over.ensures.over)
-    (told_worth p c.search-best.result c.own_store.result c.other_store.result c.is_over.ensures.limits (found g c) c.own_store.ensures c.other_store.ensures) (house_is g c)
+    verdict_by p (stored c.search-best.result c.own_store.result c.other_store.result) c.first_house-house.result (sym c.if-is_over.ensures.over)
+    (told_worth p c.search-best.result c.own_store.result c.other_store.result c.is_over.ensures.limits
+    (found g c) c.own_store.ensures c.other_store.ensures) (house_is g c)
 
 pub returns-clause-best_play : goal.returns-clause-best_play
 returns-clause-best_play g c =
-    verdict_tells c.args.board.now (Best (told c.search-best.result c.own_store.result c.other_store.result) c.first_house-house.result)
+    verdict_tells c.args.board.now (Best (stored c.search-best.result c.own_store.result c.other_store.result) c.first_house-house.result)
     (board_equal_sides c.args.board.now c.is_over.ensures.limits) (returns-clause-verdict g c)
 
 pub returns-clause-small : goal.returns-clause-small
 returns-clause-small g c =
     let p = c.args.board.now in
     let limits = c.is_over.ensures.limits in
-    small_best p (told c.search-best.result c.own_store.result c.other_store.result) c.first_house-house.result limits
+    small_best p (stored c.search-best.result c.own_store.result c.other_store.result) c.first_house-house.result limits
     (rw (house_is g c) (best_found p (board_equal_sides p limits) (sym c.if-is_over.ensures.over)).0)
     (told_small p c.search-best.result c.own_store.result c.other_store.result limits (found g c) c.own_store.ensures c.other_store.ensures)

@@ -1,6 +1,6 @@
 use Rattle.std.proofs.Common.{arith, rules, ◌∙◌, ap, ◌≡◌, to_z, of_z, pos, neg_ℤ, ◌-ℤ◌, w32, SFits}
 use Rattle.std.proofs.lemmas.Int.{ints, to_z-of_z}
-use Rattle.kalah_solve.proofs.Worths.{over_ends, value_of_over, value_of_turn}
+use Rattle.kalah_solve.proofs.OfSolver.Worths.{over_ends, value_of_over, value_of_turn}
 use Rattle.kalah_solve.proofs.solver.Solver.value_of_move.Goals as goal
 
 pub returns-requires : goal.returns-requires
@@ -15,5 +15,6 @@ pub returns-in-Turn-clause-value : goal.returns-in-Turn-clause-value
 returns-in-Turn-clause-value g c =
     let fits : SFits w32 c.margin-in-Turn.result = search rules in
     let small = c.margin-in-Turn.ensures.small in
-    let turned : to_z w32 (of_z w32 (pos 0 -ℤ to_z w32 (of_z w32 c.margin-in-Turn.result))) ≡ neg_ℤ c.margin-in-Turn.result = omega (arith, ints, small.low, small.high) in
+    let turned : to_z w32 (of_z w32 (pos 0 -ℤ to_z w32 (of_z w32 c.margin-in-Turn.result))) ≡ neg_ℤ c.margin-in-Turn.result =
+    omega (arith, ints, small.low, small.high) in
     turned ∙ ap neg_ℤ c.margin-in-Turn.ensures.worth ∙ value_of_turn c.args.board.now c.args.h c.in-Turn.next c.in-Turn.ensures.step

@@ -2,9 +2,9 @@ use Rattle.std.proofs.Common.{sym, ◌∙◌, ap, ◌≡◌, arith, subst}
 use Rattle.std.specs.Prelude.{map}
 use Rattle.std.proofs.lemmas.Grind.{common_steps}
 use Rattle.std.proofs.lemmas.List.{take_all}
-use Rattle.kalah_solve.specs.MoveValues.{move_value, values_of, TellMoves}
-use Rattle.kalah_solve.proofs.MovesSecured.{values_tell}
-use Rattle.kalah_solve.proofs.Worths.{board_equal_sides}
+use Rattle.kalah_solve.specs.Solver.MoveValues.{move_value, values_of, TellMoves}
+use Rattle.kalah_solve.proofs.OfSolver.MovesSecured.{values_tell}
+use Rattle.kalah_solve.proofs.OfSolver.Worths.{board_equal_sides}
 use Rattle.kalah_solve.proofs.solver.Solver.values.Goals as goal
 
 pub returns-clause-best_play : goal.returns-clause-best_play

@@ -9,5 +9,6 @@ pub returns-clause-counts : goal.returns-clause-counts
 returns-clause-counts c =
     let jobs : List (List Entry) = c.args.jobs.now in
     let all : c.loop-f.files.items ≡ new_files jobs =
-    c.loop-f.invariant ∙ ap (λ (l : List (List Entry)). map (λ entries. new_file (length entries)) l) (take_all c.loop-f.f jobs (let many = c.files-f-end.ensures.is in omega arith)) in
+    c.loop-f.invariant ∙ ap (λ (l : List (List Entry)). map (λ entries. new_file (length entries)) l)
+    (take_all c.loop-f.f jobs (let many = c.files-f-end.ensures.is in omega arith)) in
     ap (λ (l : List FileState). map line_count l) all ∙ new_lines jobs

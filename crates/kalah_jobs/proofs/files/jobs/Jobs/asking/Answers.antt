@@ -23,7 +23,8 @@ pub loop-file-preserved : goal.loop-file-preserved
 loop-file-preserved c = record {
   counted =
       rw (c.push_reserved.ensures.items, c.push_reserved-in-loop-file.ensures.items)
-      (counted_more c.args.question c.args.files.now c.loop-file.rows.items c.loop-file.starts.items c.loop-file.total c.loop-file.file-index c.lines-total.result
+      (counted_more c.args.question c.args.files.now c.loop-file.rows.items c.loop-file.starts.items c.loop-file.total c.loop-file.file-index
+      c.lines-total.result
       c.file-item.result c.in_ok-row.row c.loop-file.invariant.counted c.loop-file-test.true c.file-item.is
       (row_read (goal.at.loop-file-preserved c).After-lines-total) c.lines-total.ensures.is);
   rows_room = search rules;

@@ -26,7 +26,8 @@ low c = subst (λ jobs. c.args.n < job_count jobs) (sym c.self.view_is) c.requir
 
 pub overflow_sub-file : goal.overflow_sub-file
 overflow_sub-file c =
-    some_started c.self.inside.files.items c.self.inside.starts.items c.self.inside.total c.args.n c.partition_point-file.result c.self.invariant (low c) (parted c)
+    some_started c.self.inside.files.items c.self.inside.starts.items c.self.inside.total c.args.n c.partition_point-file.result c.self.invariant
+    (low c) (parted c)
 
 -- the file is there
 within : (c : After-partition_point-file) → c.partition_point-file.result - 1 < length c.self.inside.files.items

@@ -1,5 +1,0 @@
-use Rattle.kalah_jobs.proofs.OfCollecting.JobOrders.{shares_law}
-use Rattle.kalah_jobs.proofs.collecting.collector_laws.gets_each_job_once.Goals as goal
-
-pub returns : goal.returns
-returns c = shares_law

@@ -1,5 +1,0 @@
-use Rattle.kalah_jobs.proofs.OfFiles.OneLines.{lines_are_one}
-use Rattle.kalah_jobs.proofs.files.file_laws.lines_are_one.Goals as goal
-
-pub returns : goal.returns
-returns c = lines_are_one

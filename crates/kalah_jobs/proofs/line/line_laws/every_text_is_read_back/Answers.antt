@@ -1,5 +1,0 @@
-use Rattle.kalah_jobs.proofs.OfLine.Texts.{text_is_read_back}
-use Rattle.kalah_jobs.proofs.line.line_laws.every_text_is_read_back.Goals as goal
-
-pub returns : goal.returns
-returns c = text_is_read_back

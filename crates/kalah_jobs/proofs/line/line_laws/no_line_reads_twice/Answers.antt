@@ -1,5 +1,0 @@
-use Rattle.kalah_jobs.proofs.OfLine.Readings.{reads_once}
-use Rattle.kalah_jobs.proofs.line.line_laws.no_line_reads_twice.Goals as goal
-
-pub returns : goal.returns
-returns c = reads_once

@@ -1,0 +1,5 @@
+use Rattle.kalah_jobs.proofs.OfWriting.AnswerTexts.{answer_lines_tell_answers}
+use Rattle.kalah_jobs.proofs.writing.laws.answer_lines_tell_answers.Goals as goal
+
+pub returns : goal.returns
+returns c = answer_lines_tell_answers

@@ -1,5 +1,0 @@
-use Rattle.kalah_jobs.proofs.OfWriting.SplitFiles.{files_split_between_lines}
-use Rattle.kalah_jobs.proofs.writing.splitting.files_split_between_lines.Goals as goal
-
-pub returns : goal.returns
-returns c = files_split_between_lines

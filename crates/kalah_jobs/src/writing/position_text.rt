@@ -1,0 +1,138 @@
+//! Positions and steps as text.
+ghost use Rattle.std.specs.Prelude.{◌≡◌, ◌≤◌, ◌+◌, ◌∷◌, [], ◌++◌, ◌↔◌, true, false, IfOk, IsErr, OnOk, length, string_bytes};
+ghost use Rattle.std.specs.Io.KnownBytes.{Appends};
+ghost use Rattle.kalah_jobs.specs.Writing.Given.{AppendsStart};
+ghost use Rattle.kalah_rules.specs.Limits.{most_in_store};
+ghost use Rattle.kalah_rules.specs.Position.{IsWithinLimits};
+ghost use Rattle.kalah_jobs.specs.Files.Lines.{line_feed};
+ghost use Rattle.kalah_jobs.specs.Line.Line.{Reads, ending_of, side_text, line_text_of, position_after, word_of_step, step_text_of};
+ghost use Rattle.kalah_jobs.specs.Writing.Player.{houses_of, store_of};
+
+#[cfg(test)]
+mod tests;
+
+use crate::writing::player::Player;
+use crate::writing::sink::Sink;
+use crate::writing::stack_text::{ROOM, StackText};
+use kalah_rules::{Board, Rule, Step};
+use std::alloc::{AllocError, Global};
+use std::io;
+
+// Puts a player's houses, a slash and the player's store in front of the text.
+#[tactic(auto, using(crate::proofs::OfWriting::Lengths::byte_length))]
+fn prepend_side(text: &mut StackText, board: &Board, player: Player)
+    requires { length text.old + 27 ≤ ROOM }
+    ensures side { text.new ≡ side_text (houses_of player board.now) (store_of player board.now) ++ text.old }
+    ensures short { length text.new ≤ length text.old + 27 }
+{
+    let mut i = board.m();
+    text.prepend_number(u64::from(player.store(board)));
+    text.prepend("/");
+    text.prepend_number(u64::from(player.seeds(board, i)));
+    while i > 1 {
+        i -= 1;
+        text.prepend(",");
+        text.prepend_number(u64::from(player.seeds(board, i)));
+    }
+}
+
+// Returns the ending of a line that names its rule.
+fn ending(rule: Rule) -> &'static str
+    ensures ending { result.now ≡ ending_of rule }
+    ensures short { length result.now ≤ 2 }
+{
+    match rule {
+        Rule::Classic => "",
+        Rule::EmptyCapture => " e",
+    }
+}
+
+// Puts the line that writes a board in front of the text.
+#[tactic(auto, unfolding(crate::specs::Line::Line::line_text_of))]
+fn prepend_board(text: &mut StackText, board: &Board)
+    requires { length text.old + 57 ≤ ROOM }
+    ensures limits { IsWithinLimits board.now }
+    ensures line { text.new ≡ line_text_of board.now ++ text.old }
+    ensures short { length text.new ≤ length text.old + 57 }
+{
+    let _side = board.m();
+    text.prepend(ending(board.rule()));
+    prepend_side(text, board, Player::Other);
+    text.prepend(" ");
+    prepend_side(text, board, Player::Mover);
+}
+
+/// Returns the line that writes a board, as `read_line` reads it: `1,1/0 1,1/0`, with ` e` at its end if the rule is
+/// `Rule::EmptyCapture`. Both stores must be at most 99, as in every board that was read.
+///
+/// Fails with `AllocError` only if memory was refused.
+pub fn line_text(alloc: Global, board: &Board) -> Result<String, AllocError>
+    requires own_low { board.now.own_store ≤ most_in_store }
+    requires other_low { board.now.other_store ≤ most_in_store }
+    ensures text { IfOk result (λ text. string_bytes text ≡ line_text_of board.now) }
+    ensures read_back { IfOk result (λ text. Reads (string_bytes text) board.now) }
+{
+    let mut text = StackText::new();
+    prepend_board(&mut text, board);
+    String::from_str(alloc, text.as_str())
+}
+
+// Returns the board that a step leads to, and its word.
+fn parts_of_step(step: &Step) -> (&Board, &'static str)
+    ensures board { result.0.now ≡ position_after step.now }
+    ensures word { result.1.now ≡ word_of_step step.now }
+    ensures short { length result.1.now ≤ 5 }
+{
+    match step {
+        Step::Again(board) => (board, "again"),
+        Step::Turn(board) => (board, "turn"),
+        Step::Over(board) => (board, "over"),
+    }
+}
+
+// Puts the text of a move in front of the text.
+#[tactic(auto, unfolding(crate::specs::Line::Line::step_text_of), using(crate::proofs::OfWriting::Lengths::byte_length))]
+fn prepend_step(text: &mut StackText, h: u8, step: &Step)
+    requires { length text.old ≤ 1 }
+    ensures step { text.new ≡ step_text_of h step.now ++ text.old }
+    ensures short { length text.new ≤ 68 }
+{
+    let (board, word) = parts_of_step(step);
+    text.prepend(word);
+    text.prepend(" ");
+    prepend_board(text, board);
+    text.prepend(" ");
+    text.prepend_number(u64::from(h));
+}
+
+// The text of a move, and then the end.
+pub(crate) fn text_of_step(h: u8, step: &Step, end: &str) -> StackText
+    requires { length end.now ≤ 1 }
+    ensures text { result ≡ step_text_of h step.now ++ end.now }
+    ensures short { length result ≤ 68 }
+{
+    let mut text = StackText::new();
+    text.prepend(end);
+    prepend_step(&mut text, h, step);
+    text
+}
+
+/// The text of a move: the house, the board after it and `again`, `turn` or `over`, as `1 1,1/0 0,2/0 turn`. The board is
+/// written as by `line_text`, with stores of up to three digits.
+pub fn step_text(alloc: Global, h: u8, step: &Step) -> Result<String, AllocError>
+    ensures { IfOk result (λ text. string_bytes text ≡ step_text_of h step.now) }
+{
+    String::from_str(alloc, text_of_step(h, step, "").as_str())
+}
+
+/// Writes the text of a move, as `step_text` returns it, and a line feed. It allocates nothing. It fails exactly when the
+/// sink has failed afterwards; then a prefix of the line was written, and nothing else.
+pub fn write_step<W: Sink>(out: &mut W, h: u8, step: &Step) -> Result<(), io::Error>
+    requires { W.has_failed out.old ≡ false }
+    ensures fails { IsErr result ↔ (W.has_failed out.new ≡ true) }
+    ensures adds { OnOk result
+        (Appends (W.written out.old) (W.written out.new) (step_text_of h step.now ++ line_feed ∷ [])) }
+    ensures start { AppendsStart (W.written out.old) (W.written out.new) (step_text_of h step.now ++ line_feed ∷ []) }
+{
+    out.write_all(text_of_step(h, step, "\n").bytes())
+}

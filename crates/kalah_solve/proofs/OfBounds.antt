@@ -1,0 +1,3 @@
+pub mod SeedBounds
+pub mod Winnings
+pub mod Windows

@@ -1,0 +1,15 @@
+pub mod Worths
+pub mod Stores
+pub mod Bests
+pub mod Finds
+pub mod Values
+pub mod Games
+pub mod Secured
+pub mod BestMoves
+pub mod Verdicts
+pub mod SmallMargins
+pub mod StepWorths
+pub mod HousesWorth
+pub mod Roots
+pub mod SixValues
+pub mod MovesSecured

@@ -1,0 +1,8 @@
+pub mod Digits
+pub mod Entries
+pub mod RowRanks
+pub mod Choices
+pub mod Crossing
+pub mod KeptEndings
+pub mod PlacedKeys
+pub mod MostWon

@@ -1,0 +1,15 @@
+use Rattle.std.proofs.Common.{arith}
+use Rattle.std.proofs.lemmas.Int.{ints, clamps}
+use Rattle.kalah_solve.proofs.bounds.seed_bounds.SeedBounds.margins.Goals as goal
+
+pub returns-clause-held : goal.returns-clause-held
+returns-clause-held c = λ t few h. record {
+  low = omega (arith, ints, clamps, c.clamp.ensures.value, h.least);
+  high = omega (arith, ints, clamps, c.clamp-2.ensures.value, h.most);
+}
+
+pub returns-clause-no_more : goal.returns-clause-no_more
+returns-clause-no_more c = λ low t few h. record {
+  least = omega (arith, ints, clamps, c.clamp.ensures.value, h.low);
+  most = omega (arith, ints, clamps, c.clamp-2.ensures.value, h.high);
+}

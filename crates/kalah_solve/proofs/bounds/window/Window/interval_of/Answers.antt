@@ -1,0 +1,6 @@
+use Rattle.std.proofs.Common.{arith}
+use Rattle.std.proofs.lemmas.Int.{ints, clamps}
+use Rattle.kalah_solve.proofs.bounds.window.Window.interval_of.Goals as goal
+
+pub returns-else-answer-self-2-clause-held : goal.returns-else-answer-self-2-clause-held
+returns-else-answer-self-2-clause-held c = λ z low high e. record { low = omega (arith, ints, clamps); high = omega (arith, ints, clamps) }

@@ -1,6 +1,0 @@
-use Rattle.std.proofs.Common.{◌++◌}
-use Rattle.kalah_solve.proofs.RowRanks.{IsRanked}
-use Rattle.kalah_solve.proofs.endings.Endings.rank.Given as goal
-
-abbrev pub invariant-loop-passed : goal.invariant-loop-passed
-invariant-loop-passed g l = IsRanked (l.houses.own ++ l.houses.other) l.passed l.sums l.rank

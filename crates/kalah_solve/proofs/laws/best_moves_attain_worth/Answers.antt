@@ -1,5 +1,0 @@
-use Rattle.kalah_solve.proofs.BestMoves.{best_moves}
-use Rattle.kalah_solve.proofs.laws.best_moves_attain_worth.Goals as goal
-
-pub returns : goal.returns
-returns c = best_moves

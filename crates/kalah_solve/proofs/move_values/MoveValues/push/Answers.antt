@@ -1,9 +1,0 @@
-use Rattle.std.proofs.Common.{arith, ap, length}
-use Rattle.kalah_solve.specs.SixValues.{count_of_six}
-use Rattle.kalah_solve.proofs.SixValues.{six_more}
-use Rattle.kalah_solve.proofs.move_values.MoveValues.push.Goals as goal
-
-pub invariant_of-self : goal.invariant_of-self
-invariant_of-self c =
-    six_more c.self.inside.count c.self.inside.values c.args.value c.self.invariant
-    (omega (arith, count_of_six c.self.invariant, ap length c.self.view_is, c.requires))

@@ -1,7 +1,0 @@
-use Rattle.std.proofs.Common.{ap, ◌*◌, ◌%◌, ◌^◌}
-use Rattle.kalah_solve.specs.Places.{mixed}
-use Rattle.kalah_solve.proofs.places.mixed_key.Goals as goal
-
-pub returns-clause-mixed : goal.returns-clause-mixed
-unfolding mixed
-returns-clause-mixed c = ap (λ k. k * 11400714819323198485 % 2 ^ 64) c.key.ensures.key

@@ -1,0 +1,16 @@
+use Rattle.std.proofs.Common.{◌-◌, ◌≤◌, ◌≡◌}
+use Rattle.std.specs.Prelude.{max, min}
+use Rattle.kalah_solve.specs.Bounds.Won.{won}
+use Rattle.kalah_solve.proofs.search.Search.won_within.Given as goal
+
+abbrev pub invariant-loop-low : goal.invariant-loop-low
+invariant-loop-low g l = record {
+  least : l.fn.asked.least ≤ l.low;
+  ordered : l.low ≤ l.high;
+  most : l.high ≤ l.fn.asked.most;
+  bar : l.bar ≤ 32;
+  is : max l.fn.asked.least (min l.fn.asked.most (won l.houses)) ≡ max l.low (min l.high (won l.houses));
+}
+
+abbrev pub decreases-loop-low : goal.decreases-loop-low
+decreases-loop-low g l = l.high - l.low

@@ -1,6 +1,0 @@
-use Rattle.std.proofs.Common.{arith}
-use Rattle.kalah_solve.proofs.Takings.{taken_share}
-use Rattle.kalah_solve.proofs.share.Share.unknown.Goals as goal
-
-pub returns-clause-held : goal.returns-clause-held
-returns-clause-held c = c.whole.ensures.held _ (omega (arith, (taken_share c.args.houses.now c.seeds.ensures.limits).few, c.seeds.ensures.seeds))

@@ -1,0 +1,5 @@
+use Rattle.kalah_solve.proofs.OfSolver.Verdicts.{verdict_is_one}
+use Rattle.kalah_solve.proofs.solver.laws.best_verdict_is_one.Goals as goal
+
+pub returns : goal.returns
+returns c = verdict_is_one

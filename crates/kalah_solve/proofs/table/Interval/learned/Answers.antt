@@ -1,6 +1,0 @@
-use Rattle.std.proofs.Common.{arith}
-use Rattle.std.proofs.lemmas.Int.{ints, clamps}
-use Rattle.kalah_solve.proofs.table.Interval.learned.Goals as goal
-
-pub returns-else-answer-window-2-clause-held : goal.returns-else-answer-window-2-clause-held
-returns-else-answer-window-2-clause-held c = λ z low high e. record { low = omega (arith, ints, clamps); high = omega (arith, ints, clamps) }

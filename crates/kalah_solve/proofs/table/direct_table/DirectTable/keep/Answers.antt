@@ -1,0 +1,36 @@
+use Rattle.std.proofs.Common.{arith, ◌∙◌, ◌≡◌, length}
+use Rattle.std.specs.Prelude.{slice_set}
+use Rattle.std.proofs.Math.ListN.{length-set}
+use Rattle.kalah_solve.specs.Table.DirectTable.{stored_bounds}
+use Rattle.kalah_solve.specs.Bounds.Won.{won, IsWithinBounds}
+use Rattle.kalah_solve.proofs.OfTable.PlacedKeys.{shares_more}
+use Rattle.kalah_solve.proofs.OfBounds.Winnings.{taken_share}
+use Rattle.kalah_solve.proofs.table.direct_table.DirectTable.keep.Goals as goal
+use Rattle.kalah_solve.proofs.table.direct_table.DirectTable.keep.Goals.{in-Some, in_default}
+
+pub of-stored-requires-clause-least : goal.of-stored-requires-clause-least
+of-stored-requires-clause-least g c =
+    let limits = c.mixed_key-mixed.ensures.limits in
+    omega (arith, c.requires.least, (taken_share c.args.houses.now limits).few, limits.few_seeds)
+
+pub invariant_of-self : goal.invariant_of-self
+invariant_of-self g c = elim c.match-get_mut.branch [
+  | in-Some w ↦
+      let places = c.self.inside.places.items in
+      let at = c.place_of-at.result in
+      let mixed = c.mixed_key-mixed in
+      let length_is : c.len.result ≡ length places = omega (arith, c.len.ensures) in
+      let limits = mixed.ensures.limits in
+      let count : length (slice_set places at c.of-stored.result) ≡ length places = length-set places at c.of-stored.result in
+      let few = (taken_share c.args.houses.now limits).few in
+      let known : IsWithinBounds (stored_bounds c.of-stored.result) (won c.args.houses.now) = rw c.of-stored.ensures.share (record {
+        least = c.requires.least;
+        most = omega (arith, c.requires.most, c.min-most.ensures, few, limits.few_seeds);
+      }) in
+      rw w.self-inside-is (
+        rw count c.self.invariant.0,
+        shares_more places c.args.houses.now mixed.result at c.of-stored.result c.self.invariant.0 c.self.invariant.1 limits mixed.ensures.mixed
+            (rw length_is at c.place_of-at.ensures) w.in-Some.ensures.item.3.0 (c.of-stored.ensures.rest ∙ c.rest_of.ensures.rest) known,
+      )
+  | in_default w ↦ rw w.self-inside-is c.self.invariant
+]

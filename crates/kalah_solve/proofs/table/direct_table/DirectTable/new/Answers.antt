@@ -1,0 +1,19 @@
+use Rattle.std.proofs.Common.{arith, refl, ◌≡◌}
+use Rattle.std.specs.Prelude.{replicate}
+use Rattle.std.proofs.lemmas.List.{length-replicate}
+use Rattle.kalah_solve.proofs.OfTable.PlacedKeys.{shares_unknown}
+use Rattle.kalah_solve.proofs.table.direct_table.DirectTable.new.Goals as goal
+
+pub invariant_of-result : goal.invariant_of-result
+invariant_of-result g c =
+    let unknown = c.of-unknown.result in
+    let count = c.max-count.result in
+    let places = c.in_ok-places.places.items in
+    let all : places ≡ replicate count unknown = c.in_ok-places.ensures.items_if_clones_equal (λ y same. same) in
+    rw all (
+      record {
+        least = omega (arith, length-replicate count unknown, c.max-count.ensures);
+        most = omega (arith, length-replicate count unknown, c.max-count.ensures, c.ranges.count.fits);
+      },
+      shares_unknown count unknown (rw (c.of-unknown.ensures.share, c.whole.ensures.is) refl),
+    )

@@ -1,0 +1,7 @@
+use Rattle.std.proofs.Common.{ap, ◌*◌, ◌%◌, ◌^◌}
+use Rattle.kalah_solve.specs.Table.DirectTable.{mixed}
+use Rattle.kalah_solve.proofs.table.direct_table.mixed_key.Goals as goal
+
+pub returns-clause-mixed : goal.returns-clause-mixed
+unfolding mixed
+returns-clause-mixed c = ap (λ k. k * 11400714819323198485 % 2 ^ 64) c.key.ensures.key

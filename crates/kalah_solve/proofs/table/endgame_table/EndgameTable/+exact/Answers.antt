@@ -1,0 +1,86 @@
+use Rattle.std.proofs.Common.{arith, rules, ◌-◌, ◌^◌}
+use Rattle.kalah_solve.proofs.RowMarks.{marks_fall}
+use Rattle.kalah_solve.proofs.OfSearch.Tries.{marked_legal, marks_fewer, last_legal}
+use Rattle.kalah_solve.proofs.OfTable.MostWon.{most_of_none, most_more, most_all, most_won, after_again, after_turn}
+use Rattle.kalah_solve.proofs.table.endgame_table.EndgameTable.+exact.Goals as goal
+
+pub most_won-loop-left-init : goal.most_won-loop-left-init
+most_won-loop-left-init g t c =
+    let a = c.args.houses.now in
+    let marks = c.filled_houses-left.ensures in
+    record {
+      small = marks.small;
+      legal = λ i some. marked_legal a i marks.limits c.requires.going ((marks.marked i).0 some);
+      is = most_of_none a c.filled_houses-left.result marks.marked;
+    }
+
+pub most_won-move_wins-requires : goal.most_won-move_wins-requires
+most_won-move_wins-requires g t c κs within =
+    let has = last_legal c.args.houses.now c.loop-left.left c.split_last-h.result.0 c.split_last-h.ensures.last c.loop-left.invariant.legal in
+    (omega arith, (within, (has, c.requires.few)))
+
+pub most_won-returns-then-most-seeds : goal.most_won-returns-then-most-seeds
+most_won-returns-then-most-seeds g t c =
+    let marks = c.loop-left.left in
+    let h = c.split_last-h.result.0 in
+    let last = c.split_last-h.ensures.last in
+    let before = c.loop-left.invariant in
+    let limits = c.seeds-seeds.ensures.limits in
+    let has = last_legal c.args.houses.now marks h last before.legal in
+    most_all c.args.houses.now (marks - 32 ^ (h - 1)) c.max-most.result limits
+    (most_more c.args.houses.now marks c.loop-left.most h c.move_wins.result c.max-most.result limits before.is last has c.move_wins.ensures
+    (search (rules, c.max-most.ensures)))
+    (omega (arith, c.if-most-seeds.true, c.seeds-seeds.ensures.seeds))
+
+pub most_won-loop-left-preserved : goal.most_won-loop-left-preserved
+most_won-loop-left-preserved g t c =
+    let marks = c.loop-left.left in
+    let h = c.split_last-h.result.0 in
+    let last = c.split_last-h.ensures.last in
+    let before = c.loop-left.invariant in
+    let has = last_legal c.args.houses.now marks h last before.legal in
+    rw c.split_last-h.ensures.rest (record {
+      small = omega (arith, before.small, marks_fall marks h last);
+      legal = marks_fewer c.args.houses.now marks h last before.legal;
+      is = most_more c.args.houses.now marks c.loop-left.most h c.move_wins.result c.max-most.result c.seeds-seeds.ensures.limits before.is last has
+          c.move_wins.ensures
+          (search (rules, c.max-most.ensures));
+    })
+
+pub most_won-loop-left-smaller : goal.most_won-loop-left-smaller
+most_won-loop-left-smaller g t c = rw c.split_last-h.ensures.rest (marks_fall c.loop-left.left c.split_last-h.result.0 c.split_last-h.ensures.last)
+
+pub most_won-returns : goal.most_won-returns
+most_won-returns g t c =
+    most_won c.args.houses.now c.loop-left.left c.loop-left.most c.seeds-seeds.ensures.limits c.requires.going c.loop-left.invariant.is
+    (omega (arith, c.loop-left-test.false))
+
+pub move_wins-won-requires : goal.move_wins-won-requires
+move_wins-won-requires g t c κs within =
+    let after = after_again c.args.houses.now c.args.h c.play.result c.in-Again.gained c.in-Again.next c.seeds-seeds.ensures.limits c.requires.legal
+    c.play.ensures c.in-Again.is in
+    (omega (arith, after.next.fewer), (within, (after.next.going, omega (arith, after.next.kept, c.requires.few))))
+
+pub move_wins-overflow_add-result : goal.move_wins-overflow_add-result
+move_wins-overflow_add-result g t c =
+    let after = after_again c.args.houses.now c.args.h c.play.result c.in-Again.gained c.in-Again.next c.seeds-seeds.ensures.limits c.requires.legal
+    c.play.ensures c.in-Again.is in
+    omega (arith, after.next.kept, after.few, c.requires.few, c.won.ensures)
+
+pub move_wins-won-requires-in-Turn : goal.move_wins-won-requires-in-Turn
+move_wins-won-requires-in-Turn g t c κs within =
+    let after = after_turn c.args.houses.now c.args.h c.play.result c.in-Turn.gained c.in-Turn.next c.seeds-seeds.ensures.limits c.requires.legal
+    c.play.ensures c.in-Turn.is in
+    (omega (arith, after.next.fewer), (within, (after.next.going, omega (arith, after.next.kept, c.requires.few))))
+
+pub move_wins-overflow_sub-result : goal.move_wins-overflow_sub-result
+move_wins-overflow_sub-result g t c =
+    let after = after_turn c.args.houses.now c.args.h c.play.result c.in-Turn.gained c.in-Turn.next c.seeds-seeds.ensures.limits c.requires.legal
+    c.play.ensures c.in-Turn.is in
+    omega (arith, after.few, c.seeds.ensures.seeds, c.won-in-Turn.ensures)
+
+pub move_wins-overflow_add-result-in-Turn : goal.move_wins-overflow_add-result-in-Turn
+move_wins-overflow_add-result-in-Turn g t c =
+    let after = after_turn c.args.houses.now c.args.h c.play.result c.in-Turn.gained c.in-Turn.next c.seeds-seeds.ensures.limits c.requires.legal
+    c.play.ensures c.in-Turn.is in
+    omega (arith, after.next.kept, c.requires.few, c.seeds.ensures.seeds)

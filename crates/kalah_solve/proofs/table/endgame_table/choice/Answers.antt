@@ -1,0 +1,30 @@
+use Rattle.std.proofs.Common.{arith, sym, ◌-◌}
+use Rattle.kalah_solve.proofs.OfTable.Choices.{choice_first, choice_none, choice_next, choice_small}
+use Rattle.kalah_solve.proofs.table.endgame_table.choice.Goals as goal
+
+pub returns-then-i-lt10 : goal.returns-then-i-lt10
+returns-then-i-lt10 c = sym (choice_first c.args.i c.if-i-lt10.true)
+
+pub returns-then-i-eq0 : goal.returns-then-i-eq0
+returns-then-i-eq0 c = sym (choice_none c.args.i c.if-i-eq0.true)
+
+pub overflow_add-result : goal.overflow_add-result
+overflow_add-result c =
+    let i = c.args.i in
+    omega (
+      arith,
+      c.requires.before (i - 10) (omega (arith, c.if-i-lt10.false)),
+      c.requires.before (i - 1) (omega (arith, c.if-i-lt10.false)),
+      choice_small (i - 10) (omega (arith, c.requires.inside)),
+      choice_small (i - 1) (omega (arith, c.requires.inside)),
+    )
+
+pub returns : goal.returns
+returns c =
+    let i = c.args.i in
+    omega (
+      arith,
+      c.requires.before (i - 10) (omega (arith, c.if-i-lt10.false)),
+      c.requires.before (i - 1) (omega (arith, c.if-i-lt10.false)),
+      choice_next i c.if-i-lt10.false c.if-i-eq0.false,
+    )

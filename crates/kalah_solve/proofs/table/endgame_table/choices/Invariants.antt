@@ -1,0 +1,9 @@
+use Rattle.std.proofs.Common.{◌≡◌, length}
+use Rattle.kalah_solve.specs.Table.EndgameTable.{AreChoices}
+use Rattle.kalah_solve.proofs.table.endgame_table.choices.Given as goal
+
+abbrev pub invariant-loop-i : goal.invariant-loop-i
+invariant-loop-i l = record {
+  cells : length l.choices ≡ 120;
+  right : AreChoices l.i l.choices;
+}

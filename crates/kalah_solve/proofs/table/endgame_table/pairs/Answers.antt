@@ -1,0 +1,12 @@
+use Rattle.std.proofs.Common.{arith, ◌∙◌}
+use Rattle.std.proofs.Math.ListN.{length-set}
+use Rattle.kalah_solve.proofs.OfTable.Choices.{pairs_more}
+use Rattle.kalah_solve.proofs.table.endgame_table.pairs.Goals as goal
+
+pub loop-i-preserved : goal.loop-i-preserved
+loop-i-preserved c =
+    let before = c.loop-i.invariant in
+    record {
+      cells = length-set c.loop-i.pairs c.loop-i.i c.pair.result ∙ before.cells;
+      right = pairs_more c.loop-i.pairs c.loop-i.i c.pair.result (omega (arith, before.cells, c.loop-i-test.true)) before.right c.pair.ensures;
+    }

@@ -1,0 +1,5 @@
+use Rattle.kalah_solve.proofs.OfTable.KeptEndings.{tells_nothing}
+use Rattle.kalah_solve.proofs.table.endgame_table.words.empty_words.Goals as goal
+
+pub new-requires : goal.new-requires
+new-requires g c = tells_nothing 0

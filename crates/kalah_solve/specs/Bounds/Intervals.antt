@@ -1,0 +1,25 @@
+-- Intervals of margins, and the numbers that a window distinguishes.
+use Rattle.std.specs.Prelude.{ℤ, pos, neg_ℤ, ◌≤ℤ◌}
+use Rattle.std.specs.Int.{int_max, int_min}
+use Rattle.kalah_rules.specs.Limits.{most_seeds}
+use Rattle.kalah_solve.specs.declared.bounds.interval.Interval.{Interval}
+
+-- houses are worth at most all seeds that they can hold, to one player or to the other
+abbrev pub most_margin : ℤ
+most_margin = pos most_seeds
+
+abbrev pub least_margin : ℤ
+least_margin = neg_ℤ most_margin
+
+-- the numbers from the first to the last
+abbrev pub from_to : ℤ → ℤ → Interval
+from_to first last = record { lo = first; hi = last }
+
+-- the number is in the interval
+pub record Encloses (i : Interval) (z : ℤ) : Type 0 where
+  pub low : i.lo ≤ℤ z
+  pub high : z ≤ℤ i.hi
+
+-- the number, raised to lo and lowered to hi
+abbrev pub within : ℤ → ℤ → ℤ → ℤ
+within lo hi z = int_max lo (int_min z hi)

@@ -1,0 +1,7 @@
+pub mod Worth
+pub mod BestPlay
+pub mod Verdict
+pub mod Laws
+pub mod StepWorth
+pub mod SixValues
+pub mod MoveValues

@@ -1,0 +1,39 @@
+-- What a position is worth, and by which house.
+use Rattle.std.specs.Prelude.{◌≡◌, ℕ, ◌≤◌, true, false, ℤ, if◌then◌else◌}
+use Rattle.kalah_rules.specs.Limits.{most_houses}
+use Rattle.kalah_rules.specs.Position.{Position, is_over, final_margin, IsSmallMargin}
+use Rattle.kalah_solve.specs.Solver.Worth.{worth, best_house}
+use Rattle.kalah_solve.specs.Solver.BestPlay.{IsBestPlay, IsBestMove}
+use Rattle.kalah_solve.specs.declared.solver.verdict.Verdict.{Verdict}
+use Rattle.kalah_solve.specs.declared.solver.verdict.Verdict.TheVariants.{Best, Over}
+
+-- the final margin of a game that is over, and else the margin of best play with the lowest house that attains it
+abbrev pub verdict_of : Position → Verdict
+verdict_of p = if is_over p then Over (final_margin p) else Best (worth p) (best_house p)
+
+-- the margin is one that a player can have, and the house is one of a side
+pub record IsSmallBest (margin : ℤ) (house : ℕ) : Type 0 where
+  pub small : IsSmallMargin margin
+  pub first : 1 ≤ house
+  pub last : house ≤ most_houses
+
+abbrev pub IsSmallVerdict : Verdict → Type 0
+IsSmallVerdict (Best margin house) = IsSmallBest margin house
+IsSmallVerdict (Over margin) = IsSmallMargin margin
+
+-- the game goes on, and the house is the lowest best move, which secures the margin of best play
+pub record TellsBestMove (p : Position) (margin : ℤ) (house : ℕ) : Type 0 where
+  pub going : is_over p ≡ false
+  pub best : IsBestMove p house margin
+  pub lowest : (h : ℕ) → IsBestMove p h margin → house ≤ h
+
+-- the game is over with the margin
+pub record TellsEnd (p : Position) (margin : ℤ) : Type 0 where
+  pub over : is_over p ≡ true
+  pub final : margin ≡ final_margin p
+  pub best_play : IsBestPlay p margin
+
+-- the verdict states the margin of best play and the lowest best move, or the margin of a game that is over
+abbrev pub TellsBestPlay : Position → Verdict → Type 0
+TellsBestPlay p (Best margin house) = TellsBestMove p margin house
+TellsBestPlay p (Over margin) = TellsEnd p margin

@@ -1,0 +1,39 @@
+-- What the words of endings store.
+use Rattle.std.specs.Prelude.{◌≡◌, ℕ, ◌+◌, ◌*◌, ◌/◌, ◌%◌, ◌^◌, ◌<◌, ◌≢◌, suc, List, slice_index}
+use Rattle.kalah_rules.specs.Position.{Rows, IsWithinHouses}
+use Rattle.kalah_solve.specs.Table.RowRank.{choose, game_of, rank_of_houses}
+use Rattle.kalah_solve.specs.Bounds.Won.{won}
+
+-- cell k of the choices: the number of ways to choose j + 1 of s + j things, where k is 10 * j + s
+abbrev pub choice_at : ℕ → ℕ
+choice_at k = choose (k % 10 + k / 10) (suc (k / 10))
+
+-- the first n cells hold that
+abbrev pub AreChoices : ℕ → List ℕ → Type 0
+AreChoices n choices = (k : ℕ) → k < n → slice_index choices k ≡ choice_at k
+
+-- cell k of the pairs: what two cells of a row add to its rank, with `past` pairs past them and given numbers of seeds from
+-- either on, where k is 320 * past + 32 * from the second on + from the first on
+abbrev pub pair_at : ℕ → ℕ
+pair_at k = choose (k % 32 + 2 * (k / 320) + 1) (2 * (k / 320) + 2) + choose (k / 32 % 10 + 2 * (k / 320)) (2 * (k / 320) + 1)
+
+-- the first n cells hold that, if there are few seeds
+abbrev pub ArePairs : ℕ → List ℕ → Type 0
+ArePairs n pairs = (k : ℕ) → k < n → k % 32 < 10 → slice_index pairs k ≡ pair_at k
+
+-- the houses that a word of endings covers: those of this game with this eighth of their rank
+abbrev pub label_of : Rows → ℕ
+label_of a = game_of a + 16 * (rank_of_houses a / 8)
+
+-- the word stores that label in its upper half
+abbrev pub stored_label : ℕ → ℕ
+stored_label word = word / 2 ^ 32
+
+-- and in four bits of its lower half, for each of those houses, nothing or one more than the mover takes
+abbrev pub stored_at : ℕ → ℕ → ℕ
+stored_at word at = word / 2 ^ (4 * at) % 16
+
+-- what it states is what the mover takes
+unfoldable pub StoresWon : ℕ → Type 0
+StoresWon word = (a : Rows) → IsWithinHouses a → stored_label word ≡ label_of a → stored_at word (rank_of_houses a % 8) ≢ 0 →
+    stored_at word (rank_of_houses a % 8) ≡ suc (won a)

@@ -1,0 +1,65 @@
+//! Laws over all positions, all strategies and both rules of capture.
+ghost use Rattle.kalah_solve.specs.Solver.Laws.{WorthOfOver, WorthIsGreatestValue, WorthIsMostOfMoves, GameThatGoesOnHasMove, CountPlaysNoPart, BestHouseIsLowest, StoresShiftWorth, StoresKeepBestHouse, StrategiesPlayAGame, StrategiesPlayOneGame, GamesEnd, WorthIsBestPlay, BestPlayIsOne, BestHouseIsBestPlay, BestPlayAgainstStrategies, BestMovesAttain, BestVerdictIsOne};
+ghost use Rattle.kalah_solve.specs.Solver.MoveValues.{ValueIsWorthOfMove, WorthOfMoveIsOne, ValuesTellVerdict};
+
+/// The worth of a position: that of a game that is over is its final margin, and that of any other position is
+/// the greatest value of a legal move. Such a position has at least one legal move.
+pub fn worth_is_greatest_value()
+    ensures over { WorthOfOver }
+    ensures going { WorthIsGreatestValue }
+    ensures most { WorthIsMostOfMoves }
+    ensures moves { GameThatGoesOnHasMove }
+    ensures count { CountPlaysNoPart }
+{}
+
+/// The best house of a game that goes on is the lowest legal house whose value is the worth of the position.
+pub fn best_house_is_lowest()
+    ensures { BestHouseIsLowest }
+{}
+
+/// Stores do not influence play: the worth of a position is the difference of the stores plus the worth of its houses with
+/// empty stores, and the best house is the same for any stores.
+pub fn stores_only_shift()
+    ensures worth { StoresShiftWorth }
+    ensures house { StoresKeepBestHouse }
+{}
+
+/// Two players that follow strategies play a game to its end, and only one. No game by the rules has more moves than
+/// `moves_left`, and each ends in a position that is over.
+pub fn players_play_one_game()
+    ensures game { StrategiesPlayAGame }
+    ensures one { StrategiesPlayOneGame }
+    ensures end { GamesEnd }
+{}
+
+/// The worth of a position is the margin of best play: the player to move has a strategy that gets at least as much
+/// against any play of the other player, the other player has one that allows no more, and no other margin is both. Always
+/// moving the lowest best house is such a strategy, for either player and in every position.
+pub fn worth_is_best_play()
+    ensures worth { WorthIsBestPlay }
+    ensures one { BestPlayIsOne }
+    ensures house { BestHouseIsBestPlay }
+    ensures strategies { BestPlayAgainstStrategies }
+{}
+
+/// The moves that best play can begin with are the legal houses whose value is the worth of the position.
+pub fn best_moves_attain_worth()
+    ensures { BestMovesAttain }
+{}
+
+/// There is only one verdict of best play: any verdict that states it is the solver's.
+pub fn best_verdict_is_one()
+    ensures { BestVerdictIsOne }
+{}
+
+/// The value of a move is what it secures, and no more: the player to move has a strategy that begins with it and gets at
+/// least as much, the other player has one that allows no more after it, and no other margin is both.
+pub fn value_is_worth_of_move()
+    ensures worth { ValueIsWorthOfMove }
+    ensures one { WorthOfMoveIsOne }
+{}
+
+/// In a game that goes on, the verdict is the greatest of the moves' values and the first house that has it.
+pub fn values_tell_verdict()
+    ensures { ValuesTellVerdict }
+{}

@@ -1,0 +1,142 @@
+//! A table of places for what is known of houses. Each place keeps the houses stored last; nothing is searched for.
+ghost use Rattle.std.specs.Prelude.{◌≡◌, ◌≤◌, ◌<◌, ◌*◌, ◌/◌, ◌^◌, ℕ, length};
+ghost use Rattle.kalah_rules.specs.Limits.{most_seeds};
+ghost use Rattle.kalah_rules.specs.Position.{IsWithinHouses};
+ghost use Rattle.kalah_rules.specs.Key.{key_of};
+ghost use Rattle.kalah_solve.specs.Bounds.Won.{won, between, IsWithinBounds};
+ghost use Rattle.kalah_solve.specs.Table.DirectTable.{mixed, place_among, left_open, stored_rest, stored_bounds, AreEnough};
+
+use crate::bounds::seed_bounds::SeedBounds;
+use kalah_rules::{Houses, MOST_SEEDS};
+use std::alloc::{AllocError, Allocator, Global};
+use std::marker::Model;
+
+// The least number of places: enough that a place and what it leaves open of a key determine the key.
+const LEAST_PLACES: usize = 1024;
+
+// The factor by which a key is mixed.
+const MIX: u64 = 0x9E37_79B9_7F4A_7C15;
+
+// The number of values of what a place leaves open.
+const OPEN: u64 = 0x40_0000_0000_0000;
+
+// What is known of some houses that have this place, as one number: from bit 10 on what the place leaves open of their key, and
+// below it the most and the least that the mover takes. Initially it holds what is known of all houses.
+#[derive(Clone, Copy)]
+struct Place {
+    stored: u64,
+}
+
+impl Place {
+    fn of(rest: u64, bounds: SeedBounds) -> Place
+        requires rest { rest < 2 ^ 54 }
+        requires least { bounds.least ≤ most_seeds }
+        requires most { bounds.most ≤ most_seeds }
+        ensures rest { stored_rest result ≡ rest }
+        ensures share { stored_bounds result ≡ bounds }
+    {
+        Place {
+            stored: 1024 * rest + 32 * bounds.most as u64 + bounds.least as u64,
+        }
+    }
+
+    fn rest(self) -> u64
+        ensures { result ≡ stored_rest self }
+    {
+        self.stored / 1024
+    }
+
+    fn bounds(self) -> SeedBounds
+        ensures { result ≡ stored_bounds self }
+    {
+        SeedBounds {
+            least: (self.stored % 32) as u8,
+            most: (self.stored / 32 % 32) as u8,
+        }
+    }
+}
+
+/// A fixed number of places, each shared by many houses.
+#[derive(Drop)]
+pub(crate) struct DirectTable<A: Allocator = Global> {
+    places: Vec<Place, A>,
+}
+
+impl<A: Allocator> Model for DirectTable<A> {
+    ghost use Rattle.std.specs.Prelude.{List, length};
+    ghost use Rattle.kalah_solve.specs.declared.table.direct_table.Place.{Place};
+    ghost use Rattle.kalah_solve.specs.Table.DirectTable.{AreEnough, StoreBounds};
+
+    ghost Value = { List Place };
+
+    ghost view = { λ p. p.places.items };
+
+    ghost invariant = { λ p. AreEnough (length p.places.items) × StoreBounds p.places.items };
+}
+
+// Returns the mixed key of the houses.
+fn mixed_key(houses: &Houses) -> u64
+    ensures mixed { result ≡ mixed (key_of houses.now) }
+    ensures small { result < 2 ^ 64 }
+    ensures limits { IsWithinHouses houses.now }
+{
+    houses.key().wrapping_mul(MIX)
+}
+
+// Returns the place of a mixed key among `count` places.
+fn place_of(mixed: u64, count: usize) -> usize
+    requires { count ≤ 2 ^ 32 }
+    ensures { result ≡ place_among count mixed }
+{
+    ((mixed >> 32) * count as u64 >> 32) as usize
+}
+
+// Returns what its place leaves open of a mixed key.
+fn rest_of(mixed: u64) -> u64
+    ensures rest { result ≡ left_open mixed }
+    ensures small { result < 2 ^ 54 }
+{
+    mixed % OPEN
+}
+
+impl<A: Allocator> DirectTable<A> {
+    /// Makes `count` places, or 1,024 if that is more.
+    ///
+    /// Fails with `AllocError` if there is no memory for them.
+    pub(crate) fn new(alloc: A, count: u32) -> Result<DirectTable<A>, AllocError> {
+        let unknown = Place::of(0, SeedBounds::whole(MOST_SEEDS as u8));
+        let count = LEAST_PLACES.max(count as usize);
+        let places = Vec::from_elem(alloc, unknown, count)?;
+        Ok(DirectTable { places })
+    }
+
+    #[cfg(test)]
+    pub(crate) fn len(&self) -> usize {
+        self.places.len()
+    }
+
+    /// Returns what the place of the houses states of them: the share that the mover takes.
+    pub(crate) fn look_up(&self, houses: &Houses) -> SeedBounds
+        ensures { IsWithinBounds result (won houses.now) }
+    {
+        let mixed = mixed_key(houses);
+        match self.places.get(place_of(mixed, self.places.len())) {
+            Some(place) if place.rest() == rest_of(mixed) => place.bounds(),
+            _ => SeedBounds::unknown(houses),
+        }
+    }
+
+    /// Stores in the place of the houses that the mover's share is within this one.
+    pub(crate) fn keep(&mut self, houses: &Houses, bounds: SeedBounds)
+        requires { IsWithinBounds bounds (won houses.now) }
+    {
+        let mixed = mixed_key(houses);
+        let least = bounds.least;
+        let most = bounds.most.min(MOST_SEEDS as u8);
+        let stored = Place::of(rest_of(mixed), SeedBounds { least, most });
+        let at = place_of(mixed, self.places.len());
+        if let Some(place) = self.places.get_mut(at) {
+            *place = stored;
+        }
+    }
+}

@@ -1,0 +1,200 @@
+//! The exact number of seeds that the mover takes from houses with few seeds, kept once it is known.
+ghost use Rattle.std.specs.Prelude.{◌≡◌, ◌≤◌, ◌<◌, ◌+◌, ◌*◌, ◌/◌, ◌%◌, ◌^◌, ◌++◌, ℕ, IfSome};
+ghost use Rattle.kalah_rules.specs.Position.{bare, seeds_in_houses, IsWithinHouses};
+ghost use Rattle.kalah_rules.specs.Key.{number_of};
+ghost use Rattle.kalah_solve.specs.Table.RowRank.{choose, sums_number, rank_of_houses, game_of};
+ghost use Rattle.kalah_solve.specs.Bounds.Won.{won};
+ghost use Rattle.kalah_solve.specs.Table.EndgameTable.{AreChoices, choice_at, ArePairs, pair_at};
+
+mod exact;
+#[cfg(test)]
+mod tests;
+mod words;
+
+use crate::table::endgame_table::words::{
+    FIRST_WORDS, TrueWord, begun, empty_words, label_of, stored_at, with_stored,
+};
+use kalah_rules::Houses;
+use std::alloc::{AllocError, Allocator, Global};
+use std::marker::Model;
+use std::sync::atomic::AtomicIn;
+use std::sync::atomic::Ordering::Relaxed;
+
+// The place value of the other player's first house in a key.
+const OTHER_ROW: u64 = 0x4000_0000;
+
+/// The known endings of houses with at most 9 seeds: one word for each eight of them with consecutive ranks. Threads may share
+/// it, since what a word states is true, whichever thread wrote it.
+#[derive(Drop)]
+pub(crate) struct EndgameTable<A: Allocator = Global> {
+    words: Vec<AtomicIn<TrueWord>, A>,
+    pairs: [u32; 1920],
+}
+
+impl<A: Allocator> Model for EndgameTable<A> {
+    ghost use Rattle.kalah_solve.specs.Table.EndgameTable.{ArePairs};
+
+    ghost Value = { Unit {0} };
+
+    ghost view = { λ _. tt };
+
+    ghost invariant = { λ e. ArePairs 1920 e.pairs };
+}
+
+// Returns cell `i` of the choices, from the cells before it.
+fn choice(choices: &[u32; 120], i: usize) -> u32
+    requires inside { i < 120 }
+    requires before { AreChoices i choices.now }
+    ensures { result ≡ choice_at i }
+{
+    if i < 10 {
+        return i as u32;
+    }
+    if i % 10 == 0 {
+        return 0;
+    }
+    choices[i - 10] + choices[i - 1]
+}
+
+// Returns the table of choices.
+fn choices() -> [u32; 120]
+    ensures { AreChoices 120 result }
+{
+    let mut choices = [0u32; 120];
+    for i in 0..120usize {
+        choices[i] = choice(&choices, i);
+    }
+    choices
+}
+
+// Returns cell `i` of the pairs, from the choices.
+fn pair(choices: &[u32; 120], i: usize) -> u32
+    requires inside { i < 1920 }
+    requires choices { AreChoices 120 choices.now }
+    ensures { i % 32 < 10 → result ≡ pair_at i }
+{
+    let first = i % 32;
+    let second = i / 32 % 10;
+    let past = i / 320 * 2;
+    if first > 9 {
+        return 0;
+    }
+    choices[10 * (past + 1) + first] + choices[10 * past + second]
+}
+
+// Returns the table of pairs.
+fn pairs() -> [u32; 1920]
+    ensures { ArePairs 1920 result }
+{
+    let choices = choices();
+    let mut pairs = [0u32; 1920];
+    for i in 0..1920usize {
+        pairs[i] = pair(&choices, i);
+    }
+    pairs
+}
+
+// Returns the houses of both players as one row: a number with five bits for each house.
+fn joined_rows(houses: &Houses) -> u64
+    ensures row { result ≡ number_of (houses.now.own ++ houses.now.other) }
+    ensures small { result < 2 ^ 60 }
+    ensures limits { IsWithinHouses houses.now }
+{
+    let key = houses.key();
+    let other = key / OTHER_ROW % OTHER_ROW;
+    key % OTHER_ROW + (other << (5 * houses.m() as u32))
+}
+
+// Returns the number of seeds in that row from each house on: a number with five bits for each.
+fn sums_of(houses: &Houses) -> u64
+    ensures sums { result ≡ sums_number (houses.now.own ++ houses.now.other) }
+    ensures limits { IsWithinHouses houses.now }
+{
+    let seeds = houses.seeds() as u64;
+    seeds + (joined_rows(houses) - seeds) / 31 * 32
+}
+
+// Returns the game that the houses belong to: houses a side and rule, as `game_of` numbers it.
+fn game_of(houses: &Houses) -> u8
+    ensures game { result ≡ game_of houses.now }
+    ensures small { result < 16 }
+    ensures limits { IsWithinHouses houses.now }
+{
+    (houses.key() >> 60) as u8
+}
+
+impl<A: Allocator> EndgameTable<A> {
+    /// Makes a table with nothing known and room for all words.
+    ///
+    /// Fails with `AllocError` if there is no memory for it.
+    pub(crate) fn new(alloc: A) -> Result<EndgameTable<A>, AllocError> {
+        Ok(EndgameTable {
+            words: empty_words(alloc)?,
+            pairs: pairs(),
+        })
+    }
+
+    // Returns what two cells add to the rank of a row, with `past` pairs past them, from the number of seeds from each of them on.
+    fn pair(&self, past: usize, sums: u64) -> u32
+        requires past { past < 6 }
+        requires first { sums % 32 < 10 }
+        requires second { sums / 32 < 10 }
+        ensures value { result ≡ choose (sums % 32 + 2 * past + 1) (2 * past + 2) + choose (sums / 32 + 2 * past) (2 * past + 1) }
+    {
+        self.pairs[320 * past + sums as usize]
+    }
+
+    // Returns the rank of the houses among those of their game, two cells at a time.
+    fn rank(&self, houses: &Houses) -> u32
+        requires { seeds_in_houses (bare houses.now) ≤ 9 }
+        ensures rank { result ≡ rank_of_houses houses.now }
+        ensures small { result < 2 ^ 21 }
+    {
+        let m = houses.m() as usize;
+        let mut sums = sums_of(houses);
+        let mut rank = 0;
+        for passed in 0..m {
+            rank += self.pair(m - passed - 1, sums % 1024);
+            sums /= 1024;
+        }
+        rank
+    }
+
+    // Returns the word of the houses of this rank in their game.
+    fn word(&self, houses: &Houses, rank: u32) -> Option<&AtomicIn<TrueWord>> {
+        let first = FIRST_WORDS[game_of(houses) as usize] as usize;
+        self.words.get(first + rank as usize / 8)
+    }
+
+    // Returns how many seeds the mover takes, if it is known.
+    fn get(&self, houses: &Houses, rank: u32) -> Option<u8>
+        requires { rank ≡ rank_of_houses houses.now }
+        ensures { IfSome result (λ t. t ≡ won houses.now) }
+    {
+        let word = self.word(houses, rank)?.load(Relaxed);
+        if word >> 32 != label_of(houses, rank) {
+            return None;
+        }
+        let stored = stored_at(word, rank % 8);
+        if stored == 0 {
+            return None;
+        }
+        Some(stored as u8 - 1)
+    }
+
+    // Stores how many seeds the mover takes.
+    fn keep(&self, houses: &Houses, rank: u32, known: u8)
+        requires rank { rank ≡ rank_of_houses houses.now }
+        requires small { rank < 2 ^ 21 }
+        requires known { known ≡ won houses.now }
+        requires few { seeds_in_houses (bare houses.now) ≤ 9 }
+    {
+        let label = label_of(houses, rank);
+        if let Some(cell) = self.word(houses, rank) {
+            let word = begun(label, cell.load(Relaxed));
+            if stored_at(word, rank % 8) == 0 {
+                cell.store(with_stored(word, rank % 8, known as u64 + 1), Relaxed);
+            }
+        }
+    }
+}

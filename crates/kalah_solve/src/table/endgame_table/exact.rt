@@ -1,0 +1,65 @@
+//! The number of seeds that the mover takes from houses with few seeds, by trying each move to the end.
+ghost use Rattle.std.specs.Prelude.{◌≡◌, ◌≤◌, ◌<◌, false, Contains};
+ghost use Rattle.kalah_rules.specs.Position.{bare, seeds_in_houses, is_over};
+ghost use Rattle.kalah_rules.specs.Play.{legal_houses};
+ghost use Rattle.kalah_rules.specs.HousesStep.{houses_step};
+ghost use Rattle.kalah_solve.specs.Bounds.Won.{won, won_by_step};
+
+use crate::marks::{filled_houses, split_last};
+use crate::table::endgame_table::EndgameTable;
+use kalah_rules::{Houses, HousesStep};
+use std::alloc::Allocator;
+
+impl<A: Allocator> EndgameTable<A> {
+    /// Returns how many of the seeds in the houses the mover takes in best play.
+    #[cycle(exact)]
+    pub(crate) fn won(&self, houses: &Houses) -> u8
+        requires going { is_over (bare houses.now) ≡ false }
+        requires few { seeds_in_houses (bare houses.now) ≤ 9 }
+        ensures { result ≡ won houses.now }
+    {
+        let rank = self.rank(houses);
+        if let Some(won) = self.get(houses, rank) {
+            return won;
+        }
+        let won = self.most_won(houses);
+        self.keep(houses, rank, won);
+        won
+    }
+
+    // The same, by trying the moves from the one nearest the store on, until one takes all.
+    #[cycle(exact)]
+    fn most_won(&self, houses: &Houses) -> u8
+        requires going { is_over (bare houses.now) ≡ false }
+        requires few { seeds_in_houses (bare houses.now) ≤ 9 }
+        ensures { result ≡ won houses.now }
+    {
+        let seeds = houses.seeds();
+        let mut left = filled_houses(houses);
+        let mut most = 0;
+        while left > 0 {
+            let (h, rest) = split_last(left);
+            left = rest;
+            most = most.max(self.move_wins(houses, h));
+            if most >= seeds {
+                return most;
+            }
+        }
+        most
+    }
+
+    // Returns how many seeds the move of house `h` takes.
+    #[cycle(exact)]
+    fn move_wins(&self, houses: &Houses, h: u8) -> u8
+        requires legal { Contains (legal_houses (bare houses.now)) h }
+        requires few { seeds_in_houses (bare houses.now) ≤ 9 }
+        ensures { result ≡ won_by_step (houses_step houses.now h) }
+    {
+        let _seeds = houses.seeds();
+        match houses.play(h) {
+            HousesStep::Over { own, .. } => own,
+            HousesStep::Again(gained, next) => gained + self.won(&next),
+            HousesStep::Turn(gained, next) => gained + (next.seeds() - self.won(&next)),
+        }
+    }
+}

@@ -1,0 +1,79 @@
+//! Words of endings: each stores how many seeds the mover takes, for eight values of houses.
+ghost use Rattle.std.specs.Prelude.{◌≡◌, ◌<◌, ◌+◌, ◌*◌, ◌^◌};
+ghost use Rattle.kalah_rules.specs.Position.{IsWithinHouses};
+ghost use Rattle.kalah_solve.specs.Table.RowRank.{rank_of_houses};
+ghost use Rattle.kalah_solve.specs.Table.EndgameTable.{StoresWon, label_of, stored_label, stored_at};
+
+use crate::table::endgame_table::game_of;
+use kalah_rules::Houses;
+use std::alloc::{AllocError, Allocator};
+use std::sync::atomic::{AtomicIn, Rule};
+
+// The number of words for all endings of houses with at most 9 seeds, by both rules, with 1 to 6 houses a side.
+const WORDS: usize = 104_104;
+
+// The index of the first word of each game.
+pub(super) const FIRST_WORDS: [u32; 16] = [
+    0, 0, 7, 97, 723, 3_762, 15_310, 0, 0, 52_052, 52_059, 52_149, 52_775, 55_814, 67_362, 0,
+];
+
+// What a word of endings states is true.
+pub(super) struct TrueWord;
+
+impl Rule for TrueWord {
+    ghost use Rattle.kalah_solve.specs.Table.EndgameTable.{StoresWon};
+
+    ghost invariant = { StoresWon };
+}
+
+// Returns the label of the word for houses of this rank in their game.
+pub(super) fn label_of(houses: &Houses, rank: u32) -> u64
+    requires rank { rank ≡ rank_of_houses houses.now }
+    ensures label { result ≡ label_of houses.now }
+    ensures limits { IsWithinHouses houses.now }
+{
+    game_of(houses) as u64 + 16 * (rank as u64 / 8)
+}
+
+// Returns entry `at` of a word: 0 if nothing is known, else one more than the mover takes.
+pub(super) fn stored_at(word: u64, at: u32) -> u64
+    requires { at < 8 }
+    ensures { result ≡ stored_at word at }
+{
+    (word >> (4 * at)) % 16
+}
+
+// Returns the word that was found if it has this label, else an empty word with the label.
+pub(super) fn begun(label: u64, found: u64) -> u64
+    requires small { label < 2 ^ 32 }
+    requires found { StoresWon found }
+    ensures label { stored_label result ≡ label }
+    ensures word { StoresWon result }
+{
+    if found >> 32 == label {
+        found
+    } else {
+        label << 32
+    }
+}
+
+// Returns the word with `told` stored at a place that was empty.
+pub(super) fn with_stored(word: u64, at: u32, stored: u64) -> u64
+    requires place { at < 8 }
+    requires nothing { stored_at word at ≡ 0 }
+    requires small { stored < 16 }
+    ensures { result ≡ word + stored * 2 ^ (4 * at) }
+{
+    word + (stored << (4 * at))
+}
+
+// Returns words with no ending known.
+pub(super) fn empty_words<A: Allocator>(
+    alloc: A,
+) -> Result<Vec<AtomicIn<TrueWord>, A>, AllocError> {
+    let mut words = Vec::with_capacity(alloc, WORDS)?;
+    for _ in 0..WORDS {
+        words.push_reserved(AtomicIn::new(0));
+    }
+    Ok(words)
+}

@@ -1,0 +1,174 @@
+"""The trials of `kalah ask` for tests/agree: lines are sent while it runs, and each is answered before the next is read."""
+
+import os
+import pty
+import resource
+import socket
+import subprocess
+import tempfile
+import termios
+from contextlib import suppress
+from itertools import product
+from pathlib import Path
+
+from lib import reference
+from lib.differing import Differs, read_soon
+from lib.drawn import SEARCHING, TABLES
+from lib.reference import Run
+
+# The number of lines that are sent one by one to a run.
+QUESTIONS = 500
+
+# The source of the lines, and the size of the pieces in bytes; None is all at once.
+INPUTS = [*product(["pipe", "sockets"], [1, 7, None]), ("file", None), ("terminal", None)]
+
+# The number of bytes without a line feed before an answer, and the most memory that may be used then, in kilobytes.
+LONG = 100_000_000
+ROOM = 16_384
+
+# The line that one run answers repeatedly, which takes long if what was learned is lost after each answer.
+AGAIN = b"2,3,2,3,2,3/0 3,2,3,2,3,3/0\n"
+
+
+def terminal():
+    """Returns the two ends of a terminal that does not echo what is typed."""
+    keyboard, screen = pty.openpty()
+    modes = termios.tcgetattr(screen)
+    modes[3] &= ~termios.ECHO
+    termios.tcsetattr(screen, termios.TCSANOW, modes)
+    return screen, keyboard
+
+
+def two_ends(place):
+    """Returns the end of such a source that is read, and the end that is written."""
+    if place == "sockets":
+        return tuple(end.detach() for end in socket.socketpair())
+    return terminal() if place == "terminal" else os.pipe()
+
+
+def write_in_pieces(writer, data, size):
+    with suppress(BrokenPipeError):
+        while data:
+            data = data[os.write(writer, data[: size or len(data)]) :]
+
+
+class AskTrials:
+    """The trials of `ask`, for the class `Trials`."""
+
+    def form(self):
+        """Returns `solve` or `values`, and the arguments of `ask` for it."""
+        form, table = self.drawn.card("asked forms", SEARCHING), self.drawn.card("asked tables", TABLES)
+        options = [[] if form == "solve" else ["--values"], [] if table is None else [f"--table={table}"]]
+        self.drawn.chance.shuffle(options)
+        return form, ["ask", *options[0], *options[1]]
+
+    def asked_one_by_one(self):
+        """Each line is sent once the answer to the previous one has come. A run that buffers an answer hangs."""
+        form, words = self.form()
+        self.put({})
+        reader, writer = two_ends(self.drawn.card("asked through", ["pipe", "sockets"]))
+        with self.start(words, stdin=reader, bufsize=0) as process:
+            os.close(reader)
+            want = got = b""
+            for _ in range(QUESTIONS):
+                line = self.drawn.line() + self.drawn.chance.choice([b"", b"\r"])
+                answer = reference.answer(form, line) + b"\n"
+                os.write(writer, line + b"\n")
+                want, got = want + answer, got + read_soon(process.stdout.fileno(), len(answer))
+                if got != want:
+                    break
+            os.close(writer)
+            status = int(b"fault" in want)
+            self.compare(Run(want, b"", status), Run(got, process.stderr.read(), process.wait()))
+
+    def asked_at_once(self):
+        """Lines from each source, in pieces of each size, are answered as those of a file."""
+        place, size = self.drawn.card("asked places", INPUTS)
+        form, words = self.form()
+        data = self.drawn.file(self.drawn.chance.randint(0, 20 if place == "terminal" else 500))
+        if place == "terminal":
+            # Only keys that a terminal does not take for commands; the key that ends its input follows.
+            data = b"".join(b"%b\n" % line for line in reference.lines_of(data) if len(line) < 1000 and all(32 <= byte < 127 for byte in line))
+        self.put({"asked": data})
+        want = reference.asked(form, data)
+        if place == "file":
+            with open(self.files / "asked", "rb") as file:
+                self.compare(want, self.run(words, stdin=file))
+            return
+        reader, writer = two_ends(place)
+        with tempfile.TemporaryFile() as out, self.start(words, stdin=reader, stdout=out) as process:
+            os.close(reader)
+            write_in_pieces(writer, data, size)
+            if place == "terminal":
+                os.write(writer, b"\x04")
+            else:
+                os.close(writer)
+            end = self.end_of(process)
+            out.seek(0)
+            self.compare(want, end._replace(out=out.read()))
+        if place == "terminal":
+            os.close(writer)
+
+    def asked_in_vain(self):
+        """Input that can't be read is reported, behind the answers to what could; and nothing is read after an answer can't be written."""
+        what = self.drawn.card("asked in vain", ["closed", "folder", "unheard"])
+        self.put({})
+        if what == "closed":
+            self.compare(reference.failed(b"cannot read standard input"), self.run_in_shell(["ask"], "<&-"))
+        elif what == "folder":
+            self.compare(reference.failed(b"cannot read standard input"), self.run_in_shell(["ask"], "<folder"))
+        else:
+            self.hear_one_answer()
+
+    def hear_one_answer(self):
+        """The reader of the output closes it after the first answer."""
+        reader, writer = os.pipe()
+        with self.start(["ask"], stdin=subprocess.PIPE, stdout=writer, bufsize=0) as process:
+            os.close(writer)
+            process.stdin.write(b"1/0 1/0\n")
+            got = read_soon(reader, 10)
+            os.close(reader)
+            # It doesn't wait for the end of its input.
+            process.stdin.write(b"3/0 3/0\n")
+            said = read_soon(process.stderr.fileno(), 20)
+            if not said:
+                process.kill()
+            self.compare(Run(b"0 house 1\n", b"kalah: write failed\n", 2), Run(got, said, process.wait()))
+
+    def asked_at_length(self):
+        """A line of any length takes no more memory than any other."""
+        self.put({})
+        process = self.start(["ask", "--table", "1"], stdin=subprocess.PIPE)
+        piece = b"1" * (1 << 20)
+        for _ in range(LONG // len(piece)):
+            process.stdin.write(piece)
+        status = Path(f"/proc/{process.pid}/status").read_text()
+        most = int(status.partition("VmHWM:")[2].split()[0])
+        out, err = process.communicate(b"\n1/0 1/0")
+        self.compare(Run(b"fault long\n0 house 1\n", b"", 1), Run(out, err, process.returncode))
+        if most > ROOM:
+            raise Differs(f"{most} KB were taken for a long line")
+
+    def asked_again(self):
+        """What was learned for a line is kept for the next: a hundred equal lines take little longer than one."""
+        self.put({})
+        spent = []
+        for times in (1, 100):
+            before = resource.getrusage(resource.RUSAGE_CHILDREN).ru_utime
+            process = self.start(["ask"], stdin=subprocess.PIPE)
+            out, _ = process.communicate(AGAIN * times)
+            spent.append(resource.getrusage(resource.RUSAGE_CHILDREN).ru_utime - before)
+            if len(set(out.splitlines())) != 1 or out.count(b"\n") != times:
+                raise Differs(f"{times} times the same is answered by {out[:200]}")
+        if spent[1] > 10 * spent[0] + 0.5:
+            raise Differs(f"one question took {spent[0]:.2f} s, and a hundred times the same {spent[1]:.2f} s")
+
+
+# How often each of these trials is made in one round of all of them.
+ASK_KINDS = {
+    "asked_one_by_one": 20,
+    "asked_at_once": 2 * len(INPUTS),
+    "asked_in_vain": 3,
+    "asked_at_length": 1,
+    "asked_again": 1,
+}

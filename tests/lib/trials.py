@@ -1,0 +1,606 @@
+"""The trials of tests/agree: runs of the program, and their required results."""
+
+import os
+import pty
+import re
+import shutil
+import socket
+import subprocess
+import sys
+import tempfile
+import time
+import tty
+from contextlib import suppress
+from itertools import product, zip_longest
+from pathlib import Path
+
+from lib import reference
+from lib.asked import ASK_KINDS, AskTrials
+from lib.differing import SOON, Differs, read_soon
+from lib.drawn import BYTES, FILES, LINES, LINES_OF_MOVES, NO_FILES, PLAIN, SEARCHING, SUBCOMMANDS, TABLES, Drawn
+from lib.reference import Run
+
+TESTS = Path(__file__).resolve().parents[1]
+
+# The recursion of the reference is as deep as a game has moves.
+sys.setrecursionlimit(100_000)
+
+# Words that are not taken, or are no text, where there is a file `a`; those of `solve` are none of `values` or `steps` either.
+MISTAKES = [
+    *([], ["stop"], ["help"], ["Solve", "a"], ["--version=1"], ["--versio"], ["-x"], [""], ["--", "solve", "a"], ["--workers", "1", "solve", "a"]),
+    *(["moves"], ["moves", "--"], ["moves", "-1/0 1/0"], ["moves", "1/0 1/0", "1/0 1/0"], ["moves", "--workers", "1", "1/0 1/0"]),
+    *(["moves", "--table", "1", "1/0 1/0"], ["moves", "--boards"], ["moves", "--boards=true", "1/0 1/0"], ["moves", "--boards", "--boards", "1/0 1/0"]),
+    *(["ask", "a"], ["ask", "--values=1"], ["ask", "--values", "--values"], ["ask", "--workers", "1"], ["ask", "--table=0"], ["ask", "-V"]),
+    *(["stop", "-V"], ["moves", "--version"], ["play", "-V", "1/0 1/0"], ["solve", "--version", "a"], ["solve", "a", "-V"]),
+    *(["play"], ["play", "--"], ["play", "1/0 1/0", "1/0 1/0"], ["play", "--workers", "1", "1/0 1/0"], ["play", "--table", "1/0 1/0"]),
+    *(["play", f"--first={n}", "1/0 1/0"] for n in ("", "0", "7", "-1", "a", "1.0", 2**32 + 1)),
+    *(["play", "--first", "1/0 1/0"], ["play", "--first=1", "--first=1", "1/0 1/0"], ["moves", "--first=1", "1/0 1/0"], ["show", "--first=1", "1/0 1/0"]),
+    *(["show"], ["show", "--"], ["show", "-1/0 1/0"], ["show", "1/0 1/0", "1/0 1/0"], ["show", "--boards", "1/0 1/0"], ["show", "--plain=1", "1/0 1/0"]),
+    *(["show", "--plain", "--plain", "1/0 1/0"], ["show", "--table=0", "1/0 1/0"], ["show", "--workers", "1", "1/0 1/0"], ["show", b"1/0 1/0\x80"]),
+    *(["play", "--boards=1", "1/0 1/0"], ["play", "--board", "1/0 1/0"], ["play", "--table=0", "1/0 1/0"], ["play", "--table=1048577", "1/0 1/0"]),
+    *(["solve"], ["solve", "--"], ["solve", "--workers", "1"], ["solve", "--workers", "a"], ["solve", "a", "--table"], ["solve", "a", "-b"]),
+    *(["solve", "--worker", "1", "a"], ["solve", "a", "--workers", "1", "--workers", "1"], ["solve", "a", "--table=1", "--table=1"]),
+    *(["solve", f"--workers={n}", "a"] for n in ("", "0", "65", "-1", "four", "4.0", " 4", "4 ", "1e1", "0x4", "４", 2**32 + 4, 2**64 + 4)),
+    *(["solve", "a", f"--table={n}"] for n in ("", "0", "1048577", "-1", "1_000", 2**32 + 1, 2**64 + 1)),
+    *([b"\xff"], ["moves", b"1/0 1/0\x80"], ["solve", "a", b"\xed\xa0\x80"], ["solve", "a", "--workers", b"4\xc3"]),
+]
+
+MISTAKES += [[other, *words[1:]] for other in ("values", "steps") for words in MISTAKES if words[:1] == ["solve"]]
+MISTAKES += [["steps", "--table", "1", "a"], ["steps", "a", "--table=65536"], ["steps", "--boards", "a"]]
+
+HELP = [["--help"], ["-h"], ["moves", "--help"], ["moves", "-h"], ["play", "--help"], ["solve", "--help"], ["solve", "-h"], ["solve", "a", "-h"], ["values", "--help"], ["values", "a", "-h"], ["steps", "--help"], ["steps", "a", "-h"], ["ask", "--help"], ["ask", "-h"], ["show", "--help"], ["show", "-h"]]
+
+# Arguments that ask for the version before anything else.
+VERSION = [["--version"], ["-V"], ["-V", "-h"], ["--version", "stop"], ["-V", "solve", "a"], ["--version", "--version"], ["-V", "--", "a"]]
+
+# Words that are not taken, and all that is said of them.
+FOR_MORE = "\n\nFor more information, try '--help'.\n"
+USAGES = [
+    (["stop"], f"error: unrecognized subcommand 'stop'\n\nUsage: kalah <COMMAND>{FOR_MORE}"),
+    (["moves"], f"error: the following required arguments were not provided:\n  <LINE>\n\nUsage: kalah moves <LINE>{FOR_MORE}"),
+    (["solve"], f"error: the following required arguments were not provided:\n  <FILE>...\n\nUsage: kalah solve <FILE>...{FOR_MORE}"),
+    (["solve", "--workers=0", "a"], f"error: invalid value '0' for '--workers <N>': 0 is not in 1..=64{FOR_MORE}"),
+    (["values", "a", "--table=0"], f"error: invalid value '0' for '--table <N>': 0 is not in 1..=1048576{FOR_MORE}"),
+    (
+        ["play", "--board", "1/0 1/0"],
+        "error: unexpected argument '--board' found\n\n  tip: a similar argument exists: '--boards'\n\n"
+        f"Usage: kalah play --boards <LINE>{FOR_MORE}",
+    ),
+]
+
+# What the help of a subcommand says of its options and arguments.
+BOARDS_HELP = "draws each position below its line"
+WORKERS_HELP = "solves up to N lines in parallel, 1 to 64"
+PROGRESS_HELP = "shows on standard error how many lines are answered"
+FILE_HELP = "files of positions, one a line; /dev/stdin for standard input"
+HELP_OF_OPTIONS = {
+    "moves": [BOARDS_HELP],
+    "play": [BOARDS_HELP],
+    "solve": [WORKERS_HELP, PROGRESS_HELP, FILE_HELP],
+    "values": [WORKERS_HELP, PROGRESS_HELP, FILE_HELP],
+    "ask": ["prints what each move is worth, as `values`"],
+}
+
+PROGRAM_NAMES = ["kalah", "./kalah", "/bin/kalah", "k l", "é", "-", "--help"]
+
+# The names that a subcommand is given which answers files, and the size of the file `a`, which is all there is.
+LIMITS = [
+    (["a"] * 256 + ["./a"], 8),
+    (["a"] * 398 + ["b"], 8),
+    (["a"] * 398 + ["a\na"], 8),
+    (["a\n", "b"], 8),
+    (["./" * 2045 + "a"] * 256, 8),
+    (["a"], reference.MOST_BYTES_OF_A_FILE),
+    (["a"], reference.MOST_BYTES_OF_A_FILE + 1),
+]
+
+# Redirections of the standard streams, and those among them that accept no answer.
+NO_READER = "a pipe that nobody reads"
+TAKE_NO_ANSWER = [">&-", ">/dev/full", "<&- >&- 2>&-", NO_READER]
+STREAMS = ["<&-", "2>&-", "2>/dev/full", *TAKE_NO_ANSWER]
+
+# Runs that answer, that have a line which can't be read, and that fail, each with each of the redirections.
+A_AND_FAULT = b"1/0 1/0\n1/0"
+RUNS = [
+    (["moves", "1,1/0 1,1/0"], reference.moves(b"1,1/0 1,1/0")),
+    (["moves", "1/0"], reference.moves(b"1/0")),
+    (["play", "--boards", "3,3/0 3,3/0"], reference.play(b"3,3/0 3,3/0", True)),
+    (["play", "1/0"], reference.play(b"1/0")),
+    (["play", "--first=2", "3,3/0 3,3/0"], reference.play(b"3,3/0 3,3/0", False, 2)),
+    (["play", "--first=1", "0,3/0 3,3/0"], reference.play(b"0,3/0 3,3/0", False, 1)),
+    (["show", "3,3/0 3,3/0"], reference.show(b"3,3/0 3,3/0")),
+    (["show", "--plain", "3,3/0 3,3/0"], reference.show(b"3,3/0 3,3/0", True)),
+    (["show", "1/0"], reference.show(b"1/0")),
+    (["solve", "a", "a"], reference.answers("solve", [(b"a", A_AND_FAULT), (b"a", A_AND_FAULT)])),
+    (["solve", "a", "b"], reference.answers("solve", [(b"a", A_AND_FAULT), (b"b", None)])),
+    (["values", "a", "a"], reference.answers("values", [(b"a", A_AND_FAULT), (b"a", A_AND_FAULT)])),
+    (["steps", "a", "a"], reference.answers("steps", [(b"a", A_AND_FAULT), (b"a", A_AND_FAULT)])),
+]
+STREAMS_OF_RUNS = list(product(STREAMS, RUNS))
+
+# The output from which answers are read while the run goes on, and the number of lines before one that takes long.
+FIRST_ANSWERS = list(product(["pipe", "terminal", "file"], [1, 64, 65, 1000]))
+
+# Where the first position of a game, or a picture, is read; its first move takes half a minute with a table of one entry.
+FIRST_PICTURES = list(product(["pipe", "terminal", "file"], [["play", "--boards"], ["show"]]))
+LONG_GAME = b"3,2,1,4,4,3/0 1,0,1,3,4,5/0"
+
+# The numbers of workers that are observed at work.
+BUSY_WORKERS = [2, 3, 5, 16, 64]
+
+# The numbers of lines, with more workers than lines.
+FEW_LINES = [1, 2, 3, 7]
+
+# The standard error on which progress is shown.
+PROGRESS = ["pipe", "terminal", "file", "/dev/full", "closed"]
+
+# With a table of one entry each of these lines takes seconds, so no run finishes all of them.
+HARD = b"2,3,2,3,2,3/0 3,2,3,2,3,3/0\n" * 1000
+
+# The seconds after which a run counts as endless.
+PATIENCE = 120
+
+
+def difference(want, got):
+    """Returns the first difference between two runs."""
+    for stream, wanted, found in (("output", want.out, got.out), ("error", want.err, got.err)):
+        for number, (line, other) in enumerate(zip_longest(wanted.split(b"\n"), found.split(b"\n")), 1):
+            if line != other:
+                return f"standard {stream}, line {number}:\n  {shown(line)} is wanted\n  {shown(other)} has come"
+    return f"status {want.status} is wanted, and {got.status} has come"
+
+
+def shown(line):
+    return "no line" if line is None else f"{line[:200]}{' ..' * (len(line) > 200)}"
+
+
+def is_text(word):
+    try:
+        return os.fsencode(word).decode() is not None
+    except UnicodeDecodeError:
+        return False
+
+
+def stored_lines():
+    """Returns the lines of tests/data/answers.txt, and makes their answers known to the reference."""
+    rows = [row.split("\t") for row in (TESTS / "data/answers.txt").read_text().splitlines() if not row.startswith("#")]
+    for line, answer in rows:
+        margin, _, house = answer.split()
+        reference.known[reference.read(line.encode())] = int(margin), int(house)
+    return [line.encode() for line, _ in rows]
+
+
+def version_line():
+    """Returns what the program prints for `--version`, as docs/FORMAT.md shows it."""
+    _, rest = (TESTS.parent / "docs/FORMAT.md").read_text().split("    $ kalah --version\n")
+    return (rest.partition("\n")[0].strip() + "\n").encode()
+
+
+def help_text(name):
+    """Returns the help of a program of this name: that of tests/help.txt, which names it `kalah` in its usage line."""
+    return (TESTS / "help.txt").read_bytes().replace(b"Usage: kalah ", b"Usage: " + name + b" ")
+
+
+def two_ends(place):
+    """Returns the two ends of a pipe, of a terminal or of a new file: what is written to the second is read from the first."""
+    if place == "pipe":
+        return os.pipe()
+    if place == "terminal":
+        reader, writer = pty.openpty()
+        tty.setraw(writer)
+        return reader, writer
+    writer, name = tempfile.mkstemp()
+    reader = os.open(name, os.O_RDONLY)
+    os.remove(name)
+    return reader, writer
+
+
+def read_all(reader):
+    """Reads until all writers are closed."""
+    got = b""
+    with suppress(OSError):
+        while piece := os.read(reader, 65536):
+            got += piece
+    return got
+
+
+def ticks_of(process):
+    """Returns the processor time of each thread of the process, in ticks of the clock."""
+    ticks = {}
+    for thread in Path(f"/proc/{process.pid}/task").iterdir():
+        with suppress(FileNotFoundError):
+            numbers = (thread / "stat").read_text().rpartition(")")[2].split()
+            ticks[int(thread.name)] = int(numbers[11]) + int(numbers[12])
+    return ticks
+
+
+def busy_threads(process):
+    """How many threads of the process, but for its first, were at work for two ticks of the clock or more."""
+    return sum(thread != process.pid and ticks >= 2 for thread, ticks in ticks_of(process).items())
+
+
+class Trials(AskTrials):
+    """Trials of a program. Each draws arguments and files, runs the program and compares the result."""
+
+    def __init__(self, program, seed, folder):
+        self.program, self.folder, self.files = program, folder, folder / "files"
+        self.drawn = Drawn(seed)
+        self.stored = stored_lines()
+        self.runs = self.lines = 0
+        self.kind = self.executable = ""
+
+    def make_one(self):
+        """Makes one trial of a random kind."""
+        self.kind = self.drawn.card("kinds", [kind for kind, times in KINDS.items() for _ in range(times)])
+        getattr(self, self.kind)()
+
+    def put(self, files):
+        """Makes a folder with only these files and a folder `folder`."""
+        shutil.rmtree(self.files, ignore_errors=True)
+        (self.files / "folder").mkdir(parents=True)
+        for name, data in files.items():
+            (self.files / name).write_bytes(data)
+
+    def start(self, words, name="kalah", executable=None, **streams):
+        """Starts the program, and stores its arguments, each followed by a byte of 0."""
+        (self.folder / "words").write_bytes(b"".join(os.fsencode(word) + b"\0" for word in words))
+        self.runs += 1
+        self.executable = executable or self.program
+        streams = {"stdin": subprocess.DEVNULL, "stdout": subprocess.PIPE, "stderr": subprocess.PIPE} | streams
+        return subprocess.Popen([name, *words], executable=self.executable, cwd=self.files, **streams)
+
+    def words(self):
+        """Returns the arguments of the last run."""
+        return (self.folder / "words").read_bytes().split(b"\0")[:-1]
+
+    def run(self, words, name="kalah", **streams):
+        """Returns the result of a run."""
+        return self.end_of(self.start(words, name, **streams))
+
+    def end_of(self, process):
+        try:
+            out, err = process.communicate(timeout=PATIENCE)
+        except subprocess.TimeoutExpired:
+            process.kill()
+            raise Differs(f"the run has not ended after {PATIENCE} seconds") from None
+        return Run(out or b"", err or b"", process.returncode)
+
+    def compare(self, want, got):
+        self.lines += want.out.count(b"\n")
+        if want != got:
+            raise Differs(difference(want, got))
+
+    def subcommand(self):
+        return self.drawn.card("subcommands", SUBCOMMANDS)
+
+    def searching(self):
+        return self.drawn.card("searching", SEARCHING)
+
+    def answer(self, named, subcommand=None):
+        """Files of these names are answered. One that has no bytes can't be read."""
+        subcommand = subcommand or self.subcommand()
+        self.put({os.path.normpath(name): data for name, data in named if data is not None})
+        want = reference.answers(subcommand, [(name.encode(), data) for name, data in named])
+        self.compare(want, self.run(self.drawn.words(subcommand, [name for name, _ in named])))
+
+    # The trials, in the order of KINDS.
+
+    def many_files(self):
+        names = self.drawn.names(self.drawn.card("files", FILES))
+        there = {os.path.normpath(name): self.drawn.file(self.drawn.chance.choice([0, 1, 1, 2, 5])) for name in names}
+        self.answer([(name, there[os.path.normpath(name)]) for name in names])
+
+    def many_bytes(self):
+        size = self.drawn.card("bytes", BYTES)
+        size = self.drawn.chance.randint(1, 300_000) if size is None else size
+        self.answer([("a", self.drawn.file_of_bytes(size)), ("b", self.drawn.file(3))])
+
+    def many_lines(self):
+        lines = self.drawn.card("lines", LINES) or self.drawn.chance.randint(1, 200_000)
+        first = self.drawn.chance.choice([lines, lines - 1, lines // 2])
+        self.answer([("a", self.drawn.file(first)), ("b", self.drawn.file(lines - first))])
+
+    def stored_answers(self):
+        lines = [self.drawn.with_stores(self.drawn.card("stored", self.stored)) for _ in range(60)]
+        self.answer([("a", b"\n".join(lines))], self.drawn.card("of stored", ["solve", "steps"]))
+
+    def unread_files(self):
+        """The first name that can't be opened is reported; there are files before it, and more names behind it."""
+        there = ("a", self.drawn.file(2))
+        behind = self.drawn.chance.choices([there, *((name, None) for name in NO_FILES)], k=self.drawn.chance.randint(0, 3))
+        self.answer([there] * self.drawn.chance.randint(0, 10) + [(self.drawn.card("no files", NO_FILES), None), *behind])
+
+    def limits(self):
+        names, size = self.drawn.card("limits", LIMITS)
+        there = {"a": b"0" * size}
+        self.answer([(name, there.get(os.path.normpath(name))) for name in names])
+
+    def a_pipe_as_file(self):
+        """The bytes of a file arrive in pieces."""
+        data = rest = self.drawn.file(self.drawn.chance.randint(0, 500))
+        self.put({})
+        subcommand = self.subcommand()
+        process = self.start(self.drawn.words(subcommand, ["/dev/stdin"]), stdin=subprocess.PIPE, bufsize=0)
+        with suppress(BrokenPipeError):
+            while rest:
+                size = self.drawn.chance.randint(1, 6000)
+                process.stdin.write(rest[:size])
+                rest = rest[size:]
+                time.sleep(0.002)
+        self.compare(reference.answers(subcommand, [(b"/dev/stdin", data)]), self.end_of(process))
+
+    def moves(self):
+        line = self.drawn.line_of_moves(self.drawn.card("lines of moves", LINES_OF_MOVES))
+        self.run_on_line(line, self.drawn.words_of_line("moves", line, []), reference.moves)
+
+    def play(self):
+        line = self.drawn.line_of_play(self.drawn.card("lines of play", LINES_OF_MOVES))
+        table = self.drawn.card("tables of play", TABLES)
+        options = [] if table is None else [f"--table={table}"]
+        first = self.drawn.first(line)
+        options += [] if first is None else self.drawn.chance.choice([[f"--first={first}"], ["--first", f"{first}"]])
+        self.run_on_line(line, self.drawn.words_of_line("play", line, options), reference.play, first)
+
+    def show(self):
+        line = self.drawn.line_of_play(self.drawn.card("lines of show", LINES_OF_MOVES))
+        line = self.drawn.wide(line) if self.drawn.happens(0.5) else line
+        table = self.drawn.card("tables of show", TABLES)
+        options = [] if table is None else [f"--table={table}"]
+        self.run_on_line(line, self.drawn.words_of_line("show", line, options, "plain", PLAIN), reference.show)
+
+    def plain_positions(self):
+        """Of any position a plain picture comes at once: nothing is searched for it."""
+        line = self.drawn.position(31)
+        self.run_on_line(line, (["show", "--plain", "--table=1", line], True), reference.show)
+
+    def run_on_line(self, line, drawn, answer, *more):
+        words, flag = drawn
+        self.put({})
+        want = answer(line, flag, *more) if is_text(line) else reference.failed(b"a word is not UTF-8")
+        self.compare(want, self.run(words))
+
+    def mistakes(self):
+        """Of the message for refused arguments only the start is compared: the rest is the command line's own."""
+        self.put({"a": b"1/0 1/0"})
+        words = self.drawn.card("mistakes", MISTAKES)
+        got = self.run(words, self.drawn.card("program names", PROGRAM_NAMES))
+        if all(map(is_text, words)):
+            self.compare(Run(b"", b"error: ", 2), got._replace(err=got.err[:7]))
+        else:
+            self.compare(reference.failed(b"a word is not UTF-8"), got)
+
+    def help(self):
+        """Help names the program by the last part of its first word. The program's own help is compared whole."""
+        self.put({"a": b"1/0 1/0"})
+        words, name = self.drawn.card("help", HELP), self.drawn.card("names in help", PROGRAM_NAMES)
+        own_name = os.path.basename(name).encode()
+        got = self.run(words, name)
+        self.compare(Run(help_text(own_name) if words == ["--help"] else got.out, b"", 0), got)
+        usage = b"Usage: " + own_name + b" "
+        if usage not in got.out:
+            raise Differs(f"no {usage} in {got.out}")
+
+    def version(self):
+        """The version names the program `kalah`, for any first argument."""
+        self.put({"a": b"1/0 1/0"})
+        words, name = self.drawn.card("version", VERSION), self.drawn.card("names in version", PROGRAM_NAMES)
+        self.compare(Run(version_line(), b"", 0), self.run(words, name))
+
+    def streams(self):
+        """Standard streams are closed, or accept nothing."""
+        streams, (words, want) = self.drawn.card("streams", STREAMS_OF_RUNS)
+        self.put({"a": A_AND_FAULT})
+        if want.out and streams in TAKE_NO_ANSWER:
+            want = reference.failed(b"write failed")
+        if "2>" in streams:
+            want = want._replace(err=b"")
+        self.compare(want, self.run_without_reader(words) if streams == NO_READER else self.run_in_shell(words, streams))
+
+    def run_without_reader(self, words):
+        reader, writer = os.pipe()
+        os.close(reader)
+        try:
+            return self.run(words, stdout=writer)
+        finally:
+            os.close(writer)
+
+    def run_in_shell(self, words, streams):
+        return self.run(["-c", f'exec "$@" {streams}', "sh", self.program, *words], executable="/bin/sh")
+
+    def first_answers(self):
+        """Answers are read while a later line is being solved."""
+        place, lines = self.drawn.card("first answers", FIRST_ANSWERS)
+        data = self.drawn.file(lines)
+        self.put({"a": data, "b": HARD})
+        subcommand = self.searching()
+        want = reference.answers(subcommand, [(b"a", data)]).out
+        reader, writer = two_ends(place)
+        workers = f"{self.drawn.chance.randint(1, 16)}"
+        with self.start([subcommand, "--table", "1", "--workers", workers, "a", "b"], stdout=writer) as process:
+            got = read_soon(reader, len(want))
+            has_ended = process.poll() is not None
+            process.kill()
+        os.close(reader)
+        os.close(writer)
+        self.compare(Run(want, b"", 0), Run(got, b"", 0))
+        if has_ended:
+            raise Differs("the run has ended, though its last lines take long")
+
+    def first_picture(self):
+        """The first position of a game is read while its first move is being found, and a picture while its values are."""
+        place, words = self.drawn.card("first pictures", FIRST_PICTURES)
+        want = reference.picture(reference.read(LONG_GAME)).encode()
+        self.put({})
+        reader, writer = two_ends(place)
+        with self.start([*words, "--table", "1", LONG_GAME], stdout=writer) as process:
+            got = read_soon(reader, len(want))
+            has_ended = process.poll() is not None
+            process.kill()
+        os.close(reader)
+        os.close(writer)
+        self.compare(Run(want, b"", 0), Run(got, b"", 0))
+        if has_ended:
+            raise Differs("the run has ended, though its first move takes long")
+
+    def busy_workers(self):
+        """The number of threads that work in parallel is the requested number of workers."""
+        workers = self.drawn.card("busy workers", BUSY_WORKERS)
+        self.put({"a": HARD})
+        with self.start([self.searching(), "--table", "1", "--workers", f"{workers}", "a"]) as process:
+            end = time.monotonic() + SOON
+            while busy_threads(process) < workers and time.monotonic() < end:
+                time.sleep(0.05)
+            busy = busy_threads(process)
+            process.kill()
+        if busy < workers:
+            raise Differs(f"{busy} threads are at work")
+
+    def few_lines(self):
+        """A run with fewer lines than workers starts one thread, which starts at most one for each line."""
+        lines = self.drawn.card("few lines", FEW_LINES)
+        self.put({"a": b"".join(HARD.splitlines(keepends=True)[:lines])})
+        with self.start([self.searching(), "--table", "1", "--workers", "64", "a"]) as process:
+            end = time.monotonic() + SOON
+            while busy_threads(process) < lines and time.monotonic() < end:
+                time.sleep(0.05)
+            busy, threads = busy_threads(process), len(os.listdir(f"/proc/{process.pid}/task"))
+            process.kill()
+        if busy < lines or threads > lines + 2:
+            raise Differs(f"of {threads} threads {busy} are at work on {lines} lines")
+
+    def progress(self):
+        """Standard error shows how many lines are answered, and standard output is the same as without."""
+        place = self.drawn.card("progress", PROGRESS)
+        files = [(name, self.drawn.file(self.drawn.chance.choice([0, 1, 7, 150, 2500]))) for name in ("a", "b")]
+        self.put(dict(files))
+        subcommand = self.subcommand()
+        want = reference.answers(subcommand, [(name.encode(), data) for name, data in files])
+        words = self.drawn.words(subcommand, [name for name, _ in files])
+        words.insert(1 if "--" in words else self.drawn.chance.choice([1, len(words)]), "--progress")
+        if place in ("/dev/full", "closed"):
+            got = self.run_in_shell(words, "2>&-" if place == "closed" else f"2>{place}")
+            self.compare(want, got)
+            return
+        reader, writer = two_ends(place)
+        with tempfile.TemporaryFile() as out, self.start(words, stdout=out, stderr=writer) as process:
+            os.close(writer)
+            if place == "file":
+                process.wait(PATIENCE)
+            shown = read_all(reader)
+            process.wait(PATIENCE)
+            out.seek(0)
+            self.compare(want._replace(err=shown), Run(out.read(), shown, process.returncode))
+        os.close(reader)
+        self.look_at_progress(shown.decode(), sum(len(reference.lines_of(data)) for _, data in files), place == "terminal")
+
+    def look_at_progress(self, shown, lines, in_place):
+        """The shown numbers rise from none to all lines, each with its share."""
+        end = "" if in_place else "\n"
+        rows = re.findall(r"\r?kalah: (\d+) of (\d+) lines, (\d+) %\n?", shown)
+        counts = [int(answered) for answered, _, _ in rows]
+        again = [f"{chr(13) * in_place}kalah: {n} of {lines} lines, {100 * n // max(lines, 1) if lines else 100} %{end}" for n in counts]
+        if shown != "".join(again) + "\n" * in_place or counts != sorted(set(counts)) or counts[0] != 0 or counts[-1] != lines:
+            raise Differs(f"progress is shown as {shown[:300]!r} .. {shown[-100:]!r}")
+        steps = [n * (1000 if in_place else 100) // max(lines, 1) for n in counts]
+        if len(set(steps)) < len(steps):
+            raise Differs(f"progress is shown twice for one share: {shown[:300]!r}")
+
+    def one_pipe_twice(self):
+        """A file is read for each time that it is named: of a pipe, all there is the first time, and nothing more."""
+        data, subcommand = self.drawn.file(self.drawn.chance.randint(1, 50)), self.subcommand()
+        self.put({})
+        process = self.start([subcommand, *["/dev/stdin"] * 3], stdin=subprocess.PIPE)
+        with suppress(BrokenPipeError):
+            process.stdin.write(data)
+        want = reference.answers(subcommand, [(b"/dev/stdin", data), (b"/dev/stdin", b""), (b"/dev/stdin", b"")])
+        self.compare(want, self.end_of(process))
+
+    def help_of_options(self):
+        """Each help says of its options and its argument what they are for."""
+        self.put({})
+        word, texts = self.drawn.card("help of options", list(HELP_OF_OPTIONS.items()))
+        got = self.run([word, "--help"])
+        lost = [text for text in texts if text not in " ".join(got.out.decode().split())]
+        self.compare(Run(got.out, b"", 0), got)
+        if lost:
+            raise Differs(f"the help of {word} does not say: {lost}")
+
+    def usage(self):
+        """All that is said of words that are not taken."""
+        words, said = self.drawn.card("usages", USAGES)
+        self.put({"a": b"1/0 1/0"})
+        self.compare(Run(b"", said.encode(), 2), self.run(words))
+
+    def many_large_tables(self):
+        """As many workers as there may be, each with as large a table as there may be."""
+        data = self.drawn.file(200)
+        self.put({"a": data})
+        subcommand = self.subcommand()
+        self.compare(reference.answers(subcommand, [(b"a", data)]), self.run([subcommand, "--workers=64", "--table=1048576", "a"]))
+
+    def no_word(self):
+        """Without any word, not even a name, nothing is written to the standard output. Newer systems hand over an empty word."""
+        self.put({})
+        words = "import ctypes, sys; libc = ctypes.CDLL(None); libc.execve(sys.argv[1].encode(), (ctypes.c_char_p * 1)(), (ctypes.c_char_p * 1)())"
+        got = self.run(["-c", words, str(self.program)], executable=sys.executable)
+        self.compare(Run(b"", got.err, 2), got)
+
+    def few_writes(self):
+        """Lines that are answered quickly go out together."""
+        lines = 10_000
+        self.put({"a": b"1/0 1/0\n" * lines})
+        want = reference.answers("solve", [(b"a", b"1/0 1/0\n" * lines)])
+        reader, writer = socket.socketpair(socket.AF_UNIX, socket.SOCK_SEQPACKET)
+        with reader, self.start(["solve", "--workers=2", "a"], stdout=writer) as process:
+            writer.close()
+            pieces = list(iter(lambda: reader.recv(1 << 20), b""))
+            self.compare(want, self.end_of(process)._replace(out=b"".join(pieces)))
+        if len(pieces) > lines // 4:
+            raise Differs(f"{lines} lines went out in {len(pieces)} writes")
+
+    def waits_at_rest(self):
+        """While one worker is at work, the other threads take almost no processor time."""
+        self.put({"a": HARD})
+        with self.start([self.subcommand(), "--table", "1", "--workers", "1", "a"]) as process:
+            end = time.monotonic() + SOON
+            while busy_threads(process) < 1 and time.monotonic() < end:
+                time.sleep(0.05)
+            before = sorted(ticks_of(process).values())[:-1]
+            time.sleep(1)
+            after = sorted(ticks_of(process).values())[:-1]
+            process.kill()
+        if sum(after) - sum(before) > os.sysconf("SC_CLK_TCK") // 5:
+            raise Differs(f"in a second the threads that wait took {sum(after) - sum(before)} ticks of the clock")
+
+
+# How often each trial is made in one round of all of them.
+KINDS = {
+    "many_files": len(FILES),
+    "many_bytes": len(BYTES),
+    "many_lines": len(LINES),
+    "stored_answers": 18,
+    "unread_files": len(NO_FILES),
+    "limits": len(LIMITS),
+    "a_pipe_as_file": 10,
+    "moves": len(LINES_OF_MOVES),
+    "play": len(LINES_OF_MOVES),
+    "show": len(LINES_OF_MOVES),
+    "plain_positions": 10,
+    "mistakes": len(MISTAKES),
+    "help": len(HELP),
+    "version": len(VERSION),
+    "streams": len(STREAMS_OF_RUNS),
+    "first_answers": len(FIRST_ANSWERS),
+    "first_picture": len(FIRST_PICTURES),
+    "busy_workers": len(BUSY_WORKERS),
+    "few_lines": len(FEW_LINES),
+    "progress": 4 * len(PROGRESS),
+    **ASK_KINDS,
+    "one_pipe_twice": 2,
+    "help_of_options": len(HELP_OF_OPTIONS),
+    "usage": len(USAGES),
+    "many_large_tables": 1,
+    "no_word": 1,
+    "few_writes": 1,
+    "waits_at_rest": 1,
+}
