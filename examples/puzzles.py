@@ -38,7 +38,7 @@ def after(own, other, house, takes_empty):
 
 @cache
 def seen(own, other, takes_empty, moves):
-    """The margin from here on, as a search sees it that looks so many moves ahead."""
+    """The margin from here on, as a search sees it that looks `moves` moves ahead."""
     if not (any(own) and any(other)):
         return sum(own) - sum(other)
     return max(seen_of_moves(own, other, takes_empty, moves).values()) if moves else 0

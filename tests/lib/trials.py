@@ -56,7 +56,8 @@ VERSION = [["--version"], ["-V"], ["-V", "-h"], ["--version", "stop"], ["-V", "s
 # Words that are not taken, and all that is said of them.
 FOR_MORE = "\n\nFor more information, try '--help'.\n"
 USAGES = [
-    (["stop"], f"error: unrecognized subcommand 'stop'\n\nUsage: kalah <COMMAND>{FOR_MORE}"),
+    (["best"], f"error: unrecognized subcommand 'best'\n\nUsage: kalah <COMMAND>{FOR_MORE}"),
+    (["stop"], f"error: unrecognized subcommand 'stop'\n\n  tip: a similar subcommand exists: 'steps'\n\nUsage: kalah <COMMAND>{FOR_MORE}"),
     (["moves"], f"error: the following required arguments were not provided:\n  <LINE>\n\nUsage: kalah moves <LINE>{FOR_MORE}"),
     (["solve"], f"error: the following required arguments were not provided:\n  <FILE>...\n\nUsage: kalah solve <FILE>...{FOR_MORE}"),
     (["solve", "--workers=0", "a"], f"error: invalid value '0' for '--workers <N>': 0 is not in 1..=64{FOR_MORE}"),
@@ -177,8 +178,8 @@ def version_line():
 
 
 def help_text(name):
-    """Returns the help of a program of this name: that of tests/help.txt, which names it `kalah` in its usage line."""
-    return (TESTS / "help.txt").read_bytes().replace(b"Usage: kalah ", b"Usage: " + name + b" ")
+    """Returns the help of a program of this name: that of tests/data/help.txt, which names it `kalah` in its usage line."""
+    return (TESTS / "data/help.txt").read_bytes().replace(b"Usage: kalah ", b"Usage: " + name + b" ")
 
 
 def two_ends(place):

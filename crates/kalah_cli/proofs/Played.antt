@@ -7,7 +7,7 @@ use Rattle.std.proofs.lemmas.Bool.{cases_Bool}
 use Rattle.std.proofs.lemmas.Int.{ints}
 use Rattle.kalah_rules.specs.Position.{Position, HasEqualSides, final_margin, is_over, swapped}
 use Rattle.kalah_rules.specs.Sowing.{after, is_again}
-use Rattle.kalah_rules.specs.Play.{legal_houses, step_of}
+use Rattle.kalah_rules.specs.Play.{legal_houses, position_after, step_of}
 use Rattle.kalah_rules.specs.declared.step.Step.TheVariants as step
 use Rattle.kalah_rules.specs.declared.step.Step.{Step}
 use Rattle.kalah_solve.specs.Solver.BestPlay.{Game, follow}
@@ -20,7 +20,6 @@ use Rattle.kalah_solve.proofs.OfSolver.Games.{followed, game_ends, strategy_keep
 use Rattle.kalah_solve.proofs.OfSolver.Secured.{best_is_strategy, best_plays, bounds}
 use Rattle.kalah_solve.proofs.OfSolver.Values.{over_swapped}
 use Rattle.kalah_solve.proofs.OfSolver.Worths.{again_step, over_step, turn_step}
-use Rattle.kalah_jobs.specs.Line.Line.{position_after}
 use Rattle.kalah_jobs.specs.Writing.Given.{AppendsStart}
 use Rattle.kalah_jobs.proofs.OfWriting.Starts.{start_longer, start_then}
 use Rattle.kalah_cli.specs.Moves.{board_lines, move_lines}

@@ -403,7 +403,7 @@ number_of high r t ok is = go r.values r.reading ok.1 ok.0 is
         let same : v ≡ t = (let read = rw as_written at e in cc) in
         subst (IsUnsignedIn 1 high) same all.0
 
--- so rows of which each is so have such a number, or none
+-- so rows that are all like this have such a number, or none
 number_may_be_in : (id : Text) (high : ℕ) (rows : List Row) → ((r : Row) → Sound r → Ranged id high r) → AllOf Sound rows →
     MayHaveNumber id high rows
 number_may_be_in id high rows ranged all = λ t e. go t (find (λ r. bytes_eq r.id id) rows) refl e

@@ -25,7 +25,7 @@ module _ {A : Type 0} where
   texts_of words = map string_bytes words
 
 -- what can be asked: the moves of a line, with boards drawn or not; the game of best play from a line, or behind its move of a house,
--- found with a table of so many entries; something of each position in files, by so many workers with such tables; or of each line of
+-- found with a table of the given size; something of each position in files, by a number of workers with such tables; or of each line of
 -- the standard input, with such a table; or a picture of a line, plain or with what its moves are worth, found with such a table
 pub data Asked : Type 0 where
   moves : Bool → Text → Asked
@@ -69,7 +69,7 @@ play_asked rows =
     (first_of (codes "line") rows))
     (one_of (codes "table") rows)
 
--- what the matches of a subcommand with files ask for, where tables have so many entries
+-- what the matches of a subcommand with files ask for, with tables of the given size
 abbrev pub files_asked : Question → ℕ → List Row → Option Asked
 files_asked question table rows =
     option_and_then (λ w. option_map (answers question (number_written w) table (is_set (codes "progress") rows)) (all_of (codes "file") rows))

@@ -253,8 +253,7 @@ fn steps_command<'a>(alloc: Global) -> Result<Command<'a>, AllocError>
     with_arg(command, file_arg(alloc))
 }
 
-// The program with no subcommand yet, though it is to be given one. Where it is asked for its version it tells so: the line is
-// written by `refuse`.
+// Returns the program without a subcommand, which must be given one later. If the version is asked for, `refuse` writes it.
 fn program<'a>(alloc: Global) -> Command<'a>
     ensures app { app_of result ≡ program_app }
     ensures local { (fields_of result).has_globals ≡ false }

@@ -138,10 +138,11 @@ fn run_request<R: Files + Input + StandardError + Threads + Wait + Sync, O: Sink
 
 /// Runs the program on its arguments; the first is always taken as the program's name. `moves LINE`
 /// prints the moves of a position, `play LINE` the game that best play leads to from it, `solve FILE..`
-/// answers each line of files, and `values FILE..` tells what each move of them is worth. `ask` answers each
-/// line of the standard input before it reads on, and `show LINE` draws a position with what its moves are
-/// worth. `--version` prints which version this is. Answers, help and that go to `out`, and what fails or is
-/// not read is said on `err`; a failing write to `err` changes nothing.
+/// answers each line of files, `values FILE..` prints what each move of them is worth, and `steps FILE..` what
+/// each of them leads to. `ask` answers each line of the standard input before it reads on, and `show LINE`
+/// draws a position with what its moves are worth. `--version` prints which version this is. Answers, help and
+/// the version go to `out`, messages about failures and unread lines to `err`; a failing write to `err` changes
+/// nothing.
 pub fn run_words<R: Files + Input + StandardError + Threads + Wait + Sync, O: Sink, E: Write>(
     rt: &R,
     alloc: Global,

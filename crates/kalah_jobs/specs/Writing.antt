@@ -3,6 +3,7 @@ pub mod Answer
 pub mod Output
 pub mod Stream
 pub mod Given
+pub mod Counts
 pub mod Picture
 pub mod Shown
 pub mod Splitting

@@ -33,6 +33,7 @@ pub use line::laws::{
 pub use line::line_fault::LineFault;
 pub use line::reading::read_line;
 pub use writing::answer::{Answer, Taken};
+pub use writing::counts::{write_total, write_ways};
 pub use writing::laws::{
     answer_lines_tell_answers, answers_have_small_numbers, files_split_between_lines,
     output_splits_by_files, what_is_written_tells_answers,

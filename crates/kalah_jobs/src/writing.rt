@@ -1,5 +1,6 @@
 //! Answers in words and pictures, and the sinks that they are written to.
 pub(crate) mod answer;
+pub(crate) mod counts;
 pub(crate) mod ending;
 pub(crate) mod laws;
 pub(crate) mod picture;

@@ -10,3 +10,4 @@ pub mod Packing
 pub mod PackedMoves
 pub mod HousesSteps
 pub mod Ends
+pub mod WaySums

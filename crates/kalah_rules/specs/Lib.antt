@@ -6,6 +6,7 @@ pub mod Packed
 pub mod Sowing
 pub mod Lap
 pub mod Play
+pub mod Ways
 pub mod HousesStep
 pub mod Measure
 pub mod Laws

@@ -16,3 +16,9 @@ step_to q again = if is_over q then Over (swept q) else (if again then Again q e
 
 abbrev pub step_of : Position → ℕ → Step
 step_of p h = step_to (after p h) (is_again p h)
+
+-- the position that a step leads to
+abbrev pub position_after : Step → Position
+position_after (Again p) = p
+position_after (Turn p) = p
+position_after (Over p) = p

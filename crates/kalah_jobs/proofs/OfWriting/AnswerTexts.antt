@@ -1,4 +1,4 @@
--- What the text of an answer tells.
+-- What the text of an answer determines.
 use Rattle.std.proofs.Common.{◌≡◌, ℕ, ◌<◌, ◌≤◌, false, ◌==◌, List, [], ◌∷◌, ◌++◌, length, map, get_or, All, refl, sym, ap, ap₂, ◌∙◌, length-append, arith}
 use Rattle.std.specs.Prelude.{if◌then◌else◌, codes, decimal, ℤ}
 use Rattle.std.specs.Fmt.{signed_decimal}

@@ -1,4 +1,4 @@
--- The bytes of numbers, and what they tell.
+-- The bytes of numbers, and what they determine.
 use Rattle.std.proofs.Common.{◌≡◌, ◌≢◌, ℕ, suc, ◌+◌, ◌%◌, ◌^◌, ◌<◌, ◌≤◌, false, ◌==◌, List, [], ◌∷◌, ◌++◌, length, arith}
 use Rattle.std.specs.Prelude.{decimal, ℤ, pos, negsuc}
 use Rattle.std.specs.Fmt.{signed_decimal}

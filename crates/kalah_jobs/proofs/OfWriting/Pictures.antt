@@ -41,7 +41,7 @@ split_same (x ∷ xs) (y ∷ ys) tail end long e =
     let rest = split_same xs ys tail end (omega (arith, long)) (let tails : xs ++ tail ≡ ys ++ end = cc in tails) in
     (ap₂ (λ (z : ℕ) (zs : List ℕ). z ∷ zs) here rest.0, rest.1)
 
--- a text without the blanks at its beginning
+-- a text without its leading blanks
 abbrev pub shorn : List ℕ → List ℕ
 shorn [] = []
 shorn (byte ∷ rest) = cond (byte == space) (shorn rest) (byte ∷ rest)

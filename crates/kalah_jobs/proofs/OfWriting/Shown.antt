@@ -1,4 +1,4 @@
--- Values below the houses of a picture, and what they tell.
+-- Values below the houses of a picture, and what they determine.
 use Rattle.std.proofs.Common.{◌≡◌, ℕ, zero, suc, ◌+◌, ◌-◌, ◌*◌, ◌<◌, ◌≤◌, List, [], ◌∷◌, ◌++◌, length, get_or, drop, map, filter, replicate, true, false, Bool, cond, ◌==◌, refl, sym, ap, ap₂, ◌∙◌, append_assoc, length-append, codes, arith, subst}
 use Rattle.std.specs.Prelude.{ℤ, pos, negsuc, All, nat_lt, slice_get, Some, if◌then◌else◌, decimal}
 use Rattle.std.specs.List.{range_with_len}
@@ -141,7 +141,7 @@ line_is_short p limits = go (is_over p)
         let have = have_columns p limits in
         omega (arith, length-columns 0 (values_of p) (omega arith) (rise_from_none (values_of p) have.0) have.1)
 
--- ---- a row tells its values
+-- ---- a row determines its values
 
 -- the first byte of a value is no blank
 value_begins : (v : ℤ) → IsSmallMargin v → 33 ≤ get_or (signed_decimal v) 0 0
@@ -149,7 +149,7 @@ value_begins (pos zero) small = (number_begins (decimal 0) 0 (decimal_is_number 
 value_begins (pos (suc n)) small = omega (arith, first_decimal (suc n) (omega arith) (omega (arith, ints, small.high)))
 value_begins (negsuc n) small = omega arith
 
--- so a cell tells its value
+-- so a cell determines its value
 cell_shorn : (v : ℤ) → IsSmallMargin v → shorn (value_cell v) ≡ signed_decimal v
 cell_shorn v small =
     shorn_blanks (column_width - length (signed_decimal v)) (signed_decimal v) ∙ shorn_other (signed_decimal v) (some_signed v small) (value_begins v small)
@@ -215,7 +215,7 @@ columns_tell behind (v ∷ vs) (w ∷ ws) rise rising small also e =
     let first : v ≡ w = ap₂ (λ (h : ℕ) (z : ℤ). let made : MoveValue = record { house = h; value = z } in made) house same.value in
     ap₂ (λ (x : MoveValue) (xs : List MoveValue). x ∷ xs) first rest
 
--- ---- the first line tells how many houses there are
+-- ---- the first line determines the number of houses
 
 blanks_lack : (n : ℕ) → Lacks line_feed (replicate n space)
 blanks_lack zero = All-nil (λ b. (b == line_feed) ≡ false)

@@ -1,4 +1,4 @@
--- What the lines of steps tell.
+-- What the lines of steps determine.
 use Rattle.std.proofs.Common.{◌≡◌, ◌≢◌, ℕ, ◌^◌, ◌<◌, ◌≤◌, true, false, ◌==◌, ◌&&◌, not, Bool, List, [], ◌∷◌, ◌++◌, length, map, get_or, All, Contains, refl, sym, ap, ap₂, subst, ◌∙◌, append_assoc, append-nil, length-append, arith}
 use Rattle.std.specs.Prelude.{codes, decimal}
 use Rattle.std.specs.List.{join_with_byte}
@@ -7,7 +7,7 @@ use Rattle.std.proofs.lemmas.Fmt.{decimal_injective, decimal_nonempty}
 use Rattle.std.proofs.lemmas.List.{append_cancel_left, length-map}
 use Rattle.std.proofs.lemmas.List.Elements.{All-nil, All-cons, All-append, All-head, All-tail, All-map, All-from_get_or, Contains-get_or}
 use Rattle.kalah_rules.specs.Limits.{most_houses}
-use Rattle.kalah_rules.specs.Play.{legal_houses, step_of}
+use Rattle.kalah_rules.specs.Play.{legal_houses, position_after, step_of}
 use Rattle.kalah_rules.specs.Position.{Position, IsWithinLimits, bare, is_over, rows_of}
 use Rattle.kalah_rules.specs.HousesStep.{houses_step}
 use Rattle.kalah_rules.specs.declared.rule.Rule.{Rule}
@@ -22,7 +22,7 @@ use Rattle.kalah_rules.proofs.Rows.{same_position}
 use Rattle.kalah_solve.proofs.OfSolver.SmallMargins.{house_small}
 use Rattle.kalah_solve.proofs.OfSolver.Worths.{legal_some}
 use Rattle.kalah_jobs.specs.Files.Lines.{line_feed}
-use Rattle.kalah_jobs.specs.Line.Line.{comma, ending_of, line_text_of, position_after, side_text, slash, space, step_text_of, word_of_step}
+use Rattle.kalah_jobs.specs.Line.Line.{comma, ending_of, line_text_of, side_text, slash, space, step_text_of, word_of_step}
 use Rattle.kalah_jobs.specs.Line.Reading.{parts_at}
 use Rattle.kalah_jobs.specs.Writing.Answer.{steps_texts}
 use Rattle.kalah_jobs.specs.Writing.Splitting.{steps_of}
@@ -313,7 +313,7 @@ within_after p (houses.Over own other) within = within
 within_after p (houses.Again gained b) within = within
 within_after p (houses.Turn gained b) within = within
 
--- each step of a position is told
+-- each step of a position is determined
 told_step : (p : Position) (h : ℕ) → IsWithinLimits p → Contains (legal_houses p) h → IsToldStep h (step_of p h)
 told_step p h limits has =
     let holds = legal_holds (bare (rows_of p)) h has in (
@@ -348,7 +348,7 @@ texts_tell p q (h ∷ hs) (k ∷ ks) told also e =
 some_texts : (p : Position) → is_over p ≡ false → 0 < length (steps_texts p)
 some_texts p going = rw (length-map (legal_houses p) (λ h. step_text_of h (step_of p h))) (legal_some p going)
 
--- positions whose steps are told alike have the same
+-- positions whose steps are printed alike have the same
 pub steps_tell : (place : List ℕ) (p q : Position) → IsWithinLimits p → IsWithinLimits q → is_over p ≡ false → is_over q ≡ false →
     placed_texts place (steps_texts p) ≡ placed_texts place (steps_texts q) → steps_of p ≡ steps_of q
 steps_tell place p q limits also going on e =

@@ -3,6 +3,7 @@ use Rattle.std.specs.Prelude.{◌≡◌, ◌≢◌, ℕ, ◌+◌, ◌-◌, ◌*�
 use Rattle.std.specs.Char.{IsAsciiDigit}
 use Rattle.std.specs.List.{join_with_byte}
 use Rattle.kalah_rules.specs.Limits.{most_houses, most_seeds}
+use Rattle.kalah_rules.specs.Play.{position_after}
 use Rattle.kalah_rules.specs.Position.{Position, side_length, seeds_in_houses}
 use Rattle.kalah_rules.specs.declared.rule.Rule.{Rule}
 use Rattle.kalah_rules.specs.declared.rule.Rule.TheVariants.{Classic, EmptyCapture}
@@ -112,12 +113,6 @@ unfoldable pub line_text_of : Position → List ℕ
 line_text_of p = side_text p.own p.own_store ++ space ∷ side_text p.other p.other_store ++ ending_of p.rule
 
 -- ---- the text of a step
-
--- the position that a step leads to
-abbrev pub position_after : Step → Position
-position_after (Again p) = p
-position_after (Turn p) = p
-position_after (Over p) = p
 
 -- the word that is printed for a step
 abbrev pub word_of_step : Step → List ℕ

@@ -56,8 +56,8 @@ values_words values = join_with_byte space (map value_words values)
 abbrev pub steps_texts : position.Position → List (List ℕ)
 steps_texts p = map (λ h. step_text_of h (step_of p h)) (legal_houses p)
 
--- the texts of an answer, each of which has a line of its own: those of steps, and else one, `MARGIN house H`, `MARGIN over`,
--- `H:V H:V ..` or `fault WORD`
+-- the texts of an answer, each for a line of its own: those of steps, or else one, `MARGIN house H`, `MARGIN over`, `H:V H:V ..`
+-- or `fault WORD`
 abbrev pub answer_texts : Answer → List (List ℕ)
 answer_texts (Best margin house) = (signed_decimal margin ++ (codes " house " ++ decimal house)) ∷ []
 answer_texts (Over margin) = (signed_decimal margin ++ codes " over") ∷ []

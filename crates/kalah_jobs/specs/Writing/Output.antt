@@ -42,7 +42,7 @@ values_output_of files = output_to Values files
 abbrev pub steps_output_of : List NamedBytes → List ℕ
 steps_output_of files = output_to Steps files
 
--- the line is answered by a fault, whatever is asked
+-- the line is answered by a fault, to any question
 abbrev pub is_faulty : List ℕ → Bool
 is_faulty line = is_fault (answer_of (entry_of line))
 

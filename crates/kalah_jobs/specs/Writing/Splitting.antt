@@ -1,4 +1,4 @@
--- How a batch can be split over machines: by its files, and within a file between two lines. And what tells answers apart.
+-- How a batch can be split over machines: by its files, and within a file between two lines. And what distinguishes answers.
 use Rattle.std.specs.Prelude.{◌≡◌, ◌⊎◌, false, ℕ, ◌+◌, ◌≤◌, List, [], ◌∷◌, ◌++◌, length, map, All}
 use Rattle.std.specs.List.{flat_map, enumerate_from}
 use Rattle.kalah_rules.specs.Limits.{most_houses}
@@ -75,12 +75,12 @@ pub record AnswersHaveSmallNumbers : Type 0 where
 abbrev pub steps_of : position.Position → List (ℕ × Step)
 steps_of p = map (λ h. (h, step_of p h)) (legal_houses p)
 
--- what an answer tells: steps, or the answer itself
+-- what an answer states: steps, or the answer itself
 pub data Told : Type 0 where
   the_steps : List (ℕ × Step) → Told
   the_answer : Answer → Told
 
--- an answer of steps tells those of its position
+-- an answer of steps states those of its position
 abbrev pub tells : Answer → Told
 tells (Best margin house) = the_answer (Best margin house)
 tells (Over margin) = the_answer (Over margin)
@@ -88,12 +88,12 @@ tells (Values values) = the_answer (Values values)
 tells (Steps p) = the_steps (steps_of p)
 tells (Fault fault) = the_answer (Fault fault)
 
--- two answers to one line of a file that are printed alike tell the same
+-- two answers to one line of a file that are printed alike state the same
 abbrev pub AnswerLinesTellAnswers : Type 0
 AnswerLinesTellAnswers = (name : List ℕ) (line : ℕ) (a b : Answer) → HasSmallNumbers a → HasSmallNumbers b →
     answer_line name (record { line = line; answer = a }) ≡ answer_line name (record { line = line; answer = b }) → tells a ≡ tells b
 
--- where the same is written for two lines of one name and number, their answers tell the same, whatever was asked of each
+-- if the same is written for two lines of one name and number, their answers state the same, with any question about each
 abbrev pub WhatIsWrittenTellsAnswers : Type 0
 WhatIsWrittenTellsAnswers = (name : List ℕ) (number : ℕ) (question other : Question) (line another : List ℕ) →
     line_output question name (number, line) ≡ line_output other name (number, another) →

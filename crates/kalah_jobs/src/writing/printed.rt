@@ -7,7 +7,7 @@ use crate::writing::ending::{ending_of, place_of};
 use crate::writing::steps::push_steps;
 use std::alloc::{AllocError, Global};
 
-/// The answer line of a line of the file `name`, without a line feed: `NAME:LINE MARGIN house H`, `NAME:LINE MARGIN over`,
+/// Returns the answer line of a line of the file `name`, without a line feed: `NAME:LINE MARGIN house H`, `NAME:LINE MARGIN over`,
 /// `NAME:LINE H:V H:V ..` or `NAME:LINE fault WORD`. LINE counts from 1, and a negative MARGIN has a `-` in front. Of steps it is
 /// a line `NAME:LINE H POSITION again`, `turn` or `over` for each legal house, with a line feed between any two.
 pub fn answer_text(alloc: Global, name: &str, taken: &Taken) -> Result<String, AllocError>

@@ -68,10 +68,11 @@ fn line_below(board: &Board, values: &MoveValues) -> StackText
     text
 }
 
-/// Writes the line that stands below the picture of a board: what each move is worth, as `values` has it, at the right of the
-/// column of its house, with nothing below a house that may not be moved and nothing behind the last value; or `over, margin M`
-/// where the game is over. It takes no memory, and is an error exactly where the sink has failed afterwards; then a beginning
-/// of the line was written, and nothing else.
+/// Writes the line below the picture of a board: what each move is worth, from `values`, at the right of the column of its house,
+/// with nothing below a house that may not be moved and nothing after the last value; or `over, margin M` if the game is over.
+///
+/// It allocates nothing. It fails exactly when the sink has failed afterwards; then a prefix of the line was written, and nothing
+/// else.
 pub fn write_values<W: Sink>(
     out: &mut W,
     board: &Board,

@@ -1,5 +1,5 @@
 //! A short text that is put together on the stack.
-ghost use Rattle.std.specs.Prelude.{◌≡◌, ◌↔◌, ◌+◌, ◌≤◌, [], ◌++◌, IsTrue, IsUtf8, length, replicate, decimal};
+ghost use Rattle.std.specs.Prelude.{◌≡◌, ◌+◌, ◌≤◌, [], ◌++◌, IsUtf8, length, replicate, decimal};
 ghost use Rattle.std.specs.Fmt.{signed_decimal};
 ghost use Rattle.kalah_jobs.specs.Line.Line.{space};
 
@@ -59,13 +59,6 @@ impl StackText {
         ensures { result ≡ length self.now }
     {
         self.bytes().len()
-    }
-
-    // Whether there is room for so many bytes more.
-    pub(crate) fn has_room(&self, bytes: usize) -> bool
-        ensures { IsTrue result ↔ bytes + length self.now ≤ ROOM }
-    {
-        bytes <= self.start
     }
 
     // Puts a piece before what is there.

@@ -35,7 +35,7 @@ fn write_step_line<W: Sink>(
     out.write_all(text.bytes())
 }
 
-/// Writes a line for each legal house of a board, rising: the name, the place and the text of its move. Where there is none it is
+/// Writes a line for each legal house of a board, rising: the name, the place and the text of its move. If there is none, it writes
 /// an empty line.
 pub(crate) fn write_steps<W: Sink>(
     out: &mut W,
@@ -62,7 +62,7 @@ pub(crate) fn write_steps<W: Sink>(
     Ok(())
 }
 
-// What stands before a line: nothing before the first.
+// Returns what stands before a line: nothing before the first.
 fn before_line(is_first: bool) -> &'static str
     ensures { result.now ≡ (if is_first then [] else line_feed ∷ []) }
 {

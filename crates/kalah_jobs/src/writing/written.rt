@@ -20,18 +20,13 @@ fn write_one_line<W: Sink>(out: &mut W, name: &str, taken: &Taken) -> Result<(),
         (Appends (W.written out.old) (W.written out.new) (answer_line name.now taken.now ++ line_feed ∷ [])) }
     ensures start { AppendsStart (W.written out.old) (W.written out.new) (answer_line name.now taken.now ++ line_feed ∷ []) }
 {
-    let mut line = ending_of(taken, "\n");
-    if line.has_room(name.len()) {
-        line.prepend(name);
-        return out.write_all(line.bytes());
-    }
     out.write_all(name.as_bytes())?;
-    out.write_all(line.bytes())
+    out.write_all(ending_of(taken, "\n").bytes())
 }
 
-/// Writes the answer line of a line of the file `name`, as `answer_text` has it, and a line feed; of steps the line of each. It
-/// takes no memory. It is an error exactly where the sink has failed afterwards; then a beginning of this was written, and
-/// nothing else.
+/// Writes the answer line of a line of the file `name`, as `answer_text` returns it, and a line feed; of steps the line of each.
+///
+/// It allocates nothing. It fails exactly when the sink has failed afterwards; then a prefix of this was written, and nothing else.
 pub fn write_answer<W: Sink>(out: &mut W, name: &str, taken: &Taken) -> Result<(), io::Error>
     requires { W.has_failed out.old ≡ false }
     ensures fails { IsErr result ↔ (W.has_failed out.new ≡ true) }

@@ -19,8 +19,8 @@ pub(super) struct RowNumbers {
     store: u64,
 }
 
-// What goes to the store where the last seed makes the seeds of its house `here` and so many lie across: that seed and those, or
-// nothing. Which of them is hard to foresee, so both are told as numbers, by which a row changes without a branch.
+// Returns what is captured, if the last seed makes the seeds of its house `here` and `across` lie in the house across: that seed
+// and those, or nothing. Which of the two is hard to predict, so both are numbers, and a row changes by them without a branch.
 fn caught(rule: Rule, here: u64, across: u64) -> (u64, u64)
     requires { across < 32 }
     ensures caught { MatchBool ((here == 1) && captures rule across)

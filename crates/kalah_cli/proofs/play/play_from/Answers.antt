@@ -2,8 +2,7 @@ use Rattle.std.proofs.Common.{◌++◌, refl, subst}
 use Rattle.std.specs.Io.KnownBytes.{Appends}
 use Rattle.std.proofs.KnownBytes.{Appends-trans}
 use Rattle.std.proofs.lemmas.Result.{on_ok_weaker}
-use Rattle.kalah_rules.specs.Play.{step_of}
-use Rattle.kalah_jobs.specs.Line.Line.{position_after}
+use Rattle.kalah_rules.specs.Play.{position_after, step_of}
 use Rattle.kalah_jobs.specs.Writing.Given.{AppendsStart}
 use Rattle.kalah_jobs.proofs.OfWriting.Starts.{start_longer, start_then}
 use Rattle.kalah_cli.specs.Moves.{board_lines, move_lines}

@@ -181,7 +181,7 @@ fn the_help_says_what_there_is_to_ask_for(rt: HostRuntime) {
     }
 }
 
-// Words of which the first two behind the subcommand are the halves of a position, or are not.
+// Arguments whose first two after the subcommand are the halves of a position, or are not.
 const WITHOUT_QUOTES: &[&[&str]] = &[
     &["moves", "1,1/0", "1,1/0"],
     &["moves", "--boards", "1,1/0", "1,1/0"],

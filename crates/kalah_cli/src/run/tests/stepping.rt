@@ -2,7 +2,7 @@
 use super::{assert_answers, assert_stops, write_file};
 use crate::status::ExitStatus;
 
-// Files whose steps are told, and how.
+// Files whose steps are printed, and how.
 const TOLD: &[(&[u8], &str, ExitStatus)] = &[
     (b"", "", ExitStatus::Clean),
     (

@@ -1,4 +1,4 @@
-//! Lines of which the values of the moves, or their steps, are asked.
+//! Questions about the values of the moves of lines, or about their steps.
 use crate::{
     Answer, Collector, Entry, FileText, Job, Jobs, Outcome, Question, Refusal, Sink, Stream, Taken,
     answer_text, read_line, write_answer,

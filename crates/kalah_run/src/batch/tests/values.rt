@@ -61,7 +61,7 @@ fn three_files(rt: &impl Abort, alloc: Global) -> Vec<FileText> {
     files
 }
 
-// Whether the batch tells what is asked of all moves, and counts the lines.
+// Whether the batch answers the question about all moves, and counts the lines.
 fn is_told<R: Threads + Wait + Sync>(
     rt: &R,
     alloc: Global,

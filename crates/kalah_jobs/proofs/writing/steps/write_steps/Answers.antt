@@ -54,7 +54,7 @@ returns-in_err-write_step_line-clause-start g c =
     (sym (whole_lines place text moves _ (i + 1) c.loop-i.invariant.same (omega (arith, low))))
     (start_longer _ _ (flat_map one (take (i + 1) moves)) (flat_map one (drop (i + 1) moves)) so_far)
 
--- all moves are told
+-- all moves are written
 all_told : (place : List ℕ) (text : ℕ → List ℕ) (moves others : List ℕ) (i : ℕ) → moves ≡ others → 0 < length moves → length moves ≤ i →
     flat_map (λ h. (place ++ text h) ++ line_feed ∷ []) (take i moves) ≡ join_with_byte line_feed (map (λ t. place ++ t) (map text others))
     ++ line_feed ∷ []

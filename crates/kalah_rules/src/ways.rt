@@ -1,0 +1,94 @@
+//! The numbers of ways to play on.
+ghost use Rattle.std.specs.Prelude.{◌≡◌, ◌≤◌, ◌<◌, ◌^◌, length, Contains};
+ghost use Rattle.kalah_rules.specs.Position.{bare};
+ghost use Rattle.kalah_rules.specs.Play.{legal_houses};
+ghost use Rattle.kalah_rules.specs.Limits.{most_depth, most_houses};
+ghost use Rattle.kalah_rules.specs.Ways.{ways, ways_by};
+
+#[cfg(test)]
+mod tests;
+
+use crate::board::Board;
+use crate::houses::Houses;
+use crate::step::HousesStep;
+
+impl Houses {
+    // Returns the number of legal moves.
+    fn legal_count(&self) -> u64
+        ensures count { result ≡ length (legal_houses (bare self.now)) }
+        ensures few { result ≤ most_houses }
+    {
+        if self.is_over() {
+            return 0;
+        }
+        let mut count = 0;
+        for h in 1..self.m() + 1 {
+            if self.own(h) > 0 {
+                count += 1;
+            }
+        }
+        count
+    }
+
+    // Returns the number of ways to play on for `depth` moves. The last moves are counted and not played.
+    #[cycle(ways)]
+    fn ways(&self, depth: u8) -> u64
+        requires { depth ≤ most_depth }
+        ensures ways { result ≡ ways depth (bare self.now) }
+        ensures small { result ≤ most_houses ^ depth }
+    {
+        if depth == 0 {
+            return 1;
+        }
+        if depth == 1 {
+            return self.legal_count();
+        }
+        if self.is_over() {
+            return 0;
+        }
+        let mut sum = 0;
+        for h in 1..self.m() + 1 {
+            if self.own(h) > 0 {
+                sum += self.ways_by(h, depth - 1);
+            }
+        }
+        sum
+    }
+
+    // Returns the number of ways to play on for `depth` moves behind the move of house `h`.
+    #[cycle(ways)]
+    fn ways_by(&self, h: u8, depth: u8) -> u64
+        requires legal { Contains (legal_houses (bare self.now)) h }
+        requires depth { depth < most_depth }
+        ensures ways { result ≡ ways_by depth (bare self.now) h }
+        ensures small { result ≤ most_houses ^ depth }
+    {
+        match self.play(h) {
+            HousesStep::Over { .. } => u64::from(depth == 0),
+            HousesStep::Again(_, next) | HousesStep::Turn(_, next) => next.ways(depth),
+        }
+    }
+}
+
+impl Board {
+    /// Returns the number of ways to play on for `depth` moves, which is at most 20: sequences of exactly so many moves by the rules.
+    /// If the game is over, there is one way to play no move, and no other.
+    pub fn ways(&self, depth: u8) -> u64
+        requires { depth ≤ most_depth }
+        ensures ways { result ≡ ways depth self.now }
+        ensures small { result ≤ most_houses ^ depth }
+    {
+        self.houses().ways(depth)
+    }
+
+    /// Returns the number of ways to play on for `depth` moves, which is less than 20, behind the move of house `h`, which must be legal.
+    /// That move itself isn't counted in `depth`.
+    pub fn ways_by(&self, h: u8, depth: u8) -> u64
+        requires legal { Contains (legal_houses self.now) h }
+        requires depth { depth < most_depth }
+        ensures ways { result ≡ ways_by depth self.now h }
+        ensures small { result ≤ most_houses ^ depth }
+    {
+        self.houses().ways_by(h, depth)
+    }
+}
