@@ -3,7 +3,7 @@
 _kalah() {
     local current=${COMP_WORDS[COMP_CWORD]} previous=${COMP_WORDS[COMP_CWORD - 1]} options
     if [ "$COMP_CWORD" -eq 1 ]; then
-        COMPREPLY=($(compgen -W 'moves play solve values ask steps show -h --help -V --version' -- "$current"))
+        COMPREPLY=($(compgen -W 'moves play solve values ask steps show count -h --help -V --version' -- "$current"))
         return
     fi
     case ${COMP_WORDS[1]} in
@@ -13,6 +13,7 @@ _kalah() {
         steps) options='--workers --progress -h --help' ;;
         ask) options='--values --table -h --help' ;;
         show) options='--plain --table -h --help' ;;
+        count) options='-h --help' ;;
     esac
     case $current in
         -*) COMPREPLY=($(compgen -W "$options" -- "$current")) ;;

@@ -10,6 +10,7 @@ complete -c kalah -n __fish_use_subcommand -a values -d 'Print what each move of
 complete -c kalah -n __fish_use_subcommand -a ask -d 'Answer each line of standard input before it reads the next'
 complete -c kalah -n __fish_use_subcommand -a steps -d 'Print each legal move of each position, and what it leads to'
 complete -c kalah -n __fish_use_subcommand -a show -d 'Draw a position, and below each house what its move is worth'
+complete -c kalah -n __fish_use_subcommand -a count -d 'Count the ways to play on from a position, for each first move'
 complete -c kalah -n '__fish_seen_subcommand_from ask' -l values -d 'Print what each move is worth, as values does'
 complete -c kalah -n '__fish_seen_subcommand_from moves play' -l boards -d 'Draw each position below its line'
 complete -c kalah -n '__fish_seen_subcommand_from play solve values ask show' -l table -x -d 'Table entries of each worker, 1 to 1048576'

@@ -15,6 +15,7 @@ _kalah() {
                 'ask:answer each line of standard input before it reads the next'
                 'steps:print each legal move of each position, and what it leads to'
                 'show:draw a position, and below each house what its move is worth'
+                'count:count the ways to play on from a position, for each first move'
             )
             _describe subcommand subcommands
             ;;
@@ -27,6 +28,7 @@ _kalah() {
                 moves) _arguments $help $boards '1:position in quotes: ' ;;
                 play) _arguments $help $table $boards '--first=[begin with this house, 1 to 6]:house: ' '1:position in quotes: ' ;;
                 show) _arguments $help '--plain[draw the position alone]' $table '1:position in quotes: ' ;;
+                count) _arguments $help '1:number of moves, 0 to 20: ' '2:position in quotes: ' ;;
                 ask) _arguments $help '--values[print what each move is worth, as values does]' $table ;;
                 solve | values) _arguments $help $workers $table $progress '*:file of positions:_files' ;;
                 steps) _arguments $help $workers $progress '*:file of positions:_files' ;;

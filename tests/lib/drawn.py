@@ -63,6 +63,9 @@ FIRST = [None, "a house with seeds", *range(1, 7)]
 # How `--plain` stands among the words of `show`.
 PLAIN = [None, 0, 1]
 
+# How many moves are played on where ways are counted: the reference is quick up to 5.
+DEPTHS = range(6)
+
 # Stores with which values are wide.
 WIDE = [(99, 0), (0, 99), (98, 0), (0, 98), (99, 1), (1, 99), (99, 99)]
 
@@ -198,6 +201,11 @@ class Drawn:
         dashes = ["--"] if line.startswith(b"-") or self.happens(0.2) else []
         words = [*flag, *options, *dashes, line] if dashes or not boards else [*options, line, *flag]
         return [subcommand, *words], bool(flag)
+
+    def words_of_count(self, depth, line):
+        """The words of `count`: a number may begin with zeros or a plus."""
+        dashes = ["--"] if line.startswith(b"-") or self.happens(0.2) else []
+        return ["count", *dashes, self.chance.choice(["", "", "0", "+", "+00"]) + str(depth), line]
 
     def lines(self, count):
         """Returns `count` lines; the last is not empty."""

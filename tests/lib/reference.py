@@ -173,6 +173,26 @@ def show(line, plain=False):
     return Run((picture(position) + ("" if plain else line_below(position))).encode(), b"", 0)
 
 
+@lru_cache(maxsize=1 << 16)
+def ways(depth, position):
+    """Returns how many sequences of exactly `depth` moves the rules allow from the position on."""
+    return sum(ways_by(depth, position).values()) if depth else 1
+
+
+def ways_by(depth, position):
+    """Returns for each legal house how many of these sequences begin with its move."""
+    return {house: ways(depth - 1, after(position, house)[0]) for house in legal(position)}
+
+
+def count(line, depth):
+    """`kalah count DEPTH LINE`."""
+    position = read(line)
+    if isinstance(position, str):
+        return Run(b"", f"fault {position}\n".encode(), 1)
+    lines = [f"{house} {number}\n" for house, number in ways_by(depth, position).items()] if depth else []
+    return Run(("".join(lines) + f"total {ways(depth, position)}\n").encode(), b"", 0)
+
+
 def play(line, boards=False, first=None):
     """`kalah play LINE`, which begins with house `first` if there is one."""
     position = read(line)

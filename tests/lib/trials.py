@@ -17,7 +17,7 @@ from pathlib import Path
 from lib import reference
 from lib.asked import ASK_KINDS, AskTrials
 from lib.differing import SOON, Differs, read_soon
-from lib.drawn import BYTES, FILES, LINES, LINES_OF_MOVES, NO_FILES, PLAIN, SEARCHING, SUBCOMMANDS, TABLES, Drawn
+from lib.drawn import BYTES, DEPTHS, FILES, LINES, LINES_OF_MOVES, NO_FILES, PLAIN, SEARCHING, SUBCOMMANDS, TABLES, Drawn
 from lib.reference import Run
 
 TESTS = Path(__file__).resolve().parents[1]
@@ -37,6 +37,9 @@ MISTAKES = [
     *(["play", "--first", "1/0 1/0"], ["play", "--first=1", "--first=1", "1/0 1/0"], ["moves", "--first=1", "1/0 1/0"], ["show", "--first=1", "1/0 1/0"]),
     *(["show"], ["show", "--"], ["show", "-1/0 1/0"], ["show", "1/0 1/0", "1/0 1/0"], ["show", "--boards", "1/0 1/0"], ["show", "--plain=1", "1/0 1/0"]),
     *(["show", "--plain", "--plain", "1/0 1/0"], ["show", "--table=0", "1/0 1/0"], ["show", "--workers", "1", "1/0 1/0"], ["show", b"1/0 1/0\x80"]),
+    *(["count", depth, "1/0 1/0"] for depth in ("", "21", "-1", "a", "1.0", " 1", "1 ", "0x1", "++1", "１", 256, 2**32, 2**64, 2**64 + 1)),
+    *(["count"], ["count", "1"], ["count", "--", "1"], ["count", "1/0 1/0"], ["count", "1/0 1/0", "1"], ["count", "1", "1/0 1/0", "1/0 1/0"]),
+    *(["count", "--", "-1", "1/0 1/0"], ["count", "1", "-1/0 1/0"], ["count", "--table=1", "1", "1/0 1/0"], ["count", "1", b"1/0 1/0\x80"]),
     *(["play", "--boards=1", "1/0 1/0"], ["play", "--board", "1/0 1/0"], ["play", "--table=0", "1/0 1/0"], ["play", "--table=1048577", "1/0 1/0"]),
     *(["solve"], ["solve", "--"], ["solve", "--workers", "1"], ["solve", "--workers", "a"], ["solve", "a", "--table"], ["solve", "a", "-b"]),
     *(["solve", "--worker", "1", "a"], ["solve", "a", "--workers", "1", "--workers", "1"], ["solve", "a", "--table=1", "--table=1"]),
@@ -48,7 +51,7 @@ MISTAKES = [
 MISTAKES += [[other, *words[1:]] for other in ("values", "steps") for words in MISTAKES if words[:1] == ["solve"]]
 MISTAKES += [["steps", "--table", "1", "a"], ["steps", "a", "--table=65536"], ["steps", "--boards", "a"]]
 
-HELP = [["--help"], ["-h"], ["moves", "--help"], ["moves", "-h"], ["play", "--help"], ["solve", "--help"], ["solve", "-h"], ["solve", "a", "-h"], ["values", "--help"], ["values", "a", "-h"], ["steps", "--help"], ["steps", "a", "-h"], ["ask", "--help"], ["ask", "-h"], ["show", "--help"], ["show", "-h"]]
+HELP = [["--help"], ["-h"], ["moves", "--help"], ["moves", "-h"], ["play", "--help"], ["solve", "--help"], ["solve", "-h"], ["solve", "a", "-h"], ["values", "--help"], ["values", "a", "-h"], ["steps", "--help"], ["steps", "a", "-h"], ["ask", "--help"], ["ask", "-h"], ["show", "--help"], ["show", "-h"], ["count", "--help"], ["count", "-h"]]
 
 # Arguments that ask for the version before anything else.
 VERSION = [["--version"], ["-V"], ["-V", "-h"], ["--version", "stop"], ["-V", "solve", "a"], ["--version", "--version"], ["-V", "--", "a"]]
@@ -80,6 +83,7 @@ HELP_OF_OPTIONS = {
     "solve": [WORKERS_HELP, PROGRESS_HELP, FILE_HELP],
     "values": [WORKERS_HELP, PROGRESS_HELP, FILE_HELP],
     "ask": ["prints what each move is worth, as `values`"],
+    "count": ["how many moves each way has, 0 to 20", "a position in quotes, as '1,1/0 1,1/0'"],
 }
 
 PROGRAM_NAMES = ["kalah", "./kalah", "/bin/kalah", "k l", "é", "-", "--help"]
@@ -112,6 +116,9 @@ RUNS = [
     (["show", "3,3/0 3,3/0"], reference.show(b"3,3/0 3,3/0")),
     (["show", "--plain", "3,3/0 3,3/0"], reference.show(b"3,3/0 3,3/0", True)),
     (["show", "1/0"], reference.show(b"1/0")),
+    (["count", "3", "3,3/0 3,3/0"], reference.count(b"3,3/0 3,3/0", 3)),
+    (["count", "0", "3,3/0 3,3/0"], reference.count(b"3,3/0 3,3/0", 0)),
+    (["count", "3", "1/0"], reference.count(b"1/0", 3)),
     (["solve", "a", "a"], reference.answers("solve", [(b"a", A_AND_FAULT), (b"a", A_AND_FAULT)])),
     (["solve", "a", "b"], reference.answers("solve", [(b"a", A_AND_FAULT), (b"b", None)])),
     (["values", "a", "a"], reference.answers("values", [(b"a", A_AND_FAULT), (b"a", A_AND_FAULT)])),
@@ -348,6 +355,12 @@ class Trials(AskTrials):
         table = self.drawn.card("tables of show", TABLES)
         options = [] if table is None else [f"--table={table}"]
         self.run_on_line(line, self.drawn.words_of_line("show", line, options, "plain", PLAIN), reference.show)
+
+    def count(self):
+        """Of lines of both rules, up to five moves on."""
+        line = self.drawn.line_of_moves(self.drawn.card("lines of count", LINES_OF_MOVES))
+        depth = self.drawn.card("depths", DEPTHS)
+        self.run_on_line(line, (self.drawn.words_of_count(depth, line), depth), reference.count)
 
     def plain_positions(self):
         """Of any position a plain picture comes at once: nothing is searched for it."""
@@ -586,6 +599,7 @@ KINDS = {
     "moves": len(LINES_OF_MOVES),
     "play": len(LINES_OF_MOVES),
     "show": len(LINES_OF_MOVES),
+    "count": 4 * len(DEPTHS) + len(LINES_OF_MOVES),
     "plain_positions": 10,
     "mistakes": len(MISTAKES),
     "help": len(HELP),

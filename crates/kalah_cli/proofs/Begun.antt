@@ -3,14 +3,14 @@ use Rattle.std.proofs.Common.{◌≡◌, ◌⊎◌, inl, inr, ℕ, Bool, List, [
 use Rattle.std.specs.Io.KnownBytes.{Appends, Keeps}
 use Rattle.std.specs.Prelude.{if◌then◌else◌}
 use Rattle.kalah_rules.specs.Position.{Position, HasEqualSides, is_over, swapped, swept}
-use Rattle.kalah_rules.specs.Play.{step_of}
+use Rattle.kalah_rules.specs.Play.{position_after, step_of}
 use Rattle.kalah_rules.specs.Sowing.{after, is_again}
 use Rattle.kalah_rules.proofs.Ends.{after_equal_sides}
 use Rattle.kalah_solve.proofs.OfSolver.Worths.{swapped_equal_sides}
 use Rattle.kalah_rules.specs.declared.step.Step.{Step}
 use Rattle.kalah_rules.specs.declared.step.Step.TheVariants.{Again, Over, Turn}
 use Rattle.kalah_jobs.specs.Writing.Given.{AppendsStart}
-use Rattle.kalah_jobs.specs.Line.Line.{Reads, position_after, step_text_of}
+use Rattle.kalah_jobs.specs.Line.Line.{Reads, step_text_of}
 use Rattle.kalah_jobs.specs.Files.Lines.{line_feed}
 use Rattle.kalah_jobs.specs.Writing.Picture.{picture_of}
 use Rattle.kalah_jobs.specs.Writing.Shown.{shown_of, values_line}
@@ -20,7 +20,7 @@ use Rattle.kalah_jobs.proofs.OfWriting.Starts.{start_kept_all, start_none, start
 use Rattle.clap.specs.Words.{Text}
 use Rattle.kalah_cli.specs.Moves.{board_lines, move_lines}
 use Rattle.kalah_cli.specs.Play.{BeginsBest, BeginsToPlay}
-use Rattle.kalah_cli.specs.Request.{Asked, IsTakenAs, answers, ask, moves, play, show}
+use Rattle.kalah_cli.specs.Request.{Asked, IsTakenAs, answers, ask, count, moves, play, show}
 use Rattle.kalah_cli.specs.Runs.{Begins}
 use Rattle.kalah_cli.specs.Ask.{BeginsLines, StopsBetweenLines}
 use Rattle.kalah_cli.specs.Batch.{BeginsTo}
@@ -121,6 +121,7 @@ begins_none (play first table boards line) old = λ p reads. begins_no_play firs
 begins_none (answers question workers table progress names) old = begins_nothing question names old
 begins_none (ask question table) old = no_lines_begun question old
 begins_none (show plain table line) old = λ p reads. start_none old _
+begins_none (count depth line) old = λ p reads. start_none old _
 
 -- what was begun of a request was begun of what its arguments ask for
 pub begun_as : (words : List Text) (a b : Asked) (old new : Option (List ℕ)) → IsTakenAs words a → IsTakenAs words b → Begins a old new →

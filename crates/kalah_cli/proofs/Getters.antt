@@ -1,5 +1,5 @@
 -- What the getters return, by the rows of the matches.
-use Rattle.std.proofs.Common.{◌≡◌, ◌≢◌, ◌∙◌, ◌<◌, ◌≤◌, ℕ, Bool, true, false, refl, sym, ap, subst, List, [], Option, Some, None, Result, Ok, Err, is_some, arith, codes, map, length, inl, inr, IfSome}
+use Rattle.std.proofs.Common.{◌≡◌, ◌≢◌, ◌∙◌, ◌<◌, ◌≤◌, ◌^◌, ℕ, Bool, true, false, refl, sym, ap, subst, List, [], Option, Some, None, Result, Ok, Err, is_some, arith, codes, map, length, inl, inr, IfSome}
 use Rattle.std.specs.Prelude.{option_map, option_and_then, IfErr, IsErrAnd, MatchResult}
 use Rattle.clap.specs.Values.{kind_of}
 use Rattle.clap.specs.declared.error.kind.ErrorKind.TheVariants.{OutOfMemory}
@@ -20,12 +20,12 @@ use Rattle.clap.specs.declared.parser.matches.ArgMatches.{ArgMatches}
 use Rattle.clap.specs.Words.{subcommand_name_of}
 use Rattle.clap.proofs.OnLiterals.{clap_on_literals}
 use Rattle.clap.proofs.WalkLemmas.{one_text-rows}
-use Rattle.kalah_rules.specs.Limits.{most_houses}
+use Rattle.kalah_rules.specs.Limits.{most_depth, most_houses}
 use Rattle.kalah_solve.specs.Table.Entries.{most_entries}
 use Rattle.kalah_run.specs.Limits.{most_workers}
 use Rattle.kalah_jobs.specs.declared.files.question.Question.{Question}
 use Rattle.kalah_jobs.specs.declared.files.question.Question.TheVariants.{BestMove, Values, Steps}
-use Rattle.kalah_cli.specs.Request.{Asked, HasFlag, HasNumber, HasWhatItNeeds, IsAnswers, IsAsk, IsPlay, IsSteps, IsTaken, answers, answers_asked, ask, ask_asked, asked, asked_by, command_of, files_asked, is_set, number_written, play, play_asked, question_of, IsShow, MayHaveNumber, number_given, show, show_asked}
+use Rattle.kalah_cli.specs.Request.{Asked, HasDepth, HasFlag, HasNumberIn, HasWhatItNeeds, IsAnswers, IsAsk, IsCount, IsPlay, IsSteps, IsTaken, answers, answers_asked, ask, ask_asked, asked, asked_by, command_of, count, count_asked, files_asked, is_set, number_written, play, play_asked, question_of, IsShow, MayHaveNumber, number_given, show, show_asked}
 use Rattle.kalah_cli.specs.Command.{kalah_app}
 use Rattle.kalah_cli.proofs.Laws.{app_is_simple}
 use Rattle.kalah_cli.proofs.Subcommands.{taken_holds}
@@ -35,20 +35,24 @@ pub is_there : {A B : Type 0} (f : A → B) (o : Option A) (t : B) → option_ma
 is_there f None t e = cc
 is_there f (Some x) t e = refl
 
+-- what is at most a number is below all that this is below
+below : (n high top : ℕ) → n ≤ high → high < top → n < top
+below n high top most fits = omega (arith, most, fits)
+
 -- a text in range is read as its number
-pub number_reads : (E : Type 0) (G : List ℕ → Result ℕ E → Type 0) (t : List ℕ) (r : Option ℕ) → ReadsOne G t r
-    → ((u : List ℕ) (x : Result ℕ E) → G u x → ParsesUnsigned 32 10 u x) → IsUnsignedIn 1 most_entries t
+pub number_reads : (E : Type 0) (G : List ℕ → Result ℕ E → Type 0) (width low high : ℕ) (t : List ℕ) (r : Option ℕ) → ReadsOne G t r
+    → ((u : List ℕ) (x : Result ℕ E) → G u x → ParsesUnsigned width 10 u x) → high < 2 ^ width → IsUnsignedIn low high t
     → (n : ℕ) × (r ≡ Some n) × (n ≡ number_written t)
-number_reads E G t (Some v) h only p = (v, refl, (only t (Ok v) h).1)
-number_reads E G t None h only p = absurd (only t (Err h.0) h.1 (p.0, omega arith))
+number_reads E G width low high t (Some v) h only fits p = (v, refl, (only t (Ok v) h).1)
+number_reads E G width low high t None h only fits p = absurd (only t (Err h.0) h.1 (p.0, below _ high (2 ^ width) p.3 fits))
 
 -- the typed getter returns the number of the id
-pub number_read : (E : Type 0) (G : List ℕ → Result ℕ E → Type 0) (f : Found) (id : List ℕ) (r : Option ℕ)
+pub number_read : (E : Type 0) (G : List ℕ → Result ℕ E → Type 0) (width low high : ℕ) (f : Found) (id : List ℕ) (r : Option ℕ)
     → ((t : List ℕ) → one_text f id ≡ Some t → ReadsOne G t r)
-    → ((u : List ℕ) (x : Result ℕ E) → G u x → ParsesUnsigned 32 10 u x) → HasNumber id most_entries (rows_of f)
+    → ((u : List ℕ) (x : Result ℕ E) → G u x → ParsesUnsigned width 10 u x) → high < 2 ^ width → HasNumberIn id low high (rows_of f)
     → (n : ℕ) × (r ≡ Some n) × ((t : List ℕ) → one_of id (rows_of f) ≡ Some t → n ≡ number_written t)
-number_read E G f id r reads only has =
-    let got = number_reads E G has.0 r (reads has.0 (one_text-rows f id ∙ has.1)) only has.2 in
+number_read E G width low high f id r reads only fits has =
+    let got = number_reads E G width low high has.0 r (reads has.0 (one_text-rows f id ∙ has.1)) only fits has.2 in
     (got.0, got.1, λ t e. let same : t ≡ has.0 = cc in rw same got.2)
 
 -- and that of an option that may be left out its number, if there is one
@@ -62,8 +66,7 @@ given_read E G f id r absent reads only may = go (one_of id (rows_of f)) refl
     go : (o : Option Text) → one_of id (rows_of f) ≡ o → r ≡ number_given id (rows_of f)
     go None is = rw is (absent (one_text-rows f id ∙ is))
     go (Some t) is =
-        let low = may t is in
-        let got = number_reads E G t r (reads t (one_text-rows f id ∙ is)) only (low.0, low.1, low.2, omega (arith, low.3)) in
+        let got = number_reads E G 32 1 most_houses t r (reads t (one_text-rows f id ∙ is)) only (omega arith) (may t is) in
         rw is (got.1 ∙ ap (λ n. Some n) got.2)
 
 -- which is low
@@ -117,13 +120,15 @@ answers_have BestMove other rows (inr (inl one)) = other_name (codes "solve") (c
 answers_have BestMove other rows (inr (inr (inl files))) = files.1
 answers_have BestMove other rows (inr (inr (inr (inl one)))) = other_name (codes "solve") (codes "ask") refl one.0
 answers_have BestMove other rows (inr (inr (inr (inr (inl one))))) = other_name (codes "solve") (codes "steps") refl one.0
-answers_have BestMove other rows (inr (inr (inr (inr (inr one))))) = other_name (codes "solve") (codes "show") refl one.0
+answers_have BestMove other rows (inr (inr (inr (inr (inr (inl one)))))) = other_name (codes "solve") (codes "show") refl one.0
+answers_have BestMove other rows (inr (inr (inr (inr (inr (inr one)))))) = other_name (codes "solve") (codes "count") refl one.0
 answers_have Values other rows (inl one) = other_name (codes "values") (codes "moves") refl one.0
 answers_have Values other rows (inr (inl one)) = other_name (codes "values") (codes "play") refl one.0
 answers_have Values other rows (inr (inr (inl files))) = files.1
 answers_have Values other rows (inr (inr (inr (inl one)))) = other_name (codes "values") (codes "ask") refl one.0
 answers_have Values other rows (inr (inr (inr (inr (inl one))))) = other_name (codes "values") (codes "steps") refl one.0
-answers_have Values other rows (inr (inr (inr (inr (inr one))))) = other_name (codes "values") (codes "show") refl one.0
+answers_have Values other rows (inr (inr (inr (inr (inr (inl one)))))) = other_name (codes "values") (codes "show") refl one.0
+answers_have Values other rows (inr (inr (inr (inr (inr (inr one)))))) = other_name (codes "values") (codes "count") refl one.0
 answers_have Steps other rows has = absurd (other refl)
 
 -- what the subcommand that was entered needs, by its name
@@ -156,7 +161,8 @@ game_have rows (inr (inr (inl (inl one, files)))) = other_name (codes "play") (c
 game_have rows (inr (inr (inl (inr one, files)))) = other_name (codes "play") (codes "values") refl one
 game_have rows (inr (inr (inr (inl one)))) = other_name (codes "play") (codes "ask") refl one.0
 game_have rows (inr (inr (inr (inr (inl one))))) = other_name (codes "play") (codes "steps") refl one.0
-game_have rows (inr (inr (inr (inr (inr one))))) = other_name (codes "play") (codes "show") refl one.0
+game_have rows (inr (inr (inr (inr (inr (inl one)))))) = other_name (codes "play") (codes "show") refl one.0
+game_have rows (inr (inr (inr (inr (inr (inr one)))))) = other_name (codes "play") (codes "count") refl one.0
 
 pub game_need : (m : ArgMatches) (rows : List Row) → IsTaken (subcommand_rows_of m) → subcommand_name_of m ≡ Some (codes "play")
     → option_map (λ p. p.1) (subcommand_rows_of m) ≡ Some rows → IsPlay rows
@@ -170,7 +176,8 @@ ask_have rows (inr (inr (inl (inl one, files)))) = other_name (codes "ask") (cod
 ask_have rows (inr (inr (inl (inr one, files)))) = other_name (codes "ask") (codes "values") refl one
 ask_have rows (inr (inr (inr (inl own)))) = own.1
 ask_have rows (inr (inr (inr (inr (inl one))))) = other_name (codes "ask") (codes "steps") refl one.0
-ask_have rows (inr (inr (inr (inr (inr one))))) = other_name (codes "ask") (codes "show") refl one.0
+ask_have rows (inr (inr (inr (inr (inr (inl one)))))) = other_name (codes "ask") (codes "show") refl one.0
+ask_have rows (inr (inr (inr (inr (inr (inr one)))))) = other_name (codes "ask") (codes "count") refl one.0
 
 pub ask_need : (m : ArgMatches) (rows : List Row) → IsTaken (subcommand_rows_of m) → subcommand_name_of m ≡ Some (codes "ask")
     → option_map (λ p. p.1) (subcommand_rows_of m) ≡ Some rows → IsAsk rows
@@ -184,7 +191,8 @@ steps_have rows (inr (inr (inl (inl one, files)))) = other_name (codes "steps") 
 steps_have rows (inr (inr (inl (inr one, files)))) = other_name (codes "steps") (codes "values") refl one
 steps_have rows (inr (inr (inr (inl one)))) = other_name (codes "steps") (codes "ask") refl one.0
 steps_have rows (inr (inr (inr (inr (inl own))))) = own.1
-steps_have rows (inr (inr (inr (inr (inr one))))) = other_name (codes "steps") (codes "show") refl one.0
+steps_have rows (inr (inr (inr (inr (inr (inl one)))))) = other_name (codes "steps") (codes "show") refl one.0
+steps_have rows (inr (inr (inr (inr (inr (inr one)))))) = other_name (codes "steps") (codes "count") refl one.0
 
 pub steps_need : (m : ArgMatches) (rows : List Row) → IsTaken (subcommand_rows_of m) → subcommand_name_of m ≡ Some (codes "steps")
     → option_map (λ p. p.1) (subcommand_rows_of m) ≡ Some rows → IsSteps rows
@@ -198,11 +206,27 @@ show_have rows (inr (inr (inl (inl one, files)))) = other_name (codes "show") (c
 show_have rows (inr (inr (inl (inr one, files)))) = other_name (codes "show") (codes "values") refl one
 show_have rows (inr (inr (inr (inl one)))) = other_name (codes "show") (codes "ask") refl one.0
 show_have rows (inr (inr (inr (inr (inl one))))) = other_name (codes "show") (codes "steps") refl one.0
-show_have rows (inr (inr (inr (inr (inr own))))) = own.1
+show_have rows (inr (inr (inr (inr (inr (inl own)))))) = own.1
+show_have rows (inr (inr (inr (inr (inr (inr one)))))) = other_name (codes "show") (codes "count") refl one.0
 
 pub show_need : (m : ArgMatches) (rows : List Row) → IsTaken (subcommand_rows_of m) → subcommand_name_of m ≡ Some (codes "show")
     → option_map (λ p. p.1) (subcommand_rows_of m) ≡ Some rows → IsShow rows
 show_need m rows taken named listed = show_have rows (met (codes "show") m rows taken named listed)
+
+-- and so has `count`
+count_have : (rows : List Row) → HasWhatItNeeds (codes "count") rows → IsCount rows
+count_have rows (inl one) = other_name (codes "count") (codes "moves") refl one.0
+count_have rows (inr (inl one)) = other_name (codes "count") (codes "play") refl one.0
+count_have rows (inr (inr (inl (inl one, files)))) = other_name (codes "count") (codes "solve") refl one
+count_have rows (inr (inr (inl (inr one, files)))) = other_name (codes "count") (codes "values") refl one
+count_have rows (inr (inr (inr (inl one)))) = other_name (codes "count") (codes "ask") refl one.0
+count_have rows (inr (inr (inr (inr (inl one))))) = other_name (codes "count") (codes "steps") refl one.0
+count_have rows (inr (inr (inr (inr (inr (inl one)))))) = other_name (codes "count") (codes "show") refl one.0
+count_have rows (inr (inr (inr (inr (inr (inr own)))))) = own.1
+
+pub count_need : (m : ArgMatches) (rows : List Row) → IsTaken (subcommand_rows_of m) → subcommand_name_of m ≡ Some (codes "count")
+    → option_map (λ p. p.1) (subcommand_rows_of m) ≡ Some rows → IsCount rows
+count_need m rows taken named listed = count_have rows (met (codes "count") m rows taken named listed)
 
 pub answers_need : (question : Question) → question ≢ Steps → (m : ArgMatches) (rows : List Row) → IsTaken (subcommand_rows_of m)
     → subcommand_name_of m ≡ Some (command_of question) → option_map (λ p. p.1) (subcommand_rows_of m) ≡ Some rows → IsAnswers rows
@@ -250,6 +274,18 @@ show_in_range rows has table is_table =
     let t = is_table has.1.0 has.1.1 in
     let b = has.1.2 in
     (rw t b.2, rw t b.3)
+
+-- what the getters give is what the matches of `count` ask for
+pub count_is : (rows : List Row) (has : IsCount rows) (depth : ℕ) (line : Text) → Reads (codes "depth") rows depth
+    → first_of (codes "line") rows ≡ Some line → count_asked rows ≡ Some (count depth line)
+count_is rows has depth line is_depth is_line = rw (has.0.1, is_line, is_depth has.0.0 has.0.1) refl
+
+-- and it is in range
+pub count_in_range : (rows : List Row) (has : IsCount rows) (depth : ℕ) → Reads (codes "depth") rows depth → depth ≤ most_depth
+count_in_range rows has depth is_depth =
+    let d = is_depth has.0.0 has.0.1 in
+    let b = has.0.2 in
+    rw d b.3
 
 -- what the getters return is what the matches of `ask` ask for
 pub ask_is : (rows : List Row) (has : IsAsk rows) (table : ℕ) (values : Bool) → Reads (codes "table") rows table → values ≡ is_set (codes "values") rows

@@ -9,3 +9,4 @@ pub mod Plain
 pub mod Taken
 pub mod Played
 pub mod Begun
+pub mod Counted

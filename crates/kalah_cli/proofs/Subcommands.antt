@@ -1,4 +1,4 @@
--- What the matches of the six subcommands hold, where the words are taken.
+-- What the matches of each subcommand hold, where the words are taken.
 use Rattle.std.proofs.Common.{◌≡◌, ◌⊎◌, ◌∙◌, ◌<◌, ℕ, Bool, true, false, refl, ap, subst, sym, inl, inr, List, [], ◌∷◌, Option, Some, None, arith, length, is_some, ◌||◌, not, codes}
 use Rattle.std.specs.Prelude.{find, nat_lt, option_and_then, option_map, slice_get}
 use Rattle.std.specs.Option.{option_map_or}
@@ -16,20 +16,20 @@ use Rattle.clap.specs.declared.builder.value_parser.Reading.TheVariants.{AsWritt
 use Rattle.clap.specs.declared.builder.value_parser.ValueParser.TheVariants.{Unsigned}
 use Rattle.clap.specs.declared.builder.value_parser.ValueParser.TheVariants as vp
 use Rattle.clap.specs.declared.builder.action.ArgAction.TheVariants.{Append, Help, Set, SetTrue}
-use Rattle.kalah_rules.specs.Limits.{most_houses}
+use Rattle.kalah_rules.specs.Limits.{most_depth, most_houses}
 use Rattle.kalah_solve.specs.Table.Entries.{most_entries}
 use Rattle.kalah_run.specs.Limits.{most_workers}
-use Rattle.kalah_cli.specs.Command.{answers_app, ask_app, boards_rule, file_rule, kalah_app, line_rule, moves_app, play_app, progress_rule, steps_app, table_rule, values_rule, workers_rule, first_rule, plain_rule, show_app}
-use Rattle.kalah_cli.specs.Request.{HasFlag, HasLineArgument, HasNumber, HasWhatItNeeds, IsAnswers, IsAsk, IsMoves, IsPlay, IsSteps, IsShow, MayHaveNumber}
+use Rattle.kalah_cli.specs.Command.{answers_app, ask_app, boards_rule, count_app, depth_rule, file_rule, kalah_app, line_rule, moves_app, play_app, progress_rule, steps_app, table_rule, values_rule, workers_rule, first_rule, plain_rule, show_app}
+use Rattle.kalah_cli.specs.Request.{HasDepth, HasFlag, HasLineArgument, HasNumber, HasNumberIn, HasWhatItNeeds, IsAnswers, IsAsk, IsCount, IsMoves, IsPlay, IsSteps, IsShow, MayHaveNumber}
 use Rattle.kalah_cli.proofs.Items.{AllOf, both_all, found_all, more_than}
 use Rattle.kalah_cli.proofs.OfClap.FoundRows.{values_pass, default_made, given_row, found_row, rows_stay, row_in, found_named}
 use Rattle.kalah_cli.proofs.OfClap.KeptRows.{Gives, kept_level, level_parts}
 
 -- ---- values
 
--- a row of the id has numbers from 1 to `high`, read as they are written
-abbrev Ranged : Text → ℕ → Row → Type 0
-Ranged id high r = bytes_eq r.id id ≡ true → (r.reading ≡ AsWritten) × AllOf (IsUnsignedIn 1 high) r.values
+-- a row of the id has numbers from `low` to `high`, read as they are written
+abbrev Ranged : Text → ℕ → ℕ → Row → Type 0
+Ranged id low high r = bytes_eq r.id id ≡ true → (r.reading ≡ AsWritten) × AllOf (IsUnsignedIn low high) r.values
 
 -- a row of the id is true or false, read as it is written
 abbrev Flagged : Text → Row → Type 0
@@ -38,13 +38,14 @@ Flagged id r = bytes_eq r.id id ≡ true → (r.reading ≡ AsWritten) × AllOf 
 -- what holds of each row of a subcommand
 pub record Sound (r : Row) : Type 0 where
   pub some : 0 < length r.values
-  pub workers : Ranged (codes "workers") most_workers r
-  pub table : Ranged (codes "table") most_entries r
+  pub workers : Ranged (codes "workers") 1 most_workers r
+  pub table : Ranged (codes "table") 1 most_entries r
   pub boards : Flagged (codes "boards") r
   pub progress : Flagged (codes "progress") r
   pub values : Flagged (codes "values") r
-  pub first : Ranged (codes "first") most_houses r
+  pub first : Ranged (codes "first") 1 most_houses r
   pub plain : Flagged (codes "plain") r
+  pub depth : Ranged (codes "depth") 0 most_depth r
 
 -- a row of another id
 elsewhere : {Q : Type 0} (id other : Text) (r : Row) → bytes_eq r.id other ≡ true → bytes_eq other id ≡ false → bytes_eq r.id id ≡ true → Q
@@ -77,6 +78,10 @@ steps_shape = built_leaf (inherited (marked_built (with_leaf_noted kalah_app.top
 abbrev show_shape : Shape
 show_shape = built_leaf (inherited (marked_built (with_leaf_noted kalah_app.top)) show_app.top)
 
+-- `count`, as built under the program
+abbrev count_shape : Shape
+count_shape = built_leaf (inherited (marked_built (with_leaf_noted kalah_app.top)) count_app.top)
+
 -- the arguments, as built
 abbrev workers_built : Rule
 workers_built = with_index 1 (filled workers_rule)
@@ -105,6 +110,13 @@ file_built = with_index 1 (filled file_rule)
 abbrev line_built : Rule
 line_built = with_index 1 (filled line_rule)
 
+abbrev depth_built : Rule
+depth_built = with_index 1 (filled depth_rule)
+
+-- the line behind a depth
+abbrev second_line_built : Rule
+second_line_built = with_index 2 (filled line_rule)
+
 abbrev help_built : Rule
 help_built = with_index 2 (filled help_rule)
 
@@ -121,6 +133,7 @@ workers_give = record {
     values = λ bad. cc;
     first = λ bad. cc;
     plain = λ bad. cc;
+    depth = λ bad. cc;
   };
   more = λ s r vs is p e. record {
     some = more_than r.values vs p.some;
@@ -131,6 +144,7 @@ workers_give = record {
     values = elsewhere (codes "values") (codes "workers") r is refl;
     first = elsewhere (codes "first") (codes "workers") r is refl;
     plain = elsewhere (codes "plain") (codes "workers") r is refl;
+    depth = elsewhere (codes "depth") (codes "workers") r is refl;
   };
 }
 
@@ -147,6 +161,7 @@ table_gives = record {
     values = λ bad. cc;
     first = λ bad. cc;
     plain = λ bad. cc;
+    depth = λ bad. cc;
   };
   more = λ s r vs is p e. record {
     some = more_than r.values vs p.some;
@@ -157,6 +172,7 @@ table_gives = record {
     values = elsewhere (codes "values") (codes "table") r is refl;
     first = elsewhere (codes "first") (codes "table") r is refl;
     plain = elsewhere (codes "plain") (codes "table") r is refl;
+    depth = elsewhere (codes "depth") (codes "table") r is refl;
   };
 }
 
@@ -173,6 +189,7 @@ boards_give = record {
     values = λ bad. cc;
     first = λ bad. cc;
     plain = λ bad. cc;
+    depth = λ bad. cc;
   };
   more = λ s r vs is p e. record {
     some = more_than r.values vs p.some;
@@ -183,6 +200,7 @@ boards_give = record {
     values = elsewhere (codes "values") (codes "boards") r is refl;
     first = elsewhere (codes "first") (codes "boards") r is refl;
     plain = elsewhere (codes "plain") (codes "boards") r is refl;
+    depth = elsewhere (codes "depth") (codes "boards") r is refl;
   };
 }
 
@@ -199,6 +217,7 @@ progress_gives = record {
     values = λ bad. cc;
     first = λ bad. cc;
     plain = λ bad. cc;
+    depth = λ bad. cc;
   };
   more = λ s r vs is p e. record {
     some = more_than r.values vs p.some;
@@ -209,6 +228,7 @@ progress_gives = record {
     values = elsewhere (codes "values") (codes "progress") r is refl;
     first = elsewhere (codes "first") (codes "progress") r is refl;
     plain = elsewhere (codes "plain") (codes "progress") r is refl;
+    depth = elsewhere (codes "depth") (codes "progress") r is refl;
   };
 }
 
@@ -225,6 +245,7 @@ values_give = record {
     values = λ same. (refl, values_pass false vp.Bool (v ∷ vs) e);
     first = λ bad. cc;
     plain = λ bad. cc;
+    depth = λ bad. cc;
   };
   more = λ s r vs is p e. record {
     some = more_than r.values vs p.some;
@@ -235,6 +256,7 @@ values_give = record {
     values = λ same. ((p.values same).0, both_all _ r.values vs (p.values same).1 (values_pass false vp.Bool vs e));
     first = elsewhere (codes "first") (codes "values") r is refl;
     plain = elsewhere (codes "plain") (codes "values") r is refl;
+    depth = elsewhere (codes "depth") (codes "values") r is refl;
   };
 }
 
@@ -251,6 +273,7 @@ first_gives = record {
     values = λ bad. cc;
     first = λ same. (refl, values_pass false (Unsigned 1 most_houses) (v ∷ vs) e);
     plain = λ bad. cc;
+    depth = λ bad. cc;
   };
   more = λ s r vs is p e. record {
     some = more_than r.values vs p.some;
@@ -261,6 +284,7 @@ first_gives = record {
     values = elsewhere (codes "values") (codes "first") r is refl;
     first = λ same. ((p.first same).0, both_all _ r.values vs (p.first same).1 (values_pass false (Unsigned 1 most_houses) vs e));
     plain = elsewhere (codes "plain") (codes "first") r is refl;
+    depth = elsewhere (codes "depth") (codes "first") r is refl;
   };
 }
 
@@ -277,6 +301,7 @@ plain_gives = record {
     values = λ bad. cc;
     first = λ bad. cc;
     plain = λ same. (refl, values_pass false vp.Bool (v ∷ vs) e);
+    depth = λ bad. cc;
   };
   more = λ s r vs is p e. record {
     some = more_than r.values vs p.some;
@@ -287,6 +312,35 @@ plain_gives = record {
     values = elsewhere (codes "values") (codes "plain") r is refl;
     first = elsewhere (codes "first") (codes "plain") r is refl;
     plain = λ same. ((p.plain same).0, both_all _ r.values vs (p.plain same).1 (values_pass false vp.Bool vs e));
+    depth = elsewhere (codes "depth") (codes "plain") r is refl;
+  };
+}
+
+-- how many moves each way has
+depth_gives : Gives Sound depth_built
+depth_gives = record {
+  action = inr (inl (inl refl, refl));
+  first = λ s v vs e. record {
+    some = omega arith;
+    workers = λ bad. cc;
+    table = λ bad. cc;
+    boards = λ bad. cc;
+    progress = λ bad. cc;
+    values = λ bad. cc;
+    first = λ bad. cc;
+    plain = λ bad. cc;
+    depth = λ same. (refl, values_pass false (Unsigned 0 most_depth) (v ∷ vs) e);
+  };
+  more = λ s r vs is p e. record {
+    some = more_than r.values vs p.some;
+    workers = elsewhere (codes "workers") (codes "depth") r is refl;
+    table = elsewhere (codes "table") (codes "depth") r is refl;
+    boards = elsewhere (codes "boards") (codes "depth") r is refl;
+    progress = elsewhere (codes "progress") (codes "depth") r is refl;
+    values = elsewhere (codes "values") (codes "depth") r is refl;
+    first = elsewhere (codes "first") (codes "depth") r is refl;
+    plain = elsewhere (codes "plain") (codes "depth") r is refl;
+    depth = λ same. ((p.depth same).0, both_all _ r.values vs (p.depth same).1 (values_pass false (Unsigned 0 most_depth) vs e));
   };
 }
 
@@ -296,8 +350,8 @@ other_gives : (a : Rule) → (action_of a ≡ Help)
     ⊎ ((action_of a ≡ SetTrue) × (0 < length a.missing)))
     → bytes_eq a.id (codes "workers") ≡ false → bytes_eq a.id (codes "table") ≡ false → bytes_eq a.id (codes "boards") ≡ false
     → bytes_eq a.id (codes "progress") ≡ false → bytes_eq a.id (codes "values") ≡ false → bytes_eq a.id (codes "first") ≡ false
-    → bytes_eq a.id (codes "plain") ≡ false → Gives Sound a
-other_gives a action no_workers no_table no_boards no_progress no_values no_first no_plain = record {
+    → bytes_eq a.id (codes "plain") ≡ false → bytes_eq a.id (codes "depth") ≡ false → Gives Sound a
+other_gives a action no_workers no_table no_boards no_progress no_values no_first no_plain no_depth = record {
   action = action;
   first = λ s v vs e. record {
     some = omega arith;
@@ -308,6 +362,7 @@ other_gives a action no_workers no_table no_boards no_progress no_values no_firs
     values = λ bad. cc;
     first = λ bad. cc;
     plain = λ bad. cc;
+    depth = λ bad. cc;
   };
   more = λ s r vs is p e. record {
     some = more_than r.values vs p.some;
@@ -318,17 +373,21 @@ other_gives a action no_workers no_table no_boards no_progress no_values no_firs
     values = elsewhere (codes "values") a.id r is no_values;
     first = elsewhere (codes "first") a.id r is no_first;
     plain = elsewhere (codes "plain") a.id r is no_plain;
+    depth = elsewhere (codes "depth") a.id r is no_depth;
   };
 }
 
 file_gives : Gives Sound file_built
-file_gives = other_gives file_built (inr (inl (inr refl, refl))) refl refl refl refl refl refl refl
+file_gives = other_gives file_built (inr (inl (inr refl, refl))) refl refl refl refl refl refl refl refl
 
 line_gives : Gives Sound line_built
-line_gives = other_gives line_built (inr (inl (inl refl, refl))) refl refl refl refl refl refl refl
+line_gives = other_gives line_built (inr (inl (inl refl, refl))) refl refl refl refl refl refl refl refl
+
+second_line_gives : Gives Sound second_line_built
+second_line_gives = other_gives second_line_built (inr (inl (inl refl, refl))) refl refl refl refl refl refl refl refl
 
 help_gives : Gives Sound help_built
-help_gives = other_gives help_built (inl refl) refl refl refl refl refl refl refl
+help_gives = other_gives help_built (inl refl) refl refl refl refl refl refl refl refl
 
 -- so the arguments of each subcommand do
 moves_give : AllOf (Gives Sound) moves_shape.rules
@@ -349,15 +408,18 @@ steps_give = (workers_give, (progress_gives, (file_gives, (help_gives, tt))))
 show_gives : AllOf (Gives Sound) show_shape.rules
 show_gives = (plain_gives, (table_gives, (line_gives, (help_gives, tt))))
 
+count_gives : AllOf (Gives Sound) count_shape.rules
+count_gives = (depth_gives, (second_line_gives, (help_gives, tt)))
+
 -- ---- what is there
 
 -- a row of numbers in range has a number in range
-number_in : (id : Text) (high : ℕ) (rows : List Row) (r : Row) → find (λ r. bytes_eq r.id id) rows ≡ Some r → 0 < length r.values
-    → (r.reading ≡ AsWritten) × AllOf (IsUnsignedIn 1 high) r.values → HasNumber id high rows
-number_in id high rows r found some ranged = go r.values r.reading refl refl some ranged.1 ranged.0
+number_in : (id : Text) (low high : ℕ) (rows : List Row) (r : Row) → find (λ r. bytes_eq r.id id) rows ≡ Some r → 0 < length r.values
+    → (r.reading ≡ AsWritten) × AllOf (IsUnsignedIn low high) r.values → HasNumberIn id low high rows
+number_in id low high rows r found some ranged = go r.values r.reading refl refl some ranged.1 ranged.0
   where
-    go : (vs : List Text) (how : Reading) → r.values ≡ vs → r.reading ≡ how → 0 < length vs → AllOf (IsUnsignedIn 1 high) vs → how ≡ AsWritten
-        → HasNumber id high rows
+    go : (vs : List Text) (how : Reading) → r.values ≡ vs → r.reading ≡ how → 0 < length vs → AllOf (IsUnsignedIn low high) vs → how ≡ AsWritten
+        → HasNumberIn id low high rows
     go [] how e f lt all is = absurd (omega arith)
     go (v ∷ vs) how e f lt all is = (v, rw (found, e, f, is) refl, all.0)
 
@@ -391,6 +453,16 @@ shown_line_given rows e = go (is_given (codes "line") rows) e
     go true f = refl
     go false f = cc
 
+-- and those of `count` only where both a depth and a line are given
+both_given : (rows : List Row) → check_fault count_shape rows false ≡ []
+    → (is_given (codes "depth") rows ≡ true) × (is_given (codes "line") rows ≡ true)
+both_given rows e = go (is_given (codes "depth") rows) (is_given (codes "line") rows) e
+  where
+    go : (d l : Bool) → check_kinds false false (not d || (not l || (false || false))) ≡ [] → (d ≡ true) × (l ≡ true)
+    go true true f = (refl, refl)
+    go true false f = cc
+    go false l f = cc
+
 -- a row of numbers in range has one in the text that is read
 number_of : (high : ℕ) (r : Row) (t : Text) → (r.reading ≡ AsWritten) × AllOf (IsUnsignedIn 1 high) r.values → row_text r ≡ Some t →
     IsUnsignedIn 1 high t
@@ -404,7 +476,7 @@ number_of high r t ok is = go r.values r.reading ok.1 ok.0 is
         subst (IsUnsignedIn 1 high) same all.0
 
 -- so rows that are all like this have such a number, or none
-number_may_be_in : (id : Text) (high : ℕ) (rows : List Row) → ((r : Row) → Sound r → Ranged id high r) → AllOf Sound rows →
+number_may_be_in : (id : Text) (high : ℕ) (rows : List Row) → ((r : Row) → Sound r → Ranged id 1 high r) → AllOf Sound rows →
     MayHaveNumber id high rows
 number_may_be_in id high rows ranged all = λ t e. go t (find (λ r. bytes_eq r.id id) rows) refl e
   where
@@ -452,7 +524,7 @@ files_in rows all workers given =
     let file = given_row (codes "file") rows given in
     let workers_sound = found_row Sound (codes "workers") rows workers.0 all workers.1 in
     let file_sound = found_row Sound (codes "file") rows file.0 all file.1 in record {
-      workers = number_in (codes "workers") most_workers rows workers.0 workers.1 workers_sound.some
+      workers = number_in (codes "workers") 1 most_workers rows workers.0 workers.1 workers_sound.some
           (workers_sound.workers (found_named (codes "workers") rows workers.0 workers.1));
       progress = flag_in (codes "progress") rows (λ r sound. sound.progress) all;
       files = (file.0.values, ap (option_map (λ (r : Row). r.values)) file.1, file_sound.some);
@@ -472,7 +544,7 @@ answers_hold name words e =
     (with_default (with_default start workers_built) table_built)
     (default_made (with_default start workers_built) table_built (codes "65536") [] refl refl)) in
     let table_sound = found_row Sound (codes "table") rows table.0 level.0 table.1 in record {
-      table = number_in (codes "table") most_entries rows table.0 table.1 table_sound.some
+      table = number_in (codes "table") 1 most_entries rows table.0 table.1 table_sound.some
           (table_sound.table (found_named (codes "table") rows table.0 table.1));
       others = files_in rows level.0 workers (file_given name rows level.1);
     }
@@ -516,7 +588,7 @@ table_in : (rows : List Row) → AllOf Sound rows → has_row (codes "table") ro
 table_in rows all has =
     let table = row_in (codes "table") rows has in
     let sound = found_row Sound (codes "table") rows table.0 all table.1 in
-    number_in (codes "table") most_entries rows table.0 table.1 sound.some (sound.table (found_named (codes "table") rows table.0 table.1))
+    number_in (codes "table") 1 most_entries rows table.0 table.1 sound.some (sound.table (found_named (codes "table") rows table.0 table.1))
 
 -- matches of `play` without a fault have what it needs
 pub play_holds : (words : List Text) → level_fault play_shape [] nothing_held words false [] ≡ []
@@ -554,6 +626,22 @@ show_holds words e =
     let table = rows_stay (codes "table") (line_built ∷ help_built ∷ []) (with_default start table_built)
     (default_made start table_built (codes "65536") [] refl refl) in
     (flag_in (codes "plain") rows (λ r sound. sound.plain) level.0, table_in rows level.0 table, line_in rows level.0 (shown_line_given rows level.1))
+
+-- rows to which a depth is given have one
+depth_in : (rows : List Row) → AllOf Sound rows → is_given (codes "depth") rows ≡ true → HasDepth rows
+depth_in rows all given =
+    let depth = given_row (codes "depth") rows given in
+    let sound = found_row Sound (codes "depth") rows depth.0 all depth.1 in
+    number_in (codes "depth") 0 most_depth rows depth.0 depth.1 sound.some (sound.depth (found_named (codes "depth") rows depth.0 depth.1))
+
+-- matches of `count` without a fault have what it needs
+pub count_holds : (words : List Text) → level_fault count_shape [] nothing_held words false [] ≡ []
+    → IsCount (rows_after count_shape.rules [] words)
+count_holds words e =
+    let level = kept_level Sound count_shape count_gives [] words false [] e in
+    let rows = rows_after count_shape.rules [] words in
+    let given = both_given rows level.1 in
+    (depth_in rows level.0 given.0, line_in rows level.0 given.1)
 
 -- ---- the subcommand that the arguments name
 
@@ -599,7 +687,10 @@ taken_holds words e =
               λ words f. inr (inr (inr (inl (refl, ask_holds words f)))),
               (
                 λ words f. inr (inr (inr (inr (inl (refl, steps_hold words f))))),
-                (λ words f. inr (inr (inr (inr (inr (refl, show_holds words f))))), tt),
+                (
+                  λ words f. inr (inr (inr (inr (inr (inl (refl, show_holds words f)))))),
+                  (λ words f. inr (inr (inr (inr (inr (inr (refl, count_holds words f)))))), tt),
+                ),
               ),
             ),
           ),

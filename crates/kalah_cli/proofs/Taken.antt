@@ -12,7 +12,7 @@ use Rattle.clap.specs.declared.error.kind.ErrorKind.TheVariants.{MissingRequired
 use Rattle.kalah_jobs.specs.declared.files.question.Question.{Question}
 use Rattle.kalah_jobs.specs.declared.files.question.Question.TheVariants.{BestMove, Values, Steps}
 use Rattle.kalah_cli.specs.Command.{kalah_app}
-use Rattle.kalah_cli.specs.Request.{Asked, texts_of, IsPlainWord, IsTakenAs, answers, ask, asked_by, command_of, moves, play, table_of, show}
+use Rattle.kalah_cli.specs.Request.{Asked, texts_of, IsPlainWord, IsTakenAs, answers, ask, asked_by, command_of, count, moves, play, table_of, show}
 use Rattle.kalah_cli.specs.Runs.{Does, IsOfLine, IsUnmoved}
 use Rattle.kalah_cli.specs.declared.status.ExitStatus.{ExitStatus}
 use Rattle.kalah_cli.specs.declared.status.ExitStatus.TheVariants.{Clean, Failed}
@@ -87,6 +87,7 @@ failed_does (play first table boards line) old new status failed = λ p reads. (
 failed_does (answers question workers table progress names) old new status failed = λ went. absurd (went failed)
 failed_does (ask question table) old new status failed = λ went. absurd (went failed)
 failed_does (show plain table line) old new status failed = λ p reads. (λ e. cc, λ e. absurd (let bad : Failed ≡ Clean = sym failed ∙ e in cc))
+failed_does (count depth line) old new status failed = λ p reads. (λ e. cc, λ e. absurd (let bad : Failed ≡ Clean = sym failed ∙ e in cc))
 
 -- equal arguments are accepted as the same
 pub words_at : (xs ys : List (String Global)) (a : Asked) → xs ≡ ys → IsTakenAs (texts_of ys) a → IsTakenAs (texts_of xs) a

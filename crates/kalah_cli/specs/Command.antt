@@ -4,7 +4,7 @@ use Rattle.clap.specs.Words.{App, Rule, Text, new_app, new_rule, with_rule, with
 use Rattle.clap.specs.Simple.{on_top}
 use Rattle.clap.specs.declared.builder.action.ArgAction.TheVariants.{Append, Set, SetTrue}
 use Rattle.clap.specs.declared.builder.value_parser.ValueParser.TheVariants.{Unsigned}
-use Rattle.kalah_rules.specs.Limits.{most_houses}
+use Rattle.kalah_rules.specs.Limits.{most_depth, most_houses}
 use Rattle.kalah_solve.specs.Table.Entries.{most_entries}
 use Rattle.kalah_run.specs.Limits.{most_workers}
 
@@ -24,6 +24,15 @@ number_rule name most default = record (new_rule name) {
   action = Some Set;
   parser = Some (Unsigned 1 most);
   defaults = default ∷ [];
+}
+
+-- DEPTH: a number up to the most, which is required
+abbrev pub depth_rule : Rule
+depth_rule = record (new_rule (codes "depth")) {
+  required = true;
+  value_names = 1;
+  action = Some Set;
+  parser = Some (Unsigned 0 most_depth);
 }
 
 -- `--workers N`: 1 to the most workers, and 4 if it isn't given
@@ -104,6 +113,10 @@ steps_app = with_rule (with_rule (with_rule (new_app (codes "steps")) workers_ru
 abbrev pub show_app : App
 show_app = with_rule (with_rule (with_rule (new_app (codes "show")) plain_rule) table_rule) line_rule
 
+-- `count DEPTH LINE`
+abbrev pub count_app : App
+count_app = with_rule (with_rule (new_app (codes "count")) depth_rule) line_rule
+
 -- the program with no subcommand yet
 abbrev pub program_app : App
 program_app = on_top (λ s. record s { has_version = true; subcommand_required = true; disable_help_subcommand = true }) (new_app (codes "kalah"))
@@ -116,4 +129,4 @@ solvers_app =
 
 -- the program, which is always given one of its subcommands
 abbrev pub kalah_app : App
-kalah_app = with_subcommand (with_subcommand solvers_app steps_app.top) show_app.top
+kalah_app = with_subcommand (with_subcommand (with_subcommand solvers_app steps_app.top) show_app.top) count_app.top

@@ -5,6 +5,7 @@ pub mod Failure
 pub mod Moves
 pub mod Play
 pub mod Show
+pub mod Count
 pub mod Batch
 pub mod Ask
 pub mod Runs

@@ -1,9 +1,9 @@
 -- What `kalah moves` and `kalah play` print of a move.
 use Rattle.std.specs.Prelude.{ℕ, List, [], ◌∷◌, ◌++◌, Bool, flat_map, if◌then◌else◌}
 use Rattle.kalah_rules.specs.Position.{Position}
-use Rattle.kalah_rules.specs.Play.{legal_houses, step_of}
+use Rattle.kalah_rules.specs.Play.{legal_houses, position_after, step_of}
 use Rattle.kalah_rules.specs.declared.step.Step.{Step}
-use Rattle.kalah_jobs.specs.Line.Line.{position_after, step_text_of}
+use Rattle.kalah_jobs.specs.Line.Line.{step_text_of}
 use Rattle.kalah_jobs.specs.Files.Lines.{line_feed}
 use Rattle.kalah_jobs.specs.Writing.Picture.{picture_of}
 

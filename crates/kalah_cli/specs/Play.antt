@@ -2,11 +2,10 @@
 use Rattle.std.specs.Prelude.{◌≡◌, ℕ, List, [], ◌∷◌, ◌++◌, Bool, Option, Some, None, Contains, ⊤}
 use Rattle.std.specs.Io.KnownBytes.{Appends}
 use Rattle.kalah_rules.specs.Position.{Position, final_margin}
-use Rattle.kalah_rules.specs.Play.{legal_houses, step_of}
+use Rattle.kalah_rules.specs.Play.{legal_houses, position_after, step_of}
 use Rattle.kalah_solve.specs.Solver.BestPlay.{Game, follow}
 use Rattle.kalah_solve.specs.Solver.Worth.{best_house, worth}
 use Rattle.kalah_jobs.specs.Writing.Given.{AppendsStart}
-use Rattle.kalah_jobs.specs.Line.Line.{position_after}
 use Rattle.kalah_cli.specs.Moves.{board_lines, move_lines}
 
 -- the moves of these houses, in order, from a position on

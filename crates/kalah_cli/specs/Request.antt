@@ -11,12 +11,12 @@ use Rattle.clap.specs.Values.{IsUnsignedIn}
 use Rattle.clap.specs.Words.{Row, Text, all_of, first_of, one_of, subcommand_of}
 use Rattle.kalah_jobs.specs.declared.files.question.Question.{Question}
 use Rattle.kalah_jobs.specs.declared.files.question.Question.TheVariants.{BestMove, Values, Steps}
-use Rattle.kalah_rules.specs.Limits.{most_houses}
+use Rattle.kalah_rules.specs.Limits.{most_depth, most_houses}
 use Rattle.kalah_solve.specs.Table.Entries.{most_entries}
 use Rattle.kalah_run.specs.Limits.{most_workers}
 use Rattle.kalah_cli.specs.Command.{kalah_app}
 use Rattle.kalah_cli.specs.declared.request.Request.{Request}
-use Rattle.kalah_cli.specs.declared.request.Request.TheVariants.{Moves, Play, Batch, Ask, Show}
+use Rattle.kalah_cli.specs.declared.request.Request.TheVariants.{Moves, Play, Batch, Ask, Show, Count}
 use Rattle.kalah_cli.specs.declared.request.Batch as batch
 
 module _ {A : Type 0} where
@@ -26,13 +26,15 @@ module _ {A : Type 0} where
 
 -- what can be asked: the moves of a line, with boards drawn or not; the game of best play from a line, or behind its move of a house,
 -- found with a table of the given size; something of each position in files, by a number of workers with such tables; or of each line of
--- the standard input, with such a table; or a picture of a line, plain or with what its moves are worth, found with such a table
+-- the standard input, with such a table; or a picture of a line, plain or with what its moves are worth, found with such a table; or how many
+-- ways of so many moves there are to play on from a line
 pub data Asked : Type 0 where
   moves : Bool → Text → Asked
   play : Option ℕ → ℕ → Bool → Text → Asked
   answers : Question → ℕ → ℕ → Bool → List Text → Asked
   ask : Question → ℕ → Asked
   show : Bool → ℕ → Text → Asked
+  count : ℕ → Text → Asked
 
 -- the subcommand that asks this of files
 abbrev pub command_of : Question → Text
@@ -96,6 +98,10 @@ abbrev pub show_asked : List Row → Option Asked
 show_asked rows = option_and_then (λ t. option_map (show (is_set (codes "plain") rows) (number_written t)) (first_of (codes "line") rows))
     (one_of (codes "table") rows)
 
+-- what the matches of `count` ask for
+abbrev pub count_asked : List Row → Option Asked
+count_asked rows = option_and_then (λ t. option_map (count (number_written t)) (first_of (codes "line") rows)) (one_of (codes "depth") rows)
+
 -- what a subcommand with its matches asks for
 abbrev pub asked_by : Text × List Row → Option Asked
 asked_by p =
@@ -104,7 +110,8 @@ asked_by p =
     else (if bytes_eq p.0 (codes "solve") then answers_asked BestMove p.1
     else (if bytes_eq p.0 (codes "values") then answers_asked Values p.1
     else (if bytes_eq p.0 (codes "ask") then ask_asked p.1
-    else (if bytes_eq p.0 (codes "steps") then steps_asked p.1 else show_asked p.1)))))
+    else (if bytes_eq p.0 (codes "steps") then steps_asked p.1
+    else (if bytes_eq p.0 (codes "show") then show_asked p.1 else count_asked p.1))))))
 
 -- what the arguments ask for, read by the command line
 abbrev pub asked : List Text → Option Asked
@@ -133,6 +140,7 @@ asked_for (Play line table boards first) = play first table boards line.now
 asked_for (Batch b) = answers b.question b.workers b.table b.progress (map (λ f. f.now) b.files.items)
 asked_for (Ask question table) = ask question table
 asked_for (Show line table plain) = show plain table line.now
+asked_for (Count depth line) = count depth line.now
 
 -- workers and entries are in their ranges, and there is a file
 abbrev pub IsInLimits : batch.Batch → Type 0
@@ -144,15 +152,20 @@ IsInRange (Play line table boards first) = (1 ≤ table) × (table ≤ most_entr
 IsInRange (Batch b) = IsInLimits b
 IsInRange (Ask question table) = (1 ≤ table) × (table ≤ most_entries)
 IsInRange (Show line table plain) = (1 ≤ table) × (table ≤ most_entries)
+IsInRange (Count depth line) = depth ≤ most_depth
 
 -- an argument that is no flag: it isn't empty and doesn't begin with `-` (45)
 abbrev pub IsPlainWord : Text → Type 0
 IsPlainWord [] = ⊥
 IsPlainWord (x ∷ xs) = x ≢ 45
 
--- the matches have a number from 1 to `high` under the name
+-- the matches have a number from `low` to `high` under the name
+abbrev pub HasNumberIn : Text → ℕ → ℕ → List Row → Type 0
+HasNumberIn id low high rows = (t : Text) × (one_of id rows ≡ Some t) × IsUnsignedIn low high t
+
+-- or one from 1 on
 abbrev pub HasNumber : Text → ℕ → List Row → Type 0
-HasNumber id high rows = (t : Text) × (one_of id rows ≡ Some t) × IsUnsignedIn 1 high t
+HasNumber id high rows = HasNumberIn id 1 high rows
 
 -- the matches have a number from 1 to `high` under the name, or none
 abbrev pub MayHaveNumber : Text → ℕ → List Row → Type 0
@@ -196,6 +209,14 @@ IsAsk rows = HasFlag (codes "values") rows × HasNumber (codes "table") most_ent
 abbrev pub IsShow : List Row → Type 0
 IsShow rows = HasFlag (codes "plain") rows × HasNumber (codes "table") most_entries rows × HasLineArgument rows
 
+-- the matches have a depth
+abbrev pub HasDepth : List Row → Type 0
+HasDepth rows = HasNumberIn (codes "depth") 0 most_depth rows
+
+-- the matches have what `count` needs
+abbrev pub IsCount : List Row → Type 0
+IsCount rows = HasDepth rows × HasLineArgument rows
+
 -- the matches have what the subcommand of this name needs
 abbrev pub HasWhatItNeeds : Text → List Row → Type 0
 HasWhatItNeeds name rows = ((name ≡ codes "moves") × IsMoves rows) ⊎ ((name ≡ codes "play") × IsPlay rows)
@@ -203,6 +224,7 @@ HasWhatItNeeds name rows = ((name ≡ codes "moves") × IsMoves rows) ⊎ ((name
     ⊎ ((name ≡ codes "ask") × IsAsk rows)
     ⊎ ((name ≡ codes "steps") × IsSteps rows)
     ⊎ ((name ≡ codes "show") × IsShow rows)
+    ⊎ ((name ≡ codes "count") × IsCount rows)
 
 -- a subcommand was met, and its matches have what it needs
 abbrev pub IsTaken : Option (Text × List Row) → Type 0

@@ -7,7 +7,8 @@ use Rattle.kalah_jobs.specs.Writing.Given.{AppendsStart}
 use Rattle.kalah_jobs.specs.Line.Line.{Reads}
 use Rattle.kalah_cli.specs.Moves.{moves_output}
 use Rattle.kalah_cli.specs.Play.{BeginsToPlay, MayBegin, Plays}
-use Rattle.kalah_cli.specs.Request.{Asked, moves, play, answers, ask, show}
+use Rattle.kalah_cli.specs.Count.{count_output}
+use Rattle.kalah_cli.specs.Request.{Asked, moves, play, answers, ask, show, count}
 use Rattle.kalah_cli.specs.Show.{show_output}
 use Rattle.kalah_cli.specs.Ask.{AnswersLines, BeginsLines}
 use Rattle.kalah_cli.specs.Batch.{AnswersTo, BeginsTo}
@@ -25,6 +26,7 @@ Does (play first table boards line) old new status = Prints line (λ p. Plays fi
 Does (answers question workers table progress names) old new status = status ≢ Failed → AnswersTo question names old new status
 Does (ask question table) old new status = status ≢ Failed → AnswersLines question old new status
 Does (show plain table line) old new status = Prints line (λ p. Appends old new (show_output plain p)) status
+Does (count depth line) old new status = Prints line (λ p. Appends old new (count_output depth p)) status
 
 -- a prefix of what was asked was written between the two states, and nothing else
 abbrev pub Begins : Asked → Option (List ℕ) → Option (List ℕ) → Type 0
@@ -33,6 +35,7 @@ Begins (play first table boards line) old new = (p : Position) → Reads line p 
 Begins (answers question workers table progress names) old new = BeginsTo question names old new
 Begins (ask question table) old new = BeginsLines question old new
 Begins (show plain table line) old new = (p : Position) → Reads line p → AppendsStart old new (show_output plain p)
+Begins (count depth line) old new = (p : Position) → Reads line p → AppendsStart old new (count_output depth p)
 
 -- what is asked is asked of this line
 abbrev pub IsOfLine : Asked → Text → Type 0
@@ -41,6 +44,7 @@ IsOfLine (play first table boards line) text = text ≡ line
 IsOfLine (answers question workers table progress names) text = ⊥
 IsOfLine (ask question table) text = ⊥
 IsOfLine (show plain table line) text = text ≡ line
+IsOfLine (count depth line) text = text ≡ line
 
 -- nothing is asked of the standard input
 abbrev pub IsOfNoInput : Asked → Type 0
@@ -49,6 +53,7 @@ IsOfNoInput (play first table boards line) = ⊤
 IsOfNoInput (answers question workers table progress names) = ⊤
 IsOfNoInput (ask question table) = ⊥
 IsOfNoInput (show plain table line) = ⊤
+IsOfNoInput (count depth line) = ⊤
 
 -- the game that is asked for begins with a house that may not be moved
 abbrev pub IsUnmoved : Asked → Type 0
@@ -57,6 +62,7 @@ IsUnmoved (play first table boards line) = (p : Position) × Reads line p × (Ma
 IsUnmoved (answers question workers table progress names) = ⊥
 IsUnmoved (ask question table) = ⊥
 IsUnmoved (show plain table line) = ⊥
+IsUnmoved (count depth line) = ⊥
 
 -- what is written if the version is asked for: the program's name, its version and a line feed (10)
 abbrev pub version_line : Text

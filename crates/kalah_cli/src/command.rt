@@ -2,13 +2,13 @@
 ghost use Rattle.std.specs.Prelude.{◌≡◌, IfOk, false};
 ghost use Rattle.clap.specs.Words.{App, app_of, new_app, rule_of, with_rule, with_subcommand};
 ghost use Rattle.clap.specs.declared.builder.command.Command.TheViews.{out-Command as fields_of};
-ghost use Rattle.kalah_cli.specs.Command.{answers_app, ask_app, boards_rule, file_rule, flag_rule, kalah_app, line_rule, moves_app, number_rule, play_app, program_app, progress_rule, steps_app, table_rule, values_rule, workers_rule, first_rule, plain_rule, show_app};
+ghost use Rattle.kalah_cli.specs.Command.{answers_app, ask_app, boards_rule, count_app, depth_rule, file_rule, flag_rule, kalah_app, line_rule, moves_app, number_rule, play_app, program_app, progress_rule, steps_app, table_rule, values_rule, workers_rule, first_rule, plain_rule, show_app};
 
 use crate::help;
 use crate::version::VERSION_LINE;
 use clap::builder::ValueParser;
 use clap::{Arg, ArgAction, Command};
-use kalah_rules::MOST_HOUSES;
+use kalah_rules::{MOST_DEPTH, MOST_HOUSES};
 use kalah_run::MOST_WORKERS;
 use kalah_solve::MOST_ENTRIES;
 use std::alloc::{AllocError, Global};
@@ -51,7 +51,7 @@ fn with_arg<'a>(command: Command<'a>, arg: Arg<'a>) -> Result<Command<'a>, Alloc
     command.arg(arg)
 }
 
-// The line of `moves`, `play` or `show`.
+// The line of `moves`, `play`, `show` or `count`.
 fn line_arg<'a>(alloc: Global) -> Arg<'a>
     ensures rule { rule_of result ≡ line_rule }
     ensures local { result.global ≡ false }
@@ -242,6 +242,30 @@ fn show_command<'a>(alloc: Global) -> Result<Command<'a>, AllocError>
     with_arg(command, line_arg(alloc))
 }
 
+// How many moves each way has.
+fn depth_arg<'a>(alloc: Global) -> Arg<'a>
+    ensures rule { rule_of result ≡ depth_rule }
+    ensures local { result.global ≡ false }
+{
+    Arg::new(alloc, "depth")
+        .value_name("DEPTH")
+        .help("how many moves each way has, 0 to 20")
+        .action(ArgAction::Set)
+        .value_parser(ValueParser::unsigned(0, MOST_DEPTH as u64))
+        .required(true)
+}
+
+// `count DEPTH LINE`.
+fn count_command<'a>(alloc: Global) -> Result<Command<'a>, AllocError>
+    ensures app { IfOk result (λ c. app_of c ≡ count_app) }
+    ensures local { IfOk result (λ c. (fields_of c).has_globals ≡ false) }
+{
+    let about = "Counts the ways to play on from a position, for each first move";
+    let command = subcommand(alloc, "count", about, help::LONG_OF_COUNT);
+    let command = with_arg(command, depth_arg(alloc))?;
+    with_arg(command, line_arg(alloc))
+}
+
 // `steps [--workers N] [--progress] FILE..`.
 fn steps_command<'a>(alloc: Global) -> Result<Command<'a>, AllocError>
     ensures app { IfOk result (λ c. app_of c ≡ steps_app) }
@@ -283,9 +307,9 @@ fn with_command<'a>(
 
 /// The command line of the program: `moves [--boards] LINE`, `play [--table N] [--boards] [--first H] LINE`,
 /// `solve [--workers N] [--table N] [--progress] FILE..`, `values` with the same arguments,
-/// `ask [--values] [--table N]` and `show [--plain] [--table N] LINE`, with 1 to 64 workers, 4 by default,
-/// 1 to 1,048,576 entries in a table, 65,536 by default, and a house from 1 to 6. One of the six is asked
-/// for, or help, or the version. It is complete: nothing is added to it before a parse.
+/// `ask [--values] [--table N]`, `steps [--workers N] [--progress] FILE..`, `show [--plain] [--table N] LINE` and
+/// `count DEPTH LINE`, with 1 to 64 workers, 4 by default, 1 to 1,048,576 entries in a table, 65,536 by default, a
+/// house from 1 to 6, and a depth of 0 to 20. One of the eight is asked for, or help, or the version. It is complete: nothing is added to it before a parse.
 pub fn command<'a>(alloc: Global) -> Result<Command<'a>, AllocError>
     ensures { IfOk result (λ c. app_of c ≡ kalah_app) }
 {
@@ -297,5 +321,6 @@ pub fn command<'a>(alloc: Global) -> Result<Command<'a>, AllocError>
     let command = with_command(command, values)?;
     let command = with_command(command, ask_command(alloc))?;
     let command = with_command(command, steps_command(alloc))?;
-    with_command(command, show_command(alloc))
+    let command = with_command(command, show_command(alloc))?;
+    with_command(command, count_command(alloc))
 }

@@ -51,6 +51,10 @@ with --plain the picture alone. This is 3,3,3/0 3,3,3/0:
    0               0
        3   3   3
        2   2  -4
+`kalah count DEPTH LINE` counts the ways to play on from a position by exactly
+DEPTH moves, 0 to 20. A game that is over has no further move:
+    H N      the number of ways that begin with the move of house H
+    total N  the number of all ways
 `kalah solve FILE..` prints a line for each line of each file, in order:
     FILE:LINE MARGIN house H  the margin of best play, and the first best house
     FILE:LINE MARGIN over     the game is over, with this margin
@@ -117,6 +121,21 @@ line has its margin:
     over, margin 3
 A margin below -99 fills its column and touches the one before it. The search
 runs in one thread, with one table of its own.
+`kalah --help` has the rules and the form of positions.";
+
+/// What follows the long help of `count`.
+pub(crate) const LONG_OF_COUNT: &str = "\
+A way is a sequence of exactly DEPTH moves that the rules allow, one after the
+other, from the position on. A game that is over has no further move. Each house
+that may be moved first gets a line, with the number of ways that begin with its
+move, and the last line has their sum. For kalah count 2 '1,1/0 1,1/0':
+    1 2
+    2 1
+    total 3
+With DEPTH 0 there is one way, which has no move: total 1.
+A position is one argument, so it needs quotes. Seen by the player to move, it
+is the seeds in that player's houses, a slash, the seeds in that player's store,
+a space, and the same for the other player.
 `kalah --help` has the rules and the form of positions.";
 
 /// What follows the long help of `solve`.

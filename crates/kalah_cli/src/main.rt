@@ -1,5 +1,5 @@
 //! Solves small positions of Kalah: `kalah moves LINE`, `kalah play LINE`, `kalah solve FILE..`, `kalah values FILE..`,
-//! `kalah ask` and `kalah show LINE`.
+//! `kalah steps FILE..`, `kalah ask`, `kalah show LINE` and `kalah count DEPTH LINE`.
 #![tactic(auto)]
 
 mod ask;
@@ -7,6 +7,7 @@ mod batch;
 #[cfg(test)]
 mod calling;
 mod command;
+mod count;
 mod failure;
 mod files;
 mod fused;

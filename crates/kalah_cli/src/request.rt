@@ -6,10 +6,10 @@ ghost use Rattle.clap.specs.Simple.{subcommand_rows_of};
 ghost use Rattle.clap.specs.Walk.{first_of, one_of, rows_of};
 ghost use Rattle.clap.specs.Words.{found_of, kind_of};
 ghost use Rattle.clap.specs.declared.error.kind.ErrorKind.TheVariants.{OutOfMemory};
-ghost use Rattle.kalah_rules.specs.Limits.{most_houses};
+ghost use Rattle.kalah_rules.specs.Limits.{most_depth, most_houses};
 ghost use Rattle.kalah_solve.specs.Table.Entries.{most_entries};
 ghost use Rattle.kalah_cli.specs.Command.{kalah_app};
-ghost use Rattle.kalah_cli.specs.Request.{Asked, HasFlag, HasLineArgument, HasNumber, IsAnswers, IsAsk, IsInRange, IsMoves, IsPlainWord, IsPlay, IsSteps, IsTaken, IsTakenAs, answers, answers_asked, ask_asked, asked_by, asked_for, command_of, files_asked, is_set, moves, moves_asked, number_written, play_asked, question_of, table_of, IsShow, MayHaveNumber, number_given, show_asked};
+ghost use Rattle.kalah_cli.specs.Request.{Asked, HasDepth, HasFlag, HasLineArgument, HasNumber, IsAnswers, IsAsk, IsCount, IsInRange, IsMoves, IsPlainWord, IsPlay, IsSteps, IsTaken, IsTakenAs, answers, answers_asked, ask_asked, asked_by, asked_for, command_of, count_asked, files_asked, is_set, moves, moves_asked, number_written, play_asked, question_of, table_of, IsShow, MayHaveNumber, number_given, show_asked};
 
 use crate::command::command;
 use clap::{ArgMatches, Error};
@@ -46,6 +46,11 @@ pub enum Request<'a> {
         line: &'a str,
         table: u32,
         plain: bool,
+    },
+    /// To count the ways of `depth` moves, 0 to 20, to play on from the position that this line writes.
+    Count {
+        depth: u8,
+        line: &'a str,
     },
 }
 
@@ -109,7 +114,16 @@ fn is_set(found: &ArgMatches<'_>, id: &str) -> bool
     found.get_flag(id)
 }
 
-// The line of `moves`, `play` or `show`, which has one.
+// The number of DEPTH, which must be there.
+fn depth_of(found: &ArgMatches<'_>) -> u8
+    requires { HasDepth (rows_of (found_of found.now)) }
+    ensures { (t : List ℕ) → one_of (codes "depth") (rows_of (found_of found.now)) ≡ Some t
+        → result ≡ number_written t }
+{
+    found.get_one::<u8>("depth").unwrap()
+}
+
+// The line of `moves`, `play`, `show` or `count`, which has one.
 fn line_of<'a>(found: &ArgMatches<'a>) -> &'a str
     requires { HasLineArgument (rows_of (found_of found.now)) }
     ensures { first_of (codes "line") (rows_of (found_of found.now)) ≡ Some result.now }
@@ -223,6 +237,18 @@ fn show_request<'a>(found: &ArgMatches<'a>) -> Request<'a>
     }
 }
 
+// What the matches of `count` ask for.
+fn count_request<'a>(found: &ArgMatches<'a>) -> Request<'a>
+    requires { IsCount (rows_of (found_of found.now)) }
+    ensures asked { count_asked (rows_of (found_of found.now)) ≡ Some (asked_for result) }
+    ensures range { IsInRange result }
+{
+    Request::Count {
+        depth: depth_of(found),
+        line: line_of(found),
+    }
+}
+
 // Returns the request of the matches of a subcommand, which must have what it needs.
 fn requested<'a>(alloc: Global, matches: &ArgMatches<'a>) -> Result<Request<'a>, AllocError>
     requires { IsTaken (subcommand_rows_of matches.now) }
@@ -248,8 +274,11 @@ fn requested<'a>(alloc: Global, matches: &ArgMatches<'a>) -> Result<Request<'a>,
     if let Some(found) = matches.subcommand_matches("steps") {
         return files_request(alloc, Question::Steps, TABLE_OF_STEPS, found);
     }
-    let found = matches.subcommand_matches("show").unwrap();
-    Ok(show_request(found))
+    if let Some(found) = matches.subcommand_matches("show") {
+        return Ok(show_request(found));
+    }
+    let found = matches.subcommand_matches("count").unwrap();
+    Ok(count_request(found))
 }
 
 /// Parses the arguments, whose first is the program's name. Fails with the command line's own

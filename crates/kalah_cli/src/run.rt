@@ -18,6 +18,7 @@ ghost use Rattle.kalah_cli.specs.Batch.{AnswersFiles, TellsSteps, TellsValues};
 
 use crate::ask::run_ask;
 use crate::batch::run_batch;
+use crate::count::run_count;
 use crate::failure::Failure;
 use crate::help;
 use crate::moves::run_moves;
@@ -52,13 +53,13 @@ fn show<O: Sink, E: Write>(text: &str, out: &mut O, err: &mut E) -> ExitStatus
     ExitStatus::Clean
 }
 
-// Whether these words seem to ask for the moves, the game or the picture of a position that has lost its quotes: of two words in a row each
-// has a slash.
+// Whether these words seem to ask for the moves, the game, the picture or the ways of a position that has lost its quotes: of two words in
+// a row each has a slash.
 fn lacks_quotes(words: &[String]) -> bool {
     let Some(subcommand) = words.get(1) else {
         return false;
     };
-    ["moves", "play", "show"].contains(&subcommand.as_str())
+    ["moves", "play", "show", "count"].contains(&subcommand.as_str())
         && words
             .windows(2)
             .any(|pair| pair.iter().all(|word| word.contains('/')))
@@ -133,16 +134,17 @@ fn run_request<R: Files + Input + StandardError + Threads + Wait + Sync, O: Sink
         Request::Batch(batch) => run_batch(rt, alloc, batch, out, err),
         Request::Ask { question, table } => run_ask(rt, alloc, *question, *table, out, err),
         Request::Show { line, table, plain } => run_show(alloc, line, *table, *plain, out, err),
+        Request::Count { depth, line } => run_count(*depth, line, out, err),
     }
 }
 
 /// Runs the program on its arguments; the first is always taken as the program's name. `moves LINE`
 /// prints the moves of a position, `play LINE` the game that best play leads to from it, `solve FILE..`
 /// answers each line of files, `values FILE..` prints what each move of them is worth, and `steps FILE..` what
-/// each of them leads to. `ask` answers each line of the standard input before it reads on, and `show LINE`
-/// draws a position with what its moves are worth. `--version` prints which version this is. Answers, help and
-/// the version go to `out`, messages about failures and unread lines to `err`; a failing write to `err` changes
-/// nothing.
+/// each of them leads to. `ask` answers each line of the standard input before it reads on, `show LINE` draws a
+/// position with what its moves are worth, and `count DEPTH LINE` counts the ways to play on from it.
+/// `--version` prints which version this is. Answers, help and the version go to `out`, messages about failures
+/// and unread lines to `err`; a failing write to `err` changes nothing.
 pub fn run_words<R: Files + Input + StandardError + Threads + Wait + Sync, O: Sink, E: Write>(
     rt: &R,
     alloc: Global,

@@ -144,6 +144,28 @@ fn reads_show(rt: HostRuntime) {
     }
 }
 
+// Words of `count`, and the depth.
+const DEPTHS: &[(&[&str], u8)] = &[
+    (&["kalah", "count", "0", "1/0 1/0"], 0),
+    (&["kalah", "count", "20", "1/0 1/0"], 20),
+    (&["k", "count", "--", "+007", "1/0 1/0"], 7),
+];
+
+// The words ask for the ways of so many moves.
+fn asks_ways(rt: &(impl Abort + AllocGlobal), words: &[&str], moves: u8) -> bool {
+    match asked(rt, words) {
+        Some(Request::Count { depth, line }) => line == "1/0 1/0" && depth == moves,
+        _ => false,
+    }
+}
+
+#[test]
+fn reads_count(rt: HostRuntime) {
+    for (words, moves) in DEPTHS {
+        assert!(rt; asks_ways(&rt, *words, *moves), "{words:?}");
+    }
+}
+
 // The arguments of a subcommand that answers files, with and without options.
 fn assert_reads(rt: &(impl Abort + AllocGlobal), name: &str, question: Question) {
     let words = ["kalah", name, "a", "b"];
@@ -212,6 +234,15 @@ const REFUSED: &[(&[&str], ErrorKind)] = &[
     ),
     (&["kalah", "ask", "a"], ErrorKind::UnknownArgument),
     (&["kalah", "ask", "--values=1"], ErrorKind::TooManyValues),
+    (&["kalah", "count", "1"], ErrorKind::MissingRequiredArgument),
+    (
+        &["kalah", "count", "21", "1/0 1/0"],
+        ErrorKind::ValueValidation,
+    ),
+    (
+        &["kalah", "count", "-1", "1/0 1/0"],
+        ErrorKind::UnknownArgument,
+    ),
     (&["kalah", "--help"], ErrorKind::DisplayHelp),
     (&["kalah", "--version"], ErrorKind::DisplayVersion),
     (&["kalah", "-V"], ErrorKind::DisplayVersion),

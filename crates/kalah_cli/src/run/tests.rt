@@ -1,5 +1,6 @@
 ghost use Rattle.std.specs.Prelude.{◌≡◌, ◌<◌, Some, vec_len};
 
+mod counting;
 mod help;
 mod hostile;
 mod playing;

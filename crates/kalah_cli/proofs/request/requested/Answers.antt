@@ -6,7 +6,7 @@ use Rattle.clap.specs.Words.{found_of}
 use Rattle.kalah_jobs.specs.declared.files.question.Question.TheVariants.{BestMove, Values}
 use Rattle.clap.specs.Simple.{subcommand_rows_of}
 use Rattle.kalah_cli.specs.Request.{asked_by, asked_for}
-use Rattle.kalah_cli.proofs.Getters.{answers_need, ask_need, asked_so, game_need, show_need, steps_need}
+use Rattle.kalah_cli.proofs.Getters.{answers_need, ask_need, asked_so, game_need, show_need, steps_need, count_need}
 use Rattle.kalah_cli.proofs.request.requested.Goals as goal
 
 pub moves_request-requires : goal.moves_request-requires
@@ -39,15 +39,24 @@ files_request-requires-clause-files c =
 
 pub show_request-requires : goal.show_request-requires
 show_request-requires c =
-    let met = c.subcommand_matches-7.ensures in
-    let is : c.subcommand_matches-7.result ≡ Some c.unwrap-found.result = c.unwrap-found.ensures in
-    show_need c.args.matches.now (rows_of (found_of c.unwrap-found.result.now)) c.requires (met.found.0 (ap is_some is)) (rw is at met.rows)
+    let met = c.in-Some-subcommand_matches-6.ensures in
+    show_need c.args.matches.now (rows_of (found_of c.in-Some-subcommand_matches-6.found.now)) c.requires (met.found.0 refl) met.rows
+
+pub count_request-requires : goal.count_request-requires
+count_request-requires c =
+    let met = c.subcommand_matches-8.ensures in
+    let is : c.subcommand_matches-8.result ≡ Some c.unwrap-found.result = c.unwrap-found.ensures in
+    count_need c.args.matches.now (rows_of (found_of c.unwrap-found.result.now)) c.requires (met.found.0 (ap is_some is)) (rw is at met.rows)
 
 pub unwrap-found-requires : goal.unwrap-found-requires
 unwrap-found-requires c = search rules
 
 pub returns-clause-asked : goal.returns-clause-asked
-returns-clause-asked c = search rules
+returns-clause-asked c =
+    let met = c.subcommand_matches-8.ensures in
+    let is : c.subcommand_matches-8.result ≡ Some c.unwrap-found.result = c.unwrap-found.ensures in
+    asked_so (codes "count") c.args.matches.now (rows_of (found_of c.unwrap-found.result.now)) (met.found.0 (ap is_some is)) (rw is at met.rows)
+    ∙ c.count_request.ensures.asked
 
 pub returns-in-Some-clause-asked : goal.returns-in-Some-clause-asked
 returns-in-Some-clause-asked c = search rules
@@ -59,3 +68,17 @@ returns-in-Some-subcommand_matches-3-clause-asked c =
     IfOk-weaker c.batch_request-in-Some-subcommand_matches-3.result _
     (λ r. option_and_then asked_by (subcommand_rows_of c.args.matches.now) ≡ Some (asked_for r)) (λ r is. by ∙ is)
     c.batch_request-in-Some-subcommand_matches-3.ensures.asked
+
+pub returns-in-Some-subcommand_matches-5-clause-asked : goal.returns-in-Some-subcommand_matches-5-clause-asked
+returns-in-Some-subcommand_matches-5-clause-asked c =
+    let met = c.in-Some-subcommand_matches-5.ensures in
+    let by = asked_so (codes "steps") c.args.matches.now (rows_of (found_of c.in-Some-subcommand_matches-5.found.now)) (met.found.0 refl) met.rows in
+    IfOk-weaker c.files_request.result _
+    (λ r. option_and_then asked_by (subcommand_rows_of c.args.matches.now) ≡ Some (asked_for r)) (λ r is. by ∙ is)
+    c.files_request.ensures.asked
+
+pub returns-in-Some-subcommand_matches-6-clause-asked : goal.returns-in-Some-subcommand_matches-6-clause-asked
+returns-in-Some-subcommand_matches-6-clause-asked c =
+    let met = c.in-Some-subcommand_matches-6.ensures in
+    asked_so (codes "show") c.args.matches.now (rows_of (found_of c.in-Some-subcommand_matches-6.found.now)) (met.found.0 refl) met.rows
+    ∙ c.show_request.ensures.asked

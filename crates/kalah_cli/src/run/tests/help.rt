@@ -21,6 +21,7 @@ const OF_THE_PROGRAM: &[&str] = &[
     "Answers each line of standard input before it reads the next",
     "Prints each legal move of each position, and what it leads to",
     "Draws a position, and below each house what its move is worth",
+    "Counts the ways to play on from a position, for each first move",
     "  -h, --help\n          Print help (see a summary with '-h')\n",
     "  -V, --version\n          Print version\n",
     ABOUT_POSITIONS,
@@ -73,6 +74,10 @@ with --plain the picture alone. This is 3,3,3/0 3,3,3/0:
    0               0
        3   3   3
        2   2  -4
+`kalah count DEPTH LINE` counts the ways to play on from a position by exactly
+DEPTH moves, 0 to 20. A game that is over has no further move:
+    H N      the number of ways that begin with the move of house H
+    total N  the number of all ways
 `kalah solve FILE..` prints a line for each line of each file, in order:
     FILE:LINE MARGIN house H  the margin of best play, and the first best house
     FILE:LINE MARGIN over     the game is over, with this margin
@@ -152,6 +157,13 @@ const OF_SHOW: &[&str] = &[
     "    over, margin 3\n",
 ];
 
+const OF_COUNT: &[&str] = &[
+    "Counts the ways to play on from a position, for each first move",
+    "<DEPTH>",
+    "how many moves each way has, 0 to 20",
+    "    1 2\n    2 1\n    total 3\n",
+];
+
 // The help that these words ask for has each of these parts in it.
 fn assert_says<R: Abort + Files + Input + StandardError + Threads + Wait + Sync>(
     rt: &R,
@@ -176,6 +188,7 @@ fn the_help_says_what_there_is_to_ask_for(rt: HostRuntime) {
     assert_says(&rt, alloc, &["ask", "--help"], OF_ASK);
     assert_says(&rt, alloc, &["play", "--help"], OF_PLAY);
     assert_says(&rt, alloc, &["show", "--help"], OF_SHOW);
+    assert_says(&rt, alloc, &["count", "--help"], OF_COUNT);
     for subcommand in ["solve", "values"] {
         assert_says(&rt, alloc, &[subcommand, "--help"], OF_BATCHES);
     }
@@ -187,6 +200,7 @@ const WITHOUT_QUOTES: &[&[&str]] = &[
     &["moves", "--boards", "1,1/0", "1,1/0"],
     &["play", "1,1/0", "1,1/0", "e"],
     &["show", "1,1/0", "1,1/0"],
+    &["count", "2", "1,1/0", "1,1/0"],
 ];
 
 const WITH_QUOTES: &[&[&str]] = &[

@@ -11,13 +11,13 @@ use Rattle.kalah_jobs.proofs.writing.written.write_one_line.Goals as goal
 -- the line's name, and then its ending
 line_is : (name bytes : List ℕ) (taken : Taken) → IsOfOneLine taken.answer → bytes ≡ name
     → answer_line name taken ++ line_feed ∷ [] ≡ bytes
-        ++ (codes ":" ++ (decimal (taken.line + 1) ++ (codes " " ++ (answer_words taken.answer ++ line_feed ∷ []))))
+    ++ (codes ":" ++ (decimal (taken.line + 1) ++ (codes " " ++ (answer_words taken.answer ++ line_feed ∷ []))))
 line_is name bytes taken one is =
     let number = decimal (taken.line + 1) in
     let words = answer_words taken.answer in
     ap (λ l. l ++ line_feed ∷ []) (one_line_parts name taken.line taken.answer one)
     ∙ append_assoc (place_words name taken.line) words (line_feed ∷ [])
-        ∙ append_assoc name (codes ":" ++ (number ++ codes " ")) (words ++ line_feed ∷ [])
+    ∙ append_assoc name (codes ":" ++ (number ++ codes " ")) (words ++ line_feed ∷ [])
     ∙ ap (λ l. name ++ (codes ":" ++ l)) (append_assoc number (codes " ") (words ++ line_feed ∷ []))
     ∙ ap (λ l. l ++ (codes ":" ++ (number ++ (codes " " ++ (words ++ line_feed ∷ []))))) (sym is)
 
@@ -31,5 +31,5 @@ pub returns-clause-start : goal.returns-clause-start
 returns-clause-start g c =
     let line = line_is c.args.name.now c.as_bytes.result.now c.args.taken.now c.requires.one_line c.as_bytes.ensures.value in
     start_then _ _ _ _ c.as_bytes.result.now c.bytes.result.now
-        (line ∙ ap (λ l. c.as_bytes.result.now ++ l) (sym (c.bytes.ensures.bytes ∙ c.ending_of.ensures)))
+    (line ∙ ap (λ l. c.as_bytes.result.now ++ l) (sym (c.bytes.ensures.bytes ∙ c.ending_of.ensures)))
     c.in_ok-write_all.ensures.adds c.write_all-2.ensures.start

@@ -33,8 +33,11 @@ ways-loop-h-init t c = before_none (c.args.depth - 1) (bare c.args.self.now)
 
 pub ways-ways_by-sum-requires : goal.ways-ways_by-sum-requires
 ways-ways_by-sum-requires t c =
-    let holds : HoldsSeeds (bare c.args.self.now) c.loop-h.h = record { first = omega arith; last = omega (arith, c.m-h-end.ensures.side);
-      some = omega (arith, c.if-own-gt0.true, c.own.ensures.value) } in
+    let holds : HoldsSeeds (bare c.args.self.now) c.loop-h.h = record {
+      first = omega arith;
+      last = omega (arith, c.m-h-end.ensures.side);
+      some = omega (arith, c.if-own-gt0.true, c.own.ensures.value);
+    } in
     let has = holds_legal (bare c.args.self.now) c.loop-h.h holds (sym c.is_over.ensures ∙ c.if-is_over.false) in
     (omega (arith, c.if-depth-eq0.false), (has, omega (arith, c.if-depth-eq0.false, c.requires)))
 

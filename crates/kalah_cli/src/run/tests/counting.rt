@@ -1,0 +1,84 @@
+//! Runs of `kalah count`.
+use super::{assert_answers, assert_stops, assert_usage};
+use crate::status::ExitStatus;
+
+// The depth and the line, and what is printed for them.
+const COUNTED: &[(&str, &str, &str)] = &[
+    ("2", "1,1/0 1,1/0", "1 2\n2 1\ntotal 3\n"),
+    ("1", "1,1/0 1,1/0", "1 1\n2 1\ntotal 2\n"),
+    ("4", "1,1/0 1,1/0", "1 1\n2 0\ntotal 1\n"),
+    ("20", "1,1/0 1,1/0", "1 0\n2 0\ntotal 0\n"),
+    ("+2", "1,1/0 1,1/0", "1 2\n2 1\ntotal 3\n"),
+    ("5", "3,3,3/0 3,3,3/0", "1 35\n2 43\n3 42\ntotal 120\n"),
+    (
+        "6",
+        "2,2,2,2,2,2/99 2,2,2,2,2,2/0",
+        "1 2817\n2 2685\n3 2588\n4 2622\n5 2303\n6 2405\ntotal 15420\n",
+    ),
+    ("3", "1,0,0,1/0 0,1,0,1/0", "1 2\n4 2\ntotal 4\n"),
+    ("3", "1,0,0,1/0 0,1,0,1/0 e", "1 2\n4 0\ntotal 2\n"),
+    // There is one way of no moves, and no other from a game that is over.
+    ("0", "1,1/0 1,1/0", "total 1\n"),
+    ("00", "1,1/0 1,1/0 e", "total 1\n"),
+    ("0", "0,0/5 1,0/1", "total 1\n"),
+    ("1", "0,0/5 1,0/1", "total 0\n"),
+    ("20", "1,0/5 0,0/1", "total 0\n"),
+];
+
+#[test]
+fn counts_the_ways_to_play_on(rt: HostRuntime) {
+    for (depth, line, text) in COUNTED {
+        let words = ["count", *depth, *line];
+        assert_answers(
+            &rt,
+            rt.alloc(),
+            words.as_slice(),
+            ExitStatus::Clean,
+            (*text, ""),
+        );
+    }
+}
+
+#[test]
+fn tells_the_fault_of_a_line_that_is_not_read(rt: HostRuntime) {
+    for depth in ["0", "20"] {
+        assert_answers(
+            &rt,
+            rt.alloc(),
+            &["count", depth, "01/0 1/0"],
+            ExitStatus::LineFaults,
+            ("", "fault shape\n"),
+        );
+    }
+}
+
+// Arguments that are not accepted: a depth is a number from 0 to 20, and behind it stands one line.
+const NOT_TAKEN: &[&[&str]] = &[
+    &["count", "21", "1/0 1/0"],
+    &["count", "-1", "1/0 1/0"],
+    &["count", "", "1/0 1/0"],
+    &["count", "two", "1/0 1/0"],
+    &["count", "1.0", "1/0 1/0"],
+    &["count", "256", "1/0 1/0"],
+    &["count", "18446744073709551617", "1/0 1/0"],
+    &["count", "1/0 1/0", "1"],
+    &["count", "1/0 1/0"],
+    &["count", "1"],
+    &["count"],
+    &["count", "1", "1/0 1/0", "1/0 1/0"],
+    &["count", "--table=1", "1", "1/0 1/0"],
+];
+
+#[test]
+fn takes_a_depth_of_0_to_20_and_one_line(rt: HostRuntime) {
+    for words in NOT_TAKEN {
+        assert_usage(&rt, rt.alloc(), *words);
+    }
+}
+
+// Each line is flushed before the next house is counted.
+#[test]
+fn counting_stops_at_a_failed_write(rt: HostRuntime) {
+    assert_stops(&rt, rt.alloc(), &["count", "2", "1,1/0 1,1/0"], 6);
+    assert_stops(&rt, rt.alloc(), &["count", "0", "1,1/0 1,1/0"], 2);
+}
