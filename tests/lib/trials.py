@@ -37,7 +37,7 @@ MISTAKES = [
     *(["play", "--first", "1/0 1/0"], ["play", "--first=1", "--first=1", "1/0 1/0"], ["moves", "--first=1", "1/0 1/0"], ["show", "--first=1", "1/0 1/0"]),
     *(["show"], ["show", "--"], ["show", "-1/0 1/0"], ["show", "1/0 1/0", "1/0 1/0"], ["show", "--boards", "1/0 1/0"], ["show", "--plain=1", "1/0 1/0"]),
     *(["show", "--plain", "--plain", "1/0 1/0"], ["show", "--table=0", "1/0 1/0"], ["show", "--workers", "1", "1/0 1/0"], ["show", b"1/0 1/0\x80"]),
-    *(["count", depth, "1/0 1/0"] for depth in ("", "21", "-1", "a", "1.0", " 1", "1 ", "0x1", "++1", "１", 256, 2**32, 2**64, 2**64 + 1)),
+    *(["count", str(depth), "1/0 1/0"] for depth in ("", "21", "-1", "a", "1.0", " 1", "1 ", "0x1", "++1", "１", 256, 2**32, 2**64, 2**64 + 1)),
     *(["count"], ["count", "1"], ["count", "--", "1"], ["count", "1/0 1/0"], ["count", "1/0 1/0", "1"], ["count", "1", "1/0 1/0", "1/0 1/0"]),
     *(["count", "--", "-1", "1/0 1/0"], ["count", "1", "-1/0 1/0"], ["count", "--table=1", "1", "1/0 1/0"], ["count", "1", b"1/0 1/0\x80"]),
     *(["play", "--boards=1", "1/0 1/0"], ["play", "--board", "1/0 1/0"], ["play", "--table=0", "1/0 1/0"], ["play", "--table=1048577", "1/0 1/0"]),
@@ -549,7 +549,7 @@ class Trials(AskTrials):
         """As many workers as there may be, each with as large a table as there may be."""
         data = self.drawn.file(200)
         self.put({"a": data})
-        subcommand = self.subcommand()
+        subcommand = self.searching()
         self.compare(reference.answers(subcommand, [(b"a", data)]), self.run([subcommand, "--workers=64", "--table=1048576", "a"]))
 
     def no_word(self):
@@ -575,7 +575,7 @@ class Trials(AskTrials):
     def waits_at_rest(self):
         """While one worker is at work, the other threads take almost no processor time."""
         self.put({"a": HARD})
-        with self.start([self.subcommand(), "--table", "1", "--workers", "1", "a"]) as process:
+        with self.start([self.searching(), "--table", "1", "--workers", "1", "a"]) as process:
             end = time.monotonic() + SOON
             while busy_threads(process) < 1 and time.monotonic() < end:
                 time.sleep(0.05)
