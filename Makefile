@@ -41,7 +41,7 @@ install:
 uninstall:
 	rm -f $(addprefix $(DESTDIR)$(PREFIX)/,$(INSTALLED))
 
-# How long the program takes on the position files of bench/.
+# How long the program takes on the position files of bench/, and how many instructions.
 bench: kalah
 	bench/run.sh ./kalah
 

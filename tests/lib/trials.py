@@ -227,6 +227,34 @@ def busy_threads(process):
     return sum(thread != process.pid and ticks >= 2 for thread, ticks in ticks_of(process).items())
 
 
+def has_open(process, path):
+    """Whether the process has the file open."""
+    opened = set()
+    with suppress(FileNotFoundError):
+        for descriptor in Path(f"/proc/{process.pid}/fd").iterdir():
+            with suppress(FileNotFoundError):
+                opened.add(os.readlink(descriptor))
+    return str(path) in opened
+
+
+def fill(pipe, data, process):
+    """Writes the data to a pipe with a name, once the process has closed it and opens it again."""
+    end = time.monotonic() + SOON
+    while has_open(process, pipe) and time.monotonic() < end:
+        time.sleep(0.001)
+    while True:
+        try:
+            writer = os.open(pipe, os.O_WRONLY | os.O_NONBLOCK)
+            break
+        except OSError:
+            if process.poll() is not None or time.monotonic() > end:
+                raise Differs("the pipe is not opened again") from None
+            time.sleep(0.001)
+    os.set_blocking(writer, True)
+    with open(writer, "wb") as open_pipe, suppress(BrokenPipeError):
+        open_pipe.write(data)
+
+
 class Trials(AskTrials):
     """Trials of a program. Each draws arguments and files, runs the program and compares the result."""
 
@@ -529,6 +557,16 @@ class Trials(AskTrials):
         want = reference.answers(subcommand, [(b"/dev/stdin", data), (b"/dev/stdin", b""), (b"/dev/stdin", b"")])
         self.compare(want, self.end_of(process))
 
+    def a_named_pipe_twice(self):
+        """A pipe with a name is opened for each time that it is named, and read to the end of that time's bytes."""
+        contents, subcommand = [self.drawn.file(self.drawn.chance.randint(1, 50)) for _ in range(2)], self.subcommand()
+        self.put({})
+        os.mkfifo(self.files / "a")
+        process = self.start([subcommand, "a", "a"])
+        for data in contents:
+            fill(self.files / "a", data, process)
+        self.compare(reference.answers(subcommand, [(b"a", data) for data in contents]), self.end_of(process))
+
     def help_of_options(self):
         """Each help says of its options and its argument what they are for."""
         self.put({})
@@ -612,6 +650,7 @@ KINDS = {
     "progress": 4 * len(PROGRESS),
     **ASK_KINDS,
     "one_pipe_twice": 2,
+    "a_named_pipe_twice": 2,
     "help_of_options": len(HELP_OF_OPTIONS),
     "usage": len(USAGES),
     "many_large_tables": 1,
