@@ -1,10 +1,10 @@
 //! The search: it computes what houses are worth in a window, by successive tests of what the mover takes.
-ghost use Rattle.std.specs.Prelude.{◌≡◌, ◌+◌, ◌≤◌, ◌<◌, false, ◌≤ℤ◌, max, min, [], IfOk};
+ghost use Rattle.std.specs.Prelude.{◌≡◌, ◌+◌, ◌≤◌, ◌<◌, false, ◌≤ℤ◌, max, min, IfOk};
 ghost use Rattle.kalah_rules.specs.Limits.{most_seeds};
 ghost use Rattle.kalah_rules.specs.Position.{is_over, bare};
 ghost use Rattle.kalah_solve.specs.Solver.Worth.{houses_worth};
 ghost use Rattle.kalah_solve.specs.Bounds.Intervals.{Encloses, least_margin, most_margin, within};
-ghost use Rattle.kalah_solve.specs.Table.Entries.{most_entries};
+ghost use Rattle.kalah_solve.specs.Table.Entries.{most_entries, empty_table};
 ghost use Rattle.kalah_solve.specs.Bounds.Won.{won, IsWithinBounds};
 
 pub(crate) mod move_order;
@@ -68,7 +68,7 @@ impl<A: Allocator + Clone> Search<A> {
     pub fn sharing_endings(&self, alloc: A, capacity: u32) -> Result<Search<A>, AllocError>
         requires low { 1 ≤ capacity }
         requires high { capacity ≤ most_entries }
-        ensures { IfOk result (λ s. s.table ≡ []) }
+        ensures { IfOk result (λ s. s.table ≡ empty_table capacity) }
     {
         Ok(Search::new(self.table.sharing_endings(alloc, capacity)?))
     }

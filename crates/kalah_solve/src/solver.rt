@@ -1,9 +1,9 @@
 //! The solver: the worth of positions, by a search with a table.
-ghost use Rattle.std.specs.Prelude.{◌≡◌, ◌≤◌, [], IfOk, false};
+ghost use Rattle.std.specs.Prelude.{◌≡◌, ◌≤◌, IfOk, false};
 ghost use Rattle.kalah_rules.specs.Position.{is_over, bare};
 ghost use Rattle.kalah_rules.specs.Play.{legal_houses};
 ghost use Rattle.kalah_solve.specs.Solver.Worth.{best_house};
-ghost use Rattle.kalah_solve.specs.Table.Entries.{most_entries};
+ghost use Rattle.kalah_solve.specs.Table.Entries.{most_entries, empty_table};
 ghost use Rattle.kalah_solve.specs.Bounds.Won.{won};
 ghost use Rattle.kalah_solve.specs.Solver.Verdict.{verdict_of, TellsBestPlay, IsSmallVerdict};
 
@@ -30,7 +30,9 @@ pub struct Solver<A: Allocator + Clone = Global> {
 
 impl<A: Allocator + Clone> Solver<A> {
     /// Makes a solver with this table. The table decides how long an answer takes, never what it is.
-    pub fn new(table: Table<A>) -> Solver<A> {
+    pub fn new(table: Table<A>) -> Solver<A>
+        ensures { result.search.table ≡ table }
+    {
         Solver {
             search: Search::new(table),
         }
@@ -43,7 +45,7 @@ impl<A: Allocator + Clone> Solver<A> {
     pub fn sharing_endings(&self, alloc: A, capacity: u32) -> Result<Solver<A>, AllocError>
         requires low { 1 ≤ capacity }
         requires high { capacity ≤ most_entries }
-        ensures { IfOk result (λ s. s.search.table ≡ []) }
+        ensures { IfOk result (λ s. s.search.table ≡ empty_table capacity) }
     {
         let search = self.search.sharing_endings(alloc, capacity)?;
         Ok(Solver { search })

@@ -1,9 +1,9 @@
 //! A bounded table of what is known of houses.
-ghost use Rattle.std.specs.Prelude.{◌≡◌, ◌≤◌, ◌⊎◌, ℕ, [], nat_eq, IfOk, IfSome, IsSome, Some, ◌≤ℤ◌, ℤ, ◌<ℤ◌, false};
+ghost use Rattle.std.specs.Prelude.{◌≡◌, ◌≤◌, ◌⊎◌, nat_eq, IfOk, IfSome, IsSome, Some, ◌≤ℤ◌, ℤ, ◌<ℤ◌, false};
 ghost use Rattle.std.specs.Map.{lookup};
 ghost use Rattle.kalah_rules.specs.Key.{key_of};
 ghost use Rattle.kalah_rules.specs.Position.{bare, is_over, seeds_in_houses};
-ghost use Rattle.kalah_solve.specs.Table.Entries.{most_entries};
+ghost use Rattle.kalah_solve.specs.Table.Entries.{most_entries, empty_table};
 ghost use Rattle.kalah_solve.specs.Solver.Worth.{houses_worth};
 
 pub(crate) mod direct_table;
@@ -43,13 +43,11 @@ pub struct Table<A: Allocator + Clone = Global> {
 }
 
 impl<A: Allocator + Clone> Model for Table<A> {
-    ghost use Rattle.std.specs.Prelude.{ℕ, List};
-    ghost use Rattle.kalah_solve.specs.declared.bounds.interval.Interval.{Interval};
-    ghost use Rattle.kalah_solve.specs.Table.Entries.{AreTrue};
+    ghost use Rattle.kalah_solve.specs.Table.Entries.{TableState, AreTrue};
 
-    ghost Value = { List (ℕ × Interval) };
+    ghost Value = { TableState };
 
-    ghost view = { λ t. t.entries.entries };
+    ghost view = { λ t. record { entries = t.entries.entries; capacity = t.entries.cap } };
 
     ghost invariant = { λ t. AreTrue t.entries.entries };
 }
@@ -65,7 +63,7 @@ impl<A: Allocator + Clone> Table<A> {
     pub fn new(alloc: A, capacity: u32) -> Result<Table<A>, AllocError>
         requires low { 1 ≤ capacity }
         requires high { capacity ≤ most_entries }
-        ensures { IfOk result (λ t. t ≡ []) }
+        ensures { IfOk result (λ t. t ≡ empty_table capacity) }
     {
         let endings = EndgameTable::new(alloc.clone()?)?;
         let endings = Arc::new(alloc.clone()?, endings)?;
@@ -76,7 +74,7 @@ impl<A: Allocator + Clone> Table<A> {
     pub(crate) fn sharing_endings(&self, alloc: A, capacity: u32) -> Result<Table<A>, AllocError>
         requires low { 1 ≤ capacity }
         requires high { capacity ≤ most_entries }
-        ensures { IfOk result (λ t. t ≡ []) }
+        ensures { IfOk result (λ t. t ≡ empty_table capacity) }
     {
         Table::with_endings(alloc, capacity, Arc::try_clone(&self.endings)?)
     }
@@ -89,7 +87,7 @@ impl<A: Allocator + Clone> Table<A> {
     ) -> Result<Table<A>, AllocError>
         requires low { 1 ≤ capacity }
         requires high { capacity ≤ most_entries }
-        ensures { IfOk result (λ t. t ≡ []) }
+        ensures { IfOk result (λ t. t ≡ empty_table capacity) }
     {
         let places = DirectTable::new(alloc.clone()?, capacity.min(FIRST_PLACES))?;
         let capacity = NonZeroUsize::new(capacity as usize).unwrap();
@@ -143,8 +141,9 @@ impl<A: Allocator + Clone> Table<A> {
 
     // Returns the interval known for the houses, which become the most recently used.
     pub(crate) fn look_up(&mut self, houses: &Houses) -> Option<Interval>
-        ensures found { result ≡ lookup (nat_eq (key_of houses.now)) self.old }
+        ensures found { result ≡ lookup (nat_eq (key_of houses.now)) self.old.entries }
         ensures holds { IfSome result (λ i. Encloses i (houses_worth houses.now)) }
+        ensures capacity { self.new.capacity ≡ self.old.capacity }
     {
         let key = houses.key();
         self.entries.get(&key).copied()
@@ -153,9 +152,10 @@ impl<A: Allocator + Clone> Table<A> {
     // Stores that the worth of the houses is in the interval, unless there is no memory for it. Replacing an entry needs none.
     pub(crate) fn keep(&mut self, houses: &Houses, interval: Interval)
         requires { Encloses interval (houses_worth houses.now) }
-        ensures kept { (lookup (nat_eq (key_of houses.now)) self.new ≡ Some interval) ⊎ (self.new ≡ self.old) }
-        ensures again { IsSome (lookup (nat_eq (key_of houses.now)) self.old)
-            → lookup (nat_eq (key_of houses.now)) self.new ≡ Some interval }
+        ensures kept { (lookup (nat_eq (key_of houses.now)) self.new.entries ≡ Some interval) ⊎ (self.new ≡ self.old) }
+        ensures again { IsSome (lookup (nat_eq (key_of houses.now)) self.old.entries)
+            → lookup (nat_eq (key_of houses.now)) self.new.entries ≡ Some interval }
+        ensures capacity { self.new.capacity ≡ self.old.capacity }
     {
         let key = houses.key();
         let _ = self.entries.put(key, interval);

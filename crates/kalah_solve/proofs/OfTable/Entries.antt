@@ -9,7 +9,7 @@ use Rattle.kalah_rules.specs.Position.{Rows, IsWithinHouses}
 use Rattle.kalah_rules.specs.Key.{key_of}
 use Rattle.kalah_solve.specs.Solver.Worth.{houses_worth}
 use Rattle.kalah_solve.specs.Bounds.Intervals.{Encloses}
-use Rattle.kalah_solve.specs.Table.Entries.{IsTrueEntry, AreTrue}
+use Rattle.kalah_solve.specs.Table.Entries.{TableState, IsTrueEntry, AreTrue}
 use Rattle.kalah_rules.proofs.Keys.{same_key}
 
 -- equal numbers
@@ -53,12 +53,16 @@ module _ (c : LruCache ℕ Interval) (a : Rows) (k : ℕ) (i : Interval) (entrie
   true_after (Ok x) new ok err = subst (λ (d : LruCache ℕ Interval). AreTrue d.entries) (sym ok) true_put
   true_after (Err x) new ok err = subst (λ (d : LruCache ℕ Interval). AreTrue d.entries) (sym err) entries
 
+-- a cache as its table is known
+abbrev pub state_of : LruCache ℕ Interval → TableState
+state_of c = record { entries = c.entries; capacity = c.cap }
+
 -- after a put the entry is there, or all is as before
 pub put_or_same : {X E : Type 0} (r : Result X E) (c new : LruCache ℕ Interval) (k : ℕ) (i : Interval) →
     OnOk r (new ≡ lru_cache (put_entries nat_eq c k i) c.cap) → OnErr r (new ≡ c) →
-    (lookup (nat_eq k) new.entries ≡ Some i) ⊎ (new.entries ≡ c.entries)
+    (lookup (nat_eq k) new.entries ≡ Some i) ⊎ (state_of new ≡ state_of c)
 put_or_same (Ok x) c new k i ok err = inl (rw ok (lookup-put_entries nat_eq c k i nat_eq_equiv))
-put_or_same (Err x) c new k i ok err = inr (ap (λ (d : LruCache ℕ Interval). d.entries) err)
+put_or_same (Err x) c new k i ok err = inr (ap state_of err)
 
 -- if there was one, the put succeeds
 pub put_again : {X E : Type 0} (r : Result X E) (c new : LruCache ℕ Interval) (k : ℕ) (i : Interval) →

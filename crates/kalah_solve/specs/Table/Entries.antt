@@ -1,5 +1,5 @@
 -- What a table of intervals stores.
-use Rattle.std.specs.Prelude.{◌≡◌, ℕ, List, Contains}
+use Rattle.std.specs.Prelude.{◌≡◌, ℕ, List, [], Contains}
 use Rattle.kalah_rules.specs.Position.{Rows, IsWithinHouses}
 use Rattle.kalah_rules.specs.Key.{key_of}
 use Rattle.kalah_solve.specs.Solver.Worth.{houses_worth}
@@ -10,6 +10,15 @@ use Rattle.kalah_solve.specs.declared.table.TheConstants.{MOST_ENTRIES}
 -- the most entries of a table
 abbrev pub most_entries : ℕ
 most_entries = MOST_ENTRIES
+
+-- a table as its caller knows it: its entries, the most recently used first, and how many there may be
+pub record TableState : Type 0 where
+  pub entries : List (ℕ × Interval)
+  pub capacity : ℕ
+
+-- a table with no entry yet
+abbrev pub empty_table : ℕ → TableState
+empty_table capacity = record { entries = []; capacity = capacity }
 
 -- the key is the key of houses whose worth is in the interval
 abbrev pub IsTrueEntry : ℕ × Interval → Type 0

@@ -2,7 +2,7 @@
 ghost use Rattle.std.specs.Prelude.{◌≡◌, ◌≤◌, ◌<◌, ◌+◌, ◌*◌, ◌/◌, ◌%◌, ◌^◌, ◌++◌, ℕ, IfSome};
 ghost use Rattle.kalah_rules.specs.Position.{bare, seeds_in_houses, IsWithinHouses};
 ghost use Rattle.kalah_rules.specs.Key.{number_of};
-ghost use Rattle.kalah_solve.specs.Table.RowRank.{choose, sums_number, rank_of_houses, game_of};
+ghost use Rattle.kalah_solve.specs.Table.RowRank.{choose, sums_number, rank_of_houses};
 ghost use Rattle.kalah_solve.specs.Bounds.Won.{won};
 ghost use Rattle.kalah_solve.specs.Table.EndgameTable.{AreChoices, choice_at, ArePairs, pair_at};
 
@@ -12,13 +12,13 @@ mod tests;
 mod words;
 
 use crate::table::endgame_table::words::{
-    FIRST_WORDS, TrueWord, begun, empty_words, label_of, stored_at, with_stored,
+    FIRST_WORDS, TrueWord, begun, empty_words, game_of, label_of, stored_at, with_stored,
 };
 use kalah_rules::Houses;
 use std::alloc::{AllocError, Allocator, Global};
 use std::marker::Model;
 use std::sync::atomic::AtomicIn;
-use std::sync::atomic::Ordering::Relaxed;
+use std::sync::atomic::Ordering::SeqCst;
 
 // The place value of the other player's first house in a key.
 const OTHER_ROW: u64 = 0x4000_0000;
@@ -114,15 +114,6 @@ fn sums_of(houses: &Houses) -> u64
     seeds + (joined_rows(houses) - seeds) / 31 * 32
 }
 
-// Returns the game that the houses belong to: houses a side and rule, as `game_of` numbers it.
-fn game_of(houses: &Houses) -> u8
-    ensures game { result ≡ game_of houses.now }
-    ensures small { result < 16 }
-    ensures limits { IsWithinHouses houses.now }
-{
-    (houses.key() >> 60) as u8
-}
-
 impl<A: Allocator> EndgameTable<A> {
     /// Makes a table with nothing known and room for all words.
     ///
@@ -171,7 +162,7 @@ impl<A: Allocator> EndgameTable<A> {
         requires { rank ≡ rank_of_houses houses.now }
         ensures { IfSome result (λ t. t ≡ won houses.now) }
     {
-        let word = self.word(houses, rank)?.load(Relaxed);
+        let word = self.word(houses, rank)?.load(SeqCst);
         if word >> 32 != label_of(houses, rank) {
             return None;
         }
@@ -191,9 +182,9 @@ impl<A: Allocator> EndgameTable<A> {
     {
         let label = label_of(houses, rank);
         if let Some(cell) = self.word(houses, rank) {
-            let word = begun(label, cell.load(Relaxed));
+            let word = begun(label, cell.load(SeqCst));
             if stored_at(word, rank % 8) == 0 {
-                cell.store(with_stored(word, rank % 8, known as u64 + 1), Relaxed);
+                cell.store(with_stored(word, rank % 8, known as u64 + 1), SeqCst);
             }
         }
     }

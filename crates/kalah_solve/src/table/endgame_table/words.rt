@@ -1,10 +1,9 @@
 //! Words of endings: each stores how many seeds the mover takes, for eight values of houses.
 ghost use Rattle.std.specs.Prelude.{◌≡◌, ◌<◌, ◌+◌, ◌*◌, ◌^◌};
 ghost use Rattle.kalah_rules.specs.Position.{IsWithinHouses};
-ghost use Rattle.kalah_solve.specs.Table.RowRank.{rank_of_houses};
+ghost use Rattle.kalah_solve.specs.Table.RowRank.{rank_of_houses, game_of};
 ghost use Rattle.kalah_solve.specs.Table.EndgameTable.{StoresWon, label_of, stored_label, stored_at};
 
-use crate::table::endgame_table::game_of;
 use kalah_rules::Houses;
 use std::alloc::{AllocError, Allocator};
 use std::sync::atomic::{AtomicIn, Rule};
@@ -24,6 +23,15 @@ impl Rule for TrueWord {
     ghost use Rattle.kalah_solve.specs.Table.EndgameTable.{StoresWon};
 
     ghost invariant = { StoresWon };
+}
+
+// Returns the game that the houses belong to: houses a side and rule, as `game_of` numbers it.
+pub(super) fn game_of(houses: &Houses) -> u8
+    ensures game { result ≡ game_of houses.now }
+    ensures small { result < 16 }
+    ensures limits { IsWithinHouses houses.now }
+{
+    (houses.key() >> 60) as u8
 }
 
 // Returns the label of the word for houses of this rank in their game.
