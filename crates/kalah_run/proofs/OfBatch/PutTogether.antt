@@ -1,10 +1,15 @@
 -- Workers put together from their passes, one after the other.
-use Rattle.std.proofs.Common.{◌≡◌, List, [], ◌∷◌, ◌++◌, sym, ap, ◌∙◌, append_assoc}
+use Rattle.std.proofs.Common.{◌≡◌, ℕ, List, [], ◌∷◌, ◌++◌, sym, ap, subst, ◌∙◌, append_assoc, Global}
 use Rattle.std.proofs.lemmas.List.{map-append}
+use Rattle.std.proofs.lemmas.List.Elements.{All-push}
+use Rattle.crossbeam_utils.specs.Padded.{padded_value}
+use Rattle.kalah_solve.specs.Table.Entries.{empty_table}
+use Rattle.kalah_solve.specs.declared.solver.Solver.{Solver}
 use Rattle.kalah_run.specs.Queue.States.{PutState}
 use Rattle.kalah_run.specs.Desk.States.{PassState}
 use Rattle.kalah_run.specs.declared.batch.worker.Worker.{Worker}
 use Rattle.kalah_run.specs.Batch.AtWork.{passes_of, puts_of}
+use Rattle.kalah_run.specs.Batch.Workers.{HasTable, HaveTables}
 
 -- one worker more
 pub passes_more : (workers workers' : List Worker) (w : Worker) (yielded : List PassState) → workers' ≡ workers ++ w ∷ []
@@ -22,3 +27,10 @@ puts_more workers workers' w waiting waiting' all is took so_far =
     ∙ append_assoc (puts_of workers) (w.put ∷ []) waiting'
     ∙ ap (λ l. puts_of workers ++ l) (sym took)
     ∙ so_far
+
+pub tables_more : (workers workers' : List Worker) (w : Worker) (solver : Solver Global) (entries : ℕ) → workers' ≡ workers ++ w ∷ []
+    → padded_value w.solver ≡ solver → solver.search.table ≡ empty_table entries →
+    HaveTables entries workers → HaveTables entries workers'
+tables_more workers workers' w solver entries is has_it empty so_far =
+    subst (λ l. HaveTables entries l) (sym is)
+        (All-push (HasTable entries) workers w so_far (ap (λ (s : Solver Global). s.search.table) has_it ∙ empty))

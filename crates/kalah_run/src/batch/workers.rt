@@ -1,7 +1,8 @@
 //! The workers of a batch, with their desk and queue.
 ghost use Rattle.std.specs.Prelude.{◌≡◌, ◌≤◌, [], length, vec_len, vec_capacity, IfOk};
+ghost use Rattle.kalah_solve.specs.Table.Entries.{empty_table};
 ghost use Rattle.kalah_run.specs.Batch.AtWork.{passes_of, puts_of};
-ghost use Rattle.kalah_run.specs.Batch.Workers.{AreReady};
+ghost use Rattle.kalah_run.specs.Batch.Workers.{AreReady, HaveTables};
 
 use crate::batch::size::BatchSize;
 use crate::batch::worker::Worker;
@@ -18,7 +19,9 @@ use std::alloc::{AllocError, Global};
 pub(crate) const QUEUE_CAPACITY: u32 = 64;
 
 // Makes a solver for one more worker. All share what they learn of endings.
-fn new_solver(alloc: Global, workers: &[Worker], size: BatchSize) -> Result<Solver, AllocError> {
+fn new_solver(alloc: Global, workers: &[Worker], size: BatchSize) -> Result<Solver, AllocError>
+    ensures { IfOk result (λ solver. solver.search.table ≡ empty_table size.table) }
+{
     match workers.last() {
         Some(worker) => worker.solver.sharing_endings(alloc, size.table),
         None => Ok(Solver::new(Table::new(alloc, size.table)?)),
@@ -35,6 +38,7 @@ fn put_together(
     requires as_many { length passes.items ≡ length puts.items }
     ensures passes { IfOk result (λ workers. passes_of workers.items ≡ passes.items) }
     ensures puts { IfOk result (λ workers. puts_of workers.items ≡ puts.items) }
+    ensures tables { IfOk result (λ workers. HaveTables size.table workers.items) }
 {
     let mut workers = Vec::with_capacity(alloc, passes.len())?;
     let mut puts = puts.into_iter();
@@ -91,7 +95,7 @@ pub(crate) struct Workers {
 impl Workers {
     /// Makes the workers for these jobs, of the given size. It allocates all its memory here.
     pub(crate) fn open(alloc: Global, jobs: &Jobs, size: BatchSize) -> Result<Workers, AllocError>
-        ensures { IfOk result (AreReady jobs.now) }
+        ensures { IfOk result (AreReady jobs.now size) }
     {
         let (desk, passes) = Desk::open(alloc, jobs.total(), size.workers)?;
         let (queue, puts, pass) = ResultsQueue::open(alloc, QUEUE_CAPACITY, size.workers)?;

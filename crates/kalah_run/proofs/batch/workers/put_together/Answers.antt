@@ -1,6 +1,6 @@
 use Rattle.std.proofs.Common.{◌∷◌, ◌++◌, [], sym, ap, ◌∙◌, append_assoc}
 use Rattle.std.specs.Vec.Iter.{into_iter_items}
-use Rattle.kalah_run.proofs.OfBatch.PutTogether.{passes_more, puts_more}
+use Rattle.kalah_run.proofs.OfBatch.PutTogether.{passes_more, puts_more, tables_more}
 use Rattle.kalah_run.proofs.batch.workers.put_together.Goals as goal
 
 pub loop-pass-preserved : goal.loop-pass-preserved
@@ -13,4 +13,5 @@ loop-pass-preserved c =
       passes = passes_more workers more _ c.loop-pass.yielded c.in_ok-push.ensures.items c.loop-pass.invariant.passes;
       puts = puts_more workers more _ (into_iter_items c.loop-pass.puts) (into_iter_items c.next-in-loop-pass.new.self) c.args.puts.items
           c.in_ok-push.ensures.items c.in-Some-next.ensures.items c.loop-pass.invariant.puts;
+      tables = tables_more workers more _ _ _ c.in_ok-push.ensures.items c.new.ensures c.in_ok-solver.ensures c.loop-pass.invariant.tables;
     }

@@ -18,6 +18,8 @@ returns c =
     sym (length-map workers (λ (w : Worker). w.pass)) ∙ ap (λ (l : List PassState). length l) are.passes ∙ desk.passes.0 in
     let puts = subst (λ (l : List PutState). ArePassesFrom queue 0 l) (sym are.puts) opened.1 in
     record {
+      workers = count;
+      tables = are.tables;
       total = desk.desk.0 ∙ c.total.ensures.lines;
       some = omega (arith, count, c.args.size.few_workers.0);
       passes = count ∙ sym desk.desk.1;
