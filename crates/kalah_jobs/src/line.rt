@@ -4,6 +4,6 @@ pub(crate) mod laws;
 pub(crate) mod line_fault;
 pub(crate) mod number;
 pub(crate) mod parsed_line;
-pub(crate) mod parts;
 pub(crate) mod reading;
 pub(crate) mod side;
+pub(crate) mod split_at;

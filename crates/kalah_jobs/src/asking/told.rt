@@ -14,7 +14,7 @@ use crate::files::entry::Entry;
 use crate::files::question::Question;
 use crate::writing::answer::Answer;
 use crate::writing::sink::Sink;
-use crate::writing::written::write_words;
+use crate::writing::answer_line::write_words;
 use kalah_solve::Solver;
 
 // The most seeds in houses of a position that is solved before earlier answers are flushed.

@@ -3,7 +3,7 @@ ghost use Rattle.std.specs.Prelude.{◌≡◌, ◌<◌, ◌≤◌, [], ◌∷◌
 ghost use Rattle.kalah_rules.specs.Cells.{padded};
 
 use crate::line::number::read_number;
-use crate::line::parts::cut;
+use crate::line::split_at::split_at;
 use std::marker::Model;
 
 /// The most numbers that 80 bytes can hold, with a byte between each two.
@@ -50,7 +50,7 @@ impl HouseNumbers {
         let mut row = HouseNumbers::new();
         let mut rest = Some(text);
         while let Some(left) = rest {
-            let (number, after) = cut(left, b',');
+            let (number, after) = split_at(left, b',');
             row.push(read_number(number)?);
             rest = after;
         }

@@ -5,7 +5,7 @@ ghost use Rattle.kalah_jobs.specs.Limits.{most_bytes};
 ghost use Rattle.kalah_jobs.specs.Line.Line.{space};
 ghost use Rattle.kalah_jobs.specs.Line.Reading.{rule_of, parts_at};
 
-use crate::line::parts::cut;
+use crate::line::split_at::split_at;
 use crate::line::side::Side;
 use kalah_rules::Rule;
 
@@ -39,8 +39,8 @@ impl ParsedLine {
         requires { length text.now ≤ most_bytes }
         ensures { option_map position_shown result ≡ written_of text.now }
     {
-        let (own, rest) = cut(text, b' ');
-        let (other, ending) = cut(rest?, b' ');
+        let (own, rest) = split_at(text, b' ');
+        let (other, ending) = split_at(rest?, b' ');
         let rule = read_rule(ending)?;
         let own = Side::read(own)?;
         let other = Side::read(other)?;

@@ -3,7 +3,7 @@ ghost use Rattle.std.specs.Prelude.{◌≡◌, ◌≤◌, length};
 
 use crate::line::house_numbers::HouseNumbers;
 use crate::line::number::read_number;
-use crate::line::parts::cut;
+use crate::line::split_at::split_at;
 
 /// A side as it is written.
 #[derive(Drop)]
@@ -24,7 +24,7 @@ impl Side {
         requires { length text.now ≤ most_bytes }
         ensures { option_map (λ side. (side.houses, side.store)) result ≡ side_of text.now }
     {
-        let (houses, store) = cut(text, b'/');
+        let (houses, store) = split_at(text, b'/');
         let store = read_number(store?)?;
         let houses = HouseNumbers::read(houses)?;
         Some(Side { houses, store })

@@ -6,7 +6,7 @@ use Rattle.kalah_jobs.specs.Writing.Given.{AppendsStart}
 use Rattle.kalah_jobs.specs.Files.Lines.{line_feed}
 use Rattle.kalah_jobs.proofs.OfWriting.AnswerTexts.{one_line_parts}
 use Rattle.kalah_jobs.proofs.OfWriting.Starts.{start_longer, start_then}
-use Rattle.kalah_jobs.proofs.writing.written.write_one_line.Goals as goal
+use Rattle.kalah_jobs.proofs.writing.answer_line.write_one_line.Goals as goal
 
 -- the line's name, and then its ending
 line_is : (name bytes : List ℕ) (taken : Taken) → IsOfOneLine taken.answer → bytes ≡ name

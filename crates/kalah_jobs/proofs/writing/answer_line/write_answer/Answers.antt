@@ -9,7 +9,7 @@ use Rattle.kalah_jobs.specs.Writing.Given.{AppendsStart}
 use Rattle.kalah_jobs.specs.declared.writing.answer.Answer.{Answer}
 use Rattle.kalah_jobs.specs.declared.writing.answer.Answer.TheVariants.{Steps}
 use Rattle.kalah_jobs.specs.declared.writing.answer.Taken.{Taken}
-use Rattle.kalah_jobs.proofs.writing.written.write_answer.Goals as goal
+use Rattle.kalah_jobs.proofs.writing.answer_line.write_answer.Goals as goal
 
 -- the lines of the steps of a position are the answer line
 steps_line : (name place : List ℕ) (taken : Taken) (p : Position) → taken.answer ≡ Steps p →

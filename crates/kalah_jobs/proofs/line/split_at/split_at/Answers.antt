@@ -1,7 +1,7 @@
 use Rattle.std.proofs.Common.{take_all}
 use Rattle.std.proofs.lemmas.List.{take_rest}
 use Rattle.kalah_jobs.proofs.OfLine.Cuts.{parts_from_place, parts_of_one, lacks_more}
-use Rattle.kalah_jobs.proofs.line.parts.cut.Goals as goal
+use Rattle.kalah_jobs.proofs.line.split_at.split_at.Goals as goal
 
 pub returns-then-byte-at-clause-parts : goal.returns-then-byte-at-clause-parts
 returns-then-byte-at-clause-parts c =

@@ -2,7 +2,7 @@ use Rattle.std.proofs.Common.{◌≡◌, ◌++◌, ◌+◌, ◌*◌, ◌≤◌, 
 use Rattle.kalah_jobs.specs.Line.Line.{space}
 use Rattle.kalah_jobs.specs.Writing.Answer.{value_words}
 use Rattle.kalah_jobs.proofs.OfWriting.Joined.{joined_from}
-use Rattle.kalah_jobs.proofs.writing.ending.prepend_values.Given as goal
+use Rattle.kalah_jobs.proofs.writing.answer_line.prepend_values.Given as goal
 
 abbrev pub invariant-loop-i : goal.invariant-loop-i
 invariant-loop-i l = record {

@@ -9,7 +9,7 @@ use Rattle.kalah_jobs.specs.Writing.Answer.{answer_words, steps_texts}
 use Rattle.kalah_jobs.specs.Writing.Given.{AppendsStart}
 use Rattle.kalah_jobs.specs.declared.writing.answer.Answer.{Answer}
 use Rattle.kalah_jobs.specs.declared.writing.answer.Answer.TheVariants.{Steps}
-use Rattle.kalah_jobs.proofs.writing.written.write_words.Goals as goal
+use Rattle.kalah_jobs.proofs.writing.answer_line.write_words.Goals as goal
 
 -- the lines of the steps of a position, with nothing before them, are the words of the answer
 steps_line : (answer : Answer) (p : Position) → answer ≡ Steps p

@@ -1,0 +1,182 @@
+//! Answer lines, as text and written to a sink.
+ghost use Rattle.std.specs.Prelude.{◌≡◌, ◌+◌, ◌≤◌, ◌↔◌, ◌∷◌, [], ◌++◌, true, false, IfOk, IsErr, OnOk, length, codes, decimal, string_bytes};
+ghost use Rattle.std.specs.Io.KnownBytes.{Appends};
+ghost use Rattle.kalah_jobs.specs.Files.Lines.{line_feed};
+ghost use Rattle.kalah_jobs.specs.Writing.Answer.{answer_line, answer_words, value_words, values_words, IsOfOneLine};
+ghost use Rattle.kalah_jobs.specs.Writing.Given.{AppendsStart};
+
+#[cfg(test)]
+mod tests;
+
+use crate::writing::answer::{Answer, Taken};
+use crate::writing::sink::Sink;
+use crate::writing::stack_text::{ROOM, StackText};
+use crate::writing::steps::{push_steps, write_steps};
+use kalah_solve::{MoveValue, MoveValues};
+use std::alloc::{AllocError, Global};
+use std::io;
+
+// Puts the value of a move, with its house before it, in front of the text.
+#[tactic(auto, using(crate::proofs::OfWriting::Lengths::byte_length))]
+fn prepend_value(text: &mut StackText, value: MoveValue)
+    requires { length text.old + 15 ≤ ROOM }
+    ensures value { text.new ≡ value_words value ++ text.old }
+    ensures short { length text.new ≤ length text.old + 15 }
+{
+    text.prepend_margin(i32::from(value.value));
+    text.prepend(":");
+    text.prepend_number(u64::from(value.house));
+}
+
+// Puts the values of the moves, with a space between any two, in front of the text.
+fn prepend_values(text: &mut StackText, values: &MoveValues)
+    requires { length text.old + 96 ≤ ROOM }
+    ensures values { text.new ≡ values_words values.now ++ text.old }
+    ensures short { length text.new ≤ length text.old + 96 }
+{
+    if values.len() == 0 {
+        return;
+    }
+    let mut i = values.len() - 1;
+    prepend_value(text, values.get(i));
+    while i > 0 {
+        i -= 1;
+        text.prepend(" ");
+        prepend_value(text, values.get(i));
+    }
+}
+
+// Puts an answer in words in front of the text.
+#[tactic(auto, using(crate::proofs::OfWriting::Lengths::byte_length, crate::proofs::OfWriting::Lengths::fault_length))]
+fn prepend_words(text: &mut StackText, answer: &Answer)
+    requires room { length text.old + 96 ≤ ROOM }
+    requires one_line { IsOfOneLine answer.now }
+    ensures words { text.new ≡ answer_words answer.now ++ text.old }
+    ensures short { length text.new ≤ length text.old + 96 }
+{
+    match *answer {
+        Answer::Best { margin, house } => {
+            text.prepend_number(u64::from(house));
+            text.prepend(" house ");
+            text.prepend_margin(margin);
+        }
+        Answer::Over { margin } => {
+            text.prepend(" over");
+            text.prepend_margin(margin);
+        }
+        Answer::Values(values) => prepend_values(text, &values),
+        Answer::Steps(_) => {}
+        Answer::Fault(fault) => {
+            text.prepend(fault.word());
+            text.prepend("fault ");
+        }
+    }
+}
+
+// Puts what stands between the name of the file and the answer in words in front of the text.
+#[tactic(auto, using(crate::proofs::OfWriting::Lengths::number_length))]
+fn prepend_place(text: &mut StackText, line: u32)
+    requires { length text.old + 22 ≤ ROOM }
+    ensures place { text.new ≡ codes ":" ++ (decimal (line + 1) ++ (codes " " ++ text.old)) }
+    ensures short { length text.new ≤ length text.old + 22 }
+{
+    text.prepend(" ");
+    text.prepend_number(u64::from(line) + 1);
+    text.prepend(":");
+}
+
+// Returns what stands before each text of an answer, behind the name.
+fn place_of(line: u32) -> StackText
+    ensures place { result ≡ codes ":" ++ (decimal (line + 1) ++ codes " ") }
+    ensures short { length result ≤ 22 }
+{
+    let mut place = StackText::new();
+    prepend_place(&mut place, line);
+    place
+}
+
+// Returns an answer in words, followed by `end`.
+fn words_of(answer: &Answer, end: &str) -> StackText
+    requires end { length end.now ≤ 1 }
+    requires one_line { IsOfOneLine answer.now }
+    ensures words { result ≡ answer_words answer.now ++ end.now }
+    ensures short { length result ≤ 97 }
+{
+    let mut words = StackText::new();
+    words.prepend(end);
+    prepend_words(&mut words, answer);
+    words
+}
+
+// Returns the part of an answer line behind the name, followed by `end`.
+fn ending_of(taken: &Taken, end: &str) -> StackText
+    requires end { length end.now ≤ 1 }
+    requires one_line { IsOfOneLine taken.now.answer }
+    ensures { result ≡ codes ":" ++ (decimal (taken.now.line + 1) ++ (codes " " ++ (answer_words taken.now.answer ++ end.now))) }
+{
+    let mut ending = words_of(&taken.answer, end);
+    prepend_place(&mut ending, taken.line);
+    ending
+}
+
+/// Returns the answer line of a line of the file `name`, without a line feed: `NAME:LINE MARGIN house H`, `NAME:LINE MARGIN over`,
+/// `NAME:LINE H:V H:V ..` or `NAME:LINE fault WORD`. LINE counts from 1, and a negative MARGIN has a `-` in front. Of steps it is
+/// a line `NAME:LINE H POSITION again`, `turn` or `over` for each legal house, with a line feed between any two.
+pub fn answer_text(alloc: Global, name: &str, taken: &Taken) -> Result<String, AllocError>
+    ensures { IfOk result (λ text. string_bytes text ≡ answer_line name.now taken.now) }
+{
+    let mut text = String::new(alloc);
+    match &taken.answer {
+        Answer::Steps(board) => {
+            push_steps(&mut text, name, place_of(taken.line).as_str(), board)?;
+        }
+        _ => {
+            text.push_str(name)?;
+            text.push_str(ending_of(taken, "").as_str())?;
+        }
+    }
+    Ok(text)
+}
+
+// Writes the answer line of an answer that isn't of steps, and a line feed.
+fn write_one_line<W: Sink>(out: &mut W, name: &str, taken: &Taken) -> Result<(), io::Error>
+    requires whole { W.has_failed out.old ≡ false }
+    requires one_line { IsOfOneLine taken.now.answer }
+    ensures fails { IsErr result ↔ (W.has_failed out.new ≡ true) }
+    ensures adds { OnOk result
+        (Appends (W.written out.old) (W.written out.new) (answer_line name.now taken.now ++ line_feed ∷ [])) }
+    ensures start { AppendsStart (W.written out.old) (W.written out.new) (answer_line name.now taken.now ++ line_feed ∷ []) }
+{
+    out.write_all(name.as_bytes())?;
+    out.write_all(ending_of(taken, "\n").bytes())
+}
+
+/// Writes the answer line of a line of the file `name`, as `answer_text` returns it, and a line feed; of steps the line of each.
+///
+/// It allocates nothing. It fails exactly when the sink has failed afterwards; then a prefix of this was written, and nothing else.
+pub fn write_answer<W: Sink>(out: &mut W, name: &str, taken: &Taken) -> Result<(), io::Error>
+    requires { W.has_failed out.old ≡ false }
+    ensures fails { IsErr result ↔ (W.has_failed out.new ≡ true) }
+    ensures adds { OnOk result
+        (Appends (W.written out.old) (W.written out.new) (answer_line name.now taken.now ++ line_feed ∷ [])) }
+    ensures start { AppendsStart (W.written out.old) (W.written out.new) (answer_line name.now taken.now ++ line_feed ∷ []) }
+{
+    match &taken.answer {
+        Answer::Steps(board) => write_steps(out, name, place_of(taken.line).as_str(), board),
+        _ => write_one_line(out, name, taken),
+    }
+}
+
+// Writes an answer in words, and a line feed.
+pub(crate) fn write_words<W: Sink>(out: &mut W, answer: &Answer) -> Result<(), io::Error>
+    requires { W.has_failed out.old ≡ false }
+    ensures fails { IsErr result ↔ (W.has_failed out.new ≡ true) }
+    ensures adds { OnOk result
+        (Appends (W.written out.old) (W.written out.new) (answer_words answer.now ++ line_feed ∷ [])) }
+    ensures start { AppendsStart (W.written out.old) (W.written out.new) (answer_words answer.now ++ line_feed ∷ []) }
+{
+    match answer {
+        Answer::Steps(board) => write_steps(out, "", "", board),
+        _ => out.write_all(words_of(answer, "\n").bytes()),
+    }
+}
