@@ -3,6 +3,7 @@ pub(crate) mod answer;
 pub(crate) mod answer_line;
 pub(crate) mod counts;
 pub(crate) mod laws;
+pub(crate) mod named_text;
 pub(crate) mod picture;
 pub(crate) mod player;
 pub(crate) mod position_text;

@@ -9,9 +9,11 @@ ghost use Rattle.kalah_jobs.specs.Writing.Given.{AppendsStart};
 mod tests;
 
 use crate::writing::answer::{Answer, Taken};
+use crate::writing::named_text::write_named;
 use crate::writing::sink::Sink;
 use crate::writing::stack_text::{ROOM, StackText};
 use crate::writing::steps::{push_steps, write_steps};
+use kalah_rules::Board;
 use kalah_solve::{MoveValue, MoveValues};
 use std::alloc::{AllocError, Global};
 use std::io;
@@ -85,38 +87,14 @@ fn prepend_place(text: &mut StackText, line: u32)
     text.prepend(":");
 }
 
-// Returns what stands before each text of an answer, behind the name.
-fn place_of(line: u32) -> StackText
-    ensures place { result ≡ codes ":" ++ (decimal (line + 1) ++ codes " ") }
-    ensures short { length result ≤ 22 }
-{
-    let mut place = StackText::new();
-    prepend_place(&mut place, line);
-    place
-}
-
-// Returns an answer in words, followed by `end`.
-fn words_of(answer: &Answer, end: &str) -> StackText
-    requires end { length end.now ≤ 1 }
-    requires one_line { IsOfOneLine answer.now }
-    ensures words { result ≡ answer_words answer.now ++ end.now }
-    ensures short { length result ≤ 97 }
-{
-    let mut words = StackText::new();
-    words.prepend(end);
-    prepend_words(&mut words, answer);
-    words
-}
-
-// Returns the part of an answer line behind the name, followed by `end`.
-fn ending_of(taken: &Taken, end: &str) -> StackText
-    requires end { length end.now ≤ 1 }
+// Puts what stands behind the name in an answer line in front of the text.
+fn prepend_ending(text: &mut StackText, taken: &Taken)
+    requires short { length text.old ≤ 1 }
     requires one_line { IsOfOneLine taken.now.answer }
-    ensures { result ≡ codes ":" ++ (decimal (taken.now.line + 1) ++ (codes " " ++ (answer_words taken.now.answer ++ end.now))) }
+    ensures { text.new ≡ codes ":" ++ (decimal (taken.now.line + 1) ++ (codes " " ++ (answer_words taken.now.answer ++ text.old))) }
 {
-    let mut ending = words_of(&taken.answer, end);
-    prepend_place(&mut ending, taken.line);
-    ending
+    prepend_words(text, &taken.answer);
+    prepend_place(text, taken.line);
 }
 
 /// Returns the answer line of a line of the file `name`, without a line feed: `NAME:LINE MARGIN house H`, `NAME:LINE MARGIN over`,
@@ -128,11 +106,15 @@ pub fn answer_text(alloc: Global, name: &str, taken: &Taken) -> Result<String, A
     let mut text = String::new(alloc);
     match &taken.answer {
         Answer::Steps(board) => {
-            push_steps(&mut text, name, place_of(taken.line).as_str(), board)?;
+            let mut place = StackText::new();
+            prepend_place(&mut place, taken.line);
+            push_steps(&mut text, name, place.as_str(), board)?;
         }
         _ => {
+            let mut ending = StackText::new();
+            prepend_ending(&mut ending, taken);
             text.push_str(name)?;
-            text.push_str(ending_of(taken, "").as_str())?;
+            text.push_str(ending.as_str())?;
         }
     }
     Ok(text)
@@ -147,8 +129,29 @@ fn write_one_line<W: Sink>(out: &mut W, name: &str, taken: &Taken) -> Result<(),
         (Appends (W.written out.old) (W.written out.new) (answer_line name.now taken.now ++ line_feed ∷ [])) }
     ensures start { AppendsStart (W.written out.old) (W.written out.new) (answer_line name.now taken.now ++ line_feed ∷ []) }
 {
-    out.write_all(name.as_bytes())?;
-    out.write_all(ending_of(taken, "\n").bytes())
+    let mut text = StackText::new();
+    text.prepend("\n");
+    prepend_ending(&mut text, taken);
+    write_named(out, name, &mut text)
+}
+
+// Writes the lines of the steps of a board, which is that of a line of the file `name`.
+fn write_placed_steps<W: Sink>(
+    out: &mut W,
+    name: &str,
+    line: u32,
+    board: &Board,
+) -> Result<(), io::Error>
+    requires { W.has_failed out.old ≡ false }
+    ensures fails { IsErr result ↔ (W.has_failed out.new ≡ true) }
+    ensures adds { OnOk result (Appends (W.written out.old) (W.written out.new)
+        (answer_line name.now (record { line = line; answer = Answer.Steps board.now }) ++ line_feed ∷ [])) }
+    ensures start { AppendsStart (W.written out.old) (W.written out.new)
+        (answer_line name.now (record { line = line; answer = Answer.Steps board.now }) ++ line_feed ∷ []) }
+{
+    let mut place = StackText::new();
+    prepend_place(&mut place, line);
+    write_steps(out, name, place.as_str(), board)
 }
 
 /// Writes the answer line of a line of the file `name`, as `answer_text` returns it, and a line feed; of steps the line of each.
@@ -162,9 +165,24 @@ pub fn write_answer<W: Sink>(out: &mut W, name: &str, taken: &Taken) -> Result<(
     ensures start { AppendsStart (W.written out.old) (W.written out.new) (answer_line name.now taken.now ++ line_feed ∷ []) }
 {
     match &taken.answer {
-        Answer::Steps(board) => write_steps(out, name, place_of(taken.line).as_str(), board),
+        Answer::Steps(board) => write_placed_steps(out, name, taken.line, board),
         _ => write_one_line(out, name, taken),
     }
+}
+
+// Writes the text of an answer that isn't of steps, and a line feed.
+fn write_one_text<W: Sink>(out: &mut W, answer: &Answer) -> Result<(), io::Error>
+    requires whole { W.has_failed out.old ≡ false }
+    requires one_line { IsOfOneLine answer.now }
+    ensures fails { IsErr result ↔ (W.has_failed out.new ≡ true) }
+    ensures adds { OnOk result
+        (Appends (W.written out.old) (W.written out.new) (answer_words answer.now ++ line_feed ∷ [])) }
+    ensures start { AppendsStart (W.written out.old) (W.written out.new) (answer_words answer.now ++ line_feed ∷ []) }
+{
+    let mut text = StackText::new();
+    text.prepend("\n");
+    prepend_words(&mut text, answer);
+    out.write_all(text.bytes())
 }
 
 // Writes an answer in words, and a line feed.
@@ -177,6 +195,6 @@ pub(crate) fn write_words<W: Sink>(out: &mut W, answer: &Answer) -> Result<(), i
 {
     match answer {
         Answer::Steps(board) => write_steps(out, "", "", board),
-        _ => out.write_all(words_of(answer, "\n").bytes()),
+        _ => write_one_text(out, answer),
     }
 }

@@ -54,6 +54,13 @@ impl StackText {
         str::from_utf8(self.bytes()).unwrap()
     }
 
+    // Returns how many more bytes there is room for.
+    pub(crate) fn room(&self) -> usize
+        ensures { length self.now + result ≡ ROOM }
+    {
+        self.start
+    }
+
     // Returns the number of bytes.
     pub(crate) fn len(&self) -> usize
         ensures { result ≡ length self.now }

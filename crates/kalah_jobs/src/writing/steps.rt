@@ -7,6 +7,7 @@ ghost use Rattle.kalah_jobs.specs.Line.Line.{step_text_of};
 ghost use Rattle.kalah_jobs.specs.Writing.Answer.{steps_texts};
 ghost use Rattle.kalah_jobs.specs.Writing.Given.{AppendsStart};
 
+use crate::writing::named_text::write_named;
 use crate::writing::position_text::text_of_step;
 use crate::writing::sink::Sink;
 use kalah_rules::{Board, Step};
@@ -31,8 +32,7 @@ fn write_step_line<W: Sink>(
 {
     let mut text = text_of_step(h, step, "\n");
     text.prepend(place);
-    out.write_all(name.as_bytes())?;
-    out.write_all(text.bytes())
+    write_named(out, name, &mut text)
 }
 
 /// Writes a line for each legal house of a board, rising: the name, the place and the text of its move. If there is none, it writes

@@ -1,0 +1,27 @@
+//! A name and the text behind it, written to a sink.
+ghost use Rattle.std.specs.Prelude.{◌≡◌, ◌++◌, ◌↔◌, true, false, IsErr, OnOk};
+ghost use Rattle.std.specs.Io.KnownBytes.{Appends};
+ghost use Rattle.kalah_jobs.specs.Writing.Given.{AppendsStart};
+
+use crate::writing::sink::Sink;
+use crate::writing::stack_text::StackText;
+use std::io;
+
+// Writes the name and then the text: in one call of the sink, unless the name is too long to be put in front of the text.
+pub(crate) fn write_named<W: Sink>(
+    out: &mut W,
+    name: &str,
+    text: &mut StackText,
+) -> Result<(), io::Error>
+    requires { W.has_failed out.old ≡ false }
+    ensures fails { IsErr result ↔ (W.has_failed out.new ≡ true) }
+    ensures adds { OnOk result (Appends (W.written out.old) (W.written out.new) (name.now ++ text.old)) }
+    ensures start { AppendsStart (W.written out.old) (W.written out.new) (name.now ++ text.old) }
+{
+    if name.len() > text.room() {
+        out.write_all(name.as_bytes())?;
+        return out.write_all(text.bytes());
+    }
+    text.prepend(name);
+    out.write_all(text.bytes())
+}
