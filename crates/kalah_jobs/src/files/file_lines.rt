@@ -5,6 +5,9 @@ ghost use Rattle.kalah_jobs.specs.Files.Lines.{line_feed, lines_of};
 // The byte that ends a line.
 const LINE_FEED: u8 = b'\n';
 
+// The most bytes whose line feeds are counted in a byte.
+const BLOCK: usize = 255;
+
 // Returns the first line of some bytes, and the bytes after it.
 pub(crate) fn first_line(bytes: &[u8]) -> (&[u8], &[u8])
     requires { 0 < length bytes.now }
@@ -29,16 +32,31 @@ pub(crate) fn count_lines(bytes: &[u8]) -> usize
     }
 }
 
+// Returns the number of line feeds in a block of bytes. It counts in a byte, so that the processor compares many bytes at once.
+fn count_feeds_in_block(block: &[u8]) -> u8
+    requires { length block.now ≤ BLOCK }
+    ensures { result ≡ count_by (λ byte. byte == line_feed) block.now }
+{
+    let mut count = 0;
+    for byte in block {
+        if *byte == LINE_FEED {
+            count += 1;
+        }
+    }
+    count
+}
+
 // Returns the number of line feeds.
 fn count_feeds(bytes: &[u8]) -> usize
     ensures is { result ≡ count_by (λ byte. byte == line_feed) bytes.now }
     ensures low { result ≤ length bytes.now }
 {
     let mut count = 0;
-    for byte in bytes {
-        if *byte == LINE_FEED {
-            count += 1;
-        }
+    let mut rest = bytes;
+    while !rest.is_empty() {
+        let (block, after) = rest.split_at(rest.len().min(BLOCK));
+        count += count_feeds_in_block(block) as usize;
+        rest = after;
     }
     count
 }

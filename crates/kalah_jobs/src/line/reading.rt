@@ -33,16 +33,17 @@ fn read_text(text: &[u8]) -> Result<Board, LineFault>
     if text.is_empty() {
         return Err(LineFault::Empty);
     }
-    let Some(ParsedLine { own, other, rule }) = ParsedLine::read(text) else {
+    let Some(line) = ParsedLine::read(text) else {
         return Err(LineFault::Shape);
     };
+    let (own, other) = (&line.own, &line.other);
     let m = own.houses.len();
     if other.houses.len() != m || m > MOST_HOUSES {
         return Err(LineFault::Houses);
     }
     let own_cells = own.houses.six_cells();
     let other_cells = other.houses.six_cells();
-    let board = Board::new(m, own_cells, own.store, other_cells, other.store, rule);
+    let board = Board::new(m, own_cells, own.store, other_cells, other.store, line.rule);
     board.ok_or(LineFault::Seeds)
 }
 
