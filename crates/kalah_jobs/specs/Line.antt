@@ -4,3 +4,4 @@ pub mod LineFault
 pub mod Reading
 pub mod ParsedLine
 pub mod LineLaws
+pub mod SplitAt

@@ -8,6 +8,7 @@ use Rattle.kalah_rules.specs.Cells.{padded}
 use Rattle.kalah_jobs.specs.Line.HouseNumbers.{IsPadded}
 use Rattle.kalah_jobs.specs.Line.Line.{comma}
 use Rattle.kalah_jobs.specs.Line.Reading.{◌>>=◌, parts_at, number_read, numbers_read}
+use Rattle.kalah_jobs.specs.Line.SplitAt.{IsSplitAt}
 
 -- ---- six cells
 
@@ -48,13 +49,8 @@ put_after : (row : List ℕ) (n : ℕ) (r : Option (List ℕ)) →
 put_after row n None = refl
 put_after row n (Some more) = ap (λ (xs : List ℕ). Some xs) (sym (append_assoc row (n ∷ []) more))
 
--- the text is cut after the number
-pub record IsCut (left number : List ℕ) (after : Option (Bor (List ℕ))) : Type 0 where
-  pub parts : parts_at comma left ≡ number ∷ parts_left after
-  pub lengths : length number + bytes_left after ≡ length left
-
-module _ (text row : List ℕ) (rest : Option (Bor (List ℕ))) (left : Bor (List ℕ)) (number : List ℕ) (after : Option (Bor (List ℕ)))
-    (so_far : IsReading text row rest) (is : rest ≡ Some left) (cut : IsCut left.now number after) where
+module _ {text row number : List ℕ} {rest after : Option (Bor (List ℕ))} {left : Bor (List ℕ)} (so_far : IsReading text row rest)
+    (is : rest ≡ Some left) (cut : IsSplitAt comma left.now number after) where
   -- what is read of the rest
   read_of_rest : option_map (λ more. row ++ more) (number_read number >>= λ n. numbers_read (parts_left after) >>= λ more. Some (n ∷ more))
       ≡ numbers_read (parts_at comma text)

@@ -13,8 +13,8 @@ use crate::collecting::outcome::Outcome;
 use crate::files::entry::Entry;
 use crate::files::question::Question;
 use crate::writing::answer::Answer;
-use crate::writing::sink::Sink;
 use crate::writing::answer_line::write_words;
+use crate::writing::sink::Sink;
 use kalah_solve::Solver;
 
 // The most seeds in houses of a position that is solved before earlier answers are flushed.

@@ -5,8 +5,8 @@ ghost use Rattle.kalah_jobs.specs.Limits.{most_bytes};
 ghost use Rattle.kalah_jobs.specs.Line.Line.{space};
 ghost use Rattle.kalah_jobs.specs.Line.Reading.{rule_of, parts_at};
 
-use crate::line::split_at::split_at;
 use crate::line::side::Side;
+use crate::line::split_at::split_at;
 use kalah_rules::Rule;
 
 /// Two sides and a rule, of any number of houses and seeds.

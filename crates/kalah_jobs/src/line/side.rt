@@ -20,6 +20,7 @@ impl Side {
     ghost use Rattle.kalah_jobs.specs.Line.Reading.{side_of};
 
     // Reads the houses before the one slash of a text, and the store after it.
+    #[inline(always)]
     pub(crate) fn read(text: &[u8]) -> Option<Side>
         requires { length text.now ≤ most_bytes }
         ensures { option_map (λ side. (side.houses, side.store)) result ≡ side_of text.now }

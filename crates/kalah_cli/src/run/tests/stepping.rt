@@ -33,9 +33,9 @@ fn tells_each_step_and_what_is_no_position(rt: HostRuntime) {
     }
 }
 
-// Each line is written in two calls, and a flush ends them.
+// Each line is written in one call, and a flush ends them.
 #[test]
 fn telling_steps_stops_at_a_failed_write(rt: HostRuntime) {
     write_file(&rt, "stopped.txt", b"1,1/0 1,1/0\n2/0 2/0");
-    assert_stops(&rt, rt.alloc(), &["steps", "stopped.txt"], 7);
+    assert_stops(&rt, rt.alloc(), &["steps", "stopped.txt"], 4);
 }

@@ -91,9 +91,9 @@ fn values_and_steps_of_files_that_are_not_read(rt: HostRuntime) {
     }
 }
 
-// Each line is written in two calls, and a flush ends them.
+// Each line is written in one call, and a flush ends them.
 #[test]
 fn telling_values_stops_at_a_failed_write(rt: HostRuntime) {
     write_file(&rt, "stops.txt", b"1,1/0 1,1/0\n2/0 2/0");
-    assert_stops(&rt, rt.alloc(), &["values", "stops.txt"], 5);
+    assert_stops(&rt, rt.alloc(), &["values", "stops.txt"], 3);
 }

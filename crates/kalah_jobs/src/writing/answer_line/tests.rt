@@ -95,15 +95,15 @@ impl Write for FailingFrom {
 }
 
 // Whether this is written.
-fn is_written(rt: &(impl Abort + AllocGlobal), taken: &Taken, text: &str) -> bool {
+fn is_written(rt: &(impl Abort + AllocGlobal), name: &str, taken: &Taken, text: &str) -> bool {
     let mut out = Stream::new(Vec::<u8>::new(rt.alloc()));
-    write_answer(&mut out, "a.txt", taken).expect(rt, text);
+    write_answer(&mut out, name, taken).expect(rt, text);
     !out.failed() && out.into_inner().as_slice() == text.as_bytes()
 }
 
 // Whether this is the answer line as text, and a line feed.
-fn is_printed(rt: &(impl Abort + AllocGlobal), taken: &Taken, text: &str) -> bool {
-    let printed = answer_text(rt.alloc(), "a.txt", taken).expect(rt, text);
+fn is_printed(rt: &(impl Abort + AllocGlobal), name: &str, taken: &Taken, text: &str) -> bool {
+    let printed = answer_text(rt.alloc(), name, taken).expect(rt, text);
     text.strip_suffix("\n") == Some(printed.as_str())
 }
 
@@ -119,8 +119,33 @@ fn an_answer_is_written_as_it_is_printed(rt: HostRuntime) {
         ),
     ] {
         let taken = Taken { line, answer };
-        assert!(rt; is_written(&rt, &taken, text), "{text}");
-        assert!(rt; is_printed(&rt, &taken, text), "{text}");
+        assert!(rt; is_written(&rt, "a.txt", &taken, text), "{text}");
+        assert!(rt; is_printed(&rt, "a.txt", &taken, text), "{text}");
+    }
+}
+
+// An answer with a name of this size is written as it is printed.
+fn assert_written(rt: &(impl Abort + AllocGlobal), size: usize) {
+    let name = "n".repeat(rt.alloc(), size).expect(rt, "no memory");
+    let text = format!(in rt.alloc(); "{name}:1 -2 house 1\n").expect(rt, "no memory");
+    let taken = Taken {
+        line: 0,
+        answer: best(-2, 1),
+    };
+    assert!(rt;
+        is_written(rt, name.as_str(), &taken, text.as_str()),
+        "{size}"
+    );
+    assert!(rt;
+        is_printed(rt, name.as_str(), &taken, text.as_str()),
+        "{size}"
+    );
+}
+
+#[test]
+fn a_name_of_any_length_is_written(rt: HostRuntime) {
+    for size in 100..130 {
+        assert_written(&rt, size);
     }
 }
 
@@ -134,22 +159,32 @@ fn answers_follow_one_another(rt: HostRuntime) {
     assert!(rt; out.into_inner().as_slice() == b"b:1 0 over\nb:2 -1 house 2\n".as_slice());
 }
 
-#[test]
-fn each_write_that_fails_is_an_error(rt: HostRuntime) {
+// An answer is written by this many calls of the writer. If one of them fails, that is an error, and no call follows.
+fn assert_calls(rt: &(impl Abort + AllocGlobal), name: &str, calls: u32) {
     let taken = Taken {
         line: 0,
         answer: best(0, 1),
     };
     for fails_at in 1..4 {
         let mut out = Stream::new(FailingFrom {
-            bytes: Vec::with_capacity(rt.alloc(), 64).expect(&rt, "no memory"),
+            bytes: Vec::with_capacity(rt.alloc(), 512).expect(rt, "no memory"),
             calls: 0,
             fails_at,
         });
-        let fails = write_answer(&mut out, "a.txt", &taken).is_err();
+        let fails = write_answer(&mut out, name, &taken).is_err();
         let told = (fails, out.failed());
-        let calls = out.into_inner().calls;
-        // No call after the first error, and few calls for a line.
-        assert!(rt; (told, calls) == ((fails_at <= 2, fails_at <= 2), fails_at.min(2)));
+        let made = out.into_inner().calls;
+        assert!(rt;
+            (told, made) == ((fails_at <= calls, fails_at <= calls), fails_at.min(calls)),
+            "{name}"
+        );
     }
+}
+
+#[test]
+fn each_write_that_fails_is_an_error(rt: HostRuntime) {
+    assert_calls(&rt, "a.txt", 1);
+    // A long name is written by a call of its own.
+    let long = "n".repeat(rt.alloc(), 200).expect(&rt, "no memory");
+    assert_calls(&rt, long.as_str(), 2);
 }

@@ -17,7 +17,7 @@ const SEVEN_LINES: Tally = Tally {
 };
 
 // The number of calls of the writer by which the answer line of a position goes out.
-const CALLS_OF_A_LINE: u32 = 2;
+const CALLS_OF_A_LINE: u32 = 1;
 
 /// Accepts the bytes of `calls_left` calls, returns an error at each later one, and counts the calls after the first error.
 #[derive(Drop)]

@@ -1,5 +1,4 @@
 use Rattle.std.proofs.Common.{subst, sym}
-use Rattle.kalah_solve.specs.Solver.MoveValues.{values_of}
 use Rattle.kalah_jobs.specs.Writing.Shown.{HaveColumns}
 use Rattle.kalah_jobs.proofs.OfWriting.Shown.{have_columns, rise_from_none}
 use Rattle.kalah_jobs.proofs.writing.shown.line_below.Goals as goal
