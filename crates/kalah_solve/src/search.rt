@@ -29,6 +29,12 @@ const LEAST_WORK: u64 = 60;
 /// A search with this many nodes is long. From then on it has all its places, which cost a short one more than they save.
 const LONG_SEARCH: u64 = 300_000;
 
+/// The most seeds of the endings that a search uses at first.
+const FIRST_ENDINGS: u8 = 8;
+
+/// The most seeds of all endings.
+const MOST_ENDINGS: u8 = 9;
+
 /// The endings of up to 9 seeds are used once houses with this many seeds or more were searched and the search has `MUCH_WORK`
 /// nodes, and until then those of up to 8: finding more costs a search of few seeds, or a short one, more than it saves.
 const MANY_SEEDS: u8 = 17;
@@ -42,10 +48,10 @@ pub struct Search<A: Allocator + Clone = Global> {
     table: Table<A>,
     most_placed: u8,
     least_work: u64,
-    uses_endings: bool,
+    ending_seeds: u8,
     seen_many_seeds: bool,
-    asks_for_nine: bool,
     nodes: u64,
+    ghost few: { ending_seeds ≤ 9 },
 }
 
 impl<A: Allocator + Clone> Search<A> {
@@ -57,9 +63,8 @@ impl<A: Allocator + Clone> Search<A> {
             table,
             most_placed: MOST_PLACED,
             least_work: LEAST_WORK,
-            uses_endings: true,
+            ending_seeds: FIRST_ENDINGS,
             seen_many_seeds: false,
-            asks_for_nine: false,
             nodes: 0,
         }
     }
@@ -80,9 +85,8 @@ impl<A: Allocator + Clone> Search<A> {
             table,
             most_placed: 0,
             least_work: 0,
-            uses_endings: false,
+            ending_seeds: 0,
             seen_many_seeds: false,
-            asks_for_nine: false,
             nodes: 0,
         }
     }
@@ -172,22 +176,18 @@ impl<A: Allocator + Clone> Search<A> {
         before
     }
 
-    // Uses the endings of 9 seeds from now on, if the search had many seeds and much work.
+    // Uses the endings of 9 seeds from now on, if the search uses endings and had many seeds and much work.
     fn grow_endings(&mut self) {
-        self.asks_for_nine |= self.seen_many_seeds && self.nodes >= MUCH_WORK;
+        if self.seen_many_seeds && self.nodes >= MUCH_WORK && self.ending_seeds > 0 {
+            self.ending_seeds = MOST_ENDINGS;
+        }
     }
 
     // Returns the most seeds for which the result is looked up among the endings.
     fn max_ending_seeds(&self) -> u8
         ensures { result ≤ 9 }
     {
-        if !self.uses_endings {
-            0
-        } else if self.asks_for_nine {
-            9
-        } else {
-            8
-        }
+        self.ending_seeds
     }
 
     // Returns what is known of the seeds that the mover takes.

@@ -135,7 +135,9 @@ impl<A: Allocator> EndgameTable<A> {
         self.pairs[320 * past + sums as usize]
     }
 
-    // Returns the rank of the houses among those of their game, two cells at a time.
+    // Returns the rank of the houses among those of their game, two cells at a time. The loop has six steps for any number of
+    // houses, so that it can be unrolled.
+    #[inline(always)]
     fn rank(&self, houses: &Houses) -> u32
         requires { seeds_in_houses (bare houses.now) ≤ 9 }
         ensures rank { result ≡ rank_of_houses houses.now }
@@ -144,9 +146,11 @@ impl<A: Allocator> EndgameTable<A> {
         let m = houses.m() as usize;
         let mut sums = sums_of(houses);
         let mut rank = 0;
-        for passed in 0..m {
-            rank += self.pair(m - passed - 1, sums % 1024);
-            sums /= 1024;
+        for step in 0..6usize {
+            if step + m >= 6 {
+                rank += self.pair(5 - step, sums % 1024);
+                sums /= 1024;
+            }
         }
         rank
     }

@@ -1,8 +1,9 @@
 //! The number of seeds that the mover takes from houses with few seeds, by trying each move to the end.
-ghost use Rattle.std.specs.Prelude.{◌≡◌, ◌≤◌, ◌<◌, false, Contains};
+ghost use Rattle.std.specs.Prelude.{◌≡◌, ◌≤◌, ◌<◌, ◌^◌, false, Contains};
 ghost use Rattle.kalah_rules.specs.Position.{bare, seeds_in_houses, is_over};
 ghost use Rattle.kalah_rules.specs.Play.{legal_houses};
 ghost use Rattle.kalah_rules.specs.HousesStep.{houses_step};
+ghost use Rattle.kalah_solve.specs.Table.RowRank.{rank_of_houses};
 ghost use Rattle.kalah_solve.specs.Bounds.Won.{won, won_by_step};
 
 use crate::marks::{filled_houses, split_last};
@@ -13,6 +14,7 @@ use std::alloc::Allocator;
 impl<A: Allocator> EndgameTable<A> {
     /// Returns how many of the seeds in the houses the mover takes in best play.
     #[cycle(exact)]
+    #[inline(always)]
     pub(crate) fn won(&self, houses: &Houses) -> u8
         requires going { is_over (bare houses.now) ≡ false }
         requires few { seeds_in_houses (bare houses.now) ≤ 9 }
@@ -22,12 +24,25 @@ impl<A: Allocator> EndgameTable<A> {
         if let Some(won) = self.get(houses, rank) {
             return won;
         }
+        self.learn(houses, rank)
+    }
+
+    // The same, by trying the moves. What it finds is kept.
+    #[cycle(exact)]
+    #[inline(never)]
+    fn learn(&self, houses: &Houses, rank: u32) -> u8
+        requires going { is_over (bare houses.now) ≡ false }
+        requires few { seeds_in_houses (bare houses.now) ≤ 9 }
+        requires rank { rank ≡ rank_of_houses houses.now }
+        requires small { rank < 2 ^ 21 }
+        ensures { result ≡ won houses.now }
+    {
         let won = self.most_won(houses);
         self.keep(houses, rank, won);
         won
     }
 
-    // The same, by trying the moves from the one nearest the store on, until one takes all.
+    // Tries the moves from the one nearest the store on, until one takes all.
     #[cycle(exact)]
     fn most_won(&self, houses: &Houses) -> u8
         requires going { is_over (bare houses.now) ≡ false }

@@ -1,8 +1,10 @@
-use Rattle.std.proofs.Common.{arith, ◌++◌, ◌≤◌, ◌*◌, ◌≡◌, length, length-append}
+use Rattle.std.proofs.Common.{arith, ◌++◌, ◌+◌, ◌-◌, ◌<◌, ◌≤◌, ◌*◌, ◌%◌, ◌/◌, ◌≡◌, ℕ, length, length-append}
 use Rattle.std.specs.Prelude.{sum}
 use Rattle.std.proofs.lemmas.List.Sums.{sum_by-append}
 use Rattle.kalah_rules.specs.Position.{Rows, IsWithinHouses, bare, seeds_in_houses}
-use Rattle.kalah_solve.proofs.OfTable.RowRanks.{two_few, rank_next, ranked_small, ranked_all}
+use Rattle.kalah_solve.specs.Table.RowRank.{choose}
+use Rattle.kalah_solve.proofs.OfTable.RowRanks.{IsRanked, two_few, rank_next, ranked_small, ranked_all}
+use Rattle.kalah_solve.proofs.table.endgame_table.EndgameTable.rank.Goals.{then-step-m-ge6, else-step-m-ge6}
 use Rattle.kalah_solve.proofs.table.endgame_table.EndgameTable.rank.Goals as goal
 
 few : (a : Rows) → seeds_in_houses (bare a) ≤ 9 → sum (a.own ++ a.other) ≤ 9
@@ -11,51 +13,65 @@ few a less = omega (arith, less, sum_by-append (λ x. x) a.own a.other)
 long : (a : Rows) → IsWithinHouses a → length (a.own ++ a.other) ≡ 2 * length a.own
 long a within = omega (arith, length-append a.own a.other, within.same_side)
 
-pub loop-passed-init : goal.loop-passed-init
-loop-passed-init g c = record { left = c.sums_of-sums.ensures.sums; rank = omega arith }
+-- a step from the first on that passes two cells
+module _ (a : Rows) (within : IsWithinHouses a) (less : seeds_in_houses (bare a) ≤ 9) (step sums rank : ℕ) (low : step < 6)
+    (passes : 6 ≤ step + length a.own) (is : IsRanked (a.own ++ a.other) (step + length a.own - 6) sums rank) where
+  few_here : (sums % 1024 % 32 < 10) × (sums % 1024 / 32 < 10)
+  few_here =
+      two_few (a.own ++ a.other) (few a less) (length a.own) (step + length a.own - 6) sums rank (long a within) within.at_most_six
+      (omega (arith, low, passes)) is
+
+  ranked_here : (r : ℕ) → r ≡ choose (sums % 1024 % 32 + 2 * (5 - step) + 1) (2 * (5 - step) + 2) + choose (sums % 1024 / 32 + 2 * (5 - step)) (2 * (5 - step) + 1) →
+      IsRanked (a.own ++ a.other) (step + 1 + length a.own - 6) (sums / 1024) (rank + r)
+  ranked_here r r_is =
+      let past : length a.own - (step + length a.own - 6) - 1 ≡ 5 - step = omega (arith, low, passes) in
+      let next : step + 1 + length a.own - 6 ≡ step + length a.own - 6 + 1 = omega (arith, passes) in
+      rw next (rank_next (a.own ++ a.other) (few a less) (length a.own) (step + length a.own - 6) sums rank (long a within) within.at_most_six
+      (omega (arith, low, passes)) is r (rw past r_is))
+
+pub loop-step-init : goal.loop-step-init
+loop-step-init g c =
+    let none : 0 + length c.args.houses.now.own - 6 ≡ 0 = omega (arith, c.m-m.ensures.limits.at_most_six) in
+    rw none (record { left = c.sums_of-sums.ensures.sums; rank = omega arith })
 
 pub pair-rank-requires-clause-first : goal.pair-rank-requires-clause-first
 pair-rank-requires-clause-first g c =
-    let a = c.args.houses.now in
-    let limits = c.m-m.ensures.limits in
-    (two_few (a.own ++ a.other) (few a c.requires) c.m-m.result c.loop-passed.passed c.loop-passed.sums c.loop-passed.rank
-    (omega (arith, long a limits, c.m-m.ensures.side))
-    (omega (arith, c.m-m.ensures.side, limits.at_most_six)) c.loop-passed-test.true c.loop-passed.invariant).0
+    (few_here c.args.houses.now c.m-m.ensures.limits c.requires c.loop-step.step c.loop-step.sums c.loop-step.rank c.loop-step-test.true
+    (omega (arith, c.if-step-m-ge6.true, c.m-m.ensures.side)) c.loop-step.invariant).0
 
 pub pair-rank-requires-clause-second : goal.pair-rank-requires-clause-second
 pair-rank-requires-clause-second g c =
-    let a = c.args.houses.now in
-    let limits = c.m-m.ensures.limits in
-    (two_few (a.own ++ a.other) (few a c.requires) c.m-m.result c.loop-passed.passed c.loop-passed.sums c.loop-passed.rank
-    (omega (arith, long a limits, c.m-m.ensures.side))
-    (omega (arith, c.m-m.ensures.side, limits.at_most_six)) c.loop-passed-test.true c.loop-passed.invariant).1
+    (few_here c.args.houses.now c.m-m.ensures.limits c.requires c.loop-step.step c.loop-step.sums c.loop-step.rank c.loop-step-test.true
+    (omega (arith, c.if-step-m-ge6.true, c.m-m.ensures.side)) c.loop-step.invariant).1
 
-pub loop-passed-preserved : goal.loop-passed-preserved
-loop-passed-preserved g c =
-    let a = c.args.houses.now in
-    let limits = c.m-m.ensures.limits in
-    rank_next (a.own ++ a.other) (few a c.requires) c.m-m.result c.loop-passed.passed c.loop-passed.sums c.loop-passed.rank
-    (omega (arith, long a limits, c.m-m.ensures.side))
-    (omega (arith, c.m-m.ensures.side, limits.at_most_six)) c.loop-passed-test.true c.loop-passed.invariant c.pair-rank.result c.pair-rank.ensures.value
+pub loop-step-preserved : goal.loop-step-preserved
+loop-step-preserved g c = elim c.if-step-m-ge6.branch [
+  | then-step-m-ge6 w ↦
+      rw (w.sums-is, w.rank-is) (ranked_here c.args.houses.now c.m-m.ensures.limits c.requires c.loop-step.step c.loop-step.sums c.loop-step.rank
+      c.loop-step-test.true (omega (arith, w.if-step-m-ge6.true, c.m-m.ensures.side)) c.loop-step.invariant w.pair-rank.result w.pair-rank.ensures.value)
+  | else-step-m-ge6 w ↦
+      let same : c.loop-step.step + 1 + length c.args.houses.now.own - 6 ≡ c.loop-step.step + length c.args.houses.now.own - 6 =
+      omega (arith, w.if-step-m-ge6.false, c.m-m.ensures.side) in
+      rw (same, w.sums-is, w.rank-is) c.loop-step.invariant
+]
 
 pub overflow_add-rank : goal.overflow_add-rank
 overflow_add-rank g c =
     let a = c.args.houses.now in
     let limits = c.m-m.ensures.limits in
-    let next = rank_next (a.own ++ a.other) (few a c.requires) c.m-m.result c.loop-passed.passed c.loop-passed.sums c.loop-passed.rank
-    (omega (arith, long a limits, c.m-m.ensures.side))
-    (omega (arith, c.m-m.ensures.side, limits.at_most_six)) c.loop-passed-test.true c.loop-passed.invariant c.pair-rank.result c.pair-rank.ensures.value in
+    let next = ranked_here a limits c.requires c.loop-step.step c.loop-step.sums c.loop-step.rank c.loop-step-test.true
+    (omega (arith, c.if-step-m-ge6.true, c.m-m.ensures.side)) c.loop-step.invariant c.pair-rank.result c.pair-rank.ensures.value in
     omega (arith, ranked_small _ _ _ _ (few a c.requires) (omega (arith, long a limits, limits.at_most_six)) next)
 
 pub returns-clause-rank : goal.returns-clause-rank
 returns-clause-rank g c =
     let a = c.args.houses.now in
-    ranked_all (a.own ++ a.other) c.loop-passed.passed c.loop-passed.sums c.loop-passed.rank
-    (omega (arith, long a c.m-m.ensures.limits, c.m-m.ensures.side, c.loop-passed-test.false)) c.loop-passed.invariant
+    ranked_all (a.own ++ a.other) (c.loop-step.step + length a.own - 6) c.loop-step.sums c.loop-step.rank
+    (omega (arith, long a c.m-m.ensures.limits, c.loop-step-test.false)) c.loop-step.invariant
 
 pub returns-clause-small : goal.returns-clause-small
 returns-clause-small g c =
     let a = c.args.houses.now in
     let limits = c.m-m.ensures.limits in
-    ranked_small (a.own ++ a.other) c.loop-passed.passed c.loop-passed.sums c.loop-passed.rank (few a c.requires)
-    (omega (arith, long a limits, limits.at_most_six)) c.loop-passed.invariant
+    ranked_small (a.own ++ a.other) (c.loop-step.step + length a.own - 6) c.loop-step.sums c.loop-step.rank (few a c.requires)
+    (omega (arith, long a limits, limits.at_most_six)) c.loop-step.invariant

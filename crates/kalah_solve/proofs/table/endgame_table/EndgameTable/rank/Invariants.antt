@@ -1,6 +1,6 @@
-use Rattle.std.proofs.Common.{◌++◌}
+use Rattle.std.proofs.Common.{◌++◌, ◌+◌, ◌-◌, length}
 use Rattle.kalah_solve.proofs.OfTable.RowRanks.{IsRanked}
 use Rattle.kalah_solve.proofs.table.endgame_table.EndgameTable.rank.Given as goal
 
-abbrev pub invariant-loop-passed : goal.invariant-loop-passed
-invariant-loop-passed g l = IsRanked (l.houses.own ++ l.houses.other) l.passed l.sums l.rank
+abbrev pub invariant-loop-step : goal.invariant-loop-step
+invariant-loop-step g l = IsRanked (l.houses.own ++ l.houses.other) (l.step + length l.houses.own - 6) l.sums l.rank
