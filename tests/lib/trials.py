@@ -227,6 +227,11 @@ def busy_threads(process):
     return sum(thread != process.pid and ticks >= 2 for thread, ticks in ticks_of(process).items())
 
 
+def in_memory(process):
+    """Returns how much of the process is in memory, in kB."""
+    return int(re.search(r"VmRSS:\s*(\d+)", Path(f"/proc/{process.pid}/status").read_text())[1])
+
+
 def has_open(process, path):
     """Whether the process has the file open."""
     opened = set()
@@ -237,22 +242,30 @@ def has_open(process, path):
     return str(path) in opened
 
 
-def fill(pipe, data, process):
-    """Writes the data to a pipe with a name, once the process has closed it and opens it again."""
+def soon(holds):
+    """Waits until it holds."""
     end = time.monotonic() + SOON
-    while has_open(process, pipe) and time.monotonic() < end:
+    while not holds():
+        if time.monotonic() > end:
+            raise Differs("what is waited for has not come")
         time.sleep(0.001)
-    while True:
-        try:
-            writer = os.open(pipe, os.O_WRONLY | os.O_NONBLOCK)
-            break
-        except OSError:
-            if process.poll() is not None or time.monotonic() > end:
-                raise Differs("the pipe is not opened again") from None
-            time.sleep(0.001)
-    os.set_blocking(writer, True)
-    with open(writer, "wb") as open_pipe, suppress(BrokenPipeError):
-        open_pipe.write(data)
+
+
+def fill(pipe, data, process):
+    """Writes the data to a pipe with a name, which the process opens next, and waits until it has closed it again."""
+    opened = []
+
+    def is_opened():
+        with suppress(OSError):
+            opened.append(os.open(pipe, os.O_WRONLY | os.O_NONBLOCK))
+        return opened
+
+    soon(is_opened)
+    os.set_blocking(opened[0], True)
+    with open(opened[0], "wb", buffering=0) as writer, suppress(BrokenPipeError):
+        writer.write(data)
+        soon(lambda: has_open(process, pipe))
+    soon(lambda: not has_open(process, pipe))
 
 
 class Trials(AskTrials):
@@ -485,17 +498,20 @@ class Trials(AskTrials):
             raise Differs("the run has ended, though its first move takes long")
 
     def busy_workers(self):
-        """The number of threads that work in parallel is the requested number of workers."""
+        """The number of threads that work in parallel is the requested number of workers. They share one table of endings: with a
+        small table of its own, each takes less memory than those endings."""
         workers = self.drawn.card("busy workers", BUSY_WORKERS)
         self.put({"a": HARD})
         with self.start([self.searching(), "--table", "1", "--workers", f"{workers}", "a"]) as process:
             end = time.monotonic() + SOON
             while busy_threads(process) < workers and time.monotonic() < end:
                 time.sleep(0.05)
-            busy = busy_threads(process)
+            busy, kilobytes = busy_threads(process), in_memory(process)
             process.kill()
         if busy < workers:
             raise Differs(f"{busy} threads are at work")
+        if kilobytes > 4000 + 200 * workers:
+            raise Differs(f"{workers} workers take {kilobytes} kB")
 
     def few_lines(self):
         """A run with fewer lines than workers starts one thread, which starts at most one for each line."""
