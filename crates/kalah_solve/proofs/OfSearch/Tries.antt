@@ -1,20 +1,20 @@
 -- The moves that were tried, and those that wait with a rank.
-use Rattle.std.proofs.Common.{ap, ◌≡◌, ◌≢◌, ℕ, ◌+◌, ◌-◌, ◌^◌, ◌<◌, ◌≤◌, inl, inr, List, length, get_or, arith, sym, ◌∙◌, subst}
+use Rattle.std.proofs.Common.{ap, ◌≡◌, ◌≢◌, ℕ, ◌+◌, ◌-◌, ◌%◌, ◌^◌, ◌<◌, ◌≤◌, inl, inr, List, length, get_or, arith, sym, ◌∙◌, subst}
 use Rattle.std.specs.Prelude.{Bool, true, false, IsTrue, ◌↔◌, Contains, max, slice_set}
 use Rattle.std.proofs.lemmas.Bool.{cases_eq, cases_lt}
-use Rattle.std.proofs.lemmas.List.{get_or-set_same, get_or-set_other, get_or_past}
+use Rattle.std.proofs.lemmas.List.{get_or-set_same, get_or-set_other, get_or_past, get_or_default}
 use Rattle.std.proofs.Math.ListN.{length-set}
 use Rattle.kalah_rules.specs.Position.{Rows, IsWithinHouses, seeds, seeds_in_houses, is_over, bare}
 use Rattle.kalah_rules.specs.Play.{legal_houses}
 use Rattle.kalah_rules.specs.HousesStep.{houses_step}
+use Rattle.kalah_rules.specs.declared.step.HousesStep.{HousesStep}
 use Rattle.kalah_rules.specs.declared.step.HousesStep.TheVariants.{Turn}
 use Rattle.kalah_rules.proofs.Legal.{holds_legal, legal_holds}
 use Rattle.kalah_solve.specs.Bounds.Won.{won, won_by_step}
 use Rattle.kalah_solve.specs.Search.Tried.{IsSoftBound, WinsAtMost, EndsInStore, IsTurnOf, AreWaiting}
-use Rattle.kalah_solve.specs.declared.search.reaches.Played.{Played}
 use Rattle.kalah_solve.specs.RowMarks.{cell, IsLastMark}
-use Rattle.kalah_solve.specs.Solver.StepWorth.{GoesOnAt}
-use Rattle.kalah_solve.proofs.OfSolver.StepWorths.{goes_on}
+use Rattle.kalah_solve.specs.Solver.StepWorth.{LeadsTo, LeadsOn}
+use Rattle.kalah_solve.proofs.OfSolver.StepWorths.{leads_on}
 use Rattle.kalah_solve.proofs.RowMarks.{last_marked, left_before, gone_before}
 use Rattle.kalah_solve.proofs.OfBounds.Winnings.{taken_most, taken_reached}
 
@@ -84,23 +84,32 @@ pub move_enough : (a : Rows) (bar h bound : ℕ) → IsWithinHouses a → Contai
 move_enough a bar h bound w has is enough = omega (arith, is.lower enough, taken_most a w h has)
 
 -- the same of a turn that was kept
-turn_bound : (a : Rows) (bar h bound : ℕ) (t : Played) → IsTurnOf a h t →
-    IsSoftBound bar (t.gained + (seeds_in_houses (bare t.next) - won t.next)) bound → IsSoftBound bar (won_by_step (houses_step a h)) bound
-turn_bound a bar h bound t turn is = rw turn.step is
+turn_bound : (a : Rows) (bar h rank bound : ℕ) (b : Rows) → IsTurnOf a h rank b →
+    IsSoftBound bar (seeds_in_houses (bare a) - seeds_in_houses (bare b) + (seeds_in_houses (bare b) - won b)) bound →
+    IsSoftBound bar (won_by_step (houses_step a h)) bound
+turn_bound a bar h rank bound b turn is = rw turn.step is
 
-pub turn_enough : (a : Rows) (bar h bound : ℕ) (t : Played) → IsWithinHouses a → IsTurnOf a h t →
-    IsSoftBound bar (t.gained + (seeds_in_houses (bare t.next) - won t.next)) bound → bar ≤ bound → bound ≤ won a
-turn_enough a bar h bound t w turn is = move_enough a bar h bound w turn.legal (turn_bound a bar h bound t turn is)
+pub turn_enough : (a : Rows) (bar h rank bound : ℕ) (b : Rows) → IsWithinHouses a → IsTurnOf a h rank b →
+    IsSoftBound bar (seeds_in_houses (bare a) - seeds_in_houses (bare b) + (seeds_in_houses (bare b) - won b)) bound → bar ≤ bound → bound ≤ won a
+turn_enough a bar h rank bound b w turn is = move_enough a bar h bound w turn.legal (turn_bound a bar h rank bound b turn is)
 
-pub turn_at_most : (a : Rows) (bar h bound : ℕ) (t : Played) → IsTurnOf a h t →
-    IsSoftBound bar (t.gained + (seeds_in_houses (bare t.next) - won t.next)) bound → bound < bar → WinsAtMost a bound h
-turn_at_most a bar h bound t turn is short = (turn_bound a bar h bound t turn is).upper short
+pub turn_at_most : (a : Rows) (bar h rank bound : ℕ) (b : Rows) → IsTurnOf a h rank b →
+    IsSoftBound bar (seeds_in_houses (bare a) - seeds_in_houses (bare b) + (seeds_in_houses (bare b) - won b)) bound → bound < bar → WinsAtMost a bound h
+turn_at_most a bar h rank bound b turn is short = (turn_bound a bar h rank bound b turn is).upper short
 
--- and it brought few seeds
-pub gained_few : (a : Rows) (h : ℕ) (t : Played) → IsWithinHouses a → IsTurnOf a h t → t.gained < 256
-gained_few a h t w turn =
-    let on : GoesOnAt t.gained t.next = goes_on a h (Turn t.gained t.next) w turn.legal (sym turn.step) in
-    omega (arith, on.few)
+-- a turn that was played waits
+pub turn_of : (a : Rows) (h rank gained : ℕ) (b : Rows) (s : HousesStep) → IsWithinHouses a → Contains (legal_houses (bare a)) h →
+    s ≡ houses_step a h → s ≡ Turn gained b → rank % 8 + 1 ≡ h → IsTurnOf a h rank b
+turn_of a h rank gained b s w has e is house =
+    let on : LeadsTo a gained b = subst (LeadsOn a) is (subst (LeadsOn a) (sym e) (leads_on a h w has)) in
+    let brought : gained ≡ seeds_in_houses (bare a) - seeds_in_houses (bare b) = omega (arith, on.kept) in
+    record { legal = has; step = sym e ∙ is ∙ ap (λ g. Turn g b) brought; house = house }
+
+-- the other player has no more seeds than there were
+pub turn_keeps : (a : Rows) (h rank : ℕ) (b : Rows) → IsWithinHouses a → IsTurnOf a h rank b → seeds_in_houses (bare b) ≤ seeds_in_houses (bare a)
+turn_keeps a h rank b w turn =
+    let on : LeadsTo a (seeds_in_houses (bare a) - seeds_in_houses (bare b)) b = subst (LeadsOn a) turn.step (leads_on a h w turn.legal) in
+    omega (arith, on.kept)
 
 -- best play takes no more than each legal move does
 pub all_at_most : (a : Rows) (most : ℕ) → IsWithinHouses a → is_over (bare a) ≡ false →
@@ -108,50 +117,70 @@ pub all_at_most : (a : Rows) (most : ℕ) → IsWithinHouses a → is_over (bare
 all_at_most a most w going each = let best = taken_reached a w going in omega (arith, best.2, each best.0 best.1)
 
 -- each house with a rank waits with its turn
-pub record AreTurns (a : Rows) (ranks : List ℕ) (turns : List Played) : Type 0 where
+pub record AreTurns (a : Rows) (ranks : List ℕ) (turns : List Rows) : Type 0 where
   pub cells : length ranks ≡ 6
-  pub each : (k : ℕ) → 0 < get_or ranks k 0 → (d : Played) → IsTurnOf a (k + 1) (get_or turns k d)
+  pub each : (k : ℕ) → 0 < get_or ranks k 0 → (d : Rows) → IsTurnOf a (k + 1) (get_or ranks k 0) (get_or turns k d)
 
 -- one house more
-turns_more : (a : Rows) (h : ℕ) (ranks : List ℕ) (turns : List Played) (v : ℕ) (t : Played) → AreTurns a ranks turns →
-    length turns ≡ 6 → 1 ≤ h → h ≤ 6 → IsTurnOf a h t →
-    AreTurns a (slice_set ranks (h - 1) v) (slice_set turns (h - 1) t)
-turns_more a h ranks turns v t are places low last is = let inside : h - 1 < length turns = omega (arith, places, low, last) in record {
+turns_more : (a : Rows) (h : ℕ) (ranks : List ℕ) (turns : List Rows) (v : ℕ) (b : Rows) → AreTurns a ranks turns →
+    length turns ≡ 6 → 1 ≤ h → h ≤ 6 → IsTurnOf a h v b →
+    AreTurns a (slice_set ranks (h - 1) v) (slice_set turns (h - 1) b)
+turns_more a h ranks turns v b are places low last is = let inside : h - 1 < length turns = omega (arith, places, low, last) in record {
   cells = length-set ranks (h - 1) v ∙ are.cells;
   each = λ k high d. elim (cases_eq k (h - 1)) [
     | inl same ↦
         let at : h ≡ k + 1 = omega arith in
-        rw (same, get_or-set_same turns (h - 1) t d inside) (subst (λ i. IsTurnOf a i t) (at ∙ ap (λ i. i + 1) same) is)
-    | inr other ↦ rw (get_or-set_other turns (h - 1) k t d other) (are.each k (rw (get_or-set_other ranks (h - 1) k v 0 other) at high) d)
+        let place : h - 1 < length ranks = omega (arith, are.cells, low, last) in
+        rw (same, get_or-set_same ranks (h - 1) v 0 place, get_or-set_same turns (h - 1) b d inside)
+        (subst (λ i. IsTurnOf a i v b) (at ∙ ap (λ i. i + 1) same) is)
+    | inr other ↦
+        rw (get_or-set_other ranks (h - 1) k v 0 other, get_or-set_other turns (h - 1) k b d other)
+        (are.each k (rw (get_or-set_other ranks (h - 1) k v 0 other) at high) d)
   ];
 }
 
 -- one that waits no more
-turns_fewer : (a : Rows) (ranks : List ℕ) (turns : List Played) (at : ℕ) → AreTurns a ranks turns → at < 6 → AreTurns a (slice_set ranks at 0) turns
+turns_fewer : (a : Rows) (ranks : List ℕ) (turns : List Rows) (at : ℕ) → AreTurns a ranks turns → at < 6 → AreTurns a (slice_set ranks at 0) turns
 turns_fewer a ranks turns at are place = let inside : at < length ranks = omega (arith, are.cells) in record {
   cells = length-set ranks at 0 ∙ are.cells;
   each = λ k high. elim (cases_eq k at) [
     | inl same ↦ absurd (let none : get_or (slice_set ranks at 0) k 0 ≡ 0 = rw same (get_or-set_same ranks at 0 0 inside) in omega (arith, none))
-    | inr other ↦ are.each k (rw (get_or-set_other ranks at k 0 0 other) at high)
+    | inr other ↦ λ d. rw (get_or-set_other ranks at k 0 0 other) (are.each k (rw (get_or-set_other ranks at k 0 0 other) at high) d)
   ];
 }
 
+-- the house that a rank names waits with it
+pub record WaitsWith (a : Rows) (ranks : List ℕ) (turns : List Rows) (r : ℕ) : Type 0 where
+  pub place : r % 8 < 6
+  pub rank : get_or ranks (r % 8) 0 ≡ r
+  pub turn : (d : Rows) → IsTurnOf a (r % 8 + 1) r (get_or turns (r % 8) d)
+
+pub turn_at : (a : Rows) (ranks : List ℕ) (turns : List Rows) (rank : ℕ) → AreTurns a ranks turns → Contains ranks rank → 0 < rank →
+    WaitsWith a ranks turns rank
+turn_at a ranks turns rank are found some =
+    let k = found.0 in
+    let here : get_or ranks k 0 ≡ rank = get_or_default ranks k 0 rank found.1 ∙ found.2 in
+    let turn : (d : Rows) → IsTurnOf a (k + 1) rank (get_or turns k d) =
+    λ d. subst (λ r. IsTurnOf a (k + 1) r (get_or turns k d)) here (are.each k (omega (arith, here, some)) d) in
+    let same : rank % 8 ≡ k = omega (arith, (turn a).house) in
+    record { place = omega (arith, same, found.1, are.cells); rank = rw same here; turn = rw same turn }
+
 -- each house with a rank waits, and each other one that may be moved takes at most `most` seeds, or ends in the store, or is
 -- still marked
-pub record AreRanked (a : Rows) (most marks : ℕ) (ranks : List ℕ) (turns : List Played) : Type 0 where
+pub record AreRanked (a : Rows) (most marks : ℕ) (ranks : List ℕ) (turns : List Rows) : Type 0 where
   pub waiting : AreTurns a ranks turns
   pub places : length turns ≡ 6
   pub others : (i : ℕ) → Contains (legal_houses (bare a)) i → cell marks (i - 1) ≡ 0 → get_or ranks (i - 1) 0 ≡ 0 →
       ¬ EndsInStore a i → WinsAtMost a most i
 
 -- the last marked house was played
-module _ (a : Rows) (most marks h : ℕ) (ranks : List ℕ) (turns : List Played) (is : AreRanked a most marks ranks turns) (last : IsLastMark marks h) where
+module _ (a : Rows) (most marks h : ℕ) (ranks : List ℕ) (turns : List Rows) (is : AreRanked a most marks ranks turns) (last : IsLastMark marks h) where
   -- and waits with a rank
-  pub ranked_more : (v : ℕ) (t : Played) → 0 < v → IsTurnOf a h t →
-      AreRanked a most (marks - 32 ^ (h - 1)) (slice_set ranks (h - 1) v) (slice_set turns (h - 1) t)
-  ranked_more v t some turn = let inside : h - 1 < length ranks = omega (arith, is.waiting.cells, last.first, last.last) in record {
-    waiting = turns_more a h ranks turns v t is.waiting is.places last.first last.last turn;
-    places = length-set turns (h - 1) t ∙ is.places;
+  pub ranked_more : (v : ℕ) (b : Rows) → 0 < v → IsTurnOf a h v b →
+      AreRanked a most (marks - 32 ^ (h - 1)) (slice_set ranks (h - 1) v) (slice_set turns (h - 1) b)
+  ranked_more v b some turn = let inside : h - 1 < length ranks = omega (arith, is.waiting.cells, last.first, last.last) in record {
+    waiting = turns_more a h ranks turns v b is.waiting is.places last.first last.last turn;
+    places = length-set turns (h - 1) b ∙ is.places;
     others = λ i may gone none apart. elim (cases_eq i h) [
       | inl same ↦
           let at : v ≡ 0 = sym (get_or-set_same ranks (h - 1) v 0 inside) ∙ subst (λ j. get_or (slice_set ranks (h - 1) v) (j - 1) 0 ≡ 0) same none in
@@ -178,7 +207,7 @@ module _ (a : Rows) (most marks h : ℕ) (ranks : List ℕ) (turns : List Played
   }
 
 -- before any was played
-pub ranked_none : (a : Rows) (most marks : ℕ) (ranks : List ℕ) (turns : List Played) → length ranks ≡ 6 → length turns ≡ 6 →
+pub ranked_none : (a : Rows) (most marks : ℕ) (ranks : List ℕ) (turns : List Rows) → length ranks ≡ 6 → length turns ≡ 6 →
     ((k : ℕ) → get_or ranks k 0 ≡ 0) →
     ((i : ℕ) → (0 < cell marks i) ↔ ((0 < get_or a.own i 0) × ¬ EndsInStore a (i + 1))) → AreRanked a most marks ranks turns
 ranked_none a most marks ranks turns cells places empty marked = record {
@@ -242,12 +271,12 @@ again_fewer a most marks h bound new are last takes new_is i may ends gone = eli
 ]
 
 -- the moves with a rank are still to be tried, and the others take at most `most` seeds
-pub record AreUntried (a : Rows) (most : ℕ) (ranks : List ℕ) (turns : List Played) : Type 0 where
+pub record AreUntried (a : Rows) (most : ℕ) (ranks : List ℕ) (turns : List Rows) : Type 0 where
   pub waiting : AreTurns a ranks turns
   pub tried : (h : ℕ) → Contains (legal_houses (bare a)) h → get_or ranks (h - 1) 0 ≡ 0 → WinsAtMost a most h
 
 -- before any was tried, but those that end in the store
-pub untried_first : (a : Rows) (bar again others : ℕ) (ranks : List ℕ) (turns : List Played) (new : ℕ) → length ranks ≡ 6 →
+pub untried_first : (a : Rows) (bar again others : ℕ) (ranks : List ℕ) (turns : List Rows) (new : ℕ) → length ranks ≡ 6 →
     AreWaiting a bar others ranks turns → ((h : ℕ) → Contains (legal_houses (bare a)) h → EndsInStore a h → WinsAtMost a again h) → others < bar →
     new ≡ max again others → AreUntried a new ranks turns
 untried_first a bar again others ranks turns new cells are ends short new_is = record {
@@ -259,7 +288,7 @@ untried_first a bar again others ranks turns new cells are ends short new_is = r
 }
 
 -- one move more was tried
-pub untried_fewer : (a : Rows) (most : ℕ) (ranks : List ℕ) (turns : List Played) (at bound new : ℕ) → AreUntried a most ranks turns → at < 6 →
+pub untried_fewer : (a : Rows) (most : ℕ) (ranks : List ℕ) (turns : List Rows) (at bound new : ℕ) → AreUntried a most ranks turns → at < 6 →
     WinsAtMost a bound (at + 1) → new ≡ max most bound → AreUntried a new (slice_set ranks at 0) turns
 untried_fewer a most ranks turns at bound new is place takes new_is = record {
   waiting = turns_fewer a ranks turns at is.waiting place;
@@ -273,7 +302,7 @@ untried_fewer a most ranks turns at bound new is place takes new_is = record {
 }
 
 -- if no rank is left, best play takes at most as many
-pub none_untried : (a : Rows) (most : ℕ) (ranks : List ℕ) (turns : List Played) (at : ℕ) → IsWithinHouses a → is_over (bare a) ≡ false →
-    AreUntried a most ranks turns → ((k : ℕ) → get_or ranks k 0 ≤ get_or ranks at 0) → get_or ranks at 0 ≡ 0 → won a ≤ most
-none_untried a most ranks turns at w going is highest none =
-    all_at_most a most w going (λ h has. is.tried h has (let below = highest (h - 1) in omega (arith, below, none)))
+pub none_untried : (a : Rows) (most : ℕ) (ranks : List ℕ) (turns : List Rows) (highest : ℕ) → IsWithinHouses a → is_over (bare a) ≡ false →
+    AreUntried a most ranks turns → ((k : ℕ) → get_or ranks k 0 ≤ highest) → highest ≡ 0 → won a ≤ most
+none_untried a most ranks turns highest w going is above none =
+    all_at_most a most w going (λ h has. is.tried h has (let below = above (h - 1) in omega (arith, below, none)))

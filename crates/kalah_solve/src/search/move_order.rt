@@ -1,5 +1,5 @@
 //! An estimate of how good a turn is, before its outcome is known. It orders the moves, and states nothing about their worth.
-ghost use Rattle.std.specs.Prelude.{◌≡◌, ◌≤◌, ◌<◌};
+ghost use Rattle.std.specs.Prelude.{◌≡◌, ◌+◌, ◌%◌, ◌≤◌, ◌<◌};
 ghost use Rattle.kalah_rules.specs.Position.{IsWithinHouses};
 
 #[cfg(test)]
@@ -49,11 +49,17 @@ fn sum(rows: u64) -> u32
     ((rows.wrapping_mul(ONE_EACH) >> 25) % 32) as u32
 }
 
-/// Returns the estimate for a turn of house `h` that brought `gained` seeds to the store and leaves these houses to the other player.
+/// Returns the estimate for a turn of house `h` that brought `gained` seeds to the store and leaves these houses to the other player,
+/// times 8, and what names the house: so two turns of a position are never equal, and of equal estimates the house nearest the store
+/// comes first.
+///
 /// It counts most of all what came to the store, and how few houses the other player can choose from; then what lies in the mover's
 /// own houses, how many of those could move again, and how near to the store they are.
 pub(crate) fn priority(h: u8, gained: u8, next: &Houses) -> u32
-    ensures { 0 < result }
+    requires first { 1 ≤ h }
+    requires last { h ≤ 6 }
+    ensures some { 0 < result }
+    ensures house { result % 8 + 1 ≡ h }
 {
     let rows = next.key() % SIDE;
     let filled = filled(rows);
@@ -62,5 +68,6 @@ pub(crate) fn priority(h: u8, gained: u8, next: &Houses) -> u32
     let choices = sum((filled | 4u64.wrapping_mul(ending)) / OTHER_ROW);
     let kept = 2 * sum(own) + choices + 31 - (own % 32) as u32;
     let left = 2 * sum(filled.wrapping_mul(3).wrapping_add(ending));
-    16 * gained as u32 + 2 * h as u32 + kept + 63 - left
+    let estimate = 16 * gained as u32 + 2 * h as u32 + kept + 63 - left;
+    8 * estimate + (h as u32 - 1)
 }

@@ -14,29 +14,12 @@ use crate::search::ranks::highest;
 use kalah_rules::{Houses, HousesStep};
 use std::alloc::Allocator;
 
-// A turn that was played: what it brought to the store, and the houses from which the other player moves. The number is as wide as
-// a key, so a copy has no gap.
-#[derive(Clone, Copy)]
-struct Played {
-    gained: u64,
-    next: Houses,
-}
-
-impl Played {
-    // What it brought to the store.
-    fn gained(&self) -> u8
-        requires { self.now.gained < 256 }
-        ensures { result ≡ self.now.gained }
-    {
-        self.gained as u8
-    }
-}
-
-// What is known of a move once it was played: a bound of what it takes, or the rank with which its turn waits to be searched.
+// What is known of a move once it was played: a bound of what it takes, or the rank with which its turn waits to be searched, and
+// the houses from which the other player would move.
 #[derive(Clone, Copy)]
 enum Look {
     Bounded(u8),
-    Waits(u32, Played),
+    Waits(u32, Houses),
 }
 
 impl<A: Allocator + Clone> Search<A> {
@@ -69,31 +52,29 @@ impl<A: Allocator + Clone> Search<A> {
         requires going { is_over (bare houses.now) ≡ false }
         ensures { IsSoftBound bar (won houses.now) result }
     {
-        let _seeds = houses.seeds();
+        let seeds = houses.seeds();
         let again = self.bound_again(houses, bar);
         if bar <= again {
             return again;
         }
         let mut ranks = [0u32; 6];
-        let mut turns = [Played {
-            gained: 0,
-            next: *houses,
-        }; 6];
+        let mut turns = [*houses; 6];
         let others = self.others_waiting(houses, bar, &mut ranks, &mut turns);
         if bar <= others {
             return others;
         }
         let mut most = again.max(others);
-        let mut at = highest(&ranks);
-        while ranks[at] > 0 {
+        let mut rank = highest(&ranks);
+        while rank > 0 {
+            let at = (rank % 8) as usize;
             ranks[at] = 0;
-            let turn = turns[at];
-            let bound = self.bound_turn(turn.gained(), &turn.next, bar);
+            let next = turns[at];
+            let bound = self.bound_turn(seeds - next.seeds(), &next, bar);
             if bar <= bound {
                 return bound;
             }
             most = most.max(bound);
-            at = highest(&ranks);
+            rank = highest(&ranks);
         }
         most
     }
@@ -128,7 +109,7 @@ impl<A: Allocator + Clone> Search<A> {
         houses: &Houses,
         bar: u8,
         ranks: &mut [u32; 6],
-        turns: &mut [Played; 6],
+        turns: &mut [Houses; 6],
     ) -> u8
         requires going { is_over (bare houses.now) ≡ false }
         requires none { (k : ℕ) → slice_index ranks.old k ≡ 0 }
@@ -140,9 +121,9 @@ impl<A: Allocator + Clone> Search<A> {
             let (h, rest) = split_last(left);
             left = rest;
             match self.look(houses, h, bar) {
-                Look::Waits(rank, turn) => {
+                Look::Waits(rank, next) => {
                     ranks[h as usize - 1] = rank;
-                    turns[h as usize - 1] = turn;
+                    turns[h as usize - 1] = next;
                 }
                 Look::Bounded(bound) => {
                     if bar <= bound {
@@ -166,11 +147,7 @@ impl<A: Allocator + Clone> Search<A> {
         match &step {
             HousesStep::Turn(gained, next)
                 if *gained < bar && next.seeds() > self.max_ending_seeds() => {
-                let turn = Played {
-                    gained: *gained as u64,
-                    next: *next,
-                };
-                Look::Waits(priority(h, *gained, next), turn)
+                Look::Waits(priority(h, *gained, next), *next)
             }
             _ => Look::Bounded(self.bound_step(&step, bar)),
         }

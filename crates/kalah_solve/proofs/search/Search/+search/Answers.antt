@@ -1,11 +1,14 @@
-use Rattle.std.proofs.Common.{arith, rules, refl, sym, ◌≡◌, ◌+◌, ◌-◌, subst}
+use Rattle.std.proofs.Common.{arith, rules, refl, sym, ◌≡◌, ◌+◌, ◌-◌, ◌%◌, subst, length}
 use Rattle.std.specs.Prelude.{max}
+use Rattle.std.proofs.lemmas.List.Sums.{sum_by-set}
+use Rattle.kalah_rules.specs.Position.{bare}
+use Rattle.kalah_rules.proofs.Legal.{legal_holds}
 use Rattle.kalah_solve.specs.Solver.StepWorth.{GoesOn, GoesOnAt}
 use Rattle.kalah_solve.specs.Bounds.Won.{won}
 use Rattle.kalah_solve.proofs.RowMarks.{cell_none, marks_fall}
 use Rattle.kalah_solve.proofs.OfSolver.StepWorths.{goes_on, step_falls}
 use Rattle.kalah_solve.proofs.OfBounds.Winnings.{taken_share}
-use Rattle.kalah_solve.proofs.OfSearch.Tries.{move_enough, turn_enough, turn_at_most, gained_few, bound_up_to, bound_left, low_more, ranked_none, ranked_more, ranked_bound, ending_legal, marked_legal, marks_fewer, last_legal, again_none, again_fewer, untried_first, untried_fewer, none_untried}
+use Rattle.kalah_solve.proofs.OfSearch.Tries.{move_enough, turn_enough, turn_at_most, turn_of, turn_keeps, turn_at, bound_up_to, bound_left, low_more, ranked_none, ranked_more, ranked_bound, ending_legal, marked_legal, marks_fewer, last_legal, again_none, again_fewer, untried_first, untried_fewer, none_untried}
 use Rattle.kalah_solve.proofs.search.Search.+search.Goals as goal
 
 pub bound_move-bound_step-requires : goal.bound_move-bound_step-requires
@@ -38,52 +41,106 @@ bound_turn-returns-else-all-bar g t c =
     bound_left c.args.bar (c.args.gained + c.seeds.result) _ c.args.gained (won c.args.next.now) c.bound.result (omega (arith, c.seeds.ensures.seeds)) few
     c.if-bar-gained.false c.if-all-bar.false c.bound.ensures
 
-pub explore-returns-then-bar-bound : goal.explore-returns-then-bar-bound
-explore-returns-then-bar-bound g t c =
+pub explore-bounds-ranks-at : goal.explore-bounds-ranks-at
+explore-bounds-ranks-at g t c =
+    let before = c.loop-rank.invariant in
+    let here = turn_at c.args.houses.now c.loop-rank.ranks c.others_waiting-others.new.turns c.loop-rank.rank before.untried.waiting before.found
+    (omega (arith, c.loop-rank-test.true)) in
+    omega (arith, here.place)
+
+pub explore-listed : goal.explore-listed
+explore-listed g t c =
+    let before = c.loop-rank.invariant in
+    let here = turn_at c.args.houses.now c.loop-rank.ranks c.others_waiting-others.new.turns c.loop-rank.rank before.untried.waiting before.found
+    (omega (arith, c.loop-rank-test.true)) in
+    let long : length c.others_waiting-others.new.turns ≡ 6 = search rules in
+    omega (arith, here.place, long)
+
+pub explore-bounds-turns-at : goal.explore-bounds-turns-at
+explore-bounds-turns-at g t c =
+    let before = c.loop-rank.invariant in
+    let here = turn_at c.args.houses.now c.loop-rank.ranks c.others_waiting-others.new.turns c.loop-rank.rank before.untried.waiting before.found
+    (omega (arith, c.loop-rank-test.true)) in
+    omega (arith, here.place)
+
+pub explore-overflow_sub-seeds : goal.explore-overflow_sub-seeds
+explore-overflow_sub-seeds g t c =
     let a = c.args.houses.now in
-    let turn = c.loop-ranks.invariant.untried.waiting.each c.loop-ranks.at (omega (arith, c.loop-ranks-test.true)) c.index-turns-at.result in
-    record {
-      lower = turn_enough a c.args.bar (c.loop-ranks.at + 1) _ _ c.seeds-seeds.ensures.limits turn (rw c.gained.ensures at c.bound_turn-bound.ensures);
-      upper = λ short. absurd (omega (arith, short, c.if-bar-bound.true));
-    }
-
-pub explore-loop-ranks-preserved : goal.explore-loop-ranks-preserved
-explore-loop-ranks-preserved g t c =
-    let before = c.loop-ranks.invariant in
-    let turn = before.untried.waiting.each c.loop-ranks.at (omega (arith, c.loop-ranks-test.true)) c.index-turns-at.result in
-    record {
-      low = omega (arith, c.max-most-in-loop-ranks.ensures, before.low, c.if-bar-bound.false);
-      place = c.highest-at-in-loop-ranks.ensures.place;
-      highest = c.highest-at-in-loop-ranks.ensures.highest;
-      untried = untried_fewer c.args.houses.now c.loop-ranks.most c.loop-ranks.ranks c.others_waiting-others.new.turns c.loop-ranks.at
-          c.bound_turn-bound.result _ before.untried before.place
-          (turn_at_most c.args.houses.now c.args.bar (c.loop-ranks.at + 1) _ _ turn (rw c.gained.ensures at c.bound_turn-bound.ensures)
-          c.if-bar-bound.false) c.max-most-in-loop-ranks.ensures;
-    }
-
-pub explore-returns : goal.explore-returns
-explore-returns g t c =
-    let is = c.loop-ranks.invariant in
-    record {
-      lower = λ enough. absurd (omega (arith, enough, is.low));
-      upper = λ short. none_untried c.args.houses.now c.loop-ranks.most c.loop-ranks.ranks c.others_waiting-others.new.turns c.loop-ranks.at
-          c.seeds-seeds.ensures.limits c.requires.going
-          is.untried is.highest (omega (arith, c.loop-ranks-test.false));
-    }
+    let before = c.loop-rank.invariant in
+    let here = turn_at c.args.houses.now c.loop-rank.ranks c.others_waiting-others.new.turns c.loop-rank.rank before.untried.waiting before.found
+    (omega (arith, c.loop-rank-test.true)) in
+    omega (arith, turn_keeps a _ _ _ c.seeds-seeds.ensures.limits (here.turn c.index-turns-at.result))
 
 pub explore-bound_turn-bound-requires : goal.explore-bound_turn-bound-requires
 explore-bound_turn-bound-requires g t c κs within =
     let a = c.args.houses.now in
     let limits = c.seeds-seeds.ensures.limits in
-    let turn = c.loop-ranks.invariant.untried.waiting.each c.loop-ranks.at (omega (arith, c.loop-ranks-test.true)) c.index-turns-at.result in (
-      omega (arith, step_falls a (c.loop-ranks.at + 1) _ limits turn.legal (sym turn.step)),
-      (within, rw c.gained.ensures (goes_on a (c.loop-ranks.at + 1) _ limits turn.legal (sym turn.step))),
+    let before = c.loop-rank.invariant in
+    let here = turn_at c.args.houses.now c.loop-rank.ranks c.others_waiting-others.new.turns c.loop-rank.rank before.untried.waiting before.found
+    (omega (arith, c.loop-rank-test.true)) in
+    let turn = here.turn c.index-turns-at.result in (
+      omega (arith, step_falls a (c.loop-rank.rank % 8 + 1) _ limits turn.legal (sym turn.step)),
+      (within, rw (c.seeds-seeds.ensures.seeds, c.seeds.ensures.seeds) (goes_on a (c.loop-rank.rank % 8 + 1) _ limits turn.legal (sym turn.step))),
     )
 
-pub explore-gained-requires : goal.explore-gained-requires
-explore-gained-requires g t c =
-    let turn = c.loop-ranks.invariant.untried.waiting.each c.loop-ranks.at (omega (arith, c.loop-ranks-test.true)) c.index-turns-at.result in
-    gained_few c.args.houses.now (c.loop-ranks.at + 1) _ c.seeds-seeds.ensures.limits turn
+pub explore-returns-then-bar-bound : goal.explore-returns-then-bar-bound
+explore-returns-then-bar-bound g t c =
+    let a = c.args.houses.now in
+    let before = c.loop-rank.invariant in
+    let here = turn_at c.args.houses.now c.loop-rank.ranks c.others_waiting-others.new.turns c.loop-rank.rank before.untried.waiting before.found
+    (omega (arith, c.loop-rank-test.true)) in
+    record {
+      lower = turn_enough a c.args.bar _ _ _ _ c.seeds-seeds.ensures.limits (here.turn c.index-turns-at.result)
+          (rw (c.seeds-seeds.ensures.seeds, c.seeds.ensures.seeds) at c.bound_turn-bound.ensures);
+      upper = λ short. absurd (omega (arith, short, c.if-bar-bound.true));
+    }
+
+pub explore-loop-rank-preserved : goal.explore-loop-rank-preserved
+explore-loop-rank-preserved g t c =
+    let before = c.loop-rank.invariant in
+    let here = turn_at c.args.houses.now c.loop-rank.ranks c.others_waiting-others.new.turns c.loop-rank.rank before.untried.waiting before.found
+    (omega (arith, c.loop-rank-test.true)) in
+    let turn = here.turn c.index-turns-at.result in
+    record {
+      low = omega (arith, c.max-most-in-loop-rank.ensures, before.low, c.if-bar-bound.false);
+      found = c.highest-rank-in-loop-rank.ensures.found;
+      highest = c.highest-rank-in-loop-rank.ensures.highest;
+      untried = untried_fewer c.args.houses.now c.loop-rank.most c.loop-rank.ranks c.others_waiting-others.new.turns (c.loop-rank.rank % 8)
+          c.bound_turn-bound.result _ before.untried here.place
+          (turn_at_most c.args.houses.now c.args.bar _ _ _ _ turn (rw (c.seeds-seeds.ensures.seeds, c.seeds.ensures.seeds) at c.bound_turn-bound.ensures) c.if-bar-bound.false) c.max-most-in-loop-rank.ensures;
+    }
+
+pub explore-loop-rank-smaller : goal.explore-loop-rank-smaller
+explore-loop-rank-smaller g t c =
+    let before = c.loop-rank.invariant in
+    let here = turn_at c.args.houses.now c.loop-rank.ranks c.others_waiting-others.new.turns c.loop-rank.rank before.untried.waiting before.found
+    (omega (arith, c.loop-rank-test.true)) in
+    let cells = before.untried.waiting.cells in
+    omega (arith, here.rank, c.loop-rank-test.true, sum_by-set (λ x. x) c.loop-rank.ranks (c.loop-rank.rank % 8) 0 0 (omega (arith, here.place, cells)))
+
+pub explore-returns : goal.explore-returns
+explore-returns g t c =
+    let is = c.loop-rank.invariant in
+    record {
+      lower = λ enough. absurd (omega (arith, enough, is.low));
+      upper = λ short. none_untried c.args.houses.now c.loop-rank.most c.loop-rank.ranks c.others_waiting-others.new.turns c.loop-rank.rank
+          c.seeds-seeds.ensures.limits c.requires.going
+          is.untried is.highest (omega (arith, c.loop-rank-test.false));
+    }
+
+pub look-returns-in-Turn : goal.look-returns-in-Turn
+look-returns-in-Turn g t c = (
+      c.priority.ensures.some,
+      turn_of c.args.houses.now c.args.h c.priority.result c.in-Turn.gained c.in-Turn.next c.play-step.result c.seeds-seeds.ensures.limits
+          c.requires.legal c.play-step.ensures c.in-Turn.is c.priority.ensures.house,
+    )
+
+pub look-priority-requires-clause-first : goal.look-priority-requires-clause-first
+look-priority-requires-clause-first g t c = omega (arith, (legal_holds (bare c.args.houses.now) c.args.h c.requires.legal).first)
+
+pub look-priority-requires-clause-last : goal.look-priority-requires-clause-last
+look-priority-requires-clause-last g t c =
+    omega (arith, (legal_holds (bare c.args.houses.now) c.args.h c.requires.legal).last, c.seeds-seeds.ensures.limits.at_most_six)
 
 pub bound_again-loop-left-init : goal.bound_again-loop-left-init
 bound_again-loop-left-init g t c =
@@ -192,18 +249,18 @@ others_waiting-loop-left-preserved-in-Waits g t c =
       small = omega (arith, before.small, marks_fall marks h last);
       low = before.low;
       legal = marks_fewer a marks h last before.legal;
-      ranked = ranked_more a c.loop-left.most marks h c.loop-left.ranks c.loop-left.turns before.ranked last c.in-Waits.rank c.in-Waits.turn
+      ranked = ranked_more a c.loop-left.most marks h c.loop-left.ranks c.loop-left.turns before.ranked last c.in-Waits.rank c.in-Waits.next
           c.in-Waits.ensures.0 c.in-Waits.ensures.1;
     })
 
-pub explore-loop-ranks-init : goal.explore-loop-ranks-init
-explore-loop-ranks-init g t c =
+pub explore-loop-rank-init : goal.explore-loop-rank-init
+explore-loop-rank-init g t c =
     let others = c.others_waiting-others.ensures in
     let most_is : c.max-most.result ≡ max c.bound_again-again.result c.others_waiting-others.result = search (rules, c.max-most.ensures) in
     record {
       low = omega (arith, most_is, c.if-bar-again.false, c.if-bar-others.false);
-      place = c.highest-at.ensures.place;
-      highest = c.highest-at.ensures.highest;
+      found = c.highest-rank.ensures.found;
+      highest = c.highest-rank.ensures.highest;
       untried = untried_first c.args.houses.now c.args.bar _ _ _ _ c.max-most.result (search rules) others
           (c.bound_again-again.ensures.upper c.if-bar-again.false) c.if-bar-others.false most_is;
     }

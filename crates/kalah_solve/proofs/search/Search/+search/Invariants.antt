@@ -54,13 +54,13 @@ invariant-others_waiting-loop-left g l = record {
 abbrev pub decreases-others_waiting-loop-left : goal.decreases-others_waiting-loop-left
 decreases-others_waiting-loop-left g l = l.left
 
-abbrev pub invariant-explore-loop-ranks : goal.invariant-explore-loop-ranks
-invariant-explore-loop-ranks g l = record {
+abbrev pub invariant-explore-loop-rank : goal.invariant-explore-loop-rank
+invariant-explore-loop-rank g l = record {
   low : l.most < l.bar;
-  place : l.at < 6;
-  highest : (k : ℕ) → get_or l.ranks k 0 ≤ get_or l.ranks l.at 0;
+  found : Contains l.ranks l.rank;
+  highest : (k : ℕ) → get_or l.ranks k 0 ≤ l.rank;
   untried : AreUntried l.houses l.most l.ranks l.turns;
 }
 
-abbrev pub decreases-explore-loop-ranks : goal.decreases-explore-loop-ranks
-decreases-explore-loop-ranks g l = sum l.ranks
+abbrev pub decreases-explore-loop-rank : goal.decreases-explore-loop-rank
+decreases-explore-loop-rank g l = sum l.ranks
