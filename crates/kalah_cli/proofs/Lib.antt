@@ -2,9 +2,10 @@ pub mod Items
 pub mod Names
 pub mod Laws
 pub mod ManyWords
-pub mod OfClap
+pub mod ClapLemmas
 pub mod Subcommands
 pub mod Getters
+pub mod Parsed
 pub mod Plain
 pub mod Taken
 pub mod Played

@@ -10,7 +10,7 @@ use Rattle.clap.specs.Faults.{fault_of, level_fault, settle_fault, walk_fault}
 use Rattle.clap.specs.Walk.{Held, Walk, nothing_held, positional, settled, walk, walk_from, walked, with_default}
 use Rattle.clap.specs.declared.builder.value_parser.Reading.TheVariants.{AsWritten}
 use Rattle.clap.specs.declared.error.kind.ErrorKind.TheVariants.{MissingRequiredArgument}
-use Rattle.clap.specs.declared.parser.matches.ValueSource.TheVariants.{CommandLine}
+use Rattle.clap.specs.declared.parser.matches.ValueSource.TheVariants.{CommandLine, DefaultValue}
 use Rattle.clap.proofs.FaultLemmas.{stopped_fault}
 use Rattle.clap.proofs.OnLiterals.{clap_on_literals}
 use Rattle.clap.proofs.WalkLemmas.{walk_stopped}
@@ -18,7 +18,16 @@ use Rattle.kalah_jobs.specs.declared.files.question.Question.{Question}
 use Rattle.kalah_jobs.specs.declared.files.question.Question.TheVariants.{BestMove, Values, Steps}
 use Rattle.kalah_cli.specs.Command.{kalah_app, solve_app, steps_app, values_app}
 use Rattle.kalah_cli.specs.Request.{IsPlainWord, command_of}
-use Rattle.kalah_cli.proofs.Laws.{default_row}
+
+-- the row of an option that is not given
+abbrev default_row : Text → Text → Row
+default_row id value = record {
+  id = id;
+  values = value ∷ [];
+  count = None;
+  source = Some DefaultValue;
+  reading = AsWritten;
+}
 
 -- ---- one more argument
 

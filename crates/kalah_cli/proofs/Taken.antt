@@ -1,5 +1,5 @@
 -- What arguments are accepted as, and what is done for them.
-use Rattle.std.proofs.Common.{◌≡◌, ◌≢◌, ◌∙◌, ◌⊎◌, inl, inr, ℕ, false, true, List, [], ◌∷◌, None, Option, ap, codes, subst, sym, String, Global}
+use Rattle.std.proofs.Common.{◌≡◌, ◌≢◌, ◌∙◌, ◌⊎◌, inl, inr, ℕ, false, List, [], ◌∷◌, Option, ap, subst, sym, String, Global}
 use Rattle.std.specs.List.{All}
 use Rattle.std.specs.Prelude.{option_and_then}
 use Rattle.clap.specs.Values.{kind_of}
@@ -16,34 +16,8 @@ use Rattle.kalah_cli.specs.Request.{Asked, texts_of, IsPlainWord, IsTakenAs, ans
 use Rattle.kalah_cli.specs.Runs.{Does, IsOfLine, IsUnmoved}
 use Rattle.kalah_cli.specs.declared.status.ExitStatus.{ExitStatus}
 use Rattle.kalah_cli.specs.declared.status.ExitStatus.TheVariants.{Clean, Failed}
-use Rattle.kalah_cli.proofs.Laws.{ask_taken, ask_values_taken, moves_taken, play_taken, show_plain_taken, show_taken, taken_once}
+use Rattle.kalah_cli.proofs.Laws.{taken_at, taken_once}
 use Rattle.kalah_cli.proofs.ManyWords.{files_match, files_pass, no_file_is_missed}
-
--- `moves` and a plain argument are accepted as the moves of that line
-pub moves_of : (words : List Text) (name line : Text) → words ≡ name ∷ codes "moves" ∷ line ∷ [] → IsPlainWord line →
-    IsTakenAs words (moves false line)
-moves_of words name line is plain = subst (λ ws. IsTakenAs ws (moves false line)) (sym is) (moves_taken name line plain)
-
--- `play` and a plain argument as its game
-pub game_of : (words : List Text) (name line : Text) → words ≡ name ∷ codes "play" ∷ line ∷ [] → IsPlainWord line →
-    IsTakenAs words (play None 65536 false line)
-game_of words name line is plain = subst (λ ws. IsTakenAs ws (play None 65536 false line)) (sym is) (play_taken name line plain)
-
--- `show` and a plain word as its picture, with values or plain
-pub show_of : (words : List Text) (name line : Text) → words ≡ name ∷ codes "show" ∷ line ∷ [] → IsPlainWord line →
-    IsTakenAs words (show false 65536 line)
-show_of words name line is plain = subst (λ ws. IsTakenAs ws (show false 65536 line)) (sym is) (show_taken name line plain)
-
-pub show_plain_of : (words : List Text) (name line : Text) → words ≡ name ∷ codes "show" ∷ codes "--plain" ∷ line ∷ [] → IsPlainWord line
-    → IsTakenAs words (show true 65536 line)
-show_plain_of words name line is plain = subst (λ ws. IsTakenAs ws (show true 65536 line)) (sym is) (show_plain_taken name line plain)
-
--- `ask`, without arguments or with its flag, is accepted as asking of the standard input
-pub ask_of : (words : List Text) (name : Text) → words ≡ name ∷ codes "ask" ∷ [] → IsTakenAs words (ask BestMove 65536)
-ask_of words name is = subst (λ ws. IsTakenAs ws (ask BestMove 65536)) (sym is) (ask_taken name)
-
-pub ask_values_of : (words : List Text) (name : Text) → words ≡ name ∷ codes "ask" ∷ codes "--values" ∷ [] → IsTakenAs words (ask Values 65536)
-ask_values_of words name is = subst (λ ws. IsTakenAs ws (ask Values 65536)) (sym is) (ask_values_taken name)
 
 -- `solve`, `values` or `steps` and plain words are taken as asking this of the files of these names
 files_taken : (question : Question) (name file : Text) (files : List Text) → All IsPlainWord (file ∷ files)
@@ -58,7 +32,7 @@ files_taken Steps name file files plain =
 pub files_of : (question : Question) (words : List Text) (name file : Text) (files : List Text) → words ≡ name ∷ command_of question ∷ file ∷ files
     → All IsPlainWord (file ∷ files) → IsTakenAs words (answers question 4 (table_of question) false (file ∷ files))
 files_of question words name file files is plain =
-    subst (λ ws. IsTakenAs ws (answers question 4 (table_of question) false (file ∷ files))) (sym is) (files_taken question name file files plain)
+    taken_at is (files_taken question name file files plain)
 
 -- and refused if there is none
 pub files_or_none : (question : Question) (words : List Text) (name : Text) (files : List Text) → words ≡ name ∷ command_of question ∷ files

@@ -1,5 +1,5 @@
 -- What the arguments of a command line ask the program to do.
-use Rattle.std.specs.Prelude.{ℕ, Bool, false, List, [], ◌∷◌, Option, Some, codes, ◌<◌, ◌≤◌, ◌≡◌, ◌≢◌, ◌⊎◌, length, map, option_map, string_bytes, option_and_then, if◌then◌else◌, ⊤}
+use Rattle.std.specs.Prelude.{ℕ, Bool, false, List, [], ◌∷◌, Option, Some, codes, ◌<◌, ◌≤◌, ◌≡◌, ◌≢◌, ◌⊎◌, length, map, option_map, string_bytes, option_and_then, if◌then◌else◌, is_some, true, ⊤}
 use Rattle.std.specs.declared.string.String.{String}
 use Rattle.std.specs.Option.{option_map_or}
 use Rattle.std.specs.Str.{bytes_eq}
@@ -11,7 +11,7 @@ use Rattle.clap.specs.Values.{IsUnsignedIn}
 use Rattle.clap.specs.Words.{Row, Text, all_of, first_of, one_of, subcommand_of}
 use Rattle.kalah_jobs.specs.declared.files.question.Question.{Question}
 use Rattle.kalah_jobs.specs.declared.files.question.Question.TheVariants.{BestMove, Values, Steps}
-use Rattle.kalah_rules.specs.Limits.{most_depth, most_houses}
+use Rattle.kalah_rules.specs.Limits.{most_depth}
 use Rattle.kalah_solve.specs.Table.Entries.{most_entries}
 use Rattle.kalah_run.specs.Limits.{most_workers}
 use Rattle.kalah_cli.specs.Command.{kalah_app}
@@ -66,24 +66,22 @@ moves_asked rows = option_map (moves (is_set (codes "boards") rows)) (first_of (
 
 -- what the matches of `play` ask for
 abbrev pub play_asked : List Row → Option Asked
-play_asked rows =
-    option_and_then (λ t. option_map (play (number_given (codes "first") rows) (number_written t) (is_set (codes "boards") rows))
-    (first_of (codes "line") rows))
-    (one_of (codes "table") rows)
+play_asked rows = option_and_then (λ table.
+    option_map (play (number_given (codes "first") rows) table (is_set (codes "boards") rows)) (first_of (codes "line") rows))
+    (number_given (codes "table") rows)
 
--- what the matches of a subcommand with files ask for, with tables of the given size
-abbrev pub files_asked : Question → ℕ → List Row → Option Asked
-files_asked question table rows =
-    option_and_then (λ w. option_map (answers question (number_written w) table (is_set (codes "progress") rows)) (all_of (codes "file") rows))
-    (one_of (codes "workers") rows)
+-- the size of the tables that the matches of a subcommand with files ask for
+abbrev pub table_asked : Question → List Row → Option ℕ
+table_asked BestMove rows = number_given (codes "table") rows
+table_asked Values rows = number_given (codes "table") rows
+table_asked Steps rows = Some (table_of Steps)
 
--- what the matches of `solve` or `values` ask for
-abbrev pub answers_asked : Question → List Row → Option Asked
-answers_asked question rows = option_and_then (λ t. files_asked question (number_written t) rows) (one_of (codes "table") rows)
-
--- what the matches of `steps` ask for
-abbrev pub steps_asked : List Row → Option Asked
-steps_asked rows = files_asked Steps (table_of Steps) rows
+-- what they ask for
+abbrev pub files_asked : Question → List Row → Option Asked
+files_asked question rows = option_and_then (λ table. option_and_then (λ workers.
+    option_map (answers question workers table (is_set (codes "progress") rows)) (all_of (codes "file") rows))
+    (number_given (codes "workers") rows))
+    (table_asked question rows)
 
 -- what is asked if the flag `--values` is set, and if it isn't
 abbrev pub question_of : Bool → Question
@@ -91,26 +89,26 @@ question_of values = if values then Values else BestMove
 
 -- what the matches of `ask` ask for
 abbrev pub ask_asked : List Row → Option Asked
-ask_asked rows = option_map (λ t. ask (question_of (is_set (codes "values") rows)) (number_written t)) (one_of (codes "table") rows)
+ask_asked rows = option_map (ask (question_of (is_set (codes "values") rows))) (number_given (codes "table") rows)
 
 -- what the matches of `show` ask for
 abbrev pub show_asked : List Row → Option Asked
-show_asked rows = option_and_then (λ t. option_map (show (is_set (codes "plain") rows) (number_written t)) (first_of (codes "line") rows))
-    (one_of (codes "table") rows)
+show_asked rows = option_and_then (λ table. option_map (show (is_set (codes "plain") rows) table) (first_of (codes "line") rows))
+    (number_given (codes "table") rows)
 
 -- what the matches of `count` ask for
 abbrev pub count_asked : List Row → Option Asked
-count_asked rows = option_and_then (λ t. option_map (count (number_written t)) (first_of (codes "line") rows)) (one_of (codes "depth") rows)
+count_asked rows = option_and_then (λ depth. option_map (count depth) (first_of (codes "line") rows)) (number_given (codes "depth") rows)
 
 -- what a subcommand with its matches asks for
 abbrev pub asked_by : Text × List Row → Option Asked
 asked_by p =
     if bytes_eq p.0 (codes "moves") then moves_asked p.1
     else (if bytes_eq p.0 (codes "play") then play_asked p.1
-    else (if bytes_eq p.0 (codes "solve") then answers_asked BestMove p.1
-    else (if bytes_eq p.0 (codes "values") then answers_asked Values p.1
+    else (if bytes_eq p.0 (codes "solve") then files_asked BestMove p.1
+    else (if bytes_eq p.0 (codes "values") then files_asked Values p.1
     else (if bytes_eq p.0 (codes "ask") then ask_asked p.1
-    else (if bytes_eq p.0 (codes "steps") then steps_asked p.1
+    else (if bytes_eq p.0 (codes "steps") then files_asked Steps p.1
     else (if bytes_eq p.0 (codes "show") then show_asked p.1 else count_asked p.1))))))
 
 -- what the arguments ask for, read by the command line
@@ -159,74 +157,24 @@ abbrev pub IsPlainWord : Text → Type 0
 IsPlainWord [] = ⊥
 IsPlainWord (x ∷ xs) = x ≢ 45
 
+-- ---- the matches of arguments that the command line accepts
+
+-- the matches of the subcommand of the name, for some arguments without a fault
+abbrev pub AreMatches : Text → List Row → Type 0
+AreMatches name rows = (words : List Text) × (fault_of kalah_app words ≡ []) × (subcommand_of kalah_app words ≡ Some (name, rows))
+
+-- a subcommand was met, with such matches
+abbrev pub IsTaken : Option (Text × List Row) → Type 0
+IsTaken o = (name : Text) × (rows : List Row) × (o ≡ Some (name, rows)) × AreMatches name rows
+
+-- the matches have a number from `low` to `high` under the name, or nothing
+abbrev pub MayHaveNumber : Text → ℕ → ℕ → List Row → Type 0
+MayHaveNumber id low high rows = (t : Text) → one_of id rows ≡ Some t → IsUnsignedIn low high t
+
 -- the matches have a number from `low` to `high` under the name
-abbrev pub HasNumberIn : Text → ℕ → ℕ → List Row → Type 0
-HasNumberIn id low high rows = (t : Text) × (one_of id rows ≡ Some t) × IsUnsignedIn low high t
-
--- or one from 1 on
-abbrev pub HasNumber : Text → ℕ → List Row → Type 0
-HasNumber id high rows = HasNumberIn id 1 high rows
-
--- the matches have a number from 1 to `high` under the name, or none
-abbrev pub MayHaveNumber : Text → ℕ → List Row → Type 0
-MayHaveNumber id high rows = (t : Text) → one_of id rows ≡ Some t → IsUnsignedIn 1 high t
+abbrev pub HasNumber : Text → ℕ → ℕ → List Row → Type 0
+HasNumber id low high rows = MayHaveNumber id low high rows × (is_some (number_given id rows) ≡ true)
 
 -- the matches state of the flag that it is set, that it isn't, or nothing
 abbrev pub HasFlag : Text → List Row → Type 0
 HasFlag id rows = (t : Text) → one_of id rows ≡ Some t → (t ≡ codes "true") ⊎ (t ≡ codes "false")
-
--- the matches have what `steps` needs
-pub record IsSteps (rows : List Row) : Type 0 where
-  pub workers : HasNumber (codes "workers") most_workers rows
-  pub progress : HasFlag (codes "progress") rows
-  pub files : (fs : List Text) × (all_of (codes "file") rows ≡ Some fs) × (0 < length fs)
-
--- the matches have what `solve` and `values` need
-pub record IsAnswers (rows : List Row) : Type 0 where
-  pub table : HasNumber (codes "table") most_entries rows
-  pub others : IsSteps rows
-
--- the matches have a line
-abbrev pub HasLineArgument : List Row → Type 0
-HasLineArgument rows = (t : Text) × (first_of (codes "line") rows ≡ Some t)
-
--- the matches have what `moves` needs
-abbrev pub IsMoves : List Row → Type 0
-IsMoves rows = HasFlag (codes "boards") rows × HasLineArgument rows
-
--- the matches have what `play` needs
-pub record IsPlay (rows : List Row) : Type 0 where
-  pub table : HasNumber (codes "table") most_entries rows
-  pub boards : HasFlag (codes "boards") rows
-  pub first : MayHaveNumber (codes "first") most_houses rows
-  pub line : HasLineArgument rows
-
--- the matches have what `ask` needs
-abbrev pub IsAsk : List Row → Type 0
-IsAsk rows = HasFlag (codes "values") rows × HasNumber (codes "table") most_entries rows
-
--- the matches have what `show` needs
-abbrev pub IsShow : List Row → Type 0
-IsShow rows = HasFlag (codes "plain") rows × HasNumber (codes "table") most_entries rows × HasLineArgument rows
-
--- the matches have a depth
-abbrev pub HasDepth : List Row → Type 0
-HasDepth rows = HasNumberIn (codes "depth") 0 most_depth rows
-
--- the matches have what `count` needs
-abbrev pub IsCount : List Row → Type 0
-IsCount rows = HasDepth rows × HasLineArgument rows
-
--- the matches have what the subcommand of this name needs
-abbrev pub HasWhatItNeeds : Text → List Row → Type 0
-HasWhatItNeeds name rows = ((name ≡ codes "moves") × IsMoves rows) ⊎ ((name ≡ codes "play") × IsPlay rows)
-    ⊎ (((name ≡ codes "solve") ⊎ (name ≡ codes "values")) × IsAnswers rows)
-    ⊎ ((name ≡ codes "ask") × IsAsk rows)
-    ⊎ ((name ≡ codes "steps") × IsSteps rows)
-    ⊎ ((name ≡ codes "show") × IsShow rows)
-    ⊎ ((name ≡ codes "count") × IsCount rows)
-
--- a subcommand was met, and its matches have what it needs
-abbrev pub IsTaken : Option (Text × List Row) → Type 0
-IsTaken o = (name : Text) × (rows : List Row) × (o ≡ Some (name, rows))
-    × HasWhatItNeeds name rows

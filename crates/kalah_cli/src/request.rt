@@ -1,15 +1,14 @@
 //! The requests that a command line can make.
-ghost use Rattle.std.specs.Prelude.{◌≡◌, ℕ, All, List, [], ◌∷◌, IfErr, IfOk, MatchResult, Some, codes, false, map, option_and_then, ◌≤◌, IfSome};
+ghost use Rattle.std.specs.Prelude.{◌≡◌, ◌≤◌, ℕ, All, List, [], ◌∷◌, IfErr, IfOk, MatchResult, Some, codes, false, is_some, map, option_and_then, true};
 ghost use Rattle.clap.specs.Faults.{fault_of};
 ghost use Rattle.clap.specs.Kinds.{FailsBy};
 ghost use Rattle.clap.specs.Simple.{subcommand_rows_of};
-ghost use Rattle.clap.specs.Walk.{first_of, one_of, rows_of};
+ghost use Rattle.clap.specs.Walk.{first_of, rows_of};
 ghost use Rattle.clap.specs.Words.{found_of, kind_of};
 ghost use Rattle.clap.specs.declared.error.kind.ErrorKind.TheVariants.{OutOfMemory};
-ghost use Rattle.kalah_rules.specs.Limits.{most_depth, most_houses};
 ghost use Rattle.kalah_solve.specs.Table.Entries.{most_entries};
 ghost use Rattle.kalah_cli.specs.Command.{kalah_app};
-ghost use Rattle.kalah_cli.specs.Request.{Asked, HasDepth, HasFlag, HasLineArgument, HasNumber, IsAnswers, IsAsk, IsCount, IsInRange, IsMoves, IsPlainWord, IsPlay, IsSteps, IsTaken, IsTakenAs, answers, answers_asked, ask_asked, asked_by, asked_for, command_of, count_asked, files_asked, is_set, moves, moves_asked, number_written, play_asked, question_of, table_of, IsShow, MayHaveNumber, number_given, show_asked};
+ghost use Rattle.kalah_cli.specs.Request.{AreMatches, Asked, HasFlag, HasNumber, IsInRange, IsPlainWord, IsTaken, IsTakenAs, MayHaveNumber, answers, ask_asked, asked_by, asked_for, command_of, count_asked, files_asked, is_set, moves, moves_asked, number_given, play_asked, question_of, show_asked, table_asked, table_of};
 
 use crate::command::command;
 use clap::{ArgMatches, Error};
@@ -69,41 +68,30 @@ pub struct Batch<'a> {
     pub files: Vec<&'a str>,
 }
 
-// Returns the number of an option, which must be there.
-fn option_number(found: &ArgMatches<'_>, id: &str) -> u32
-    requires { HasNumber id.now most_entries (rows_of (found_of found.now)) }
-    ensures { (t : List ℕ) → one_of id.now (rows_of (found_of found.now)) ≡ Some t
-        → result ≡ number_written t }
-{
-    found.get_one::<u32>(id).unwrap()
-}
-
-// The number of an option that may be left out.
+// Returns the number of an option, if it has one.
 fn given_number(found: &ArgMatches<'_>, id: &str) -> Option<u32>
-    requires { MayHaveNumber id.now most_houses (rows_of (found_of found.now)) }
-    ensures number { result ≡ number_given id.now (rows_of (found_of found.now)) }
-    ensures low { IfSome result (λ h. h ≤ most_houses) }
+    requires { MayHaveNumber id.now 1 most_entries (rows_of (found_of found.now)) }
+    ensures { result ≡ number_given id.now (rows_of (found_of found.now)) }
 {
     found.get_one::<u32>(id)
 }
 
-// A house in one byte.
-fn in_one_byte(house: Option<u32>) -> Option<u8>
-    requires { IfSome house (λ h. h ≤ most_houses) }
-    ensures { result ≡ house }
+// Returns the number of an option that has one.
+fn number_of(found: &ArgMatches<'_>, id: &str) -> u32
+    requires { HasNumber id.now 1 most_entries (rows_of (found_of found.now)) }
+    ensures given { number_given id.now (rows_of (found_of found.now)) ≡ Some result }
+    ensures low { 1 ≤ result }
+    ensures high { result ≤ most_entries }
 {
-    match house {
-        Some(h) => Some(h as u8),
-        None => None,
-    }
+    given_number(found, id).unwrap()
 }
 
-// The house of an option that may be left out.
-fn given_house(found: &ArgMatches<'_>, id: &str) -> Option<u8>
-    requires { MayHaveNumber id.now most_houses (rows_of (found_of found.now)) }
+// Returns the small number of an argument, if it has one.
+fn given_byte(found: &ArgMatches<'_>, id: &str) -> Option<u8>
+    requires { MayHaveNumber id.now 0 255 (rows_of (found_of found.now)) }
     ensures { result ≡ number_given id.now (rows_of (found_of found.now)) }
 {
-    in_one_byte(given_number(found, id))
+    found.get_one::<u8>(id)
 }
 
 // Returns whether a flag is given.
@@ -114,18 +102,9 @@ fn is_set(found: &ArgMatches<'_>, id: &str) -> bool
     found.get_flag(id)
 }
 
-// The number of DEPTH, which must be there.
-fn depth_of(found: &ArgMatches<'_>) -> u8
-    requires { HasDepth (rows_of (found_of found.now)) }
-    ensures { (t : List ℕ) → one_of (codes "depth") (rows_of (found_of found.now)) ≡ Some t
-        → result ≡ number_written t }
-{
-    found.get_one::<u8>("depth").unwrap()
-}
-
-// The line of `moves`, `play`, `show` or `count`, which has one.
+// Returns the line of `moves`, `play`, `show` or `count`.
 fn line_of<'a>(found: &ArgMatches<'a>) -> &'a str
-    requires { HasLineArgument (rows_of (found_of found.now)) }
+    requires { is_some (first_of (codes "line") (rows_of (found_of found.now))) ≡ true }
     ensures { first_of (codes "line") (rows_of (found_of found.now)) ≡ Some result.now }
 {
     found.get_str("line").unwrap()
@@ -133,7 +112,7 @@ fn line_of<'a>(found: &ArgMatches<'a>) -> &'a str
 
 // Returns the request of the matches of `moves`.
 fn moves_request<'a>(found: &ArgMatches<'a>) -> Request<'a>
-    requires { IsMoves (rows_of (found_of found.now)) }
+    requires { AreMatches (codes "moves") (rows_of (found_of found.now)) }
     ensures asked { moves_asked (rows_of (found_of found.now)) ≡ Some (asked_for result) }
     ensures range { IsInRange result }
 {
@@ -145,36 +124,43 @@ fn moves_request<'a>(found: &ArgMatches<'a>) -> Request<'a>
 
 // Returns the request of the matches of `play`.
 fn play_request<'a>(found: &ArgMatches<'a>) -> Request<'a>
-    requires { IsPlay (rows_of (found_of found.now)) }
+    requires { AreMatches (codes "play") (rows_of (found_of found.now)) }
     ensures asked { play_asked (rows_of (found_of found.now)) ≡ Some (asked_for result) }
     ensures range { IsInRange result }
 {
     Request::Play {
         line: line_of(found),
-        table: option_number(found, "table"),
+        table: number_of(found, "table"),
         boards: is_set(found, "boards"),
-        first: given_house(found, "first"),
+        first: given_byte(found, "first"),
     }
 }
 
-// The entries of a table where steps are asked, which need none.
-const TABLE_OF_STEPS: u32 = 1;
+// Returns the size of the tables that the matches of a subcommand with files ask for. Steps need none, and the least is 1.
+fn table_of(question: Question, found: &ArgMatches<'_>) -> u32
+    requires { AreMatches (command_of question) (rows_of (found_of found.now)) }
+    ensures asked { table_asked question (rows_of (found_of found.now)) ≡ Some result }
+    ensures low { 1 ≤ result }
+    ensures high { result ≤ most_entries }
+{
+    match question {
+        Question::BestMove | Question::Values => number_of(found, "table"),
+        Question::Steps => 1,
+    }
+}
 
-// What the matches of a subcommand with files ask for, where each worker has such a table.
+// Returns the request of the matches of `solve`, `values` or `steps`, which ask this of files.
 fn files_request<'a>(
     alloc: Global,
     question: Question,
-    table: u32,
     found: &ArgMatches<'a>,
 ) -> Result<Request<'a>, AllocError>
-    requires files { IsSteps (rows_of (found_of found.now)) }
-    requires low { 1 ≤ table }
-    requires high { table ≤ most_entries }
-    ensures asked { IfOk result
-        (λ r. files_asked question table (rows_of (found_of found.now)) ≡ Some (asked_for r)) }
+    requires { AreMatches (command_of question) (rows_of (found_of found.now)) }
+    ensures asked { IfOk result (λ r. files_asked question (rows_of (found_of found.now)) ≡ Some (asked_for r)) }
     ensures range { IfOk result IsInRange }
 {
-    let workers = option_number(found, "workers");
+    let table = table_of(question, found);
+    let workers = number_of(found, "workers");
     let progress = is_set(found, "progress");
     let files = found.get_strs("file").unwrap().to_vec(alloc)?;
     Ok(Request::Batch(Batch {
@@ -184,21 +170,6 @@ fn files_request<'a>(
         progress,
         files,
     }))
-}
-
-// What the matches of `solve` or `values` ask for.
-fn batch_request<'a>(
-    alloc: Global,
-    question: Question,
-    found: &ArgMatches<'a>,
-) -> Result<Request<'a>, AllocError>
-    requires { IsAnswers (rows_of (found_of found.now)) }
-    ensures asked { IfOk result
-        (λ r. answers_asked question (rows_of (found_of found.now)) ≡ Some (asked_for r)) }
-    ensures range { IfOk result IsInRange }
-{
-    let table = option_number(found, "table");
-    files_request(alloc, question, table, found)
 }
 
 // Returns the question with or without the flag `--values`.
@@ -214,37 +185,37 @@ fn question_of(values: bool) -> Question
 
 // Returns the request of the matches of `ask`.
 fn ask_request<'a>(found: &ArgMatches<'a>) -> Request<'a>
-    requires { IsAsk (rows_of (found_of found.now)) }
+    requires { AreMatches (codes "ask") (rows_of (found_of found.now)) }
     ensures asked { ask_asked (rows_of (found_of found.now)) ≡ Some (asked_for result) }
     ensures range { IsInRange result }
 {
     Request::Ask {
         question: question_of(is_set(found, "values")),
-        table: option_number(found, "table"),
+        table: number_of(found, "table"),
     }
 }
 
 // What the matches of `show` ask for.
 fn show_request<'a>(found: &ArgMatches<'a>) -> Request<'a>
-    requires { IsShow (rows_of (found_of found.now)) }
+    requires { AreMatches (codes "show") (rows_of (found_of found.now)) }
     ensures asked { show_asked (rows_of (found_of found.now)) ≡ Some (asked_for result) }
     ensures range { IsInRange result }
 {
     Request::Show {
         line: line_of(found),
-        table: option_number(found, "table"),
+        table: number_of(found, "table"),
         plain: is_set(found, "plain"),
     }
 }
 
 // What the matches of `count` ask for.
 fn count_request<'a>(found: &ArgMatches<'a>) -> Request<'a>
-    requires { IsCount (rows_of (found_of found.now)) }
+    requires { AreMatches (codes "count") (rows_of (found_of found.now)) }
     ensures asked { count_asked (rows_of (found_of found.now)) ≡ Some (asked_for result) }
     ensures range { IsInRange result }
 {
     Request::Count {
-        depth: depth_of(found),
+        depth: given_byte(found, "depth").unwrap(),
         line: line_of(found),
     }
 }
@@ -263,16 +234,16 @@ fn requested<'a>(alloc: Global, matches: &ArgMatches<'a>) -> Result<Request<'a>,
         return Ok(play_request(found));
     }
     if let Some(found) = matches.subcommand_matches("solve") {
-        return batch_request(alloc, Question::BestMove, found);
+        return files_request(alloc, Question::BestMove, found);
     }
     if let Some(found) = matches.subcommand_matches("values") {
-        return batch_request(alloc, Question::Values, found);
+        return files_request(alloc, Question::Values, found);
     }
     if let Some(found) = matches.subcommand_matches("ask") {
         return Ok(ask_request(found));
     }
     if let Some(found) = matches.subcommand_matches("steps") {
-        return files_request(alloc, Question::Steps, TABLE_OF_STEPS, found);
+        return files_request(alloc, Question::Steps, found);
     }
     if let Some(found) = matches.subcommand_matches("show") {
         return Ok(show_request(found));

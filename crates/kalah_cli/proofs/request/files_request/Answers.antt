@@ -1,30 +1,42 @@
-use Rattle.std.proofs.Common.{◌≡◌, ◌∙◌, Some, ap, codes, map, sym}
+use Rattle.std.proofs.Common.{◌≡◌, ◌∙◌, ◌∷◌, Some, ap, arith, codes, is_some, length, map, refl, sym}
 use Rattle.std.specs.Prelude.{option_map}
+use Rattle.std.proofs.lemmas.List.{length-map}
 use Rattle.clap.specs.Walk.{all_of, rows_of}
 use Rattle.clap.specs.Words.{found_of}
 use Rattle.clap.proofs.WalkLemmas.{raw_values-rows}
-use Rattle.kalah_cli.proofs.Getters.{files_are, files_in_range, is_there}
+use Rattle.kalah_solve.specs.Table.Entries.{most_entries}
+use Rattle.kalah_run.specs.Limits.{most_workers}
+use Rattle.kalah_cli.proofs.Getters.{is_there, number_in_range}
+use Rattle.kalah_cli.proofs.Subcommands.{given, has_flag, has_number, may_have_number, takes_files}
 use Rattle.kalah_cli.proofs.request.files_request.Goals as goal
+
+pub number_of-workers-requires : goal.number_of-workers-requires
+number_of-workers-requires c =
+    has_number (codes "workers") 1 most_entries c.requires (takes_files c.args.question).0 refl (omega arith) (omega arith) refl
+
+pub is_set-progress-requires : goal.is_set-progress-requires
+is_set-progress-requires c = has_flag (codes "progress") c.requires (takes_files c.args.question).1 refl
 
 pub unwrap-requires : goal.unwrap-requires
 unwrap-requires c =
-    is_there _ c.get_strs.result _ (c.get_strs.ensures ∙ raw_values-rows (found_of c.args.found.now) (codes "file") ∙ c.requires.files.files.1)
+    is_there _ c.get_strs.result (ap is_some (c.get_strs.ensures ∙ raw_values-rows (found_of c.args.found.now) (codes "file")
+    ∙ (given (codes "file") c.requires (takes_files c.args.question).2 refl).all))
+
+-- the files are those that the matches have
+files_are : (c : goal.In_ok-files) → all_of (codes "file") (rows_of (found_of c.args.found.now)) ≡ Some (map (λ f. f.now) c.in_ok-files.files.items)
+files_are c =
+    let copied : c.in_ok-files.files.items ≡ c.unwrap.result.now = c.in_ok-files.ensures.items_if_clones_equal (λ x y h. h) in
+    sym (raw_values-rows (found_of c.args.found.now) (codes "file")) ∙ sym c.get_strs.ensures ∙ ap (option_map (λ s. map (λ v. v.now) s.now)) c.unwrap.ensures
+    ∙ ap (λ xs. Some (map (λ f. f.now) xs)) (sym copied)
 
 pub returns-clause-asked : goal.returns-clause-asked
-returns-clause-asked c =
-    let copied : c.in_ok-files.files.items ≡ c.unwrap.result.now = c.in_ok-files.ensures.items_if_clones_equal (λ x y h. h) in
-    let are : Some (map (λ f. f.now) c.in_ok-files.files.items) ≡ all_of (codes "file") (rows_of (found_of c.args.found.now)) =
-    ap (λ xs. Some (map (λ f. f.now) xs)) copied ∙ ap (option_map (λ s. map (λ v. v.now) s.now)) (sym c.unwrap.ensures)
-    ∙ c.get_strs.ensures ∙ raw_values-rows (found_of c.args.found.now) (codes "file") in
-    files_are c.args.question (rows_of (found_of c.args.found.now)) c.requires.files c.option_number-workers.result c.args.table c.is_set-progress.result _
-    c.option_number-workers.ensures c.is_set-progress.ensures are
+returns-clause-asked c = rw (c.table_of-table.ensures.asked, c.number_of-workers.ensures.given, files_are c, c.is_set-progress.ensures) refl
 
 pub returns-clause-range : goal.returns-clause-range
 returns-clause-range c =
-    let copied : c.in_ok-files.files.items ≡ c.unwrap.result.now = c.in_ok-files.ensures.items_if_clones_equal (λ x y h. h) in
-    let are : Some (map (λ f. f.now) c.in_ok-files.files.items) ≡ all_of (codes "file") (rows_of (found_of c.args.found.now)) =
-    ap (λ xs. Some (map (λ f. f.now) xs)) copied ∙ ap (option_map (λ s. map (λ v. v.now) s.now)) (sym c.unwrap.ensures)
-    ∙ c.get_strs.ensures ∙ raw_values-rows (found_of c.args.found.now) (codes "file") in
-    let limits = files_in_range (rows_of (found_of c.args.found.now)) c.requires.files c.option_number-workers.result c.in_ok-files.files.items
-    c.option_number-workers.ensures are in
-    (limits.0, limits.1, c.requires.low, c.requires.high, limits.2)
+    let workers = may_have_number (codes "workers") 1 most_workers c.requires (takes_files c.args.question).0 refl (omega arith) (omega arith) in
+    let few = number_in_range (codes "workers") 1 most_workers (rows_of (found_of c.args.found.now)) c.number_of-workers.result workers c.number_of-workers.ensures.given in
+    let file = given (codes "file") c.requires (takes_files c.args.question).2 refl in
+    let same : map (λ f. f.now) c.in_ok-files.files.items ≡ file.value ∷ file.more = (let one = file.all in let other = files_are c in cc) in
+    let count : length (map (λ f. f.now) c.in_ok-files.files.items) ≡ length c.in_ok-files.files.items = simp length-map in
+    (few.0, few.1, c.table_of-table.ensures.low, c.table_of-table.ensures.high, omega (arith, ap length same))

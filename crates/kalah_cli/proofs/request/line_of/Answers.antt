@@ -1,4 +1,4 @@
-use Rattle.std.proofs.Common.{◌∙◌, ap, codes, sym}
+use Rattle.std.proofs.Common.{◌∙◌, ap, codes, is_some, sym}
 use Rattle.std.specs.Prelude.{option_map}
 use Rattle.clap.specs.Words.{found_of}
 use Rattle.clap.proofs.WalkLemmas.{first_value-rows}
@@ -6,7 +6,8 @@ use Rattle.kalah_cli.proofs.Getters.{is_there}
 use Rattle.kalah_cli.proofs.request.line_of.Goals as goal
 
 pub unwrap-requires : goal.unwrap-requires
-unwrap-requires c = is_there _ c.get_str.result _ (c.get_str.ensures ∙ first_value-rows (found_of c.args.found.now) (codes "line") ∙ c.requires.1)
+unwrap-requires c =
+    is_there _ c.get_str.result (ap is_some (c.get_str.ensures ∙ first_value-rows (found_of c.args.found.now) (codes "line")) ∙ c.requires)
 
 pub returns : goal.returns
 returns c =

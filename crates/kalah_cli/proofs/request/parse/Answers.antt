@@ -1,78 +1,61 @@
-use Rattle.std.proofs.Common.{inl, map, rules}
-use Rattle.kalah_cli.proofs.Getters.{asked_is, by_memory_alone, failed_as, failed_by_memory, failed_err, taken_fault, taken_is, taken_none}
-use Rattle.kalah_cli.proofs.Laws.{moves_by_memory, moves_given, taken_once}
+use Rattle.std.proofs.Common.{◌≡◌, map, subst, sym}
+use Rattle.clap.specs.Faults.{fault_of}
+use Rattle.clap.specs.Kinds.{HasKind}
+use Rattle.clap.specs.declared.error.Error.{Error}
+use Rattle.clap.specs.Values.{kind_of}
+use Rattle.clap.specs.declared.error.kind.ErrorKind.TheVariants.{OutOfMemory}
+use Rattle.kalah_cli.specs.Command.{kalah_app}
+use Rattle.kalah_cli.specs.Request.{Asked, IsTakenAs}
+use Rattle.kalah_cli.proofs.Laws.{moves_taken, taken_at, taken_once}
+use Rattle.kalah_cli.proofs.Parsed.{asked_is, by_memory_alone, faulty, if_error, is_taken, on_error, parsed}
 use Rattle.kalah_cli.proofs.Taken.{files_of}
+use Rattle.kalah_cli.proofs.request.parse.Given.{Over}
 use Rattle.kalah_cli.proofs.request.parse.Goals as goal
 
 pub requested-requires : goal.requested-requires
 requested-requires g c =
-    taken_is _ _ _ c.in_ok-command.ensures c.in_ok-matches.ensures.kinds (λ simple. (c.in_ok-matches.ensures.matches simple).1)
+    let words = map g.S.AsStr.text c.args.words.now in
+    let read = parsed _ words _ c.in_ok-command.ensures c.in_ok-matches.ensures.kinds (λ simple. (c.in_ok-matches.ensures.matches simple).1) in
+    is_taken words _ read.0 read.1
 
 pub returns-clause-taken : goal.returns-clause-taken
-returns-clause-taken g c = (
-  taken_none _ _ c.in_ok-command.ensures c.in_ok-matches.ensures.kinds,
-  asked_is _ _ _ _ c.in_ok-command.ensures (λ simple. (c.in_ok-matches.ensures.matches simple).1) c.in_ok-requested.ensures.asked,
-)
+returns-clause-taken g c =
+    let words = map g.S.AsStr.text c.args.words.now in
+    let read = parsed _ words _ c.in_ok-command.ensures c.in_ok-matches.ensures.kinds (λ simple. (c.in_ok-matches.ensures.matches simple).1) in
+    (read.0, asked_is words _ _ read.1 c.in_ok-requested.ensures.asked)
 
 pub returns-clause-kinds : goal.returns-clause-kinds
-returns-clause-kinds g c = taken_none _ _ c.in_ok-command.ensures c.in_ok-matches.ensures.kinds
-
-pub returns-in_err-matches-clause-kinds : goal.returns-in_err-matches-clause-kinds
-returns-in_err-matches-clause-kinds g c =
-    failed_as c.from_residual-in_err-matches.result c.in_err-matches.field-0.0 _ _ c.from_residual-in_err-matches.ensures.1
-    (taken_fault _ _ c.in_err-matches.field-0.0 c.in_ok-command.ensures c.in_err-matches.ensures.kinds)
-
-pub returns-in_err-matches-clause-refused : goal.returns-in_err-matches-clause-refused
-returns-in_err-matches-clause-refused g c =
-    failed_err c.from_residual-in_err-matches.result c.in_err-matches.field-0.0 _ c.from_residual-in_err-matches.ensures.1
-    (λ a taken. by_memory_alone (map g.S.AsStr.text c.args.words.now) c.in_err-matches.field-0.0
-    (taken_fault _ _ c.in_err-matches.field-0.0 c.in_ok-command.ensures c.in_err-matches.ensures.kinds) taken.0)
+returns-clause-kinds g c = (returns-clause-taken g c).0
 
 pub returns-clause-moves : goal.returns-clause-moves
-returns-clause-moves g c =
-    moves_given _ _ (asked_is _ _ _ _ c.in_ok-command.ensures (λ simple. (c.in_ok-matches.ensures.matches simple).1) c.in_ok-requested.ensures.asked)
-
-pub returns-in_err-matches-clause-moves : goal.returns-in_err-matches-clause-moves
-returns-in_err-matches-clause-moves g c =
-    λ name line same plain.
-    failed_as c.from_residual-in_err-matches.result c.in_err-matches.field-0.0 _ _ c.from_residual-in_err-matches.ensures.1
-    (moves_by_memory _ c.in_err-matches.field-0.0
-    (taken_fault _ _ c.in_err-matches.field-0.0 c.in_ok-command.ensures c.in_err-matches.ensures.kinds) name line same plain)
+returns-clause-moves g c = λ name line is plain.
+    taken_once (map g.S.AsStr.text c.args.words.now) _ _ (returns-clause-taken g c) (taken_at is (moves_taken name line plain))
 
 pub returns-clause-files : goal.returns-clause-files
-returns-clause-files g c = λ question name file files same plain.
-    taken_once (map g.S.AsStr.text c.args.words.now) _ _ (returns-clause-taken g c) (files_of question _ name file files same plain)
+returns-clause-files g c = λ question name file files is plain.
+    taken_once (map g.S.AsStr.text c.args.words.now) _ _ (returns-clause-taken g c) (files_of question _ name file files is plain)
+
+-- the error of a parse has a kind of the arguments' fault, so it is out of memory where they are accepted
+has_kind : (g : Over) (c : goal.After-from_residual-in_err-matches g) (e : Error) → e ≡ c.in_err-matches.field-0.0
+    → HasKind (fault_of kalah_app (map g.S.AsStr.text c.args.words.now)) e
+has_kind g c e same =
+    let words = map g.S.AsStr.text c.args.words.now in
+    subst (HasKind (fault_of kalah_app words)) (sym same) (faulty _ words c.in_err-matches.field-0.0 c.in_ok-command.ensures c.in_err-matches.ensures.kinds)
+
+refused : (g : Over) (c : goal.After-from_residual-in_err-matches g) (e : Error) → e ≡ c.in_err-matches.field-0.0 → (a : Asked)
+    → IsTakenAs (map g.S.AsStr.text c.args.words.now) a → kind_of e ≡ OutOfMemory
+refused g c e same a taken = by_memory_alone (map g.S.AsStr.text c.args.words.now) e (has_kind g c e same) taken.0
+
+pub returns-in_err-matches-clause-kinds : goal.returns-in_err-matches-clause-kinds
+returns-in_err-matches-clause-kinds g c = on_error _ _ _ _ c.from_residual-in_err-matches.ensures.1 (has_kind g c)
+
+pub returns-in_err-matches-clause-refused : goal.returns-in_err-matches-clause-refused
+returns-in_err-matches-clause-refused g c = if_error _ _ _ c.from_residual-in_err-matches.ensures.1 (refused g c)
+
+pub returns-in_err-matches-clause-moves : goal.returns-in_err-matches-clause-moves
+returns-in_err-matches-clause-moves g c = λ name line is plain.
+    on_error _ _ _ _ c.from_residual-in_err-matches.ensures.1 (λ e same. refused g c e same _ (taken_at is (moves_taken name line plain)))
 
 pub returns-in_err-matches-clause-files : goal.returns-in_err-matches-clause-files
-returns-in_err-matches-clause-files g c = λ question name file files same plain.
-    failed_as c.from_residual-in_err-matches.result c.in_err-matches.field-0.0 _ _ c.from_residual-in_err-matches.ensures.1
-    (by_memory_alone (map g.S.AsStr.text c.args.words.now) c.in_err-matches.field-0.0
-    (taken_fault _ _ c.in_err-matches.field-0.0 c.in_ok-command.ensures c.in_err-matches.ensures.kinds) (files_of question _ name file files same plain).0)
-
-pub returns-in_err-command-clause-kinds : goal.returns-in_err-command-clause-kinds
-returns-in_err-command-clause-kinds g c = failed_by_memory c.from_residual.result _ _ c.from_residual.ensures.1 (λ e is. inl is)
-
-pub returns-in_err-command-clause-moves : goal.returns-in_err-command-clause-moves
-returns-in_err-command-clause-moves g c = λ name line same plain. failed_by_memory c.from_residual.result _ _ c.from_residual.ensures.1 (λ e is. is)
-
-pub returns-in_err-command-clause-files : goal.returns-in_err-command-clause-files
-returns-in_err-command-clause-files g c =
-    λ question name file files same plain. failed_by_memory c.from_residual.result _ _ c.from_residual.ensures.1 (λ e is. is)
-
-pub returns-in_err-command-clause-refused : goal.returns-in_err-command-clause-refused
-returns-in_err-command-clause-refused g c = search rules
-
-pub returns-in_err-requested-clause-kinds : goal.returns-in_err-requested-clause-kinds
-returns-in_err-requested-clause-kinds g c =
-    failed_by_memory c.from_residual-in_err-requested.result _ _ c.from_residual-in_err-requested.ensures.1 (λ e is. inl is)
-
-pub returns-in_err-requested-clause-moves : goal.returns-in_err-requested-clause-moves
-returns-in_err-requested-clause-moves g c =
-    λ name line same plain. failed_by_memory c.from_residual-in_err-requested.result _ _ c.from_residual-in_err-requested.ensures.1 (λ e is. is)
-
-pub returns-in_err-requested-clause-files : goal.returns-in_err-requested-clause-files
-returns-in_err-requested-clause-files g c = λ question name file files same plain.
-    failed_by_memory c.from_residual-in_err-requested.result _ _ c.from_residual-in_err-requested.ensures.1 (λ e is. is)
-
-pub returns-in_err-requested-clause-refused : goal.returns-in_err-requested-clause-refused
-returns-in_err-requested-clause-refused g c = search rules
+returns-in_err-matches-clause-files g c = λ question name file files is plain.
+    on_error _ _ _ _ c.from_residual-in_err-matches.ensures.1 (λ e same. refused g c e same _ (files_of question _ name file files is plain))

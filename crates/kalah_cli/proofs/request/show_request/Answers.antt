@@ -1,12 +1,13 @@
-use Rattle.clap.specs.Walk.{rows_of}
-use Rattle.clap.specs.Words.{found_of}
-use Rattle.kalah_cli.proofs.Getters.{show_in_range, show_is}
+use Rattle.std.proofs.Common.{ap, arith, codes, is_some, refl}
+use Rattle.kalah_solve.specs.Table.Entries.{most_entries}
+use Rattle.kalah_cli.proofs.Subcommands.{given, has_flag, has_number}
 use Rattle.kalah_cli.proofs.request.show_request.Goals as goal
 
-pub returns-clause-asked : goal.returns-clause-asked
-returns-clause-asked c =
-    show_is (rows_of (found_of c.args.found.now)) c.requires c.option_number.result c.is_set.result c.line_of.result.now c.option_number.ensures
-    c.is_set.ensures c.line_of.ensures
+pub line_of-requires : goal.line_of-requires
+line_of-requires c = ap is_some (given (codes "line") c.requires refl refl).first
 
-pub returns-clause-range : goal.returns-clause-range
-returns-clause-range c = show_in_range (rows_of (found_of c.args.found.now)) c.requires c.option_number.result c.option_number.ensures
+pub number_of-requires : goal.number_of-requires
+number_of-requires c = has_number (codes "table") 1 most_entries c.requires refl refl (omega arith) (omega arith) refl
+
+pub is_set-requires : goal.is_set-requires
+is_set-requires c = has_flag (codes "plain") c.requires refl refl

@@ -14,9 +14,9 @@ use Rattle.kalah_cli.specs.Request.{Asked, IsPlainWord, IsTakenAs, answers, ask,
 use Rattle.kalah_cli.specs.Runs.{Begins, Does, IsOfLine, IsUnread}
 use Rattle.kalah_cli.specs.declared.status.ExitStatus.TheVariants.{Clean, Failed}
 use Rattle.kalah_cli.proofs.Begun.{begins_none, begun_as, stops_before_lines}
-use Rattle.kalah_cli.proofs.Laws.{taken_once, version_of}
+use Rattle.kalah_cli.proofs.Laws.{ask_taken, ask_values_taken, moves_taken, play_taken, show_plain_taken, show_taken, taken_at, taken_once, version_asked}
 use Rattle.kalah_cli.proofs.Plain.{read_is_plain}
-use Rattle.kalah_cli.proofs.Taken.{ask_of, ask_values_of, done_as, failed_does, fault_at, files_or_none, game_of, line_as, moves_of, no_request, show_of, show_plain_of, unmoved_as, words_at}
+use Rattle.kalah_cli.proofs.Taken.{done_as, failed_does, fault_at, files_or_none, line_as, no_request, unmoved_as, words_at}
 use Rattle.kalah_cli.proofs.run.run_words.Goals.{After-drop-words, After-drop-words-2}
 use Rattle.kalah_cli.proofs.run.run_words.Given.{Over}
 use Rattle.kalah_cli.proofs.run.run_words.Goals as goal
@@ -55,24 +55,24 @@ returns-in-Ok-clause-unmoved g c = λ a taken unmoved.
     c.run_request.ensures.unmoved (unmoved_as (texts_of c.args.words.items) (asked_for c.in-Ok.request) a (taken_as g c) taken unmoved)
 
 pub returns-in-Ok-clause-moves : goal.returns-in-Ok-clause-moves
-returns-in-Ok-clause-moves g c = λ name line p is reads. done g c (moves false line) (moves_of _ name line is (read_is_plain line p reads)) p reads
+returns-in-Ok-clause-moves g c = λ name line p is reads. done g c (moves false line) (taken_at is (moves_taken name line (read_is_plain line p reads))) p reads
 
 pub returns-in-Ok-clause-played : goal.returns-in-Ok-clause-played
 returns-in-Ok-clause-played g c = λ name line p is reads.
-    let played = done g c (play None 65536 false line) (game_of _ name line is (read_is_plain line p reads)) p reads in
+    let played = done g c (play None 65536 false line) (taken_at is (play_taken name line (read_is_plain line p reads))) p reads in
     (played.0, λ clean. (played.1 clean).1)
 
 pub returns-in-Ok-clause-shown : goal.returns-in-Ok-clause-shown
-returns-in-Ok-clause-shown g c = λ name line p is reads. done g c (show false 65536 line) (show_of _ name line is (read_is_plain line p reads)) p reads
+returns-in-Ok-clause-shown g c = λ name line p is reads. done g c (show false 65536 line) (taken_at is (show_taken name line (read_is_plain line p reads))) p reads
 
 pub returns-in-Ok-clause-shown_plain : goal.returns-in-Ok-clause-shown_plain
 returns-in-Ok-clause-shown_plain g c = λ name line p is reads. done g c (show true 65536 line)
-    (show_plain_of _ name line is (read_is_plain line p reads)) p reads
+    (taken_at is (show_plain_taken name line (read_is_plain line p reads))) p reads
 
 pub returns-in-Ok-clause-unread : goal.returns-in-Ok-clause-unread
 returns-in-Ok-clause-unread g c = λ name line is plain none. elim is [
-  | inl moved ↦ undone g c (moves false line) line (moves_of _ name line moved plain) refl none
-  | inr played ↦ undone g c (play None 65536 false line) line (game_of _ name line played plain) refl none
+  | inl moved ↦ undone g c (moves false line) line (taken_at moved (moves_taken name line plain)) refl none
+  | inr played ↦ undone g c (play None 65536 false line) line (taken_at played (play_taken name line plain)) refl none
 ]
 
 -- what is asked of files is done
@@ -97,10 +97,10 @@ pub returns-in-Ok-clause-stepped : goal.returns-in-Ok-clause-stepped
 returns-in-Ok-clause-stepped g c = λ name files is plain. done_of_files g c Steps name files is plain
 
 pub returns-in-Ok-clause-asked : goal.returns-in-Ok-clause-asked
-returns-in-Ok-clause-asked g c = λ name is. done g c (ask BestMove 65536) (ask_of _ name is)
+returns-in-Ok-clause-asked g c = λ name is. done g c (ask BestMove 65536) (taken_at is (ask_taken name))
 
 pub returns-in-Ok-clause-asked_values : goal.returns-in-Ok-clause-asked_values
-returns-in-Ok-clause-asked_values g c = λ name is. done g c (ask Values 65536) (ask_values_of _ name is)
+returns-in-Ok-clause-asked_values g c = λ name is. done g c (ask Values 65536) (taken_at is (ask_values_taken name))
 
 pub returns-in-Ok-clause-unchanged : goal.returns-in-Ok-clause-unchanged
 returns-in-Ok-clause-unchanged g c = λ none. c.run_request.ensures.unchanged (none (asked_for c.in-Ok.request) (taken_as g c))
@@ -119,7 +119,7 @@ returns-in-Ok-clause-version g c = λ faulty. absurd (faulty (fault_at _ c.args.
 pub returns-in-Ok-clause-version_word : goal.returns-in-Ok-clause-version_word
 returns-in-Ok-clause-version_word g c = λ name is.
     let none = fault_at _ c.args.words.items c.as_slice.ensures.value c.in-Ok.ensures.kinds in
-    let some = version_of _ name is in
+    let some = version_asked _ name is in
     absurd (let bad : DisplayVersion ∷ [] ≡ [] = sym some ∙ none in cc)
 
 pub returns-in-Ok-clause-no_line : goal.returns-in-Ok-clause-no_line
@@ -160,26 +160,26 @@ returns-clause-unmoved g c = λ a taken unmoved. failed g c a taken
 
 pub returns-clause-moves : goal.returns-clause-moves
 returns-clause-moves g c = λ name line p is reads.
-    failed_does (moves false line) _ _ _ (failed g c (moves false line) (moves_of _ name line is (read_is_plain line p reads))).0 p reads
+    failed_does (moves false line) _ _ _ (failed g c (moves false line) (taken_at is (moves_taken name line (read_is_plain line p reads)))).0 p reads
 
 pub returns-clause-played : goal.returns-clause-played
 returns-clause-played g c = λ name line p is reads.
     let played = failed_does (play None 65536 false line) (g.O.Sink.written c.args.out.now) (g.O.Sink.written c.refuse.new.out) c.refuse.result
-    (failed g c (play None 65536 false line) (game_of _ name line is (read_is_plain line p reads))).0 p reads in
+    (failed g c (play None 65536 false line) (taken_at is (play_taken name line (read_is_plain line p reads)))).0 p reads in
     (played.0, λ clean. (played.1 clean).1)
 
 pub returns-clause-shown : goal.returns-clause-shown
 returns-clause-shown g c = λ name line p is reads.
-    failed_does (show false 65536 line) _ _ _ (failed g c (show false 65536 line) (show_of _ name line is (read_is_plain line p reads))).0 p reads
+    failed_does (show false 65536 line) _ _ _ (failed g c (show false 65536 line) (taken_at is (show_taken name line (read_is_plain line p reads)))).0 p reads
 
 pub returns-clause-shown_plain : goal.returns-clause-shown_plain
 returns-clause-shown_plain g c = λ name line p is reads.
-    failed_does (show true 65536 line) _ _ _ (failed g c (show true 65536 line) (show_plain_of _ name line is (read_is_plain line p reads))).0 p reads
+    failed_does (show true 65536 line) _ _ _ (failed g c (show true 65536 line) (taken_at is (show_plain_taken name line (read_is_plain line p reads)))).0 p reads
 
 pub returns-clause-unread : goal.returns-clause-unread
 returns-clause-unread g c = λ name line is plain none. elim is [
-  | inl moved ↦ unwritten g c (moves false line) (moves_of _ name line moved plain)
-  | inr played ↦ unwritten g c (play None 65536 false line) (game_of _ name line played plain)
+  | inl moved ↦ unwritten g c (moves false line) (taken_at moved (moves_taken name line plain))
+  | inr played ↦ unwritten g c (play None 65536 false line) (taken_at played (play_taken name line plain))
 ]
 
 -- arguments that don't ask for this don't get it
@@ -216,10 +216,10 @@ pub returns-clause-stepped : goal.returns-clause-stepped
 returns-clause-stepped g c = λ name files is plain went. absurd (went (failed_of_files g c Steps name files is plain))
 
 pub returns-clause-asked : goal.returns-clause-asked
-returns-clause-asked g c = λ name is went. absurd (went (failed g c (ask BestMove 65536) (ask_of _ name is)).0)
+returns-clause-asked g c = λ name is went. absurd (went (failed g c (ask BestMove 65536) (taken_at is (ask_taken name))).0)
 
 pub returns-clause-asked_values : goal.returns-clause-asked_values
-returns-clause-asked_values g c = λ name is went. absurd (went (failed g c (ask Values 65536) (ask_values_of _ name is)).0)
+returns-clause-asked_values g c = λ name is went. absurd (went (failed g c (ask Values 65536) (taken_at is (ask_values_taken name))).0)
 
 pub returns-clause-stopped : goal.returns-clause-stopped
 returns-clause-stopped g c = λ question table taken stopped kept.
@@ -237,5 +237,5 @@ pub returns-clause-version_word : goal.returns-clause-version_word
 returns-clause-version_word g c = λ name is. (
   c.refuse.ensures.no_line,
   c.refuse.ensures.version
-      (unasked g c DisplayHelp (λ e. cc) (not_asked DisplayHelp DisplayVersion (λ e. cc) (version_of _ name is))),
+      (unasked g c DisplayHelp (λ e. cc) (not_asked DisplayHelp DisplayVersion (λ e. cc) (version_asked _ name is))),
 )

@@ -1,2 +1,3 @@
 pub mod FoundRows
 pub mod KeptRows
+pub mod Arguments
