@@ -9,5 +9,6 @@ pub mod Keys
 pub mod Packing
 pub mod PackedMoves
 pub mod HousesSteps
+pub mod StoreMoves
 pub mod Ends
 pub mod WaySums

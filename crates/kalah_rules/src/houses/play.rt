@@ -157,6 +157,27 @@ impl Houses {
         }
     }
 
+    /// Plays the mover's house `h`, which must be legal and whose last seed must fall into the store without a lap. The result is that
+    /// of `play`, computed with less work.
+    #[inline(always)]
+    pub fn play_into_store(&self, h: u8) -> HousesStep
+        requires legal { Contains (legal_houses (bare self.now)) h }
+        requires ends { seeds self.now.own h + h ≡ length self.now.own + 1 }
+        ensures { result ≡ houses_step self.now h }
+    {
+        let rows = self.sow_past_row(h as u32, self.m() as u32 + 1);
+        let seeds = self.seeds - rows.store;
+        let gained = rows.store as u8;
+        if rows.own > 0 {
+            let key = rows.own + OTHER_ROW * rows.other + self.key / SIDE * SIDE;
+            return HousesStep::Again(gained, Houses { key, seeds });
+        }
+        HousesStep::Over {
+            own: gained,
+            other: seeds as u8,
+        }
+    }
+
     /// Plays the mover's house `h`, which must be legal.
     ///
     /// Its seeds are sown one into each cell: the mover's houses after `h`, the mover's store, the other player's houses,

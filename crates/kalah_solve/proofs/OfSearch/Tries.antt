@@ -235,17 +235,26 @@ pub ending_legal : (a : Rows) (i : ℕ) → IsWithinHouses a → is_over (bare a
     Contains (legal_houses (bare a)) (i + 1)
 ending_legal a i w going inside ends = filled_legal a (i + 1) going (omega arith) (omega (arith, inside)) (omega (arith, inside, ends))
 
+-- what holds of each marked house holds of those that stay marked
+pub each_fewer : (P : ℕ → Type 0) (marks h : ℕ) → IsLastMark marks h → ((i : ℕ) → 0 < cell marks i → P (i + 1)) →
+    (i : ℕ) → 0 < cell (marks - 32 ^ (h - 1)) i → P (i + 1)
+each_fewer P marks h last each i some = each i (left_before marks h last i some)
+
+-- and of the last one
+pub each_last : (P : ℕ → Type 0) (marks h : ℕ) → IsLastMark marks h → ((i : ℕ) → 0 < cell marks i → P (i + 1)) → P h
+each_last P marks h last each =
+    let at : h - 1 + 1 ≡ h = omega (arith, last.first) in
+    subst P at (each (h - 1) (last_marked marks h last))
+
 -- the houses that are marked may be moved, and go on to
 pub marks_fewer : (a : Rows) (marks h : ℕ) → IsLastMark marks h → ((i : ℕ) → 0 < cell marks i → Contains (legal_houses (bare a)) (i + 1)) →
     (i : ℕ) → 0 < cell (marks - 32 ^ (h - 1)) i → Contains (legal_houses (bare a)) (i + 1)
-marks_fewer a marks h last legal i some = legal i (left_before marks h last i some)
+marks_fewer a marks h last legal = each_fewer (Contains (legal_houses (bare a))) marks h last legal
 
 -- the last of them too
 pub last_legal : (a : Rows) (marks h : ℕ) → IsLastMark marks h →
     ((i : ℕ) → 0 < cell marks i → Contains (legal_houses (bare a)) (i + 1)) → Contains (legal_houses (bare a)) h
-last_legal a marks h last legal =
-    let at : h - 1 + 1 ≡ h = omega (arith, last.first) in
-    subst (Contains (legal_houses (bare a))) at (legal (h - 1) (last_marked marks h last))
+last_legal a marks h last legal = each_last (Contains (legal_houses (bare a))) marks h last legal
 
 -- each house that ends in the store is still marked, or takes at most `most` seeds
 abbrev pub AreAgain : Rows → ℕ → ℕ → Type 0

@@ -87,12 +87,13 @@ impl<A: Allocator + Clone> Search<A> {
         ensures upper { result < bar → (h : ℕ) → Contains (legal_houses (bare houses.now)) h → EndsInStore houses.now h →
             WinsAtMost houses.now result h }
     {
+        let _seeds = houses.seeds();
         let mut left = again_houses(houses);
         let mut most = 0;
         while left > 0 {
             let (h, rest) = split_last(left);
             left = rest;
-            let bound = self.bound_move(houses, h, bar);
+            let bound = self.bound_step(&houses.play_into_store(h), bar);
             if bar <= bound {
                 return bound;
             }
@@ -158,18 +159,8 @@ impl<A: Allocator + Clone> Search<A> {
         requires legal { Contains (legal_houses (bare houses.now)) h }
         ensures { IsTrue result ↔ bar ≤ won_by_step (houses_step houses.now h) }
     {
-        bar <= self.bound_move(houses, h, bar)
-    }
-
-    // Returns a fail-soft bound of what house `h` takes.
-    #[cycle(search)]
-    fn bound_move(&mut self, houses: &Houses, h: u8, bar: u8) -> u8
-        requires legal { Contains (legal_houses (bare houses.now)) h }
-        ensures { IsSoftBound bar (won_by_step (houses_step houses.now h)) result }
-    {
         let _seeds = houses.seeds();
-        let step = houses.play(h);
-        self.bound_step(&step, bar)
+        bar <= self.bound_step(&houses.play(h), bar)
     }
 
     // Returns a fail-soft bound of what a step takes.

@@ -5,18 +5,12 @@ use Rattle.kalah_rules.specs.Position.{bare}
 use Rattle.kalah_rules.proofs.Legal.{legal_holds}
 use Rattle.kalah_solve.specs.Solver.StepWorth.{GoesOn, GoesOnAt}
 use Rattle.kalah_solve.specs.Bounds.Won.{won}
+use Rattle.kalah_solve.specs.Search.Tried.{EndsInStore, WinsAtMost}
 use Rattle.kalah_solve.proofs.RowMarks.{cell_none, marks_fall}
 use Rattle.kalah_solve.proofs.OfSolver.StepWorths.{goes_on, step_falls}
 use Rattle.kalah_solve.proofs.OfBounds.Winnings.{taken_share}
-use Rattle.kalah_solve.proofs.OfSearch.Tries.{move_enough, turn_enough, turn_at_most, turn_of, turn_keeps, turn_at, bound_up_to, bound_left, low_more, ranked_none, ranked_more, ranked_bound, ending_legal, marked_legal, marks_fewer, last_legal, again_none, again_fewer, untried_first, untried_fewer, none_untried}
+use Rattle.kalah_solve.proofs.OfSearch.Tries.{move_enough, turn_enough, turn_at_most, turn_of, turn_keeps, turn_at, bound_up_to, bound_left, low_more, ranked_none, ranked_more, ranked_bound, ending_legal, marked_legal, marks_fewer, last_legal, each_fewer, each_last, again_none, again_fewer, untried_first, untried_fewer, none_untried}
 use Rattle.kalah_solve.proofs.search.Search.+search.Goals as goal
-
-pub bound_move-bound_step-requires : goal.bound_move-bound_step-requires
-bound_move-bound_step-requires g t c κs within =
-    let limits = c.seeds-seeds.ensures.limits in (
-      omega (arith, step_falls c.args.houses.now c.args.h c.play-step.result limits c.requires.legal c.play-step.ensures),
-      (within, goes_on c.args.houses.now c.args.h c.play-step.result limits c.requires.legal c.play-step.ensures),
-    )
 
 pub look-bound_step-requires : goal.look-bound_step-requires
 look-bound_step-requires g t c κs within =
@@ -150,17 +144,33 @@ bound_again-loop-left-init g t c =
       small = marks.small;
       low = λ enough. refl;
       legal = λ i some. let both = (marks.marked i).0 some in ending_legal a i marks.limits c.requires.going both.0 both.1;
+      ends = λ i some. ((marks.marked i).0 some).1;
       tried = again_none a 0 c.again_houses-left.result marks.marked;
     }
 
-pub bound_again-bound_move-bound-requires : goal.bound_again-bound_move-bound-requires
-bound_again-bound_move-bound-requires g t c κs within =
-    (omega arith, (within, last_legal c.args.houses.now c.loop-left.left c.split_last-h.result.0 c.split_last-h.ensures.last c.loop-left.invariant.legal))
+pub bound_again-play_into_store-requires-clause-legal : goal.bound_again-play_into_store-requires-clause-legal
+bound_again-play_into_store-requires-clause-legal g t c =
+    last_legal c.args.houses.now c.loop-left.left c.split_last-h.result.0 c.split_last-h.ensures.last c.loop-left.invariant.legal
+
+pub bound_again-play_into_store-requires-clause-ends : goal.bound_again-play_into_store-requires-clause-ends
+bound_again-play_into_store-requires-clause-ends g t c =
+    each_last (EndsInStore c.args.houses.now) c.loop-left.left c.split_last-h.result.0 c.split_last-h.ensures.last c.loop-left.invariant.ends
+
+pub bound_again-bound_step-bound-requires : goal.bound_again-bound_step-bound-requires
+bound_again-bound_step-bound-requires g t c κs within =
+    let a = c.args.houses.now in
+    let h = c.split_last-h.result.0 in
+    let limits = c.seeds-seeds.ensures.limits in
+    let has = last_legal a c.loop-left.left h c.split_last-h.ensures.last c.loop-left.invariant.legal in (
+      omega (arith, step_falls a h c.play_into_store.result limits has c.play_into_store.ensures),
+      (within, goes_on a h c.play_into_store.result limits has c.play_into_store.ensures),
+    )
 
 pub bound_again-returns-then-bar-bound-clause-lower : goal.bound_again-returns-then-bar-bound-clause-lower
 bound_again-returns-then-bar-bound-clause-lower g t c =
     let has = last_legal c.args.houses.now c.loop-left.left c.split_last-h.result.0 c.split_last-h.ensures.last c.loop-left.invariant.legal in
-    move_enough c.args.houses.now c.args.bar c.split_last-h.result.0 _ c.again_houses-left.ensures.limits has c.bound_move-bound.ensures
+    move_enough c.args.houses.now c.args.bar c.split_last-h.result.0 _ c.again_houses-left.ensures.limits has
+    (rw c.play_into_store.ensures at c.bound_step-bound.ensures)
 
 pub bound_again-loop-left-preserved : goal.bound_again-loop-left-preserved
 bound_again-loop-left-preserved g t c =
@@ -169,13 +179,14 @@ bound_again-loop-left-preserved g t c =
     let h = c.split_last-h.result.0 in
     let last = c.split_last-h.ensures.last in
     let before = c.loop-left.invariant in
-    let new_is : c.max-most.result ≡ max c.loop-left.most c.bound_move-bound.result = search (rules, c.max-most.ensures) in
+    let new_is : c.max-most.result ≡ max c.loop-left.most c.bound_step-bound.result = search (rules, c.max-most.ensures) in
+    let takes : WinsAtMost a c.bound_step-bound.result h = rw c.play_into_store.ensures at (c.bound_step-bound.ensures.upper c.if-bar-bound.false) in
     rw c.split_last-h.ensures.rest (record {
       small = omega (arith, before.small, marks_fall marks h last);
-      low = low_more c.args.bar c.loop-left.most c.bound_move-bound.result c.max-most.result before.low c.if-bar-bound.false new_is;
+      low = low_more c.args.bar c.loop-left.most c.bound_step-bound.result c.max-most.result before.low c.if-bar-bound.false new_is;
       legal = marks_fewer a marks h last before.legal;
-      tried = again_fewer a c.loop-left.most marks h c.bound_move-bound.result c.max-most.result before.tried last
-          (c.bound_move-bound.ensures.upper c.if-bar-bound.false) new_is;
+      ends = each_fewer (EndsInStore a) marks h last before.ends;
+      tried = again_fewer a c.loop-left.most marks h c.bound_step-bound.result c.max-most.result before.tried last takes new_is;
     })
 
 pub bound_again-loop-left-smaller : goal.bound_again-loop-left-smaller

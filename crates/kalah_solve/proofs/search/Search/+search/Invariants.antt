@@ -5,6 +5,7 @@ use Rattle.kalah_rules.specs.Play.{legal_houses}
 use Rattle.kalah_rules.specs.Measure.{moves_left}
 use Rattle.kalah_solve.specs.Solver.StepWorth.{moves_after}
 use Rattle.kalah_solve.specs.RowMarks.{cell}
+use Rattle.kalah_solve.specs.Search.Tried.{EndsInStore}
 use Rattle.kalah_solve.proofs.OfSearch.Tries.{AreAgain, AreRanked, AreUntried}
 use Rattle.kalah_solve.proofs.search.Search.+search.Given as goal
 
@@ -23,9 +24,6 @@ decreases-others_waiting g l = 8 * moves_left (bare l.houses.now) + 3
 abbrev pub decreases-look : goal.decreases-look
 decreases-look g l = 8 * moves_left (bare l.houses.now) + 2
 
-abbrev pub decreases-bound_move : goal.decreases-bound_move
-decreases-bound_move g l = 8 * moves_left (bare l.houses.now) + 2
-
 abbrev pub decreases-bound_step : goal.decreases-bound_step
 decreases-bound_step g l = 8 * moves_after l.step.now + 7
 
@@ -37,6 +35,7 @@ invariant-bound_again-loop-left g l = record {
   small : l.left < 2 ^ 30;
   low : l.bar ≤ l.most → l.most ≡ 0;
   legal : (i : ℕ) → 0 < cell l.left i → Contains (legal_houses (bare l.houses)) (i + 1);
+  ends : (i : ℕ) → 0 < cell l.left i → EndsInStore l.houses (i + 1);
   tried : AreAgain l.houses l.most l.left;
 }
 
