@@ -29,12 +29,6 @@ const LEAST_WORK: u64 = 60;
 /// A search with this many nodes is long. From then on it has all its places, which cost a short one more than they save.
 const LONG_SEARCH: u64 = 300_000;
 
-/// The most seeds of the endings that a search uses at first.
-const FIRST_ENDINGS: u8 = 8;
-
-/// The most seeds of all endings.
-const MOST_ENDINGS: u8 = 9;
-
 /// The endings of up to 9 seeds are used once houses with this many seeds or more were searched and the search has `MUCH_WORK`
 /// nodes, and until then those of up to 8: finding more costs a search of few seeds, or a short one, more than it saves.
 const MANY_SEEDS: u8 = 17;
@@ -42,16 +36,22 @@ const MANY_SEEDS: u8 = 17;
 /// The number of nodes from which the endings of 9 seeds pay.
 const MUCH_WORK: u64 = 60_000;
 
+// The most seeds of the endings that a search uses.
+#[derive(Clone, Copy)]
+struct EndingLimit {
+    seeds: u8,
+    ghost few: { seeds ≤ 9 },
+}
+
 /// A search with its table. Its results depend on none of its limits.
 #[derive(Drop)]
 pub struct Search<A: Allocator + Clone = Global> {
     table: Table<A>,
     most_placed: u8,
     least_work: u64,
-    ending_seeds: u8,
+    ending_limit: EndingLimit,
     seen_many_seeds: bool,
     nodes: u64,
-    ghost few: { ending_seeds ≤ 9 },
 }
 
 impl<A: Allocator + Clone> Search<A> {
@@ -63,7 +63,7 @@ impl<A: Allocator + Clone> Search<A> {
             table,
             most_placed: MOST_PLACED,
             least_work: LEAST_WORK,
-            ending_seeds: FIRST_ENDINGS,
+            ending_limit: EndingLimit { seeds: 8 },
             seen_many_seeds: false,
             nodes: 0,
         }
@@ -85,7 +85,7 @@ impl<A: Allocator + Clone> Search<A> {
             table,
             most_placed: 0,
             least_work: 0,
-            ending_seeds: 0,
+            ending_limit: EndingLimit { seeds: 0 },
             seen_many_seeds: false,
             nodes: 0,
         }
@@ -178,8 +178,8 @@ impl<A: Allocator + Clone> Search<A> {
 
     // Uses the endings of 9 seeds from now on, if the search uses endings and had many seeds and much work.
     fn grow_endings(&mut self) {
-        if self.seen_many_seeds && self.nodes >= MUCH_WORK && self.ending_seeds > 0 {
-            self.ending_seeds = MOST_ENDINGS;
+        if self.seen_many_seeds && self.nodes >= MUCH_WORK && self.ending_limit.seeds > 0 {
+            self.ending_limit = EndingLimit { seeds: 9 };
         }
     }
 
@@ -187,7 +187,7 @@ impl<A: Allocator + Clone> Search<A> {
     fn max_ending_seeds(&self) -> u8
         ensures { result ≤ 9 }
     {
-        self.ending_seeds
+        self.ending_limit.seeds
     }
 
     // Returns what is known of the seeds that the mover takes.

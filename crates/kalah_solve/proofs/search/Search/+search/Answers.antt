@@ -124,10 +124,10 @@ explore-returns g t c =
 
 pub look-returns-in-Turn : goal.look-returns-in-Turn
 look-returns-in-Turn g t c = (
-      c.priority.ensures.some,
-      turn_of c.args.houses.now c.args.h c.priority.result c.in-Turn.gained c.in-Turn.next c.play-step.result c.seeds-seeds.ensures.limits
-          c.requires.legal c.play-step.ensures c.in-Turn.is c.priority.ensures.house,
-    )
+  c.priority.ensures.some,
+  turn_of c.args.houses.now c.args.h c.priority.result c.in-Turn.gained c.in-Turn.next c.play-step.result c.seeds-seeds.ensures.limits
+      c.requires.legal c.play-step.ensures c.in-Turn.is c.priority.ensures.house,
+)
 
 pub look-priority-requires-clause-first : goal.look-priority-requires-clause-first
 look-priority-requires-clause-first g t c = omega (arith, (legal_holds (bare c.args.houses.now) c.args.h c.requires.legal).first)
