@@ -121,6 +121,7 @@ pub fn answer_text(alloc: Global, name: &str, taken: &Taken) -> Result<String, A
 }
 
 // Writes the answer line of an answer that isn't of steps, and a line feed.
+#[tactic(auto, using(crate::proofs::OfWriting::AnswerTexts::one_line_parts))]
 fn write_one_line<W: Sink>(out: &mut W, name: &str, taken: &Taken) -> Result<(), io::Error>
     requires whole { W.has_failed out.old ≡ false }
     requires one_line { IsOfOneLine taken.now.answer }
