@@ -13,7 +13,6 @@ use crate::writing::named_text::write_named;
 use crate::writing::sink::Sink;
 use crate::writing::stack_text::{ROOM, StackText};
 use crate::writing::steps::{push_steps, write_steps};
-use kalah_rules::Board;
 use kalah_solve::{MoveValue, MoveValues};
 use std::alloc::{AllocError, Global};
 use std::io;
@@ -104,14 +103,13 @@ pub fn answer_text(alloc: Global, name: &str, taken: &Taken) -> Result<String, A
     ensures { IfOk result (λ text. string_bytes text ≡ answer_line name.now taken.now) }
 {
     let mut text = String::new(alloc);
+    let mut ending = StackText::new();
     match &taken.answer {
         Answer::Steps(board) => {
-            let mut place = StackText::new();
-            prepend_place(&mut place, taken.line);
-            push_steps(&mut text, name, place.as_str(), board)?;
+            prepend_place(&mut ending, taken.line);
+            push_steps(&mut text, name, ending.as_str(), board)?;
         }
         _ => {
-            let mut ending = StackText::new();
             prepend_ending(&mut ending, taken);
             text.push_str(name)?;
             text.push_str(ending.as_str())?;
@@ -120,44 +118,10 @@ pub fn answer_text(alloc: Global, name: &str, taken: &Taken) -> Result<String, A
     Ok(text)
 }
 
-// Writes the answer line of an answer that isn't of steps, and a line feed.
-#[tactic(auto, using(crate::proofs::OfWriting::AnswerTexts::one_line_parts))]
-fn write_one_line<W: Sink>(out: &mut W, name: &str, taken: &Taken) -> Result<(), io::Error>
-    requires whole { W.has_failed out.old ≡ false }
-    requires one_line { IsOfOneLine taken.now.answer }
-    ensures fails { IsErr result ↔ (W.has_failed out.new ≡ true) }
-    ensures adds { OnOk result
-        (Appends (W.written out.old) (W.written out.new) (answer_line name.now taken.now ++ line_feed ∷ [])) }
-    ensures start { AppendsStart (W.written out.old) (W.written out.new) (answer_line name.now taken.now ++ line_feed ∷ []) }
-{
-    let mut text = StackText::new();
-    text.prepend("\n");
-    prepend_ending(&mut text, taken);
-    write_named(out, name, &mut text)
-}
-
-// Writes the lines of the steps of a board, which is that of a line of the file `name`.
-fn write_placed_steps<W: Sink>(
-    out: &mut W,
-    name: &str,
-    line: u32,
-    board: &Board,
-) -> Result<(), io::Error>
-    requires { W.has_failed out.old ≡ false }
-    ensures fails { IsErr result ↔ (W.has_failed out.new ≡ true) }
-    ensures adds { OnOk result (Appends (W.written out.old) (W.written out.new)
-        (answer_line name.now (record { line = line; answer = Answer.Steps board.now }) ++ line_feed ∷ [])) }
-    ensures start { AppendsStart (W.written out.old) (W.written out.new)
-        (answer_line name.now (record { line = line; answer = Answer.Steps board.now }) ++ line_feed ∷ []) }
-{
-    let mut place = StackText::new();
-    prepend_place(&mut place, line);
-    write_steps(out, name, place.as_str(), board)
-}
-
 /// Writes the answer line of a line of the file `name`, as `answer_text` returns it, and a line feed; of steps the line of each.
 ///
 /// It allocates nothing. It fails exactly when the sink has failed afterwards; then a prefix of this was written, and nothing else.
+#[tactic(auto, using(crate::proofs::OfWriting::AnswerTexts::one_line_parts))]
 pub fn write_answer<W: Sink>(out: &mut W, name: &str, taken: &Taken) -> Result<(), io::Error>
     requires { W.has_failed out.old ≡ false }
     ensures fails { IsErr result ↔ (W.has_failed out.new ≡ true) }
@@ -165,25 +129,18 @@ pub fn write_answer<W: Sink>(out: &mut W, name: &str, taken: &Taken) -> Result<(
         (Appends (W.written out.old) (W.written out.new) (answer_line name.now taken.now ++ line_feed ∷ [])) }
     ensures start { AppendsStart (W.written out.old) (W.written out.new) (answer_line name.now taken.now ++ line_feed ∷ []) }
 {
-    match &taken.answer {
-        Answer::Steps(board) => write_placed_steps(out, name, taken.line, board),
-        _ => write_one_line(out, name, taken),
-    }
-}
-
-// Writes the text of an answer that isn't of steps, and a line feed.
-fn write_one_text<W: Sink>(out: &mut W, answer: &Answer) -> Result<(), io::Error>
-    requires whole { W.has_failed out.old ≡ false }
-    requires one_line { IsOfOneLine answer.now }
-    ensures fails { IsErr result ↔ (W.has_failed out.new ≡ true) }
-    ensures adds { OnOk result
-        (Appends (W.written out.old) (W.written out.new) (answer_words answer.now ++ line_feed ∷ [])) }
-    ensures start { AppendsStart (W.written out.old) (W.written out.new) (answer_words answer.now ++ line_feed ∷ []) }
-{
     let mut text = StackText::new();
-    text.prepend("\n");
-    prepend_words(&mut text, answer);
-    out.write_all(text.bytes())
+    match &taken.answer {
+        Answer::Steps(board) => {
+            prepend_place(&mut text, taken.line);
+            write_steps(out, name, text.as_str(), board)
+        }
+        _ => {
+            text.prepend("\n");
+            prepend_ending(&mut text, taken);
+            write_named(out, name, &mut text)
+        }
+    }
 }
 
 // Writes an answer in words, and a line feed.
@@ -196,6 +153,11 @@ pub(crate) fn write_words<W: Sink>(out: &mut W, answer: &Answer) -> Result<(), i
 {
     match answer {
         Answer::Steps(board) => write_steps(out, "", "", board),
-        _ => write_one_text(out, answer),
+        _ => {
+            let mut text = StackText::new();
+            text.prepend("\n");
+            prepend_words(&mut text, answer);
+            out.write_all(text.bytes())
+        }
     }
 }
