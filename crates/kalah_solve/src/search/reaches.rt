@@ -52,14 +52,15 @@ impl<A: Allocator + Clone> Search<A> {
         requires going { is_over (bare houses.now) ≡ false }
         ensures { IsSoftBound bar (won houses.now) result }
     {
+        let houses = *houses;
         let seeds = houses.seeds();
-        let again = self.bound_again(houses, bar);
+        let again = self.bound_again(&houses, bar);
         if bar <= again {
             return again;
         }
         let mut ranks = [0u32; 6];
-        let mut turns = [*houses; 6];
-        let others = self.others_waiting(houses, bar, &mut ranks, &mut turns);
+        let mut turns = [houses; 6];
+        let others = self.others_waiting(&houses, bar, &mut ranks, &mut turns);
         if bar <= others {
             return others;
         }

@@ -54,6 +54,49 @@ fn games_as_they_begin_take_few_nodes(rt: HostRuntime) {
     assert!(rt; nodes > 48_900 && nodes < 54_000);
 }
 
+// Houses a side, the houses of the mover and of the other player, and what they are worth.
+type Position = (u8, [u8; 6], [u8; 6], i32);
+
+// Positions with many seeds.
+static HARD: [Position; 3] = [
+    (6, [2, 2, 4, 1, 1, 0], [1, 5, 4, 5, 4, 2], 11),
+    (5, [3, 4, 0, 3, 4, 0], [2, 2, 4, 3, 3, 0], 8),
+    (6, [3, 4, 1, 4, 2, 2], [4, 1, 0, 1, 3, 2], 9),
+];
+
+// Positions with 12 seeds.
+static SMALL: [Position; 8] = [
+    (6, [1, 2, 1, 0, 0, 0], [3, 1, 1, 2, 0, 1], -2),
+    (6, [1, 2, 1, 2, 1, 1], [1, 0, 0, 0, 1, 2], 8),
+    (6, [1, 1, 0, 1, 1, 1], [1, 2, 1, 1, 1, 1], 0),
+    (5, [4, 1, 1, 0, 1, 0], [1, 0, 3, 1, 0, 0], 4),
+    (6, [0, 1, 1, 0, 2, 3], [0, 0, 2, 1, 2, 0], 0),
+    (6, [1, 0, 3, 3, 2, 0], [0, 1, 0, 1, 1, 0], 6),
+    (6, [0, 0, 1, 3, 2, 1], [0, 0, 1, 1, 3, 0], 8),
+    (5, [1, 2, 0, 0, 2, 0], [2, 2, 2, 1, 0, 0], -2),
+];
+
+// How many nodes the positions take, in order.
+fn nodes_of(rt: &impl Abort, search: &mut Search, positions: &[Position]) -> u64 {
+    for (m, own, other, worth) in positions {
+        let houses = Houses::new(*m, *own, *other, Rule::Classic).expect(rt, "beyond the limits");
+        tells_worth(rt, search, &houses, *worth);
+    }
+    search.nodes
+}
+
+#[test]
+fn hard_positions_take_few_nodes(rt: HostRuntime) {
+    let nodes = nodes_of(&rt, &mut new_search(&rt, rt.alloc()), &HARD);
+    assert!(rt; nodes > 214_000 && nodes < 236_500);
+}
+
+#[test]
+fn small_positions_take_few_nodes(rt: HostRuntime) {
+    let nodes = nodes_of(&rt, &mut new_search(&rt, rt.alloc()), &SMALL);
+    assert!(rt; nodes > 240 && nodes < 266);
+}
+
 // Whether nothing is known of the houses by their place.
 fn is_unknown(search: &Search, houses: &Houses) -> bool {
     search.table.look_up_place(houses) == SeedBounds::unknown(houses)
