@@ -23,12 +23,11 @@ use Rattle.kalah_cli.specs.Play.{BeginsBest, BeginsToPlay}
 use Rattle.kalah_cli.specs.Request.{Asked, IsTakenAs, answers, ask, count, moves, play, show}
 use Rattle.kalah_cli.specs.Runs.{Begins}
 use Rattle.kalah_cli.specs.Ask.{BeginsLines, StopsBetweenLines}
-use Rattle.kalah_cli.specs.Batch.{BeginsTo}
+use Rattle.kalah_cli.specs.SolveFiles.{BeginsTo}
 use Rattle.std.proofs.KnownBytes.{Appends-nil}
 use Rattle.kalah_jobs.proofs.OfAsking.AnswersTo.{answers_split, no_answers}
 use Rattle.kalah_jobs.specs.Asking.Asked.{IsBegun, IsCutOff, answers_to}
 use Rattle.std.proofs.Math.Seq.{take-append-add}
-use Rattle.kalah_cli.proofs.Laws.{taken_once}
 use Rattle.kalah_cli.proofs.Played.{of_any}
 
 -- all was written, and then flushed
@@ -122,8 +121,3 @@ begins_none (answers question workers table progress names) old = begins_nothing
 begins_none (ask question table) old = no_lines_begun question old
 begins_none (show plain table line) old = λ p reads. start_none old _
 begins_none (count depth line) old = λ p reads. start_none old _
-
--- what was begun of a request was begun of what its arguments ask for
-pub begun_as : (words : List Text) (a b : Asked) (old new : Option (List ℕ)) → IsTakenAs words a → IsTakenAs words b → Begins a old new →
-    Begins b old new
-begun_as words a b old new one other begun = subst (λ x. Begins x old new) (taken_once words a b one other) begun

@@ -1,17 +1,25 @@
 -- What the getters of matches return, by the rows of the matches.
-use Rattle.std.proofs.Common.{◌≡◌, ◌∙◌, ◌<◌, ◌≤◌, ◌^◌, ℕ, Bool, true, false, refl, ap, inl, inr, List, Option, Some, None, Result, Ok, Err, is_some, arith, codes}
+use Rattle.std.proofs.Common.{◌≡◌, ◌∙◌, ◌<◌, ◌≤◌, ◌^◌, ℕ, Bool, true, false, refl, ap, inl, inr, List, Option, Some, None, Result, Ok, Err, is_some, arith, codes, map, sym}
 use Rattle.std.specs.Prelude.{option_map}
 use Rattle.std.specs.Str.Parse.{ParsesUnsigned, digits_value, without_leading_plus}
-use Rattle.clap.specs.Matches.{ReadsOne, one_text}
-use Rattle.clap.specs.Walk.{Row, Text, one_of, rows_of}
+use Rattle.std.specs.Borrow.{Bor}
+use Rattle.clap.specs.Matches.{ReadsOne, matched_of, one_text, raw_values}
+use Rattle.clap.specs.Walk.{Row, Text, all_of, one_of, rows_of}
 use Rattle.clap.specs.declared.parser.matches.Found.{Found}
-use Rattle.clap.proofs.WalkLemmas.{one_text-rows}
+use Rattle.clap.proofs.WalkLemmas.{one_text-rows, raw_values-rows}
 use Rattle.kalah_cli.specs.Request.{HasFlag, MayHaveNumber, is_set, number_given}
 
 -- an option that maps to a value has one
 pub is_there : {A B : Type 0} (f : A → B) (o : Option A) → is_some (option_map f o) ≡ true → is_some o ≡ true
 is_there f None e = cc
 is_there f (Some x) e = refl
+
+-- what was copied from the getter of values are all values under the name
+pub values_are : (f : Found) (id : Text) (o : Option (Bor (List (Bor Text)))) (s : Bor (List (Bor Text))) (copied : List (Bor Text))
+    → option_map (λ s. map (λ v. v.now) s.now) o ≡ option_map raw_values (matched_of f id) → o ≡ Some s → copied ≡ s.now
+    → all_of id (rows_of f) ≡ Some (map (λ v. v.now) copied)
+values_are f id o s copied read is same =
+    sym (raw_values-rows f id) ∙ sym read ∙ ap (option_map (λ s. map (λ v. v.now) s.now)) is ∙ ap (λ vs. Some (map (λ v. v.now) vs)) (sym same)
 
 -- the getter of a type of numbers, which reads the text as `reads` says, returns the number under the name
 pub number_read : (E : Type 0) (reads : Text → Result ℕ E → Type 0) (width low high : ℕ) (f : Found) (id : Text) (r : Option ℕ)

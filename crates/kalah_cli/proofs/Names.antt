@@ -2,7 +2,7 @@
 use Rattle.std.proofs.Common.{◌≡◌, ◌||◌, ℕ, List, [], ◌∷◌, ap, map, refl}
 use Rattle.std.specs.Borrow.{Bor}
 use Rattle.std.specs.List.{list_any}
-use Rattle.kalah_cli.specs.Batch.{has_line_feed}
+use Rattle.kalah_cli.specs.SolveFiles.{has_line_feed}
 
 -- one of the names has a line feed exactly when one of their texts has
 pub texts_have_line_feed : (names : List (Bor (List ℕ)))

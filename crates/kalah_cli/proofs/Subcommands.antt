@@ -14,7 +14,7 @@ use Rattle.clap.specs.declared.builder.value_parser.ValueParser.TheVariants as v
 use Rattle.clap.proofs.OnLiterals.{clap_on_literals}
 use Rattle.kalah_jobs.specs.declared.files.question.Question.{Question}
 use Rattle.kalah_jobs.specs.declared.files.question.Question.TheVariants.{BestMove, Steps, Values}
-use Rattle.kalah_cli.specs.Command.{file_rule, kalah_app, progress_rule, table_rule, workers_rule}
+use Rattle.kalah_cli.specs.Command.{file_rule, flag_rule, kalah_app, table_rule, workers_rule}
 use Rattle.kalah_cli.specs.Request.{AreMatches, HasFlag, HasNumber, IsTaken, MayHaveNumber, command_of, number_written}
 use Rattle.kalah_cli.proofs.ClapLemmas.Arguments.{Given, HasOf, accepted_in, all_usable, arg_in, given_in, is_wanted, taken_has}
 
@@ -75,7 +75,7 @@ built_rule a = with_index 1 (filled a)
 
 -- the arguments of the subcommands with files
 pub takes_files : (question : Question) → Takes (command_of question) (codes "workers") (built_rule workers_rule)
-    × Takes (command_of question) (codes "progress") (built_rule progress_rule) × Takes (command_of question) (codes "file") (built_rule file_rule)
+    × Takes (command_of question) (codes "progress") (built_rule (flag_rule (codes "progress"))) × Takes (command_of question) (codes "file") (built_rule file_rule)
 takes_files BestMove = (refl, refl, refl)
 takes_files Values = (refl, refl, refl)
 takes_files Steps = (refl, refl, refl)

@@ -59,22 +59,6 @@ flag_rule name = record (new_rule name) {
   action = Some SetTrue;
 }
 
--- `--progress`
-abbrev pub progress_rule : Rule
-progress_rule = flag_rule (codes "progress")
-
--- `--boards`
-abbrev pub boards_rule : Rule
-boards_rule = flag_rule (codes "boards")
-
--- `--values`
-abbrev pub values_rule : Rule
-values_rule = flag_rule (codes "values")
-
--- `--plain`
-abbrev pub plain_rule : Rule
-plain_rule = flag_rule (codes "plain")
-
 -- FILE..: at least one
 abbrev pub file_rule : Rule
 file_rule = record (new_rule (codes "file")) {
@@ -85,15 +69,15 @@ file_rule = record (new_rule (codes "file")) {
 
 -- `moves [--boards] LINE`
 abbrev pub moves_app : App
-moves_app = with_rule (with_rule (new_app (codes "moves")) boards_rule) line_rule
+moves_app = with_rule (with_rule (new_app (codes "moves")) (flag_rule (codes "boards"))) line_rule
 
 -- `play [--table N] [--boards] [--first H] LINE`
 abbrev pub play_app : App
-play_app = with_rule (with_rule (with_rule (with_rule (new_app (codes "play")) table_rule) boards_rule) first_rule) line_rule
+play_app = with_rule (with_rule (with_rule (with_rule (new_app (codes "play")) table_rule) (flag_rule (codes "boards"))) first_rule) line_rule
 
 -- `NAME [--workers N] [--table N] [--progress] FILE..`
 abbrev pub answers_app : Text → App
-answers_app name = with_rule (with_rule (with_rule (with_rule (new_app name) workers_rule) table_rule) progress_rule) file_rule
+answers_app name = with_rule (with_rule (with_rule (with_rule (new_app name) workers_rule) table_rule) (flag_rule (codes "progress"))) file_rule
 
 abbrev pub solve_app : App
 solve_app = answers_app (codes "solve")
@@ -103,15 +87,15 @@ values_app = answers_app (codes "values")
 
 -- `ask [--values] [--table N]`
 abbrev pub ask_app : App
-ask_app = with_rule (with_rule (new_app (codes "ask")) values_rule) table_rule
+ask_app = with_rule (with_rule (new_app (codes "ask")) (flag_rule (codes "values"))) table_rule
 
 -- `steps [--workers N] [--progress] FILE..`
 abbrev pub steps_app : App
-steps_app = with_rule (with_rule (with_rule (new_app (codes "steps")) workers_rule) progress_rule) file_rule
+steps_app = with_rule (with_rule (with_rule (new_app (codes "steps")) workers_rule) (flag_rule (codes "progress"))) file_rule
 
 -- `show [--plain] [--table N] LINE`
 abbrev pub show_app : App
-show_app = with_rule (with_rule (with_rule (new_app (codes "show")) plain_rule) table_rule) line_rule
+show_app = with_rule (with_rule (with_rule (new_app (codes "show")) (flag_rule (codes "plain"))) table_rule) line_rule
 
 -- `count DEPTH LINE`
 abbrev pub count_app : App

@@ -6,6 +6,6 @@ pub mod Moves
 pub mod Play
 pub mod Show
 pub mod Count
-pub mod Batch
+pub mod SolveFiles
 pub mod Ask
 pub mod Runs

@@ -16,8 +16,8 @@ use Rattle.kalah_solve.specs.Table.Entries.{most_entries}
 use Rattle.kalah_run.specs.Limits.{most_workers}
 use Rattle.kalah_cli.specs.Command.{kalah_app}
 use Rattle.kalah_cli.specs.declared.request.Request.{Request}
-use Rattle.kalah_cli.specs.declared.request.Request.TheVariants.{Moves, Play, Batch, Ask, Show, Count}
-use Rattle.kalah_cli.specs.declared.request.Batch as batch
+use Rattle.kalah_cli.specs.declared.request.Request.TheVariants.{Moves, Play, Files, Ask, Show, Count}
+use Rattle.kalah_cli.specs.declared.request.FilesRequest.{FilesRequest}
 
 module _ {A : Type 0} where
   -- the text of each argument
@@ -135,19 +135,19 @@ IsVersionWord name words = (words ≡ name ∷ codes "--version" ∷ []) ⊎ (wo
 abbrev pub asked_for : Request → Asked
 asked_for (Moves line boards) = moves boards line.now
 asked_for (Play line table boards first) = play first table boards line.now
-asked_for (Batch b) = answers b.question b.workers b.table b.progress (map (λ f. f.now) b.files.items)
+asked_for (Files b) = answers b.question b.workers b.table b.progress (map (λ f. f.now) b.files.items)
 asked_for (Ask question table) = ask question table
 asked_for (Show line table plain) = show plain table line.now
 asked_for (Count depth line) = count depth line.now
 
 -- workers and entries are in their ranges, and there is a file
-abbrev pub IsInLimits : batch.Batch → Type 0
+abbrev pub IsInLimits : FilesRequest → Type 0
 IsInLimits b = (1 ≤ b.workers) × (b.workers ≤ most_workers) × (1 ≤ b.table) × (b.table ≤ most_entries) × (0 < length b.files.items)
 
 abbrev pub IsInRange : Request → Type 0
 IsInRange (Moves line boards) = ⊤
 IsInRange (Play line table boards first) = (1 ≤ table) × (table ≤ most_entries)
-IsInRange (Batch b) = IsInLimits b
+IsInRange (Files b) = IsInLimits b
 IsInRange (Ask question table) = (1 ≤ table) × (table ≤ most_entries)
 IsInRange (Show line table plain) = (1 ≤ table) × (table ≤ most_entries)
 IsInRange (Count depth line) = depth ≤ most_depth

@@ -11,7 +11,7 @@ use Rattle.kalah_cli.specs.Count.{count_output}
 use Rattle.kalah_cli.specs.Request.{Asked, moves, play, answers, ask, show, count}
 use Rattle.kalah_cli.specs.Show.{show_output}
 use Rattle.kalah_cli.specs.Ask.{AnswersLines, BeginsLines}
-use Rattle.kalah_cli.specs.Batch.{AnswersTo, BeginsTo}
+use Rattle.kalah_cli.specs.SolveFiles.{AnswersTo, BeginsTo}
 use Rattle.kalah_cli.specs.declared.status.ExitStatus.{ExitStatus}
 use Rattle.kalah_cli.specs.declared.status.ExitStatus.TheVariants.{Clean, LineFaults, Failed}
 

@@ -1,8 +1,7 @@
 //! The command line of the program.
-ghost use Rattle.std.specs.Prelude.{◌≡◌, IfOk, false};
-ghost use Rattle.clap.specs.Words.{App, app_of, new_app, rule_of, with_rule, with_subcommand};
-ghost use Rattle.clap.specs.declared.builder.command.Command.TheViews.{out-Command as fields_of};
-ghost use Rattle.kalah_cli.specs.Command.{answers_app, ask_app, boards_rule, count_app, depth_rule, file_rule, flag_rule, kalah_app, line_rule, moves_app, number_rule, play_app, program_app, progress_rule, steps_app, table_rule, values_rule, workers_rule, first_rule, plain_rule, show_app};
+ghost use Rattle.std.specs.Prelude.{◌≡◌, IfOk, false, true};
+ghost use Rattle.clap.specs.Words.{app_of, new_app, rule_of, with_rule, with_subcommand};
+ghost use Rattle.kalah_cli.specs.Command.{answers_app, ask_app, count_app, depth_rule, file_rule, first_rule, flag_rule, kalah_app, line_rule, moves_app, number_rule, play_app, program_app, show_app, steps_app, table_rule, workers_rule};
 
 use crate::help;
 use crate::version::VERSION_LINE;
@@ -19,22 +18,24 @@ const ABOUT_VALUES: &str = "Prints what each move of each position is worth";
 
 const ABOUT_STEPS: &str = "Prints each legal move of each position, and what it leads to";
 
+const BOARDS: &str = "draws each position below its line";
+
+const PROGRESS: &str = "shows on standard error how many lines are answered";
+
 const TABLE_OF_ONE: &str = "table entries of the search, 1 to 1048576";
 
 const TABLE_OF_WORKERS: &str = "table entries of each worker, 1 to 1048576";
 
 // A command of this name, with nothing in it.
 fn named<'a>(alloc: Global, name: &'a str, about: &'a str) -> Command<'a>
-    ensures app { app_of result ≡ new_app name.entry.now }
-    ensures local { (fields_of result).has_globals ≡ false }
+    ensures { app_of result ≡ new_app name.entry.now }
 {
     Command::new(alloc, name).about(about)
 }
 
 // A subcommand of this name, with nothing in it. Its help ends in this text.
 fn subcommand<'a>(alloc: Global, name: &'a str, about: &'a str, long_help: &'a str) -> Command<'a>
-    ensures app { app_of result ≡ new_app name.entry.now }
-    ensures local { (fields_of result).has_globals ≡ false }
+    ensures { app_of result ≡ new_app name.entry.now }
 {
     named(alloc, name, about)
         .after_help(help::SHORT_OF_SUBCOMMAND)
@@ -43,10 +44,8 @@ fn subcommand<'a>(alloc: Global, name: &'a str, about: &'a str, long_help: &'a s
 
 // The command with one more argument, which is its own alone.
 fn with_arg<'a>(command: Command<'a>, arg: Arg<'a>) -> Result<Command<'a>, AllocError>
-    requires arg { arg.global ≡ false }
-    requires local { (fields_of command).has_globals ≡ false }
-    ensures app { IfOk result (λ c. app_of c ≡ with_rule (app_of command.entry) (rule_of arg.entry)) }
-    ensures local { IfOk result (λ c. (fields_of c).has_globals ≡ false) }
+    requires { arg.global ≡ false }
+    ensures { IfOk result (λ c. app_of c ≡ with_rule (app_of command.entry) (rule_of arg.entry)) }
 {
     command.arg(arg)
 }
@@ -74,35 +73,13 @@ fn flag_arg<'a>(alloc: Global, name: &'a str, help: &'a str) -> Arg<'a>
         .action(ArgAction::SetTrue)
 }
 
-// Whether boards are drawn.
-fn boards_arg<'a>(alloc: Global) -> Arg<'a>
-    ensures rule { rule_of result ≡ boards_rule }
-    ensures local { result.global ≡ false }
-{
-    let help = "draws each position below its line";
-    flag_arg(alloc, "boards", help)
-}
-
-// Whether the values of moves are asked for.
-fn values_arg<'a>(alloc: Global) -> Arg<'a>
-    ensures rule { rule_of result ≡ values_rule }
-    ensures local { result.global ≡ false }
-{
-    flag_arg(
-        alloc,
-        "values",
-        "prints what each move is worth, as `values`",
-    )
-}
-
 // `moves [--boards] LINE`.
 fn moves_command<'a>(alloc: Global) -> Result<Command<'a>, AllocError>
-    ensures app { IfOk result (λ c. app_of c ≡ moves_app) }
-    ensures local { IfOk result (λ c. (fields_of c).has_globals ≡ false) }
+    ensures { IfOk result (λ c. app_of c ≡ moves_app) }
 {
     let about = "Prints each legal move of a position, and the position after it";
     let command = subcommand(alloc, "moves", about, help::LONG_OF_A_LINE);
-    let command = with_arg(command, boards_arg(alloc))?;
+    let command = with_arg(command, flag_arg(alloc, "boards", BOARDS))?;
     with_arg(command, line_arg(alloc))
 }
 
@@ -156,38 +133,16 @@ fn first_arg<'a>(alloc: Global) -> Arg<'a>
         .value_parser(ValueParser::unsigned(1, MOST_HOUSES as u64))
 }
 
-// Whether values are left out.
-fn plain_arg<'a>(alloc: Global) -> Arg<'a>
-    ensures rule { rule_of result ≡ plain_rule }
-    ensures local { result.global ≡ false }
-{
-    flag_arg(
-        alloc,
-        "plain",
-        "draws the position alone, and searches nothing",
-    )
-}
-
 // `play [--table N] [--boards] [--first H] LINE`.
 fn play_command<'a>(alloc: Global) -> Result<Command<'a>, AllocError>
-    ensures app { IfOk result (λ c. app_of c ≡ play_app) }
-    ensures local { IfOk result (λ c. (fields_of c).has_globals ≡ false) }
+    ensures { IfOk result (λ c. app_of c ≡ play_app) }
 {
     let about = "Prints the game that best play leads to from a position, move by move";
     let command = subcommand(alloc, "play", about, help::LONG_OF_PLAY);
     let command = with_arg(command, table_arg(alloc, TABLE_OF_ONE))?;
-    let command = with_arg(command, boards_arg(alloc))?;
+    let command = with_arg(command, flag_arg(alloc, "boards", BOARDS))?;
     let command = with_arg(command, first_arg(alloc))?;
     with_arg(command, line_arg(alloc))
-}
-
-// Whether progress is shown.
-fn progress_arg<'a>(alloc: Global) -> Arg<'a>
-    ensures rule { rule_of result ≡ progress_rule }
-    ensures local { result.global ≡ false }
-{
-    let help = "shows on standard error how many lines are answered";
-    flag_arg(alloc, "progress", help)
 }
 
 // The files of `solve`, `values` and `steps`.
@@ -209,35 +164,34 @@ fn answers_command<'a>(
     about: &'a str,
     long_help: &'a str,
 ) -> Result<Command<'a>, AllocError>
-    ensures app { IfOk result (λ c. app_of c ≡ answers_app name.entry.now) }
-    ensures local { IfOk result (λ c. (fields_of c).has_globals ≡ false) }
+    ensures { IfOk result (λ c. app_of c ≡ answers_app name.entry.now) }
 {
     let command = subcommand(alloc, name, about, long_help);
     let command = with_arg(command, workers_arg(alloc))?;
     let command = with_arg(command, table_arg(alloc, TABLE_OF_WORKERS))?;
-    let command = with_arg(command, progress_arg(alloc))?;
+    let command = with_arg(command, flag_arg(alloc, "progress", PROGRESS))?;
     with_arg(command, file_arg(alloc))
 }
 
 // `ask [--values] [--table N]`.
 fn ask_command<'a>(alloc: Global) -> Result<Command<'a>, AllocError>
-    ensures app { IfOk result (λ c. app_of c ≡ ask_app) }
-    ensures local { IfOk result (λ c. (fields_of c).has_globals ≡ false) }
+    ensures { IfOk result (λ c. app_of c ≡ ask_app) }
 {
     let about = "Answers each line of standard input before it reads the next";
     let command = subcommand(alloc, "ask", about, help::LONG_OF_ASK);
-    let command = with_arg(command, values_arg(alloc))?;
+    let help = "prints what each move is worth, as `values`";
+    let command = with_arg(command, flag_arg(alloc, "values", help))?;
     with_arg(command, table_arg(alloc, TABLE_OF_ONE))
 }
 
 // `show [--plain] [--table N] LINE`.
 fn show_command<'a>(alloc: Global) -> Result<Command<'a>, AllocError>
-    ensures app { IfOk result (λ c. app_of c ≡ show_app) }
-    ensures local { IfOk result (λ c. (fields_of c).has_globals ≡ false) }
+    ensures { IfOk result (λ c. app_of c ≡ show_app) }
 {
     let about = "Draws a position, and below each house what its move is worth";
     let command = subcommand(alloc, "show", about, help::LONG_OF_SHOW);
-    let command = with_arg(command, plain_arg(alloc))?;
+    let help = "draws the position alone, and searches nothing";
+    let command = with_arg(command, flag_arg(alloc, "plain", help))?;
     let command = with_arg(command, table_arg(alloc, TABLE_OF_ONE))?;
     with_arg(command, line_arg(alloc))
 }
@@ -257,8 +211,7 @@ fn depth_arg<'a>(alloc: Global) -> Arg<'a>
 
 // `count DEPTH LINE`.
 fn count_command<'a>(alloc: Global) -> Result<Command<'a>, AllocError>
-    ensures app { IfOk result (λ c. app_of c ≡ count_app) }
-    ensures local { IfOk result (λ c. (fields_of c).has_globals ≡ false) }
+    ensures { IfOk result (λ c. app_of c ≡ count_app) }
 {
     let about = "Counts the ways to play on from a position, for each first move";
     let command = subcommand(alloc, "count", about, help::LONG_OF_COUNT);
@@ -268,19 +221,17 @@ fn count_command<'a>(alloc: Global) -> Result<Command<'a>, AllocError>
 
 // `steps [--workers N] [--progress] FILE..`.
 fn steps_command<'a>(alloc: Global) -> Result<Command<'a>, AllocError>
-    ensures app { IfOk result (λ c. app_of c ≡ steps_app) }
-    ensures local { IfOk result (λ c. (fields_of c).has_globals ≡ false) }
+    ensures { IfOk result (λ c. app_of c ≡ steps_app) }
 {
     let command = subcommand(alloc, "steps", ABOUT_STEPS, help::LONG_OF_STEPS);
     let command = with_arg(command, workers_arg(alloc))?;
-    let command = with_arg(command, progress_arg(alloc))?;
+    let command = with_arg(command, flag_arg(alloc, "progress", PROGRESS))?;
     with_arg(command, file_arg(alloc))
 }
 
 // Returns the program without a subcommand, which must be given one later. If the version is asked for, `refuse` writes it.
 fn program<'a>(alloc: Global) -> Command<'a>
-    ensures app { app_of result ≡ program_app }
-    ensures local { (fields_of result).has_globals ≡ false }
+    ensures { app_of result ≡ program_app }
 {
     let about = "Solves small positions of Kalah: the best house and the margin of best play";
     named(alloc, "kalah", about)
@@ -291,36 +242,41 @@ fn program<'a>(alloc: Global) -> Command<'a>
         .disable_help_subcommand(true)
 }
 
-// The command with one more subcommand, where there is memory for it.
+// The command with one more subcommand.
 fn with_command<'a>(
     command: Command<'a>,
-    subcommand: Result<Command<'a>, AllocError>,
+    subcommand: Command<'a>,
 ) -> Result<Command<'a>, AllocError>
-    requires subcommand { IfOk subcommand (λ c. (fields_of c).has_globals ≡ false) }
-    requires local { (fields_of command).has_globals ≡ false }
-    ensures app { IfOk result (λ c. (a : App) → IfOk subcommand.entry (λ s. app_of s ≡ a)
-        → app_of c ≡ with_subcommand (app_of command.entry) a.top) }
-    ensures local { IfOk result (λ c. (fields_of c).has_globals ≡ false) }
+    requires { (app_of subcommand).top.is_plain ≡ true }
+    ensures { IfOk result (λ c. app_of c ≡ with_subcommand (app_of command.entry) (app_of subcommand.entry).top) }
 {
-    command.subcommand(subcommand?)
+    command.subcommand(subcommand)
 }
 
-/// The command line of the program: `moves [--boards] LINE`, `play [--table N] [--boards] [--first H] LINE`,
-/// `solve [--workers N] [--table N] [--progress] FILE..`, `values` with the same arguments,
-/// `ask [--values] [--table N]`, `steps [--workers N] [--progress] FILE..`, `show [--plain] [--table N] LINE` and
-/// `count DEPTH LINE`, with 1 to 64 workers, 4 by default, 1 to 1,048,576 entries in a table, 65,536 by default, a
-/// house from 1 to 6, and a depth of 0 to 20. One of the eight is asked for, or help, or the version. It is complete: nothing is added to it before a parse.
+/// Returns the command line of the program. It is complete: nothing is added to it before a parse.
+///
+/// It asks for one of eight subcommands, or for help or the version:
+/// - `moves [--boards] LINE`
+/// - `play [--table N] [--boards] [--first H] LINE`
+/// - `solve [--workers N] [--table N] [--progress] FILE..`, and `values` with the same arguments
+/// - `ask [--values] [--table N]`
+/// - `steps [--workers N] [--progress] FILE..`
+/// - `show [--plain] [--table N] LINE`
+/// - `count DEPTH LINE`
+///
+/// There are 1 to 64 workers, 4 by default; a table has 1 to 1,048,576 entries, 65,536 by default; H is a house from 1 to 6, and DEPTH a
+/// number from 0 to 20.
 pub fn command<'a>(alloc: Global) -> Result<Command<'a>, AllocError>
     ensures { IfOk result (λ c. app_of c ≡ kalah_app) }
 {
-    let command = with_command(program(alloc), moves_command(alloc))?;
-    let command = with_command(command, play_command(alloc))?;
-    let solve = answers_command(alloc, "solve", ABOUT_SOLVE, help::LONG_OF_SOLVE);
+    let command = with_command(program(alloc), moves_command(alloc)?)?;
+    let command = with_command(command, play_command(alloc)?)?;
+    let solve = answers_command(alloc, "solve", ABOUT_SOLVE, help::LONG_OF_SOLVE)?;
     let command = with_command(command, solve)?;
-    let values = answers_command(alloc, "values", ABOUT_VALUES, help::LONG_OF_VALUES);
+    let values = answers_command(alloc, "values", ABOUT_VALUES, help::LONG_OF_VALUES)?;
     let command = with_command(command, values)?;
-    let command = with_command(command, ask_command(alloc))?;
-    let command = with_command(command, steps_command(alloc))?;
-    let command = with_command(command, show_command(alloc))?;
-    with_command(command, count_command(alloc))
+    let command = with_command(command, ask_command(alloc)?)?;
+    let command = with_command(command, steps_command(alloc)?)?;
+    let command = with_command(command, show_command(alloc)?)?;
+    with_command(command, count_command(alloc)?)
 }

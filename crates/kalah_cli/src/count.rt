@@ -9,9 +9,8 @@ ghost use Rattle.kalah_jobs.specs.Writing.Counts.{total_line, ways_line};
 ghost use Rattle.kalah_jobs.specs.Writing.Given.{AppendsStart};
 ghost use Rattle.kalah_cli.specs.Count.{count_output, ways_lines};
 
-use crate::failure::Failure;
+use crate::failure::{Failure, report_fault};
 use crate::status::ExitStatus;
-use crate::unread::tell_fault;
 use kalah_jobs::{Sink, read_line, write_total, write_ways};
 use kalah_rules::Board;
 use std::io;
@@ -104,6 +103,6 @@ pub(crate) fn run_count<O: Sink, E: Write>(
             Ok(()) => ExitStatus::Clean,
             Err(_) => Failure::Write.report(err),
         },
-        Err(fault) => tell_fault(fault, err),
+        Err(fault) => report_fault(fault, err),
     }
 }

@@ -3,6 +3,7 @@ ghost use Rattle.std.specs.Prelude.{◌≡◌};
 ghost use Rattle.kalah_cli.specs.Failure.{failure_of};
 
 use crate::status::ExitStatus;
+use kalah_jobs::LineFault;
 use kalah_run::RunFault;
 use std::fmt;
 use std::io::Write;
@@ -34,6 +35,14 @@ impl Failure<'_> {
         let _ = writeln!(err, "kalah: {self}");
         ExitStatus::Failed
     }
+}
+
+/// Reports on `err` why a line can't be read, and returns the exit status. If the report can't be written, it is dropped.
+pub(crate) fn report_fault<E: Write>(fault: LineFault, err: &mut E) -> ExitStatus
+    ensures { result ≡ ExitStatus.LineFaults }
+{
+    let _ = writeln!(err, "fault {}", fault.word());
+    ExitStatus::LineFaults
 }
 
 impl From<RunFault> for Failure<'_> {

@@ -3,7 +3,6 @@
 #![tactic(auto)]
 
 mod ask;
-mod batch;
 #[cfg(test)]
 mod calling;
 mod command;
@@ -19,8 +18,8 @@ mod progress;
 mod request;
 mod run;
 mod show;
+mod solve_files;
 mod status;
-mod unread;
 mod version;
 
 use failure::Failure;

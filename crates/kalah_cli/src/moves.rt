@@ -6,9 +6,8 @@ ghost use Rattle.kalah_jobs.specs.Writing.Given.{AppendsStart};
 ghost use Rattle.kalah_jobs.specs.Line.Line.{Reads};
 ghost use Rattle.kalah_cli.specs.Moves.{board_lines, move_lines, moves_output};
 
-use crate::failure::Failure;
+use crate::failure::{Failure, report_fault};
 use crate::status::ExitStatus;
-use crate::unread::tell_fault;
 use kalah_jobs::{Sink, read_line, write_picture, write_step};
 use kalah_rules::{Board, Step};
 use std::io;
@@ -94,6 +93,6 @@ pub(crate) fn run_moves<O: Sink, E: Write>(
             Ok(()) => ExitStatus::Clean,
             Err(_) => Failure::Write.report(err),
         },
-        Err(fault) => tell_fault(fault, err),
+        Err(fault) => report_fault(fault, err),
     }
 }

@@ -8,10 +8,9 @@ ghost use Rattle.kalah_cli.specs.Play.{BeginsBest, BeginsGame, BeginsToPlay, May
 ghost use Rattle.std.specs.Io.KnownBytes.{Appends};
 ghost use Rattle.kalah_jobs.specs.Writing.Given.{AppendsStart};
 
-use crate::failure::Failure;
+use crate::failure::{Failure, report_fault};
 use crate::moves::{write_board, write_move};
 use crate::status::ExitStatus;
-use crate::unread::tell_fault;
 use kalah_jobs::{Sink, read_line};
 use kalah_rules::{Board, Step};
 use kalah_solve::{Solver, Table, Verdict};
@@ -153,7 +152,7 @@ pub(crate) fn run_play<O: Sink, E: Write>(
 {
     let board = match read_line(line.as_bytes()) {
         Ok(board) => board,
-        Err(fault) => return tell_fault(fault, err),
+        Err(fault) => return report_fault(fault, err),
     };
     if let Some(h) = unmoved_house(&board, first) {
         return Failure::Unmoved(h).report(err);

@@ -33,7 +33,7 @@ pub enum Request<'a> {
         first: Option<u8>,
     },
     /// Answer each line of files.
-    Batch(Batch<'a>),
+    Files(FilesRequest<'a>),
     /// Answer each line of the standard input, by a solver with a table of `table` entries, 1 to 1,048,576.
     Ask {
         question: Question,
@@ -55,7 +55,7 @@ pub enum Request<'a> {
 
 /// What is asked of the positions of files, and how they are answered.
 #[derive(Drop)]
-pub struct Batch<'a> {
+pub struct FilesRequest<'a> {
     /// What is asked of each position.
     pub question: Question,
     /// The number of workers, 1 to 64.
@@ -163,7 +163,7 @@ fn files_request<'a>(
     let workers = number_of(found, "workers");
     let progress = is_set(found, "progress");
     let files = found.get_strs("file").unwrap().to_vec(alloc)?;
-    Ok(Request::Batch(Batch {
+    Ok(Request::Files(FilesRequest {
         question,
         workers,
         table,

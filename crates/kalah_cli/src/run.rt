@@ -14,10 +14,9 @@ ghost use Rattle.kalah_cli.specs.Moves.{moves_output};
 ghost use Rattle.kalah_cli.specs.Play.{PlaysBest};
 ghost use Rattle.kalah_cli.specs.Request.{Asked, AsksNot, IsInRange, IsPlainWord, IsRefused, IsTakenAs, IsVersionWord, ask, asked_for, texts_of};
 ghost use Rattle.kalah_cli.specs.Runs.{Begins, Does, IsOfLine, IsOfNoInput, IsUnread, version_line, IsUnmoved};
-ghost use Rattle.kalah_cli.specs.Batch.{AnswersFiles, TellsSteps, TellsValues};
+ghost use Rattle.kalah_cli.specs.SolveFiles.{AnswersFiles, TellsSteps, TellsValues};
 
 use crate::ask::run_ask;
-use crate::batch::run_batch;
 use crate::count::run_count;
 use crate::failure::Failure;
 use crate::help;
@@ -26,6 +25,7 @@ use crate::play::run_play;
 use crate::progress::StandardError;
 use crate::request::{Request, parse};
 use crate::show::run_show;
+use crate::solve_files::run_files;
 use crate::status::ExitStatus;
 use crate::version::VERSION_LINE;
 use clap::Error;
@@ -131,7 +131,7 @@ fn run_request<R: Files + Input + StandardError + Threads + Wait + Sync, O: Sink
             boards,
             first,
         } => run_play(alloc, line, *table, *boards, *first, out, err),
-        Request::Batch(batch) => run_batch(rt, alloc, batch, out, err),
+        Request::Files(files) => run_files(rt, alloc, files, out, err),
         Request::Ask { question, table } => run_ask(rt, alloc, *question, *table, out, err),
         Request::Show { line, table, plain } => run_show(alloc, line, *table, *plain, out, err),
         Request::Count { depth, line } => run_count(*depth, line, out, err),

@@ -9,9 +9,8 @@ ghost use Rattle.kalah_jobs.specs.Writing.Picture.{picture_of};
 ghost use Rattle.kalah_jobs.specs.Writing.Shown.{shown_of};
 ghost use Rattle.kalah_cli.specs.Show.{show_output};
 
-use crate::failure::Failure;
+use crate::failure::{Failure, report_fault};
 use crate::status::ExitStatus;
-use crate::unread::tell_fault;
 use kalah_jobs::{Sink, read_line, write_picture, write_values};
 use kalah_rules::Board;
 use kalah_solve::{Solver, Table};
@@ -75,7 +74,7 @@ pub(crate) fn run_show<O: Sink, E: Write>(
 {
     let board = match read_line(line.as_bytes()) {
         Ok(board) => board,
-        Err(fault) => return tell_fault(fault, err),
+        Err(fault) => return report_fault(fault, err),
     };
     if plain {
         return match write_plain(&board, out) {

@@ -17,10 +17,10 @@ fn asks(
     files: &[&str],
 ) -> bool {
     match asked(rt, words) {
-        Some(Request::Batch(batch)) => {
-            batch.question == question
-                && (batch.workers, batch.table) == numbers
-                && batch.files.as_slice() == files
+        Some(Request::Files(request)) => {
+            request.question == question
+                && (request.workers, request.table) == numbers
+                && request.files.as_slice() == files
         }
         _ => false,
     }

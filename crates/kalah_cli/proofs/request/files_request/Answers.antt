@@ -6,7 +6,7 @@ use Rattle.clap.specs.Words.{found_of}
 use Rattle.clap.proofs.WalkLemmas.{raw_values-rows}
 use Rattle.kalah_solve.specs.Table.Entries.{most_entries}
 use Rattle.kalah_run.specs.Limits.{most_workers}
-use Rattle.kalah_cli.proofs.Getters.{is_there, number_in_range}
+use Rattle.kalah_cli.proofs.Getters.{is_there, number_in_range, values_are}
 use Rattle.kalah_cli.proofs.Subcommands.{given, has_flag, has_number, may_have_number, takes_files}
 use Rattle.kalah_cli.proofs.request.files_request.Goals as goal
 
@@ -22,21 +22,20 @@ unwrap-requires c =
     is_there _ c.get_strs.result (ap is_some (c.get_strs.ensures ∙ raw_values-rows (found_of c.args.found.now) (codes "file")
     ∙ (given (codes "file") c.requires (takes_files c.args.question).2 refl).all))
 
--- the files are those that the matches have
-files_are : (c : goal.In_ok-files) → all_of (codes "file") (rows_of (found_of c.args.found.now)) ≡ Some (map (λ f. f.now) c.in_ok-files.files.items)
-files_are c =
-    let copied : c.in_ok-files.files.items ≡ c.unwrap.result.now = c.in_ok-files.ensures.items_if_clones_equal (λ x y h. h) in
-    sym (raw_values-rows (found_of c.args.found.now) (codes "file")) ∙ sym c.get_strs.ensures ∙ ap (option_map (λ s. map (λ v. v.now) s.now)) c.unwrap.ensures
-    ∙ ap (λ xs. Some (map (λ f. f.now) xs)) (sym copied)
-
 pub returns-clause-asked : goal.returns-clause-asked
-returns-clause-asked c = rw (c.table_of-table.ensures.asked, c.number_of-workers.ensures.given, files_are c, c.is_set-progress.ensures) refl
+returns-clause-asked c =
+    let files = values_are (found_of c.args.found.now) (codes "file") c.get_strs.result c.unwrap.result c.in_ok-files.files.items c.get_strs.ensures
+    c.unwrap.ensures (c.in_ok-files.ensures.items_if_clones_equal (λ x y h. h)) in
+    rw (c.table_of-table.ensures.asked, c.number_of-workers.ensures.given, files, c.is_set-progress.ensures) refl
 
 pub returns-clause-range : goal.returns-clause-range
 returns-clause-range c =
     let workers = may_have_number (codes "workers") 1 most_workers c.requires (takes_files c.args.question).0 refl (omega arith) (omega arith) in
-    let few = number_in_range (codes "workers") 1 most_workers (rows_of (found_of c.args.found.now)) c.number_of-workers.result workers c.number_of-workers.ensures.given in
+    let few = number_in_range (codes "workers") 1 most_workers (rows_of (found_of c.args.found.now)) c.number_of-workers.result workers
+    c.number_of-workers.ensures.given in
+    let files = values_are (found_of c.args.found.now) (codes "file") c.get_strs.result c.unwrap.result c.in_ok-files.files.items c.get_strs.ensures
+    c.unwrap.ensures (c.in_ok-files.ensures.items_if_clones_equal (λ x y h. h)) in
     let file = given (codes "file") c.requires (takes_files c.args.question).2 refl in
-    let same : map (λ f. f.now) c.in_ok-files.files.items ≡ file.value ∷ file.more = (let one = file.all in let other = files_are c in cc) in
+    let same : map (λ f. f.now) c.in_ok-files.files.items ≡ file.value ∷ file.more = (let all = file.all in cc) in
     let count : length (map (λ f. f.now) c.in_ok-files.files.items) ≡ length c.in_ok-files.files.items = simp length-map in
     (few.0, few.1, c.table_of-table.ensures.low, c.table_of-table.ensures.high, omega (arith, ap length same))

@@ -8,7 +8,7 @@ use Rattle.kalah_cli.specs.Command.{kalah_app}
 use Rattle.kalah_cli.specs.Request.{Asked, IsTakenAs}
 use Rattle.kalah_cli.proofs.Laws.{moves_taken, taken_at, taken_once}
 use Rattle.kalah_cli.proofs.Parsed.{asked_is, by_memory_alone, faulty, if_error, is_taken, on_error, parsed}
-use Rattle.kalah_cli.proofs.Taken.{files_of}
+use Rattle.kalah_cli.proofs.ManyWords.{files_taken}
 use Rattle.kalah_cli.proofs.request.parse.Given.{Over}
 use Rattle.kalah_cli.proofs.request.parse.Goals as goal
 
@@ -33,7 +33,7 @@ returns-clause-moves g c = λ name line is plain.
 
 pub returns-clause-files : goal.returns-clause-files
 returns-clause-files g c = λ question name file files is plain.
-    taken_once (map g.S.AsStr.text c.args.words.now) _ _ (returns-clause-taken g c) (files_of question _ name file files is plain)
+    taken_once (map g.S.AsStr.text c.args.words.now) _ _ (returns-clause-taken g c) (taken_at is (files_taken question name file files plain))
 
 -- the error of a parse has a kind of the arguments' fault, so it is out of memory where they are accepted
 has_kind : (g : Over) (c : goal.After-from_residual-in_err-matches g) (e : Error) → e ≡ c.in_err-matches.field-0.0
@@ -58,4 +58,4 @@ returns-in_err-matches-clause-moves g c = λ name line is plain.
 
 pub returns-in_err-matches-clause-files : goal.returns-in_err-matches-clause-files
 returns-in_err-matches-clause-files g c = λ question name file files is plain.
-    on_error _ _ _ _ c.from_residual-in_err-matches.ensures.1 (λ e same. refused g c e same _ (files_of question _ name file files is plain))
+    on_error _ _ _ _ c.from_residual-in_err-matches.ensures.1 (λ e same. refused g c e same _ (taken_at is (files_taken question name file files plain)))

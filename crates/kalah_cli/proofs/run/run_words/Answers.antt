@@ -1,7 +1,7 @@
-use Rattle.std.proofs.Common.{◌≡◌, ◌≢◌, ◌∙◌, ℕ, List, [], ◌∷◌, None, false, true, inl, inr, refl, subst, sym}
+use Rattle.std.proofs.Common.{◌≡◌, ◌≢◌, ◌∙◌, ℕ, List, [], ◌∷◌, None, ap, false, true, inl, inr, refl, subst, sym}
 use Rattle.std.specs.List.{All}
 use Rattle.clap.specs.Faults.{fault_of}
-use Rattle.clap.specs.Kinds.{IsAmong, Kinds}
+use Rattle.clap.specs.Kinds.{HasKind, IsAmong, Kinds}
 use Rattle.clap.specs.Values.{kind_of}
 use Rattle.clap.specs.Words.{Text}
 use Rattle.clap.specs.declared.error.kind.ErrorKind.{ErrorKind}
@@ -11,12 +11,12 @@ use Rattle.kalah_jobs.specs.declared.files.question.Question.TheVariants.{BestMo
 use Rattle.kalah_cli.specs.Ask.{StopsBetweenLines}
 use Rattle.kalah_cli.specs.Command.{kalah_app}
 use Rattle.kalah_cli.specs.Request.{Asked, IsPlainWord, IsTakenAs, answers, ask, asked_for, command_of, moves, play, table_of, texts_of, show}
-use Rattle.kalah_cli.specs.Runs.{Begins, Does, IsOfLine, IsUnread}
+use Rattle.kalah_cli.specs.Runs.{Begins, Does, IsOfLine, IsUnmoved, IsUnread}
 use Rattle.kalah_cli.specs.declared.status.ExitStatus.TheVariants.{Clean, Failed}
-use Rattle.kalah_cli.proofs.Begun.{begins_none, begun_as, stops_before_lines}
+use Rattle.kalah_cli.proofs.Begun.{begins_none, stops_before_lines}
 use Rattle.kalah_cli.proofs.Laws.{ask_taken, ask_values_taken, moves_taken, play_taken, show_plain_taken, show_taken, taken_at, taken_once, version_asked}
 use Rattle.kalah_cli.proofs.Plain.{read_is_plain}
-use Rattle.kalah_cli.proofs.Taken.{done_as, failed_does, fault_at, files_or_none, line_as, no_request, unmoved_as, words_at}
+use Rattle.kalah_cli.proofs.Taken.{failed_does, files_or_none, no_request}
 use Rattle.kalah_cli.proofs.run.run_words.Goals.{After-drop-words, After-drop-words-2}
 use Rattle.kalah_cli.proofs.run.run_words.Given.{Over}
 use Rattle.kalah_cli.proofs.run.run_words.Goals as goal
@@ -24,118 +24,127 @@ use Rattle.kalah_cli.proofs.run.run_words.Goals as goal
 -- ---- the arguments are accepted
 
 -- as the request
-taken_as : (g : Over) (c : After-drop-words g) → IsTakenAs (texts_of c.args.words.items) (asked_for c.in-Ok.request)
-taken_as g c = words_at c.args.words.items _ (asked_for c.in-Ok.request) (sym c.as_slice.ensures.value) c.in-Ok.ensures.taken
+request_taken : (g : Over) (c : After-drop-words g) → IsTakenAs (texts_of c.args.words.items) (asked_for c.in-Ok.request)
+request_taken g c = taken_at (ap texts_of (sym c.as_slice.ensures.value)) c.in-Ok.ensures.taken
+
+-- and as nothing else
+is_asked : (g : Over) (c : After-drop-words g) (a : Asked) → IsTakenAs (texts_of c.args.words.items) a → asked_for c.in-Ok.request ≡ a
+is_asked g c a taken = taken_once (texts_of c.args.words.items) (asked_for c.in-Ok.request) a (request_taken g c) taken
 
 -- so what they ask for is done
-done : (g : Over) (c : After-drop-words g) (a : Asked) → IsTakenAs (texts_of c.args.words.items) a
+does_asked : (g : Over) (c : After-drop-words g) (a : Asked) → IsTakenAs (texts_of c.args.words.items) a
     → Does a (g.O.Sink.written c.args.out.now) (g.O.Sink.written c.run_request.new.out) c.run_request.result
-done g c a taken = done_as (texts_of c.args.words.items) (asked_for c.in-Ok.request) a _ _ _ (taken_as g c) taken c.run_request.ensures.does
+does_asked g c a taken =
+    subst (λ x. Does x (g.O.Sink.written c.args.out.now) (g.O.Sink.written c.run_request.new.out) c.run_request.result) (is_asked g c a taken)
+    c.run_request.ensures.does
 
 -- and nothing if it is asked of a line that is not read
-undone : (g : Over) (c : After-drop-words g) (a : Asked) (line : List ℕ) → IsTakenAs (texts_of c.args.words.items) a → IsOfLine a line → IsUnread line
-    → (c.run_request.result ≢ Clean) × (c.run_request.new.out ≡ c.args.out.now)
-undone g c a line taken of none =
-    let ends = c.run_request.ensures.unread line (line_as (texts_of c.args.words.items) (asked_for c.in-Ok.request) a line (taken_as g c) taken of) none in
+does_nothing : (g : Over) (c : After-drop-words g) (a : Asked) (line : List ℕ) → IsTakenAs (texts_of c.args.words.items) a → IsOfLine a line
+    → IsUnread line → (c.run_request.result ≢ Clean) × (c.run_request.new.out ≡ c.args.out.now)
+does_nothing g c a line taken of none =
+    let ends = c.run_request.ensures.unread line (subst (λ x. IsOfLine x line) (sym (is_asked g c a taken)) of) none in
     let faulty = ends.0 in
     (λ e. cc, ends.1)
 
 pub returns-in-Ok-clause-does : goal.returns-in-Ok-clause-does
-returns-in-Ok-clause-does g c = done g c
+returns-in-Ok-clause-does g c = does_asked g c
 
 pub returns-in-Ok-clause-begins : goal.returns-in-Ok-clause-begins
 returns-in-Ok-clause-begins g c = λ a taken.
-    begun_as (texts_of c.args.words.items) (asked_for c.in-Ok.request) a _ _ (taken_as g c) taken c.run_request.ensures.begins
+    subst (λ x. Begins x (g.O.Sink.written c.args.out.now) (g.O.Sink.written c.run_request.new.out)) (is_asked g c a taken) c.run_request.ensures.begins
 
 pub returns-in-Ok-clause-unread_line : goal.returns-in-Ok-clause-unread_line
-returns-in-Ok-clause-unread_line g c = undone g c
+returns-in-Ok-clause-unread_line g c = does_nothing g c
 
 pub returns-in-Ok-clause-unmoved : goal.returns-in-Ok-clause-unmoved
-returns-in-Ok-clause-unmoved g c = λ a taken unmoved.
-    c.run_request.ensures.unmoved (unmoved_as (texts_of c.args.words.items) (asked_for c.in-Ok.request) a (taken_as g c) taken unmoved)
+returns-in-Ok-clause-unmoved g c = λ a taken unmoved. c.run_request.ensures.unmoved (subst IsUnmoved (sym (is_asked g c a taken)) unmoved)
 
 pub returns-in-Ok-clause-moves : goal.returns-in-Ok-clause-moves
-returns-in-Ok-clause-moves g c = λ name line p is reads. done g c (moves false line) (taken_at is (moves_taken name line (read_is_plain line p reads))) p reads
+returns-in-Ok-clause-moves g c = λ name line p is reads. does_asked g c (moves false line) (taken_at is (moves_taken name line (read_is_plain line p reads))) p reads
 
 pub returns-in-Ok-clause-played : goal.returns-in-Ok-clause-played
 returns-in-Ok-clause-played g c = λ name line p is reads.
-    let played = done g c (play None 65536 false line) (taken_at is (play_taken name line (read_is_plain line p reads))) p reads in
+    let played = does_asked g c (play None 65536 false line) (taken_at is (play_taken name line (read_is_plain line p reads))) p reads in
     (played.0, λ clean. (played.1 clean).1)
 
 pub returns-in-Ok-clause-shown : goal.returns-in-Ok-clause-shown
-returns-in-Ok-clause-shown g c = λ name line p is reads. done g c (show false 65536 line) (taken_at is (show_taken name line (read_is_plain line p reads))) p reads
+returns-in-Ok-clause-shown g c = λ name line p is reads. does_asked g c (show false 65536 line) (taken_at is (show_taken name line (read_is_plain line p reads))) p reads
 
 pub returns-in-Ok-clause-shown_plain : goal.returns-in-Ok-clause-shown_plain
-returns-in-Ok-clause-shown_plain g c = λ name line p is reads. done g c (show true 65536 line)
+returns-in-Ok-clause-shown_plain g c = λ name line p is reads. does_asked g c (show true 65536 line)
     (taken_at is (show_plain_taken name line (read_is_plain line p reads))) p reads
 
 pub returns-in-Ok-clause-unread : goal.returns-in-Ok-clause-unread
 returns-in-Ok-clause-unread g c = λ name line is plain none. elim is [
-  | inl moved ↦ undone g c (moves false line) line (taken_at moved (moves_taken name line plain)) refl none
-  | inr played ↦ undone g c (play None 65536 false line) line (taken_at played (play_taken name line plain)) refl none
+  | inl moved ↦ does_nothing g c (moves false line) line (taken_at moved (moves_taken name line plain)) refl none
+  | inr played ↦ does_nothing g c (play None 65536 false line) line (taken_at played (play_taken name line plain)) refl none
 ]
 
+-- they have no fault
+no_fault : (g : Over) (c : After-drop-words g) → fault_of kalah_app (texts_of c.args.words.items) ≡ []
+no_fault g c = ap (λ words. fault_of kalah_app (texts_of words)) (sym c.as_slice.ensures.value) ∙ c.in-Ok.ensures.kinds
+
 -- what is asked of files is done
-done_of_files : (g : Over) (c : After-drop-words g) (question : Question) (name : Text) (files : List Text)
+files_done : (g : Over) (c : After-drop-words g) (question : Question) (name : Text) (files : List Text)
     → texts_of c.args.words.items ≡ name ∷ command_of question ∷ files → All IsPlainWord files
     → Does (answers question 4 (table_of question) false files) (g.O.Sink.written c.args.out.now)
     (g.O.Sink.written c.run_request.new.out) c.run_request.result
-done_of_files g c question name files is plain = elim (files_or_none question _ name files is plain) [
-  | inl taken ↦ done g c (answers question 4 (table_of question) false files) taken
+files_done g c question name files is plain = elim (files_or_none question _ name files is plain) [
+  | inl taken ↦ does_asked g c (answers question 4 (table_of question) false files) taken
   | inr missed ↦
-      let none = fault_at _ c.args.words.items c.as_slice.ensures.value c.in-Ok.ensures.kinds in
+      let none = no_fault g c in
       absurd (let bad : MissingRequiredArgument ∷ [] ≡ [] = sym missed ∙ none in cc)
 ]
 
 pub returns-in-Ok-clause-solved : goal.returns-in-Ok-clause-solved
-returns-in-Ok-clause-solved g c = λ name files is plain. done_of_files g c BestMove name files is plain
+returns-in-Ok-clause-solved g c = λ name files is plain. files_done g c BestMove name files is plain
 
 pub returns-in-Ok-clause-valued : goal.returns-in-Ok-clause-valued
-returns-in-Ok-clause-valued g c = λ name files is plain. done_of_files g c Values name files is plain
+returns-in-Ok-clause-valued g c = λ name files is plain. files_done g c Values name files is plain
 
 pub returns-in-Ok-clause-stepped : goal.returns-in-Ok-clause-stepped
-returns-in-Ok-clause-stepped g c = λ name files is plain. done_of_files g c Steps name files is plain
+returns-in-Ok-clause-stepped g c = λ name files is plain. files_done g c Steps name files is plain
 
 pub returns-in-Ok-clause-asked : goal.returns-in-Ok-clause-asked
-returns-in-Ok-clause-asked g c = λ name is. done g c (ask BestMove 65536) (taken_at is (ask_taken name))
+returns-in-Ok-clause-asked g c = λ name is. does_asked g c (ask BestMove 65536) (taken_at is (ask_taken name))
 
 pub returns-in-Ok-clause-asked_values : goal.returns-in-Ok-clause-asked_values
-returns-in-Ok-clause-asked_values g c = λ name is. done g c (ask Values 65536) (taken_at is (ask_values_taken name))
+returns-in-Ok-clause-asked_values g c = λ name is. does_asked g c (ask Values 65536) (taken_at is (ask_values_taken name))
 
 pub returns-in-Ok-clause-unchanged : goal.returns-in-Ok-clause-unchanged
-returns-in-Ok-clause-unchanged g c = λ none. c.run_request.ensures.unchanged (none (asked_for c.in-Ok.request) (taken_as g c))
+returns-in-Ok-clause-unchanged g c = λ none. c.run_request.ensures.unchanged (none (asked_for c.in-Ok.request) (request_taken g c))
 
 pub returns-in-Ok-clause-stopped : goal.returns-in-Ok-clause-stopped
 returns-in-Ok-clause-stopped g c = λ question table taken.
-    c.run_request.ensures.stopped question table
-    (taken_once (texts_of c.args.words.items) (asked_for c.in-Ok.request) (ask question table) (taken_as g c) taken)
+    c.run_request.ensures.stopped question table (is_asked g c (ask question table) taken)
 
 pub returns-in-Ok-clause-usage : goal.returns-in-Ok-clause-usage
-returns-in-Ok-clause-usage g c = λ faulty no_help no_version. absurd (faulty (fault_at _ c.args.words.items c.as_slice.ensures.value c.in-Ok.ensures.kinds))
+returns-in-Ok-clause-usage g c = λ faulty no_help no_version. absurd (faulty (no_fault g c))
 
 pub returns-in-Ok-clause-version : goal.returns-in-Ok-clause-version
-returns-in-Ok-clause-version g c = λ faulty. absurd (faulty (fault_at _ c.args.words.items c.as_slice.ensures.value c.in-Ok.ensures.kinds))
+returns-in-Ok-clause-version g c = λ faulty. absurd (faulty (no_fault g c))
 
 pub returns-in-Ok-clause-version_word : goal.returns-in-Ok-clause-version_word
 returns-in-Ok-clause-version_word g c = λ name is.
-    let none = fault_at _ c.args.words.items c.as_slice.ensures.value c.in-Ok.ensures.kinds in
+    let none = no_fault g c in
     let some = version_asked _ name is in
     absurd (let bad : DisplayVersion ∷ [] ≡ [] = sym some ∙ none in cc)
 
 pub returns-in-Ok-clause-no_line : goal.returns-in-Ok-clause-no_line
-returns-in-Ok-clause-no_line g c = λ faulty. absurd (faulty (fault_at _ c.args.words.items c.as_slice.ensures.value c.in-Ok.ensures.kinds))
+returns-in-Ok-clause-no_line g c = λ faulty. absurd (faulty (no_fault g c))
 
 -- ---- the parse failed
+
+-- the error has a kind of the arguments' fault
+has_kind : (g : Over) (c : After-drop-words-2 g) → HasKind (fault_of kalah_app (texts_of c.args.words.items)) c.in-Err.error
+has_kind g c = subst (λ words. HasKind (fault_of kalah_app (texts_of words)) c.in-Err.error) c.as_slice.ensures.value c.in-Err.ensures.kinds
 
 -- if the arguments are accepted, but memory was refused
 failed : (g : Over) (c : After-drop-words-2 g) (a : Asked) → IsTakenAs (texts_of c.args.words.items) a
     → (c.refuse.result ≡ Failed) × (c.refuse.new.out ≡ c.args.out.now)
-failed g c a taken = c.refuse.ensures.mistake (λ help.
-    let memory = c.in-Err.ensures.refused a (words_at _ c.args.words.items a c.as_slice.ensures.value taken) in
-    cc)
-    (λ version.
-    let memory = c.in-Err.ensures.refused a (words_at _ c.args.words.items a c.as_slice.ensures.value taken) in
-    cc)
+failed g c a taken =
+    let memory = c.in-Err.ensures.refused a (taken_at (ap texts_of c.as_slice.ensures.value) taken) in
+    c.refuse.ensures.mistake (λ help. cc) (λ version. cc)
 
 -- so nothing is done
 unwritten : (g : Over) (c : After-drop-words-2 g) (a : Asked) → IsTakenAs (texts_of c.args.words.items) a
@@ -185,7 +194,7 @@ returns-clause-unread g c = λ name line is plain none. elim is [
 -- arguments that don't ask for this don't get it
 unasked : (g : Over) (c : After-drop-words-2 g) (k : ErrorKind) → OutOfMemory ≢ k
     → (IsAmong k (fault_of kalah_app (texts_of c.args.words.items)) → ⊥) → kind_of c.in-Err.error ≢ k
-unasked g c k other none = no_request k _ c.args.words.items c.in-Err.error other c.as_slice.ensures.value c.in-Err.ensures.kinds none
+unasked g c k other none = no_request k (texts_of c.args.words.items) c.in-Err.error other (has_kind g c) none
 
 -- arguments that ask for a single thing ask for nothing else
 not_asked : {kinds : Kinds} (k alone : ErrorKind) → k ≢ alone → kinds ≡ alone ∷ [] → IsAmong k kinds → ⊥

@@ -2,12 +2,12 @@
 ghost use Rattle.std.specs.Prelude.{◌≡◌, ◌≢◌, ◌↔◌, Err, IfErr, IfOk, IsErrOf, OnOk, false, map, true};
 ghost use Rattle.std.specs.List.{list_any};
 ghost use Rattle.kalah_cli.specs.Request.{IsInLimits};
-ghost use Rattle.kalah_cli.specs.Batch.{AnswersTo, BeginsTo, CountsTo, has_line_feed};
+ghost use Rattle.kalah_cli.specs.SolveFiles.{AnswersTo, BeginsTo, CountsTo, has_line_feed};
 
 use crate::failure::Failure;
 use crate::files::read_files;
 use crate::progress::{Progress, StandardError};
-use crate::request::Batch;
+use crate::request::FilesRequest;
 use crate::status::ExitStatus;
 use kalah_jobs::Sink;
 use kalah_run::{BatchSize, OpenGate, Tally, answer_batch};
@@ -36,34 +36,34 @@ fn any_has_line_feed(names: &[&str]) -> bool
 fn answer_files<'a, R: Files + Threads + Wait + Sync + StandardError, O: Sink>(
     rt: &R,
     alloc: Global,
-    batch: &Batch<'a>,
+    request: &FilesRequest<'a>,
     out: &mut O,
 ) -> Result<Tally, Failure<'a>>
-    requires limits { IsInLimits batch.now }
+    requires limits { IsInLimits request.now }
     requires sink { O.has_failed out.old ≡ false }
-    ensures solved { IfOk result (λ tally. CountsTo batch.now.question (map (λ name. name.now) batch.now.files.items)
+    ensures solved { IfOk result (λ tally. CountsTo request.now.question (map (λ name. name.now) request.now.files.items)
         (O.written out.old) (O.written out.new) tally) }
-    ensures begins { BeginsTo batch.now.question (map (λ name. name.now) batch.now.files.items)
+    ensures begins { BeginsTo request.now.question (map (λ name. name.now) request.now.files.items)
         (O.written out.old) (O.written out.new) }
     ensures one_line { OnOk result
-        (list_any has_line_feed (map (λ name. name.now) batch.now.files.items) ≡ false) }
+        (list_any has_line_feed (map (λ name. name.now) request.now.files.items) ≡ false) }
     ensures handed_on { OnOk result (O.is_handed_on out.new ≡ true) }
     ensures failed { O.has_failed out.new ≡ true ↔ IsErrOf result Failure.Write }
     ensures unchanged { IfErr result
         (λ failure. failure ≢ Failure.Write → out.new ≡ out.old) }
 {
-    let names = batch.files.as_slice();
+    let names = request.files.as_slice();
     if any_has_line_feed(names) {
         return Err(Failure::LineFeed);
     }
     let files = read_files(rt, alloc, names)?;
     let files = files.as_slice();
     let size = BatchSize {
-        workers: batch.workers,
-        table: batch.table,
+        workers: request.workers,
+        table: request.table,
     };
-    let question = batch.question;
-    let answered = if batch.progress {
+    let question = request.question;
+    let answered = if request.progress {
         let progress = Progress::begin(rt, files);
         let answered = answer_batch(rt, alloc, question, files, size, &progress, out);
         progress.end();
@@ -90,26 +90,26 @@ fn status_of(tally: Tally) -> ExitStatus
 }
 
 /// Answers what is asked of each line of the named files.
-pub(crate) fn run_batch<R: Files + Threads + Wait + Sync + StandardError, O: Sink, E: Write>(
+pub(crate) fn run_files<R: Files + Threads + Wait + Sync + StandardError, O: Sink, E: Write>(
     rt: &R,
     alloc: Global,
-    batch: &Batch<'_>,
+    request: &FilesRequest<'_>,
     out: &mut O,
     err: &mut E,
 ) -> ExitStatus
-    requires limits { IsInLimits batch.now }
+    requires limits { IsInLimits request.now }
     requires sink { O.has_failed out.old ≡ false }
     ensures solved { result ≢ ExitStatus.Failed
-        → AnswersTo batch.now.question (map (λ name. name.now) batch.now.files.items)
+        → AnswersTo request.now.question (map (λ name. name.now) request.now.files.items)
         (O.written out.old) (O.written out.new) result }
-    ensures begins { BeginsTo batch.now.question (map (λ name. name.now) batch.now.files.items)
+    ensures begins { BeginsTo request.now.question (map (λ name. name.now) request.now.files.items)
         (O.written out.old) (O.written out.new) }
     ensures failed { O.has_failed out.new ≡ true → result ≡ ExitStatus.Failed }
     ensures unchanged { result ≡ ExitStatus.Failed → O.has_failed out.new ≡ false
         → out.new ≡ out.old }
     ensures handed_on { result ≢ ExitStatus.Failed → O.is_handed_on out.new ≡ true }
 {
-    match answer_files(rt, alloc, batch, out) {
+    match answer_files(rt, alloc, request, out) {
         Ok(tally) => status_of(tally),
         Err(failure) => failure.report(err),
     }
