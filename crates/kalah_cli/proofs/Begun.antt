@@ -17,10 +17,9 @@ use Rattle.kalah_jobs.specs.Writing.Shown.{shown_of, values_line}
 use Rattle.kalah_jobs.specs.Files.NamedBytes.{NamedBytes}
 use Rattle.kalah_jobs.specs.declared.files.question.Question.{Question}
 use Rattle.kalah_jobs.proofs.OfWriting.Starts.{start_kept_all, start_none, start_then}
-use Rattle.clap.specs.Words.{Text}
 use Rattle.kalah_cli.specs.Moves.{board_lines, move_lines}
 use Rattle.kalah_cli.specs.Play.{BeginsBest, BeginsToPlay}
-use Rattle.kalah_cli.specs.Request.{Asked, IsTakenAs, answers, ask, count, moves, play, show}
+use Rattle.kalah_cli.specs.Request.{Asked, answers, ask, count, moves, play, show}
 use Rattle.kalah_cli.specs.Runs.{Begins}
 use Rattle.kalah_cli.specs.Ask.{BeginsLines, StopsBetweenLines}
 use Rattle.kalah_cli.specs.SolveFiles.{BeginsTo}

@@ -58,7 +58,8 @@ first_step s takes x xs e = (simp (e, takes.0) refl, simp (e, takes.0) refl)
 
 -- and from one more
 step : (s : Shape) → TakesFiles s.rules → (files : List Text) (word : Text) (x : ℕ) (xs : Text) → (x == 45) ≡ false
-    → (walked s.rules [] (behind files word) (x ∷ xs) ≡ behind (files ++ word ∷ []) (x ∷ xs)) × (turn_fault s [] (behind files word) (x ∷ xs) ≡ [])
+    → (walked s.rules [] (behind files word) (x ∷ xs) ≡ behind (files ++ word ∷ []) (x ∷ xs))
+    × (turn_fault s [] (behind files word) (x ∷ xs) ≡ [])
 unfolding clap_on_literals
 step s takes [] word x xs e = (simp (e, takes.0, takes.1) refl, simp (e, takes.0, takes.1) refl)
 step s takes (file ∷ files) word x xs e = (simp (e, takes.0, takes.1) refl, simp (e, takes.0, takes.1) refl)

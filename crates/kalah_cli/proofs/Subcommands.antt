@@ -59,7 +59,8 @@ has_number id least most m takes parser lower higher wanted = (
 )
 
 -- a flag is set or isn't
-pub has_flag : {name : Text} {rows : List Row} (id : Text) {a : Rule} → AreMatches name rows → Takes name id a → a.parser ≡ Some vp.Bool → HasFlag id rows
+pub has_flag : {name : Text} {rows : List Row} (id : Text) {a : Rule} → AreMatches name rows → Takes name id a → a.parser ≡ Some vp.Bool
+    → HasFlag id rows
 has_flag {name} {rows} id {a} m takes parser t e =
     let written = ap (λ p. reading_of (parser_of_value p)) parser in
     let said = subst (λ p. Accepts a.ignore_case (parser_of_value p) t) parser (accepted_in rows id a (has_of name rows m id a takes) written t e) in
@@ -75,21 +76,23 @@ built_rule a = with_index 1 (filled a)
 
 -- the arguments of the subcommands with files
 pub takes_files : (question : Question) → Takes (command_of question) (codes "workers") (built_rule workers_rule)
-    × Takes (command_of question) (codes "progress") (built_rule (flag_rule (codes "progress"))) × Takes (command_of question) (codes "file") (built_rule file_rule)
+    × Takes (command_of question) (codes "progress") (built_rule (flag_rule (codes "progress")))
+    × Takes (command_of question) (codes "file") (built_rule file_rule)
 takes_files BestMove = (refl, refl, refl)
 takes_files Values = (refl, refl, refl)
 takes_files Steps = (refl, refl, refl)
 
 -- and of those that search
-pub takes_table : (question : Question) → (question ≡ BestMove) ⊎ (question ≡ Values) → Takes (command_of question) (codes "table") (built_rule table_rule)
+pub takes_table : (question : Question) → (question ≡ BestMove) ⊎ (question ≡ Values)
+    → Takes (command_of question) (codes "table") (built_rule table_rule)
 takes_table question (inl best) = subst (λ q. Takes (command_of q) (codes "table") (built_rule table_rule)) (sym best) refl
 takes_table question (inr values) = subst (λ q. Takes (command_of q) (codes "table") (built_rule table_rule)) (sym values) refl
 
 -- ---- the subcommand that was met
 
 -- the subcommand of this name was met, with these rows
-pub met : (m : ArgMatches) (name : Text) (rows : List Row) → subcommand_name_of m ≡ Some name → option_map (λ p. p.1) (subcommand_rows_of m) ≡ Some rows
-    → subcommand_rows_of m ≡ Some (name, rows)
+pub met : (m : ArgMatches) (name : Text) (rows : List Row) → subcommand_name_of m ≡ Some name
+    → option_map (λ p. p.1) (subcommand_rows_of m) ≡ Some rows → subcommand_rows_of m ≡ Some (name, rows)
 met m name rows named listed = go _ _ _ named listed
   where
     go : {A : Type 0} (f : A → Text) (g : A → List Row) (o : Option A) → option_map f o ≡ Some name

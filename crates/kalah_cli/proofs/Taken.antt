@@ -1,7 +1,6 @@
 -- What arguments are accepted as, and what is done for them.
-use Rattle.std.proofs.Common.{◌≡◌, ◌≢◌, ◌∙◌, ◌⊎◌, inl, inr, ℕ, false, List, [], ◌∷◌, Option, ap, subst, sym, String, Global}
+use Rattle.std.proofs.Common.{◌≡◌, ◌≢◌, ◌∙◌, ◌⊎◌, inl, inr, ℕ, false, List, [], ◌∷◌, Option, ap, subst, sym}
 use Rattle.std.specs.List.{All}
-use Rattle.std.specs.Prelude.{option_and_then}
 use Rattle.clap.specs.Values.{kind_of}
 use Rattle.clap.specs.Walk.{Text}
 use Rattle.clap.specs.Faults.{fault_of}
@@ -11,9 +10,8 @@ use Rattle.clap.specs.declared.error.kind.ErrorKind.{ErrorKind}
 use Rattle.clap.specs.declared.error.kind.ErrorKind.TheVariants.{MissingRequiredArgument, OutOfMemory}
 use Rattle.kalah_rules.specs.Position.{Position}
 use Rattle.kalah_jobs.specs.declared.files.question.Question.{Question}
-use Rattle.kalah_jobs.specs.declared.files.question.Question.TheVariants.{BestMove, Values, Steps}
 use Rattle.kalah_cli.specs.Command.{kalah_app}
-use Rattle.kalah_cli.specs.Request.{Asked, texts_of, IsPlainWord, IsTakenAs, answers, ask, asked_by, command_of, count, moves, play, table_of, show}
+use Rattle.kalah_cli.specs.Request.{Asked, IsPlainWord, IsTakenAs, answers, ask, command_of, count, moves, play, table_of, show}
 use Rattle.kalah_cli.specs.Runs.{Does, Prints}
 use Rattle.kalah_cli.specs.declared.status.ExitStatus.{ExitStatus}
 use Rattle.kalah_cli.specs.declared.status.ExitStatus.TheVariants.{Clean, Failed}

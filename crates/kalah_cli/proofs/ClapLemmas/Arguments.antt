@@ -162,13 +162,15 @@ pub accepted_in : (rows : List Row) (id : Text) (a : Rule) → Has rows id a →
     → Accepts a.ignore_case (parser_of_value a.parser) t
 accepted_in rows id a has written t e = go (find (λ r. bytes_eq r.id id) rows) refl e
   where
-    first : (Q : Text → Type 0) (vs : List Text) (how : Reading) → AllOf Q vs → how ≡ AsWritten → option_map (read_as how) (slice_get vs 0) ≡ Some t → Q t
+    first : (Q : Text → Type 0) (vs : List Text) (how : Reading) → AllOf Q vs → how ≡ AsWritten → option_map (read_as how) (slice_get vs 0) ≡ Some t
+        → Q t
     first Q [] how all is f = cc
     first Q (v ∷ vs) how all is f =
         let same : v ≡ t = (let read = rw is at f in cc) in
         subst Q same all.0
 
-    go : (o : Option Row) → find (λ r. bytes_eq r.id id) rows ≡ o → option_and_then row_text o ≡ Some t → Accepts a.ignore_case (parser_of_value a.parser) t
+    go : (o : Option Row) → find (λ r. bytes_eq r.id id) rows ≡ o → option_and_then row_text o ≡ Some t
+        → Accepts a.ignore_case (parser_of_value a.parser) t
     go None is f = cc
     go (Some r) is f =
         let fit = has.fits r is in

@@ -1,7 +1,6 @@
-use Rattle.std.proofs.Common.{◌≡◌, ◌∙◌, ◌∷◌, Some, ap, arith, codes, is_some, length, map, refl, sym}
-use Rattle.std.specs.Prelude.{option_map}
+use Rattle.std.proofs.Common.{◌≡◌, ◌∙◌, ◌∷◌, ap, arith, codes, is_some, length, map, refl}
 use Rattle.std.proofs.lemmas.List.{length-map}
-use Rattle.clap.specs.Walk.{all_of, rows_of}
+use Rattle.clap.specs.Walk.{rows_of}
 use Rattle.clap.specs.Words.{found_of}
 use Rattle.clap.proofs.WalkLemmas.{raw_values-rows}
 use Rattle.kalah_solve.specs.Table.Entries.{most_entries}

@@ -60,7 +60,8 @@ pub returns-in-Ok-clause-unmoved : goal.returns-in-Ok-clause-unmoved
 returns-in-Ok-clause-unmoved g c = λ a taken unmoved. c.run_request.ensures.unmoved (subst IsUnmoved (sym (is_asked g c a taken)) unmoved)
 
 pub returns-in-Ok-clause-moves : goal.returns-in-Ok-clause-moves
-returns-in-Ok-clause-moves g c = λ name line p is reads. does_asked g c (moves false line) (taken_at is (moves_taken name line (read_is_plain line p reads))) p reads
+returns-in-Ok-clause-moves g c = λ name line p is reads.
+    does_asked g c (moves false line) (taken_at is (moves_taken name line (read_is_plain line p reads))) p reads
 
 pub returns-in-Ok-clause-played : goal.returns-in-Ok-clause-played
 returns-in-Ok-clause-played g c = λ name line p is reads.
@@ -68,7 +69,8 @@ returns-in-Ok-clause-played g c = λ name line p is reads.
     (played.0, λ clean. (played.1 clean).1)
 
 pub returns-in-Ok-clause-shown : goal.returns-in-Ok-clause-shown
-returns-in-Ok-clause-shown g c = λ name line p is reads. does_asked g c (show false 65536 line) (taken_at is (show_taken name line (read_is_plain line p reads))) p reads
+returns-in-Ok-clause-shown g c = λ name line p is reads.
+    does_asked g c (show false 65536 line) (taken_at is (show_taken name line (read_is_plain line p reads))) p reads
 
 pub returns-in-Ok-clause-shown_plain : goal.returns-in-Ok-clause-shown_plain
 returns-in-Ok-clause-shown_plain g c = λ name line p is reads. does_asked g c (show true 65536 line)
@@ -183,7 +185,8 @@ returns-clause-shown g c = λ name line p is reads.
 
 pub returns-clause-shown_plain : goal.returns-clause-shown_plain
 returns-clause-shown_plain g c = λ name line p is reads.
-    failed_does (show true 65536 line) _ _ _ (failed g c (show true 65536 line) (taken_at is (show_plain_taken name line (read_is_plain line p reads)))).0 p reads
+    failed_does (show true 65536 line) _ _ _
+    (failed g c (show true 65536 line) (taken_at is (show_plain_taken name line (read_is_plain line p reads)))).0 p reads
 
 pub returns-clause-unread : goal.returns-clause-unread
 returns-clause-unread g c = λ name line is plain none. elim is [

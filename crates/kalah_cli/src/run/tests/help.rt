@@ -1,5 +1,6 @@
 //! What the help says, and the version.
 use super::{assert_answers, run_on};
+use crate::help;
 use crate::progress::StandardError;
 use crate::status::ExitStatus;
 use std::alloc::Global;
@@ -24,89 +25,13 @@ const OF_THE_PROGRAM: &[&str] = &[
     "Counts the ways to play on from a position, for each first move",
     "  -h, --help\n          Print help (see a summary with '-h')\n",
     "  -V, --version\n          Print version\n",
-    ABOUT_POSITIONS,
+    help::LONG,
 ];
 
 const OF_THE_PROGRAM_IN_SHORT: &[&str] = &[
     "  -h, --help     Print help (see more with '--help')\n  -V, --version  Print version\n",
     "`kalah --help` explains positions, the rules, answers and exit statuses.",
 ];
-
-const ABOUT_POSITIONS: &str = "\
-A position is one line, seen by the player to move: the seeds in that player's
-houses, a slash, the seeds in that player's store, a space, and the same for the
-other player:
-    1,1/0 1,1/0
-On a command line it needs quotes: kalah moves '1,1/0 1,1/0'
-Houses count from 1, and the last one lies next to its owner's store. A side has
-1 to 6 houses. All houses together hold at most 31 seeds, and a store at most
-99.
-
-The rules: on your turn, choose one of your houses with seeds in it. Take them
-all out and sow them, one into each cell: your houses after it, your store, your
-opponent's houses, your houses from 1 on, and so on round the board, but never
-your opponent's store. If the last seed falls into your store, you move again.
-If it falls into an empty house of yours (the one that you chose is empty, too),
-and the house across has seeds, you capture it and all of these: they go to your
-store. The game is over when the houses of one player are all empty. Seeds left
-in houses go to their owner's store.
-A line that ends in ` e`, such as 1,1/0 1,1/0 e, is played under the
-empty-capture rule: you capture a last seed in an empty house of yours even if
-the house across is empty.
-
-`kalah moves LINE` prints a line for each house H that may be moved, with the
-position after the move:
-    H POSITION again  the same player moves again
-    H POSITION turn   the other player is to move, and the position is seen by
-                      that player
-    H POSITION over   the game is over
-`kalah play LINE` prints the game in which each player always moves the lowest
-best house, a line for each move as `moves` prints it. With --boards, each
-position is drawn below its line, with the player to move at the bottom and
-houses from left to right. This is 1,2,3/4 5,6,7/8:
-       7   6   5
-   8               4
-       1   2   3
-With --first H the game begins with house H, and goes on with best play.
-`kalah show LINE` draws a position, and below each house what its move is worth;
-with --plain the picture alone. This is 3,3,3/0 3,3,3/0:
-       3   3   3
-   0               0
-       3   3   3
-       2   2  -4
-`kalah count DEPTH LINE` counts the ways to play on from a position by exactly
-DEPTH moves, 0 to 20. A game that is over has no further move:
-    H N      the number of ways that begin with the move of house H
-    total N  the number of all ways
-`kalah solve FILE..` prints a line for each line of each file, in order:
-    FILE:LINE MARGIN house H  the margin of best play, and the first best house
-    FILE:LINE MARGIN over     the game is over, with this margin
-    FILE:LINE fault WORD      not a position
-`kalah values FILE..` prints for each of these lines what each move is worth:
-    FILE:LINE H:V H:V ..      each house H that may be moved, and the margin V
-                              that its move gets in best play
-    FILE:LINE MARGIN over     as `solve`
-    FILE:LINE fault WORD      as `solve`
-`kalah steps FILE..` prints for each of these lines a line for each house H that
-may be moved:
-    FILE:LINE H POSITION again  as `moves` prints it, or with turn or over
-    FILE:LINE MARGIN over       as `solve`
-    FILE:LINE fault WORD        as `solve`
-`kalah ask` prints for each line of standard input, before it reads on, what
-`solve` prints after FILE:LINE, or with --values what `values` prints there.
-A margin is what the player to move ends with, less what the other player ends
-with.
-
-The WORD of a line that is not a position is the first of these that holds:
-    long      it has more than 80 bytes
-    empty     it has no bytes
-    shape     it does not have the form of a position
-    houses    the sides have different numbers of houses, or more than 6
-    seeds     the houses hold more than 31 seeds together
-
-Exit status: 0 if every line was read or help was printed; 1 if some line was
-not read; 2 if the arguments, a file, standard input, memory, a worker or the
-output failed, and standard error says which.";
 
 const OF_MOVES: &[&str] = &[
     "Prints each legal move of a position, and the position after it",
