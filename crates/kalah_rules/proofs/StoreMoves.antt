@@ -1,6 +1,6 @@
 -- Moves whose last seed falls into the store without a lap.
-use Rattle.std.proofs.Common.{◌≡◌, ◌≢◌, ℕ, ◌+◌, ◌-◌, ◌*◌, ◌/◌, ◌^◌, ◌<◌, ◌≤◌, arith, sym, ◌∙◌, length, eq-eqb}
-use Rattle.std.specs.Prelude.{true, false, sum, Contains}
+use Rattle.std.proofs.Common.{◌≡◌, ◌≢◌, ℕ, ◌+◌, ◌-◌, ◌*◌, ◌/◌, ◌^◌, ◌<◌, arith, length, eq-eqb}
+use Rattle.std.specs.Prelude.{true, sum, Contains}
 use Rattle.std.proofs.lemmas.Bool.Decides.{nat_tests}
 use Rattle.kalah_rules.specs.Position.{Rows, IsWithinHouses, is_over, bare}
 use Rattle.kalah_rules.specs.Position as position
@@ -45,6 +45,6 @@ module _ {a : Rows} {h key seeds : ℕ} {r : RowNumbers} (packed : IsPacked key 
       absurd (grind (arith, nat_tests, going, empty))
 
   -- so the game goes on with the mover, if the mover has seeds left
-  pub store_packed : r.own ≢ 0 → IsPacked (r.own + 2 ^ 30 * r.other + key / 2 ^ 60 * 2 ^ 60) (seeds - r.store)
+  pub store_packed : 0 < r.own → IsPacked (r.own + 2 ^ 30 * r.other + key / 2 ^ 60 * 2 ^ 60) (seeds - r.store)
       × (Again r.store (rows_at (r.own + 2 ^ 30 * r.other + key / 2 ^ 60 * 2 ^ 60)) ≡ houses_step a h)
-  store_packed own_some = again_packed packed view has store_shows own_some other_some again
+  store_packed some = again_packed packed view has store_shows (λ none. absurd (omega (arith, none, some))) other_some again

@@ -26,20 +26,23 @@ returns c = over_own c.self.invariant c.self.view_is c.requires.legal
 
 pub overflow_mul-key : goal.overflow_mul-key
 overflow_mul-key c =
-    omega (arith, packed_fits (store_packed c.self.invariant c.self.view_is c.requires.legal c.requires.ends c.sow_past_row-rows.ensures (λ none. absurd (omega (arith, none, c.if-rows-gt0.true)))).0)
+    let packed = store_packed c.self.invariant c.self.view_is c.requires.legal c.requires.ends c.sow_past_row-rows.ensures c.if-rows-gt0.true in
+    omega (arith, packed_fits packed.0)
 
 pub overflow_add-key : goal.overflow_add-key
 overflow_add-key c =
-    omega (arith, packed_fits (store_packed c.self.invariant c.self.view_is c.requires.legal c.requires.ends c.sow_past_row-rows.ensures (λ none. absurd (omega (arith, none, c.if-rows-gt0.true)))).0)
+    let packed = store_packed c.self.invariant c.self.view_is c.requires.legal c.requires.ends c.sow_past_row-rows.ensures c.if-rows-gt0.true in
+    omega (arith, packed_fits packed.0)
 
 pub overflow_add-key-then-rows-gt0 : goal.overflow_add-key-then-rows-gt0
 overflow_add-key-then-rows-gt0 c =
-    omega (arith, packed_fits (store_packed c.self.invariant c.self.view_is c.requires.legal c.requires.ends c.sow_past_row-rows.ensures (λ none. absurd (omega (arith, none, c.if-rows-gt0.true)))).0)
+    let packed = store_packed c.self.invariant c.self.view_is c.requires.legal c.requires.ends c.sow_past_row-rows.ensures c.if-rows-gt0.true in
+    omega (arith, packed_fits packed.0)
 
 pub invariant_of-result : goal.invariant_of-result
 invariant_of-result c =
-    (store_packed c.self.invariant c.self.view_is c.requires.legal c.requires.ends c.sow_past_row-rows.ensures (λ none. absurd (omega (arith, none, c.if-rows-gt0.true)))).0
+    (store_packed c.self.invariant c.self.view_is c.requires.legal c.requires.ends c.sow_past_row-rows.ensures c.if-rows-gt0.true).0
 
 pub returns-then-rows-gt0 : goal.returns-then-rows-gt0
 returns-then-rows-gt0 c =
-    (store_packed c.self.invariant c.self.view_is c.requires.legal c.requires.ends c.sow_past_row-rows.ensures (λ none. absurd (omega (arith, none, c.if-rows-gt0.true)))).1
+    (store_packed c.self.invariant c.self.view_is c.requires.legal c.requires.ends c.sow_past_row-rows.ensures c.if-rows-gt0.true).1

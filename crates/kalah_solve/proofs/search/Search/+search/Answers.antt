@@ -101,7 +101,8 @@ explore-loop-rank-preserved g t c =
       highest = c.highest-rank-in-loop-rank.ensures.highest;
       untried = untried_fewer c.args.houses.now c.loop-rank.most c.loop-rank.ranks c.others_waiting-others.new.turns (c.loop-rank.rank % 8)
           c.bound_turn-bound.result _ before.untried here.place
-          (turn_at_most c.args.houses.now c.args.bar _ _ _ _ turn (rw (c.seeds-seeds.ensures.seeds, c.seeds.ensures.seeds) at c.bound_turn-bound.ensures) c.if-bar-bound.false) c.max-most-in-loop-rank.ensures;
+          (turn_at_most c.args.houses.now c.args.bar _ _ _ _ turn
+          (rw (c.seeds-seeds.ensures.seeds, c.seeds.ensures.seeds) at c.bound_turn-bound.ensures) c.if-bar-bound.false) c.max-most-in-loop-rank.ensures;
     }
 
 pub explore-loop-rank-smaller : goal.explore-loop-rank-smaller

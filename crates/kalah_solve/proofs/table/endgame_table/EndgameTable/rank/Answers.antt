@@ -21,7 +21,8 @@ module _ (a : Rows) (within : IsWithinHouses a) (less : seeds_in_houses (bare a)
       two_few (a.own ++ a.other) (few a less) (length a.own) (step + length a.own - 6) sums rank (long a within) within.at_most_six
       (omega (arith, low, passes)) is
 
-  ranked_here : (r : ℕ) → r ≡ choose (sums % 1024 % 32 + 2 * (5 - step) + 1) (2 * (5 - step) + 2) + choose (sums % 1024 / 32 + 2 * (5 - step)) (2 * (5 - step) + 1) →
+  ranked_here : (r : ℕ) →
+      r ≡ choose (sums % 1024 % 32 + 2 * (5 - step) + 1) (2 * (5 - step) + 2) + choose (sums % 1024 / 32 + 2 * (5 - step)) (2 * (5 - step) + 1) →
       IsRanked (a.own ++ a.other) (step + 1 + length a.own - 6) (sums / 1024) (rank + r)
   ranked_here r r_is =
       let past : length a.own - (step + length a.own - 6) - 1 ≡ 5 - step = omega (arith, low, passes) in
