@@ -6,7 +6,7 @@ use Rattle.kalah_rules.specs.Position.{Position, HasEqualSides, is_over, swapped
 use Rattle.kalah_rules.specs.Play.{position_after, step_of}
 use Rattle.kalah_rules.specs.Sowing.{after, is_again}
 use Rattle.kalah_rules.proofs.Ends.{after_equal_sides}
-use Rattle.kalah_solve.proofs.OfSolver.Worths.{swapped_equal_sides}
+use Rattle.kalah_solve.proofs.SolverLemmas.Worths.{swapped_equal_sides}
 use Rattle.kalah_rules.specs.declared.step.Step.{Step}
 use Rattle.kalah_rules.specs.declared.step.Step.TheVariants.{Again, Over, Turn}
 use Rattle.kalah_jobs.specs.Writing.Given.{AppendsStart}
@@ -16,7 +16,7 @@ use Rattle.kalah_jobs.specs.Writing.Picture.{picture_of}
 use Rattle.kalah_jobs.specs.Writing.Shown.{shown_of, values_line}
 use Rattle.kalah_jobs.specs.Files.NamedBytes.{NamedBytes}
 use Rattle.kalah_jobs.specs.declared.files.question.Question.{Question}
-use Rattle.kalah_jobs.proofs.OfWriting.Starts.{start_kept_all, start_none, start_then}
+use Rattle.kalah_jobs.proofs.WritingLemmas.Starts.{start_kept_all, start_none, start_then}
 use Rattle.kalah_cli.specs.Moves.{board_lines, move_lines}
 use Rattle.kalah_cli.specs.Play.{BeginsBest, BeginsToPlay}
 use Rattle.kalah_cli.specs.Request.{Asked, answers, ask, count, moves, play, show}
@@ -24,7 +24,7 @@ use Rattle.kalah_cli.specs.Runs.{Begins}
 use Rattle.kalah_cli.specs.Ask.{BeginsLines, StopsBetweenLines}
 use Rattle.kalah_cli.specs.SolveFiles.{BeginsTo}
 use Rattle.std.proofs.KnownBytes.{Appends-nil}
-use Rattle.kalah_jobs.proofs.OfAsking.AnswersTo.{answers_split, no_answers}
+use Rattle.kalah_jobs.proofs.AskingLemmas.AnswersTo.{answers_split, no_answers}
 use Rattle.kalah_jobs.specs.Asking.Asked.{IsBegun, IsCutOff, answers_to}
 use Rattle.std.proofs.Math.Seq.{take-append-add}
 use Rattle.kalah_cli.proofs.Played.{of_any}

@@ -15,13 +15,13 @@ use Rattle.kalah_solve.specs.Solver.BestPlay.Game.{is_at_end, moves_on, passes_t
 use Rattle.kalah_solve.specs.Solver.Verdict.{verdict_of}
 use Rattle.kalah_solve.specs.Solver.Worth.{best_house, worth}
 use Rattle.kalah_solve.specs.declared.solver.verdict.Verdict.TheVariants.{Best, Over}
-use Rattle.kalah_solve.proofs.OfSolver.Finds.{contains_first}
-use Rattle.kalah_solve.proofs.OfSolver.Games.{followed, game_ends, strategy_keeps}
-use Rattle.kalah_solve.proofs.OfSolver.Secured.{best_is_strategy, best_plays, bounds}
-use Rattle.kalah_solve.proofs.OfSolver.Values.{over_swapped}
-use Rattle.kalah_solve.proofs.OfSolver.Worths.{again_step, over_step, turn_step}
+use Rattle.kalah_solve.proofs.SolverLemmas.Finds.{contains_first}
+use Rattle.kalah_solve.proofs.SolverLemmas.Games.{followed, game_ends, strategy_keeps}
+use Rattle.kalah_solve.proofs.SolverLemmas.Secured.{best_is_strategy, best_plays, bounds}
+use Rattle.kalah_solve.proofs.SolverLemmas.Values.{over_swapped}
+use Rattle.kalah_solve.proofs.SolverLemmas.Worths.{again_step, over_step, turn_step}
 use Rattle.kalah_jobs.specs.Writing.Given.{AppendsStart}
-use Rattle.kalah_jobs.proofs.OfWriting.Starts.{start_longer, start_then}
+use Rattle.kalah_jobs.proofs.WritingLemmas.Starts.{start_longer, start_then}
 use Rattle.kalah_cli.specs.Moves.{board_lines, move_lines}
 use Rattle.kalah_cli.specs.Play.{IsBestGame, OfBestGame, OfGame, game_lines}
 

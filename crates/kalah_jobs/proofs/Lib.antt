@@ -1,5 +1,5 @@
-pub mod OfAsking
-pub mod OfCollecting
-pub mod OfFiles
-pub mod OfLine
-pub mod OfWriting
+pub mod AskingLemmas
+pub mod CollectingLemmas
+pub mod FilesLemmas
+pub mod LineLemmas
+pub mod WritingLemmas

@@ -1,3 +1,3 @@
-pub mod OfDesk
-pub mod OfQueue
-pub mod OfBatch
+pub mod DeskLemmas
+pub mod QueueLemmas
+pub mod BatchLemmas

@@ -1,6 +1,6 @@
-pub mod OfSolver
-pub mod OfBounds
-pub mod OfTable
+pub mod SolverLemmas
+pub mod BoundsLemmas
+pub mod TableLemmas
 mod RowMarks
 mod HouseMarks
-pub mod OfSearch
+pub mod SearchLemmas

@@ -36,7 +36,7 @@ fn is_read(answer: &Answer) -> bool
 }
 
 // Writes the answer to a line, and a line feed, and returns whether the line was read.
-#[tactic(auto, using(crate::proofs::OfWriting::JobOutput::asked_fault))]
+#[tactic(auto, using(crate::proofs::WritingLemmas::JobOutput::asked_fault))]
 pub(crate) fn tell<O: Sink>(
     line: &LineHead,
     question: Question,

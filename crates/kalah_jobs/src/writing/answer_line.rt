@@ -18,7 +18,7 @@ use std::alloc::{AllocError, Global};
 use std::io;
 
 // Puts the value of a move, with its house before it, in front of the text.
-#[tactic(auto, using(crate::proofs::OfWriting::Lengths::byte_length))]
+#[tactic(auto, using(crate::proofs::WritingLemmas::Lengths::byte_length))]
 fn prepend_value(text: &mut StackText, value: MoveValue)
     requires { length text.old + 15 ≤ ROOM }
     ensures value { text.new ≡ value_words value ++ text.old }
@@ -48,7 +48,7 @@ fn prepend_values(text: &mut StackText, values: &MoveValues)
 }
 
 // Puts an answer in words in front of the text.
-#[tactic(auto, using(crate::proofs::OfWriting::Lengths::byte_length, crate::proofs::OfWriting::Lengths::fault_length))]
+#[tactic(auto, using(crate::proofs::WritingLemmas::Lengths::byte_length, crate::proofs::WritingLemmas::Lengths::fault_length))]
 fn prepend_words(text: &mut StackText, answer: &Answer)
     requires room { length text.old + 96 ≤ ROOM }
     requires one_line { IsOfOneLine answer.now }
@@ -75,7 +75,7 @@ fn prepend_words(text: &mut StackText, answer: &Answer)
 }
 
 // Puts what stands between the name of the file and the answer in words in front of the text.
-#[tactic(auto, using(crate::proofs::OfWriting::Lengths::number_length))]
+#[tactic(auto, using(crate::proofs::WritingLemmas::Lengths::number_length))]
 fn prepend_place(text: &mut StackText, line: u32)
     requires { length text.old + 22 ≤ ROOM }
     ensures place { text.new ≡ codes ":" ++ (decimal (line + 1) ++ (codes " " ++ text.old)) }
@@ -121,7 +121,7 @@ pub fn answer_text(alloc: Global, name: &str, taken: &Taken) -> Result<String, A
 /// Writes the answer line of a line of the file `name`, as `answer_text` returns it, and a line feed; of steps the line of each.
 ///
 /// It allocates nothing. It fails exactly when the sink has failed afterwards; then a prefix of this was written, and nothing else.
-#[tactic(auto, using(crate::proofs::OfWriting::AnswerTexts::one_line_parts))]
+#[tactic(auto, using(crate::proofs::WritingLemmas::AnswerTexts::one_line_parts))]
 pub fn write_answer<W: Sink>(out: &mut W, name: &str, taken: &Taken) -> Result<(), io::Error>
     requires { W.has_failed out.old ≡ false }
     ensures fails { IsErr result ↔ (W.has_failed out.new ≡ true) }

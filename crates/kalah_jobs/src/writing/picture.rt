@@ -18,7 +18,7 @@ use std::io;
 pub(crate) const COLUMN: usize = 4;
 
 // Puts a number, right-aligned in a column, in front of the text.
-#[tactic(auto, using(crate::proofs::OfWriting::Lengths::byte_length))]
+#[tactic(auto, using(crate::proofs::WritingLemmas::Lengths::byte_length))]
 fn put_cell(text: &mut StackText, number: u8)
     requires { length text.old + 4 ≤ ROOM }
     ensures cell { text.new ≡ cell number ++ text.old }

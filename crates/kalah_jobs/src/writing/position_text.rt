@@ -20,7 +20,7 @@ use std::alloc::{AllocError, Global};
 use std::io;
 
 // Puts a player's houses, a slash and the player's store in front of the text.
-#[tactic(auto, using(crate::proofs::OfWriting::Lengths::byte_length))]
+#[tactic(auto, using(crate::proofs::WritingLemmas::Lengths::byte_length))]
 fn prepend_side(text: &mut StackText, board: &Board, player: Player)
     requires { length text.old + 27 ≤ ROOM }
     ensures side { text.new ≡ side_text (houses_of player board.now) (store_of player board.now) ++ text.old }
@@ -92,7 +92,7 @@ fn parts_of_step(step: &Step) -> (&Board, &'static str)
 }
 
 // Puts the text of a move in front of the text.
-#[tactic(auto, unfolding(crate::specs::Line::Line::step_text_of), using(crate::proofs::OfWriting::Lengths::byte_length))]
+#[tactic(auto, unfolding(crate::specs::Line::Line::step_text_of), using(crate::proofs::WritingLemmas::Lengths::byte_length))]
 fn prepend_step(text: &mut StackText, h: u8, step: &Step)
     requires { length text.old ≤ 1 }
     ensures step { text.new ≡ step_text_of h step.now ++ text.old }

@@ -21,7 +21,7 @@ use kalah_solve::{MoveValue, MoveValues};
 use std::io;
 
 // Puts the value of a move, at the right of a column, before what is there.
-#[tactic(auto, using(crate::proofs::OfWriting::Shown::value_length))]
+#[tactic(auto, using(crate::proofs::WritingLemmas::Shown::value_length))]
 fn put_value_cell(text: &mut StackText, value: MoveValue)
     requires small { IsSmallMargin value.value }
     requires room { length text.old + 11 ≤ ROOM }

@@ -100,7 +100,7 @@ impl StackText {
     }
 
     // Puts a margin in digits, with `-` before it if it is negative, in front of the text.
-    #[tactic(auto, using(crate::proofs::OfWriting::Lengths::margin_length))]
+    #[tactic(auto, using(crate::proofs::WritingLemmas::Lengths::margin_length))]
     pub(crate) fn prepend_margin(&mut self, margin: i32)
         requires { length self.old + 11 ≤ ROOM }
         ensures margin { self.new ≡ signed_decimal margin ++ self.old }

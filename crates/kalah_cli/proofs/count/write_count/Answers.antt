@@ -4,7 +4,7 @@ use Rattle.std.proofs.KnownBytes.{Appends-trans}
 use Rattle.std.proofs.lemmas.Result.{on_ok_weaker}
 use Rattle.kalah_jobs.specs.Writing.Counts.{total_line}
 use Rattle.kalah_jobs.specs.Writing.Given.{AppendsStart}
-use Rattle.kalah_jobs.proofs.OfWriting.Starts.{start_longer, start_then}
+use Rattle.kalah_jobs.proofs.WritingLemmas.Starts.{start_longer, start_then}
 use Rattle.kalah_cli.specs.Count.{ways_lines}
 use Rattle.kalah_cli.proofs.Counted.{sum_alone}
 use Rattle.kalah_cli.proofs.count.write_count.Goals as goal

@@ -8,10 +8,10 @@ use Rattle.std.proofs.lemmas.List.Elements.{Contains-get_or}
 use Rattle.std.proofs.lemmas.List.Sums.{sum_by_more}
 use Rattle.kalah_rules.specs.Ways.{ways_by}
 use Rattle.kalah_rules.proofs.WaySums.{legal_few}
-use Rattle.kalah_solve.proofs.OfSolver.SmallMargins.{house_small}
+use Rattle.kalah_solve.proofs.SolverLemmas.SmallMargins.{house_small}
 use Rattle.kalah_jobs.specs.Writing.Counts.{ways_line}
 use Rattle.kalah_jobs.specs.Writing.Given.{AppendsStart}
-use Rattle.kalah_jobs.proofs.OfWriting.Starts.{start_longer, start_none, start_then}
+use Rattle.kalah_jobs.proofs.WritingLemmas.Starts.{start_longer, start_none, start_then}
 use Rattle.kalah_cli.proofs.Counted.{few_ways, line_of, lines_are, sum_is}
 use Rattle.kalah_cli.proofs.Items.{all_items, one_more}
 use Rattle.kalah_cli.proofs.count.write_houses.Goals as goal

@@ -2,7 +2,7 @@ use Rattle.std.proofs.Common.{[], ◌∷◌, ◌++◌, ap, ◌∙◌, subst, sym
 use Rattle.kalah_jobs.specs.Writing.Given.{AppendsStart}
 use Rattle.kalah_jobs.specs.Line.Line.{step_text_of}
 use Rattle.kalah_jobs.specs.Files.Lines.{line_feed}
-use Rattle.kalah_jobs.proofs.OfWriting.Starts.{start_longer, start_then}
+use Rattle.kalah_jobs.proofs.WritingLemmas.Starts.{start_longer, start_then}
 use Rattle.kalah_cli.specs.Moves.{board_lines}
 use Rattle.kalah_cli.proofs.Begun.{after_step, move_parts}
 use Rattle.kalah_cli.proofs.moves.write_move.Goals as goal

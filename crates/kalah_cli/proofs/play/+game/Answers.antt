@@ -2,8 +2,8 @@ use Rattle.std.proofs.Common.{[], arith, sym, ◌∙◌}
 use Rattle.std.proofs.KnownBytes.{Appends-nil}
 use Rattle.std.proofs.lemmas.Bool.{false_from_ne_true, false≢true}
 use Rattle.std.proofs.lemmas.Result.{on_ok_weaker}
-use Rattle.kalah_solve.proofs.OfSolver.Worths.{again_fewer, board_equal_sides, turn_fewer}
-use Rattle.kalah_jobs.proofs.OfWriting.Starts.{start_kept_all}
+use Rattle.kalah_solve.proofs.SolverLemmas.Worths.{again_fewer, board_equal_sides, turn_fewer}
+use Rattle.kalah_jobs.proofs.WritingLemmas.Starts.{start_kept_all}
 use Rattle.kalah_cli.proofs.Played.{begins_move, begins_on, best_is_legal, best_told, goes_on, kept_appends, of_again, of_any, of_end, of_first, of_last, of_turn, on_ok_always, over_told}
 use Rattle.kalah_cli.proofs.play.+game.Goals as goal
 

@@ -1,8 +1,8 @@
 use Rattle.std.proofs.Common.{refl}
 use Rattle.std.proofs.KnownBytes.{Appends-trans}
 use Rattle.std.proofs.lemmas.Result.{on_ok_weaker}
-use Rattle.kalah_jobs.proofs.OfWriting.Starts.{start_longer, start_then}
-use Rattle.kalah_solve.proofs.OfSolver.Worths.{board_equal_sides}
+use Rattle.kalah_jobs.proofs.WritingLemmas.Starts.{start_longer, start_then}
+use Rattle.kalah_solve.proofs.SolverLemmas.Worths.{board_equal_sides}
 use Rattle.kalah_cli.specs.Moves.{board_lines}
 use Rattle.kalah_cli.proofs.Played.{of_any, of_board_lines}
 use Rattle.kalah_cli.proofs.play.play.Goals as goal

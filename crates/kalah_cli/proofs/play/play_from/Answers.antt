@@ -4,7 +4,7 @@ use Rattle.std.proofs.KnownBytes.{Appends-trans}
 use Rattle.std.proofs.lemmas.Result.{on_ok_weaker}
 use Rattle.kalah_rules.specs.Play.{position_after, step_of}
 use Rattle.kalah_jobs.specs.Writing.Given.{AppendsStart}
-use Rattle.kalah_jobs.proofs.OfWriting.Starts.{start_longer, start_then}
+use Rattle.kalah_jobs.proofs.WritingLemmas.Starts.{start_longer, start_then}
 use Rattle.kalah_cli.specs.Moves.{board_lines, move_lines}
 use Rattle.kalah_cli.proofs.Begun.{after_step, even_after}
 use Rattle.kalah_cli.proofs.Played.{behind_move, of_any}

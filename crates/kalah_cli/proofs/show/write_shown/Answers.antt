@@ -4,7 +4,7 @@ use Rattle.std.proofs.KnownBytes.{Appends-kept, Appends-trans}
 use Rattle.kalah_jobs.specs.Writing.Given.{AppendsStart}
 use Rattle.kalah_jobs.specs.Writing.Picture.{picture_of}
 use Rattle.kalah_jobs.specs.Writing.Shown.{shown_of}
-use Rattle.kalah_jobs.proofs.OfWriting.Starts.{start_longer, start_then}
+use Rattle.kalah_jobs.proofs.WritingLemmas.Starts.{start_longer, start_then}
 use Rattle.kalah_cli.proofs.Begun.{begins_all, shown_parts}
 use Rattle.kalah_cli.proofs.Played.{on_ok_always}
 use Rattle.kalah_cli.proofs.show.write_shown.Given.{Over}

@@ -3,10 +3,10 @@ use Rattle.std.specs.Prelude.{count_by}
 use Rattle.kalah_jobs.specs.Files.Jobs.{job_count}
 use Rattle.kalah_jobs.specs.Files.JobList.{job_list}
 use Rattle.kalah_jobs.specs.Writing.Output.{is_faulty_job}
-use Rattle.kalah_jobs.proofs.OfFiles.JobCounts.{job_count-jobs_to}
-use Rattle.kalah_jobs.proofs.OfWriting.Starts.{start_kept}
-use Rattle.kalah_run.proofs.OfBatch.Ends.{appended_kept, given_output, counted_tally}
-use Rattle.kalah_run.proofs.OfBatch.NoLine.{nothing_answered}
+use Rattle.kalah_jobs.proofs.FilesLemmas.JobCounts.{job_count-jobs_to}
+use Rattle.kalah_jobs.proofs.WritingLemmas.Starts.{start_kept}
+use Rattle.kalah_run.proofs.BatchLemmas.Ends.{appended_kept, given_output, counted_tally}
+use Rattle.kalah_run.proofs.BatchLemmas.NoLine.{nothing_answered}
 use Rattle.kalah_run.proofs.batch.answer_batch.Goals as goal
 
 pub returns-in_err-faults : goal.returns-in_err-faults

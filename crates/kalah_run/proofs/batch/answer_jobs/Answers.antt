@@ -11,8 +11,8 @@ use Rattle.kalah_run.specs.Queue.Lists.{Accounts}
 use Rattle.kalah_run.specs.Batch.Work.{Work}
 use Rattle.kalah_run.specs.Batch.OrderedOutput.{HasWritten, Waits, outcomes_in}
 use Rattle.kalah_run.specs.declared.batch.worker.Worker.{Worker}
-use Rattle.kalah_run.proofs.OfBatch.Ends.{all_given, all_counted, given_no_output, no_faults}
-use Rattle.kalah_run.proofs.OfBatch.WorkerRuns.{each_job_got, puts_after, run_at_work, run_passes, run_spent}
+use Rattle.kalah_run.proofs.BatchLemmas.Ends.{all_given, all_counted, given_no_output, no_faults}
+use Rattle.kalah_run.proofs.BatchLemmas.WorkerRuns.{each_job_got, puts_after, run_at_work, run_passes, run_spent}
 use Rattle.kalah_run.proofs.batch.answer_jobs.Given.{Over}
 use Rattle.kalah_run.proofs.batch.answer_jobs.Goals as goal
 

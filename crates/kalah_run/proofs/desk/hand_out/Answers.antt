@@ -2,7 +2,7 @@ use Rattle.std.proofs.Common.{rules, ◌+◌, [], arith, sym, ap, ◌∙◌, sub
 use Rattle.kalah_run.specs.declared.desk.rule.DeskView.TheVariants.{Opening}
 use Rattle.kalah_run.specs.Desk.Steps.{after_handing_out, pass_handed_out}
 use Rattle.kalah_run.specs.Desk.States.{DeskState, AreNewPasses, total_in, number_in, row_in}
-use Rattle.kalah_run.proofs.OfDesk.Seats.{hands_out_as, one_pass_more}
+use Rattle.kalah_run.proofs.DeskLemmas.Seats.{hands_out_as, one_pass_more}
 use Rattle.kalah_run.proofs.desk.hand_out.Goals as goal
 
 pub split_seat-seat-requires : goal.split_seat-seat-requires

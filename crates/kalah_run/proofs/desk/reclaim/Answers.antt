@@ -1,5 +1,5 @@
 use Rattle.std.proofs.Common.{rules, ap}
-use Rattle.kalah_run.proofs.OfDesk.Seats.{reclaims_as}
+use Rattle.kalah_run.proofs.DeskLemmas.Seats.{reclaims_as}
 use Rattle.kalah_run.proofs.desk.reclaim.Goals as goal
 
 pub join_seat-requires : goal.join_seat-requires

@@ -1,6 +1,6 @@
 use Rattle.std.proofs.Common.{◌≡◌, ◌∷◌, ◌∙◌, ap}
 use Rattle.std.specs.Vec.Iter.{into_iter_items}
-use Rattle.kalah_run.proofs.OfQueue.Keeps.{merges}
+use Rattle.kalah_run.proofs.QueueLemmas.Keeps.{merges}
 use Rattle.kalah_run.proofs.queue.reclaim.Goals as goal
 
 pub absorb-requires-clause-rule : goal.absorb-requires-clause-rule

@@ -2,7 +2,7 @@ use Rattle.std.proofs.Common.{rules, ◌≡◌, ◌∙◌, List, ℕ, Option, So
 use Rattle.std.specs.Io.KnownBytes.{Consumes}
 use Rattle.std.proofs.KnownBytes.{Keeps-refl}
 use Rattle.kalah_jobs.specs.Asking.Asked.{bytes_of}
-use Rattle.kalah_jobs.proofs.OfAsking.Underway.{all_answered, begun_last, begun_line, begun_so_far, byte_read, cut_off, line_read, nothing_read}
+use Rattle.kalah_jobs.proofs.AskingLemmas.Underway.{all_answered, begun_last, begun_line, begun_so_far, byte_read, cut_off, line_read, nothing_read}
 use Rattle.kalah_jobs.proofs.asking.answer_lines.answer_lines.Goals.{then-byte-eq-LINE_FEED+in_ok-all_read, else-byte-eq-LINE_FEED}
 use Rattle.kalah_jobs.proofs.asking.answer_lines.answer_lines.Goals as goal
 

@@ -1,6 +1,6 @@
 use Rattle.std.proofs.Common.{◌≡◌, false}
 use Rattle.std.specs.Io.Buffered.{reader_remaining}
-use Rattle.kalah_jobs.proofs.OfAsking.Underway.{Underway}
+use Rattle.kalah_jobs.proofs.AskingLemmas.Underway.{Underway}
 use Rattle.kalah_jobs.proofs.asking.answer_lines.answer_lines.Given as goal
 
 -- the lines that were read are answered

@@ -1,5 +1,5 @@
 use Rattle.std.proofs.Common.{sym, ap, length}
-use Rattle.kalah_jobs.proofs.OfFiles.SplitLines.{length-lines_of, lines_of-empty}
+use Rattle.kalah_jobs.proofs.FilesLemmas.SplitLines.{length-lines_of, lines_of-empty}
 use Rattle.kalah_jobs.proofs.files.file_lines.count_lines.Goals as goal
 
 pub returns-in-Some : goal.returns-in-Some

@@ -1,5 +1,5 @@
 use Rattle.std.proofs.Common.{◌+◌, ◌-◌, length, arith}
-use Rattle.kalah_jobs.proofs.OfFiles.SplitLines.{lines_of-first_cut, lines_of-last_cut}
+use Rattle.kalah_jobs.proofs.FilesLemmas.SplitLines.{lines_of-first_cut, lines_of-last_cut}
 use Rattle.kalah_jobs.proofs.files.file_lines.first_line.Goals as goal
 
 pub returns-then-byte-eq-LINE_FEED-clause-lines : goal.returns-then-byte-eq-LINE_FEED-clause-lines

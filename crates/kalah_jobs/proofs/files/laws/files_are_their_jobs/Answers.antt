@@ -1,4 +1,4 @@
-use Rattle.kalah_jobs.proofs.OfWriting.JobOutput.{files_are_their_jobs}
+use Rattle.kalah_jobs.proofs.WritingLemmas.JobOutput.{files_are_their_jobs}
 use Rattle.kalah_jobs.proofs.files.laws.files_are_their_jobs.Goals as goal
 
 pub returns : goal.returns

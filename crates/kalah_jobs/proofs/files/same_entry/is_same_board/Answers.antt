@@ -1,6 +1,6 @@
 use Rattle.std.proofs.Common.{◌≡◌, ◌∙◌, true, ap, sym}
 use Rattle.kalah_rules.specs.Position.{Position}
-use Rattle.kalah_jobs.proofs.OfFiles.SameBoard.{same_board, same_board_means, same_board_itself}
+use Rattle.kalah_jobs.proofs.FilesLemmas.SameBoard.{same_board, same_board_means, same_board_itself}
 use Rattle.kalah_jobs.proofs.files.same_entry.is_same_board.Goals as goal
 
 pub returns-then-m : goal.returns-then-m

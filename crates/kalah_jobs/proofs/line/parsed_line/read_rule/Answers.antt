@@ -1,5 +1,5 @@
 use Rattle.std.proofs.Common.{sym}
-use Rattle.kalah_jobs.proofs.OfLine.LineEnds.{longer_names_no_rule}
+use Rattle.kalah_jobs.proofs.LineLemmas.LineEnds.{longer_names_no_rule}
 use Rattle.kalah_jobs.proofs.line.parsed_line.read_rule.Goals as goal
 
 pub returns-in_default-text-3 : goal.returns-in_default-text-3

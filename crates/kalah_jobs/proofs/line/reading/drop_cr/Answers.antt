@@ -1,6 +1,6 @@
 use Rattle.std.proofs.Common.{◌∷◌, ◌++◌, [], sym, ap, ◌∙◌}
 use Rattle.kalah_jobs.specs.Line.Line.{without_cr}
-use Rattle.kalah_jobs.proofs.OfLine.LineEnds.{without_cr-cr, without_cr-other}
+use Rattle.kalah_jobs.proofs.LineLemmas.LineEnds.{without_cr-cr, without_cr-other}
 use Rattle.kalah_jobs.proofs.line.reading.drop_cr.Goals as goal
 
 pub returns-in-Some : goal.returns-in-Some

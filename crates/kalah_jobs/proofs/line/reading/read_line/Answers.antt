@@ -1,7 +1,7 @@
 use Rattle.std.proofs.Common.{◌∙◌, ap}
 use Rattle.kalah_jobs.specs.Line.Reading.{reading_of_text, reading_of}
-use Rattle.kalah_jobs.proofs.OfLine.Readings.{reads_if_ok, fault_if_err, reads_is_reading}
-use Rattle.kalah_jobs.proofs.OfLine.Texts.{text_if_ok, stores_if_ok}
+use Rattle.kalah_jobs.proofs.LineLemmas.Readings.{reads_if_ok, fault_if_err, reads_is_reading}
+use Rattle.kalah_jobs.proofs.LineLemmas.Texts.{text_if_ok, stores_if_ok}
 use Rattle.kalah_jobs.proofs.line.reading.read_line.Goals as goal
 
 pub returns : goal.returns

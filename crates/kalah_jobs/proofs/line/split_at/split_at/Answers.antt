@@ -1,7 +1,7 @@
 use Rattle.std.proofs.Common.{take_all, arith}
 use Rattle.std.proofs.lemmas.Grind.{common_steps}
 use Rattle.std.proofs.lemmas.List.{take_rest}
-use Rattle.kalah_jobs.proofs.OfLine.Cuts.{parts_from_place, parts_of_one, lacks_more}
+use Rattle.kalah_jobs.proofs.LineLemmas.Cuts.{parts_from_place, parts_of_one, lacks_more}
 use Rattle.kalah_jobs.proofs.line.split_at.split_at.Goals as goal
 
 pub returns-then-byte-at : goal.returns-then-byte-at

@@ -1,4 +1,4 @@
-use Rattle.kalah_jobs.proofs.OfWriting.SmallAnswers.{answers_have_small_numbers}
+use Rattle.kalah_jobs.proofs.WritingLemmas.SmallAnswers.{answers_have_small_numbers}
 use Rattle.kalah_jobs.proofs.writing.laws.answers_have_small_numbers.Goals as goal
 
 pub returns : goal.returns

@@ -1,4 +1,4 @@
-use Rattle.kalah_jobs.proofs.OfWriting.SplitFiles.{files_split_between_lines}
+use Rattle.kalah_jobs.proofs.WritingLemmas.SplitFiles.{files_split_between_lines}
 use Rattle.kalah_jobs.proofs.writing.laws.files_split_between_lines.Goals as goal
 
 pub returns : goal.returns

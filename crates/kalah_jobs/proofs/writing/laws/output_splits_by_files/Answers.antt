@@ -1,4 +1,4 @@
-use Rattle.kalah_jobs.proofs.OfWriting.SplitFiles.{output_splits_by_files}
+use Rattle.kalah_jobs.proofs.WritingLemmas.SplitFiles.{output_splits_by_files}
 use Rattle.kalah_jobs.proofs.writing.laws.output_splits_by_files.Goals as goal
 
 pub returns : goal.returns

@@ -1,6 +1,6 @@
 use Rattle.std.proofs.Common.{◌++◌, List, ℕ, ap₂, subst, sym}
 use Rattle.kalah_jobs.specs.Writing.Given.{AppendsStart}
-use Rattle.kalah_jobs.proofs.OfWriting.Starts.{start_longer, start_then}
+use Rattle.kalah_jobs.proofs.WritingLemmas.Starts.{start_longer, start_then}
 use Rattle.kalah_jobs.proofs.writing.named_text.write_named.Goals as goal
 
 pub returns-in_err-write_all-clause-start : goal.returns-in_err-write_all-clause-start

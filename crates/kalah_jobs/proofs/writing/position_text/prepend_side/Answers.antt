@@ -2,9 +2,9 @@ use Rattle.std.proofs.Common.{◌-◌, ◌++◌, ◌∷◌, ℕ, List, ap, ap₂
 use Rattle.kalah_rules.specs.Position.{seeds}
 use Rattle.kalah_jobs.specs.Line.Line.{comma, slash}
 use Rattle.kalah_jobs.specs.Writing.Player.{houses_of, store_of}
-use Rattle.kalah_jobs.proofs.OfWriting.Joined.{before_those, last_joined}
-use Rattle.kalah_jobs.proofs.OfWriting.Lengths.{byte_length}
-use Rattle.kalah_jobs.proofs.OfWriting.PlayerHouses.{length-houses_of}
+use Rattle.kalah_jobs.proofs.WritingLemmas.Joined.{before_those, last_joined}
+use Rattle.kalah_jobs.proofs.WritingLemmas.Lengths.{byte_length}
+use Rattle.kalah_jobs.proofs.WritingLemmas.PlayerHouses.{length-houses_of}
 use Rattle.kalah_jobs.proofs.writing.position_text.prepend_side.Goals as goal
 
 pub loop-i-init : goal.loop-i-init

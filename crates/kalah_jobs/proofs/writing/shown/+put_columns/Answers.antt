@@ -2,7 +2,7 @@ use Rattle.std.proofs.Common.{◌∙◌, ◌++◌, ◌+◌, ◌*◌, ap, arith, 
 use Rattle.kalah_jobs.specs.Line.Line.{space}
 use Rattle.kalah_jobs.specs.Writing.Picture.{column_width}
 use Rattle.kalah_jobs.specs.Writing.Shown.{value_columns}
-use Rattle.kalah_jobs.proofs.OfWriting.Shown.{column_before, next_value, values_from}
+use Rattle.kalah_jobs.proofs.WritingLemmas.Shown.{column_before, next_value, values_from}
 use Rattle.kalah_jobs.proofs.writing.shown.+put_columns.Goals as goal
 
 pub put_columns-requires : goal.put_columns-requires

@@ -1,6 +1,6 @@
 use Rattle.std.proofs.Common.{subst, sym}
 use Rattle.kalah_jobs.specs.Writing.Shown.{HaveColumns}
-use Rattle.kalah_jobs.proofs.OfWriting.Shown.{have_columns, rise_from_none}
+use Rattle.kalah_jobs.proofs.WritingLemmas.Shown.{have_columns, rise_from_none}
 use Rattle.kalah_jobs.proofs.writing.shown.line_below.Goals as goal
 
 pub put_columns-requires-clause-rise : goal.put_columns-requires-clause-rise

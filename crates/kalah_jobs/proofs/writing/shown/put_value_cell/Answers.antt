@@ -2,7 +2,7 @@ use Rattle.std.proofs.Common.{◌≡◌, ◌≤◌, ◌+◌, ◌++◌, ◌∙◌
 use Rattle.std.specs.Fmt.{signed_decimal}
 use Rattle.std.proofs.lemmas.Int.{to_z-of_z}
 use Rattle.kalah_rules.specs.Position.{IsSmallMargin}
-use Rattle.kalah_jobs.proofs.OfWriting.Shown.{value_room}
+use Rattle.kalah_jobs.proofs.WritingLemmas.Shown.{value_room}
 use Rattle.kalah_jobs.proofs.writing.shown.put_value_cell.Goals.{After-len}
 use Rattle.kalah_jobs.proofs.writing.shown.put_value_cell.Goals as goal
 

@@ -1,4 +1,4 @@
-use Rattle.kalah_jobs.proofs.OfWriting.Shown.{shown_tells}
+use Rattle.kalah_jobs.proofs.WritingLemmas.Shown.{shown_tells}
 use Rattle.kalah_jobs.proofs.writing.shown.shown_tells_values.Goals as goal
 
 pub returns : goal.returns

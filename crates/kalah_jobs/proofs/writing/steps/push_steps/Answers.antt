@@ -2,7 +2,7 @@ use Rattle.std.proofs.Common.{◌≡◌, ◌++◌, ◌<◌, ◌∙◌, ℕ, List
 use Rattle.std.specs.Prelude.{string_bytes}
 use Rattle.kalah_rules.specs.Play.{step_of}
 use Rattle.kalah_jobs.specs.Line.Line.{step_text_of}
-use Rattle.kalah_jobs.proofs.OfWriting.StepLines.{joined_lines, line_more}
+use Rattle.kalah_jobs.proofs.WritingLemmas.StepLines.{joined_lines, line_more}
 use Rattle.kalah_jobs.proofs.writing.steps.push_steps.Goals as goal
 
 -- four pieces behind what is there

@@ -8,8 +8,8 @@ use Rattle.kalah_rules.specs.Play.{step_of}
 use Rattle.kalah_jobs.specs.Files.Lines.{line_feed}
 use Rattle.kalah_jobs.specs.Line.Line.{step_text_of}
 use Rattle.kalah_jobs.specs.Writing.Given.{AppendsStart}
-use Rattle.kalah_jobs.proofs.OfWriting.Starts.{start_longer, start_none, start_then}
-use Rattle.kalah_jobs.proofs.OfWriting.StepLines.{first_moves, lines_end, one_more}
+use Rattle.kalah_jobs.proofs.WritingLemmas.Starts.{start_longer, start_none, start_then}
+use Rattle.kalah_jobs.proofs.WritingLemmas.StepLines.{first_moves, lines_end, one_more}
 use Rattle.kalah_jobs.proofs.writing.steps.write_steps.Goals as goal
 
 -- the lines of the moves of a position that has some are those of its texts

@@ -2,7 +2,7 @@ use Rattle.std.proofs.Common.{◌≡◌, ℕ, ◌-◌, List, ◌++◌, Bor, arit
 use Rattle.std.specs.Io.KnownBytes.{WriteAppends}
 use Rattle.std.proofs.KnownBytes.{Appends-kept, Appends-trans}
 use Rattle.std.proofs.lemmas.List.{length-drop, take-append-drop, take_all}
-use Rattle.kalah_jobs.proofs.OfWriting.Starts.{start_kept_all, start_none, start_then}
+use Rattle.kalah_jobs.proofs.WritingLemmas.Starts.{start_kept_all, start_none, start_then}
 use Rattle.kalah_jobs.proofs.writing.stream.write_pieces.Goals as goal
 use Rattle.kalah_jobs.proofs.writing.stream.write_pieces.Goals.{in-Ok, in-Err}
 

@@ -1,6 +1,6 @@
 use Rattle.std.proofs.Common.{◌∷◌, ◌++◌, [], sym, ap, ◌∙◌, append_assoc}
 use Rattle.std.specs.Vec.Iter.{into_iter_items}
-use Rattle.kalah_run.proofs.OfBatch.PutTogether.{passes_more, puts_more, tables_more}
+use Rattle.kalah_run.proofs.BatchLemmas.PutTogether.{passes_more, puts_more, tables_more}
 use Rattle.kalah_run.proofs.batch.workers.put_together.Goals as goal
 
 pub loop-pass-preserved : goal.loop-pass-preserved

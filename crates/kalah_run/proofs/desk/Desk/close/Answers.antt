@@ -3,9 +3,9 @@ use Rattle.std.specs.Prelude.{nat_lt, if◌then◌else◌}
 use Rattle.std.proofs.lemmas.List.{length-map}
 use Rattle.kalah_run.specs.Desk.Rows.{drawn_in, spent_in, AreLawful}
 use Rattle.kalah_run.specs.Desk.States.{drawn_rows}
-use Rattle.kalah_run.proofs.OfDesk.Once.{stands_once, stands_nowhere}
-use Rattle.kalah_run.proofs.OfDesk.Seats.{starts_closing}
-use Rattle.kalah_run.proofs.OfDesk.Ends.{ends, drawn_at_end, spent_at_end}
+use Rattle.kalah_run.proofs.DeskLemmas.Once.{stands_once, stands_nowhere}
+use Rattle.kalah_run.proofs.DeskLemmas.Seats.{starts_closing}
+use Rattle.kalah_run.proofs.DeskLemmas.Ends.{ends, drawn_at_end, spent_at_end}
 use Rattle.kalah_run.proofs.desk.Desk.close.Goals as goal
 
 pub load_new_seat-closer-requires : goal.load_new_seat-closer-requires

@@ -1,4 +1,4 @@
-use Rattle.kalah_run.proofs.OfQueue.Keeps.{tells}
+use Rattle.kalah_run.proofs.QueueLemmas.Keeps.{tells}
 use Rattle.kalah_run.proofs.queue.ResultsQueue.close.Goals as goal
 
 pub len_as-left-requires-clause-rule : goal.len_as-left-requires-clause-rule

@@ -6,7 +6,7 @@ use Rattle.kalah_rules.specs.Measure.{moves_left}
 use Rattle.kalah_solve.specs.Solver.StepWorth.{moves_after}
 use Rattle.kalah_solve.specs.RowMarks.{cell}
 use Rattle.kalah_solve.specs.Search.Tried.{EndsInStore}
-use Rattle.kalah_solve.proofs.OfSearch.Tries.{AreAgain, AreRanked, AreUntried}
+use Rattle.kalah_solve.proofs.SearchLemmas.Tries.{AreAgain, AreRanked, AreUntried}
 use Rattle.kalah_solve.proofs.search.Search.+search.Given as goal
 
 abbrev pub decreases-bound : goal.decreases-bound

@@ -1,7 +1,7 @@
 use Rattle.std.proofs.Common.{arith, rules, ◌∙◌, w32, SFits}
 use Rattle.std.proofs.lemmas.Int.{ints, clamps, to_z-of_z}
 use Rattle.kalah_solve.specs.Solver.Worth.{houses_worth}
-use Rattle.kalah_solve.proofs.OfBounds.Windows.{won_by_bounds, told_by_taken}
+use Rattle.kalah_solve.proofs.BoundsLemmas.Windows.{won_by_bounds, told_by_taken}
 use Rattle.kalah_solve.proofs.search.Search.search.Goals as goal
 
 pub interval_of-requires-clause-least : goal.interval_of-requires-clause-least

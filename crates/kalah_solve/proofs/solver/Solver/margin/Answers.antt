@@ -2,8 +2,8 @@ use Rattle.std.proofs.Common.{rules, sym, ◌∙◌, ◌≡◌, w32, SFits}
 use Rattle.std.proofs.lemmas.Int.{to_z-of_z}
 use Rattle.kalah_rules.specs.Position.{rows_of}
 use Rattle.kalah_solve.specs.Solver.Worth.{houses_worth}
-use Rattle.kalah_solve.proofs.OfSolver.Roots.{root_worth, told_fits, told_small, told_worth}
-use Rattle.kalah_solve.proofs.OfSolver.Worths.{worth_of_over}
+use Rattle.kalah_solve.proofs.SolverLemmas.Roots.{root_worth, told_fits, told_small, told_worth}
+use Rattle.kalah_solve.proofs.SolverLemmas.Worths.{worth_of_over}
 use Rattle.kalah_solve.proofs.solver.Solver.margin.Given.{Over}
 use Rattle.kalah_solve.proofs.solver.Solver.margin.Goals as goal
 

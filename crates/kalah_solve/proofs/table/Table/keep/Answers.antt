@@ -1,4 +1,4 @@
-use Rattle.kalah_solve.proofs.OfTable.Entries.{put_again, put_or_same, true_after}
+use Rattle.kalah_solve.proofs.TableLemmas.Entries.{put_again, put_or_same, true_after}
 use Rattle.kalah_solve.proofs.table.Table.keep.Goals as goal
 
 pub invariant_of-self : goal.invariant_of-self

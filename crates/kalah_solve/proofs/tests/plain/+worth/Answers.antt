@@ -7,7 +7,7 @@ use Rattle.std.proofs.lemmas.List.{take_all}
 use Rattle.std.proofs.lemmas.List.Elements.{Contains-get_or}
 use Rattle.kalah_rules.specs.Play.{legal_houses}
 use Rattle.kalah_solve.specs.Solver.Worth.{value_of_move, greatest}
-use Rattle.kalah_solve.proofs.OfSolver.Worths.{board_equal_sides, over_ends, again_fewer, turn_fewer, value_of_over, value_of_turn, worth_of_over, worth_of_going, legal_some, greatest_more, greatest_first, small_max, int_max_same}
+use Rattle.kalah_solve.proofs.SolverLemmas.Worths.{board_equal_sides, over_ends, again_fewer, turn_fewer, value_of_over, value_of_turn, worth_of_over, worth_of_going, legal_some, greatest_more, greatest_first, small_max, int_max_same}
 use Rattle.kalah_solve.proofs.tests.plain.+worth.Goals as goal
 
 pub value_of_move-returns-requires : goal.value_of_move-returns-requires

@@ -7,9 +7,9 @@ use Rattle.std.proofs.lemmas.List.{take_all}
 use Rattle.std.proofs.lemmas.List.Elements.{Contains-get_or}
 use Rattle.kalah_rules.specs.Play.{legal_houses}
 use Rattle.kalah_solve.specs.Solver.Worth.{value_of_move}
-use Rattle.kalah_solve.proofs.OfSolver.Worths.{board_equal_sides, legal_some}
-use Rattle.kalah_solve.proofs.OfSolver.Bests.{best_first_of, step_better, step_kept, verdict_of_best, verdict_of_over, small_best}
-use Rattle.kalah_solve.proofs.OfSolver.Verdicts.{verdict_tells}
+use Rattle.kalah_solve.proofs.SolverLemmas.Worths.{board_equal_sides, legal_some}
+use Rattle.kalah_solve.proofs.SolverLemmas.Bests.{best_first_of, step_better, step_kept, verdict_of_best, verdict_of_over, small_best}
+use Rattle.kalah_solve.proofs.SolverLemmas.Verdicts.{verdict_tells}
 use Rattle.kalah_solve.specs.declared.solver.verdict.Verdict.TheVariants.{Best, Over}
 use Rattle.kalah_solve.proofs.tests.plain.solve.Goals as goal
 use Rattle.kalah_solve.proofs.tests.plain.solve.Goals.{then-value-margin, else-value-margin}

@@ -2,7 +2,7 @@ use Rattle.std.proofs.Common.{◌≡◌, ◌∙◌, ap, arith, length, List, map
 use Rattle.std.proofs.lemmas.List.{take_all}
 use Rattle.kalah_jobs.specs.declared.files.entry.Entry.{Entry}
 use Rattle.kalah_jobs.specs.Collecting.CollectorState.{FileState, new_file, new_files, line_count}
-use Rattle.kalah_jobs.proofs.OfCollecting.CollectorRuns.{new_lines}
+use Rattle.kalah_jobs.proofs.CollectingLemmas.CollectorRuns.{new_lines}
 use Rattle.kalah_jobs.proofs.collecting.collector.Collector.new.Goals as goal
 
 pub returns-clause-counts : goal.returns-clause-counts

@@ -2,7 +2,7 @@ use Rattle.std.proofs.Common.{◌≡◌, ◌<◌, ◌∙◌, length, List, ap, s
 use Rattle.std.specs.Prelude.{Some}
 use Rattle.std.proofs.lemmas.List.{get_or_default, length-set}
 use Rattle.kalah_jobs.specs.Collecting.CollectorState.{FileState, no_file, state_of, line_count}
-use Rattle.kalah_jobs.proofs.OfCollecting.CollectorSteps.{counts_set, lines_are}
+use Rattle.kalah_jobs.proofs.CollectingLemmas.CollectorSteps.{counts_set, lines_are}
 use Rattle.kalah_jobs.proofs.collecting.collector.Collector.offer.Goals as goal
 
 pub entry-own-requires-clause-line : goal.entry-own-requires-clause-line

@@ -3,7 +3,7 @@ use Rattle.std.specs.Prelude.{None, Option, Some, MatchOption}
 use Rattle.std.proofs.lemmas.List.{get_or_default}
 use Rattle.kalah_jobs.specs.declared.writing.answer.Taken.{Taken}
 use Rattle.kalah_jobs.specs.Collecting.CollectorState.{FileState, HasNoNext, IsNext, line_count, no_file, state_of, with_one_taken}
-use Rattle.kalah_jobs.proofs.OfCollecting.CollectorSteps.{counts_set}
+use Rattle.kalah_jobs.proofs.CollectingLemmas.CollectorSteps.{counts_set}
 use Rattle.kalah_jobs.proofs.collecting.collector.Collector.take.Goals as goal
 
 -- a take from a file leaves its lines

@@ -3,7 +3,7 @@ use Rattle.std.proofs.lemmas.List.{append-nil}
 use Rattle.kalah_jobs.specs.Files.Lines.{lines_of}
 use Rattle.kalah_jobs.specs.Files.Question.{entry_to}
 use Rattle.kalah_jobs.specs.Files.Jobs.{entries_to}
-use Rattle.kalah_jobs.proofs.OfFiles.SplitLines.{lines_of-empty}
+use Rattle.kalah_jobs.proofs.FilesLemmas.SplitLines.{lines_of-empty}
 use Rattle.kalah_jobs.proofs.files.file_jobs.FileJobs.of_bytes.Goals as goal
 
 pub returns : goal.returns

@@ -1,7 +1,7 @@
 use Rattle.std.proofs.Common.{◌≡◌, rules, refl, ap, ◌∙◌, arith}
 use Rattle.kalah_jobs.specs.Files.NamedBytes.{NamedBytes}
 use Rattle.kalah_jobs.specs.Files.Jobs.{entries_to}
-use Rattle.kalah_jobs.proofs.OfFiles.JobCounts.{counted_low, counted_more, counted_all}
+use Rattle.kalah_jobs.proofs.FilesLemmas.JobCounts.{counted_low, counted_more, counted_all}
 use Rattle.kalah_jobs.proofs.files.jobs.Jobs.asking.Goals as goal
 use Rattle.kalah_jobs.proofs.files.jobs.Jobs.asking.Goals.{After-lines-total}
 

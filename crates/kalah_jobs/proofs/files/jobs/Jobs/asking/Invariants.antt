@@ -1,6 +1,6 @@
 use Rattle.std.proofs.Common.{◌≤◌, length, take}
 use Rattle.std.specs.Prelude.{vec_capacity}
-use Rattle.kalah_jobs.proofs.OfFiles.JobCounts.{AreCountedUpto}
+use Rattle.kalah_jobs.proofs.FilesLemmas.JobCounts.{AreCountedUpto}
 use Rattle.kalah_jobs.proofs.files.jobs.Jobs.asking.Given as goal
 
 abbrev pub invariant-loop-file : goal.invariant-loop-file

@@ -6,7 +6,7 @@ use Rattle.std.proofs.lemmas.List.Sorted.{IsPartitionedBy-leb, IsPartitionPoint-
 use Rattle.kalah_jobs.specs.declared.files.entry.Entry.{Entry}
 use Rattle.kalah_jobs.specs.Files.JobList.{entries_of, line_job, job_list}
 use Rattle.kalah_jobs.specs.Files.Jobs.{job_count}
-use Rattle.kalah_jobs.proofs.OfFiles.JobCounts.{AreStarted, get_or_any, last_has_line, last_low, slice_get-job_list, some_started, starts_rise}
+use Rattle.kalah_jobs.proofs.FilesLemmas.JobCounts.{AreStarted, get_or_any, last_has_line, last_low, slice_get-job_list, some_started, starts_rise}
 use Rattle.kalah_jobs.proofs.files.jobs.Jobs.get.Goals.{After-partition_point-file}
 use Rattle.kalah_jobs.proofs.files.jobs.Jobs.get.Goals as goal
 

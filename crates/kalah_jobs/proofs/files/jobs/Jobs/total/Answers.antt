@@ -1,6 +1,6 @@
 use Rattle.std.proofs.Common.{◌∙◌, sym, ap}
 use Rattle.kalah_jobs.specs.Files.Jobs.{job_count}
-use Rattle.kalah_jobs.proofs.OfFiles.JobCounts.{length-job_list}
+use Rattle.kalah_jobs.proofs.FilesLemmas.JobCounts.{length-job_list}
 use Rattle.kalah_jobs.proofs.files.jobs.Jobs.total.Goals as goal
 
 pub returns-clause-jobs : goal.returns-clause-jobs

@@ -1,5 +1,5 @@
 use Rattle.std.proofs.Common.{sym, ◌∙◌}
-use Rattle.kalah_jobs.proofs.OfLine.Cells.{begins, is_shorter, has_room, stops, goes_on, ends}
+use Rattle.kalah_jobs.proofs.LineLemmas.Cells.{begins, is_shorter, has_room, stops, goes_on, ends}
 use Rattle.kalah_jobs.proofs.line.house_numbers.HouseNumbers.read.Goals as goal
 
 pub loop-rest-init : goal.loop-rest-init

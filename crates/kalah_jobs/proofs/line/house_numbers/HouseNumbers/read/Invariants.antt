@@ -1,4 +1,4 @@
-use Rattle.kalah_jobs.proofs.OfLine.Cells.{IsReading, bytes_left}
+use Rattle.kalah_jobs.proofs.LineLemmas.Cells.{IsReading, bytes_left}
 use Rattle.kalah_jobs.proofs.line.house_numbers.HouseNumbers.read.Given as goal
 
 abbrev pub invariant-loop-rest : goal.invariant-loop-rest

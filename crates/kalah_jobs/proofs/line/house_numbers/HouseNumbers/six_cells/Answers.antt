@@ -1,5 +1,5 @@
 use Rattle.std.proofs.Common.{◌∙◌}
-use Rattle.kalah_jobs.proofs.OfLine.Cells.{first_six}
+use Rattle.kalah_jobs.proofs.LineLemmas.Cells.{first_six}
 use Rattle.kalah_jobs.proofs.line.house_numbers.HouseNumbers.six_cells.Goals as goal
 
 pub returns : goal.returns

@@ -1,7 +1,7 @@
 use Rattle.std.proofs.Common.{◌≡◌, ◌∷◌, sym, ◌∙◌}
 use Rattle.kalah_jobs.specs.Line.Line.{slash}
 use Rattle.kalah_jobs.specs.Line.Reading.{parts_at}
-use Rattle.kalah_jobs.proofs.OfLine.Houses.{houses_are_some, numbers_of_are_houses, no_store_no_side}
+use Rattle.kalah_jobs.proofs.LineLemmas.Houses.{houses_are_some, numbers_of_are_houses, no_store_no_side}
 use Rattle.kalah_jobs.proofs.line.side.Side.read.Goals as goal
 
 pub returns-in_err-store-2 : goal.returns-in_err-store-2

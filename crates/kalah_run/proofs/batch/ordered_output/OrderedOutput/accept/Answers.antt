@@ -1,9 +1,9 @@
 use Rattle.std.proofs.Common.{ap, ◌∙◌}
-use Rattle.kalah_run.proofs.OfBatch.Progress.{progress_offered}
+use Rattle.kalah_run.proofs.BatchLemmas.Progress.{progress_offered}
 use Rattle.kalah_jobs.specs.Writing.Answer.{is_fault}
 use Rattle.kalah_jobs.specs.declared.writing.answer.Answer.{Answer}
 use Rattle.std.specs.Prelude.{if◌then◌else◌}
-use Rattle.kalah_run.proofs.OfBatch.Outputs.{faults_more}
+use Rattle.kalah_run.proofs.BatchLemmas.Outputs.{faults_more}
 use Rattle.kalah_run.proofs.batch.ordered_output.OrderedOutput.accept.Goals as goal
 
 pub returns-clause-progress : goal.returns-clause-progress

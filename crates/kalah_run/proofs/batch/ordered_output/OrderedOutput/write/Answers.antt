@@ -1,11 +1,11 @@
 use Rattle.std.proofs.Common.{arith, refl, rules, List, ℕ, ◌<◌, ◌≤◌, ap, length, subst, sym, ◌++◌, ◌∙◌}
 use Rattle.kalah_jobs.specs.Collecting.CollectorState.{FileState, front, state_of}
 use Rattle.kalah_jobs.specs.Files.NamedBytes.{NamedBytes}
-use Rattle.kalah_jobs.proofs.OfCollecting.CollectorSteps.{files_many}
+use Rattle.kalah_jobs.proofs.CollectingLemmas.CollectorSteps.{files_many}
 use Rattle.kalah_run.specs.Batch.UnderWay.{WasGiven}
-use Rattle.kalah_run.proofs.OfBatch.Progress.{wrote_file, wrote_line, wrote_nothing}
-use Rattle.kalah_run.proofs.OfBatch.Giving.{given_off, given_on}
-use Rattle.kalah_run.proofs.OfBatch.Outputs.{written_on, text_of_file, whole_where_sound}
+use Rattle.kalah_run.proofs.BatchLemmas.Progress.{wrote_file, wrote_line, wrote_nothing}
+use Rattle.kalah_run.proofs.BatchLemmas.Giving.{given_off, given_on}
+use Rattle.kalah_run.proofs.BatchLemmas.Outputs.{written_on, text_of_file, whole_where_sound}
 use Rattle.kalah_run.proofs.batch.ordered_output.OrderedOutput.write.Goals as goal
 
 pub bounds-files-f : goal.bounds-files-f

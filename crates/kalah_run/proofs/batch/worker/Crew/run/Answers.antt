@@ -1,5 +1,5 @@
 use denote.Param.Send.{sendable}
-use Rattle.kalah_run.proofs.OfBatch.Crossing.{worker_send}
+use Rattle.kalah_run.proofs.BatchLemmas.Crossing.{worker_send}
 use Rattle.kalah_run.proofs.batch.worker.Crew.run.Goals as goal
 
 pub for_each_mut-requires-send-T : goal.for_each_mut-requires-send-T

@@ -4,7 +4,7 @@ use Rattle.std.proofs.lemmas.List.Sums.{fold-append}
 use Rattle.kalah_run.specs.Desk.Rows.{least_above}
 use Rattle.kalah_run.specs.declared.desk.rule.DrawnRow.{DrawnRow}
 use Rattle.kalah_run.specs.Queue.States.{PutState}
-use Rattle.kalah_run.proofs.OfBatch.Sendings.{drawn_jobs-more}
+use Rattle.kalah_run.proofs.BatchLemmas.Sendings.{drawn_jobs-more}
 use Rattle.kalah_run.proofs.batch.worker.Worker.run.Goals as goal
 
 -- with no job in hand, all that was drawn is sent

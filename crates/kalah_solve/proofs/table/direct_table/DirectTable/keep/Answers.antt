@@ -3,8 +3,8 @@ use Rattle.std.specs.Prelude.{slice_set}
 use Rattle.std.proofs.Math.ListN.{length-set}
 use Rattle.kalah_solve.specs.Table.DirectTable.{stored_bounds}
 use Rattle.kalah_solve.specs.Bounds.Won.{won, IsWithinBounds}
-use Rattle.kalah_solve.proofs.OfTable.PlacedKeys.{shares_more}
-use Rattle.kalah_solve.proofs.OfBounds.Winnings.{taken_share}
+use Rattle.kalah_solve.proofs.TableLemmas.PlacedKeys.{shares_more}
+use Rattle.kalah_solve.proofs.BoundsLemmas.Winnings.{taken_share}
 use Rattle.kalah_solve.proofs.table.direct_table.DirectTable.keep.Goals as goal
 use Rattle.kalah_solve.proofs.table.direct_table.DirectTable.keep.Goals.{in-Some, in_default}
 

@@ -1,7 +1,7 @@
 use Rattle.std.proofs.Common.{arith, rules, ◌-◌, ◌^◌}
 use Rattle.kalah_solve.proofs.RowMarks.{marks_fall}
-use Rattle.kalah_solve.proofs.OfSearch.Tries.{marked_legal, marks_fewer, last_legal}
-use Rattle.kalah_solve.proofs.OfTable.MostWon.{most_of_none, most_more, most_all, most_won, after_again, after_turn}
+use Rattle.kalah_solve.proofs.SearchLemmas.Tries.{marked_legal, marks_fewer, last_legal}
+use Rattle.kalah_solve.proofs.TableLemmas.MostWon.{most_of_none, most_more, most_all, most_won, after_again, after_turn}
 use Rattle.kalah_solve.proofs.table.endgame_table.EndgameTable.+exact.Goals as goal
 
 pub most_won-loop-left-init : goal.most_won-loop-left-init

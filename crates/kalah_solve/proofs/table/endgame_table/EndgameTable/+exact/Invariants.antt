@@ -4,7 +4,7 @@ use Rattle.kalah_rules.specs.Play.{legal_houses}
 use Rattle.kalah_solve.specs.RowMarks.{cell}
 use Rattle.kalah_rules.specs.Position.{bare}
 use Rattle.kalah_rules.specs.Measure.{moves_left}
-use Rattle.kalah_solve.proofs.OfTable.MostWon.{IsMost}
+use Rattle.kalah_solve.proofs.TableLemmas.MostWon.{IsMost}
 use Rattle.kalah_solve.proofs.table.endgame_table.EndgameTable.+exact.Given as goal
 
 abbrev pub decreases-won : goal.decreases-won

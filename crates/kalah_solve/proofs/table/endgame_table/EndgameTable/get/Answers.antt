@@ -2,7 +2,7 @@ use Rattle.std.proofs.Common.{arith, ◌∙◌, ◌≡◌, ◌%◌, suc}
 use Rattle.kalah_solve.specs.Table.RowRank.{rank_of_houses}
 use Rattle.kalah_solve.specs.Table.EndgameTable.{stored_at}
 use Rattle.kalah_solve.specs.Bounds.Won.{won}
-use Rattle.kalah_solve.proofs.OfTable.KeptEndings.{stored}
+use Rattle.kalah_solve.proofs.TableLemmas.KeptEndings.{stored}
 use Rattle.kalah_solve.proofs.table.endgame_table.EndgameTable.get.Goals as goal
 
 pub returns : goal.returns

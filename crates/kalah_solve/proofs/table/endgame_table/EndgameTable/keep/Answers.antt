@@ -2,9 +2,9 @@ use Rattle.std.proofs.Common.{arith, sym, ◌∙◌, ◌≡◌, ◌≤◌, ◌+�
 use Rattle.kalah_solve.specs.Table.RowRank.{rank_of_houses}
 use Rattle.kalah_solve.specs.Table.EndgameTable.{stored_at}
 use Rattle.kalah_solve.specs.Bounds.Won.{won}
-use Rattle.kalah_solve.proofs.OfTable.KeptEndings.{tells_more}
-use Rattle.kalah_solve.proofs.OfTable.RowRanks.{game_small}
-use Rattle.kalah_solve.proofs.OfBounds.Winnings.{taken_share}
+use Rattle.kalah_solve.proofs.TableLemmas.KeptEndings.{tells_more}
+use Rattle.kalah_solve.proofs.TableLemmas.RowRanks.{game_small}
+use Rattle.kalah_solve.proofs.BoundsLemmas.Winnings.{taken_share}
 use Rattle.kalah_solve.proofs.table.endgame_table.EndgameTable.keep.Goals as goal
 
 pub begun-word-requires-clause-small : goal.begun-word-requires-clause-small

@@ -1,5 +1,5 @@
 use Rattle.std.proofs.Common.{arith, ◌%◌, ◌*◌, ◌^◌, ◌≡◌}
-use Rattle.kalah_solve.proofs.OfTable.KeptEndings.{tells_nothing}
+use Rattle.kalah_solve.proofs.TableLemmas.KeptEndings.{tells_nothing}
 use Rattle.kalah_solve.proofs.table.endgame_table.words.begun.Goals as goal
 
 pub returns-else-found-label-clause-word : goal.returns-else-found-label-clause-word

@@ -1,4 +1,4 @@
-use Rattle.kalah_run.proofs.OfQueue.Lists.{all_are_of}
+use Rattle.kalah_run.proofs.QueueLemmas.Lists.{all_are_of}
 use Rattle.kalah_run.proofs.queue.tests.flow.Batch.run.Goals as goal
 
 -- src/queue/tests/flow.rt:122:9

@@ -1,0 +1,69 @@
+-- What of a batch may cross threads. The search for it goes by parts: for a whole worker it is too long.
+use denote.RattleType.{RattleType}
+use denote.Param.Send.{IsSend, IsSync, part_keyless, sendable}
+use denote.Ref.{NamedLft}
+use denote.Struct.Owning as owning
+use denote.Struct.Struct.{Struct}
+use Rattle.std.specs.contracts.alloc.Global as Heap
+use Rattle.std.proofs.Crossing.{crosses, frees}
+use Rattle.atomic_table.specs.contracts.shared.Seat as Seat
+use Rattle.atomic_table.specs.contracts.shared.Shared as Shared
+use Rattle.atomic_table.specs.declared.shared.TableRule.{Ghosts}
+use Rattle.atomic_table.specs.contracts.send_lease.SendLease as Lease
+use Rattle.atomic_table.proofs.Rights.{right_send}
+use Rattle.atomic_table.proofs.Sent.{seat_keyless, shares_keyless}
+use Rattle.kalah_solve.proofs.TableLemmas.Crossing.{owned, Solver-send}
+use Rattle.kalah_jobs.specs.contracts.files.jobs.Jobs as Jobs
+use Rattle.kalah_run.specs.contracts.desk.Desk as Desk
+use Rattle.kalah_run.specs.contracts.queue.ResultsQueue as ResultsQueue
+use Rattle.kalah_run.specs.contracts.batch.shared_work.SharedWork as SharedWork
+use Rattle.kalah_run.specs.contracts.queue.rule.Tagged as Tagged
+use Rattle.kalah_run.specs.contracts.batch.worker.Crew as Crew
+use Rattle.kalah_run.specs.contracts.batch.worker.Worker as Worker
+
+-- a seat at a table may be handed over
+seat_send : (S V : RattleType) → IsSend S → IsSend (Seat.the_row S V)
+seat_send S V s = record {
+  owned = λ d vs. ((λ vss. (tt, ((λ uss. (tt, tt)), tt))), seat_keyless S s V.coded.code d.table_id d.id d.me);
+  leaving = λ k f vs. tt;
+}
+
+-- the steps at a table may be shared
+shared_sync : (S V K P : RattleType) (g : Ghosts P.Denot S.Denot V.Denot K.Denot) → IsSend S → IsSync (Shared.the_row S V K P g)
+shared_sync S V K P g s =
+    let fields : IsSync (Struct (owning.shape (Shared.the_type S V K P g))) = search sendable depth 20 in
+    record {
+      shared =
+          λ d b o ν. (fields.shared (d.words, (d.slots, (tt, tt))) b o ν, shares_keyless S s V.coded.code d.table_id (g.holds d.key) d.words d.slots ν);
+    }
+
+-- and so may the right to its memory
+lease_sync : (T : RattleType) → IsSync (Lease.the_row T Heap.the_row (owned frees))
+lease_sync T =
+    record { shared = λ d b o ν q. part_keyless (Lease.the_row T Heap.the_row (owned frees)) (right_send T Heap.the_row (owned frees) frees) q d b o }
+
+-- outcomes may be handed over
+tagged_send : IsSend Tagged.the_row
+tagged_send = search (sendable, crosses) depth 60
+
+-- jobs, the desk and the results queue may be shared
+jobs_sync : IsSync Jobs.the_row
+jobs_sync = search (sendable, crosses) depth 60
+
+desk_sync : IsSync Desk.the_row
+desk_sync = search (sendable, crosses, shared_sync, lease_sync) depth 60
+
+queue_sync : IsSync ResultsQueue.the_row
+queue_sync = search (sendable, crosses, shared_sync, lease_sync, tagged_send) depth 60
+
+-- so what workers share may be
+pub shared_work_sync : (κ : NamedLft) (G : RattleType) → IsSync G → IsSync (SharedWork.the_row κ G)
+shared_work_sync κ G s = search (sendable, jobs_sync, desk_sync, queue_sync) depth 60
+
+-- and workers may be handed over
+pub worker_send : IsSend Worker.the_row
+worker_send = search (sendable, crosses, seat_send, tagged_send, Solver-send) depth 60
+
+-- and all of them with what they share
+pub crew_send : (κ κ' : NamedLft) (G : RattleType) → IsSync G → IsSend (Crew.the_row κ κ' G)
+crew_send κ κ' G s = search (sendable, crosses, shared_work_sync, worker_send) depth 60

@@ -1,0 +1,242 @@
+-- Each step keeps the rule of the results queue.
+use Rattle.std.proofs.Common.{◌≡◌, ◌≢◌, ℕ, suc, ◌+◌, ◌<◌, ◌≤◌, List, [], ◌∷◌, ◌++◌, length, set, sym, refl, ap, ◌∙◌, subst, ⊎_elim, append_assoc, arith}
+use Rattle.std.proofs.lemmas.List.{length-set, length_push}
+use mathlib.Core.Option.{some}
+use lib.ListN.{get_elem?}
+use Rattle.crossbeam_queue.specs.Fifo.{Pushes, Pops, Forks, Merges, Learns}
+use Rattle.crossbeam_queue.proofs.Lists.{at_set}
+use Rattle.kalah_jobs.specs.declared.files.job.Job.{Job}
+use Rattle.kalah_run.specs.declared.queue.rule.QueueView.{QueueView}
+use Rattle.kalah_run.specs.declared.queue.rule.QueueView.TheVariants.{Getting, Putting, Ended}
+use Rattle.kalah_run.specs.Queue.Lists.{Accounts}
+use Rattle.kalah_run.specs.Queue.Rule.{Fits, FitsPut, FitsGet, IsLawful}
+use Rattle.kalah_run.specs.Queue.Steps.{first_view, after_making_one, one_made, after_put, after_reclaiming_sent, IsGot, Tells}
+use Rattle.kalah_run.proofs.QueueLemmas.Pairs.{of_more, of_same, of_none, next_below, accounts_none, accounts_pair, accounts_worker, accounts_known}
+use Rattle.kalah_run.proofs.QueueLemmas.Views.{Each, in_views, at_end, each_set, each_one, first_longer, first_same, first_set}
+
+-- the rule, from what each view fits, how many views there are, and which is the first
+lawful : (pairs items taken : List (ℕ × Job)) (closed passes made : ℕ) (known : List (List Job)) (views : List QueueView)
+    → taken ++ items ≡ pairs → length views ≡ passes
+    → get_elem? views 0 ≡ some (Getting made taken known) → Each (Fits pairs taken closed passes) views → IsLawful items views
+lawful pairs items taken closed passes made known views e size first h =
+    let sized : Each (Fits pairs taken closed (length views)) views = subst (λ (n : ℕ). Each (Fits pairs taken closed n) views) (sym size) h in
+    record {
+      taken = taken;
+      closed = closed;
+      made = made;
+      known = known;
+      getter = first;
+      fits = subst (λ (l : List (ℕ × Job)). Each (Fits l taken closed (length views)) views) (sym e) sized;
+    }
+
+-- ---- a queue is made
+
+pub begins : IsLawful [] (first_view ∷ [])
+begins =
+    let fits : FitsGet [] [] 0 1 0 0 [] [] = record { foremost = refl; count = refl; all_got = refl; ended_known = refl; accounts = accounts_none } in
+    record { taken = []; closed = 0; made = 0; known = []; getter = refl; fits = each_one (Fits [] [] 0 1) first_view fits }
+
+-- ---- a worker puts an outcome
+
+-- the views of the other passes fit the pairs with one more, of a worker that has not ended
+fits_more : (pairs taken : List (ℕ × Job)) (closed passes place : ℕ) (x : ℕ × Job) → place ≡ suc x.0 → place < passes → closed ≤ x.0
+    → (j : ℕ) (u : QueueView) → j ≢ place → Fits pairs taken closed passes j u → Fits (pairs ++ x ∷ []) taken closed passes j u
+fits_more pairs taken closed passes place x behind within running j (Putting number sent) other h =
+    let ne : x.0 ≢ number = (λ q. other (h.behind ∙ (ap suc (sym q) ∙ sym behind))) in
+    record { behind = h.behind; running = h.running; all_sent = h.all_sent ∙ sym (of_same number pairs x ne) }
+fits_more pairs taken closed passes place x behind within running j (Getting made got known) other h =
+    let count : passes ≡ suc made = h.count in
+    let ended : length known ≡ closed = h.ended_known in
+    record {
+      foremost = h.foremost;
+      count = count;
+      all_got = h.all_got;
+      ended_known = ended;
+      accounts = accounts_pair made known pairs x (omega arith) (omega arith) h.accounts;
+    }
+fits_more pairs taken closed passes place x behind within running j Ended other h = tt
+
+puts_at : (n place : ℕ) (x : ℕ × Job) (sent : List Job) → Pushes IsLawful n place (Putting x.0 sent) x (λ w. w ≡ Putting x.0 (sent ++ x.1 ∷ []))
+puts_at n place x sent items views room h at =
+    let pairs : List (ℕ × Job) = h.taken ++ items in
+    let w : QueueView = Putting x.0 (sent ++ x.1 ∷ []) in
+    let mine : FitsPut pairs h.closed place x.0 sent = h.fits place (Putting x.0 sent) at in
+    let fits : FitsPut (pairs ++ x ∷ []) h.closed place x.0 (sent ++ x.1 ∷ []) =
+    record {
+      behind = mine.behind;
+      running = mine.running;
+      all_sent = ap (λ (l : List Job). l ++ x.1 ∷ []) mine.all_sent ∙ sym (of_more x.0 pairs x refl);
+    } in
+    let within : place < length views = in_views views place (Putting x.0 sent) at in
+    let all : Each (Fits (pairs ++ x ∷ []) h.taken h.closed (length views)) (set views place w) =
+    each_set (Fits (pairs ++ x ∷ []) h.taken h.closed (length views)) views place w fits
+    (λ j u other e. fits_more pairs h.taken h.closed (length views) place x mine.behind within mine.running j u other (h.fits j u e)) in
+    let behind : place ≡ suc x.0 = mine.behind in
+    let first = first_same views place _ w (omega arith) h.getter in (
+      w,
+      lawful (pairs ++ x ∷ []) (items ++ x ∷ []) h.taken h.closed (length views) h.made h.known (set views place w)
+          (sym (append_assoc h.taken items (x ∷ []))) (length-set views place w) first all,
+      refl,
+    )
+
+pub puts : (n place : ℕ) (v : QueueView) (x : ℕ × Job) (sent : List Job) → v ≡ Putting x.0 sent
+    → Pushes IsLawful n place v x (λ w. w ≡ after_put v x)
+puts n place v x sent e = subst (λ (u : QueueView). Pushes IsLawful n place u x (λ w. w ≡ after_put u x)) (sym e) (puts_at n place x sent)
+
+-- ---- the oldest pair is got
+
+-- the view of another pass states nothing of what was taken out
+fits_taken : (pairs taken after : List (ℕ × Job)) (closed passes place : ℕ) → place ≡ 0
+    → (j : ℕ) (u : QueueView) → j ≢ place → Fits pairs taken closed passes j u → Fits pairs after closed passes j u
+fits_taken pairs taken after closed passes place foremost j (Putting number sent) other h = h
+fits_taken pairs taken after closed passes place foremost j (Getting made got known) other h = absurd (other (h.foremost ∙ sym foremost))
+fits_taken pairs taken after closed passes place foremost j Ended other h = tt
+
+gets_at : (place made : ℕ) (got : List (ℕ × Job)) (known : List (List Job))
+    → Pops IsLawful place (Getting made got known) (IsGot (Getting made got known))
+gets_at place made got known x items views h at =
+    let pairs : List (ℕ × Job) = h.taken ++ x ∷ items in
+    let after : List (ℕ × Job) = h.taken ++ x ∷ [] in
+    let w : QueueView = Getting made (got ++ x ∷ []) known in
+    let mine : FitsGet pairs h.taken h.closed (length views) place made got known = h.fits place (Getting made got known) at in
+    let fits : FitsGet pairs after h.closed (length views) place made (got ++ x ∷ []) known =
+    record {
+      foremost = mine.foremost;
+      count = mine.count;
+      all_got = ap (λ (l : List (ℕ × Job)). l ++ x ∷ []) mine.all_got;
+      ended_known = mine.ended_known;
+      accounts = mine.accounts;
+    } in
+    let all : Each (Fits pairs after h.closed (length views)) (set views place w) =
+    each_set (Fits pairs after h.closed (length views)) views place w fits
+    (λ j u other e. fits_taken pairs h.taken after h.closed (length views) place mine.foremost j u other (h.fits j u e)) in
+    let got_now : Getting made (got ++ x ∷ []) known ≡ Getting made after known =
+    ap (λ (l : List (ℕ × Job)). Getting made (l ++ x ∷ []) known) mine.all_got in
+    let first = first_set views place _ w mine.foremost h.getter ∙ ap some got_now in (
+      w,
+      lawful pairs items after h.closed (length views) made known (set views place w) (append_assoc h.taken (x ∷ []) items)
+          (length-set views place w) first all,
+      (refl, next_below made h.taken x items mine.accounts.below),
+    )
+
+pub gets : (place : ℕ) (v : QueueView) (made : ℕ) (got : List (ℕ × Job)) (known : List (List Job)) → v ≡ Getting made got known
+    → Pops IsLawful place v (IsGot v)
+gets place v made got known e = subst (λ (u : QueueView). Pops IsLawful place u (IsGot u)) (sym e) (gets_at place made got known)
+
+-- ---- a pass is made for the next worker
+
+-- the views of the other passes fit if there is a pass more
+fits_made : (pairs taken : List (ℕ × Job)) (closed passes after place : ℕ) → place ≡ 0
+    → (j : ℕ) (u : QueueView) → j ≢ place → Fits pairs taken closed passes j u → Fits pairs taken closed after j u
+fits_made pairs taken closed passes after place foremost j (Putting number sent) other h = h
+fits_made pairs taken closed passes after place foremost j (Getting made got known) other h = absurd (other (h.foremost ∙ sym foremost))
+fits_made pairs taken closed passes after place foremost j Ended other h = tt
+
+-- one view more, at the end
+each_more : (F : ℕ → QueueView → Type 0) (views : List QueueView) (w : QueueView) → Each F views → F (length views) w → Each F (views ++ w ∷ [])
+each_more F views w h fits j u e =
+    ⊎_elim (λ (x : get_elem? views j ≡ some u). h j u x)
+    (λ (x : (j ≡ length views) × (w ≡ u)). subst (λ (y : ℕ × QueueView). F y.0 y.1) (λ i. (sym x.0 i, x.1 i)) fits)
+    (at_end views w u j e)
+
+forks_at : (place made : ℕ) (got : List (ℕ × Job)) → Forks IsLawful place (Getting made got []) (Getting (made + 1) got []) (Putting made [])
+forks_at place made got items views h at =
+    let pairs : List (ℕ × Job) = h.taken ++ items in
+    let mine : FitsGet pairs h.taken h.closed (length views) place made got [] = h.fits place (Getting made got []) at in
+    let count : length views ≡ suc made = mine.count in
+    let ended : 0 ≡ h.closed = mine.ended_known in
+    let left : QueueView = Getting (made + 1) got [] in
+    let vs : List QueueView = set views place left in
+    let same : length vs ≡ length views = length-set views place left in
+    let F : ℕ → QueueView → Type 0 = Fits pairs h.taken h.closed (made + 2) in
+    let fits : FitsGet pairs h.taken h.closed (made + 2) place (made + 1) got [] =
+    record {
+      foremost = mine.foremost;
+      count = omega arith;
+      all_got = mine.all_got;
+      ended_known = ended;
+      accounts = accounts_worker made [] pairs mine.accounts;
+    } in
+    let old : Each F vs =
+    each_set F views place left fits
+    (λ j u other e. fits_made pairs h.taken h.closed (length views) (made + 2) place mine.foremost j u other (h.fits j u e)) in
+    let fresh : FitsPut pairs h.closed (length vs) made [] =
+    record { behind = omega arith; running = omega arith; all_sent = sym (of_none made made pairs mine.accounts.below (omega arith)) } in
+    let longer : length (vs ++ Putting made [] ∷ []) ≡ length vs + 1 = length_push vs (Putting made []) in
+    let got_now : left ≡ Getting (made + 1) h.taken [] = ap (λ (l : List (ℕ × Job)). Getting (made + 1) l []) mine.all_got in
+    let first = first_longer vs _ (Putting made []) (first_set views place _ left mine.foremost h.getter ∙ ap some got_now) in
+    lawful pairs items h.taken h.closed (made + 2) (made + 1) [] (vs ++ Putting made [] ∷ []) refl (omega arith) first
+    (each_more F vs (Putting made []) old fresh)
+
+pub forks : (place : ℕ) (v : QueueView) (made : ℕ) (got : List (ℕ × Job)) → v ≡ Getting made got []
+    → Forks IsLawful place v (after_making_one v) (one_made v)
+forks place v made got e = subst (λ (u : QueueView). Forks IsLawful place u (after_making_one u) (one_made u)) (sym e) (forks_at place made got)
+
+-- ---- a worker's pass is reclaimed
+
+-- the views of the other passes fit if one worker more has ended
+fits_ended : (pairs taken : List (ℕ × Job)) (closed passes place ended : ℕ) → place ≡ 0 → ended ≡ suc closed
+    → (j : ℕ) (u : QueueView) → j ≢ place → j ≢ ended → Fits pairs taken closed passes j u → Fits pairs taken (closed + 1) passes j u
+fits_ended pairs taken closed passes place ended foremost is j (Putting number sent) other apart h =
+    let behind : j ≡ suc number = h.behind in
+    let running : closed ≤ number = h.running in
+    let ne : number ≢ closed = (λ q. apart (behind ∙ (ap suc q ∙ sym is))) in
+    record { behind = behind; running = omega arith; all_sent = h.all_sent }
+fits_ended pairs taken closed passes place ended foremost is j (Getting made got known) other apart h = absurd (other (h.foremost ∙ sym foremost))
+fits_ended pairs taken closed passes place ended foremost is j Ended other apart h = tt
+
+merges_at : (place other made : ℕ) (got : List (ℕ × Job)) (known : List (List Job)) (sent : List Job)
+    → Merges IsLawful place (Getting made got known) other (Putting (length known) sent) (Getting made got (known ++ sent ∷ [])) Ended
+merges_at place other made got known sent items views h at two at_other =
+    let both : QueueView = Getting made got (known ++ sent ∷ []) in
+    let theirs : QueueView = Putting (length known) sent in
+    let pairs : List (ℕ × Job) = h.taken ++ items in
+    let mine : FitsGet pairs h.taken h.closed (length views) place made got known = h.fits place (Getting made got known) at in
+    let ended : length known ≡ h.closed = mine.ended_known in
+    let vs : List QueueView = set views place both in
+    let was : get_elem? views other ≡ some theirs =
+    ⊎_elim
+    (λ (x : (other ≡ place) × (both ≡ theirs)). absurd (two x.0))
+    (λ (x : (other ≢ place) × (get_elem? views other ≡ some theirs)). x.1)
+    (at_set views place other both theirs at_other) in
+    let their_fit : FitsPut pairs h.closed other (length known) sent = h.fits other theirs was in
+    let last : other ≡ suc h.closed = their_fit.behind ∙ ap suc ended in
+    let longer : length (known ++ sent ∷ []) ≡ length known + 1 = length_push known sent in
+    let fits : FitsGet pairs h.taken (h.closed + 1) (length views) place made got (known ++ sent ∷ []) =
+    record {
+      foremost = mine.foremost;
+      count = mine.count;
+      all_got = mine.all_got;
+      ended_known = omega arith;
+      accounts = accounts_known made known pairs sent their_fit.all_sent mine.accounts;
+    } in
+    let F : ℕ → QueueView → Type 0 = Fits pairs h.taken (h.closed + 1) (length views) in
+    let Apart : ℕ → QueueView → Type 0 = λ j u. j ≢ other → F j u in
+    let apart : Each Apart vs = each_set Apart views place both (λ _. fits)
+    (λ j u away e ne. fits_ended pairs h.taken h.closed (length views) place other mine.foremost last j u away ne (h.fits j u e)) in
+    let done : Each F (set vs other Ended) = each_set F vs other Ended tt (λ j u ne e. apart j u e ne) in
+    let got_now : both ≡ Getting made h.taken (known ++ sent ∷ []) = ap (λ (l : List (ℕ × Job)). Getting made l (known ++ sent ∷ [])) mine.all_got in
+    let first = first_same vs other _ Ended (omega arith) (first_set views place _ both mine.foremost h.getter ∙ ap some got_now) in
+    lawful pairs items h.taken (h.closed + 1) (length views) made (known ++ sent ∷ []) (set vs other Ended) refl
+    (length-set vs other Ended ∙ length-set views place both) first done
+
+pub merges : (place : ℕ) (v : QueueView) (other : ℕ) (u : QueueView) (made : ℕ) (got : List (ℕ × Job)) (known : List (List Job))
+    (number : ℕ) (sent : List Job)
+    → v ≡ Getting made got known → u ≡ Putting number sent → number ≡ length known
+    → Merges IsLawful place v other u (after_reclaiming_sent v u) Ended
+merges place v other u made got known number sent e e' is =
+    let e'' : u ≡ Putting (length known) sent = e' ∙ ap (λ (n : ℕ). Putting n sent) is in
+    subst (λ (p : QueueView × QueueView). Merges IsLawful place p.0 other p.1 (after_reclaiming_sent p.0 p.1) Ended) (λ i. (sym e i, sym e'' i))
+    (merges_at place other made got known sent)
+
+-- ---- what the pass to get learns of the queue
+
+accounts_at : (place made : ℕ) (got : List (ℕ × Job)) (known : List (List Job))
+    → Learns IsLawful place (Getting made got known) (λ items. Accounts made known (got ++ items))
+accounts_at place made got known items views h at =
+    let mine : FitsGet (h.taken ++ items) h.taken h.closed (length views) place made got known = h.fits place (Getting made got known) at in
+    subst (λ (g : List (ℕ × Job)). Accounts made known (g ++ items)) (sym mine.all_got) mine.accounts
+
+pub tells : (place : ℕ) (v : QueueView) (made : ℕ) (got : List (ℕ × Job)) (known : List (List Job)) → v ≡ Getting made got known
+    → Learns IsLawful place v (Tells v)
+tells place v made got known e = subst (λ (u : QueueView). Learns IsLawful place u (Tells u)) (sym e) (accounts_at place made got known)
