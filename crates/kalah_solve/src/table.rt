@@ -1,9 +1,10 @@
 //! A bounded table of what is known of houses.
-ghost use Rattle.std.specs.Prelude.{◌≡◌, ◌≤◌, ◌⊎◌, nat_eq, IfOk, IfSome, IsSome, Some, ◌≤ℤ◌, ℤ, ◌<ℤ◌, false};
+ghost use Rattle.std.specs.Prelude.{◌≡◌, ◌≤◌, ◌⊎◌, length, min, nat_eq, IfOk, IfSome, IsSome, Some, ◌≤ℤ◌, ℤ, ◌<ℤ◌, false};
 ghost use Rattle.std.specs.Map.{lookup};
 ghost use Rattle.kalah_rules.specs.Key.{key_of};
 ghost use Rattle.kalah_rules.specs.Position.{bare, is_over, seeds_in_houses};
 ghost use Rattle.kalah_solve.specs.Table.Entries.{most_entries, empty_table};
+ghost use Rattle.kalah_solve.specs.Table.DirectTable.{places_for};
 ghost use Rattle.kalah_solve.specs.Solver.Worth.{houses_worth};
 
 pub(crate) mod direct_table;
@@ -100,7 +101,9 @@ impl<A: Allocator + Clone> Table<A> {
     }
 
     // Makes as many places as there is room for entries, with nothing known. It fails if there is no memory for them.
-    fn all_places(&self) -> Result<DirectTable<A>, AllocError> {
+    fn all_places(&self) -> Result<DirectTable<A>, AllocError>
+        ensures { IfOk result (λ p. length p ≡ places_for (min self.now.capacity most_entries)) }
+    {
         let count = self.entries.cap().get().min(MOST_ENTRIES as usize);
         DirectTable::new(self.entries.allocator().clone()?, count as u32)
     }

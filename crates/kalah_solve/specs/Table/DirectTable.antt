@@ -1,5 +1,5 @@
 -- What the places of houses state.
-use Rattle.std.specs.Prelude.{◌≡◌, ℕ, ◌*◌, ◌/◌, ◌%◌, ◌^◌, ◌<◌, ◌≤◌, List, length, slice_index_or}
+use Rattle.std.specs.Prelude.{◌≡◌, ℕ, ◌*◌, ◌/◌, ◌%◌, ◌^◌, ◌<◌, ◌≤◌, max, List, length, slice_index_or}
 use Rattle.kalah_rules.specs.Position.{Rows, IsWithinHouses}
 use Rattle.kalah_rules.specs.Key.{key_of}
 use Rattle.kalah_solve.specs.Bounds.Won.{won, between, IsWithinBounds}
@@ -32,6 +32,10 @@ StoreBounds places = (a : Rows) (number : ℕ) (d : Place) → IsWithinHouses a 
     place_among (length places) number < length places →
     stored_rest (slice_index_or places (place_among (length places) number) d) ≡ left_open number →
     IsWithinBounds (stored_bounds (slice_index_or places (place_among (length places) number) d)) (won a)
+
+-- how many places there are beside so many entries: as many, and never fewer than 1,024
+abbrev pub places_for : ℕ → ℕ
+places_for entries = max 1024 entries
 
 -- enough places that no two keys share a place and what it leaves open
 pub record AreEnough (count : ℕ) : Type 0 where

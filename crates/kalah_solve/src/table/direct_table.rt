@@ -1,10 +1,10 @@
 //! A table of places for what is known of houses. Each place keeps the houses stored last; nothing is searched for.
-ghost use Rattle.std.specs.Prelude.{◌≡◌, ◌≤◌, ◌<◌, ◌*◌, ◌/◌, ◌^◌, ℕ, length};
+ghost use Rattle.std.specs.Prelude.{◌≡◌, ◌≤◌, ◌<◌, ◌*◌, ◌/◌, ◌^◌, ℕ, IfOk, length};
 ghost use Rattle.kalah_rules.specs.Limits.{most_seeds};
 ghost use Rattle.kalah_rules.specs.Position.{IsWithinHouses};
 ghost use Rattle.kalah_rules.specs.Key.{key_of};
 ghost use Rattle.kalah_solve.specs.Bounds.Won.{won, between, IsWithinBounds};
-ghost use Rattle.kalah_solve.specs.Table.DirectTable.{mixed, place_among, left_open, stored_rest, stored_bounds, AreEnough};
+ghost use Rattle.kalah_solve.specs.Table.DirectTable.{mixed, place_among, left_open, places_for, stored_rest, stored_bounds, AreEnough};
 
 use crate::bounds::seed_bounds::SeedBounds;
 use kalah_rules::{Houses, MOST_SEEDS};
@@ -103,7 +103,9 @@ impl<A: Allocator> DirectTable<A> {
     /// Makes `count` places, or 1,024 if that is more.
     ///
     /// Fails with `AllocError` if there is no memory for them.
-    pub(crate) fn new(alloc: A, count: u32) -> Result<DirectTable<A>, AllocError> {
+    pub(crate) fn new(alloc: A, count: u32) -> Result<DirectTable<A>, AllocError>
+        ensures { IfOk result (λ p. length p ≡ places_for count) }
+    {
         let unknown = Place::of(0, SeedBounds::whole(MOST_SEEDS as u8));
         let count = LEAST_PLACES.max(count as usize);
         let places = Vec::from_elem(alloc, unknown, count)?;
