@@ -1,5 +1,5 @@
 -- The rows that a parse by clap ends with, and which of them is found: nothing here is of Kalah.
-use Rattle.std.proofs.Common.{◌≡◌, ◌∙◌, ◌++◌, Bool, cond, true, false, refl, subst, List, [], ◌∷◌, Option, Some, None, ◌||◌}
+use Rattle.std.proofs.Common.{◌≡◌, ◌∙◌, ◌++◌, Bool, cond, true, false, refl, List, [], ◌∷◌, Option, Some, None, ◌||◌}
 use Rattle.std.specs.Prelude.{find}
 use Rattle.std.specs.List.{fold}
 use Rattle.std.specs.Option.{option_map_or}
@@ -97,15 +97,3 @@ pub row_in : (id : Text) (rows : List Row) → has_row id rows ≡ true → (r :
 row_in id rows e =
     let got = any_found (λ r. bytes_eq r.id id) rows e in
     (got.0, got.1)
-
--- a row that is found has the id
-pub found_named : (id : Text) (rows : List Row) (r : Row) → find (λ r. bytes_eq r.id id) rows ≡ Some r → bytes_eq r.id id ≡ true
-found_named id [] r e = cc
-found_named id (x ∷ xs) r e = go (bytes_eq x.id id) refl e (λ rest. found_named id xs r rest)
-  where
-    go : (b : Bool) → bytes_eq x.id id ≡ b → cond b (Some x) (find (λ r. bytes_eq r.id id) xs) ≡ Some r
-        → (find (λ r. bytes_eq r.id id) xs ≡ Some r → bytes_eq r.id id ≡ true) → bytes_eq r.id id ≡ true
-    go true is same later =
-        let one : x ≡ r = cc in
-        subst (λ y. bytes_eq y.id id ≡ true) one is
-    go false is rest later = later rest
