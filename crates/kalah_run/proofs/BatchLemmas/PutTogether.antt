@@ -33,4 +33,4 @@ pub tables_more : (workers workers' : List Worker) (w : Worker) (solver : Solver
     HaveTables entries workers → HaveTables entries workers'
 tables_more workers workers' w solver entries is has_it empty so_far =
     subst (λ l. HaveTables entries l) (sym is)
-        (All-push (HasTable entries) workers w so_far (ap (λ (s : Solver Global). s.search.table) has_it ∙ empty))
+    (All-push (HasTable entries) workers w so_far (ap (λ (s : Solver Global). s.search.table) has_it ∙ empty))
