@@ -133,10 +133,10 @@ impl<A: Allocator + Clone> Table<A> {
     }
 
     // Returns how many seeds the mover takes from houses with few seeds.
-    pub(crate) fn won(&mut self, houses: &Houses) -> u8
-        requires going { is_over (bare houses.now) ≡ false }
-        requires few { seeds_in_houses (bare houses.now) ≤ 9 }
-        ensures taken { result ≡ won houses.now }
+    pub(crate) fn won(&mut self, houses: Houses) -> u8
+        requires going { is_over (bare houses) ≡ false }
+        requires few { seeds_in_houses (bare houses) ≤ 9 }
+        ensures taken { result ≡ won houses }
         ensures kept { self.new ≡ self.old }
     {
         self.endings.won(houses)

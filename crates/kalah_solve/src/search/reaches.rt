@@ -25,14 +25,14 @@ enum Look {
 impl<A: Allocator + Clone> Search<A> {
     // Returns a fail-soft bound of the number of seeds that the mover takes.
     #[cycle(search)]
-    fn bound(&mut self, houses: &Houses, bar: u8) -> u8
-        requires going { is_over (bare houses.now) ≡ false }
-        ensures { IsSoftBound bar (won houses.now) result }
+    fn bound(&mut self, houses: Houses, bar: u8) -> u8
+        requires going { is_over (bare houses) ≡ false }
+        ensures { IsSoftBound bar (won houses) result }
     {
         if houses.seeds() <= self.max_ending_seeds() {
             return self.table.won(houses);
         }
-        let known = self.known(houses);
+        let known = self.known(&houses);
         if bar <= known.least {
             return known.least;
         }
@@ -40,9 +40,9 @@ impl<A: Allocator + Clone> Search<A> {
             return known.most;
         }
         let before = self.count_node();
-        let bound = self.explore(houses, bar);
+        let bound = self.explore(&houses, bar);
         let work = self.nodes.wrapping_sub(before);
-        self.learn(houses, known.learned(bar, bound), work);
+        self.learn(&houses, known.learned(bar, bound), work);
         bound
     }
 
@@ -70,7 +70,7 @@ impl<A: Allocator + Clone> Search<A> {
             let at = (rank % 8) as usize;
             ranks[at] = 0;
             let next = turns[at];
-            let bound = self.bound_turn(seeds - next.seeds(), &next, bar);
+            let bound = self.bound_turn(seeds - next.seeds(), next, bar);
             if bar <= bound {
                 return bound;
             }
@@ -94,7 +94,7 @@ impl<A: Allocator + Clone> Search<A> {
         while left > 0 {
             let (h, rest) = split_last(left);
             left = rest;
-            let bound = self.bound_step(&houses.play_into_store(h), bar);
+            let bound = self.bound_step(houses.play_into_store(h), bar);
             if bar <= bound {
                 return bound;
             }
@@ -146,12 +146,14 @@ impl<A: Allocator + Clone> Search<A> {
     {
         let _seeds = houses.seeds();
         let step = houses.play(h);
-        match &step {
-            HousesStep::Turn(gained, next)
-                if *gained < bar && next.seeds() > self.max_ending_seeds() => {
-                Look::Waits(priority(h, *gained, next), *next)
+        match step {
+            HousesStep::Turn(gained, next) => {
+                if gained < bar && next.seeds() > self.max_ending_seeds() {
+                    return Look::Waits(priority(h, gained, &next), next);
+                }
+                Look::Bounded(self.bound_turn(gained, next, bar))
             }
-            _ => Look::Bounded(self.bound_step(&step, bar)),
+            _ => Look::Bounded(self.bound_step(step, bar)),
         }
     }
 
@@ -161,33 +163,33 @@ impl<A: Allocator + Clone> Search<A> {
         ensures { IsTrue result ↔ bar ≤ won_by_step (houses_step houses.now h) }
     {
         let _seeds = houses.seeds();
-        bar <= self.bound_step(&houses.play(h), bar)
+        bar <= self.bound_step(houses.play(h), bar)
     }
 
     // Returns a fail-soft bound of what a step takes.
     #[cycle(search)]
-    fn bound_step(&mut self, step: &HousesStep, bar: u8) -> u8
-        requires on { GoesOn step.now }
-        ensures { IsSoftBound bar (won_by_step step.now) result }
+    fn bound_step(&mut self, step: HousesStep, bar: u8) -> u8
+        requires on { GoesOn step }
+        ensures { IsSoftBound bar (won_by_step step) result }
     {
         match step {
-            HousesStep::Over { own, .. } => *own,
+            HousesStep::Over { own, .. } => own,
             HousesStep::Again(gained, next) => {
-                if bar <= *gained {
-                    *gained
+                if bar <= gained {
+                    gained
                 } else {
-                    *gained + self.bound(next, bar - *gained)
+                    gained + self.bound(next, bar - gained)
                 }
             }
-            HousesStep::Turn(gained, next) => self.bound_turn(*gained, next, bar),
+            HousesStep::Turn(gained, next) => self.bound_turn(gained, next, bar),
         }
     }
 
     // Returns a fail-soft bound of what a turn takes: the `gained` seeds that it brought to the store, and what the other player leaves.
     #[cycle(search)]
-    fn bound_turn(&mut self, gained: u8, next: &Houses, bar: u8) -> u8
-        requires on { GoesOnAt gained next.now }
-        ensures { IsSoftBound bar (gained + (seeds_in_houses (bare next.now) - won next.now)) result }
+    fn bound_turn(&mut self, gained: u8, next: Houses, bar: u8) -> u8
+        requires on { GoesOnAt gained next }
+        ensures { IsSoftBound bar (gained + (seeds_in_houses (bare next) - won next)) result }
     {
         let all = gained + next.seeds();
         if bar <= gained {

@@ -15,13 +15,13 @@ impl<A: Allocator> EndgameTable<A> {
     /// Returns how many of the seeds in the houses the mover takes in best play.
     #[cycle(exact)]
     #[inline(always)]
-    pub(crate) fn won(&self, houses: &Houses) -> u8
-        requires going { is_over (bare houses.now) ≡ false }
-        requires few { seeds_in_houses (bare houses.now) ≤ 9 }
-        ensures { result ≡ won houses.now }
+    pub(crate) fn won(&self, houses: Houses) -> u8
+        requires going { is_over (bare houses) ≡ false }
+        requires few { seeds_in_houses (bare houses) ≤ 9 }
+        ensures { result ≡ won houses }
     {
-        let rank = self.rank(houses);
-        if let Some(won) = self.get(houses, rank) {
+        let rank = self.rank(&houses);
+        if let Some(won) = self.get(&houses, rank) {
             return won;
         }
         self.learn(houses, rank)
@@ -30,15 +30,15 @@ impl<A: Allocator> EndgameTable<A> {
     // The same, by trying the moves. What it finds is kept.
     #[cycle(exact)]
     #[inline(never)]
-    fn learn(&self, houses: &Houses, rank: u32) -> u8
-        requires going { is_over (bare houses.now) ≡ false }
-        requires few { seeds_in_houses (bare houses.now) ≤ 9 }
-        requires rank { rank ≡ rank_of_houses houses.now }
+    fn learn(&self, houses: Houses, rank: u32) -> u8
+        requires going { is_over (bare houses) ≡ false }
+        requires few { seeds_in_houses (bare houses) ≤ 9 }
+        requires rank { rank ≡ rank_of_houses houses }
         requires small { rank < 2 ^ 21 }
-        ensures { result ≡ won houses.now }
+        ensures { result ≡ won houses }
     {
-        let won = self.most_won(houses);
-        self.keep(houses, rank, won);
+        let won = self.most_won(&houses);
+        self.keep(&houses, rank, won);
         won
     }
 
@@ -73,8 +73,8 @@ impl<A: Allocator> EndgameTable<A> {
         let _seeds = houses.seeds();
         match houses.play(h) {
             HousesStep::Over { own, .. } => own,
-            HousesStep::Again(gained, next) => gained + self.won(&next),
-            HousesStep::Turn(gained, next) => gained + (next.seeds() - self.won(&next)),
+            HousesStep::Again(gained, next) => gained + self.won(next),
+            HousesStep::Turn(gained, next) => gained + (next.seeds() - self.won(next)),
         }
     }
 }

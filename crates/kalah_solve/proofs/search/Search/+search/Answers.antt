@@ -1,9 +1,10 @@
-use Rattle.std.proofs.Common.{arith, rules, refl, sym, ◌≡◌, ◌+◌, ◌-◌, ◌%◌, subst, length}
+use Rattle.std.proofs.Common.{arith, rules, refl, sym, ◌≡◌, ◌+◌, ◌-◌, ◌%◌, ◌<◌, subst, length}
 use Rattle.std.specs.Prelude.{max}
 use Rattle.std.proofs.lemmas.List.Sums.{sum_by-set}
 use Rattle.kalah_rules.specs.Position.{bare}
 use Rattle.kalah_rules.proofs.Legal.{legal_holds}
-use Rattle.kalah_solve.specs.Solver.StepWorth.{GoesOn, GoesOnAt}
+use Rattle.kalah_rules.specs.Measure.{moves_left}
+use Rattle.kalah_solve.specs.Solver.StepWorth.{GoesOn, GoesOnAt, moves_after}
 use Rattle.kalah_solve.specs.Bounds.Won.{won}
 use Rattle.kalah_solve.specs.Search.Tried.{EndsInStore, WinsAtMost}
 use Rattle.kalah_solve.proofs.RowMarks.{cell_none, marks_fall}
@@ -19,6 +20,16 @@ look-bound_step-requires g t c κs within =
       (within, goes_on c.args.houses.now c.args.h c.play-step.result limits c.requires.legal c.play-step.ensures),
     )
 
+pub look-bound_turn-requires : goal.look-bound_turn-requires
+look-bound_turn-requires g t c κs within =
+    let limits = c.seeds-seeds.ensures.limits in
+    let a = c.args.houses.now in
+    let on = goes_on a c.args.h c.play-step.result limits c.requires.legal c.play-step.ensures in (
+      omega (arith, subst (λ s. moves_after s < moves_left (bare a)) c.in-Turn.is
+          (step_falls a c.args.h c.play-step.result limits c.requires.legal c.play-step.ensures)),
+      (within, subst GoesOn c.in-Turn.is on),
+    )
+
 pub bound_step-overflow_add-result : goal.bound_step-overflow_add-result
 bound_step-overflow_add-result g t c =
     let on : GoesOnAt c.in-Again.gained c.in-Again.next = subst GoesOn c.in-Again.is c.requires.on in
@@ -26,13 +37,13 @@ bound_step-overflow_add-result g t c =
 
 pub bound_turn-overflow_sub-result : goal.bound_turn-overflow_sub-result
 bound_turn-overflow_sub-result g t c =
-    let few = (taken_share c.args.next.now c.requires.on.limits).few in
+    let few = (taken_share c.args.next c.requires.on.limits).few in
     omega (arith, few, c.seeds.ensures.seeds, c.if-bar-gained.false, c.if-all-bar.false, bound_up_to _ _ _ c.bound.ensures)
 
 pub bound_turn-returns-else-all-bar : goal.bound_turn-returns-else-all-bar
 bound_turn-returns-else-all-bar g t c =
-    let few = (taken_share c.args.next.now c.requires.on.limits).few in
-    bound_left c.args.bar (c.args.gained + c.seeds.result) _ c.args.gained (won c.args.next.now) c.bound.result (omega (arith, c.seeds.ensures.seeds)) few
+    let few = (taken_share c.args.next c.requires.on.limits).few in
+    bound_left c.args.bar (c.args.gained + c.seeds.result) _ c.args.gained (won c.args.next) c.bound.result (omega (arith, c.seeds.ensures.seeds)) few
     c.if-bar-gained.false c.if-all-bar.false c.bound.ensures
 
 pub explore-bounds-ranks-at : goal.explore-bounds-ranks-at
@@ -123,8 +134,8 @@ explore-returns g t c =
           is.untried is.highest (omega (arith, c.loop-rank-test.false));
     }
 
-pub look-returns-in-Turn : goal.look-returns-in-Turn
-look-returns-in-Turn g t c = (
+pub look-returns-then-seeds-max_ending_seeds : goal.look-returns-then-seeds-max_ending_seeds
+look-returns-then-seeds-max_ending_seeds g t c = (
   c.priority.ensures.some,
   turn_of c.args.houses.now c.args.h c.priority.result c.in-Turn.gained c.in-Turn.next c.play-step.result c.seeds-seeds.ensures.limits
       c.requires.legal c.play-step.ensures c.in-Turn.is c.priority.ensures.house,

@@ -8,10 +8,10 @@ use Rattle.kalah_solve.proofs.TableLemmas.MostWon.{IsMost}
 use Rattle.kalah_solve.proofs.table.endgame_table.EndgameTable.+exact.Given as goal
 
 abbrev pub decreases-won : goal.decreases-won
-decreases-won g l = 4 * moves_left (bare l.houses.now) + 3
+decreases-won g l = 4 * moves_left (bare l.houses) + 3
 
 abbrev pub decreases-learn : goal.decreases-learn
-decreases-learn g l = 4 * moves_left (bare l.houses.now) + 2
+decreases-learn g l = 4 * moves_left (bare l.houses) + 2
 
 abbrev pub decreases-most_won : goal.decreases-most_won
 decreases-most_won g l = 4 * moves_left (bare l.houses.now) + 1
