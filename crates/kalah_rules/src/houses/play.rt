@@ -116,27 +116,7 @@ impl Houses {
         }
     }
 
-    // Returns the rows after the move of house `h`, and whether its last seed falls into the own store.
-    #[inline(always)]
-    fn after(&self, h: u8) -> (RowNumbers, bool)
-        requires { HoldsSeeds (bare self.now) h }
-        ensures rows { Shows result.0 (after (bare self.now) h) }
-        ensures again { result.1 ≡ is_again (bare self.now) h }
-        ensures limits { IsWithinHouses self.now }
-    {
-        let m = self.m() as u32;
-        let reach = h as u32 + self.own(h) as u32;
-        if reach <= m {
-            let rows = self.sow_in_row(h as u32, reach);
-            (self.capture(h as u32, rows, reach), false)
-        } else if reach <= 2 * m + 1 {
-            (self.sow_past_row(h as u32, reach), reach == m + 1)
-        } else {
-            self.after_lap(h)
-        }
-    }
-
-    // Returns the same, by the sowing for any number of seeds.
+    // Returns the rows after the move of house `h`, with any number of seeds, and whether its last seed falls into the own store.
     fn after_lap(&self, h: u8) -> (RowNumbers, bool)
         requires { HoldsSeeds (bare self.now) h }
         ensures rows { Shows result.0 (after (bare self.now) h) }
@@ -178,19 +158,15 @@ impl Houses {
         }
     }
 
-    /// Plays the mover's house `h`, which must be legal.
-    ///
-    /// Its seeds are sown one into each cell: the mover's houses after `h`, the mover's store, the other player's houses,
-    /// the mover's houses up to `h`, and round again; the other player's store is skipped. If the last seed falls into the
-    /// mover's store, the mover moves again. If it falls into an empty house of the mover, it captures as the rule says.
-    /// If the houses of one player are then all empty, the game is over, and each player's houses are swept into that
-    /// player's store.
+    // Returns the step of house `h`, from the rows after its move and whether it moves again.
     #[inline(always)]
-    pub fn play(&self, h: u8) -> HousesStep
-        requires { Contains (legal_houses (bare self.now)) h }
+    fn step(&self, h: u8, rows: RowNumbers, again: bool) -> HousesStep
+        requires legal { Contains (legal_houses (bare self.now)) h }
+        requires rows { Shows rows (after (bare self.now) h) }
+        requires again { again ≡ is_again (bare self.now) h }
+        requires limits { IsWithinHouses self.now }
         ensures { result ≡ houses_step self.now h }
     {
-        let (rows, again) = self.after(h);
         let gained = rows.store as u8;
         let seeds = self.seeds - rows.store;
         if rows.own == 0 {
@@ -212,6 +188,33 @@ impl Houses {
         } else {
             let key = rows.other + OTHER_ROW * rows.own + rest;
             HousesStep::Turn(gained, Houses { key, seeds })
+        }
+    }
+
+    /// Plays the mover's house `h`, which must be legal.
+    ///
+    /// Its seeds are sown one into each cell: the mover's houses after `h`, the mover's store, the other player's houses,
+    /// the mover's houses up to `h`, and round again; the other player's store is skipped. If the last seed falls into the
+    /// mover's store, the mover moves again. If it falls into an empty house of the mover, it captures as the rule says.
+    /// If the houses of one player are then all empty, the game is over, and each player's houses are swept into that
+    /// player's store.
+    #[inline(always)]
+    pub fn play(&self, h: u8) -> HousesStep
+        requires { Contains (legal_houses (bare self.now)) h }
+        ensures { result ≡ houses_step self.now h }
+    {
+        let m = self.m() as u32;
+        let reach = h as u32 + self.own(h) as u32;
+        if reach <= m {
+            let rows = self.sow_in_row(h as u32, reach);
+            let rows = self.capture(h as u32, rows, reach);
+            self.step(h, rows, false)
+        } else if reach <= 2 * m + 1 {
+            let rows = self.sow_past_row(h as u32, reach);
+            self.step(h, rows, reach == m + 1)
+        } else {
+            let (rows, again) = self.after_lap(h);
+            self.step(h, rows, again)
         }
     }
 }

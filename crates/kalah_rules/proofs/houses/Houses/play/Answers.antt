@@ -1,83 +1,74 @@
-use Rattle.std.proofs.Common.{arith, sym, ◌∙◌}
+use Rattle.std.proofs.lemmas.Bool.Decides.{nat_tests}
+use Rattle.std.proofs.Common.{arith, ◌≡◌, ◌+◌, ℕ, subst}
+use Rattle.std.specs.Prelude.{Some}
 use Rattle.kalah_rules.specs.Position.{bare}
+use Rattle.kalah_rules.specs.Sowing.{sown, captured, last_distance}
+use Rattle.kalah_rules.specs.Packed.{Shows}
 use Rattle.kalah_rules.proofs.Legal.{legal_holds}
-use Rattle.kalah_rules.proofs.Keys.{pack_of, packed_fits}
-use Rattle.kalah_rules.proofs.HousesSteps.{store_within, store_small, over_own, over_other, again_packed, turn_packed}
+use Rattle.kalah_rules.proofs.PackedMoves.{short_distance, after_own, after_past}
 use Rattle.kalah_rules.proofs.houses.Houses.play.Goals as goal
 
-pub after-again-requires : goal.after-again-requires
-after-again-requires c = legal_holds (bare c.args.self.now) c.args.h c.requires
+pub own-requires-clause-low : goal.own-requires-clause-low
+own-requires-clause-low c = omega (arith, (legal_holds (bare c.args.self.now) c.args.h c.requires).first)
 
-pub overflow_sub-seeds : goal.overflow_sub-seeds
-overflow_sub-seeds c = store_within c.self.invariant c.self.view_is c.requires c.after-again.ensures.rows
+pub own-requires-clause-high : goal.own-requires-clause-high
+own-requires-clause-high c = omega (arith, (legal_holds (bare c.args.self.now) c.args.h c.requires).last)
 
-pub overflow_cast-gained : goal.overflow_cast-gained
-overflow_cast-gained c = omega (arith, store_small c.after-again.ensures.limits c.requires c.after-again.ensures.rows)
+pub sow_in_row-rows-requires-clause-holds : goal.sow_in_row-rows-requires-clause-holds
+sow_in_row-rows-requires-clause-holds c = legal_holds (bare c.args.self.now) c.args.h c.requires
 
-pub returns-then-rows-eq0 : goal.returns-then-rows-eq0
-returns-then-rows-eq0 c = over_own c.self.invariant c.self.view_is c.requires c.after-again.ensures.rows c.if-rows-eq0.true
+pub capture-rows-requires-clause-holds : goal.capture-rows-requires-clause-holds
+capture-rows-requires-clause-holds c = legal_holds (bare c.args.self.now) c.args.h c.requires
 
-pub returns-then-rows-eq0-2 : goal.returns-then-rows-eq0-2
-returns-then-rows-eq0-2 c =
-    let pack = pack_of c.self.invariant c.self.view_is in
-    rw (c.seeds.ensures.seeds, ← pack.seeds_are) (over_other c.self.invariant c.self.view_is c.requires c.after-again.ensures.rows c.if-rows-eq0-2.true)
+pub capture-rows-requires-clause-low : goal.capture-rows-requires-clause-low
+capture-rows-requires-clause-low c = omega (arith, (legal_holds (bare c.args.self.now) c.args.h c.requires).first)
 
-pub overflow_mul-key : goal.overflow_mul-key
-overflow_mul-key c =
-    let packed = again_packed c.self.invariant c.self.view_is c.requires c.after-again.ensures.rows
-    c.if-rows-eq0.false c.if-rows-eq0-2.false (sym c.after-again.ensures.again ∙ c.if-again.true) in
-    omega (arith, packed_fits packed.0)
+pub sow_past_row-rows-requires-clause-holds : goal.sow_past_row-rows-requires-clause-holds
+sow_past_row-rows-requires-clause-holds c = legal_holds (bare c.args.self.now) c.args.h c.requires
 
-pub overflow_add-key : goal.overflow_add-key
-overflow_add-key c =
-    let packed = again_packed c.self.invariant c.self.view_is c.requires c.after-again.ensures.rows
-    c.if-rows-eq0.false c.if-rows-eq0-2.false (sym c.after-again.ensures.again ∙ c.if-again.true) in
-    omega (arith, packed_fits packed.0)
+pub after_lap-again-requires : goal.after_lap-again-requires
+after_lap-again-requires c = legal_holds (bare c.args.self.now) c.args.h c.requires
 
-pub overflow_add-key-then-again : goal.overflow_add-key-then-again
-overflow_add-key-then-again c =
-    let packed = again_packed c.self.invariant c.self.view_is c.requires c.after-again.ensures.rows
-    c.if-rows-eq0.false c.if-rows-eq0-2.false (sym c.after-again.ensures.again ∙ c.if-again.true) in
-    omega (arith, packed_fits packed.0)
+pub step-requires-clause-rows : goal.step-requires-clause-rows
+step-requires-clause-rows c =
+    let p = bare c.args.self.now in
+    let holds = legal_holds p c.args.h c.requires in
+    let seeds = c.own.ensures.value in
+    let side = c.m-m.ensures.side in
+    let last : c.own.result ≡ last_distance p c.args.h =
+    omega (arith, seeds, short_distance p c.args.h holds c.capture-rows.result (omega (arith, c.if-reach-m.true, seeds, side))) in
+    after_own p c.args.h holds c.capture-rows.result (omega (arith, last, c.if-reach-m.true, side))
+    (subst (λ (x : ℕ). Shows c.capture-rows.result (captured (sown p c.args.h) (Some (c.args.h + x)))) last c.capture-rows.ensures)
 
-pub overflow_mul-key-else-again : goal.overflow_mul-key-else-again
-overflow_mul-key-else-again c =
-    let packed = turn_packed c.self.invariant c.self.view_is c.requires c.after-again.ensures.rows
-    c.if-rows-eq0.false c.if-rows-eq0-2.false (sym c.after-again.ensures.again ∙ c.if-again.false) in
-    omega (arith, packed_fits packed.0)
+pub step-requires-then-reach-m-2-clause-rows : goal.step-requires-then-reach-m-2-clause-rows
+step-requires-then-reach-m-2-clause-rows c =
+    let p = bare c.args.self.now in
+    let holds = legal_holds p c.args.h c.requires in
+    let seeds = c.own.ensures.value in
+    let side = c.m-m.ensures.side in
+    let last : c.own.result ≡ last_distance p c.args.h =
+    omega (arith, seeds, short_distance p c.args.h holds c.sow_past_row-rows.result (omega (arith, c.if-reach-m-2.true, seeds, side))) in
+    after_past p c.args.h holds c.sow_past_row-rows.result (omega (arith, last, c.if-reach-m.false, side))
+    (omega (arith, last, c.if-reach-m-2.true, side)) c.sow_past_row-rows.ensures
 
-pub overflow_add-key-else-again : goal.overflow_add-key-else-again
-overflow_add-key-else-again c =
-    let packed = turn_packed c.self.invariant c.self.view_is c.requires c.after-again.ensures.rows
-    c.if-rows-eq0.false c.if-rows-eq0-2.false (sym c.after-again.ensures.again ∙ c.if-again.false) in
-    omega (arith, packed_fits packed.0)
+pub step-requires-clause-again : goal.step-requires-clause-again
+step-requires-clause-again c =
+    let p = bare c.args.self.now in
+    let holds = legal_holds p c.args.h c.requires in
+    let seeds = c.own.ensures.value in
+    let side = c.m-m.ensures.side in
+    let near = c.if-reach-m.true in
+    let last : c.own.result ≡ last_distance p c.args.h =
+    omega (arith, seeds, short_distance p c.args.h holds c.capture-rows.result (omega (arith, near, seeds, side))) in
+    grind (arith, nat_tests, last, near, side)
 
-pub overflow_add-key-else-again-2 : goal.overflow_add-key-else-again-2
-overflow_add-key-else-again-2 c =
-    let packed = turn_packed c.self.invariant c.self.view_is c.requires c.after-again.ensures.rows
-    c.if-rows-eq0.false c.if-rows-eq0-2.false (sym c.after-again.ensures.again ∙ c.if-again.false) in
-    omega (arith, packed_fits packed.0)
-
-pub invariant_of-result : goal.invariant_of-result
-invariant_of-result c =
-    let packed = again_packed c.self.invariant c.self.view_is c.requires c.after-again.ensures.rows
-    c.if-rows-eq0.false c.if-rows-eq0-2.false (sym c.after-again.ensures.again ∙ c.if-again.true) in
-    packed.0
-
-pub invariant_of-result-else-again : goal.invariant_of-result-else-again
-invariant_of-result-else-again c =
-    let packed = turn_packed c.self.invariant c.self.view_is c.requires c.after-again.ensures.rows
-    c.if-rows-eq0.false c.if-rows-eq0-2.false (sym c.after-again.ensures.again ∙ c.if-again.false) in
-    packed.0
-
-pub returns-then-again : goal.returns-then-again
-returns-then-again c =
-    let packed = again_packed c.self.invariant c.self.view_is c.requires c.after-again.ensures.rows
-    c.if-rows-eq0.false c.if-rows-eq0-2.false (sym c.after-again.ensures.again ∙ c.if-again.true) in
-    packed.1
-
-pub returns-else-again : goal.returns-else-again
-returns-else-again c =
-    let packed = turn_packed c.self.invariant c.self.view_is c.requires c.after-again.ensures.rows
-    c.if-rows-eq0.false c.if-rows-eq0-2.false (sym c.after-again.ensures.again ∙ c.if-again.false) in
-    packed.1
+pub step-requires-then-reach-m-2-clause-again : goal.step-requires-then-reach-m-2-clause-again
+step-requires-then-reach-m-2-clause-again c =
+    let p = bare c.args.self.now in
+    let holds = legal_holds p c.args.h c.requires in
+    let seeds = c.own.ensures.value in
+    let side = c.m-m.ensures.side in
+    let far = c.if-reach-m.false in
+    let last : c.own.result ≡ last_distance p c.args.h =
+    omega (arith, seeds, short_distance p c.args.h holds c.sow_past_row-rows.result (omega (arith, c.if-reach-m-2.true, seeds, side))) in
+    grind (arith, nat_tests, last, far, side, holds.first)
