@@ -173,17 +173,37 @@ ones_le a (suc b) h = elim (cases_eq a (suc b)) [
   | inr less ↦ let on = ones_le a b (omega arith) in omega (arith, number_of-suc b (λ i. 1))
 ]
 
--- seeds in one house fit sixty-four bits
-pub alone_small : (k x : ℕ) → k ≤ 5 → x < 32 → x * 32 ^ k % 2 ^ 64 ≡ 32 ^ k * x
-alone_small zero x h few = omega arith
-alone_small (suc zero) x h few = omega arith
-alone_small (suc (suc zero)) x h few = omega arith
-alone_small (suc (suc (suc zero))) x h few = omega arith
-alone_small (suc (suc (suc (suc zero)))) x h few = omega arith
-alone_small (suc (suc (suc (suc (suc zero))))) x h few = omega arith
-alone_small (suc (suc (suc (suc (suc (suc k)))))) x h few = absurd (omega arith)
+-- one seed in each of some houses, and in each of those after them
+pub ones_more : (h c : ℕ) → ones (h + c) ≡ ones h + 32 ^ h * ones c
+ones_more h zero = let same : h + 0 ≡ h = omega arith in ap (λ n. ones n) same ∙ omega arith
+ones_more h (suc c) =
+    let next : h + suc c ≡ suc (h + c) = omega arith in
+    let power = ap (λ n. n * 1) (pow-add 32 h c) in
+    let before = ones_more h c in
+    let more = ap (λ n. 32 ^ h * n) (number_of-suc c (λ i. 1)) in
+    ap (λ n. ones n) next ∙ number_of-suc (h + c) (λ i. 1) ∙ grind arith
 
--- so do a few times as many
+-- the seeds of house h, spread over the next ones
+pub spread_over : (h c s : ℕ) → 1 ≤ h → s + c ≡ 32 * ones c → 32 ^ (h - 1) * s + 32 ^ (h - 1) * c + ones h ≡ ones (h + c)
+spread_over zero c s low is = absurd (omega arith)
+spread_over (suc k) c s low is =
+    let less : suc k - 1 ≡ k = omega arith in
+    let both : 32 ^ k * (s + c) ≡ 32 ^ k * (32 * ones c) = ap (λ n. 32 ^ k * n) is in
+    let power : 32 ^ suc k * ones c ≡ 32 * (32 ^ k * ones c) = times_power k (ones c) in
+    let more : ones (suc k + c) ≡ ones (suc k) + 32 ^ suc k * ones c = ones_more (suc k) c in
+    rw less (grind (arith, both, power, more))
+
+-- a row moved up by a few houses fits sixty-four bits
+pub moved_small : (k x : ℕ) → k ≤ 5 → x < 2 ^ 30 → x * 32 ^ k % 2 ^ 64 ≡ 32 ^ k * x
+moved_small zero x h few = omega arith
+moved_small (suc zero) x h few = omega arith
+moved_small (suc (suc zero)) x h few = omega arith
+moved_small (suc (suc (suc zero))) x h few = omega arith
+moved_small (suc (suc (suc (suc zero)))) x h few = omega arith
+moved_small (suc (suc (suc (suc (suc zero))))) x h few = omega arith
+moved_small (suc (suc (suc (suc (suc (suc k)))))) x h few = absurd (omega arith)
+
+-- so do a few times as many seeds
 pub so_many_small : (x y : ℕ) → x ≤ 10 → y ≤ 34636833 → x * y ≤ 346368330
 so_many_small x y h k = omega (arith, mul-le x y 10 34636833 h k)
 

@@ -7,7 +7,9 @@ ghost use Rattle.kalah_rules.specs.Play.{legal_houses};
 ghost use Rattle.kalah_rules.specs.Sowing.{lap_length, sown, captures, captured, after, is_again};
 
 use crate::houses::Houses;
-use crate::houses::numbers::{OTHER_ROW, SIDE, alone, one_each, other_gains, own_gains, seeds_at};
+use crate::houses::numbers::{
+    OTHER_ROW, SIDE, alone, one_each, other_gains, own_gains, seeds_at, spread,
+};
 use crate::rule::Rule;
 use crate::step::HousesStep;
 
@@ -51,15 +53,15 @@ impl Houses {
         row - alone(h, seeds_at(row, h))
     }
 
-    // Sows house `h`, if its last seed falls into the mover's house `reach`, before the store.
-    fn sow_in_row(&self, h: u32, reach: u32) -> RowNumbers
+    // Sows the `count` seeds of house `h`, if the last one falls into a house of the mover, before the store.
+    fn sow_in_row(&self, h: u32, count: u32) -> RowNumbers
         requires holds { HoldsSeeds (bare self.now) h }
-        requires reach { reach ≡ h + seeds self.now.own h }
-        requires near { reach ≤ length self.now.own }
+        requires count { count ≡ seeds self.now.own h }
+        requires near { h + count ≤ length self.now.own }
         ensures { Shows result (sown (bare self.now) h) }
     {
         RowNumbers {
-            own: self.lifted_row(h) + (one_each(reach) - one_each(h)),
+            own: self.own_row() + spread(h, count),
             other: self.other_row(),
             store: 0,
         }
@@ -204,9 +206,10 @@ impl Houses {
         ensures { result ≡ houses_step self.now h }
     {
         let m = self.m() as u32;
-        let reach = h as u32 + self.own(h) as u32;
+        let count = self.own(h) as u32;
+        let reach = h as u32 + count;
         if reach <= m {
-            let rows = self.sow_in_row(h as u32, reach);
+            let rows = self.sow_in_row(h as u32, count);
             let rows = self.capture(h as u32, rows, reach);
             self.step(h, rows, false)
         } else if reach <= 2 * m + 1 {
