@@ -121,7 +121,11 @@ impl<A: Allocator + Clone> Search<A> {
         let won = self.won_within(houses, SeedBounds::of_window(narrow, seeds));
         let answer = narrow.clamp(2 * won as i32 - seeds as i32);
         let work = self.nodes.wrapping_sub(before);
-        self.learn_margins(houses, narrow.interval_of(answer).intersection(known), work);
+        self.learn_margins(
+            *houses,
+            narrow.interval_of(answer).intersection(known),
+            work,
+        );
         answer
     }
 
@@ -194,12 +198,20 @@ impl<A: Allocator + Clone> Search<A> {
     fn known(&mut self, houses: &Houses) -> SeedBounds
         ensures { IsWithinBounds result (won houses.now) }
     {
-        let seeds = houses.seeds();
-        if seeds <= self.most_placed {
-            return self.table.look_up_place(houses);
+        if houses.seeds() <= self.most_placed {
+            self.table.look_up_place(houses)
+        } else {
+            self.known_by_entry(houses)
         }
+    }
+
+    // The same, from the entries.
+    #[inline(never)]
+    fn known_by_entry(&mut self, houses: &Houses) -> SeedBounds
+        ensures { IsWithinBounds result (won houses.now) }
+    {
         match self.table.look_up(houses) {
-            Some(margins) => SeedBounds::of_margins(margins, seeds),
+            Some(margins) => SeedBounds::of_margins(margins, houses.seeds()),
             None => SeedBounds::unknown(houses),
         }
     }
@@ -212,16 +224,16 @@ impl<A: Allocator + Clone> Search<A> {
         if seeds <= self.most_placed {
             self.table.keep_place(houses, bounds);
         } else {
-            self.learn_margins(houses, bounds.margins(seeds), work);
+            self.learn_margins(*houses, bounds.margins(seeds), work);
         }
     }
 
     // Stores what was learned of their worth as an entry, unless it took too little work.
-    fn learn_margins(&mut self, houses: &Houses, interval: Interval, work: u64)
-        requires { Encloses interval (houses_worth houses.now) }
+    fn learn_margins(&mut self, houses: Houses, interval: Interval, work: u64)
+        requires { Encloses interval (houses_worth houses) }
     {
         if work >= self.least_work {
-            self.table.keep(houses, interval);
+            self.table.keep(&houses, interval);
         }
     }
 }

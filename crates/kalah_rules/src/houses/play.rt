@@ -108,7 +108,7 @@ impl Houses {
         requires high { i ≤ length self.now.own }
         ensures { Shows result (captured (sown (bare self.now) h) (Some i)) }
     {
-        let across = self.m() as u32 + 1 - i;
+        let across = self.m() as u32 - i + 1;
         let here = seeds_at(rows.own, i);
         let (last, taken) = caught(self.rule(), here, seeds_at(rows.other, across));
         RowNumbers {

@@ -42,16 +42,23 @@ fn nodes_and_time(rt: &(impl Abort + Clock), search: &mut Search) -> (u64, u128)
 }
 
 // Prints the time for each node.
-fn prints_nodes(rt: &(impl Abort + Print), nodes: u64, took: u128) {
+fn prints_time(rt: &(impl Abort + Print), nodes: u64, took: u128) {
     let took = took / (nodes as u128).max(1);
-    println!(rt; "{nodes} nodes, {took} ns a node").expect(rt, "no output");
+    println!(rt; "{took} ns a node").expect(rt, "no output");
+}
+
+// Prints the number of nodes, which is within 5 % of this one.
+fn assert_nodes(rt: &(impl Abort + Print), nodes: u64, expected: u32) {
+    println!(rt; "{nodes} nodes").expect(rt, "no output");
+    let expected = expected as u64;
+    assert!(rt; nodes > expected - expected / 20 && nodes < expected + expected / 20);
 }
 
 #[test]
 fn games_as_they_begin_take_few_nodes(rt: HostRuntime) {
     let (nodes, took) = nodes_and_time(&rt, &mut new_search(&rt, rt.alloc()));
-    prints_nodes(&rt, nodes, took);
-    assert!(rt; nodes > 48_900 && nodes < 54_000);
+    prints_time(&rt, nodes, took);
+    assert_nodes(&rt, nodes, 51_450);
 }
 
 // Houses a side, the houses of the mover and of the other player, and what they are worth.
@@ -88,13 +95,13 @@ fn nodes_of(rt: &impl Abort, search: &mut Search, positions: &[Position]) -> u64
 #[test]
 fn hard_positions_take_few_nodes(rt: HostRuntime) {
     let nodes = nodes_of(&rt, &mut new_search(&rt, rt.alloc()), &HARD);
-    assert!(rt; nodes > 214_000 && nodes < 236_500);
+    assert_nodes(&rt, nodes, 225_300);
 }
 
 #[test]
 fn small_positions_take_few_nodes(rt: HostRuntime) {
     let nodes = nodes_of(&rt, &mut new_search(&rt, rt.alloc()), &SMALL);
-    assert!(rt; nodes > 240 && nodes < 266);
+    assert_nodes(&rt, nodes, 253);
 }
 
 // Whether nothing is known of the houses by their place.

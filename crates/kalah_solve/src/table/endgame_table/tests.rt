@@ -34,7 +34,7 @@ fn agrees_with_plain(rt: &impl Abort, endings: &EndgameTable, board: &Board) -> 
     if board.is_over() || board.houses().seeds() > 6 {
         return false;
     }
-    let won = endings.won(&board.houses());
+    let won = endings.won(board.houses());
     assert!(rt; plainly_taken(board) == Some(won as i32));
     true
 }
@@ -114,7 +114,7 @@ fn an_ending_is_known_once_it_was_asked_for(rt: HostRuntime) {
     let endings = new_endings(&rt, rt.alloc());
     let rank = endings.rank(&houses);
     assert!(rt; endings.get(&houses, rank) == None);
-    assert!(rt; endings.won(&houses) == 6);
+    assert!(rt; endings.won(houses) == 6);
     assert!(rt; endings.get(&houses, rank) == Some(6));
 }
 

@@ -25,8 +25,11 @@ look-bound_turn-requires g t c κs within =
     let limits = c.seeds-seeds.ensures.limits in
     let a = c.args.houses.now in
     let on = goes_on a c.args.h c.play-step.result limits c.requires.legal c.play-step.ensures in (
-      omega (arith, subst (λ s. moves_after s < moves_left (bare a)) c.in-Turn.is
-          (step_falls a c.args.h c.play-step.result limits c.requires.legal c.play-step.ensures)),
+      omega (
+        arith,
+        subst (λ s. moves_after s < moves_left (bare a)) c.in-Turn.is
+            (step_falls a c.args.h c.play-step.result limits c.requires.legal c.play-step.ensures),
+      ),
       (within, subst GoesOn c.in-Turn.is on),
     )
 

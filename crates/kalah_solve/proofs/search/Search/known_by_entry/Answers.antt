@@ -1,10 +1,10 @@
 use Rattle.std.proofs.Common.{arith}
 use Rattle.kalah_solve.proofs.BoundsLemmas.Winnings.{taken_share, worth_of_taken}
-use Rattle.kalah_solve.proofs.search.Search.known.Goals as goal
+use Rattle.kalah_solve.proofs.search.Search.known_by_entry.Goals as goal
 
 pub returns-in-Some : goal.returns-in-Some
 returns-in-Some g c =
-    let seeds = c.seeds-seeds.ensures in
+    let seeds = c.seeds.ensures in
     let few = (taken_share c.args.houses.now seeds.limits).few in
     c.of_margins.ensures.held _ (omega (arith, few, seeds.seeds))
     (rw (seeds.seeds, ← worth_of_taken c.args.houses.now seeds.limits) (rw c.in-Some.is at c.look_up.ensures.holds))
