@@ -126,15 +126,23 @@ sums_by_number : (xs : List ℕ) → 31 * sums_number xs + sum xs ≡ 32 * numbe
 sums_by_number [] = refl
 sums_by_number (x ∷ xs) = omega (arith, sums_by_number xs, sum_by-cons (λ (y : ℕ). y) x xs)
 
+-- the sums, by a division by 31 that is a multiplication
 pub record AreSums (row : List ℕ) (number seeds : ℕ) : Type 0 where
   pub few : seeds ≤ number
-  pub sums : seeds + (number - seeds) / 31 * 32 ≡ sums_number row
+  pub small : (number - seeds) * 17256631552825064415 % 2 ^ 64 < 2 ^ 58
+  pub sums : seeds + (number - seeds) * 17256631552825064415 % 2 ^ 64 * 32 ≡ sums_number row
 
-pub sums_are : (row : List ℕ) (number seeds : ℕ) → 1 ≤ length row → number ≡ number_of row → seeds ≡ sum row → AreSums row number seeds
-sums_are [] number seeds some is all = absurd (omega arith)
-sums_are (x ∷ xs) number seeds some is all =
+pub sums_are : (row : List ℕ) (number seeds : ℕ) → 1 ≤ length row → number ≡ number_of row → seeds ≡ sum row → number < 2 ^ 60 →
+    AreSums row number seeds
+sums_are [] number seeds some is all below = absurd (omega arith)
+sums_are (x ∷ xs) number seeds some is all below =
     let whole : number ≡ seeds + 31 * sums_number xs = omega (arith, is, all, sums_by_number xs, sum_by-cons (λ (y : ℕ). y) x xs) in
-    record { few = omega (arith, whole); sums = omega (arith, whole, all, sum_by-cons (λ (y : ℕ). y) x xs) }
+    let divided : (number - seeds) * 17256631552825064415 % 2 ^ 64 ≡ sums_number xs = omega (arith, whole, below) in
+    record {
+      few = omega (arith, whole);
+      small = omega (arith, whole, below, divided);
+      sums = omega (arith, divided, all, sum_by-cons (λ (y : ℕ). y) x xs);
+    }
 
 -- both rows of houses in one number
 pub both_rows : (a : Rows) (k m : ℕ) → IsWithinHouses a → k ≡ key_of a → m ≡ length a.own →

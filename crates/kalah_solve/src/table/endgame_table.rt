@@ -20,6 +20,9 @@ use std::marker::Model;
 use std::sync::atomic::AtomicIn;
 use std::sync::atomic::Ordering::SeqCst;
 
+// A multiple of 31, times this modulo 2^64, is what it is the multiple of.
+const INVERSE_OF_31: u64 = 0xEF7B_DEF7_BDEF_7BDF;
+
 // The place value of the other player's first house in a key.
 const OTHER_ROW: u64 = 0x4000_0000;
 
@@ -111,7 +114,7 @@ fn sums_of(houses: &Houses) -> u64
     ensures limits { IsWithinHouses houses.now }
 {
     let seeds = houses.seeds() as u64;
-    seeds + (joined_rows(houses) - seeds) / 31 * 32
+    seeds + (joined_rows(houses) - seeds).wrapping_mul(INVERSE_OF_31) * 32
 }
 
 impl<A: Allocator> EndgameTable<A> {
