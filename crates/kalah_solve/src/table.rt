@@ -32,7 +32,7 @@ pub fn limit_of_tables()
 {}
 
 /// The most places that a table has until all are laid out: they are made at once, and stay in the nearest cache.
-const FIRST_PLACES: u32 = 4096;
+const FIRST_PLACES: u32 = 8_192;
 
 /// Intervals that hold the worth of houses, by their keys. If the table is full, a new entry replaces the least recently used
 /// one.

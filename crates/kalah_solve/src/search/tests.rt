@@ -58,7 +58,7 @@ fn assert_nodes(rt: &(impl Abort + Print), nodes: u64, expected: u32) {
 fn games_as_they_begin_take_few_nodes(rt: HostRuntime) {
     let (nodes, took) = nodes_and_time(&rt, &mut new_search(&rt, rt.alloc()));
     prints_time(&rt, nodes, took);
-    assert_nodes(&rt, nodes, 51_450);
+    assert_nodes(&rt, nodes, 48_677);
 }
 
 // Houses a side, the houses of the mover and of the other player, and what they are worth.
@@ -95,7 +95,7 @@ fn nodes_of(rt: &impl Abort, search: &mut Search, positions: &[Position]) -> u64
 #[test]
 fn hard_positions_take_few_nodes(rt: HostRuntime) {
     let nodes = nodes_of(&rt, &mut new_search(&rt, rt.alloc()), &HARD);
-    assert_nodes(&rt, nodes, 225_300);
+    assert_nodes(&rt, nodes, 217_434);
 }
 
 #[test]

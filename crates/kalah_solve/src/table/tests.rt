@@ -33,7 +33,7 @@ fn tables_beside_each_other_share_endings(rt: HostRuntime) {
 // A table with room for 65,536 entries, and with its first places.
 fn large_table<A: Allocator + Clone>(rt: &impl Abort, alloc: A) -> Table<A> {
     let table = Table::new(alloc, 65_536).expect(rt, "no memory for a table");
-    assert!(rt; table.places.len() == 4_096);
+    assert!(rt; table.places.len() == 8_192);
     table
 }
 
@@ -55,7 +55,7 @@ fn requests(rt: &impl Abort, alloc: Global) -> u32 {
 fn keeps_its_first_places(rt: &impl Abort, heap: &Granting<Global>) {
     let mut table = large_table(rt, heap);
     table.grow();
-    assert!(rt; heap.refused() == 1 && table.places.len() == 4_096);
+    assert!(rt; heap.refused() == 1 && table.places.len() == 8_192);
 }
 
 #[test]
