@@ -204,8 +204,8 @@ moved_small (suc (suc (suc (suc (suc zero))))) x h few = omega arith
 moved_small (suc (suc (suc (suc (suc (suc k)))))) x h few = absurd (omega arith)
 
 -- so do a few times as many seeds
-pub so_many_small : (x y : ℕ) → x ≤ 10 → y ≤ 34636833 → x * y ≤ 346368330
-so_many_small x y h k = omega (arith, mul-le x y 10 34636833 h k)
+pub product_small : (x y : ℕ) → x ≤ 10 → y ≤ 34636833 → x * y ≤ 346368330
+product_small x y h k = omega (arith, mul-le x y 10 34636833 h k)
 
 -- what lies up to x holds what lies up to h
 pub up_to_past : (m h x : ℕ) → h ≤ m → h ≤ x → ones h ≤ number_of (row_of m (up_to x))

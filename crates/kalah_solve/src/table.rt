@@ -31,7 +31,7 @@ pub fn limit_of_tables()
     ensures { most_entries ≡ 1048576 }
 {}
 
-/// The most places that a table has until all are laid out: they are made at once, and stay in the nearest cache.
+/// The most places that a table has until all are laid out: they are made at once, and stay near the processor.
 const FIRST_PLACES: u32 = 8_192;
 
 /// Intervals that hold the worth of houses, by their keys. If the table is full, a new entry replaces the least recently used

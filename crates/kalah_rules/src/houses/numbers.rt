@@ -122,7 +122,7 @@ pub(super) fn one_each_up_to(m: u32, x: u32) -> u64
 }
 
 // Returns a row of `m` houses with `seeds` seeds in each.
-pub(super) fn so_many_each(m: u32, seeds: u32) -> u64
+pub(super) fn the_same_each(m: u32, seeds: u32) -> u64
     requires side { m ≤ 6 }
     requires few { seeds ≤ 10 }
     ensures value { result ≡ seeds * ones m }
@@ -143,7 +143,7 @@ pub(super) fn own_gains(m: u32, h: u32, laps: u32, reach: u32) -> u64
     ensures small { result < 2 ^ 32 }
 {
     let past = one_each_up_to(m, reach) - one_each(h);
-    so_many_each(m, laps) + past + one_each_up_to(m, reach.saturating_sub(2 * m + 1))
+    the_same_each(m, laps) + past + one_each_up_to(m, reach.saturating_sub(2 * m + 1))
 }
 
 // Returns what the other player's houses gain by the same sowing.
@@ -153,5 +153,5 @@ pub(super) fn other_gains(m: u32, laps: u32, reach: u32) -> u64
     ensures value { result ≡ laps * ones m + ones_up_to m (reach - (m + 1)) }
     ensures small { result < 2 ^ 32 }
 {
-    so_many_each(m, laps) + one_each_up_to(m, reach.saturating_sub(m + 1))
+    the_same_each(m, laps) + one_each_up_to(m, reach.saturating_sub(m + 1))
 }

@@ -6,7 +6,7 @@ fn board(rt: &impl Abort, m: u8, own: [u8; 6], other: [u8; 6], rule: Rule) -> Bo
     Board::new(m, own, 0, other, 0, rule).expect(rt, "beyond the limits")
 }
 
-// There are so many ways to play on for 0 moves, 1 move, and so on.
+// There are this many ways to play on for 0 moves, 1 move, and so on.
 fn assert_ways(rt: &impl Abort, board: &Board, counts: &[u64]) {
     for (depth, ways) in counts.iter().enumerate() {
         assert!(rt; depth <= MOST_DEPTH as usize);

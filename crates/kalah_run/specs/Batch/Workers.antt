@@ -19,7 +19,7 @@ pub record HasRoom (w : Workers) : Type 0 where
   pub passes : length w.list.items ≤ vec_capacity w.passes
   pub puts : length w.list.items ≤ vec_capacity w.puts
 
--- the worker has an empty table with room for so many entries
+-- the worker has an empty table with room for this many entries
 abbrev pub HasTable : ℕ → Worker → Type 0
 HasTable entries w = (padded_value {T = Solver Global} w.solver).search.table ≡ empty_table entries
 

@@ -33,7 +33,7 @@ StoreBounds places = (a : Rows) (number : ℕ) (d : Place) → IsWithinHouses a 
     stored_rest (slice_index_or places (place_among (length places) number) d) ≡ left_open number →
     IsWithinBounds (stored_bounds (slice_index_or places (place_among (length places) number) d)) (won a)
 
--- how many places there are beside so many entries: as many, and never fewer than 1,024
+-- how many places there are beside a number of entries: that many, and never fewer than 1,024
 abbrev pub places_for : ℕ → ℕ
 places_for entries = max 1024 entries
 

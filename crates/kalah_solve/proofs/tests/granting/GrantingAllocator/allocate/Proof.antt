@@ -78,11 +78,13 @@ allocate_spec 𝓤 𝓛 𝓜 𝓡 wired Y L g d d' met _ =
     sets ! (addr ! (through ! refl (fld ! refl (stop !)))) refl (tt, tt) $
     feq_i ! (List Val) (vptr from.0 from.1 ∷ []) (vptr from.0 from.1 ∷ []) refl $ fjoin ! $ nothing ! $ move ! (1 ∷ []) $ fjoin ! $
     nothing ! $ move ! (2 ∷ []) $ join ! $ join ! $ nothing ! $ move ! (1 ∷ []) $ join ! $ use1 𝓛 (raw (Counts.pre c)) (id⊢ 𝓤 _) $
-    calls_at ! (framed 𝓤 𝓛.H 𝓜 𝓣) Counts (counts_it 𝓤 𝓛 𝓜 𝓡 (code.calls-kalah_solve::tests::granting::Requests::refuses_next 𝓡.env wired)) c
+    calls_at ! (framed 𝓤 𝓛.H 𝓜 𝓣) Counts
+        (counts_it 𝓤 𝓛 𝓜 𝓡 (code.calls-kalah_solve::tests::granting::Requests::refuses_next 𝓡.env wired)) c
     (and_then ! (get ! refl) (no_more !)) (λ u.
     use1 𝓛 (later (some (λ (b : Bool). ((‵ (flft κ q) ⊛ ‵ ftrue) ⊛ ‵ (bool.own_val b (u ∷ [])))
     ⊛ some (λ (ws : Unit {0} × Unit {0}). ‵ (lasts counts.ended c.0.0 c.0.3 ws) ⊛ ‵ ftrue)))) (id⊢ 𝓤 _) $ await ! tt $ pick ! (λ b.
-    split ! $ move ! (1 ∷ []) $ pick ! (λ ws. split ! $ drop ! $ drop ! $ split ! $ split ! $ move ! (1 ∷ []) $ drop ! $ move ! (1 ∷ []) $ feq_l ! (λ is.
+    split ! $ move ! (1 ∷ []) $ pick ! (λ ws.
+    split ! $ drop ! $ drop ! $ split ! $ split ! $ move ! (1 ∷ []) $ drop ! $ move ! (1 ∷ []) $ feq_l ! (λ is.
     lands_as ! (ap only is) refl (tt, tt) $
     -- [the token of the first lifetime; the inner allocator; the other lifetime's token]
     first ! $ branches ! (get ! refl)
