@@ -1,14 +1,10 @@
 -- What was begun, of what the arguments ask for.
-use Rattle.std.proofs.Common.{◌≡◌, ◌⊎◌, inl, inr, ℕ, Bool, List, [], ◌∷◌, ◌++◌, None, Option, Some, true, false, ap, append-nil, append_assoc, length, map, refl, subst, sym, take, ◌+◌, ◌∙◌}
+use Rattle.std.proofs.Common.{◌≡◌, inl, ℕ, Bool, List, [], ◌∷◌, ◌++◌, Option, ap, append-nil, append_assoc, length, map, refl, subst, sym, take, ◌+◌, ◌∙◌}
 use Rattle.std.specs.Io.KnownBytes.{Appends, Keeps}
-use Rattle.std.specs.Prelude.{if◌then◌else◌}
-use Rattle.kalah_rules.specs.Position.{Position, HasEqualSides, is_over, swapped, swept}
-use Rattle.kalah_rules.specs.Play.{position_after, step_of}
-use Rattle.kalah_rules.specs.Sowing.{after, is_again}
-use Rattle.kalah_rules.proofs.Ends.{after_equal_sides}
-use Rattle.kalah_solve.proofs.SolverLemmas.Worths.{swapped_equal_sides}
+use Rattle.kalah_rules.specs.Position.{Position, HasEqualSides}
+use Rattle.kalah_rules.specs.Play.{position_after}
+use Rattle.kalah_rules.specs.Sowing.{after}
 use Rattle.kalah_rules.specs.declared.step.Step.{Step}
-use Rattle.kalah_rules.specs.declared.step.Step.TheVariants.{Again, Over, Turn}
 use Rattle.kalah_jobs.specs.Writing.Given.{AppendsStart}
 use Rattle.kalah_jobs.specs.Line.Line.{Reads, step_text_of}
 use Rattle.kalah_jobs.specs.Files.Lines.{line_feed}
@@ -18,7 +14,7 @@ use Rattle.kalah_jobs.specs.Files.NamedBytes.{NamedBytes}
 use Rattle.kalah_jobs.specs.declared.files.question.Question.{Question}
 use Rattle.kalah_jobs.proofs.WritingLemmas.Starts.{start_kept_all, start_none, start_then}
 use Rattle.kalah_cli.specs.Moves.{board_lines, move_lines}
-use Rattle.kalah_cli.specs.Play.{BeginsBest, BeginsToPlay}
+use Rattle.kalah_cli.specs.Play.{BeginsToPlay}
 use Rattle.kalah_cli.specs.Request.{Asked, answers, ask, count, moves, play, show}
 use Rattle.kalah_cli.specs.Runs.{Begins}
 use Rattle.kalah_cli.specs.Ask.{BeginsLines, StopsBetweenLines}
@@ -27,7 +23,7 @@ use Rattle.std.proofs.KnownBytes.{Appends-nil}
 use Rattle.kalah_jobs.proofs.AskingLemmas.AnswersTo.{answers_split, no_answers}
 use Rattle.kalah_jobs.specs.Asking.Asked.{IsBegun, IsCutOff, answers_to}
 use Rattle.std.proofs.Math.Seq.{take-append-add}
-use Rattle.kalah_cli.proofs.Played.{of_any}
+use Rattle.kalah_cli.proofs.Played.{of_any_game}
 
 -- all was written, and then flushed
 pub begins_all : (old between new : Option (List ℕ)) (bs : List ℕ) → Appends old between bs → Keeps between new → AppendsStart old new bs
@@ -42,12 +38,6 @@ move_parts boards h s = sym (append_assoc (step_text_of h s) (line_feed ∷ []) 
 pub shown_parts : (p : Position) → shown_of p ≡ picture_of p ++ (values_line p ++ line_feed ∷ [])
 unfolding shown_of
 shown_parts p = refl
-
--- the position after a step, in each case
-pub after_step : (s : Step) (p : Position) → (s ≡ Again p) ⊎ ((s ≡ Turn p) ⊎ (s ≡ Over p)) → p ≡ position_after s
-after_step s p (inl again) = sym (ap position_after again)
-after_step s p (inr (inl turn)) = sym (ap position_after turn)
-after_step s p (inr (inr over)) = sym (ap position_after over)
 
 -- files of these names
 empty_files : List (List ℕ) → List NamedBytes
@@ -86,29 +76,14 @@ pub lines_cut_off : (question : Question) (before after old new : Option (List �
     StopsBetweenLines question old new
 lines_cut_off question before after old new cut = record { lines = cut.lines; ended = cut.ended; written = cut.written }
 
--- and of the game from any position
-pub begins_no_game : (boards : Bool) (p : Position) (old : Option (List ℕ)) → HasEqualSides p → BeginsBest boards p old old
-begins_no_game boards p old even = of_any boards p _ even (λ lines. start_none old _)
-
 -- a position that a line writes has as many houses on each side
 pub even_read : (line : List ℕ) (p : Position) → Reads line p → HasEqualSides p
 even_read line p reads = record { same = reads.sides.same_side }
 
--- and so has the position after any move
-pub even_after : (p : Position) (h : ℕ) → HasEqualSides (position_after (step_of p h))
-even_after p h = go (is_over (after p h)) (is_again p h)
-  where
-    go : (over again : Bool)
-        → HasEqualSides (position_after (if over then Over (swept (after p h)) else (if again then Again (after p h) else Turn (swapped (after p h)))))
-    go true again = record { same = refl }
-    go false true = after_equal_sides p h
-    go false false = swapped_equal_sides (after p h) (after_equal_sides p h)
-
 -- nothing is a prefix of a game, with a first house or without
 pub begins_no_play : (first : Option ℕ) (boards : Bool) (p : Position) (old : Option (List ℕ)) → HasEqualSides p → BeginsToPlay first boards p old old
-begins_no_play None boards p old even = record { moved = λ may. begins_no_game boards p old even; unmoved = λ not. start_none old [] }
-begins_no_play (Some h) boards p old even = record {
-  moved = λ may. of_any boards (position_after (step_of p h)) _ (even_after p h) (λ lines. start_none old _);
+begins_no_play first boards p old even = record {
+  moved = λ may. of_any_game first boards p _ even (λ lines. start_none old _);
   unmoved = λ not. start_none old [];
 }
 

@@ -9,7 +9,7 @@ use Rattle.kalah_rules.specs.Ways.{ways, ways_by}
 use Rattle.kalah_jobs.specs.Writing.Counts.{total_line, ways_line}
 use Rattle.kalah_cli.specs.Count.{count_output, ways_lines}
 
--- the line of a house, for ways of so many moves in all
+-- the line of a house, for ways of that many moves in all
 abbrev pub line_of : ℕ → Position → ℕ → List ℕ
 line_of depth p h = ways_line h (ways_by (depth - 1) p h)
 

@@ -1,11 +1,9 @@
 -- Lists and their items.
-use Rattle.std.proofs.Common.{length-append, ◌≡◌, ◌++◌, ◌∙◌, ◌+◌, ℕ, Bool, cond, true, false, ◌<◌, ap, refl, subst, sym, List, [], ◌∷◌, Some, arith, drop, flat_map, get_or, length, not, take, ◌&&◌, ◌||◌}
+use Rattle.std.proofs.Common.{length-append, ◌≡◌, ◌++◌, ℕ, Bool, cond, true, false, ◌<◌, refl, subst, List, [], ◌∷◌, Some, arith, length, not, ◌&&◌, ◌||◌}
 use Rattle.std.specs.Prelude.{find, ⊤}
 use Rattle.std.specs.List.{list_all, list_any}
 use Rattle.std.specs.Str.{bytes_eq}
 use Rattle.std.proofs.lemmas.Slice.Eq.{bytes_eq-Decides}
-use Rattle.std.proofs.lemmas.Grind.{flat_map-append}
-use Rattle.std.proofs.lemmas.List.{flat_map_more, take-append-drop, take_more}
 
 -- each of the items has the fact
 abbrev pub AllOf : {X : Type 0} → (X → Type 0) → List X → Type 0
@@ -44,18 +42,6 @@ any_found t (x ∷ xs) e = go (t x) refl e (λ rest. any_found t xs rest)
 pub or_later : (a b : Bool) → b ≡ true → (a || b) ≡ true
 or_later true b e = refl
 or_later false b e = e
-
--- the texts of one item more
-pub one_more : (one : ℕ → List ℕ) (items : List ℕ) (i item : ℕ) → i < length items → item ≡ get_or items i 0
-    → flat_map one (take (i + 1) items) ≡ flat_map one (take i items) ++ one item
-one_more one items i item within is =
-    ap (flat_map one) (take_more items i 0 within ∙ ap (λ h. take i items ++ h ∷ []) (sym is)) ∙ sym (flat_map_more one [] (take i items) item)
-
--- those of the first items, and then of the others
-pub all_items : (one : ℕ → List ℕ) (items others : List ℕ) (i : ℕ) → items ≡ others →
-    flat_map one (take i items) ++ flat_map one (drop i items) ≡ flat_map one others
-all_items one items others i same =
-    sym (flat_map-append one (take i items) (drop i items)) ∙ ap (flat_map one) (take-append-drop i items ∙ same)
 
 -- an item that is found passes
 pub found_passes : {X : Type 0} (t : X → Bool) (xs : List X) (a : X) → find t xs ≡ Some a → t a ≡ true

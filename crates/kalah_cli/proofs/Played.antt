@@ -1,12 +1,14 @@
 -- The game of best play, move by move, and what is written of it.
-use Rattle.std.proofs.Common.{◌≡◌, ℕ, List, [], ◌∷◌, ◌++◌, Bool, true, false, Option, Some, None, inl, inr, refl, sym, subst, take, ap, ◌∙◌, arith}
+use Rattle.std.proofs.Common.{◌⊎◌, ◌<◌, ◌≡◌, ℕ, List, [], ◌∷◌, ◌++◌, Bool, true, false, Option, Some, None, inl, inr, refl, sym, subst, take, ap, ◌∙◌, arith}
 use Rattle.std.specs.Prelude.{Contains, Err, Ok, OnOk, Result, ℤ, if◌then◌else◌}
 use Rattle.std.specs.Io.KnownBytes.{Appends, Keeps}
 use Rattle.std.proofs.KnownBytes.{Appends-trans}
 use Rattle.std.proofs.lemmas.Bool.{cases_Bool}
 use Rattle.std.proofs.lemmas.Int.{ints}
-use Rattle.kalah_rules.specs.Position.{Position, HasEqualSides, final_margin, is_over, swapped}
+use Rattle.kalah_rules.specs.Position.{Position, HasEqualSides, final_margin, is_over, swapped, swept}
 use Rattle.kalah_rules.specs.Sowing.{after, is_again}
+use Rattle.kalah_rules.specs.Measure.{moves_left}
+use Rattle.kalah_rules.proofs.Ends.{after_equal_sides}
 use Rattle.kalah_rules.specs.Play.{legal_houses, position_after, step_of}
 use Rattle.kalah_rules.specs.declared.step.Step.TheVariants as step
 use Rattle.kalah_rules.specs.declared.step.Step.{Step}
@@ -19,11 +21,11 @@ use Rattle.kalah_solve.proofs.SolverLemmas.Finds.{contains_first}
 use Rattle.kalah_solve.proofs.SolverLemmas.Games.{followed, game_ends, strategy_keeps}
 use Rattle.kalah_solve.proofs.SolverLemmas.Secured.{best_is_strategy, best_plays, bounds}
 use Rattle.kalah_solve.proofs.SolverLemmas.Values.{over_swapped}
-use Rattle.kalah_solve.proofs.SolverLemmas.Worths.{again_step, over_step, turn_step}
+use Rattle.kalah_solve.proofs.SolverLemmas.Worths.{again_fewer, again_step, over_step, swapped_equal_sides, turn_fewer, turn_step}
 use Rattle.kalah_jobs.specs.Writing.Given.{AppendsStart}
 use Rattle.kalah_jobs.proofs.WritingLemmas.Starts.{start_longer, start_then}
 use Rattle.kalah_cli.specs.Moves.{board_lines, move_lines}
-use Rattle.kalah_cli.specs.Play.{IsBestGame, OfBestGame, OfGame, game_lines}
+use Rattle.kalah_cli.specs.Play.{BeginsToPlay, IsBestGame, MayBegin, OfBestGame, OfGame, game_lines}
 
 -- both players always move the lowest best house
 abbrev pub BestGame : Position → List ℕ → Position → Type 0
@@ -36,52 +38,69 @@ best_game p houses final even game =
     let bounded = bounds keeps keeps even game in
     record { game = game; margin = omega (ints, arith, bounded.low best_plays, bounded.high best_plays) }
 
--- the solver's verdict if the game goes on
-pub best_told : (p : Position) (margin : ℤ) (house : ℕ) → Best margin house ≡ verdict_of p → (is_over p ≡ false) × (house ≡ best_house p)
-best_told p margin house is = elim (cases_Bool (is_over p)) [
-  | inl over ↦ absurd (let told : Best margin house ≡ Over (final_margin p) =
-      is ∙ ap (λ b. if b then Over (final_margin p) else Best (worth p) (best_house p)) over in cc)
-  | inr going ↦
-      let told : Best margin house ≡ Best (worth p) (best_house p) =
-      is ∙ ap (λ b. if b then Over (final_margin p) else Best (worth p) (best_house p)) going in
-      (going, cc)
-]
+-- the first move of the game from a position that is not over: its best house, and the step of that house
+pub record IsFirst (p : Position) (h : ℕ) (s : Step) : Type 0 where
+  pub even : HasEqualSides p
+  pub going : is_over p ≡ false
+  pub best : h ≡ best_house p
+  pub step : s ≡ step_of p h
 
--- and if it is over
-pub over_told : (p : Position) (margin : ℤ) → Over margin ≡ verdict_of p → is_over p ≡ true
-over_told p margin is = elim (cases_Bool (is_over p)) [
-  | inl over ↦ over
-  | inr going ↦ absurd (let told : Over margin ≡ Best (worth p) (best_house p) =
-      is ∙ ap (λ b. if b then Over (final_margin p) else Best (worth p) (best_house p)) going in cc)
-]
+-- the solver's verdict has the best house, if the game goes on
+pub best_told : (p : Position) (margin : ℤ) (house : ℕ) → is_over p ≡ false → Best margin house ≡ verdict_of p → house ≡ best_house p
+best_told p margin house going is =
+    let told : Best margin house ≡ Best (worth p) (best_house p) =
+    is ∙ ap (λ b. if b then Over (final_margin p) else Best (worth p) (best_house p)) going in
+    cc
 
 -- the best house is legal
 pub best_is_legal : (p : Position) (house : ℕ) → HasEqualSides p → is_over p ≡ false → house ≡ best_house p → Contains (legal_houses p) house
 best_is_legal p house even going best = rw best (best_is_strategy.moves p even going)
 
+-- the position after a step, in each case
+pub after_step : (s : Step) (p : Position) → (s ≡ step.Again p) ⊎ ((s ≡ step.Turn p) ⊎ (s ≡ step.Over p)) → p ≡ position_after s
+after_step s p (inl again) = sym (ap position_after again)
+after_step s p (inr (inl turn)) = sym (ap position_after turn)
+after_step s p (inr (inr over)) = sym (ap position_after over)
+
+-- the position after any move has as many houses on each side
+even_after : (p : Position) (h : ℕ) → HasEqualSides (position_after (step_of p h))
+even_after p h = go (is_over (after p h)) (is_again p h)
+  where
+    go : (over again : Bool) → HasEqualSides (position_after (if over then step.Over (swept (after p h)) else
+        (if again then step.Again (after p h) else step.Turn (swapped (after p h)))))
+    go true again = record { same = refl }
+    go false true = after_equal_sides p h
+    go false false = swapped_equal_sides (after p h) (after_equal_sides p h)
+
 -- ---- a move more in front
 
-again_game : (p q : Position) (h : ℕ) (houses : List ℕ) (final : Position) → is_over p ≡ false → h ≡ best_house p →
-    step.Again q ≡ step_of p h →
-    BestGame q houses final → BestGame p (h ∷ houses) final
-again_game p q h houses final going best is game =
-    let moved_to = again_step (is_over (after p h)) (is_again p h) (after p h) q is in
-    moves_on going (rw best (contains_first (best_house p) [])) moved_to.1 (subst (λ r. BestGame r houses final) moved_to.2 game)
+-- after a move that does not end the game, fewer moves are left
+pub fewer_left : (p q : Position) (h : ℕ) (s : Step) → IsFirst p h s → (s ≡ step.Again q) ⊎ (s ≡ step.Turn q) → moves_left q < moves_left p
+fewer_left p q h s first (inl again) =
+    again_fewer p h q first.even (best_is_legal p h first.even first.going first.best) (sym again ∙ first.step)
+fewer_left p q h s first (inr turn) =
+    turn_fewer p h q first.even (best_is_legal p h first.even first.going first.best) (sym turn ∙ first.step)
 
-turn_game : (p q : Position) (h : ℕ) (houses : List ℕ) (final : Position) → is_over p ≡ false → h ≡ best_house p → step.Turn q ≡ step_of p h →
-    BestGame q houses final → BestGame p (h ∷ houses) (swapped final)
-turn_game p q h houses final going best is game =
-    let moved_to = turn_step (is_over (after p h)) (is_again p h) (after p h) q is in
-    passes_turn going (rw best (contains_first (best_house p) [])) moved_to.1 (subst (λ r. BestGame r houses final) moved_to.2 game)
+-- a strategy's way has its house
+followed_best : (p : Position) (h : ℕ) → h ≡ best_house p → Contains (follow best_house p) h
+followed_best p h best = rw best (contains_first (best_house p) [])
 
-over_game : (p e : Position) (h : ℕ) → is_over p ≡ false → h ≡ best_house p → step.Over e ≡ step_of p h →
-    (final : Position) × BestGame p (h ∷ []) final
-over_game p e h going best is =
-    let moved_to = over_step (is_over (after p h)) (is_again p h) (after p h) e is in
-    let moved : Contains (follow best_house p) h = (rw best (contains_first (best_house p) [])) in
+next_game : (p q : Position) (h : ℕ) (s : Step) (houses : List ℕ) (final : Position) → IsFirst p h s → (s ≡ step.Again q) ⊎ (s ≡ step.Turn q) →
+    BestGame q houses final → (end : Position) × BestGame p (h ∷ houses) end
+next_game p q h s houses final first (inl again) game =
+    let moved_to = again_step (is_over (after p h)) (is_again p h) (after p h) q (sym again ∙ first.step) in
+    (final, moves_on first.going (followed_best p h first.best) moved_to.1 (subst (λ r. BestGame r houses final) moved_to.2 game))
+next_game p q h s houses final first (inr turn) game =
+    let moved_to = turn_step (is_over (after p h)) (is_again p h) (after p h) q (sym turn ∙ first.step) in
+    (swapped final, passes_turn first.going (followed_best p h first.best) moved_to.1 (subst (λ r. BestGame r houses final) moved_to.2 game))
+
+over_game : (p e : Position) (h : ℕ) (s : Step) → IsFirst p h s → s ≡ step.Over e → (final : Position) × BestGame p (h ∷ []) final
+over_game p e h s first over =
+    let moved_to = over_step (is_over (after p h)) (is_again p h) (after p h) e (sym over ∙ first.step) in
+    let moved = followed_best p h first.best in
     elim (cases_Bool (is_again p h)) [
-      | inl again ↦ (after p h, moves_on going moved again (is_at_end moved_to.0))
-      | inr turn ↦ (swapped (swapped (after p h)), passes_turn going moved turn (is_at_end (over_swapped (after p h) moved_to.0)))
+      | inl again ↦ (after p h, moves_on first.going moved again (is_at_end moved_to.0))
+      | inr turn ↦ (swapped (swapped (after p h)), passes_turn first.going moved turn (is_at_end (over_swapped (after p h) moved_to.0)))
     ]
 
 -- it begins with the best house
@@ -103,57 +122,45 @@ of_any boards p Holds even all =
     record { houses = game.0; final = game.1; is_best = best_game p game.0 game.1 even game.2; holds = all (game_lines boards p game.0) }
 
 -- what holds of the line of the first move, followed by any lines
-pub of_first : (boards : Bool) (p : Position) (h : ℕ) (s : Step) (Holds : List ℕ → Type 0) → HasEqualSides p → is_over p ≡ false →
-    h ≡ best_house p →
-    s ≡ step_of p h → ((lines : List ℕ) → Holds (move_lines boards h s ++ lines)) → OfBestGame boards p Holds
-of_first boards p h s Holds even going best same all =
-    let game = game_ends best_house best_house best_is_strategy best_is_strategy p even in
-    let first = first_move h game.2 going best in
-    let lines = game_lines boards (position_after (step_of p h)) first.0 in
+pub of_first : (boards : Bool) (p : Position) (h : ℕ) (s : Step) (Holds : List ℕ → Type 0) → IsFirst p h s →
+    ((lines : List ℕ) → Holds (move_lines boards h s ++ lines)) → OfBestGame boards p Holds
+of_first boards p h s Holds first all =
+    let game = game_ends best_house best_house best_is_strategy best_is_strategy p first.even in
+    let begun = first_move h game.2 first.going first.best in
+    let lines = game_lines boards (position_after (step_of p h)) begun.0 in
     record {
       houses = game.0;
       final = game.1;
-      is_best = best_game p game.0 game.1 even game.2;
-      holds = subst (λ hs. Holds (game_lines boards p hs)) (sym first.1) (subst (λ x. Holds (move_lines boards h x ++ lines)) same (all lines));
+      is_best = best_game p game.0 game.1 first.even game.2;
+      holds = subst (λ hs. Holds (game_lines boards p hs)) (sym begun.1) (subst (λ x. Holds (move_lines boards h x ++ lines)) first.step (all lines));
     }
 
 -- what holds of them behind that line, if the rest is of the game from there on
 of_more : (boards : Bool) (p q : Position) (h : ℕ) (s : Step) (houses : List ℕ) (final : Position) (Rest Holds : List ℕ → Type 0) →
-    HasEqualSides p →
-    BestGame p (h ∷ houses) final → s ≡ step_of p h → q ≡ position_after s → Rest (game_lines boards q houses) →
+    IsFirst p h s → BestGame p (h ∷ houses) final → q ≡ position_after s → Rest (game_lines boards q houses) →
     ((lines : List ℕ) → Rest lines → Holds (move_lines boards h s ++ lines)) → OfBestGame boards p Holds
-of_more boards p q h s houses final Rest Holds even game same next rest more = record {
+of_more boards p q h s houses final Rest Holds first game next rest more = record {
   houses = h ∷ houses;
   final = final;
-  is_best = best_game p (h ∷ houses) final even game;
-  holds = subst (λ x. Holds (move_lines boards h x ++ game_lines boards (position_after x) houses)) same
+  is_best = best_game p (h ∷ houses) final first.even game;
+  holds = subst (λ x. Holds (move_lines boards h x ++ game_lines boards (position_after x) houses)) first.step
       (more (game_lines boards (position_after s) houses) (subst (λ r. Rest (game_lines boards r houses)) next rest));
 }
 
-pub of_again : (boards : Bool) (p q : Position) (h : ℕ) (s : Step) (Rest Holds : List ℕ → Type 0) → HasEqualSides p →
-    is_over p ≡ false → h ≡ best_house p →
-    s ≡ step_of p h → s ≡ step.Again q → ((lines : List ℕ) → Rest lines → Holds (move_lines boards h s ++ lines)) → OfBestGame boards q Rest →
-    OfBestGame boards p Holds
-of_again boards p q h s Rest Holds even going best same is more rest =
-    of_more boards p q h s rest.houses rest.final Rest Holds even (again_game p q h rest.houses rest.final going best (sym is ∙ same) rest.is_best.game) same
-    (ap position_after (sym is)) rest.holds more
-
-pub of_turn : (boards : Bool) (p q : Position) (h : ℕ) (s : Step) (Rest Holds : List ℕ → Type 0) → HasEqualSides p → is_over p ≡ false →
-    h ≡ best_house p →
-    s ≡ step_of p h → s ≡ step.Turn q → ((lines : List ℕ) → Rest lines → Holds (move_lines boards h s ++ lines)) → OfBestGame boards q Rest →
-    OfBestGame boards p Holds
-of_turn boards p q h s Rest Holds even going best same is more rest =
-    of_more boards p q h s rest.houses (swapped rest.final) Rest Holds even
-    (turn_game p q h rest.houses rest.final going best (sym is ∙ same) rest.is_best.game)
-    same (ap position_after (sym is)) rest.holds more
+pub of_next : (boards : Bool) (p q : Position) (h : ℕ) (s : Step) (Rest Holds : List ℕ → Type 0) → IsFirst p h s →
+    (s ≡ step.Again q) ⊎ (s ≡ step.Turn q) → ((lines : List ℕ) → Rest lines → Holds (move_lines boards h s ++ lines)) →
+    OfBestGame boards q Rest → OfBestGame boards p Holds
+of_next boards p q h s Rest Holds first is more rest =
+    let game = next_game p q h s rest.houses rest.final first is rest.is_best.game in
+    let next : q ≡ position_after s = elim is [ inl again ↦ sym (ap position_after again) | inr turn ↦ sym (ap position_after turn) ] in
+    of_more boards p q h s rest.houses game.0 Rest Holds first game.1 next rest.holds more
 
 -- the last move
-pub of_last : (boards : Bool) (p e : Position) (h : ℕ) (s : Step) (Holds : List ℕ → Type 0) → HasEqualSides p → is_over p ≡ false →
-    h ≡ best_house p →
-    s ≡ step_of p h → s ≡ step.Over e → Holds (move_lines boards h s ++ []) → OfBestGame boards p Holds
-of_last boards p e h s Holds even going best same is holds =
-    let game = over_game p e h going best (sym is ∙ same) in
-    of_more boards p e h s [] game.0 (λ lines. lines ≡ []) Holds even game.1 same (ap position_after (sym is)) refl
+pub of_last : (boards : Bool) (p e : Position) (h : ℕ) (s : Step) (Holds : List ℕ → Type 0) → IsFirst p h s → s ≡ step.Over e →
+    Holds (move_lines boards h s ++ []) → OfBestGame boards p Holds
+of_last boards p e h s Holds first is holds =
+    let game = over_game p e h s first is in
+    of_more boards p e h s [] game.0 (λ lines. lines ≡ []) Holds first game.1 (sym (ap position_after is)) refl
     (λ lines none. subst (λ l. Holds (move_lines boards h s ++ l)) (sym none) holds)
 
 -- of a game that is over there are none
@@ -191,18 +198,43 @@ pub on_ok_always : {A E P : Type 0} (r : Result A E) → P → OnOk r P
 on_ok_always (Ok x) p = p
 on_ok_always (Err e) p = tt
 
--- what holds of the lines of the game holds of them behind the first picture
-pub of_board_lines : (boards : Bool) (p : Position) (Lines Holds : List ℕ → Type 0) → ((lines : List ℕ) → Lines lines → Holds lines) →
-    OfBestGame boards p Lines
-    → OfBestGame boards p Holds
-of_board_lines boards p Lines Holds more game = record { houses = game.houses; final = game.final; is_best = game.is_best; holds = more _ game.holds }
+-- ---- the game of `play`, with a first house or without
+
+-- what holds of any lines behind the first picture holds of it
+pub of_any_game : (first : Option ℕ) (boards : Bool) (p : Position) (Holds : List ℕ → Type 0) → HasEqualSides p →
+    ((lines : List ℕ) → Holds (board_lines boards p ++ lines)) → OfGame first boards p Holds
+of_any_game None boards p Holds even all = of_any boards p _ even all
+of_any_game (Some h) boards p Holds even all =
+    of_any boards (position_after (step_of p h)) _ (even_after p h) (λ lines. all (move_lines boards h (step_of p h) ++ lines))
+
+-- and so does what holds of any lines behind the move that is asked for
+pub of_first_house : (first : Option ℕ) (boards : Bool) (p : Position) (h : ℕ) (s : Step) (Holds : List ℕ → Type 0) → first ≡ Some h →
+    s ≡ step_of p h → ((lines : List ℕ) → Holds (board_lines boards p ++ (move_lines boards h s ++ lines))) → OfGame first boards p Holds
+of_first_house first boards p h s Holds asked same all = subst (λ f. OfGame f boards p Holds) (sym asked)
+    (of_any boards (position_after (step_of p h)) _ (even_after p h)
+    (λ lines. subst (λ x. Holds (board_lines boards p ++ (move_lines boards h x ++ lines))) same (all lines)))
+
+-- what holds of the lines of a game holds of it behind the first picture
+pub of_best : (first : Option ℕ) (boards : Bool) (p : Position) (Lines Holds : List ℕ → Type 0) → first ≡ None →
+    ((lines : List ℕ) → Lines lines → Holds (board_lines boards p ++ lines)) → OfBestGame boards p Lines → OfGame first boards p Holds
+of_best first boards p Lines Holds none more game = subst (λ f. OfGame f boards p Holds) (sym none)
+    (record { houses = game.houses; final = game.final; is_best = game.is_best; holds = more _ game.holds })
 
 -- and behind the first picture and the move that is asked for, where the game goes on from the position after it
-pub behind_move : (boards : Bool) (p next : Position) (h : ℕ) (s : Step) (Lines Holds : List ℕ → Type 0) → s ≡ step_of p h →
-    next ≡ position_after s
-    → ((lines : List ℕ) → Lines lines → Holds (board_lines boards p ++ (move_lines boards h s ++ lines))) → OfBestGame boards next Lines
-    → OfGame (Some h) boards p Holds
-behind_move boards p next h s Lines Holds same is more game =
-    of_board_lines boards (position_after (step_of p h)) Lines (λ lines. Holds (board_lines boards p ++ (move_lines boards h (step_of p h) ++ lines)))
-    (λ lines rest. subst (λ x. Holds (board_lines boards p ++ (move_lines boards h x ++ lines))) same (more lines rest))
-    (subst (λ q. OfBestGame boards q Lines) (is ∙ ap position_after same) game)
+pub behind_move : (first : Option ℕ) (boards : Bool) (p next : Position) (h : ℕ) (s : Step) (Lines Holds : List ℕ → Type 0) → first ≡ Some h →
+    s ≡ step_of p h → next ≡ position_after s →
+    ((lines : List ℕ) → Lines lines → Holds (board_lines boards p ++ (move_lines boards h s ++ lines))) → OfBestGame boards next Lines →
+    OfGame first boards p Holds
+behind_move first boards p next h s Lines Holds asked same is more game = subst (λ f. OfGame f boards p Holds) (sym asked)
+    (let rest = subst (λ q. OfBestGame boards q Lines) (is ∙ ap position_after same) game in record {
+      houses = rest.houses;
+      final = rest.final;
+      is_best = rest.is_best;
+      holds = subst (λ x. Holds (board_lines boards p ++ (move_lines boards h x ++ game_lines boards (position_after (step_of p h)) rest.houses)))
+          same (more _ rest.holds);
+    })
+
+-- the house may be moved, so a prefix of the game is all that is owed
+pub begins_play : (first : Option ℕ) (boards : Bool) (p : Position) (old new : Option (List ℕ)) → MayBegin first p →
+    OfGame first boards p (λ text. AppendsStart old new text) → BeginsToPlay first boards p old new
+begins_play first boards p old new may game = record { moved = λ _. game; unmoved = λ not. absurd (not may) }

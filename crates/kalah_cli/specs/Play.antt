@@ -38,10 +38,6 @@ BeginsGame boards p old new = OfBestGame boards p (λ lines. AppendsStart old ne
 abbrev pub PlaysBest : Bool → Position → Option (List ℕ) → Option (List ℕ) → Type 0
 PlaysBest boards p old new = OfBestGame boards p (λ lines. Appends old new (board_lines boards p ++ lines))
 
--- a prefix of these was
-abbrev pub BeginsBest : Bool → Position → Option (List ℕ) → Option (List ℕ) → Type 0
-BeginsBest boards p old new = OfBestGame boards p (λ lines. AppendsStart old new (board_lines boards p ++ lines))
-
 -- ---- a game with a first move that is asked for
 
 -- the house that is asked for may be moved

@@ -26,8 +26,8 @@ module _ {A : Type 0} where
 
 -- what can be asked: the moves of a line, with boards drawn or not; the game of best play from a line, or behind its move of a house,
 -- found with a table of the given size; something of each position in files, by a number of workers with such tables; or of each line of
--- the standard input, with such a table; or a picture of a line, plain or with what its moves are worth, found with such a table; or how many
--- ways of so many moves there are to play on from a line
+-- the standard input, with such a table; or a picture of a line, plain or with what its moves are worth, found with such a table; or the
+-- number of ways of that many moves to play on from a line
 pub data Asked : Type 0 where
   moves : Bool → Text → Asked
   play : Option ℕ → ℕ → Bool → Text → Asked

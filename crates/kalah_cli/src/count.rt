@@ -7,6 +7,7 @@ ghost use Rattle.kalah_rules.specs.Ways.{ways};
 ghost use Rattle.kalah_jobs.specs.Line.Line.{Reads};
 ghost use Rattle.kalah_jobs.specs.Writing.Counts.{total_line, ways_line};
 ghost use Rattle.kalah_jobs.specs.Writing.Given.{AppendsStart};
+ghost use Rattle.kalah_cli.specs.Runs.{IsUnread, Prints};
 ghost use Rattle.kalah_cli.specs.Count.{count_output, ways_lines};
 
 use crate::failure::{Failure, report_fault};
@@ -88,13 +89,9 @@ pub(crate) fn run_count<O: Sink, E: Write>(
 ) -> ExitStatus
     requires depth { depth ≤ most_depth }
     requires sink { O.has_failed out.old ≡ false }
-    ensures read { (p : Position) → Reads line.now p → (result ≢ ExitStatus.LineFaults)
-        × (result ≡ ExitStatus.Clean
-        → Appends (O.written out.old) (O.written out.new) (count_output depth p)) }
-    ensures begins { (p : Position) → Reads line.now p
-        → AppendsStart (O.written out.old) (O.written out.new) (count_output depth p) }
-    ensures unread { ((p : Position) → Reads line.now p → ⊥)
-        → (result ≡ ExitStatus.LineFaults) × (out.new ≡ out.old) }
+    ensures read { Prints line.now (λ p. Appends (O.written out.old) (O.written out.new) (count_output depth p)) result }
+    ensures begins { (p : Position) → Reads line.now p → AppendsStart (O.written out.old) (O.written out.new) (count_output depth p) }
+    ensures unread { IsUnread line.now → (result ≡ ExitStatus.LineFaults) × (out.new ≡ out.old) }
     ensures failed { O.has_failed out.new ≡ true ↔ result ≡ ExitStatus.Failed }
     ensures handed_on { result ≢ ExitStatus.Failed → O.is_handed_on out.old ≡ true → O.is_handed_on out.new ≡ true }
 {

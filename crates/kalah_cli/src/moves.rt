@@ -4,6 +4,7 @@ ghost use Rattle.std.specs.Io.KnownBytes.{Appends};
 ghost use Rattle.kalah_rules.specs.Position.{Position};
 ghost use Rattle.kalah_jobs.specs.Writing.Given.{AppendsStart};
 ghost use Rattle.kalah_jobs.specs.Line.Line.{Reads};
+ghost use Rattle.kalah_cli.specs.Runs.{IsUnread, Prints};
 ghost use Rattle.kalah_cli.specs.Moves.{board_lines, move_lines, moves_output};
 
 use crate::failure::{Failure, report_fault};
@@ -78,13 +79,9 @@ pub(crate) fn run_moves<O: Sink, E: Write>(
     err: &mut E,
 ) -> ExitStatus
     requires { O.has_failed out.old ≡ false }
-    ensures read { (p : Position) → Reads line.now p → (result ≢ ExitStatus.LineFaults)
-        × (result ≡ ExitStatus.Clean
-        → Appends (O.written out.old) (O.written out.new) (moves_output boards p)) }
-    ensures begins { (p : Position) → Reads line.now p
-        → AppendsStart (O.written out.old) (O.written out.new) (moves_output boards p) }
-    ensures unread { ((p : Position) → Reads line.now p → ⊥)
-        → (result ≡ ExitStatus.LineFaults) × (out.new ≡ out.old) }
+    ensures read { Prints line.now (λ p. Appends (O.written out.old) (O.written out.new) (moves_output boards p)) result }
+    ensures begins { (p : Position) → Reads line.now p → AppendsStart (O.written out.old) (O.written out.new) (moves_output boards p) }
+    ensures unread { IsUnread line.now → (result ≡ ExitStatus.LineFaults) × (out.new ≡ out.old) }
     ensures failed { O.has_failed out.new ≡ true ↔ result ≡ ExitStatus.Failed }
     ensures handed_on { result ≢ ExitStatus.Failed → O.is_handed_on out.old ≡ true → O.is_handed_on out.new ≡ true }
 {

@@ -1,12 +1,10 @@
 //! `kalah play LINE`.
-ghost use Rattle.std.specs.Prelude.{◌≡◌, ◌≢◌, ◌↔◌, ◌≤◌, Contains, IfNone, IfSome, IsErr, OnOk, Some, false, true};
-ghost use Rattle.kalah_rules.specs.Play.{legal_houses};
+ghost use Rattle.std.specs.Prelude.{◌≡◌, ◌≢◌, ◌↔◌, ◌≤◌, IfNone, IfSome, IsErr, OnOk, false, true};
 ghost use Rattle.kalah_rules.specs.Position.{Position};
 ghost use Rattle.kalah_solve.specs.Table.Entries.{most_entries};
 ghost use Rattle.kalah_jobs.specs.Line.Line.{Reads};
-ghost use Rattle.kalah_cli.specs.Play.{BeginsBest, BeginsGame, BeginsToPlay, MayBegin, OfGame, Plays, PlaysBest, WritesGame};
-ghost use Rattle.std.specs.Io.KnownBytes.{Appends};
-ghost use Rattle.kalah_jobs.specs.Writing.Given.{AppendsStart};
+ghost use Rattle.kalah_cli.specs.Play.{BeginsGame, BeginsToPlay, MayBegin, Plays, WritesGame};
+ghost use Rattle.kalah_cli.specs.Runs.{IsUnread, Prints};
 
 use crate::failure::{Failure, report_fault};
 use crate::moves::{write_board, write_move};
@@ -41,57 +39,13 @@ fn write_game<O: Sink>(
     let step = board.apply(house);
     write_move(house, &step, boards, out)?;
     match step {
-        Step::Again(next) => write_game(solver, &next, boards, out),
-        Step::Turn(next) => write_game(solver, &next, boards, out),
+        Step::Again(next) | Step::Turn(next) => write_game(solver, &next, boards, out),
         Step::Over(_) => out.flush(),
     }
 }
 
-// Writes the game of best play from a board on, below the board if boards are drawn.
+// Writes the game of best play from a board on, or behind the move of the first house, below the board if boards are drawn.
 fn play<O: Sink>(
-    solver: &mut Solver,
-    board: &Board,
-    boards: bool,
-    out: &mut O,
-) -> Result<(), io::Error>
-    requires { O.has_failed out.old ≡ false }
-    ensures fails { IsErr result ↔ (O.has_failed out.new ≡ true) }
-    ensures game { OnOk result (PlaysBest boards board.now (O.written out.old) (O.written out.new)) }
-    ensures begins { BeginsBest boards board.now (O.written out.old) (O.written out.new) }
-    ensures handed_on { OnOk result (O.is_handed_on out.new ≡ true) }
-{
-    let _side = board.m();
-    write_board(board, boards, out)?;
-    write_game(solver, board, boards, out)
-}
-
-// Writes the move of house `h` of a board and the game of best play behind it, below the board where boards are drawn.
-fn play_from<O: Sink>(
-    solver: &mut Solver,
-    board: &Board,
-    h: u8,
-    boards: bool,
-    out: &mut O,
-) -> Result<(), io::Error>
-    requires legal { Contains (legal_houses board.now) h }
-    requires sink { O.has_failed out.old ≡ false }
-    ensures fails { IsErr result ↔ (O.has_failed out.new ≡ true) }
-    ensures game { OnOk result (OfGame (Some h) boards board.now (λ text. Appends (O.written out.old) (O.written out.new) text)) }
-    ensures begins { OfGame (Some h) boards board.now (λ text. AppendsStart (O.written out.old) (O.written out.new) text) }
-    ensures handed_on { OnOk result (O.is_handed_on out.new ≡ true) }
-{
-    let step = board.apply(h);
-    write_board(board, boards, out)?;
-    write_move(h, &step, boards, out)?;
-    match step {
-        Step::Again(next) | Step::Turn(next) | Step::Over(next) => {
-            write_game(solver, &next, boards, out)
-        }
-    }
-}
-
-// Writes the game of best play from a board on, or behind the move of the first house, below the board where boards are drawn.
-fn play_asked<O: Sink>(
     solver: &mut Solver,
     board: &Board,
     first: Option<u8>,
@@ -105,9 +59,17 @@ fn play_asked<O: Sink>(
     ensures begins { BeginsToPlay first boards board.now (O.written out.old) (O.written out.new) }
     ensures handed_on { OnOk result (O.is_handed_on out.new ≡ true) }
 {
-    match first {
-        Some(h) => play_from(solver, board, h, boards, out),
-        None => play(solver, board, boards, out),
+    let _side = board.m();
+    write_board(board, boards, out)?;
+    let Some(h) = first else {
+        return write_game(solver, board, boards, out);
+    };
+    let step = board.apply(h);
+    write_move(h, &step, boards, out)?;
+    match step {
+        Step::Again(next) | Step::Turn(next) | Step::Over(next) => {
+            write_game(solver, &next, boards, out)
+        }
     }
 }
 
@@ -137,14 +99,10 @@ pub(crate) fn run_play<O: Sink, E: Write>(
     requires low { 1 ≤ table }
     requires high { table ≤ most_entries }
     requires sink { O.has_failed out.old ≡ false }
-    ensures read { (p : Position) → Reads line.now p → (result ≢ ExitStatus.LineFaults)
-        × (result ≡ ExitStatus.Clean
-        → Plays first boards p (O.written out.old) (O.written out.new)) }
+    ensures read { Prints line.now (λ p. Plays first boards p (O.written out.old) (O.written out.new)) result }
     ensures begins { (p : Position) → Reads line.now p → BeginsToPlay first boards p (O.written out.old) (O.written out.new) }
-    ensures unmoved { (p : Position) → Reads line.now p → (MayBegin first p → ⊥)
-        → (result ≡ ExitStatus.Failed) × (out.new ≡ out.old) }
-    ensures unread { ((p : Position) → Reads line.now p → ⊥)
-        → (result ≡ ExitStatus.LineFaults) × (out.new ≡ out.old) }
+    ensures unmoved { (p : Position) → Reads line.now p → (MayBegin first p → ⊥) → (result ≡ ExitStatus.Failed) × (out.new ≡ out.old) }
+    ensures unread { IsUnread line.now → (result ≡ ExitStatus.LineFaults) × (out.new ≡ out.old) }
     ensures failed { O.has_failed out.new ≡ true → result ≡ ExitStatus.Failed }
     ensures unchanged { result ≡ ExitStatus.Failed → O.has_failed out.new ≡ false
         → out.new ≡ out.old }
@@ -160,7 +118,7 @@ pub(crate) fn run_play<O: Sink, E: Write>(
     let Ok(table) = Table::new(alloc, table) else {
         return Failure::OutOfMemory.report(err);
     };
-    match play_asked(&mut Solver::new(table), &board, first, boards, out) {
+    match play(&mut Solver::new(table), &board, first, boards, out) {
         Ok(()) => ExitStatus::Clean,
         Err(_) => Failure::Write.report(err),
     }

@@ -7,6 +7,7 @@ ghost use Rattle.kalah_jobs.specs.Line.Line.{Reads};
 ghost use Rattle.kalah_jobs.specs.Writing.Given.{AppendsStart};
 ghost use Rattle.kalah_jobs.specs.Writing.Picture.{picture_of};
 ghost use Rattle.kalah_jobs.specs.Writing.Shown.{shown_of};
+ghost use Rattle.kalah_cli.specs.Runs.{IsUnread, Prints};
 ghost use Rattle.kalah_cli.specs.Show.{show_output};
 
 use crate::failure::{Failure, report_fault};
@@ -58,13 +59,9 @@ pub(crate) fn run_show<O: Sink, E: Write>(
     requires low { 1 ≤ table }
     requires high { table ≤ most_entries }
     requires sink { O.has_failed out.old ≡ false }
-    ensures read { (p : Position) → Reads line.now p → (result ≢ ExitStatus.LineFaults)
-        × (result ≡ ExitStatus.Clean
-        → Appends (O.written out.old) (O.written out.new) (show_output plain p)) }
-    ensures begins { (p : Position) → Reads line.now p
-        → AppendsStart (O.written out.old) (O.written out.new) (show_output plain p) }
-    ensures unread { ((p : Position) → Reads line.now p → ⊥)
-        → (result ≡ ExitStatus.LineFaults) × (out.new ≡ out.old) }
+    ensures read { Prints line.now (λ p. Appends (O.written out.old) (O.written out.new) (show_output plain p)) result }
+    ensures begins { (p : Position) → Reads line.now p → AppendsStart (O.written out.old) (O.written out.new) (show_output plain p) }
+    ensures unread { IsUnread line.now → (result ≡ ExitStatus.LineFaults) × (out.new ≡ out.old) }
     ensures failed { O.has_failed out.new ≡ true → result ≡ ExitStatus.Failed }
     ensures unchanged { result ≡ ExitStatus.Failed → O.has_failed out.new ≡ false
         → out.new ≡ out.old }

@@ -151,7 +151,7 @@ const DEPTHS: &[(&[&str], u8)] = &[
     (&["k", "count", "--", "+007", "1/0 1/0"], 7),
 ];
 
-// The words ask for the ways of so many moves.
+// The words ask for the ways of that many moves.
 fn asks_ways(rt: &(impl Abort + AllocGlobal), words: &[&str], moves: u8) -> bool {
     match asked(rt, words) {
         Some(Request::Count { depth, line }) => line == "1/0 1/0" && depth == moves,

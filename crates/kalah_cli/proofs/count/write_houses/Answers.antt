@@ -13,7 +13,7 @@ use Rattle.kalah_jobs.specs.Writing.Counts.{ways_line}
 use Rattle.kalah_jobs.specs.Writing.Given.{AppendsStart}
 use Rattle.kalah_jobs.proofs.WritingLemmas.Starts.{start_longer, start_none, start_then}
 use Rattle.kalah_cli.proofs.Counted.{few_ways, line_of, lines_are, sum_is}
-use Rattle.kalah_cli.proofs.Items.{all_items, one_more}
+use Rattle.kalah_jobs.proofs.WritingLemmas.StepLines.{first_moves, one_more}
 use Rattle.kalah_cli.proofs.count.write_houses.Goals as goal
 
 pub loop-i-preserved : goal.loop-i-preserved
@@ -49,7 +49,7 @@ returns-in_err-write_house-clause-start g c =
     c.ways_by-ways.ensures.ways c.write_house.ensures.start in
     let so_far = start_then (g.O.Sink.written c.args.out.now) _ _ _ (flat_map one (take i moves)) (one house) more c.loop-i.invariant.adds first in
     subst (AppendsStart (g.O.Sink.written c.args.out.now) (g.O.Sink.written c.write_house.new.out))
-    (all_items one moves _ (i + 1) c.loop-i.invariant.same ∙ sym (lines_are c.args.depth c.args.board.now c.requires.low))
+    (first_moves one moves _ (i + 1) c.loop-i.invariant.same ∙ sym (lines_are c.args.depth c.args.board.now c.requires.low))
     (start_longer _ _ (flat_map one (take (i + 1) moves)) (flat_map one (drop (i + 1) moves)) so_far)
 
 pub write_house-requires-clause-house : goal.write_house-requires-clause-house
@@ -81,5 +81,5 @@ returns-clause-start g c =
     let moves = c.legal-moves.result in
     let i = c.loop-i.i in
     subst (AppendsStart (g.O.Sink.written c.args.out.now) (g.O.Sink.written c.loop-i.out))
-    (all_items one moves _ i c.loop-i.invariant.same ∙ sym (lines_are c.args.depth c.args.board.now c.requires.low))
+    (first_moves one moves _ i c.loop-i.invariant.same ∙ sym (lines_are c.args.depth c.args.board.now c.requires.low))
     (start_then _ _ _ _ (flat_map one (take i moves)) (flat_map one (drop i moves)) refl c.loop-i.invariant.adds (start_none _ _))

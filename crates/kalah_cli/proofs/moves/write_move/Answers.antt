@@ -4,7 +4,8 @@ use Rattle.kalah_jobs.specs.Line.Line.{step_text_of}
 use Rattle.kalah_jobs.specs.Files.Lines.{line_feed}
 use Rattle.kalah_jobs.proofs.WritingLemmas.Starts.{start_longer, start_then}
 use Rattle.kalah_cli.specs.Moves.{board_lines}
-use Rattle.kalah_cli.proofs.Begun.{after_step, move_parts}
+use Rattle.kalah_cli.proofs.Begun.{move_parts}
+use Rattle.kalah_cli.proofs.Played.{after_step}
 use Rattle.kalah_cli.proofs.moves.write_move.Goals as goal
 
 pub returns-in_err-write_step-clause-start : goal.returns-in_err-write_step-clause-start

@@ -8,7 +8,7 @@ use Rattle.kalah_jobs.specs.Writing.Given.{AppendsStart}
 use Rattle.kalah_jobs.proofs.WritingLemmas.Starts.{start_longer, start_then}
 use Rattle.kalah_cli.specs.Moves.{move_lines}
 use Rattle.kalah_cli.proofs.Begun.{begins_all}
-use Rattle.kalah_cli.proofs.Items.{all_items, one_more}
+use Rattle.kalah_jobs.proofs.WritingLemmas.StepLines.{first_moves, one_more}
 use Rattle.kalah_cli.proofs.moves.write_moves.Goals as goal
 
 pub loop-i-preserved : goal.loop-i-preserved
@@ -36,7 +36,7 @@ returns-in_err-write_move-clause-start g c =
     let first = subst (λ s. AppendsStart (g.O.Sink.written c.loop-i.out) (g.O.Sink.written c.write_move.new.out) (move_lines c.args.boards house s))
     c.apply.ensures.step c.write_move.ensures.start in
     let so_far = start_then (g.O.Sink.written c.args.out.now) _ _ _ (flat_map one (take i moves)) (one house) more c.loop-i.invariant.adds first in
-    subst (AppendsStart (g.O.Sink.written c.args.out.now) (g.O.Sink.written c.write_move.new.out)) (all_items one moves _ (i + 1) c.loop-i.invariant.same)
+    subst (AppendsStart (g.O.Sink.written c.args.out.now) (g.O.Sink.written c.write_move.new.out)) (first_moves one moves _ (i + 1) c.loop-i.invariant.same)
     (start_longer _ _ (flat_map one (take (i + 1) moves)) (flat_map one (drop (i + 1) moves)) so_far)
 
 pub returns-clause-start : goal.returns-clause-start
@@ -44,7 +44,7 @@ returns-clause-start g c =
     let one : ℕ → List ℕ = λ h. move_lines c.args.boards h (step_of c.args.board.now h) in
     let moves = c.legal-moves.result in
     let i = c.loop-i.i in
-    subst (AppendsStart (g.O.Sink.written c.args.out.now) (g.O.Sink.written c.flush.new.self)) (all_items one moves _ i c.loop-i.invariant.same)
+    subst (AppendsStart (g.O.Sink.written c.args.out.now) (g.O.Sink.written c.flush.new.self)) (first_moves one moves _ i c.loop-i.invariant.same)
     (start_longer _ _ (flat_map one (take i moves)) (flat_map one (drop i moves)) (begins_all _ _ _ _ c.loop-i.invariant.adds c.flush.ensures.keeps))
 
 pub returns-clause-adds : goal.returns-clause-adds

@@ -1,11 +1,23 @@
-use Rattle.std.proofs.Common.{[], arith, sym, ◌∙◌}
+use Rattle.std.proofs.Common.{◌≡◌, [], ℕ, arith}
+use Rattle.std.specs.Prelude.{ℤ}
 use Rattle.std.proofs.KnownBytes.{Appends-nil}
 use Rattle.std.proofs.lemmas.Bool.{false_from_ne_true, false≢true}
 use Rattle.std.proofs.lemmas.Result.{on_ok_weaker}
-use Rattle.kalah_solve.proofs.SolverLemmas.Worths.{again_fewer, board_equal_sides, turn_fewer}
+use Rattle.kalah_rules.specs.Play.{step_of}
+use Rattle.kalah_rules.specs.Position.{IsWithinLimits, Position}
+use Rattle.kalah_rules.specs.declared.step.Step.{Step}
+use Rattle.kalah_solve.specs.Solver.Verdict.{TellsBestMove, verdict_of}
+use Rattle.kalah_solve.specs.declared.solver.verdict.Verdict.TheVariants.{Best}
+use Rattle.kalah_solve.proofs.SolverLemmas.Worths.{board_equal_sides}
 use Rattle.kalah_jobs.proofs.WritingLemmas.Starts.{start_kept_all}
-use Rattle.kalah_cli.proofs.Played.{begins_move, begins_on, best_is_legal, best_told, goes_on, kept_appends, of_again, of_any, of_end, of_first, of_last, of_turn, on_ok_always, over_told}
+use Rattle.kalah_cli.proofs.Played.{IsFirst, begins_move, begins_on, best_is_legal, best_told, fewer_left, goes_on, kept_appends, of_any, of_end, of_first, of_last, of_next, on_ok_always}
 use Rattle.kalah_cli.proofs.play.+game.Goals as goal
+
+-- the move that the solver tells is the first one of the game
+first_of : (p : Position) (margin : ℤ) (h : ℕ) (s : Step) → IsWithinLimits p → TellsBestMove p margin h → Best margin h ≡ verdict_of p →
+    s ≡ step_of p h → IsFirst p h s
+first_of p margin h s limits told verdict step =
+    record { even = board_equal_sides p limits; going = told.going; best = best_told p margin h told.going verdict; step = step }
 
 pub returns-in_err-flush-clause-begins : goal.returns-in_err-flush-clause-begins
 returns-in_err-flush-clause-begins g t c =
@@ -15,7 +27,7 @@ returns-in_err-flush-clause-begins g t c =
 pub returns-in-Over-clause-game : goal.returns-in-Over-clause-game
 returns-in-Over-clause-game g t c =
     of_end c.args.boards c.args.board.now _ (board_equal_sides c.args.board.now c.m-side.ensures.limits)
-    (over_told c.args.board.now c.in-Over.margin c.in-Over.ensures.verdict) (kept_appends _ _ _ [] c.flush.ensures.keeps (Appends-nil _))
+    c.in-Over.ensures.best_play.over (kept_appends _ _ _ [] c.flush.ensures.keeps (Appends-nil _))
 
 pub returns-in-Over-clause-begins : goal.returns-in-Over-clause-begins
 returns-in-Over-clause-begins g t c =
@@ -24,78 +36,51 @@ returns-in-Over-clause-begins g t c =
 
 pub apply-step-requires : goal.apply-step-requires
 apply-step-requires g t c =
-    let told = best_told c.args.board.now c.in-Best.margin c.in-Best.house c.in-Best.ensures.verdict in
-    best_is_legal c.args.board.now c.in-Best.house (board_equal_sides c.args.board.now c.m-side.ensures.limits) told.0 told.1
+    let told = c.in-Best.ensures.best_play in
+    best_is_legal c.args.board.now c.in-Best.house (board_equal_sides c.args.board.now c.m-side.ensures.limits) told.going
+    (best_told c.args.board.now c.in-Best.margin c.in-Best.house told.going c.in-Best.ensures.verdict)
 
 pub returns-in_err-write_move-clause-begins : goal.returns-in_err-write_move-clause-begins
 returns-in_err-write_move-clause-begins g t c =
-    let told = best_told c.args.board.now c.in-Best.margin c.in-Best.house c.in-Best.ensures.verdict in
-    of_first c.args.boards c.args.board.now c.in-Best.house c.apply-step.result _ (board_equal_sides c.args.board.now c.m-side.ensures.limits)
-    told.0 told.1 c.apply-step.ensures.step (λ lines. begins_move _ _ _ _ lines c.flush.ensures.keeps c.write_move.ensures.start)
+    let first = first_of c.args.board.now c.in-Best.margin c.in-Best.house c.apply-step.result c.m-side.ensures.limits
+    c.in-Best.ensures.best_play c.in-Best.ensures.verdict c.apply-step.ensures.step in
+    of_first c.args.boards c.args.board.now c.in-Best.house c.apply-step.result _ first
+    (λ lines. begins_move _ _ _ _ lines c.flush.ensures.keeps c.write_move.ensures.start)
+
+pub write_game-requires : goal.write_game-requires
+write_game-requires g t c κs within =
+    let first = first_of c.args.board.now c.in-Best.margin c.in-Best.house c.apply-step.result c.m-side.ensures.limits
+    c.in-Best.ensures.best_play c.in-Best.ensures.verdict c.apply-step.ensures.step in (
+      omega (arith, fewer_left c.args.board.now c.in-Again.next c.in-Best.house c.apply-step.result first c.in-Again.is),
+      (within, false_from_ne_true _ (λ e. false≢true (c.in_ok-write_move.ensures.fails.1 e))),
+    )
 
 pub returns-in-Again-clause-game : goal.returns-in-Again-clause-game
 returns-in-Again-clause-game g t c =
-    let told = best_told c.args.board.now c.in-Best.margin c.in-Best.house c.in-Best.ensures.verdict in
+    let first = first_of c.args.board.now c.in-Best.margin c.in-Best.house c.apply-step.result c.m-side.ensures.limits
+    c.in-Best.ensures.best_play c.in-Best.ensures.verdict c.apply-step.ensures.step in
     on_ok_weaker c.write_game.result
-    (of_again c.args.boards c.args.board.now c.in-Again.next c.in-Best.house c.apply-step.result _ _
-    (board_equal_sides c.args.board.now c.m-side.ensures.limits) told.0 told.1 c.apply-step.ensures.step c.in-Again.is
-    (λ lines rest. goes_on _ _ _ _ _ lines c.flush.ensures.keeps c.in_ok-write_move.ensures.adds rest))
-    c.write_game.ensures.game
+    (of_next c.args.boards c.args.board.now c.in-Again.next c.in-Best.house c.apply-step.result _ _ first c.in-Again.is
+    (λ lines rest. goes_on _ _ _ _ _ lines c.flush.ensures.keeps c.in_ok-write_move.ensures.adds rest)) c.write_game.ensures.game
 
 pub returns-in-Again-clause-begins : goal.returns-in-Again-clause-begins
 returns-in-Again-clause-begins g t c =
-    let told = best_told c.args.board.now c.in-Best.margin c.in-Best.house c.in-Best.ensures.verdict in
-    of_again c.args.boards c.args.board.now c.in-Again.next c.in-Best.house c.apply-step.result _ _
-    (board_equal_sides c.args.board.now c.m-side.ensures.limits) told.0 told.1 c.apply-step.ensures.step c.in-Again.is
-    (λ lines rest. begins_on _ _ _ _ _ lines c.flush.ensures.keeps c.in_ok-write_move.ensures.adds rest)
-    c.write_game.ensures.begins
-
-pub returns-in-Turn-clause-game : goal.returns-in-Turn-clause-game
-returns-in-Turn-clause-game g t c =
-    let told = best_told c.args.board.now c.in-Best.margin c.in-Best.house c.in-Best.ensures.verdict in
-    on_ok_weaker c.write_game-in-Turn.result
-    (of_turn c.args.boards c.args.board.now c.in-Turn.next c.in-Best.house c.apply-step.result _ _
-    (board_equal_sides c.args.board.now c.m-side.ensures.limits) told.0 told.1 c.apply-step.ensures.step c.in-Turn.is
-    (λ lines rest. goes_on _ _ _ _ _ lines c.flush.ensures.keeps c.in_ok-write_move.ensures.adds rest))
-    c.write_game-in-Turn.ensures.game
-
-pub returns-in-Turn-clause-begins : goal.returns-in-Turn-clause-begins
-returns-in-Turn-clause-begins g t c =
-    let told = best_told c.args.board.now c.in-Best.margin c.in-Best.house c.in-Best.ensures.verdict in
-    of_turn c.args.boards c.args.board.now c.in-Turn.next c.in-Best.house c.apply-step.result _ _
-    (board_equal_sides c.args.board.now c.m-side.ensures.limits) told.0 told.1 c.apply-step.ensures.step c.in-Turn.is
-    (λ lines rest. begins_on _ _ _ _ _ lines c.flush.ensures.keeps c.in_ok-write_move.ensures.adds rest)
-    c.write_game-in-Turn.ensures.begins
+    let first = first_of c.args.board.now c.in-Best.margin c.in-Best.house c.apply-step.result c.m-side.ensures.limits
+    c.in-Best.ensures.best_play c.in-Best.ensures.verdict c.apply-step.ensures.step in
+    of_next c.args.boards c.args.board.now c.in-Again.next c.in-Best.house c.apply-step.result _ _ first c.in-Again.is
+    (λ lines rest. begins_on _ _ _ _ _ lines c.flush.ensures.keeps c.in_ok-write_move.ensures.adds rest) c.write_game.ensures.begins
 
 pub returns-in-Over-step-clause-game : goal.returns-in-Over-step-clause-game
 returns-in-Over-step-clause-game g t c =
-    let told = best_told c.args.board.now c.in-Best.margin c.in-Best.house c.in-Best.ensures.verdict in
+    let first = first_of c.args.board.now c.in-Best.margin c.in-Best.house c.apply-step.result c.m-side.ensures.limits
+    c.in-Best.ensures.best_play c.in-Best.ensures.verdict c.apply-step.ensures.step in
     on_ok_always c.flush-in-Over-step.result
-    (of_last c.args.boards c.args.board.now c.in-Over-step.field-0 c.in-Best.house c.apply-step.result _
-    (board_equal_sides c.args.board.now c.m-side.ensures.limits) told.0 told.1 c.apply-step.ensures.step c.in-Over-step.is
+    (of_last c.args.boards c.args.board.now c.in-Over-step.field-0 c.in-Best.house c.apply-step.result _ first c.in-Over-step.is
     (goes_on _ _ _ _ _ [] c.flush.ensures.keeps c.in_ok-write_move.ensures.adds (kept_appends _ _ _ [] c.flush-in-Over-step.ensures.keeps (Appends-nil _))))
 
 pub returns-in-Over-step-clause-begins : goal.returns-in-Over-step-clause-begins
 returns-in-Over-step-clause-begins g t c =
-    let told = best_told c.args.board.now c.in-Best.margin c.in-Best.house c.in-Best.ensures.verdict in
-    of_first c.args.boards c.args.board.now c.in-Best.house c.apply-step.result _ (board_equal_sides c.args.board.now c.m-side.ensures.limits)
-    told.0 told.1 c.apply-step.ensures.step
+    let first = first_of c.args.board.now c.in-Best.margin c.in-Best.house c.apply-step.result c.m-side.ensures.limits
+    c.in-Best.ensures.best_play c.in-Best.ensures.verdict c.apply-step.ensures.step in
+    of_first c.args.boards c.args.board.now c.in-Best.house c.apply-step.result _ first
     (λ lines. begins_on _ _ _ _ _ lines c.flush.ensures.keeps c.in_ok-write_move.ensures.adds (start_kept_all _ _ lines c.flush-in-Over-step.ensures.keeps))
-
-pub write_game-requires : goal.write_game-requires
-write_game-requires g t c κs within =
-    let even = board_equal_sides c.args.board.now c.m-side.ensures.limits in
-    let told = best_told c.args.board.now c.in-Best.margin c.in-Best.house c.in-Best.ensures.verdict in
-    let legal = best_is_legal c.args.board.now c.in-Best.house even told.0 told.1 in (
-      omega (arith, again_fewer c.args.board.now c.in-Best.house c.in-Again.next even legal (sym c.in-Again.is ∙ c.apply-step.ensures.step)),
-      (within, false_from_ne_true _ (λ e. false≢true (c.in_ok-write_move.ensures.fails.1 e))),
-    )
-
-pub write_game-requires-in-Turn : goal.write_game-requires-in-Turn
-write_game-requires-in-Turn g t c κs within =
-    let even = board_equal_sides c.args.board.now c.m-side.ensures.limits in
-    let told = best_told c.args.board.now c.in-Best.margin c.in-Best.house c.in-Best.ensures.verdict in
-    let legal = best_is_legal c.args.board.now c.in-Best.house even told.0 told.1 in (
-      omega (arith, turn_fewer c.args.board.now c.in-Best.house c.in-Turn.next even legal (sym c.in-Turn.is ∙ c.apply-step.ensures.step)),
-      (within, false_from_ne_true _ (λ e. false≢true (c.in_ok-write_move.ensures.fails.1 e))),
-    )
