@@ -13,13 +13,17 @@ use super::run_words;
 use crate::progress::StandardError;
 use crate::status::ExitStatus;
 use kalah_jobs::{Sink, Stream};
-use std::alloc::Global;
 use std::io::{ErrorKind, Input, Write};
 use std::process::Abort;
 use std::rt::Files;
 use std::sync::Wait;
 use std::thread::Threads;
 use std::{fs, io};
+
+/// What a run needs of its runtime, and what a test does with it.
+trait Host: Abort + AllocGlobal + Files + Input + StandardError + Threads + Wait + Sync {}
+
+impl<R: Abort + AllocGlobal + Files + Input + StandardError + Threads + Wait + Sync> Host for R {}
 
 /// Returns an error at its `fails_at`th call, counted from 1, and at each later one.
 #[derive(Drop)]
@@ -30,9 +34,9 @@ struct Failing {
 }
 
 impl Failing {
-    fn new(alloc: Global, fails_at: u32) -> Failing {
+    fn new(rt: &impl Host, fails_at: u32) -> Failing {
         Failing {
-            bytes: Vec::new(alloc),
+            bytes: Vec::new(rt.alloc()),
             calls: 0,
             fails_at,
         }
@@ -63,21 +67,21 @@ impl Write for Failing {
 }
 
 // The arguments of the command line; the first is the program's name.
-fn words_of(rt: &impl Abort, alloc: Global, texts: &[&str]) -> Vec<String>
+fn words_of(rt: &impl Host, texts: &[&str]) -> Vec<String>
     ensures { 0 < vec_len result }
 {
-    let mut words = Vec::new(alloc);
+    let mut words = Vec::new(rt.alloc());
     for text in texts {
-        let word = String::from_str(alloc, *text).expect(rt, "no memory");
+        let word = String::from_str(rt.alloc(), *text).expect(rt, "no memory");
         words.push(word).expect(rt, "no memory");
     }
-    let name = String::from_str(alloc, "kalah").expect(rt, "no memory");
+    let name = String::from_str(rt.alloc(), "kalah").expect(rt, "no memory");
     words.insert(0, name).expect(rt, "no memory");
     words
 }
 
 // Writes a file.
-fn write_file<R: Abort + Files>(rt: &R, name: &str, bytes: &[u8]) {
+fn write_file(rt: &impl Host, name: &str, bytes: &[u8]) {
     fs::write(rt, name, bytes).expect(rt, name);
 }
 
@@ -89,15 +93,11 @@ struct Run {
     err: Vec<u8>,
 }
 
-fn run_on<R: Abort + Files + Input + StandardError + Threads + Wait + Sync>(
-    rt: &R,
-    alloc: Global,
-    texts: &[&str],
-) -> Run {
-    let words = words_of(rt, alloc, texts);
-    let mut out = Stream::new(Vec::<u8>::new(alloc));
-    let mut err = Vec::<u8>::new(alloc);
-    let status = run_words(rt, alloc, words, &mut out, &mut err);
+fn run_on(rt: &impl Host, texts: &[&str]) -> Run {
+    let words = words_of(rt, texts);
+    let mut out = Stream::new(Vec::<u8>::new(rt.alloc()));
+    let mut err = Vec::<u8>::new(rt.alloc());
+    let status = run_words(rt, rt.alloc(), words, &mut out, &mut err);
     Run {
         status,
         out: out.into_inner(),
@@ -113,24 +113,14 @@ fn answers(run: &Run, status: ExitStatus, out: &str, err: &str) -> bool {
 }
 
 // A run with these arguments ends so.
-fn assert_answers<R: Abort + Files + Input + StandardError + Threads + Wait + Sync>(
-    rt: &R,
-    alloc: Global,
-    words: &[&str],
-    status: ExitStatus,
-    (out, err): (&str, &str),
-) {
-    let run = run_on(rt, alloc, words);
+fn assert_answers(rt: &impl Host, words: &[&str], status: ExitStatus, (out, err): (&str, &str)) {
+    let run = run_on(rt, words);
     assert!(rt; answers(&run, status, out, err), "{words:?}");
 }
 
 // A mistake in these arguments ends the run with a text on standard error only.
-fn assert_usage<R: Abort + Files + Input + StandardError + Threads + Wait + Sync>(
-    rt: &R,
-    alloc: Global,
-    words: &[&str],
-) {
-    let run = run_on(rt, alloc, words);
+fn assert_usage(rt: &impl Host, words: &[&str]) {
+    let run = run_on(rt, words);
     let is_usage = run.status == ExitStatus::Failed
         && run.out.is_empty()
         && run.err.starts_with(b"error: ");
@@ -150,14 +140,7 @@ const MOVES: &[(&str, &str)] = &[
 #[test]
 fn shows_the_moves_of_a_position(rt: HostRuntime) {
     for (line, moves) in MOVES {
-        let words = ["moves", *line];
-        assert_answers(
-            &rt,
-            rt.alloc(),
-            words.as_slice(),
-            ExitStatus::Clean,
-            (*moves, ""),
-        );
+        assert_answers(&rt, &["moves", *line], ExitStatus::Clean, (*moves, ""));
     }
 }
 
@@ -172,14 +155,7 @@ const UNREAD: &[(&str, &str)] = &[
 #[test]
 fn a_line_that_is_not_read_is_answered_by_its_fault(rt: HostRuntime) {
     for (line, fault) in UNREAD {
-        let words = ["moves", *line];
-        assert_answers(
-            &rt,
-            rt.alloc(),
-            words.as_slice(),
-            ExitStatus::LineFaults,
-            ("", *fault),
-        );
+        assert_answers(&rt, &["moves", *line], ExitStatus::LineFaults, ("", *fault));
     }
 }
 
@@ -219,17 +195,13 @@ const MISTAKES: &[&[&str]] = &[
 #[test]
 fn mistakes_in_the_words(rt: HostRuntime) {
     for words in MISTAKES {
-        assert_usage(&rt, rt.alloc(), *words);
+        assert_usage(&rt, *words);
     }
 }
 
 // The run with these arguments writes to the output only, and is clean.
-fn assert_shown<R: Abort + Files + Input + StandardError + Threads + Wait + Sync>(
-    rt: &R,
-    alloc: Global,
-    words: &[&str],
-) {
-    let shown = run_on(rt, alloc, words);
+fn assert_shown(rt: &impl Host, words: &[&str]) {
+    let shown = run_on(rt, words);
     assert!(rt; shown.status == ExitStatus::Clean, "{words:?}");
     assert!(rt; !shown.out.is_empty() && shown.err.is_empty());
 }
@@ -247,7 +219,7 @@ const HELP: &[&[&str]] = &[
 #[test]
 fn help_goes_to_the_output(rt: HostRuntime) {
     for words in HELP {
-        assert_shown(&rt, rt.alloc(), *words);
+        assert_shown(&rt, *words);
     }
 }
 
@@ -268,7 +240,7 @@ const NOT_READ: &[(&[&str], &str)] = &[
 fn a_file_that_is_not_read(rt: HostRuntime) {
     write_file(&rt, "kalah_run_one.txt", b"1/0 1/0\n");
     for (words, text) in NOT_READ {
-        assert_answers(&rt, rt.alloc(), *words, ExitStatus::Failed, ("", *text));
+        assert_answers(&rt, *words, ExitStatus::Failed, ("", *text));
     }
 }
 
@@ -294,16 +266,11 @@ impl Stopped {
 }
 
 // A run whose output fails at its call number `fails_at`, and at each later one.
-fn run_failing<R: Abort + Files + Input + StandardError + Threads + Wait + Sync>(
-    rt: &R,
-    alloc: Global,
-    texts: &[&str],
-    fails_at: u32,
-) -> Stopped {
-    let words = words_of(rt, alloc, texts);
-    let mut out = Stream::new(Failing::new(alloc, fails_at));
-    let mut err = Vec::<u8>::new(alloc);
-    let status = run_words(rt, alloc, words, &mut out, &mut err);
+fn run_failing(rt: &impl Host, texts: &[&str], fails_at: u32) -> Stopped {
+    let words = words_of(rt, texts);
+    let mut out = Stream::new(Failing::new(rt, fails_at));
+    let mut err = Vec::<u8>::new(rt.alloc());
+    let status = run_words(rt, rt.alloc(), words, &mut out, &mut err);
     Stopped {
         status,
         has_failed: out.failed(),
@@ -313,14 +280,8 @@ fn run_failing<R: Abort + Files + Input + StandardError + Threads + Wait + Sync>
 }
 
 // If the output fails at its call number `k`, the run ends there. It makes `calls` calls if none fails.
-fn assert_stops_at<R: Abort + Files + Input + StandardError + Threads + Wait + Sync>(
-    rt: &R,
-    alloc: Global,
-    words: &[&str],
-    calls: u32,
-    k: u32,
-) {
-    let run = run_failing(rt, alloc, words, k);
+fn assert_stops_at(rt: &impl Host, words: &[&str], calls: u32, k: u32) {
+    let run = run_failing(rt, words, k);
     assert!(rt;
         (run.has_failed, run.calls) == (k <= calls, k.min(calls)),
         "at {k}"
@@ -329,41 +290,32 @@ fn assert_stops_at<R: Abort + Files + Input + StandardError + Threads + Wait + S
 }
 
 // It ends at each of its calls that fails.
-fn assert_stops<R: Abort + Files + Input + StandardError + Threads + Wait + Sync>(
-    rt: &R,
-    alloc: Global,
-    words: &[&str],
-    calls: u32,
-) {
+fn assert_stops(rt: &impl Host, words: &[&str], calls: u32) {
     for k in 1..8u32 {
-        assert_stops_at(rt, alloc, words, calls, k);
+        assert_stops_at(rt, words, calls, k);
     }
 }
 
 // Each move is written in one call, and a flush ends them.
 #[test]
 fn stops_at_a_failed_write(rt: HostRuntime) {
-    assert_stops(&rt, rt.alloc(), &["moves", "1,1/0 1,1/0"], 3);
+    assert_stops(&rt, &["moves", "1,1/0 1,1/0"], 3);
 }
 
 // The text is written in one call, and a flush ends it.
 #[test]
 fn a_failed_write_of_help_or_of_the_version(rt: HostRuntime) {
     for word in ["--help", "--version", "-V"] {
-        assert_stops(&rt, rt.alloc(), [word].as_slice(), 2);
+        assert_stops(&rt, [word].as_slice(), 2);
     }
 }
 
 // The status of a run whose standard error accepts nothing, and how many bytes it took.
-fn run_untold<R: Abort + Files + Input + StandardError + Threads + Wait + Sync>(
-    rt: &R,
-    alloc: Global,
-    texts: &[&str],
-) -> (ExitStatus, usize) {
-    let words = words_of(rt, alloc, texts);
-    let mut out = Stream::new(Vec::<u8>::new(alloc));
-    let mut err = Failing::new(alloc, 1);
-    let status = run_words(rt, alloc, words, &mut out, &mut err);
+fn run_untold(rt: &impl Host, texts: &[&str]) -> (ExitStatus, usize) {
+    let words = words_of(rt, texts);
+    let mut out = Stream::new(Vec::<u8>::new(rt.alloc()));
+    let mut err = Failing::new(rt, 1);
+    let status = run_words(rt, rt.alloc(), words, &mut out, &mut err);
     (status, err.bytes.len())
 }
 
@@ -376,6 +328,6 @@ fn a_failing_standard_error_changes_no_status(rt: HostRuntime) {
         (["stop"].as_slice(), ExitStatus::Failed),
     ];
     for (texts, want) in calls {
-        assert!(rt; run_untold(&rt, rt.alloc(), texts) == (want, 0));
+        assert!(rt; run_untold(&rt, texts) == (want, 0));
     }
 }

@@ -28,11 +28,9 @@ const COUNTED: &[(&str, &str, &str)] = &[
 #[test]
 fn counts_the_ways_to_play_on(rt: HostRuntime) {
     for (depth, line, text) in COUNTED {
-        let words = ["count", *depth, *line];
         assert_answers(
             &rt,
-            rt.alloc(),
-            words.as_slice(),
+            &["count", *depth, *line],
             ExitStatus::Clean,
             (*text, ""),
         );
@@ -44,7 +42,6 @@ fn tells_the_fault_of_a_line_that_is_not_read(rt: HostRuntime) {
     for depth in ["0", "20"] {
         assert_answers(
             &rt,
-            rt.alloc(),
             &["count", depth, "01/0 1/0"],
             ExitStatus::LineFaults,
             ("", "fault shape\n"),
@@ -72,13 +69,13 @@ const NOT_TAKEN: &[&[&str]] = &[
 #[test]
 fn takes_a_depth_of_0_to_20_and_one_line(rt: HostRuntime) {
     for words in NOT_TAKEN {
-        assert_usage(&rt, rt.alloc(), *words);
+        assert_usage(&rt, *words);
     }
 }
 
 // Each line is flushed before the next house is counted.
 #[test]
 fn counting_stops_at_a_failed_write(rt: HostRuntime) {
-    assert_stops(&rt, rt.alloc(), &["count", "2", "1,1/0 1,1/0"], 6);
-    assert_stops(&rt, rt.alloc(), &["count", "0", "1,1/0 1,1/0"], 2);
+    assert_stops(&rt, &["count", "2", "1,1/0 1,1/0"], 6);
+    assert_stops(&rt, &["count", "0", "1,1/0 1,1/0"], 2);
 }

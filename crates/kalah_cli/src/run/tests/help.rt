@@ -1,15 +1,8 @@
 //! What the help says, and the version.
-use super::{assert_answers, run_on};
+use super::{Host, assert_answers, run_on};
 use crate::help;
-use crate::progress::StandardError;
 use crate::status::ExitStatus;
-use std::alloc::Global;
-use std::io::Input;
-use std::process::Abort;
-use std::rt::Files;
 use std::str;
-use std::sync::Wait;
-use std::thread::Threads;
 
 const OF_THE_PROGRAM: &[&str] = &[
     "Solves small positions of Kalah: the best house and the margin of best play",
@@ -90,13 +83,8 @@ const OF_COUNT: &[&str] = &[
 ];
 
 // The help that these words ask for has each of these parts in it.
-fn assert_says<R: Abort + Files + Input + StandardError + Threads + Wait + Sync>(
-    rt: &R,
-    alloc: Global,
-    words: &[&str],
-    parts: &[&str],
-) {
-    let run = run_on(rt, alloc, words);
+fn assert_says(rt: &impl Host, words: &[&str], parts: &[&str]) {
+    let run = run_on(rt, words);
     assert!(rt; run.status == ExitStatus::Clean);
     let text = str::from_utf8(run.out.as_slice()).expect(rt, "no text");
     for part in parts {
@@ -106,16 +94,15 @@ fn assert_says<R: Abort + Files + Input + StandardError + Threads + Wait + Sync>
 
 #[test]
 fn the_help_says_what_there_is_to_ask_for(rt: HostRuntime) {
-    let alloc = rt.alloc();
-    assert_says(&rt, alloc, &["--help"], OF_THE_PROGRAM);
-    assert_says(&rt, alloc, &["-h"], OF_THE_PROGRAM_IN_SHORT);
-    assert_says(&rt, alloc, &["moves", "--help"], OF_MOVES);
-    assert_says(&rt, alloc, &["ask", "--help"], OF_ASK);
-    assert_says(&rt, alloc, &["play", "--help"], OF_PLAY);
-    assert_says(&rt, alloc, &["show", "--help"], OF_SHOW);
-    assert_says(&rt, alloc, &["count", "--help"], OF_COUNT);
+    assert_says(&rt, &["--help"], OF_THE_PROGRAM);
+    assert_says(&rt, &["-h"], OF_THE_PROGRAM_IN_SHORT);
+    assert_says(&rt, &["moves", "--help"], OF_MOVES);
+    assert_says(&rt, &["ask", "--help"], OF_ASK);
+    assert_says(&rt, &["play", "--help"], OF_PLAY);
+    assert_says(&rt, &["show", "--help"], OF_SHOW);
+    assert_says(&rt, &["count", "--help"], OF_COUNT);
     for subcommand in ["solve", "values"] {
-        assert_says(&rt, alloc, &[subcommand, "--help"], OF_BATCHES);
+        assert_says(&rt, &[subcommand, "--help"], OF_BATCHES);
     }
 }
 
@@ -136,12 +123,8 @@ const WITH_QUOTES: &[&[&str]] = &[
 ];
 
 // Whether standard error speaks of quotes.
-fn speaks_of_quotes<R: Abort + Files + Input + StandardError + Threads + Wait + Sync>(
-    rt: &R,
-    alloc: Global,
-    words: &[&str],
-) -> bool {
-    let run = run_on(rt, alloc, words);
+fn speaks_of_quotes(rt: &impl Host, words: &[&str]) -> bool {
+    let run = run_on(rt, words);
     assert!(rt; run.status == ExitStatus::Failed && run.out.is_empty());
     let text = str::from_utf8(run.err.as_slice()).expect(rt, "no text");
     text.contains("put it in quotes: '1,1/0 1,1/0'\n")
@@ -150,10 +133,10 @@ fn speaks_of_quotes<R: Abort + Files + Input + StandardError + Threads + Wait + 
 #[test]
 fn a_position_without_quotes_is_pointed_out(rt: HostRuntime) {
     for words in WITHOUT_QUOTES {
-        assert!(rt; speaks_of_quotes(&rt, rt.alloc(), *words));
+        assert!(rt; speaks_of_quotes(&rt, *words));
     }
     for words in WITH_QUOTES {
-        assert!(rt; !speaks_of_quotes(&rt, rt.alloc(), *words));
+        assert!(rt; !speaks_of_quotes(&rt, *words));
     }
 }
 
@@ -169,12 +152,6 @@ const OF_THE_VERSION: &[&[&str]] = &[
 #[test]
 fn the_version_is_one_line(rt: HostRuntime) {
     for words in OF_THE_VERSION {
-        assert_answers(
-            &rt,
-            rt.alloc(),
-            *words,
-            ExitStatus::Clean,
-            ("kalah 1.1.0\n", ""),
-        );
+        assert_answers(&rt, *words, ExitStatus::Clean, ("kalah 1.1.0\n", ""));
     }
 }

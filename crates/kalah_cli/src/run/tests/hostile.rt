@@ -1,29 +1,16 @@
 //! Files of odd bytes, and names that no file has.
-use super::{assert_answers, write_file};
-use crate::progress::StandardError;
+use super::{Host, assert_answers, write_file};
 use crate::status::ExitStatus;
-use std::alloc::Global;
-use std::io::Input;
-use std::process::Abort;
-use std::rt::Files;
-use std::sync::Wait;
-use std::thread::Threads;
 
 // The file of this name and these bytes is answered by this text.
-fn assert_file_answers<R: Abort + Files + Input + StandardError + Threads + Wait + Sync>(
-    rt: &R,
-    alloc: Global,
-    name: &str,
-    bytes: &[u8],
-    text: &str,
-) {
+fn assert_file_answers(rt: &impl Host, name: &str, bytes: &[u8], text: &str) {
     write_file(rt, name, bytes);
     let status = if text.contains("fault") {
         ExitStatus::LineFaults
     } else {
         ExitStatus::Clean
     };
-    assert_answers(rt, alloc, &["solve", name], status, (text, ""));
+    assert_answers(rt, &["solve", name], status, (text, ""));
 }
 
 // Bytes of a file, and their answers.
@@ -42,12 +29,12 @@ const ODD: &[(&[u8], &str)] = &[
 #[test]
 fn odd_bytes_are_faults_of_their_line(rt: HostRuntime) {
     for (bytes, text) in ODD {
-        assert_file_answers(&rt, rt.alloc(), "odd.txt", *bytes, *text);
+        assert_file_answers(&rt, "odd.txt", *bytes, *text);
     }
     let mut long = [b'x'; 83];
     long[81] = b'\r';
     long[82] = b'\n';
-    assert_file_answers(&rt, rt.alloc(), "odd.txt", &long, "odd.txt:1 fault long\n");
+    assert_file_answers(&rt, "odd.txt", &long, "odd.txt:1 fault long\n");
 }
 
 #[test]
@@ -61,32 +48,22 @@ fn a_file_may_end_anywhere(rt: HostRuntime) {
             10..=11 => "end.txt:1 6 house 1\nend.txt:2 fault empty\n",
             _ => "end.txt:1 6 house 1\nend.txt:2 fault empty\nend.txt:3 fault shape\n",
         };
-        assert_file_answers(&rt, rt.alloc(), "end.txt", &bytes[..end], text);
+        assert_file_answers(&rt, "end.txt", &bytes[..end], text);
     }
 }
 
 // A file may have this name.
-fn assert_is_a_name<R: Abort + Files + Input + StandardError + Threads + Wait + Sync>(
-    rt: &R,
-    alloc: Global,
-    name: &str,
-) {
-    let text = format!(in alloc; "{name}:1 0 house 1\n").expect(rt, "no memory");
-    assert_file_answers(rt, alloc, name, b"1/0 1/0", text.as_str());
+fn assert_is_a_name(rt: &impl Host, name: &str) {
+    let text = format!(in rt.alloc(); "{name}:1 0 house 1\n").expect(rt, "no memory");
+    assert_file_answers(rt, name, b"1/0 1/0", text.as_str());
 }
 
 // No file has this name.
-fn assert_is_not_read<R: Abort + Files + Input + StandardError + Threads + Wait + Sync>(
-    rt: &R,
-    alloc: Global,
-    name: &str,
-) {
-    let text = format!(in alloc; "kalah: cannot read {name}\n").expect(rt, "no memory");
-    let words = ["solve", name];
+fn assert_is_not_read(rt: &impl Host, name: &str) {
+    let text = format!(in rt.alloc(); "kalah: cannot read {name}\n").expect(rt, "no memory");
     assert_answers(
         rt,
-        alloc,
-        words.as_slice(),
+        &["solve", name],
         ExitStatus::Failed,
         ("", text.as_str()),
     );
@@ -95,9 +72,9 @@ fn assert_is_not_read<R: Abort + Files + Input + StandardError + Threads + Wait 
 #[test]
 fn a_name_is_any_text_in_one_line(rt: HostRuntime) {
     for name in ["odd name é:1.txt", "odd\t\"$(x)'.txt", "odd\r.txt"] {
-        assert_is_a_name(&rt, rt.alloc(), name);
+        assert_is_a_name(&rt, name);
     }
     for name in ["", "odd\0name", "odd.txt/", "no/odd.txt"] {
-        assert_is_not_read(&rt, rt.alloc(), name);
+        assert_is_not_read(&rt, name);
     }
 }

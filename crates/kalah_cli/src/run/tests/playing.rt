@@ -1,13 +1,6 @@
 //! Runs of `kalah play`, and of `kalah moves` with boards.
-use super::{assert_answers, assert_stops};
-use crate::progress::StandardError;
+use super::{Host, assert_answers, assert_stops};
 use crate::status::ExitStatus;
-use std::alloc::Global;
-use std::io::Input;
-use std::process::Abort;
-use std::rt::Files;
-use std::sync::Wait;
-use std::thread::Threads;
 
 // Lines, and the games that best play leads to from their positions.
 const GAMES: &[(&str, &str)] = &[
@@ -63,22 +56,21 @@ const GAMES: &[(&str, &str)] = &[
 ];
 
 // This game is played, with a table of one entry and of many.
-fn assert_plays<R: Abort + Files + Input + StandardError + Threads + Wait + Sync>(
-    rt: &R,
-    alloc: Global,
-    line: &str,
-    game: &str,
-) {
+fn assert_plays(rt: &impl Host, line: &str, game: &str) {
     for table in ["1", "65536"] {
-        let words = ["play", "--table", table, line];
-        assert_answers(rt, alloc, words.as_slice(), ExitStatus::Clean, (game, ""));
+        assert_answers(
+            rt,
+            &["play", "--table", table, line],
+            ExitStatus::Clean,
+            (game, ""),
+        );
     }
 }
 
 #[test]
 fn plays_the_game_of_best_play(rt: HostRuntime) {
     for (line, game) in GAMES {
-        assert_plays(&rt, rt.alloc(), *line, *game);
+        assert_plays(&rt, *line, *game);
     }
 }
 
@@ -134,7 +126,7 @@ const DRAWN: &[(&[&str], &str)] = &[
 #[test]
 fn draws_boards_below_their_lines(rt: HostRuntime) {
     for (words, text) in DRAWN {
-        assert_answers(&rt, rt.alloc(), *words, ExitStatus::Clean, (*text, ""));
+        assert_answers(&rt, *words, ExitStatus::Clean, (*text, ""));
     }
 }
 
@@ -149,18 +141,12 @@ const UNREAD: &[(&[&str], &str)] = &[
 #[test]
 fn tells_the_fault_of_an_unread_line(rt: HostRuntime) {
     for (words, fault) in UNREAD {
-        assert_answers(
-            &rt,
-            rt.alloc(),
-            *words,
-            ExitStatus::LineFaults,
-            ("", *fault),
-        );
+        assert_answers(&rt, *words, ExitStatus::LineFaults, ("", *fault));
     }
 }
 
 // The game is written in two moves, with a flush before each search and at the end.
 #[test]
 fn stops_at_a_failed_write(rt: HostRuntime) {
-    assert_stops(&rt, rt.alloc(), &["play", "1,1/0 1,1/0"], 5);
+    assert_stops(&rt, &["play", "1,1/0 1,1/0"], 5);
 }

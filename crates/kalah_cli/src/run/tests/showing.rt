@@ -56,7 +56,7 @@ over, margin 3
 #[test]
 fn draws_a_position_with_what_its_moves_are_worth(rt: HostRuntime) {
     for (words, text) in SHOWN {
-        assert_answers(&rt, rt.alloc(), *words, ExitStatus::Clean, (*text, ""));
+        assert_answers(&rt, *words, ExitStatus::Clean, (*text, ""));
     }
 }
 
@@ -86,7 +86,7 @@ const PLAYED: &[(&[&str], &str)] = &[
 #[test]
 fn plays_from_a_first_house_on(rt: HostRuntime) {
     for (words, game) in PLAYED {
-        assert_answers(&rt, rt.alloc(), *words, ExitStatus::Clean, (*game, ""));
+        assert_answers(&rt, *words, ExitStatus::Clean, (*game, ""));
     }
 }
 
@@ -109,7 +109,7 @@ const UNMOVED: &[(&[&str], &str)] = &[
 #[test]
 fn says_which_house_may_not_be_moved(rt: HostRuntime) {
     for (words, said) in UNMOVED {
-        assert_answers(&rt, rt.alloc(), *words, ExitStatus::Failed, ("", *said));
+        assert_answers(&rt, *words, ExitStatus::Failed, ("", *said));
     }
 }
 
@@ -126,7 +126,7 @@ const NOT_TAKEN: &[&[&str]] = &[
 #[test]
 fn takes_no_other_words(rt: HostRuntime) {
     for words in NOT_TAKEN {
-        assert_usage(&rt, rt.alloc(), *words);
+        assert_usage(&rt, *words);
     }
 }
 
@@ -138,20 +138,14 @@ fn tells_the_fault_of_a_line_before_its_house(rt: HostRuntime) {
         ["play", "--first=3", "01/0 1/0"],
     ] {
         let fault = ("", "fault shape\n");
-        assert_answers(
-            &rt,
-            rt.alloc(),
-            words.as_slice(),
-            ExitStatus::LineFaults,
-            fault,
-        );
+        assert_answers(&rt, words.as_slice(), ExitStatus::LineFaults, fault);
     }
 }
 
 // The picture is written, flushed before the search, and again behind the values.
 #[test]
 fn stops_at_a_failed_write(rt: HostRuntime) {
-    assert_stops(&rt, rt.alloc(), &["show", "1,1/0 1,1/0"], 4);
-    assert_stops(&rt, rt.alloc(), &["show", "--plain", "1,1/0 1,1/0"], 2);
-    assert_stops(&rt, rt.alloc(), &["play", "--first=2", "1,1/0 1,1/0"], 4);
+    assert_stops(&rt, &["show", "1,1/0 1,1/0"], 4);
+    assert_stops(&rt, &["show", "--plain", "1,1/0 1,1/0"], 2);
+    assert_stops(&rt, &["play", "--first=2", "1,1/0 1,1/0"], 4);
 }

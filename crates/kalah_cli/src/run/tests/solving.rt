@@ -1,27 +1,15 @@
 //! Runs of `kalah solve` over files that are written first.
-use super::{assert_answers, run_failing, write_file};
-use crate::progress::StandardError;
+use super::{Host, assert_answers, run_failing, write_file};
 use crate::status::ExitStatus;
-use std::alloc::Global;
 use std::fs;
-use std::io::Input;
-use std::process::Abort;
-use std::rt::Files;
-use std::sync::Wait;
-use std::thread::Threads;
 
 const ONE_AND_TWO: &str = "1/0 1/0\n2/0 2/0";
 
 const THREE_AND_FAULTS: &str = "3/0 3/0\r\n\r\n01/0 1/0\r\n";
 
 // The arguments of `solve` with these options and files.
-fn solve_words<'a>(
-    rt: &impl Abort,
-    alloc: Global,
-    options: &[&'a str],
-    files: &[&'a str],
-) -> Vec<&'a str> {
-    let mut words = Vec::new(alloc);
+fn solve_words<'a>(rt: &impl Host, options: &[&'a str], files: &[&'a str]) -> Vec<&'a str> {
+    let mut words = Vec::new(rt.alloc());
     words.push("solve").expect(rt, "no memory");
     words.extend_from_slice(options).expect(rt, "no memory");
     words.extend_from_slice(files).expect(rt, "no memory");
@@ -41,15 +29,10 @@ each_b.txt:2 -2 house 1
 ";
 
 // With these options each line of the batch is answered, in order.
-fn assert_answers_batch<R: Abort + Files + Input + StandardError + Threads + Wait + Sync>(
-    rt: &R,
-    alloc: Global,
-    options: &[&str],
-) {
-    let words = solve_words(rt, alloc, options, BATCH);
+fn assert_answers_batch(rt: &impl Host, options: &[&str]) {
+    let words = solve_words(rt, options, BATCH);
     assert_answers(
         rt,
-        alloc,
         words.as_slice(),
         ExitStatus::LineFaults,
         (BATCH_ANSWERS, ""),
@@ -66,31 +49,22 @@ const OPTIONS: &[&[&str]] = &[
 
 #[test]
 fn answers_each_line_of_each_file(rt: HostRuntime) {
-    let alloc = rt.alloc();
     write_file(&rt, "each_a.txt", b"");
     write_file(&rt, "each_b.txt", ONE_AND_TWO.as_bytes());
     write_file(&rt, "each_c.txt", THREE_AND_FAULTS.as_bytes());
     for options in OPTIONS {
-        assert_answers_batch(&rt, alloc, *options);
+        assert_answers_batch(&rt, *options);
     }
 }
 
 #[test]
 fn files_without_a_fault_are_clean(rt: HostRuntime) {
-    let alloc = rt.alloc();
     write_file(&rt, "clean_a.txt", b"");
     write_file(&rt, "clean_b.txt", ONE_AND_TWO.as_bytes());
-    assert_answers(
-        &rt,
-        alloc,
-        &["solve", "clean_a.txt"],
-        ExitStatus::Clean,
-        ("", ""),
-    );
+    assert_answers(&rt, &["solve", "clean_a.txt"], ExitStatus::Clean, ("", ""));
     let want = "clean_b.txt:1 0 house 1\nclean_b.txt:2 -2 house 1\n";
     assert_answers(
         &rt,
-        alloc,
         &["solve", "clean_b.txt"],
         ExitStatus::Clean,
         (want, ""),
@@ -99,7 +73,6 @@ fn files_without_a_fault_are_clean(rt: HostRuntime) {
 
 #[test]
 fn both_rules_and_many_seeds(rt: HostRuntime) {
-    let alloc = rt.alloc();
     write_file(
         &rt,
         "rules.txt",
@@ -114,11 +87,9 @@ rules.txt:5 -1 house 1
 rules.txt:6 16 over
 ";
     for table in ["1", "65536", "65537", "1048576"] {
-        let words = ["solve", "--table", table, "rules.txt"];
         assert_answers(
             &rt,
-            alloc,
-            words.as_slice(),
+            &["solve", "--table", table, "rules.txt"],
             ExitStatus::LineFaults,
             (want, ""),
         );
@@ -131,7 +102,6 @@ fn games_that_are_over(rt: HostRuntime) {
     for word in ["solve", "values"] {
         assert_answers(
             &rt,
-            rt.alloc(),
             &[word, "ended.txt"],
             ExitStatus::Clean,
             (
@@ -144,39 +114,29 @@ fn games_that_are_over(rt: HostRuntime) {
 
 #[test]
 fn too_many_files(rt: HostRuntime) {
-    let alloc = rt.alloc();
     write_file(&rt, "many_a.txt", b"");
-    let files = vec![in alloc; "many_a.txt"; 257].expect(&rt, "no memory");
-    let words = solve_words(&rt, alloc, &[], files.as_slice());
+    let files = vec![in rt.alloc(); "many_a.txt"; 257].expect(&rt, "no memory");
+    let words = solve_words(&rt, &[], files.as_slice());
     let text = "kalah: too many files\n";
-    assert_answers(&rt, alloc, words.as_slice(), ExitStatus::Failed, ("", text));
+    assert_answers(&rt, words.as_slice(), ExitStatus::Failed, ("", text));
 }
 
 #[test]
 fn too_many_lines(rt: HostRuntime) {
-    let alloc = rt.alloc();
-    let feeds = vec![in alloc; b'\n'; 1_000_001].expect(&rt, "no memory");
+    let feeds = vec![in rt.alloc(); b'\n'; 1_000_001].expect(&rt, "no memory");
     write_file(&rt, "feeds.txt", feeds.as_slice());
     let text = "kalah: too many lines\n";
-    assert_answers(
-        &rt,
-        alloc,
-        &["solve", "feeds.txt"],
-        ExitStatus::Failed,
-        ("", text),
-    );
+    assert_answers(&rt, &["solve", "feeds.txt"], ExitStatus::Failed, ("", text));
 }
 
 // A file may have 67,108,864 bytes, but not one more.
 #[test]
 fn a_file_of_the_greatest_size_is_read(rt: HostRuntime) {
-    let alloc = rt.alloc();
-    let bytes = vec![in alloc; b'x'; 67_108_865].expect(&rt, "no memory");
+    let bytes = vec![in rt.alloc(); b'x'; 67_108_865].expect(&rt, "no memory");
     write_file(&rt, "large.txt", &bytes[1..]);
     let long = "large.txt:1 fault long\n";
     assert_answers(
         &rt,
-        alloc,
         &["solve", "large.txt"],
         ExitStatus::LineFaults,
         (long, ""),
@@ -185,7 +145,6 @@ fn a_file_of_the_greatest_size_is_read(rt: HostRuntime) {
     let unread = "kalah: cannot read large.txt\n";
     assert_answers(
         &rt,
-        alloc,
         &["solve", "large.txt"],
         ExitStatus::Failed,
         ("", unread),
@@ -199,7 +158,7 @@ fn solving_stops_at_a_failed_write(rt: HostRuntime) {
     write_file(&rt, "failing_b.txt", ONE_AND_TWO.as_bytes());
     let mut ended = false;
     for k in 1..64u32 {
-        let run = run_failing(&rt, rt.alloc(), &["solve", "failing_b.txt"], k);
+        let run = run_failing(&rt, &["solve", "failing_b.txt"], k);
         assert!(rt; run.is_told(), "at {k}");
         assert!(rt; !run.has_failed || !ended && run.calls == k, "at {k}");
         ended = !run.has_failed;

@@ -27,8 +27,12 @@ fn tells_each_step_and_what_is_no_position(rt: HostRuntime) {
     for (bytes, text, status) in TOLD {
         write_file(&rt, "s.txt", *bytes);
         for workers in ["1", "2", "64"] {
-            let words = ["steps", "--workers", workers, "s.txt"];
-            assert_answers(&rt, rt.alloc(), words.as_slice(), *status, (*text, ""));
+            assert_answers(
+                &rt,
+                &["steps", "--workers", workers, "s.txt"],
+                *status,
+                (*text, ""),
+            );
         }
     }
 }
@@ -37,5 +41,5 @@ fn tells_each_step_and_what_is_no_position(rt: HostRuntime) {
 #[test]
 fn telling_steps_stops_at_a_failed_write(rt: HostRuntime) {
     write_file(&rt, "stopped.txt", b"1,1/0 1,1/0\n2/0 2/0");
-    assert_stops(&rt, rt.alloc(), &["steps", "stopped.txt"], 4);
+    assert_stops(&rt, &["steps", "stopped.txt"], 4);
 }

@@ -1,13 +1,6 @@
 //! Runs of `kalah values` over files that are written first.
-use super::{assert_answers, assert_stops, write_file};
-use crate::progress::StandardError;
+use super::{Host, assert_answers, assert_stops, write_file};
 use crate::status::ExitStatus;
-use std::alloc::Global;
-use std::io::Input;
-use std::process::Abort;
-use std::rt::Files;
-use std::sync::Wait;
-use std::thread::Threads;
 
 const FOUR_LINES: &str = "1,1/0 1,1/0\n2/0 2/0\n0,0/3 1,2/4\n01/0 1/0\n";
 
@@ -19,17 +12,10 @@ four.txt:4 fault shape
 ";
 
 // With `workers` workers and `table` entries the values of the four lines are printed.
-fn assert_tells_four<R: Abort + Files + Input + StandardError + Threads + Wait + Sync>(
-    rt: &R,
-    alloc: Global,
-    workers: &str,
-    table: &str,
-) {
-    let words = ["values", "--workers", workers, "four.txt", "--table", table];
+fn assert_tells_four(rt: &impl Host, workers: &str, table: &str) {
     assert_answers(
         rt,
-        alloc,
-        words.as_slice(),
+        &["values", "--workers", workers, "four.txt", "--table", table],
         ExitStatus::LineFaults,
         (FOUR_ANSWERS, ""),
     );
@@ -40,7 +26,7 @@ fn tells_the_value_of_each_move(rt: HostRuntime) {
     write_file(&rt, "four.txt", FOUR_LINES.as_bytes());
     for workers in ["1", "2", "64"] {
         for table in ["1", "65536"] {
-            assert_tells_four(&rt, rt.alloc(), workers, table);
+            assert_tells_four(&rt, workers, table);
         }
     }
 }
@@ -70,7 +56,7 @@ const ANSWERED: &[(&[u8], &str, ExitStatus)] = &[
 fn tells_both_rules_odd_bytes_and_no_line(rt: HostRuntime) {
     for (bytes, text, status) in ANSWERED {
         write_file(&rt, "v.txt", *bytes);
-        assert_answers(&rt, rt.alloc(), &["values", "v.txt"], *status, (*text, ""));
+        assert_answers(&rt, &["values", "v.txt"], *status, (*text, ""));
     }
 }
 
@@ -87,7 +73,7 @@ const NOT_READ: &[(&[&str], &str)] = &[
 #[test]
 fn values_and_steps_of_files_that_are_not_read(rt: HostRuntime) {
     for (words, text) in NOT_READ {
-        assert_answers(&rt, rt.alloc(), *words, ExitStatus::Failed, ("", *text));
+        assert_answers(&rt, *words, ExitStatus::Failed, ("", *text));
     }
 }
 
@@ -95,5 +81,5 @@ fn values_and_steps_of_files_that_are_not_read(rt: HostRuntime) {
 #[test]
 fn telling_values_stops_at_a_failed_write(rt: HostRuntime) {
     write_file(&rt, "stops.txt", b"1,1/0 1,1/0\n2/0 2/0");
-    assert_stops(&rt, rt.alloc(), &["values", "stops.txt"], 3);
+    assert_stops(&rt, &["values", "stops.txt"], 3);
 }
