@@ -1,17 +1,22 @@
 -- What the program does for each request.
-use Rattle.std.specs.Prelude.{◌≡◌, ◌≢◌, ◌++◌, ◌∷◌, ℕ, List, [], Option, codes, ⊤}
+use Rattle.std.specs.Prelude.{◌≡◌, ◌≢◌, ◌⊎◌, ◌++◌, ◌∷◌, ℕ, List, [], Option, codes, false, ⊤}
+use Rattle.std.specs.List.{All}
 use Rattle.std.specs.Io.KnownBytes.{Appends}
 use Rattle.clap.specs.Words.{Text}
+use Rattle.clap.specs.declared.error.kind.ErrorKind.TheVariants.{DisplayHelp, DisplayVersion}
 use Rattle.kalah_rules.specs.Position.{Position}
 use Rattle.kalah_jobs.specs.Writing.Given.{AppendsStart}
 use Rattle.kalah_jobs.specs.Line.Line.{Reads}
+use Rattle.kalah_jobs.specs.Writing.Picture.{picture_of}
+use Rattle.kalah_jobs.specs.Writing.Shown.{shown_of}
+use Rattle.kalah_jobs.specs.declared.files.question.Question.TheVariants.{BestMove, Values}
 use Rattle.kalah_cli.specs.Moves.{moves_output}
-use Rattle.kalah_cli.specs.Play.{BeginsToPlay, MayBegin, Plays}
+use Rattle.kalah_cli.specs.Play.{BeginsToPlay, MayBegin, Plays, PlaysBest}
 use Rattle.kalah_cli.specs.Count.{count_output}
-use Rattle.kalah_cli.specs.Request.{Asked, moves, play, answers, ask, show, count}
+use Rattle.kalah_cli.specs.Request.{Asked, AsksNot, IsPlainWord, IsRefused, IsTakenAs, IsVersionWord, moves, play, answers, ask, show, count}
 use Rattle.kalah_cli.specs.Show.{show_output}
 use Rattle.kalah_cli.specs.Ask.{AnswersLines, BeginsLines}
-use Rattle.kalah_cli.specs.SolveFiles.{AnswersTo, BeginsTo}
+use Rattle.kalah_cli.specs.SolveFiles.{AnswersFiles, AnswersTo, BeginsTo, TellsSteps, TellsValues}
 use Rattle.kalah_cli.specs.declared.status.ExitStatus.{ExitStatus}
 use Rattle.kalah_cli.specs.declared.status.ExitStatus.TheVariants.{Clean, LineFaults, Failed}
 
@@ -41,28 +46,19 @@ Begins (count depth line) old new = (p : Position) → Reads line p → AppendsS
 abbrev pub IsOfLine : Asked → Text → Type 0
 IsOfLine (moves boards line) text = text ≡ line
 IsOfLine (play first table boards line) text = text ≡ line
-IsOfLine (answers question workers table progress names) text = ⊥
-IsOfLine (ask question table) text = ⊥
 IsOfLine (show plain table line) text = text ≡ line
 IsOfLine (count depth line) text = text ≡ line
+IsOfLine _ text = ⊥
 
 -- nothing is asked of the standard input
 abbrev pub IsOfNoInput : Asked → Type 0
-IsOfNoInput (moves boards line) = ⊤
-IsOfNoInput (play first table boards line) = ⊤
-IsOfNoInput (answers question workers table progress names) = ⊤
 IsOfNoInput (ask question table) = ⊥
-IsOfNoInput (show plain table line) = ⊤
-IsOfNoInput (count depth line) = ⊤
+IsOfNoInput _ = ⊤
 
 -- the game that is asked for begins with a house that may not be moved
 abbrev pub IsUnmoved : Asked → Type 0
-IsUnmoved (moves boards line) = ⊥
 IsUnmoved (play first table boards line) = (p : Position) × Reads line p × (MayBegin first p → ⊥)
-IsUnmoved (answers question workers table progress names) = ⊥
-IsUnmoved (ask question table) = ⊥
-IsUnmoved (show plain table line) = ⊥
-IsUnmoved (count depth line) = ⊥
+IsUnmoved _ = ⊥
 
 -- what is written if the version is asked for: the program's name, its version and a line feed (10)
 abbrev pub version_line : Text
@@ -71,3 +67,56 @@ version_line = codes "kalah 1.1.0" ++ 10 ∷ []
 -- no position is written by the line
 abbrev pub IsUnread : Text → Type 0
 IsUnread line = (p : Position) → Reads line p → ⊥
+
+-- ---- what a run promises for its arguments, where `written` is what an output has of the bytes that it was given
+
+module _ {O : Type 0} (written : O → Option (List ℕ)) (words : List Text) (old new : O) (status : ExitStatus) where
+  -- accepted arguments: the program does what they ask for
+  pub record DoesWhatIsAsked : Type 0 where
+    pub does : (a : Asked) → IsTakenAs words a → Does a (written old) (written new) status
+    -- in any case: a prefix of what is asked for was written, and nothing else
+    pub begins : (a : Asked) → IsTakenAs words a → Begins a (written old) (written new)
+    -- arguments about a line that can't be read
+    pub unread_line : (a : Asked) (line : Text) → IsTakenAs words a → IsOfLine a line → IsUnread line → (status ≢ Clean) × (new ≡ old)
+    -- arguments that ask for a game that begins with a house that may not be moved
+    pub unmoved : (a : Asked) → IsTakenAs words a → IsUnmoved a → (status ≡ Failed) × (new ≡ old)
+
+  -- the arguments of each subcommand without options, and a few with one
+  pub record DoesByItsWords : Type 0 where
+    -- `moves` and a line that can be read: its moves are written, if nothing fails
+    pub moves : (name line : Text) → words ≡ name ∷ codes "moves" ∷ line ∷ []
+        → Prints line (λ p. Appends (written old) (written new) (moves_output false p)) status
+    -- `play` and a line that can be read: its game of best play is written, if nothing fails
+    pub played : (name line : Text) → words ≡ name ∷ codes "play" ∷ line ∷ []
+        → Prints line (λ p. PlaysBest false p (written old) (written new)) status
+    -- `show`, or `show --plain`, and a line that is read: its picture is written, with what its moves are worth, or alone
+    pub shown : (name line : Text) → words ≡ name ∷ codes "show" ∷ line ∷ []
+        → Prints line (λ p. Appends (written old) (written new) (shown_of p)) status
+    pub shown_plain : (name line : Text) → words ≡ name ∷ codes "show" ∷ codes "--plain" ∷ line ∷ []
+        → Prints line (λ p. Appends (written old) (written new) (picture_of p)) status
+    -- `moves` or `play` and a line that can't be read, but is no flag
+    pub unread : (name line : Text) → (words ≡ name ∷ codes "moves" ∷ line ∷ []) ⊎ (words ≡ name ∷ codes "play" ∷ line ∷ [])
+        → IsPlainWord line → IsUnread line → (status ≢ Clean) × (new ≡ old)
+    -- `solve`, `values` or `steps`, and files whose names are no flags: what is asked of them is written, if nothing fails
+    pub solved : (name : Text) (files : List Text) → words ≡ name ∷ codes "solve" ∷ files → All IsPlainWord files → status ≢ Failed
+        → AnswersFiles files (written old) (written new) status
+    pub valued : (name : Text) (files : List Text) → words ≡ name ∷ codes "values" ∷ files → All IsPlainWord files → status ≢ Failed
+        → TellsValues files (written old) (written new) status
+    pub stepped : (name : Text) (files : List Text) → words ≡ name ∷ codes "steps" ∷ files → All IsPlainWord files → status ≢ Failed
+        → TellsSteps files (written old) (written new) status
+    -- `ask`, or `ask --values`: of some bytes that were read, what is asked of their lines is written, if nothing fails
+    pub asked : (name : Text) → words ≡ name ∷ codes "ask" ∷ [] → status ≢ Failed → AnswersLines BestMove (written old) (written new) status
+    pub asked_values : (name : Text) → words ≡ name ∷ codes "ask" ∷ codes "--values" ∷ [] → status ≢ Failed
+        → AnswersLines Values (written old) (written new) status
+    -- `--version` or `-V` alone: the version is written, if nothing fails
+    pub version_word : (name : Text) → IsVersionWord name words → (status ≢ LineFaults)
+        × (status ≡ Clean → Appends (written old) (written new) version_line)
+
+  -- arguments that are refused
+  pub record RefusesTheRest : Type 0 where
+    -- they ask for neither help nor the version
+    pub usage : IsRefused words → AsksNot DisplayHelp words → AsksNot DisplayVersion words → (status ≡ Failed) × (new ≡ old)
+    -- they don't ask for help: with status 0 the version was written, and no more
+    pub version : IsRefused words → AsksNot DisplayHelp words → status ≡ Clean → Appends (written old) (written new) version_line
+    -- they have no line
+    pub no_line : IsRefused words → status ≢ LineFaults

@@ -1,20 +1,12 @@
 //! The program, run on its arguments.
-ghost use Rattle.std.specs.Prelude.{◌≡◌, ◌≢◌, ◌<◌, ◌⊎◌, ℕ, All, List, [], ◌∷◌, codes, false, true, vec_len};
+ghost use Rattle.std.specs.Prelude.{◌≡◌, ◌≢◌, ◌<◌, ℕ, List, false, true, vec_len};
 ghost use Rattle.std.specs.Io.KnownBytes.{Appends};
 ghost use Rattle.clap.specs.Values.{kind_of};
 ghost use Rattle.clap.specs.declared.error.kind.ErrorKind.TheVariants.{DisplayHelp, DisplayVersion};
-ghost use Rattle.kalah_rules.specs.Position.{Position};
-ghost use Rattle.kalah_jobs.specs.Line.Line.{Reads};
-ghost use Rattle.kalah_jobs.specs.Writing.Picture.{picture_of};
-ghost use Rattle.kalah_jobs.specs.Writing.Shown.{shown_of};
 ghost use Rattle.kalah_jobs.specs.declared.files.question.Question.{Question};
-ghost use Rattle.kalah_jobs.specs.declared.files.question.Question.TheVariants.{BestMove, Values};
-ghost use Rattle.kalah_cli.specs.Ask.{AnswersLines, StopsBetweenLines};
-ghost use Rattle.kalah_cli.specs.Moves.{moves_output};
-ghost use Rattle.kalah_cli.specs.Play.{PlaysBest};
-ghost use Rattle.kalah_cli.specs.Request.{Asked, AsksNot, IsInRange, IsPlainWord, IsRefused, IsTakenAs, IsVersionWord, ask, asked_for, texts_of};
-ghost use Rattle.kalah_cli.specs.Runs.{Begins, Does, IsOfLine, IsOfNoInput, IsUnread, version_line, IsUnmoved};
-ghost use Rattle.kalah_cli.specs.SolveFiles.{AnswersFiles, TellsSteps, TellsValues};
+ghost use Rattle.kalah_cli.specs.Ask.{StopsBetweenLines};
+ghost use Rattle.kalah_cli.specs.Request.{Asked, IsInRange, IsTakenAs, ask, asked_for, texts_of};
+ghost use Rattle.kalah_cli.specs.Runs.{Begins, Does, DoesByItsWords, DoesWhatIsAsked, IsOfLine, IsOfNoInput, IsUnmoved, IsUnread, RefusesTheRest, version_line};
 
 use crate::ask::run_ask;
 use crate::count::run_count;
@@ -154,55 +146,11 @@ pub fn run_words<R: Files + Input + StandardError + Threads + Wait + Sync, O: Si
 ) -> ExitStatus
     requires sink { O.has_failed out.old ≡ false }
     requires named { 0 < vec_len words }
-    // Accepted arguments: the program does what they ask for.
-    ensures does { (a : Asked) → IsTakenAs (texts_of words.items) a → Does a (O.written out.old) (O.written out.new) result }
-    // In any case: a prefix of what is asked for was written, and nothing else.
-    ensures begins { (a : Asked) → IsTakenAs (texts_of words.items) a → Begins a (O.written out.old) (O.written out.new) }
-    // Accepted arguments about a line that can't be read.
-    ensures unread_line { (a : Asked) (line : List ℕ) → IsTakenAs (texts_of words.items) a
-        → IsOfLine a line → IsUnread line → (result ≢ ExitStatus.Clean) × (out.new ≡ out.old) }
-    // Words that are taken as asking for a game that begins with a house that may not be moved.
-    ensures unmoved { (a : Asked) → IsTakenAs (texts_of words.items) a → IsUnmoved a → (result ≡ ExitStatus.Failed) × (out.new ≡ out.old) }
-    // `moves` and a line that can be read: its moves are written, if nothing fails.
-    ensures moves { (name line : List ℕ) (p : Position) → texts_of words.items ≡ name ∷ codes "moves" ∷ line ∷ [] → Reads line p
-        → (result ≢ ExitStatus.LineFaults) × (result ≡ ExitStatus.Clean → Appends (O.written out.old) (O.written out.new) (moves_output false p)) }
-    // `play` and a line that can be read: its game of best play is written, if nothing fails.
-    ensures played { (name line : List ℕ) (p : Position) → texts_of words.items ≡ name ∷ codes "play" ∷ line ∷ [] → Reads line p
-        → (result ≢ ExitStatus.LineFaults) × (result ≡ ExitStatus.Clean → PlaysBest false p (O.written out.old) (O.written out.new)) }
-    // `show`, or `show --plain`, and a line that is read: its picture is written, with what its moves are worth, or alone.
-    ensures shown { (name line : List ℕ) (p : Position) → texts_of words.items ≡ name ∷ codes "show" ∷ line ∷ [] → Reads line p
-        → (result ≢ ExitStatus.LineFaults) × (result ≡ ExitStatus.Clean → Appends (O.written out.old) (O.written out.new) (shown_of p)) }
-    ensures shown_plain { (name line : List ℕ) (p : Position) →
-        texts_of words.items ≡ name ∷ codes "show" ∷ codes "--plain" ∷ line ∷ [] → Reads line p
-        → (result ≢ ExitStatus.LineFaults) × (result ≡ ExitStatus.Clean → Appends (O.written out.old) (O.written out.new) (picture_of p)) }
-    // `moves` or `play` and a line that can't be read, but is no flag.
-    ensures unread { (name line : List ℕ) → (texts_of words.items ≡ name ∷ codes "moves" ∷ line ∷ [])
-        ⊎ (texts_of words.items ≡ name ∷ codes "play" ∷ line ∷ []) → IsPlainWord line
-        → IsUnread line → (result ≢ ExitStatus.Clean) × (out.new ≡ out.old) }
-    // `solve` or `values`, and files whose names are no flags: what is asked of them is written, if nothing fails.
-    ensures solved { (name : List ℕ) (files : List (List ℕ)) → texts_of words.items ≡ name ∷ codes "solve" ∷ files → All IsPlainWord files
-        → result ≢ ExitStatus.Failed → AnswersFiles files (O.written out.old) (O.written out.new) result }
-    ensures valued { (name : List ℕ) (files : List (List ℕ)) → texts_of words.items ≡ name ∷ codes "values" ∷ files → All IsPlainWord files
-        → result ≢ ExitStatus.Failed → TellsValues files (O.written out.old) (O.written out.new) result }
-    // `steps`, and files whose names are no flags: so are their steps.
-    ensures stepped { (name : List ℕ) (files : List (List ℕ)) → texts_of words.items ≡ name ∷ codes "steps" ∷ files → All IsPlainWord files
-        → result ≢ ExitStatus.Failed → TellsSteps files (O.written out.old) (O.written out.new) result }
-    // `ask`, or `ask --values`: of some bytes that were read, what is asked of their lines is written, if nothing fails.
-    ensures asked { (name : List ℕ) → texts_of words.items ≡ name ∷ codes "ask" ∷ [] → result ≢ ExitStatus.Failed
-        → AnswersLines BestMove (O.written out.old) (O.written out.new) result }
-    ensures asked_values { (name : List ℕ) → texts_of words.items ≡ name ∷ codes "ask" ∷ codes "--values" ∷ []
-        → result ≢ ExitStatus.Failed → AnswersLines Values (O.written out.old) (O.written out.new) result }
-    // Arguments that are refused, and ask for neither help nor the version.
-    ensures usage { IsRefused (texts_of words.items) → AsksNot DisplayHelp (texts_of words.items)
-        → AsksNot DisplayVersion (texts_of words.items) → (result ≡ ExitStatus.Failed) × (out.new ≡ out.old) }
-    // Arguments that are refused, and don't ask for help: with status 0 the version was written, and no more.
-    ensures version { IsRefused (texts_of words.items) → AsksNot DisplayHelp (texts_of words.items)
-        → result ≡ ExitStatus.Clean → Appends (O.written out.old) (O.written out.new) version_line }
-    // `--version` or `-V` alone: the version is written, if nothing fails.
-    ensures version_word { (name : List ℕ) → IsVersionWord name (texts_of words.items) → (result ≢ ExitStatus.LineFaults)
-        × (result ≡ ExitStatus.Clean → Appends (O.written out.old) (O.written out.new) version_line) }
-    // Arguments that are refused have no line.
-    ensures no_line { IsRefused (texts_of words.items) → result ≢ ExitStatus.LineFaults }
+    // Accepted arguments, in general, and by their words.
+    ensures accepted { DoesWhatIsAsked O.written (texts_of words.items) out.old out.new result }
+    ensures by_words { DoesByItsWords O.written (texts_of words.items) out.old out.new result }
+    // Arguments that are refused, as those that ask for help or for the version.
+    ensures refused { RefusesTheRest O.written (texts_of words.items) out.old out.new result }
     // If a write failed, the program failed. If it failed for another cause, nothing was written, except for answers of `ask`.
     ensures failed { O.has_failed out.new ≡ true → result ≡ ExitStatus.Failed }
     ensures unchanged { ((a : Asked) → IsTakenAs (texts_of words.items) a → IsOfNoInput a) → result ≡ ExitStatus.Failed
