@@ -3,6 +3,7 @@ use Rattle.std.proofs.Common.{length-append, ◌≡◌, ◌++◌, ℕ, Bool, con
 use Rattle.std.specs.Prelude.{find, ⊤}
 use Rattle.std.specs.List.{list_all, list_any}
 use Rattle.std.specs.Str.{bytes_eq}
+use Rattle.std.proofs.lemmas.Bool.{not-true}
 use Rattle.std.proofs.lemmas.Slice.Eq.{bytes_eq-Decides}
 
 -- each of the items has the fact
@@ -96,12 +97,8 @@ pub each_found : {X : Type 0} (name : X → List ℕ) (xs : List X) → distinct
 each_found name [] e = tt
 each_found name (x ∷ xs) e =
     let parts = both_hold _ (distinct name xs) e in
-    (rw ((bytes_eq-Decides (name x) (name x)).1 refl) refl, behind xs (none_pass _ xs (not_so _ parts.0)) (each_found name xs parts.1))
+    (rw ((bytes_eq-Decides (name x) (name x)).1 refl) refl, behind xs (none_pass _ xs (not-true _ parts.0)) (each_found name xs parts.1))
   where
-    not_so : (b : Bool) → not b ≡ true → b ≡ false
-    not_so false e = refl
-    not_so true e = cc
-
     behind : (ys : List _) → AllOf (λ y. bytes_eq (name x) (name y) ≡ false) ys → AllOf (λ y. find (λ z. bytes_eq (name z) (name y)) xs ≡ Some y) ys
         → AllOf (λ y. find (λ z. bytes_eq (name z) (name y)) (x ∷ xs) ≡ Some y) ys
     behind [] others found = tt

@@ -2,7 +2,7 @@
 use Rattle.std.proofs.Common.{◌⊎◌, ◌<◌, ◌≡◌, ℕ, List, [], ◌∷◌, ◌++◌, Bool, true, false, Option, Some, None, inl, inr, refl, sym, subst, take, ap, ◌∙◌, arith}
 use Rattle.std.specs.Prelude.{Contains, Err, Ok, OnOk, Result, ℤ, if◌then◌else◌}
 use Rattle.std.specs.Io.KnownBytes.{Appends, Keeps}
-use Rattle.std.proofs.KnownBytes.{Appends-trans}
+use Rattle.std.proofs.KnownBytes.{Appends-kept, Appends-nil, Appends-trans}
 use Rattle.std.proofs.lemmas.Bool.{cases_Bool}
 use Rattle.std.proofs.lemmas.Int.{ints}
 use Rattle.kalah_rules.specs.Position.{Position, HasEqualSides, final_margin, is_over, swapped, swept}
@@ -171,10 +171,7 @@ of_end boards p Holds even over holds = record { houses = []; final = p; is_best
 
 -- nothing was, and then these bytes
 pub kept_appends : (a b c : Option (List ℕ)) (bytes : List ℕ) → Keeps a b → Appends b c bytes → Appends a c bytes
-kept_appends None b c bytes p q = tt
-kept_appends (Some x) None c bytes p q = absurd p
-kept_appends (Some x) (Some y) None bytes p q = absurd q
-kept_appends (Some x) (Some y) (Some z) bytes p q = q ∙ ap (λ l. l ++ bytes) p
+kept_appends a b c bytes keeps rest = Appends-trans a b c [] bytes (Appends-kept a a b [] (Appends-nil a) keeps) rest
 
 -- a prefix of the line of a move was written, after nothing was
 pub begins_move : (old ready new : Option (List ℕ)) (move lines : List ℕ) → Keeps old ready → AppendsStart ready new move →

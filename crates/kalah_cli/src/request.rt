@@ -1,10 +1,10 @@
 //! The requests that a command line can make.
-ghost use Rattle.std.specs.Prelude.{◌≡◌, ◌≤◌, ℕ, All, List, [], ◌∷◌, IfErr, IfOk, MatchResult, Some, codes, false, is_some, map, option_and_then, true};
+ghost use Rattle.std.specs.Prelude.{◌≡◌, ◌≤◌, ◌↔◌, ℕ, All, List, [], ◌∷◌, IfErr, IfOk, IfSome, IsSome, MatchResult, Some, codes, false, is_some, map, option_and_then, true};
 ghost use Rattle.clap.specs.Faults.{fault_of};
 ghost use Rattle.clap.specs.Kinds.{FailsBy};
 ghost use Rattle.clap.specs.Simple.{subcommand_rows_of};
 ghost use Rattle.clap.specs.Walk.{first_of, rows_of};
-ghost use Rattle.clap.specs.Words.{found_of, kind_of};
+ghost use Rattle.clap.specs.Words.{found_of, kind_of, subcommand_name_of};
 ghost use Rattle.clap.specs.declared.error.kind.ErrorKind.TheVariants.{OutOfMemory};
 ghost use Rattle.kalah_solve.specs.Table.Entries.{most_entries};
 ghost use Rattle.kalah_cli.specs.Command.{kalah_app};
@@ -17,7 +17,7 @@ use std::alloc::{AllocError, Global};
 use std::convert::AsStr;
 
 /// What the arguments ask the program to do.
-#[derive(Drop)]
+#[derive(Drop, PartialEq, Eq)]
 pub enum Request<'a> {
     /// Print the moves of the position that this line writes, and draw boards or not.
     Moves {
@@ -54,7 +54,7 @@ pub enum Request<'a> {
 }
 
 /// What is asked of the positions of files, and how they are answered.
-#[derive(Drop)]
+#[derive(Drop, PartialEq, Eq)]
 pub struct FilesRequest<'a> {
     /// What is asked of each position.
     pub question: Question,
@@ -220,6 +220,16 @@ fn count_request<'a>(found: &ArgMatches<'a>) -> Request<'a>
     }
 }
 
+// Returns the matches of the subcommand of this name, if it was met.
+fn matches_of<'m, 'a>(matches: &'m ArgMatches<'a>, name: &str) -> Option<&'m ArgMatches<'a>>
+    requires { IsTaken (subcommand_rows_of matches.now) }
+    ensures met { IsSome result ↔ (subcommand_name_of matches.now ≡ Some name.now) }
+    ensures rows { IfSome result (λ found. subcommand_rows_of matches.now ≡ Some (name.now, rows_of (found_of found.now))) }
+    ensures taken { IfSome result (λ found. AreMatches name.now (rows_of (found_of found.now))) }
+{
+    matches.subcommand_matches(name)
+}
+
 // Returns the request of the matches of a subcommand, which must have what it needs.
 fn requested<'a>(alloc: Global, matches: &ArgMatches<'a>) -> Result<Request<'a>, AllocError>
     requires { IsTaken (subcommand_rows_of matches.now) }
@@ -227,28 +237,28 @@ fn requested<'a>(alloc: Global, matches: &ArgMatches<'a>) -> Result<Request<'a>,
         (λ r. option_and_then asked_by (subcommand_rows_of matches.now) ≡ Some (asked_for r)) }
     ensures range { IfOk result IsInRange }
 {
-    if let Some(found) = matches.subcommand_matches("moves") {
+    if let Some(found) = matches_of(matches, "moves") {
         return Ok(moves_request(found));
     }
-    if let Some(found) = matches.subcommand_matches("play") {
+    if let Some(found) = matches_of(matches, "play") {
         return Ok(play_request(found));
     }
-    if let Some(found) = matches.subcommand_matches("solve") {
+    if let Some(found) = matches_of(matches, "solve") {
         return files_request(alloc, Question::BestMove, found);
     }
-    if let Some(found) = matches.subcommand_matches("values") {
+    if let Some(found) = matches_of(matches, "values") {
         return files_request(alloc, Question::Values, found);
     }
-    if let Some(found) = matches.subcommand_matches("ask") {
+    if let Some(found) = matches_of(matches, "ask") {
         return Ok(ask_request(found));
     }
-    if let Some(found) = matches.subcommand_matches("steps") {
+    if let Some(found) = matches_of(matches, "steps") {
         return files_request(alloc, Question::Steps, found);
     }
-    if let Some(found) = matches.subcommand_matches("show") {
+    if let Some(found) = matches_of(matches, "show") {
         return Ok(show_request(found));
     }
-    let found = matches.subcommand_matches("count").unwrap();
+    let found = matches_of(matches, "count").unwrap();
     Ok(count_request(found))
 }
 

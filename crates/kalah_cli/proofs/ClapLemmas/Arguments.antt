@@ -15,7 +15,7 @@ use Rattle.clap.specs.Faults.{check_fault, entered_fault, fault_of, level_fault}
 use Rattle.clap.specs.declared.builder.value_parser.Reading.{Reading}
 use Rattle.clap.specs.declared.builder.value_parser.Reading.TheVariants.{AsWritten}
 use Rattle.kalah_cli.proofs.Items.{AllOf, all_pass, both_all, both_hold, distinct, each_found, found_all, found_any, found_passes, more_than, none_pass}
-use Rattle.kalah_cli.proofs.ClapLemmas.FoundRows.{default_made, found_row, given_row, row_in, rows_stay, values_pass}
+use Rattle.kalah_cli.proofs.ClapLemmas.FoundRows.{default_made, given_row, row_in, rows_stay, values_pass}
 use Rattle.kalah_cli.proofs.ClapLemmas.KeptRows.{Gives, fills, kept_level, parts_of}
 
 -- ---- the row of an argument
@@ -116,7 +116,7 @@ level_has s words usable e id a found =
     let own : a.id ≡ id = (bytes_eq-Decides a.id id).0 (found_passes (λ b. bytes_eq b.id id) s.rules a found) in record {
       fits = λ r is.
           let named : r.id ≡ id = (bytes_eq-Decides r.id id).0 (found_passes (λ r. bytes_eq r.id id) rows r is) in
-          found_row (FitsIn s.rules) id rows r kept is a (ap (arg_by_id s.rules) named ∙ found);
+          found_all (FitsIn s.rules) (λ r. bytes_eq r.id id) rows r kept is a (ap (arg_by_id s.rules) named ∙ found);
       there = λ wanted. subst (λ i. has_row i rows ≡ true) own (go (is_empty a.defaults) a.required (is_given a.id rows) wanted
           (found_all _ (λ b. bytes_eq b.id id) s.rules a given found)
           (found_all _ (λ b. bytes_eq b.id id) s.rules a (defaults_made s.rules start) found)

@@ -13,7 +13,7 @@ use Rattle.clap.specs.Walk.{Row, Rule, Text, at_row, default_rows, has_row, more
 use Rattle.clap.specs.Takes.{is_given}
 use Rattle.clap.specs.declared.builder.value_parser.ValueParser.{ValueParser}
 use Rattle.clap.specs.declared.parser.matches.ValueSource.{ValueSource}
-use Rattle.kalah_cli.proofs.Items.{AllOf, found_all, any_found, or_later}
+use Rattle.kalah_cli.proofs.Items.{AllOf, any_found, or_later}
 
 -- values of no fault are accepted by the parser
 pub values_pass : (ignore_case : Bool) (p : ValueParser) (vs : List Text) → values_kinds ignore_case p vs ≡ [] → AllOf (Accepts ignore_case p) vs
@@ -82,10 +82,6 @@ given_row id rows e = go (find (λ r. bytes_eq r.id id) rows) refl e
         → (r : Row) × (find (λ r. bytes_eq r.id id) rows ≡ Some r)
     go None is f = cc
     go (Some r) is f = (r, is)
-
--- what holds of all rows holds of the row of an id
-pub found_row : (P : Row → Type 0) (id : Text) (rows : List Row) (r : Row) → AllOf P rows → find (λ r. bytes_eq r.id id) rows ≡ Some r → P r
-found_row P id rows r all found = found_all P (λ r. bytes_eq r.id id) rows r all found
 
 -- a row stays there while all defaults are filled in
 pub rows_stay : (id : Text) (c : List Rule) (rows : List Row) → has_row id rows ≡ true → has_row id (fold with_default rows c) ≡ true

@@ -1,179 +1,116 @@
-use crate::request::{Request, parse};
+use crate::request::{FilesRequest, Request, parse};
 use clap::error::ErrorKind;
 use kalah_jobs::Question;
 use std::process::Abort;
 
-// What the arguments ask for, if they are accepted.
-fn asked<'a>(rt: &(impl Abort + AllocGlobal), words: &'a [&'a str]) -> Option<Request<'a>> {
-    parse(rt.alloc(), words).ok()
+// The arguments are accepted, and ask for this.
+fn assert_asks(rt: &(impl Abort + AllocGlobal), words: &[&str], request: &Request<'_>) {
+    let is_asked = parse(rt.alloc(), words).is_ok_and(|asked| asked == *request);
+    assert!(rt; is_asked, "{words:?}");
 }
 
-// The arguments ask this of files, with these numbers of workers and of entries.
-fn asks(
-    rt: &(impl Abort + AllocGlobal),
-    words: &[&str],
-    question: Question,
-    numbers: (u32, u32),
-    files: &[&str],
-) -> bool {
-    match asked(rt, words) {
-        Some(Request::Files(request)) => {
-            request.question == question
-                && (request.workers, request.table) == numbers
-                && request.files.as_slice() == files
-        }
-        _ => false,
-    }
-}
+const LINE: &str = "1,1/0 1,1/0";
 
-fn fails_with(rt: &(impl Abort + AllocGlobal), words: &[&str], kind: ErrorKind) -> bool {
-    match parse(rt.alloc(), words) {
-        Err(error) => error.kind() == kind,
-        Ok(_) => false,
-    }
-}
-
-// Arguments of `moves`, and whether boards are drawn.
-const MOVES: &[(&[&str], bool)] = &[
-    (&["kalah", "moves", "1,1/0 1,1/0"], false),
-    (&["k", "moves", "--boards", "1,1/0 1,1/0"], true),
-    (&["kalah", "moves", "1,1/0 1,1/0", "--boards"], true),
-];
-
-// The arguments ask for the moves of the position, and to draw boards or not.
-fn asks_moves(rt: &(impl Abort + AllocGlobal), words: &[&str], is_drawn: bool) -> bool {
-    match asked(rt, words) {
-        Some(Request::Moves { line, boards }) => line == "1,1/0 1,1/0" && boards == is_drawn,
-        _ => false,
-    }
+// The moves of the line, with boards drawn or not.
+fn moves(boards: bool) -> Request<'static> {
+    Request::Moves { line: LINE, boards }
 }
 
 #[test]
 fn reads_moves(rt: HostRuntime) {
-    for (words, is_drawn) in MOVES {
-        assert!(rt; asks_moves(&rt, *words, *is_drawn), "{words:?}");
-    }
+    assert_asks(&rt, &["kalah", "moves", LINE], &moves(false));
+    assert_asks(&rt, &["k", "moves", "--boards", LINE], &moves(true));
+    assert_asks(&rt, &["kalah", "moves", LINE, "--boards"], &moves(true));
 }
 
-// Words of `play`, the entries of the table, whether boards are drawn, and the house that begins.
-const GAMES: &[(&[&str], u32, bool, Option<u8>)] = &[
-    (&["kalah", "play", "1/0 1/0"], 65536, false, None),
-    (
-        &["k", "play", "--boards", "1/0 1/0", "--table", "1"],
-        1,
-        true,
-        None,
-    ),
-    (
-        &["kalah", "play", "--table=1048576", "--", "1/0 1/0"],
-        1048576,
-        false,
-        None,
-    ),
-    (
-        &["kalah", "play", "--first", "6", "1/0 1/0"],
-        65536,
-        false,
-        Some(6),
-    ),
-    (
-        &["kalah", "play", "1/0 1/0", "--boards", "--first=1"],
-        65536,
-        true,
-        Some(1),
-    ),
-];
-
-// The words ask for the game, with a table of this size, to draw boards or not, and to begin with this house or none.
-fn asks_game(
-    rt: &(impl Abort + AllocGlobal),
-    words: &[&str],
-    entries: u32,
-    is_drawn: bool,
-    house: Option<u8>,
-) -> bool {
-    match asked(rt, words) {
-        Some(
-            Request::Play {
-                line,
-                table,
-                boards,
-                first,
-            },
-        ) => line == "1/0 1/0" && (table, boards, first) == (entries, is_drawn, house),
-        _ => false,
+// The game from the line on, found with a table of this size, with boards drawn or not, and behind the move of a house or none.
+fn game(table: u32, boards: bool, first: Option<u8>) -> Request<'static> {
+    Request::Play {
+        line: LINE,
+        table,
+        boards,
+        first,
     }
 }
 
 #[test]
 fn reads_play(rt: HostRuntime) {
-    for (words, entries, is_drawn, house) in GAMES {
-        assert!(rt;
-            asks_game(&rt, *words, *entries, *is_drawn, *house),
-            "{words:?}"
-        );
-    }
+    assert_asks(&rt, &["kalah", "play", LINE], &game(65536, false, None));
+    let words = ["k", "play", "--boards", LINE, "--table", "1"];
+    assert_asks(&rt, &words, &game(1, true, None));
+    let words = ["kalah", "play", "--table=1048576", "--", LINE];
+    assert_asks(&rt, &words, &game(1048576, false, None));
+    let words = ["kalah", "play", "--first", "6", LINE];
+    assert_asks(&rt, &words, &game(65536, false, Some(6)));
+    let words = ["kalah", "play", LINE, "--boards", "--first=1"];
+    assert_asks(&rt, &words, &game(65536, true, Some(1)));
 }
 
-// Words of `show`, the entries of the table and whether the picture is plain.
-const SHOWN: &[(&[&str], u32, bool)] = &[
-    (&["kalah", "show", "1/0 1/0"], 65536, false),
-    (&["kalah", "show", "--plain", "1/0 1/0"], 65536, true),
-    (&["kalah", "show", "1/0 1/0", "--table=1"], 1, false),
-];
-
-// The words ask for the picture, with a table of this size, plain or not.
-fn asks_picture(
-    rt: &(impl Abort + AllocGlobal),
-    words: &[&str],
-    entries: u32,
-    is_plain: bool,
-) -> bool {
-    match asked(rt, words) {
-        Some(Request::Show { line, table, plain }) => {
-            line == "1/0 1/0" && (table, plain) == (entries, is_plain)
-        }
-        _ => false,
+// The picture of the line, plain or with what its moves are worth, found with a table of this size.
+fn picture(table: u32, plain: bool) -> Request<'static> {
+    Request::Show {
+        line: LINE,
+        table,
+        plain,
     }
 }
 
 #[test]
 fn reads_show(rt: HostRuntime) {
-    for (words, entries, is_plain) in SHOWN {
-        assert!(rt; asks_picture(&rt, *words, *entries, *is_plain), "{words:?}");
-    }
+    assert_asks(&rt, &["kalah", "show", LINE], &picture(65536, false));
+    assert_asks(
+        &rt,
+        &["kalah", "show", "--plain", LINE],
+        &picture(65536, true),
+    );
+    assert_asks(
+        &rt,
+        &["kalah", "show", LINE, "--table=1"],
+        &picture(1, false),
+    );
 }
 
-// Words of `count`, and the depth.
-const DEPTHS: &[(&[&str], u8)] = &[
-    (&["kalah", "count", "0", "1/0 1/0"], 0),
-    (&["kalah", "count", "20", "1/0 1/0"], 20),
-    (&["k", "count", "--", "+007", "1/0 1/0"], 7),
-];
-
-// The words ask for the ways of that many moves.
-fn asks_ways(rt: &(impl Abort + AllocGlobal), words: &[&str], moves: u8) -> bool {
-    match asked(rt, words) {
-        Some(Request::Count { depth, line }) => line == "1/0 1/0" && depth == moves,
-        _ => false,
-    }
+// The number of ways of that many moves to play on from the line.
+fn ways(depth: u8) -> Request<'static> {
+    Request::Count { depth, line: LINE }
 }
 
 #[test]
 fn reads_count(rt: HostRuntime) {
-    for (words, moves) in DEPTHS {
-        assert!(rt; asks_ways(&rt, *words, *moves), "{words:?}");
-    }
+    assert_asks(&rt, &["kalah", "count", "0", LINE], &ways(0));
+    assert_asks(&rt, &["kalah", "count", "20", LINE], &ways(20));
+    assert_asks(&rt, &["k", "count", "--", "+007", LINE], &ways(7));
+}
+
+// The question of each line of these files, with these numbers of workers and of entries, and with the progress shown or not.
+fn batch<'a>(
+    rt: &(impl Abort + AllocGlobal),
+    question: Question,
+    (workers, table): (u32, u32),
+    progress: bool,
+    files: &[&'a str],
+) -> Request<'a> {
+    Request::Files(FilesRequest {
+        question,
+        workers,
+        table,
+        progress,
+        files: files.to_vec(rt.alloc()).expect(rt, "no memory"),
+    })
 }
 
 // The arguments of a subcommand that answers files, with and without options.
 fn assert_reads(rt: &(impl Abort + AllocGlobal), name: &str, question: Question) {
     let words = ["kalah", name, "a", "b"];
-    assert!(rt; asks(rt, &words, question, (4, 65536), &["a", "b"]));
+    assert_asks(
+        rt,
+        &words,
+        &batch(rt, question, (4, 65536), false, &["a", "b"]),
+    );
     let words = ["kalah", name, "--workers", "64", "a"];
-    assert!(rt; asks(rt, &words, question, (64, 65536), &["a"]));
+    assert_asks(rt, &words, &batch(rt, question, (64, 65536), false, &["a"]));
     let words = ["k", name, "a", "--table=1", "b"];
-    assert!(rt; asks(rt, &words, question, (4, 1), &["a", "b"]));
+    assert_asks(rt, &words, &batch(rt, question, (4, 1), false, &["a", "b"]));
 }
 
 #[test]
@@ -185,41 +122,43 @@ fn reads_solve_and_values(rt: HostRuntime) {
 #[test]
 fn reads_steps(rt: HostRuntime) {
     let words = ["kalah", "steps", "a", "b"];
-    assert!(rt; asks(&rt, &words, Question::Steps, (4, 1), &["a", "b"]));
+    assert_asks(
+        &rt,
+        &words,
+        &batch(&rt, Question::Steps, (4, 1), false, &["a", "b"]),
+    );
     let words = ["k", "steps", "a", "--workers=64", "b", "--progress"];
-    assert!(rt; asks(&rt, &words, Question::Steps, (64, 1), &["a", "b"]));
+    assert_asks(
+        &rt,
+        &words,
+        &batch(&rt, Question::Steps, (64, 1), true, &["a", "b"]),
+    );
 }
 
-// Arguments of `ask`, the question that they ask of each line, and the entries of the table.
-const ASKED: &[(&[&str], Question, u32)] = &[
-    (&["kalah", "ask"], Question::BestMove, 65536),
-    (&["k", "ask", "--values"], Question::Values, 65536),
-    (&["kalah", "ask", "--table=1"], Question::BestMove, 1),
-    (
-        &["kalah", "ask", "--table", "1048576", "--values"],
-        Question::Values,
-        1048576,
-    ),
-];
-
-// The arguments ask this of the standard input, with a table of `entries` entries.
-fn asks_input(
-    rt: &(impl Abort + AllocGlobal),
-    words: &[&str],
-    asked_for: Question,
-    entries: u32,
-) -> bool {
-    match asked(rt, words) {
-        Some(Request::Ask { question, table }) => (question, table) == (asked_for, entries),
-        _ => false,
-    }
+// The question of each line of the standard input, with a table of this size.
+fn lines(question: Question, table: u32) -> Request<'static> {
+    Request::Ask { question, table }
 }
 
 #[test]
 fn reads_ask(rt: HostRuntime) {
-    for (words, question, entries) in ASKED {
-        assert!(rt; asks_input(&rt, *words, *question, *entries), "{words:?}");
-    }
+    assert_asks(&rt, &["kalah", "ask"], &lines(Question::BestMove, 65536));
+    assert_asks(
+        &rt,
+        &["k", "ask", "--values"],
+        &lines(Question::Values, 65536),
+    );
+    assert_asks(
+        &rt,
+        &["kalah", "ask", "--table=1"],
+        &lines(Question::BestMove, 1),
+    );
+    let words = ["kalah", "ask", "--table", "1048576", "--values"];
+    assert_asks(&rt, &words, &lines(Question::Values, 1048576));
+}
+
+fn fails_with(rt: &(impl Abort + AllocGlobal), words: &[&str], kind: ErrorKind) -> bool {
+    parse(rt.alloc(), words).is_err_and(|error| error.kind() == kind)
 }
 
 // Arguments that make no request, and the kind of their error.

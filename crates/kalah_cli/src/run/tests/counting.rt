@@ -1,6 +1,6 @@
 //! Runs of `kalah count`.
 use super::{assert_answers, assert_stops, assert_usage};
-use crate::status::ExitStatus;
+use crate::status::ExitStatus::{Clean, LineFaults};
 
 // The depth and the line, and what is printed for them.
 const COUNTED: &[(&str, &str, &str)] = &[
@@ -28,12 +28,7 @@ const COUNTED: &[(&str, &str, &str)] = &[
 #[test]
 fn counts_the_ways_to_play_on(rt: HostRuntime) {
     for (depth, line, text) in COUNTED {
-        assert_answers(
-            &rt,
-            &["count", *depth, *line],
-            ExitStatus::Clean,
-            (*text, ""),
-        );
+        assert_answers(&rt, &["count", *depth, *line], Clean, (*text, ""));
     }
 }
 
@@ -43,7 +38,7 @@ fn tells_the_fault_of_a_line_that_is_not_read(rt: HostRuntime) {
         assert_answers(
             &rt,
             &["count", depth, "01/0 1/0"],
-            ExitStatus::LineFaults,
+            LineFaults,
             ("", "fault shape\n"),
         );
     }

@@ -1,7 +1,7 @@
 //! What the help says, and the version.
 use super::{Host, assert_answers, run_on};
 use crate::help;
-use crate::status::ExitStatus;
+use crate::status::ExitStatus::{Clean, Failed};
 use std::str;
 
 const OF_THE_PROGRAM: &[&str] = &[
@@ -85,7 +85,7 @@ const OF_COUNT: &[&str] = &[
 // The help that these words ask for has each of these parts in it.
 fn assert_says(rt: &impl Host, words: &[&str], parts: &[&str]) {
     let run = run_on(rt, words);
-    assert!(rt; run.status == ExitStatus::Clean);
+    assert!(rt; run.status == Clean);
     let text = str::from_utf8(run.out.as_slice()).expect(rt, "no text");
     for part in parts {
         assert!(rt; text.contains(*part), "no {part}");
@@ -125,7 +125,7 @@ const WITH_QUOTES: &[&[&str]] = &[
 // Whether standard error speaks of quotes.
 fn speaks_of_quotes(rt: &impl Host, words: &[&str]) -> bool {
     let run = run_on(rt, words);
-    assert!(rt; run.status == ExitStatus::Failed && run.out.is_empty());
+    assert!(rt; run.status == Failed && run.out.is_empty());
     let text = str::from_utf8(run.err.as_slice()).expect(rt, "no text");
     text.contains("put it in quotes: '1,1/0 1,1/0'\n")
 }
@@ -152,6 +152,6 @@ const OF_THE_VERSION: &[&[&str]] = &[
 #[test]
 fn the_version_is_one_line(rt: HostRuntime) {
     for words in OF_THE_VERSION {
-        assert_answers(&rt, *words, ExitStatus::Clean, ("kalah 1.1.0\n", ""));
+        assert_answers(&rt, *words, Clean, ("kalah 1.1.0\n", ""));
     }
 }

@@ -1,14 +1,14 @@
 //! Files of odd bytes, and names that no file has.
 use super::{Host, assert_answers, write_file};
-use crate::status::ExitStatus;
+use crate::status::ExitStatus::{Clean, Failed, LineFaults};
 
 // The file of this name and these bytes is answered by this text.
 fn assert_file_answers(rt: &impl Host, name: &str, bytes: &[u8], text: &str) {
     write_file(rt, name, bytes);
     let status = if text.contains("fault") {
-        ExitStatus::LineFaults
+        LineFaults
     } else {
-        ExitStatus::Clean
+        Clean
     };
     assert_answers(rt, &["solve", name], status, (text, ""));
 }
@@ -61,12 +61,7 @@ fn assert_is_a_name(rt: &impl Host, name: &str) {
 // No file has this name.
 fn assert_is_not_read(rt: &impl Host, name: &str) {
     let text = format!(in rt.alloc(); "kalah: cannot read {name}\n").expect(rt, "no memory");
-    assert_answers(
-        rt,
-        &["solve", name],
-        ExitStatus::Failed,
-        ("", text.as_str()),
-    );
+    assert_answers(rt, &["solve", name], Failed, ("", text.as_str()));
 }
 
 #[test]

@@ -1,6 +1,6 @@
 //! Runs of `kalah play`, and of `kalah moves` with boards.
 use super::{Host, assert_answers, assert_stops};
-use crate::status::ExitStatus;
+use crate::status::ExitStatus::{Clean, LineFaults};
 
 // Lines, and the games that best play leads to from their positions.
 const GAMES: &[(&str, &str)] = &[
@@ -58,12 +58,7 @@ const GAMES: &[(&str, &str)] = &[
 // This game is played, with a table of one entry and of many.
 fn assert_plays(rt: &impl Host, line: &str, game: &str) {
     for table in ["1", "65536"] {
-        assert_answers(
-            rt,
-            &["play", "--table", table, line],
-            ExitStatus::Clean,
-            (game, ""),
-        );
+        assert_answers(rt, &["play", "--table", table, line], Clean, (game, ""));
     }
 }
 
@@ -126,7 +121,7 @@ const DRAWN: &[(&[&str], &str)] = &[
 #[test]
 fn draws_boards_below_their_lines(rt: HostRuntime) {
     for (words, text) in DRAWN {
-        assert_answers(&rt, *words, ExitStatus::Clean, (*text, ""));
+        assert_answers(&rt, *words, Clean, (*text, ""));
     }
 }
 
@@ -141,7 +136,7 @@ const UNREAD: &[(&[&str], &str)] = &[
 #[test]
 fn tells_the_fault_of_an_unread_line(rt: HostRuntime) {
     for (words, fault) in UNREAD {
-        assert_answers(&rt, *words, ExitStatus::LineFaults, ("", *fault));
+        assert_answers(&rt, *words, LineFaults, ("", *fault));
     }
 }
 

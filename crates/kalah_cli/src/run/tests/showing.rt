@@ -1,6 +1,6 @@
 //! Runs of `kalah show`, and of `kalah play` with a first house.
 use super::{assert_answers, assert_stops, assert_usage};
-use crate::status::ExitStatus;
+use crate::status::ExitStatus::{Clean, Failed, LineFaults};
 
 // Words, and the picture that they print.
 const SHOWN: &[(&[&str], &str)] = &[
@@ -56,7 +56,7 @@ over, margin 3
 #[test]
 fn draws_a_position_with_what_its_moves_are_worth(rt: HostRuntime) {
     for (words, text) in SHOWN {
-        assert_answers(&rt, *words, ExitStatus::Clean, (*text, ""));
+        assert_answers(&rt, *words, Clean, (*text, ""));
     }
 }
 
@@ -86,7 +86,7 @@ const PLAYED: &[(&[&str], &str)] = &[
 #[test]
 fn plays_from_a_first_house_on(rt: HostRuntime) {
     for (words, game) in PLAYED {
-        assert_answers(&rt, *words, ExitStatus::Clean, (*game, ""));
+        assert_answers(&rt, *words, Clean, (*game, ""));
     }
 }
 
@@ -109,7 +109,7 @@ const UNMOVED: &[(&[&str], &str)] = &[
 #[test]
 fn says_which_house_may_not_be_moved(rt: HostRuntime) {
     for (words, said) in UNMOVED {
-        assert_answers(&rt, *words, ExitStatus::Failed, ("", *said));
+        assert_answers(&rt, *words, Failed, ("", *said));
     }
 }
 
@@ -138,7 +138,7 @@ fn tells_the_fault_of_a_line_before_its_house(rt: HostRuntime) {
         ["play", "--first=3", "01/0 1/0"],
     ] {
         let fault = ("", "fault shape\n");
-        assert_answers(&rt, words.as_slice(), ExitStatus::LineFaults, fault);
+        assert_answers(&rt, words.as_slice(), LineFaults, fault);
     }
 }
 

@@ -1,6 +1,6 @@
 //! Runs of `kalah solve` over files that are written first.
 use super::{Host, assert_answers, run_failing, write_file};
-use crate::status::ExitStatus;
+use crate::status::ExitStatus::{Clean, Failed, LineFaults};
 use std::fs;
 
 const ONE_AND_TWO: &str = "1/0 1/0\n2/0 2/0";
@@ -31,12 +31,7 @@ each_b.txt:2 -2 house 1
 // With these options each line of the batch is answered, in order.
 fn assert_answers_batch(rt: &impl Host, options: &[&str]) {
     let words = solve_words(rt, options, BATCH);
-    assert_answers(
-        rt,
-        words.as_slice(),
-        ExitStatus::LineFaults,
-        (BATCH_ANSWERS, ""),
-    );
+    assert_answers(rt, words.as_slice(), LineFaults, (BATCH_ANSWERS, ""));
 }
 
 const OPTIONS: &[&[&str]] = &[
@@ -61,14 +56,9 @@ fn answers_each_line_of_each_file(rt: HostRuntime) {
 fn files_without_a_fault_are_clean(rt: HostRuntime) {
     write_file(&rt, "clean_a.txt", b"");
     write_file(&rt, "clean_b.txt", ONE_AND_TWO.as_bytes());
-    assert_answers(&rt, &["solve", "clean_a.txt"], ExitStatus::Clean, ("", ""));
+    assert_answers(&rt, &["solve", "clean_a.txt"], Clean, ("", ""));
     let want = "clean_b.txt:1 0 house 1\nclean_b.txt:2 -2 house 1\n";
-    assert_answers(
-        &rt,
-        &["solve", "clean_b.txt"],
-        ExitStatus::Clean,
-        (want, ""),
-    );
+    assert_answers(&rt, &["solve", "clean_b.txt"], Clean, (want, ""));
 }
 
 #[test]
@@ -90,7 +80,7 @@ rules.txt:6 16 over
         assert_answers(
             &rt,
             &["solve", "--table", table, "rules.txt"],
-            ExitStatus::LineFaults,
+            LineFaults,
             (want, ""),
         );
     }
@@ -103,7 +93,7 @@ fn games_that_are_over(rt: HostRuntime) {
         assert_answers(
             &rt,
             &[word, "ended.txt"],
-            ExitStatus::Clean,
+            Clean,
             (
                 "ended.txt:1 0 over\nended.txt:2 0 over\nended.txt:3 130 over\n",
                 "",
@@ -118,7 +108,7 @@ fn too_many_files(rt: HostRuntime) {
     let files = vec![in rt.alloc(); "many_a.txt"; 257].expect(&rt, "no memory");
     let words = solve_words(&rt, &[], files.as_slice());
     let text = "kalah: too many files\n";
-    assert_answers(&rt, words.as_slice(), ExitStatus::Failed, ("", text));
+    assert_answers(&rt, words.as_slice(), Failed, ("", text));
 }
 
 #[test]
@@ -126,7 +116,7 @@ fn too_many_lines(rt: HostRuntime) {
     let feeds = vec![in rt.alloc(); b'\n'; 1_000_001].expect(&rt, "no memory");
     write_file(&rt, "feeds.txt", feeds.as_slice());
     let text = "kalah: too many lines\n";
-    assert_answers(&rt, &["solve", "feeds.txt"], ExitStatus::Failed, ("", text));
+    assert_answers(&rt, &["solve", "feeds.txt"], Failed, ("", text));
 }
 
 // A file may have 67,108,864 bytes, but not one more.
@@ -135,20 +125,10 @@ fn a_file_of_the_greatest_size_is_read(rt: HostRuntime) {
     let bytes = vec![in rt.alloc(); b'x'; 67_108_865].expect(&rt, "no memory");
     write_file(&rt, "large.txt", &bytes[1..]);
     let long = "large.txt:1 fault long\n";
-    assert_answers(
-        &rt,
-        &["solve", "large.txt"],
-        ExitStatus::LineFaults,
-        (long, ""),
-    );
+    assert_answers(&rt, &["solve", "large.txt"], LineFaults, (long, ""));
     write_file(&rt, "large.txt", bytes.as_slice());
     let unread = "kalah: cannot read large.txt\n";
-    assert_answers(
-        &rt,
-        &["solve", "large.txt"],
-        ExitStatus::Failed,
-        ("", unread),
-    );
+    assert_answers(&rt, &["solve", "large.txt"], Failed, ("", unread));
     fs::remove_file(&rt, "large.txt").expect(&rt, "not removed");
 }
 

@@ -1,6 +1,7 @@
 //! Runs of `kalah values` over files that are written first.
-use super::{Host, assert_answers, assert_stops, write_file};
+use super::{assert_answers, assert_stops, write_file};
 use crate::status::ExitStatus;
+use crate::status::ExitStatus::{Clean, Failed, LineFaults};
 
 const FOUR_LINES: &str = "1,1/0 1,1/0\n2/0 2/0\n0,0/3 1,2/4\n01/0 1/0\n";
 
@@ -11,45 +12,32 @@ four.txt:3 -4 over
 four.txt:4 fault shape
 ";
 
-// With `workers` workers and `table` entries the values of the four lines are printed.
-fn assert_tells_four(rt: &impl Host, workers: &str, table: &str) {
-    assert_answers(
-        rt,
-        &["values", "--workers", workers, "four.txt", "--table", table],
-        ExitStatus::LineFaults,
-        (FOUR_ANSWERS, ""),
-    );
-}
-
 #[test]
 fn tells_the_value_of_each_move(rt: HostRuntime) {
     write_file(&rt, "four.txt", FOUR_LINES.as_bytes());
     for workers in ["1", "2", "64"] {
         for table in ["1", "65536"] {
-            assert_tells_four(&rt, workers, table);
+            let words = ["values", "--workers", workers, "four.txt", "--table", table];
+            assert_answers(&rt, &words, LineFaults, (FOUR_ANSWERS, ""));
         }
     }
 }
 
 // Files, and their answers.
 const ANSWERED: &[(&[u8], &str, ExitStatus)] = &[
-    (b"", "", ExitStatus::Clean),
-    (b"1,1/9 1,1/4", "v.txt:1 1:3 2:7\n", ExitStatus::Clean),
+    (b"", "", Clean),
+    (b"1,1/9 1,1/4", "v.txt:1 1:3 2:7\n", Clean),
     (
         b"1,0/0 0,2/0 e\r\n1,0/0 0,2/0\n",
         "v.txt:1 1:-1\nv.txt:2 1:1\n",
-        ExitStatus::Clean,
+        Clean,
     ),
     (
         b"\xFF\xFE\n1/0 1/0",
         "v.txt:1 fault shape\nv.txt:2 1:0\n",
-        ExitStatus::LineFaults,
+        LineFaults,
     ),
-    (
-        b"99/0 99/0",
-        "v.txt:1 fault seeds\n",
-        ExitStatus::LineFaults,
-    ),
+    (b"99/0 99/0", "v.txt:1 fault seeds\n", LineFaults),
 ];
 
 #[test]
@@ -73,7 +61,7 @@ const NOT_READ: &[(&[&str], &str)] = &[
 #[test]
 fn values_and_steps_of_files_that_are_not_read(rt: HostRuntime) {
     for (words, text) in NOT_READ {
-        assert_answers(&rt, *words, ExitStatus::Failed, ("", *text));
+        assert_answers(&rt, *words, Failed, ("", *text));
     }
 }
 
