@@ -1,4 +1,5 @@
 pub mod SplitLines
+pub mod FirstEntries
 pub mod OneLines
 pub mod JobCounts
 pub mod OneEntry

@@ -1,5 +1,6 @@
 pub mod Cuts
 pub mod Numbers
+pub mod OnePass
 pub mod Houses
 pub mod Forms
 pub mod Readings

@@ -1,5 +1,6 @@
 pub mod Entry
 pub mod Question
+pub mod FirstEntry
 pub mod JobList
 pub mod NamedBytes
 pub mod Lines

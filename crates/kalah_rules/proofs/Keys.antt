@@ -90,7 +90,7 @@ pub record KeySays (a : Rows) (k : ℕ) : Type 0 where
   pub rule : k / 2 ^ 63 ≡ rule_bit a.rule
 
 -- a row with few seeds has a small number
-number_of-small : (n : ℕ) (xs : List ℕ) → length xs ≤ n → sum xs ≤ 31 → number_of xs < 32 ^ n
+pub number_of-small : (n : ℕ) (xs : List ℕ) → length xs ≤ n → sum xs ≤ 31 → number_of xs < 32 ^ n
 number_of-small zero [] long few = omega arith
 number_of-small zero (x ∷ xs) long few = absurd (omega arith)
 number_of-small (suc n) [] long few = omega (arith, pow-succ' 32 n, number_of-small n [] (omega arith) few)

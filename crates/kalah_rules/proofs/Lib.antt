@@ -3,6 +3,7 @@ pub mod Laps
 pub mod Rows
 pub mod Sown
 pub mod Boards
+pub mod HouseRows
 pub mod Legal
 pub mod Stores
 pub mod Keys

@@ -113,7 +113,7 @@ legal_few p = elim (cases_Bool (is_over p)) [
   | inr going ↦ rw going (length-filter_range _ 1 (side_length p))
 ]
 
--- a position with this many houses on both sides
+-- a position with that number of houses on both sides
 record HasSides (m : ℕ) (p : Position) : Type 0 where
   own : side_length p ≡ m
   other : length p.other ≡ m

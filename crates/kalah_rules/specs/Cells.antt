@@ -2,7 +2,7 @@
 use Rattle.std.specs.Prelude.{◌≡◌, ℕ, ◌+◌, ◌-◌, ◌≤◌, List, ◌++◌, length, take, drop, replicate, All, sum}
 use Rattle.std.proofs.Common.{arith, length-take-le}
 use Rattle.kalah_rules.specs.Limits.{most_houses, most_seeds, most_in_store}
-use Rattle.kalah_rules.specs.Position.{Position, Rows, with_stores}
+use Rattle.kalah_rules.specs.Position.{Position, Rows, with_stores, IsWithinHouses}
 use Rattle.kalah_rules.specs.declared.rule.Rule.{Rule}
 
 -- the rows of m houses, which are the first of six cells
@@ -24,6 +24,12 @@ pub record CanBeHouses (m : ℕ) (own : List ℕ) (other : List ℕ) : Type 0 wh
 -- what is required of a position that is written down
 pub record CanStart (m : ℕ) (own : List ℕ) (own_store : ℕ) (other : List ℕ) (other_store : ℕ) : Type 0 where
   pub houses : CanBeHouses m own other
+  pub own_store_low : own_store ≤ most_in_store
+  pub other_store_low : other_store ≤ most_in_store
+
+-- the same, if the houses are given as rows
+pub record CanStartFrom (rows : Rows) (own_store other_store : ℕ) : Type 0 where
+  pub houses : IsWithinHouses rows
   pub own_store_low : own_store ≤ most_in_store
   pub other_store_low : other_store ≤ most_in_store
 

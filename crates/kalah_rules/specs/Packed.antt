@@ -1,8 +1,9 @@
 -- Houses in one number.
-use Rattle.std.specs.Prelude.{◌≡◌, ℕ, if◌then◌else◌, nat_le}
+use Rattle.std.specs.Prelude.{◌≡◌, ℕ, ◌≤◌, if◌then◌else◌, nat_le, sum}
 use Rattle.kalah_rules.specs.Position.{Position, seeds_in_houses, bare, IsWithinHouses}
 use Rattle.kalah_rules.specs.Sowing.{row_of}
-use Rattle.kalah_rules.specs.Key.{number_of, key_of, rows_at}
+use Rattle.kalah_rules.specs.Limits.{most_houses, most_seeds}
+use Rattle.kalah_rules.specs.Key.{number_of, cells, key_of, rows_at}
 use Rattle.kalah_rules.specs.declared.houses.play.RowNumbers.{RowNumbers}
 
 -- the key of houses of the game, with the number of seeds in them
@@ -10,6 +11,13 @@ pub record IsPacked (key seeds : ℕ) : Type 0 where
   pub limits : IsWithinHouses (rows_at key)
   pub key_is : key_of (rows_at key) ≡ key
   pub seeds_are : seeds_in_houses (bare (rows_at key)) ≡ seeds
+
+-- the number of some houses of a side, with the number of seeds in them
+pub record IsPackedRow (count number seeds : ℕ) : Type 0 where
+  pub few_houses : count ≤ most_houses
+  pub number_is : number_of (cells count number) ≡ number
+  pub seeds_are : sum (cells count number) ≡ seeds
+  pub few_seeds : seeds ≤ most_seeds
 
 -- the numbers show a position: both rows, and what its own store holds
 pub record Shows (r : RowNumbers) (p : Position) : Type 0 where

@@ -4,11 +4,13 @@ ghost use Rattle.kalah_rules.specs.Position.{Rows, seeds, seeds_in_houses, is_ov
 ghost use Rattle.kalah_rules.specs.Cells.{CanBeHouses, rows_from};
 ghost use Rattle.kalah_rules.specs.Key.{number_of, key_of, IsKey};
 
+pub(crate) mod house_row;
 mod numbers;
 mod play;
 #[cfg(test)]
 mod tests;
 
+use crate::houses::house_row::HouseRow;
 use crate::houses::numbers::{
     OTHER_ROW, RULE, SIDE, cells_of, number_of, rule_number, rule_of, seeds_at,
 };
@@ -71,6 +73,21 @@ impl Houses {
             key,
             seeds: seeds as u64,
         })
+    }
+
+    // Returns the houses of these two rows, unless they differ in length, have no house, or hold more than 31 seeds together.
+    pub(crate) fn of_rows(own: &HouseRow, other: &HouseRow, rule: Rule) -> Option<Houses>
+        ensures valid { IsSome result ↔ IsWithinHouses (record { own = own.now; other = other.now; rule = rule }) }
+        ensures value { IfSome result (λ a. a ≡ record { own = own.now; other = other.now; rule = rule }) }
+    {
+        let m = own.len();
+        let seeds = own.seeds() + other.seeds();
+        if m < 1 || other.len() != m || seeds > MOST_SEEDS as u64 {
+            return None;
+        }
+        let rest = m as u64 + 8 * rule_number(rule);
+        let key = own.number() + OTHER_ROW * other.number() + SIDE * rest;
+        Some(Houses { key, seeds })
     }
 
     /// Returns the houses that have this key.

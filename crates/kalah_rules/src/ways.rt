@@ -71,7 +71,7 @@ impl Houses {
 }
 
 impl Board {
-    /// Returns the number of ways to play on for `depth` moves, which is at most 20: sequences of exactly that many moves by the rules.
+    /// Returns the number of ways to play on for `depth` moves, which is at most 20: sequences of exactly `depth` moves by the rules.
     /// If the game is over, there is one way to play no move, and no other.
     pub fn ways(&self, depth: u8) -> u64
         requires { depth ≤ most_depth }

@@ -78,7 +78,7 @@ text_is_side houses store some short low = record {
   store_written = decimal_is_number store low;
 }
 
-text_is_line : (p : Position) → IsWithinLimits p → p.own_store ≤ 99 → p.other_store ≤ 99 → IsLineOf (line_text_of p) p
+pub text_is_line : (p : Position) → IsWithinLimits p → p.own_store ≤ 99 → p.other_store ≤ 99 → IsLineOf (line_text_of p) p
 unfolding line_text_of
 text_is_line p limits own_low other_low = record {
   own_text = side_text p.own p.own_store;

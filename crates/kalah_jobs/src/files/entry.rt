@@ -1,6 +1,6 @@
 //! The content of a line of a file, and what is asked of it.
 ghost use Rattle.std.specs.Prelude.{◌≡◌};
-ghost use Rattle.kalah_jobs.specs.Files.Question.{entry_to};
+ghost use Rattle.kalah_jobs.specs.Files.Question.{entry_asked, entry_to};
 
 use crate::files::question::Question;
 use crate::line::line_fault::LineFault;
@@ -21,16 +21,27 @@ pub enum Entry {
 }
 
 impl Entry {
+    ghost use Rattle.kalah_jobs.specs.declared.files.entry.Entry.TheVariants.{Position};
+
+    // Returns the content of a line that writes this position, with this question.
+    pub(crate) fn of_board(question: Question, board: Board) -> Entry
+        ensures { result ≡ entry_asked question (Position board) }
+    {
+        match question {
+            Question::BestMove => Entry::Position(board),
+            Question::Values => Entry::ValuesOf(board),
+            Question::Steps => Entry::StepsOf(board),
+        }
+    }
+
     // Returns the content of the line, with this question.
     #[tactic(auto, unfolding(crate::specs::Files::Entry::entry_of))]
     pub(crate) fn of_line(question: Question, line: &[u8]) -> Entry
         ensures { result ≡ entry_to question line.now }
     {
-        match (read_line(line), question) {
-            (Ok(board), Question::BestMove) => Entry::Position(board),
-            (Ok(board), Question::Values) => Entry::ValuesOf(board),
-            (Ok(board), Question::Steps) => Entry::StepsOf(board),
-            (Err(fault), _) => Entry::Bad(fault),
+        match read_line(line) {
+            Ok(board) => Entry::of_board(question, board),
+            Err(fault) => Entry::Bad(fault),
         }
     }
 }

@@ -5,7 +5,8 @@ ghost use Rattle.kalah_jobs.specs.Limits.{most_lines};
 ghost use Rattle.kalah_jobs.specs.Files.Jobs.{entries_to};
 
 use crate::files::entry::Entry;
-use crate::files::file_lines::{count_lines, first_line};
+use crate::files::file_lines::count_lines;
+use crate::files::first_entry::first_entry;
 use crate::files::question::Question;
 use std::alloc::{AllocError, Global};
 use std::marker::Model;
@@ -42,8 +43,8 @@ impl FileJobs {
         let mut entries = Vec::with_capacity(alloc, count_lines(bytes))?;
         let mut rest = bytes;
         while !rest.is_empty() {
-            let (line, after) = first_line(rest);
-            entries.push(Entry::of_line(question, line))?;
+            let (entry, after) = first_entry(question, rest);
+            entries.push(entry)?;
             rest = after;
         }
         Ok(FileJobs { entries })

@@ -3,7 +3,7 @@ ghost use Rattle.std.specs.Prelude.{◌≡◌, ◌<◌, ◌≤◌, ◌==◌, ◌
 ghost use Rattle.kalah_jobs.specs.Files.Lines.{line_feed, lines_of};
 
 // The byte that ends a line.
-const LINE_FEED: u8 = b'\n';
+pub(crate) const LINE_FEED: u8 = b'\n';
 
 // The most bytes whose line feeds are counted in a byte.
 const BLOCK: usize = 255;

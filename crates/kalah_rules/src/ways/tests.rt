@@ -6,7 +6,7 @@ fn board(rt: &impl Abort, m: u8, own: [u8; 6], other: [u8; 6], rule: Rule) -> Bo
     Board::new(m, own, 0, other, 0, rule).expect(rt, "beyond the limits")
 }
 
-// There are this many ways to play on for 0 moves, 1 move, and so on.
+// The number of ways to play on for 0 moves, for 1 move, and so on.
 fn assert_ways(rt: &impl Abort, board: &Board, counts: &[u64]) {
     for (depth, ways) in counts.iter().enumerate() {
         assert!(rt; depth <= MOST_DEPTH as usize);
@@ -14,7 +14,7 @@ fn assert_ways(rt: &impl Abort, board: &Board, counts: &[u64]) {
     }
 }
 
-// So many ways there are behind the moves of houses 1, 2 and so on, which are all legal.
+// The number of ways behind the move of house 1, of house 2, and so on. All are legal.
 fn assert_ways_by(rt: &impl Abort, board: &Board, depth: u8, counts: &[u64]) {
     assert!(rt; depth < MOST_DEPTH);
     for (i, ways) in counts.iter().enumerate() {

@@ -1,0 +1,56 @@
+//! The first line of some bytes, as an entry.
+ghost use Rattle.std.specs.Prelude.{◌<◌, IfSome, length};
+ghost use Rattle.kalah_jobs.specs.Files.FirstEntry.{IsLineEnd, HasFirstEntry, BeginsWithPosition};
+
+use crate::files::entry::Entry;
+use crate::files::file_lines::{LINE_FEED, first_line};
+use crate::files::question::Question;
+use crate::line::one_pass::{take_other_side, take_rule, take_side};
+use kalah_rules::Board;
+
+// Returns the bytes after the end of a line: a line feed, or the end of the bytes.
+fn after_line(bytes: &[u8]) -> Option<&[u8]>
+    ensures { IfSome result (λ rest. IsLineEnd bytes.now rest.now) }
+{
+    let Some((end, rest)) = bytes.split_first() else {
+        return Some(bytes);
+    };
+    if *end == LINE_FEED { Some(rest) } else { None }
+}
+
+// Returns the position of the first line of some bytes, if it is read in one pass, and the bytes after that line.
+fn first_position(bytes: &[u8]) -> (Option<Board>, &[u8])
+    ensures { IfSome result.0 (λ p. BeginsWithPosition bytes.now p result.1.now) }
+{
+    let Some((own, own_store, rest)) = take_side(bytes) else {
+        return (None, bytes);
+    };
+    let Some((other, other_store, rest)) = take_other_side(rest) else {
+        return (None, bytes);
+    };
+    let (rule, rest) = take_rule(rest);
+    let Some(rest) = after_line(rest) else {
+        return (None, bytes);
+    };
+    (
+        Board::of_rows(&own, own_store, &other, other_store, rule),
+        rest,
+    )
+}
+
+// Returns the entry of the first line of some bytes, and the bytes after that line. A line that is no position within the limits, or
+// that ends in a CR, is read again for its fault.
+pub(crate) fn first_entry(question: Question, bytes: &[u8]) -> (Entry, &[u8])
+    requires { 0 < length bytes.now }
+    ensures { HasFirstEntry question bytes.now result.0 result.1.now }
+{
+    let (position, rest) = first_position(bytes);
+    let Some(board) = position else {
+        let (line, rest) = first_line(bytes);
+        return (Entry::of_line(question, line), rest);
+    };
+    (Entry::of_board(question, board), rest)
+}
+
+#[cfg(test)]
+mod tests;

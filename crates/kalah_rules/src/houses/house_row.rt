@@ -1,0 +1,85 @@
+//! The houses of one side, put together one by one.
+ghost use Rattle.std.specs.Prelude.{◌≡◌, ◌+◌, ◌<◌, ◌≤◌, ◌↔◌, [], ◌∷◌, ◌++◌, length, sum, IsTrue, MatchBool};
+ghost use Rattle.kalah_rules.specs.Key.{number_of};
+ghost use Rattle.kalah_rules.specs.Limits.{most_houses, most_seeds};
+
+use crate::houses::numbers::alone;
+use crate::limits::{MOST_HOUSES, MOST_SEEDS};
+use std::marker::Model;
+
+/// The houses of one side, house 1 first: at most six, with at most 31 seeds together. They are stored as they stand in the key of
+/// a board, with their number and the number of their seeds.
+#[derive(Drop)]
+pub struct HouseRow {
+    pub(super) number: u64,
+    pub(super) seeds: u64,
+    count: u32,
+}
+
+impl Model for HouseRow {
+    ghost use Rattle.std.specs.Prelude.{ℕ, List};
+    ghost use Rattle.kalah_rules.specs.Key.{cells};
+    ghost use Rattle.kalah_rules.specs.Packed.{IsPackedRow};
+
+    ghost Value = { List ℕ };
+
+    ghost view = { λ row. cells row.count row.number };
+
+    ghost invariant = { λ row. IsPackedRow row.count row.number row.seeds };
+}
+
+impl HouseRow {
+    /// Makes a row without houses.
+    pub fn new() -> HouseRow
+        ensures { result ≡ [] }
+    {
+        HouseRow {
+            number: 0,
+            seeds: 0,
+            count: 0,
+        }
+    }
+
+    /// Appends a house, and returns whether it has room: a row has at most six houses, and at most 31 seeds. If it has none,
+    /// nothing is changed.
+    pub fn push(&mut self, seeds: u8) -> bool
+        ensures room { IsTrue result ↔ ((length self.old < most_houses) × (sum self.old + seeds ≤ most_seeds)) }
+        ensures pushed { MatchBool result (self.new ≡ self.old ++ seeds ∷ []) (self.new ≡ self.old) }
+    {
+        let total = self.seeds + seeds as u64;
+        if self.count >= MOST_HOUSES as u32 || total > MOST_SEEDS as u64 {
+            return false;
+        }
+        self.number += alone(self.count + 1, seeds as u64);
+        self.seeds = total;
+        self.count += 1;
+        true
+    }
+
+    /// Returns the number of houses, at most 6.
+    pub fn len(&self) -> u8
+        ensures is { result ≡ length self.now }
+        ensures low { result ≤ most_houses }
+    {
+        self.count as u8
+    }
+
+    // Returns the houses as a number.
+    pub(super) fn number(&self) -> u64
+        ensures value { result ≡ number_of self.now }
+        ensures small { result < 1073741824 }
+    {
+        self.number
+    }
+
+    // Returns the number of seeds.
+    pub(super) fn seeds(&self) -> u64
+        ensures value { result ≡ sum self.now }
+        ensures low { result ≤ most_seeds }
+    {
+        self.seeds
+    }
+}
+
+#[cfg(test)]
+mod tests;
