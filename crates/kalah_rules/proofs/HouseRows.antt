@@ -11,7 +11,8 @@ use Rattle.kalah_rules.proofs.Packing.{number_of-append}
 
 pub row_is_small : {count number seeds : ℕ} → IsPackedRow count number seeds → number < 32 ^ 6
 row_is_small {count} {number} {seeds} row =
-    let small = number_of-small 6 (cells count number) (omega (arith, length-cells count number, row.few_houses)) (omega (arith, row.seeds_are, row.few_seeds)) in
+    let short : length (cells count number) ≤ 6 = omega (arith, length-cells count number, row.few_houses) in
+    let small = number_of-small 6 (cells count number) short (omega (arith, row.seeds_are, row.few_seeds)) in
     omega (arith, small, row.number_is)
 
 -- ---- one house more

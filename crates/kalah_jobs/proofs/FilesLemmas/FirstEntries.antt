@@ -35,10 +35,12 @@ lines_at_end [] lacks some = absurd (omega arith)
 lines_at_end (byte ∷ []) lacks some = lines_of-byte byte [] (is_no_feed byte [] lacks)
 lines_at_end (byte ∷ more ∷ text) lacks some =
     lines_of-byte byte (more ∷ text) (is_no_feed byte (more ∷ text) lacks)
-    ∙ ap (λ lines. onto_first byte lines) (lines_at_end (more ∷ text) (All-tail (λ b. (b == line_feed) ≡ false) byte (more ∷ text) lacks) (omega arith))
+    ∙ ap (λ lines. onto_first byte lines)
+    (lines_at_end (more ∷ text) (All-tail (λ b. (b == line_feed) ≡ false) byte (more ∷ text) lacks) (omega arith))
 
 -- what ends where a line may end is the first line
-pub line_ends : {bytes rest : List ℕ} (p : position.Position) (end : List ℕ) → BeginsWithLine bytes p end → IsLineEnd end rest → BeginsWithPosition bytes p rest
+pub line_ends : {bytes rest : List ℕ} (p : position.Position) (end : List ℕ) → BeginsWithLine bytes p end → IsLineEnd end rest →
+    BeginsWithPosition bytes p rest
 line_ends {bytes} {rest} p [] begins is =
     let read = line_is_read begins in
     let parts : bytes ≡ line_text_of p = begins.text ∙ append-nil (line_text_of p) in

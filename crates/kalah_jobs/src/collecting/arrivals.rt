@@ -28,7 +28,7 @@ impl Model for Arrivals {
 }
 
 // Returns the first empty slot, if those below `from` are full.
-#[tactic(auto, using(crate::proofs::CollectingLemmas::Fronts::front_within, crate::proofs::CollectingLemmas::Fronts::front_more, crate::proofs::CollectingLemmas::Fronts::front_stops))]
+#[tactic(auto, using(crate::proofs::CollectingLemmas::Fronts::front_within, crate::proofs::CollectingLemmas::Fronts::front_stops))]
 fn first_gap(slots: &[Option<Answer>], from: u32) -> u32
     requires full { from ≤ front_of slots.now }
     requires short { length slots.now ≤ most_lines }
