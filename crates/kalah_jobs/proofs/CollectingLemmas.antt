@@ -1,4 +1,3 @@
-pub mod Fronts
 pub mod RefusalLaw
 pub mod CollectorSteps
 pub mod CollectorRuns

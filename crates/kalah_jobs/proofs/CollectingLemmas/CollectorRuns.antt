@@ -18,7 +18,7 @@ use Rattle.kalah_jobs.specs.Collecting.Refusals.{IsWanted, IsRefusedFor}
 use Rattle.kalah_jobs.specs.Collecting.CollectorEvents.{Event, Offered, Took, offers, takes, with_taken, Came, answered_line, answered_lines}
 use Rattle.kalah_jobs.specs.Collecting.CollectorLaw.{Happens, Runs, Meets, CollectorLaw}
 use Rattle.kalah_jobs.specs.Collecting.Held.{HoldsOffered}
-use Rattle.kalah_jobs.proofs.CollectingLemmas.Fronts.{front_within, front_came, front_set, front_least}
+use Rattle.kalah_jobs.proofs.Fronts.{front_within, front_came, front_set, front_least}
 use Rattle.kalah_jobs.proofs.CollectingLemmas.CollectorSteps.{state_same, state_other, lines_are, wanted_file, holds_accepted, holds_refused, holds_take, some_value, is_some_of}
 
 -- what was taken, by the events

@@ -15,7 +15,7 @@ use Rattle.kalah_jobs.specs.Files.JobList.{entries_of, entry_at, line_job}
 use Rattle.kalah_jobs.specs.Collecting.CollectorState.{FileState, no_file, state_of, line_count, came_for, HasLinesOf, with_answer, with_one_taken, after_offer, after_take}
 use Rattle.kalah_jobs.specs.Collecting.Refusals.{IsWanted, IsRefusedFor}
 use Rattle.kalah_jobs.specs.Collecting.Held.{IsAnswered, HoldsOffered}
-use Rattle.kalah_jobs.proofs.CollectingLemmas.Fronts.{front_came}
+use Rattle.kalah_jobs.proofs.Fronts.{front_came}
 
 -- a file of a list after a change of one
 pub state_same : (files : List FileState) (f : ℕ) (s : FileState) → f < length files → state_of (set files f s) f ≡ s

@@ -19,7 +19,7 @@ use Rattle.kalah_jobs.specs.Collecting.CollectorEvents.{offers, Offers}
 use Rattle.kalah_jobs.specs.Collecting.Shares.{AreShared}
 use Rattle.kalah_jobs.specs.Collecting.Batch.{job, AreJobsInSomeOrder, SharesLaw, OffersLaw, FrontsLaw}
 use Rattle.kalah_jobs.specs.Collecting.Held.{HoldsOffered}
-use Rattle.kalah_jobs.proofs.CollectingLemmas.Fronts.{front_full}
+use Rattle.kalah_jobs.proofs.Fronts.{front_full}
 use Rattle.kalah_jobs.proofs.CollectingLemmas.CollectorSteps.{lines_are, some_value, one_entry, refused_came}
 use Rattle.kalah_jobs.proofs.CollectingLemmas.CollectorRuns.{runs, start}
 use Rattle.kalah_jobs.proofs.CollectingLemmas.SharedOnce.{total_rows, count_below, count_true, got_all_once, nothing_left}

@@ -28,7 +28,7 @@ impl Model for Arrivals {
 }
 
 // Returns the first empty slot, if those below `from` are full.
-#[tactic(auto, using(crate::proofs::CollectingLemmas::Fronts::front_within, crate::proofs::CollectingLemmas::Fronts::front_stops))]
+#[tactic(auto, using(crate::proofs::Fronts::front_within, crate::proofs::Fronts::front_more, crate::proofs::Fronts::front_stops))]
 fn first_gap(slots: &[Option<Answer>], from: u32) -> u32
     requires full { from ≤ front_of slots.now }
     requires short { length slots.now ≤ most_lines }
@@ -43,7 +43,7 @@ fn first_gap(slots: &[Option<Answer>], from: u32) -> u32
 
 impl Arrivals {
     // Makes the state of a file of `lines` lines with no answer yet.
-    #[tactic(auto, using(crate::proofs::CollectingLemmas::Fronts::front_none))]
+    #[tactic(auto, using(crate::proofs::Fronts::front_none))]
     pub(crate) fn new(alloc: Global, lines: u32) -> Result<Arrivals, AllocError>
         requires { lines ≤ most_lines }
         ensures { IfOk result (λ a. a ≡ new_file lines) }
@@ -86,7 +86,7 @@ impl Arrivals {
     }
 
     // Stores the answer of a line, and returns how many lines became ready.
-    #[tactic(auto, using(crate::proofs::CollectingLemmas::Fronts::front_set))]
+    #[tactic(auto, using(crate::proofs::Fronts::front_set))]
     pub(crate) fn accept(&mut self, line: u32, answer: Answer) -> u32
         requires within { line < line_count self.old }
         requires first { came_for self.old line ≡ None }
@@ -100,7 +100,7 @@ impl Arrivals {
     }
 
     // Returns the next line that is ready and was not taken.
-    #[tactic(auto, using(crate::proofs::CollectingLemmas::Fronts::front_within, crate::proofs::CollectingLemmas::Fronts::front_came))]
+    #[tactic(auto, using(crate::proofs::Fronts::front_within, crate::proofs::Fronts::front_came))]
     pub(crate) fn take(&mut self) -> Option<Taken>
         ensures { MatchOption result (HasNoNext self.old × (self.new ≡ self.old))
             (λ taken. IsNext self.old taken × (self.new ≡ with_one_taken self.old)) }

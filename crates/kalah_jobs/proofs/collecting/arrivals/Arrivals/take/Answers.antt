@@ -4,7 +4,7 @@ use Rattle.std.proofs.lemmas.Bool.{false≢true}
 use Rattle.std.proofs.lemmas.List.{get_or_default}
 use Rattle.kalah_jobs.specs.declared.writing.answer.Answer.{Answer}
 use Rattle.kalah_jobs.specs.Collecting.CollectorState.{front_of}
-use Rattle.kalah_jobs.proofs.CollectingLemmas.Fronts.{front_within, front_came}
+use Rattle.kalah_jobs.proofs.Fronts.{front_within, front_came}
 use Rattle.kalah_jobs.proofs.collecting.arrivals.Arrivals.take.Goals as goal
 
 pub unreachable-requires : goal.unreachable-requires
