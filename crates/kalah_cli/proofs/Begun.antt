@@ -19,7 +19,8 @@ use Rattle.kalah_cli.specs.Request.{Asked, answers, ask, count, moves, play, sho
 use Rattle.kalah_cli.specs.Runs.{Begins}
 use Rattle.kalah_cli.specs.Ask.{BeginsLines, StopsBetweenLines}
 use Rattle.kalah_cli.specs.SolveFiles.{BeginsTo}
-use Rattle.std.proofs.KnownBytes.{Appends-nil}
+use Rattle.std.proofs.KnownBytes.{Appends-kept, Appends-nil}
+use Rattle.std.specs.Prelude.{Err, Ok, OnOk, Result}
 use Rattle.kalah_jobs.proofs.AskingLemmas.AnswersTo.{answers_split, no_answers}
 use Rattle.kalah_jobs.specs.Asking.Asked.{IsBegun, IsCutOff, answers_to}
 use Rattle.std.proofs.Math.Seq.{take-append-add}
@@ -28,6 +29,12 @@ use Rattle.kalah_cli.proofs.Played.{of_any_game}
 -- all was written, and then flushed
 pub begins_all : (old between new : Option (List ℕ)) (bs : List ℕ) → Appends old between bs → Keeps between new → AppendsStart old new bs
 begins_all old between new bs all keeps = start_then old between new bs bs [] (sym (append-nil bs)) all (start_kept_all between new [] keeps)
+
+-- so if the flush succeeds, all was written
+pub all_if_flushed : {A E : Type 0} (r : Result A E) (old between new : Option (List ℕ)) (bs : List ℕ) → Appends old between bs → Keeps between new →
+    OnOk r (Appends old new bs)
+all_if_flushed (Ok x) old between new bs all keeps = Appends-kept old between new bs all keeps
+all_if_flushed (Err e) old between new bs all keeps = tt
 
 -- the line of a move, and then the position after it, if boards are drawn
 pub move_parts : (boards : Bool) (h : ℕ) (s : Step) →

@@ -9,14 +9,14 @@ use Rattle.kalah_jobs.specs.Writing.Given.{AppendsStart}
 use Rattle.kalah_jobs.specs.Line.Line.{Reads}
 use Rattle.kalah_jobs.specs.Writing.Picture.{picture_of}
 use Rattle.kalah_jobs.specs.Writing.Shown.{shown_of}
-use Rattle.kalah_jobs.specs.declared.files.question.Question.TheVariants.{BestMove, Values}
+use Rattle.kalah_jobs.specs.declared.files.question.Question.TheVariants.{BestMove, Steps, Values}
 use Rattle.kalah_cli.specs.Moves.{moves_output}
 use Rattle.kalah_cli.specs.Play.{BeginsToPlay, MayBegin, Plays, PlaysBest}
 use Rattle.kalah_cli.specs.Count.{count_output}
 use Rattle.kalah_cli.specs.Request.{Asked, AsksNot, IsPlainWord, IsRefused, IsTakenAs, IsVersionWord, moves, play, answers, ask, show, count}
 use Rattle.kalah_cli.specs.Show.{show_output}
 use Rattle.kalah_cli.specs.Ask.{AnswersLines, BeginsLines}
-use Rattle.kalah_cli.specs.SolveFiles.{AnswersFiles, AnswersTo, BeginsTo, TellsSteps, TellsValues}
+use Rattle.kalah_cli.specs.SolveFiles.{AnswersTo, BeginsTo}
 use Rattle.kalah_cli.specs.declared.status.ExitStatus.{ExitStatus}
 use Rattle.kalah_cli.specs.declared.status.ExitStatus.TheVariants.{Clean, LineFaults, Failed}
 
@@ -99,11 +99,11 @@ module _ {O : Type 0} (written : O → Option (List ℕ)) (words : List Text) (o
         → IsPlainWord line → IsUnread line → (status ≢ Clean) × (new ≡ old)
     -- `solve`, `values` or `steps`, and files whose names are no flags: what is asked of them is written, if nothing fails
     pub solved : (name : Text) (files : List Text) → words ≡ name ∷ codes "solve" ∷ files → All IsPlainWord files → status ≢ Failed
-        → AnswersFiles files (written old) (written new) status
+        → AnswersTo BestMove files (written old) (written new) status
     pub valued : (name : Text) (files : List Text) → words ≡ name ∷ codes "values" ∷ files → All IsPlainWord files → status ≢ Failed
-        → TellsValues files (written old) (written new) status
+        → AnswersTo Values files (written old) (written new) status
     pub stepped : (name : Text) (files : List Text) → words ≡ name ∷ codes "steps" ∷ files → All IsPlainWord files → status ≢ Failed
-        → TellsSteps files (written old) (written new) status
+        → AnswersTo Steps files (written old) (written new) status
     -- `ask`, or `ask --values`: of some bytes that were read, what is asked of their lines is written, if nothing fails
     pub asked : (name : Text) → words ≡ name ∷ codes "ask" ∷ [] → status ≢ Failed → AnswersLines BestMove (written old) (written new) status
     pub asked_values : (name : Text) → words ≡ name ∷ codes "ask" ∷ codes "--values" ∷ [] → status ≢ Failed

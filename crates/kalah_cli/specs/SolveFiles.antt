@@ -6,7 +6,6 @@ use Rattle.kalah_jobs.specs.Writing.Given.{AppendsStart}
 use Rattle.kalah_jobs.specs.Files.NamedBytes.{NamedBytes}
 use Rattle.kalah_jobs.specs.Writing.Output.{LineCounts, output_to, tally_of}
 use Rattle.kalah_jobs.specs.declared.files.question.Question.{Question}
-use Rattle.kalah_jobs.specs.declared.files.question.Question.TheVariants.{BestMove, Values, Steps}
 use Rattle.kalah_cli.specs.declared.status.ExitStatus.{ExitStatus}
 use Rattle.kalah_cli.specs.declared.status.ExitStatus.TheVariants.{Clean}
 
@@ -38,15 +37,3 @@ pub record BeginsTo (question : Question) (names : List (List ℕ)) (old new : O
   pub files : List NamedBytes
   pub named : map (λ file. file.name) files ≡ names
   pub start : AppendsStart old new (output_to question files)
-
--- if the best move is asked of each position
-abbrev pub AnswersFiles : List (List ℕ) → Option (List ℕ) → Option (List ℕ) → ExitStatus → Type 0
-AnswersFiles names old new status = AnswersTo BestMove names old new status
-
--- if the values of its moves are asked
-abbrev pub TellsValues : List (List ℕ) → Option (List ℕ) → Option (List ℕ) → ExitStatus → Type 0
-TellsValues names old new status = AnswersTo Values names old new status
-
--- where the steps of its moves are asked
-abbrev pub TellsSteps : List (List ℕ) → Option (List ℕ) → Option (List ℕ) → ExitStatus → Type 0
-TellsSteps names old new status = AnswersTo Steps names old new status

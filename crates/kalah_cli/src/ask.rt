@@ -12,6 +12,7 @@ use std::io::{BufReader, Input, Write};
 
 /// Answers what is asked of each line of the standard input, all with one solver, and reads more only after the answers to all that
 /// was read are written. Memory is requested before the first read, except for the entries of the table.
+#[tactic(auto, using(crate::proofs::Begun::lines_begun, crate::proofs::Begun::lines_cut_off, crate::proofs::Begun::stops_before_lines))]
 pub(crate) fn run_ask<R: Input, O: Sink, E: Write>(
     rt: &R,
     alloc: Global,

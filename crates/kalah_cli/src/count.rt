@@ -18,6 +18,7 @@ use std::io;
 use std::io::Write;
 
 // Writes the line of a house, which is seen before the next one is counted.
+#[tactic(auto, using(crate::proofs::Begun::all_if_flushed, crate::proofs::Begun::begins_all))]
 fn write_house<O: Sink>(house: u8, ways: u64, out: &mut O) -> Result<(), io::Error>
     requires house { house ≤ most_houses }
     requires sink { O.has_failed out.old ≡ false }
@@ -52,6 +53,7 @@ fn write_houses<O: Sink>(board: &Board, depth: u8, out: &mut O) -> Result<u64, i
 }
 
 // Writes the last line.
+#[tactic(auto, using(crate::proofs::Begun::all_if_flushed, crate::proofs::Begun::begins_all))]
 fn write_sum<O: Sink>(ways: u64, out: &mut O) -> Result<(), io::Error>
     requires { O.has_failed out.old ≡ false }
     ensures fails { IsErr result ↔ (O.has_failed out.new ≡ true) }

@@ -87,6 +87,7 @@ fn unmoved_house(board: &Board, first: Option<u8>) -> Option<u8>
 /// Prints the game that best play leads to from the position that the line writes, move by move, each as soon as it is found; or
 /// the move of house `first` and the game of best play behind it. A line that is not read is answered by its fault, and a house that
 /// may not be moved is said, on `err` alone. Memory is asked for before anything is written, apart from the entries of the table.
+#[tactic(auto, using(crate::proofs::Begun::begins_no_play, crate::proofs::Begun::even_read))]
 pub(crate) fn run_play<O: Sink, E: Write>(
     alloc: Global,
     line: &str,

@@ -46,6 +46,3 @@ returns-clause-start g c =
     let i = c.loop-i.i in
     subst (AppendsStart (g.O.Sink.written c.args.out.now) (g.O.Sink.written c.flush.new.self)) (first_moves one moves _ i c.loop-i.invariant.same)
     (start_longer _ _ (flat_map one (take i moves)) (flat_map one (drop i moves)) (begins_all _ _ _ _ c.loop-i.invariant.adds c.flush.ensures.keeps))
-
-pub returns-clause-adds : goal.returns-clause-adds
-returns-clause-adds g c = grind (arith, common_steps)

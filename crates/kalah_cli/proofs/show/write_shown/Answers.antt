@@ -1,12 +1,11 @@
 use Rattle.std.proofs.Common.{subst, sym}
 use Rattle.std.specs.Io.KnownBytes.{Appends}
-use Rattle.std.proofs.KnownBytes.{Appends-kept, Appends-trans}
+use Rattle.std.proofs.KnownBytes.{Appends-trans}
 use Rattle.kalah_jobs.specs.Writing.Given.{AppendsStart}
 use Rattle.kalah_jobs.specs.Writing.Picture.{picture_of}
 use Rattle.kalah_jobs.specs.Writing.Shown.{shown_of}
 use Rattle.kalah_jobs.proofs.WritingLemmas.Starts.{start_longer, start_then}
-use Rattle.kalah_cli.proofs.Begun.{begins_all, shown_parts}
-use Rattle.kalah_cli.proofs.Played.{on_ok_always}
+use Rattle.kalah_cli.proofs.Begun.{all_if_flushed, begins_all, shown_parts}
 use Rattle.kalah_cli.proofs.show.write_shown.Given.{Over}
 use Rattle.kalah_cli.proofs.show.write_shown.Goals.{After-flush}
 use Rattle.kalah_cli.proofs.show.write_shown.Goals as goal
@@ -30,4 +29,4 @@ pub returns-clause-start : goal.returns-clause-start
 returns-clause-start g c = begins_all _ _ _ _ (whole g c) c.flush.ensures.keeps
 
 pub returns-clause-adds : goal.returns-clause-adds
-returns-clause-adds g c = on_ok_always c.flush.result (Appends-kept _ _ _ _ (whole g c) c.flush.ensures.keeps)
+returns-clause-adds g c = all_if_flushed c.flush.result _ _ _ _ (whole g c) c.flush.ensures.keeps
