@@ -1,21 +1,19 @@
 -- What the matches of each subcommand have of its arguments.
-use Rattle.std.proofs.Common.{◌≡◌, ◌⊎◌, ◌≤◌, ℕ, Bool, true, false, refl, ap, sym, subst, inl, inr, List, Option, Some, None, is_some, codes, arith, ◌||◌}
+use Rattle.std.proofs.Common.{◌≡◌, ◌⊎◌, ◌≤◌, ℕ, Bool, true, false, refl, ap, sym, subst, inl, inr, List, Some, is_some, codes, arith, ◌||◌}
 use Rattle.std.specs.Prelude.{option_map}
 use Rattle.std.specs.Str.{bytes_eq}
 use Rattle.std.proofs.lemmas.Slice.Eq.{bytes_eq-Decides}
 use Rattle.clap.specs.Facts.{parser_of_value}
 use Rattle.clap.specs.Values.{Accepts, reading_of}
 use Rattle.clap.specs.Walk.{Row, Rule, Text}
-use Rattle.clap.specs.Simple.{Shape, built, filled, subcommand_rows_of, with_index}
-use Rattle.clap.specs.Words.{subcommand_name_of}
-use Rattle.clap.specs.declared.parser.matches.ArgMatches.{ArgMatches}
+use Rattle.clap.specs.Simple.{Shape, built, filled, with_index}
 use Rattle.clap.specs.declared.builder.value_parser.ValueParser.TheVariants.{Unsigned}
 use Rattle.clap.specs.declared.builder.value_parser.ValueParser.TheVariants as vp
 use Rattle.clap.proofs.OnLiterals.{clap_on_literals}
 use Rattle.kalah_jobs.specs.declared.files.question.Question.{Question}
 use Rattle.kalah_jobs.specs.declared.files.question.Question.TheVariants.{BestMove, Steps, Values}
 use Rattle.kalah_cli.specs.Command.{file_rule, flag_rule, kalah_app, table_rule, workers_rule}
-use Rattle.kalah_cli.specs.Request.{AreMatches, HasFlag, HasNumber, IsTaken, MayHaveNumber, command_of, number_written}
+use Rattle.kalah_cli.specs.Request.{AreMatches, HasFlag, HasNumber, MayHaveNumber, command_of, number_written}
 use Rattle.kalah_cli.proofs.ClapLemmas.Arguments.{Given, HasOf, accepted_in, all_usable, arg_in, given_in, is_wanted, taken_has}
 
 -- the subcommands, as they are built
@@ -87,23 +85,3 @@ pub takes_table : (question : Question) → (question ≡ BestMove) ⊎ (questio
     → Takes (command_of question) (codes "table") (built_rule table_rule)
 takes_table question (inl best) = subst (λ q. Takes (command_of q) (codes "table") (built_rule table_rule)) (sym best) refl
 takes_table question (inr values) = subst (λ q. Takes (command_of q) (codes "table") (built_rule table_rule)) (sym values) refl
-
--- ---- the subcommand that was met
-
--- the subcommand of this name was met, with these rows
-pub met : (m : ArgMatches) (name : Text) (rows : List Row) → subcommand_name_of m ≡ Some name
-    → option_map (λ p. p.1) (subcommand_rows_of m) ≡ Some rows → subcommand_rows_of m ≡ Some (name, rows)
-met m name rows named listed = go _ _ _ named listed
-  where
-    go : {A : Type 0} (f : A → Text) (g : A → List Row) (o : Option A) → option_map f o ≡ Some name
-        → option_map (λ (p : Text × List Row). p.1) (option_map (λ b. (f b, g b)) o) ≡ Some rows
-        → option_map {U = Text × List Row} (λ b. (f b, g b)) o ≡ Some (name, rows)
-    go f g None is are = cc
-    go f g (Some b) is are = cc
-
--- so the rows are its matches
-pub are_matches : (m : ArgMatches) (name : Text) (rows : List Row) → IsTaken (subcommand_rows_of m) → subcommand_name_of m ≡ Some name
-    → option_map (λ p. p.1) (subcommand_rows_of m) ≡ Some rows → AreMatches name rows
-are_matches m name rows taken named listed =
-    let same : (taken.0, taken.1) ≡ (name, rows) = (let one = taken.2 in let other = met m name rows named listed in cc) in
-    subst (λ (p : Text × List Row). AreMatches p.0 p.1) same taken.3
