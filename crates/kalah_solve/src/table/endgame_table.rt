@@ -20,7 +20,7 @@ use std::marker::Model;
 use std::sync::atomic::AtomicIn;
 use std::sync::atomic::Ordering::SeqCst;
 
-// A multiple of 31, times this modulo 2^64, is what it is the multiple of.
+// The inverse of 31 modulo 2^64: a multiple of 31 is divided by 31 if it is multiplied by this.
 const INVERSE_OF_31: u64 = 0xEF7B_DEF7_BDEF_7BDF;
 
 // The place value of the other player's first house in a key.
