@@ -79,7 +79,7 @@ allocate_spec 𝓤 𝓛 𝓜 𝓡 wired Y L g d d' met _ =
     feq_i ! (List Val) (vptr from.0 from.1 ∷ []) (vptr from.0 from.1 ∷ []) refl $ fjoin ! $ nothing ! $ move ! (1 ∷ []) $ fjoin ! $
     nothing ! $ move ! (2 ∷ []) $ join ! $ join ! $ nothing ! $ move ! (1 ∷ []) $ join ! $ use1 𝓛 (raw (Counts.pre c)) (id⊢ 𝓤 _) $
     calls_at ! (framed 𝓤 𝓛.H 𝓜 𝓣) Counts
-        (counts_it 𝓤 𝓛 𝓜 𝓡 (code.calls-kalah_solve::tests::granting::Requests::refuses_next 𝓡.env wired)) c
+    (counts_it 𝓤 𝓛 𝓜 𝓡 (code.calls-kalah_solve::tests::granting::Requests::refuses_next 𝓡.env wired)) c
     (and_then ! (get ! refl) (no_more !)) (λ u.
     use1 𝓛 (later (some (λ (b : Bool). ((‵ (flft κ q) ⊛ ‵ ftrue) ⊛ ‵ (bool.own_val b (u ∷ [])))
     ⊛ some (λ (ws : Unit {0} × Unit {0}). ‵ (lasts counts.ended c.0.0 c.0.3 ws) ⊛ ‵ ftrue)))) (id⊢ 𝓤 _) $ await ! tt $ pick ! (λ b.
