@@ -166,7 +166,7 @@ impl Houses {
         ensures value { result ≡ seeds self.now.own i }
         ensures small { result < 32 }
     {
-        seeds_at(self.own_row(), i as u32) as u8
+        seeds_at(self.own_row(), i) as u8
     }
 
     /// Returns the number of seeds in the other player's house `i`, which is 1 to `m`.
@@ -176,7 +176,7 @@ impl Houses {
         ensures value { result ≡ seeds self.now.other i }
         ensures small { result < 32 }
     {
-        seeds_at(self.other_row(), i as u32) as u8
+        seeds_at(self.other_row(), i) as u8
     }
 
     /// Returns whether the game is over: the houses of one of the players are all empty.

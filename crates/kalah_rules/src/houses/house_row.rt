@@ -13,7 +13,7 @@ use std::marker::Model;
 pub struct HouseRow {
     pub(super) number: u64,
     pub(super) seeds: u64,
-    count: u32,
+    count: u8,
 }
 
 impl Model for HouseRow {
@@ -47,7 +47,7 @@ impl HouseRow {
         ensures pushed { MatchBool result (self.new ≡ self.old ++ seeds ∷ []) (self.new ≡ self.old) }
     {
         let total = self.seeds + seeds as u64;
-        if self.count >= MOST_HOUSES as u32 || total > MOST_SEEDS as u64 {
+        if self.count >= MOST_HOUSES || total > MOST_SEEDS as u64 {
             return false;
         }
         self.number += alone(self.count + 1, seeds as u64);
@@ -61,7 +61,7 @@ impl HouseRow {
         ensures is { result ≡ length self.now }
         ensures low { result ≤ most_houses }
     {
-        self.count as u8
+        self.count
     }
 
     // Returns the houses as a number.

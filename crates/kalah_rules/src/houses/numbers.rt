@@ -70,7 +70,7 @@ pub(super) fn rule_of(bit: u64) -> Rule
 }
 
 // Returns the number of seeds in house `i` of a row.
-pub(super) fn seeds_at(row: u64, i: u32) -> u64
+pub(super) fn seeds_at(row: u64, i: u8) -> u64
     requires low { 1 ≤ i }
     requires high { i ≤ 6 }
     ensures { result ≡ row / 32 ^ (i - 1) % 32 }
@@ -79,7 +79,7 @@ pub(super) fn seeds_at(row: u64, i: u32) -> u64
 }
 
 // Returns a row with `seeds` seeds in house `i`, and none elsewhere.
-pub(super) fn alone(i: u32, seeds: u64) -> u64
+pub(super) fn alone(i: u8, seeds: u64) -> u64
     requires low { 1 ≤ i }
     requires high { i ≤ 6 }
     requires few { seeds < 32 }
@@ -91,7 +91,7 @@ pub(super) fn alone(i: u32, seeds: u64) -> u64
 static ONES: [u64; 7] = [0, 1, 33, 1057, 33825, 1082401, 34636833];
 
 // Returns a row with one seed in each of the first `n` houses.
-pub(super) fn one_each(n: u32) -> u64
+pub(super) fn one_each(n: u8) -> u64
     requires { n ≤ 6 }
     ensures value { result ≡ ones n }
     ensures small { result ≤ 34636833 }
@@ -103,7 +103,7 @@ pub(super) fn one_each(n: u32) -> u64
 static SPREAD: [u64; 6] = [0, 31, 1054, 33821, 1082396, 34636827];
 
 // Returns what a row gains if the `count` seeds of house `h` are sown into the next houses.
-pub(super) fn spread(h: u32, count: u32) -> u64
+pub(super) fn spread(h: u8, count: u8) -> u64
     requires first { 1 ≤ h }
     requires last { h + count ≤ 6 }
     ensures value { result + 32 ^ (h - 1) * count + ones h ≡ ones (h + count) }
@@ -113,7 +113,7 @@ pub(super) fn spread(h: u32, count: u32) -> u64
 }
 
 // Returns a row of `m` houses with one seed in each house up to `x`.
-pub(super) fn one_each_up_to(m: u32, x: u32) -> u64
+pub(super) fn one_each_up_to(m: u8, x: u8) -> u64
     requires { m ≤ 6 }
     ensures value { result ≡ ones_up_to m x }
     ensures small { result ≤ 34636833 }
@@ -122,7 +122,7 @@ pub(super) fn one_each_up_to(m: u32, x: u32) -> u64
 }
 
 // Returns a row of `m` houses with `seeds` seeds in each.
-pub(super) fn the_same_each(m: u32, seeds: u32) -> u64
+pub(super) fn the_same_each(m: u8, seeds: u8) -> u64
     requires side { m ≤ 6 }
     requires few { seeds ≤ 10 }
     ensures value { result ≡ seeds * ones m }
@@ -133,7 +133,7 @@ pub(super) fn the_same_each(m: u32, seeds: u32) -> u64
 
 // Returns what the mover's houses gain by a sowing from house `h` of `m`: `laps` whole laps, and then one seed for each cell up
 // to place `reach`. Places are counted round the lap from house 1 on; the store has place m + 1.
-pub(super) fn own_gains(m: u32, h: u32, laps: u32, reach: u32) -> u64
+pub(super) fn own_gains(m: u8, h: u8, laps: u8, reach: u8) -> u64
     requires first { 1 ≤ h }
     requires last { h ≤ m }
     requires side { m ≤ 6 }
@@ -147,7 +147,7 @@ pub(super) fn own_gains(m: u32, h: u32, laps: u32, reach: u32) -> u64
 }
 
 // Returns what the other player's houses gain by the same sowing.
-pub(super) fn other_gains(m: u32, laps: u32, reach: u32) -> u64
+pub(super) fn other_gains(m: u8, laps: u8, reach: u8) -> u64
     requires side { m ≤ 6 }
     requires few { laps ≤ 10 }
     ensures value { result ≡ laps * ones m + ones_up_to m (reach - (m + 1)) }

@@ -43,7 +43,7 @@ impl Houses {
     ghost use Rattle.kalah_rules.specs.HousesStep.{houses_step};
 
     // Returns the mover's row without the seeds of house `h`.
-    fn lifted_row(&self, h: u32) -> u64
+    fn lifted_row(&self, h: u8) -> u64
         requires { HoldsSeeds (bare self.now) h }
         ensures row { result ≡ number_of (lifted (bare self.now) h).own }
         ensures small { result < 2 ^ 30 }
@@ -54,7 +54,7 @@ impl Houses {
     }
 
     // Sows the `count` seeds of house `h`, if the last one falls into a house of the mover, before the store.
-    fn sow_in_row(&self, h: u32, count: u32) -> RowNumbers
+    fn sow_in_row(&self, h: u8, count: u8) -> RowNumbers
         requires holds { HoldsSeeds (bare self.now) h }
         requires count { count ≡ seeds self.now.own h }
         requires near { h + count ≤ length self.now.own }
@@ -68,14 +68,14 @@ impl Houses {
     }
 
     // Sows house `h`, if its last seed falls into the store or into a house of the other player, at place `reach`.
-    fn sow_past_row(&self, h: u32, reach: u32) -> RowNumbers
+    fn sow_past_row(&self, h: u8, reach: u8) -> RowNumbers
         requires holds { HoldsSeeds (bare self.now) h }
         requires reach { reach ≡ h + seeds self.now.own h }
         requires past { length self.now.own < reach }
         requires near { reach ≤ lap_length (length self.now.own) }
         ensures { Shows result (sown (bare self.now) h) }
     {
-        let m = self.m() as u32;
+        let m = self.m();
         RowNumbers {
             own: self.lifted_row(h) + (one_each(m) - one_each(h)),
             other: self.other_row() + one_each(reach - (m + 1)),
@@ -84,12 +84,12 @@ impl Houses {
     }
 
     // Sows the `count` seeds of house `h`, for any `count`: they may go round to the mover's houses again.
-    fn sow_laps(&self, h: u32, count: u32) -> RowNumbers
+    fn sow_laps(&self, h: u8, count: u8) -> RowNumbers
         requires holds { HoldsSeeds (bare self.now) h }
         requires count { count ≡ seeds self.now.own h }
         ensures { Shows result (sown (bare self.now) h) }
     {
-        let m = self.m() as u32;
+        let m = self.m();
         let lap = 2 * m + 1;
         let laps = count / lap;
         let reach = h + count % lap;
@@ -101,14 +101,14 @@ impl Houses {
     }
 
     // Returns the rows after the capture that the last seed makes in the mover's house `i`, if it makes one.
-    fn capture(&self, h: u32, rows: RowNumbers, i: u32) -> RowNumbers
+    fn capture(&self, h: u8, rows: RowNumbers, i: u8) -> RowNumbers
         requires holds { HoldsSeeds (bare self.now) h }
         requires shows { Shows rows (sown (bare self.now) h) }
         requires low { 1 ≤ i }
         requires high { i ≤ length self.now.own }
         ensures { Shows result (captured (sown (bare self.now) h) (Some i)) }
     {
-        let across = self.m() as u32 - i + 1;
+        let across = self.m() - i + 1;
         let here = seeds_at(rows.own, i);
         let (last, taken) = caught(self.rule(), here, seeds_at(rows.other, across));
         RowNumbers {
@@ -124,16 +124,16 @@ impl Houses {
         ensures rows { Shows result.0 (after (bare self.now) h) }
         ensures again { result.1 ≡ is_again (bare self.now) h }
     {
-        let m = self.m() as u32;
+        let m = self.m();
         let lap = 2 * m + 1;
-        let count = self.own(h) as u32;
-        let rows = self.sow_laps(h as u32, count);
+        let count = self.own(h);
+        let rows = self.sow_laps(h, count);
         let far = (count - 1) % lap + 1;
-        let end = h as u32 + far;
+        let end = h + far;
         if end <= m {
-            (self.capture(h as u32, rows, end), false)
+            (self.capture(h, rows, end), false)
         } else if end > lap {
-            (self.capture(h as u32, rows, end - lap), false)
+            (self.capture(h, rows, end - lap), false)
         } else {
             (rows, end == m + 1)
         }
@@ -147,7 +147,7 @@ impl Houses {
         requires ends { seeds self.now.own h + h ≡ length self.now.own + 1 }
         ensures { result ≡ houses_step self.now h }
     {
-        let rows = self.sow_past_row(h as u32, self.m() as u32 + 1);
+        let rows = self.sow_past_row(h, self.m() + 1);
         let seeds = self.seeds - rows.store;
         let gained = rows.store as u8;
         if rows.own > 0 {
@@ -205,15 +205,15 @@ impl Houses {
         requires { Contains (legal_houses (bare self.now)) h }
         ensures { result ≡ houses_step self.now h }
     {
-        let m = self.m() as u32;
-        let count = self.own(h) as u32;
-        let reach = h as u32 + count;
+        let m = self.m();
+        let count = self.own(h);
+        let reach = h + count;
         if reach <= m {
-            let rows = self.sow_in_row(h as u32, count);
-            let rows = self.capture(h as u32, rows, reach);
+            let rows = self.sow_in_row(h, count);
+            let rows = self.capture(h, rows, reach);
             self.step(h, rows, false)
         } else if reach <= 2 * m + 1 {
-            let rows = self.sow_past_row(h as u32, reach);
+            let rows = self.sow_past_row(h, reach);
             self.step(h, rows, reach == m + 1)
         } else {
             let (rows, again) = self.after_lap(h);

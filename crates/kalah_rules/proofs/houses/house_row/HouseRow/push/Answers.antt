@@ -5,7 +5,7 @@ use Rattle.kalah_rules.proofs.HouseRows.{row_is_small, houses_pushed, row_pushed
 use Rattle.kalah_rules.proofs.houses.house_row.HouseRow.push.Goals as goal
 
 pub overflow_add-self : goal.overflow_add-self
-overflow_add-self c = let more = row_is_small (row_pushed c.args.seeds c.self.invariant c.if-total.false c.if-self.false) in
+overflow_add-self c = let more = row_is_small (row_pushed c.args.seeds c.self.invariant c.if-total.false c.if-self-ge-MOST_HOUSES.false) in
     let at : c.self.inside.count + 1 - 1 ≡ c.self.inside.count = omega arith in
     let gain = rw at at c.alone.ensures in
     omega (arith, more, gain)
@@ -13,13 +13,13 @@ overflow_add-self c = let more = row_is_small (row_pushed c.args.seeds c.self.in
 pub invariant_of-self : goal.invariant_of-self
 invariant_of-self c =
     let at : c.self.inside.count + 1 - 1 ≡ c.self.inside.count = omega arith in
-    rw (c.alone.ensures, at) (row_pushed c.args.seeds c.self.invariant c.if-total.false c.if-self.false)
+    rw (c.alone.ensures, at) (row_pushed c.args.seeds c.self.invariant c.if-total.false c.if-self-ge-MOST_HOUSES.false)
 
 pub returns-clause-room : goal.returns-clause-room
 returns-clause-room c =
     let long : length c.args.self.now ≡ c.self.inside.count = ap length (sym c.self.view_is) ∙ length-cells c.self.inside.count c.self.inside.number in
     let total : sum c.args.self.now ≡ c.self.inside.seeds = ap sum (sym c.self.view_is) ∙ c.self.invariant.seeds_are in
-    (λ t. (omega (arith, long, c.if-self.false), omega (arith, total, c.if-total.false)), λ room. refl)
+    (λ t. (omega (arith, long, c.if-self-ge-MOST_HOUSES.false), omega (arith, total, c.if-total.false)), λ room. refl)
 
 pub returns-clause-pushed : goal.returns-clause-pushed
 returns-clause-pushed c =
