@@ -141,8 +141,8 @@ impl Houses {
         rule_of(self.key / RULE)
     }
 
-    // Returns the mover's houses as a number.
-    fn own_row(&self) -> u64
+    /// Returns the mover's houses as a number with five bits for each, house 1 lowest: the lowest 30 bits of the key.
+    pub fn own_row(&self) -> u64
         ensures value { result ≡ number_of self.now.own }
         ensures small { result < 2 ^ 30 }
         ensures limits { IsWithinHouses self.now }
@@ -150,8 +150,8 @@ impl Houses {
         self.key % OTHER_ROW
     }
 
-    // Returns the other player's houses as a number.
-    fn other_row(&self) -> u64
+    /// Returns the other player's houses as such a number.
+    pub fn other_row(&self) -> u64
         ensures value { result ≡ number_of self.now.other }
         ensures small { result < 2 ^ 30 }
         ensures limits { IsWithinHouses self.now }

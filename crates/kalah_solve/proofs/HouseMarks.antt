@@ -6,16 +6,15 @@ use Rattle.std.proofs.lemmas.Nat.{xor_lt}
 use Rattle.std.proofs.lemmas.Bool.{cases_lt}
 use Rattle.std.proofs.lemmas.List.{get_or_past}
 use Rattle.kalah_rules.specs.Position.{Rows, IsWithinHouses}
-use Rattle.kalah_rules.specs.Key.{key_of}
-use Rattle.kalah_rules.proofs.Keys.{own_number_at}
+use Rattle.kalah_rules.specs.Key.{number_of}
 use Rattle.kalah_solve.specs.Search.Tried.{EndsInStore}
 use Rattle.kalah_solve.specs.RowMarks.{cell}
 use Rattle.kalah_solve.proofs.RowMarks.{cell_of_row, cell_past, one_other}
 
-module _ (a : Rows) (k : ℕ) (w : IsWithinHouses a) (key : key_of a ≡ k) where
+module _ (a : Rows) (row : ℕ) (w : IsWithinHouses a) (row_is : row ≡ number_of a.own) where
   -- the cells of the mover's row
-  own_cell : (i : ℕ) → cell (k % 2 ^ 30) i ≡ slice_index a.own i
-  own_cell i = ap (λ n. cell n i) (sym (own_number_at a k w key)) ∙ cell_of_row a.own i (omega (arith, w.few_seeds))
+  own_cell : (i : ℕ) → cell row i ≡ slice_index a.own i
+  own_cell i = ap (λ n. cell n i) row_is ∙ cell_of_row a.own i (omega (arith, w.few_seeds))
 
   -- past the last house there is none
   own_past : (i : ℕ) → length a.own ≤ i → slice_index a.own i ≡ 0
@@ -28,7 +27,7 @@ module _ (a : Rows) (k : ℕ) (w : IsWithinHouses a) (key : key_of a ≡ k) wher
       (λ ends. omega (arith, at, ends), λ is. omega (arith, at, is))
 
   -- what is marked has seeds
-  pub filled_marked : (n i : ℕ) → n < 2 ^ 30 → ((j : ℕ) → j < 6 → cell n j ≡ min 1 (cell (k % 2 ^ 30) j)) →
+  pub filled_marked : (n i : ℕ) → n < 2 ^ 30 → ((j : ℕ) → j < 6 → cell n j ≡ min 1 (cell row j)) →
       (0 < cell n i) ↔ (0 < slice_index a.own i)
   filled_marked n i small cells = elim (cases_lt i 6) [
     | inl inside ↦
@@ -42,8 +41,8 @@ module _ (a : Rows) (k : ℕ) (w : IsWithinHouses a) (key : key_of a ≡ k) wher
 
   -- the marks of those that end in the store
   module _ (m n : ℕ) (side : m ≡ length a.own) (small : n < 2 ^ 30)
-      (inside : (i : ℕ) → i < m → (0 < cell n i) ↔ (cell (k % 2 ^ 30) i + i ≡ m))
-      (past : (i : ℕ) → i < 6 → m ≤ i → cell (k % 2 ^ 30) i ≡ 0 → cell n i ≡ 0) where
+      (inside : (i : ℕ) → i < m → (0 < cell n i) ↔ (cell row i + i ≡ m))
+      (past : (i : ℕ) → i < 6 → m ≤ i → cell row i ≡ 0 → cell n i ≡ 0) where
     pub again_marked : (i : ℕ) → (0 < cell n i) ↔ ((i < length a.own) × EndsInStore a (i + 1))
     again_marked i = elim (cases_lt i m) [
       | inl is_inside ↦
@@ -60,16 +59,16 @@ module _ (a : Rows) (k : ℕ) (w : IsWithinHouses a) (key : key_of a ≡ k) wher
     ]
 
     -- and those of the others with seeds
-    pub other_marked : (f i : ℕ) → f < 2 ^ 30 → ((j : ℕ) → j < 6 → cell f j ≡ min 1 (cell (k % 2 ^ 30) j)) →
+    pub other_marked : (f i : ℕ) → f < 2 ^ 30 → ((j : ℕ) → j < 6 → cell f j ≡ min 1 (cell row j)) →
         ((j : ℕ) → j < 6 → cell n j ≤ 1) →
         cell (bit_xor f n) i ≡ bit_xor (cell f i) (cell n i) →
         (0 < cell (bit_xor f n) i) ↔ ((0 < slice_index a.own i) × ¬ EndsInStore a (i + 1))
     other_marked f i few cells single apart = elim (cases_lt i 6) [
       | inl low ↦
           let again = again_marked i in
-          let within : 0 < cell n i → 0 < cell (k % 2 ^ 30) i =
+          let within : 0 < cell n i → 0 < cell row i =
           λ some. let both = again.0 some in let ends = (ends_at i).0 both.1 in let before = both.0 in omega (arith, ends, own_cell i, before) in
-          let one = one_other (cell (k % 2 ^ 30) i) (cell f i) (cell n i) (cells i low) (single i low) within in (
+          let one = one_other (cell row i) (cell f i) (cell n i) (cells i low) (single i low) within in (
             λ some. let both = one.0 (omega (arith, apart, some)) in
                 let filled : 0 < slice_index a.own i = let has = both.0 in omega (arith, has, own_cell i) in (
                   filled,

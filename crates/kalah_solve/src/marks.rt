@@ -6,9 +6,6 @@ ghost use Rattle.kalah_solve.specs.RowMarks.{cell, each, distances, IsLastMark};
 
 use kalah_rules::Houses;
 
-// The place value of the other player's first house in a key.
-const OTHER_ROW: u64 = 0x4000_0000;
-
 // Each house of a row is marked.
 pub(crate) const ONE_EACH: u64 = 0x210_8421;
 
@@ -63,7 +60,7 @@ pub(crate) fn filled_houses(houses: &Houses) -> u64
     ensures small { result < 2 ^ 30 }
     ensures limits { IsWithinHouses houses.now }
 {
-    filled(houses.key() % OTHER_ROW)
+    filled(houses.own_row())
 }
 
 /// Returns the mover's houses whose last seed would fall into the store without a lap, marked.
@@ -72,7 +69,7 @@ pub(crate) fn again_houses(houses: &Houses) -> u64
     ensures small { result < 2 ^ 30 }
     ensures limits { IsWithinHouses houses.now }
 {
-    ending_in_store(houses.key() % OTHER_ROW, houses.m())
+    ending_in_store(houses.own_row(), houses.m())
 }
 
 /// Returns the mover's other houses that have seeds, marked.
@@ -81,7 +78,7 @@ pub(crate) fn other_houses(houses: &Houses) -> u64
     ensures small { result < 2 ^ 30 }
     ensures limits { IsWithinHouses houses.now }
 {
-    let row = houses.key() % OTHER_ROW;
+    let row = houses.own_row();
     filled(row) ^ ending_in_store(row, houses.m())
 }
 

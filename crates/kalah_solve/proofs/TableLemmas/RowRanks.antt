@@ -13,7 +13,7 @@ use Rattle.std.proofs.Math.ListN.{take}
 use Rattle.std.proofs.lemmas.List.Sums.{sum_by-cons}
 use Rattle.kalah_rules.specs.Position.{Rows, IsWithinHouses}
 use Rattle.kalah_rules.specs.Key.{number_of, key_of}
-use Rattle.kalah_rules.proofs.Keys.{same_key, rule_bit-small, own_number_at, other_number_at}
+use Rattle.kalah_rules.proofs.Keys.{same_key, rule_bit-small}
 use Rattle.kalah_rules.proofs.Packing.{number_of-append, pow_five}
 use Rattle.kalah_solve.specs.Table.RowRank.{choose, row_rank, sums_number, rank_of_houses, game_of}
 
@@ -145,18 +145,16 @@ sums_are (x ∷ xs) number seeds some is all below =
     }
 
 -- both rows of houses in one number
-pub both_rows : (a : Rows) (k m : ℕ) → IsWithinHouses a → k ≡ key_of a → m ≡ length a.own →
-    (k % 2 ^ 30 + k / 2 ^ 30 % 2 ^ 30 * 2 ^ (5 * m) % 2 ^ 64 ≡ number_of (a.own ++ a.other))
-    × (k % 2 ^ 30 + k / 2 ^ 30 % 2 ^ 30 * 2 ^ (5 * m) % 2 ^ 64 < 2 ^ 60)
-both_rows a k m within is side =
-    let own = own_number_at a k within (sym is) in
-    let other = other_number_at a k within (sym is) in
+pub both_rows : (a : Rows) (own other m : ℕ) → IsWithinHouses a → own ≡ number_of a.own → other ≡ number_of a.other → own < 2 ^ 30 →
+    other < 2 ^ 30 → m ≡ length a.own →
+    (own + other * 2 ^ (5 * m) % 2 ^ 64 ≡ number_of (a.own ++ a.other)) × (own + other * 2 ^ (5 * m) % 2 ^ 64 < 2 ^ 60)
+both_rows a own other m within own_is other_is own_small other_small side =
     let power : 2 ^ (5 * m) ≤ 2 ^ 30 = pow_mono {i = 5 * m} {j = 30} (omega (arith, within.at_most_six, side)) in
-    let below : k / 2 ^ 30 % 2 ^ 30 * 2 ^ (5 * m) ≤ (2 ^ 30 - 1) * 2 ^ 30 =
-    mul-le (k / 2 ^ 30 % 2 ^ 30) (2 ^ (5 * m)) (2 ^ 30 - 1) (2 ^ 30) (omega arith) power in
-    let shifted : k / 2 ^ 30 % 2 ^ 30 * 2 ^ (5 * m) ≡ 32 ^ length a.own * number_of a.other =
-    rw (pow_five m, side, ← other) (mul_comm (number_of a.other) (32 ^ length a.own)) in
-    (omega (arith, own, shifted, below, number_of-append a.own a.other), omega (arith, below))
+    let below : other * 2 ^ (5 * m) ≤ (2 ^ 30 - 1) * 2 ^ 30 =
+    mul-le other (2 ^ (5 * m)) (2 ^ 30 - 1) (2 ^ 30) (omega (arith, other_small)) power in
+    let shifted : other * 2 ^ (5 * m) ≡ 32 ^ length a.own * number_of a.other =
+    rw (pow_five m, side, other_is) (mul_comm (number_of a.other) (32 ^ length a.own)) in
+    (omega (arith, own_is, shifted, below, number_of-append a.own a.other), omega (arith, below, own_small))
 
 -- the last houses hold no more seeds than all
 sum-drop-le : (xs : List ℕ) (k : ℕ) → sum (drop k xs) ≤ sum xs

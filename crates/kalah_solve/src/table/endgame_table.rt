@@ -23,9 +23,6 @@ use std::sync::atomic::Ordering::SeqCst;
 // The inverse of 31 modulo 2^64: a multiple of 31 is divided by 31 if it is multiplied by this.
 const INVERSE_OF_31: u64 = 0xEF7B_DEF7_BDEF_7BDF;
 
-// The place value of the other player's first house in a key.
-const OTHER_ROW: u64 = 0x4000_0000;
-
 /// The known endings of houses with at most 9 seeds: one word for each eight of them with consecutive ranks. Threads may share
 /// it, since what a word states is true, whichever thread wrote it.
 #[derive(Drop)]
@@ -103,9 +100,7 @@ fn joined_rows(houses: &Houses) -> u64
     ensures small { result < 2 ^ 60 }
     ensures limits { IsWithinHouses houses.now }
 {
-    let key = houses.key();
-    let other = key / OTHER_ROW % OTHER_ROW;
-    key % OTHER_ROW + (other << (5 * houses.m() as u32))
+    houses.own_row() + (houses.other_row() << (5 * houses.m() as u32))
 }
 
 // Returns the number of seeds in that row from each house on: a number with five bits for each.

@@ -1,8 +1,7 @@
-use Rattle.std.proofs.Common.{sym}
 use Rattle.kalah_solve.proofs.HouseMarks.{again_marked}
 use Rattle.kalah_solve.proofs.marks.again_houses.Goals as goal
 
 pub returns-clause-marked : goal.returns-clause-marked
 returns-clause-marked c =
-    again_marked c.args.houses.now c.key.result c.key.ensures.limits (sym c.key.ensures.key) c.m.result c.ending_in_store.result c.m.ensures.side
+    again_marked c.args.houses.now c.own_row.result c.own_row.ensures.limits c.own_row.ensures.value c.m.result c.ending_in_store.result c.m.ensures.side
     c.ending_in_store.ensures.small c.ending_in_store.ensures.inside c.ending_in_store.ensures.past
