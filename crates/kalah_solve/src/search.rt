@@ -6,6 +6,7 @@ ghost use Rattle.kalah_solve.specs.Solver.Worth.{houses_worth};
 ghost use Rattle.kalah_solve.specs.Bounds.Intervals.{Encloses, least_margin, most_margin, within};
 ghost use Rattle.kalah_solve.specs.Table.Entries.{most_entries, empty_table};
 ghost use Rattle.kalah_solve.specs.Bounds.Won.{won, IsWithinBounds};
+ghost use Rattle.kalah_solve.specs.Table.EndgameTable.{most_ending_seeds};
 
 pub(crate) mod move_order;
 pub(crate) mod ranks;
@@ -17,6 +18,7 @@ use crate::bounds::interval::Interval;
 use crate::bounds::seed_bounds::SeedBounds;
 use crate::bounds::window::Window;
 use crate::table::Table;
+use crate::table::endgame_table::MOST_ENDING_SEEDS;
 use kalah_rules::Houses;
 use std::alloc::{AllocError, Allocator, Global};
 
@@ -29,18 +31,21 @@ const LEAST_WORK: u64 = 60;
 /// A search with this many nodes is long. From then on it has all its places, which cost a short one more than they save.
 const LONG_SEARCH: u64 = 300_000;
 
-/// The endings of up to 9 seeds are used once houses with this many seeds or more were searched and the search has `MUCH_WORK`
-/// nodes, and until then those of up to 8: finding more costs a search of few seeds, or a short one, more than it saves.
+/// A search begins with the endings of up to this many seeds.
+const FIRST_ENDING_SEEDS: u8 = 8;
+
+/// All endings are used once houses with this many seeds or more were searched and the search has `MUCH_WORK` nodes: finding more
+/// of them costs a search of few seeds, or a short one, more than it saves.
 const MANY_SEEDS: u8 = 17;
 
-/// The number of nodes from which the endings of 9 seeds pay.
+/// The number of nodes from which all endings pay.
 const MUCH_WORK: u64 = 60_000;
 
 // The most seeds of the endings that a search uses.
 #[derive(Clone, Copy)]
 struct EndingLimit {
     seeds: u8,
-    ghost few: { seeds ≤ 9 },
+    ghost few: { seeds ≤ most_ending_seeds },
 }
 
 /// A search with its table. Its results depend on none of its limits.
@@ -63,7 +68,9 @@ impl<A: Allocator + Clone> Search<A> {
             table,
             most_placed: MOST_PLACED,
             least_work: LEAST_WORK,
-            ending_limit: EndingLimit { seeds: 8 },
+            ending_limit: EndingLimit {
+                seeds: FIRST_ENDING_SEEDS,
+            },
             seen_many_seeds: false,
             nodes: 0,
         }
@@ -180,16 +187,18 @@ impl<A: Allocator + Clone> Search<A> {
         before
     }
 
-    // Uses the endings of 9 seeds from now on, if the search uses endings and had many seeds and much work.
+    // Uses all endings from now on, if the search uses endings and had many seeds and much work.
     fn grow_endings(&mut self) {
         if self.seen_many_seeds && self.nodes >= MUCH_WORK && self.ending_limit.seeds > 0 {
-            self.ending_limit = EndingLimit { seeds: 9 };
+            self.ending_limit = EndingLimit {
+                seeds: MOST_ENDING_SEEDS,
+            };
         }
     }
 
     // Returns the most seeds for which the result is looked up among the endings.
     fn max_ending_seeds(&self) -> u8
-        ensures { result ≤ 9 }
+        ensures { result ≤ most_ending_seeds }
     {
         self.ending_limit.seeds
     }

@@ -2,9 +2,10 @@
 ghost use Rattle.std.specs.Prelude.{◌≡◌, ◌≤◌, ◌⊎◌, length, min, nat_eq, IfOk, IfSome, IsSome, Some, ◌≤ℤ◌, ℤ, ◌<ℤ◌, false};
 ghost use Rattle.std.specs.Map.{lookup};
 ghost use Rattle.kalah_rules.specs.Key.{key_of};
-ghost use Rattle.kalah_rules.specs.Position.{bare, is_over, seeds_in_houses};
+ghost use Rattle.kalah_rules.specs.Position.{bare, is_over};
 ghost use Rattle.kalah_solve.specs.Table.Entries.{most_entries, empty_table};
 ghost use Rattle.kalah_solve.specs.Table.DirectTable.{places_for};
+ghost use Rattle.kalah_solve.specs.Table.EndgameTable.{IsEnding};
 ghost use Rattle.kalah_solve.specs.Solver.Worth.{houses_worth};
 
 pub(crate) mod direct_table;
@@ -135,7 +136,7 @@ impl<A: Allocator + Clone> Table<A> {
     // Returns how many seeds the mover takes from houses with few seeds.
     pub(crate) fn won(&mut self, houses: Houses) -> u8
         requires going { is_over (bare houses) ≡ false }
-        requires few { seeds_in_houses (bare houses) ≤ 9 }
+        requires few { IsEnding houses }
         ensures taken { result ≡ won houses }
         ensures kept { self.new ≡ self.old }
     {

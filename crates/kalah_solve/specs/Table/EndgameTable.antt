@@ -1,8 +1,16 @@
 -- What the words of endings store.
-use Rattle.std.specs.Prelude.{◌≡◌, ℕ, ◌+◌, ◌*◌, ◌/◌, ◌%◌, ◌^◌, ◌<◌, ◌≢◌, suc, List, slice_index}
-use Rattle.kalah_rules.specs.Position.{Rows, IsWithinHouses}
+use Rattle.std.specs.Prelude.{◌≡◌, ℕ, ◌+◌, ◌*◌, ◌/◌, ◌%◌, ◌^◌, ◌<◌, ◌≤◌, ◌≢◌, suc, List, slice_index}
+use Rattle.kalah_rules.specs.Position.{Rows, bare, seeds_in_houses, IsWithinHouses}
 use Rattle.kalah_solve.specs.Table.RowRank.{choose, game_of, rank_of_houses}
 use Rattle.kalah_solve.specs.Bounds.Won.{won}
+
+-- the most seeds of an ending
+abbrev pub most_ending_seeds : ℕ
+most_ending_seeds = 9
+
+-- houses with so few seeds are an ending
+abbrev pub IsEnding : Rows → Type 0
+IsEnding a = seeds_in_houses (bare a) ≤ most_ending_seeds
 
 -- cell k of the choices: the number of ways to choose j + 1 of s + j things, where k is 10 * j + s
 abbrev pub choice_at : ℕ → ℕ

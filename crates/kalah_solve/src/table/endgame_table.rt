@@ -1,10 +1,10 @@
 //! The exact number of seeds that the mover takes from houses with few seeds, kept once it is known.
 ghost use Rattle.std.specs.Prelude.{◌≡◌, ◌≤◌, ◌<◌, ◌+◌, ◌*◌, ◌/◌, ◌%◌, ◌^◌, ◌++◌, ℕ, IfSome};
-ghost use Rattle.kalah_rules.specs.Position.{bare, seeds_in_houses, IsWithinHouses};
+ghost use Rattle.kalah_rules.specs.Position.{IsWithinHouses};
 ghost use Rattle.kalah_rules.specs.Key.{number_of};
 ghost use Rattle.kalah_solve.specs.Table.RowRank.{choose, sums_number, rank_of_houses};
 ghost use Rattle.kalah_solve.specs.Bounds.Won.{won};
-ghost use Rattle.kalah_solve.specs.Table.EndgameTable.{AreChoices, choice_at, ArePairs, pair_at};
+ghost use Rattle.kalah_solve.specs.Table.EndgameTable.{IsEnding, AreChoices, choice_at, ArePairs, pair_at};
 
 mod exact;
 #[cfg(test)]
@@ -20,10 +20,13 @@ use std::marker::Model;
 use std::sync::atomic::AtomicIn;
 use std::sync::atomic::Ordering::SeqCst;
 
+/// The most seeds of an ending.
+pub(crate) const MOST_ENDING_SEEDS: u8 = 9;
+
 // The inverse of 31 modulo 2^64: a multiple of 31 is divided by 31 if it is multiplied by this.
 const INVERSE_OF_31: u64 = 0xEF7B_DEF7_BDEF_7BDF;
 
-/// The known endings of houses with at most 9 seeds: one word for each eight of them with consecutive ranks. Threads may share
+/// The known endings: one word for each eight of them with consecutive ranks. Threads may share
 /// it, since what a word states is true, whichever thread wrote it.
 #[derive(Drop)]
 pub(crate) struct EndgameTable<A: Allocator = Global> {
@@ -137,7 +140,7 @@ impl<A: Allocator> EndgameTable<A> {
     // houses, so that it can be unrolled.
     #[inline(always)]
     fn rank(&self, houses: &Houses) -> u32
-        requires { seeds_in_houses (bare houses.now) ≤ 9 }
+        requires { IsEnding houses.now }
         ensures rank { result ≡ rank_of_houses houses.now }
         ensures small { result < 2 ^ 21 }
     {
@@ -180,7 +183,7 @@ impl<A: Allocator> EndgameTable<A> {
         requires rank { rank ≡ rank_of_houses houses.now }
         requires small { rank < 2 ^ 21 }
         requires known { known ≡ won houses.now }
-        requires few { seeds_in_houses (bare houses.now) ≤ 9 }
+        requires few { IsEnding houses.now }
     {
         let label = label_of(houses, rank);
         if let Some(cell) = self.word(houses, rank) {

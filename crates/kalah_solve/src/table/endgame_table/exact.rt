@@ -1,8 +1,9 @@
 //! The number of seeds that the mover takes from houses with few seeds, by trying each move to the end.
 ghost use Rattle.std.specs.Prelude.{◌≡◌, ◌≤◌, ◌<◌, ◌^◌, false, Contains};
-ghost use Rattle.kalah_rules.specs.Position.{bare, seeds_in_houses, is_over};
+ghost use Rattle.kalah_rules.specs.Position.{bare, is_over};
 ghost use Rattle.kalah_rules.specs.Play.{legal_houses};
 ghost use Rattle.kalah_rules.specs.HousesStep.{houses_step};
+ghost use Rattle.kalah_solve.specs.Table.EndgameTable.{IsEnding};
 ghost use Rattle.kalah_solve.specs.Table.RowRank.{rank_of_houses};
 ghost use Rattle.kalah_solve.specs.Bounds.Won.{won, won_by_step};
 
@@ -17,7 +18,7 @@ impl<A: Allocator> EndgameTable<A> {
     #[inline(always)]
     pub(crate) fn won(&self, houses: Houses) -> u8
         requires going { is_over (bare houses) ≡ false }
-        requires few { seeds_in_houses (bare houses) ≤ 9 }
+        requires few { IsEnding houses }
         ensures { result ≡ won houses }
     {
         let rank = self.rank(&houses);
@@ -32,7 +33,7 @@ impl<A: Allocator> EndgameTable<A> {
     #[inline(never)]
     fn learn(&self, houses: Houses, rank: u32) -> u8
         requires going { is_over (bare houses) ≡ false }
-        requires few { seeds_in_houses (bare houses) ≤ 9 }
+        requires few { IsEnding houses }
         requires rank { rank ≡ rank_of_houses houses }
         requires small { rank < 2 ^ 21 }
         ensures { result ≡ won houses }
@@ -46,7 +47,7 @@ impl<A: Allocator> EndgameTable<A> {
     #[cycle(exact)]
     fn most_won(&self, houses: &Houses) -> u8
         requires going { is_over (bare houses.now) ≡ false }
-        requires few { seeds_in_houses (bare houses.now) ≤ 9 }
+        requires few { IsEnding houses.now }
         ensures { result ≡ won houses.now }
     {
         let seeds = houses.seeds();
@@ -67,7 +68,7 @@ impl<A: Allocator> EndgameTable<A> {
     #[cycle(exact)]
     fn move_wins(&self, houses: &Houses, h: u8) -> u8
         requires legal { Contains (legal_houses (bare houses.now)) h }
-        requires few { seeds_in_houses (bare houses.now) ≤ 9 }
+        requires few { IsEnding houses.now }
         ensures { result ≡ won_by_step (houses_step houses.now h) }
     {
         let _seeds = houses.seeds();

@@ -1,5 +1,5 @@
 ghost use Rattle.std.specs.Prelude.{◌≤◌};
-ghost use Rattle.kalah_rules.specs.Position.{bare, seeds_in_houses};
+ghost use Rattle.kalah_solve.specs.Table.EndgameTable.{IsEnding};
 
 use super::*;
 use crate::solver::verdict::Verdict;
@@ -67,7 +67,7 @@ fn endings_agree_with_plain(rt: HostRuntime) {
 
 // The place of the ending of the houses: eight of them in each word.
 fn place(endings: &EndgameTable, houses: &Houses) -> Option<usize>
-    requires { seeds_in_houses (bare houses.now) ≤ 9 }
+    requires { IsEnding houses.now }
 {
     let rank = endings.rank(houses) as usize;
     let first = FIRST_WORDS[game_of(houses) as usize] as usize;
@@ -118,7 +118,7 @@ fn an_ending_is_known_once_it_was_asked_for(rt: HostRuntime) {
     assert!(rt; endings.get(&houses, rank) == Some(6));
 }
 
-// How many words there are for houses with at most 9 seeds, eight in each word, with 1 to 6 houses a side.
+// How many words there are for endings, eight in each word, with 1 to 6 houses a side.
 const WORDS_OF_SIDES: [u32; 6] = [7, 90, 626, 3_039, 11_548, 36_742];
 
 // The words of the six games from `game` on begin at `first` and follow one another. Returns the word after the last of them.

@@ -8,7 +8,7 @@ use kalah_rules::Houses;
 use std::alloc::{AllocError, Allocator};
 use std::sync::atomic::{AtomicIn, Rule};
 
-// The number of words for all endings of houses with at most 9 seeds, by both rules, with 1 to 6 houses a side.
+// The number of words for all endings, by both rules, with 1 to 6 houses a side.
 const WORDS: usize = 104_104;
 
 // The index of the first word of each game.
