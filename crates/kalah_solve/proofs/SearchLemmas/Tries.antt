@@ -118,7 +118,7 @@ all_at_most a most w going each = let best = taken_reached a w going in omega (a
 
 -- each house with a rank waits with its turn
 pub record AreTurns (a : Rows) (ranks : List ℕ) (turns : List Rows) : Type 0 where
-  pub cells : length ranks ≡ 6
+  pub cells : length ranks ≡ 8
   pub each : (k : ℕ) → 0 < get_or ranks k 0 → (d : Rows) → IsTurnOf a (k + 1) (get_or ranks k 0) (get_or turns k d)
 
 -- one house more
@@ -154,16 +154,6 @@ pub record WaitsWith (a : Rows) (ranks : List ℕ) (turns : List Rows) (r : ℕ)
   pub place : r % 8 < 6
   pub rank : get_or ranks (r % 8) 0 ≡ r
   pub turn : (d : Rows) → IsTurnOf a (r % 8 + 1) r (get_or turns (r % 8) d)
-
-pub turn_at : (a : Rows) (ranks : List ℕ) (turns : List Rows) (rank : ℕ) → AreTurns a ranks turns → Contains ranks rank → 0 < rank →
-    WaitsWith a ranks turns rank
-turn_at a ranks turns rank are found some =
-    let k = found.0 in
-    let here : get_or ranks k 0 ≡ rank = get_or_default ranks k 0 rank found.1 ∙ found.2 in
-    let turn : (d : Rows) → IsTurnOf a (k + 1) rank (get_or turns k d) =
-    λ d. subst (λ r. IsTurnOf a (k + 1) r (get_or turns k d)) here (are.each k (omega (arith, here, some)) d) in
-    let same : rank % 8 ≡ k = omega (arith, (turn a).house) in
-    record { place = omega (arith, same, found.1, are.cells); rank = rw same here; turn = rw same turn }
 
 -- each house with a rank waits, and each other one that may be moved takes at most `most` seeds, or ends in the store, or is
 -- still marked
@@ -207,7 +197,7 @@ module _ (a : Rows) (most marks h : ℕ) (ranks : List ℕ) (turns : List Rows) 
   }
 
 -- before any was played
-pub ranked_none : (a : Rows) (most marks : ℕ) (ranks : List ℕ) (turns : List Rows) → length ranks ≡ 6 → length turns ≡ 6 →
+pub ranked_none : (a : Rows) (most marks : ℕ) (ranks : List ℕ) (turns : List Rows) → length ranks ≡ 8 → length turns ≡ 6 →
     ((k : ℕ) → get_or ranks k 0 ≡ 0) →
     ((i : ℕ) → (0 < cell marks i) ↔ ((0 < get_or a.own i 0) × ¬ EndsInStore a (i + 1))) → AreRanked a most marks ranks turns
 ranked_none a most marks ranks turns cells places empty marked = record {
@@ -284,8 +274,21 @@ pub record AreUntried (a : Rows) (most : ℕ) (ranks : List ℕ) (turns : List R
   pub waiting : AreTurns a ranks turns
   pub tried : (h : ℕ) → Contains (legal_houses (bare a)) h → get_or ranks (h - 1) 0 ≡ 0 → WinsAtMost a most h
 
+-- of which the one with a given rank waits with its turn
+pub turn_at : {a : Rows} {most : ℕ} {ranks : List ℕ} {turns : List Rows} {rank : ℕ} → IsWithinHouses a → AreUntried a most ranks turns →
+    Contains ranks rank → 0 < rank → WaitsWith a ranks turns rank
+turn_at {a} {most} {ranks} {turns} {rank} w untried found some =
+    let are = untried.waiting in
+    let k = found.0 in
+    let here : get_or ranks k 0 ≡ rank = get_or_default ranks k 0 rank found.1 ∙ found.2 in
+    let turn : (d : Rows) → IsTurnOf a (k + 1) rank (get_or turns k d) =
+    λ d. subst (λ r. IsTurnOf a (k + 1) r (get_or turns k d)) here (are.each k (omega (arith, here, some)) d) in
+    let same : rank % 8 ≡ k = omega (arith, (turn a).house) in
+    let holds = legal_holds (bare a) (k + 1) (turn a).legal in
+    record { place = omega (arith, same, holds.last, w.at_most_six); rank = rw same here; turn = rw same turn }
+
 -- before any was tried, but those that end in the store
-pub untried_first : (a : Rows) (bar again others : ℕ) (ranks : List ℕ) (turns : List Rows) (new : ℕ) → length ranks ≡ 6 →
+pub untried_first : (a : Rows) (bar again others : ℕ) (ranks : List ℕ) (turns : List Rows) (new : ℕ) → length ranks ≡ 8 →
     AreWaiting a bar others ranks turns → ((h : ℕ) → Contains (legal_houses (bare a)) h → EndsInStore a h → WinsAtMost a again h) → others < bar →
     new ≡ max again others → AreUntried a new ranks turns
 untried_first a bar again others ranks turns new cells are ends short new_is = record {

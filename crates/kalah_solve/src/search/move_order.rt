@@ -55,7 +55,7 @@ fn sum(rows: u64) -> u32
 ///
 /// It counts most of all what came to the store, and how few houses the other player can choose from; then what lies in the mover's
 /// own houses, how many of those could move again, and how near to the store they are.
-pub(crate) fn priority(h: u8, gained: u8, next: &Houses) -> u32
+pub(crate) fn priority(h: u8, gained: u8, next: &Houses) -> u16
     requires first { 1 ≤ h }
     requires last { h ≤ 6 }
     ensures some { 0 < result }
@@ -69,5 +69,5 @@ pub(crate) fn priority(h: u8, gained: u8, next: &Houses) -> u32
     let kept = 2 * sum(own) + choices + 31 - (own % 32) as u32;
     let left = 2 * sum(filled.wrapping_mul(3).wrapping_add(ending));
     let estimate = 16 * gained as u32 + 2 * h as u32 + kept + 63 - left;
-    8 * estimate + (h as u32 - 1)
+    (8 * estimate + (h as u32 - 1)) as u16
 }

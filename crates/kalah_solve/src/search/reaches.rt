@@ -10,7 +10,7 @@ ghost use Rattle.kalah_solve.specs.Search.Tried.{IsSoftBound, WinsAtMost, EndsIn
 use crate::marks::{again_houses, other_houses, split_last};
 use crate::search::Search;
 use crate::search::move_order::priority;
-use crate::search::ranks::highest;
+use crate::search::ranks::{Ranks, highest};
 use kalah_rules::{Houses, HousesStep};
 use std::alloc::Allocator;
 
@@ -19,7 +19,7 @@ use std::alloc::Allocator;
 #[derive(Clone, Copy)]
 enum Look {
     Bounded(u8),
-    Waits(u32, Houses),
+    Waits(u16, Houses),
 }
 
 impl<A: Allocator + Clone> Search<A> {
@@ -58,7 +58,7 @@ impl<A: Allocator + Clone> Search<A> {
         if bar <= again {
             return again;
         }
-        let mut ranks = [0u32; 6];
+        let mut ranks = [0u16; 8];
         let mut turns = [houses; 6];
         let others = self.others_waiting(&houses, bar, &mut ranks, &mut turns);
         if bar <= others {
@@ -110,7 +110,7 @@ impl<A: Allocator + Clone> Search<A> {
         &mut self,
         houses: &Houses,
         bar: u8,
-        ranks: &mut [u32; 6],
+        ranks: &mut Ranks,
         turns: &mut [Houses; 6],
     ) -> u8
         requires going { is_over (bare houses.now) ≡ false }

@@ -52,31 +52,27 @@ bound_turn-returns-else-all-bar g t c =
 pub explore-bounds-ranks-at : goal.explore-bounds-ranks-at
 explore-bounds-ranks-at g t c =
     let before = c.loop-rank.invariant in
-    let here = turn_at c.args.houses.now c.loop-rank.ranks c.others_waiting-others.new.turns c.loop-rank.rank before.untried.waiting before.found
-    (omega (arith, c.loop-rank-test.true)) in
+    let here = turn_at c.seeds-seeds.ensures.limits before.untried before.found (omega (arith, c.loop-rank-test.true)) in
     omega (arith, here.place)
 
 pub explore-listed : goal.explore-listed
 explore-listed g t c =
     let before = c.loop-rank.invariant in
-    let here = turn_at c.args.houses.now c.loop-rank.ranks c.others_waiting-others.new.turns c.loop-rank.rank before.untried.waiting before.found
-    (omega (arith, c.loop-rank-test.true)) in
+    let here = turn_at c.seeds-seeds.ensures.limits before.untried before.found (omega (arith, c.loop-rank-test.true)) in
     let long : length c.others_waiting-others.new.turns ≡ 6 = search rules in
     omega (arith, here.place, long)
 
 pub explore-bounds-turns-at : goal.explore-bounds-turns-at
 explore-bounds-turns-at g t c =
     let before = c.loop-rank.invariant in
-    let here = turn_at c.args.houses.now c.loop-rank.ranks c.others_waiting-others.new.turns c.loop-rank.rank before.untried.waiting before.found
-    (omega (arith, c.loop-rank-test.true)) in
+    let here = turn_at c.seeds-seeds.ensures.limits before.untried before.found (omega (arith, c.loop-rank-test.true)) in
     omega (arith, here.place)
 
 pub explore-overflow_sub-seeds : goal.explore-overflow_sub-seeds
 explore-overflow_sub-seeds g t c =
     let a = c.args.houses.now in
     let before = c.loop-rank.invariant in
-    let here = turn_at c.args.houses.now c.loop-rank.ranks c.others_waiting-others.new.turns c.loop-rank.rank before.untried.waiting before.found
-    (omega (arith, c.loop-rank-test.true)) in
+    let here = turn_at c.seeds-seeds.ensures.limits before.untried before.found (omega (arith, c.loop-rank-test.true)) in
     omega (arith, turn_keeps a _ _ _ c.seeds-seeds.ensures.limits (here.turn c.index-turns-at.result))
 
 pub explore-bound_turn-bound-requires : goal.explore-bound_turn-bound-requires
@@ -84,8 +80,7 @@ explore-bound_turn-bound-requires g t c κs within =
     let a = c.args.houses.now in
     let limits = c.seeds-seeds.ensures.limits in
     let before = c.loop-rank.invariant in
-    let here = turn_at c.args.houses.now c.loop-rank.ranks c.others_waiting-others.new.turns c.loop-rank.rank before.untried.waiting before.found
-    (omega (arith, c.loop-rank-test.true)) in
+    let here = turn_at c.seeds-seeds.ensures.limits before.untried before.found (omega (arith, c.loop-rank-test.true)) in
     let turn = here.turn c.index-turns-at.result in (
       omega (arith, step_falls a (c.loop-rank.rank % 8 + 1) _ limits turn.legal (sym turn.step)),
       (within, rw (c.seeds-seeds.ensures.seeds, c.seeds.ensures.seeds) (goes_on a (c.loop-rank.rank % 8 + 1) _ limits turn.legal (sym turn.step))),
@@ -95,8 +90,7 @@ pub explore-returns-then-bar-bound : goal.explore-returns-then-bar-bound
 explore-returns-then-bar-bound g t c =
     let a = c.args.houses.now in
     let before = c.loop-rank.invariant in
-    let here = turn_at c.args.houses.now c.loop-rank.ranks c.others_waiting-others.new.turns c.loop-rank.rank before.untried.waiting before.found
-    (omega (arith, c.loop-rank-test.true)) in
+    let here = turn_at c.seeds-seeds.ensures.limits before.untried before.found (omega (arith, c.loop-rank-test.true)) in
     record {
       lower = turn_enough a c.args.bar _ _ _ _ c.seeds-seeds.ensures.limits (here.turn c.index-turns-at.result)
           (rw (c.seeds-seeds.ensures.seeds, c.seeds.ensures.seeds) at c.bound_turn-bound.ensures);
@@ -106,8 +100,7 @@ explore-returns-then-bar-bound g t c =
 pub explore-loop-rank-preserved : goal.explore-loop-rank-preserved
 explore-loop-rank-preserved g t c =
     let before = c.loop-rank.invariant in
-    let here = turn_at c.args.houses.now c.loop-rank.ranks c.others_waiting-others.new.turns c.loop-rank.rank before.untried.waiting before.found
-    (omega (arith, c.loop-rank-test.true)) in
+    let here = turn_at c.seeds-seeds.ensures.limits before.untried before.found (omega (arith, c.loop-rank-test.true)) in
     let turn = here.turn c.index-turns-at.result in
     record {
       low = omega (arith, c.max-most-in-loop-rank.ensures, before.low, c.if-bar-bound.false);
@@ -122,8 +115,7 @@ explore-loop-rank-preserved g t c =
 pub explore-loop-rank-smaller : goal.explore-loop-rank-smaller
 explore-loop-rank-smaller g t c =
     let before = c.loop-rank.invariant in
-    let here = turn_at c.args.houses.now c.loop-rank.ranks c.others_waiting-others.new.turns c.loop-rank.rank before.untried.waiting before.found
-    (omega (arith, c.loop-rank-test.true)) in
+    let here = turn_at c.seeds-seeds.ensures.limits before.untried before.found (omega (arith, c.loop-rank-test.true)) in
     let cells = before.untried.waiting.cells in
     omega (arith, here.rank, c.loop-rank-test.true, sum_by-set (λ x. x) c.loop-rank.ranks (c.loop-rank.rank % 8) 0 0 (omega (arith, here.place, cells)))
 

@@ -37,7 +37,7 @@ pub returns-clause-found : goal.returns-clause-found
 returns-clause-found c = c.loop-i.invariant.found
 
 pub returns-clause-highest : goal.returns-clause-highest
-returns-clause-highest c = λ k. elim (cases_lt k 6) [
+returns-clause-highest c = λ k. elim (cases_lt k 8) [
   | inl inside ↦ c.loop-i.invariant.highest k (omega (arith, inside, c.loop-i-test.false))
   | inr past ↦ rw (get_or_past c.args.ranks.now k 0 (omega (arith, past, c.told-ranks))) (omega arith)
 ]
