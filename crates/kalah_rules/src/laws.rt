@@ -14,9 +14,9 @@ pub fn sowing_is_seed_by_seed()
     ensures { SowingIsSeedBySeed }
 {}
 
-/// States how the numbers of ways to play on belong together, for all positions and both rules of capture: those of `n + 1` moves
-/// are those of `n` moves behind each legal move, together. With no move there is one way, and with one move there are as many as
-/// legal moves. For `m` houses a side there are at most `m` to the power of `n`.
+/// States how the numbers of ways to play on are related, for all positions and both rules of capture: the number for `n + 1` moves
+/// is the sum, over all legal moves, of the number for `n` moves behind that move. There is one way of no moves, and for one move the
+/// number is that of legal moves. With `m` houses a side, there are at most `m` to the power of `n` ways of `n` moves.
 pub fn ways_add_up()
     ensures { WaysAddUp }
 {}

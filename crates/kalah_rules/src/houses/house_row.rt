@@ -3,13 +3,16 @@ ghost use Rattle.std.specs.Prelude.{◌≡◌, ◌+◌, ◌<◌, ◌≤◌, ◌�
 ghost use Rattle.kalah_rules.specs.Key.{number_of};
 ghost use Rattle.kalah_rules.specs.Limits.{most_houses, most_seeds};
 
+#[cfg(test)]
+mod tests;
+
 use crate::houses::numbers::alone;
 use crate::limits::{MOST_HOUSES, MOST_SEEDS};
 use std::marker::Model;
 
 /// The houses of one side, house 1 first: at most six, with at most 31 seeds together. They are stored as they stand in the key of
 /// a board, with their number and the number of their seeds.
-#[derive(Drop)]
+#[derive(Clone, Debug, Drop)]
 pub struct HouseRow {
     pub(super) number: u64,
     pub(super) seeds: u64,
@@ -80,6 +83,3 @@ impl HouseRow {
         self.seeds
     }
 }
-
-#[cfg(test)]
-mod tests;

@@ -1,7 +1,7 @@
 use crate::{Board, HouseRow, Rule};
 use std::process::Abort;
 
-// Returns the row of these houses, all of which have room.
+// Returns the row of these houses, which must all have room.
 fn row(rt: &impl Abort, houses: &[u8]) -> HouseRow {
     let mut row = HouseRow::new();
     for seeds in houses {
