@@ -60,6 +60,7 @@ fn read_file<'a, R: Files>(rt: &R, alloc: Global, name: &'a str) -> Result<FileT
     ensures named { IfOk result (λ file. file.name ≡ name.now) }
     ensures within { IfOk result (λ file. length file.bytes ≤ most_file_bytes) }
     ensures not_written { IfErr result (λ failure. failure ≢ Failure.Write) }
+    ensures not_line_feed { IfErr result (λ failure. failure ≢ Failure.LineFeed) }
 {
     let Ok(mut file) = fs::open(rt, name) else {
         return Err(Failure::Unreadable(name));
@@ -84,6 +85,7 @@ pub(crate) fn read_files<'a, R: Files>(
     ensures named { IfOk result
         (λ files. map (λ file. file.name) files.items ≡ map (λ name. name.now) names.now) }
     ensures not_written { IfErr result (λ failure. failure ≢ Failure.Write) }
+    ensures not_line_feed { IfErr result (λ failure. failure ≢ Failure.LineFeed) }
 {
     let mut files = Vec::new(alloc);
     for name in names {

@@ -47,6 +47,8 @@ fn answer_files<'a, R: Files + Threads + Wait + Sync + StandardError, O: Sink>(
         (O.written out.old) (O.written out.new) }
     ensures one_line { OnOk result
         (list_any has_line_feed (map (λ name. name.now) request.now.files.items) ≡ false) }
+    ensures line_feed { IsErrOf result Failure.LineFeed
+        ↔ list_any has_line_feed (map (λ name. name.now) request.now.files.items) ≡ true }
     ensures handed_on { OnOk result (O.is_handed_on out.new ≡ true) }
     ensures failed { O.has_failed out.new ≡ true ↔ IsErrOf result Failure.Write }
     ensures unchanged { IfErr result
