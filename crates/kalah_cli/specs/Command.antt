@@ -8,32 +8,21 @@ use Rattle.kalah_rules.specs.Limits.{most_depth, most_houses}
 use Rattle.kalah_solve.specs.Table.Entries.{most_entries}
 use Rattle.kalah_run.specs.Limits.{most_workers}
 
+-- an argument with one value
+abbrev pub value_rule : Text → Rule
+value_rule name = record (new_rule name) { value_names = 1; action = Some Set }
+
 -- LINE: one value, which is required
 abbrev pub line_rule : Rule
-line_rule = record (new_rule (codes "line")) {
-  required = true;
-  value_names = 1;
-  action = Some Set;
-}
+line_rule = record (value_rule (codes "line")) { required = true }
 
 -- `--NAME N`: a number from 1 to the most, and the default if it isn't given
 abbrev pub number_rule : Text → ℕ → Text → Rule
-number_rule name most default = record (new_rule name) {
-  long = Some name;
-  value_names = 1;
-  action = Some Set;
-  parser = Some (Unsigned 1 most);
-  defaults = default ∷ [];
-}
+number_rule name most default = record (value_rule name) { long = Some name; parser = Some (Unsigned 1 most); defaults = default ∷ [] }
 
 -- DEPTH: a number up to the most, which is required
 abbrev pub depth_rule : Rule
-depth_rule = record (new_rule (codes "depth")) {
-  required = true;
-  value_names = 1;
-  action = Some Set;
-  parser = Some (Unsigned 0 most_depth);
-}
+depth_rule = record (value_rule (codes "depth")) { required = true; parser = Some (Unsigned 0 most_depth) }
 
 -- `--workers N`: 1 to the most workers, and 4 if it isn't given
 abbrev pub workers_rule : Rule
@@ -45,27 +34,15 @@ table_rule = number_rule (codes "table") most_entries (codes "65536")
 
 -- `--first H`: the number of a house, or nothing
 abbrev pub first_rule : Rule
-first_rule = record (new_rule (codes "first")) {
-  long = Some (codes "first");
-  value_names = 1;
-  action = Some Set;
-  parser = Some (Unsigned 1 most_houses);
-}
+first_rule = record (value_rule (codes "first")) { long = Some (codes "first"); parser = Some (Unsigned 1 most_houses) }
 
 -- `--NAME`, a flag
 abbrev pub flag_rule : Text → Rule
-flag_rule name = record (new_rule name) {
-  long = Some name;
-  action = Some SetTrue;
-}
+flag_rule name = record (new_rule name) { long = Some name; action = Some SetTrue }
 
 -- FILE..: at least one
 abbrev pub file_rule : Rule
-file_rule = record (new_rule (codes "file")) {
-  required = true;
-  value_names = 1;
-  action = Some Append;
-}
+file_rule = record (value_rule (codes "file")) { required = true; action = Some Append }
 
 -- `moves [--boards] LINE`
 abbrev pub moves_app : App

@@ -1,7 +1,7 @@
 //! The command line of the program.
 ghost use Rattle.std.specs.Prelude.{◌≡◌, IfOk, false, true};
 ghost use Rattle.clap.specs.Words.{app_of, new_app, rule_of, with_rule, with_subcommand};
-ghost use Rattle.kalah_cli.specs.Command.{answers_app, ask_app, count_app, depth_rule, file_rule, first_rule, flag_rule, kalah_app, line_rule, moves_app, number_rule, play_app, program_app, show_app, steps_app, table_rule, workers_rule};
+ghost use Rattle.kalah_cli.specs.Command.{answers_app, ask_app, count_app, depth_rule, file_rule, first_rule, flag_rule, kalah_app, line_rule, moves_app, number_rule, play_app, program_app, show_app, steps_app, table_rule, value_rule, workers_rule};
 
 use crate::help;
 use crate::version::VERSION_LINE;
@@ -26,14 +26,14 @@ const TABLE_OF_ONE: &str = "table entries of the search, 1 to 1048576";
 
 const TABLE_OF_WORKERS: &str = "table entries of each worker, 1 to 1048576";
 
-// A command of this name, with nothing in it.
+// Returns a command of this name, without arguments.
 fn named<'a>(alloc: Global, name: &'a str, about: &'a str) -> Command<'a>
     ensures { app_of result ≡ new_app name.entry.now }
 {
     Command::new(alloc, name).about(about)
 }
 
-// A subcommand of this name, with nothing in it. Its help ends in this text.
+// Returns a subcommand of this name, without arguments. Its help ends in this text.
 fn subcommand<'a>(alloc: Global, name: &'a str, about: &'a str, long_help: &'a str) -> Command<'a>
     ensures { app_of result ≡ new_app name.entry.now }
 {
@@ -42,7 +42,7 @@ fn subcommand<'a>(alloc: Global, name: &'a str, about: &'a str, long_help: &'a s
         .after_long_help(long_help)
 }
 
-// The command with one more argument, which is its own alone.
+// Returns the command with one more argument, which no subcommand inherits.
 fn with_arg<'a>(command: Command<'a>, arg: Arg<'a>) -> Result<Command<'a>, AllocError>
     requires { arg.global ≡ false }
     ensures { IfOk result (λ c. app_of c ≡ with_rule (app_of command.entry) (rule_of arg.entry)) }
@@ -50,19 +50,27 @@ fn with_arg<'a>(command: Command<'a>, arg: Arg<'a>) -> Result<Command<'a>, Alloc
     command.arg(arg)
 }
 
-// The line of `moves`, `play`, `show` or `count`.
+// Returns the argument of this name, with one value.
+fn value_arg<'a>(alloc: Global, name: &'a str, value_name: &'a str, help: &'a str) -> Arg<'a>
+    ensures rule { rule_of result ≡ value_rule name.entry.now }
+    ensures local { result.global ≡ false }
+{
+    Arg::new(alloc, name)
+        .value_name(value_name)
+        .help(help)
+        .action(ArgAction::Set)
+}
+
+// Returns the argument LINE of `moves`, `play`, `show` and `count`.
 fn line_arg<'a>(alloc: Global) -> Arg<'a>
     ensures rule { rule_of result ≡ line_rule }
     ensures local { result.global ≡ false }
 {
-    Arg::new(alloc, "line")
-        .value_name("LINE")
-        .help("a position in quotes, as '1,1/0 1,1/0'")
-        .action(ArgAction::Set)
-        .required(true)
+    let help = "a position in quotes, as '1,1/0 1,1/0'";
+    value_arg(alloc, "line", "LINE", help).required(true)
 }
 
-// A flag.
+// Returns the flag `--NAME`.
 fn flag_arg<'a>(alloc: Global, name: &'a str, help: &'a str) -> Arg<'a>
     ensures rule { rule_of result ≡ flag_rule name.entry.now }
     ensures local { result.global ≡ false }
@@ -73,7 +81,7 @@ fn flag_arg<'a>(alloc: Global, name: &'a str, help: &'a str) -> Arg<'a>
         .action(ArgAction::SetTrue)
 }
 
-// `moves [--boards] LINE`.
+// Returns `moves [--boards] LINE`.
 fn moves_command<'a>(alloc: Global) -> Result<Command<'a>, AllocError>
     ensures { IfOk result (λ c. app_of c ≡ moves_app) }
 {
@@ -83,7 +91,7 @@ fn moves_command<'a>(alloc: Global) -> Result<Command<'a>, AllocError>
     with_arg(command, line_arg(alloc))
 }
 
-// An option with a number from 1 to the most.
+// Returns the option `--NAME N`, a number from 1 to the most.
 fn number_arg<'a>(
     alloc: Global,
     name: &'a str,
@@ -94,16 +102,13 @@ fn number_arg<'a>(
     ensures rule { rule_of result ≡ number_rule name.entry.now most default.entry.now }
     ensures local { result.global ≡ false }
 {
-    Arg::new(alloc, name)
+    value_arg(alloc, name, "N", help)
         .long(name)
-        .value_name("N")
-        .help(help)
-        .action(ArgAction::Set)
         .value_parser(ValueParser::unsigned(1, most as u64))
         .default_value(default)
 }
 
-// How many workers.
+// Returns the option `--workers N`.
 fn workers_arg<'a>(alloc: Global) -> Arg<'a>
     ensures rule { rule_of result ≡ workers_rule }
     ensures local { result.global ≡ false }
@@ -112,7 +117,7 @@ fn workers_arg<'a>(alloc: Global) -> Arg<'a>
     number_arg(alloc, "workers", help, MOST_WORKERS, "4")
 }
 
-// How large a table is, with this help.
+// Returns the option `--table N`, with this help.
 fn table_arg<'a>(alloc: Global, help: &'a str) -> Arg<'a>
     ensures rule { rule_of result ≡ table_rule }
     ensures local { result.global ≡ false }
@@ -120,20 +125,18 @@ fn table_arg<'a>(alloc: Global, help: &'a str) -> Arg<'a>
     number_arg(alloc, "table", help, MOST_ENTRIES, "65536")
 }
 
-// The house that a game begins with.
+// Returns the option `--first H`.
 fn first_arg<'a>(alloc: Global) -> Arg<'a>
     ensures rule { rule_of result ≡ first_rule }
     ensures local { result.global ≡ false }
 {
-    Arg::new(alloc, "first")
+    let help = "begins with house H, 1 to 6, and goes on with best play";
+    value_arg(alloc, "first", "H", help)
         .long("first")
-        .value_name("H")
-        .help("begins with house H, 1 to 6, and goes on with best play")
-        .action(ArgAction::Set)
         .value_parser(ValueParser::unsigned(1, MOST_HOUSES as u64))
 }
 
-// `play [--table N] [--boards] [--first H] LINE`.
+// Returns `play [--table N] [--boards] [--first H] LINE`.
 fn play_command<'a>(alloc: Global) -> Result<Command<'a>, AllocError>
     ensures { IfOk result (λ c. app_of c ≡ play_app) }
 {
@@ -145,19 +148,18 @@ fn play_command<'a>(alloc: Global) -> Result<Command<'a>, AllocError>
     with_arg(command, line_arg(alloc))
 }
 
-// The files of `solve`, `values` and `steps`.
+// Returns the argument FILE.. of `solve`, `values` and `steps`.
 fn file_arg<'a>(alloc: Global) -> Arg<'a>
     ensures rule { rule_of result ≡ file_rule }
     ensures local { result.global ≡ false }
 {
-    Arg::new(alloc, "file")
-        .value_name("FILE")
-        .help("files of positions, one a line; /dev/stdin for standard input")
+    let help = "files of positions, one a line; /dev/stdin for standard input";
+    value_arg(alloc, "file", "FILE", help)
         .action(ArgAction::Append)
         .required(true)
 }
 
-// `NAME [--workers N] [--table N] [--progress] FILE..`.
+// Returns `NAME [--workers N] [--table N] [--progress] FILE..`.
 fn answers_command<'a>(
     alloc: Global,
     name: &'a str,
@@ -173,7 +175,7 @@ fn answers_command<'a>(
     with_arg(command, file_arg(alloc))
 }
 
-// `ask [--values] [--table N]`.
+// Returns `ask [--values] [--table N]`.
 fn ask_command<'a>(alloc: Global) -> Result<Command<'a>, AllocError>
     ensures { IfOk result (λ c. app_of c ≡ ask_app) }
 {
@@ -184,7 +186,7 @@ fn ask_command<'a>(alloc: Global) -> Result<Command<'a>, AllocError>
     with_arg(command, table_arg(alloc, TABLE_OF_ONE))
 }
 
-// `show [--plain] [--table N] LINE`.
+// Returns `show [--plain] [--table N] LINE`.
 fn show_command<'a>(alloc: Global) -> Result<Command<'a>, AllocError>
     ensures { IfOk result (λ c. app_of c ≡ show_app) }
 {
@@ -196,20 +198,22 @@ fn show_command<'a>(alloc: Global) -> Result<Command<'a>, AllocError>
     with_arg(command, line_arg(alloc))
 }
 
-// How many moves each way has.
+// Returns the argument DEPTH of `count`.
 fn depth_arg<'a>(alloc: Global) -> Arg<'a>
     ensures rule { rule_of result ≡ depth_rule }
     ensures local { result.global ≡ false }
 {
-    Arg::new(alloc, "depth")
-        .value_name("DEPTH")
-        .help("how many moves each way has, 0 to 20")
-        .action(ArgAction::Set)
-        .value_parser(ValueParser::unsigned(0, MOST_DEPTH as u64))
-        .required(true)
+    value_arg(
+        alloc,
+        "depth",
+        "DEPTH",
+        "how many moves each way has, 0 to 20",
+    )
+    .value_parser(ValueParser::unsigned(0, MOST_DEPTH as u64))
+    .required(true)
 }
 
-// `count DEPTH LINE`.
+// Returns `count DEPTH LINE`.
 fn count_command<'a>(alloc: Global) -> Result<Command<'a>, AllocError>
     ensures { IfOk result (λ c. app_of c ≡ count_app) }
 {
@@ -219,7 +223,7 @@ fn count_command<'a>(alloc: Global) -> Result<Command<'a>, AllocError>
     with_arg(command, line_arg(alloc))
 }
 
-// `steps [--workers N] [--progress] FILE..`.
+// Returns `steps [--workers N] [--progress] FILE..`.
 fn steps_command<'a>(alloc: Global) -> Result<Command<'a>, AllocError>
     ensures { IfOk result (λ c. app_of c ≡ steps_app) }
 {
