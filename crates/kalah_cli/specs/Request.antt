@@ -42,7 +42,7 @@ command_of BestMove = codes "solve"
 command_of Values = codes "values"
 command_of Steps = codes "steps"
 
--- how many entries the tables have where the words don't say so: steps need none, and the least is one
+-- how many entries the tables have if no argument says so: steps need none, and the least is one
 abbrev pub table_of : Question → ℕ
 table_of BestMove = 65536
 table_of Values = 65536

@@ -26,7 +26,7 @@ fn two_houses() -> Option<Board> {
     Board::new(2, ones, 0, ones, 0, Rule::Classic)
 }
 
-// What the move of a house leads to, where that house may be moved.
+// Returns what the move of a house leads to, if it may be moved.
 fn step(board: &Board, house: u8) -> Option<Step>
     ensures { IfSome result (λ s. s ≡ step_of board.now house) }
 {
@@ -45,7 +45,7 @@ fn a_caller_moves(rt: HostRuntime) -> Result<(), Fail> {
     Ok(())
 }
 
-// The margin of best play of a game that goes on.
+// Returns the margin of best play. The game isn't over.
 fn margin(solver: &mut Solver, board: &Board) -> i32
     requires { is_over board.now ≡ false }
     ensures { result ≡ worth board.now }
@@ -106,7 +106,7 @@ fn a_caller_answers_a_line(rt: HostRuntime) -> Result<(), Fail> {
     Ok(())
 }
 
-// The file `a` of two lines, of which the second is no position.
+// Returns one file, `a`: a position, and a line that isn't one.
 fn one_file(alloc: Global) -> Result<Vec<FileText>, AllocError> {
     let mut files = Vec::new(alloc);
     files.push(FileText {
@@ -116,7 +116,7 @@ fn one_file(alloc: Global) -> Result<Vec<FileText>, AllocError> {
     Ok(files)
 }
 
-// The answers to files, by two workers, and what they count.
+// Returns the answers to files, and their tally, by two workers.
 fn answers<R: Threads + Wait + Sync>(
     rt: &R,
     alloc: Global,

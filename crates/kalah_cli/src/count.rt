@@ -17,7 +17,7 @@ use kalah_rules::Board;
 use std::io;
 use std::io::Write;
 
-// Writes the line of a house, which is seen before the next one is counted.
+// Writes the line of a house, which is flushed before the next one is counted.
 #[tactic(auto, using(crate::proofs::Begun::all_if_flushed, crate::proofs::Begun::begins_all))]
 fn write_house<O: Sink>(house: u8, ways: u64, out: &mut O) -> Result<(), io::Error>
     requires house { house ≤ most_houses }
@@ -30,7 +30,7 @@ fn write_house<O: Sink>(house: u8, ways: u64, out: &mut O) -> Result<(), io::Err
     out.flush()
 }
 
-// Writes for each legal move, houses in ascending order, how many ways of `depth` moves begin with it. Returns their sum.
+// Writes for each legal move, houses in ascending order, the number of ways of `depth` moves that begin with it. Returns their sum.
 fn write_houses<O: Sink>(board: &Board, depth: u8, out: &mut O) -> Result<u64, io::Error>
     requires low { 1 ≤ depth }
     requires high { depth ≤ most_depth }
@@ -65,7 +65,7 @@ fn write_sum<O: Sink>(ways: u64, out: &mut O) -> Result<(), io::Error>
     out.flush()
 }
 
-// Writes how many ways of `depth` moves there are, for each first move and in all.
+// Writes the number of ways of `depth` moves, for each first move and in all.
 fn write_count<O: Sink>(board: &Board, depth: u8, out: &mut O) -> Result<(), io::Error>
     requires depth { depth ≤ most_depth }
     requires sink { O.has_failed out.old ≡ false }

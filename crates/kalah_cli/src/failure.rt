@@ -19,7 +19,7 @@ pub(crate) enum Failure<'a> {
     TooManyLines,
     OutOfMemory,
     NoWorker,
-    /// A house may not be moved, with which a game was to begin.
+    /// The game can't begin with this house, which may not be moved.
     Unmoved(u8),
     /// A read of the standard input failed.
     StandardInput,

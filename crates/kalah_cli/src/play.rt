@@ -73,7 +73,7 @@ fn play<O: Sink>(
     }
 }
 
-// The house that a game is to begin with, if it may not be moved.
+// Returns the house that the game should begin with, if it may not be moved.
 fn unmoved_house(board: &Board, first: Option<u8>) -> Option<u8>
     ensures some { IfSome result (λ h. MayBegin first board.now → ⊥) }
     ensures none { IfNone result (MayBegin first board.now) }
@@ -84,9 +84,9 @@ fn unmoved_house(board: &Board, first: Option<u8>) -> Option<u8>
     }
 }
 
-/// Prints the game that best play leads to from the position that the line writes, move by move, each as soon as it is found; or
-/// the move of house `first` and the game of best play behind it. A line that is not read is answered by its fault, and a house that
-/// may not be moved is said, on `err` alone. Memory is asked for before anything is written, apart from the entries of the table.
+/// Prints the game that best play leads to from the position that the line writes, each move as soon as it is found; or the move of
+/// house `first`, and the game of best play behind it. A line that can't be read is answered by its fault, and a house that may not be
+/// moved by its number, on `err` only. Memory is requested before anything is written, except for the entries of the table.
 #[tactic(auto, using(crate::proofs::Begun::begins_no_play, crate::proofs::Begun::even_read))]
 pub(crate) fn run_play<O: Sink, E: Write>(
     alloc: Global,

@@ -24,8 +24,8 @@ pub enum Request<'a> {
         line: &'a str,
         boards: bool,
     },
-    /// To print the game of best play from that position, or behind its move of house `first`, 1 to 6. The search has `table` entries,
-    /// 1 to 1,048,576.
+    /// Print the game of best play from the position that this line writes, or behind its move of house `first`, 1 to 6. The search has
+    /// `table` entries, 1 to 1,048,576.
     Play {
         line: &'a str,
         table: u32,
@@ -39,14 +39,13 @@ pub enum Request<'a> {
         question: Question,
         table: u32,
     },
-    /// To draw the position that this line writes, plain or with what its moves are worth. The search has `table` entries, 1 to
-    /// 1,048,576.
+    /// Draw the position that this line writes, plain or with what its moves are worth. The search has `table` entries, 1 to 1,048,576.
     Show {
         line: &'a str,
         table: u32,
         plain: bool,
     },
-    /// To count the ways of `depth` moves, 0 to 20, to play on from the position that this line writes.
+    /// Count the ways of `depth` moves, 0 to 20, to play on from the position that this line writes.
     Count {
         depth: u8,
         line: &'a str,
@@ -136,7 +135,7 @@ fn play_request<'a>(found: &ArgMatches<'a>) -> Request<'a>
     }
 }
 
-// Returns the size of the tables that the matches of a subcommand with files ask for. Steps need none, and the least is 1.
+// Returns the table size in the matches of a subcommand with files: 1, the least, for steps, which need no table.
 fn table_of(question: Question, found: &ArgMatches<'_>) -> u32
     requires { AreMatches (command_of question) (rows_of (found_of found.now)) }
     ensures asked { table_asked question (rows_of (found_of found.now)) ≡ Some result }
@@ -195,7 +194,7 @@ fn ask_request<'a>(found: &ArgMatches<'a>) -> Request<'a>
     }
 }
 
-// What the matches of `show` ask for.
+// Returns the request of the matches of `show`.
 fn show_request<'a>(found: &ArgMatches<'a>) -> Request<'a>
     requires { AreMatches (codes "show") (rows_of (found_of found.now)) }
     ensures asked { show_asked (rows_of (found_of found.now)) ≡ Some (asked_for result) }
@@ -208,7 +207,7 @@ fn show_request<'a>(found: &ArgMatches<'a>) -> Request<'a>
     }
 }
 
-// What the matches of `count` ask for.
+// Returns the request of the matches of `count`.
 fn count_request<'a>(found: &ArgMatches<'a>) -> Request<'a>
     requires { AreMatches (codes "count") (rows_of (found_of found.now)) }
     ensures asked { count_asked (rows_of (found_of found.now)) ≡ Some (asked_for result) }

@@ -45,8 +45,8 @@ fn show<O: Sink, E: Write>(text: &str, out: &mut O, err: &mut E) -> ExitStatus
     ExitStatus::Clean
 }
 
-// Whether these words seem to ask for the moves, the game, the picture or the ways of a position that has lost its quotes: of two words in
-// a row each has a slash.
+// Returns whether these arguments seem to give `moves`, `play`, `show` or `count` a position without quotes: two adjacent ones each have
+// a slash.
 fn lacks_quotes(words: &[String]) -> bool {
     let Some(subcommand) = words.get(1) else {
         return false;

@@ -31,7 +31,7 @@ fn write_plain<O: Sink>(board: &Board, out: &mut O) -> Result<(), io::Error>
     out.flush()
 }
 
-// Draws a board, which is seen before the search begins, and writes below it what each move is worth.
+// Draws a board, which is flushed before the search begins, and writes below it what each move is worth.
 fn write_shown<O: Sink>(solver: &mut Solver, board: &Board, out: &mut O) -> Result<(), io::Error>
     requires { O.has_failed out.old ≡ false }
     ensures fails { IsErr result ↔ (O.has_failed out.new ≡ true) }
@@ -45,9 +45,9 @@ fn write_shown<O: Sink>(solver: &mut Solver, board: &Board, out: &mut O) -> Resu
     out.flush()
 }
 
-/// Draws the position that the line writes, and writes below it what each move is worth, if it isn't to be plain. A line that is
-/// not read is answered by its fault, on `err` alone. A plain picture needs no memory; else it is asked for before anything is
-/// written, apart from the entries of the table.
+/// Draws the position that the line writes and, unless `plain`, writes below it what each move is worth. A line that can't be read is
+/// answered by its fault, on `err` only. A plain picture allocates nothing; otherwise memory is requested before anything is written,
+/// except for the entries of the table.
 pub(crate) fn run_show<O: Sink, E: Write>(
     alloc: Global,
     line: &str,
@@ -65,7 +65,7 @@ pub(crate) fn run_show<O: Sink, E: Write>(
     ensures failed { O.has_failed out.new ≡ true → result ≡ ExitStatus.Failed }
     ensures unchanged { result ≡ ExitStatus.Failed → O.has_failed out.new ≡ false
         → out.new ≡ out.old }
-    // A plain picture fails only where a write does: nothing is searched for it.
+    // A plain picture, for which nothing is searched, fails only if a write fails.
     ensures searchless { plain ≡ true → result ≡ ExitStatus.Failed → O.has_failed out.new ≡ true }
     ensures handed_on { result ≢ ExitStatus.Failed → O.is_handed_on out.old ≡ true → O.is_handed_on out.new ≡ true }
 {

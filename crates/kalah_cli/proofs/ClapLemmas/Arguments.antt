@@ -34,7 +34,7 @@ FitsIn c r = (a : Rule) → arg_by_id c r.id ≡ Some a → Fits a r
 fits_same : (c : List Rule) (id : Text) (a b : Rule) (r : Row) → arg_by_id c id ≡ Some a → arg_by_id c id ≡ Some b → Fits a r → Fits b r
 fits_same c id a b r one other fit = subst (λ x. Fits x r) (let same : a ≡ b = cc in same) fit
 
--- an argument that its id finds, and a use of which has a value, makes rows that fit it
+-- an argument that is found by its id, and has a value at each use, makes rows that fit it
 usable_gives : (c : List Rule) (a : Rule) → arg_by_id c a.id ≡ Some a → fills (action_of a) a ≡ true → Gives (FitsIn c) a
 usable_gives c a first filled = record {
   fills = filled;
@@ -74,7 +74,7 @@ usable_give c usable =
 abbrev pub is_wanted : Rule → Bool
 is_wanted a = a.required || not (is_empty a.defaults)
 
--- what the rows have of an argument: its row fits it, and is there if it is wanted
+-- what the rows have of an argument: its row fits it, and is there if the argument is wanted
 pub record Has (rows : List Row) (id : Text) (a : Rule) : Type 0 where
   pub fits : (r : Row) → find (λ r. bytes_eq r.id id) rows ≡ Some r → Fits a r
   pub there : is_wanted a ≡ true → has_row id rows ≡ true

@@ -13,7 +13,7 @@ use Rattle.kalah_jobs.proofs.WritingLemmas.Starts.{start_kept_all}
 use Rattle.kalah_cli.proofs.Played.{IsFirst, begins_move, begins_on, best_is_legal, best_told, fewer_left, goes_on, kept_appends, of_any, of_end, of_first, of_last, of_next, on_ok_always}
 use Rattle.kalah_cli.proofs.play.+game.Goals as goal
 
--- the move that the solver tells is the first one of the game
+-- the solver's best move is the first move of the game
 first_of : (p : Position) (margin : ℤ) (h : ℕ) (s : Step) → IsWithinLimits p → TellsBestMove p margin h → Best margin h ≡ verdict_of p →
     s ≡ step_of p h → IsFirst p h s
 first_of p margin h s limits told verdict step =

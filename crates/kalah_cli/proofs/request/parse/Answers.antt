@@ -35,7 +35,7 @@ pub returns-clause-files : goal.returns-clause-files
 returns-clause-files g c = λ question name file files is plain.
     taken_once (map g.S.AsStr.text c.args.words.now) _ _ (returns-clause-taken g c) (taken_at is (files_taken question name file files plain))
 
--- the error of a parse has a kind of the arguments' fault, so it is out of memory where they are accepted
+-- the error of a parse has a kind of the arguments' fault, so it is out of memory if they are accepted
 has_kind : (g : Over) (c : goal.After-from_residual-in_err-matches g) (e : Error) → e ≡ c.in_err-matches.field-0.0
     → HasKind (fault_of kalah_app (map g.S.AsStr.text c.args.words.now)) e
 has_kind g c e same =
