@@ -6,14 +6,14 @@ use Rattle.kalah_rules.specs.Limits.{most_depth, most_houses}
 use Rattle.kalah_rules.specs.Play.{legal_houses}
 use Rattle.kalah_rules.specs.Position.{Position}
 use Rattle.kalah_rules.specs.Ways.{ways, ways_by}
-use Rattle.kalah_jobs.specs.Writing.Counts.{total_line, ways_line}
-use Rattle.kalah_cli.specs.Count.{count_output, ways_lines}
+use Rattle.kalah_jobs.specs.Writing.Counts.{ways_line}
+use Rattle.kalah_cli.specs.Count.{ways_lines}
 
 -- the line of a house, for ways of that many moves in all
 abbrev pub line_of : ℕ → Position → ℕ → List ℕ
 line_of depth p h = ways_line h (ways_by (depth - 1) p h)
 
--- where there is a move, there is a line for each legal one
+-- if there is a move, there is a line for each legal one
 pub lines_are : (depth : ℕ) (p : Position) → 1 ≤ depth → ways_lines depth p ≡ flat_map (line_of depth p) (legal_houses p)
 lines_are zero p low = absurd (omega arith)
 lines_are (suc n) p low =
@@ -34,8 +34,3 @@ few_ways n depth few high = no_more n (6 ^ (depth - 1)) (6 ^ 19) few (pow-le-pow
   where
     no_more : (n some most : ℕ) → n ≤ some → some ≤ most → n ≤ most
     no_more n some most one other = omega (arith, one, other)
-
--- where there is no move, the sum stands alone
-pub sum_alone : (depth : ℕ) (p : Position) → depth ≡ 0 → total_line (ways 0 p) ≡ count_output depth p
-sum_alone zero p none = refl
-sum_alone (suc n) p none = absurd (omega (arith, none))
