@@ -1,0 +1,4 @@
+use Rattle.kalah_cli.proofs.run.refuse.Goals as goal
+
+pub returns-in-DisplayVersion-clause-version : goal.returns-in-DisplayVersion-clause-version
+returns-in-DisplayVersion-clause-version g c = λ help. c.show-in-DisplayVersion.ensures.shown
