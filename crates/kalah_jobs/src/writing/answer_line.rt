@@ -49,6 +49,7 @@ fn prepend_values(text: &mut StackText, values: &MoveValues)
 
 // Puts an answer in words in front of the text.
 #[tactic(auto, using(crate::proofs::WritingLemmas::Lengths::byte_length, crate::proofs::WritingLemmas::Lengths::fault_length))]
+#[inline]
 fn prepend_words(text: &mut StackText, answer: &Answer)
     requires room { length text.old + 96 ≤ ROOM }
     requires one_line { IsOfOneLine answer.now }
@@ -76,6 +77,7 @@ fn prepend_words(text: &mut StackText, answer: &Answer)
 
 // Puts what stands between the name of the file and the answer in words in front of the text.
 #[tactic(auto, using(crate::proofs::WritingLemmas::Lengths::number_length))]
+#[inline]
 fn prepend_place(text: &mut StackText, line: u32)
     requires { length text.old + 22 ≤ ROOM }
     ensures place { text.new ≡ codes ":" ++ (decimal (line + 1) ++ (codes " " ++ text.old)) }

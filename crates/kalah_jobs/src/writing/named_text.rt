@@ -7,7 +7,21 @@ use crate::writing::sink::Sink;
 use crate::writing::stack_text::StackText;
 use std::io;
 
+// Writes the name and then the text, in a call of the sink each.
+#[cold]
+#[inline(never)]
+fn write_apart<W: Sink>(out: &mut W, name: &str, text: &StackText) -> Result<(), io::Error>
+    requires { W.has_failed out.old ≡ false }
+    ensures fails { IsErr result ↔ (W.has_failed out.new ≡ true) }
+    ensures adds { OnOk result (Appends (W.written out.old) (W.written out.new) (name.now ++ text.now)) }
+    ensures start { AppendsStart (W.written out.old) (W.written out.new) (name.now ++ text.now) }
+{
+    out.write_all(name.as_bytes())?;
+    out.write_all(text.bytes())
+}
+
 // Writes the name and then the text: in one call of the sink, unless the name is too long to be put in front of the text.
+#[inline(always)]
 pub(crate) fn write_named<W: Sink>(
     out: &mut W,
     name: &str,
@@ -19,8 +33,7 @@ pub(crate) fn write_named<W: Sink>(
     ensures start { AppendsStart (W.written out.old) (W.written out.new) (name.now ++ text.old) }
 {
     if name.len() > text.room() {
-        out.write_all(name.as_bytes())?;
-        return out.write_all(text.bytes());
+        return write_apart(out, name, text);
     }
     text.prepend(name);
     out.write_all(text.bytes())

@@ -69,6 +69,7 @@ impl StackText {
     }
 
     // Puts a piece before what is there.
+    #[inline]
     pub(crate) fn prepend(&mut self, piece: &str)
         requires { length piece.now + length self.old ≤ ROOM }
         ensures piece { self.new ≡ piece.now ++ self.old }
@@ -101,6 +102,7 @@ impl StackText {
 
     // Puts a margin in digits, with `-` before it if it is negative, in front of the text.
     #[tactic(auto, using(crate::proofs::WritingLemmas::Lengths::margin_length))]
+    #[inline]
     pub(crate) fn prepend_margin(&mut self, margin: i32)
         requires { length self.old + 11 ≤ ROOM }
         ensures margin { self.new ≡ signed_decimal margin ++ self.old }

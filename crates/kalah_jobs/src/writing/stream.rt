@@ -8,10 +8,10 @@ use crate::Sink;
 use std::io;
 use std::io::{ErrorKind, Write};
 
-/// Writes all the bytes, in as many calls as the writer needs, and doesn't flush it. A call that was interrupted has taken
-/// nothing, and is repeated. It fails if another call fails, or takes no byte: then a prefix of the bytes was
-/// written, and nothing else.
-pub fn write_pieces<W: Write>(writer: &mut W, bytes: &[u8]) -> io::Result<()>
+// Writes all the bytes as `write_pieces` does.
+#[cold]
+#[inline(never)]
+fn write_rest<W: Write>(writer: &mut W, bytes: &[u8]) -> io::Result<()>
     ensures adds { OnOk result
         (Appends (W.contents writer.old) (W.contents writer.new) bytes.now) }
     ensures start { AppendsStart (W.contents writer.old) (W.contents writer.new) bytes.now }
@@ -29,6 +29,28 @@ pub fn write_pieces<W: Write>(writer: &mut W, bytes: &[u8]) -> io::Result<()>
         }
     }
     Err(io::Error::from(ErrorKind::Interrupted))
+}
+
+/// Writes all the bytes, in as many calls as the writer needs, and doesn't flush it. A call that was interrupted has taken
+/// nothing, and is repeated. It fails if another call fails, or takes no byte: then a prefix of the bytes was
+/// written, and nothing else.
+#[inline(always)]
+pub fn write_pieces<W: Write>(writer: &mut W, bytes: &[u8]) -> io::Result<()>
+    ensures adds { OnOk result
+        (Appends (W.contents writer.old) (W.contents writer.new) bytes.now) }
+    ensures start { AppendsStart (W.contents writer.old) (W.contents writer.new) bytes.now }
+{
+    if bytes.is_empty() {
+        return Ok(());
+    }
+    // Mostly the first call takes all.
+    match writer.write(bytes) {
+        Ok(0) => Err(io::Error::from(ErrorKind::WriteZero)),
+        Ok(taken) if taken < bytes.len() => write_rest(writer, &bytes[taken..]),
+        Ok(_) => Ok(()),
+        Err(error) if error.kind() == ErrorKind::Interrupted => write_rest(writer, bytes),
+        Err(error) => Err(error),
+    }
 }
 
 /// The sink over a writer, with that writer's bytes. It fails if a call of the writer returns an

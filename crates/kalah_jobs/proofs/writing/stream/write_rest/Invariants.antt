@@ -1,6 +1,6 @@
 use Rattle.std.proofs.Common.{◌≡◌, ℕ, List, ◌++◌}
 use Rattle.std.specs.Io.KnownBytes.{Appends}
-use Rattle.kalah_jobs.proofs.writing.stream.write_pieces.Given as goal
+use Rattle.kalah_jobs.proofs.writing.stream.write_rest.Given as goal
 
 -- what is no longer left was written
 abbrev pub invariant-loop : goal.invariant-loop

@@ -1,7 +1,7 @@
 use Rattle.std.proofs.Common.{◌++◌, List, ℕ, ap₂, subst, sym}
 use Rattle.kalah_jobs.specs.Writing.Given.{AppendsStart}
 use Rattle.kalah_jobs.proofs.WritingLemmas.Starts.{start_longer, start_then}
-use Rattle.kalah_jobs.proofs.writing.named_text.write_named.Goals as goal
+use Rattle.kalah_jobs.proofs.writing.named_text.write_apart.Goals as goal
 
 pub returns-in_err-write_all-clause-start : goal.returns-in_err-write_all-clause-start
 returns-in_err-write_all-clause-start g c =
@@ -9,7 +9,7 @@ returns-in_err-write_all-clause-start g c =
     c.as_bytes.ensures.value
     (start_longer _ _ c.as_bytes.result.now c.args.text.now c.write_all.ensures.start)
 
-pub returns-then-name-room-clause-start : goal.returns-then-name-room-clause-start
-returns-then-name-room-clause-start g c =
+pub returns-clause-start : goal.returns-clause-start
+returns-clause-start g c =
     let both = ap₂ (λ (name text : List ℕ). name ++ text) c.as_bytes.ensures.value c.bytes.ensures.bytes in
-    start_then _ _ _ _ c.as_bytes.result.now c.bytes.result.now (sym both) c.in_ok-write_all.ensures.adds c.write_all-then-name-room.ensures.start
+    start_then _ _ _ _ c.as_bytes.result.now c.bytes.result.now (sym both) c.in_ok-write_all.ensures.adds c.write_all-2.ensures.start
