@@ -1,8 +1,11 @@
 //! The answer that a worker found for a line of a file.
-ghost use Rattle.std.specs.Prelude.{◌≡◌};
+ghost use Rattle.std.specs.Prelude.{◌≡◌, ◌<◌, slice_get, Some};
+ghost use Rattle.kalah_jobs.specs.Files.JobList.{job_list};
+ghost use Rattle.kalah_jobs.specs.Files.Jobs.{job_count};
 ghost use Rattle.kalah_jobs.specs.Writing.Answer.{answer_of};
 
 use crate::files::entry::Entry;
+use crate::files::jobs::Jobs;
 use crate::writing::answer::Answer;
 use kalah_solve::{Solver, Verdict};
 use std::marker::Model;
@@ -35,29 +38,53 @@ impl Model for Outcome {
     ghost inverse_ok = { outcome_again };
 }
 
+// Returns the answer to an entry: the solver's to what is asked of a position, and of a line that was not read its fault.
+#[tactic(auto, unfolding(crate::specs::Writing::Answer::answer_of))]
+#[inline(always)]
+fn answer_to(entry: &Entry, solver: &mut Solver) -> Answer
+    ensures { result ≡ answer_of entry.now }
+{
+    match entry {
+        Entry::Position(board) => match solver.solve(board) {
+            Verdict::Best { margin, house } => Answer::Best { margin, house },
+            Verdict::Over { margin } => Answer::Over { margin },
+        },
+        Entry::ValuesOf(board) | Entry::StepsOf(board) if board.is_over() => Answer::Over {
+            margin: board.returns(),
+        },
+        Entry::ValuesOf(board) => Answer::Values(solver.values(board)),
+        Entry::StepsOf(board) => Answer::Steps(*board),
+        Entry::Bad(fault) => Answer::Fault(*fault),
+    }
+}
+
 impl Outcome {
     /// Solves one line and returns the outcome: the solver answers what is asked of a position, and a line that was not
     /// read is answered by its fault.
-    #[tactic(auto, unfolding(crate::specs::Writing::Answer::answer_of))]
     pub fn of(file: u32, line: u32, entry: Entry, solver: &mut Solver) -> Outcome
         ensures { result ≡ record { file = file; line = line; entry = entry } }
     {
-        let answer = match &entry {
-            Entry::Position(board) => match solver.solve(board) {
-                Verdict::Best { margin, house } => Answer::Best { margin, house },
-                Verdict::Over { margin } => Answer::Over { margin },
-            },
-            Entry::ValuesOf(board) | Entry::StepsOf(board) if board.is_over() => Answer::Over {
-                margin: board.returns(),
-            },
-            Entry::ValuesOf(board) => Answer::Values(solver.values(board)),
-            Entry::StepsOf(board) => Answer::Steps(*board),
-            Entry::Bad(fault) => Answer::Fault(*fault),
-        };
+        let answer = answer_to(&entry, solver);
         Outcome {
             file,
             line,
             entry,
+            answer,
+        }
+    }
+
+    /// Solves job `n`, which must be below `total`, and returns its outcome: that of `of` for this job, which is not copied first.
+    #[inline(always)]
+    pub fn of_job(jobs: &Jobs, n: u32, solver: &mut Solver) -> Outcome
+        requires { n < job_count jobs.now }
+        ensures { slice_get (job_list jobs.now) n ≡ Some result }
+    {
+        let (file, line, entry) = jobs.find(n);
+        let answer = answer_to(entry, solver);
+        Outcome {
+            file,
+            line,
+            entry: *entry,
             answer,
         }
     }

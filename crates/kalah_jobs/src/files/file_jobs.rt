@@ -58,11 +58,19 @@ impl FileJobs {
         self.entries.len() as u32
     }
 
+    // Returns the entry of a line, in its place.
+    pub(crate) fn entry_at(&self, line: u32) -> &Entry
+        requires { line < length self.now }
+        ensures { slice_get self.now line ≡ Some result.now }
+    {
+        &self.entries[line as usize]
+    }
+
     // Returns the entry of a line.
     pub(crate) fn entry(&self, line: u32) -> Entry
         requires { line < length self.now }
         ensures { slice_get self.now line ≡ Some result }
     {
-        self.entries[line as usize]
+        *self.entry_at(line)
     }
 }

@@ -139,18 +139,28 @@ impl Jobs {
         self.files[f as usize].entry(line)
     }
 
+    // Returns the file and the line of job `n`, and the entry in its place.
+    #[inline(always)]
+    pub(crate) fn find(&self, n: u32) -> (u32, u32, &Entry)
+        requires { n < job_count self.now }
+        ensures { slice_get (job_list self.now) n ≡ Some (line_job result.0 result.1 result.2.now) }
+    {
+        // The last file that starts with job `n` or before it.
+        let file = self.starts.partition_point(|start| *start <= n) - 1;
+        let line = n - self.starts[file];
+        (file as u32, line, self.files[file].entry_at(line))
+    }
+
     /// Returns job `n`, which must be below `total`.
     pub fn get(&self, n: u32) -> Job
         requires { n < job_count self.now }
         ensures { slice_get (job_list self.now) n ≡ Some (line_job result.file result.line result.entry) }
     {
-        // The last file that starts with job `n` or before it.
-        let file = self.starts.partition_point(|start| *start <= n) - 1;
-        let line = n - self.starts[file];
+        let (file, line, entry) = self.find(n);
         Job {
-            file: file as u32,
+            file,
             line,
-            entry: self.files[file].entry(line),
+            entry: *entry,
         }
     }
 }

@@ -31,8 +31,7 @@ impl Worker {
     {
         while let Some(drawn) = shared.desk.draw(&mut self.pass) {
             shared.gate.before(drawn);
-            let job = shared.jobs.get(drawn);
-            let outcome = Outcome::of(job.file, job.line, job.entry, &mut self.solver);
+            let outcome = Outcome::of_job(shared.jobs, drawn, &mut self.solver);
             shared.queue.put(rt, &mut self.put, outcome);
             shared.gate.after(drawn);
         }

@@ -1,5 +1,5 @@
-use Rattle.std.proofs.Common.{◌≡◌, ◌≤◌, ◌<◌, ◌+◌, ◌-◌, ◌++◌, ◌∷◌, [], ℕ, suc, List, arith, ap, sym, ◌∙◌}
-use Rattle.std.specs.Prelude.{Some, All, fold}
+use Rattle.std.proofs.Common.{◌≡◌, ◌≤◌, ◌<◌, ◌+◌, ◌-◌, ◌++◌, ◌∷◌, [], ℕ, suc, List, arith, ap, ◌∙◌}
+use Rattle.std.specs.Prelude.{All, fold}
 use Rattle.std.proofs.lemmas.List.Sums.{fold-append}
 use Rattle.kalah_run.specs.Desk.Rows.{least_above}
 use Rattle.kalah_run.specs.declared.desk.rule.DrawnRow.{DrawnRow}
@@ -15,9 +15,9 @@ loop-drawn-preserved g c =
       at_work = record {
         draws = c.draw.ensures.own;
         sends = ap (λ (p : PutState). p.queue) c.put.ensures ∙ before.sends;
-        sent = drawn_jobs-more c.args.shared.now.jobs.now c.loop-drawn.self.pass.row c.draw.new.pass.row c.in-Some.drawn c.of-outcome.result
+        sent = drawn_jobs-more c.args.shared.now.jobs.now c.loop-drawn.self.pass.row c.draw.new.pass.row c.in-Some.drawn c.of_job-outcome.result
             c.loop-drawn.self.put.sent c.put.new.pass.sent before.sent (ap (λ (r : DrawnRow). r.numbers) c.in-Some.ensures.drawn)
-            (c.get-job.ensures ∙ ap Some (sym c.of-outcome.ensures))
+            c.of_job-outcome.ensures
             (ap (λ (p : PutState). p.sent) c.put.ensures);
       };
       number = ap (λ (p : PutState). p.number) c.put.ensures ∙ c.loop-drawn.invariant.number;

@@ -7,8 +7,8 @@ use Rattle.kalah_jobs.specs.declared.files.entry.Entry.{Entry}
 use Rattle.kalah_jobs.specs.Files.JobList.{entries_of, line_job, job_list}
 use Rattle.kalah_jobs.specs.Files.Jobs.{job_count}
 use Rattle.kalah_jobs.proofs.FilesLemmas.JobCounts.{AreStarted, get_or_any, last_has_line, last_low, slice_get-job_list, some_started, starts_rise}
-use Rattle.kalah_jobs.proofs.files.jobs.Jobs.get.Goals.{After-partition_point-file}
-use Rattle.kalah_jobs.proofs.files.jobs.Jobs.get.Goals as goal
+use Rattle.kalah_jobs.proofs.files.jobs.Jobs.find.Goals.{After-partition_point-file}
+use Rattle.kalah_jobs.proofs.files.jobs.Jobs.find.Goals as goal
 
 -- the files before the point start with the job or before it, and the others after it
 parted : (c : After-partition_point-file) → AreStarted c.self.inside.starts.items c.args.n c.partition_point-file.result
@@ -48,9 +48,9 @@ overflow_sub-line c =
       last_low c.self.inside.starts.items c.args.n c.partition_point-file.result (parted at) (overflow_sub-file at),
     )
 
-pub entry-requires : goal.entry-requires
-entry-requires c =
-    let at = (goal.at.entry-requires c).After-partition_point-file in
+pub entry_at-requires : goal.entry_at-requires
+entry_at-requires c =
+    let at = (goal.at.entry_at-requires c).After-partition_point-file in
     let jobs : List (List Entry) = c.self.inside.files.items in
     let f : ℕ = c.partition_point-file.result - 1 in
     let here : entries_of jobs f ≡ c.index-2.result.now = get_or_any jobs f [] c.index-2.result.now (within at) ∙ sym c.index-2.ensures in
@@ -64,9 +64,9 @@ returns c =
     let jobs : List (List Entry) = c.self.inside.files.items in
     let f : ℕ = c.partition_point-file.result - 1 in
     let k : ℕ = c.args.n - c.index.result.now in
-    let there : slice_get (entries_of jobs f) k ≡ Some c.entry.result =
-    ap (λ entries. slice_get entries k) (get_or_any jobs f [] c.index-2.result.now (within at) ∙ sym c.index-2.ensures) ∙ c.entry.ensures in
+    let there : slice_get (entries_of jobs f) k ≡ Some c.entry_at.result.now =
+    ap (λ entries. slice_get entries k) (get_or_any jobs f [] c.index-2.result.now (within at) ∙ sym c.index-2.ensures) ∙ c.entry_at.ensures in
     let started = start at c.index.result.now c.index.ensures ∙ c.self.invariant.before f (within at) in
     let before = last_low c.self.inside.starts.items c.args.n c.partition_point-file.result (parted at) (overflow_sub-file at) in
-    subst (λ jobs. slice_get (job_list jobs) c.args.n ≡ Some (line_job f k c.entry.result)) c.self.view_is
-    (slice_get-job_list jobs f k c.args.n c.entry.result (omega (arith, started, before, start at c.index.result.now c.index.ensures)) there)
+    subst (λ jobs. slice_get (job_list jobs) c.args.n ≡ Some (line_job f k c.entry_at.result.now)) c.self.view_is
+    (slice_get-job_list jobs f k c.args.n c.entry_at.result.now (omega (arith, started, before, start at c.index.result.now c.index.ensures)) there)
