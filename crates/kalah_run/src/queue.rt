@@ -84,14 +84,30 @@ impl ResultsQueue {
     }
 
     /// Puts the outcome behind all that this worker has sent. Blocks while the queue is full: first by spinning briefly, then by sleeping.
+    #[inline(always)]
     pub fn put<R: Wait>(&self, rt: &R, pass: &mut PutPass, outcome: Outcome)
         requires { pass.old.queue ≡ self.now.id }
         ensures { pass.new ≡ record pass.old { sent = pass.old.sent ++ outcome ∷ [] } }
     {
-        let mut pair = Tagged {
+        let pair = Tagged {
             worker: pass.number,
             outcome,
         };
+        match self.pairs.try_push_as::<Puts>(&mut pass.ruled, pair) {
+            Ok(()) => self.getters.call_one(),
+            Err(back) => self.put_later(rt, pass, back),
+        }
+    }
+
+    // Puts the pair of this worker, for which there was no room.
+    #[cold]
+    #[inline(never)]
+    fn put_later<R: Wait>(&self, rt: &R, pass: &mut PutPass, pair: Tagged)
+        requires queue { pass.old.queue ≡ self.now.id }
+        requires own { pair.0 ≡ pass.old.number }
+        ensures { pass.new ≡ record pass.old { sent = pass.old.sent ++ pair.1 ∷ [] } }
+    {
+        let mut pair = pair;
         let mut waiting = Waiting::new(&self.putters);
         for _ in rt.forever() {
             match self.pairs.try_push_as::<Puts>(&mut pass.ruled, pair) {

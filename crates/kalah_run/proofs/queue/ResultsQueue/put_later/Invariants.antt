@@ -1,7 +1,7 @@
 use Rattle.std.proofs.Common.{◌≡◌, []}
 use Rattle.crossbeam_queue.specs.Passes.{view}
 use Rattle.kalah_run.specs.declared.queue.rule.QueueView.TheVariants.{Putting}
-use Rattle.kalah_run.proofs.queue.ResultsQueue.put.Given as goal
+use Rattle.kalah_run.proofs.queue.ResultsQueue.put_later.Given as goal
 
 abbrev pub invariant-loop : goal.invariant-loop
 invariant-loop g l = record {
@@ -9,5 +9,5 @@ invariant-loop g l = record {
   none_out : l.pass-inside.ruled.me.1 ≡ [];
   number : l.pass-inside.number ≡ l.fn.pass.number;
   view : view l.pass-inside.ruled ≡ Putting l.fn.pass.number l.fn.pass.sent;
-  held_back : l.pair ≡ (l.fn.pass.number, l.fn.outcome);
+  held_back : l.pair ≡ l.fn.pair;
 }
