@@ -209,10 +209,10 @@ impl ClosedQueue {
     }
 }
 
-// Pauses for a fraction of a microsecond. It never yields: on a busy machine the other threads then run for some milliseconds.
+// Pauses for a microsecond or two. It never yields: on a busy machine the other threads then run for some milliseconds.
 fn spin_shortly() {
     let backoff = Backoff::new();
-    for _ in 0..3 {
+    for _ in 0..5 {
         backoff.spin();
     }
 }

@@ -24,7 +24,7 @@ use std::thread::{Promise, Threads};
 
 /// Each outcome adds this many tries for the next one before the thread sleeps. So tries that find nothing take a
 /// small share of the time that the outcomes took.
-const TRIES_FOR_EACH: u32 = 16;
+const TRIES_FOR_EACH: u32 = 4;
 
 /// The most tries that are saved up: those of a full queue. They take longer than waking a worker that found it full.
 const MOST_TRIES: u32 = TRIES_FOR_EACH * QUEUE_CAPACITY;
