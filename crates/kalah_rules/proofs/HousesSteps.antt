@@ -1,5 +1,5 @@
 -- The result of a move on houses, as a board reports it.
-use Rattle.std.proofs.Common.{◌≡◌, ◌≢◌, ℕ, ◌+◌, ◌-◌, ◌*◌, ◌^◌, ◌/◌, ◌≤◌, arith, ap, sym, ◌∙◌, refl, subst}
+use Rattle.std.proofs.Common.{◌≡◌, ◌≢◌, ℕ, ◌+◌, ◌-◌, ◌*◌, ◌^◌, ◌/◌, ◌%◌, ◌≤◌, arith, ap, sym, ◌∙◌, refl, subst}
 use Rattle.std.specs.Prelude.{Bool, true, false, cond, sum, Contains}
 use Rattle.std.proofs.lemmas.Bool.Decides.{nat_tests}
 use Rattle.std.proofs.lemmas.List.{length-replicate}
@@ -99,7 +99,7 @@ module _ {a : Rows} {h key seeds : ℕ} {r : RowNumbers} (packed : IsPacked key 
   store_within = omega (arith, shows.store, keeps.play, is.seeds_are)
 
   -- the mover has no seeds left
-  pub over_own : r.own ≡ 0 → Over r.store (seeds - r.store) ≡ houses_step a h
+  pub over_own : r.rows % 2 ^ 30 ≡ 0 → Over r.store (seeds - r.store) ≡ houses_step a h
   over_own none =
       let empty : sum q.own ≡ 0 = sum-zero q.own (sym shows.own ∙ none) in
       let over : is_over q ≡ true = rw empty refl in
@@ -108,7 +108,7 @@ module _ {a : Rows} {h key seeds : ℕ} {r : RowNumbers} (packed : IsPacked key 
       ap (λ x. Over x (seeds - r.store)) mine ∙ ap (λ x. Over (q.own_store + sum q.own) x) theirs ∙ sym (step_over q (is_again (bare a) h) over)
 
   -- or the other player has none
-  pub over_other : r.other ≡ 0 → Over seeds 0 ≡ houses_step a h
+  pub over_other : r.rows / 2 ^ 30 ≡ 0 → Over seeds 0 ≡ houses_step a h
   over_other none =
       let empty : sum q.other ≡ 0 = sum-zero q.other (sym shows.other ∙ none) in
       let over : is_over q ≡ true = grind (arith, nat_tests, empty) in
@@ -116,7 +116,7 @@ module _ {a : Rows} {h key seeds : ℕ} {r : RowNumbers} (packed : IsPacked key 
       let theirs : 0 ≡ q.other_store + sum q.other = omega (arith, keeps.other_store, empty) in
       ap (λ x. Over x 0) mine ∙ ap (λ x. Over (q.own_store + sum q.own) x) theirs ∙ sym (step_over q (is_again (bare a) h) over)
 
-  module _ (own_some : r.own ≢ 0) (other_some : r.other ≢ 0) where
+  module _ (own_some : r.rows % 2 ^ 30 ≢ 0) (other_some : r.rows / 2 ^ 30 ≢ 0) where
     -- or the game goes on
     going : is_over q ≡ false
     going =
@@ -126,23 +126,23 @@ module _ {a : Rows} {h key seeds : ℕ} {r : RowNumbers} (packed : IsPacked key 
 
     -- with the mover
     pub again_packed : is_again (bare a) h ≡ true →
-        IsPacked (r.own + 2 ^ 30 * r.other + key / 2 ^ 60 * 2 ^ 60) (seeds - r.store)
-        × (Again r.store (rows_at (r.own + 2 ^ 30 * r.other + key / 2 ^ 60 * 2 ^ 60)) ≡ houses_step a h)
+        IsPacked (r.rows + key / 2 ^ 60 * 2 ^ 60) (seeds - r.store)
+        × (Again r.store (rows_at (r.rows + key / 2 ^ 60 * 2 ^ 60)) ≡ houses_step a h)
     again_packed more =
         let above = above_cells a key is.limits is.key_is in
         let rule : rule_bit q.rule ≡ rule_bit a.rule = ap rule_bit keeps.rule in
-        let there = packed_as (rows_of q) (r.own + 2 ^ 30 * r.other + key / 2 ^ 60 * 2 ^ 60) (seeds - r.store) within
+        let there = packed_as (rows_of q) (r.rows + key / 2 ^ 60 * 2 ^ 60) (seeds - r.store) within
         (omega (arith, shows.own, shows.other, keeps.side)) (omega (arith, shows.store, keeps.play, is.seeds_are)) in
         (there.0, rw (shows.store, there.1) (sym (step_again q (is_again (bare a) h) going more)))
 
     -- or with the other player
     pub turn_packed : is_again (bare a) h ≡ false →
-        IsPacked (r.other + 2 ^ 30 * r.own + key / 2 ^ 60 * 2 ^ 60) (seeds - r.store)
-        × (Turn r.store (rows_at (r.other + 2 ^ 30 * r.own + key / 2 ^ 60 * 2 ^ 60)) ≡ houses_step a h)
+        IsPacked (r.rows / 2 ^ 30 + 2 ^ 30 * (r.rows % 2 ^ 30) + key / 2 ^ 60 * 2 ^ 60) (seeds - r.store)
+        × (Turn r.store (rows_at (r.rows / 2 ^ 30 + 2 ^ 30 * (r.rows % 2 ^ 30) + key / 2 ^ 60 * 2 ^ 60)) ≡ houses_step a h)
     turn_packed passed =
         let above = above_cells a key is.limits is.key_is in
         let rule : rule_bit q.rule ≡ rule_bit a.rule = ap rule_bit keeps.rule in
-        let there = packed_as (rows_of (swapped q)) (r.other + 2 ^ 30 * r.own + key / 2 ^ 60 * 2 ^ 60) (seeds - r.store) (swapped_within q within)
+        let there = packed_as (rows_of (swapped q)) (r.rows / 2 ^ 30 + 2 ^ 30 * (r.rows % 2 ^ 30) + key / 2 ^ 60 * 2 ^ 60) (seeds - r.store) (swapped_within q within)
         (omega (arith, shows.own, shows.other, keeps.other_side, is.limits.same_side)) (omega (arith, shows.store, keeps.play, is.seeds_are)) in
         (there.0, rw (shows.store, there.1) (sym (step_turn q (is_again (bare a) h) going passed)))
 

@@ -264,6 +264,10 @@ other_number_at a k h e =
     let other = number_of-small 6 a.other (omega (arith, h.at_most_six, h.same_side)) (omega (arith, h.few_seeds)) in
     omega (arith, e)
 
+-- both rows
+pub rows_number_at : (a : Rows) (k : ℕ) → IsWithinHouses a → key_of a ≡ k → k % 2 ^ 60 ≡ number_of a.own + 2 ^ 30 * number_of a.other
+rows_number_at a k h e = omega (arith, own_number_at a k h e, other_number_at a k h e)
+
 -- a row's number, read from the last house
 number_of-drop : (xs : List ℕ) (k : ℕ) → k < length xs → number_of (drop k xs) ≡ get_or xs k 0 + 32 * number_of (drop (suc k) xs)
 number_of-drop [] k h = absurd (omega arith)

@@ -11,5 +11,6 @@ pub mod Packing
 pub mod PackedMoves
 pub mod HousesSteps
 pub mod StoreMoves
+pub mod SowingTable
 pub mod Ends
 pub mod WaySums

@@ -1,23 +1,26 @@
 -- A move on the numbers of two rows.
 use Rattle.std.proofs.Common.{◌≡◌, ◌≢◌, ℕ, ◌+◌, ◌-◌, ◌*◌, ◌/◌, ◌%◌, ◌^◌, ◌<◌, ◌≤◌, inl, inr, List, length, arith, ap, sym, ◌∙◌, refl, subst, eq-eqb}
-use Rattle.std.specs.Prelude.{true, false, slice_set, slice_index, sum, nat_lt, if◌then◌else◌, ◌==◌, ◌&&◌, Option, Some, None, MatchBool}
-use Rattle.std.proofs.lemmas.Nat.{mod_below, mul-le}
-use Rattle.std.proofs.Math.Nat.{mul-div-le, div-eq_of_lt, mod-eq_of_lt}
+use Rattle.std.specs.Prelude.{true, false, slice_set, slice_index, sum, ◌==◌, ◌&&◌, Option, Some, None, MatchBool}
+use Rattle.std.proofs.lemmas.Nat.{mod_below, mul-le, mod-mul-add, div-add-mod'}
+use Rattle.std.proofs.Math.Nat.{div-eq_of_lt, mod-eq_of_lt, div-div-eq-div-mul}
 use Rattle.std.proofs.lemmas.Bool.{cases_Bool, cases_eq, cases_lt, eqb-true, eqb-false}
 use Rattle.std.proofs.lemmas.Bool.Decides.{nat_tests}
 use Rattle.std.proofs.lemmas.List.{set_past, get_or_past}
 use Rattle.std.proofs.lemmas.List.Sums.{sum_by-set}
 use Rattle.kalah_rules.specs.Position.{Position, Rows, IsWithinHouses, side_length, seeds, opposite, seeds_in_houses, bare}
 use Rattle.kalah_rules.specs.Lap.{HoldsSeeds, lifted}
-use Rattle.kalah_rules.specs.Sowing.{lap_length, row_of, own_distance, other_distance, store_distance, sow, sown, last_distance, last_house, captures, can_capture, capture, captured, after}
-use Rattle.kalah_rules.proofs.Rows.{seeds-le-sum, length-slice_set}
+use Rattle.kalah_rules.specs.Sowing.{lap_length, own_distance, other_distance, store_distance, sow, sown, last_distance, last_house, is_again, captures, can_capture, capture, captured, after}
+use Rattle.kalah_rules.proofs.Rows.{length-slice_set}
 use Rattle.kalah_rules.proofs.Sown.{sow_side, sow_keeps, sow_other_store}
 use Rattle.kalah_rules.proofs.Laps.{own_distance_past, own_distance_back}
 use Rattle.kalah_rules.proofs.Legal.{last_house_own, last_house_store, last_house_other, after_at}
 use Rattle.kalah_rules.specs.Key.{number_of}
-use Rattle.kalah_rules.specs.Packed.{Shows, ones, up_to}
+use Rattle.kalah_rules.specs.Packed.{Shows, ones}
 use Rattle.kalah_rules.specs.declared.houses.play.RowNumbers.{RowNumbers}
-use Rattle.kalah_rules.proofs.Packing.{number_of-set, number_of-up_to, read_seeds, own_sown, other_sown}
+use Rattle.kalah_rules.specs.Sowings.{own_gained, other_gained, store_gained, last_place, IsSowing}
+use Rattle.kalah_rules.specs.declared.houses.sowings.Sowing.{Sowing}
+use Rattle.kalah_rules.proofs.Keys.{number_of-small}
+use Rattle.kalah_rules.proofs.Packing.{pow_five, pow_other, low_cell, moved_small, moved_far, number_of-set, number_of-all, number_of-up_to, read_seeds, own_sown, other_sown, own_gain, other_gain}
 
 -- what a sowing keeps
 pub record KeepsSeeds (p q : Position) : Type 0 where
@@ -35,25 +38,20 @@ sow_rule p h k = refl
 -- where nothing is caught the rows stay
 unchanged : (r : RowNumbers) (x y last taken k j : ℕ) {p : Position} → (last ≡ 0) × (taken ≡ 0) →
     x ≡ k * last → y ≡ j * taken → Shows r p →
-    Shows (record { own = r.own - x; other = r.other - y; store = r.store + last + taken }) p
-unchanged r x y last taken k j none x_is y_is shows = record {
-  own = omega (arith, rw none.0 at x_is, shows.own);
-  other = omega (arith, rw none.1 at y_is, shows.other);
-  store = omega (arith, none.0, none.1, shows.store);
-}
+    Shows (record { rows = r.rows - x - 2 ^ 30 * y; store = r.store + last + taken }) p
+unchanged r x y last taken k j none x_is y_is shows =
+    let same : r.rows - x - 2 ^ 30 * y ≡ r.rows = omega (arith, rw none.0 at x_is, rw none.1 at y_is) in
+    record { own = rw same shows.own; other = rw same shows.other; store = omega (arith, none.0, none.1, shows.store) }
+
+-- rows from which houses are taken
+taken_off : (rows x y own other own_new other_new : ℕ) → rows % 2 ^ 30 ≡ own → rows / 2 ^ 30 ≡ other → own_new + x ≡ own → other_new + y ≡ other →
+    ((rows - x - 2 ^ 30 * y) % 2 ^ 30 ≡ own_new) × ((rows - x - 2 ^ 30 * y) / 2 ^ 30 ≡ other_new)
+taken_off rows x y own other own_new other_new own_is other_is less other_less = (omega arith, omega arith)
 
 -- the rule lets the last seed capture
 captured_some : (p : Position) (i : ℕ) → seeds p.own i ≡ 1 → captures p.rule (seeds p.other (opposite p i)) ≡ true →
     captured p (Some i) ≡ capture p i
 captured_some p i one some = rw (eq-eqb (seeds p.own i) 1 one, some)
-
--- thirty-one seeds make few laps
-laps_bound : (c m laps : ℕ) → c ≤ 31 → 1 ≤ m → laps ≡ c / (2 * m + 1) → laps ≤ 10
-laps_bound c m laps few some e =
-    let whole : (2 * m + 1) * (c / (2 * m + 1)) ≤ c = mul-div-le c (2 * m + 1) in
-    let three : 3 * laps ≤ (2 * m + 1) * laps = mul-le 3 laps (2 * m + 1) laps (omega arith) (omega arith) in
-    let same : (2 * m + 1) * laps ≡ (2 * m + 1) * (c / (2 * m + 1)) = ap (λ x. (2 * m + 1) * x) e in
-    omega arith
 
 -- if the rule lets it capture nothing, the rows stay
 kept_by : (q : Position) (i : ℕ) → captures q.rule (seeds q.other (opposite q i)) ≡ false → (r : RowNumbers) → Shows r q →
@@ -62,6 +60,35 @@ kept_by q i none r shows = elim (cases_Bool (seeds q.own i == 1)) [
   | inl one ↦ rw (one, none) shows
   | inr more ↦ rw more shows
 ]
+
+-- gains from which the seeds of a house were taken
+pub gains_less : (gained house : ℕ) → gained < 2 ^ 64 → house < 2 ^ 64 → ((gained + (2 ^ 64 - house)) % 2 ^ 64 + house) % 2 ^ 64 ≡ gained
+gains_less gained house small house_small = omega arith
+
+-- gains that lack what a house had, added to rows that have it
+sum_of_gains : (rows gains house gained total : ℕ) → (gains + house) % 2 ^ 64 ≡ gained → rows + gained ≡ total + house → total < 2 ^ 64 →
+    (rows + gains) % 2 ^ 64 ≡ total
+sum_of_gains rows gains house gained total is adds small = omega arith
+
+-- what a sowing adds that ends in the store without a lap
+store_gains : (m h c : ℕ) → 1 ≤ h → h ≤ m → c + h ≡ m + 1 →
+    (own_gained m h c + ones h ≡ ones m) × (other_gained m h c ≡ 0) × (store_gained m h c ≡ 1)
+store_gains m h c low high ends =
+    let small : c < lap_length m = omega arith in
+    let no_lap : c / lap_length m ≡ 0 = div-eq_of_lt small in
+    let rest : c % lap_length m ≡ c = mod-eq_of_lt small in
+    let none : c / lap_length m * ones m ≡ 0 * ones m = ap (λ q. q * ones m) no_lap in
+    let all = number_of-all m (h + c % lap_length m) (omega (arith, rest)) in
+    let no_round : h + c % lap_length m - lap_length m ≡ 0 = omega (arith, rest) in
+    let no_other : h + c % lap_length m - (m + 1) ≡ 0 = omega (arith, rest) in
+    let round = number_of-up_to m (h + c % lap_length m - lap_length m) (omega (arith, no_round)) in
+    let other = number_of-up_to m (h + c % lap_length m - (m + 1)) (omega (arith, no_other)) in
+    let nothing = ap (λ k. ones k) no_round in
+    let nothing' = ap (λ k. ones k) no_other in (
+      omega (arith, own_gain m h c low high, none, all, round, nothing),
+      omega (arith, other_gain m h c low high, none, other, nothing'),
+      grind (arith, nat_tests, rest, no_lap),
+    )
 
 module _ (a : Rows) (h : ℕ) (w : IsWithinHouses a) (holds : HoldsSeeds (bare a) h) where
   -- the position after the sowing
@@ -81,33 +108,20 @@ module _ (a : Rows) (h : ℕ) (w : IsWithinHouses a) (holds : HoldsSeeds (bare a
         rule = sow_rule (bare a) h (seeds a.own h);
       }
 
-  -- the house has few seeds
-  pub seeds_few : seeds a.own h ≤ 31
-  seeds_few = omega (arith, seeds-le-sum a.own h holds.first holds.last, w.few_seeds)
-
-  -- so there are few whole laps
-  pub laps_few : (laps : ℕ) → laps ≡ seeds a.own h / (2 * length a.own + 1) → laps ≤ 10
-  laps_few laps e = laps_bound (seeds a.own h) (length a.own) laps seeds_few w.some_house e
-
   -- the rows of the sowing
-  pub own_is : number_of q.own + ones h + 32 ^ (h - 1) * seeds a.own h
-      ≡ number_of a.own + seeds a.own h / lap_length (length a.own) * ones (length a.own)
-      + number_of (row_of (length a.own) (up_to (h + seeds a.own h % lap_length (length a.own))))
-      + number_of (row_of (length a.own) (up_to (h + seeds a.own h % lap_length (length a.own) - lap_length (length a.own))))
+  pub own_is : number_of q.own + 32 ^ (h - 1) * seeds a.own h ≡ number_of a.own + own_gained (length a.own) h (seeds a.own h)
   unfolding sow
   own_is = own_sown a.own h (seeds a.own h) holds.first holds.last
 
   -- the other row
-  pub other_is : number_of q.other ≡ number_of a.other + seeds a.own h / lap_length (length a.own) * ones (length a.own)
-      + number_of (row_of (length a.own) (up_to (h + seeds a.own h % lap_length (length a.own) - (length a.own + 1))))
+  pub other_is : number_of q.other ≡ number_of a.other + other_gained (length a.own) h (seeds a.own h)
   unfolding sow
-  other_is = rw w.same_side at (other_sown a.other h (seeds a.own h) holds.first (rw w.same_side holds.last))
+  other_is = rw w.same_side at (other_sown a.other h (seeds a.own h))
 
   -- and what comes to the store
-  pub store_is : q.own_store ≡ seeds a.own h / lap_length (length a.own) +
-      (if nat_lt (length a.own) (h + seeds a.own h % lap_length (length a.own)) then 1 else 0)
+  pub store_is : q.own_store ≡ store_gained (length a.own) h (seeds a.own h)
   unfolding sow
-  store_is = let last = holds.last in let first = holds.first in grind (arith, nat_tests)
+  store_is = omega arith
 
   -- the seeds that are read off the row are those of the house
   pub house_read : (row n : ℕ) → row ≡ number_of a.own → n ≡ row / 32 ^ (h - 1) % 32 → n ≡ seeds a.own h
@@ -118,61 +132,62 @@ module _ (a : Rows) (h : ℕ) (w : IsWithinHouses a) (holds : HoldsSeeds (bare a
   pub lifted_is : number_of (lifted (bare a) h).own + 32 ^ (h - 1) * seeds a.own h ≡ number_of a.own
   lifted_is = omega (arith, number_of-set a.own (h - 1) 0 (omega (arith, holds.first, holds.last)))
 
-  -- the rows that are computed are those of the sowing
-  pub sown_shows : (m laps rest : ℕ) → m ≡ length a.own → laps ≡ seeds a.own h / (2 * m + 1) → rest ≡ seeds a.own h % (2 * m + 1) →
-      (row own_more other other_more last : ℕ) → row ≡ number_of (lifted (bare a) h).own →
-      own_more + ones h ≡ laps * ones m + number_of (row_of m (up_to (h + rest))) + number_of (row_of m (up_to (h + rest - (2 * m + 1)))) →
-      other ≡ number_of a.other → other_more ≡ laps * ones m + number_of (row_of m (up_to (h + rest - (m + 1)))) →
-      last ≡ (if nat_lt m (h + rest) then 1 else 0) →
-      Shows (record { own = row + own_more; other = other + other_more; store = laps + last }) q
-  sown_shows m laps rest side laps_is rest_is row own_more other other_more last row_is own_more_is other_is' other_more_is last_is =
-      let laps_at = rw side at laps_is in
-      let own_at = rw (side, laps_at, rw side at rest_is) at own_more_is in
-      let other_at = rw (side, laps_at, rw side at rest_is) at other_more_is in
-      let last_at = rw (side, rw side at rest_is) at last_is in
-      record {
-        own = omega (arith, own_is, lifted_is);
-        other = omega (arith, other_is);
-        store = omega (arith, store_is);
-      }
-
-  -- if they don't come back to the mover's houses
-  pub short_shows : (row own_more other other_more last : ℕ) → h + seeds a.own h ≤ lap_length (length a.own) →
-      row ≡ number_of (lifted (bare a) h).own →
-      own_more + ones h ≡ number_of (row_of (length a.own) (up_to (h + seeds a.own h))) →
-      other ≡ number_of a.other → other_more ≡ number_of (row_of (length a.own) (up_to (h + seeds a.own h - (length a.own + 1)))) →
-      last ≡ (if nat_lt (length a.own) (h + seeds a.own h) then 1 else 0) →
-      Shows (record { own = row + own_more; other = other + other_more; store = last }) q
-  short_shows row own_more other other_more last near row_is own_more_is other_is' other_more_is last_is =
-      let below : seeds a.own h < lap_length (length a.own) = omega (arith, near, holds.first) in
-      let back : h + seeds a.own h - lap_length (length a.own) ≡ 0 = omega (arith, near) in
-      let nothing = number_of-up_to (length a.own) 0 (omega arith) in
-      let no_laps : 0 + last ≡ last = omega arith in
-      rw no_laps at (sown_shows (length a.own) 0 (seeds a.own h) refl (sym (div-eq_of_lt below))
-      (sym (mod-eq_of_lt below)) row own_more other other_more last row_is
-      (rw back (omega (arith, own_more_is, nothing))) other_is' (omega (arith, other_more_is)) last_is)
-
   -- the sowing leaves few seeds
   few : sum q.own + sum q.other ≤ 31
   few = omega (arith, sown_keeps.play, w.few_seeds)
+
+  -- what is added to both rows leaves them as they are sown
+  pub sum_shows : (s : Sowing) (rows : ℕ) → IsSowing (length a.own) h (seeds a.own h) s → rows ≡ number_of a.own + 2 ^ 30 * number_of a.other →
+      Shows (record { rows = (rows + s.gains) % 2 ^ 64; store = s.store }) q
+  sum_shows s rows is rows_are =
+      let side = sown_keeps.side in
+      let other_side = sown_keeps.other_side in
+      let own_small : number_of q.own < 2 ^ 30 = number_of-small 6 q.own (omega (arith, side, w.at_most_six)) (omega (arith, few)) in
+      let other_small : number_of q.other < 2 ^ 30 = number_of-small 6 q.other (omega (arith, other_side, w.same_side, w.at_most_six)) (omega (arith, few)) in
+      let added : (rows + s.gains) % 2 ^ 64 ≡ number_of q.own + 2 ^ 30 * number_of q.other =
+      sum_of_gains rows s.gains (32 ^ (h - 1) * seeds a.own h) _ _ is.gains (omega (arith, rows_are, own_is, other_is))
+      (omega (arith, own_small, other_small)) in
+      record {
+        own = rw added (omega (arith, own_small));
+        other = rw added (omega (arith, own_small));
+        store = is.store ∙ sym store_is;
+      }
+
+  -- a house whose last seed falls into the store without a lap
+  pub into_store : (rows house own_more : ℕ) → seeds a.own h + h ≡ length a.own + 1 → rows ≡ number_of a.own + 2 ^ 30 * number_of a.other →
+      house ≡ 32 ^ (h - 1) * seeds a.own h → own_more + ones h ≡ ones (length a.own) → Shows (record { rows = rows - house + own_more; store = 1 }) q
+  into_store rows house own_more ends rows_are house_is own_more_is =
+      let gains = store_gains (length a.own) h (seeds a.own h) holds.first holds.last ends in
+      let side = sown_keeps.side in
+      let own_small : number_of q.own < 2 ^ 30 = number_of-small 6 q.own (omega (arith, side, w.at_most_six)) (omega (arith, few)) in
+      let now : rows - house + own_more ≡ number_of q.own + 2 ^ 30 * number_of q.other =
+      omega (arith, rows_are, house_is, own_is, other_is, lifted_is, own_more_is, gains.0, gains.1) in
+      record {
+        own = omega (arith, now, own_small);
+        other = omega (arith, now, own_small);
+        store = omega (arith, store_is, gains.2);
+      }
 
   -- and few in the store
   pub store_few : q.own_store ≤ 31
   store_few = omega (arith, sown_keeps.play, w.few_seeds)
 
   -- a house read off the numbers
-  pub read_own : (r : RowNumbers) (i : ℕ) → Shows r q → 1 ≤ i → i ≤ length a.own → r.own / 32 ^ (i - 1) % 32 ≡ seeds q.own i
-  read_own r i shows low high = ap (λ n. n / 32 ^ (i - 1) % 32) shows.own ∙ read_seeds q.own (i - 1) (omega (arith, sown_keeps.side)) (omega (arith, few))
+  pub read_own : (r : RowNumbers) (i bit : ℕ) → Shows r q → 1 ≤ i → i ≤ length a.own → bit ≡ 5 * (i - 1) → r.rows / 2 ^ bit % 32 ≡ seeds q.own i
+  read_own r i bit shows low high at =
+      let near : i - 1 ≤ 5 = omega (arith, high, w.at_most_six) in
+      rw (at, pow_five (i - 1)) (low_cell r.rows (i - 1) near ∙ ap (λ n. n / 32 ^ (i - 1) % 32) shows.own
+      ∙ read_seeds q.own (i - 1) (omega (arith, sown_keeps.side)) (omega (arith, few)))
 
   -- the house across
-  pub read_across : (r : RowNumbers) (i : ℕ) → Shows r q → 1 ≤ i → i ≤ length a.own →
-      r.other / 32 ^ (length a.own + 1 - i - 1) % 32 ≡ seeds q.other (opposite q i)
-  read_across r i shows low high =
+  pub read_across : (r : RowNumbers) (i bit : ℕ) → Shows r q → 1 ≤ i → i ≤ length a.own → bit ≡ 30 + 5 * (opposite q i - 1) →
+      r.rows / 2 ^ bit % 32 ≡ seeds q.other (opposite q i)
+  read_across r i bit shows low high at =
       let side = sown_keeps.side in
       let other_side = sown_keeps.other_side in
       let same = w.same_side in
-      let at : length a.own + 1 - i - 1 ≡ opposite q i - 1 = omega arith in
-      rw at (ap (λ n. n / 32 ^ (opposite q i - 1) % 32) shows.other ∙ read_seeds q.other (opposite q i - 1) (omega arith) (omega (arith, few)))
+      rw (at, pow_other (opposite q i - 1)) (ap (λ n. n % 32) (sym (div-div-eq-div-mul r.rows (2 ^ 30) (32 ^ (opposite q i - 1))))
+      ∙ ap (λ n. n / 32 ^ (opposite q i - 1) % 32) shows.other ∙ read_seeds q.other (opposite q i - 1) (omega arith) (omega (arith, few)))
 
   -- the last seed captures nothing
   shows_more : (r : RowNumbers) (i : ℕ) → Shows r q → seeds q.own i ≢ 1 → Shows r (captured q (Some i))
@@ -188,32 +203,25 @@ module _ (a : Rows) (h : ℕ) (w : IsWithinHouses a) (holds : HoldsSeeds (bare a
   -- it captures
   shows_capture : (r : RowNumbers) (i x y : ℕ) → Shows r q → 1 ≤ i → i ≤ length a.own → seeds q.own i ≡ 1 →
       captures a.rule (seeds q.other (opposite q i)) ≡ true →
-      x ≡ 32 ^ (i - 1) * 1 → y ≡ 32 ^ (length a.own + 1 - i - 1) * seeds q.other (opposite q i) →
-      Shows (record { own = r.own - x; other = r.other - y; store = r.store + 1 + seeds q.other (opposite q i) }) (captured q (Some i))
+      x ≡ 32 ^ (i - 1) * 1 → y ≡ 32 ^ (opposite q i - 1) * seeds q.other (opposite q i) →
+      Shows (record { rows = r.rows - x - 2 ^ 30 * y; store = r.store + 1 + seeds q.other (opposite q i) }) (captured q (Some i))
   shows_capture r i x y shows low high one some x_is y_is =
       let side = sown_keeps.side in
       let other_side = sown_keeps.other_side in
       let same = w.same_side in
-      let at : length a.own + 1 - i - 1 ≡ opposite q i - 1 = omega arith in
       let own_set = number_of-set q.own (i - 1) 0 (omega arith) in
       let other_set = number_of-set q.other (opposite q i - 1) 0 (omega arith) in
-      let y_at : y ≡ 32 ^ (opposite q i - 1) * seeds q.other (opposite q i) = rw at at y_is in
       let one_at : 32 ^ (i - 1) * seeds q.own i ≡ 32 ^ (i - 1) * 1 = ap (λ n. 32 ^ (i - 1) * n) one in
-      let own_shown = shows.own in
-      let other_shown = shows.other in
+      let off = taken_off r.rows x y _ _ _ _ shows.own shows.other (omega (arith, own_set, one_at, x_is)) (omega (arith, other_set, y_is)) in
       let store_shown = shows.store in
-      rw (captured_some q i one (rw sown_keeps.rule some)) (record {
-        own = omega arith;
-        other = omega arith;
-        store = omega arith;
-      })
+      rw (captured_some q i one (rw sown_keeps.rule some)) (record { own = off.0; other = off.1; store = omega arith })
 
   -- so what is caught is taken off both rows and goes to the store
   pub shows_caught : (r : RowNumbers) (i here across last taken x y : ℕ) → Shows r q → 1 ≤ i → i ≤ length a.own →
       here ≡ seeds q.own i → across ≡ seeds q.other (opposite q i) →
       MatchBool ((here == 1) && captures a.rule across) ((last ≡ 1) × (taken ≡ across)) ((last ≡ 0) × (taken ≡ 0)) →
-      x ≡ 32 ^ (i - 1) * last → y ≡ 32 ^ (length a.own + 1 - i - 1) * taken →
-      Shows (record { own = r.own - x; other = r.other - y; store = r.store + last + taken }) (captured q (Some i))
+      x ≡ 32 ^ (i - 1) * last → y ≡ 32 ^ (opposite q i - 1) * taken →
+      Shows (record { rows = r.rows - x - 2 ^ 30 * y; store = r.store + last + taken }) (captured q (Some i))
   shows_caught r i here across last taken x y shows low high here_is across_is told x_is y_is = elim (cases_Bool (here == 1)) [
     | inr more ↦
         let none : (last ≡ 0) × (taken ≡ 0) = rw more at told in
@@ -228,6 +236,42 @@ module _ (a : Rows) (h : ℕ) (w : IsWithinHouses a) (holds : HoldsSeeds (bare a
           (rw both.0 at x_is) (rw (both.1, across_is) at y_is))
     ]
   ]
+
+  -- and lies there
+  pub caught_within : (r : RowNumbers) (i last taken : ℕ) → Shows r q → 1 ≤ i → i ≤ length a.own → last ≤ seeds q.own i →
+      taken ≤ seeds q.other (opposite q i) → (32 ^ (i - 1) * last ≤ r.rows % 2 ^ 30) × (32 ^ (opposite q i - 1) * taken ≤ r.rows / 2 ^ 30)
+  caught_within r i last taken shows low high last_few taken_few =
+      let side = sown_keeps.side in
+      let other_side = sown_keeps.other_side in
+      let same = w.same_side in
+      let own_set = number_of-set q.own (i - 1) 0 (omega arith) in
+      let other_set = number_of-set q.other (opposite q i - 1) 0 (omega arith) in (
+        omega (arith, own_set, shows.own, mul-le (32 ^ (i - 1)) last (32 ^ (i - 1)) (seeds q.own i) (omega arith) last_few),
+        omega (arith, other_set, shows.other, mul-le (32 ^ (opposite q i - 1)) taken (32 ^ (opposite q i - 1)) (seeds q.other (opposite q i)) (omega arith) taken_few),
+      )
+
+  -- all that a capture does to the rows, read and written by bits
+  pub capture_shows : (r : RowNumbers) (i bit across last taken : ℕ) → Shows r q → 1 ≤ i → i ≤ length a.own → bit ≡ 5 * (i - 1) →
+      across ≡ 25 + 5 * length a.own - bit →
+      MatchBool ((r.rows / 2 ^ bit % 32 == 1) && captures a.rule (r.rows / 2 ^ across % 32))
+      ((last ≡ 1) × (taken ≡ r.rows / 2 ^ across % 32)) ((last ≡ 0) × (taken ≡ 0)) →
+      last ≤ r.rows / 2 ^ bit % 32 → taken ≤ r.rows / 2 ^ across % 32 →
+      (taken * 2 ^ across % 2 ^ 64 ≤ r.rows - last * 2 ^ bit % 2 ^ 64)
+      × Shows (record { rows = r.rows - last * 2 ^ bit % 2 ^ 64 - taken * 2 ^ across % 2 ^ 64; store = r.store + last + taken }) (captured q (Some i))
+  capture_shows r i bit across last taken shows low high bit_is across_is told last_few taken_few =
+      let side = sown_keeps.side in
+      let near : i - 1 ≤ 5 = omega (arith, high, w.at_most_six) in
+      let far : opposite q i - 1 ≤ 5 = omega (arith, side, w.at_most_six, low) in
+      let opposite_is : across ≡ 30 + 5 * (opposite q i - 1) = omega (arith, across_is, bit_is, side, low, high) in
+      let here = read_own r i bit shows low high bit_is in
+      let there = read_across r i across shows low high opposite_is in
+      let x : last * 2 ^ bit % 2 ^ 64 ≡ 32 ^ (i - 1) * last = rw (bit_is, pow_five (i - 1)) (moved_small (i - 1) last near (omega (arith, last_few))) in
+      let y : taken * 2 ^ across % 2 ^ 64 ≡ 2 ^ 30 * (32 ^ (opposite q i - 1) * taken) =
+      rw (opposite_is, pow_other (opposite q i - 1)) (moved_far (opposite q i - 1) taken far (omega (arith, taken_few))) in
+      let within = caught_within r i last taken shows low high (omega (arith, last_few, here)) (omega (arith, taken_few, there)) in (
+        rw (x, y) (omega (arith, within.0, within.1)),
+        rw (x, y) (shows_caught r i _ _ last taken _ _ shows low high here there told refl refl),
+      )
 
 -- ---- the whole move
 -- a house that is emptied
@@ -271,7 +315,7 @@ unfolding after
 after_keeps a h w holds = keeps_then (bare a) (sown (bare a) h) _ (sown_keeps a h w holds) (captured_keeps (sown (bare a) h) (last_house (bare a) h))
 
 -- where the last seed falls, by its place
-module _ (p : Position) (h : ℕ) (holds : HoldsSeeds p h) (r : RowNumbers) where
+module _ (p : Position) (h : ℕ) (holds : HoldsSeeds p h) where
   -- the last seed leaves its house
   last_low : 1 ≤ last_distance p h
   last_low = omega arith
@@ -288,34 +332,84 @@ module _ (p : Position) (h : ℕ) (holds : HoldsSeeds p h) (r : RowNumbers) wher
       let some = holds.some in
       omega arith
 
-  -- it falls into an own house past its own
-  pub after_own : h + last_distance p h ≤ side_length p → Shows r (captured (sown p h) (Some (h + last_distance p h))) → Shows r (after p h)
-  after_own within shows =
-      let first = holds.first in
-      let i = h + last_distance p h in
-      let at : own_distance (side_length p) h i ≡ last_distance p h = own_distance_past (side_length p) h i (omega (arith, last_low)) ∙ omega arith in
-      subst (λ z. Shows r z) (after_at p h (Some i) (last_house_own p h i holds (omega arith) within at)) shows
+  -- the place of a last seed that doesn't come round
+  place_near : h + last_distance p h ≤ lap_length (side_length p) → last_place (side_length p) h (seeds p.own h) ≡ h + last_distance p h
+  place_near near =
+      let n = lap_length (side_length p) in
+      let laps = (seeds p.own h - 1) / n in
+      let rest = (seeds p.own h - 1) % n in
+      let whole : laps * n + rest ≡ seeds p.own h - 1 = div-add-mod' (seeds p.own h - 1) n in
+      let at : h - 1 + seeds p.own h ≡ laps * n + (h + rest) = omega (arith, whole, holds.first, holds.some) in
+      let below : h + rest < n = omega (arith, near) in
+      ap (λ x. x % n + 1) at ∙ ap (λ x. x + 1) (mod-mul-add laps n (h + rest) below) ∙ omega arith
 
-  -- or goes round to one before
-  pub after_round : lap_length (side_length p) < h + last_distance p h →
-      Shows r (captured (sown p h) (Some (h + last_distance p h - lap_length (side_length p)))) → Shows r (after p h)
-  after_round round shows =
-      let last = holds.last in
-      let i = h + last_distance p h - lap_length (side_length p) in
-      let back : i ≤ h = omega (arith, last_high) in
-      let at : own_distance (side_length p) h i ≡ last_distance p h = own_distance_back (side_length p) h i back ∙ omega arith in
-      subst (λ z. Shows r z) (after_at p h (Some i) (last_house_own p h i holds (omega arith) (omega arith) at)) shows
+  -- and of one that does
+  place_round : lap_length (side_length p) < h + last_distance p h →
+      last_place (side_length p) h (seeds p.own h) ≡ h + last_distance p h - lap_length (side_length p)
+  place_round round =
+      let n = lap_length (side_length p) in
+      let laps = (seeds p.own h - 1) / n in
+      let rest = (seeds p.own h - 1) % n in
+      let whole : laps * n + rest ≡ seeds p.own h - 1 = div-add-mod' (seeds p.own h - 1) n in
+      let next : (laps + 1) * n ≡ laps * n + n = omega arith in
+      let at : h - 1 + seeds p.own h ≡ (laps + 1) * n + (h + rest - n) = omega (arith, whole, next, round, holds.first, holds.some) in
+      let below : h + rest - n < n = omega (arith, last_high, holds.last) in
+      ap (λ x. x % n + 1) at ∙ ap (λ x. x + 1) (mod-mul-add (laps + 1) n (h + rest - n) below) ∙ omega (arith, round)
 
-  -- or falls into the store or beyond
-  pub after_past : side_length p < h + last_distance p h → h + last_distance p h ≤ lap_length (side_length p) → Shows r (sown p h) → Shows r (after p h)
-  after_past past within shows =
+  -- an own house where it falls is as far as it goes
+  own_at : last_place (side_length p) h (seeds p.own h) ≤ side_length p →
+      own_distance (side_length p) h (last_place (side_length p) h (seeds p.own h)) ≡ last_distance p h
+  own_at own = elim (cases_lt (lap_length (side_length p)) (h + last_distance p h)) [
+    | inl round ↦
+        let at = place_round round in
+        own_distance_back (side_length p) h _ (omega (arith, at, last_high)) ∙ omega (arith, at, round)
+    | inr near ↦
+        let at = place_near (omega (arith, near)) in
+        own_distance_past (side_length p) h _ (omega (arith, at, last_low)) ∙ omega (arith, at)
+  ]
+
+  -- it falls into an own house, and may capture
+  pub after_own : (r : RowNumbers) → last_place (side_length p) h (seeds p.own h) ≤ side_length p →
+      Shows r (captured (sown p h) (Some (last_place (side_length p) h (seeds p.own h)))) → Shows r (after p h)
+  after_own r own shows = subst (λ z. Shows r z)
+      (after_at p h (Some _) (last_house_own p h _ holds (omega arith) own (own_at own))) shows
+
+  -- the place of any other cell is its distance past the house
+  place_past : side_length p < last_place (side_length p) h (seeds p.own h) →
+      (last_place (side_length p) h (seeds p.own h) ≡ h + last_distance p h) × (h + last_distance p h ≤ lap_length (side_length p))
+  place_past past = elim (cases_lt (lap_length (side_length p)) (h + last_distance p h)) [
+    | inl round ↦ absurd (omega (arith, past, place_round round, last_high, holds.last))
+    | inr near ↦ let inside : h + last_distance p h ≤ lap_length (side_length p) = omega (arith, near) in (place_near inside, inside)
+  ]
+
+  -- it falls into the store or beyond
+  pub after_past : (r : RowNumbers) → side_length p < last_place (side_length p) h (seeds p.own h) → Shows r (sown p h) → Shows r (after p h)
+  after_past r past shows =
       let last = holds.last in
+      let at = place_past past in
       elim (cases_eq (h + last_distance p h) (side_length p + 1)) [
         | inl store ↦
-            let at : store_distance (side_length p) h ≡ last_distance p h = omega arith in
-            subst (λ z. Shows r z) (after_at p h None (last_house_store p h holds at)) shows
+            let far : store_distance (side_length p) h ≡ last_distance p h = omega arith in
+            subst (λ z. Shows r z) (after_at p h None (last_house_store p h holds far)) shows
         | inr other ↦
             let j = h + last_distance p h - (side_length p + 1) in
-            let at : other_distance (side_length p) h j ≡ last_distance p h = omega arith in
-            subst (λ z. Shows r z) (after_at p h None (last_house_other p h j holds (omega arith) (omega arith) at)) shows
+            let low : 1 ≤ j = omega (arith, at.0, past, other) in
+            let high : j ≤ side_length p = omega (arith, at.1) in
+            let far : other_distance (side_length p) h j ≡ last_distance p h = omega (arith, at.0, past, other) in
+            subst (λ z. Shows r z) (after_at p h None (last_house_other p h j holds low high far)) shows
       ]
+
+  -- the mover moves again if it falls into the store
+  pub again_at : is_again p h ≡ (last_place (side_length p) h (seeds p.own h) == side_length p + 1)
+  again_at = elim (cases_eq (last_place (side_length p) h (seeds p.own h)) (side_length p + 1)) [
+    | inl store ↦
+        let at = place_past (omega (arith, store)) in
+        rw (
+          eq-eqb (last_distance p h) (store_distance (side_length p) h) (omega (arith, at.0, store)),
+          eq-eqb (last_place (side_length p) h (seeds p.own h)) (side_length p + 1) store,
+        ) refl
+    | inr elsewhere ↦
+        let apart : last_distance p h ≢ store_distance (side_length p) h = λ far.
+        elsewhere (place_near (omega (arith, far, holds.last)) ∙ omega (arith, far, holds.last)) in
+        grind (arith, nat_tests, apart, elsewhere)
+  ]

@@ -1,6 +1,6 @@
 -- Rows as numbers: houses read and written, and rows of seeds added.
 use Rattle.std.proofs.Common.{zero, suc, ◌≡◌, ℕ, ◌+◌, ◌-◌, ◌*◌, ◌/◌, ◌%◌, ◌^◌, ◌<◌, ◌≤◌, inl, inr, List, [], ◌∷◌, ◌++◌, length, get_or, arith, ap, sym, ◌∙◌, refl, add-one, subst}
-use Rattle.std.specs.Prelude.{slice_set, sum, map, if◌then◌else◌, ◌==◌}
+use Rattle.std.specs.Prelude.{slice_set, sum, map, nat_lt, if◌then◌else◌, ◌==◌}
 use Rattle.std.specs.List.{range_with_len}
 use Rattle.std.proofs.lemmas.Nat.{pow-add, mod_below, mul-le}
 use Rattle.std.proofs.Math.Nat.{pow-succ', mul_assoc, div-div-eq-div-mul}
@@ -14,6 +14,7 @@ use Rattle.kalah_rules.proofs.Legal.{range_more}
 use Rattle.kalah_rules.proofs.Rows.{length-row_of, same_as_row, row_of_same, seeds-set_same, seeds-set_other, length-slice_set}
 use Rattle.kalah_rules.specs.Key.{number_of}
 use Rattle.kalah_rules.specs.Packed.{ones, up_to}
+use Rattle.kalah_rules.specs.Sowings.{own_gained, other_gained, store_gained}
 
 -- five bits are a power of 32
 pub pow_five : (k : ℕ) → 2 ^ (5 * k) ≡ 32 ^ k
@@ -21,6 +22,20 @@ pow_five zero = refl
 pow_five (suc k) =
     let e : 5 * suc k ≡ 5 + 5 * k = omega arith in
     rw (e, pow-add 2 5 (5 * k), pow_five k) (sym (pow-succ' 32 k))
+
+-- and past the own row
+pub pow_other : (k : ℕ) → 2 ^ (30 + 5 * k) ≡ 2 ^ 30 * 32 ^ k
+pow_other k = pow-add 2 30 (5 * k) ∙ ap (λ n. 2 ^ 30 * n) (pow_five k)
+
+-- an own house is read off both rows as off its own
+pub low_cell : (rows k : ℕ) → k ≤ 5 → rows / 32 ^ k % 32 ≡ rows % 2 ^ 30 / 32 ^ k % 32
+low_cell rows zero few = omega arith
+low_cell rows (suc zero) few = omega arith
+low_cell rows (suc (suc zero)) few = omega arith
+low_cell rows (suc (suc (suc zero))) few = omega arith
+low_cell rows (suc (suc (suc (suc zero)))) few = omega arith
+low_cell rows (suc (suc (suc (suc (suc zero))))) few = omega arith
+low_cell rows (suc (suc (suc (suc (suc (suc k)))))) few = absurd (omega arith)
 
 -- a power more is thirty-two times as much
 times_power : (k n : ℕ) → 32 ^ suc k * n ≡ 32 * (32 ^ k * n)
@@ -115,55 +130,65 @@ other_lap m h r j low high j_low = grind (arith, nat_tests)
 
 -- ---- what a sowing adds
 pub own_sown : (xs : List ℕ) (h c : ℕ) → 1 ≤ h → h ≤ length xs →
-    number_of (row_of (length xs) (λ i. (if i == h then 0 else seeds xs i) + gain (lap_length (length xs)) c (own_distance (length xs) h i))) + ones
-    h + 32 ^ (h - 1) * seeds xs h
-    ≡ number_of xs + c / lap_length (length xs) * ones (length xs) + number_of (row_of (length xs) (up_to (h + c % lap_length (length xs))))
-    + number_of (row_of (length xs) (up_to (h + c % lap_length (length xs) - lap_length (length xs))))
+    number_of (row_of (length xs) (λ i. (if i == h then 0 else seeds xs i) + gain (lap_length (length xs)) c (own_distance (length xs) h i)))
+    + 32 ^ (h - 1) * seeds xs h ≡ number_of xs + own_gained (length xs) h c
 own_sown xs h c low high =
-    let m = length xs in
-    let n = lap_length m in
-    let q = c / n in
-    let r = c % n in
-    let some : 0 < n = omega arith in
-    let few : r < n = mod_below c n some in
     let kept : ℕ → ℕ = λ i. if i == h then 0 else seeds xs i in
-    let sown : ℕ → ℕ = λ i. kept i + gain n c (own_distance m h i) in
-    let past : ℕ → ℕ = up_to (h + r) in
-    let round : ℕ → ℕ = up_to (h + r - n) in
-    let each : row_of m (λ i. sown i + up_to h i) ≡ row_of m (λ i. q + kept i + past i + round i) =
-    row_of_same m (λ i. q + kept i + past i + round i) (λ i. sown i + up_to h i)
-    (λ i i_low i_high. omega (arith, own_lap m h r i low high few i_low i_high)) in
-    let left = number_of-plus m sown (up_to h) in
-    let first = number_of-plus m (λ i. q) kept in
-    let second = number_of-plus m (λ i. q + kept i) past in
-    let third = number_of-plus m (λ i. q + kept i + past i) round in
-    let whole = number_of-same m q in
-    let until = number_of-up_to m h high in
+    let plus = number_of-plus (length xs) kept (λ i. gain (lap_length (length xs)) c (own_distance (length xs) h i)) in
     let lifted = ap number_of (lifted_row xs h low high) in
     let set = number_of-set xs (h - 1) 0 (omega arith) in
-    let rows = ap number_of each in
     omega arith
 
 -- what it adds to the other row
-pub other_sown : (ys : List ℕ) (h c : ℕ) → 1 ≤ h → h ≤ length ys →
+pub other_sown : (ys : List ℕ) (h c : ℕ) →
     number_of (row_of (length ys) (λ j. seeds ys j + gain (lap_length (length ys)) c (other_distance (length ys) h j)))
-    ≡ number_of ys + c / lap_length (length ys) * ones (length ys) + number_of (row_of (length ys) (up_to (h + c % lap_length (length ys) - (length ys + 1))))
-other_sown ys h c low high =
-    let m = length ys in
-    let n = lap_length m in
-    let q = c / n in
-    let r = c % n in
-    let past : ℕ → ℕ = up_to (h + r - (m + 1)) in
-    let each : row_of m (λ j. seeds ys j + gain n c (other_distance m h j)) ≡ row_of m (λ j. q + seeds ys j + past j) =
-    row_of_same m (λ j. q + seeds ys j + past j) (λ j. seeds ys j + gain n c (other_distance m h j))
-    (λ j j_low j_high. omega (arith, other_lap m h r j low high j_low)) in
-    let first = number_of-plus m (λ j. q) (seeds ys) in
-    let second = number_of-plus m (λ j. q + seeds ys j) past in
-    let whole = number_of-same m q in
-    let shown : row_of m (seeds ys) ≡ ys = sym (same_as_row ys m (seeds ys) refl (λ j j_low j_high. refl)) in
+    ≡ number_of ys + other_gained (length ys) h c
+other_sown ys h c =
+    let plus = number_of-plus (length ys) (seeds ys) (λ j. gain (lap_length (length ys)) c (other_distance (length ys) h j)) in
+    let shown : row_of (length ys) (seeds ys) ≡ ys = sym (same_as_row ys (length ys) (seeds ys) refl (λ j j_low j_high. refl)) in
     let kept = ap number_of shown in
-    let rows = ap number_of each in
     omega arith
+
+module _ (m h c : ℕ) (low : 1 ≤ h) (high : h ≤ m) where
+  -- the seeds of the last lap are fewer than a lap
+  few : c % lap_length m < lap_length m
+  few = mod_below c (lap_length m) (omega arith)
+
+  -- what the own row gains, and one seed more in each house up to the one that is emptied
+  pub own_gain : own_gained m h c + ones h ≡ c / lap_length m * ones m + number_of (row_of m (up_to (h + c % lap_length m)))
+      + number_of (row_of m (up_to (h + c % lap_length m - lap_length m)))
+  own_gain =
+      let q = c / lap_length m in
+      let gains : ℕ → ℕ = λ i. gain (lap_length m) c (own_distance m h i) in
+      let past : ℕ → ℕ = up_to (h + c % lap_length m) in
+      let round : ℕ → ℕ = up_to (h + c % lap_length m - lap_length m) in
+      let each : row_of m (λ i. gains i + up_to h i) ≡ row_of m (λ i. q + past i + round i) =
+      row_of_same m (λ i. q + past i + round i) (λ i. gains i + up_to h i)
+      (λ i i_low i_high. omega (arith, own_lap m h (c % lap_length m) i low high few i_low i_high)) in
+      let left = number_of-plus m gains (up_to h) in
+      let first = number_of-plus m (λ i. q) past in
+      let second = number_of-plus m (λ i. q + past i) round in
+      let whole = number_of-same m q in
+      let until = number_of-up_to m h high in
+      let rows = ap number_of each in
+      omega arith
+
+  -- what the other row gains
+  pub other_gain : other_gained m h c ≡ c / lap_length m * ones m + number_of (row_of m (up_to (h + c % lap_length m - (m + 1))))
+  other_gain =
+      let q = c / lap_length m in
+      let gains : ℕ → ℕ = λ j. gain (lap_length m) c (other_distance m h j) in
+      let past : ℕ → ℕ = up_to (h + c % lap_length m - (m + 1)) in
+      let each : row_of m gains ≡ row_of m (λ j. q + past j) =
+      row_of_same m (λ j. q + past j) gains (λ j j_low j_high. omega (arith, other_lap m h (c % lap_length m) j low high j_low)) in
+      let first = number_of-plus m (λ j. q) past in
+      let whole = number_of-same m q in
+      let rows = ap number_of each in
+      omega arith
+
+  -- what the store gains
+  pub store_gain : store_gained m h c ≡ c / lap_length m + (if nat_lt m (h + c % lap_length m) then 1 else 0)
+  store_gain = grind (arith, nat_tests)
 
 -- a few houses hold a small number
 pub ones_le : (a b : ℕ) → a ≤ b → ones a ≤ ones b
@@ -172,26 +197,6 @@ ones_le a (suc b) h = elim (cases_eq a (suc b)) [
   | inl same ↦ rw same (omega arith)
   | inr less ↦ let on = ones_le a b (omega arith) in omega (arith, number_of-suc b (λ i. 1))
 ]
-
--- one seed in each of some houses, and in each of those after them
-pub ones_more : (h c : ℕ) → ones (h + c) ≡ ones h + 32 ^ h * ones c
-ones_more h zero = let same : h + 0 ≡ h = omega arith in ap (λ n. ones n) same ∙ omega arith
-ones_more h (suc c) =
-    let next : h + suc c ≡ suc (h + c) = omega arith in
-    let power = ap (λ n. n * 1) (pow-add 32 h c) in
-    let before = ones_more h c in
-    let more = ap (λ n. 32 ^ h * n) (number_of-suc c (λ i. 1)) in
-    ap (λ n. ones n) next ∙ number_of-suc (h + c) (λ i. 1) ∙ grind arith
-
--- the seeds of house h, spread over the next ones
-pub spread_over : (h c s : ℕ) → 1 ≤ h → s + c ≡ 32 * ones c → 32 ^ (h - 1) * s + 32 ^ (h - 1) * c + ones h ≡ ones (h + c)
-spread_over zero c s low is = absurd (omega arith)
-spread_over (suc k) c s low is =
-    let less : suc k - 1 ≡ k = omega arith in
-    let both : 32 ^ k * (s + c) ≡ 32 ^ k * (32 * ones c) = ap (λ n. 32 ^ k * n) is in
-    let power : 32 ^ suc k * ones c ≡ 32 * (32 ^ k * ones c) = times_power k (ones c) in
-    let more : ones (suc k + c) ≡ ones (suc k) + 32 ^ suc k * ones c = ones_more (suc k) c in
-    rw less (grind (arith, both, power, more))
 
 -- a row moved up by a few houses fits sixty-four bits
 pub moved_small : (k x : ℕ) → k ≤ 5 → x < 2 ^ 30 → x * 32 ^ k % 2 ^ 64 ≡ 32 ^ k * x
@@ -202,6 +207,16 @@ moved_small (suc (suc (suc zero))) x h few = omega arith
 moved_small (suc (suc (suc (suc zero)))) x h few = omega arith
 moved_small (suc (suc (suc (suc (suc zero))))) x h few = omega arith
 moved_small (suc (suc (suc (suc (suc (suc k)))))) x h few = absurd (omega arith)
+
+-- so do a few seeds moved past the own row
+pub moved_far : (k x : ℕ) → k ≤ 5 → x < 32 → x * (2 ^ 30 * 32 ^ k) % 2 ^ 64 ≡ 2 ^ 30 * (32 ^ k * x)
+moved_far zero x h few = omega arith
+moved_far (suc zero) x h few = omega arith
+moved_far (suc (suc zero)) x h few = omega arith
+moved_far (suc (suc (suc zero))) x h few = omega arith
+moved_far (suc (suc (suc (suc zero)))) x h few = omega arith
+moved_far (suc (suc (suc (suc (suc zero))))) x h few = omega arith
+moved_far (suc (suc (suc (suc (suc (suc k)))))) x h few = absurd (omega arith)
 
 -- so do a few times as many seeds
 pub product_small : (x y : ℕ) → x ≤ 10 → y ≤ 34636833 → x * y ≤ 346368330

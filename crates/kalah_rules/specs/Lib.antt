@@ -4,6 +4,7 @@ pub mod Cells
 pub mod Key
 pub mod Packed
 pub mod Sowing
+pub mod Sowings
 pub mod Lap
 pub mod Play
 pub mod Ways

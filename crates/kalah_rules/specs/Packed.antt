@@ -1,5 +1,5 @@
 -- Houses in one number.
-use Rattle.std.specs.Prelude.{◌≡◌, ℕ, ◌≤◌, if◌then◌else◌, nat_le, sum}
+use Rattle.std.specs.Prelude.{◌≡◌, ℕ, ◌≤◌, ◌/◌, ◌%◌, ◌^◌, if◌then◌else◌, nat_le, sum}
 use Rattle.kalah_rules.specs.Position.{Position, seeds_in_houses, bare, IsWithinHouses}
 use Rattle.kalah_rules.specs.Sowing.{row_of}
 use Rattle.kalah_rules.specs.Limits.{most_houses, most_seeds}
@@ -21,8 +21,8 @@ pub record IsPackedRow (count number seeds : ℕ) : Type 0 where
 
 -- the numbers show a position: both rows, and what its own store holds
 pub record Shows (r : RowNumbers) (p : Position) : Type 0 where
-  pub own : r.own ≡ number_of p.own
-  pub other : r.other ≡ number_of p.other
+  pub own : r.rows % 2 ^ 30 ≡ number_of p.own
+  pub other : r.rows / 2 ^ 30 ≡ number_of p.other
   pub store : r.store ≡ p.own_store
 
 -- one seed in each of n houses

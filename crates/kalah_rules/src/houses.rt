@@ -7,6 +7,7 @@ ghost use Rattle.kalah_rules.specs.Key.{number_of, key_of, IsKey};
 pub(crate) mod house_row;
 mod numbers;
 mod play;
+pub(crate) mod sowings;
 #[cfg(test)]
 mod tests;
 

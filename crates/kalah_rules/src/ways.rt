@@ -10,6 +10,7 @@ mod tests;
 
 use crate::board::Board;
 use crate::houses::Houses;
+use crate::houses::sowings::Sowings;
 use crate::step::HousesStep;
 
 impl Houses {
@@ -32,7 +33,7 @@ impl Houses {
 
     // Returns the number of ways to play on for `depth` moves. The last moves are counted and not played.
     #[cycle(ways)]
-    fn ways(&self, depth: u8) -> u64
+    fn ways(&self, sowings: &Sowings, depth: u8) -> u64
         requires { depth ≤ most_depth }
         ensures ways { result ≡ ways depth (bare self.now) }
         ensures small { result ≤ most_houses ^ depth }
@@ -49,7 +50,7 @@ impl Houses {
         let mut sum = 0;
         for h in 1..self.m() + 1 {
             if self.own(h) > 0 {
-                sum += self.ways_by(h, depth - 1);
+                sum += self.ways_by(sowings, h, depth - 1);
             }
         }
         sum
@@ -57,15 +58,15 @@ impl Houses {
 
     // Returns the number of ways to play on for `depth` moves behind the move of house `h`.
     #[cycle(ways)]
-    fn ways_by(&self, h: u8, depth: u8) -> u64
+    fn ways_by(&self, sowings: &Sowings, h: u8, depth: u8) -> u64
         requires legal { Contains (legal_houses (bare self.now)) h }
         requires depth { depth < most_depth }
         ensures ways { result ≡ ways_by depth (bare self.now) h }
         ensures small { result ≤ most_houses ^ depth }
     {
-        match self.play(h) {
+        match self.play_by(sowings, h) {
             HousesStep::Over { .. } => u64::from(depth == 0),
-            HousesStep::Again(_, next) | HousesStep::Turn(_, next) => next.ways(depth),
+            HousesStep::Again(_, next) | HousesStep::Turn(_, next) => next.ways(sowings, depth),
         }
     }
 }
@@ -78,7 +79,8 @@ impl Board {
         ensures ways { result ≡ ways depth self.now }
         ensures small { result ≤ most_houses ^ depth }
     {
-        self.houses().ways(depth)
+        let sowings = Sowings::new();
+        self.houses().ways(&sowings, depth)
     }
 
     /// Returns the number of ways to play on for `depth` moves, which is less than 20, behind the move of house `h`, which must be legal.
@@ -89,6 +91,7 @@ impl Board {
         ensures ways { result ≡ ways_by depth self.now h }
         ensures small { result ≤ most_houses ^ depth }
     {
-        self.houses().ways_by(h, depth)
+        let sowings = Sowings::new();
+        self.houses().ways_by(&sowings, h, depth)
     }
 }

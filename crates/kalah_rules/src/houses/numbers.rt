@@ -99,19 +99,6 @@ pub(super) fn one_each(n: u8) -> u64
     ONES[n as usize]
 }
 
-// What a row gains if the seeds of house 1 are sown into the next houses, by their number.
-static SPREAD: [u64; 6] = [0, 31, 1054, 33821, 1082396, 34636827];
-
-// Returns what a row gains if the `count` seeds of house `h` are sown into the next houses.
-pub(super) fn spread(h: u8, count: u8) -> u64
-    requires first { 1 ≤ h }
-    requires last { h + count ≤ 6 }
-    ensures value { result + 32 ^ (h - 1) * count + ones h ≡ ones (h + count) }
-    ensures small { result < 2 ^ 30 }
-{
-    SPREAD[count as usize] << (5 * (h - 1))
-}
-
 // Returns a row of `m` houses with one seed in each house up to `x`.
 pub(super) fn one_each_up_to(m: u8, x: u8) -> u64
     requires { m ≤ 6 }

@@ -1,23 +1,21 @@
 //! The one sowing: moves on houses, by whole rows.
-ghost use Rattle.std.specs.Prelude.{◌≡◌, ◌+◌, ◌^◌, ◌<◌, ◌≤◌, ◌==◌, ◌&&◌, length, Some, Contains, MatchBool};
+ghost use Rattle.std.specs.Prelude.{◌≡◌, ◌+◌, ◌-◌, ◌*◌, ◌<◌, ◌≤◌, ◌==◌, ◌&&◌, length, Some, Contains, MatchBool};
 ghost use Rattle.kalah_rules.specs.Position.{bare, seeds, IsWithinHouses};
-ghost use Rattle.kalah_rules.specs.Key.{number_of};
-ghost use Rattle.kalah_rules.specs.Lap.{HoldsSeeds, lifted};
+ghost use Rattle.kalah_rules.specs.Lap.{HoldsSeeds};
 ghost use Rattle.kalah_rules.specs.Play.{legal_houses};
-ghost use Rattle.kalah_rules.specs.Sowing.{lap_length, sown, captures, captured, after, is_again};
+ghost use Rattle.kalah_rules.specs.Sowing.{sown, captures, captured, after, is_again};
+ghost use Rattle.kalah_rules.specs.Sowings.{IsSowing, last_place};
 
 use crate::houses::Houses;
-use crate::houses::numbers::{
-    OTHER_ROW, SIDE, alone, one_each, other_gains, own_gains, seeds_at, spread,
-};
+use crate::houses::numbers::{OTHER_ROW, SIDE, alone, one_each, seeds_at};
+use crate::houses::sowings::{Sowing, Sowings};
 use crate::rule::Rule;
 use crate::step::HousesStep;
 
-// The rows of a position as numbers, and the number of seeds in its own store.
+// Both rows of a position as in a key, and the number of seeds in its own store.
 #[derive(Clone, Copy)]
 pub(super) struct RowNumbers {
-    own: u64,
-    other: u64,
+    rows: u64,
     store: u64,
 }
 
@@ -42,100 +40,49 @@ impl Houses {
     ghost use Rattle.kalah_rules.specs.Packed.{Shows};
     ghost use Rattle.kalah_rules.specs.HousesStep.{houses_step};
 
-    // Returns the mover's row without the seeds of house `h`.
-    fn lifted_row(&self, h: u8) -> u64
-        requires { HoldsSeeds (bare self.now) h }
-        ensures row { result ≡ number_of (lifted (bare self.now) h).own }
-        ensures small { result < 2 ^ 30 }
-        ensures limits { IsWithinHouses self.now }
-    {
-        let row = self.own_row();
-        row - alone(h, seeds_at(row, h))
-    }
-
-    // Sows the `count` seeds of house `h`, if the last one falls into a house of the mover, before the store.
-    fn sow_in_row(&self, h: u8, count: u8) -> RowNumbers
+    // Sows house `h`.
+    #[inline(always)]
+    fn sow(&self, h: u8, sowing: Sowing) -> RowNumbers
         requires holds { HoldsSeeds (bare self.now) h }
-        requires count { count ≡ seeds self.now.own h }
-        requires near { h + count ≤ length self.now.own }
+        requires sowing { IsSowing (length self.now.own) h (seeds self.now.own h) sowing }
         ensures { Shows result (sown (bare self.now) h) }
     {
         RowNumbers {
-            own: self.own_row() + spread(h, count),
-            other: self.other_row(),
-            store: 0,
+            rows: (self.key % SIDE).wrapping_add(sowing.gains),
+            store: sowing.store as u64,
         }
     }
 
-    // Sows house `h`, if its last seed falls into the store or into a house of the other player, at place `reach`.
-    fn sow_past_row(&self, h: u8, reach: u8) -> RowNumbers
-        requires holds { HoldsSeeds (bare self.now) h }
-        requires reach { reach ≡ h + seeds self.now.own h }
-        requires past { length self.now.own < reach }
-        requires near { reach ≤ lap_length (length self.now.own) }
-        ensures { Shows result (sown (bare self.now) h) }
-    {
-        let m = self.m();
-        RowNumbers {
-            own: self.lifted_row(h) + (one_each(m) - one_each(h)),
-            other: self.other_row() + one_each(reach - (m + 1)),
-            store: 1,
-        }
-    }
-
-    // Sows the `count` seeds of house `h`, for any `count`: they may go round to the mover's houses again.
-    fn sow_laps(&self, h: u8, count: u8) -> RowNumbers
-        requires holds { HoldsSeeds (bare self.now) h }
-        requires count { count ≡ seeds self.now.own h }
-        ensures { Shows result (sown (bare self.now) h) }
-    {
-        let m = self.m();
-        let lap = 2 * m + 1;
-        let laps = count / lap;
-        let reach = h + count % lap;
-        RowNumbers {
-            own: self.lifted_row(h) + own_gains(m, h, laps, reach),
-            other: self.other_row() + other_gains(m, laps, reach),
-            store: laps as u64 + if reach > m { 1 } else { 0 },
-        }
-    }
-
-    // Returns the rows after the capture that the last seed makes in the mover's house `i`, if it makes one.
-    fn capture(&self, h: u8, rows: RowNumbers, i: u8) -> RowNumbers
+    // Returns the rows after the capture that the last seed makes in its house, which begins at bit `end`, if it makes one.
+    #[inline(always)]
+    fn capture(&self, h: u8, rows: RowNumbers, end: u8) -> RowNumbers
         requires holds { HoldsSeeds (bare self.now) h }
         requires shows { Shows rows (sown (bare self.now) h) }
-        requires low { 1 ≤ i }
-        requires high { i ≤ length self.now.own }
-        ensures { Shows result (captured (sown (bare self.now) h) (Some i)) }
+        requires end { end ≡ 5 * (last_place (length self.now.own) h (seeds self.now.own h) - 1) }
+        requires own { last_place (length self.now.own) h (seeds self.now.own h) ≤ length self.now.own }
+        ensures { Shows result (captured (sown (bare self.now) h) (Some (last_place (length self.now.own) h (seeds self.now.own h)))) }
     {
-        let across = self.m() - i + 1;
-        let here = seeds_at(rows.own, i);
-        let (last, taken) = caught(self.rule(), here, seeds_at(rows.other, across));
+        let across = 25 + 5 * self.m() - end;
+        let here = (rows.rows >> end) % 32;
+        let (last, taken) = caught(self.rule(), here, (rows.rows >> across) % 32);
         RowNumbers {
-            own: rows.own - alone(i, last),
-            other: rows.other - alone(across, taken),
+            rows: rows.rows - (last << end) - (taken << across),
             store: rows.store + last + taken,
         }
     }
 
-    // Returns the rows after the move of house `h`, with any number of seeds, and whether its last seed falls into the own store.
-    fn after_lap(&self, h: u8) -> (RowNumbers, bool)
-        requires { HoldsSeeds (bare self.now) h }
-        ensures rows { Shows result.0 (after (bare self.now) h) }
-        ensures again { result.1 ≡ is_again (bare self.now) h }
+    // Returns the rows after the move of house `h`.
+    #[inline(always)]
+    fn after(&self, h: u8, sowing: Sowing) -> RowNumbers
+        requires holds { HoldsSeeds (bare self.now) h }
+        requires sowing { IsSowing (length self.now.own) h (seeds self.now.own h) sowing }
+        ensures { Shows result (after (bare self.now) h) }
     {
-        let m = self.m();
-        let lap = 2 * m + 1;
-        let count = self.own(h);
-        let rows = self.sow_laps(h, count);
-        let far = (count - 1) % lap + 1;
-        let end = h + far;
-        if end <= m {
-            (self.capture(h, rows, end), false)
-        } else if end > lap {
-            (self.capture(h, rows, end - lap), false)
+        let rows = self.sow(h, sowing);
+        if sowing.end < 5 * self.m() {
+            self.capture(h, rows, sowing.end)
         } else {
-            (rows, end == m + 1)
+            rows
         }
     }
 
@@ -147,15 +94,14 @@ impl Houses {
         requires ends { seeds self.now.own h + h ≡ length self.now.own + 1 }
         ensures { result ≡ houses_step self.now h }
     {
-        let rows = self.sow_past_row(h, self.m() + 1);
-        let seeds = self.seeds - rows.store;
-        let gained = rows.store as u8;
-        if rows.own > 0 {
-            let key = rows.own + OTHER_ROW * rows.other + self.key / SIDE * SIDE;
-            return HousesStep::Again(gained, Houses { key, seeds });
+        let lifted = self.key - alone(h, seeds_at(self.own_row(), h));
+        let key = lifted + (one_each(self.m()) - one_each(h));
+        let seeds = self.seeds - 1;
+        if key % OTHER_ROW > 0 {
+            return HousesStep::Again(1, Houses { key, seeds });
         }
         HousesStep::Over {
-            own: gained,
+            own: 1,
             other: seeds as u8,
         }
     }
@@ -171,13 +117,15 @@ impl Houses {
     {
         let gained = rows.store as u8;
         let seeds = self.seeds - rows.store;
-        if rows.own == 0 {
+        let own = rows.rows % OTHER_ROW;
+        let other = rows.rows / OTHER_ROW;
+        if own == 0 {
             return HousesStep::Over {
                 own: gained,
                 other: seeds as u8,
             };
         }
-        if rows.other == 0 {
+        if other == 0 {
             return HousesStep::Over {
                 own: self.seeds(),
                 other: 0,
@@ -185,12 +133,23 @@ impl Houses {
         }
         let rest = self.key / SIDE * SIDE;
         if again {
-            let key = rows.own + OTHER_ROW * rows.other + rest;
+            let key = rows.rows + rest;
             HousesStep::Again(gained, Houses { key, seeds })
         } else {
-            let key = rows.other + OTHER_ROW * rows.own + rest;
+            let key = other + OTHER_ROW * own + rest;
             HousesStep::Turn(gained, Houses { key, seeds })
         }
+    }
+
+    // Plays house `h`, whose seeds are sown so.
+    #[inline(always)]
+    fn play_as(&self, h: u8, sowing: Sowing) -> HousesStep
+        requires legal { Contains (legal_houses (bare self.now)) h }
+        requires sowing { IsSowing (length self.now.own) h (seeds self.now.own h) sowing }
+        ensures { result ≡ houses_step self.now h }
+    {
+        let again = sowing.end == 5 * self.m();
+        self.step(h, self.after(h, sowing), again)
     }
 
     /// Plays the mover's house `h`, which must be legal.
@@ -200,24 +159,19 @@ impl Houses {
     /// mover's store, the mover moves again. If it falls into an empty house of the mover, it captures as the rule says.
     /// If the houses of one player are then all empty, the game is over, and each player's houses are swept into that
     /// player's store.
-    #[inline(always)]
     pub fn play(&self, h: u8) -> HousesStep
         requires { Contains (legal_houses (bare self.now)) h }
         ensures { result ≡ houses_step self.now h }
     {
-        let m = self.m();
-        let count = self.own(h);
-        let reach = h + count;
-        if reach <= m {
-            let rows = self.sow_in_row(h, count);
-            let rows = self.capture(h, rows, reach);
-            self.step(h, rows, false)
-        } else if reach <= 2 * m + 1 {
-            let rows = self.sow_past_row(h, reach);
-            self.step(h, rows, reach == m + 1)
-        } else {
-            let (rows, again) = self.after_lap(h);
-            self.step(h, rows, again)
-        }
+        self.play_as(h, Sowing::new(self.m(), h, self.own(h)))
+    }
+
+    /// Plays the mover's house `h`, which must be legal. The result is that of `play`, computed with less work.
+    #[inline(always)]
+    pub fn play_by(&self, sowings: &Sowings, h: u8) -> HousesStep
+        requires { Contains (legal_houses (bare self.now)) h }
+        ensures { result ≡ houses_step self.now h }
+    {
+        self.play_as(h, sowings.get(self.m(), h, self.own(h)))
     }
 }

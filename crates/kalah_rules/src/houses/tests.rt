@@ -1,4 +1,4 @@
-use crate::{Board, Houses, HousesStep, Rule};
+use crate::{Board, Houses, HousesStep, Rule, Sowings};
 use std::process::Abort;
 
 // Returns two houses a side, under the classic rule.
@@ -25,6 +25,7 @@ fn assert_brings(rt: &impl Abort, own: [u8; 2], h: u8, step: HousesStep) {
     let board = Board::new(2, own, 9, other, 4, Rule::Classic).expect(rt, "beyond the limits");
     assert!(rt; board.is_legal(h));
     assert!(rt; board.houses().play(h) == step);
+    assert!(rt; board.houses().play_by(&Sowings::new(), h) == step);
 }
 
 #[test]

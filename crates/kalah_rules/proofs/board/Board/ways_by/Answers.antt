@@ -8,3 +8,6 @@ pub returns-clause-ways : goal.returns-clause-ways
 returns-clause-ways c =
     c.ways_by.ensures.ways ∙ ap (λ (a : Rows). ways_by c.args.depth (bare a) c.args.h) c.houses.ensures
     ∙ ways_by_of_rows c.args.depth c.args.self.now c.args.h
+
+pub ways_by-requires-clause-legal : goal.ways_by-requires-clause-legal
+ways_by-requires-clause-legal c = rw c.houses.ensures c.requires.legal

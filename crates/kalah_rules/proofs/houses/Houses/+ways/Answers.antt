@@ -79,12 +79,12 @@ ways-returns-clause-small t c =
 pub ways_by-returns-in-Over-clause-ways : goal.ways_by-returns-in-Over-clause-ways
 ways_by-returns-in-Over-clause-ways t c =
     c.from.ensures ∙ one_if (c.args.depth == 0)
-    ∙ ways_by_step c.args.depth c.args.self.now c.args.h (Over c.in-Over.own c.in-Over.other) c.play.result c.play.ensures
+    ∙ ways_by_step c.args.depth c.args.self.now c.args.h (Over c.in-Over.own c.in-Over.other) c.play_by.result c.play_by.ensures
     c.in-Over.is
 
 pub ways_by-returns-in-Again-clause-ways : goal.ways_by-returns-in-Again-clause-ways
 ways_by-returns-in-Again-clause-ways t c =
     c.ways.ensures.ways ∙ elim c.in-Again.is [
-      | inl again ↦ ways_by_step c.args.depth c.args.self.now c.args.h (Again again.0 c.in-Again.next) c.play.result c.play.ensures again.1
-      | inr turn ↦ ways_by_step c.args.depth c.args.self.now c.args.h (Turn turn.0 c.in-Again.next) c.play.result c.play.ensures turn.1
+      | inl again ↦ ways_by_step c.args.depth c.args.self.now c.args.h (Again again.0 c.in-Again.next) c.play_by.result c.play_by.ensures again.1
+      | inr turn ↦ ways_by_step c.args.depth c.args.self.now c.args.h (Turn turn.0 c.in-Again.next) c.play_by.result c.play_by.ensures turn.1
     ]

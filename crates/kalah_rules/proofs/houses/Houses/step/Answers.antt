@@ -9,70 +9,58 @@ overflow_sub-seeds c = store_within c.self.invariant c.self.view_is c.requires.l
 pub overflow_cast-gained : goal.overflow_cast-gained
 overflow_cast-gained c = omega (arith, store_small c.requires.limits c.requires.legal c.requires.rows)
 
-pub returns-then-rows-eq0 : goal.returns-then-rows-eq0
-returns-then-rows-eq0 c = over_own c.self.invariant c.self.view_is c.requires.legal c.requires.rows c.if-rows-eq0.true
+pub returns-then-own-eq0 : goal.returns-then-own-eq0
+returns-then-own-eq0 c = over_own c.self.invariant c.self.view_is c.requires.legal c.requires.rows c.if-own-eq0.true
 
-pub returns-then-rows-eq0-2 : goal.returns-then-rows-eq0-2
-returns-then-rows-eq0-2 c =
+pub returns-then-other-eq0 : goal.returns-then-other-eq0
+returns-then-other-eq0 c =
     let pack = pack_of c.self.invariant c.self.view_is in
-    rw (c.seeds.ensures.seeds, ← pack.seeds_are) (over_other c.self.invariant c.self.view_is c.requires.legal c.requires.rows c.if-rows-eq0-2.true)
+    rw (c.seeds.ensures.seeds, ← pack.seeds_are) (over_other c.self.invariant c.self.view_is c.requires.legal c.requires.rows c.if-other-eq0.true)
 
 pub overflow_mul-key : goal.overflow_mul-key
 overflow_mul-key c =
-    let packed = again_packed c.self.invariant c.self.view_is c.requires.legal c.requires.rows
-    c.if-rows-eq0.false c.if-rows-eq0-2.false (sym c.requires.again ∙ c.if-again.true) in
+    let packed = turn_packed c.self.invariant c.self.view_is c.requires.legal c.requires.rows
+    c.if-own-eq0.false c.if-other-eq0.false (sym c.requires.again ∙ c.if-again.false) in
     omega (arith, packed_fits packed.0)
 
 pub overflow_add-key : goal.overflow_add-key
 overflow_add-key c =
     let packed = again_packed c.self.invariant c.self.view_is c.requires.legal c.requires.rows
-    c.if-rows-eq0.false c.if-rows-eq0-2.false (sym c.requires.again ∙ c.if-again.true) in
-    omega (arith, packed_fits packed.0)
-
-pub overflow_add-key-then-again : goal.overflow_add-key-then-again
-overflow_add-key-then-again c =
-    let packed = again_packed c.self.invariant c.self.view_is c.requires.legal c.requires.rows
-    c.if-rows-eq0.false c.if-rows-eq0-2.false (sym c.requires.again ∙ c.if-again.true) in
-    omega (arith, packed_fits packed.0)
-
-pub overflow_mul-key-else-again : goal.overflow_mul-key-else-again
-overflow_mul-key-else-again c =
-    let packed = turn_packed c.self.invariant c.self.view_is c.requires.legal c.requires.rows
-    c.if-rows-eq0.false c.if-rows-eq0-2.false (sym c.requires.again ∙ c.if-again.false) in
+    c.if-own-eq0.false c.if-other-eq0.false (sym c.requires.again ∙ c.if-again.true) in
     omega (arith, packed_fits packed.0)
 
 pub overflow_add-key-else-again : goal.overflow_add-key-else-again
 overflow_add-key-else-again c =
     let packed = turn_packed c.self.invariant c.self.view_is c.requires.legal c.requires.rows
-    c.if-rows-eq0.false c.if-rows-eq0-2.false (sym c.requires.again ∙ c.if-again.false) in
+    c.if-own-eq0.false c.if-other-eq0.false (sym c.requires.again ∙ c.if-again.false) in
     omega (arith, packed_fits packed.0)
 
 pub overflow_add-key-else-again-2 : goal.overflow_add-key-else-again-2
 overflow_add-key-else-again-2 c =
     let packed = turn_packed c.self.invariant c.self.view_is c.requires.legal c.requires.rows
-    c.if-rows-eq0.false c.if-rows-eq0-2.false (sym c.requires.again ∙ c.if-again.false) in
+    c.if-own-eq0.false c.if-other-eq0.false (sym c.requires.again ∙ c.if-again.false) in
     omega (arith, packed_fits packed.0)
 
 pub invariant_of-result : goal.invariant_of-result
 invariant_of-result c =
     let packed = again_packed c.self.invariant c.self.view_is c.requires.legal c.requires.rows
-    c.if-rows-eq0.false c.if-rows-eq0-2.false (sym c.requires.again ∙ c.if-again.true) in
+    c.if-own-eq0.false c.if-other-eq0.false (sym c.requires.again ∙ c.if-again.true) in
     packed.0
 
 pub invariant_of-result-else-again : goal.invariant_of-result-else-again
 invariant_of-result-else-again c =
     let packed = turn_packed c.self.invariant c.self.view_is c.requires.legal c.requires.rows
-    c.if-rows-eq0.false c.if-rows-eq0-2.false (sym c.requires.again ∙ c.if-again.false) in
+    c.if-own-eq0.false c.if-other-eq0.false (sym c.requires.again ∙ c.if-again.false) in
     packed.0
 
 pub returns-then-again : goal.returns-then-again
 returns-then-again c =
     let packed = again_packed c.self.invariant c.self.view_is c.requires.legal c.requires.rows
-    c.if-rows-eq0.false c.if-rows-eq0-2.false (sym c.requires.again ∙ c.if-again.true) in
+    c.if-own-eq0.false c.if-other-eq0.false (sym c.requires.again ∙ c.if-again.true) in
     packed.1
 
 pub returns-else-again : goal.returns-else-again
 returns-else-again c =
     let packed = turn_packed c.self.invariant c.self.view_is c.requires.legal c.requires.rows
-    c.if-rows-eq0.false c.if-rows-eq0-2.false (sym c.requires.again ∙ c.if-again.false) in
+    c.if-own-eq0.false c.if-other-eq0.false (sym c.requires.again ∙ c.if-again.false) in
     packed.1

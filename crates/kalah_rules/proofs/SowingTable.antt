@@ -1,0 +1,16 @@
+-- The cells of the table of sowings.
+use Rattle.std.proofs.Common.{ℕ, ◌+◌, ◌/◌, ◌%◌, ◌<◌, inl, inr, List, length, arith}
+use Rattle.std.specs.Prelude.{slice_set}
+use Rattle.std.proofs.lemmas.Bool.{cases_eq}
+use Rattle.std.proofs.lemmas.List.{get_or-set_same, get_or-set_other}
+use Rattle.kalah_rules.specs.Sowings.{IsSowing, AreSowings}
+use Rattle.kalah_rules.specs.declared.houses.sowings.Sowing.{Sowing}
+
+-- one cell more
+pub sowings_more : (gains stores ends : List ℕ) (i : ℕ) (s : Sowing) → i < length gains → i < length stores → i < length ends → AreSowings i gains stores ends →
+    (i / 32 % 6 < i / 192 → IsSowing (i / 192) (i / 32 % 6 + 1) (i % 32) s) →
+    AreSowings (i + 1) (slice_set gains i s.gains) (slice_set stores i s.store) (slice_set ends i s.end)
+sowings_more gains stores ends i s in_gains in_stores in_ends before is k below house = elim (cases_eq k i) [
+  | inl same ↦ rw (same, get_or-set_same gains i s.gains 0 in_gains, get_or-set_same stores i s.store 0 in_stores, get_or-set_same ends i s.end 0 in_ends) (is (rw same at house))
+  | inr other ↦ rw (get_or-set_other gains i k s.gains 0 other, get_or-set_other stores i k s.store 0 other, get_or-set_other ends i k s.end 0 other) (before k (omega arith) house)
+]
