@@ -205,29 +205,32 @@ impl<A: Allocator + Clone> Search<A> {
 
     // Returns what is known of the seeds that the mover takes.
     fn known(&mut self, houses: &Houses) -> SeedBounds
-        ensures { IsWithinBounds result (won houses.now) }
+        ensures held { IsWithinBounds result (won houses.now) }
+        ensures few { result.most ≤ most_seeds }
     {
         if houses.seeds() <= self.most_placed {
             self.table.look_up_place(houses)
         } else {
-            self.known_by_entry(houses)
+            self.known_by_entry(*houses)
         }
     }
 
     // The same, from the entries.
     #[inline(never)]
-    fn known_by_entry(&mut self, houses: &Houses) -> SeedBounds
-        ensures { IsWithinBounds result (won houses.now) }
+    fn known_by_entry(&mut self, houses: Houses) -> SeedBounds
+        ensures held { IsWithinBounds result (won houses) }
+        ensures few { result.most ≤ most_seeds }
     {
-        match self.table.look_up(houses) {
+        match self.table.look_up(&houses) {
             Some(margins) => SeedBounds::of_margins(margins, houses.seeds()),
-            None => SeedBounds::unknown(houses),
+            None => SeedBounds::unknown(&houses),
         }
     }
 
     // Stores what was learned of the houses by `work` nodes.
     fn learn(&mut self, houses: &Houses, bounds: SeedBounds, work: u64)
-        requires { IsWithinBounds bounds (won houses.now) }
+        requires held { IsWithinBounds bounds (won houses.now) }
+        requires few { bounds.most ≤ most_seeds }
     {
         let seeds = houses.seeds();
         if seeds <= self.most_placed {

@@ -2,6 +2,7 @@
 ghost use Rattle.std.specs.Prelude.{◌≡◌, ◌≤◌, ◌⊎◌, length, min, nat_eq, IfOk, IfSome, IsSome, Some, ◌≤ℤ◌, ℤ, ◌<ℤ◌, false};
 ghost use Rattle.std.specs.Map.{lookup};
 ghost use Rattle.kalah_rules.specs.Key.{key_of};
+ghost use Rattle.kalah_rules.specs.Limits.{most_seeds};
 ghost use Rattle.kalah_rules.specs.Position.{bare, is_over};
 ghost use Rattle.kalah_solve.specs.Table.Entries.{most_entries, empty_table};
 ghost use Rattle.kalah_solve.specs.Table.DirectTable.{places_for};
@@ -17,7 +18,7 @@ use crate::bounds::interval::Interval;
 use crate::bounds::seed_bounds::SeedBounds;
 use crate::table::direct_table::DirectTable;
 use crate::table::endgame_table::EndgameTable;
-use kalah_rules::Houses;
+use kalah_rules::{Houses, Sowings};
 use lru::{DefaultHasher, LruCache};
 use std::alloc::{AllocError, Allocator, Global};
 use std::marker::Model;
@@ -110,6 +111,8 @@ impl<A: Allocator + Clone> Table<A> {
     }
 
     // Lays out all places, if there is memory for them. The contents of the first ones are dropped.
+    #[cold]
+    #[inline(never)]
     pub(crate) fn grow(&mut self)
         ensures { self.new ≡ self.old }
     {
@@ -120,17 +123,24 @@ impl<A: Allocator + Clone> Table<A> {
 
     // Returns what the place of the houses states of them.
     pub(crate) fn look_up_place(&self, houses: &Houses) -> SeedBounds
-        ensures { IsWithinBounds result (won houses.now) }
+        ensures held { IsWithinBounds result (won houses.now) }
+        ensures few { result.most ≤ most_seeds }
     {
         self.places.look_up(houses)
     }
 
     // Stores in the place of the houses that the mover's share is within this one.
     pub(crate) fn keep_place(&mut self, houses: &Houses, bounds: SeedBounds)
-        requires { IsWithinBounds bounds (won houses.now) }
+        requires held { IsWithinBounds bounds (won houses.now) }
+        requires few { bounds.most ≤ most_seeds }
         ensures { self.new ≡ self.old }
     {
         self.places.keep(houses, bounds);
+    }
+
+    // Returns the sowings of all houses, which all tables with these endings share.
+    pub(crate) fn sowings(&self) -> &Sowings {
+        self.endings.sowings()
     }
 
     // Returns how many seeds the mover takes from houses with few seeds.

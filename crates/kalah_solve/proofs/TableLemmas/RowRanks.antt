@@ -12,7 +12,7 @@ use Rattle.std.proofs.Math.Seq.{take-append_seam}
 use Rattle.std.proofs.Math.ListN.{take}
 use Rattle.std.proofs.lemmas.List.Sums.{sum_by-cons}
 use Rattle.kalah_rules.specs.Position.{Rows, IsWithinHouses}
-use Rattle.kalah_rules.specs.Key.{number_of, key_of}
+use Rattle.kalah_rules.specs.Key.{number_of}
 use Rattle.kalah_rules.proofs.Keys.{same_key, rule_bit-small}
 use Rattle.kalah_rules.proofs.Packing.{number_of-append, pow_five}
 use Rattle.kalah_solve.specs.Table.RowRank.{choose, row_rank, sums_number, rank_of_houses, game_of}

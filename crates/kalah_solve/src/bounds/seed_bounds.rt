@@ -9,7 +9,7 @@ ghost use Rattle.kalah_solve.specs.Search.Tried.{IsSoftBound};
 
 use crate::bounds::interval::{Interval, MOST_MARGIN};
 use crate::bounds::window::Window;
-use kalah_rules::Houses;
+use kalah_rules::{Houses, MOST_SEEDS};
 
 /// Bounds on the number of seeds in houses that a player takes, both inclusive.
 #[derive(Clone, Copy, Debug, PartialEq, Eq)]
@@ -83,13 +83,14 @@ impl SeedBounds {
     // Returns the share of `seeds` seeds that a margin in the interval allows.
     pub(crate) fn of_margins(interval: Interval, seeds: u8) -> SeedBounds
         requires { seeds ≤ most_seeds }
+        ensures few { result.most ≤ most_seeds }
         ensures held { (t : ℕ) → t ≤ seeds → Encloses interval (pos (t + t) -ℤ pos seeds) → IsWithinBounds result t }
         ensures no_more { pos 0 ≤ℤ (interval.hi +ℤ pos seeds)
             → (t : ℕ) → t ≤ seeds → IsWithinBounds result t → Encloses interval (pos (t + t) -ℤ pos seeds) }
     {
         SeedBounds {
             least: half(interval.lo as i32 + seeds as i32 + 1),
-            most: half(interval.hi as i32 + seeds as i32),
+            most: half(interval.hi as i32 + seeds as i32).min(MOST_SEEDS as u8),
         }
     }
 

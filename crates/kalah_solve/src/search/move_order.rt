@@ -49,13 +49,14 @@ fn sum(rows: u64) -> u32
     ((rows.wrapping_mul(ONE_EACH) >> 25) % 32) as u32
 }
 
-/// Returns the estimate for a turn of house `h` that brought `gained` seeds to the store and leaves these houses to the other player,
-/// times 8, and what names the house: so two turns of a position are never equal, and of equal estimates the house nearest the store
+/// Returns the estimate for a turn of house `h` of `m` that brought `gained` seeds to the store and leaves these houses to the other
+/// player, times 8, and what names the house: so two turns of a position are never equal, and of equal estimates the house nearest the store
 /// comes first.
 ///
 /// It counts most of all what came to the store, and how few houses the other player can choose from; then what lies in the mover's
 /// own houses, how many of those could move again, and how near to the store they are.
-pub(crate) fn priority(h: u8, gained: u8, next: &Houses) -> u16
+pub(crate) fn priority(m: u8, h: u8, gained: u8, next: &Houses) -> u16
+    requires side { m ≤ 6 }
     requires first { 1 ≤ h }
     requires last { h ≤ 6 }
     ensures some { 0 < result }
@@ -63,7 +64,7 @@ pub(crate) fn priority(h: u8, gained: u8, next: &Houses) -> u16
 {
     let rows = next.key() % SIDE;
     let filled = filled(rows);
-    let ending = ending_in_store(rows, next.m());
+    let ending = ending_in_store(rows, m);
     let own = rows / OTHER_ROW;
     let choices = sum((filled | 4u64.wrapping_mul(ending)) / OTHER_ROW);
     let kept = 2 * sum(own) + choices + 31 - (own % 32) as u32;

@@ -25,6 +25,7 @@ enum Look {
 impl<A: Allocator + Clone> Search<A> {
     // Returns a fail-soft bound of the number of seeds that the mover takes.
     #[cycle(search)]
+    #[inline(always)]
     fn bound(&mut self, houses: Houses, bar: u8) -> u8
         requires going { is_over (bare houses) ≡ false }
         ensures { IsSoftBound bar (won houses) result }
@@ -32,6 +33,16 @@ impl<A: Allocator + Clone> Search<A> {
         if houses.seeds() <= self.max_ending_seeds() {
             return self.table.won(houses);
         }
+        self.bound_by_search(houses, bar)
+    }
+
+    // The same, if the houses are no ending in use.
+    #[cycle(search)]
+    #[inline(never)]
+    fn bound_by_search(&mut self, houses: Houses, bar: u8) -> u8
+        requires going { is_over (bare houses) ≡ false }
+        ensures { IsSoftBound bar (won houses) result }
+    {
         let known = self.known(&houses);
         if bar <= known.least {
             return known.least;
@@ -145,11 +156,11 @@ impl<A: Allocator + Clone> Search<A> {
         ensures { IsLook houses.now bar h result }
     {
         let _seeds = houses.seeds();
-        let step = houses.play(h);
+        let step = houses.play_by(self.table.sowings(), h);
         match step {
             HousesStep::Turn(gained, next) => {
                 if gained < bar && next.seeds() > self.max_ending_seeds() {
-                    return Look::Waits(priority(h, gained, &next), next);
+                    return Look::Waits(priority(houses.m(), h, gained, &next), next);
                 }
                 Look::Bounded(self.bound_turn(gained, next, bar))
             }

@@ -119,7 +119,8 @@ impl<A: Allocator> DirectTable<A> {
 
     /// Returns what the place of the houses states of them: the share that the mover takes.
     pub(crate) fn look_up(&self, houses: &Houses) -> SeedBounds
-        ensures { IsWithinBounds result (won houses.now) }
+        ensures held { IsWithinBounds result (won houses.now) }
+        ensures few { result.most ≤ most_seeds }
     {
         let mixed = mixed_key(houses);
         match self.places.get(place_of(mixed, self.places.len())) {
@@ -130,12 +131,11 @@ impl<A: Allocator> DirectTable<A> {
 
     /// Stores in the place of the houses that the mover's share is within this one.
     pub(crate) fn keep(&mut self, houses: &Houses, bounds: SeedBounds)
-        requires { IsWithinBounds bounds (won houses.now) }
+        requires held { IsWithinBounds bounds (won houses.now) }
+        requires few { bounds.most ≤ most_seeds }
     {
         let mixed = mixed_key(houses);
-        let least = bounds.least;
-        let most = bounds.most.min(MOST_SEEDS as u8);
-        let stored = Place::of(rest_of(mixed), SeedBounds { least, most });
+        let stored = Place::of(rest_of(mixed), bounds);
         let at = place_of(mixed, self.places.len());
         if let Some(place) = self.places.get_mut(at) {
             *place = stored;

@@ -14,7 +14,7 @@ mod words;
 use crate::table::endgame_table::words::{
     FIRST_WORDS, TrueWord, begun, empty_words, game_of, label_of, stored_at, with_stored,
 };
-use kalah_rules::Houses;
+use kalah_rules::{Houses, Sowings};
 use std::alloc::{AllocError, Allocator, Global};
 use std::marker::Model;
 use std::sync::atomic::AtomicIn;
@@ -32,6 +32,7 @@ const INVERSE_OF_31: u64 = 0xEF7B_DEF7_BDEF_7BDF;
 pub(crate) struct EndgameTable<A: Allocator = Global> {
     words: Vec<AtomicIn<TrueWord>, A>,
     pairs: [u32; 1920],
+    sowings: Sowings,
 }
 
 impl<A: Allocator> Model for EndgameTable<A> {
@@ -123,7 +124,13 @@ impl<A: Allocator> EndgameTable<A> {
         Ok(EndgameTable {
             words: empty_words(alloc)?,
             pairs: pairs(),
+            sowings: Sowings::new(),
         })
+    }
+
+    /// Returns the sowings by which endings are played.
+    pub(crate) fn sowings(&self) -> &Sowings {
+        &self.sowings
     }
 
     // Returns what two cells add to the rank of a row, with `past` pairs past them, from the number of seeds from each of them on.

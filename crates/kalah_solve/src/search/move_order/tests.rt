@@ -60,9 +60,9 @@ fn turns_are_compared(rt: HostRuntime) {
     let fewer_choices = houses(&rt, 3, [0, 2, 4, 0, 0, 0], [0, 0, 2, 0, 0, 0]);
     let moves_again = houses(&rt, 3, [2, 2, 2, 0, 0, 0], [0, 2, 0, 0, 0, 0]);
     let far_behind = houses(&rt, 3, [2, 2, 2, 0, 0, 0], [2, 0, 0, 0, 0, 0]);
-    assert!(rt; priority(1, 1, &plain) > priority(1, 0, &plain));
-    assert!(rt; priority(2, 0, &plain) > priority(1, 0, &plain));
-    assert!(rt; priority(1, 0, &fewer_choices) > priority(1, 0, &plain));
-    assert!(rt; priority(1, 0, &moves_again) > priority(1, 0, &plain));
-    assert!(rt; priority(1, 0, &far_behind) < priority(1, 0, &plain));
+    assert!(rt; priority(3, 1, 1, &plain) > priority(3, 1, 0, &plain));
+    assert!(rt; priority(3, 2, 0, &plain) > priority(3, 1, 0, &plain));
+    assert!(rt; priority(3, 1, 0, &fewer_choices) > priority(3, 1, 0, &plain));
+    assert!(rt; priority(3, 1, 0, &moves_again) > priority(3, 1, 0, &plain));
+    assert!(rt; priority(3, 1, 0, &far_behind) < priority(3, 1, 0, &plain));
 }

@@ -72,7 +72,7 @@ impl<A: Allocator> EndgameTable<A> {
         ensures { result ≡ won_by_step (houses_step houses.now h) }
     {
         let _seeds = houses.seeds();
-        match houses.play(h) {
+        match houses.play_by(self.sowings(), h) {
             HousesStep::Over { own, .. } => own,
             HousesStep::Again(gained, next) => gained + self.won(next),
             HousesStep::Turn(gained, next) => gained + (next.seeds() - self.won(next)),

@@ -16,19 +16,19 @@ use Rattle.kalah_solve.proofs.search.Search.+search.Goals as goal
 pub look-bound_step-requires : goal.look-bound_step-requires
 look-bound_step-requires g t c κs within =
     let limits = c.seeds-seeds.ensures.limits in (
-      omega (arith, step_falls c.args.houses.now c.args.h c.play-step.result limits c.requires.legal c.play-step.ensures),
-      (within, goes_on c.args.houses.now c.args.h c.play-step.result limits c.requires.legal c.play-step.ensures),
+      omega (arith, step_falls c.args.houses.now c.args.h c.play_by-step.result limits c.requires.legal c.play_by-step.ensures),
+      (within, goes_on c.args.houses.now c.args.h c.play_by-step.result limits c.requires.legal c.play_by-step.ensures),
     )
 
 pub look-bound_turn-requires : goal.look-bound_turn-requires
 look-bound_turn-requires g t c κs within =
     let limits = c.seeds-seeds.ensures.limits in
     let a = c.args.houses.now in
-    let on = goes_on a c.args.h c.play-step.result limits c.requires.legal c.play-step.ensures in (
+    let on = goes_on a c.args.h c.play_by-step.result limits c.requires.legal c.play_by-step.ensures in (
       omega (
         arith,
         subst (λ s. moves_after s < moves_left (bare a)) c.in-Turn.is
-            (step_falls a c.args.h c.play-step.result limits c.requires.legal c.play-step.ensures),
+            (step_falls a c.args.h c.play_by-step.result limits c.requires.legal c.play_by-step.ensures),
       ),
       (within, subst GoesOn c.in-Turn.is on),
     )
@@ -132,8 +132,8 @@ explore-returns g t c =
 pub look-returns-then-seeds-max_ending_seeds : goal.look-returns-then-seeds-max_ending_seeds
 look-returns-then-seeds-max_ending_seeds g t c = (
   c.priority.ensures.some,
-  turn_of c.args.houses.now c.args.h c.priority.result c.in-Turn.gained c.in-Turn.next c.play-step.result c.seeds-seeds.ensures.limits
-      c.requires.legal c.play-step.ensures c.in-Turn.is c.priority.ensures.house,
+  turn_of c.args.houses.now c.args.h c.priority.result c.in-Turn.gained c.in-Turn.next c.play_by-step.result c.seeds-seeds.ensures.limits
+      c.requires.legal c.play_by-step.ensures c.in-Turn.is c.priority.ensures.house,
 )
 
 pub look-priority-requires-clause-first : goal.look-priority-requires-clause-first

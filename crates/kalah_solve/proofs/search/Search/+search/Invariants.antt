@@ -10,25 +10,28 @@ use Rattle.kalah_solve.proofs.SearchLemmas.Tries.{AreAgain, AreRanked, AreUntrie
 use Rattle.kalah_solve.proofs.search.Search.+search.Given as goal
 
 abbrev pub decreases-bound : goal.decreases-bound
-decreases-bound g l = 8 * moves_left (bare l.houses) + 5
+decreases-bound g l = 9 * moves_left (bare l.houses) + 6
+
+abbrev pub decreases-bound_by_search : goal.decreases-bound_by_search
+decreases-bound_by_search g l = 9 * moves_left (bare l.houses) + 5
 
 abbrev pub decreases-explore : goal.decreases-explore
-decreases-explore g l = 8 * moves_left (bare l.houses.now) + 4
+decreases-explore g l = 9 * moves_left (bare l.houses.now) + 4
 
 abbrev pub decreases-bound_again : goal.decreases-bound_again
-decreases-bound_again g l = 8 * moves_left (bare l.houses.now) + 3
+decreases-bound_again g l = 9 * moves_left (bare l.houses.now) + 3
 
 abbrev pub decreases-others_waiting : goal.decreases-others_waiting
-decreases-others_waiting g l = 8 * moves_left (bare l.houses.now) + 3
+decreases-others_waiting g l = 9 * moves_left (bare l.houses.now) + 3
 
 abbrev pub decreases-look : goal.decreases-look
-decreases-look g l = 8 * moves_left (bare l.houses.now) + 2
+decreases-look g l = 9 * moves_left (bare l.houses.now) + 2
 
 abbrev pub decreases-bound_step : goal.decreases-bound_step
-decreases-bound_step g l = 8 * moves_after l.step + 7
+decreases-bound_step g l = 9 * moves_after l.step + 8
 
 abbrev pub decreases-bound_turn : goal.decreases-bound_turn
-decreases-bound_turn g l = 8 * moves_left (bare l.next) + 6
+decreases-bound_turn g l = 9 * moves_left (bare l.next) + 7
 
 abbrev pub invariant-bound_again-loop-left : goal.invariant-bound_again-loop-left
 invariant-bound_again-loop-left g l = record {

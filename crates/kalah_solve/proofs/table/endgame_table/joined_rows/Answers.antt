@@ -1,5 +1,3 @@
-use Rattle.std.proofs.Common.{◌≡◌, ◌+◌, ◌*◌, ◌%◌, ◌^◌, ◌<◌, ◌++◌}
-use Rattle.kalah_rules.specs.Key.{number_of}
 use Rattle.kalah_solve.proofs.TableLemmas.RowRanks.{both_rows}
 use Rattle.kalah_solve.proofs.table.endgame_table.joined_rows.Goals as goal
 

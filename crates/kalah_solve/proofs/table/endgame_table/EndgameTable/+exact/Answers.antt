@@ -57,30 +57,30 @@ most_won-returns g t c =
 
 pub move_wins-won-requires : goal.move_wins-won-requires
 move_wins-won-requires g t c κs within =
-    let after = after_again c.args.houses.now c.args.h c.play.result c.in-Again.gained c.in-Again.next c.seeds-seeds.ensures.limits c.requires.legal
-    c.play.ensures c.in-Again.is in
+    let after = after_again c.args.houses.now c.args.h c.play_by.result c.in-Again.gained c.in-Again.next c.seeds-seeds.ensures.limits c.requires.legal
+    c.play_by.ensures c.in-Again.is in
     (omega (arith, after.next.fewer), (within, (after.next.going, omega (arith, after.next.kept, c.requires.few))))
 
 pub move_wins-overflow_add-result : goal.move_wins-overflow_add-result
 move_wins-overflow_add-result g t c =
-    let after = after_again c.args.houses.now c.args.h c.play.result c.in-Again.gained c.in-Again.next c.seeds-seeds.ensures.limits c.requires.legal
-    c.play.ensures c.in-Again.is in
+    let after = after_again c.args.houses.now c.args.h c.play_by.result c.in-Again.gained c.in-Again.next c.seeds-seeds.ensures.limits c.requires.legal
+    c.play_by.ensures c.in-Again.is in
     omega (arith, after.next.kept, after.few, c.requires.few, c.won.ensures)
 
 pub move_wins-won-requires-in-Turn : goal.move_wins-won-requires-in-Turn
 move_wins-won-requires-in-Turn g t c κs within =
-    let after = after_turn c.args.houses.now c.args.h c.play.result c.in-Turn.gained c.in-Turn.next c.seeds-seeds.ensures.limits c.requires.legal
-    c.play.ensures c.in-Turn.is in
+    let after = after_turn c.args.houses.now c.args.h c.play_by.result c.in-Turn.gained c.in-Turn.next c.seeds-seeds.ensures.limits c.requires.legal
+    c.play_by.ensures c.in-Turn.is in
     (omega (arith, after.next.fewer), (within, (after.next.going, omega (arith, after.next.kept, c.requires.few))))
 
 pub move_wins-overflow_sub-result : goal.move_wins-overflow_sub-result
 move_wins-overflow_sub-result g t c =
-    let after = after_turn c.args.houses.now c.args.h c.play.result c.in-Turn.gained c.in-Turn.next c.seeds-seeds.ensures.limits c.requires.legal
-    c.play.ensures c.in-Turn.is in
+    let after = after_turn c.args.houses.now c.args.h c.play_by.result c.in-Turn.gained c.in-Turn.next c.seeds-seeds.ensures.limits c.requires.legal
+    c.play_by.ensures c.in-Turn.is in
     omega (arith, after.few, c.seeds.ensures.seeds, c.won-in-Turn.ensures)
 
 pub move_wins-overflow_add-result-in-Turn : goal.move_wins-overflow_add-result-in-Turn
 move_wins-overflow_add-result-in-Turn g t c =
-    let after = after_turn c.args.houses.now c.args.h c.play.result c.in-Turn.gained c.in-Turn.next c.seeds-seeds.ensures.limits c.requires.legal
-    c.play.ensures c.in-Turn.is in
+    let after = after_turn c.args.houses.now c.args.h c.play_by.result c.in-Turn.gained c.in-Turn.next c.seeds-seeds.ensures.limits c.requires.legal
+    c.play_by.ensures c.in-Turn.is in
     omega (arith, after.next.kept, c.requires.few, c.seeds.ensures.seeds)
