@@ -13,7 +13,6 @@ use crate::batch::gate::Gate;
 use crate::batch::ordered_output::OrderedOutput;
 use crate::batch::run_fault::RunFault;
 use crate::batch::worker::{Crew, Worker};
-use crate::batch::workers::QUEUE_CAPACITY;
 use crate::queue::ResultsQueue;
 use crate::queue::passes::GetPass;
 use kalah_jobs::{Outcome, Sink};
@@ -22,12 +21,8 @@ use std::sync::Wait;
 use std::thread;
 use std::thread::{Promise, Threads};
 
-/// Each outcome adds this many tries for the next one before the thread sleeps. So tries that find nothing take a
-/// small share of the time that the outcomes took.
-const TRIES_FOR_EACH: u32 = 4;
-
-/// The most tries that are saved up: those of a full queue. They take longer than waking a worker that found it full.
-const MOST_TRIES: u32 = TRIES_FOR_EACH * QUEUE_CAPACITY;
+/// The most tries that are saved up. They take longer than waking a worker that found the queue full.
+const MOST_TRIES: u32 = 64;
 
 /// The result of a run: the workers, the pass to get, and the output.
 #[derive(Drop)]
@@ -48,11 +43,12 @@ impl<'a, 'b, G: Gate> Promise<Vec<Worker>> for AllHaveRun<'a, 'b, G> {
     ghost kept_by = { λ p r. HaveRun (work_of p.0.value.shared.now) p.0.value.workers.items r.items };
 }
 
-// Returns the tries that are left, together with those that one more outcome adds.
+// Returns the tries that are left, with one more for an outcome. So tries that find nothing take a small share of the time that the
+// outcomes took.
 fn with_more(tries: u32) -> u32
-    ensures { result ≡ min (tries + TRIES_FOR_EACH) MOST_TRIES }
+    ensures { result ≡ min (tries + 1) MOST_TRIES }
 {
-    tries.saturating_add(TRIES_FOR_EACH).min(MOST_TRIES)
+    tries.saturating_add(1).min(MOST_TRIES)
 }
 
 // Gets an outcome that may come late. No other call of this thread sleeps while outcomes are to come.

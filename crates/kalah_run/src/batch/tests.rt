@@ -231,7 +231,7 @@ fn any_number_of_files_is_answered(rt: HostRuntime) {
 }
 
 // Numbers of lines, from few to more than the queue has places.
-const LINES: &[u32] = &[63, 64, 65, 200, 65_535, 65_536, 65_537];
+const LINES: &[u32] = &[63, 64, 65, 200, 255, 256, 257, 65_535, 65_536, 65_537];
 
 #[test]
 fn any_number_of_lines_is_answered(rt: HostRuntime) {

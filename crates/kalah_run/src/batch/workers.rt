@@ -16,7 +16,7 @@ use kalah_solve::{Solver, Table};
 use std::alloc::{AllocError, Global};
 
 /// The most outcomes that may be on their way to the calling thread.
-pub(crate) const QUEUE_CAPACITY: u32 = 64;
+pub(crate) const QUEUE_CAPACITY: u32 = 256;
 
 // Makes a solver for one more worker. All share what they learn of endings.
 fn new_solver(alloc: Global, workers: &[Worker], size: BatchSize) -> Result<Solver, AllocError>

@@ -156,7 +156,7 @@ impl Write for Slow<'_> {
 #[test]
 fn an_outcome_without_room_is_not_handed_on(rt: HostRuntime) {
     let alloc = rt.alloc();
-    let files = same_lines(&rt, alloc, 100);
+    let files = same_lines(&rt, alloc, 300);
     let counts = Counts {
         begun: AtomicU32::new(0),
         handed_on: AtomicU32::new(0),
@@ -170,5 +170,5 @@ fn an_outcome_without_room_is_not_handed_on(rt: HostRuntime) {
     let tally = solve_batch(&rt, alloc, &files, 1, 16, &gate, &mut out);
     assert!(rt; tally.is_ok());
     assert!(rt; out.into_inner().handed_on == Some(ROOM));
-    assert!(rt; counts.handed_on.load(Ordering::SeqCst) == 100);
+    assert!(rt; counts.handed_on.load(Ordering::SeqCst) == 300);
 }
