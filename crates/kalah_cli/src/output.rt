@@ -34,6 +34,7 @@ impl<W: Write + Drop> Sink for PromptStream<W> {
 
     ghost is_handed_on = { λ p. length (writer_buffer p.writer) == 0 };
 
+    #[inline(always)]
     fn write_all(&mut self, bytes: &[u8]) -> Result<(), io::Error> {
         let written = write_pieces(&mut self.writer, bytes);
         self.has_failed = written.is_err();

@@ -49,7 +49,7 @@ fn prepend_values(text: &mut StackText, values: &MoveValues)
 
 // Puts an answer in words in front of the text.
 #[tactic(auto, using(crate::proofs::WritingLemmas::Lengths::byte_length, crate::proofs::WritingLemmas::Lengths::fault_length))]
-#[inline]
+#[inline(always)]
 fn prepend_words(text: &mut StackText, answer: &Answer)
     requires room { length text.old + 96 ≤ ROOM }
     requires one_line { IsOfOneLine answer.now }
@@ -89,6 +89,7 @@ fn prepend_place(text: &mut StackText, line: u32)
 }
 
 // Puts what stands behind the name in an answer line in front of the text.
+#[inline(always)]
 fn prepend_ending(text: &mut StackText, taken: &Taken)
     requires short { length text.old ≤ 1 }
     requires one_line { IsOfOneLine taken.now.answer }
@@ -124,6 +125,7 @@ pub fn answer_text(alloc: Global, name: &str, taken: &Taken) -> Result<String, A
 ///
 /// It allocates nothing. It fails exactly when the sink has failed afterwards; then a prefix of this was written, and nothing else.
 #[tactic(auto, using(crate::proofs::WritingLemmas::AnswerTexts::one_line_parts))]
+#[inline(always)]
 pub fn write_answer<W: Sink>(out: &mut W, name: &str, taken: &Taken) -> Result<(), io::Error>
     requires { W.has_failed out.old ≡ false }
     ensures fails { IsErr result ↔ (W.has_failed out.new ≡ true) }
@@ -135,14 +137,15 @@ pub fn write_answer<W: Sink>(out: &mut W, name: &str, taken: &Taken) -> Result<(
     match &taken.answer {
         Answer::Steps(board) => {
             prepend_place(&mut text, taken.line);
-            write_steps(out, name, text.as_str(), board)
+            write_steps(out, name, text.as_str(), board)?;
         }
         _ => {
             text.prepend("\n");
             prepend_ending(&mut text, taken);
-            write_named(out, name, &mut text)
+            write_named(out, name, &mut text)?;
         }
     }
+    Ok(())
 }
 
 // Writes an answer in words, and a line feed.

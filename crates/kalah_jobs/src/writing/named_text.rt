@@ -33,8 +33,10 @@ pub(crate) fn write_named<W: Sink>(
     ensures start { AppendsStart (W.written out.old) (W.written out.new) (name.now ++ text.old) }
 {
     if name.len() > text.room() {
-        return write_apart(out, name, text);
+        write_apart(out, name, text)?;
+    } else {
+        text.prepend(name);
+        out.write_all(text.bytes())?;
     }
-    text.prepend(name);
-    out.write_all(text.bytes())
+    Ok(())
 }

@@ -43,14 +43,15 @@ pub fn write_pieces<W: Write>(writer: &mut W, bytes: &[u8]) -> io::Result<()>
     if bytes.is_empty() {
         return Ok(());
     }
-    // Mostly the first call takes all.
+    // Mostly the first call takes all. A result that is passed on whole would be kept in memory, so it is tested, here and by callers.
     match writer.write(bytes) {
-        Ok(0) => Err(io::Error::from(ErrorKind::WriteZero)),
-        Ok(taken) if taken < bytes.len() => write_rest(writer, &bytes[taken..]),
-        Ok(_) => Ok(()),
-        Err(error) if error.kind() == ErrorKind::Interrupted => write_rest(writer, bytes),
-        Err(error) => Err(error),
+        Ok(0) => return Err(io::Error::from(ErrorKind::WriteZero)),
+        Ok(taken) if taken < bytes.len() => write_rest(writer, &bytes[taken..])?,
+        Ok(_) => {}
+        Err(error) if error.kind() == ErrorKind::Interrupted => write_rest(writer, bytes)?,
+        Err(error) => return Err(error),
     }
+    Ok(())
 }
 
 /// The sink over a writer, with that writer's bytes. It fails if a call of the writer returns an

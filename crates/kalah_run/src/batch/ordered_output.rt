@@ -52,6 +52,7 @@ impl<'a> OrderedOutput<'a> {
     }
 
     /// Writes the next lines in output order, as far as they are ready.
+    #[inline(always)]
     pub(crate) fn write<W: Sink>(&mut self, out: &mut W)
         ensures progress { WritesReady self.old (W.written out.old) (W.has_failed out.old) self.new (W.written out.new) (W.has_failed out.new) }
         ensures faults { self.new.faults ≡ self.old.faults }
