@@ -65,7 +65,7 @@ impl Collector {
             return Err(Refusal::NoSuchLine);
         }
         let own = jobs.entry(outcome.file(), outcome.line());
-        if !is_same_entry(&own, &outcome.entry()) {
+        if !is_same_entry(own, &outcome.entry()) {
             return Err(Refusal::WrongPosition);
         }
         if file.has_come(outcome.line()) {

@@ -65,12 +65,4 @@ impl FileJobs {
     {
         &self.entries[line as usize]
     }
-
-    // Returns the entry of a line.
-    pub(crate) fn entry(&self, line: u32) -> Entry
-        requires { line < length self.now }
-        ensures { slice_get self.now line ≡ Some result }
-    {
-        *self.entry_at(line)
-    }
 }

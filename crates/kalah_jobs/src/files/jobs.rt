@@ -130,13 +130,13 @@ impl Jobs {
         self.files[f as usize].lines()
     }
 
-    // Returns the entry of a line of a file.
-    pub(crate) fn entry(&self, f: u32, line: u32) -> Entry
+    // Returns the entry of a line of a file, in its place.
+    pub(crate) fn entry(&self, f: u32, line: u32) -> &Entry
         requires file { f < length self.now }
         requires line { line < length (entries_of self.now f) }
-        ensures { slice_get (entries_of self.now f) line ≡ Some result }
+        ensures { slice_get (entries_of self.now f) line ≡ Some result.now }
     {
-        self.files[f as usize].entry(line)
+        self.files[f as usize].entry_at(line)
     }
 
     // Returns the file and the line of job `n`, and the entry in its place.
