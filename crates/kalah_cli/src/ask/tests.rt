@@ -37,14 +37,8 @@ fn assert_asked(
 ) {
     let mut out = Stream::new(Vec::<u8>::new(rt.alloc()));
     let mut err = Vec::<u8>::new(rt.alloc());
-    let end = run_ask(
-        &Typed { bytes },
-        rt.alloc(),
-        question,
-        16,
-        &mut out,
-        &mut err,
-    );
+    let typed = Typed { bytes };
+    let end = run_ask(&typed, rt.alloc(), question, 16, &mut out, &mut err);
     assert!(rt; end == status, "{text}");
     assert!(rt; out.into_inner().as_slice() == text.as_bytes(), "{text}");
     assert!(rt; err.is_empty(), "{text}");

@@ -17,11 +17,8 @@ fn each_failure_is_said_in_its_words(rt: HostRuntime) {
     assert_said(&rt, Failure::TooManyFiles, "kalah: too many files\n");
     assert_said(&rt, Failure::TooManyLines, "kalah: too many lines\n");
     assert_said(&rt, Failure::OutOfMemory, "kalah: out of memory\n");
-    assert_said(
-        &rt,
-        Failure::NoWorker,
-        "kalah: no worker could be started\n",
-    );
+    let unstarted = "kalah: no worker could be started\n";
+    assert_said(&rt, Failure::NoWorker, unstarted);
     let unmoved = "kalah: house 3 can't be moved\n";
     assert_said(&rt, Failure::Unmoved(3), unmoved);
     let unread = "kalah: cannot read standard input\n";

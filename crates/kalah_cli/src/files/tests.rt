@@ -55,17 +55,11 @@ fn a_byte_more_than_the_limit_is_too_long(rt: HostRuntime) {
     for limit in 0..12usize {
         let mut reader = TEN;
         let read = read_limited(rt.alloc(), &mut reader, limit);
-        if limit < 10 {
-            assert!(rt;
-                read.is_err_and(|fault| fault == ReadFault::TooLong),
-                "at {limit}"
-            );
-        } else {
-            assert!(rt;
-                read.is_ok_and(|bytes| bytes.as_slice() == TEN),
-                "at {limit}"
-            );
-        }
+        let is_told = match read {
+            Ok(bytes) => limit >= 10 && bytes.as_slice() == TEN,
+            Err(fault) => limit < 10 && fault == ReadFault::TooLong,
+        };
+        assert!(rt; is_told, "at {limit}");
     }
 }
 

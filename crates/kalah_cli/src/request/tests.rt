@@ -1,5 +1,9 @@
 use crate::request::{FilesRequest, Request, parse};
 use clap::error::ErrorKind;
+use clap::error::ErrorKind::{
+    DisplayHelp, DisplayVersion, InvalidSubcommand, MissingRequiredArgument, MissingSubcommand,
+    TooManyValues, UnknownArgument, ValueValidation,
+};
 use kalah_jobs::Question;
 use std::process::Abort;
 
@@ -58,16 +62,10 @@ fn picture(table: u32, plain: bool) -> Request<'static> {
 #[test]
 fn reads_show(rt: HostRuntime) {
     assert_asks(&rt, &["kalah", "show", LINE], &picture(65536, false));
-    assert_asks(
-        &rt,
-        &["kalah", "show", "--plain", LINE],
-        &picture(65536, true),
-    );
-    assert_asks(
-        &rt,
-        &["kalah", "show", LINE, "--table=1"],
-        &picture(1, false),
-    );
+    let words = ["kalah", "show", "--plain", LINE];
+    assert_asks(&rt, &words, &picture(65536, true));
+    let words = ["kalah", "show", LINE, "--table=1"];
+    assert_asks(&rt, &words, &picture(1, false));
 }
 
 // The number of ways of that many moves to play on from the line.
@@ -102,11 +100,8 @@ fn batch<'a>(
 // The arguments of a subcommand that answers files, with and without options.
 fn assert_reads(rt: &(impl Abort + AllocGlobal), name: &str, question: Question) {
     let words = ["kalah", name, "a", "b"];
-    assert_asks(
-        rt,
-        &words,
-        &batch(rt, question, (4, 65536), false, &["a", "b"]),
-    );
+    let asked = batch(rt, question, (4, 65536), false, &["a", "b"]);
+    assert_asks(rt, &words, &asked);
     let words = ["kalah", name, "--workers", "64", "a"];
     assert_asks(rt, &words, &batch(rt, question, (64, 65536), false, &["a"]));
     let words = ["k", name, "a", "--table=1", "b"];
@@ -122,17 +117,11 @@ fn reads_solve_and_values(rt: HostRuntime) {
 #[test]
 fn reads_steps(rt: HostRuntime) {
     let words = ["kalah", "steps", "a", "b"];
-    assert_asks(
-        &rt,
-        &words,
-        &batch(&rt, Question::Steps, (4, 1), false, &["a", "b"]),
-    );
+    let asked = batch(&rt, Question::Steps, (4, 1), false, &["a", "b"]);
+    assert_asks(&rt, &words, &asked);
     let words = ["k", "steps", "a", "--workers=64", "b", "--progress"];
-    assert_asks(
-        &rt,
-        &words,
-        &batch(&rt, Question::Steps, (64, 1), true, &["a", "b"]),
-    );
+    let asked = batch(&rt, Question::Steps, (64, 1), true, &["a", "b"]);
+    assert_asks(&rt, &words, &asked);
 }
 
 // The question of each line of the standard input, with a table of this size.
@@ -143,16 +132,10 @@ fn lines(question: Question, table: u32) -> Request<'static> {
 #[test]
 fn reads_ask(rt: HostRuntime) {
     assert_asks(&rt, &["kalah", "ask"], &lines(Question::BestMove, 65536));
-    assert_asks(
-        &rt,
-        &["k", "ask", "--values"],
-        &lines(Question::Values, 65536),
-    );
-    assert_asks(
-        &rt,
-        &["kalah", "ask", "--table=1"],
-        &lines(Question::BestMove, 1),
-    );
+    let words = ["k", "ask", "--values"];
+    assert_asks(&rt, &words, &lines(Question::Values, 65536));
+    let words = ["kalah", "ask", "--table=1"];
+    assert_asks(&rt, &words, &lines(Question::BestMove, 1));
     let words = ["kalah", "ask", "--table", "1048576", "--values"];
     assert_asks(&rt, &words, &lines(Question::Values, 1048576));
 }
@@ -163,44 +146,26 @@ fn fails_with(rt: &(impl Abort + AllocGlobal), words: &[&str], kind: ErrorKind) 
 
 // Arguments that make no request, and the kind of their error.
 const REFUSED: &[(&[&str], ErrorKind)] = &[
-    (&["kalah"], ErrorKind::MissingSubcommand),
-    (&["kalah", "stop"], ErrorKind::InvalidSubcommand),
-    (&["kalah", "solve"], ErrorKind::MissingRequiredArgument),
-    (&["kalah", "steps"], ErrorKind::MissingRequiredArgument),
-    (
-        &["kalah", "steps", "--table", "1", "a"],
-        ErrorKind::UnknownArgument,
-    ),
-    (&["kalah", "ask", "a"], ErrorKind::UnknownArgument),
-    (&["kalah", "ask", "--values=1"], ErrorKind::TooManyValues),
-    (&["kalah", "count", "1"], ErrorKind::MissingRequiredArgument),
-    (
-        &["kalah", "count", "21", "1/0 1/0"],
-        ErrorKind::ValueValidation,
-    ),
-    (
-        &["kalah", "count", "-1", "1/0 1/0"],
-        ErrorKind::UnknownArgument,
-    ),
-    (&["kalah", "--help"], ErrorKind::DisplayHelp),
-    (&["kalah", "--version"], ErrorKind::DisplayVersion),
-    (&["kalah", "-V"], ErrorKind::DisplayVersion),
-    (&["kalah", "solve", "--help"], ErrorKind::DisplayHelp),
-    (
-        &["kalah", "solve", "--workers", "0", "a"],
-        ErrorKind::ValueValidation,
-    ),
-    (
-        &["kalah", "solve", "--table", "0", "a"],
-        ErrorKind::ValueValidation,
-    ),
-    (
-        &["kalah", "solve", "--workers", "65", "a"],
-        ErrorKind::ValueValidation,
-    ),
+    (&["kalah"], MissingSubcommand),
+    (&["kalah", "stop"], InvalidSubcommand),
+    (&["kalah", "solve"], MissingRequiredArgument),
+    (&["kalah", "steps"], MissingRequiredArgument),
+    (&["kalah", "steps", "--table", "1", "a"], UnknownArgument),
+    (&["kalah", "ask", "a"], UnknownArgument),
+    (&["kalah", "ask", "--values=1"], TooManyValues),
+    (&["kalah", "count", "1"], MissingRequiredArgument),
+    (&["kalah", "count", "21", "1/0 1/0"], ValueValidation),
+    (&["kalah", "count", "-1", "1/0 1/0"], UnknownArgument),
+    (&["kalah", "--help"], DisplayHelp),
+    (&["kalah", "--version"], DisplayVersion),
+    (&["kalah", "-V"], DisplayVersion),
+    (&["kalah", "solve", "--help"], DisplayHelp),
+    (&["kalah", "solve", "--workers", "0", "a"], ValueValidation),
+    (&["kalah", "solve", "--table", "0", "a"], ValueValidation),
+    (&["kalah", "solve", "--workers", "65", "a"], ValueValidation),
     (
         &["kalah", "solve", "--table", "1048577", "a"],
-        ErrorKind::ValueValidation,
+        ValueValidation,
     ),
 ];
 

@@ -118,13 +118,29 @@ fn assert_answers(rt: &impl Host, words: &[&str], status: ExitStatus, (out, err)
     assert!(rt; answers(&run, status, out, err), "{words:?}");
 }
 
-// A mistake in these arguments ends the run with a text on standard error only.
-fn assert_usage(rt: &impl Host, words: &[&str]) {
-    let run = run_on(rt, words);
-    let is_usage = run.status == ExitStatus::Failed
-        && run.out.is_empty()
-        && run.err.starts_with(b"error: ");
-    assert!(rt; is_usage, "{words:?}");
+// Runs with these arguments are clean, and write these texts.
+fn assert_written(rt: &impl Host, rows: &[(&[&str], &str)]) {
+    for (words, text) in rows {
+        assert_answers(rt, *words, ExitStatus::Clean, (*text, ""));
+    }
+}
+
+// Runs with these arguments end so, with these texts on standard error only.
+fn assert_said(rt: &impl Host, status: ExitStatus, rows: &[(&[&str], &str)]) {
+    for (words, text) in rows {
+        assert_answers(rt, *words, status, ("", *text));
+    }
+}
+
+// Mistakes in these arguments end the run with a text on standard error only.
+fn assert_usage(rt: &impl Host, rows: &[&[&str]]) {
+    for words in rows {
+        let run = run_on(rt, *words);
+        let is_usage = run.status == ExitStatus::Failed
+            && run.out.is_empty()
+            && run.err.starts_with(b"error: ");
+        assert!(rt; is_usage, "{words:?}");
+    }
 }
 
 // Lines, and what `moves` prints for them.
@@ -144,19 +160,17 @@ fn shows_the_moves_of_a_position(rt: HostRuntime) {
     }
 }
 
-// Lines that can't be read, and their messages.
-const UNREAD: &[(&str, &str)] = &[
-    ("1/0", "fault shape\n"),
-    ("", "fault empty\n"),
-    ("1,1/0 1/0", "fault houses\n"),
-    ("16/0 16/0", "fault seeds\n"),
+// Arguments with a line that can't be read, and the message.
+const UNREAD: &[(&[&str], &str)] = &[
+    (&["moves", "1/0"], "fault shape\n"),
+    (&["moves", ""], "fault empty\n"),
+    (&["moves", "1,1/0 1/0"], "fault houses\n"),
+    (&["moves", "16/0 16/0"], "fault seeds\n"),
 ];
 
 #[test]
 fn a_line_that_is_not_read_is_answered_by_its_fault(rt: HostRuntime) {
-    for (line, fault) in UNREAD {
-        assert_answers(&rt, &["moves", *line], ExitStatus::LineFaults, ("", *fault));
-    }
+    assert_said(&rt, ExitStatus::LineFaults, UNREAD);
 }
 
 // Arguments that the program refuses.
@@ -194,16 +208,7 @@ const MISTAKES: &[&[&str]] = &[
 
 #[test]
 fn mistakes_in_the_words(rt: HostRuntime) {
-    for words in MISTAKES {
-        assert_usage(&rt, *words);
-    }
-}
-
-// The run with these arguments writes to the output only, and is clean.
-fn assert_shown(rt: &impl Host, words: &[&str]) {
-    let shown = run_on(rt, words);
-    assert!(rt; shown.status == ExitStatus::Clean, "{words:?}");
-    assert!(rt; !shown.out.is_empty() && shown.err.is_empty());
+    assert_usage(&rt, MISTAKES);
 }
 
 // Arguments that ask for help.
@@ -219,7 +224,9 @@ const HELP: &[&[&str]] = &[
 #[test]
 fn help_goes_to_the_output(rt: HostRuntime) {
     for words in HELP {
-        assert_shown(&rt, *words);
+        let shown = run_on(&rt, *words);
+        assert!(rt; shown.status == ExitStatus::Clean, "{words:?}");
+        assert!(rt; !shown.out.is_empty() && shown.err.is_empty());
     }
 }
 
@@ -239,9 +246,7 @@ const NOT_READ: &[(&[&str], &str)] = &[
 #[test]
 fn a_file_that_is_not_read(rt: HostRuntime) {
     write_file(&rt, "kalah_run_one.txt", b"1/0 1/0\n");
-    for (words, text) in NOT_READ {
-        assert_answers(&rt, *words, ExitStatus::Failed, ("", *text));
-    }
+    assert_said(&rt, ExitStatus::Failed, NOT_READ);
 }
 
 /// The result of a run whose output failed, or accepted all.

@@ -35,12 +35,8 @@ fn counts_the_ways_to_play_on(rt: HostRuntime) {
 #[test]
 fn tells_the_fault_of_a_line_that_is_not_read(rt: HostRuntime) {
     for depth in ["0", "20"] {
-        assert_answers(
-            &rt,
-            &["count", depth, "01/0 1/0"],
-            LineFaults,
-            ("", "fault shape\n"),
-        );
+        let fault = ("", "fault shape\n");
+        assert_answers(&rt, &["count", depth, "01/0 1/0"], LineFaults, fault);
     }
 }
 
@@ -63,9 +59,7 @@ const NOT_TAKEN: &[&[&str]] = &[
 
 #[test]
 fn takes_a_depth_of_0_to_20_and_one_line(rt: HostRuntime) {
-    for words in NOT_TAKEN {
-        assert_usage(&rt, *words);
-    }
+    assert_usage(&rt, NOT_TAKEN);
 }
 
 // Each line is flushed before the next house is counted.

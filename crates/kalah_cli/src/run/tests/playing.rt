@@ -1,5 +1,5 @@
 //! Runs of `kalah play`, and of `kalah moves` with boards.
-use super::{Host, assert_answers, assert_stops};
+use super::{Host, assert_answers, assert_said, assert_stops, assert_written};
 use crate::status::ExitStatus::{Clean, LineFaults};
 
 // Lines, and the games that best play leads to from their positions.
@@ -120,9 +120,7 @@ const DRAWN: &[(&[&str], &str)] = &[
 
 #[test]
 fn draws_boards_below_their_lines(rt: HostRuntime) {
-    for (words, text) in DRAWN {
-        assert_answers(&rt, *words, Clean, (*text, ""));
-    }
+    assert_written(&rt, DRAWN);
 }
 
 // Arguments with lines that can't be read, and their messages.
@@ -135,9 +133,7 @@ const UNREAD: &[(&[&str], &str)] = &[
 
 #[test]
 fn tells_the_fault_of_an_unread_line(rt: HostRuntime) {
-    for (words, fault) in UNREAD {
-        assert_answers(&rt, *words, LineFaults, ("", *fault));
-    }
+    assert_said(&rt, LineFaults, UNREAD);
 }
 
 // The game is written in two moves, with a flush before each search and at the end.

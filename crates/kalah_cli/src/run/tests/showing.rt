@@ -1,6 +1,6 @@
 //! Runs of `kalah show`, and of `kalah play` with a first house.
-use super::{assert_answers, assert_stops, assert_usage};
-use crate::status::ExitStatus::{Clean, Failed, LineFaults};
+use super::{assert_answers, assert_said, assert_stops, assert_usage, assert_written};
+use crate::status::ExitStatus::{Failed, LineFaults};
 
 // Words, and the picture that they print.
 const SHOWN: &[(&[&str], &str)] = &[
@@ -55,9 +55,7 @@ over, margin 3
 
 #[test]
 fn draws_a_position_with_what_its_moves_are_worth(rt: HostRuntime) {
-    for (words, text) in SHOWN {
-        assert_answers(&rt, *words, Clean, (*text, ""));
-    }
+    assert_written(&rt, SHOWN);
 }
 
 // Words, and the game that they print.
@@ -85,9 +83,7 @@ const PLAYED: &[(&[&str], &str)] = &[
 
 #[test]
 fn plays_from_a_first_house_on(rt: HostRuntime) {
-    for (words, game) in PLAYED {
-        assert_answers(&rt, *words, Clean, (*game, ""));
-    }
+    assert_written(&rt, PLAYED);
 }
 
 // Words with a house that may not be moved: it is empty, there is none, or the game is over.
@@ -108,9 +104,7 @@ const UNMOVED: &[(&[&str], &str)] = &[
 
 #[test]
 fn says_which_house_may_not_be_moved(rt: HostRuntime) {
-    for (words, said) in UNMOVED {
-        assert_answers(&rt, *words, Failed, ("", *said));
-    }
+    assert_said(&rt, Failed, UNMOVED);
 }
 
 // Words that are not taken: a house is a number from 1 to 6, and `show` takes no boards.
@@ -125,9 +119,7 @@ const NOT_TAKEN: &[&[&str]] = &[
 
 #[test]
 fn takes_no_other_words(rt: HostRuntime) {
-    for words in NOT_TAKEN {
-        assert_usage(&rt, *words);
-    }
+    assert_usage(&rt, NOT_TAKEN);
 }
 
 #[test]

@@ -77,28 +77,17 @@ rules.txt:5 -1 house 1
 rules.txt:6 16 over
 ";
     for table in ["1", "65536", "65537", "1048576"] {
-        assert_answers(
-            &rt,
-            &["solve", "--table", table, "rules.txt"],
-            LineFaults,
-            (want, ""),
-        );
+        let words = ["solve", "--table", table, "rules.txt"];
+        assert_answers(&rt, &words, LineFaults, (want, ""));
     }
 }
 
 #[test]
 fn games_that_are_over(rt: HostRuntime) {
     write_file(&rt, "ended.txt", b"0/0 0/0\n0/0 0/0 e\n31/99 0/0\n");
+    let want = "ended.txt:1 0 over\nended.txt:2 0 over\nended.txt:3 130 over\n";
     for word in ["solve", "values"] {
-        assert_answers(
-            &rt,
-            &[word, "ended.txt"],
-            Clean,
-            (
-                "ended.txt:1 0 over\nended.txt:2 0 over\nended.txt:3 130 over\n",
-                "",
-            ),
-        );
+        assert_answers(&rt, &[word, "ended.txt"], Clean, (want, ""));
     }
 }
 

@@ -28,12 +28,8 @@ fn tells_each_step_and_what_is_no_position(rt: HostRuntime) {
     for (bytes, text, status) in TOLD {
         write_file(&rt, "s.txt", *bytes);
         for workers in ["1", "2", "64"] {
-            assert_answers(
-                &rt,
-                &["steps", "--workers", workers, "s.txt"],
-                *status,
-                (*text, ""),
-            );
+            let words = ["steps", "--workers", workers, "s.txt"];
+            assert_answers(&rt, &words, *status, (*text, ""));
         }
     }
 }

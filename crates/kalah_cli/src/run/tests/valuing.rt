@@ -1,5 +1,5 @@
 //! Runs of `kalah values` over files that are written first.
-use super::{assert_answers, assert_stops, write_file};
+use super::{assert_answers, assert_said, assert_stops, write_file};
 use crate::status::ExitStatus;
 use crate::status::ExitStatus::{Clean, Failed, LineFaults};
 
@@ -60,9 +60,7 @@ const NOT_READ: &[(&[&str], &str)] = &[
 
 #[test]
 fn values_and_steps_of_files_that_are_not_read(rt: HostRuntime) {
-    for (words, text) in NOT_READ {
-        assert_answers(&rt, *words, Failed, ("", *text));
-    }
+    assert_said(&rt, Failed, NOT_READ);
 }
 
 // Each line is written in one call, and a flush ends them.
