@@ -3,7 +3,7 @@ use Rattle.std.proofs.Common.{◌≡◌, true, false, refl, List, [], ◌∷◌,
 use Rattle.clap.specs.Words.{Text}
 use Rattle.clap.specs.Faults.{fault_of}
 use Rattle.clap.proofs.OnLiterals.{clap_on_literals}
-use Rattle.kalah_cli.specs.Command.{kalah_app}
+use Rattle.kalah_cli.specs.Command.{default_entries, kalah_app}
 use Rattle.kalah_cli.specs.Request.{Asked, IsPlainWord, IsTakenAs, IsVersionWord, ask, moves, play, show}
 use Rattle.kalah_jobs.specs.declared.files.question.Question.TheVariants.{BestMove, Values}
 use Rattle.std.proofs.lemmas.Bool.{ne_eqb}
@@ -27,28 +27,29 @@ moves_taken name [] plain = absurd plain
 moves_taken name (x ∷ xs) plain = let no_flag = ne_eqb _ _ plain in (simp no_flag refl, simp no_flag refl)
 
 -- `play` and a plain argument as its game, with a table of the default size
-pub play_taken : (name line : Text) → IsPlainWord line → IsTakenAs (name ∷ codes "play" ∷ line ∷ []) (play None 65536 false line)
+pub play_taken : (name line : Text) → IsPlainWord line → IsTakenAs (name ∷ codes "play" ∷ line ∷ []) (play None default_entries false line)
 unfolding clap_on_literals
 play_taken name [] plain = absurd plain
 play_taken name (x ∷ xs) plain = let no_flag = ne_eqb _ _ plain in (simp no_flag refl, simp no_flag refl)
 
 -- `show` and a plain argument as its picture, with values or plain
-pub show_taken : (name line : Text) → IsPlainWord line → IsTakenAs (name ∷ codes "show" ∷ line ∷ []) (show false 65536 line)
+pub show_taken : (name line : Text) → IsPlainWord line → IsTakenAs (name ∷ codes "show" ∷ line ∷ []) (show false default_entries line)
 unfolding clap_on_literals
 show_taken name [] plain = absurd plain
 show_taken name (x ∷ xs) plain = let no_flag = ne_eqb _ _ plain in (simp no_flag refl, simp no_flag refl)
 
-pub show_plain_taken : (name line : Text) → IsPlainWord line → IsTakenAs (name ∷ codes "show" ∷ codes "--plain" ∷ line ∷ []) (show true 65536 line)
+pub show_plain_taken : (name line : Text) → IsPlainWord line
+    → IsTakenAs (name ∷ codes "show" ∷ codes "--plain" ∷ line ∷ []) (show true default_entries line)
 unfolding clap_on_literals
 show_plain_taken name [] plain = absurd plain
 show_plain_taken name (x ∷ xs) plain = let no_flag = ne_eqb _ _ plain in (simp no_flag refl, simp no_flag refl)
 
 -- `ask`, without arguments or with its flag, as asking of the standard input
-pub ask_taken : (name : Text) → IsTakenAs (name ∷ codes "ask" ∷ []) (ask BestMove 65536)
+pub ask_taken : (name : Text) → IsTakenAs (name ∷ codes "ask" ∷ []) (ask BestMove default_entries)
 unfolding clap_on_literals
 ask_taken name = (refl, refl)
 
-pub ask_values_taken : (name : Text) → IsTakenAs (name ∷ codes "ask" ∷ codes "--values" ∷ []) (ask Values 65536)
+pub ask_values_taken : (name : Text) → IsTakenAs (name ∷ codes "ask" ∷ codes "--values" ∷ []) (ask Values default_entries)
 unfolding clap_on_literals
 ask_values_taken name = (refl, refl)
 

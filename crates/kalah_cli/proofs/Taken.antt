@@ -10,7 +10,7 @@ use Rattle.clap.specs.declared.error.kind.ErrorKind.{ErrorKind}
 use Rattle.clap.specs.declared.error.kind.ErrorKind.TheVariants.{DisplayHelp, DisplayVersion, MissingRequiredArgument, OutOfMemory}
 use Rattle.kalah_rules.specs.Position.{Position}
 use Rattle.kalah_jobs.specs.declared.files.question.Question.{Question}
-use Rattle.kalah_cli.specs.Command.{kalah_app}
+use Rattle.kalah_cli.specs.Command.{default_entries, kalah_app}
 use Rattle.kalah_jobs.specs.declared.files.question.Question.TheVariants.{BestMove, Steps, Values}
 use Rattle.kalah_cli.specs.Request.{Asked, AsksNot, IsPlainWord, IsRefused, IsTakenAs, answers, ask, command_of, count, moves, play, table_of, show}
 use Rattle.kalah_cli.specs.Runs.{Does, DoesByItsWords, DoesWhatIsAsked, Prints, RefusesTheRest}
@@ -61,20 +61,20 @@ module _ {O : Type 0} (written : O → Option (List ℕ)) (words : List Text) (o
   by_words = record {
     moves = λ name line is p reads. accepted.does (moves false line) (taken_at is (moves_taken name line (read_is_plain line p reads))) p reads;
     played = λ name line is p reads.
-        let played = accepted.does (play None 65536 false line) (taken_at is (play_taken name line (read_is_plain line p reads))) p reads in
+        let played = accepted.does (play None default_entries false line) (taken_at is (play_taken name line (read_is_plain line p reads))) p reads in
         (played.0, λ clean. (played.1 clean).1);
-    shown = λ name line is p reads. accepted.does (show false 65536 line) (taken_at is (show_taken name line (read_is_plain line p reads))) p reads;
+    shown = λ name line is p reads. accepted.does (show false default_entries line) (taken_at is (show_taken name line (read_is_plain line p reads))) p reads;
     shown_plain = λ name line is p reads.
-        accepted.does (show true 65536 line) (taken_at is (show_plain_taken name line (read_is_plain line p reads))) p reads;
+        accepted.does (show true default_entries line) (taken_at is (show_plain_taken name line (read_is_plain line p reads))) p reads;
     unread = λ name line is plain none. elim is [
       | inl moved ↦ accepted.unread_line (moves false line) line (taken_at moved (moves_taken name line plain)) refl none
-      | inr played ↦ accepted.unread_line (play None 65536 false line) line (taken_at played (play_taken name line plain)) refl none
+      | inr played ↦ accepted.unread_line (play None default_entries false line) line (taken_at played (play_taken name line plain)) refl none
     ];
     solved = of_files BestMove;
     valued = of_files Values;
     stepped = of_files Steps;
-    asked = λ name is. accepted.does (ask BestMove 65536) (taken_at is (ask_taken name));
-    asked_values = λ name is. accepted.does (ask Values 65536) (taken_at is (ask_values_taken name));
+    asked = λ name is. accepted.does (ask BestMove default_entries) (taken_at is (ask_taken name));
+    asked_values = λ name is. accepted.does (ask Values default_entries) (taken_at is (ask_values_taken name));
     version_word = λ name is. let asks = version_asked words name is in (
       refused.no_line (refused_by words DisplayVersion asks),
       refused.version (refused_by words DisplayVersion asks) (asks_not words DisplayHelp DisplayVersion (λ e. cc) asks),

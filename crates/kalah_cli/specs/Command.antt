@@ -1,12 +1,17 @@
 -- The command line of the program, as data that a parse reads.
-use Rattle.std.specs.Prelude.{ℕ, true, [], ◌∷◌, Some, codes}
-use Rattle.clap.specs.Words.{App, Rule, Text, new_app, new_rule, with_rule, with_subcommand}
+use Rattle.std.specs.Prelude.{◌≡◌, ℕ, false, true, [], ◌∷◌, Some, codes}
+use Rattle.clap.specs.Words.{App, Rule, Text, new_app, new_rule, rule_of, with_rule, with_subcommand}
 use Rattle.clap.specs.Simple.{on_top}
 use Rattle.clap.specs.declared.builder.action.ArgAction.TheVariants.{Append, Set, SetTrue}
+use Rattle.clap.specs.declared.builder.arg.Arg.{Arg}
 use Rattle.clap.specs.declared.builder.value_parser.ValueParser.TheVariants.{Unsigned}
 use Rattle.kalah_rules.specs.Limits.{most_depth, most_houses}
 use Rattle.kalah_solve.specs.Table.Entries.{most_entries}
 use Rattle.kalah_run.specs.Limits.{most_workers}
+
+-- the argument is read by this rule, and no subcommand inherits it
+abbrev pub IsReadBy : Rule → Arg → Type 0
+IsReadBy rule arg = (rule_of arg ≡ rule) × (arg.global ≡ false)
 
 -- an argument with one value
 abbrev pub value_rule : Text → Rule
@@ -28,7 +33,11 @@ depth_rule = record (value_rule (codes "depth")) { required = true; parser = Som
 abbrev pub workers_rule : Rule
 workers_rule = number_rule (codes "workers") most_workers (codes "4")
 
--- `--table N`: 1 to the most entries, and 65536 if it isn't given
+-- how many entries a table has if no argument says so
+abbrev pub default_entries : ℕ
+default_entries = 65536
+
+-- `--table N`: 1 to the most entries, and the default if it isn't given
 abbrev pub table_rule : Rule
 table_rule = number_rule (codes "table") most_entries (codes "65536")
 

@@ -14,7 +14,7 @@ use Rattle.kalah_jobs.specs.declared.files.question.Question.TheVariants.{BestMo
 use Rattle.kalah_rules.specs.Limits.{most_depth}
 use Rattle.kalah_solve.specs.Table.Entries.{most_entries}
 use Rattle.kalah_run.specs.Limits.{most_workers}
-use Rattle.kalah_cli.specs.Command.{kalah_app}
+use Rattle.kalah_cli.specs.Command.{default_entries, kalah_app}
 use Rattle.kalah_cli.specs.declared.request.Request.{Request}
 use Rattle.kalah_cli.specs.declared.request.Request.TheVariants.{Moves, Play, Files, Ask, Show, Count}
 use Rattle.kalah_cli.specs.declared.request.FilesRequest.{FilesRequest}
@@ -44,8 +44,8 @@ command_of Steps = codes "steps"
 
 -- how many entries the tables have if no argument says so: steps need none, and the least is one
 abbrev pub table_of : Question → ℕ
-table_of BestMove = 65536
-table_of Values = 65536
+table_of BestMove = default_entries
+table_of Values = default_entries
 table_of Steps = 1
 
 -- the number that a text of digits writes

@@ -1,7 +1,7 @@
 //! The command line of the program.
 ghost use Rattle.std.specs.Prelude.{◌≡◌, IfOk, false, true};
 ghost use Rattle.clap.specs.Words.{app_of, new_app, rule_of, with_rule, with_subcommand};
-ghost use Rattle.kalah_cli.specs.Command.{answers_app, ask_app, count_app, depth_rule, file_rule, first_rule, flag_rule, kalah_app, line_rule, moves_app, number_rule, play_app, program_app, show_app, steps_app, table_rule, value_rule, workers_rule};
+ghost use Rattle.kalah_cli.specs.Command.{IsReadBy, answers_app, ask_app, count_app, depth_rule, file_rule, first_rule, flag_rule, kalah_app, line_rule, moves_app, number_rule, play_app, program_app, show_app, steps_app, table_rule, value_rule, workers_rule};
 
 use crate::help;
 use crate::version::VERSION_LINE;
@@ -52,8 +52,7 @@ fn with_arg<'a>(command: Command<'a>, arg: Arg<'a>) -> Result<Command<'a>, Alloc
 
 // Returns the argument of this name, with one value.
 fn value_arg<'a>(alloc: Global, name: &'a str, value_name: &'a str, help: &'a str) -> Arg<'a>
-    ensures rule { rule_of result ≡ value_rule name.entry.now }
-    ensures local { result.global ≡ false }
+    ensures { IsReadBy (value_rule name.entry.now) result }
 {
     Arg::new(alloc, name)
         .value_name(value_name)
@@ -63,8 +62,7 @@ fn value_arg<'a>(alloc: Global, name: &'a str, value_name: &'a str, help: &'a st
 
 // Returns the argument LINE of `moves`, `play`, `show` and `count`.
 fn line_arg<'a>(alloc: Global) -> Arg<'a>
-    ensures rule { rule_of result ≡ line_rule }
-    ensures local { result.global ≡ false }
+    ensures { IsReadBy line_rule result }
 {
     let help = "a position in quotes, as '1,1/0 1,1/0'";
     value_arg(alloc, "line", "LINE", help).required(true)
@@ -72,8 +70,7 @@ fn line_arg<'a>(alloc: Global) -> Arg<'a>
 
 // Returns the flag `--NAME`.
 fn flag_arg<'a>(alloc: Global, name: &'a str, help: &'a str) -> Arg<'a>
-    ensures rule { rule_of result ≡ flag_rule name.entry.now }
-    ensures local { result.global ≡ false }
+    ensures { IsReadBy (flag_rule name.entry.now) result }
 {
     Arg::new(alloc, name)
         .long(name)
@@ -99,8 +96,7 @@ fn number_arg<'a>(
     most: u32,
     default: &'a str,
 ) -> Arg<'a>
-    ensures rule { rule_of result ≡ number_rule name.entry.now most default.entry.now }
-    ensures local { result.global ≡ false }
+    ensures { IsReadBy (number_rule name.entry.now most default.entry.now) result }
 {
     value_arg(alloc, name, "N", help)
         .long(name)
@@ -110,8 +106,7 @@ fn number_arg<'a>(
 
 // Returns the option `--workers N`.
 fn workers_arg<'a>(alloc: Global) -> Arg<'a>
-    ensures rule { rule_of result ≡ workers_rule }
-    ensures local { result.global ≡ false }
+    ensures { IsReadBy workers_rule result }
 {
     let help = "solves up to N lines in parallel, 1 to 64";
     number_arg(alloc, "workers", help, MOST_WORKERS, "4")
@@ -119,16 +114,14 @@ fn workers_arg<'a>(alloc: Global) -> Arg<'a>
 
 // Returns the option `--table N`, with this help.
 fn table_arg<'a>(alloc: Global, help: &'a str) -> Arg<'a>
-    ensures rule { rule_of result ≡ table_rule }
-    ensures local { result.global ≡ false }
+    ensures { IsReadBy table_rule result }
 {
     number_arg(alloc, "table", help, MOST_ENTRIES, "65536")
 }
 
 // Returns the option `--first H`.
 fn first_arg<'a>(alloc: Global) -> Arg<'a>
-    ensures rule { rule_of result ≡ first_rule }
-    ensures local { result.global ≡ false }
+    ensures { IsReadBy first_rule result }
 {
     let help = "begins with house H, 1 to 6, and goes on with best play";
     value_arg(alloc, "first", "H", help)
@@ -150,8 +143,7 @@ fn play_command<'a>(alloc: Global) -> Result<Command<'a>, AllocError>
 
 // Returns the argument FILE.. of `solve`, `values` and `steps`.
 fn file_arg<'a>(alloc: Global) -> Arg<'a>
-    ensures rule { rule_of result ≡ file_rule }
-    ensures local { result.global ≡ false }
+    ensures { IsReadBy file_rule result }
 {
     let help = "files of positions, one a line; /dev/stdin for standard input";
     value_arg(alloc, "file", "FILE", help)
@@ -200,8 +192,7 @@ fn show_command<'a>(alloc: Global) -> Result<Command<'a>, AllocError>
 
 // Returns the argument DEPTH of `count`.
 fn depth_arg<'a>(alloc: Global) -> Arg<'a>
-    ensures rule { rule_of result ≡ depth_rule }
-    ensures local { result.global ≡ false }
+    ensures { IsReadBy depth_rule result }
 {
     value_arg(
         alloc,

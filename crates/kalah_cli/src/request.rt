@@ -3,7 +3,7 @@ ghost use Rattle.std.specs.Prelude.{◌≡◌, ◌≤◌, ◌↔◌, ℕ, All, L
 ghost use Rattle.clap.specs.Faults.{fault_of};
 ghost use Rattle.clap.specs.Kinds.{FailsBy};
 ghost use Rattle.clap.specs.Simple.{subcommand_rows_of};
-ghost use Rattle.clap.specs.Walk.{first_of, rows_of};
+ghost use Rattle.clap.specs.Walk.{all_of, first_of, rows_of};
 ghost use Rattle.clap.specs.Words.{found_of, kind_of, subcommand_name_of};
 ghost use Rattle.clap.specs.declared.error.kind.ErrorKind.TheVariants.{OutOfMemory};
 ghost use Rattle.kalah_solve.specs.Table.Entries.{most_entries};
@@ -109,6 +109,15 @@ fn line_of<'a>(found: &ArgMatches<'a>) -> &'a str
     found.get_str("line").unwrap()
 }
 
+// Returns the names of the files of `solve`, `values` or `steps`.
+fn files_of<'a>(alloc: Global, found: &ArgMatches<'a>) -> Result<Vec<&'a str>, AllocError>
+    requires { is_some (all_of (codes "file") (rows_of (found_of found.now))) ≡ true }
+    ensures { IfOk result
+        (λ files. all_of (codes "file") (rows_of (found_of found.now)) ≡ Some (map (λ f. f.now) files.items)) }
+{
+    Ok(found.get_strs("file").unwrap().to_vec(alloc)?)
+}
+
 // Returns the request of the matches of `moves`.
 fn moves_request<'a>(found: &ArgMatches<'a>) -> Request<'a>
     requires { AreMatches (codes "moves") (rows_of (found_of found.now)) }
@@ -158,16 +167,12 @@ fn files_request<'a>(
     ensures asked { IfOk result (λ r. files_asked question (rows_of (found_of found.now)) ≡ Some (asked_for r)) }
     ensures range { IfOk result IsInRange }
 {
-    let table = table_of(question, found);
-    let workers = number_of(found, "workers");
-    let progress = is_set(found, "progress");
-    let files = found.get_strs("file").unwrap().to_vec(alloc)?;
     Ok(Request::Files(FilesRequest {
         question,
-        workers,
-        table,
-        progress,
-        files,
+        workers: number_of(found, "workers"),
+        table: table_of(question, found),
+        progress: is_set(found, "progress"),
+        files: files_of(alloc, found)?,
     }))
 }
 
