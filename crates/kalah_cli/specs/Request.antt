@@ -140,16 +140,20 @@ asked_for (Ask question table) = ask question table
 asked_for (Show line table plain) = show plain table line.now
 asked_for (Count depth line) = count depth line.now
 
+-- a table has one entry at least, and the most
+abbrev pub IsTableSize : ℕ → Type 0
+IsTableSize entries = (1 ≤ entries) × (entries ≤ most_entries)
+
 -- workers and entries are in their ranges, and there is a file
 abbrev pub IsInLimits : FilesRequest → Type 0
-IsInLimits b = (1 ≤ b.workers) × (b.workers ≤ most_workers) × (1 ≤ b.table) × (b.table ≤ most_entries) × (0 < length b.files.items)
+IsInLimits b = (1 ≤ b.workers) × (b.workers ≤ most_workers) × IsTableSize b.table × (0 < length b.files.items)
 
 abbrev pub IsInRange : Request → Type 0
 IsInRange (Moves line boards) = ⊤
-IsInRange (Play line table boards first) = (1 ≤ table) × (table ≤ most_entries)
+IsInRange (Play line table boards first) = IsTableSize table
 IsInRange (Files b) = IsInLimits b
-IsInRange (Ask question table) = (1 ≤ table) × (table ≤ most_entries)
-IsInRange (Show line table plain) = (1 ≤ table) × (table ≤ most_entries)
+IsInRange (Ask question table) = IsTableSize table
+IsInRange (Show line table plain) = IsTableSize table
 IsInRange (Count depth line) = depth ≤ most_depth
 
 -- an argument that is no flag: it isn't empty and doesn't begin with `-` (45)

@@ -1,6 +1,6 @@
 //! `kalah ask`.
-ghost use Rattle.std.specs.Prelude.{◌≡◌, ◌≢◌, ◌≤◌, false, true};
-ghost use Rattle.kalah_solve.specs.Table.Entries.{most_entries};
+ghost use Rattle.std.specs.Prelude.{◌≡◌, ◌≢◌, false, true};
+ghost use Rattle.kalah_cli.specs.Request.{IsTableSize};
 ghost use Rattle.kalah_cli.specs.Ask.{AnswersLines, BeginsLines, StopsBetweenLines};
 
 use crate::failure::Failure;
@@ -21,8 +21,7 @@ pub(crate) fn run_ask<R: Input, O: Sink, E: Write>(
     out: &mut O,
     err: &mut E,
 ) -> ExitStatus
-    requires low { 1 ≤ table }
-    requires high { table ≤ most_entries }
+    requires table { IsTableSize table }
     requires sink { O.has_failed out.old ≡ false }
     ensures asked { result ≢ ExitStatus.Failed
         → AnswersLines question (O.written out.old) (O.written out.new) result }

@@ -1,8 +1,8 @@
 //! `kalah play LINE`.
-ghost use Rattle.std.specs.Prelude.{◌≡◌, ◌≢◌, ◌↔◌, ◌≤◌, IfNone, IfSome, IsErr, OnOk, false, true};
+ghost use Rattle.std.specs.Prelude.{◌≡◌, ◌≢◌, ◌↔◌, IfNone, IfSome, IsErr, OnOk, false, true};
 ghost use Rattle.kalah_rules.specs.Position.{Position};
-ghost use Rattle.kalah_solve.specs.Table.Entries.{most_entries};
 ghost use Rattle.kalah_jobs.specs.Line.Line.{Reads};
+ghost use Rattle.kalah_cli.specs.Request.{IsTableSize};
 ghost use Rattle.kalah_cli.specs.Play.{BeginsGame, BeginsToPlay, MayBegin, Plays, WritesGame};
 ghost use Rattle.kalah_cli.specs.Runs.{IsUnread, Prints};
 
@@ -97,8 +97,7 @@ pub(crate) fn run_play<O: Sink, E: Write>(
     out: &mut O,
     err: &mut E,
 ) -> ExitStatus
-    requires low { 1 ≤ table }
-    requires high { table ≤ most_entries }
+    requires table { IsTableSize table }
     requires sink { O.has_failed out.old ≡ false }
     ensures read { Prints line.now (λ p. Plays first boards p (O.written out.old) (O.written out.new)) result }
     ensures begins { (p : Position) → Reads line.now p → BeginsToPlay first boards p (O.written out.old) (O.written out.new) }

@@ -1,5 +1,5 @@
 //! The requests that a command line can make.
-ghost use Rattle.std.specs.Prelude.{◌≡◌, ◌≤◌, ◌↔◌, ℕ, All, List, [], ◌∷◌, IfErr, IfOk, IfSome, IsSome, MatchResult, Some, codes, false, is_some, map, option_and_then, true};
+ghost use Rattle.std.specs.Prelude.{◌≡◌, ◌↔◌, ℕ, All, List, [], ◌∷◌, IfErr, IfOk, IfSome, IsSome, MatchResult, Some, codes, false, is_some, map, option_and_then, true};
 ghost use Rattle.clap.specs.Faults.{fault_of};
 ghost use Rattle.clap.specs.Kinds.{FailsBy};
 ghost use Rattle.clap.specs.Simple.{subcommand_rows_of};
@@ -8,7 +8,7 @@ ghost use Rattle.clap.specs.Words.{found_of, kind_of, subcommand_name_of};
 ghost use Rattle.clap.specs.declared.error.kind.ErrorKind.TheVariants.{OutOfMemory};
 ghost use Rattle.kalah_solve.specs.Table.Entries.{most_entries};
 ghost use Rattle.kalah_cli.specs.Command.{kalah_app};
-ghost use Rattle.kalah_cli.specs.Request.{AreMatches, Asked, HasFlag, HasNumber, IsInRange, IsPlainWord, IsTaken, IsTakenAs, MayHaveNumber, answers, ask_asked, asked_by, asked_for, command_of, count_asked, files_asked, is_set, moves, moves_asked, number_given, play_asked, question_of, show_asked, table_asked, table_of};
+ghost use Rattle.kalah_cli.specs.Request.{AreMatches, Asked, HasFlag, HasNumber, IsInRange, IsPlainWord, IsTaken, IsTableSize, IsTakenAs, MayHaveNumber, answers, ask_asked, asked_by, asked_for, command_of, count_asked, files_asked, is_set, moves, moves_asked, number_given, play_asked, question_of, show_asked, table_asked, table_of};
 
 use crate::command::command;
 use clap::{ArgMatches, Error};
@@ -79,8 +79,7 @@ fn given_number(found: &ArgMatches<'_>, id: &str) -> Option<u32>
 fn number_of(found: &ArgMatches<'_>, id: &str) -> u32
     requires { HasNumber id.now 1 most_entries (rows_of (found_of found.now)) }
     ensures given { number_given id.now (rows_of (found_of found.now)) ≡ Some result }
-    ensures low { 1 ≤ result }
-    ensures high { result ≤ most_entries }
+    ensures range { IsTableSize result }
 {
     given_number(found, id).unwrap()
 }
@@ -148,8 +147,7 @@ fn play_request<'a>(found: &ArgMatches<'a>) -> Request<'a>
 fn table_of(question: Question, found: &ArgMatches<'_>) -> u32
     requires { AreMatches (command_of question) (rows_of (found_of found.now)) }
     ensures asked { table_asked question (rows_of (found_of found.now)) ≡ Some result }
-    ensures low { 1 ≤ result }
-    ensures high { result ≤ most_entries }
+    ensures range { IsTableSize result }
 {
     match question {
         Question::BestMove | Question::Values => number_of(found, "table"),

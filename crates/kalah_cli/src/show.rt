@@ -1,12 +1,12 @@
 //! `kalah show LINE`.
-ghost use Rattle.std.specs.Prelude.{◌≡◌, ◌≢◌, ◌↔◌, ◌≤◌, IsErr, OnOk, false, true};
+ghost use Rattle.std.specs.Prelude.{◌≡◌, ◌≢◌, ◌↔◌, IsErr, OnOk, false, true};
 ghost use Rattle.std.specs.Io.KnownBytes.{Appends};
 ghost use Rattle.kalah_rules.specs.Position.{Position};
-ghost use Rattle.kalah_solve.specs.Table.Entries.{most_entries};
 ghost use Rattle.kalah_jobs.specs.Line.Line.{Reads};
 ghost use Rattle.kalah_jobs.specs.Writing.Given.{AppendsStart};
 ghost use Rattle.kalah_jobs.specs.Writing.Picture.{picture_of};
 ghost use Rattle.kalah_jobs.specs.Writing.Shown.{shown_of};
+ghost use Rattle.kalah_cli.specs.Request.{IsTableSize};
 ghost use Rattle.kalah_cli.specs.Runs.{IsUnread, Prints};
 ghost use Rattle.kalah_cli.specs.Show.{show_output};
 
@@ -56,8 +56,7 @@ pub(crate) fn run_show<O: Sink, E: Write>(
     out: &mut O,
     err: &mut E,
 ) -> ExitStatus
-    requires low { 1 ≤ table }
-    requires high { table ≤ most_entries }
+    requires table { IsTableSize table }
     requires sink { O.has_failed out.old ≡ false }
     ensures read { Prints line.now (λ p. Appends (O.written out.old) (O.written out.new) (show_output plain p)) result }
     ensures begins { (p : Position) → Reads line.now p → AppendsStart (O.written out.old) (O.written out.new) (show_output plain p) }

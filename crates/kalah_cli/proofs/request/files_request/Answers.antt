@@ -27,4 +27,4 @@ returns-clause-range c =
     let same : map (λ f. f.now) c.in_ok-files_of.field-0.items ≡ file.value ∷ file.more =
     (let all = file.all in let names = c.in_ok-files_of.ensures in cc) in
     let count : length (map (λ f. f.now) c.in_ok-files_of.field-0.items) ≡ length c.in_ok-files_of.field-0.items = simp length-map in
-    (few.0, few.1, c.table_of.ensures.low, c.table_of.ensures.high, omega (arith, ap length same))
+    (few.0, few.1, c.table_of.ensures.range, omega (arith, ap length same))
