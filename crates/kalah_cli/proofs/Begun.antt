@@ -1,5 +1,5 @@
 -- What was begun, of what the arguments ask for.
-use Rattle.std.proofs.Common.{◌≡◌, inl, ℕ, Bool, List, [], ◌∷◌, ◌++◌, Option, ap, append-nil, append_assoc, length, map, refl, subst, sym, take, ◌+◌, ◌∙◌}
+use Rattle.std.proofs.Common.{◌≡◌, inl, ℕ, Bool, true, false, List, [], ◌∷◌, ◌++◌, Option, ap, append-nil, append_assoc, drop, flat_map, get_or, length, map, refl, subst, sym, take, ◌+◌, ◌<◌, ◌∙◌}
 use Rattle.std.specs.Io.KnownBytes.{Appends, Keeps}
 use Rattle.kalah_rules.specs.Position.{Position, HasEqualSides}
 use Rattle.kalah_rules.specs.Play.{position_after}
@@ -12,15 +12,17 @@ use Rattle.kalah_jobs.specs.Writing.Picture.{picture_of}
 use Rattle.kalah_jobs.specs.Writing.Shown.{shown_of, values_line}
 use Rattle.kalah_jobs.specs.Files.NamedBytes.{NamedBytes}
 use Rattle.kalah_jobs.specs.declared.files.question.Question.{Question}
-use Rattle.kalah_jobs.proofs.WritingLemmas.Starts.{start_kept_all, start_none, start_then}
+use Rattle.kalah_jobs.proofs.WritingLemmas.Starts.{start_kept_all, start_longer, start_none, start_then}
+use Rattle.kalah_jobs.proofs.WritingLemmas.StepLines.{first_moves, one_more}
 use Rattle.kalah_cli.specs.Moves.{board_lines, move_lines}
 use Rattle.kalah_cli.specs.Play.{BeginsToPlay}
 use Rattle.kalah_cli.specs.Request.{Asked, answers, ask, count, moves, play, show}
 use Rattle.kalah_cli.specs.Runs.{Begins}
 use Rattle.kalah_cli.specs.Ask.{BeginsLines, StopsBetweenLines}
 use Rattle.kalah_cli.specs.SolveFiles.{BeginsTo}
-use Rattle.std.proofs.KnownBytes.{Appends-kept, Appends-nil}
-use Rattle.std.specs.Prelude.{Err, Ok, OnOk, Result}
+use Rattle.std.proofs.KnownBytes.{Appends-kept, Appends-nil, Appends-trans}
+use Rattle.std.proofs.lemmas.Bool.{false_from_ne_true, false≢true}
+use Rattle.std.specs.Prelude.{Err, Ok, OnOk, Result, ◌↔◌}
 use Rattle.kalah_jobs.proofs.AskingLemmas.AnswersTo.{answers_split, no_answers}
 use Rattle.kalah_jobs.specs.Asking.Asked.{IsBegun, IsCutOff, answers_to}
 use Rattle.std.proofs.Math.Seq.{take-append-add}
@@ -35,6 +37,23 @@ pub all_if_flushed : {A E : Type 0} (r : Result A E) (old between new : Option (
     OnOk r (Appends old new bs)
 all_if_flushed (Ok x) old between new bs all keeps = Appends-kept old between new bs all keeps
 all_if_flushed (Err e) old between new bs all keeps = tt
+
+-- after a call that succeeded, no write has failed
+pub none_failed : {failed : Bool} → (false ≡ true) ↔ (failed ≡ true) → failed ≡ false
+none_failed tells = false_from_ne_true _ (λ e. false≢true (tells.1 e))
+
+-- the lines of the first moves were written
+module _ (one : ℕ → List ℕ) {moves all : List ℕ} (same : moves ≡ all) (i house : ℕ) (within : i < length moves) (is : house ≡ get_or moves i 0)
+    (old between new : Option (List ℕ)) (so_far : Appends old between (flat_map one (take i moves))) where
+  -- and that of one move more
+  pub line_added : Appends between new (one house) → Appends old new (flat_map one (take (i + 1) moves))
+  line_added line = subst (Appends old new) (sym (one_more one moves i house within is)) (Appends-trans _ _ _ _ _ so_far line)
+
+  -- and a prefix of it, so a prefix of all
+  pub line_begun : AppendsStart between new (one house) → AppendsStart old new (flat_map one all)
+  line_begun line = subst (AppendsStart old new) (first_moves one moves all (i + 1) same)
+      (start_longer _ _ (flat_map one (take (i + 1) moves)) (flat_map one (drop (i + 1) moves))
+      (start_then _ _ _ _ (flat_map one (take i moves)) (one house) (one_more one moves i house within is) so_far line))
 
 -- the line of a move, and then the position after it, if boards are drawn
 pub move_parts : (boards : Bool) (h : ℕ) (s : Step) →

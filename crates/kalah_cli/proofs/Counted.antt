@@ -1,7 +1,7 @@
 -- The lines of `count`, and the sum below them.
-use Rattle.std.proofs.Common.{◌≡◌, ◌≤◌, ◌-◌, ◌^◌, ℕ, List, ap, arith, flat_map, refl, suc, zero}
+use Rattle.std.proofs.Common.{◌≡◌, ◌≤◌, ◌-◌, ◌^◌, ℕ, List, ap, arith, flat_map, suc, zero}
 use Rattle.std.specs.Prelude.{sum_by}
-use Rattle.std.proofs.Math.Nat.{pow-le-pow_right}
+use Rattle.std.proofs.Math.Nat.{le_trans, pow-le-pow_right}
 use Rattle.kalah_rules.specs.Limits.{most_depth, most_houses}
 use Rattle.kalah_rules.specs.Play.{legal_houses}
 use Rattle.kalah_rules.specs.Position.{Position}
@@ -30,7 +30,4 @@ sum_is (suc n) p low =
 
 -- no house begins more ways than its line can have
 pub few_ways : (n depth : ℕ) → n ≤ most_houses ^ (depth - 1) → depth ≤ most_depth → n ≤ 6 ^ 19
-few_ways n depth few high = no_more n (6 ^ (depth - 1)) (6 ^ 19) few (pow-le-pow_right {n = 6} (omega arith) {i = depth - 1} {j = 19} (omega (arith, high)))
-  where
-    no_more : (n some most : ℕ) → n ≤ some → some ≤ most → n ≤ most
-    no_more n some most one other = omega (arith, one, other)
+few_ways n depth few high = le_trans few (pow-le-pow_right {n = 6} (omega arith) {i = depth - 1} {j = 19} (omega (arith, high)))

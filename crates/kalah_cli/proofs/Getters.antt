@@ -8,6 +8,7 @@ use Rattle.clap.specs.Walk.{Row, Text, all_of, one_of, rows_of}
 use Rattle.clap.specs.declared.parser.matches.Found.{Found}
 use Rattle.clap.proofs.WalkLemmas.{one_text-rows, raw_values-rows}
 use Rattle.kalah_cli.specs.Request.{HasFlag, MayHaveNumber, is_set, number_given}
+use Rattle.kalah_cli.proofs.Items.{cases_Option}
 
 -- an option that maps to a value has one
 pub is_there : {A B : Type 0} (f : A → B) (o : Option A) → is_some (option_map f o) ≡ true → is_some o ≡ true
@@ -40,23 +41,21 @@ number_read E reads width low high f id r absent value parses fits may = go (one
 -- the number is in the range of those that may be there
 pub number_in_range : (id : Text) (low high : ℕ) (rows : List Row) (n : ℕ) → MayHaveNumber id low high rows → number_given id rows ≡ Some n
     → (low ≤ n) × (n ≤ high)
-number_in_range id low high rows n may is = go (one_of id rows) refl
-  where
-    go : (o : Option Text) → one_of id rows ≡ o → (low ≤ n) × (n ≤ high)
-    go None none = absurd (let bad : None ≡ Some n = rw none at is in cc)
-    go (Some t) some =
-        let same : n ≡ digits_value 10 (without_leading_plus t) = (let read = rw some at is in cc) in
-        let range = may t some in
-        (rw same range.2, rw same range.3)
+number_in_range id low high rows n may is = elim (cases_Option (one_of id rows)) [
+  | inl none ↦ absurd (let bad : None ≡ Some n = rw none at is in cc)
+  | inr some ↦
+      let same : n ≡ digits_value 10 (without_leading_plus some.0) = (let read = rw some.1 at is in cc) in
+      let range = may some.0 some.1 in
+      (rw same range.2, rw same range.3)
+]
 
 -- the getter of a flag determines whether it is set
 pub flag_read : (f : Found) (id : Text) (r : Bool) → HasFlag id (rows_of f) → (one_text f id ≡ None → r ≡ false)
     → (one_text f id ≡ Some (codes "true") → r ≡ true) → (one_text f id ≡ Some (codes "false") → r ≡ false) → r ≡ is_set id (rows_of f)
-flag_read f id r has absent set unset = go (one_of id (rows_of f)) refl
-  where
-    go : (o : Option Text) → one_of id (rows_of f) ≡ o → r ≡ is_set id (rows_of f)
-    go None is = rw (absent (one_text-rows f id ∙ is), is) refl
-    go (Some t) is = elim (has t is) [
-      | inl said ↦ let at : one_of id (rows_of f) ≡ Some (codes "true") = is ∙ ap (λ x. Some x) said in rw (set (one_text-rows f id ∙ at), at) refl
-      | inr said ↦ let at : one_of id (rows_of f) ≡ Some (codes "false") = is ∙ ap (λ x. Some x) said in rw (unset (one_text-rows f id ∙ at), at) refl
-    ]
+flag_read f id r has absent set unset = elim (cases_Option (one_of id (rows_of f))) [
+  | inl none ↦ rw (absent (one_text-rows f id ∙ none), none) refl
+  | inr some ↦ elim (has some.0 some.1) [
+    | inl said ↦ let at = some.1 ∙ ap (λ (x : Text). Some x) said in rw (set (one_text-rows f id ∙ at), at) refl
+    | inr said ↦ let at = some.1 ∙ ap (λ (x : Text). Some x) said in rw (unset (one_text-rows f id ∙ at), at) refl
+  ]
+]

@@ -1,10 +1,16 @@
 -- Lists and their items.
-use Rattle.std.proofs.Common.{length-append, ◌≡◌, ◌++◌, ℕ, Bool, cond, true, false, ◌<◌, refl, subst, List, [], ◌∷◌, Some, arith, length, not, ◌&&◌, ◌||◌}
+use Rattle.std.proofs.Common.{length-append, ◌≡◌, ◌++◌, ℕ, Bool, true, false, inl, inr, ◌<◌, ◌⊎◌, refl, subst, List, [], ◌∷◌, Option, None, Some, arith, length, not, ◌&&◌}
 use Rattle.std.specs.Prelude.{find, ⊤}
 use Rattle.std.specs.List.{list_all, list_any}
 use Rattle.std.specs.Str.{bytes_eq}
-use Rattle.std.proofs.lemmas.Bool.{not-true}
+use Rattle.std.proofs.lemmas.Bool.{cases_Bool, not-true}
 use Rattle.std.proofs.lemmas.Slice.Eq.{bytes_eq-Decides}
+use Rattle.clap.proofs.WalkLemmas.{both}
+
+-- an option has no value, or this one
+pub cases_Option : {X : Type 0} (o : Option X) → (o ≡ None) ⊎ ((x : X) × (o ≡ Some x))
+cases_Option None = inl refl
+cases_Option (Some x) = inr (x, refl)
 
 -- each of the items has the fact
 abbrev pub AllOf : {X : Type 0} → (X → Type 0) → List X → Type 0
@@ -19,11 +25,10 @@ both_all Q (x ∷ xs) ys p q = (p.0, both_all Q xs ys p.1 q)
 -- what holds of each item holds of one that is found
 pub found_all : {X : Type 0} (Q : X → Type 0) (t : X → Bool) (xs : List X) (a : X) → AllOf Q xs → find t xs ≡ Some a → Q a
 found_all Q t [] a all e = cc
-found_all Q t (x ∷ xs) a all e = go (t x) e (λ rest. found_all Q t xs a all.1 rest)
-  where
-    go : (b : Bool) → cond b (Some x) (find t xs) ≡ Some a → (find t xs ≡ Some a → Q a) → Q a
-    go true same later = subst Q (let is : x ≡ a = cc in is) all.0
-    go false rest later = later rest
+found_all Q t (x ∷ xs) a all e = elim (cases_Bool (t x)) [
+  | inl is ↦ let same : Some x ≡ Some a = rw is at e in subst Q (let one : x ≡ a = cc in one) all.0
+  | inr not ↦ found_all Q t xs a all.1 (rw not at e)
+]
 
 -- a list that has an item has one after more were added
 pub more_than : {X : Type 0} (xs ys : List X) → 0 < length xs → 0 < length (xs ++ ys)
@@ -32,58 +37,32 @@ more_than xs ys h = simp length-append (omega arith)
 -- an item that passes is found
 pub any_found : {X : Type 0} (t : X → Bool) (xs : List X) → list_any t xs ≡ true → (x : X) × (find t xs ≡ Some x) × (t x ≡ true)
 any_found t [] e = cc
-any_found t (x ∷ xs) e = go (t x) refl e (λ rest. any_found t xs rest)
-  where
-    go : (b : Bool) → t x ≡ b → (b || list_any t xs) ≡ true → (list_any t xs ≡ true → (y : _) × (find t xs ≡ Some y) × (t y ≡ true))
-        → (y : _) × (cond b (Some x) (find t xs) ≡ Some y) × (t y ≡ true)
-    go true is h later = (x, refl, is)
-    go false is h later = later h
+any_found t (x ∷ xs) e = elim (cases_Bool (t x)) [
+  | inl is ↦ (x, rw is refl, is)
+  | inr not ↦ let later = any_found t xs (rw not at e) in (later.0, rw not later.1, later.2)
+]
 
--- a test that holds later holds
-pub or_later : (a b : Bool) → b ≡ true → (a || b) ≡ true
-or_later true b e = refl
-or_later false b e = e
-
--- an item that is found passes
-pub found_passes : {X : Type 0} (t : X → Bool) (xs : List X) (a : X) → find t xs ≡ Some a → t a ≡ true
+-- an item that is found passes, so one does
+pub found_passes : {X : Type 0} (t : X → Bool) (xs : List X) (a : X) → find t xs ≡ Some a → (t a ≡ true) × (list_any t xs ≡ true)
 found_passes t [] a e = cc
-found_passes t (x ∷ xs) a e = go (t x) refl e (λ rest. found_passes t xs a rest)
-  where
-    go : (b : Bool) → t x ≡ b → cond b (Some x) (find t xs) ≡ Some a → (find t xs ≡ Some a → t a ≡ true) → t a ≡ true
-    go true is same later = subst (λ y. t y ≡ true) (let one : x ≡ a = cc in one) is
-    go false is rest later = later rest
-
--- so one passes
-pub found_any : {X : Type 0} (t : X → Bool) (xs : List X) (a : X) → find t xs ≡ Some a → list_any t xs ≡ true
-found_any t [] a e = cc
-found_any t (x ∷ xs) a e = go (t x) e (λ rest. found_any t xs a rest)
-  where
-    go : (b : Bool) → cond b (Some x) (find t xs) ≡ Some a → (find t xs ≡ Some a → list_any t xs ≡ true) → (b || list_any t xs) ≡ true
-    go true same later = refl
-    go false rest later = later rest
+found_passes t (x ∷ xs) a e = elim (cases_Bool (t x)) [
+  | inl is ↦ let same : Some x ≡ Some a = rw is at e in (subst (λ y. t y ≡ true) (let one : x ≡ a = cc in one) is, rw is refl)
+  | inr not ↦ let later = found_passes t xs a (rw not at e) in (later.0, rw not later.1)
+]
 
 -- a test that no item passes
 pub none_pass : {X : Type 0} (t : X → Bool) (xs : List X) → list_any t xs ≡ false → AllOf (λ x. t x ≡ false) xs
 none_pass t [] e = tt
-none_pass t (x ∷ xs) e =
-    let parts = go (t x) (list_any t xs) e in
-    (parts.0, none_pass t xs parts.1)
-  where
-    go : (a b : Bool) → (a || b) ≡ false → (a ≡ false) × (b ≡ false)
-    go false false f = (refl, refl)
-    go false true f = cc
-    go true b f = cc
-
--- two tests that hold together hold
-pub both_hold : (a b : Bool) → (a && b) ≡ true → (a ≡ true) × (b ≡ true)
-both_hold true b e = (refl, e)
-both_hold false b e = cc
+none_pass t (x ∷ xs) e = elim (cases_Bool (t x)) [
+  | inl is ↦ let bad : true ≡ false = rw is at e in cc
+  | inr not ↦ (not, none_pass t xs (rw not at e))
+]
 
 -- a test that all items pass
 pub all_pass : {X : Type 0} (t : X → Bool) (xs : List X) → list_all t xs ≡ true → AllOf (λ x. t x ≡ true) xs
 all_pass t [] e = tt
 all_pass t (x ∷ xs) e =
-    let parts = both_hold (t x) (list_all t xs) e in
+    let parts = both (t x) (list_all t xs) e in
     (parts.0, all_pass t xs parts.1)
 
 -- no two items have one name
@@ -96,7 +75,7 @@ pub each_found : {X : Type 0} (name : X → List ℕ) (xs : List X) → distinct
     → AllOf (λ x. find (λ y. bytes_eq (name y) (name x)) xs ≡ Some x) xs
 each_found name [] e = tt
 each_found name (x ∷ xs) e =
-    let parts = both_hold _ (distinct name xs) e in
+    let parts = both _ (distinct name xs) e in
     (rw ((bytes_eq-Decides (name x) (name x)).1 refl) refl, behind xs (none_pass _ xs (not-true _ parts.0)) (each_found name xs parts.1))
   where
     behind : (ys : List _) → AllOf (λ y. bytes_eq (name x) (name y) ≡ false) ys → AllOf (λ y. find (λ z. bytes_eq (name z) (name y)) xs ≡ Some y) ys

@@ -31,12 +31,15 @@ use Rattle.kalah_cli.specs.Play.{BeginsToPlay, IsBestGame, MayBegin, OfBestGame,
 abbrev pub BestGame : Position → List ℕ → Position → Type 0
 BestGame p houses final = Game (follow best_house) (follow best_house) p houses final
 
--- their game ends with the margin of best play
-best_game : (p : Position) (houses : List ℕ) (final : Position) → HasEqualSides p → BestGame p houses final → IsBestGame p houses final
-best_game p houses final even game =
+-- their game ends with the margin of best play, so what holds of the lines of its moves holds of the game
+of_game : (boards : Bool) (p : Position) (houses : List ℕ) (final : Position) (Holds : List ℕ → Type 0) → HasEqualSides p →
+    BestGame p houses final → Holds (game_lines boards p houses) → OfBestGame boards p Holds
+of_game boards p houses final Holds even game holds =
     let keeps = strategy_keeps best_house best_is_strategy in
     let bounded = bounds keeps keeps even game in
-    record { game = game; margin = omega (ints, arith, bounded.low best_plays, bounded.high best_plays) }
+    let best : IsBestGame p houses final =
+    record { game = game; margin = omega (ints, arith, bounded.low best_plays, bounded.high best_plays) } in
+    record { houses = houses; final = final; is_best = best; holds = holds }
 
 -- the first move of the game from a position that is not over: its best house, and the step of that house
 pub record IsFirst (p : Position) (h : ℕ) (s : Step) : Type 0 where
@@ -119,7 +122,7 @@ pub of_any : (boards : Bool) (p : Position) (Holds : List ℕ → Type 0) → Ha
     OfBestGame boards p Holds
 of_any boards p Holds even all =
     let game = game_ends best_house best_house best_is_strategy best_is_strategy p even in
-    record { houses = game.0; final = game.1; is_best = best_game p game.0 game.1 even game.2; holds = all (game_lines boards p game.0) }
+    of_game boards p game.0 game.1 Holds even game.2 (all (game_lines boards p game.0))
 
 -- what holds of the line of the first move, followed by any lines
 pub of_first : (boards : Bool) (p : Position) (h : ℕ) (s : Step) (Holds : List ℕ → Type 0) → IsFirst p h s →
@@ -128,24 +131,17 @@ of_first boards p h s Holds first all =
     let game = game_ends best_house best_house best_is_strategy best_is_strategy p first.even in
     let begun = first_move h game.2 first.going first.best in
     let lines = game_lines boards (position_after (step_of p h)) begun.0 in
-    record {
-      houses = game.0;
-      final = game.1;
-      is_best = best_game p game.0 game.1 first.even game.2;
-      holds = subst (λ hs. Holds (game_lines boards p hs)) (sym begun.1) (subst (λ x. Holds (move_lines boards h x ++ lines)) first.step (all lines));
-    }
+    of_game boards p game.0 game.1 Holds first.even game.2
+    (subst (λ hs. Holds (game_lines boards p hs)) (sym begun.1) (subst (λ x. Holds (move_lines boards h x ++ lines)) first.step (all lines)))
 
 -- what holds of them behind that line, if the rest is of the game from there on
 of_more : (boards : Bool) (p q : Position) (h : ℕ) (s : Step) (houses : List ℕ) (final : Position) (Rest Holds : List ℕ → Type 0) →
     IsFirst p h s → BestGame p (h ∷ houses) final → q ≡ position_after s → Rest (game_lines boards q houses) →
     ((lines : List ℕ) → Rest lines → Holds (move_lines boards h s ++ lines)) → OfBestGame boards p Holds
-of_more boards p q h s houses final Rest Holds first game next rest more = record {
-  houses = h ∷ houses;
-  final = final;
-  is_best = best_game p (h ∷ houses) final first.even game;
-  holds = subst (λ x. Holds (move_lines boards h x ++ game_lines boards (position_after x) houses)) first.step
-      (more (game_lines boards (position_after s) houses) (subst (λ r. Rest (game_lines boards r houses)) next rest));
-}
+of_more boards p q h s houses final Rest Holds first game next rest more =
+    of_game boards p (h ∷ houses) final Holds first.even game
+    (subst (λ x. Holds (move_lines boards h x ++ game_lines boards (position_after x) houses)) first.step
+    (more (game_lines boards (position_after s) houses) (subst (λ r. Rest (game_lines boards r houses)) next rest)))
 
 pub of_next : (boards : Bool) (p q : Position) (h : ℕ) (s : Step) (Rest Holds : List ℕ → Type 0) → IsFirst p h s →
     (s ≡ step.Again q) ⊎ (s ≡ step.Turn q) → ((lines : List ℕ) → Rest lines → Holds (move_lines boards h s ++ lines)) →
@@ -165,7 +161,7 @@ of_last boards p e h s Holds first is holds =
 
 -- of a game that is over there are none
 pub of_end : (boards : Bool) (p : Position) (Holds : List ℕ → Type 0) → HasEqualSides p → is_over p ≡ true → Holds [] → OfBestGame boards p Holds
-of_end boards p Holds even over holds = record { houses = []; final = p; is_best = best_game p [] p even (is_at_end over); holds = holds }
+of_end boards p Holds even over holds = of_game boards p [] p Holds even (is_at_end over) holds
 
 -- ---- what is written of them
 

@@ -1,7 +1,8 @@
 -- What the matches of each subcommand have of its arguments.
-use Rattle.std.proofs.Common.{◌≡◌, ◌⊎◌, ◌≤◌, ℕ, Bool, true, false, refl, ap, sym, subst, inl, inr, List, Some, is_some, codes, arith, ◌||◌}
+use Rattle.std.proofs.Common.{◌≡◌, ◌⊎◌, ◌≤◌, ℕ, true, refl, ap, sym, subst, inl, inr, List, Some, is_some, codes, arith}
 use Rattle.std.specs.Prelude.{option_map}
 use Rattle.std.specs.Str.{bytes_eq}
+use Rattle.std.proofs.lemmas.Bool.{cases_Bool}
 use Rattle.std.proofs.lemmas.Slice.Eq.{bytes_eq-Decides}
 use Rattle.clap.specs.Facts.{parser_of_value}
 use Rattle.clap.specs.Values.{Accepts, reading_of}
@@ -62,11 +63,10 @@ pub has_flag : {name : Text} {rows : List Row} (id : Text) {a : Rule} → AreMat
 has_flag {name} {rows} id {a} m takes parser t e =
     let written = ap (λ p. reading_of (parser_of_value p)) parser in
     let said = subst (λ p. Accepts a.ignore_case (parser_of_value p) t) parser (accepted_in rows id a (has_of name rows m id a takes) written t e) in
-    go (bytes_eq t (codes "true")) refl said
-  where
-    go : (b : Bool) → bytes_eq t (codes "true") ≡ b → (b || bytes_eq t (codes "false")) ≡ true → (t ≡ codes "true") ⊎ (t ≡ codes "false")
-    go true is f = inl ((bytes_eq-Decides t (codes "true")).0 is)
-    go false is f = inr ((bytes_eq-Decides t (codes "false")).0 f)
+    elim (cases_Bool (bytes_eq t (codes "true"))) [
+      | inl is ↦ inl ((bytes_eq-Decides t (codes "true")).0 is)
+      | inr not ↦ inr ((bytes_eq-Decides t (codes "false")).0 (rw not at said))
+    ]
 
 -- an argument of a subcommand with files, as it is built
 abbrev pub built_rule : Rule → Rule

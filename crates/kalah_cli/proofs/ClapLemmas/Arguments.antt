@@ -1,20 +1,20 @@
 -- What the rows of a subcommand that fails by no kind have of each of its arguments. Nothing here is of Kalah.
-use Rattle.std.proofs.Common.{◌≡◌, ◌∙◌, ◌<◌, ◌&&◌, ◌||◌, Bool, true, false, not, refl, ap, subst, List, [], ◌∷◌, Option, Some, None, arith, length, is_some}
+use Rattle.std.proofs.Common.{◌≡◌, ◌∙◌, ◌<◌, ◌&&◌, ◌||◌, Bool, true, false, not, refl, ap, subst, inl, inr, List, [], ◌∷◌, Option, Some, None, arith, length, is_some}
 use Rattle.std.specs.Prelude.{find, option_and_then, option_map, slice_get}
 use Rattle.std.specs.List.{fold, list_all}
-use Rattle.std.specs.Option.{option_map_or}
 use Rattle.std.specs.Str.{bytes_eq}
 use Rattle.std.proofs.lemmas.Slice.Eq.{bytes_eq-Decides}
 use Rattle.clap.specs.Facts.{parser_of_value}
 use Rattle.clap.specs.Values.{Accepts, read_as}
 use Rattle.clap.specs.Kinds.{check_kinds}
-use Rattle.clap.specs.Walk.{Row, Rule, Text, action_of, all_of, answers_to, arg_by_id, first_of, has_row, is_empty, nothing_held, one_of, reading_by, row_text, rows_after, settled, walk, with_default}
-use Rattle.clap.specs.Simple.{App, Shape, argument_words, built, entered, label_of, names_of, rows_at, subcommand_of}
+use Rattle.clap.specs.Walk.{Row, Rule, Text, action_of, all_of, answers_to, arg_by_id, first_of, has_row, is_empty, nothing_held, one_of, reading_by, rows_after, settled, walk, with_default}
+use Rattle.clap.specs.Simple.{App, Shape, argument_words, built, entered, label_of, names_of, subcommand_of}
 use Rattle.clap.specs.Takes.{is_given}
 use Rattle.clap.specs.Faults.{check_fault, entered_fault, fault_of, level_fault}
 use Rattle.clap.specs.declared.builder.value_parser.Reading.{Reading}
 use Rattle.clap.specs.declared.builder.value_parser.Reading.TheVariants.{AsWritten}
-use Rattle.kalah_cli.proofs.Items.{AllOf, all_pass, both_all, both_hold, distinct, each_found, found_all, found_any, found_passes, more_than, none_pass}
+use Rattle.clap.proofs.WalkLemmas.{both}
+use Rattle.kalah_cli.proofs.Items.{AllOf, all_pass, both_all, cases_Option, distinct, each_found, found_all, found_passes, more_than, none_pass}
 use Rattle.kalah_cli.proofs.ClapLemmas.FoundRows.{default_made, given_row, row_in, rows_stay, values_pass}
 use Rattle.kalah_cli.proofs.ClapLemmas.KeptRows.{Gives, fills, kept_level, parts_of}
 
@@ -60,7 +60,7 @@ are_usable c = distinct (λ a. a.id) c && list_all (λ a. fills (action_of a) a)
 -- such arguments make rows that fit them
 usable_give : (c : List Rule) → are_usable c ≡ true → AllOf (Gives (FitsIn c)) c
 usable_give c usable =
-    let parts = both_hold (distinct (λ (a : Rule). a.id) c) _ usable in
+    let parts = both (distinct (λ (a : Rule). a.id) c) _ usable in
     go c (each_found (λ (a : Rule). a.id) c parts.0) (all_pass (λ (a : Rule). fills (action_of a) a) c parts.1)
   where
     go : (rules : List Rule) → AllOf (λ a. arg_by_id c a.id ≡ Some a) rules → AllOf (λ a. fills (action_of a) a ≡ true) rules
@@ -113,14 +113,14 @@ level_has s words usable e id a found =
     let kept = kept_level (FitsIn s.rules) s (usable_give s.rules usable) [] words false [] e in
     let given = required_given s rows (parts_of s [] words false [] e).checking in
     let start = (settled s.rules (walk s.rules [] nothing_held words).held).rows in
-    let own : a.id ≡ id = (bytes_eq-Decides a.id id).0 (found_passes (λ b. bytes_eq b.id id) s.rules a found) in record {
+    let own : a.id ≡ id = (bytes_eq-Decides a.id id).0 (found_passes (λ b. bytes_eq b.id id) s.rules a found).0 in record {
       fits = λ r is.
-          let named : r.id ≡ id = (bytes_eq-Decides r.id id).0 (found_passes (λ r. bytes_eq r.id id) rows r is) in
+          let named : r.id ≡ id = (bytes_eq-Decides r.id id).0 (found_passes (λ r. bytes_eq r.id id) rows r is).0 in
           found_all (FitsIn s.rules) (λ r. bytes_eq r.id id) rows r kept is a (ap (arg_by_id s.rules) named ∙ found);
       there = λ wanted. subst (λ i. has_row i rows ≡ true) own (go (is_empty a.defaults) a.required (is_given a.id rows) wanted
           (found_all _ (λ b. bytes_eq b.id id) s.rules a given found)
           (found_all _ (λ b. bytes_eq b.id id) s.rules a (defaults_made s.rules start) found)
-          (λ some. let row = given_row a.id rows some in found_any _ rows row.0 row.1));
+          (λ some. let row = given_row a.id rows some in (found_passes _ rows row.0 row.1).1));
     }
   where
     go : {P : Type 0} (empty required given : Bool) → (required || not empty) ≡ true → (required && not given) ≡ false → (empty ≡ false → P)
@@ -160,7 +160,12 @@ given_in rows id a has wanted =
 -- what a typed getter reads is accepted
 pub accepted_in : (rows : List Row) (id : Text) (a : Rule) → Has rows id a → reading_by a ≡ AsWritten → (t : Text) → one_of id rows ≡ Some t
     → Accepts a.ignore_case (parser_of_value a.parser) t
-accepted_in rows id a has written t e = go (find (λ r. bytes_eq r.id id) rows) refl e
+accepted_in rows id a has written t e = elim (cases_Option (find (λ r. bytes_eq r.id id) rows)) [
+  | inl none ↦ absurd (let bad : None ≡ Some t = rw none at e in cc)
+  | inr some ↦
+      let fit = has.fits some.0 some.1 in
+      first _ some.0.values some.0.reading fit.accepted (fit.reading ∙ written) (rw some.1 at e)
+]
   where
     first : (Q : Text → Type 0) (vs : List Text) (how : Reading) → AllOf Q vs → how ≡ AsWritten → option_map (read_as how) (slice_get vs 0) ≡ Some t
         → Q t
@@ -168,13 +173,6 @@ accepted_in rows id a has written t e = go (find (λ r. bytes_eq r.id id) rows) 
     first Q (v ∷ vs) how all is f =
         let same : v ≡ t = (let read = rw is at f in cc) in
         subst Q same all.0
-
-    go : (o : Option Row) → find (λ r. bytes_eq r.id id) rows ≡ o → option_and_then row_text o ≡ Some t
-        → Accepts a.ignore_case (parser_of_value a.parser) t
-    go None is f = cc
-    go (Some r) is f =
-        let fit = has.fits r is in
-        first _ r.values r.reading fit.accepted (fit.reading ∙ written) f
 
 -- ---- the subcommand
 
@@ -197,16 +195,15 @@ Enters a o = (name : Text) × (rows : List Row) × (o ≡ Some (name, rows)) × 
 entered_has : (a : App) (stop : Option (Text × List Text)) → all_usable a.subs ≡ true → is_some (entered a stop) ≡ true → entered_fault a stop ≡ []
     → Enters a (entered a stop)
 entered_has a None usable some e = cc
-entered_has a (Some p) usable some e = go (find (λ s. answers_to p.0 (label_of s)) a.subs) refl some e
-  where
-    go : (o : Option Shape) → find (λ s. answers_to p.0 (label_of s)) a.subs ≡ o → is_some (option_map (λ s. rows_at s p.1) o) ≡ true
-        → option_map_or (λ s. level_fault s [] nothing_held p.1 false []) o [] ≡ [] → Enters a (option_map (λ s. rows_at s p.1) o)
-    go None is f g = cc
-    go (Some s) is f g =
-        let parts = both_hold (distinct (λ (s : Shape). s.name) a.subs) _ usable in
-        let own = found_all _ (λ s. answers_to p.0 (label_of s)) a.subs s (each_found (λ (s : Shape). s.name) a.subs parts.0) is in
-        let args = found_all _ (λ s. answers_to p.0 (label_of s)) a.subs s (all_pass (λ (s : Shape). are_usable s.rules) a.subs parts.1) is in
-        (s.name, rows_after s.rules [] p.1, refl, λ id b found. level_has s p.1 args g id b (rw own at found))
+entered_has a (Some p) usable some e = elim (cases_Option (find (λ s. answers_to p.0 (label_of s)) a.subs)) [
+  | inl none ↦ let bad : false ≡ true = rw none at some in cc
+  | inr met ↦
+      let s = met.0 in
+      let parts = both (distinct (λ (s : Shape). s.name) a.subs) _ usable in
+      let own = found_all _ (λ s. answers_to p.0 (label_of s)) a.subs s (each_found (λ (s : Shape). s.name) a.subs parts.0) met.1 in
+      let args = found_all _ (λ s. answers_to p.0 (label_of s)) a.subs s (all_pass (λ (s : Shape). are_usable s.rules) a.subs parts.1) met.1 in
+      rw met.1 (s.name, rows_after s.rules [] p.1, refl, λ id b found. level_has s p.1 args (rw met.1 at e) id b (rw own at found))
+]
 
 -- arguments that fail by no kind enter one, if one is required
 pub taken_has : (a : App) (words : List Text) → all_usable (built a).subs ≡ true → (built a).top.subcommand_required ≡ true → fault_of a words ≡ []

@@ -1,7 +1,5 @@
 use Rattle.std.proofs.Common.{◌<◌, ◌≤◌, ◌+◌, ◌-◌, ◌∙◌, ℕ, List, ap, arith, drop, flat_map, get_or, length, refl, subst, sym, take}
 use Rattle.std.specs.Io.KnownBytes.{Appends}
-use Rattle.std.proofs.KnownBytes.{Appends-trans}
-use Rattle.std.proofs.lemmas.Bool.{false_from_ne_true, false≢true}
 use Rattle.std.specs.Prelude.{Contains, sum_by}
 use Rattle.std.proofs.lemmas.List.{take_all}
 use Rattle.std.proofs.lemmas.List.Elements.{Contains-get_or}
@@ -11,9 +9,10 @@ use Rattle.kalah_rules.proofs.WaySums.{legal_few}
 use Rattle.kalah_solve.proofs.SolverLemmas.SmallMargins.{house_small}
 use Rattle.kalah_jobs.specs.Writing.Counts.{ways_line}
 use Rattle.kalah_jobs.specs.Writing.Given.{AppendsStart}
-use Rattle.kalah_jobs.proofs.WritingLemmas.Starts.{start_longer, start_none, start_then}
+use Rattle.kalah_jobs.proofs.WritingLemmas.Starts.{start_none, start_then}
+use Rattle.kalah_cli.proofs.Begun.{line_added, line_begun, none_failed}
 use Rattle.kalah_cli.proofs.Counted.{few_ways, line_of, lines_are, sum_is}
-use Rattle.kalah_jobs.proofs.WritingLemmas.StepLines.{first_moves, one_more}
+use Rattle.kalah_jobs.proofs.WritingLemmas.StepLines.{first_moves}
 use Rattle.kalah_cli.proofs.count.write_houses.Goals as goal
 
 pub loop-i-preserved : goal.loop-i-preserved
@@ -24,33 +23,28 @@ loop-i-preserved g c =
     let i = c.loop-i.i in
     let house = c.get-house.result in
     let within : i < length moves = omega (arith, c.loop-i-test.true, c.len-i-end.ensures) in
-    let more = one_more one moves i house within c.get-house.ensures in
-    let first = subst (λ n. Appends (g.O.Sink.written c.loop-i.out) (g.O.Sink.written c.write_house.new.out) (ways_line house n))
+    let line = subst (λ n. Appends (g.O.Sink.written c.loop-i.out) (g.O.Sink.written c.write_house.new.out) (ways_line house n))
     c.ways_by-ways.ensures.ways c.in_ok-write_house.ensures.adds in
     let few = few_ways c.ways_by-ways.result c.args.depth c.ways_by-ways.ensures.small c.requires.high in
     record {
       same = c.loop-i.invariant.same;
-      whole = false_from_ne_true _ (λ e. false≢true (c.in_ok-write_house.ensures.fails.1 e));
+      whole = none_failed c.in_ok-write_house.ensures.fails;
       sum = ap (λ n. c.loop-i.total + n) (c.ways_by-ways.ensures.ways ∙ ap by c.get-house.ensures)
           ∙ ap (λ n. n + by (get_or moves i 0)) c.loop-i.invariant.sum ∙ sym (sum_by_more by moves i 0 within);
       few = omega (arith, c.loop-i.invariant.few, few);
-      adds = subst (Appends (g.O.Sink.written c.args.out.now) (g.O.Sink.written c.write_house.new.out)) (sym more)
-          (Appends-trans _ _ _ _ _ c.loop-i.invariant.adds first);
+      adds = line_added one c.loop-i.invariant.same i house within c.get-house.ensures _ _ _ c.loop-i.invariant.adds line;
     }
 
 pub returns-in_err-write_house-clause-start : goal.returns-in_err-write_house-clause-start
 returns-in_err-write_house-clause-start g c =
     let one : ℕ → List ℕ = line_of c.args.depth c.args.board.now in
-    let moves = c.legal-moves.result in
-    let i = c.loop-i.i in
     let house = c.get-house.result in
-    let more = one_more one moves i house (omega (arith, c.loop-i-test.true, c.len-i-end.ensures)) c.get-house.ensures in
-    let first = subst (λ n. AppendsStart (g.O.Sink.written c.loop-i.out) (g.O.Sink.written c.write_house.new.out) (ways_line house n))
+    let line = subst (λ n. AppendsStart (g.O.Sink.written c.loop-i.out) (g.O.Sink.written c.write_house.new.out) (ways_line house n))
     c.ways_by-ways.ensures.ways c.write_house.ensures.start in
-    let so_far = start_then (g.O.Sink.written c.args.out.now) _ _ _ (flat_map one (take i moves)) (one house) more c.loop-i.invariant.adds first in
     subst (AppendsStart (g.O.Sink.written c.args.out.now) (g.O.Sink.written c.write_house.new.out))
-    (first_moves one moves _ (i + 1) c.loop-i.invariant.same ∙ sym (lines_are c.args.depth c.args.board.now c.requires.low))
-    (start_longer _ _ (flat_map one (take (i + 1) moves)) (flat_map one (drop (i + 1) moves)) so_far)
+    (sym (lines_are c.args.depth c.args.board.now c.requires.low))
+    (line_begun one c.loop-i.invariant.same c.loop-i.i house (omega (arith, c.loop-i-test.true, c.len-i-end.ensures)) c.get-house.ensures _ _ _
+    c.loop-i.invariant.adds line)
 
 pub write_house-requires-clause-house : goal.write_house-requires-clause-house
 write_house-requires-clause-house g c =

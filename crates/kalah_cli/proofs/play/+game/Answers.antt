@@ -1,7 +1,6 @@
 use Rattle.std.proofs.Common.{◌≡◌, [], ℕ, arith}
 use Rattle.std.specs.Prelude.{ℤ}
 use Rattle.std.proofs.KnownBytes.{Appends-nil}
-use Rattle.std.proofs.lemmas.Bool.{false_from_ne_true, false≢true}
 use Rattle.std.proofs.lemmas.Result.{on_ok_weaker}
 use Rattle.kalah_rules.specs.Play.{step_of}
 use Rattle.kalah_rules.specs.Position.{IsWithinLimits, Position}
@@ -10,13 +9,14 @@ use Rattle.kalah_solve.specs.Solver.Verdict.{TellsBestMove, verdict_of}
 use Rattle.kalah_solve.specs.declared.solver.verdict.Verdict.TheVariants.{Best}
 use Rattle.kalah_solve.proofs.SolverLemmas.Worths.{board_equal_sides}
 use Rattle.kalah_jobs.proofs.WritingLemmas.Starts.{start_kept_all}
+use Rattle.kalah_cli.proofs.Begun.{none_failed}
 use Rattle.kalah_cli.proofs.Played.{IsFirst, begins_move, begins_on, best_is_legal, best_told, fewer_left, goes_on, kept_appends, of_any, of_end, of_first, of_last, of_next, on_ok_always}
 use Rattle.kalah_cli.proofs.play.+game.Goals as goal
 
 -- the solver's best move is the first move of the game
-first_of : (p : Position) (margin : ℤ) (h : ℕ) (s : Step) → IsWithinLimits p → TellsBestMove p margin h → Best margin h ≡ verdict_of p →
+first_of : {p : Position} {margin : ℤ} {h : ℕ} {s : Step} → IsWithinLimits p → TellsBestMove p margin h → Best margin h ≡ verdict_of p →
     s ≡ step_of p h → IsFirst p h s
-first_of p margin h s limits told verdict step =
+first_of {p} {margin} {h} {s} limits told verdict step =
     record { even = board_equal_sides p limits; going = told.going; best = best_told p margin h told.going verdict; step = step }
 
 pub returns-in_err-flush-clause-begins : goal.returns-in_err-flush-clause-begins
@@ -42,45 +42,39 @@ apply-step-requires g t c =
 
 pub returns-in_err-write_move-clause-begins : goal.returns-in_err-write_move-clause-begins
 returns-in_err-write_move-clause-begins g t c =
-    let first = first_of c.args.board.now c.in-Best.margin c.in-Best.house c.apply-step.result c.m-side.ensures.limits
-    c.in-Best.ensures.best_play c.in-Best.ensures.verdict c.apply-step.ensures.step in
+    let first = first_of c.m-side.ensures.limits c.in-Best.ensures.best_play c.in-Best.ensures.verdict c.apply-step.ensures.step in
     of_first c.args.boards c.args.board.now c.in-Best.house c.apply-step.result _ first
     (λ lines. begins_move _ _ _ _ lines c.flush.ensures.keeps c.write_move.ensures.start)
 
 pub write_game-requires : goal.write_game-requires
 write_game-requires g t c κs within =
-    let first = first_of c.args.board.now c.in-Best.margin c.in-Best.house c.apply-step.result c.m-side.ensures.limits
-    c.in-Best.ensures.best_play c.in-Best.ensures.verdict c.apply-step.ensures.step in (
+    let first = first_of c.m-side.ensures.limits c.in-Best.ensures.best_play c.in-Best.ensures.verdict c.apply-step.ensures.step in (
       omega (arith, fewer_left c.args.board.now c.in-Again.next c.in-Best.house c.apply-step.result first c.in-Again.is),
-      (within, false_from_ne_true _ (λ e. false≢true (c.in_ok-write_move.ensures.fails.1 e))),
+      (within, none_failed c.in_ok-write_move.ensures.fails),
     )
 
 pub returns-in-Again-clause-game : goal.returns-in-Again-clause-game
 returns-in-Again-clause-game g t c =
-    let first = first_of c.args.board.now c.in-Best.margin c.in-Best.house c.apply-step.result c.m-side.ensures.limits
-    c.in-Best.ensures.best_play c.in-Best.ensures.verdict c.apply-step.ensures.step in
+    let first = first_of c.m-side.ensures.limits c.in-Best.ensures.best_play c.in-Best.ensures.verdict c.apply-step.ensures.step in
     on_ok_weaker c.write_game.result
     (of_next c.args.boards c.args.board.now c.in-Again.next c.in-Best.house c.apply-step.result _ _ first c.in-Again.is
     (λ lines rest. goes_on _ _ _ _ _ lines c.flush.ensures.keeps c.in_ok-write_move.ensures.adds rest)) c.write_game.ensures.game
 
 pub returns-in-Again-clause-begins : goal.returns-in-Again-clause-begins
 returns-in-Again-clause-begins g t c =
-    let first = first_of c.args.board.now c.in-Best.margin c.in-Best.house c.apply-step.result c.m-side.ensures.limits
-    c.in-Best.ensures.best_play c.in-Best.ensures.verdict c.apply-step.ensures.step in
+    let first = first_of c.m-side.ensures.limits c.in-Best.ensures.best_play c.in-Best.ensures.verdict c.apply-step.ensures.step in
     of_next c.args.boards c.args.board.now c.in-Again.next c.in-Best.house c.apply-step.result _ _ first c.in-Again.is
     (λ lines rest. begins_on _ _ _ _ _ lines c.flush.ensures.keeps c.in_ok-write_move.ensures.adds rest) c.write_game.ensures.begins
 
 pub returns-in-Over-step-clause-game : goal.returns-in-Over-step-clause-game
 returns-in-Over-step-clause-game g t c =
-    let first = first_of c.args.board.now c.in-Best.margin c.in-Best.house c.apply-step.result c.m-side.ensures.limits
-    c.in-Best.ensures.best_play c.in-Best.ensures.verdict c.apply-step.ensures.step in
+    let first = first_of c.m-side.ensures.limits c.in-Best.ensures.best_play c.in-Best.ensures.verdict c.apply-step.ensures.step in
     on_ok_always c.flush-in-Over-step.result
     (of_last c.args.boards c.args.board.now c.in-Over-step.field-0 c.in-Best.house c.apply-step.result _ first c.in-Over-step.is
     (goes_on _ _ _ _ _ [] c.flush.ensures.keeps c.in_ok-write_move.ensures.adds (kept_appends _ _ _ [] c.flush-in-Over-step.ensures.keeps (Appends-nil _))))
 
 pub returns-in-Over-step-clause-begins : goal.returns-in-Over-step-clause-begins
 returns-in-Over-step-clause-begins g t c =
-    let first = first_of c.args.board.now c.in-Best.margin c.in-Best.house c.apply-step.result c.m-side.ensures.limits
-    c.in-Best.ensures.best_play c.in-Best.ensures.verdict c.apply-step.ensures.step in
+    let first = first_of c.m-side.ensures.limits c.in-Best.ensures.best_play c.in-Best.ensures.verdict c.apply-step.ensures.step in
     of_first c.args.boards c.args.board.now c.in-Best.house c.apply-step.result _ first
     (λ lines. begins_on _ _ _ _ _ lines c.flush.ensures.keeps c.in_ok-write_move.ensures.adds (start_kept_all _ _ lines c.flush-in-Over-step.ensures.keeps))

@@ -1,4 +1,3 @@
-use Rattle.std.proofs.Common.{◌≡◌}
 use Rattle.kalah_cli.proofs.run.run_request.Goals as goal
 
 -- Answers are written for what a seeded mistake breaks: a wrong answer fails at once, and a search only at its limits.
