@@ -142,7 +142,8 @@ module _ {a : Rows} {h key seeds : ℕ} {r : RowNumbers} (packed : IsPacked key 
     turn_packed passed =
         let above = above_cells a key is.limits is.key_is in
         let rule : rule_bit q.rule ≡ rule_bit a.rule = ap rule_bit keeps.rule in
-        let there = packed_as (rows_of (swapped q)) (r.rows / 2 ^ 30 + 2 ^ 30 * (r.rows % 2 ^ 30) + key / 2 ^ 60 * 2 ^ 60) (seeds - r.store) (swapped_within q within)
+        let there = packed_as (rows_of (swapped q)) (r.rows / 2 ^ 30 + 2 ^ 30 * (r.rows % 2 ^ 30) + key / 2 ^ 60 * 2 ^ 60) (seeds - r.store)
+        (swapped_within q within)
         (omega (arith, shows.own, shows.other, keeps.other_side, is.limits.same_side)) (omega (arith, shows.store, keeps.play, is.seeds_are)) in
         (there.0, rw (shows.store, there.1) (sym (step_turn q (is_again (bare a) h) going passed)))
 

@@ -44,7 +44,8 @@ unchanged r x y last taken k j none x_is y_is shows =
     record { own = rw same shows.own; other = rw same shows.other; store = omega (arith, none.0, none.1, shows.store) }
 
 -- rows from which houses are taken
-taken_off : (rows x y own other own_new other_new : ℕ) → rows % 2 ^ 30 ≡ own → rows / 2 ^ 30 ≡ other → own_new + x ≡ own → other_new + y ≡ other →
+taken_off : (rows x y own other own_new other_new : ℕ) → rows % 2 ^ 30 ≡ own → rows / 2 ^ 30 ≡ other →
+    own_new + x ≡ own → other_new + y ≡ other →
     ((rows - x - 2 ^ 30 * y) % 2 ^ 30 ≡ own_new) × ((rows - x - 2 ^ 30 * y) / 2 ^ 30 ≡ other_new)
 taken_off rows x y own other own_new other_new own_is other_is less other_less = (omega arith, omega arith)
 
@@ -173,7 +174,8 @@ module _ (a : Rows) (h : ℕ) (w : IsWithinHouses a) (holds : HoldsSeeds (bare a
   store_few = omega (arith, sown_keeps.play, w.few_seeds)
 
   -- a house read off the numbers
-  pub read_own : (r : RowNumbers) (i bit : ℕ) → Shows r q → 1 ≤ i → i ≤ length a.own → bit ≡ 5 * (i - 1) → r.rows / 2 ^ bit % 32 ≡ seeds q.own i
+  pub read_own : (r : RowNumbers) (i bit : ℕ) → Shows r q → 1 ≤ i → i ≤ length a.own → bit ≡ 5 * (i - 1) →
+      r.rows / 2 ^ bit % 32 ≡ seeds q.own i
   read_own r i bit shows low high at =
       let near : i - 1 ≤ 5 = omega (arith, high, w.at_most_six) in
       rw (at, pow_five (i - 1)) (low_cell r.rows (i - 1) near ∙ ap (λ n. n / 32 ^ (i - 1) % 32) shows.own
@@ -247,7 +249,12 @@ module _ (a : Rows) (h : ℕ) (w : IsWithinHouses a) (holds : HoldsSeeds (bare a
       let own_set = number_of-set q.own (i - 1) 0 (omega arith) in
       let other_set = number_of-set q.other (opposite q i - 1) 0 (omega arith) in (
         omega (arith, own_set, shows.own, mul-le (32 ^ (i - 1)) last (32 ^ (i - 1)) (seeds q.own i) (omega arith) last_few),
-        omega (arith, other_set, shows.other, mul-le (32 ^ (opposite q i - 1)) taken (32 ^ (opposite q i - 1)) (seeds q.other (opposite q i)) (omega arith) taken_few),
+        omega (
+          arith,
+          other_set,
+          shows.other,
+          mul-le (32 ^ (opposite q i - 1)) taken (32 ^ (opposite q i - 1)) (seeds q.other (opposite q i)) (omega arith) taken_few,
+        ),
       )
 
   -- all that a capture does to the rows, read and written by bits

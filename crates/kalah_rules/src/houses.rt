@@ -151,7 +151,7 @@ impl Houses {
         self.key % OTHER_ROW
     }
 
-    /// Returns the other player's houses as such a number.
+    /// Returns the other player's houses as such a number: bits 30 to 59 of the key.
     pub fn other_row(&self) -> u64
         ensures value { result ≡ number_of self.now.other }
         ensures small { result < 2 ^ 30 }

@@ -274,7 +274,7 @@ pub record AreUntried (a : Rows) (most : ℕ) (ranks : List ℕ) (turns : List R
   pub waiting : AreTurns a ranks turns
   pub tried : (h : ℕ) → Contains (legal_houses (bare a)) h → get_or ranks (h - 1) 0 ≡ 0 → WinsAtMost a most h
 
--- of which the one with a given rank waits with its turn
+-- the move with a given rank waits with its turn
 pub turn_at : {a : Rows} {most : ℕ} {ranks : List ℕ} {turns : List Rows} {rank : ℕ} → IsWithinHouses a → AreUntried a most ranks turns →
     Contains ranks rank → 0 < rank → WaitsWith a ranks turns rank
 turn_at {a} {most} {ranks} {turns} {rank} w untried found some =

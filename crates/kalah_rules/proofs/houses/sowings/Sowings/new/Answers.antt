@@ -4,7 +4,12 @@ use Rattle.kalah_rules.proofs.SowingTable.{sowings_more}
 use Rattle.kalah_rules.proofs.houses.sowings.Sowings.new.Goals as goal
 
 pub loop-i-init : goal.loop-i-init
-loop-i-init c = record { gains_cells = search rules; stores_cells = search rules; ends_cells = search rules; right = λ k below house. absurd (omega (arith, below)) }
+loop-i-init c = record {
+  gains_cells = search rules;
+  stores_cells = search rules;
+  ends_cells = search rules;
+  right = λ k below house. absurd (omega (arith, below));
+}
 
 pub loop-i-preserved : goal.loop-i-preserved
 loop-i-preserved c =
@@ -14,6 +19,7 @@ loop-i-preserved c =
       stores_cells = length-set c.loop-i.stores c.loop-i.i c.sowing_at-sowing.result.store ∙ before.stores_cells;
       ends_cells = length-set c.loop-i.ends c.loop-i.i c.sowing_at-sowing.result.end ∙ before.ends_cells;
       right = sowings_more c.loop-i.gains c.loop-i.stores c.loop-i.ends c.loop-i.i c.sowing_at-sowing.result
-          (omega (arith, before.gains_cells, c.loop-i-test.true)) (omega (arith, before.stores_cells, c.loop-i-test.true)) (omega (arith, before.ends_cells, c.loop-i-test.true)) before.right
+          (omega (arith, before.gains_cells, c.loop-i-test.true)) (omega (arith, before.stores_cells, c.loop-i-test.true))
+          (omega (arith, before.ends_cells, c.loop-i-test.true)) before.right
           c.sowing_at-sowing.ensures;
     }
