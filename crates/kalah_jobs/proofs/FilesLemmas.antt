@@ -2,5 +2,6 @@ pub mod SplitLines
 pub mod FirstEntries
 pub mod OneLines
 pub mod JobCounts
+pub mod Faults
 pub mod OneEntry
 pub mod SameBoard

@@ -1,6 +1,5 @@
 //! Files, and the jobs that their lines make.
 pub(crate) mod entry;
-pub(crate) mod file_jobs;
 pub(crate) mod file_lines;
 pub(crate) mod file_text;
 pub(crate) mod first_entry;

@@ -1,11 +1,10 @@
 //! A batch: the lines of position files, solved by many workers and answered in order.
-ghost use Rattle.std.specs.Prelude.{◌≡◌, ◌↔◌, ◌<◌, ◌≤◌, ◌⊎◌, true, false, Err, length, count_by, IfOk, IfErr, OnOk, OnErr, IsErr};
+ghost use Rattle.std.specs.Prelude.{◌≡◌, ◌↔◌, ◌<◌, ◌≤◌, ◌⊎◌, true, false, Err, length, IfOk, IfErr, OnOk, OnErr, IsErr};
 ghost use Rattle.std.specs.Io.KnownBytes.{Keeps};
-ghost use Rattle.kalah_jobs.specs.Files.JobList.{job_list};
 ghost use Rattle.kalah_run.specs.Limits.{AreWorkers, IsTableSize};
 ghost use Rattle.kalah_run.specs.Batch.UnderWay.{WasGiven};
 ghost use Rattle.kalah_jobs.specs.Files.Jobs.{job_count};
-ghost use Rattle.kalah_jobs.specs.Writing.Output.{names_of, output_of, output_to, output_of_jobs, is_faulty_job};
+ghost use Rattle.kalah_jobs.specs.Writing.Output.{names_of, output_of, output_to, output_of_jobs};
 ghost use Rattle.kalah_run.specs.Batch.Answering.{AnswersBatch};
 ghost use Rattle.kalah_run.specs.declared.batch.run_fault.RunFault.TheVariants.{OutOfMemory, NoWorker, Write};
 
@@ -52,8 +51,8 @@ fn finish<W: Sink>(out: &mut W) -> Result<(), RunFault>
     }
 }
 
-// Answers the jobs of the files, and writes each answer line once it is ready and all earlier ones are written. Returns how
-// many lines were answered by a fault. If there is no job, no worker is started and nothing fails.
+// Answers the jobs of the files, and writes each answer line once it is ready and all earlier ones are written. If there is no job,
+// no worker is started and nothing fails.
 fn answer_jobs<'a, R: Threads + Wait + Sync, G: Gate, W: Sink>(
     rt: &R,
     alloc: Global,
@@ -62,18 +61,17 @@ fn answer_jobs<'a, R: Threads + Wait + Sync, G: Gate, W: Sink>(
     size: BatchSize,
     gate: &'a G,
     out: &mut W,
-) -> Result<u32, RunFault>
+) -> Result<(), RunFault>
     requires jobs { length jobs.now ≡ length files.now }
     requires fresh { W.has_failed out.old ≡ false }
     ensures given { OnOk result (WasGiven (W.written out.old) (W.written out.new) (W.has_failed out.new)
         (output_of_jobs (names_of files.now) jobs.now)) }
-    ensures faults { IfOk result (λ faults. faults ≡ count_by is_faulty_job (job_list jobs.now)) }
     ensures fault { IfErr result (λ e. (e ≡ RunFault.OutOfMemory) ⊎ (e ≡ RunFault.NoWorker)) }
     ensures some { OnErr result (0 < job_count jobs.now) }
     ensures untouched { OnErr result (out.new ≡ out.old) }
 {
     if jobs.total() == 0 {
-        return Ok(0);
+        return Ok(());
     }
     let output = OrderedOutput::new(alloc, files, jobs)?;
     let Workers {
@@ -97,12 +95,12 @@ fn answer_jobs<'a, R: Threads + Wait + Sync, G: Gate, W: Sink>(
     let Ran {
         workers,
         pass,
-        output,
+        output: _,
     } = run_and_write(rt, crew, pass, output, out)?;
     let (passes, puts) = take_apart(workers, passes, puts);
     desk.close(passes);
     queue.close(rt, puts, pass);
-    Ok(output.faults)
+    Ok(())
 }
 
 /// Answers what is asked of every line of the files, with workers and tables of the given size. It writes one answer line for each,
@@ -133,11 +131,11 @@ pub fn answer_batch<R: Threads + Wait + Sync, G: Gate, W: Sink>(
     ensures { AnswersBatch W.written W.has_failed W.is_handed_on (output_to question files.now) files.now out.old out.new result }
 {
     let jobs = Jobs::asking(alloc, question, files)?;
-    let faults = answer_jobs(rt, alloc, files, &jobs, size, gate, out)?;
+    answer_jobs(rt, alloc, files, &jobs, size, gate, out)?;
     finish(out)?;
     Ok(Tally {
         lines: jobs.total(),
-        faults,
+        faults: jobs.faults(),
     })
 }
 

@@ -59,29 +59,6 @@ impl Model for ClosedDesk {
     ghost inverse = { λ c. record { drawn = c.drawn; spent = c.spent } };
 }
 
-// Makes the passes of a new desk, each with its number.
-fn hand_out(
-    alloc: Global,
-    shared: &Shared<(), DeskView, DeskPlan, DeskRule>,
-    mut opener: Seat<(), DeskView>,
-    passes: u32,
-) -> Result<Vec<Pass>, AllocError>
-    requires table { (opener.table_id ≡ shared.now.table_id) × (0 < shared.now.table_id.words) }
-    requires opener { opener.me ≡ (opening_view shared.now.key, []) }
-    requires passes { shared.now.key.passes ≡ passes }
-    ensures { IfOk result (λ v. AreNewPasses (record { id = shared.now.table_id; total = shared.now.key.total; passes = passes }) passes v.items) }
-{
-    let mut handed_out = Vec::with_capacity(alloc, passes as usize)?;
-    for _ in 0..passes {
-        let seat = shared.split_seat::<HandOut>(&mut opener);
-        handed_out.push_reserved(Pass {
-            seat,
-            is_spent: false,
-        });
-    }
-    Ok(handed_out)
-}
-
 // Reclaims the passes, from the last to the first. The seat ends with the rows of all.
 fn reclaim(
     shared: &Shared<(), DeskView, DeskPlan, DeskRule>,
@@ -110,8 +87,15 @@ impl Desk {
         ensures passes { IfOk result (λ r. AreNewPasses r.0 passes r.1.items) }
     {
         let plan = DeskPlan { total, passes };
-        let (table, opener) = Table::of_words(alloc, &[0], &plan)?;
-        let handed_out = hand_out(alloc, &table.shared, opener, passes)?;
+        let (table, mut opener) = Table::of_words(alloc, &[0], &plan)?;
+        let mut handed_out = Vec::with_capacity(alloc, passes as usize)?;
+        for _ in 0..passes {
+            let seat = table.shared.split_seat::<HandOut>(&mut opener);
+            handed_out.push_reserved(Pass {
+                seat,
+                is_spent: false,
+            });
+        }
         Ok((Desk { table, total }, handed_out))
     }
 

@@ -177,8 +177,17 @@ impl ResultsQueue {
             getters: _,
             putters: _,
         } = self;
-        let GetPass { ruled, workers: _ } = pass;
-        let mut ruled = reclaim(&pairs, ruled, puts);
+        let GetPass {
+            mut ruled,
+            workers: _,
+        } = pass;
+        for put in puts {
+            let PutPass {
+                ruled: theirs,
+                number: _,
+            } = put;
+            pairs.absorb::<Reclaims>(&mut ruled, theirs);
+        }
         let left = pairs.len_as::<LeftInside, R>(rt, &mut ruled);
         ClosedQueue { left: left as u32 }
     }
@@ -215,22 +224,4 @@ fn spin_shortly() {
     for _ in 0..5 {
         backoff.spin();
     }
-}
-
-// Reclaims all passes to put, in the order of their numbers.
-fn reclaim(pairs: &RuledQueue, mut ruled: RuledPass, puts: Vec<PutPass>) -> RuledPass
-    requires place { IsPassOf pairs.now ruled }
-    requires gets { view ruled ≡ Getting (made_in (view ruled)) (got_in (view ruled)) [] }
-    requires puts { ArePassesFrom ruled.table_id 0 puts.items }
-    ensures place { IsPassOf pairs.now result }
-    ensures known { view result ≡ Getting (made_in (view ruled)) (got_in (view ruled)) (sent_by puts.items) }
-{
-    for put in puts {
-        let PutPass {
-            ruled: theirs,
-            number: _,
-        } = put;
-        pairs.absorb::<Reclaims>(&mut ruled, theirs);
-    }
-    ruled
 }

@@ -1,17 +1,19 @@
 -- The number of jobs before each file, and the place of a line in the list of jobs.
-use Rattle.std.proofs.Common.{◌≡◌, ℕ, zero, suc, ◌+◌, ◌-◌, ◌<◌, ◌≤◌, ⊎_elim, true, false, List, [], ◌∷◌, ◌++◌, length, get_or, take, refl, ap, sym, ◌∙◌, arith, length-append}
-use Rattle.std.specs.Prelude.{Some, slice_get, slice_index_or}
+use Rattle.std.proofs.Common.{◌≡◌, ℕ, zero, suc, ◌+◌, ◌-◌, ◌<◌, ◌≤◌, ⊎_elim, true, false, List, [], ◌∷◌, ◌++◌, length, get_or, take, drop, refl, ap, sym, subst, ◌∙◌, arith, length-append}
+use Rattle.std.specs.Prelude.{Some, slice_get, slice_index_or, sum_by}
+use Rattle.std.specs.List.{flat_map}
 use Rattle.std.specs.List.Sorted.{IsNonDecreasing, IsPartitionPoint}
 use Rattle.std.proofs.Math.Dec.{leb}
 use Rattle.std.proofs.lemmas.Bool.{cases_lt, leb-true, leb-false}
-use Rattle.std.proofs.lemmas.List.{take_all, take_more, take-append-le, get_or_append_left, length-map, map-append}
-use Rattle.std.proofs.lemmas.List.Sums.{sum_by-cons, sum_by_push, sum_by_more_le}
+use Rattle.std.proofs.lemmas.List.{take_all, take_more, take-append-le, get_or_append_left, length-map, map-append, append-nil, append_assoc}
+use Rattle.std.proofs.lemmas.List.Concat.{flat_map-append}
+use Rattle.std.proofs.lemmas.List.Sums.{sum_by-cons, sum_by_push, sum_by-take-le}
 use Rattle.std.proofs.Math.Seq.{get_or-append_seam}
 use Rattle.kalah_jobs.specs.declared.files.entry.Entry.{Entry}
 use Rattle.kalah_jobs.specs.Files.NamedBytes.{NamedBytes}
-use Rattle.kalah_jobs.specs.Files.JobList.{entries_of, line_job, file_jobs, jobs_from, job_list}
+use Rattle.kalah_jobs.specs.Files.JobList.{entries_of, line_job, file_jobs, jobs_from, job_list, by_file}
 use Rattle.kalah_jobs.specs.Limits.{most_files, most_lines}
-use Rattle.kalah_jobs.specs.Files.Jobs.{lines_in_all, lines_in, entries_to, jobs_to, job_count, AreCounted}
+use Rattle.kalah_jobs.specs.Files.Jobs.{lines_in_all, lines_in, entries_to, jobs_to, job_count, AreCounted, AreFew}
 use Rattle.kalah_jobs.specs.Files.Lines.{lines_of}
 use Rattle.kalah_jobs.specs.Files.Question.{entry_to}
 use Rattle.kalah_jobs.specs.declared.files.question.Question.{Question}
@@ -94,7 +96,80 @@ pub slice_get-job_list : (jobs : List (List Entry)) (f k n : ℕ) (e : Entry) �
     → slice_get (job_list jobs) n ≡ Some (line_job f k e)
 slice_get-job_list jobs f k n e number is = slice_get-jobs_from 0 f f k n jobs e (omega arith) number is
 
--- ---- starts
+-- ---- the entries of all files in one list
+
+-- the entries of all files
+abbrev pub all_entries : List (List Entry) → List Entry
+all_entries jobs = flat_map (λ own. own) jobs
+
+pub length-all_entries : (jobs : List (List Entry)) → length (all_entries jobs) ≡ job_count jobs
+length-all_entries [] = refl
+length-all_entries (own ∷ jobs) = omega (arith, length-append own (all_entries jobs), length-all_entries jobs, job_count-cons own jobs)
+
+slice_get-left : {X : Type 0} (xs ys : List X) (i : ℕ) → i < length xs → slice_get (xs ++ ys) i ≡ slice_get xs i
+slice_get-left [] ys i low = absurd (omega arith)
+slice_get-left (x ∷ xs) ys zero low = refl
+slice_get-left (x ∷ xs) ys (suc i) low = slice_get-left xs ys i (omega arith)
+
+-- line k of file f comes after the entries of the files before f
+pub slice_get-all_entries : (jobs : List (List Entry)) (f k n : ℕ) → n ≡ job_count (take f jobs) + k → k < length (entries_of jobs f)
+    → slice_get (all_entries jobs) n ≡ slice_get (entries_of jobs f) k
+slice_get-all_entries [] f k n number low = absurd (omega arith)
+slice_get-all_entries (own ∷ jobs) zero k n number low =
+    ap (λ m. slice_get (own ++ all_entries jobs) m) (let same : n ≡ k = omega arith in same) ∙ slice_get-left own (all_entries jobs) k low
+slice_get-all_entries (own ∷ jobs) (suc f) k n number low =
+    let m : ℕ = job_count (take f jobs) + k in
+    slice_get-append_right own (all_entries jobs) n m (omega (arith, job_count-cons own (take f jobs)))
+    ∙ slice_get-all_entries jobs f k m refl low
+
+drop_past : {X : Type 0} (past rest : List X) → drop (length past) (past ++ rest) ≡ rest
+drop_past [] rest = refl
+drop_past (x ∷ past) rest = drop_past past rest
+
+-- the entries between two offsets
+between : {X : Type 0} (past own rest : List X) (start end : ℕ) → start ≡ length past → end ≡ length past + length own
+    → take (end - start) (drop start (past ++ (own ++ rest))) ≡ own
+between past own rest start end start_is end_is =
+    let many : end - start ≡ length own = omega arith in
+    ap (λ n. take n (drop start (past ++ (own ++ rest)))) many
+    ∙ ap (λ n. take (length own) (drop n (past ++ (own ++ rest)))) start_is
+    ∙ ap (take (length own)) (drop_past past (own ++ rest))
+    ∙ take-append-le (length own) own rest (omega arith)
+    ∙ take_all (length own) own (omega arith)
+
+-- cut at its offsets, the list is that of the files again
+by_file_behind : (past : List Entry) (jobs : List (List Entry)) (offsets : List ℕ) → length offsets ≡ suc (length jobs)
+    → ((f : ℕ) → f ≤ length jobs → get_or offsets f 0 ≡ length past + job_count (take f jobs))
+    → by_file offsets (past ++ all_entries jobs) ≡ jobs
+by_file_behind past jobs [] as_many before = absurd (omega arith)
+by_file_behind past [] (start ∷ []) as_many before = refl
+by_file_behind past [] (start ∷ end ∷ offsets) as_many before = absurd (omega arith)
+by_file_behind past (own ∷ jobs) (start ∷ []) as_many before = absurd (omega arith)
+by_file_behind past (own ∷ jobs) (start ∷ end ∷ offsets) as_many before =
+    let start_is : start ≡ length past = omega (arith, before 0 (omega arith)) in
+    let end_is : end ≡ length past + length own = omega (arith, before 1 (omega arith), job_count-cons own (take 0 jobs)) in
+    let behind = by_file_behind (past ++ own) jobs (end ∷ offsets) (omega arith) (λ f low.
+    omega (arith, before (suc f) (omega arith), job_count-cons own (take f jobs), length-append past own)) in
+    ap (λ first. first ∷ by_file (end ∷ offsets) (past ++ (own ++ all_entries jobs))) (between past own (all_entries jobs) start end start_is end_is)
+    ∙ ap (λ entries. own ∷ by_file (end ∷ offsets) entries) (sym (append_assoc past own (all_entries jobs)))
+    ∙ ap (λ others. own ∷ others) behind
+
+pub by_file_is : (jobs : List (List Entry)) (offsets : List ℕ) (entries : List Entry) → AreCounted jobs offsets entries → by_file offsets entries ≡ jobs
+by_file_is jobs offsets entries counted =
+    ap (by_file offsets) counted.entries_are
+    ∙ by_file_behind [] jobs offsets counted.as_many (λ f low. omega (arith, counted.before f low))
+
+-- what is known of jobs, of their view too
+pub stored : (jobs : List (List Entry)) (offsets : List ℕ) (entries : List Entry)
+    → AreFew (by_file offsets entries) × AreCounted (by_file offsets entries) offsets entries → by_file offsets entries ≡ jobs
+    → AreFew jobs × AreCounted jobs offsets entries
+stored jobs offsets entries known is = subst (λ js. AreFew js × AreCounted js offsets entries) is known
+
+-- there are as many entries as jobs
+pub all_counted : (jobs : List (List Entry)) (offsets : List ℕ) (entries : List Entry) → AreCounted jobs offsets entries → length entries ≡ job_count jobs
+all_counted jobs offsets entries counted = ap length counted.entries_are ∙ length-all_entries jobs
+
+-- ---- offsets
 
 -- an element that is there is read for any default
 pub get_or_any : {X : Type 0} (xs : List X) (i : ℕ) (d e : X) → i < length xs → get_or xs i d ≡ get_or xs i e
@@ -102,68 +177,95 @@ get_or_any [] i d e low = absurd (omega arith)
 get_or_any (x ∷ xs) zero d e low = refl
 get_or_any (x ∷ xs) (suc i) d e low = get_or_any xs i d e (omega arith)
 
--- the starts ascend
-pub starts_rise : (jobs : List (List Entry)) (starts : List ℕ) → length starts ≡ length jobs
-    → ((f : ℕ) → f < length jobs → get_or starts f 0 ≡ job_count (take f jobs)) → IsNonDecreasing starts
-starts_rise jobs starts as_many before i j d low high =
-    let at_i : get_or starts i d ≡ job_count (take i jobs) = get_or_any starts i d 0 (omega arith) ∙ before i (omega arith) in
-    let at_j : get_or starts j d ≡ job_count (take j jobs) = get_or_any starts j d 0 high ∙ before j (omega arith) in
-    omega (arith, at_i, at_j, job_count-take jobs i j low)
+-- an offset, read for any default
+pub offset_is : (jobs : List (List Entry)) (offsets : List ℕ) (entries : List Entry) (f d : ℕ) → AreCounted jobs offsets entries → f ≤ length jobs
+    → get_or offsets f d ≡ job_count (take f jobs)
+offset_is jobs offsets entries f d counted low = get_or_any offsets f d 0 (omega (arith, counted.as_many)) ∙ counted.before f low
+
+-- the offsets ascend
+pub offsets_rise : (jobs : List (List Entry)) (offsets : List ℕ) (entries : List Entry) → AreCounted jobs offsets entries → IsNonDecreasing offsets
+offsets_rise jobs offsets entries counted i j d low high =
+    let within : j ≤ length jobs = omega (arith, counted.as_many) in
+    omega (
+      arith,
+      offset_is jobs offsets entries i d counted (omega arith),
+      offset_is jobs offsets entries j d counted within,
+      job_count-take jobs i j low,
+    )
+
+-- between two of them are the lines of a file
+pub lines_between : (jobs : List (List Entry)) (f : ℕ) → f < length jobs
+    → job_count (take (f + 1) jobs) ≡ job_count (take f jobs) + length (entries_of jobs f)
+lines_between jobs f within = ap job_count (take_more jobs f [] within) ∙ sum_by_push length (take f jobs) (entries_of jobs f)
 
 -- ---- the file of a job
 
--- p is how many files start with job n or before it
-abbrev pub AreStarted : List ℕ → ℕ → ℕ → Type 0
-AreStarted starts n p = IsPartitionPoint (λ y. leb y n ≡ true) (λ y. leb y n ≡ false) starts p
+-- line k of file f is among the entries
+pub line_within : (jobs : List (List Entry)) (offsets : List ℕ) (entries : List Entry) (f k : ℕ) → AreCounted jobs offsets entries → f < length jobs
+    → k < length (entries_of jobs f) → job_count (take f jobs) + k < length entries
+line_within jobs offsets entries f k counted within low =
+    omega (
+      arith,
+      lines_between jobs f within,
+      job_count-take jobs (f + 1) (length jobs) (omega arith),
+      ap job_count (take_all (length jobs) jobs (omega arith)),
+      all_counted jobs offsets entries counted,
+    )
 
--- some file does
-pub some_started : (jobs : List (List Entry)) (starts : List ℕ) (total n p : ℕ) → AreCounted jobs starts total → n < job_count jobs
-    → AreStarted starts n p → 1 ≤ p
-some_started [] starts total n p counted low started = absurd (omega arith)
-some_started (entries ∷ jobs) starts total n p counted low started =
+slice_get_read : {X : Type 0} (xs : List X) (n : ℕ) (x : X) → n < length xs → x ≡ get_or xs n x → slice_get xs n ≡ Some x
+slice_get_read [] n x low is = absurd (omega arith)
+slice_get_read (y ∷ xs) zero x low is = ap Some (sym is)
+slice_get_read (y ∷ xs) (suc n) x low is = slice_get_read xs n x (omega arith) is
+
+-- the entry that stands there is that of the line
+pub entry_there : (jobs : List (List Entry)) (offsets : List ℕ) (entries : List Entry) (f k n : ℕ) (e : Entry) → AreCounted jobs offsets entries
+    → f < length jobs → k < length (entries_of jobs f) → n ≡ job_count (take f jobs) + k → e ≡ get_or entries n e
+    → slice_get (entries_of jobs f) k ≡ Some e
+entry_there jobs offsets entries f k n e counted within low number is =
+    sym (slice_get-all_entries jobs f k n number low)
+    ∙ ap (λ all. slice_get all n) (sym counted.entries_are)
+    ∙ slice_get_read entries n e (omega (arith, number, line_within jobs offsets entries f k counted within low)) is
+
+-- p is how many offsets are at most n
+abbrev pub AreStarted : List ℕ → ℕ → ℕ → Type 0
+AreStarted offsets n p = IsPartitionPoint (λ y. leb y n ≡ true) (λ y. leb y n ≡ false) offsets p
+
+-- the file before that point has the job
+pub record HasJob (jobs : List (List Entry)) (n p : ℕ) : Type 0 where
+  pub some : 1 ≤ p
+  pub within : p - 1 < length jobs
+  pub low : job_count (take (p - 1) jobs) ≤ n
+  pub line : n - job_count (take (p - 1) jobs) < length (entries_of jobs (p - 1))
+
+pub has_job : (jobs : List (List Entry)) (offsets : List ℕ) (entries : List Entry) (n p : ℕ) → AreCounted jobs offsets entries → n < job_count jobs
+    → AreStarted offsets n p → p ≤ length offsets → HasJob jobs n p
+has_job jobs offsets entries n p counted few started bound =
+    let some : 1 ≤ p =
     ⊎_elim
     (λ (none : p < 1).
-    let many : length starts ≡ suc (length jobs) = counted.as_many in
-    let first : get_or starts 0 0 ≡ 0 = counted.before 0 (omega arith) in
-    let high = leb-false (get_or starts 0 0) n (started.1 0 0 (omega arith) (omega arith)) in
-    absurd (omega (arith, high, first)))
+    let past = leb-false (get_or offsets 0 0) n (started.1 0 0 (omega arith) (omega (arith, counted.as_many))) in
+    absurd (omega (arith, past, counted.before 0 (omega arith))))
     (λ (some : 1 ≤ p). some)
-    (cases_lt p 1)
-
--- the last of them starts with the job or before it
-pub last_low : (starts : List ℕ) (n p : ℕ) → AreStarted starts n p → 1 ≤ p → get_or starts (p - 1) 0 ≤ n
-last_low starts n p started some = leb-true (get_or starts (p - 1) 0) n (started.0 (p - 1) 0 (omega arith) (omega arith))
-
--- and the file after it starts past the job
-last_high : (jobs : List (List Entry)) (starts : List ℕ) (total n p : ℕ) → AreCounted jobs starts total → n < job_count jobs
-    → AreStarted starts n p → n < job_count (take p jobs)
-last_high jobs starts total n p counted low started =
+    (cases_lt p 1) in
+    let within : p ≤ length jobs =
     ⊎_elim
-    (λ (more : p < length jobs).
-    let high = leb-false (get_or starts p 0) n (started.1 p 0 (omega arith) (omega (arith, counted.as_many))) in
-    omega (arith, high, counted.before p more))
-    (λ (end : length jobs ≤ p). omega (arith, ap job_count (take_all p jobs end)))
-    (cases_lt p (length jobs))
-
--- so the job is a line of it
-pub last_has_line : (jobs : List (List Entry)) (starts : List ℕ) (total n f p : ℕ) → AreCounted jobs starts total → n < job_count jobs
-    → AreStarted starts n p → p ≡ f + 1 → f < length jobs → n - get_or starts f 0 < length (entries_of jobs f)
-last_has_line jobs starts total n f p counted low started next within =
-    let more : job_count (take (f + 1) jobs) ≡ job_count (take f jobs) + length (entries_of jobs f) =
-    ap job_count (take_more jobs f [] within) ∙ sum_by_push length (take f jobs) (entries_of jobs f) in
-    let here : job_count (take p jobs) ≡ job_count (take (f + 1) jobs) = ap (λ k. job_count (take k jobs)) next in
-    let some : f < p = omega arith in
-    let first = leb-true (get_or starts f 0) n (started.0 f 0 (omega arith) some) in
-    omega (arith, more, here, first, counted.before f within, last_high jobs starts total n p counted low started)
+    (λ (all : length jobs < p).
+    let last = leb-true (get_or offsets (length jobs) 0) n (started.0 (length jobs) 0 (omega arith) all) in
+    absurd (omega (arith, last, counted.before (length jobs) (omega arith), ap job_count (take_all (length jobs) jobs (omega arith)))))
+    (λ (within : p ≤ length jobs). within)
+    (cases_lt (length jobs) p) in
+    let first = leb-true (get_or offsets (p - 1) 0) n (started.0 (p - 1) 0 (omega arith) (omega (arith, some))) in
+    let low : job_count (take (p - 1) jobs) ≤ n = omega (arith, first, counted.before (p - 1) (omega (arith, within))) in
+    let past = leb-false (get_or offsets p 0) n (started.1 p 0 (omega arith) (omega (arith, within, counted.as_many))) in
+    let next : job_count (take (p - 1 + 1) jobs) ≡ job_count (take p jobs) = ap (λ k. job_count (take k jobs)) (let same : p - 1 + 1 ≡ p = omega (arith, some) in same) in
+    record {
+      some = some;
+      within = omega (arith, some, within);
+      low = low;
+      line = omega (arith, low, past, counted.before p within, next, lines_between jobs (p - 1) (omega (arith, some, within)));
+    }
 
 -- ---- while the files are read
-
--- the first files are read, and the jobs before each are counted
-pub record AreCountedUpto (question : Question) (files : List NamedBytes) (jobs : List (List Entry)) (starts : List ℕ) (total : ℕ) : Type 0 where
-  pub are : jobs ≡ jobs_to question files
-  pub all : total ≡ job_count jobs
-  pub as_many : length starts ≡ length jobs
-  pub before : (f : ℕ) → f < length jobs → get_or starts f 0 ≡ job_count (take f jobs)
 
 length-entries_to : (question : Question) (bytes : List ℕ) → length (entries_to question bytes) ≡ length (lines_of bytes)
 unfolding entries_to
@@ -181,61 +283,65 @@ job_count-jobs_to question (file ∷ files) =
       job_count-jobs_to question files,
     )
 
--- the lines of one file more are no more than those of all files
-pub counted_low : (question : Question) (files : List NamedBytes) (jobs : List (List Entry)) (starts : List ℕ) (total i : ℕ) (file : NamedBytes)
-    (row : List Entry)
-    → AreCountedUpto question (take i files) jobs starts total → i < length files → file ≡ get_or files i file →
-    row ≡ entries_to question file.bytes
-    → total + length row ≤ lines_in_all files
-counted_low question files jobs starts total i file row counted low is read =
-    let all : lines_in_all (take i files) + lines_in (get_or files i file) ≤ lines_in_all files = sum_by_more_le lines_in files i file low in
-    let here : lines_in file ≡ lines_in (get_or files i file) = ap lines_in is in
-    let so_far : job_count jobs ≡ lines_in_all (take i files) = ap job_count counted.are ∙ job_count-jobs_to question (take i files) in
-    omega (arith, counted.all, ap length read, length-entries_to question file.bytes, all, here, so_far)
+-- no file is read
+pub counted_none : AreCounted [] (0 ∷ []) []
+counted_none = record {
+  entries_are = refl;
+  as_many = refl;
+  before = λ f low. ap (λ g. get_or (0 ∷ []) g 0) (let none : f ≡ 0 = omega arith in none) ∙ sym (ap job_count (take_all f [] (omega arith)));
+}
+
+-- one file more is counted
+pub counted_more : (jobs : List (List Entry)) (offsets : List ℕ) (entries own : List Entry) (all : ℕ) → AreCounted jobs offsets entries
+    → all ≡ length (entries ++ own) → AreCounted (jobs ++ own ∷ []) (offsets ++ all ∷ []) (entries ++ own)
+counted_more jobs offsets entries own all counted all_is =
+    let more : all_entries (jobs ++ own ∷ []) ≡ entries ++ own =
+    flat_map-append (λ (others : List Entry). others) jobs (own ∷ [])
+    ∙ ap (λ others. all_entries jobs ++ others) (append-nil own)
+    ∙ ap (λ others. others ++ own) (sym counted.entries_are) in
+    record {
+      entries_are = sym more;
+      as_many = omega (arith, counted.as_many, length-append offsets (all ∷ []), length-append jobs (own ∷ []));
+      before = λ f low.
+          ⊎_elim
+          (λ (new : length jobs < f).
+          let at : f ≡ length offsets = omega (arith, counted.as_many, length-append jobs (own ∷ [])) in
+          ap (λ n. get_or (offsets ++ all ∷ []) n 0) at
+          ∙ get_or-append_seam offsets all [] 0
+          ∙ all_is
+          ∙ ap length (sym more)
+          ∙ length-all_entries (jobs ++ own ∷ [])
+          ∙ ap job_count (sym (take_all f (jobs ++ own ∷ []) (omega (arith, at, counted.as_many, length-append jobs (own ∷ []))))))
+          (λ (old : f ≤ length jobs).
+          get_or_append_left offsets (all ∷ []) 0 f (omega (arith, counted.as_many))
+          ∙ counted.before f old
+          ∙ ap job_count (sym (take-append-le f jobs (own ∷ []) old)))
+          (cases_lt (length jobs) f);
+    }
 
 -- one file more is read
-pub counted_more : (question : Question) (files : List NamedBytes) (jobs : List (List Entry)) (starts : List ℕ) (total i lines : ℕ)
-    (file : NamedBytes) (row : List Entry)
-    → AreCountedUpto question (take i files) jobs starts total → i < length files → file ≡ get_or files i file →
-    row ≡ entries_to question file.bytes
-    → lines ≡ length row → AreCountedUpto question (take (i + 1) files) (jobs ++ row ∷ []) (starts ++ total ∷ []) (total + lines)
-counted_more question files jobs starts total i lines file row counted low is read many =
+pub read_more : (question : Question) (files : List NamedBytes) (i : ℕ) (offsets : List ℕ) (entries own : List Entry) (file : NamedBytes) (all : ℕ)
+    → AreCounted (jobs_to question (take i files)) offsets entries → i < length files → file ≡ get_or files i file
+    → own ≡ entries_to question file.bytes → all ≡ length (entries ++ own)
+    → AreCounted (jobs_to question (take (i + 1) files)) (offsets ++ all ∷ []) (entries ++ own)
+read_more question files i offsets entries own file all counted low is read all_is =
     let more : take (i + 1) files ≡ take i files ++ file ∷ [] = take_more files i file low ∙ ap (λ x. take i files ++ x ∷ []) (sym is) in
-    let as_many : length starts ≡ length jobs = counted.as_many in
-    record {
-      are =
-          ap (λ js. js ++ row ∷ []) counted.are
-          ∙ ap (λ r. jobs_to question (take i files) ++ r ∷ []) read
-          ∙ sym (map-append (λ (f : NamedBytes). entries_to question f.bytes) (take i files) (file ∷ []))
-          ∙ ap (jobs_to question) (sym more);
-      all = let pushed : job_count (jobs ++ row ∷ []) ≡ job_count jobs + length row = sum_by_push length jobs row in
-          omega (arith, counted.all, pushed, many);
-      as_many = omega (arith, as_many, length-append starts (total ∷ []), length-append jobs (row ∷ []));
-      before = λ f f_low.
-          ⊎_elim
-          (λ (old : f < length jobs).
-          get_or_append_left starts (total ∷ []) 0 f (omega arith)
-          ∙ counted.before f old
-          ∙ ap job_count (sym (take-append-le f jobs (row ∷ []) (omega arith))))
-          (λ (new : length jobs ≤ f).
-          let at : f ≡ length jobs = omega (arith, length-append jobs (row ∷ [])) in
-          ap (λ n. get_or (starts ++ total ∷ []) n 0) (at ∙ sym as_many)
-          ∙ get_or-append_seam starts total [] 0
-          ∙ counted.all
-          ∙ ap job_count (sym (take_all f jobs new) ∙ sym (take-append-le f jobs (row ∷ []) (omega arith))))
-          (cases_lt f (length jobs));
-    }
+    let jobs_are : jobs_to question (take (i + 1) files) ≡ jobs_to question (take i files) ++ own ∷ [] =
+    ap (jobs_to question) more
+    ∙ map-append (λ (f : NamedBytes). entries_to question f.bytes) (take i files) (file ∷ [])
+    ∙ ap (λ r. jobs_to question (take i files) ++ r ∷ []) (sym read) in
+    subst (λ jobs. AreCounted jobs (offsets ++ all ∷ []) (entries ++ own)) (sym jobs_are)
+    (counted_more (jobs_to question (take i files)) offsets entries own all counted all_is)
 
--- all files are read
-pub counted_all : (question : Question) (files : List NamedBytes) (jobs : List (List Entry)) (starts : List ℕ) (total i : ℕ)
-    → AreCountedUpto question (take i files) jobs starts total → length files ≤ i → length files ≤ most_files → lines_in_all files ≤ most_lines
-    → AreCounted jobs starts total
-counted_all question files jobs starts total i counted all few_files few_lines =
-    let are : jobs ≡ jobs_to question files = counted.are ∙ ap (jobs_to question) (take_all i files all) in
-    record {
-      few_files = omega (arith, few_files, ap length are, length-map files (λ (f : NamedBytes). entries_to question f.bytes));
-      few_lines = omega (arith, few_lines, ap job_count are, job_count-jobs_to question files);
-      all = counted.all;
-      as_many = counted.as_many;
-      before = counted.before;
-    }
+-- the entries so far are no more than the lines of all files
+pub counted_low : (question : Question) (files : List NamedBytes) (i : ℕ) → job_count (jobs_to question (take i files)) ≤ lines_in_all files
+counted_low question files i =
+    let all : job_count (jobs_to question (take i files)) ≡ sum_by lines_in (take i files) = job_count-jobs_to question (take i files) in
+    omega (arith, all, sum_by-take-le lines_in files i)
+
+-- of as many files and lines as a batch may have
+pub few_jobs : (question : Question) (files : List NamedBytes) → length files ≤ most_files → lines_in_all files ≤ most_lines → AreFew (jobs_to question files)
+few_jobs question files few_files few_lines = record {
+  few_files = omega (arith, few_files, length-map files (λ (f : NamedBytes). entries_to question f.bytes));
+  few_lines = omega (arith, few_lines, job_count-jobs_to question files);
+}

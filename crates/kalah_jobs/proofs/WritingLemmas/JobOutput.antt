@@ -21,6 +21,7 @@ use Rattle.kalah_jobs.specs.Writing.Answer.{answer_of, answer_line, is_fault}
 use Rattle.kalah_jobs.specs.Files.JobList.{line_job, file_jobs, jobs_from, job_list}
 use Rattle.kalah_jobs.specs.Files.Jobs.{entries_to, jobs_to}
 use Rattle.kalah_jobs.specs.Writing.Output.{line_output, file_output, output_to, is_faulty, tally_of, text_of_line, text_of_file, answer_text_of, output_of_jobs, names_of, is_faulty_job, FilesAreTheirJobs}
+use Rattle.kalah_jobs.proofs.FilesLemmas.Faults.{asked_fault, one_if}
 use Rattle.kalah_jobs.proofs.FilesLemmas.JobCounts.{length-job_list, job_count-jobs_to}
 
 -- the text of what is taken of file n is the answer line under this name
@@ -60,36 +61,6 @@ same_output question files =
 same_lines : (question : Question) (files : List NamedBytes) → (tally_of files).lines ≡ length (job_list (jobs_to question files))
 unfolding tally_of
 same_lines question files = sym (length-job_list (jobs_to question files) ∙ job_count-jobs_to question files)
-
--- one if the test passes
-abbrev one_if : {X : Type 0} → (X → Bool) → X → ℕ
-one_if p x = cond (p x) 1 0
-
--- one of two answers that are no faults
-no_fault : (b : Bool) (x y : Answer) → is_fault x ≡ false → is_fault y ≡ false → is_fault (if b then x else y) ≡ false
-no_fault true x y one other = one
-no_fault false x y one other = other
-
--- what is asked of a position makes no fault of it
-pub asked_fault : (question : Question) (entry : Entry) → is_fault (answer_of (entry_asked question entry)) ≡ is_fault (answer_of entry)
-unfolding answer_of
-asked_fault BestMove entry = refl
-asked_fault Values (Position p) =
-    no_fault (is_over p) (answer.Over (final_margin p)) (answer.Values (values_of p)) refl refl
-    ∙ sym (no_fault (is_over p) (answer.Over (final_margin p)) (answer.Best (worth p) (best_house p)) refl refl)
-asked_fault Values (ValuesOf p) = refl
-asked_fault Values (StepsOf p) =
-    no_fault (is_over p) (answer.Over (final_margin p)) (answer.Values (values_of p)) refl refl
-    ∙ sym (no_fault (is_over p) (answer.Over (final_margin p)) (answer.Steps p) refl refl)
-asked_fault Values (Bad fault) = refl
-asked_fault Steps (Position p) =
-    no_fault (is_over p) (answer.Over (final_margin p)) (answer.Steps p) refl refl
-    ∙ sym (no_fault (is_over p) (answer.Over (final_margin p)) (answer.Best (worth p) (best_house p)) refl refl)
-asked_fault Steps (ValuesOf p) =
-    no_fault (is_over p) (answer.Over (final_margin p)) (answer.Steps p) refl refl
-    ∙ sym (no_fault (is_over p) (answer.Over (final_margin p)) (answer.Values (values_of p)) refl refl)
-asked_fault Steps (StepsOf p) = refl
-asked_fault Steps (Bad fault) = refl
 
 faults_of_lines : (question : Question) (f k : ℕ) (lines : List (List ℕ)) →
     count_by is_faulty_job (file_jobs f k (map (entry_to question) lines)) ≡ count_by is_faulty lines

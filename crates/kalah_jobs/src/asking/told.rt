@@ -2,7 +2,6 @@
 ghost use Rattle.std.specs.Prelude.{◌≡◌, ◌↔◌, not, true, false, IfErr, IfOk, IsErrOf, OnOk};
 ghost use Rattle.std.specs.Io.KnownBytes.{Appends};
 ghost use Rattle.kalah_jobs.specs.Asking.Asked.{is_last_read, told, told_last};
-ghost use Rattle.kalah_jobs.specs.Writing.Answer.{is_fault};
 ghost use Rattle.kalah_jobs.specs.Writing.Given.{AppendsStart};
 ghost use Rattle.kalah_jobs.specs.Writing.Output.{is_faulty};
 
@@ -12,7 +11,6 @@ use crate::asking::reading_ahead::hand_on;
 use crate::collecting::outcome::Outcome;
 use crate::files::entry::Entry;
 use crate::files::question::Question;
-use crate::writing::answer::Answer;
 use crate::writing::answer_line::write_words;
 use crate::writing::sink::Sink;
 use kalah_solve::Solver;
@@ -28,15 +26,8 @@ fn takes_long(entry: &Entry) -> bool {
     }
 }
 
-// Returns whether the answer is to a line that was read.
-fn is_read(answer: &Answer) -> bool
-    ensures { result ≡ not (is_fault answer.now) }
-{
-    !matches!(answer, Answer::Fault(_))
-}
-
 // Writes the answer to a line, and a line feed, and returns whether the line was read.
-#[tactic(auto, using(crate::proofs::WritingLemmas::JobOutput::asked_fault))]
+#[tactic(auto, using(crate::proofs::FilesLemmas::Faults::asked_fault))]
 pub(crate) fn tell<O: Sink>(
     line: &LineHead,
     question: Question,
@@ -56,7 +47,7 @@ pub(crate) fn tell<O: Sink>(
     }
     let answer = Outcome::of(0, 0, entry, solver).answer();
     match write_words(out, &answer) {
-        Ok(()) => Ok(is_read(&answer)),
+        Ok(()) => Ok(!entry.is_bad()),
         Err(_) => Err(AskFault::Write),
     }
 }

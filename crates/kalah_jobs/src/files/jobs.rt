@@ -1,13 +1,16 @@
 //! The jobs of a batch: the lines of its files.
-ghost use Rattle.std.specs.Prelude.{◌≡◌, ◌<◌, ◌≤◌, ◌↔◌, length, IfOk, IsTrue, slice_get, slice_index, ℕ, Some, Err};
+ghost use Rattle.std.specs.Prelude.{◌≡◌, ◌<◌, ◌≤◌, ◌↔◌, ◌++◌, length, count_by, IfNone, IfOk, IfSome, OnOk, slice_get, slice_index, ℕ, Some, Err};
 ghost use Rattle.std.specs.List.Sorted.{IsNonDecreasing};
 ghost use Rattle.kalah_jobs.specs.Files.JobList.{entries_of, line_job, job_list};
+ghost use Rattle.kalah_jobs.specs.Files.Lines.{lines_of};
 ghost use Rattle.kalah_jobs.specs.Limits.{most_files, most_lines};
-ghost use Rattle.kalah_jobs.specs.Files.Jobs.{lines_in_all, jobs_of, jobs_to, job_count};
+ghost use Rattle.kalah_jobs.specs.Files.Jobs.{entries_to, lines_in_all, jobs_of, jobs_to, job_count};
+ghost use Rattle.kalah_jobs.specs.Writing.Answer.{answer_of, is_fault};
+ghost use Rattle.kalah_jobs.specs.Writing.Output.{is_faulty_job};
 
 use crate::files::entry::Entry;
-use crate::files::file_jobs::FileJobs;
 use crate::files::file_text::FileText;
+use crate::files::first_entry::first_entry;
 use crate::files::job::Job;
 use crate::files::question::Question;
 use crate::limits::{MOST_FILES, MOST_LINES};
@@ -43,9 +46,10 @@ impl From<AllocError> for JobsFault {
 /// are numbered file by file, and line by line in each. There are at most 256 files and 1,000,000 lines.
 #[derive(Drop)]
 pub struct Jobs {
-    files: Vec<FileJobs>,
-    starts: Vec<u32>,
-    total: u32,
+    // The entry of each job.
+    entries: Vec<Entry>,
+    // For each file the number of its first job, and then the number of all jobs.
+    offsets: Vec<u32>,
 }
 
 impl Model for Jobs {
@@ -54,11 +58,13 @@ impl Model for Jobs {
 
     ghost Value = { List (List Entry) };
 
-    ghost use Rattle.kalah_jobs.specs.Files.Jobs.{AreCounted};
+    ghost use Rattle.kalah_jobs.specs.Files.JobList.{by_file};
+    ghost use Rattle.kalah_jobs.specs.Files.Jobs.{AreCounted, AreFew};
 
-    ghost view = { λ j. j.files.items };
+    ghost view = { λ j. by_file j.offsets.items j.entries.items };
 
-    ghost invariant = { λ j. AreCounted j.files.items j.starts.items j.total };
+    ghost invariant = { λ j. AreFew (by_file j.offsets.items j.entries.items)
+        × AreCounted (by_file j.offsets.items j.entries.items) j.offsets.items j.entries.items };
 }
 
 impl Jobs {
@@ -85,23 +91,17 @@ impl Jobs {
         if files.len() > MOST_FILES {
             return Err(JobsFault::TooManyFiles);
         }
-        if !has_few_lines(files) {
+        let Some(lines) = few_lines(files) else {
             return Err(JobsFault::TooManyLines);
-        }
-        let mut rows = Vec::with_capacity(alloc, files.len())?;
-        let mut starts = Vec::with_capacity(alloc, files.len())?;
-        let mut total = 0;
+        };
+        let mut entries = Vec::with_capacity(alloc, lines)?;
+        let mut offsets = Vec::with_capacity(alloc, files.len() + 1)?;
+        offsets.push_reserved(0);
         for file in files {
-            let row = FileJobs::of_bytes(alloc, question, &file.bytes)?;
-            starts.push_reserved(total);
-            total += row.lines();
-            rows.push_reserved(row);
+            read_entries(question, &file.bytes, &mut entries)?;
+            offsets.push_reserved(entries.len() as u32);
         }
-        Ok(Jobs {
-            files: rows,
-            starts,
-            total,
-        })
+        Ok(Jobs { entries, offsets })
     }
 
     /// Returns the number of jobs, at most 1,000,000: the lines of all files.
@@ -110,7 +110,7 @@ impl Jobs {
         ensures jobs { result ≡ length (job_list self.now) }
         ensures low { result ≤ most_lines }
     {
-        self.total
+        self.entries.len() as u32
     }
 
     /// Returns the number of files, at most 256.
@@ -118,7 +118,7 @@ impl Jobs {
         ensures is { result ≡ length self.now }
         ensures low { result ≤ most_files }
     {
-        self.files.len() as u32
+        (self.offsets.len() - 1) as u32
     }
 
     /// Returns the number of lines of file `f`, at most 1,000,000. The file must be below `files`.
@@ -127,7 +127,7 @@ impl Jobs {
         ensures is { result ≡ length (entries_of self.now f) }
         ensures low { result ≤ most_lines }
     {
-        self.files[f as usize].lines()
+        self.offsets[f as usize + 1] - self.offsets[f as usize]
     }
 
     // Returns the entry of a line of a file, in its place.
@@ -136,7 +136,7 @@ impl Jobs {
         requires line { line < length (entries_of self.now f) }
         ensures { slice_get (entries_of self.now f) line ≡ Some result.now }
     {
-        self.files[f as usize].entry_at(line)
+        &self.entries[(self.offsets[f as usize] + line) as usize]
     }
 
     // Returns the file and the line of job `n`, and the entry in its place.
@@ -146,9 +146,9 @@ impl Jobs {
         ensures { slice_get (job_list self.now) n ≡ Some (line_job result.0 result.1 result.2.now) }
     {
         // The last file that starts with job `n` or before it.
-        let file = self.starts.partition_point(|start| *start <= n) - 1;
-        let line = n - self.starts[file];
-        (file as u32, line, self.files[file].entry_at(line))
+        let file = self.offsets.partition_point(|offset| *offset <= n) - 1;
+        let line = n - self.offsets[file];
+        (file as u32, line, &self.entries[n as usize])
     }
 
     /// Returns job `n`, which must be below `total`.
@@ -163,21 +163,60 @@ impl Jobs {
             entry: *entry,
         }
     }
+
+    /// Returns how many jobs are answered by a fault.
+    pub fn faults(&self) -> u32
+        ensures { result ≡ count_by is_faulty_job (job_list self.now) }
+    {
+        count_bad(&self.entries)
+    }
 }
 
-// Returns whether the files together have at most as many lines as a batch may have.
-fn has_few_lines(files: &[FileText]) -> bool
-    ensures { IsTrue result ↔ (lines_in_all files.now ≤ most_lines) }
+// Returns how many lines the files have together, if a batch may have as many.
+fn few_lines(files: &[FileText]) -> Option<usize>
+    ensures some { IfSome result (λ lines. (lines ≡ lines_in_all files.now) × (lines ≤ most_lines)) }
+    ensures none { IfNone result (most_lines < lines_in_all files.now) }
 {
     let mut room = MOST_LINES;
     for file in files {
         let lines = file.lines();
         if lines > room {
-            return false;
+            return None;
         }
         room -= lines;
     }
-    true
+    Some(MOST_LINES - room)
+}
+
+// Returns the number of lines that are not read.
+fn count_bad(entries: &[Entry]) -> u32
+    requires { length entries.now ≤ most_lines }
+    ensures { result ≡ count_by (λ entry. is_fault (answer_of entry)) entries.now }
+{
+    let mut count = 0;
+    for entry in entries {
+        if entry.is_bad() {
+            count += 1;
+        }
+    }
+    count
+}
+
+// Appends the entries of the lines of some bytes, with this question.
+fn read_entries(
+    question: Question,
+    bytes: &[u8],
+    entries: &mut Vec<Entry>,
+) -> Result<(), AllocError>
+    ensures { OnOk result (entries.new.items ≡ entries.old.items ++ entries_to question bytes.now) }
+{
+    let mut rest = bytes;
+    while !rest.is_empty() {
+        let (entry, after) = first_entry(question, rest);
+        entries.push(entry)?;
+        rest = after;
+    }
+    Ok(())
 }
 
 #[cfg(test)]

@@ -26,7 +26,7 @@ texts_are_output : (files : List NamedBytes) (jobs : List (List Entry)) → text
 unfolding text_of
 texts_are_output files jobs = refl
 
--- Each job was accepted once, and the output doesn't wait for a line: the sink was given all, and all faults are counted.
+-- Each job was accepted once, and the output doesn't wait for a line: the sink was given all.
 module _ (files : List NamedBytes) (jobs : List (List Entry)) (past : List Job) (begun out : Option (List ℕ)) (failed : Bool) (r : OrderedOutput)
     (each : AreJobsInSomeOrder jobs past) (so_far : HasWritten files jobs past begun out failed r) (waits : Waits r) where
   pub all_given : WasGiven begun out failed (output_of_jobs (names_of files) jobs)
@@ -34,9 +34,6 @@ module _ (files : List NamedBytes) (jobs : List (List Entry)) (past : List Job) 
       let once : AreJobsInSomeOrder r.jobs.now past = subst (λ l. AreJobsInSomeOrder l past) (sym so_far.of_jobs) each in
       subst (λ l. WasGiven begun out failed l) (ap (λ l. text_of_jobs (text_of files) l) so_far.of_jobs ∙ texts_are_output files jobs)
       (progress_end so_far.progress once waits)
-
-  pub all_counted : r.faults ≡ count_by is_faulty_job (job_list jobs)
-  all_counted = so_far.faults ∙ each.same_counts is_faulty_job
 
 -- the output of the jobs of the files is that of the files
 pub given_output : (question : Question) (files : List NamedBytes) (jobs : List (List Entry)) (begun out : Option (List ℕ))

@@ -27,21 +27,13 @@ text_of_file files f file name taken low at is =
     ap (λ n. answer_line n taken ++ line_feed ∷ [])
     (get_or-map (λ (x : NamedBytes). x.name) files f file [] low ∙ sym (ap (λ (x : NamedBytes). x.name) at) ∙ sym is)
 
--- one outcome more
-pub faults_more : (past : List Job) (o : Job) (faults more : ℕ) → faults ≡ count_by is_faulty_job past → more ≡ (if is_faulty_job o then 1 else 0) →
-    faults + more ≡ count_by is_faulty_job (past ++ o ∷ [])
-faults_more past o faults more before is =
-    let all = sum_by-append (λ (x : Job). if is_faulty_job x then 1 else 0) past (o ∷ []) in
-    let one : count_by is_faulty_job (o ∷ []) ≡ (if is_faulty_job o then 1 else 0) = omega arith in
-    omega (arith, all, one, before, is)
-
 -- an output advances with the state of what is under way
 pub written_on : (files : List NamedBytes) (jobs : List (List Entry)) (past : List Job) (begun out more : Option (List ℕ)) (failed fails : Bool)
-    (r after : OrderedOutput) → after.files.now ≡ r.files.now → after.jobs.now ≡ r.jobs.now → after.faults ≡ r.faults
+    (r after : OrderedOutput) → after.files.now ≡ r.files.now → after.jobs.now ≡ r.jobs.now
     → (IsUnderWay (text_of r.files.now) r.jobs.now past r.collector r.current begun out failed
     → IsUnderWay (text_of r.files.now) r.jobs.now past after.collector after.current begun more fails)
     → HasWritten files jobs past begun out failed r → HasWritten files jobs past begun more fails after
-written_on files jobs past begun out more failed fails r after same_files same_jobs same_faults on is =
+written_on files jobs past begun out more failed fails r after same_files same_jobs on is =
     let from : IsUnderWay (text_of r.files.now) r.jobs.now past r.collector r.current begun out failed =
     subst (λ (fs : List NamedBytes). IsUnderWay (text_of fs) r.jobs.now past r.collector r.current begun out failed) (sym is.of_files) is.progress in
     record {
@@ -50,7 +42,6 @@ written_on files jobs past begun out more failed fails r after same_files same_j
       progress = subst (λ (js : List (List Entry)). IsUnderWay (text_of files) js past after.collector after.current begun more fails) (sym same_jobs)
           (subst (λ (fs : List NamedBytes). IsUnderWay (text_of fs) r.jobs.now past after.collector after.current begun more fails) is.of_files
           (on from));
-      faults = same_faults ∙ is.faults;
     }
 
 -- an output stays written if what was written is flushed
@@ -67,7 +58,6 @@ still_written files jobs past begun out later failed fails r keeps sound is = re
     behind = is.progress.behind;
     written = given_kept begun out later failed fails _ is.progress.written keeps sound;
   };
-  faults = is.faults;
 }
 
 -- what a call that wrote all, or failed, did if it has not failed

@@ -1,22 +1,20 @@
 -- What is known of the output of a batch.
-use Rattle.std.specs.Prelude.{◌≡◌, ℕ, ◌<◌, List, [], ◌∷◌, ◌++◌, Option, Bool, length, count_by, map}
+use Rattle.std.specs.Prelude.{◌≡◌, ℕ, ◌<◌, List, [], ◌∷◌, ◌++◌, Option, Bool, length, map}
 use Rattle.kalah_jobs.specs.declared.files.entry.Entry.{Entry}
 use Rattle.kalah_jobs.specs.declared.files.job.Job.{Job}
 use Rattle.kalah_jobs.specs.Files.NamedBytes.{NamedBytes}
-use Rattle.kalah_jobs.specs.Writing.Output.{is_faulty_job}
 use Rattle.kalah_jobs.specs.Collecting.CollectorState.{state_of, HasEnded}
 use Rattle.kalah_run.specs.Batch.UnderWay.{IsUnderWay}
 use Rattle.kalah_run.specs.Batch.Texts.{text_of}
 use Rattle.kalah_run.specs.declared.batch.ordered_output.OrderedOutput.{OrderedOutput}
 
 -- With these outcomes accepted, the output of these files and their jobs has written what is ready of them, in order, behind what
--- the sink had when it began, and counts their faults.
+-- the sink had when it began.
 pub record HasWritten (files : List NamedBytes) (jobs : List (List Entry)) (past : List Job) (begun out : Option (List ℕ))
     (failed : Bool) (r : OrderedOutput) : Type 0 where
   pub of_files : r.files.now ≡ files
   pub of_jobs : r.jobs.now ≡ jobs
   pub progress : IsUnderWay (text_of files) r.jobs.now past r.collector r.current begun out failed
-  pub faults : r.faults ≡ count_by is_faulty_job past
 
 -- the current file, if there is one, has a line that is still to come
 abbrev pub Waits : OrderedOutput → Type 0

@@ -9,12 +9,11 @@ use Rattle.kalah_run.specs.declared.batch.ordered_output.OrderedOutput.{OrderedO
 use Rattle.kalah_run.specs.declared.batch.running.Ran.{Ran}
 use Rattle.kalah_run.specs.declared.batch.worker.Worker.{Worker}
 
--- the workers are at work, nothing was got of what they send, and no fault is counted
+-- the workers are at work, and nothing was got of what they send
 pub record CanRun (work : Work) (workers : List Worker) (pass : GetState) (output : OrderedOutput) : Type 0 where
   pub at_work : AreAtWork work workers
   pub queue : pass.queue ≡ work.queue
   pub nothing_got : pass.got ≡ []
-  pub no_fault : output.faults ≡ 0
 
 -- Each worker has run. One outcome was received for each job, and the output has accepted them, if a sink was `old` and is `new`.
 pub record HasEnded {W : Type 0} (bytes : W → Option (List ℕ)) (has_failed : W → Bool) (work : Work) (workers : List Worker)

@@ -1,9 +1,8 @@
 //! The answers of a batch, written in the order of its lines.
-ghost use Rattle.std.specs.Prelude.{◌≡◌, ◌+◌, ◌^◌, ◌<◌, [], ℕ, List, Option, Bool, length, IfOk, if◌then◌else◌};
-ghost use Rattle.kalah_jobs.specs.Writing.Answer.{is_fault};
+ghost use Rattle.std.specs.Prelude.{◌≡◌, [], ℕ, List, Option, Bool, length, IfOk};
 ghost use Rattle.kalah_jobs.specs.Collecting.CollectorState.{HasLinesOf};
 
-use kalah_jobs::{Answer, Collector, FileText, Jobs, Outcome, Sink, write_answer};
+use kalah_jobs::{Collector, FileText, Jobs, Outcome, Sink, write_answer};
 use std::alloc::{AllocError, Global};
 
 /// What has come for a batch, and how much of it is written. `current` is the file whose lines are written next: the
@@ -14,19 +13,8 @@ pub(crate) struct OrderedOutput<'a> {
     pub(crate) jobs: &'a Jobs,
     pub(crate) collector: Collector,
     pub(crate) current: u32,
-    pub(crate) faults: u32,
     ghost as_many: { length jobs.now ≡ length files.now },
     ghost counts: { HasLinesOf jobs.now collector },
-}
-
-// Returns 1 for a fault, and else 0.
-fn faults_in(answer: Answer) -> u32
-    ensures { result ≡ (if is_fault answer then 1 else 0) }
-{
-    match answer {
-        Answer::Fault(_) => 1,
-        _ => 0,
-    }
 }
 
 impl<'a> OrderedOutput<'a> {
@@ -47,15 +35,13 @@ impl<'a> OrderedOutput<'a> {
             jobs,
             collector,
             current: 0,
-            faults: 0,
         })
     }
 
     /// Writes the next lines in output order, as far as they are ready.
     #[inline(always)]
     pub(crate) fn write<W: Sink>(&mut self, out: &mut W)
-        ensures progress { WritesReady self.old (W.written out.old) (W.has_failed out.old) self.new (W.written out.new) (W.has_failed out.new) }
-        ensures faults { self.new.faults ≡ self.old.faults }
+        ensures { WritesReady self.old (W.written out.old) (W.has_failed out.old) self.new (W.written out.new) (W.has_failed out.new) }
     {
         while self.current < self.jobs.files() {
             let f = self.current;
@@ -75,11 +61,8 @@ impl<'a> OrderedOutput<'a> {
 
     /// Accepts an outcome, and then writes the next lines in output order, as far as they are ready.
     pub(crate) fn accept<W: Sink>(&mut self, outcome: Outcome, out: &mut W)
-        requires { self.old.faults + 1 < 2 ^ 32 }
-        ensures progress { Accepts outcome self.old (W.written out.old) (W.has_failed out.old) self.new (W.written out.new) (W.has_failed out.new) }
-        ensures faults { self.new.faults < self.old.faults + 2 }
+        ensures { Accepts outcome self.old (W.written out.old) (W.has_failed out.old) self.new (W.written out.new) (W.has_failed out.new) }
     {
-        self.faults += faults_in(outcome.answer());
         let _ = self.collector.offer(self.jobs, outcome);
         self.write(out);
     }

@@ -73,7 +73,6 @@ fn collect<R: Wait, W: Sink>(
 )
     requires pass { pass.old.queue ≡ queue.now.id }
     requires first { pass.old.got ≡ [] }
-    requires none { output.old.faults ≡ 0 }
     ensures same { (pass.new.queue ≡ pass.old.queue) × (pass.new.workers ≡ pass.old.workers) }
     ensures all { length pass.new.got ≡ job_count output.old.jobs.now }
     ensures progress { AcceptsAll (outcomes_in pass.new.got) output.old (W.written out.old) (W.has_failed out.old)

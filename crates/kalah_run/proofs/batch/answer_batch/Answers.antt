@@ -9,8 +9,8 @@ use Rattle.kalah_run.proofs.BatchLemmas.Ends.{appended_kept, given_output, count
 use Rattle.kalah_run.proofs.BatchLemmas.NoLine.{nothing_answered}
 use Rattle.kalah_run.proofs.batch.answer_batch.Goals as goal
 
-pub returns-in_err-faults : goal.returns-in_err-faults
-returns-in_err-faults g c = record {
+pub returns-in_err-answer_jobs : goal.returns-in_err-answer_jobs
+returns-in_err-answer_jobs g c = record {
   written = search rules;
   tally = search rules;
   handed_on = search rules;
@@ -18,16 +18,16 @@ returns-in_err-faults g c = record {
   too_many_files = search rules;
   too_many_lines = search rules;
   no_worker = λ _.
-      omega (arith, c.in_err-faults.ensures.some, ap job_count c.in_ok-jobs.ensures.value, job_count-jobs_to c.args.question c.args.files.now);
+      omega (arith, c.in_err-answer_jobs.ensures.some, ap job_count c.in_ok-jobs.ensures.value, job_count-jobs_to c.args.question c.args.files.now);
   write = search rules;
   untouched = search rules;
   no_line = λ none. absurd
-      (omega (arith, none, c.in_err-faults.ensures.some, ap job_count c.in_ok-jobs.ensures.value, job_count-jobs_to c.args.question c.args.files.now));
+      (omega (arith, none, c.in_err-answer_jobs.ensures.some, ap job_count c.in_ok-jobs.ensures.value, job_count-jobs_to c.args.question c.args.files.now));
 }
 
 pub returns-in_err-finish : goal.returns-in_err-finish
 returns-in_err-finish g c =
-    let given = given_output c.args.question c.args.files.now c.in_ok-jobs.jobs _ _ _ c.in_ok-jobs.ensures.value c.in_ok-faults.ensures.given in
+    let given = given_output c.args.question c.args.files.now c.in_ok-jobs.jobs _ _ _ c.in_ok-jobs.ensures.value c.in_ok-answer_jobs.ensures.given in
     record {
       written = search rules;
       tally = search rules;
@@ -44,10 +44,10 @@ returns-in_err-finish g c =
 
 pub returns : goal.returns
 returns g c =
-    let given = given_output c.args.question c.args.files.now c.in_ok-jobs.jobs _ _ _ c.in_ok-jobs.ensures.value c.in_ok-faults.ensures.given in
-    let tally = counted_tally c.args.question c.args.files.now _ c.in_ok-faults.faults
+    let given = given_output c.args.question c.args.files.now c.in_ok-jobs.jobs _ _ _ c.in_ok-jobs.ensures.value c.in_ok-answer_jobs.ensures.given in
+    let tally = counted_tally c.args.question c.args.files.now _ c.faults.result
     (c.total.ensures.jobs ∙ ap (λ jobs. length (job_list jobs)) c.in_ok-jobs.ensures.value)
-    (c.in_ok-faults.ensures.faults ∙ ap (λ jobs. count_by is_faulty_job (job_list jobs)) c.in_ok-jobs.ensures.value) in
+    (c.faults.ensures ∙ ap (λ jobs. count_by is_faulty_job (job_list jobs)) c.in_ok-jobs.ensures.value) in
     record {
       written = appended_kept _ _ _ _ (given.whole c.in_ok-finish.ensures.before) c.finish.ensures.keeps;
       tally = tally;

@@ -11,7 +11,7 @@ use Rattle.kalah_run.specs.Queue.Lists.{Accounts}
 use Rattle.kalah_run.specs.Batch.Work.{Work}
 use Rattle.kalah_run.specs.Batch.OrderedOutput.{HasWritten, Waits, outcomes_in}
 use Rattle.kalah_run.specs.declared.batch.worker.Worker.{Worker}
-use Rattle.kalah_run.proofs.BatchLemmas.Ends.{all_given, all_counted, given_no_output, no_faults}
+use Rattle.kalah_run.proofs.BatchLemmas.Ends.{all_given, given_no_output}
 use Rattle.kalah_run.proofs.BatchLemmas.WorkerRuns.{each_job_got, puts_after, run_at_work, run_passes, run_spent}
 use Rattle.kalah_run.proofs.batch.answer_jobs.Given.{Over}
 use Rattle.kalah_run.proofs.batch.answer_jobs.Goals as goal
@@ -21,9 +21,6 @@ returns-then-total-eq0-clause-given g c =
     given_no_output c.args.files.now c.args.jobs.now (g.W.Sink.written c.args.out.now) (g.W.Sink.has_failed c.args.out.now)
     (sym c.total.ensures.lines ∙ c.if-total-eq0.true)
 
-pub returns-then-total-eq0-clause-faults : goal.returns-then-total-eq0-clause-faults
-returns-then-total-eq0-clause-faults g c = no_faults c.args.jobs.now (sym c.total.ensures.jobs ∙ c.if-total-eq0.true)
-
 pub run_and_write-requires-after_bounds : goal.run_and_write-requires-after_bounds
 run_and_write-requires-after_bounds g c κs within =
     let ready = c.in_ok-desk.ensures in
@@ -31,7 +28,6 @@ run_and_write-requires-after_bounds g c κs within =
       at_work = ready.at_work;
       queue = ap (λ (p : GetState). p.queue) ready.pass;
       nothing_got = ap (λ (p : GetState). p.got) ready.pass;
-      no_fault = (c.in_ok-output.ensures None false).faults;
     }
 
 -- ---- the passes come back
@@ -61,7 +57,7 @@ close-requires-2-clause-puts g c =
 -- ---- all has come and is written
 
 -- each job's outcome was got once
-each_got : (g : Over) (c : goal.After-drop-output-2 g) → AreJobsInSomeOrder c.args.jobs.now (outcomes_in c.in_ok-workers.field-0.pass.got)
+each_got : (g : Over) (c : goal.After-close-2 g) → AreJobsInSomeOrder c.args.jobs.now (outcomes_in c.in_ok-workers.field-0.pass.got)
 each_got g c =
     let ready = c.in_ok-desk.ensures in
     let run = c.in_ok-workers.ensures.ended in
@@ -80,7 +76,7 @@ each_got g c =
     (drawn ∙ sym c.total.ensures.lines ∙ c.total.ensures.jobs) (run.all_got ∙ ap job_count (c.in_ok-output.ensures None false).of_jobs ∙ sym drawn)
 
 -- and no line is waited for any more
-all_written : (g : Over) (c : goal.After-drop-output-2 g)
+all_written : (g : Over) (c : goal.After-close-2 g)
     → HasWritten c.args.files.now c.args.jobs.now (outcomes_in c.in_ok-workers.field-0.pass.got) (g.W.Sink.written c.args.out.now)
     (g.W.Sink.written c.run_and_write.new.out)
     (g.W.Sink.has_failed c.run_and_write.new.out) c.in_ok-workers.field-0.output × Waits c.in_ok-workers.field-0.output
@@ -91,7 +87,3 @@ all_written g c =
 pub returns-clause-given : goal.returns-clause-given
 returns-clause-given g c =
     all_given c.args.files.now c.args.jobs.now _ _ _ _ c.in_ok-workers.field-0.output (each_got g c) (all_written g c).0 (all_written g c).1
-
-pub returns-clause-faults : goal.returns-clause-faults
-returns-clause-faults g c =
-    all_counted c.args.files.now c.args.jobs.now _ _ _ _ c.in_ok-workers.field-0.output (each_got g c) (all_written g c).0 (all_written g c).1

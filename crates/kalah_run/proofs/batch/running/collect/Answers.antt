@@ -14,11 +14,10 @@ loop-init g c = record {
   queue = refl;
   workers = refl;
   all = ap (λ (l : List (ℕ × Job)). length l) c.requires.first;
-  few = omega (arith, c.requires.none, c.write.ensures.faults);
   progress = λ files jobs begun so_far.
       subst (λ (l : List (ℕ × Job)). HasWritten files jobs (outcomes_in l) begun (g.W.Sink.written c.write.new.out) (g.W.Sink.has_failed c.write.new.out)
       c.write.new.self × Waits c.write.new.self)
-      (sym c.requires.first) (c.write.ensures.progress files jobs [] begun so_far);
+      (sym c.requires.first) (c.write.ensures files jobs [] begun so_far);
 }
 
 -- an outcome was got
@@ -58,11 +57,10 @@ loop-preserved g c =
       queue = ap (λ (p : GetState). p.queue) is ∙ c.loop.invariant.queue;
       workers = ap (λ (p : GetState). p.workers) is ∙ c.loop.invariant.workers;
       all = ap (λ (l : List (ℕ × Job)). length l) more ∙ length-append c.loop.pass.got ((worker, outcome) ∷ []) ∙ omega (arith, c.loop.invariant.all);
-      few = omega (arith, c.loop.invariant.few, c.accept.ensures.faults);
       progress = λ files jobs begun so_far.
           subst (λ (l : List Job). HasWritten files jobs l begun (g.W.Sink.written c.accept.new.out)
           (g.W.Sink.has_failed c.accept.new.out) c.accept.new.self × Waits c.accept.new.self)
           (sym (ap (λ (l : List (ℕ × Job)). outcomes_in l) more ∙ map-append (λ (p : ℕ × Job). p.1) c.loop.pass.got ((worker, outcome) ∷ [])))
-          (c.accept.ensures.progress files jobs _ begun
+          (c.accept.ensures files jobs _ begun
           (still_written files jobs _ begun _ _ _ _ _ (keeps g c) (sound g c) (c.loop.invariant.progress files jobs begun so_far).0));
     }

@@ -1,37 +1,56 @@
-use Rattle.std.proofs.Common.{◌≡◌, rules, refl, ap, ◌∙◌, arith}
+use Rattle.std.proofs.Common.{◌≡◌, ◌∙◌, ◌+◌, [], ◌∷◌, ◌++◌, take, rules, ap, sym, subst, length, arith}
+use Rattle.std.proofs.lemmas.List.{take_all}
 use Rattle.kalah_jobs.specs.Files.NamedBytes.{NamedBytes}
-use Rattle.kalah_jobs.specs.Files.Jobs.{entries_to}
-use Rattle.kalah_jobs.proofs.FilesLemmas.JobCounts.{counted_low, counted_more, counted_all}
+use Rattle.kalah_jobs.specs.Files.JobList.{by_file}
+use Rattle.kalah_jobs.specs.Files.Jobs.{AreCounted, AreFew, entries_to, jobs_to}
+use Rattle.kalah_jobs.proofs.FilesLemmas.JobCounts.{all_counted, by_file_is, counted_low, counted_none, few_jobs, read_more}
 use Rattle.kalah_jobs.proofs.files.jobs.Jobs.asking.Goals as goal
-use Rattle.kalah_jobs.proofs.files.jobs.Jobs.asking.Goals.{After-lines-total}
+use Rattle.kalah_jobs.proofs.files.jobs.Jobs.asking.Goals.{After-len}
 
--- the row of a file has the entries of its lines
-row_read : (c : After-lines-total) → c.in_ok-row.row ≡ entries_to c.args.question c.file-item.result.bytes
-row_read c = c.in_ok-row.ensures ∙ ap (entries_to c.args.question) (c.deref.ensures.value ∙ ap (λ (f : NamedBytes). f.bytes) c.file.view_is)
+-- with one file more, the entries and the offset behind them are counted
+counted : (c : After-len) → AreCounted (jobs_to c.args.question (take (c.loop-file.file-index + 1) c.args.files.now))
+    (c.loop-file.offsets.items ++ c.len.result ∷ []) c.read_entries.new.entries.items
+counted c =
+    let own = entries_to c.args.question c.deref.result.now in
+    let read = ap (entries_to c.args.question) (c.deref.ensures.value ∙ ap (λ (f : NamedBytes). f.bytes) c.file.view_is) in
+    subst (λ entries. AreCounted (jobs_to c.args.question (take (c.loop-file.file-index + 1) c.args.files.now)) (c.loop-file.offsets.items ++ c.len.result ∷ []) entries)
+    (sym c.in_ok-read_entries.ensures)
+    (read_more c.args.question c.args.files.now c.loop-file.file-index c.loop-file.offsets.items c.loop-file.entries.items own c.file-item.result c.len.result
+    c.loop-file.invariant.counted c.loop-file-test.true c.file-item.is read (omega (arith, c.len.ensures, ap length c.in_ok-read_entries.ensures)))
 
-pub overflow_add-total : goal.overflow_add-total
-overflow_add-total c =
+pub overflow_cast-len : goal.overflow_cast-len
+overflow_cast-len c =
+    let at = (goal.at.overflow_cast-len c).After-len in
     omega (
       arith,
-      counted_low c.args.question c.args.files.now c.loop-file.rows.items c.loop-file.starts.items c.loop-file.total c.loop-file.file-index
-          c.file-item.result c.in_ok-row.row c.loop-file.invariant.counted c.loop-file-test.true c.file-item.is (row_read c),
-      c.lines-total.ensures.is,
-      c.if-not-has_few_lines.ensures.0 refl,
+      c.len.ensures,
+      all_counted (jobs_to c.args.question (take (c.loop-file.file-index + 1) c.args.files.now)) _ _ (counted at),
+      counted_low c.args.question c.args.files.now (c.loop-file.file-index + 1),
+      c.in-Some.ensures.some,
     )
+
+pub loop-file-init : goal.loop-file-init
+loop-file-init c = record {
+  counted = rw (c.push_reserved.ensures.items, c.in_ok-offsets.ensures.items, c.in_ok-entries.ensures.items) counted_none;
+  room = search rules;
+}
 
 pub loop-file-preserved : goal.loop-file-preserved
 loop-file-preserved c = record {
-  counted =
-      rw (c.push_reserved.ensures.items, c.push_reserved-in-loop-file.ensures.items)
-      (counted_more c.args.question c.args.files.now c.loop-file.rows.items c.loop-file.starts.items c.loop-file.total c.loop-file.file-index
-      c.lines-total.result
-      c.file-item.result c.in_ok-row.row c.loop-file.invariant.counted c.loop-file-test.true c.file-item.is
-      (row_read (goal.at.loop-file-preserved c).After-lines-total) c.lines-total.ensures.is);
-  rows_room = search rules;
-  starts_room = search rules;
+  counted = rw (c.push_reserved-in-loop-file.ensures.items) (counted (goal.at.loop-file-preserved c).After-len);
+  room = search rules;
 }
+
+pub returns-clause-value : goal.returns-clause-value
+returns-clause-value c =
+    by_file_is (jobs_to c.args.question (take c.loop-file.file-index c.args.files.now)) _ _ c.loop-file.invariant.counted
+    ∙ ap (jobs_to c.args.question) (take_all c.loop-file.file-index c.args.files.now (omega (arith, c.loop-file-test.false)))
 
 pub invariant_of-result : goal.invariant_of-result
 invariant_of-result c =
-    counted_all c.args.question c.args.files.now c.loop-file.rows.items c.loop-file.starts.items c.loop-file.total c.loop-file.file-index
-    c.loop-file.invariant.counted c.loop-file-test.false (omega (arith, c.if-files-gt-MOST_FILES.false)) (c.if-not-has_few_lines.ensures.0 refl)
+    let all = ap (jobs_to c.args.question) (take_all c.loop-file.file-index c.args.files.now (omega (arith, c.loop-file-test.false))) in
+    let are = by_file_is (jobs_to c.args.question (take c.loop-file.file-index c.args.files.now)) _ _ c.loop-file.invariant.counted in (
+      subst AreFew (sym (are ∙ all))
+          (few_jobs c.args.question c.args.files.now (omega (arith, c.if-files-gt-MOST_FILES.false)) (omega (arith, c.in-Some.ensures.some))),
+      subst (λ jobs. AreCounted jobs c.loop-file.offsets.items c.loop-file.entries.items) (sym are) c.loop-file.invariant.counted,
+    )

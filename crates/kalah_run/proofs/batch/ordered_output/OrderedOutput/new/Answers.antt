@@ -11,5 +11,4 @@ returns c = λ begun failed. record {
   of_jobs = refl;
   progress = subst (λ (s : List FileState). IsUnderWay (text_of c.args.files.now) c.args.jobs.now [] s 0 begun begun failed)
       (sym c.in_ok-collector.ensures.empty) (progress_start (text_of c.args.files.now) c.args.jobs.now begun failed);
-  faults = refl;
 }

@@ -12,7 +12,6 @@ invariant-loop-self g l = record {
   progress : (files : List NamedBytes) (jobs : List (List Entry)) (past : List Job) (begun : Option (List ℕ))
       → HasWritten files jobs past begun (g.W.Sink.written l.fn.out) (g.W.Sink.has_failed l.fn.out) l.fn.self
       → HasWritten files jobs past begun (g.W.Sink.written l.out) (g.W.Sink.has_failed l.out) l.self;
-  faults : l.self.faults ≡ l.fn.self.faults;
 }
 
 abbrev pub decreases-loop-self : goal.decreases-loop-self

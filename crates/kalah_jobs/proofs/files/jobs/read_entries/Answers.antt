@@ -4,7 +4,7 @@ use Rattle.kalah_jobs.specs.Files.Lines.{lines_of}
 use Rattle.kalah_jobs.specs.Files.Question.{entry_to}
 use Rattle.kalah_jobs.specs.Files.Jobs.{entries_to}
 use Rattle.kalah_jobs.proofs.FilesLemmas.SplitLines.{lines_of-empty}
-use Rattle.kalah_jobs.proofs.files.file_jobs.FileJobs.of_bytes.Goals as goal
+use Rattle.kalah_jobs.proofs.files.jobs.read_entries.Goals as goal
 
 pub returns : goal.returns
 unfolding entries_to
