@@ -1,6 +1,5 @@
 //! A batch: the lines of position files, solved by many workers and answered in order.
 ghost use Rattle.std.specs.Prelude.{◌≡◌, ◌↔◌, ◌<◌, ◌≤◌, ◌⊎◌, true, false, Err, length, IfOk, IfErr, OnOk, OnErr, IsErr};
-ghost use Rattle.std.specs.Io.KnownBytes.{Keeps};
 ghost use Rattle.kalah_run.specs.Limits.{AreWorkers, IsTableSize};
 ghost use Rattle.kalah_run.specs.Batch.UnderWay.{WasGiven};
 ghost use Rattle.kalah_jobs.specs.Files.Jobs.{job_count};
@@ -33,23 +32,6 @@ use kalah_jobs::{FileText, Jobs, Question, Sink};
 use std::alloc::Global;
 use std::sync::Wait;
 use std::thread::Threads;
-
-// Flushes the output, unless a write has failed before.
-fn finish<W: Sink>(out: &mut W) -> Result<(), RunFault>
-    ensures fails { IsErr result ↔ (W.has_failed out.new ≡ true) }
-    ensures fault { IfErr result (λ e. e ≡ RunFault.Write) }
-    ensures before { OnOk result (W.has_failed out.old ≡ false) }
-    ensures keeps { Keeps (W.written out.old) (W.written out.new) }
-    ensures handed_on { OnOk result (W.is_handed_on out.new ≡ true) }
-{
-    if out.failed() {
-        return Err(RunFault::Write);
-    }
-    match out.flush() {
-        Ok(()) => Ok(()),
-        Err(_) => Err(RunFault::Write),
-    }
-}
 
 // Answers the jobs of the files, and writes each answer line once it is ready and all earlier ones are written. If there is no job,
 // no worker is started and nothing fails.
@@ -132,7 +114,9 @@ pub fn answer_batch<R: Threads + Wait + Sync, G: Gate, W: Sink>(
 {
     let jobs = Jobs::asking(alloc, question, files)?;
     answer_jobs(rt, alloc, files, &jobs, size, gate, out)?;
-    finish(out)?;
+    if out.failed() || out.flush().is_err() {
+        return Err(RunFault::Write);
+    }
     Ok(Tally {
         lines: jobs.total(),
         faults: jobs.faults(),

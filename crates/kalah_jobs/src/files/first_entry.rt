@@ -5,7 +5,7 @@ ghost use Rattle.kalah_jobs.specs.Files.FirstEntry.{IsLineEnd, HasFirstEntry, Be
 use crate::files::entry::Entry;
 use crate::files::file_lines::{LINE_FEED, first_line};
 use crate::files::question::Question;
-use crate::line::one_pass::{take_other_side, take_rule, take_side};
+use crate::line::one_pass::{take_rule, take_side};
 use kalah_rules::Board;
 
 // Returns the bytes after the end of a line: a line feed, or the end of the bytes.
@@ -19,23 +19,19 @@ fn after_line(bytes: &[u8]) -> Option<&[u8]>
 }
 
 // Returns the position of the first line of some bytes, if it is read in one pass, and the bytes after that line.
-fn first_position(bytes: &[u8]) -> (Option<Board>, &[u8])
-    ensures { IfSome result.0 (λ p. BeginsWithPosition bytes.now p result.1.now) }
+fn first_position(bytes: &[u8]) -> Option<(Board, &[u8])>
+    ensures { IfSome result (λ found. BeginsWithPosition bytes.now found.0 found.1.now) }
 {
-    let Some((own, own_store, rest)) = take_side(bytes) else {
-        return (None, bytes);
-    };
-    let Some((other, other_store, rest)) = take_other_side(rest) else {
-        return (None, bytes);
-    };
+    let (own, own_store, rest) = take_side(bytes)?;
+    let (mark, rest) = rest.split_first()?;
+    if *mark != b' ' {
+        return None;
+    }
+    let (other, other_store, rest) = take_side(rest)?;
     let (rule, rest) = take_rule(rest);
-    let Some(rest) = after_line(rest) else {
-        return (None, bytes);
-    };
-    (
-        Board::of_rows(&own, own_store, &other, other_store, rule),
-        rest,
-    )
+    let rest = after_line(rest)?;
+    let board = Board::of_rows(&own, own_store, &other, other_store, rule)?;
+    Some((board, rest))
 }
 
 // Returns the entry of the first line of some bytes, and the bytes after that line. A line that is no position within the limits, or
@@ -44,8 +40,7 @@ pub(crate) fn first_entry(question: Question, bytes: &[u8]) -> (Entry, &[u8])
     requires { 0 < length bytes.now }
     ensures { HasFirstEntry question bytes.now result.0 result.1.now }
 {
-    let (position, rest) = first_position(bytes);
-    let Some(board) = position else {
+    let Some((board, rest)) = first_position(bytes) else {
         let (line, rest) = first_line(bytes);
         return (Entry::of_line(question, line), rest);
     };

@@ -5,7 +5,6 @@ ghost use Rattle.kalah_jobs.specs.Files.JobList.{entries_of, line_job, job_list}
 ghost use Rattle.kalah_jobs.specs.Files.Lines.{lines_of};
 ghost use Rattle.kalah_jobs.specs.Limits.{most_files, most_lines};
 ghost use Rattle.kalah_jobs.specs.Files.Jobs.{entries_to, lines_in_all, jobs_of, jobs_to, job_count};
-ghost use Rattle.kalah_jobs.specs.Writing.Answer.{answer_of, is_fault};
 ghost use Rattle.kalah_jobs.specs.Writing.Output.{is_faulty_job};
 
 use crate::files::entry::Entry;
@@ -168,7 +167,13 @@ impl Jobs {
     pub fn faults(&self) -> u32
         ensures { result ≡ count_by is_faulty_job (job_list self.now) }
     {
-        count_bad(&self.entries)
+        let mut faults = 0;
+        for entry in &self.entries {
+            if entry.is_bad() {
+                faults += 1;
+            }
+        }
+        faults
     }
 }
 
@@ -186,20 +191,6 @@ fn few_lines(files: &[FileText]) -> Option<usize>
         room -= lines;
     }
     Some(MOST_LINES - room)
-}
-
-// Returns the number of lines that are not read.
-fn count_bad(entries: &[Entry]) -> u32
-    requires { length entries.now ≤ most_lines }
-    ensures { result ≡ count_by (λ entry. is_fault (answer_of entry)) entries.now }
-{
-    let mut count = 0;
-    for entry in entries {
-        if entry.is_bad() {
-            count += 1;
-        }
-    }
-    count
 }
 
 // Appends the entries of the lines of some bytes, with this question.

@@ -1,6 +1,6 @@
 //! Lines read in one pass, from the front of some bytes. What is not read so is left to `read_line`, which finds its fault.
-ghost use Rattle.std.specs.Prelude.{◌≡◌, ◌≤◌, ◌∷◌, ◌++◌, IfSome, decimal};
-ghost use Rattle.kalah_jobs.specs.Line.Line.{space, ending_of, side_text};
+ghost use Rattle.std.specs.Prelude.{◌≡◌, ◌≤◌, ◌++◌, IfSome, decimal};
+ghost use Rattle.kalah_jobs.specs.Line.Line.{ending_of, side_text};
 
 use kalah_rules::{HouseRow, Rule};
 
@@ -45,17 +45,6 @@ pub(crate) fn take_side(bytes: &[u8]) -> Option<(HouseRow, u8, &[u8])>
         }
         rest = more;
     }
-}
-
-// Returns the same of the other player's side, which stands behind a space.
-pub(crate) fn take_other_side(bytes: &[u8]) -> Option<(HouseRow, u8, &[u8])>
-    ensures { IfSome result (λ found. bytes.now ≡ space ∷ (side_text found.0 found.1 ++ found.2.now)) }
-{
-    let (mark, rest) = bytes.split_first()?;
-    if *mark != b' ' {
-        return None;
-    }
-    take_side(rest)
 }
 
 // Returns the rule at the front of the bytes after both sides, and the bytes after it.

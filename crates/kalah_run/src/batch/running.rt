@@ -1,5 +1,5 @@
 //! Runs the workers on one thread, while the calling thread accepts what they send.
-ghost use Rattle.std.specs.Prelude.{◌≡◌, ◌+◌, [], length, min, IfErr, IfOk, OnErr};
+ghost use Rattle.std.specs.Prelude.{◌≡◌, ◌+◌, [], length, IfErr, IfOk, OnErr};
 ghost use Rattle.std.specs.Thread.{IsSync};
 ghost use Rattle.kalah_jobs.specs.Files.Jobs.{job_count};
 ghost use Rattle.kalah_jobs.specs.Writing.Given.{IsReady};
@@ -43,14 +43,6 @@ impl<'a, 'b, G: Gate> Promise<Vec<Worker>> for AllHaveRun<'a, 'b, G> {
     ghost kept_by = { λ p r. HaveRun (work_of p.0.value.shared.now) p.0.value.workers.items r.items };
 }
 
-// Returns the tries that are left, with one more for an outcome. So tries that find nothing take a small share of the time that the
-// outcomes took.
-fn with_more(tries: u32) -> u32
-    ensures { result ≡ min (tries + 1) MOST_TRIES }
-{
-    tries.saturating_add(1).min(MOST_TRIES)
-}
-
 // Gets an outcome that may come late. No other call of this thread sleeps while outcomes are to come.
 fn get_later<R: Wait, W: Sink>(rt: &R, queue: &ResultsQueue, pass: &mut GetPass, out: &W) -> Outcome
     requires pass { pass.old.queue ≡ queue.now.id }
@@ -82,7 +74,8 @@ fn collect<R: Wait, W: Sink>(
     output.write(out);
     let mut tries = 0u32;
     for _ in 0..total {
-        tries = with_more(tries);
+        // One try more for each outcome, so that tries that find nothing take a small share of the time that the outcomes took.
+        tries = (tries + 1).min(MOST_TRIES);
         let outcome = match queue.get_soon(pass, &mut tries) {
             Some(outcome) => outcome,
             None => {

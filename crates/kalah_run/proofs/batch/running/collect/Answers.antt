@@ -14,6 +14,7 @@ loop-init g c = record {
   queue = refl;
   workers = refl;
   all = ap (λ (l : List (ℕ × Job)). length l) c.requires.first;
+  few_tries = omega arith;
   progress = λ files jobs begun so_far.
       subst (λ (l : List (ℕ × Job)). HasWritten files jobs (outcomes_in l) begun (g.W.Sink.written c.write.new.out) (g.W.Sink.has_failed c.write.new.out)
       c.write.new.self × Waits c.write.new.self)
@@ -57,6 +58,7 @@ loop-preserved g c =
       queue = ap (λ (p : GetState). p.queue) is ∙ c.loop.invariant.queue;
       workers = ap (λ (p : GetState). p.workers) is ∙ c.loop.invariant.workers;
       all = ap (λ (l : List (ℕ × Job)). length l) more ∙ length-append c.loop.pass.got ((worker, outcome) ∷ []) ∙ omega (arith, c.loop.invariant.all);
+      few_tries = search rules;
       progress = λ files jobs begun so_far.
           subst (λ (l : List Job). HasWritten files jobs l begun (g.W.Sink.written c.accept.new.out)
           (g.W.Sink.has_failed c.accept.new.out) c.accept.new.self × Waits c.accept.new.self)
