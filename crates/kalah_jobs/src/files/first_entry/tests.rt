@@ -5,7 +5,7 @@ use std::process::Abort;
 // The first line, which ends before the rest, has the same entry as when it stands alone, and is read in one pass or not.
 fn assert_first(rt: &impl Abort, line: &[u8], bytes: &[u8], rest: &[u8], is_plain: bool) {
     assert!(rt; !bytes.is_empty());
-    assert!(rt; first_position(bytes).0.is_some() == is_plain);
+    assert!(rt; first_position(bytes).is_some() == is_plain);
     for question in [Question::BestMove, Question::Values, Question::Steps] {
         let (entry, after) = first_entry(question, bytes);
         assert!(rt; entry == Entry::of_line(question, line));
