@@ -1,6 +1,5 @@
 //! The search: it computes what houses are worth in a window, by successive tests of what the mover takes.
 ghost use Rattle.std.specs.Prelude.{◌≡◌, ◌+◌, ◌≤◌, ◌<◌, false, ◌≤ℤ◌, max, min, IfOk};
-ghost use Rattle.kalah_rules.specs.Limits.{most_seeds};
 ghost use Rattle.kalah_rules.specs.Position.{is_over, bare};
 ghost use Rattle.kalah_solve.specs.Solver.Worth.{houses_worth};
 ghost use Rattle.kalah_solve.specs.Bounds.Intervals.{Encloses, least_margin, most_margin, within};
@@ -153,7 +152,6 @@ impl<A: Allocator + Clone> Search<A> {
     fn won_within(&mut self, houses: &Houses, asked: SeedBounds) -> u8
         requires going { is_over (bare houses.now) ≡ false }
         requires ordered { asked.least ≤ asked.most }
-        requires high { asked.most ≤ most_seeds }
         ensures { result ≡ max asked.least (min asked.most (won houses.now)) }
     {
         let mut low = asked.least;
@@ -205,8 +203,7 @@ impl<A: Allocator + Clone> Search<A> {
 
     // Returns what is known of the seeds that the mover takes.
     fn known(&mut self, houses: &Houses) -> SeedBounds
-        ensures held { IsWithinBounds result (won houses.now) }
-        ensures few { result.most ≤ most_seeds }
+        ensures { IsWithinBounds result (won houses.now) }
     {
         if houses.seeds() <= self.most_placed {
             self.table.look_up_place(houses)
@@ -218,8 +215,7 @@ impl<A: Allocator + Clone> Search<A> {
     // The same, from the entries.
     #[inline(never)]
     fn known_by_entry(&mut self, houses: Houses) -> SeedBounds
-        ensures held { IsWithinBounds result (won houses) }
-        ensures few { result.most ≤ most_seeds }
+        ensures { IsWithinBounds result (won houses) }
     {
         match self.table.look_up(&houses) {
             Some(margins) => SeedBounds::of_margins(margins, houses.seeds()),
@@ -229,8 +225,7 @@ impl<A: Allocator + Clone> Search<A> {
 
     // Stores what was learned of the houses by `work` nodes.
     fn learn(&mut self, houses: &Houses, bounds: SeedBounds, work: u64)
-        requires held { IsWithinBounds bounds (won houses.now) }
-        requires few { bounds.most ≤ most_seeds }
+        requires { IsWithinBounds bounds (won houses.now) }
     {
         let seeds = houses.seeds();
         if seeds <= self.most_placed {

@@ -2,7 +2,6 @@
 ghost use Rattle.std.specs.Prelude.{◌≡◌, ◌≤◌, ◌⊎◌, length, min, nat_eq, IfOk, IfSome, IsSome, Some, ◌≤ℤ◌, ℤ, ◌<ℤ◌, false};
 ghost use Rattle.std.specs.Map.{lookup};
 ghost use Rattle.kalah_rules.specs.Key.{key_of};
-ghost use Rattle.kalah_rules.specs.Limits.{most_seeds};
 ghost use Rattle.kalah_rules.specs.Position.{bare, is_over};
 ghost use Rattle.kalah_solve.specs.Table.Entries.{most_entries, empty_table};
 ghost use Rattle.kalah_solve.specs.Table.DirectTable.{places_for};
@@ -123,16 +122,14 @@ impl<A: Allocator + Clone> Table<A> {
 
     // Returns what the place of the houses states of them.
     pub(crate) fn look_up_place(&self, houses: &Houses) -> SeedBounds
-        ensures held { IsWithinBounds result (won houses.now) }
-        ensures few { result.most ≤ most_seeds }
+        ensures { IsWithinBounds result (won houses.now) }
     {
         self.places.look_up(houses)
     }
 
     // Stores in the place of the houses that the mover's share is within this one.
     pub(crate) fn keep_place(&mut self, houses: &Houses, bounds: SeedBounds)
-        requires held { IsWithinBounds bounds (won houses.now) }
-        requires few { bounds.most ≤ most_seeds }
+        requires { IsWithinBounds bounds (won houses.now) }
         ensures { self.new ≡ self.old }
     {
         self.places.keep(houses, bounds);

@@ -3,7 +3,6 @@ use Rattle.std.proofs.Common.{◌≡◌, ◌∙◌, ◌≤◌, ◌*◌, ◌*ℤ�
 use Rattle.std.specs.Prelude.{ℤ, ◌≤ℤ◌, ◌<ℤ◌, ◌-ℤ◌, pos, max, min}
 use Rattle.std.specs.Int.{int_max, int_min}
 use Rattle.std.proofs.lemmas.Int.{ints, clamps}
-use Rattle.kalah_rules.specs.Limits.{most_seeds}
 use Rattle.kalah_rules.specs.Position.{Rows, IsWithinHouses, bare, seeds_in_houses}
 use Rattle.kalah_solve.specs.declared.bounds.interval.Interval.{Interval}
 use Rattle.kalah_solve.specs.declared.bounds.seed_bounds.SeedBounds.{SeedBounds}
@@ -19,14 +18,14 @@ known_answers lo hi z k ordered holds none = omega (arith, ints, clamps, ordered
 
 -- what the mover takes, raised and lowered to the shares that a window distinguishes, makes the worth in the window
 pub won_by_bounds : (a : Rows) (lo hi : ℤ) (n t : ℕ) (asked : SeedBounds) → IsWithinHouses a → n ≡ seeds_in_houses (bare a) →
-    asked.least ≤ asked.most → asked.most ≤ most_seeds →
+    asked.least ≤ asked.most →
     ((u : ℕ) → u ≤ n → within lo hi (pos (2 * max asked.least (min asked.most u)) -ℤ pos n) ≡ within lo hi (pos (2 * u) -ℤ pos n)) →
     t ≡ max asked.least (min asked.most (won a)) → {answer : ℤ} →
     answer ≡ within lo hi (to_z w32 (of_z w32 (to_z w32 (of_z w32 (pos 2 *ℤ to_z w32 t)) -ℤ to_z w32 n))) →
     answer ≡ within lo hi (houses_worth a)
-won_by_bounds a lo hi n t asked w all ordered few apart is e =
+won_by_bounds a lo hi n t asked w all ordered apart is e =
     let margin : to_z w32 (of_z w32 (to_z w32 (of_z w32 (pos 2 *ℤ to_z w32 t)) -ℤ to_z w32 n)) ≡ pos (2 * t) -ℤ pos n =
-    omega (arith, ints, is, ordered, few, all, w.few_seeds) in
+    omega (arith, ints, is, ordered, asked.few, all, w.few_seeds) in
     let worth_is : pos (2 * won a) -ℤ pos n ≡ houses_worth a = omega (arith, ints, worth_of_taken a w, all) in
     e ∙ ap (within lo hi) margin ∙ ap (λ s. within lo hi (pos (2 * s) -ℤ pos n)) is
     ∙ apart (won a) (omega (arith, (taken_share a w).few, all)) ∙ ap (within lo hi) worth_is

@@ -10,8 +10,8 @@ use Rattle.kalah_rules.specs.Limits.{most_seeds}
 use Rattle.kalah_rules.specs.Position.{Rows, IsWithinHouses, bare, seeds_in_houses}
 use Rattle.kalah_rules.specs.Key.{key_of}
 use Rattle.kalah_rules.proofs.Keys.{packed_as, packed_fits, same_key}
-use Rattle.kalah_solve.specs.Table.DirectTable.{mixed, place_among, left_open, stored_rest, stored_bounds, StoreBounds, AreEnough}
-use Rattle.kalah_solve.specs.Bounds.Won.{won, between, IsWithinBounds}
+use Rattle.kalah_solve.specs.Table.DirectTable.{mixed, place_among, left_open, stored_rest, stored_least, stored_most, IsWithinPlace, StoreBounds, AreEnough}
+use Rattle.kalah_solve.specs.Bounds.Won.{won}
 use Rattle.kalah_solve.proofs.BoundsLemmas.Winnings.{taken_share}
 use Rattle.kalah_solve.specs.declared.table.direct_table.Place.{Place}
 
@@ -53,17 +53,17 @@ same_placed n a b enough ha hb rest place =
 -- after more is kept
 pub shares_more : (places : List Place) (a : Rows) (number at : ℕ) (p : Place) → AreEnough (length places) → StoreBounds places → IsWithinHouses a →
     number ≡ mixed (key_of a) → at ≡ place_among (length places) number → at < length places → stored_rest p ≡ left_open number →
-    IsWithinBounds (stored_bounds p) (won a) → StoreBounds (slice_set places at p)
+    IsWithinPlace p (won a) → StoreBounds (slice_set places at p)
 shares_more places a number at p enough before within is place inside rest known b number_b d within_b is_b inside_b rest_b =
     let count : length (slice_set places at p) ≡ length places = length-set places at p in
     let at_b = place_among (length places) number_b in
-    let after_b : IsWithinBounds (stored_bounds (get_or (slice_set places at p) at_b d)) (won b) = elim (cases_eq at_b at) [
+    let after_b : IsWithinPlace (get_or (slice_set places at p) at_b d) (won b) = elim (cases_eq at_b at) [
       | inl same ↦
           let here : get_or (slice_set places at p) at_b d ≡ p = rw same (get_or-set_same places at p d inside) in
           let rest : left_open number ≡ left_open number_b = sym rest ∙ rw (count, here) at rest_b in
           let houses = same_placed (length places) a b enough.least within within_b (rw (← is, ← is_b) rest)
           (rw (← is, ← is_b) (sym place ∙ sym same)) in
-          rw here (subst (λ c. IsWithinBounds (stored_bounds p) (won c)) houses known)
+          rw here (subst (λ c. IsWithinPlace p (won c)) houses known)
       | inr other ↦
           let there : get_or (slice_set places at p) at_b d ≡ get_or places at_b d = get_or-set_other places at at_b p d other in
           rw there (before b number_b d within_b is_b (rw count at inside_b) (rw (count, there) at rest_b))
@@ -71,9 +71,9 @@ shares_more places a number at p enough before within is place inside rest known
     rw count after_b
 
 -- places that all hold what is known of all houses
-pub shares_unknown : (count : ℕ) (p : Place) → stored_bounds p ≡ between 0 most_seeds → StoreBounds (replicate count p)
-shares_unknown count p unknown a number d within is inside rest =
+pub shares_unknown : (count : ℕ) (p : Place) → stored_least p ≡ 0 → stored_most p ≡ most_seeds → StoreBounds (replicate count p)
+shares_unknown count p none all a number d within is inside rest =
     let at = place_among (length (replicate count p)) number in
     let few = (taken_share a within).few in
     let here : get_or (replicate count p) at d ≡ p = get_or-replicate count at p d (omega (arith, inside, length-replicate count p)) in
-    rw (here, unknown) (record { least = omega arith; most = omega (arith, few, within.few_seeds) })
+    rw here (record { least = omega (arith, none); most = omega (arith, all, few, within.few_seeds) })

@@ -21,10 +21,6 @@ won_by_step (Over own other) = own
 won_by_step (Again gained b) = gained + won b
 won_by_step (Turn gained b) = gained + (seeds_in_houses (bare b) - won b)
 
--- at least `least` seeds, and at most `most`
-abbrev pub between : ℕ → ℕ → SeedBounds
-between least most = record { least = least; most = most }
-
 -- the number is in the share
 pub record IsWithinBounds (s : SeedBounds) (t : ℕ) : Type 0 where
   pub least : s.least ≤ t

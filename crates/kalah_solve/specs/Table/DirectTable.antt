@@ -2,8 +2,7 @@
 use Rattle.std.specs.Prelude.{◌≡◌, ℕ, ◌*◌, ◌/◌, ◌%◌, ◌^◌, ◌<◌, ◌≤◌, max, List, length, slice_index_or}
 use Rattle.kalah_rules.specs.Position.{Rows, IsWithinHouses}
 use Rattle.kalah_rules.specs.Key.{key_of}
-use Rattle.kalah_solve.specs.Bounds.Won.{won, between, IsWithinBounds}
-use Rattle.kalah_solve.specs.declared.bounds.seed_bounds.SeedBounds.{SeedBounds}
+use Rattle.kalah_solve.specs.Bounds.Won.{won}
 use Rattle.kalah_solve.specs.declared.table.direct_table.Place.{Place}
 
 -- a key, mixed: each key has a number of its own
@@ -22,16 +21,25 @@ left_open number = number % 2 ^ 54
 abbrev pub stored_rest : Place → ℕ
 stored_rest p = p.stored / 1024
 
--- and what is known of their share
-abbrev pub stored_bounds : Place → SeedBounds
-stored_bounds p = between (p.stored % 32) (p.stored / 32 % 32)
+-- the least that is known of their share
+abbrev pub stored_least : Place → ℕ
+stored_least p = p.stored % 32
+
+-- and the most
+abbrev pub stored_most : Place → ℕ
+stored_most p = p.stored / 32 % 32
+
+-- the number is in the share that the place states
+pub record IsWithinPlace (p : Place) (t : ℕ) : Type 0 where
+  pub least : stored_least p ≤ t
+  pub most : t ≤ stored_most p
 
 -- what a place states is true of all houses that have it and leave that open
 abbrev pub StoreBounds : List Place → Type 0
 StoreBounds places = (a : Rows) (number : ℕ) (d : Place) → IsWithinHouses a → number ≡ mixed (key_of a) →
     place_among (length places) number < length places →
     stored_rest (slice_index_or places (place_among (length places) number) d) ≡ left_open number →
-    IsWithinBounds (stored_bounds (slice_index_or places (place_among (length places) number) d)) (won a)
+    IsWithinPlace (slice_index_or places (place_among (length places) number) d) (won a)
 
 -- how many places there are beside a number of entries: that many, and never fewer than 1,024
 abbrev pub places_for : ℕ → ℕ

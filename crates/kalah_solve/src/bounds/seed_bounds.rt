@@ -1,11 +1,9 @@
 //! Bounds on the number of seeds that a player takes.
-ghost use Rattle.std.specs.Prelude.{◌≡◌, ◌+◌, ◌*◌, max, min, ◌≤◌, ◌<◌, ◌≤ℤ◌, ◌+ℤ◌, ◌-ℤ◌, ℕ, ℤ, pos};
+ghost use Rattle.std.specs.Prelude.{◌≡◌, ◌+◌, ◌*◌, max, min, ◌≤◌, ◌≤ℤ◌, ◌+ℤ◌, ◌-ℤ◌, ℕ, ℤ, pos};
 ghost use Rattle.std.specs.Int.{int_max};
 ghost use Rattle.kalah_rules.specs.Limits.{most_seeds};
 ghost use Rattle.kalah_rules.specs.Position.{bare, seeds_in_houses};
 ghost use Rattle.kalah_solve.specs.Bounds.Intervals.{Encloses, within};
-ghost use Rattle.kalah_solve.specs.Bounds.Won.{won, between, IsWithinBounds};
-ghost use Rattle.kalah_solve.specs.Search.Tried.{IsSoftBound};
 
 use crate::bounds::interval::{Interval, MOST_MARGIN};
 use crate::bounds::window::Window;
@@ -16,6 +14,7 @@ use kalah_rules::{Houses, MOST_SEEDS};
 pub(crate) struct SeedBounds {
     pub least: u8,
     pub most: u8,
+    ghost few: { most ≤ most_seeds },
 }
 
 // Returns half of a number, rounded down, or 0 if it is negative.
@@ -28,41 +27,17 @@ pub(crate) fn half(number: i32) -> u8
 }
 
 impl SeedBounds {
-    // Returns what a player can take of `seeds` seeds.
-    pub(crate) fn whole(seeds: u8) -> SeedBounds
-        ensures is { result ≡ between 0 seeds }
-        ensures held { (t : ℕ) → t ≤ seeds → IsWithinBounds result t }
-    {
-        SeedBounds {
-            least: 0,
-            most: seeds,
-        }
-    }
+    ghost use Rattle.kalah_solve.specs.Bounds.Won.{won, IsWithinBounds};
 
     // Returns what the mover can take of the seeds in these houses.
     pub(crate) fn unknown(houses: &Houses) -> SeedBounds
-        ensures is { result ≡ between 0 (seeds_in_houses (bare houses.now)) }
+        ensures least { result.least ≡ 0 }
+        ensures most { result.most ≡ seeds_in_houses (bare houses.now) }
         ensures held { IsWithinBounds result (won houses.now) }
     {
-        SeedBounds::whole(houses.seeds())
-    }
-
-    // Returns the same share, narrowed by a fail-soft bound.
-    pub(crate) fn learned(self, bar: u8, bound: u8) -> SeedBounds
-        ensures at_least { bar ≤ bound → result ≡ between bound self.most }
-        ensures at_most { bound < bar → result ≡ between self.least bound }
-        ensures held { (t : ℕ) → IsWithinBounds self t → IsSoftBound bar t bound → IsWithinBounds result t }
-    {
-        if bar <= bound {
-            SeedBounds {
-                least: bound,
-                ..self
-            }
-        } else {
-            SeedBounds {
-                most: bound,
-                ..self
-            }
+        SeedBounds {
+            least: 0,
+            most: houses.seeds(),
         }
     }
 
@@ -70,7 +45,6 @@ impl SeedBounds {
     pub(crate) fn of_window(window: Window, seeds: u8) -> SeedBounds
         requires { seeds ≤ most_seeds }
         ensures ordered { result.least ≤ result.most }
-        ensures high { result.most ≤ most_seeds }
         ensures apart { (t : ℕ) → t ≤ seeds → within window.lo window.hi (pos (2 * max result.least (min result.most t)) -ℤ pos seeds)
             ≡ within window.lo window.hi (pos (2 * t) -ℤ pos seeds) }
     {
@@ -83,7 +57,6 @@ impl SeedBounds {
     // Returns the share of `seeds` seeds that a margin in the interval allows.
     pub(crate) fn of_margins(interval: Interval, seeds: u8) -> SeedBounds
         requires { seeds ≤ most_seeds }
-        ensures few { result.most ≤ most_seeds }
         ensures held { (t : ℕ) → t ≤ seeds → Encloses interval (pos (t + t) -ℤ pos seeds) → IsWithinBounds result t }
         ensures no_more { pos 0 ≤ℤ (interval.hi +ℤ pos seeds)
             → (t : ℕ) → t ≤ seeds → IsWithinBounds result t → Encloses interval (pos (t + t) -ℤ pos seeds) }

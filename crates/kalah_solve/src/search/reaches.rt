@@ -7,6 +7,7 @@ ghost use Rattle.kalah_solve.specs.Solver.StepWorth.{GoesOn, GoesOnAt};
 ghost use Rattle.kalah_solve.specs.Bounds.Won.{won, won_by_step};
 ghost use Rattle.kalah_solve.specs.Search.Tried.{IsSoftBound, WinsAtMost, EndsInStore, IsLook, AreWaiting};
 
+use crate::bounds::seed_bounds::SeedBounds;
 use crate::marks::{again_houses, other_houses, split_last};
 use crate::search::Search;
 use crate::search::move_order::priority;
@@ -53,7 +54,18 @@ impl<A: Allocator + Clone> Search<A> {
         let before = self.count_node();
         let bound = self.explore(&houses, bar);
         let work = self.nodes.wrapping_sub(before);
-        self.learn(&houses, known.learned(bar, bound), work);
+        let learned = if bar <= bound {
+            SeedBounds {
+                least: bound,
+                most: known.most,
+            }
+        } else {
+            SeedBounds {
+                least: known.least,
+                most: bound,
+            }
+        };
+        self.learn(&houses, learned, work);
         bound
     }
 

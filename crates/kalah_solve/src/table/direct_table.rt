@@ -3,8 +3,8 @@ ghost use Rattle.std.specs.Prelude.{◌≡◌, ◌≤◌, ◌<◌, ◌*◌, ◌/
 ghost use Rattle.kalah_rules.specs.Limits.{most_seeds};
 ghost use Rattle.kalah_rules.specs.Position.{IsWithinHouses};
 ghost use Rattle.kalah_rules.specs.Key.{key_of};
-ghost use Rattle.kalah_solve.specs.Bounds.Won.{won, between, IsWithinBounds};
-ghost use Rattle.kalah_solve.specs.Table.DirectTable.{mixed, place_among, left_open, places_for, stored_rest, stored_bounds, AreEnough};
+ghost use Rattle.kalah_solve.specs.Bounds.Won.{won, IsWithinBounds};
+ghost use Rattle.kalah_solve.specs.Table.DirectTable.{mixed, place_among, left_open, places_for, stored_rest, stored_least, stored_most, AreEnough};
 
 use crate::bounds::seed_bounds::SeedBounds;
 use kalah_rules::{Houses, MOST_SEEDS};
@@ -31,9 +31,9 @@ impl Place {
     fn of(rest: u64, bounds: SeedBounds) -> Place
         requires rest { rest < 2 ^ 54 }
         requires least { bounds.least ≤ most_seeds }
-        requires most { bounds.most ≤ most_seeds }
         ensures rest { stored_rest result ≡ rest }
-        ensures share { stored_bounds result ≡ bounds }
+        ensures least { stored_least result ≡ bounds.least }
+        ensures most { stored_most result ≡ bounds.most }
     {
         Place {
             stored: 1024 * rest + 32 * bounds.most as u64 + bounds.least as u64,
@@ -47,7 +47,8 @@ impl Place {
     }
 
     fn bounds(self) -> SeedBounds
-        ensures { result ≡ stored_bounds self }
+        ensures least { result.least ≡ stored_least self }
+        ensures most { result.most ≡ stored_most self }
     {
         SeedBounds {
             least: (self.stored % 32) as u8,
@@ -106,9 +107,12 @@ impl<A: Allocator> DirectTable<A> {
     pub(crate) fn new(alloc: A, count: u32) -> Result<DirectTable<A>, AllocError>
         ensures { IfOk result (λ p. length p ≡ places_for count) }
     {
-        let unknown = Place::of(0, SeedBounds::whole(MOST_SEEDS as u8));
+        let unknown = SeedBounds {
+            least: 0,
+            most: MOST_SEEDS as u8,
+        };
         let count = LEAST_PLACES.max(count as usize);
-        let places = Vec::from_elem(alloc, unknown, count)?;
+        let places = Vec::from_elem(alloc, Place::of(0, unknown), count)?;
         Ok(DirectTable { places })
     }
 
@@ -119,8 +123,7 @@ impl<A: Allocator> DirectTable<A> {
 
     /// Returns what the place of the houses states of them: the share that the mover takes.
     pub(crate) fn look_up(&self, houses: &Houses) -> SeedBounds
-        ensures held { IsWithinBounds result (won houses.now) }
-        ensures few { result.most ≤ most_seeds }
+        ensures { IsWithinBounds result (won houses.now) }
     {
         let mixed = mixed_key(houses);
         match self.places.get(place_of(mixed, self.places.len())) {
@@ -131,8 +134,7 @@ impl<A: Allocator> DirectTable<A> {
 
     /// Stores in the place of the houses that the mover's share is within this one.
     pub(crate) fn keep(&mut self, houses: &Houses, bounds: SeedBounds)
-        requires held { IsWithinBounds bounds (won houses.now) }
-        requires few { bounds.most ≤ most_seeds }
+        requires { IsWithinBounds bounds (won houses.now) }
     {
         let mixed = mixed_key(houses);
         let stored = Place::of(rest_of(mixed), bounds);

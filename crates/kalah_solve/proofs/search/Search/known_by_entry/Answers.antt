@@ -2,8 +2,8 @@ use Rattle.std.proofs.Common.{arith}
 use Rattle.kalah_solve.proofs.BoundsLemmas.Winnings.{taken_share, worth_of_taken}
 use Rattle.kalah_solve.proofs.search.Search.known_by_entry.Goals as goal
 
-pub returns-in-Some-clause-held : goal.returns-in-Some-clause-held
-returns-in-Some-clause-held g c =
+pub returns-in-Some : goal.returns-in-Some
+returns-in-Some g c =
     let seeds = c.seeds.ensures in
     let few = (taken_share c.args.houses seeds.limits).few in
     c.of_margins.ensures.held _ (omega (arith, few, seeds.seeds))

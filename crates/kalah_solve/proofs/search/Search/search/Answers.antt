@@ -14,7 +14,7 @@ pub learn_margins-requires : goal.learn_margins-requires
 learn_margins-requires g c =
     let fits : SFits w32 c.clamp-answer.result = search rules in
     let stored = won_by_bounds c.args.houses.now _ _ _ c.won_within-won.result c.of_window.result c.seeds-seeds.ensures.limits c.seeds-seeds.ensures.seeds
-    c.of_window.ensures.ordered c.of_window.ensures.high c.of_window.ensures.apart c.won_within-won.ensures c.clamp-answer.ensures in
+    c.of_window.ensures.ordered c.of_window.ensures.apart c.won_within-won.ensures c.clamp-answer.ensures in
     let known = c.known_margins-known.ensures in
     c.intersection.ensures.held (houses_worth c.args.houses.now)
     (c.interval_of.ensures.held (houses_worth c.args.houses.now) known.least known.most (to_z-of_z w32 _ fits ∙ stored)) known.holds
@@ -23,7 +23,7 @@ pub returns : goal.returns
 returns g c =
     let fits : SFits w32 c.clamp-answer.result = search rules in
     let stored = won_by_bounds c.args.houses.now _ _ _ c.won_within-won.result c.of_window.result c.seeds-seeds.ensures.limits c.seeds-seeds.ensures.seeds
-    c.of_window.ensures.ordered c.of_window.ensures.high c.of_window.ensures.apart c.won_within-won.ensures c.clamp-answer.ensures in
+    c.of_window.ensures.ordered c.of_window.ensures.apart c.won_within-won.ensures c.clamp-answer.ensures in
     to_z-of_z w32 _ fits ∙ stored ∙ c.in-Some.ensures.some (houses_worth c.args.houses.now) c.known_margins-known.ensures.holds
 
 pub returns-then-seeds-max_ending_seeds : goal.returns-then-seeds-max_ending_seeds

@@ -20,14 +20,12 @@ module _ (c : After-half-2) where
       record { low = rw sum at c.half-2.ensures.low; high = rw sum at c.half-2.ensures.high }
 
 pub returns-clause-ordered : goal.returns-clause-ordered
-returns-clause-ordered c = shares_ordered c.args.window.lo c.args.window.hi c.args.window.ordered c.args.seeds c.half.result c.half-2.result
-    (low_half c) (high_half c)
+returns-clause-ordered c = shares_ordered c.args.window c.args.seeds c.half.result c.half-2.result (low_half c.before) (high_half c.before)
 
-pub returns-clause-high : goal.returns-clause-high
-returns-clause-high c =
-    shares_high c.args.window.lo c.args.window.hi c.args.window.ordered c.args.seeds c.half.result c.half-2.result (low_half c)
-    (high_half c) c.args.window.high c.requires
+pub invariant_of-result : goal.invariant_of-result
+invariant_of-result c = record {
+  few = shares_high c.args.window c.args.seeds c.half.result c.half-2.result (low_half c) (high_half c) c.requires;
+}
 
 pub returns-clause-apart : goal.returns-clause-apart
-returns-clause-apart c =
-    shares_apart c.args.window.lo c.args.window.hi c.args.window.ordered c.args.seeds c.half.result c.half-2.result (low_half c) (high_half c)
+returns-clause-apart c = shares_apart c.args.window c.args.seeds c.half.result c.half-2.result (low_half c.before) (high_half c.before)

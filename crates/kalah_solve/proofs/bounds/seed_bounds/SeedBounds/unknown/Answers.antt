@@ -3,4 +3,7 @@ use Rattle.kalah_solve.proofs.BoundsLemmas.Winnings.{taken_share}
 use Rattle.kalah_solve.proofs.bounds.seed_bounds.SeedBounds.unknown.Goals as goal
 
 pub returns-clause-held : goal.returns-clause-held
-returns-clause-held c = c.whole.ensures.held _ (omega (arith, (taken_share c.args.houses.now c.seeds.ensures.limits).few, c.seeds.ensures.seeds))
+returns-clause-held c = record {
+  least = omega arith;
+  most = omega (arith, (taken_share c.args.houses.now c.seeds.ensures.limits).few, c.seeds.ensures.seeds);
+}

@@ -1,8 +1,8 @@
 use Rattle.std.proofs.Common.{arith, ◌∙◌, ◌≡◌, length}
 use Rattle.std.specs.Prelude.{slice_set}
 use Rattle.std.proofs.Math.ListN.{length-set}
-use Rattle.kalah_solve.specs.Table.DirectTable.{stored_bounds}
-use Rattle.kalah_solve.specs.Bounds.Won.{won, IsWithinBounds}
+use Rattle.kalah_solve.specs.Table.DirectTable.{IsWithinPlace}
+use Rattle.kalah_solve.specs.Bounds.Won.{won}
 use Rattle.kalah_solve.proofs.TableLemmas.PlacedKeys.{shares_more}
 use Rattle.kalah_solve.proofs.BoundsLemmas.Winnings.{taken_share}
 use Rattle.kalah_solve.proofs.table.direct_table.DirectTable.keep.Goals as goal
@@ -11,7 +11,7 @@ use Rattle.kalah_solve.proofs.table.direct_table.DirectTable.keep.Goals.{in-Some
 pub of-stored-requires-clause-least : goal.of-stored-requires-clause-least
 of-stored-requires-clause-least g c =
     let limits = c.mixed_key-mixed.ensures.limits in
-    omega (arith, c.requires.held.least, (taken_share c.args.houses.now limits).few, limits.few_seeds)
+    omega (arith, c.requires.least, (taken_share c.args.houses.now limits).few, limits.few_seeds)
 
 pub invariant_of-self : goal.invariant_of-self
 invariant_of-self g c = elim c.match-get_mut.branch [
@@ -22,7 +22,10 @@ invariant_of-self g c = elim c.match-get_mut.branch [
       let length_is : c.len.result ≡ length places = omega (arith, c.len.ensures) in
       let limits = mixed.ensures.limits in
       let count : length (slice_set places at c.of-stored.result) ≡ length places = length-set places at c.of-stored.result in
-      let known : IsWithinBounds (stored_bounds c.of-stored.result) (won c.args.houses.now) = rw c.of-stored.ensures.share c.requires.held in
+      let known : IsWithinPlace c.of-stored.result (won c.args.houses.now) = record {
+        least = rw c.of-stored.ensures.least c.requires.least;
+        most = rw c.of-stored.ensures.most c.requires.most;
+      } in
       rw w.self-inside-is (
         rw count c.self.invariant.0,
         shares_more places c.args.houses.now mixed.result at c.of-stored.result c.self.invariant.0 c.self.invariant.1 limits mixed.ensures.mixed

@@ -1,4 +1,4 @@
-use Rattle.std.proofs.Common.{arith, refl, ◌≡◌}
+use Rattle.std.proofs.Common.{arith, ◌≡◌}
 use Rattle.std.specs.Prelude.{replicate}
 use Rattle.std.proofs.lemmas.List.{length-replicate}
 use Rattle.kalah_solve.proofs.TableLemmas.PlacedKeys.{shares_unknown}
@@ -6,7 +6,7 @@ use Rattle.kalah_solve.proofs.table.direct_table.DirectTable.new.Goals as goal
 
 pub invariant_of-result : goal.invariant_of-result
 invariant_of-result g c =
-    let unknown = c.of-unknown.result in
+    let unknown = c.of.result in
     let count = c.max-count.result in
     let places = c.in_ok-places.places.items in
     let all : places ≡ replicate count unknown = c.in_ok-places.ensures.items_if_clones_equal (λ y same. same) in
@@ -15,5 +15,5 @@ invariant_of-result g c =
         least = omega (arith, length-replicate count unknown, c.max-count.ensures);
         most = omega (arith, length-replicate count unknown, c.max-count.ensures, c.ranges.count.fits);
       },
-      shares_unknown count unknown (rw (c.of-unknown.ensures.share, c.whole.ensures.is) refl),
+      shares_unknown count unknown c.of.ensures.least c.of.ensures.most,
     )
