@@ -3,7 +3,8 @@ use Rattle.std.proofs.Common.{◌≡◌, ◌≢◌, ℕ, ◌+◌, ◌-◌, ◌*�
 use Rattle.std.specs.Prelude.{Bool, true, false, cond, sum, Contains}
 use Rattle.std.proofs.lemmas.Bool.Decides.{nat_tests}
 use Rattle.std.proofs.lemmas.List.{length-replicate}
-use Rattle.kalah_rules.specs.Position.{Position, Rows, IsWithinHouses, IsWithinLimits, side_length, is_over, swapped, rows_of, bare, with_stores, without_seeds}
+use Rattle.kalah_rules.specs.Limits.{most_in_play}
+use Rattle.kalah_rules.specs.Position.{Position, Rows, IsWithinHouses, IsWithinLimits, side_length, seeds_in_houses, is_over, swapped, rows_of, bare, with_stores, without_seeds}
 use Rattle.kalah_rules.specs.Lap.{HoldsSeeds}
 use Rattle.kalah_rules.specs.Play.{legal_houses, step_to, step_of}
 use Rattle.kalah_rules.specs.Sowing.{after, is_again}
@@ -49,6 +50,18 @@ over_swapped q going = grind (arith, nat_tests)
 pub rows_within : (p : Position) → IsWithinLimits p → IsWithinHouses (rows_of p)
 rows_within p l = record { some_house = l.some_house; at_most_six = l.at_most_six; same_side = l.same_side; few_seeds = l.few_seeds }
 
+-- and with them a board, if each store leaves room for their seeds
+limits_with : {a : Rows} {own other : ℕ} → IsWithinHouses a → own + seeds_in_houses (bare a) ≤ most_in_play →
+    other + seeds_in_houses (bare a) ≤ most_in_play → IsWithinLimits (with_stores a own other)
+limits_with w own other = record {
+  some_house = w.some_house;
+  at_most_six = w.at_most_six;
+  same_side = w.same_side;
+  few_seeds = w.few_seeds;
+  own_store_low = own;
+  other_store_low = other;
+}
+
 -- a move keeps the houses within the limits
 pub after_within : (a : Rows) (h : ℕ) → IsWithinHouses a → HoldsSeeds (bare a) h → IsWithinHouses (rows_of (after (bare a) h))
 after_within a h w holds =
@@ -70,6 +83,11 @@ swapped_within q w = record {
 }
 
 -- ---- what `play` computes
+-- the move of house h leads to this step with the houses of a key, which are packed
+pub record IsStepTo (a : Rows) (h key seeds : ℕ) (step : Rows → HousesStep) : Type 0 where
+  pub packed : IsPacked key seeds
+  pub is : step (rows_at key) ≡ houses_step a h
+
 pub store_small : {a : Rows} {h : ℕ} {r : RowNumbers} → IsWithinHouses a → Contains (legal_houses (bare a)) h → Shows r (after (bare a) h) →
     r.store ≤ 31
 store_small {a} {h} {r} w has shows =
@@ -125,27 +143,24 @@ module _ {a : Rows} {h key seeds : ℕ} {r : RowNumbers} (packed : IsPacked key 
         grind (arith, nat_tests, own, other)
 
     -- with the mover
-    pub again_packed : is_again (bare a) h ≡ true →
-        IsPacked (r.rows + key / 2 ^ 60 * 2 ^ 60) (seeds - r.store)
-        × (Again r.store (rows_at (r.rows + key / 2 ^ 60 * 2 ^ 60)) ≡ houses_step a h)
+    pub again_packed : is_again (bare a) h ≡ true → IsStepTo a h (r.rows + key / 2 ^ 60 * 2 ^ 60) (seeds - r.store) (Again r.store)
     again_packed more =
         let above = above_cells a key is.limits is.key_is in
         let rule : rule_bit q.rule ≡ rule_bit a.rule = ap rule_bit keeps.rule in
         let there = packed_as (rows_of q) (r.rows + key / 2 ^ 60 * 2 ^ 60) (seeds - r.store) within
         (omega (arith, shows.own, shows.other, keeps.side)) (omega (arith, shows.store, keeps.play, is.seeds_are)) in
-        (there.0, rw (shows.store, there.1) (sym (step_again q (is_again (bare a) h) going more)))
+        record { packed = there.0; is = rw (shows.store, there.1) (sym (step_again q (is_again (bare a) h) going more)) }
 
     -- or with the other player
     pub turn_packed : is_again (bare a) h ≡ false →
-        IsPacked (r.rows / 2 ^ 30 + 2 ^ 30 * (r.rows % 2 ^ 30) + key / 2 ^ 60 * 2 ^ 60) (seeds - r.store)
-        × (Turn r.store (rows_at (r.rows / 2 ^ 30 + 2 ^ 30 * (r.rows % 2 ^ 30) + key / 2 ^ 60 * 2 ^ 60)) ≡ houses_step a h)
+        IsStepTo a h (r.rows / 2 ^ 30 + 2 ^ 30 * (r.rows % 2 ^ 30) + key / 2 ^ 60 * 2 ^ 60) (seeds - r.store) (Turn r.store)
     turn_packed passed =
         let above = above_cells a key is.limits is.key_is in
         let rule : rule_bit q.rule ≡ rule_bit a.rule = ap rule_bit keeps.rule in
         let there = packed_as (rows_of (swapped q)) (r.rows / 2 ^ 30 + 2 ^ 30 * (r.rows % 2 ^ 30) + key / 2 ^ 60 * 2 ^ 60) (seeds - r.store)
         (swapped_within q within)
         (omega (arith, shows.own, shows.other, keeps.other_side, is.limits.same_side)) (omega (arith, shows.store, keeps.play, is.seeds_are)) in
-        (there.0, rw (shows.store, there.1) (sym (step_turn q (is_again (bare a) h) going passed)))
+        record { packed = there.0; is = rw (shows.store, there.1) (sym (step_turn q (is_again (bare a) h) going passed)) }
 
 -- ---- a step on houses, applied to a position
 -- the step of a position whose houses make this one
@@ -185,7 +200,6 @@ step_within p h l holds =
     let w = rows_within p l in
     let keeps = after_keeps a h w holds in
     let on = after_within a h w holds in
-    let turned = swapped_within q on in
     on_cond (IsStepWithin p) (is_over q) _ _
     (λ over.
     let side = length-replicate {A = ℕ} (side_length p) 0 in
@@ -199,22 +213,8 @@ step_within p h l holds =
       other_store_low = omega (arith, none, keeps.play, keeps.other_store, l.other_store_low);
     })
     (λ going. on_cond (IsStepWithin p) (is_again (bare a) h) _ _
-    (λ again. record {
-      some_house = on.some_house;
-      at_most_six = on.at_most_six;
-      same_side = on.same_side;
-      few_seeds = on.few_seeds;
-      own_store_low = omega (arith, keeps.play, l.own_store_low);
-      other_store_low = omega (arith, keeps.play, l.other_store_low);
-    })
-    (λ turn. record {
-      some_house = turned.some_house;
-      at_most_six = turned.at_most_six;
-      same_side = turned.same_side;
-      few_seeds = turned.few_seeds;
-      own_store_low = omega (arith, keeps.play, l.other_store_low);
-      other_store_low = omega (arith, keeps.play, l.own_store_low);
-    }))
+    (λ again. limits_with on (omega (arith, keeps.play, l.own_store_low)) (omega (arith, keeps.play, l.other_store_low)))
+    (λ turn. limits_with (swapped_within q on) (omega (arith, keeps.play, l.other_store_low)) (omega (arith, keeps.play, l.own_store_low))))
 
 -- all that a board needs of a step of its houses
 pub record IsStepOf (p : Position) (h : ℕ) (s : HousesStep) : Type 0 where

@@ -1,15 +1,14 @@
 -- A move on the numbers of two rows.
-use Rattle.std.proofs.Common.{◌≡◌, ◌≢◌, ℕ, ◌+◌, ◌-◌, ◌*◌, ◌/◌, ◌%◌, ◌^◌, ◌<◌, ◌≤◌, inl, inr, List, length, arith, ap, sym, ◌∙◌, refl, subst, eq-eqb}
-use Rattle.std.specs.Prelude.{true, false, slice_set, slice_index, sum, ◌==◌, ◌&&◌, Option, Some, None, MatchBool}
+use Rattle.std.proofs.Common.{◌≡◌, ◌≢◌, ℕ, ◌+◌, ◌-◌, ◌*◌, ◌/◌, ◌%◌, ◌^◌, ◌<◌, ◌≤◌, inl, inr, length, arith, ap, sym, ◌∙◌, refl, subst, eq-eqb}
+use Rattle.std.specs.Prelude.{true, false, sum, ◌==◌, ◌&&◌, Option, Some, None, MatchBool}
 use Rattle.std.proofs.lemmas.Nat.{mod_below, mul-le, mod-mul-add, div-add-mod'}
 use Rattle.std.proofs.Math.Nat.{div-eq_of_lt, mod-eq_of_lt, div-div-eq-div-mul}
 use Rattle.std.proofs.lemmas.Bool.{cases_Bool, cases_eq, cases_lt, eqb-true, eqb-false}
 use Rattle.std.proofs.lemmas.Bool.Decides.{nat_tests}
-use Rattle.std.proofs.lemmas.List.{set_past, get_or_past}
-use Rattle.std.proofs.lemmas.List.Sums.{sum_by-set}
 use Rattle.kalah_rules.specs.Position.{Position, Rows, IsWithinHouses, side_length, seeds, opposite, seeds_in_houses, bare}
 use Rattle.kalah_rules.specs.Lap.{HoldsSeeds, lifted}
 use Rattle.kalah_rules.specs.Sowing.{lap_length, own_distance, other_distance, store_distance, sow, sown, last_distance, last_house, is_again, captures, can_capture, capture, captured, after}
+use Rattle.kalah_rules.proofs.Numbers.{set_less}
 use Rattle.kalah_rules.proofs.Rows.{length-slice_set}
 use Rattle.kalah_rules.proofs.Sown.{sow_side, sow_keeps, sow_other_store}
 use Rattle.kalah_rules.proofs.Laps.{own_distance_past, own_distance_back}
@@ -281,13 +280,6 @@ module _ (a : Rows) (h : ℕ) (w : IsWithinHouses a) (holds : HoldsSeeds (bare a
       )
 
 -- ---- the whole move
--- a house that is emptied
-set_less : (xs : List ℕ) (k : ℕ) → sum (slice_set xs k 0) + slice_index xs k ≡ sum xs
-set_less xs k = elim (cases_lt k (length xs)) [
-  | inl within ↦ sum_by-set (λ x. x) xs k 0 0 within ∙ omega arith
-  | inr past ↦ rw (set_past xs k 0 past, get_or_past xs k 0 past) (omega arith)
-]
-
 -- a capture loses no seed
 capture_keeps : (q : Position) (i : ℕ) → KeepsSeeds q (capture q i)
 capture_keeps q i = record {
@@ -339,16 +331,22 @@ module _ (p : Position) (h : ℕ) (holds : HoldsSeeds p h) where
       let some = holds.some in
       omega arith
 
+  -- its seeds are whole laps and the distance of the last one
+  laps_and_distance : (seeds p.own h - 1) / lap_length (side_length p) * lap_length (side_length p) + last_distance p h ≡ seeds p.own h
+  laps_and_distance = omega (arith, div-add-mod' (seeds p.own h - 1) (lap_length (side_length p)), holds.some)
+
+  -- so much past whole laps is the place
+  place_after : (laps at : ℕ) → h + seeds p.own h ≡ laps * lap_length (side_length p) + at → 1 ≤ at → at ≤ lap_length (side_length p) →
+      last_place (side_length p) h (seeds p.own h) ≡ at
+  place_after laps at whole low high =
+      let n = lap_length (side_length p) in
+      let rest : h - 1 + seeds p.own h ≡ laps * n + (at - 1) = omega (arith, whole, low, holds.first) in
+      ap (λ x. x % n + 1) rest ∙ ap (λ x. x + 1) (mod-mul-add laps n (at - 1) (omega (arith, low, high))) ∙ omega (arith, low)
+
   -- the place of a last seed that doesn't come round
   place_near : h + last_distance p h ≤ lap_length (side_length p) → last_place (side_length p) h (seeds p.own h) ≡ h + last_distance p h
-  place_near near =
-      let n = lap_length (side_length p) in
-      let laps = (seeds p.own h - 1) / n in
-      let rest = (seeds p.own h - 1) % n in
-      let whole : laps * n + rest ≡ seeds p.own h - 1 = div-add-mod' (seeds p.own h - 1) n in
-      let at : h - 1 + seeds p.own h ≡ laps * n + (h + rest) = omega (arith, whole, holds.first, holds.some) in
-      let below : h + rest < n = omega (arith, near) in
-      ap (λ x. x % n + 1) at ∙ ap (λ x. x + 1) (mod-mul-add laps n (h + rest) below) ∙ omega arith
+  place_near near = place_after ((seeds p.own h - 1) / lap_length (side_length p)) (h + last_distance p h)
+      (omega (arith, laps_and_distance)) (omega (arith, last_low)) near
 
   -- and of one that does
   place_round : lap_length (side_length p) < h + last_distance p h →
@@ -356,12 +354,9 @@ module _ (p : Position) (h : ℕ) (holds : HoldsSeeds p h) where
   place_round round =
       let n = lap_length (side_length p) in
       let laps = (seeds p.own h - 1) / n in
-      let rest = (seeds p.own h - 1) % n in
-      let whole : laps * n + rest ≡ seeds p.own h - 1 = div-add-mod' (seeds p.own h - 1) n in
       let next : (laps + 1) * n ≡ laps * n + n = omega arith in
-      let at : h - 1 + seeds p.own h ≡ (laps + 1) * n + (h + rest - n) = omega (arith, whole, next, round, holds.first, holds.some) in
-      let below : h + rest - n < n = omega (arith, last_high, holds.last) in
-      ap (λ x. x % n + 1) at ∙ ap (λ x. x + 1) (mod-mul-add (laps + 1) n (h + rest - n) below) ∙ omega (arith, round)
+      place_after (laps + 1) (h + last_distance p h - n) (omega (arith, laps_and_distance, next, round)) (omega (arith, round))
+      (omega (arith, last_high, holds.last))
 
   -- an own house where it falls is as far as it goes
   own_at : last_place (side_length p) h (seeds p.own h) ≤ side_length p →

@@ -27,15 +27,20 @@ pow_five (suc k) =
 pub pow_other : (k : ℕ) → 2 ^ (30 + 5 * k) ≡ 2 ^ 30 * 32 ^ k
 pow_other k = pow-add 2 30 (5 * k) ∙ ap (λ n. 2 ^ 30 * n) (pow_five k)
 
+-- what holds of the numbers up to 5
+up_to_five : (P : ℕ → Type 0) (k : ℕ) → k ≤ 5 → P 0 → P 1 → P 2 → P 3 → P 4 → P 5 → P k
+up_to_five P zero few a b c d e f = a
+up_to_five P (suc zero) few a b c d e f = b
+up_to_five P (suc (suc zero)) few a b c d e f = c
+up_to_five P (suc (suc (suc zero))) few a b c d e f = d
+up_to_five P (suc (suc (suc (suc zero)))) few a b c d e f = e
+up_to_five P (suc (suc (suc (suc (suc zero))))) few a b c d e f = f
+up_to_five P (suc (suc (suc (suc (suc (suc k)))))) few a b c d e f = absurd (omega arith)
+
 -- an own house is read off both rows as off its own
 pub low_cell : (rows k : ℕ) → k ≤ 5 → rows / 32 ^ k % 32 ≡ rows % 2 ^ 30 / 32 ^ k % 32
-low_cell rows zero few = omega arith
-low_cell rows (suc zero) few = omega arith
-low_cell rows (suc (suc zero)) few = omega arith
-low_cell rows (suc (suc (suc zero))) few = omega arith
-low_cell rows (suc (suc (suc (suc zero)))) few = omega arith
-low_cell rows (suc (suc (suc (suc (suc zero))))) few = omega arith
-low_cell rows (suc (suc (suc (suc (suc (suc k)))))) few = absurd (omega arith)
+low_cell rows k few = up_to_five (λ k. rows / 32 ^ k % 32 ≡ rows % 2 ^ 30 / 32 ^ k % 32) k few
+    (omega arith) (omega arith) (omega arith) (omega arith) (omega arith) (omega arith)
 
 -- a power more is thirty-two times as much
 times_power : (k n : ℕ) → 32 ^ suc k * n ≡ 32 * (32 ^ k * n)
@@ -200,23 +205,13 @@ ones_le a (suc b) h = elim (cases_eq a (suc b)) [
 
 -- a row moved up by a few houses fits sixty-four bits
 pub moved_small : (k x : ℕ) → k ≤ 5 → x < 2 ^ 30 → x * 32 ^ k % 2 ^ 64 ≡ 32 ^ k * x
-moved_small zero x h few = omega arith
-moved_small (suc zero) x h few = omega arith
-moved_small (suc (suc zero)) x h few = omega arith
-moved_small (suc (suc (suc zero))) x h few = omega arith
-moved_small (suc (suc (suc (suc zero)))) x h few = omega arith
-moved_small (suc (suc (suc (suc (suc zero))))) x h few = omega arith
-moved_small (suc (suc (suc (suc (suc (suc k)))))) x h few = absurd (omega arith)
+moved_small k x h few = up_to_five (λ k. x * 32 ^ k % 2 ^ 64 ≡ 32 ^ k * x) k h
+    (omega arith) (omega arith) (omega arith) (omega arith) (omega arith) (omega arith)
 
 -- so do a few seeds moved past the own row
 pub moved_far : (k x : ℕ) → k ≤ 5 → x < 32 → x * (2 ^ 30 * 32 ^ k) % 2 ^ 64 ≡ 2 ^ 30 * (32 ^ k * x)
-moved_far zero x h few = omega arith
-moved_far (suc zero) x h few = omega arith
-moved_far (suc (suc zero)) x h few = omega arith
-moved_far (suc (suc (suc zero))) x h few = omega arith
-moved_far (suc (suc (suc (suc zero)))) x h few = omega arith
-moved_far (suc (suc (suc (suc (suc zero))))) x h few = omega arith
-moved_far (suc (suc (suc (suc (suc (suc k)))))) x h few = absurd (omega arith)
+moved_far k x h few = up_to_five (λ k. x * (2 ^ 30 * 32 ^ k) % 2 ^ 64 ≡ 2 ^ 30 * (32 ^ k * x)) k h
+    (omega arith) (omega arith) (omega arith) (omega arith) (omega arith) (omega arith)
 
 -- so do a few times as many seeds
 pub product_small : (x y : ℕ) → x ≤ 10 → y ≤ 34636833 → x * y ≤ 346368330

@@ -15,7 +15,7 @@ use Rattle.kalah_rules.specs.declared.step.HousesStep.TheVariants.{Over, Again}
 use Rattle.kalah_rules.specs.declared.houses.play.RowNumbers.{RowNumbers}
 use Rattle.kalah_rules.proofs.Legal.{legal_holds, legal_going}
 use Rattle.kalah_rules.proofs.Keys.{sum-zero, pack_of, rows_number_at}
-use Rattle.kalah_rules.proofs.HousesSteps.{over_own, again_packed}
+use Rattle.kalah_rules.proofs.HousesSteps.{IsStepTo, over_own, again_packed}
 use Rattle.kalah_rules.specs.Sowings.{last_place}
 use Rattle.kalah_rules.proofs.PackedMoves.{short_distance, after_past, again_at, other_is, lifted_is, into_store}
 
@@ -51,16 +51,14 @@ module _ {a : Rows} {h key seeds : ℕ} {r : RowNumbers} (packed : IsPacked key 
       absurd (grind (arith, nat_tests, going, empty))
 
   -- so the game goes on with the mover, if the mover has seeds left
-  pub store_packed : 0 < r.rows % 2 ^ 30 → IsPacked (r.rows + key / 2 ^ 60 * 2 ^ 60) (seeds - r.store)
-      × (Again r.store (rows_at (r.rows + key / 2 ^ 60 * 2 ^ 60)) ≡ houses_step a h)
+  pub store_packed : 0 < r.rows % 2 ^ 30 → IsStepTo a h (r.rows + key / 2 ^ 60 * 2 ^ 60) (seeds - r.store) (Again r.store)
   store_packed some = again_packed packed view has store_shows (λ none. absurd (omega (arith, none, some))) other_some again
 
 -- what a move does to the key whose last seed falls into the store without a lap: `house` are the seeds of the house where they stand in the
 -- row, `own_more` is one seed in each house after it
 pub record MovesIntoStore (a : Rows) (h key seeds house own_more : ℕ) : Type 0 where
   pub fits : house ≤ key
-  pub goes_on : 0 < (key - house + own_more) % 2 ^ 30 → IsPacked (key - house + own_more) (seeds - 1)
-      × (Again 1 (rows_at (key - house + own_more)) ≡ houses_step a h)
+  pub goes_on : 0 < (key - house + own_more) % 2 ^ 30 → IsStepTo a h (key - house + own_more) (seeds - 1) (Again 1)
   pub over : (key - house + own_more) % 2 ^ 30 ≡ 0 → Over 1 (seeds - 1) ≡ houses_step a h
 
 pub moves_into_store : {a : Rows} {h key seeds house own_more : ℕ} → IsPacked key seeds → rows_at key ≡ a → Contains (legal_houses (bare a)) h →

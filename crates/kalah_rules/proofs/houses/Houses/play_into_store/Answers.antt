@@ -42,10 +42,10 @@ pub overflow_sub-key : goal.overflow_sub-key
 overflow_sub-key c = less c
 
 pub invariant_of-result : goal.invariant_of-result
-invariant_of-result c = ((moved c.before).goes_on c.if-key-gt0.true).0
+invariant_of-result c = ((moved c.before).goes_on c.if-key-gt0.true).packed
 
 pub returns-then-key-gt0 : goal.returns-then-key-gt0
-returns-then-key-gt0 c = ((moved c.before).goes_on c.if-key-gt0.true).1
+returns-then-key-gt0 c = ((moved c.before).goes_on c.if-key-gt0.true).is
 
 pub returns : goal.returns
 returns c = (moved c.before.before).over (omega (arith, c.if-key-gt0.false))
