@@ -8,7 +8,7 @@ ghost use Rattle.kalah_solve.specs.Bounds.Won.{won, IsWithinBounds};
 ghost use Rattle.kalah_solve.specs.Table.EndgameTable.{most_ending_seeds};
 
 pub(crate) mod move_order;
-pub(crate) mod ranks;
+pub(crate) mod priorities;
 mod reaches;
 #[cfg(test)]
 mod tests;

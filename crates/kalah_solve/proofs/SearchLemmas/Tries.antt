@@ -1,4 +1,4 @@
--- The moves that were tried, and those that wait with a rank.
+-- The moves that were tried, and those that wait with a priority.
 use Rattle.std.proofs.Common.{ap, ◌≡◌, ◌≢◌, ℕ, ◌+◌, ◌-◌, ◌%◌, ◌^◌, ◌<◌, ◌≤◌, inl, inr, List, length, get_or, arith, sym, ◌∙◌, subst}
 use Rattle.std.specs.Prelude.{Bool, true, false, IsTrue, ◌↔◌, Contains, max, slice_set}
 use Rattle.std.proofs.lemmas.Bool.{cases_eq, cases_lt}
@@ -84,30 +84,31 @@ pub move_enough : (a : Rows) (bar h bound : ℕ) → IsWithinHouses a → Contai
 move_enough a bar h bound w has is enough = omega (arith, is.lower enough, taken_most a w h has)
 
 -- the same of a turn that was kept
-turn_bound : (a : Rows) (bar h rank bound : ℕ) (b : Rows) → IsTurnOf a h rank b →
+turn_bound : (a : Rows) (bar h priority bound : ℕ) (b : Rows) → IsTurnOf a h priority b →
     IsSoftBound bar (seeds_in_houses (bare a) - seeds_in_houses (bare b) + (seeds_in_houses (bare b) - won b)) bound →
     IsSoftBound bar (won_by_step (houses_step a h)) bound
-turn_bound a bar h rank bound b turn is = rw turn.step is
+turn_bound a bar h priority bound b turn is = rw turn.step is
 
-pub turn_enough : (a : Rows) (bar h rank bound : ℕ) (b : Rows) → IsWithinHouses a → IsTurnOf a h rank b →
+pub turn_enough : (a : Rows) (bar h priority bound : ℕ) (b : Rows) → IsWithinHouses a → IsTurnOf a h priority b →
     IsSoftBound bar (seeds_in_houses (bare a) - seeds_in_houses (bare b) + (seeds_in_houses (bare b) - won b)) bound → bar ≤ bound → bound ≤ won a
-turn_enough a bar h rank bound b w turn is = move_enough a bar h bound w turn.legal (turn_bound a bar h rank bound b turn is)
+turn_enough a bar h priority bound b w turn is = move_enough a bar h bound w turn.legal (turn_bound a bar h priority bound b turn is)
 
-pub turn_at_most : (a : Rows) (bar h rank bound : ℕ) (b : Rows) → IsTurnOf a h rank b →
+pub turn_at_most : (a : Rows) (bar h priority bound : ℕ) (b : Rows) → IsTurnOf a h priority b →
     IsSoftBound bar (seeds_in_houses (bare a) - seeds_in_houses (bare b) + (seeds_in_houses (bare b) - won b)) bound → bound < bar → WinsAtMost a bound h
-turn_at_most a bar h rank bound b turn is short = (turn_bound a bar h rank bound b turn is).upper short
+turn_at_most a bar h priority bound b turn is short = (turn_bound a bar h priority bound b turn is).upper short
 
 -- a turn that was played waits
-pub turn_of : (a : Rows) (h rank gained : ℕ) (b : Rows) (s : HousesStep) → IsWithinHouses a → Contains (legal_houses (bare a)) h →
-    s ≡ houses_step a h → s ≡ Turn gained b → rank % 8 + 1 ≡ h → IsTurnOf a h rank b
-turn_of a h rank gained b s w has e is house =
+pub turn_of : (a : Rows) (h priority gained : ℕ) (b : Rows) (s : HousesStep) → IsWithinHouses a → Contains (legal_houses (bare a)) h →
+    s ≡ houses_step a h → s ≡ Turn gained b → priority % 8 + 1 ≡ h → IsTurnOf a h priority b
+turn_of a h priority gained b s w has e is house =
     let on : LeadsTo a gained b = subst (LeadsOn a) is (subst (LeadsOn a) (sym e) (leads_on a h w has)) in
     let brought : gained ≡ seeds_in_houses (bare a) - seeds_in_houses (bare b) = omega (arith, on.kept) in
     record { legal = has; step = sym e ∙ is ∙ ap (λ g. Turn g b) brought; house = house }
 
 -- the other player has no more seeds than there were
-pub turn_keeps : (a : Rows) (h rank : ℕ) (b : Rows) → IsWithinHouses a → IsTurnOf a h rank b → seeds_in_houses (bare b) ≤ seeds_in_houses (bare a)
-turn_keeps a h rank b w turn =
+pub turn_keeps : (a : Rows) (h priority : ℕ) (b : Rows) → IsWithinHouses a → IsTurnOf a h priority b →
+    seeds_in_houses (bare b) ≤ seeds_in_houses (bare a)
+turn_keeps a h priority b w turn =
     let on : LeadsTo a (seeds_in_houses (bare a) - seeds_in_houses (bare b)) b = subst (LeadsOn a) turn.step (leads_on a h w turn.legal) in
     omega (arith, on.kept)
 
@@ -116,75 +117,80 @@ pub all_at_most : (a : Rows) (most : ℕ) → IsWithinHouses a → is_over (bare
     ((h : ℕ) → Contains (legal_houses (bare a)) h → WinsAtMost a most h) → won a ≤ most
 all_at_most a most w going each = let best = taken_reached a w going in omega (arith, best.2, each best.0 best.1)
 
--- each house with a rank waits with its turn
-pub record AreTurns (a : Rows) (ranks : List ℕ) (turns : List Rows) : Type 0 where
-  pub cells : length ranks ≡ 8
-  pub each : (k : ℕ) → 0 < get_or ranks k 0 → (d : Rows) → IsTurnOf a (k + 1) (get_or ranks k 0) (get_or turns k d)
+-- each house with a priority waits with its turn
+pub record AreTurns (a : Rows) (priorities : List ℕ) (turns : List Rows) : Type 0 where
+  pub cells : length priorities ≡ 8
+  pub each : (k : ℕ) → 0 < get_or priorities k 0 → (d : Rows) → IsTurnOf a (k + 1) (get_or priorities k 0) (get_or turns k d)
 
 -- one house more
-turns_more : (a : Rows) (h : ℕ) (ranks : List ℕ) (turns : List Rows) (v : ℕ) (b : Rows) → AreTurns a ranks turns →
+turns_more : (a : Rows) (h : ℕ) (priorities : List ℕ) (turns : List Rows) (v : ℕ) (b : Rows) → AreTurns a priorities turns →
     length turns ≡ 6 → 1 ≤ h → h ≤ 6 → IsTurnOf a h v b →
-    AreTurns a (slice_set ranks (h - 1) v) (slice_set turns (h - 1) b)
-turns_more a h ranks turns v b are places low last is = let inside : h - 1 < length turns = omega (arith, places, low, last) in record {
-  cells = length-set ranks (h - 1) v ∙ are.cells;
+    AreTurns a (slice_set priorities (h - 1) v) (slice_set turns (h - 1) b)
+turns_more a h priorities turns v b are places low last is = let inside : h - 1 < length turns = omega (arith, places, low, last) in record {
+  cells = length-set priorities (h - 1) v ∙ are.cells;
   each = λ k high d. elim (cases_eq k (h - 1)) [
     | inl same ↦
         let at : h ≡ k + 1 = omega arith in
-        let place : h - 1 < length ranks = omega (arith, are.cells, low, last) in
-        rw (same, get_or-set_same ranks (h - 1) v 0 place, get_or-set_same turns (h - 1) b d inside)
+        let place : h - 1 < length priorities = omega (arith, are.cells, low, last) in
+        rw (same, get_or-set_same priorities (h - 1) v 0 place, get_or-set_same turns (h - 1) b d inside)
         (subst (λ i. IsTurnOf a i v b) (at ∙ ap (λ i. i + 1) same) is)
     | inr other ↦
-        rw (get_or-set_other ranks (h - 1) k v 0 other, get_or-set_other turns (h - 1) k b d other)
-        (are.each k (rw (get_or-set_other ranks (h - 1) k v 0 other) at high) d)
+        rw (get_or-set_other priorities (h - 1) k v 0 other, get_or-set_other turns (h - 1) k b d other)
+        (are.each k (rw (get_or-set_other priorities (h - 1) k v 0 other) at high) d)
   ];
 }
 
 -- one that waits no more
-turns_fewer : (a : Rows) (ranks : List ℕ) (turns : List Rows) (at : ℕ) → AreTurns a ranks turns → at < 6 → AreTurns a (slice_set ranks at 0) turns
-turns_fewer a ranks turns at are place = let inside : at < length ranks = omega (arith, are.cells) in record {
-  cells = length-set ranks at 0 ∙ are.cells;
+turns_fewer : (a : Rows) (priorities : List ℕ) (turns : List Rows) (at : ℕ) → AreTurns a priorities turns → at < 6 →
+    AreTurns a (slice_set priorities at 0) turns
+turns_fewer a priorities turns at are place = let inside : at < length priorities = omega (arith, are.cells) in record {
+  cells = length-set priorities at 0 ∙ are.cells;
   each = λ k high. elim (cases_eq k at) [
-    | inl same ↦ absurd (let none : get_or (slice_set ranks at 0) k 0 ≡ 0 = rw same (get_or-set_same ranks at 0 0 inside) in omega (arith, none))
-    | inr other ↦ λ d. rw (get_or-set_other ranks at k 0 0 other) (are.each k (rw (get_or-set_other ranks at k 0 0 other) at high) d)
+    | inl same ↦
+        let none : get_or (slice_set priorities at 0) k 0 ≡ 0 = rw same (get_or-set_same priorities at 0 0 inside) in
+        absurd (omega (arith, none))
+    | inr other ↦ λ d. rw (get_or-set_other priorities at k 0 0 other) (are.each k (rw (get_or-set_other priorities at k 0 0 other) at high) d)
   ];
 }
 
--- the house that a rank names waits with it
-pub record WaitsWith (a : Rows) (ranks : List ℕ) (turns : List Rows) (r : ℕ) : Type 0 where
+-- the house that a priority names waits with it
+pub record WaitsWith (a : Rows) (priorities : List ℕ) (turns : List Rows) (r : ℕ) : Type 0 where
   pub place : r % 8 < 6
-  pub rank : get_or ranks (r % 8) 0 ≡ r
+  pub priority : get_or priorities (r % 8) 0 ≡ r
   pub turn : (d : Rows) → IsTurnOf a (r % 8 + 1) r (get_or turns (r % 8) d)
 
--- each house with a rank waits, and each other one that may be moved takes at most `most` seeds, or ends in the store, or is
+-- each house with a priority waits, and each other one that may be moved takes at most `most` seeds, or ends in the store, or is
 -- still marked
-pub record AreRanked (a : Rows) (most marks : ℕ) (ranks : List ℕ) (turns : List Rows) : Type 0 where
-  pub waiting : AreTurns a ranks turns
+pub record ArePlayed (a : Rows) (most marks : ℕ) (priorities : List ℕ) (turns : List Rows) : Type 0 where
+  pub waiting : AreTurns a priorities turns
   pub places : length turns ≡ 6
-  pub others : (i : ℕ) → Contains (legal_houses (bare a)) i → cell marks (i - 1) ≡ 0 → get_or ranks (i - 1) 0 ≡ 0 →
+  pub others : (i : ℕ) → Contains (legal_houses (bare a)) i → cell marks (i - 1) ≡ 0 → get_or priorities (i - 1) 0 ≡ 0 →
       ¬ EndsInStore a i → WinsAtMost a most i
 
 -- the last marked house was played
-module _ (a : Rows) (most marks h : ℕ) (ranks : List ℕ) (turns : List Rows) (is : AreRanked a most marks ranks turns) (last : IsLastMark marks h) where
-  -- and waits with a rank
-  pub ranked_more : (v : ℕ) (b : Rows) → 0 < v → IsTurnOf a h v b →
-      AreRanked a most (marks - 32 ^ (h - 1)) (slice_set ranks (h - 1) v) (slice_set turns (h - 1) b)
-  ranked_more v b some turn = let inside : h - 1 < length ranks = omega (arith, is.waiting.cells, last.first, last.last) in record {
-    waiting = turns_more a h ranks turns v b is.waiting is.places last.first last.last turn;
+module _ (a : Rows) (most marks h : ℕ) (priorities : List ℕ) (turns : List Rows) (is : ArePlayed a most marks priorities turns)
+    (last : IsLastMark marks h) where
+  -- and waits with a priority
+  pub played_more : (v : ℕ) (b : Rows) → 0 < v → IsTurnOf a h v b →
+      ArePlayed a most (marks - 32 ^ (h - 1)) (slice_set priorities (h - 1) v) (slice_set turns (h - 1) b)
+  played_more v b some turn = let inside : h - 1 < length priorities = omega (arith, is.waiting.cells, last.first, last.last) in record {
+    waiting = turns_more a h priorities turns v b is.waiting is.places last.first last.last turn;
     places = length-set turns (h - 1) b ∙ is.places;
     others = λ i may gone none apart. elim (cases_eq i h) [
       | inl same ↦
-          let at : v ≡ 0 = sym (get_or-set_same ranks (h - 1) v 0 inside) ∙ subst (λ j. get_or (slice_set ranks (h - 1) v) (j - 1) 0 ≡ 0) same none in
+          let at : v ≡ 0 = sym (get_or-set_same priorities (h - 1) v 0 inside)
+          ∙ subst (λ j. get_or (slice_set priorities (h - 1) v) (j - 1) 0 ≡ 0) same none in
           absurd (omega (arith, some, at))
       | inr other ↦
           let first = (legal_holds (bare a) i may).first in
           let place : i - 1 ≢ h - 1 = omega (arith, first, last.first, other) in
-          is.others i may (gone_before marks h last (i - 1) place gone) (rw (get_or-set_other ranks (h - 1) (i - 1) v 0 place) at none) apart
+          is.others i may (gone_before marks h last (i - 1) place gone) (rw (get_or-set_other priorities (h - 1) (i - 1) v 0 place) at none) apart
     ];
   }
 
   -- or takes at most `bound`
-  pub ranked_bound : (bound new : ℕ) → WinsAtMost a bound h → new ≡ max most bound → AreRanked a new (marks - 32 ^ (h - 1)) ranks turns
-  ranked_bound bound new takes new_is = record {
+  pub played_bound : (bound new : ℕ) → WinsAtMost a bound h → new ≡ max most bound → ArePlayed a new (marks - 32 ^ (h - 1)) priorities turns
+  played_bound bound new takes new_is = record {
     waiting = is.waiting;
     places = is.places;
     others = λ i may gone none apart. elim (cases_eq i h) [
@@ -197,10 +203,10 @@ module _ (a : Rows) (most marks h : ℕ) (ranks : List ℕ) (turns : List Rows) 
   }
 
 -- before any was played
-pub ranked_none : (a : Rows) (most marks : ℕ) (ranks : List ℕ) (turns : List Rows) → length ranks ≡ 8 → length turns ≡ 6 →
-    ((k : ℕ) → get_or ranks k 0 ≡ 0) →
-    ((i : ℕ) → (0 < cell marks i) ↔ ((0 < get_or a.own i 0) × ¬ EndsInStore a (i + 1))) → AreRanked a most marks ranks turns
-ranked_none a most marks ranks turns cells places empty marked = record {
+pub played_none : (a : Rows) (most marks : ℕ) (priorities : List ℕ) (turns : List Rows) → length priorities ≡ 8 → length turns ≡ 6 →
+    ((k : ℕ) → get_or priorities k 0 ≡ 0) →
+    ((i : ℕ) → (0 < cell marks i) ↔ ((0 < get_or a.own i 0) × ¬ EndsInStore a (i + 1))) → ArePlayed a most marks priorities turns
+played_none a most marks priorities turns cells places empty marked = record {
   waiting = record { cells = cells; each = λ k some. absurd (omega (arith, some, empty k)) };
   places = places;
   others = λ i may gone none apart. absurd (
@@ -269,29 +275,29 @@ again_fewer a most marks h bound new are last takes new_is i may ends gone = eli
       omega (arith, new_is, are i may ends (gone_before marks h last (i - 1) place gone))
 ]
 
--- the moves with a rank are still to be tried, and the others take at most `most` seeds
-pub record AreUntried (a : Rows) (most : ℕ) (ranks : List ℕ) (turns : List Rows) : Type 0 where
-  pub waiting : AreTurns a ranks turns
-  pub tried : (h : ℕ) → Contains (legal_houses (bare a)) h → get_or ranks (h - 1) 0 ≡ 0 → WinsAtMost a most h
+-- the moves with a priority are still to be tried, and the others take at most `most` seeds
+pub record AreUntried (a : Rows) (most : ℕ) (priorities : List ℕ) (turns : List Rows) : Type 0 where
+  pub waiting : AreTurns a priorities turns
+  pub tried : (h : ℕ) → Contains (legal_houses (bare a)) h → get_or priorities (h - 1) 0 ≡ 0 → WinsAtMost a most h
 
--- the move with a given rank waits with its turn
-pub turn_at : {a : Rows} {most : ℕ} {ranks : List ℕ} {turns : List Rows} {rank : ℕ} → IsWithinHouses a → AreUntried a most ranks turns →
-    Contains ranks rank → 0 < rank → WaitsWith a ranks turns rank
-turn_at {a} {most} {ranks} {turns} {rank} w untried found some =
+-- the move with a given priority waits with its turn
+pub turn_at : {a : Rows} {most : ℕ} {priorities : List ℕ} {turns : List Rows} {priority : ℕ} → IsWithinHouses a →
+    AreUntried a most priorities turns → Contains priorities priority → 0 < priority → WaitsWith a priorities turns priority
+turn_at {a} {most} {priorities} {turns} {priority} w untried found some =
     let are = untried.waiting in
     let k = found.0 in
-    let here : get_or ranks k 0 ≡ rank = get_or_default ranks k 0 rank found.1 ∙ found.2 in
-    let turn : (d : Rows) → IsTurnOf a (k + 1) rank (get_or turns k d) =
+    let here : get_or priorities k 0 ≡ priority = get_or_default priorities k 0 priority found.1 ∙ found.2 in
+    let turn : (d : Rows) → IsTurnOf a (k + 1) priority (get_or turns k d) =
     λ d. subst (λ r. IsTurnOf a (k + 1) r (get_or turns k d)) here (are.each k (omega (arith, here, some)) d) in
-    let same : rank % 8 ≡ k = omega (arith, (turn a).house) in
+    let same : priority % 8 ≡ k = omega (arith, (turn a).house) in
     let holds = legal_holds (bare a) (k + 1) (turn a).legal in
-    record { place = omega (arith, same, holds.last, w.at_most_six); rank = rw same here; turn = rw same turn }
+    record { place = omega (arith, same, holds.last, w.at_most_six); priority = rw same here; turn = rw same turn }
 
 -- before any was tried, but those that end in the store
-pub untried_first : (a : Rows) (bar again others : ℕ) (ranks : List ℕ) (turns : List Rows) (new : ℕ) → length ranks ≡ 8 →
-    AreWaiting a bar others ranks turns → ((h : ℕ) → Contains (legal_houses (bare a)) h → EndsInStore a h → WinsAtMost a again h) → others < bar →
-    new ≡ max again others → AreUntried a new ranks turns
-untried_first a bar again others ranks turns new cells are ends short new_is = record {
+pub untried_first : (a : Rows) (bar again others : ℕ) (priorities : List ℕ) (turns : List Rows) (new : ℕ) → length priorities ≡ 8 →
+    AreWaiting a bar others priorities turns → ((h : ℕ) → Contains (legal_houses (bare a)) h → EndsInStore a h → WinsAtMost a again h) →
+    others < bar → new ≡ max again others → AreUntried a new priorities turns
+untried_first a bar again others priorities turns new cells are ends short new_is = record {
   waiting = record { cells = cells; each = are.waiting };
   tried = λ h has none. elim (cases_eq (seeds a.own h + h) (length a.own + 1)) [
     | inl is ↦ omega (arith, new_is, ends h has is)
@@ -300,21 +306,21 @@ untried_first a bar again others ranks turns new cells are ends short new_is = r
 }
 
 -- one move more was tried
-pub untried_fewer : (a : Rows) (most : ℕ) (ranks : List ℕ) (turns : List Rows) (at bound new : ℕ) → AreUntried a most ranks turns → at < 6 →
-    WinsAtMost a bound (at + 1) → new ≡ max most bound → AreUntried a new (slice_set ranks at 0) turns
-untried_fewer a most ranks turns at bound new is place takes new_is = record {
-  waiting = turns_fewer a ranks turns at is.waiting place;
+pub untried_fewer : (a : Rows) (most : ℕ) (priorities : List ℕ) (turns : List Rows) (at bound new : ℕ) → AreUntried a most priorities turns →
+    at < 6 → WinsAtMost a bound (at + 1) → new ≡ max most bound → AreUntried a new (slice_set priorities at 0) turns
+untried_fewer a most priorities turns at bound new is place takes new_is = record {
+  waiting = turns_fewer a priorities turns at is.waiting place;
   tried = λ h has none. elim (cases_eq (h - 1) at) [
     | inl same ↦
         let first = (legal_holds (bare a) h has).first in
         let house : at + 1 ≡ h = omega arith in
         omega (arith, new_is, subst (WinsAtMost a bound) house takes)
-    | inr other ↦ omega (arith, new_is, is.tried h has (rw (get_or-set_other ranks at (h - 1) 0 0 other) at none))
+    | inr other ↦ omega (arith, new_is, is.tried h has (rw (get_or-set_other priorities at (h - 1) 0 0 other) at none))
   ];
 }
 
--- if no rank is left, best play takes at most as many
-pub none_untried : (a : Rows) (most : ℕ) (ranks : List ℕ) (turns : List Rows) (highest : ℕ) → IsWithinHouses a → is_over (bare a) ≡ false →
-    AreUntried a most ranks turns → ((k : ℕ) → get_or ranks k 0 ≤ highest) → highest ≡ 0 → won a ≤ most
-none_untried a most ranks turns highest w going is above none =
+-- if no priority is left, best play takes at most as many
+pub none_untried : (a : Rows) (most : ℕ) (priorities : List ℕ) (turns : List Rows) (highest : ℕ) → IsWithinHouses a → is_over (bare a) ≡ false →
+    AreUntried a most priorities turns → ((k : ℕ) → get_or priorities k 0 ≤ highest) → highest ≡ 0 → won a ≤ most
+none_untried a most priorities turns highest w going is above none =
     all_at_most a most w going (λ h has. is.tried h has (let below = above (h - 1) in omega (arith, below, none)))

@@ -21,21 +21,21 @@ WinsAtMost a most h = won_by_step (houses_step a h) ≤ most
 abbrev pub EndsInStore : Rows → ℕ → Type 0
 EndsInStore a h = seeds a.own h + h ≡ length a.own + 1
 
--- house h may be moved, its move is a turn after which the other player has b, and its rank names the house
-pub record IsTurnOf (a : Rows) (h rank : ℕ) (b : Rows) : Type 0 where
+-- house h may be moved, its move is a turn after which the other player has b, and its priority names the house
+pub record IsTurnOf (a : Rows) (h priority : ℕ) (b : Rows) : Type 0 where
   pub legal : Contains (legal_houses (bare a)) h
   pub step : houses_step a h ≡ Turn (seeds_in_houses (bare a) - seeds_in_houses (bare b)) b
-  pub house : rank % 8 + 1 ≡ h
+  pub house : priority % 8 + 1 ≡ h
 
--- what is known of the move of house h once it was played: a bound of what it takes, or a rank with which its turn waits
+-- what is known of the move of house h once it was played: a bound of what it takes, or a priority with which its turn waits
 abbrev pub IsLook : Rows → ℕ → ℕ → Look → Type 0
 IsLook a bar h (Bounded bound) = IsSoftBound bar (won_by_step (houses_step a h)) bound
-IsLook a bar h (Waits rank b) = (0 < rank) × IsTurnOf a h rank b
+IsLook a bar h (Waits priority b) = (0 < priority) × IsTurnOf a h priority b
 
--- each house with a rank waits with its turn, and of the others, but those that end in the store, none takes more than `most`,
+-- each house with a priority waits with its turn, and of the others, but those that end in the store, none takes more than `most`,
 -- unless that is enough
-pub record AreWaiting (a : Rows) (bar most : ℕ) (ranks : List ℕ) (turns : List Rows) : Type 0 where
+pub record AreWaiting (a : Rows) (bar most : ℕ) (priorities : List ℕ) (turns : List Rows) : Type 0 where
   pub lower : bar ≤ most → most ≤ won a
-  pub waiting : (k : ℕ) → 0 < slice_index ranks k → (d : Rows) → IsTurnOf a (k + 1) (slice_index ranks k) (slice_index_or turns k d)
-  pub others : most < bar → (h : ℕ) → Contains (legal_houses (bare a)) h → slice_index ranks (h - 1) ≡ 0 → ¬ EndsInStore a h →
+  pub waiting : (k : ℕ) → 0 < slice_index priorities k → (d : Rows) → IsTurnOf a (k + 1) (slice_index priorities k) (slice_index_or turns k d)
+  pub others : most < bar → (h : ℕ) → Contains (legal_houses (bare a)) h → slice_index priorities (h - 1) ≡ 0 → ¬ EndsInStore a h →
       WinsAtMost a most h

@@ -11,11 +11,11 @@ use crate::bounds::seed_bounds::SeedBounds;
 use crate::marks::{again_houses, other_houses, split_last};
 use crate::search::Search;
 use crate::search::move_order::priority;
-use crate::search::ranks::{Ranks, highest};
+use crate::search::priorities::{Priorities, highest};
 use kalah_rules::{Houses, HousesStep};
 use std::alloc::Allocator;
 
-// What is known of a move once it was played: a bound of what it takes, or the rank with which its turn waits to be searched, and
+// What is known of a move once it was played: a bound of what it takes, or the priority with which its turn waits to be searched, and
 // the houses from which the other player would move.
 #[derive(Clone, Copy)]
 enum Look {
@@ -81,24 +81,24 @@ impl<A: Allocator + Clone> Search<A> {
         if bar <= again {
             return again;
         }
-        let mut ranks = [0u16; 8];
+        let mut priorities = [0u16; 8];
         let mut turns = [houses; 6];
-        let others = self.others_waiting(&houses, bar, &mut ranks, &mut turns);
+        let others = self.others_waiting(&houses, bar, &mut priorities, &mut turns);
         if bar <= others {
             return others;
         }
         let mut most = again.max(others);
-        let mut rank = highest(&ranks);
-        while rank > 0 {
-            let at = (rank % 8) as usize;
-            ranks[at] = 0;
+        let mut priority = highest(&priorities);
+        while priority > 0 {
+            let at = (priority % 8) as usize;
+            priorities[at] = 0;
             let next = turns[at];
             let bound = self.bound_turn(seeds - next.seeds(), next, bar);
             if bar <= bound {
                 return bound;
             }
             most = most.max(bound);
-            rank = highest(&ranks);
+            priority = highest(&priorities);
         }
         most
     }
@@ -127,18 +127,18 @@ impl<A: Allocator + Clone> Search<A> {
     }
 
     // Plays each of the other moves once. Returns the most that they take, or a bound that is enough. The turns that wait are written
-    // down, each with its rank, which is 0 for the others.
+    // down, each with its priority, which is 0 for the others.
     #[cycle(search)]
     fn others_waiting(
         &mut self,
         houses: &Houses,
         bar: u8,
-        ranks: &mut Ranks,
+        priorities: &mut Priorities,
         turns: &mut [Houses; 6],
     ) -> u8
         requires going { is_over (bare houses.now) ≡ false }
-        requires none { (k : ℕ) → slice_index ranks.old k ≡ 0 }
-        ensures { AreWaiting houses.now bar result ranks.new turns.new }
+        requires none { (k : ℕ) → slice_index priorities.old k ≡ 0 }
+        ensures { AreWaiting houses.now bar result priorities.new turns.new }
     {
         let mut most = 0;
         let mut left = other_houses(houses);
@@ -146,8 +146,8 @@ impl<A: Allocator + Clone> Search<A> {
             let (h, rest) = split_last(left);
             left = rest;
             match self.look(houses, h, bar) {
-                Look::Waits(rank, next) => {
-                    ranks[h as usize - 1] = rank;
+                Look::Waits(priority, next) => {
+                    priorities[h as usize - 1] = priority;
                     turns[h as usize - 1] = next;
                 }
                 Look::Bounded(bound) => {

@@ -10,7 +10,7 @@ use Rattle.kalah_solve.specs.Search.Tried.{EndsInStore, WinsAtMost}
 use Rattle.kalah_solve.proofs.RowMarks.{cell_none, marks_fall}
 use Rattle.kalah_solve.proofs.SolverLemmas.StepWorths.{goes_on, step_falls}
 use Rattle.kalah_solve.proofs.BoundsLemmas.Winnings.{taken_share}
-use Rattle.kalah_solve.proofs.SearchLemmas.Tries.{move_enough, turn_enough, turn_at_most, turn_of, turn_keeps, turn_at, bound_up_to, bound_left, low_more, ranked_none, ranked_more, ranked_bound, ending_legal, marked_legal, marks_fewer, last_legal, each_fewer, each_last, again_none, again_fewer, untried_first, untried_fewer, none_untried}
+use Rattle.kalah_solve.proofs.SearchLemmas.Tries.{move_enough, turn_enough, turn_at_most, turn_of, turn_keeps, turn_at, bound_up_to, bound_left, low_more, played_none, played_more, played_bound, ending_legal, marked_legal, marks_fewer, last_legal, each_fewer, each_last, again_none, again_fewer, untried_first, untried_fewer, none_untried}
 use Rattle.kalah_solve.proofs.search.Search.+search.Goals as goal
 
 pub look-bound_step-requires : goal.look-bound_step-requires
@@ -49,84 +49,85 @@ bound_turn-returns-else-all-bar g t c =
     bound_left c.args.bar (c.args.gained + c.seeds.result) _ c.args.gained (won c.args.next) c.bound.result (omega (arith, c.seeds.ensures.seeds)) few
     c.if-bar-gained.false c.if-all-bar.false c.bound.ensures
 
-pub explore-bounds-ranks-at : goal.explore-bounds-ranks-at
-explore-bounds-ranks-at g t c =
-    let before = c.loop-rank.invariant in
-    let here = turn_at c.seeds-seeds.ensures.limits before.untried before.found (omega (arith, c.loop-rank-test.true)) in
+pub explore-bounds-priorities-at : goal.explore-bounds-priorities-at
+explore-bounds-priorities-at g t c =
+    let before = c.loop-priority.invariant in
+    let here = turn_at c.seeds-seeds.ensures.limits before.untried before.found (omega (arith, c.loop-priority-test.true)) in
     omega (arith, here.place)
 
 pub explore-listed : goal.explore-listed
 explore-listed g t c =
-    let before = c.loop-rank.invariant in
-    let here = turn_at c.seeds-seeds.ensures.limits before.untried before.found (omega (arith, c.loop-rank-test.true)) in
+    let before = c.loop-priority.invariant in
+    let here = turn_at c.seeds-seeds.ensures.limits before.untried before.found (omega (arith, c.loop-priority-test.true)) in
     let long : length c.others_waiting-others.new.turns ≡ 6 = search rules in
     omega (arith, here.place, long)
 
 pub explore-bounds-turns-at : goal.explore-bounds-turns-at
 explore-bounds-turns-at g t c =
-    let before = c.loop-rank.invariant in
-    let here = turn_at c.seeds-seeds.ensures.limits before.untried before.found (omega (arith, c.loop-rank-test.true)) in
+    let before = c.loop-priority.invariant in
+    let here = turn_at c.seeds-seeds.ensures.limits before.untried before.found (omega (arith, c.loop-priority-test.true)) in
     omega (arith, here.place)
 
 pub explore-overflow_sub-seeds : goal.explore-overflow_sub-seeds
 explore-overflow_sub-seeds g t c =
     let a = c.args.houses.now in
-    let before = c.loop-rank.invariant in
-    let here = turn_at c.seeds-seeds.ensures.limits before.untried before.found (omega (arith, c.loop-rank-test.true)) in
+    let before = c.loop-priority.invariant in
+    let here = turn_at c.seeds-seeds.ensures.limits before.untried before.found (omega (arith, c.loop-priority-test.true)) in
     omega (arith, turn_keeps a _ _ _ c.seeds-seeds.ensures.limits (here.turn c.index-turns-at.result))
 
 pub explore-bound_turn-bound-requires : goal.explore-bound_turn-bound-requires
 explore-bound_turn-bound-requires g t c κs within =
     let a = c.args.houses.now in
     let limits = c.seeds-seeds.ensures.limits in
-    let before = c.loop-rank.invariant in
-    let here = turn_at c.seeds-seeds.ensures.limits before.untried before.found (omega (arith, c.loop-rank-test.true)) in
+    let before = c.loop-priority.invariant in
+    let here = turn_at c.seeds-seeds.ensures.limits before.untried before.found (omega (arith, c.loop-priority-test.true)) in
     let turn = here.turn c.index-turns-at.result in (
-      omega (arith, step_falls a (c.loop-rank.rank % 8 + 1) _ limits turn.legal (sym turn.step)),
-      (within, rw (c.seeds-seeds.ensures.seeds, c.seeds.ensures.seeds) (goes_on a (c.loop-rank.rank % 8 + 1) _ limits turn.legal (sym turn.step))),
+      omega (arith, step_falls a (c.loop-priority.priority % 8 + 1) _ limits turn.legal (sym turn.step)),
+      (within, rw (c.seeds-seeds.ensures.seeds, c.seeds.ensures.seeds) (goes_on a (c.loop-priority.priority % 8 + 1) _ limits turn.legal (sym turn.step))),
     )
 
 pub explore-returns-then-bar-bound : goal.explore-returns-then-bar-bound
 explore-returns-then-bar-bound g t c =
     let a = c.args.houses.now in
-    let before = c.loop-rank.invariant in
-    let here = turn_at c.seeds-seeds.ensures.limits before.untried before.found (omega (arith, c.loop-rank-test.true)) in
+    let before = c.loop-priority.invariant in
+    let here = turn_at c.seeds-seeds.ensures.limits before.untried before.found (omega (arith, c.loop-priority-test.true)) in
     record {
       lower = turn_enough a c.args.bar _ _ _ _ c.seeds-seeds.ensures.limits (here.turn c.index-turns-at.result)
           (rw (c.seeds-seeds.ensures.seeds, c.seeds.ensures.seeds) at c.bound_turn-bound.ensures);
       upper = λ short. absurd (omega (arith, short, c.if-bar-bound.true));
     }
 
-pub explore-loop-rank-preserved : goal.explore-loop-rank-preserved
-explore-loop-rank-preserved g t c =
-    let before = c.loop-rank.invariant in
-    let here = turn_at c.seeds-seeds.ensures.limits before.untried before.found (omega (arith, c.loop-rank-test.true)) in
+pub explore-loop-priority-preserved : goal.explore-loop-priority-preserved
+explore-loop-priority-preserved g t c =
+    let before = c.loop-priority.invariant in
+    let here = turn_at c.seeds-seeds.ensures.limits before.untried before.found (omega (arith, c.loop-priority-test.true)) in
     let turn = here.turn c.index-turns-at.result in
     record {
-      low = omega (arith, c.max-most-in-loop-rank.ensures, before.low, c.if-bar-bound.false);
-      found = c.highest-rank-in-loop-rank.ensures.found;
-      highest = c.highest-rank-in-loop-rank.ensures.highest;
-      untried = untried_fewer c.args.houses.now c.loop-rank.most c.loop-rank.ranks c.others_waiting-others.new.turns (c.loop-rank.rank % 8)
-          c.bound_turn-bound.result _ before.untried here.place
+      low = omega (arith, c.max-most-in-loop-priority.ensures, before.low, c.if-bar-bound.false);
+      found = c.highest-priority-in-loop-priority.ensures.found;
+      highest = c.highest-priority-in-loop-priority.ensures.highest;
+      untried = untried_fewer c.args.houses.now c.loop-priority.most c.loop-priority.priorities c.others_waiting-others.new.turns
+          (c.loop-priority.priority % 8) c.bound_turn-bound.result _ before.untried here.place
           (turn_at_most c.args.houses.now c.args.bar _ _ _ _ turn
-          (rw (c.seeds-seeds.ensures.seeds, c.seeds.ensures.seeds) at c.bound_turn-bound.ensures) c.if-bar-bound.false) c.max-most-in-loop-rank.ensures;
+          (rw (c.seeds-seeds.ensures.seeds, c.seeds.ensures.seeds) at c.bound_turn-bound.ensures) c.if-bar-bound.false) c.max-most-in-loop-priority.ensures;
     }
 
-pub explore-loop-rank-smaller : goal.explore-loop-rank-smaller
-explore-loop-rank-smaller g t c =
-    let before = c.loop-rank.invariant in
-    let here = turn_at c.seeds-seeds.ensures.limits before.untried before.found (omega (arith, c.loop-rank-test.true)) in
+pub explore-loop-priority-smaller : goal.explore-loop-priority-smaller
+explore-loop-priority-smaller g t c =
+    let before = c.loop-priority.invariant in
+    let here = turn_at c.seeds-seeds.ensures.limits before.untried before.found (omega (arith, c.loop-priority-test.true)) in
     let cells = before.untried.waiting.cells in
-    omega (arith, here.rank, c.loop-rank-test.true, sum_by-set (λ x. x) c.loop-rank.ranks (c.loop-rank.rank % 8) 0 0 (omega (arith, here.place, cells)))
+    let fewer = sum_by-set (λ x. x) c.loop-priority.priorities (c.loop-priority.priority % 8) 0 0 (omega (arith, here.place, cells)) in
+    omega (arith, here.priority, c.loop-priority-test.true, fewer)
 
 pub explore-returns : goal.explore-returns
 explore-returns g t c =
-    let is = c.loop-rank.invariant in
+    let is = c.loop-priority.invariant in
     record {
       lower = λ enough. absurd (omega (arith, enough, is.low));
-      upper = λ short. none_untried c.args.houses.now c.loop-rank.most c.loop-rank.ranks c.others_waiting-others.new.turns c.loop-rank.rank
-          c.seeds-seeds.ensures.limits c.requires.going
-          is.untried is.highest (omega (arith, c.loop-rank-test.false));
+      upper = λ short. none_untried c.args.houses.now c.loop-priority.most c.loop-priority.priorities c.others_waiting-others.new.turns
+          c.loop-priority.priority c.seeds-seeds.ensures.limits c.requires.going
+          is.untried is.highest (omega (arith, c.loop-priority-test.false));
     }
 
 pub look-returns-then-seeds-max_ending_seeds : goal.look-returns-then-seeds-max_ending_seeds
@@ -212,7 +213,7 @@ others_waiting-loop-left-init g t c =
       small = marks.small;
       low = λ enough. refl;
       legal = λ i some. marked_legal a i marks.limits c.requires.going ((marks.marked i).0 some).0;
-      ranked = ranked_none a 0 c.other_houses-left.result _ _ (search rules) (search rules) c.requires.none marks.marked;
+      played = played_none a 0 c.other_houses-left.result _ _ (search rules) (search rules) c.requires.none marks.marked;
     }
 
 pub others_waiting-look-requires : goal.others_waiting-look-requires
@@ -224,7 +225,7 @@ others_waiting-returns-then-bar-bound g t c =
     let has = last_legal c.args.houses.now c.loop-left.left c.split_last-h.result.0 c.split_last-h.ensures.last c.loop-left.invariant.legal in
     record {
       lower = move_enough c.args.houses.now c.args.bar c.split_last-h.result.0 _ c.other_houses-left.ensures.limits has c.in-Bounded.ensures;
-      waiting = c.loop-left.invariant.ranked.waiting.each;
+      waiting = c.loop-left.invariant.played.waiting.each;
       others = λ short. absurd (omega (arith, short, c.if-bar-bound.true));
     }
 
@@ -240,7 +241,7 @@ others_waiting-loop-left-preserved g t c =
       small = omega (arith, before.small, marks_fall marks h last);
       low = low_more c.args.bar c.loop-left.most c.in-Bounded.bound c.max-most.result before.low c.if-bar-bound.false new_is;
       legal = marks_fewer a marks h last before.legal;
-      ranked = ranked_bound a c.loop-left.most marks h c.loop-left.ranks c.loop-left.turns before.ranked last c.in-Bounded.bound c.max-most.result
+      played = played_bound a c.loop-left.most marks h c.loop-left.priorities c.loop-left.turns before.played last c.in-Bounded.bound c.max-most.result
           (c.in-Bounded.ensures.upper c.if-bar-bound.false) new_is;
     })
 
@@ -252,8 +253,8 @@ others_waiting-returns g t c =
     let none : c.loop-left.left ≡ 0 = omega (arith, c.loop-left-test.false) in
     record {
       lower = λ enough. omega (arith, c.loop-left.invariant.low enough);
-      waiting = c.loop-left.invariant.ranked.waiting.each;
-      others = λ short h has. c.loop-left.invariant.ranked.others h has (rw none (cell_none (h - 1)));
+      waiting = c.loop-left.invariant.played.waiting.each;
+      others = λ short h has. c.loop-left.invariant.played.others h has (rw none (cell_none (h - 1)));
     }
 
 pub others_waiting-loop-left-preserved-in-Waits : goal.others_waiting-loop-left-preserved-in-Waits
@@ -267,18 +268,18 @@ others_waiting-loop-left-preserved-in-Waits g t c =
       small = omega (arith, before.small, marks_fall marks h last);
       low = before.low;
       legal = marks_fewer a marks h last before.legal;
-      ranked = ranked_more a c.loop-left.most marks h c.loop-left.ranks c.loop-left.turns before.ranked last c.in-Waits.rank c.in-Waits.next
+      played = played_more a c.loop-left.most marks h c.loop-left.priorities c.loop-left.turns before.played last c.in-Waits.priority c.in-Waits.next
           c.in-Waits.ensures.0 c.in-Waits.ensures.1;
     })
 
-pub explore-loop-rank-init : goal.explore-loop-rank-init
-explore-loop-rank-init g t c =
+pub explore-loop-priority-init : goal.explore-loop-priority-init
+explore-loop-priority-init g t c =
     let others = c.others_waiting-others.ensures in
     let most_is : c.max-most.result ≡ max c.bound_again-again.result c.others_waiting-others.result = search (rules, c.max-most.ensures) in
     record {
       low = omega (arith, most_is, c.if-bar-again.false, c.if-bar-others.false);
-      found = c.highest-rank.ensures.found;
-      highest = c.highest-rank.ensures.highest;
+      found = c.highest-priority.ensures.found;
+      highest = c.highest-priority.ensures.highest;
       untried = untried_first c.args.houses.now c.args.bar _ _ _ _ c.max-most.result (search rules) others
           (c.bound_again-again.ensures.upper c.if-bar-again.false) c.if-bar-others.false most_is;
     }

@@ -6,7 +6,7 @@ use Rattle.kalah_rules.specs.Measure.{moves_left}
 use Rattle.kalah_solve.specs.Solver.StepWorth.{moves_after}
 use Rattle.kalah_solve.specs.RowMarks.{cell}
 use Rattle.kalah_solve.specs.Search.Tried.{EndsInStore}
-use Rattle.kalah_solve.proofs.SearchLemmas.Tries.{AreAgain, AreRanked, AreUntried}
+use Rattle.kalah_solve.proofs.SearchLemmas.Tries.{AreAgain, ArePlayed, AreUntried}
 use Rattle.kalah_solve.proofs.search.Search.+search.Given as goal
 
 abbrev pub decreases-bound : goal.decreases-bound
@@ -50,19 +50,19 @@ invariant-others_waiting-loop-left g l = record {
   small : l.left < 2 ^ 30;
   low : l.bar ≤ l.most → l.most ≡ 0;
   legal : (i : ℕ) → 0 < cell l.left i → Contains (legal_houses (bare l.houses)) (i + 1);
-  ranked : AreRanked l.houses l.most l.left l.ranks l.turns;
+  played : ArePlayed l.houses l.most l.left l.priorities l.turns;
 }
 
 abbrev pub decreases-others_waiting-loop-left : goal.decreases-others_waiting-loop-left
 decreases-others_waiting-loop-left g l = l.left
 
-abbrev pub invariant-explore-loop-rank : goal.invariant-explore-loop-rank
-invariant-explore-loop-rank g l = record {
+abbrev pub invariant-explore-loop-priority : goal.invariant-explore-loop-priority
+invariant-explore-loop-priority g l = record {
   low : l.most < l.bar;
-  found : Contains l.ranks l.rank;
-  highest : (k : ℕ) → get_or l.ranks k 0 ≤ l.rank;
-  untried : AreUntried l.houses l.most l.ranks l.turns;
+  found : Contains l.priorities l.priority;
+  highest : (k : ℕ) → get_or l.priorities k 0 ≤ l.priority;
+  untried : AreUntried l.houses l.most l.priorities l.turns;
 }
 
-abbrev pub decreases-explore-loop-rank : goal.decreases-explore-loop-rank
-decreases-explore-loop-rank g l = sum l.ranks
+abbrev pub decreases-explore-loop-priority : goal.decreases-explore-loop-priority
+decreases-explore-loop-priority g l = sum l.priorities
