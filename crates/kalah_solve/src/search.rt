@@ -40,7 +40,7 @@ const MANY_SEEDS: u8 = 17;
 /// The number of nodes from which all endings pay.
 const MUCH_WORK: u64 = 60_000;
 
-// The most seeds of the endings that a search uses.
+// The most seeds for which a search looks up what the mover takes among the endings.
 #[derive(Clone, Copy)]
 struct EndingLimit {
     seeds: u8,
@@ -115,8 +115,8 @@ impl<A: Allocator + Clone> Search<A> {
         let seeds = houses.seeds();
         self.seen_many_seeds |= seeds >= MANY_SEEDS;
         self.grow_endings();
-        if seeds <= self.max_ending_seeds() {
-            let won = self.table.won(*houses);
+        if seeds <= self.ending_limit.seeds {
+            let won = self.table.endings.won(*houses);
             return window.clamp(2 * won as i32 - seeds as i32);
         }
         let known = self.known_margins(houses);
@@ -194,19 +194,12 @@ impl<A: Allocator + Clone> Search<A> {
         }
     }
 
-    // Returns the most seeds for which the result is looked up among the endings.
-    fn max_ending_seeds(&self) -> u8
-        ensures { result ≤ most_ending_seeds }
-    {
-        self.ending_limit.seeds
-    }
-
     // Returns what is known of the seeds that the mover takes.
     fn known(&mut self, houses: &Houses) -> SeedBounds
         ensures { IsWithinBounds result (won houses.now) }
     {
         if houses.seeds() <= self.most_placed {
-            self.table.look_up_place(houses)
+            self.table.places.look_up(houses)
         } else {
             self.known_by_entry(*houses)
         }
@@ -229,7 +222,7 @@ impl<A: Allocator + Clone> Search<A> {
     {
         let seeds = houses.seeds();
         if seeds <= self.most_placed {
-            self.table.keep_place(houses, bounds);
+            self.table.places.keep(houses, bounds);
         } else {
             self.learn_margins(*houses, bounds.margins(seeds), work);
         }

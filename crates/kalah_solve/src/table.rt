@@ -1,11 +1,9 @@
 //! A bounded table of what is known of houses.
-ghost use Rattle.std.specs.Prelude.{◌≡◌, ◌≤◌, ◌⊎◌, length, min, nat_eq, IfOk, IfSome, IsSome, Some, ◌≤ℤ◌, ℤ, ◌<ℤ◌, false};
+ghost use Rattle.std.specs.Prelude.{◌≡◌, ◌≤◌, ◌⊎◌, length, min, nat_eq, IfOk, IfSome, IsSome, Some};
 ghost use Rattle.std.specs.Map.{lookup};
 ghost use Rattle.kalah_rules.specs.Key.{key_of};
-ghost use Rattle.kalah_rules.specs.Position.{bare, is_over};
 ghost use Rattle.kalah_solve.specs.Table.Entries.{most_entries, empty_table};
 ghost use Rattle.kalah_solve.specs.Table.DirectTable.{places_for};
-ghost use Rattle.kalah_solve.specs.Table.EndgameTable.{IsEnding};
 ghost use Rattle.kalah_solve.specs.Solver.Worth.{houses_worth};
 
 pub(crate) mod direct_table;
@@ -14,10 +12,9 @@ pub(crate) mod endgame_table;
 mod tests;
 
 use crate::bounds::interval::Interval;
-use crate::bounds::seed_bounds::SeedBounds;
 use crate::table::direct_table::DirectTable;
 use crate::table::endgame_table::EndgameTable;
-use kalah_rules::{Houses, Sowings};
+use kalah_rules::Houses;
 use lru::{DefaultHasher, LruCache};
 use std::alloc::{AllocError, Allocator, Global};
 use std::marker::Model;
@@ -40,8 +37,10 @@ const FIRST_PLACES: u32 = 8_192;
 #[derive(Drop)]
 pub struct Table<A: Allocator + Clone = Global> {
     entries: LruCache<u64, Interval, DefaultHasher, A>,
-    places: DirectTable<A>,
-    endings: Arc<EndgameTable<A>, A>,
+    // What is known of houses, without a search for them.
+    pub(crate) places: DirectTable<A>,
+    // The exact results of houses with few seeds, which tables may share.
+    pub(crate) endings: Arc<EndgameTable<A>, A>,
 }
 
 impl<A: Allocator + Clone> Model for Table<A> {
@@ -57,7 +56,6 @@ impl<A: Allocator + Clone> Model for Table<A> {
 impl<A: Allocator + Clone> Table<A> {
     ghost use Rattle.kalah_solve.specs.Bounds.Intervals.{Encloses};
     ghost use Rattle.kalah_solve.specs.Table.Entries.{AreTrue};
-    ghost use Rattle.kalah_solve.specs.Bounds.Won.{won, IsWithinBounds};
 
     /// Makes an empty table with room for `capacity` entries, 1 to 1,048,576.
     ///
@@ -118,36 +116,6 @@ impl<A: Allocator + Clone> Table<A> {
         if let Ok(places) = self.all_places() {
             self.places = places;
         }
-    }
-
-    // Returns what the place of the houses states of them.
-    pub(crate) fn look_up_place(&self, houses: &Houses) -> SeedBounds
-        ensures { IsWithinBounds result (won houses.now) }
-    {
-        self.places.look_up(houses)
-    }
-
-    // Stores in the place of the houses that the mover's share is within this one.
-    pub(crate) fn keep_place(&mut self, houses: &Houses, bounds: SeedBounds)
-        requires { IsWithinBounds bounds (won houses.now) }
-        ensures { self.new ≡ self.old }
-    {
-        self.places.keep(houses, bounds);
-    }
-
-    // Returns the sowings of all houses, which all tables with these endings share.
-    pub(crate) fn sowings(&self) -> &Sowings {
-        self.endings.sowings()
-    }
-
-    // Returns how many seeds the mover takes from houses with few seeds.
-    pub(crate) fn won(&mut self, houses: Houses) -> u8
-        requires going { is_over (bare houses) ≡ false }
-        requires few { IsEnding houses }
-        ensures taken { result ≡ won houses }
-        ensures kept { self.new ≡ self.old }
-    {
-        self.endings.won(houses)
     }
 
     // Returns the interval known for the houses, which become the most recently used.

@@ -1,5 +1,5 @@
 //! Rows of houses as numbers, with five bits for each house, house 1 lowest.
-ghost use Rattle.std.specs.Prelude.{◌≡◌, ◌+◌, ◌-◌, ◌*◌, ◌/◌, ◌%◌, ◌^◌, ◌<◌, ◌≤◌, length, sum};
+ghost use Rattle.std.specs.Prelude.{◌≡◌, ◌+◌, ◌-◌, ◌*◌, ◌/◌, ◌%◌, ◌^◌, ◌<◌, ◌≤◌, sum};
 ghost use Rattle.kalah_rules.specs.Key.{number_of, cells, rule_bit};
 ghost use Rattle.kalah_rules.specs.Packed.{ones, ones_up_to};
 

@@ -1,5 +1,5 @@
 //! How each house is sown, for each number of its seeds: a sowing is one addition to a key.
-ghost use Rattle.std.specs.Prelude.{◌≡◌, ◌+◌, ◌/◌, ◌%◌, ◌<◌, ◌≤◌};
+ghost use Rattle.std.specs.Prelude.{◌+◌, ◌/◌, ◌%◌, ◌<◌, ◌≤◌};
 ghost use Rattle.kalah_rules.specs.Sowings.{IsSowing};
 
 use crate::houses::numbers::{OTHER_ROW, alone, other_gains, own_gains};

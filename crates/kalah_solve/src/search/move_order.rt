@@ -1,6 +1,5 @@
 //! An estimate of how good a turn is, before its outcome is known. It orders the moves, and states nothing about their worth.
 ghost use Rattle.std.specs.Prelude.{◌≡◌, ◌+◌, ◌%◌, ◌≤◌, ◌<◌};
-ghost use Rattle.kalah_rules.specs.Position.{IsWithinHouses};
 
 #[cfg(test)]
 mod tests;

@@ -31,8 +31,8 @@ impl<A: Allocator + Clone> Search<A> {
         requires going { is_over (bare houses) ≡ false }
         ensures { IsSoftBound bar (won houses) result }
     {
-        if houses.seeds() <= self.max_ending_seeds() {
-            return self.table.won(houses);
+        if houses.seeds() <= self.ending_limit.seeds {
+            return self.table.endings.won(houses);
         }
         self.bound_by_search(houses, bar)
     }
@@ -168,10 +168,10 @@ impl<A: Allocator + Clone> Search<A> {
         ensures { IsLook houses.now bar h result }
     {
         let _seeds = houses.seeds();
-        let step = houses.play_by(self.table.sowings(), h);
+        let step = houses.play_by(&self.table.endings.sowings, h);
         match step {
             HousesStep::Turn(gained, next) => {
-                if gained < bar && next.seeds() > self.max_ending_seeds() {
+                if gained < bar && next.seeds() > self.ending_limit.seeds {
                     return Look::Waits(priority(houses.m(), h, gained, &next), next);
                 }
                 Look::Bounded(self.bound_turn(gained, next, bar))

@@ -106,7 +106,7 @@ fn small_positions_take_few_nodes(rt: HostRuntime) {
 
 // Whether nothing is known of the houses by their place.
 fn is_unknown(search: &Search, houses: &Houses) -> bool {
-    search.table.look_up_place(houses) == SeedBounds::unknown(houses)
+    search.table.places.look_up(houses) == SeedBounds::unknown(houses)
 }
 
 // After house 1 of `5,5` against `5,5` the other player has `next`, and something is known of them.
@@ -158,7 +158,7 @@ fn two_houses(rt: &impl Abort, first: u8, others: u8) -> Houses {
 fn asks_for_endings(rt: &impl Abort, search: &mut Search, before: u64, most: u8) {
     search.nodes = before;
     search.count_node();
-    assert!(rt; search.max_ending_seeds() == most);
+    assert!(rt; search.ending_limit.seeds == most);
 }
 
 #[test]
@@ -181,7 +181,7 @@ fn endings_grow_where_many_seeds_come_after_much_work(rt: HostRuntime) {
     let mut search = new_search(&rt, rt.alloc());
     asks_for_endings(&rt, &mut search, 59_999, 8);
     tells_worth(&rt, &mut search, &two_houses(&rt, 4, 4), -10);
-    assert!(rt; search.max_ending_seeds() == 8);
+    assert!(rt; search.ending_limit.seeds == 8);
     tells_worth(&rt, &mut search, &two_houses(&rt, 5, 4), -1);
-    assert!(rt; search.max_ending_seeds() == 9);
+    assert!(rt; search.ending_limit.seeds == 9);
 }

@@ -1,5 +1,5 @@
 //! The exact number of seeds that the mover takes from houses with few seeds, kept once it is known.
-ghost use Rattle.std.specs.Prelude.{◌≡◌, ◌≤◌, ◌<◌, ◌+◌, ◌*◌, ◌/◌, ◌%◌, ◌^◌, ◌++◌, ℕ, IfSome};
+ghost use Rattle.std.specs.Prelude.{◌≡◌, ◌<◌, ◌+◌, ◌*◌, ◌/◌, ◌%◌, ◌^◌, ◌++◌, IfSome};
 ghost use Rattle.kalah_rules.specs.Position.{IsWithinHouses};
 ghost use Rattle.kalah_rules.specs.Key.{number_of};
 ghost use Rattle.kalah_solve.specs.Table.RowRank.{choose, sums_number, rank_of_houses};
@@ -32,7 +32,7 @@ const INVERSE_OF_31: u64 = 0xEF7B_DEF7_BDEF_7BDF;
 pub(crate) struct EndgameTable<A: Allocator = Global> {
     words: Vec<AtomicIn<TrueWord>, A>,
     pairs: [u32; 1920],
-    sowings: Sowings,
+    pub(crate) sowings: Sowings,
 }
 
 impl<A: Allocator> Model for EndgameTable<A> {
@@ -126,11 +126,6 @@ impl<A: Allocator> EndgameTable<A> {
             pairs: pairs(),
             sowings: Sowings::new(),
         })
-    }
-
-    /// Returns the sowings by which endings are played.
-    pub(crate) fn sowings(&self) -> &Sowings {
-        &self.sowings
     }
 
     // Returns what two cells add to the rank of a row, with `past` pairs past them, from the number of seeds from each of them on.

@@ -1,5 +1,5 @@
 //! The number of seeds that the mover takes from houses with few seeds, by trying each move to the end.
-ghost use Rattle.std.specs.Prelude.{◌≡◌, ◌≤◌, ◌<◌, ◌^◌, false, Contains};
+ghost use Rattle.std.specs.Prelude.{◌≡◌, ◌<◌, ◌^◌, false, Contains};
 ghost use Rattle.kalah_rules.specs.Position.{bare, is_over};
 ghost use Rattle.kalah_rules.specs.Play.{legal_houses};
 ghost use Rattle.kalah_rules.specs.HousesStep.{houses_step};
@@ -72,7 +72,7 @@ impl<A: Allocator> EndgameTable<A> {
         ensures { result ≡ won_by_step (houses_step houses.now h) }
     {
         let _seeds = houses.seeds();
-        match houses.play_by(self.sowings(), h) {
+        match houses.play_by(&self.sowings, h) {
             HousesStep::Over { own, .. } => own,
             HousesStep::Again(gained, next) => gained + self.won(next),
             HousesStep::Turn(gained, next) => gained + (next.seeds() - self.won(next)),

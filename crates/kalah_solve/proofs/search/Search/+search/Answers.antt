@@ -130,8 +130,8 @@ explore-returns g t c =
           is.untried is.highest (omega (arith, c.loop-priority-test.false));
     }
 
-pub look-returns-then-seeds-max_ending_seeds : goal.look-returns-then-seeds-max_ending_seeds
-look-returns-then-seeds-max_ending_seeds g t c = (
+pub look-returns-then-seeds-self : goal.look-returns-then-seeds-self
+look-returns-then-seeds-self g t c = (
   c.priority.ensures.some,
   turn_of c.args.houses.now c.args.h c.priority.result c.in-Turn.gained c.in-Turn.next c.play_by-step.result c.seeds-seeds.ensures.limits
       c.requires.legal c.play_by-step.ensures c.in-Turn.is c.priority.ensures.house,

@@ -26,8 +26,8 @@ returns g c =
     c.of_window.ensures.ordered c.of_window.ensures.apart c.won_within-won.ensures c.clamp-answer.ensures in
     to_z-of_z w32 _ fits ∙ stored ∙ c.in-Some.ensures.some (houses_worth c.args.houses.now) c.known_margins-known.ensures.holds
 
-pub returns-then-seeds-max_ending_seeds : goal.returns-then-seeds-max_ending_seeds
-returns-then-seeds-max_ending_seeds g c =
+pub returns-then-seeds-self : goal.returns-then-seeds-self
+returns-then-seeds-self g c =
     let fits : SFits w32 c.clamp.result = search rules in
     let seeds = c.seeds-seeds.ensures in
-    to_z-of_z w32 _ fits ∙ told_by_taken c.args.houses.now _ _ _ c.won-won.result seeds.limits seeds.seeds c.won-won.ensures.taken c.clamp.ensures
+    to_z-of_z w32 _ fits ∙ told_by_taken c.args.houses.now _ _ _ c.won-won.result seeds.limits seeds.seeds c.won-won.ensures c.clamp.ensures
