@@ -7,14 +7,12 @@ use Rattle.std.proofs.Math.ListN.{length-set}
 use Rattle.kalah_rules.specs.Position.{Rows, IsWithinHouses, seeds, seeds_in_houses, is_over, bare}
 use Rattle.kalah_rules.specs.Play.{legal_houses}
 use Rattle.kalah_rules.specs.HousesStep.{houses_step}
-use Rattle.kalah_rules.specs.declared.step.HousesStep.{HousesStep}
 use Rattle.kalah_rules.specs.declared.step.HousesStep.TheVariants.{Turn}
 use Rattle.kalah_rules.proofs.Legal.{holds_legal, legal_holds}
 use Rattle.kalah_solve.specs.Bounds.Won.{won, won_by_step}
 use Rattle.kalah_solve.specs.Search.Tried.{IsSoftBound, WinsAtMost, EndsInStore, IsTurnOf, AreWaiting}
 use Rattle.kalah_solve.specs.RowMarks.{cell, IsLastMark}
-use Rattle.kalah_solve.specs.Solver.StepWorth.{LeadsTo, LeadsOn}
-use Rattle.kalah_solve.proofs.SolverLemmas.StepWorths.{leads_on}
+use Rattle.kalah_solve.proofs.SolverLemmas.StepWorths.{leads_by}
 use Rattle.kalah_solve.proofs.RowMarks.{last_marked, left_before, gone_before}
 use Rattle.kalah_solve.proofs.BoundsLemmas.Winnings.{taken_most, taken_reached}
 
@@ -98,18 +96,18 @@ pub turn_at_most : (a : Rows) (bar h priority bound : ℕ) (b : Rows) → IsTurn
 turn_at_most a bar h priority bound b turn is short = (turn_bound a bar h priority bound b turn is).upper short
 
 -- a turn that was played waits
-pub turn_of : (a : Rows) (h priority gained : ℕ) (b : Rows) (s : HousesStep) → IsWithinHouses a → Contains (legal_houses (bare a)) h →
-    s ≡ houses_step a h → s ≡ Turn gained b → priority % 8 + 1 ≡ h → IsTurnOf a h priority b
-turn_of a h priority gained b s w has e is house =
-    let on : LeadsTo a gained b = subst (LeadsOn a) is (subst (LeadsOn a) (sym e) (leads_on a h w has)) in
+pub turn_of : (a : Rows) (h priority gained : ℕ) (b : Rows) → IsWithinHouses a → Contains (legal_houses (bare a)) h →
+    Turn gained b ≡ houses_step a h → priority % 8 + 1 ≡ h → IsTurnOf a h priority b
+turn_of a h priority gained b w has is house =
+    let on = leads_by a h (Turn gained b) w has is in
     let brought : gained ≡ seeds_in_houses (bare a) - seeds_in_houses (bare b) = omega (arith, on.kept) in
-    record { legal = has; step = sym e ∙ is ∙ ap (λ g. Turn g b) brought; house = house }
+    record { legal = has; step = sym is ∙ ap (λ g. Turn g b) brought; house = house }
 
 -- the other player has no more seeds than there were
 pub turn_keeps : (a : Rows) (h priority : ℕ) (b : Rows) → IsWithinHouses a → IsTurnOf a h priority b →
     seeds_in_houses (bare b) ≤ seeds_in_houses (bare a)
 turn_keeps a h priority b w turn =
-    let on : LeadsTo a (seeds_in_houses (bare a) - seeds_in_houses (bare b)) b = subst (LeadsOn a) turn.step (leads_on a h w turn.legal) in
+    let on = leads_by a h (Turn _ b) w turn.legal (sym turn.step) in
     omega (arith, on.kept)
 
 -- best play takes no more than each legal move does

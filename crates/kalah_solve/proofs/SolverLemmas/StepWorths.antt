@@ -62,6 +62,10 @@ leads_on a h w has =
       limits = swapped_within q within;
     }))
 
+-- a step that was played leads there
+pub leads_by : (a : Rows) (h : ℕ) (s : HousesStep) → IsWithinHouses a → Contains (legal_houses (bare a)) h → s ≡ houses_step a h → LeadsOn a s
+leads_by a h s w has e = subst (LeadsOn a) (sym e) (leads_on a h w has)
+
 -- ---- what the search needs of a step
 goes_on_of : (a : Rows) (s : HousesStep) → IsWithinHouses a → LeadsOn a s → GoesOn s
 goes_on_of a (Over own other) w leads = omega (arith, leads, w.few_seeds)
@@ -70,7 +74,7 @@ goes_on_of a (Turn gained b) w leads = record { few = omega (arith, leads.kept, 
 
 -- a step goes on in the game
 pub goes_on : (a : Rows) (h : ℕ) (s : HousesStep) → IsWithinHouses a → Contains (legal_houses (bare a)) h → s ≡ houses_step a h → GoesOn s
-goes_on a h s w has e = subst GoesOn (sym e) (goes_on_of a (houses_step a h) w (leads_on a h w has))
+goes_on a h s w has e = goes_on_of a s w (leads_by a h s w has e)
 
 -- each step leaves fewer moves
 falls_of : (a : Rows) (s : HousesStep) → 0 < moves_left (bare a) → LeadsOn a s → moves_after s < moves_left (bare a)
@@ -83,4 +87,4 @@ pub step_falls : (a : Rows) (h : ℕ) (s : HousesStep) → IsWithinHouses a → 
     moves_after s < moves_left (bare a)
 step_falls a h s w has e =
     let fewer = after_fewer (bare a) h (legal_holds (bare a) h has) (record { same = w.same_side }) in
-    subst (λ x. moves_after x < moves_left (bare a)) (sym e) (falls_of a (houses_step a h) (omega (arith, fewer)) (leads_on a h w has))
+    falls_of a s (omega (arith, fewer)) (leads_by a h s w has e)

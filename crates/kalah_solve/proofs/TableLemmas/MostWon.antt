@@ -1,18 +1,14 @@
--- The most that a move takes, and what follows a move if few seeds are left.
-use Rattle.std.proofs.Common.{◌≡◌, ◌≢◌, inl, inr, ℕ, ◌-◌, ◌^◌, ◌<◌, ◌≤◌, get_or, arith, sym, subst}
+-- The most that a move takes.
+use Rattle.std.proofs.Common.{◌≡◌, ◌≢◌, inl, inr, ℕ, ◌-◌, ◌^◌, ◌<◌, ◌≤◌, get_or, arith}
 use Rattle.std.specs.Prelude.{false, Contains, max, ◌↔◌}
 use Rattle.std.proofs.lemmas.Bool.{cases_eq}
 use Rattle.kalah_rules.specs.Position.{Rows, IsWithinHouses, bare, is_over, seeds_in_houses}
 use Rattle.kalah_rules.specs.Play.{legal_houses}
 use Rattle.kalah_rules.specs.HousesStep.{houses_step}
-use Rattle.kalah_rules.specs.declared.step.HousesStep.{HousesStep}
-use Rattle.kalah_rules.specs.declared.step.HousesStep.TheVariants.{Again, Turn}
 use Rattle.kalah_rules.proofs.Legal.{legal_holds}
-use Rattle.kalah_solve.specs.Solver.StepWorth.{LeadsOn, LeadsTo}
 use Rattle.kalah_solve.specs.Bounds.Won.{won, won_by_step}
 use Rattle.kalah_solve.specs.RowMarks.{cell, IsLastMark}
 use Rattle.kalah_solve.proofs.RowMarks.{cell_none, gone_before}
-use Rattle.kalah_solve.proofs.SolverLemmas.StepWorths.{leads_on}
 use Rattle.kalah_solve.proofs.BoundsLemmas.Winnings.{taken_most, taken_reached, taken_share}
 
 -- no move takes more but of the houses that are still marked, nor does best play take fewer
@@ -51,20 +47,3 @@ pub most_won : (a : Rows) (marks most : ℕ) → IsWithinHouses a → is_over (b
 most_won a marks most w going is none =
     let best = taken_reached a w going in
     omega (arith, is.reached, best.2, is.all best.0 best.1 (rw none (cell_none (best.0 - 1))))
-
--- what follows a move that leads on
-pub record IsAfter (a : Rows) (gained : ℕ) (b : Rows) : Type 0 where
-  pub next : LeadsTo a gained b
-  pub few : won b ≤ seeds_in_houses (bare b)
-
-pub after_again : (a : Rows) (h : ℕ) (s : HousesStep) (gained : ℕ) (b : Rows) → IsWithinHouses a → Contains (legal_houses (bare a)) h →
-    s ≡ houses_step a h → s ≡ Again gained b → IsAfter a gained b
-after_again a h s gained b w has e is =
-    let next : LeadsTo a gained b = subst (LeadsOn a) is (subst (LeadsOn a) (sym e) (leads_on a h w has)) in
-    record { next = next; few = (taken_share b next.limits).few }
-
-pub after_turn : (a : Rows) (h : ℕ) (s : HousesStep) (gained : ℕ) (b : Rows) → IsWithinHouses a → Contains (legal_houses (bare a)) h →
-    s ≡ houses_step a h → s ≡ Turn gained b → IsAfter a gained b
-after_turn a h s gained b w has e is =
-    let next : LeadsTo a gained b = subst (LeadsOn a) is (subst (LeadsOn a) (sym e) (leads_on a h w has)) in
-    record { next = next; few = (taken_share b next.limits).few }

@@ -1,10 +1,10 @@
-use Rattle.std.proofs.Common.{arith, rules, refl, sym, ◌≡◌, ◌+◌, ◌-◌, ◌%◌, ◌<◌, subst, length}
+use Rattle.std.proofs.Common.{arith, rules, refl, sym, ◌∙◌, ◌≡◌, ◌+◌, ◌-◌, ◌%◌, subst, length}
 use Rattle.std.specs.Prelude.{max}
 use Rattle.std.proofs.lemmas.List.Sums.{sum_by-set}
 use Rattle.kalah_rules.specs.Position.{bare}
 use Rattle.kalah_rules.proofs.Legal.{legal_holds}
-use Rattle.kalah_rules.specs.Measure.{moves_left}
-use Rattle.kalah_solve.specs.Solver.StepWorth.{GoesOn, GoesOnAt, moves_after}
+use Rattle.kalah_rules.specs.declared.step.HousesStep.TheVariants.{Turn}
+use Rattle.kalah_solve.specs.Solver.StepWorth.{GoesOn, GoesOnAt}
 use Rattle.kalah_solve.specs.Bounds.Won.{won}
 use Rattle.kalah_solve.specs.Search.Tried.{EndsInStore, WinsAtMost}
 use Rattle.kalah_solve.proofs.RowMarks.{cell_none, marks_fall}
@@ -23,14 +23,9 @@ look-bound_step-requires g t c κs within =
 pub look-bound_turn-requires : goal.look-bound_turn-requires
 look-bound_turn-requires g t c κs within =
     let limits = c.seeds-seeds.ensures.limits in
-    let a = c.args.houses.now in
-    let on = goes_on a c.args.h c.play_by-step.result limits c.requires.legal c.play_by-step.ensures in (
-      omega (
-        arith,
-        subst (λ s. moves_after s < moves_left (bare a)) c.in-Turn.is
-            (step_falls a c.args.h c.play_by-step.result limits c.requires.legal c.play_by-step.ensures),
-      ),
-      (within, subst GoesOn c.in-Turn.is on),
+    let is = sym c.in-Turn.is ∙ c.play_by-step.ensures in (
+      omega (arith, step_falls c.args.houses.now c.args.h (Turn c.in-Turn.gained c.in-Turn.next) limits c.requires.legal is),
+      (within, goes_on c.args.houses.now c.args.h (Turn c.in-Turn.gained c.in-Turn.next) limits c.requires.legal is),
     )
 
 pub bound_step-overflow_add-result : goal.bound_step-overflow_add-result
@@ -133,8 +128,8 @@ explore-returns g t c =
 pub look-returns-then-seeds-self : goal.look-returns-then-seeds-self
 look-returns-then-seeds-self g t c = (
   c.priority.ensures.some,
-  turn_of c.args.houses.now c.args.h c.priority.result c.in-Turn.gained c.in-Turn.next c.play_by-step.result c.seeds-seeds.ensures.limits
-      c.requires.legal c.play_by-step.ensures c.in-Turn.is c.priority.ensures.house,
+  turn_of c.args.houses.now c.args.h c.priority.result c.in-Turn.gained c.in-Turn.next c.seeds-seeds.ensures.limits c.requires.legal
+      (sym c.in-Turn.is ∙ c.play_by-step.ensures) c.priority.ensures.house,
 )
 
 pub look-priority-requires-clause-first : goal.look-priority-requires-clause-first

@@ -1,7 +1,10 @@
-use Rattle.std.proofs.Common.{arith, rules, ◌-◌, ◌^◌}
+use Rattle.std.proofs.Common.{arith, rules, ◌-◌, ◌^◌, sym, ◌∙◌}
+use Rattle.kalah_rules.specs.declared.step.HousesStep.TheVariants.{Again, Turn}
+use Rattle.kalah_solve.proofs.BoundsLemmas.Winnings.{taken_share}
+use Rattle.kalah_solve.proofs.SolverLemmas.StepWorths.{leads_by}
 use Rattle.kalah_solve.proofs.RowMarks.{marks_fall}
 use Rattle.kalah_solve.proofs.SearchLemmas.Tries.{marked_legal, marks_fewer, last_legal}
-use Rattle.kalah_solve.proofs.TableLemmas.MostWon.{most_of_none, most_more, most_all, most_won, after_again, after_turn}
+use Rattle.kalah_solve.proofs.TableLemmas.MostWon.{most_of_none, most_more, most_all, most_won}
 use Rattle.kalah_solve.proofs.table.endgame_table.EndgameTable.+exact.Goals as goal
 
 pub most_won-loop-left-init : goal.most_won-loop-left-init
@@ -57,30 +60,30 @@ most_won-returns g t c =
 
 pub move_wins-won-requires : goal.move_wins-won-requires
 move_wins-won-requires g t c κs within =
-    let after = after_again c.args.houses.now c.args.h c.play_by.result c.in-Again.gained c.in-Again.next c.seeds-seeds.ensures.limits c.requires.legal
-    c.play_by.ensures c.in-Again.is in
-    (omega (arith, after.next.fewer), (within, (after.next.going, omega (arith, after.next.kept, c.requires.few))))
+    let next = leads_by c.args.houses.now c.args.h (Again c.in-Again.gained c.in-Again.next) c.seeds-seeds.ensures.limits c.requires.legal
+    (sym c.in-Again.is ∙ c.play_by.ensures) in
+    (omega (arith, next.fewer), (within, (next.going, omega (arith, next.kept, c.requires.few))))
 
 pub move_wins-overflow_add-result : goal.move_wins-overflow_add-result
 move_wins-overflow_add-result g t c =
-    let after = after_again c.args.houses.now c.args.h c.play_by.result c.in-Again.gained c.in-Again.next c.seeds-seeds.ensures.limits c.requires.legal
-    c.play_by.ensures c.in-Again.is in
-    omega (arith, after.next.kept, after.few, c.requires.few, c.won.ensures)
+    let next = leads_by c.args.houses.now c.args.h (Again c.in-Again.gained c.in-Again.next) c.seeds-seeds.ensures.limits c.requires.legal
+    (sym c.in-Again.is ∙ c.play_by.ensures) in
+    omega (arith, next.kept, (taken_share c.in-Again.next next.limits).few, c.requires.few, c.won.ensures)
 
 pub move_wins-won-requires-in-Turn : goal.move_wins-won-requires-in-Turn
 move_wins-won-requires-in-Turn g t c κs within =
-    let after = after_turn c.args.houses.now c.args.h c.play_by.result c.in-Turn.gained c.in-Turn.next c.seeds-seeds.ensures.limits c.requires.legal
-    c.play_by.ensures c.in-Turn.is in
-    (omega (arith, after.next.fewer), (within, (after.next.going, omega (arith, after.next.kept, c.requires.few))))
+    let next = leads_by c.args.houses.now c.args.h (Turn c.in-Turn.gained c.in-Turn.next) c.seeds-seeds.ensures.limits c.requires.legal
+    (sym c.in-Turn.is ∙ c.play_by.ensures) in
+    (omega (arith, next.fewer), (within, (next.going, omega (arith, next.kept, c.requires.few))))
 
 pub move_wins-overflow_sub-result : goal.move_wins-overflow_sub-result
 move_wins-overflow_sub-result g t c =
-    let after = after_turn c.args.houses.now c.args.h c.play_by.result c.in-Turn.gained c.in-Turn.next c.seeds-seeds.ensures.limits c.requires.legal
-    c.play_by.ensures c.in-Turn.is in
-    omega (arith, after.few, c.seeds.ensures.seeds, c.won-in-Turn.ensures)
+    let next = leads_by c.args.houses.now c.args.h (Turn c.in-Turn.gained c.in-Turn.next) c.seeds-seeds.ensures.limits c.requires.legal
+    (sym c.in-Turn.is ∙ c.play_by.ensures) in
+    omega (arith, (taken_share c.in-Turn.next next.limits).few, c.seeds.ensures.seeds, c.won-in-Turn.ensures)
 
 pub move_wins-overflow_add-result-in-Turn : goal.move_wins-overflow_add-result-in-Turn
 move_wins-overflow_add-result-in-Turn g t c =
-    let after = after_turn c.args.houses.now c.args.h c.play_by.result c.in-Turn.gained c.in-Turn.next c.seeds-seeds.ensures.limits c.requires.legal
-    c.play_by.ensures c.in-Turn.is in
-    omega (arith, after.next.kept, c.requires.few, c.seeds.ensures.seeds)
+    let next = leads_by c.args.houses.now c.args.h (Turn c.in-Turn.gained c.in-Turn.next) c.seeds-seeds.ensures.limits c.requires.legal
+    (sym c.in-Turn.is ∙ c.play_by.ensures) in
+    omega (arith, next.kept, c.requires.few, c.seeds.ensures.seeds)
