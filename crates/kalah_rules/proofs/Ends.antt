@@ -10,7 +10,8 @@ use Rattle.kalah_rules.specs.Lap.{Own, HoldsSeeds, with_seed}
 use Rattle.kalah_rules.specs.Measure.{row_distance, distance_to_stores, IsNearerEnd, moves_left}
 use Rattle.kalah_rules.proofs.Numbers.{sum_range_change, swap_last, more_once, nat_le_true, fall_all, fall_step, set_less, distance_range_le, add_rows, lower_by_distance, swap_sums, lower_by_seeds}
 use Rattle.kalah_rules.proofs.Laps.{own_distance_past}
-use Rattle.kalah_rules.proofs.Rows.{length-slice_set, seeds-set_same, seeds-set_other}
+use Rattle.std.proofs.Math.ListN.{length-set}
+use Rattle.kalah_rules.proofs.Rows.{seeds-set_same, seeds-set_other}
 use Rattle.kalah_rules.proofs.Sown.{sow_none, sow_more, sow_side, sow_keeps}
 
 -- a write to one house
@@ -22,7 +23,7 @@ row_distance-set row i v low high =
     let change = sum_range_change (λ j. seeds new j * (length row + 1 - j)) (λ j. seeds row j * (length row + 1 - j)) 1 (length row) i low (omega arith)
     (λ j j_low ne. ap (λ x. x * (length row + 1 - j)) (seeds-set_other row i j v low j_low ne)) in
     let at : seeds new i * (length row + 1 - i) ≡ v * (length row + 1 - i) = ap (λ x. x * (length row + 1 - i)) (seeds-set_same row i v low high) in
-    rw (length-slice_set row (i - 1) v) (change ∙ ap (λ x. row_distance row + x) at)
+    rw (length-set row (i - 1) v) (change ∙ ap (λ x. row_distance row + x) at)
 
 -- a cell that c seeds reach gets one at least
 gain_some : (n c d : ℕ) → 0 < n → d ≤ c → 1 ≤ gain n c d
@@ -126,7 +127,7 @@ after_nearer p h holds even = nearer_by p (sown p h) _ (sown_nearer p h holds ev
 capture_side : (q : Position) (o : Option ℕ) → (side_length (captured q o) ≡ side_length q) × (length (captured q o).other ≡ length q.other)
 capture_side q None = (refl, refl)
 capture_side q (Some i) = elim (cases_Bool (can_capture q i)) [
-  | inl taken ↦ rw taken (length-slice_set q.own (i - 1) 0, length-slice_set q.other (opposite q i - 1) 0)
+  | inl taken ↦ rw taken (length-set q.own (i - 1) 0, length-set q.other (opposite q i - 1) 0)
   | inr kept ↦ rw kept (refl, refl)
 ]
 

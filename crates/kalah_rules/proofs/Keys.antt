@@ -1,15 +1,16 @@
 -- Rows as numbers, and what a key determines of its houses.
 use Rattle.std.proofs.Common.{◌≡◌, ◌≢◌, inl, inr, ℕ, zero, suc, ◌+◌, ◌*◌, ◌/◌, ◌%◌, ◌^◌, ◌-◌, ◌<◌, ◌≤◌, List, [], ◌∷◌, ◌++◌, length, get_or, take, drop, replicate, arith, rules, Option, Some, None, ap, sym, ◌∙◌, refl, subst, length-take-le, length-append}
 use Rattle.std.specs.Prelude.{sum, nat_eq, All, IsSome, IfSome, ◌↔◌, if◌then◌else◌, ◌==◌}
-use Rattle.std.proofs.lemmas.List.{length-drop, length-replicate, get_or-replicate, take-append-drop}
+use Rattle.std.proofs.lemmas.List.{length-drop, drop_more, length-replicate, get_or-replicate, take-append-drop}
 use Rattle.std.proofs.lemmas.Grind.{same_number_lists}
-use Rattle.std.proofs.Math.Nat.{pow-succ', mul_assoc}
+use Rattle.std.proofs.Math.Nat.{pow-succ'}
 use Rattle.std.proofs.Math.Seq.{take-append_seam, drop-append_seam}
-use Rattle.std.proofs.lemmas.List.Sums.{sum_by-cons, sum_by-append}
+use Rattle.std.proofs.lemmas.List.Sums.{sum_by-cons, sum_by-append, sum_by-take-drop}
 use Rattle.std.proofs.lemmas.List.Folds.{sum_by-replicate}
 use Rattle.std.proofs.lemmas.List.Elements.{All-replicate}
 use Rattle.std.proofs.lemmas.Bool.{cases_eq}
 use Rattle.std.proofs.lemmas.Bool.Decides.{nat_tests}
+use Rattle.kalah_rules.proofs.Packing.{number_of-append, times_power}
 use Rattle.kalah_rules.specs.declared.rule.Rule.{Rule}
 use Rattle.kalah_rules.specs.declared.rule.Rule.TheVariants.{Classic, EmptyCapture}
 use Rattle.kalah_rules.specs.Position.{Rows, IsWithinHouses, seeds_in_houses, bare, without_seeds}
@@ -35,8 +36,7 @@ number_of-zeros (suc n) = omega (arith, number_of-zeros n)
 
 -- empty houses at the end of a row do not count
 number_of-append_zeros : (xs : List ℕ) (n : ℕ) → number_of (xs ++ replicate n 0) ≡ number_of xs
-number_of-append_zeros [] n = number_of-zeros n
-number_of-append_zeros (x ∷ xs) n = omega (arith, number_of-append_zeros xs n)
+number_of-append_zeros xs n = number_of-append xs (replicate n 0) ∙ rw (number_of-zeros n) (omega arith)
 
 -- the cells past the houses do not count
 pub number_of-shown : (m : ℕ) (cells : List ℕ) → padded (take m cells) ≡ cells → number_of (take m cells) ≡ number_of cells
@@ -61,7 +61,7 @@ cells-number_of (suc n) (x ∷ xs) rest long few =
     let small : x ≤ 31 = omega arith in
     let rest_few : sum xs ≤ 31 = omega arith in
     let rest_long : length xs ≡ n = omega arith in
-    let power : 32 ^ suc n * rest ≡ 32 * (32 ^ n * rest) = rw pow-succ' (mul_assoc 32 (32 ^ n) rest) in
+    let power = times_power n rest in
     let low : (x + 32 * number_of xs + 32 ^ suc n * rest) % 32 ≡ x = rw power (omega arith) in
     let high : (x + 32 * number_of xs + 32 ^ suc n * rest) / 32 ≡ number_of xs + 32 ^ n * rest = rw power (omega arith) in
     rw (low, high) (ap (λ ys. x ∷ ys) (cells-number_of n xs rest rest_long rest_few))
@@ -268,19 +268,6 @@ other_number_at a k h e =
 pub rows_number_at : (a : Rows) (k : ℕ) → IsWithinHouses a → key_of a ≡ k → k % 2 ^ 60 ≡ number_of a.own + 2 ^ 30 * number_of a.other
 rows_number_at a k h e = omega (arith, own_number_at a k h e, other_number_at a k h e)
 
--- a row's number, read from the last house
-number_of-drop : (xs : List ℕ) (k : ℕ) → k < length xs → number_of (drop k xs) ≡ get_or xs k 0 + 32 * number_of (drop (suc k) xs)
-number_of-drop [] k h = absurd (omega arith)
-number_of-drop (x ∷ xs) zero h = refl
-number_of-drop (x ∷ xs) (suc k) h = number_of-drop xs k (omega arith)
-
--- the last houses have no greater number
-number_of-drop-le : (xs : List ℕ) (k : ℕ) → number_of (drop k xs) ≤ number_of xs
-number_of-drop-le [] zero = omega arith
-number_of-drop-le [] (suc k) = omega arith
-number_of-drop-le (x ∷ xs) zero = omega arith
-number_of-drop-le (x ∷ xs) (suc k) = omega (arith, number_of-drop-le xs k)
-
 -- the number of the last houses of a row, and its bound
 pub record IsRead (xs : List ℕ) (k number : ℕ) : Type 0 where
   pub value : number ≡ number_of (drop k xs)
@@ -292,14 +279,14 @@ pub read_more : (xs : List ℕ) (m passed number x : ℕ) → length xs ≤ 6 �
 read_more xs m passed number x few sum_few long more is at =
     let k = m - (passed + 1) in
     let at_k : m - passed - 1 ≡ k = omega arith in
-    let over : m - passed ≡ suc k = omega arith in
-    let inside : k < length xs = omega arith in
-    let step = number_of-drop xs k inside in
-    let rest : number ≡ number_of (drop (suc k) xs) = rw over at is.value in
+    let over : m - passed ≡ k + 1 = omega arith in
+    let step = ap number_of (drop_more xs k 0 (omega arith)) in
+    let rest : number ≡ number_of (drop (k + 1) xs) = rw over at is.value in
+    let fewer = sum_by-take-drop (λ (y : ℕ). y) xs k in
     let here : x ≡ get_or xs k 0 = rw at_k at at in
     record {
       value = omega arith;
-      small = omega (arith, number_of-small 6 xs few sum_few, number_of-drop-le xs k);
+      small = omega (arith, number_of-small 6 (drop k xs) (omega (arith, length-drop k xs)) (omega (arith, fewer, sum_few)));
     }
 
 -- what `Houses::new` answers at the parts of a key

@@ -2,8 +2,7 @@
 use Rattle.std.proofs.Common.{zero, suc, ◌≡◌, ◌≢◌, ℕ, ◌+◌, ◌<◌, ◌≤◌, inl, inr, List, [], ◌∷◌, ◌++◌, length, arith, ap, sym, ◌∙◌, refl, eq-eqb, lt-ltb, add-one}
 use Rattle.std.specs.Prelude.{Bool, true, false, cond, Option, Some, None, find, filter, Contains, All, nat_lt, ◌==◌}
 use Rattle.std.specs.List.{range_with_len}
-use Rattle.std.proofs.lemmas.Bool.Decides.{nat_tests}
-use Rattle.std.proofs.lemmas.Bool.{cases_eq, cases_Bool, ltb-true}
+use Rattle.std.proofs.lemmas.Bool.{cases_eq, cases_Bool, ltb-true, ne_eqb}
 use Rattle.std.proofs.lemmas.List.Elements.{filter-append, filter_passes, All-filter, All-contains, Contains-append_left, Contains-append_right, Contains-push}
 use Rattle.std.proofs.lemmas.List.Sums.{length-filter, count_by-le-length}
 use Rattle.std.proofs.lemmas.List.FromFn.{length-range_with_len, get_or-range_with_len}
@@ -37,27 +36,24 @@ find_none f a (suc n) fails =
     let first : f a ≡ false = fails a (omega arith) (omega arith) in
     rw first (find_none f (a + 1) n (λ j low high. fails j (omega arith) (omega arith)))
 
-eqb_no : (a b : ℕ) → a ≢ b → (a == b) ≡ false
-eqb_no a b ne = grind (arith, nat_tests)
-
 -- the house in which the last seed falls
 pub last_house_own : (p : Position) (h i : ℕ) → HoldsSeeds p h → 1 ≤ i → i ≤ side_length p →
     own_distance (side_length p) h i ≡ last_distance p h → last_house p h ≡ Some i
 last_house_own p h i holds low high at = find_in_range (λ j. own_distance (side_length p) h j == last_distance p h) 1 (side_length p) i low (omega arith)
     (eq-eqb (own_distance (side_length p) h i) (last_distance p h) at)
-    (λ j j_low j_high. eqb_no (own_distance (side_length p) h j) (last_distance p h) (λ e.
+    (λ j j_low j_high. ne_eqb (own_distance (side_length p) h j) (last_distance p h) (λ e.
     let ne : j ≢ i = λ same. omega arith in
     own_distance_apart (side_length p) h holds.first holds.last j i j_low (omega arith) low high ne (e ∙ sym at)))
 
 pub last_house_store : (p : Position) (h : ℕ) → HoldsSeeds p h → store_distance (side_length p) h ≡ last_distance p h → last_house p h ≡ None
 last_house_store p h holds at = find_none (λ j. own_distance (side_length p) h j == last_distance p h) 1 (side_length p)
-    (λ j j_low j_high. eqb_no (own_distance (side_length p) h j) (last_distance p h) (λ e.
+    (λ j j_low j_high. ne_eqb (own_distance (side_length p) h j) (last_distance p h) (λ e.
     own_from_store (side_length p) h holds.first holds.last j j_low (omega arith) (e ∙ sym at)))
 
 pub last_house_other : (p : Position) (h i : ℕ) → HoldsSeeds p h → 1 ≤ i → i ≤ side_length p →
     other_distance (side_length p) h i ≡ last_distance p h → last_house p h ≡ None
 last_house_other p h i holds low high at = find_none (λ j. own_distance (side_length p) h j == last_distance p h) 1 (side_length p)
-    (λ j j_low j_high. eqb_no (own_distance (side_length p) h j) (last_distance p h) (λ e.
+    (λ j j_low j_high. ne_eqb (own_distance (side_length p) h j) (last_distance p h) (λ e.
     own_from_other (side_length p) h holds.first holds.last j i j_low (omega arith) low high (e ∙ sym at)))
 
 -- the position after the move, by the place of the last seed

@@ -9,7 +9,7 @@ use Rattle.kalah_rules.specs.Position.{Position, Rows, IsWithinHouses, side_leng
 use Rattle.kalah_rules.specs.Lap.{HoldsSeeds, lifted}
 use Rattle.kalah_rules.specs.Sowing.{lap_length, own_distance, other_distance, store_distance, sow, sown, last_distance, last_house, is_again, captures, can_capture, capture, captured, after}
 use Rattle.kalah_rules.proofs.Numbers.{set_less}
-use Rattle.kalah_rules.proofs.Rows.{length-slice_set}
+use Rattle.std.proofs.Math.ListN.{length-set}
 use Rattle.kalah_rules.proofs.Sown.{sow_side, sow_keeps, sow_other_store}
 use Rattle.kalah_rules.proofs.Laps.{own_distance_past, own_distance_back}
 use Rattle.kalah_rules.proofs.Legal.{last_house_own, last_house_store, last_house_other, after_at}
@@ -285,8 +285,8 @@ capture_keeps : (q : Position) (i : ℕ) → KeepsSeeds q (capture q i)
 capture_keeps q i = record {
   play = omega (arith, set_less q.own (i - 1), set_less q.other (opposite q i - 1));
   other_store = refl;
-  side = length-slice_set q.own (i - 1) 0;
-  other_side = length-slice_set q.other (opposite q i - 1) 0;
+  side = length-set q.own (i - 1) 0;
+  other_side = length-set q.other (opposite q i - 1) 0;
   rule = refl;
 }
 

@@ -11,7 +11,8 @@ use Rattle.std.proofs.lemmas.Bool.Decides.{nat_tests}
 use Rattle.kalah_rules.specs.Position.{seeds}
 use Rattle.kalah_rules.specs.Sowing.{row_of, lap_length, gain, own_distance, other_distance}
 use Rattle.kalah_rules.proofs.Legal.{range_more}
-use Rattle.kalah_rules.proofs.Rows.{length-row_of, same_as_row, row_of_same, seeds-set_same, seeds-set_other, length-slice_set}
+use Rattle.std.proofs.Math.ListN.{length-set}
+use Rattle.kalah_rules.proofs.Rows.{length-row_of, same_as_row, row_of_same, seeds-set_same, seeds-set_other}
 use Rattle.kalah_rules.specs.Key.{number_of}
 use Rattle.kalah_rules.specs.Packed.{ones, up_to}
 use Rattle.kalah_rules.specs.Sowings.{own_gained, other_gained, store_gained}
@@ -43,7 +44,7 @@ low_cell rows k few = up_to_five (λ k. rows / 32 ^ k % 32 ≡ rows % 2 ^ 30 / 3
     (omega arith) (omega arith) (omega arith) (omega arith) (omega arith) (omega arith)
 
 -- a power more is thirty-two times as much
-times_power : (k n : ℕ) → 32 ^ suc k * n ≡ 32 * (32 ^ k * n)
+pub times_power : (k n : ℕ) → 32 ^ suc k * n ≡ 32 * (32 ^ k * n)
 times_power k n = rw pow-succ' (mul_assoc 32 (32 ^ k) n)
 
 -- a row after another counts from its place
@@ -115,7 +116,7 @@ number_of-up_to (suc n) x h = elim (cases_eq x (suc n)) [
 -- a row whose house h is emptied
 pub lifted_row : (xs : List ℕ) (h : ℕ) → 1 ≤ h → h ≤ length xs →
     row_of (length xs) (λ i. if i == h then 0 else seeds xs i) ≡ slice_set xs (h - 1) 0
-lifted_row xs h low high = sym (same_as_row (slice_set xs (h - 1) 0) (length xs) _ (length-slice_set xs (h - 1) 0) (λ i i_low i_high. elim (cases_eq i h) [
+lifted_row xs h low high = sym (same_as_row (slice_set xs (h - 1) 0) (length xs) _ (length-set xs (h - 1) 0) (λ i i_low i_high. elim (cases_eq i h) [
   | inl here ↦
       let empty : seeds (slice_set xs (h - 1) 0) i ≡ 0 = rw here (seeds-set_same xs h 0 low high) in
       grind (arith, nat_tests, empty)

@@ -40,9 +40,6 @@ seeds-set_same xs i v low high = get_or-set_same xs (i - 1) v 0 (omega arith)
 pub seeds-set_other : (xs : List ℕ) (i j v : ℕ) → 1 ≤ i → 1 ≤ j → j ≢ i → seeds (slice_set xs (i - 1) v) j ≡ seeds xs j
 seeds-set_other xs i j v i_low j_low other = get_or-set_other xs (i - 1) (j - 1) v 0 (λ e. other (omega arith))
 
-pub length-slice_set : (xs : List ℕ) (i v : ℕ) → length (slice_set xs i v) ≡ length xs
-length-slice_set xs i v = length-set xs i v
-
 pub sum-slice_set : (xs : List ℕ) (i v : ℕ) → 1 ≤ i → i ≤ length xs → sum (slice_set xs (i - 1) v) + seeds xs i ≡ sum xs + v
 sum-slice_set xs i v low high = sum_by-set (λ x. x) xs (i - 1) v 0 (omega arith)
 
@@ -59,7 +56,7 @@ pub row_of_more : (n : ℕ) (f g : ℕ → ℕ) (i : ℕ) → 1 ≤ i → i ≤ 
 row_of_more n f g i low high here others =
     let long : i ≤ length (row_of n f) = omega (arith, length-row_of n f) in
     sym (same_as_row (slice_set (row_of n f) (i - 1) (seeds (row_of n f) i + 1)) n g
-    (length-slice_set (row_of n f) (i - 1) (seeds (row_of n f) i + 1) ∙ length-row_of n f)
+    (length-set (row_of n f) (i - 1) (seeds (row_of n f) i + 1) ∙ length-row_of n f)
     (λ j j_low j_high. elim (cases_eq j i) [
       | inl e ↦ rw e (seeds-set_same (row_of n f) i (seeds (row_of n f) i + 1) low long ∙ ap (λ x. x + 1) (seeds-row_of n f i low high) ∙ sym here)
       | inr ne ↦ seeds-set_other (row_of n f) i j (seeds (row_of n f) i + 1) low j_low ne ∙ seeds-row_of n f j j_low j_high

@@ -8,7 +8,8 @@ use Rattle.kalah_rules.specs.Position.{Position, side_length, seeds, seeds_in_ho
 use Rattle.kalah_rules.specs.Sowing.{lap_length, own_distance, store_distance, other_distance, gain, sow}
 use Rattle.kalah_rules.specs.Lap.{Cell, Own, Store, Other, distance, IsCellOf, with_seed, lifted}
 use Rattle.kalah_rules.proofs.Laps.{gain_more, gain_same, gain_none, own_distance_past, own_distance_back}
-use Rattle.kalah_rules.proofs.Rows.{same_position, length-row_of, same_as_row, seeds-set_same, seeds-set_other, length-slice_set, row_of_same, row_of_more, sum-slice_set}
+use Rattle.std.proofs.Math.ListN.{length-set}
+use Rattle.kalah_rules.proofs.Rows.{same_position, length-row_of, same_as_row, seeds-set_same, seeds-set_other, row_of_same, row_of_more, sum-slice_set}
 
 -- the cell of each distance is one
 module _ (m h : ℕ) (h_low : 1 ≤ h) (h_high : h ≤ m) where
@@ -48,7 +49,7 @@ module _ (p : Position) (h : ℕ) (low : 1 ≤ h) (high : h ≤ side_length p) w
   pub sow_none : length p.other ≡ side_length p → sow p h 0 ≡ lifted p h
   unfolding sow
   sow_none same = same_position
-      (sym (same_as_row (slice_set p.own (h - 1) 0) (side_length p) _ (length-slice_set p.own (h - 1) 0) (λ i i_low i_high.
+      (sym (same_as_row (slice_set p.own (h - 1) 0) (side_length p) _ (length-set p.own (h - 1) 0) (λ i i_low i_high.
       let none : gain (lap_length (side_length p)) 0 (own_distance (side_length p) h i) ≡ 0 =
       gain_none _ _ lap_pos (own_distance_low (side_length p) h low high i i_low i_high) in
       elim (cases_eq i h) [

@@ -1,7 +1,7 @@
 -- Cells of a row, all at once.
 use Rattle.std.proofs.Common.{◌≡◌, ◌≢◌, ℕ, zero, suc, ◌+◌, ◌*◌, ◌/◌, ◌%◌, ◌^◌, ◌-◌, ◌<◌, ◌≤◌, inl, inr, List, [], ◌∷◌, get_or, arith, sym, refl, ap, ◌∙◌}
 use Rattle.std.specs.Prelude.{min, sum, ◌↔◌}
-use Rattle.std.specs.Int.Bits.{bit_and, bit_or, bit_xor, xor_add_and, and_self, and_zero_r}
+use Rattle.std.specs.Int.Bits.{bit_and, bit_or, bit_xor, xor_add_and, xor_self, xor_zero_r}
 use Rattle.std.proofs.lemmas.Nat.{leading_top, xor_lt, and_block, or_block, and_mask, and_le_l, and_le_r, or_lt, le_or_l, le_or_r, xor_mod, xor_shr}
 use Rattle.std.proofs.lemmas.List.Sums.{sum_by-cons}
 use Rattle.std.proofs.lemmas.Bool.{cases_lt, cases_eq}
@@ -105,8 +105,8 @@ cell_of_row (x ∷ xs) (suc i) few =
 first_cell : (d r : ℕ) → d < 32 → (r * 32 + d) % 32 ≡ d
 first_cell d r small = omega (arith, small)
 
-later_cells : (d r : ℕ) → d < 32 → (r * 32 + d) / 32 ≡ r
-later_cells d r small = omega (arith, small)
+later_cell : (d r i : ℕ) → d < 32 → cell (r * 32 + d) (suc i) ≡ cell r i
+later_cell d r i small = let rest : (r * 32 + d) / 32 ≡ r = omega (arith, small) in ap (λ j. cell j i) rest
 
 -- ---- cells that hold something
 -- of one cell: whether it holds something, by its top bit once fifteen were added
@@ -146,18 +146,17 @@ filled_step k x r small =
     let last : (rest % 16 * 2 + d / 16) % 2 ≡ min 1 x = omega (arith, one) in
     rw (both, added, either, halved, marks, parity, last) refl
 
+filled_next : (k n : ℕ) → filled_cells (suc k) n ≡ filled_cells k (n / 32) * 32 + min 1 (n % 32)
+filled_next k n =
+    let parts : n ≡ n / 32 * 32 + n % 32 = omega arith in
+    ap (λ j. filled_cells (suc k) j) parts ∙ filled_step k (n % 32) (n / 32) (omega arith)
+
 pub filled_cell : (k n i : ℕ) → i < k → cell (filled_cells k n) i ≡ min 1 (cell n i)
 filled_cell zero n i inside = absurd (omega (arith, inside))
 filled_cell (suc k) n zero inside =
-    let parts : n ≡ n / 32 * 32 + n % 32 = omega arith in
-    let step : filled_cells (suc k) n ≡ filled_cells k (n / 32) * 32 + min 1 (n % 32) =
-    ap (λ j. filled_cells (suc k) j) parts ∙ filled_step k (n % 32) (n / 32) (omega arith) in
-    ap (λ j. j % 32) step ∙ first_cell (min 1 (n % 32)) (filled_cells k (n / 32)) (omega arith)
+    ap (λ j. j % 32) (filled_next k n) ∙ first_cell (min 1 (n % 32)) (filled_cells k (n / 32)) (omega arith)
 filled_cell (suc k) n (suc i) inside =
-    let parts : n ≡ n / 32 * 32 + n % 32 = omega arith in
-    let step : filled_cells (suc k) n ≡ filled_cells k (n / 32) * 32 + min 1 (n % 32) =
-    ap (λ j. filled_cells (suc k) j) parts ∙ filled_step k (n % 32) (n / 32) (omega arith) in
-    ap (λ j. cell (j / 32) i) step ∙ ap (λ j. cell j i) (later_cells (min 1 (n % 32)) (filled_cells k (n / 32)) (omega arith))
+    ap (λ j. cell j (suc i)) (filled_next k n) ∙ later_cell (min 1 (n % 32)) (filled_cells k (n / 32)) i (omega arith)
     ∙ filled_cell k (n / 32) i (omega (arith, inside))
 
 -- ---- cells that are compared
@@ -165,37 +164,31 @@ pub cell_xor : (i a b : ℕ) → cell (bit_xor a b) i ≡ bit_xor (cell a i) (ce
 cell_xor zero a b = xor_mod a b 5
 cell_xor (suc i) a b = ap (λ k. cell k i) (xor_shr a b 5) ∙ cell_xor i (a / 32) (b / 32)
 
--- two numbers are apart by nothing if they are equal
-xor_same : (a b : ℕ) → a ≡ b → bit_xor a b ≡ 0
-xor_same a b same = rw same (omega (arith, xor_add_and b b, and_self b))
-
+-- two numbers are apart by nothing only if they are equal
 xor_apart : (a b : ℕ) → bit_xor a b ≡ 0 → a ≡ b
 xor_apart a b none = omega (arith, none, xor_add_and a b, and_le_l a b, and_le_r a b)
-
-xor_none : (a : ℕ) → bit_xor a 0 ≡ a
-xor_none a = omega (arith, xor_add_and a 0, and_zero_r a)
 
 pub cell_of_each : (k i : ℕ) → i < k → cell (each k 1) i ≡ 1
 cell_of_each zero i inside = absurd (omega (arith, inside))
 cell_of_each (suc k) zero inside = omega arith
-cell_of_each (suc k) (suc i) inside = ap (λ j. cell j i) (later_cells 1 (each k 1) (omega arith)) ∙ cell_of_each k i (omega (arith, inside))
+cell_of_each (suc k) (suc i) inside = later_cell 1 (each k 1) i (omega arith) ∙ cell_of_each k i (omega (arith, inside))
 
 pub past_each : (k i : ℕ) → k ≤ i → cell (each k 1) i ≡ 0
 past_each zero i past = cell_none i
 past_each (suc k) zero past = absurd (omega (arith, past))
-past_each (suc k) (suc i) past = ap (λ j. cell j i) (later_cells 1 (each k 1) (omega arith)) ∙ past_each k i (omega (arith, past))
+past_each (suc k) (suc i) past = later_cell 1 (each k 1) i (omega arith) ∙ past_each k i (omega (arith, past))
 
 pub cell_of_distances : (m i : ℕ) → m ≤ 6 → cell (distances m) i ≡ m - i
 cell_of_distances zero i few = cell_none i ∙ omega arith
 cell_of_distances (suc m) zero few = omega (arith, few)
-cell_of_distances (suc m) (suc i) few = ap (λ j. cell j i) (later_cells (suc m) (distances m) (omega (arith, few)))
+cell_of_distances (suc m) (suc i) few = later_cell (suc m) (distances m) i (omega (arith, few))
     ∙ cell_of_distances m i (omega (arith, few)) ∙ omega arith
 
 -- one mark, of a cell whose value equals its distance
 one_ending : (x d : ℕ) → (0 < bit_xor (min 1 (bit_xor x d)) 1) ↔ (x ≡ d)
 one_ending x d = elim (cases_eq x d) [
   | inl same ↦
-      let none : bit_xor x d ≡ 0 = xor_same x d same in
+      let none : bit_xor x d ≡ 0 = rw same (xor_self d) in
       let marked : bit_xor (min 1 (bit_xor x d)) 1 ≡ 1 = rw none refl in
       (λ some. same, λ is. omega (arith, marked))
   | inr other ↦
@@ -238,7 +231,7 @@ module _ (f d e m n i : ℕ) (few : m ≤ 6) (d_is : d ≡ distances m) (e_is : 
 pub one_other : (x f e : ℕ) → f ≡ min 1 x → e ≤ 1 → (0 < e → 0 < x) → (0 < bit_xor f e) ↔ ((0 < x) × ¬ (0 < e))
 one_other x f e f_is single within = elim (cases_eq e 0) [
   | inl none ↦
-      let is : bit_xor f e ≡ f = ap (λ k. bit_xor f k) none ∙ xor_none f in
+      let is : bit_xor f e ≡ f = ap (λ k. bit_xor f k) none ∙ xor_zero_r f in
       (λ some. (omega (arith, is, some, f_is), λ marked. omega (arith, none, marked)), λ both. let some = both.0 in omega (arith, is, some, f_is))
   | inr some ↦
       let full : f ≡ 1 = let has = within (omega (arith, some)) in omega (arith, f_is, has) in

@@ -10,7 +10,7 @@ use Rattle.std.proofs.lemmas.Bool.{cases_lt}
 use Rattle.std.proofs.lemmas.List.{append_cancel_left, drop_more, length-drop}
 use Rattle.std.proofs.Math.Seq.{take-append_seam}
 use Rattle.std.proofs.Math.ListN.{take}
-use Rattle.std.proofs.lemmas.List.Sums.{sum_by-cons}
+use Rattle.std.proofs.lemmas.List.Sums.{sum_by-cons, sum_by-take-drop}
 use Rattle.kalah_rules.specs.Position.{Rows, IsWithinHouses}
 use Rattle.kalah_rules.specs.Key.{number_of}
 use Rattle.kalah_rules.proofs.Keys.{same_key, rule_bit-small}
@@ -156,13 +156,6 @@ both_rows a own other m within own_is other_is own_small other_small side =
     rw (pow_five m, side, other_is) (mul_comm (number_of a.other) (32 ^ length a.own)) in
     (omega (arith, own_is, shifted, below, number_of-append a.own a.other), omega (arith, below, own_small))
 
--- the last houses hold no more seeds than all
-sum-drop-le : (xs : List ℕ) (k : ℕ) → sum (drop k xs) ≤ sum xs
-sum-drop-le [] zero = omega arith
-sum-drop-le [] (suc k) = omega arith
-sum-drop-le (x ∷ xs) zero = omega arith
-sum-drop-le (x ∷ xs) (suc k) = omega (arith, sum-drop-le xs k, sum_by-cons (λ (y : ℕ). y) x xs)
-
 -- the sums of a row of few from its cell 2 * passed on, and what the cells before it add to its rank
 pub record IsRanked (row : List ℕ) (passed sums at : ℕ) : Type 0 where
   pub left : sums ≡ sums_number (drop (2 * passed) row)
@@ -199,7 +192,7 @@ module _ (row : List ℕ) (few : sum row ≤ 9) (m passed sums at : ℕ) (long :
 
   two_less : sum (two_first ∷ two_second ∷ two_past) ≤ 9
   two_less =
-      let less : sum (drop (2 * passed) row) ≤ 9 = omega (arith, few, sum-drop-le row (2 * passed)) in
+      let less : sum (drop (2 * passed) row) ≤ 9 = omega (arith, few, sum_by-take-drop (λ (y : ℕ). y) row (2 * passed)) in
       rw two_more at less
 
   two_are : AreTwo sums two_first two_second two_past
