@@ -45,37 +45,27 @@ bound_turn-returns-else-all-bar g t c =
     c.if-bar-gained.false c.if-all-bar.false c.bound.ensures
 
 pub explore-bounds-priorities-at : goal.explore-bounds-priorities-at
-explore-bounds-priorities-at g t c =
-    let before = c.loop-priority.invariant in
-    let here = turn_at c.seeds-seeds.ensures.limits before.untried before.found (omega (arith, c.loop-priority-test.true)) in
-    omega (arith, here.place)
+explore-bounds-priorities-at g t c = omega (arith, (c.loop-priority.invariant.next c.loop-priority-test.true).place)
 
 pub explore-listed : goal.explore-listed
 explore-listed g t c =
-    let before = c.loop-priority.invariant in
-    let here = turn_at c.seeds-seeds.ensures.limits before.untried before.found (omega (arith, c.loop-priority-test.true)) in
     let long : length c.others_waiting-others.new.turns ≡ 6 = search rules in
-    omega (arith, here.place, long)
+    omega (arith, (c.loop-priority.invariant.next c.loop-priority-test.true).place, long)
 
 pub explore-bounds-turns-at : goal.explore-bounds-turns-at
-explore-bounds-turns-at g t c =
-    let before = c.loop-priority.invariant in
-    let here = turn_at c.seeds-seeds.ensures.limits before.untried before.found (omega (arith, c.loop-priority-test.true)) in
-    omega (arith, here.place)
+explore-bounds-turns-at g t c = omega (arith, (c.loop-priority.invariant.next c.loop-priority-test.true).place)
 
 pub explore-overflow_sub-seeds : goal.explore-overflow_sub-seeds
 explore-overflow_sub-seeds g t c =
     let a = c.args.houses.now in
-    let before = c.loop-priority.invariant in
-    let here = turn_at c.seeds-seeds.ensures.limits before.untried before.found (omega (arith, c.loop-priority-test.true)) in
+    let here = c.loop-priority.invariant.next c.loop-priority-test.true in
     omega (arith, turn_keeps a _ _ _ c.seeds-seeds.ensures.limits (here.turn c.index-turns-at.result))
 
 pub explore-bound_turn-bound-requires : goal.explore-bound_turn-bound-requires
 explore-bound_turn-bound-requires g t c κs within =
     let a = c.args.houses.now in
     let limits = c.seeds-seeds.ensures.limits in
-    let before = c.loop-priority.invariant in
-    let here = turn_at c.seeds-seeds.ensures.limits before.untried before.found (omega (arith, c.loop-priority-test.true)) in
+    let here = c.loop-priority.invariant.next c.loop-priority-test.true in
     let turn = here.turn c.index-turns-at.result in (
       omega (arith, step_falls a (c.loop-priority.priority % 8 + 1) _ limits turn.legal (sym turn.step)),
       (within, rw (c.seeds-seeds.ensures.seeds, c.seeds.ensures.seeds) (goes_on a (c.loop-priority.priority % 8 + 1) _ limits turn.legal (sym turn.step))),
@@ -84,8 +74,7 @@ explore-bound_turn-bound-requires g t c κs within =
 pub explore-returns-then-bar-bound : goal.explore-returns-then-bar-bound
 explore-returns-then-bar-bound g t c =
     let a = c.args.houses.now in
-    let before = c.loop-priority.invariant in
-    let here = turn_at c.seeds-seeds.ensures.limits before.untried before.found (omega (arith, c.loop-priority-test.true)) in
+    let here = c.loop-priority.invariant.next c.loop-priority-test.true in
     record {
       lower = turn_enough a c.args.bar _ _ _ _ c.seeds-seeds.ensures.limits (here.turn c.index-turns-at.result)
           (rw (c.seeds-seeds.ensures.seeds, c.seeds.ensures.seeds) at c.bound_turn-bound.ensures);
@@ -95,23 +84,22 @@ explore-returns-then-bar-bound g t c =
 pub explore-loop-priority-preserved : goal.explore-loop-priority-preserved
 explore-loop-priority-preserved g t c =
     let before = c.loop-priority.invariant in
-    let here = turn_at c.seeds-seeds.ensures.limits before.untried before.found (omega (arith, c.loop-priority-test.true)) in
-    let turn = here.turn c.index-turns-at.result in
+    let here = before.next c.loop-priority-test.true in
+    let takes = turn_at_most c.args.houses.now c.args.bar _ _ _ _ (here.turn c.index-turns-at.result)
+    (rw (c.seeds-seeds.ensures.seeds, c.seeds.ensures.seeds) at c.bound_turn-bound.ensures) c.if-bar-bound.false in
+    let untried = untried_fewer c.args.houses.now c.loop-priority.most c.loop-priority.priorities c.others_waiting-others.new.turns
+    (c.loop-priority.priority % 8) c.bound_turn-bound.result _ before.untried here.place takes c.max-most-in-loop-priority.ensures in
     record {
       low = omega (arith, c.max-most-in-loop-priority.ensures, before.low, c.if-bar-bound.false);
-      found = c.highest-priority-in-loop-priority.ensures.found;
       highest = c.highest-priority-in-loop-priority.ensures.highest;
-      untried = untried_fewer c.args.houses.now c.loop-priority.most c.loop-priority.priorities c.others_waiting-others.new.turns
-          (c.loop-priority.priority % 8) c.bound_turn-bound.result _ before.untried here.place
-          (turn_at_most c.args.houses.now c.args.bar _ _ _ _ turn
-          (rw (c.seeds-seeds.ensures.seeds, c.seeds.ensures.seeds) at c.bound_turn-bound.ensures) c.if-bar-bound.false) c.max-most-in-loop-priority.ensures;
+      untried = untried;
+      next = turn_at c.seeds-seeds.ensures.limits untried c.highest-priority-in-loop-priority.ensures.found;
     }
 
 pub explore-loop-priority-smaller : goal.explore-loop-priority-smaller
 explore-loop-priority-smaller g t c =
-    let before = c.loop-priority.invariant in
-    let here = turn_at c.seeds-seeds.ensures.limits before.untried before.found (omega (arith, c.loop-priority-test.true)) in
-    let cells = before.untried.waiting.cells in
+    let here = c.loop-priority.invariant.next c.loop-priority-test.true in
+    let cells = c.loop-priority.invariant.untried.waiting.cells in
     let fewer = sum_by-set (λ x. x) c.loop-priority.priorities (c.loop-priority.priority % 8) 0 0 (omega (arith, here.place, cells)) in
     omega (arith, here.priority, c.loop-priority-test.true, fewer)
 
@@ -271,10 +259,11 @@ pub explore-loop-priority-init : goal.explore-loop-priority-init
 explore-loop-priority-init g t c =
     let others = c.others_waiting-others.ensures in
     let most_is : c.max-most.result ≡ max c.bound_again-again.result c.others_waiting-others.result = search (rules, c.max-most.ensures) in
+    let untried = untried_first c.args.houses.now c.args.bar _ _ _ _ c.max-most.result (search rules) others
+    (c.bound_again-again.ensures.upper c.if-bar-again.false) c.if-bar-others.false most_is in
     record {
       low = omega (arith, most_is, c.if-bar-again.false, c.if-bar-others.false);
-      found = c.highest-priority.ensures.found;
       highest = c.highest-priority.ensures.highest;
-      untried = untried_first c.args.houses.now c.args.bar _ _ _ _ c.max-most.result (search rules) others
-          (c.bound_again-again.ensures.upper c.if-bar-again.false) c.if-bar-others.false most_is;
+      untried = untried;
+      next = turn_at c.seeds-seeds.ensures.limits untried c.highest-priority.ensures.found;
     }

@@ -6,7 +6,7 @@ use Rattle.kalah_rules.specs.Measure.{moves_left}
 use Rattle.kalah_solve.specs.Solver.StepWorth.{moves_after}
 use Rattle.kalah_solve.specs.RowMarks.{cell}
 use Rattle.kalah_solve.specs.Search.Tried.{EndsInStore}
-use Rattle.kalah_solve.proofs.SearchLemmas.Tries.{AreAgain, ArePlayed, AreUntried}
+use Rattle.kalah_solve.proofs.SearchLemmas.Tries.{AreAgain, ArePlayed, AreUntried, WaitsWith}
 use Rattle.kalah_solve.proofs.search.Search.+search.Given as goal
 
 abbrev pub decreases-bound : goal.decreases-bound
@@ -59,9 +59,9 @@ decreases-others_waiting-loop-left g l = l.left
 abbrev pub invariant-explore-loop-priority : goal.invariant-explore-loop-priority
 invariant-explore-loop-priority g l = record {
   low : l.most < l.bar;
-  found : Contains l.priorities l.priority;
   highest : (k : ℕ) → get_or l.priorities k 0 ≤ l.priority;
   untried : AreUntried l.houses l.most l.priorities l.turns;
+  next : 0 < l.priority → WaitsWith l.houses l.priorities l.turns l.priority;
 }
 
 abbrev pub decreases-explore-loop-priority : goal.decreases-explore-loop-priority
