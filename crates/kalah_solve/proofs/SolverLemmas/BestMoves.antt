@@ -19,7 +19,7 @@ use Rattle.kalah_solve.proofs.SolverLemmas.Bests.{eq_yes}
 use Rattle.kalah_solve.proofs.SolverLemmas.Finds.{find_is, found_or, lowest_of}
 use Rattle.kalah_solve.proofs.SolverLemmas.Values.{final_swapped, value_going_on, value_passing, best_found, best_attains, value_most}
 use Rattle.kalah_solve.proofs.SolverLemmas.Games.{KeepsRules, legal_keeps, followed, strategy_keeps}
-use Rattle.kalah_solve.proofs.SolverLemmas.Secured.{PlaysBest, bounds, high_passed, le_of_eq, ends_at_least, best_is_strategy, best_plays, best_secures, worth_is_best}
+use Rattle.kalah_solve.proofs.SolverLemmas.Secured.{PlaysBest, bounds, ends_at_least, best_is_strategy, best_plays, best_secures, worth_is_best}
 
 -- the best house is a best move
 pub best_move : (p : Position) → HasEqualSides p → IsBestMove p (best_house p) (worth p)
@@ -39,12 +39,8 @@ first_bound {p = p} m t even going best (passes_turn {h = h} {final = final} goi
       h,
       has,
       rw (← final_swapped (swapped final))
-          (high_passed (value_of_move p h) (value_of_move p h) (worth (swapped (after p h))) (final_margin final) (le_of_eq _ _ refl) value (inner.low best)),
+          (omega (arith, ints, value, inner.low best)),
     )
-
--- a margin between two that are equal or the other way round
-pub between : (w z v : ℤ) → w ≤ℤ z → z ≤ℤ v → v ≤ℤ w → v ≡ w
-between w z v one two three = omega (arith, ints)
 
 -- so a best move is legal, and attains the worth
 pub best_moves_legal : (p : Position) (h : ℕ) (v : ℤ) → HasEqualSides p → is_over p ≡ false → IsBestMove p h v → Contains (legal_houses p) h
@@ -58,7 +54,7 @@ best_moves_attain p h even going is =
     let first = first_bound (strategy_keeps mine is.begins.1) (strategy_keeps best_house best_is_strategy) even going best_plays game.2 in
     let is_h : first.0 ≡ h = sym (followed mine p first.0 first.1) ∙ is.begins.2 in
     let most = value_most p h even going (best_moves_legal p h (worth p) even going is) in
-    between (worth p) (final_margin game.1) (value_of_move p h) game.3 (rw is_h at first.2) most
+    omega (arith, ints, game.3, rw is_h at first.2, most)
 
 -- the best house is the lowest legal house that attains the worth
 pub best_lowest : (p : Position) (h : ℕ) → is_over p ≡ false → Contains (legal_houses p) h → value_of_move p h ≡ worth p → best_house p ≤ h

@@ -4,7 +4,7 @@ use Rattle.std.specs.Prelude.{Bool, unwrap_or, if◌then◌else◌, int_lt, true
 use Rattle.std.specs.Int.{int_max}
 use Rattle.std.specs.Ordering.{int_eq}
 use Rattle.std.proofs.lemmas.Bool.{cases_Bool}
-use Rattle.std.proofs.lemmas.Int.{ints}
+use Rattle.std.proofs.lemmas.Int.{ints, clamps}
 use Rattle.std.proofs.lemmas.Bool.Decides.{Decides-int_eq}
 use Rattle.std.proofs.lemmas.List.{take_more}
 use Rattle.kalah_rules.specs.Position.{Position, HasEqualSides, IsWithinLimits, IsSmallMargin, is_over, final_margin}
@@ -31,28 +31,15 @@ find_last p (x ∷ xs) y fails here =
     let first : p x ≡ false = fails 0 (omega arith) in
     rw first (find_last p xs y (λ k within. fails (suc k) (omega arith)) here)
 
--- the greater of two numbers is no less than either
-max_left : (a b : ℤ) → a ≤ℤ int_max a b
-max_left a b = grind (arith, ints)
-
--- nor than the second
-max_right : (a b : ℤ) → b ≤ℤ int_max a b
-max_right a b = grind (arith, ints)
-
--- order passes on
-le_trans : (a b c : ℤ) → a ≤ℤ b → b ≤ℤ c → a ≤ℤ c
-le_trans a b c one two = omega (arith, ints)
-
 -- the greatest is no less than the first number
 start_le : (a : ℤ) (ys : List ℤ) → a ≤ℤ fold int_max a ys
 start_le a [] = omega (arith, ints)
-start_le a (y ∷ ys) = le_trans a (int_max a y) (fold int_max (int_max a y) ys) (max_left a y) (start_le (int_max a y) ys)
+start_le a (y ∷ ys) = omega (arith, ints, clamps, start_le (int_max a y) ys)
 
 -- nor than any other
 item_le : (f : ℕ → ℤ) (a : ℤ) (xs : List ℕ) (k : ℕ) → k < length xs → f (get_or xs k 0) ≤ℤ fold int_max a (map f xs)
 item_le f a [] k within = absurd (omega arith)
-item_le f a (x ∷ xs) zero within = le_trans (f x) (int_max a (f x)) (fold int_max (int_max a (f x)) (map f xs)) (max_right a (f x))
-    (start_le (int_max a (f x)) (map f xs))
+item_le f a (x ∷ xs) zero within = omega (arith, ints, clamps, start_le (int_max a (f x)) (map f xs))
 item_le f a (x ∷ xs) (suc k) within = item_le f (int_max a (f x)) xs k (omega arith)
 
 -- no value is above the greatest
@@ -81,25 +68,13 @@ pub record IsBestOf (f : ℕ → ℤ) (xs : List ℕ) (best : ℤ) (house : ℕ)
 pub best_first : (f : ℕ → ℤ) (x : ℕ) (best : ℤ) → best ≡ f x → IsBestOf f (x ∷ []) best x
 best_first f x best e = record { best_is = e; house_is = rw (eq_yes (f x) best (sym e)) refl }
 
--- the greater of two numbers if the second is
-int_max_more : (a b : ℤ) → a <ℤ b → int_max a b ≡ b
-int_max_more a b less = grind (arith, ints)
-
--- and if the first is
-int_max_less : (a b : ℤ) → b ≤ℤ a → int_max a b ≡ a
-int_max_less a b less = grind (arith, ints)
-
--- order passes on, if the second step is strict
-lt_of_le : (a b c : ℤ) → a ≤ℤ b → b <ℤ c → a <ℤ c
-lt_of_le a b c one two = omega (arith, ints)
-
 -- a house that gets more becomes the best
 pub best_better : (f : ℕ → ℤ) (xs : List ℕ) (y : ℕ) (best : ℤ) (house : ℕ) → IsBestOf f xs best house → best <ℤ f y →
     greatest (map f (xs ++ y ∷ [])) ≡ int_max (greatest (map f xs)) (f y) → IsBestOf f (xs ++ y ∷ []) (f y) y
 best_better f xs y best house is better more = record {
-  best_is = sym (more ∙ rw (← is.best_is) (int_max_more best (f y) better));
+  best_is = sym (more ∙ rw (← is.best_is) (omega (arith, ints, clamps, better)));
   house_is = find_last (λ h. int_eq (f h) (f y)) xs y
-      (λ k within. eq_no (f (get_or xs k 0)) (f y) (lt_of_le _ best _ (rw is.best_is (value_le f xs k within)) better))
+      (λ k within. eq_no (f (get_or xs k 0)) (f y) (omega (arith, ints, is.best_is, value_le f xs k within, better)))
       (eq_yes (f y) (f y) refl);
 }
 
@@ -107,7 +82,7 @@ best_better f xs y best house is better more = record {
 pub best_kept : (f : ℕ → ℤ) (xs : List ℕ) (y : ℕ) (best : ℤ) (house : ℕ) → IsBestOf f xs best house → f y ≤ℤ best →
     greatest (map f (xs ++ y ∷ [])) ≡ int_max (greatest (map f xs)) (f y) → IsBestOf f (xs ++ y ∷ []) best house
 best_kept f xs y best house is worse more = record {
-  best_is = sym (more ∙ rw (← is.best_is) (int_max_less best (f y) worse));
+  best_is = sym (more ∙ rw (← is.best_is) (omega (arith, ints, clamps, worse)));
   house_is = find_more (λ h. int_eq (f h) best) xs y house is.house_is;
 }
 

@@ -1,6 +1,6 @@
 -- What a move secures, and that the values of the moves determine the verdict.
 use Rattle.std.proofs.Common.{◌≡◌, ℕ, ◌<◌, inl, inr, List, [], ◌∷◌, arith, ap, sym, subst, ◌∙◌, refl, eq-eqb}
-use Rattle.std.specs.Prelude.{Bool, true, false, ◌&&◌, ◌==◌, Contains, All, map, find, option_map, unwrap_or, if◌then◌else◌, ℤ, neg_ℤ, ◌≤ℤ◌}
+use Rattle.std.specs.Prelude.{Bool, true, false, ◌&&◌, ◌==◌, Contains, All, map, find, option_map, unwrap_or, if◌then◌else◌, ℤ, ◌≤ℤ◌}
 use Rattle.std.specs.Ordering.{int_eq}
 use Rattle.std.proofs.lemmas.Bool.{cases_Bool, eqb-true}
 use Rattle.std.proofs.lemmas.Int.{ints}
@@ -21,7 +21,7 @@ use Rattle.kalah_solve.proofs.SolverLemmas.Worths.{swapped_equal_sides, worth_of
 use Rattle.kalah_solve.proofs.SolverLemmas.Finds.{find_is, found_or}
 use Rattle.kalah_solve.proofs.SolverLemmas.Values.{final_swapped, value_going_on, value_passing, best_found}
 use Rattle.kalah_solve.proofs.SolverLemmas.Games.{KeepsRules, game_ends, legal_keeps, followed, widened, same_way, strategy_within, strategy_keeps}
-use Rattle.kalah_solve.proofs.SolverLemmas.Secured.{bounds, best_is_strategy, best_plays, same_margin}
+use Rattle.kalah_solve.proofs.SolverLemmas.Secured.{bounds, best_is_strategy, best_plays}
 use Rattle.kalah_solve.proofs.SolverLemmas.BestMoves.{both_true, and_true}
 
 -- ---- a strategy that begins with a move
@@ -95,20 +95,6 @@ same_below n way = record { widens = λ p k low has. has }
 
 -- ---- what the move secures
 
--- the margin of a game that goes on
-on_low : (v u z : ℤ) → v ≡ u → u ≤ℤ z → v ≤ℤ z
-on_low v u z is low = omega (arith, ints)
-
-on_high : (v u z : ℤ) → v ≡ u → z ≤ℤ u → z ≤ℤ v
-on_high v u z is high = omega (arith, ints)
-
--- and if the turn passes
-passed_low : (v u z : ℤ) → v ≡ neg_ℤ u → z ≤ℤ u → v ≤ℤ neg_ℤ z
-passed_low v u z is high = omega (arith, ints)
-
-passed_high : (v u z : ℤ) → v ≡ neg_ℤ u → u ≤ℤ z → neg_ℤ z ≤ℤ v
-passed_high v u z is low = omega (arith, ints)
-
 -- a game that the strategy begins with house h ends with at least the value of the move
 begun_low : (p : Position) (h : ℕ) (houses : List ℕ) (final : Position) → HasEqualSides p → is_over p ≡ false → Contains (legal_houses p) h →
     Game (follow (beginning (moves_left p) h)) legal_houses p houses final → value_of_move p h ≤ℤ final_margin final
@@ -121,8 +107,12 @@ begun_low p h (k ∷ houses) final even going is_legal (moves_on going' has agai
     let game = subst (λ j. Game (follow (beginning n h)) legal_houses (after p j) houses final) is rest in
     let best = widened_below n (later_best n h) (same_below n legal_houses)
     (strategy_keeps (beginning n h) (beginning_strategy n h)) legal_keeps next_even fewer game in
-    on_low (value_of_move p h) (worth (after p h)) (final_margin final) (value_going_on p h (subst (λ j. is_again p j ≡ true) is again))
-    ((bounds (strategy_keeps best_house best_is_strategy) legal_keeps next_even best).low best_plays)
+    omega (
+      arith,
+      ints,
+      value_going_on p h (subst (λ j. is_again p j ≡ true) is again),
+      (bounds (strategy_keeps best_house best_is_strategy) legal_keeps next_even best).low best_plays,
+    )
 begun_low p h (k ∷ houses) final even going is_legal (passes_turn {final = last} going' has turn rest) =
     let n = moves_left p in
     let is : k ≡ h = sym (followed (beginning n h) p k has) ∙ beginning_is h p is_legal in
@@ -133,18 +123,30 @@ begun_low p h (k ∷ houses) final even going is_legal (passes_turn {final = las
     let best = widened_below n (same_below n legal_houses) (later_best n h) legal_keeps
     (strategy_keeps (beginning n h) (beginning_strategy n h)) next_even (omega arith) game in
     rw (← final_swapped (swapped last))
-    (passed_low (value_of_move p h) (worth (swapped (after p h))) (final_margin last) (value_passing p h (subst (λ j. is_again p j ≡ false) is turn))
-    ((bounds legal_keeps (strategy_keeps best_house best_is_strategy) next_even best).high best_plays))
+    (omega (
+      arith,
+      ints,
+      value_passing p h (subst (λ j. is_again p j ≡ false) is turn),
+      (bounds legal_keeps (strategy_keeps best_house best_is_strategy) next_even best).high best_plays,
+    ))
 
 -- a game that begins with house h, against an opponent who moves the lowest best house, ends with at most its value
 begun_high : (p : Position) (h : ℕ) (houses : List ℕ) (final : Position) → HasEqualSides p →
     Game legal_houses (follow best_house) p (h ∷ houses) final → final_margin final ≤ℤ value_of_move p h
 begun_high p h houses final even (moves_on going has again rest) =
-    on_high (value_of_move p h) (worth (after p h)) (final_margin final) (value_going_on p h again)
-    ((bounds legal_keeps (strategy_keeps best_house best_is_strategy) (after_equal_sides p h) rest).high best_plays)
+    omega (
+      arith,
+      ints,
+      value_going_on p h again,
+      (bounds legal_keeps (strategy_keeps best_house best_is_strategy) (after_equal_sides p h) rest).high best_plays,
+    )
 begun_high p h houses final even (passes_turn {final = last} going has turn rest) =
-    rw (← final_swapped (swapped last)) (passed_high (value_of_move p h) (worth (swapped (after p h))) (final_margin last) (value_passing p h turn)
-    ((bounds (strategy_keeps best_house best_is_strategy) legal_keeps (swapped_equal_sides (after p h) (after_equal_sides p h)) rest).low best_plays))
+    rw (← final_swapped (swapped last)) (omega (
+      arith,
+      ints,
+      value_passing p h turn,
+      (bounds (strategy_keeps best_house best_is_strategy) legal_keeps (swapped_equal_sides (after p h) (after_equal_sides p h)) rest).low best_plays,
+    ))
 
 -- the law on the value of a move
 pub value_is_worth : ValueIsWorthOfMove
@@ -177,14 +179,11 @@ worth_at_most p h v w even going a b =
     let low = a.secured.3 game.0 game.1 (widened (same_way (follow mine)) (strategy_within theirs b.held.1) even game.2) in
     let high = begun_most mine theirs p h w game.0 game.1 going a.secured.2 b.held.2 game.2
     (widened (strategy_within mine a.secured.1) (same_way (follow theirs)) even game.2) in
-    between_margins v (final_margin game.1) w low high
-  where
-    between_margins : (v z w : ℤ) → v ≤ℤ z → z ≤ℤ w → v ≤ℤ w
-    between_margins v z w one two = omega (arith, ints)
+    omega (arith, ints, low, high)
 
 -- the law on one value
 pub worth_of_move_is_one : WorthOfMoveIsOne
-worth_of_move_is_one p h v w even going a b = same_margin v w (worth_at_most p h v w even going a b) (worth_at_most p h w v even going b a)
+worth_of_move_is_one p h v w even going a b = omega (arith, ints, worth_at_most p h v w even going a b, worth_at_most p h w v even going b a)
 
 -- ---- the values of all moves
 

@@ -1,6 +1,6 @@
 -- What players who play best secure.
-use Rattle.std.proofs.Common.{◌≡◌, ℕ, List, arith, ap, sym}
-use Rattle.std.specs.Prelude.{false, Contains, ℤ, neg_ℤ, ◌≤ℤ◌}
+use Rattle.std.proofs.Common.{◌≡◌, ℕ, List, arith, ap}
+use Rattle.std.specs.Prelude.{false, Contains, ℤ, ◌≤ℤ◌}
 use Rattle.std.proofs.lemmas.Int.{ints}
 use Rattle.kalah_rules.specs.Position.{Position, HasEqualSides, is_over, final_margin, swapped}
 use Rattle.kalah_rules.specs.Sowing.{after}
@@ -22,49 +22,28 @@ pub record IsBounded (mine theirs : Way) (p : Position) (z : ℤ) : Type 0 where
   pub low : PlaysBest mine → worth p ≤ℤ z
   pub high : PlaysBest theirs → z ≤ℤ worth p
 
--- equal margins
-pub le_of_eq : (a b : ℤ) → a ≡ b → a ≤ℤ b
-le_of_eq a b e = omega (arith, ints)
-
--- of a move with value v at a position of worth w: the next worth u, from the same side or the other, and the margin z there
-pub low_on : (w v u z : ℤ) → v ≡ w → v ≡ u → u ≤ℤ z → w ≤ℤ z
-low_on w v u z best value more = omega (arith, ints)
-
--- with another move, at most
-pub high_on : (w v u z : ℤ) → v ≤ℤ w → v ≡ u → z ≤ℤ u → z ≤ℤ w
-high_on w v u z most value less = omega (arith, ints)
-
--- with the turn passed, at least
-pub low_passed : (w v u z : ℤ) → v ≡ w → v ≡ neg_ℤ u → z ≤ℤ u → w ≤ℤ neg_ℤ z
-low_passed w v u z best value less = omega (arith, ints)
-
--- and at most
-pub high_passed : (w v u z : ℤ) → v ≤ℤ w → v ≡ neg_ℤ u → u ≤ℤ z → neg_ℤ z ≤ℤ w
-high_passed w v u z most value more = omega (arith, ints)
-
 -- along a whole game, for both players at once
 pub bounds : {mine theirs : Way} {p : Position} {houses : List ℕ} {final : Position} → KeepsRules mine → KeepsRules theirs → HasEqualSides p →
     Game mine theirs p houses final → IsBounded mine theirs p (final_margin final)
 bounds {p = p} m t even (is_at_end over) = record {
-  low = λ best. le_of_eq _ _ (worth_of_over p over);
-  high = λ best. le_of_eq _ _ (sym (worth_of_over p over));
+  low = λ best. omega (arith, ints, worth_of_over p over);
+  high = λ best. omega (arith, ints, worth_of_over p over);
 }
 bounds {p = p} {final = final} m t even (moves_on {h = h} going has again rest) =
     let inner = bounds m t (after_equal_sides p h) rest in
     let value = value_going_on p h again in
     let most = value_most p h even going (m.legal_only p h even going has) in
     record {
-      low = λ best. low_on (worth p) (value_of_move p h) (worth (after p h)) (final_margin final) (best.attains p h even going has) value (inner.low best);
-      high = λ best. high_on (worth p) (value_of_move p h) (worth (after p h)) (final_margin final) most value (inner.high best);
+      low = λ best. omega (arith, ints, best.attains p h even going has, value, inner.low best);
+      high = λ best. omega (arith, ints, most, value, inner.high best);
     }
 bounds {p = p} m t even (passes_turn {h = h} {final = final} going has turn rest) =
     let inner = bounds t m (swapped_equal_sides (after p h) (after_equal_sides p h)) rest in
     let value = value_passing p h turn in
     let most = value_most p h even going (m.legal_only p h even going has) in
-    let last_worth = worth (swapped (after p h)) in
     rw (← final_swapped (swapped final)) (record {
-      low = λ best. low_passed (worth p) (value_of_move p h) last_worth (final_margin final) (best.attains p h even going has) value (inner.high best);
-      high = λ best. high_passed (worth p) (value_of_move p h) last_worth (final_margin final) most value (inner.low best);
+      low = λ best. omega (arith, ints, best.attains p h even going has, value, inner.high best);
+      high = λ best. omega (arith, ints, most, value, inner.low best);
     })
 
 -- always moving the lowest best house is best for either side
@@ -115,22 +94,14 @@ best_against_strategies = record {
   held = λ p even. (best_house, best_is_strategy, λ mine m. ends_at_most mine best_house m best_is_strategy p even (worth p) (best_holds p even));
 }
 
--- what one strategy secures is no more than what another allows
-pub at_most : (v w z z' : ℤ) → v ≤ℤ z → z' ≤ℤ w → z ≡ z' → v ≤ℤ w
-at_most v w z z' low high same = omega (arith, ints)
-
 -- so of two margins of best play neither is above the other
 pub secured_at_most : (p : Position) (v w : ℤ) → HasEqualSides p → IsBestPlay p v → IsBestPlay p w → v ≤ℤ w
 secured_at_most p v w even a b =
     let low = ends_at_least a.secured.0 b.held.0 a.secured.1 b.held.1 p even v a.secured.2 in
     let high = ends_at_most a.secured.0 b.held.0 a.secured.1 b.held.1 p even w b.held.2 in
-    at_most v w (final_margin low.1) (final_margin high.1) low.3 high.3
-    (ap final_margin (the_game_is_one a.secured.0 b.held.0 p low.0 high.0 low.1 high.1 low.2 high.2).1)
-
--- and they are equal
-pub same_margin : (v w : ℤ) → v ≤ℤ w → w ≤ℤ v → v ≡ w
-same_margin v w one two = omega (arith, ints)
+    let same = ap final_margin (the_game_is_one a.secured.0 b.held.0 p low.0 high.0 low.1 high.1 low.2 high.2).1 in
+    omega (arith, ints, low.3, high.3, same)
 
 -- the law on one margin
 pub best_play_is_one : BestPlayIsOne
-best_play_is_one p v w even a b = same_margin v w (secured_at_most p v w even a b) (secured_at_most p w v even b a)
+best_play_is_one p v w even a b = omega (arith, ints, secured_at_most p v w even a b, secured_at_most p w v even b a)
