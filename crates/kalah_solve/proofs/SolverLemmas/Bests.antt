@@ -1,12 +1,13 @@
 -- The lowest house that attains the greatest value, one house more at a time.
 use Rattle.std.proofs.Common.{zero, suc, ◌≡◌, ℕ, ◌+◌, ◌<◌, ◌≤◌, inl, inr, List, [], ◌∷◌, ◌++◌, length, get_or, arith, ap, sym, ◌∙◌, refl, take}
-use Rattle.std.specs.Prelude.{Bool, unwrap_or, if◌then◌else◌, int_lt, true, false, map, ℤ, fold, ◌≤ℤ◌, ◌<ℤ◌, Some, find, Contains}
+use Rattle.std.specs.Prelude.{Bool, unwrap_or, if◌then◌else◌, int_lt, true, false, map, ℤ, pos, ◌≤ℤ◌, ◌<ℤ◌, Some, find, Contains}
 use Rattle.std.specs.Int.{int_max}
 use Rattle.std.specs.Ordering.{int_eq}
 use Rattle.std.proofs.lemmas.Bool.{cases_Bool}
-use Rattle.std.proofs.lemmas.Int.{ints, clamps}
+use Rattle.std.proofs.lemmas.Int.{ints, clamps, fold-int_max_bounds}
 use Rattle.std.proofs.lemmas.Bool.Decides.{Decides-int_eq}
-use Rattle.std.proofs.lemmas.List.{take_more}
+use Rattle.std.proofs.lemmas.List.{take_more, length-map, get_or-map}
+use Rattle.std.proofs.lemmas.List.Folds.{find-append}
 use Rattle.kalah_rules.specs.Position.{Position, HasEqualSides, IsWithinLimits, IsSmallMargin, is_over, final_margin}
 use Rattle.kalah_rules.specs.Play.{legal_houses}
 use Rattle.kalah_rules.proofs.Legal.{legal_holds}
@@ -14,14 +15,6 @@ use Rattle.kalah_solve.specs.Solver.Worth.{greatest, worth, value_of_move, best_
 use Rattle.kalah_solve.specs.Solver.Verdict.{verdict_of, IsSmallBest}
 use Rattle.kalah_solve.specs.declared.solver.verdict.Verdict.TheVariants.{Best, Over}
 use Rattle.kalah_solve.proofs.SolverLemmas.Worths.{greatest_more, worth_of_going}
-
--- a house that was found is found in a longer list
-find_more : (p : ℕ → Bool) (xs : List ℕ) (y h : ℕ) → find p xs ≡ Some h → find p (xs ++ y ∷ []) ≡ Some h
-find_more p [] y h found = cc
-find_more p (x ∷ xs) y h found = elim (cases_Bool (p x)) [
-  | inl here ↦ rw here (rw here at found)
-  | inr later ↦ rw later (find_more p xs y h (rw later at found))
-]
 
 -- the last house is found if no earlier one passes
 find_last : (p : ℕ → Bool) (xs : List ℕ) (y : ℕ) → ((k : ℕ) → k < length xs → p (get_or xs k 0) ≡ false) → p y ≡ true →
@@ -31,22 +24,12 @@ find_last p (x ∷ xs) y fails here =
     let first : p x ≡ false = fails 0 (omega arith) in
     rw first (find_last p xs y (λ k within. fails (suc k) (omega arith)) here)
 
--- the greatest is no less than the first number
-start_le : (a : ℤ) (ys : List ℤ) → a ≤ℤ fold int_max a ys
-start_le a [] = omega (arith, ints)
-start_le a (y ∷ ys) = omega (arith, ints, clamps, start_le (int_max a y) ys)
-
--- nor than any other
-item_le : (f : ℕ → ℤ) (a : ℤ) (xs : List ℕ) (k : ℕ) → k < length xs → f (get_or xs k 0) ≤ℤ fold int_max a (map f xs)
-item_le f a [] k within = absurd (omega arith)
-item_le f a (x ∷ xs) zero within = omega (arith, ints, clamps, start_le (int_max a (f x)) (map f xs))
-item_le f a (x ∷ xs) (suc k) within = item_le f (int_max a (f x)) xs k (omega arith)
-
 -- no value is above the greatest
 pub value_le : (f : ℕ → ℤ) (xs : List ℕ) (k : ℕ) → k < length xs → f (get_or xs k 0) ≤ℤ greatest (map f xs)
 value_le f [] k within = absurd (omega arith)
-value_le f (x ∷ xs) zero within = start_le (f x) (map f xs)
-value_le f (x ∷ xs) (suc k) within = item_le f (f x) xs k (omega arith)
+value_le f (x ∷ xs) zero within = (fold-int_max_bounds (f x) (map f xs) _ refl).0
+value_le f (x ∷ xs) (suc k) within =
+    rw (get_or-map f xs k 0 (pos 0) (omega arith)) at ((fold-int_max_bounds (f x) (map f xs) _ refl).1 k (pos 0) (omega (arith, length-map xs f)))
 
 -- equal numbers pass the test
 pub eq_yes : (a b : ℤ) → a ≡ b → int_eq a b ≡ true
@@ -83,7 +66,7 @@ pub best_kept : (f : ℕ → ℤ) (xs : List ℕ) (y : ℕ) (best : ℤ) (house 
     greatest (map f (xs ++ y ∷ [])) ≡ int_max (greatest (map f xs)) (f y) → IsBestOf f (xs ++ y ∷ []) best house
 best_kept f xs y best house is worse more = record {
   best_is = sym (more ∙ rw (← is.best_is) (omega (arith, ints, clamps, worse)));
-  house_is = find_more (λ h. int_eq (f h) best) xs y house is.house_is;
+  house_is = find-append (λ h. int_eq (f h) best) xs (y ∷ []) ∙ rw is.house_is refl;
 }
 
 -- the first house of a list

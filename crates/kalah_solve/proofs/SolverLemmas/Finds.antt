@@ -1,10 +1,11 @@
 -- What a search in a list finds.
 use Rattle.std.proofs.Common.{zero, suc, ◌≡◌, ℕ, ◌+◌, ◌<◌, ◌≤◌, ◌⊎◌, inl, inr, List, [], ◌∷◌, length, get_or, arith, sym, ◌∙◌, refl}
-use Rattle.std.specs.Prelude.{Bool, true, false, Contains, map, filter, fold, find, unwrap_or, ℤ}
+use Rattle.std.specs.Prelude.{Bool, true, false, Contains, map, filter, find, unwrap_or, ℤ}
 use Rattle.std.specs.List.{range_with_len}
-use Rattle.std.specs.Int.{int_max}
 use Rattle.std.proofs.lemmas.Bool.{cases_Bool}
-use Rattle.std.proofs.lemmas.Int.{ints}
+use Rattle.std.proofs.lemmas.Int.{fold-int_max_reached}
+use Rattle.std.proofs.lemmas.List.{length-map, get_or-map}
+use Rattle.std.proofs.lemmas.List.Elements.{Contains-get_or}
 use Rattle.kalah_solve.specs.Solver.Worth.{greatest}
 
 -- a list contains its first number
@@ -20,29 +21,15 @@ pub contains_cases : (x k : ℕ) (xs : List ℕ) (i : ℕ) → i < length (x ∷
 contains_cases x k xs zero within at = inl at
 contains_cases x k xs (suc i) within at = inr (i, omega arith, at)
 
--- the greatest of some numbers is one of them
-pub max_is_one : (a b : ℤ) → (int_max a b ≡ a) ⊎ (int_max a b ≡ b)
-max_is_one a b = grind (arith, ints)
-
-module _ (f : ℕ → ℤ) where
-  -- the greatest is the number that the search began with, or a value
-  fold_is_one : (a : ℤ) (xs : List ℕ) → (fold int_max a (map f xs) ≡ a) ⊎ ((k : ℕ) × Contains xs k × (f k ≡ fold int_max a (map f xs)))
-  fold_is_one a [] = inl refl
-  fold_is_one a (x ∷ xs) = elim (fold_is_one (int_max a (f x)) xs) [
-    | inl start ↦ elim (max_is_one a (f x)) [
-      | inl old ↦ inl (start ∙ old)
-      | inr new ↦ inr (x, contains_first x xs, sym (start ∙ new))
-    ]
-    | inr later ↦ inr (later.0, contains_later x xs later.0 later.1, later.2)
-  ]
-
-  -- so the greatest value is the value of a house
-  pub greatest_is_one : (xs : List ℕ) → 0 < length xs → (k : ℕ) × Contains xs k × (f k ≡ greatest (map f xs))
-  greatest_is_one [] some = absurd (omega arith)
-  greatest_is_one (x ∷ xs) some = elim (fold_is_one (f x) xs) [
-    | inl start ↦ (x, contains_first x xs, sym start)
-    | inr later ↦ (later.0, contains_later x xs later.0 later.1, later.2)
-  ]
+-- the greatest value is the value of a house
+pub greatest_is_one : (f : ℕ → ℤ) (xs : List ℕ) → 0 < length xs → (k : ℕ) × Contains xs k × (f k ≡ greatest (map f xs))
+greatest_is_one f [] some = absurd (omega arith)
+greatest_is_one f (x ∷ xs) some = elim (fold-int_max_reached (f x) (map f xs) _ refl) [
+  | inl start ↦ (x, contains_first x xs, sym start)
+  | inr later ↦
+      let within : later.0 < length xs = omega (arith, later.1, length-map xs f) in
+      (get_or xs later.0 0, contains_later x xs _ (Contains-get_or xs later.0 0 within), sym (get_or-map f xs later.0 0 _ within) ∙ later.2)
+]
 
 -- what a search finds is in the list, and passes
 pub find_passes : (t : ℕ → Bool) (xs : List ℕ) (k : ℕ) → Contains xs k → t k ≡ true →

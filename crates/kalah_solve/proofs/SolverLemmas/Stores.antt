@@ -26,10 +26,6 @@ fold_shift : (d x : ℤ) (xs : List ℤ) → fold int_max (x +ℤ d) (map (λ y.
 fold_shift d x [] = refl
 fold_shift d x (y ∷ ys) = ap (λ z. fold int_max z (map (λ t. t +ℤ d) ys)) (max_shift d x y) ∙ fold_shift d (int_max x y) ys
 
--- for the other player the shift is the other way round
-neg_shift : (x : ℤ) (a b : ℕ) → neg_ℤ (x +ℤ (pos b -ℤ pos a)) ≡ neg_ℤ x +ℤ (pos a -ℤ pos b)
-neg_shift x a b = omega (arith, ints)
-
 -- values that are all shifted
 map_shift : (f g : ℕ → ℤ) (d : ℤ) (xs : List ℕ) → ((h : ℕ) → f h ≡ g h +ℤ d) → map f xs ≡ map (λ y. y +ℤ d) (map g xs)
 map_shift f g d [] same = refl
@@ -47,7 +43,7 @@ shift_by_step : (over more : Bool) (f v u f' v' u' : ℤ) (a b : ℕ) → f ≡ 
     (if over then f else (if more then v else neg_ℤ u)) ≡ (if over then f' else (if more then v' else neg_ℤ u')) +ℤ (pos a -ℤ pos b)
 shift_by_step true more f v u f' v' u' a b one two three = one
 shift_by_step false true f v u f' v' u' a b one two three = two
-shift_by_step false false f v u f' v' u' a b one two three = rw three (neg_shift u' a b)
+shift_by_step false false f v u f' v' u' a b one two three = omega (arith, ints, three)
 
 -- a value by a worth that stores shift is shifted
 value_with_more : (v w : Position → ℤ) (a b : ℕ) (p : Position) (h : ℕ) →
@@ -84,13 +80,9 @@ worth_shift a b p = worth_with_more (moves_left p) a b p
 pub worth_of_rows : (p : Position) → worth p ≡ houses_worth (rows_of p) +ℤ (pos p.own_store -ℤ pos p.other_store)
 worth_of_rows p = ap worth (is_with_more p) ∙ worth_shift p.own_store p.other_store (bare (rows_of p))
 
--- the difference of the stores first
-apart : (z : ℤ) (own other : ℕ) → z +ℤ (pos own -ℤ pos other) ≡ pos own -ℤ pos other +ℤ z
-apart z own other = omega (arith, ints)
-
 -- the law on the worth
 pub worth_by_stores : (p : Position) → worth p ≡ pos p.own_store -ℤ pos p.other_store +ℤ houses_worth (rows_of p)
-worth_by_stores p = worth_of_rows p ∙ apart (houses_worth (rows_of p)) p.own_store p.other_store
+worth_by_stores p = omega (arith, ints, worth_of_rows p)
 
 -- the same search by tests that agree
 find_same : (p q : ℕ → Bool) (xs : List ℕ) → ((h : ℕ) → p h ≡ q h) → find p xs ≡ find q xs
