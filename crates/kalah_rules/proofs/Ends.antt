@@ -3,12 +3,12 @@ use Rattle.std.proofs.Common.{zero, suc, ◌≡◌, ℕ, ◌+◌, ◌-◌, ◌*�
 use Rattle.std.specs.Prelude.{Option, Some, None, ◌==◌, slice_set, sum}
 use Rattle.std.proofs.Math.Nat.{mod-eq_of_lt}
 use Rattle.std.proofs.lemmas.Nat.{le-div}
-use Rattle.std.proofs.lemmas.Bool.{cases_lt, cases_Bool, eqb-true}
+use Rattle.std.proofs.lemmas.Bool.{cases_lt, cases_Bool, eqb-true, le-leb}
 use Rattle.kalah_rules.specs.Position.{Position, HasEqualSides, side_length, seeds, seeds_in_houses, opposite, swapped}
 use Rattle.kalah_rules.specs.Sowing.{lap_length, own_distance, gain, store_distance, sow, sown, after, last_house, captured, capture, captures, can_capture}
 use Rattle.kalah_rules.specs.Lap.{Own, HoldsSeeds, with_seed}
 use Rattle.kalah_rules.specs.Measure.{row_distance, distance_to_stores, IsNearerEnd, moves_left}
-use Rattle.kalah_rules.proofs.Numbers.{sum_range_change, swap_last, more_once, nat_le_true, fall_all, fall_step, set_less, distance_range_le, add_rows, lower_by_distance, swap_sums, lower_by_seeds}
+use Rattle.kalah_rules.proofs.Numbers.{sum_range_change, fall_all, fall_step, set_less, distance_range_le, add_rows, swap_sums, lower_by_seeds}
 use Rattle.kalah_rules.proofs.Laps.{own_distance_past}
 use Rattle.std.proofs.Math.ListN.{length-set}
 use Rattle.kalah_rules.proofs.Rows.{seeds-set_same, seeds-set_other}
@@ -30,7 +30,7 @@ gain_some : (n c d : ℕ) → 0 < n → d ≤ c → 1 ≤ gain n c d
 gain_some n c d pos reach = elim (cases_lt c n) [
   | inl small ↦
       let rest : c % n ≡ c = mod-eq_of_lt small in
-      rw (rest, nat_le_true d c reach) (omega arith)
+      rw (rest, le-leb d c reach) (omega arith)
   | inr large ↦ omega (arith, le-div 1 c n pos (omega arith))
 ]
 
@@ -41,12 +41,12 @@ store_gains p h = refl
 
 pub row_distance-more : (row : List ℕ) (i : ℕ) → 1 ≤ i → i ≤ length row →
     row_distance (slice_set row (i - 1) (seeds row i + 1)) ≡ row_distance row + (length row + 1 - i)
-row_distance-more row i low high = more_once (seeds row i) (length row + 1 - i) _ _ (row_distance-set row i (seeds row i + 1) low high)
+row_distance-more row i low high = omega (arith, row_distance-set row i (seeds row i + 1) low high)
 
 way_with_seed : (q : Position) (i : ℕ) → 1 ≤ i → i ≤ length q.own →
     distance_to_stores (with_seed q (Own i)) ≡ distance_to_stores q + (length q.own + 1 - i)
 way_with_seed q i low high = ap (λ x. x + row_distance q.other) (row_distance-more q.own i low high)
-    ∙ swap_last (row_distance q.own) (length q.own + 1 - i) (row_distance q.other)
+    ∙ omega arith
 
 -- the cell of the next seed, while sowing has not reached the store
 next_house : (m h k : ℕ) → k + 1 + h ≤ m → own_distance m h (h + (k + 1)) ≡ k % lap_length m + 1
@@ -157,7 +157,7 @@ moves_left_falls p q even side (inl fewer) =
     rw side (lower_by_seeds (side_length p) (seeds_in_houses p) (seeds_in_houses q) (distance_to_stores p) (distance_to_stores q) fewer
     (rw side at (distance_below q even)))
 moves_left_falls p q even side (inr near) =
-    rw (side, near.0) (lower_by_distance (seeds_in_houses p * (side_length p * seeds_in_houses p + 1)) (distance_to_stores q) (distance_to_stores p) near.1)
+    rw (side, near.0) (omega (arith, near.1))
 
 -- the next position has fewer moves left, with either player to move
 pub after_fewer : (p : Position) (h : ℕ) → HoldsSeeds p h → HasEqualSides p → moves_left (after p h) < moves_left p

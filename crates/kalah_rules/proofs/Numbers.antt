@@ -1,10 +1,9 @@
 -- Numbers, sums and lists of them: nothing here is of Kalah.
 use Rattle.std.proofs.Common.{zero, suc, ◌≡◌, ◌≢◌, ℕ, ◌+◌, ◌-◌, ◌*◌, ◌<◌, ◌≤◌, inl, inr, List, [], ◌∷◌, zero-le, length, arith, ap, ◌∙◌, refl}
-use Rattle.std.specs.Prelude.{nat_le, true, slice_set, slice_index, sum, sum_by}
+use Rattle.std.specs.Prelude.{slice_set, slice_index, sum, sum_by}
 use Rattle.std.specs.List.{range_with_len}
 use Rattle.std.proofs.lemmas.Nat.{mul-le}
 use Rattle.std.proofs.lemmas.Bool.{cases_eq, cases_lt}
-use Rattle.std.proofs.lemmas.Bool.Decides.{nat_tests}
 use Rattle.std.proofs.lemmas.List.{get_or_past, set_past}
 use Rattle.std.proofs.lemmas.List.Sums.{sum_by-set, sum_by-cons}
 
@@ -32,27 +31,10 @@ sum_range_change f g a (suc n) i low high same =
           omega (arith, f_cons, g_cons, here, rest)
     ]
 
--- sums in another order
-pub swap_last : (a b c : ℕ) → a + b + c ≡ a + c + b
-swap_last a b c = omega arith
-
-pub regroup : (s a x y : ℕ) → s + a + x + y ≡ s + x + y + a
-regroup s a x y = omega arith
-
-pub more_once : (s d w w' : ℕ) → w' + s * d ≡ w + (s + 1) * d → w' ≡ w + d
-more_once s d w w' e = omega arith
-
-pub fall_by_one : (w w0 c d : ℕ) → 0 < c → w + c * (d + 1) ≤ w0 + c * d → w < w0
-fall_by_one w w0 c d some falls = omega arith
-
-pub nat_le_true : (d c : ℕ) → d ≤ c → nat_le d c ≡ true
-nat_le_true d c h = grind (arith, nat_tests)
-
 pub fall_all : (w w0 c m h : ℕ) → h ≤ m → 0 < c → w + c * (m + 1 - h) ≤ w0 + c * (m - h) → w < w0
 fall_all w w0 c m h high some falls =
     let next : m + 1 - h ≡ m - h + 1 = omega arith in
-    let falls' = rw next at falls in
-    fall_by_one w w0 c (m - h) some falls'
+    omega (arith, rw next at falls, some)
 
 -- one seed more that comes no farther than d
 pub fall_step : (w w' a b k d e : ℕ) → w + a ≤ b + k * d → w' ≡ w + e → e ≤ d → w' + a ≤ b + (k + 1) * d
@@ -87,9 +69,6 @@ distance_range_le (x ∷ xs) a n w near =
 
 pub add_rows : (m a b u v : ℕ) → u ≤ m * a → v ≤ m * b → u + v ≤ m * (a + b)
 add_rows m a b u v one two = omega arith
-
-pub lower_by_distance : (a w w' : ℕ) → w < w' → a + w < a + w'
-lower_by_distance a w w' low = omega arith
 
 pub swap_sums : (m a b u v : ℕ) → (b + a) * (m * (b + a) + 1) + (v + u) ≡ (a + b) * (m * (a + b) + 1) + (u + v)
 swap_sums m a b u v = omega arith

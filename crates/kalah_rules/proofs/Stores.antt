@@ -2,9 +2,8 @@
 use Rattle.std.proofs.Common.{◌≡◌, ℕ, ◌+◌, inl, inr, arith, ap, ◌∙◌, refl}
 use Rattle.std.specs.Prelude.{Option, Some, None}
 use Rattle.std.proofs.lemmas.Bool.{cases_Bool}
-use Rattle.kalah_rules.specs.Position.{Position, rows_of, bare, seeds, opposite}
+use Rattle.kalah_rules.specs.Position.{Position, rows_of, bare, seeds}
 use Rattle.kalah_rules.specs.Sowing.{sow, sown, after, last_house, captured, can_capture}
-use Rattle.kalah_rules.proofs.Numbers.{regroup, swap_last}
 use Rattle.kalah_rules.proofs.Rows.{same_position}
 
 -- a and b more in the stores
@@ -17,13 +16,13 @@ with_more a b p = record p {
 -- sowing keeps what was added
 sow_with_more : (a b : ℕ) (p : Position) (h c : ℕ) → sow (with_more a b p) h c ≡ with_more a b (sow p h c)
 unfolding sow
-sow_with_more a b p h c = same_position refl (swap_last _ _ _) refl refl refl
+sow_with_more a b p h c = same_position refl (omega arith) refl refl refl
 
 -- a capture keeps what was added
 captured_with_more : (a b : ℕ) (q : Position) (o : Option ℕ) → captured (with_more a b q) o ≡ with_more a b (captured q o)
 captured_with_more a b q None = refl
 captured_with_more a b q (Some i) = elim (cases_Bool (can_capture q i)) [
-  | inl taken ↦ rw taken (same_position refl (regroup q.own_store a (seeds q.own i) (seeds q.other (opposite q i))) refl refl refl)
+  | inl taken ↦ rw taken (same_position refl (omega arith) refl refl refl)
   | inr kept ↦ rw kept refl
 ]
 
