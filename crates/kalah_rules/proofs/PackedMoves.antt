@@ -70,9 +70,13 @@ sum_of_gains : (rows gains house gained total : ℕ) → (gains + house) % 2 ^ 6
     (rows + gains) % 2 ^ 64 ≡ total
 sum_of_gains rows gains house gained total is adds small = omega arith
 
--- what a sowing adds that ends in the store without a lap
-store_gains : (m h c : ℕ) → 1 ≤ h → h ≤ m → c + h ≡ m + 1 →
-    (own_gained m h c + ones h ≡ ones m) × (other_gained m h c ≡ 0) × (store_gained m h c ≡ 1)
+-- what a sowing of c seeds of house h adds if it ends in the store without a lap
+record GainsIntoStore (m h c : ℕ) : Type 0 where
+  own : own_gained m h c + ones h ≡ ones m
+  other : other_gained m h c ≡ 0
+  store : store_gained m h c ≡ 1
+
+store_gains : (m h c : ℕ) → 1 ≤ h → h ≤ m → c + h ≡ m + 1 → GainsIntoStore m h c
 store_gains m h c low high ends =
     let small : c < lap_length m = omega arith in
     let no_lap : c / lap_length m ≡ 0 = div-eq_of_lt small in
@@ -84,11 +88,12 @@ store_gains m h c low high ends =
     let round = number_of-up_to m (h + c % lap_length m - lap_length m) (omega (arith, no_round)) in
     let other = number_of-up_to m (h + c % lap_length m - (m + 1)) (omega (arith, no_other)) in
     let nothing = ap (λ k. ones k) no_round in
-    let nothing' = ap (λ k. ones k) no_other in (
-      omega (arith, own_gain m h c low high, none, all, round, nothing),
-      omega (arith, other_gain m h c low high, none, other, nothing'),
-      grind (arith, nat_tests, rest, no_lap),
-    )
+    let nothing' = ap (λ k. ones k) no_other in
+    record {
+      own = omega (arith, own_gain m h c low high, none, all, round, nothing);
+      other = omega (arith, other_gain m h c low high, none, other, nothing');
+      store = grind (arith, nat_tests, rest, no_lap);
+    }
 
 module _ (a : Rows) (h : ℕ) (w : IsWithinHouses a) (holds : HoldsSeeds (bare a) h) where
   -- the position after the sowing
@@ -136,14 +141,16 @@ module _ (a : Rows) (h : ℕ) (w : IsWithinHouses a) (holds : HoldsSeeds (bare a
   few : sum q.own + sum q.other ≤ 31
   few = omega (arith, sown_keeps.play, w.few_seeds)
 
+  -- so the own row has a small number
+  own_small : number_of q.own < 2 ^ 30
+  own_small = number_of-small 6 q.own (omega (arith, sown_keeps.side, w.at_most_six)) (omega (arith, few))
+
   -- what is added to both rows leaves them as they are sown
   pub sum_shows : (s : Sowing) (rows : ℕ) → IsSowing (length a.own) h (seeds a.own h) s → rows ≡ number_of a.own + 2 ^ 30 * number_of a.other →
       Shows (record { rows = (rows + s.gains) % 2 ^ 64; store = s.store }) q
   sum_shows s rows is rows_are =
-      let side = sown_keeps.side in
-      let other_side = sown_keeps.other_side in
-      let own_small : number_of q.own < 2 ^ 30 = number_of-small 6 q.own (omega (arith, side, w.at_most_six)) (omega (arith, few)) in
-      let other_small : number_of q.other < 2 ^ 30 = number_of-small 6 q.other (omega (arith, other_side, w.same_side, w.at_most_six)) (omega (arith, few)) in
+      let other_small : number_of q.other < 2 ^ 30 = number_of-small 6 q.other (omega (arith, sown_keeps.other_side, w.same_side, w.at_most_six))
+      (omega (arith, few)) in
       let added : (rows + s.gains) % 2 ^ 64 ≡ number_of q.own + 2 ^ 30 * number_of q.other =
       sum_of_gains rows s.gains (32 ^ (h - 1) * seeds a.own h) _ _ is.gains (omega (arith, rows_are, own_is, other_is))
       (omega (arith, own_small, other_small)) in
@@ -158,14 +165,12 @@ module _ (a : Rows) (h : ℕ) (w : IsWithinHouses a) (holds : HoldsSeeds (bare a
       house ≡ 32 ^ (h - 1) * seeds a.own h → own_more + ones h ≡ ones (length a.own) → Shows (record { rows = rows - house + own_more; store = 1 }) q
   into_store rows house own_more ends rows_are house_is own_more_is =
       let gains = store_gains (length a.own) h (seeds a.own h) holds.first holds.last ends in
-      let side = sown_keeps.side in
-      let own_small : number_of q.own < 2 ^ 30 = number_of-small 6 q.own (omega (arith, side, w.at_most_six)) (omega (arith, few)) in
       let now : rows - house + own_more ≡ number_of q.own + 2 ^ 30 * number_of q.other =
-      omega (arith, rows_are, house_is, own_is, other_is, lifted_is, own_more_is, gains.0, gains.1) in
+      omega (arith, rows_are, house_is, own_is, other_is, lifted_is, own_more_is, gains.own, gains.other) in
       record {
         own = omega (arith, now, own_small);
         other = omega (arith, now, own_small);
-        store = omega (arith, store_is, gains.2);
+        store = omega (arith, store_is, gains.store);
       }
 
   -- and few in the store

@@ -5,7 +5,7 @@ use Rattle.std.proofs.lemmas.List.{get_or-set_same, get_or-set_other}
 use Rattle.std.proofs.Math.ListN.{length-set}
 use Rattle.std.proofs.lemmas.Grind.{same_number_lists}
 use Rattle.std.proofs.lemmas.List.FromFn.{length-map-range_with_len, get_or-map-range_with_len}
-use Rattle.std.proofs.lemmas.List.Sums.{sum_by-set, get_or-le-sum_by}
+use Rattle.std.proofs.lemmas.List.Sums.{sum_by-set}
 use Rattle.std.proofs.lemmas.Bool.{cases_eq}
 use Rattle.kalah_rules.specs.Position.{Position, seeds}
 use Rattle.kalah_rules.specs.Sowing.{row_of}
@@ -42,9 +42,6 @@ seeds-set_other xs i j v i_low j_low other = get_or-set_other xs (i - 1) (j - 1)
 
 pub sum-slice_set : (xs : List ℕ) (i v : ℕ) → 1 ≤ i → i ≤ length xs → sum (slice_set xs (i - 1) v) + seeds xs i ≡ sum xs + v
 sum-slice_set xs i v low high = sum_by-set (λ x. x) xs (i - 1) v 0 (omega arith)
-
-pub seeds-le-sum : (xs : List ℕ) (i : ℕ) → 1 ≤ i → i ≤ length xs → seeds xs i ≤ sum xs
-seeds-le-sum xs i low high = get_or-le-sum_by (λ x. x) xs (i - 1) 0 (omega arith)
 
 pub row_of_same : (n : ℕ) (f g : ℕ → ℕ) → ((j : ℕ) → 1 ≤ j → j ≤ n → g j ≡ f j) → row_of n g ≡ row_of n f
 row_of_same n f g each = same_as_row (row_of n g) n f (length-row_of n g) (λ j low high. seeds-row_of n g j low high ∙ each j low high)

@@ -37,9 +37,9 @@ const FIRST_PLACES: u32 = 8_192;
 #[derive(Drop)]
 pub struct Table<A: Allocator + Clone = Global> {
     entries: LruCache<u64, Interval, DefaultHasher, A>,
-    // What is known of houses, without a search for them.
+    // What is known of houses with few seeds, each in its place.
     pub(crate) places: DirectTable<A>,
-    // The exact results of houses with few seeds, which tables may share.
+    // What the mover takes of houses with still fewer, which tables may share.
     pub(crate) endings: Arc<EndgameTable<A>, A>,
 }
 

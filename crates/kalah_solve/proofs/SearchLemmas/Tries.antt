@@ -26,21 +26,7 @@ short_of r bar x says fails = elim (cases_lt x bar) [
   | inr enough ↦ absurd (let here = says.1 (omega (arith, enough)) in cc)
 ]
 
--- a number that is known is a bound of itself
-pub bound_itself : (bar number bound : ℕ) → bound ≡ number → IsSoftBound bar number bound
-bound_itself bar number bound is = record { lower = λ enough. omega (arith, is); upper = λ short. omega (arith, is) }
-
--- a bound determines whether the number is at least `bar`
-pub bound_reaches : (bar number bound : ℕ) → IsSoftBound bar number bound → bar ≤ bound → bar ≤ number
-bound_reaches bar number bound is enough = omega (arith, enough, is.lower enough)
-
-pub bound_short : (bar number bound : ℕ) → IsSoftBound bar number bound → bar ≤ number → bar ≤ bound
-bound_short bar number bound is reached = elim (cases_lt bound bar) [
-  | inl less ↦ absurd (omega (arith, less, reached, is.upper less))
-  | inr enough ↦ enough
-]
-
--- and it is at most the greater of the two
+-- a bound is at most the greater of `bar` and the number
 pub bound_up_to : (bar number bound : ℕ) → IsSoftBound bar number bound → bound ≤ max bar number
 bound_up_to bar number bound is = elim (cases_lt bound bar) [
   | inl less ↦ omega (arith, less)
@@ -54,14 +40,7 @@ low_more bar most bound new low short is enough = elim (cases_lt most bar) [
   | inr more ↦ absurd (omega (arith, short, more, low more))
 ]
 
--- `more` added to a number and its bound
-pub bound_more : (bar number bound more : ℕ) → more < bar → IsSoftBound (bar - more) number bound → IsSoftBound bar (more + number) (more + bound)
-bound_more bar number bound more few is = record {
-  lower = λ enough. omega (arith, is.lower (omega (arith, enough)));
-  upper = λ short. omega (arith, is.upper (omega (arith, short)));
-}
-
--- and of what is left of all, by what is left of the bound
+-- what is left of all is bounded by what the bound leaves
 pub bound_left : (bar all seeds gained number bound : ℕ) → all ≡ gained + seeds → number ≤ seeds → gained < bar → bar ≤ all →
     IsSoftBound (all - bar + 1) number bound → IsSoftBound bar (gained + (seeds - number)) (all - bound)
 bound_left bar all seeds gained number bound is few low high b = elim (cases_lt bound (all - bar + 1)) [
