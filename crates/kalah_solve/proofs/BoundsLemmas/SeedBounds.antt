@@ -22,5 +22,6 @@ module _ (window : Window) (n low high : ℕ) (is_low : IsHalf (window.lo +ℤ p
   shares_high few = omega (arith, ints, clamps, is_high.low, window.high)
 
   -- a share that is raised and lowered to them makes the same margin in the window
-  pub shares_apart : (t : ℕ) → t ≤ n → within window.lo window.hi (pos (2 * max low (min high t)) -ℤ pos n) ≡ within window.lo window.hi (pos (2 * t) -ℤ pos n)
+  pub shares_apart : (t : ℕ) → t ≤ n → within window.lo window.hi (pos (2 * max low (min high t)) -ℤ pos n)
+      ≡ within window.lo window.hi (pos (2 * t) -ℤ pos n)
   shares_apart t few = omega (arith, ints, clamps, window.ordered, is_low.low, is_low.high, is_high.low, is_high.high)
