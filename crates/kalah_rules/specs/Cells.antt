@@ -33,15 +33,19 @@ pub record CanStartFrom (rows : Rows) (own_store other_store : ℕ) : Type 0 whe
   pub own_store_low : own_store ≤ most_in_store
   pub other_store_low : other_store ≤ most_in_store
 
+-- a list in six cells, with `none` past its end
+abbrev pub padded_with : {X : Type 0} → X → List X → List X
+padded_with none xs = xs ++ replicate (most_houses - length xs) none
+
 -- a row in six cells, with 0 past the last house
 abbrev pub padded : List ℕ → List ℕ
-padded row = row ++ replicate (most_houses - length row) 0
+padded row = padded_with 0 row
 
--- at most six numbers, in six cells
-pub record IsSixAtMost (len : ℕ) (cells : List ℕ) : Type 0 where
+-- a list of at most six, in six cells
+pub record IsSixAtMost {X : Type 0} (none : X) (len : ℕ) (cells : List X) : Type 0 where
   pub cells_are_six : length cells ≡ most_houses
   pub few : len ≤ most_houses
-  pub rest_is_zero : padded (take len cells) ≡ cells
+  pub rest_is_none : padded_with none (take len cells) ≡ cells
 
-pub length_of_six : {len : ℕ} {cells : List ℕ} → IsSixAtMost len cells → length (take len cells) ≡ len
-length_of_six {len} {cells} h = length-take-le len cells (omega (arith, h.cells_are_six, h.few))
+pub length_of_six : {X : Type 0} {none : X} {len : ℕ} {cells : List X} → IsSixAtMost none len cells → length (take len cells) ≡ len
+length_of_six {X} {none} {len} {cells} h = length-take-le len cells (omega (arith, h.cells_are_six, h.few))

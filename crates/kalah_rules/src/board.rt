@@ -68,6 +68,7 @@ impl Board {
     ///
     /// Returns `None` if the rows differ in length or have no house, if they hold more than 31 seeds together, or if a store holds
     /// more than 99.
+    #[inline(always)]
     pub fn of_rows(
         own: &HouseRow,
         own_store: u8,

@@ -18,11 +18,11 @@ impl Model for Moves {
 
     ghost view = { λ moves. take moves.count moves.houses };
 
-    ghost invariant = { λ moves. IsSixAtMost moves.count moves.houses };
+    ghost invariant = { λ moves. IsSixAtMost 0 moves.count moves.houses };
 
     ghost inverse = { λ xs. record { houses = padded xs; count = length xs } };
 
-    ghost inverse_ok = { λ moves h i. record { houses = h.rest_is_zero i; count = length_of_six h i } };
+    ghost inverse_ok = { λ moves h i. record { houses = h.rest_is_none i; count = length_of_six h i } };
 }
 
 impl Moves {

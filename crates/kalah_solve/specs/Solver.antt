@@ -3,5 +3,4 @@ pub mod BestPlay
 pub mod Verdict
 pub mod Laws
 pub mod StepWorth
-pub mod SixValues
 pub mod MoveValues

@@ -1,5 +1,5 @@
 -- What each move of a position is worth, in its numbers and by the strategies of best play.
-use Rattle.std.specs.Prelude.{◌≡◌, ℕ, false, List, ◌∷◌, All, Contains, map, find, option_map, unwrap_or, ℤ, ◌≤ℤ◌}
+use Rattle.std.specs.Prelude.{◌≡◌, ℕ, false, List, ◌∷◌, All, Contains, map, find, option_map, unwrap_or, ℤ, pos, ◌≤ℤ◌}
 use Rattle.std.specs.Ordering.{int_eq}
 use Rattle.kalah_rules.specs.Position.{Position, HasEqualSides, is_over, final_margin}
 use Rattle.kalah_rules.specs.Play.{legal_houses}
@@ -9,6 +9,10 @@ use Rattle.kalah_solve.specs.Solver.Verdict.{verdict_of}
 use Rattle.kalah_solve.specs.declared.solver.move_values.MoveValue.{MoveValue}
 use Rattle.kalah_solve.specs.declared.solver.verdict.Verdict.{Verdict}
 use Rattle.kalah_solve.specs.declared.solver.verdict.Verdict.TheVariants.{Best}
+
+-- fills the cells past the last value
+abbrev pub no_value : MoveValue
+no_value = record { house = 0; value = pos 0 }
 
 -- house h, with the margin that its move gets in best play
 abbrev pub move_value : Position → ℕ → MoveValue

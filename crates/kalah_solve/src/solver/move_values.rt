@@ -25,17 +25,18 @@ pub struct MoveValues {
 impl Model for MoveValues {
     ghost use Rattle.std.specs.Prelude.{List, length, take};
     ghost use Rattle.kalah_solve.specs.declared.solver.move_values.MoveValue.{MoveValue};
-    ghost use Rattle.kalah_solve.specs.Solver.SixValues.{padded_values, AreSixAtMost, count_of_six};
+    ghost use Rattle.kalah_rules.specs.Cells.{padded_with, IsSixAtMost, length_of_six};
+    ghost use Rattle.kalah_solve.specs.Solver.MoveValues.{no_value};
 
     ghost Value = { List MoveValue };
 
     ghost view = { λ values. take values.count values.values };
 
-    ghost invariant = { λ values. AreSixAtMost values.count values.values };
+    ghost invariant = { λ values. IsSixAtMost no_value values.count values.values };
 
-    ghost inverse = { λ xs. record { values = padded_values xs; count = length xs } };
+    ghost inverse = { λ xs. record { values = padded_with no_value xs; count = length xs } };
 
-    ghost inverse_ok = { λ values h i. record { values = h.rest_is_none i; count = count_of_six h i } };
+    ghost inverse_ok = { λ values h i. record { values = h.rest_is_none i; count = length_of_six h i } };
 }
 
 impl MoveValues {
