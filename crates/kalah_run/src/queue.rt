@@ -156,7 +156,11 @@ impl ResultsQueue {
             }
             *tries -= 1;
             if backoff.is_completed() {
-                spin_shortly();
+                // A microsecond or two, without a yield: on a busy machine the other threads then run for some milliseconds.
+                let pause = Backoff::new();
+                for _ in 0..5 {
+                    pause.spin();
+                }
             } else {
                 backoff.snooze();
             }
@@ -215,13 +219,5 @@ impl ClosedQueue {
         ensures { result ≡ self.now.left }
     {
         self.left
-    }
-}
-
-// Pauses for a microsecond or two. It never yields: on a busy machine the other threads then run for some milliseconds.
-fn spin_shortly() {
-    let backoff = Backoff::new();
-    for _ in 0..5 {
-        backoff.spin();
     }
 }

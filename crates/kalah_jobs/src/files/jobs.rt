@@ -8,6 +8,7 @@ ghost use Rattle.kalah_jobs.specs.Files.Jobs.{entries_to, lines_in_all, jobs_of,
 ghost use Rattle.kalah_jobs.specs.Writing.Output.{is_faulty_job};
 
 use crate::files::entry::Entry;
+use crate::files::file_lines::count_lines;
 use crate::files::file_text::FileText;
 use crate::files::first_entry::first_entry;
 use crate::files::job::Job;
@@ -184,7 +185,7 @@ fn few_lines(files: &[FileText]) -> Option<usize>
 {
     let mut room = MOST_LINES;
     for file in files {
-        let lines = file.lines();
+        let lines = count_lines(&file.bytes);
         if lines > room {
             return None;
         }

@@ -31,11 +31,6 @@ abbrev pub WritesReady : OrderedOutput → Option (List ℕ) → Bool → Ordere
 WritesReady r out failed after more fails = (files : List NamedBytes) → (jobs : List (List Entry)) → (past : List Job) → (begun : Option (List ℕ))
     → HasWritten files jobs past begun out failed r → HasWritten files jobs past begun more fails after × Waits after
 
--- It accepts one more outcome.
-abbrev pub Accepts : Job → OrderedOutput → Option (List ℕ) → Bool → OrderedOutput → Option (List ℕ) → Bool → Type 0
-Accepts o r out failed after more fails = (files : List NamedBytes) → (jobs : List (List Entry)) → (past : List Job) → (begun : Option (List ℕ))
-    → HasWritten files jobs past begun out failed r → HasWritten files jobs (past ++ o ∷ []) begun more fails after × Waits after
-
 -- It accepts the first outcomes, and all of them.
 abbrev pub AcceptsAll : List Job → OrderedOutput → Option (List ℕ) → Bool → OrderedOutput → Option (List ℕ) → Bool → Type 0
 AcceptsAll all r out failed after more fails = (files : List NamedBytes) → (jobs : List (List Entry)) → (begun : Option (List ℕ))

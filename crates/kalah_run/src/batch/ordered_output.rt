@@ -2,7 +2,7 @@
 ghost use Rattle.std.specs.Prelude.{◌≡◌, [], ℕ, List, Option, Bool, length, IfOk};
 ghost use Rattle.kalah_jobs.specs.Collecting.CollectorState.{HasLinesOf};
 
-use kalah_jobs::{Collector, FileText, Jobs, Outcome, Sink, write_answer};
+use kalah_jobs::{Collector, FileText, Jobs, Sink, write_answer};
 use std::alloc::{AllocError, Global};
 
 /// What has come for a batch, and how much of it is written. `current` is the file whose lines are written next: the
@@ -18,7 +18,7 @@ pub(crate) struct OrderedOutput<'a> {
 }
 
 impl<'a> OrderedOutput<'a> {
-    ghost use Rattle.kalah_run.specs.Batch.OrderedOutput.{HasWritten, Accepts, WritesReady};
+    ghost use Rattle.kalah_run.specs.Batch.OrderedOutput.{HasWritten, WritesReady};
 
     /// Makes the output of these files, with no outcome yet. It allocates all its memory here.
     pub(crate) fn new(
@@ -57,13 +57,5 @@ impl<'a> OrderedOutput<'a> {
                 return;
             }
         }
-    }
-
-    /// Accepts an outcome, and then writes the next lines in output order, as far as they are ready.
-    pub(crate) fn accept<W: Sink>(&mut self, outcome: Outcome, out: &mut W)
-        ensures { Accepts outcome self.old (W.written out.old) (W.has_failed out.old) self.new (W.written out.new) (W.has_failed out.new) }
-    {
-        let _ = self.collector.offer(self.jobs, outcome);
-        self.write(out);
     }
 }

@@ -85,7 +85,8 @@ fn collect<R: Wait, W: Sink>(
                 get_later(rt, queue, pass, out)
             }
         };
-        output.accept(outcome, out);
+        let _ = output.collector.offer(output.jobs, outcome);
+        output.write(out);
     }
 }
 

@@ -5,6 +5,7 @@ use Rattle.kalah_jobs.specs.declared.files.job.Job.{Job}
 use Rattle.kalah_run.specs.Queue.States.{GetState, HasGot}
 use Rattle.kalah_run.specs.Batch.OrderedOutput.{HasWritten, Waits, outcomes_in}
 use Rattle.kalah_run.proofs.BatchLemmas.Outputs.{still_written}
+use Rattle.kalah_run.proofs.BatchLemmas.Progress.{progress_offered}
 use Rattle.kalah_run.proofs.batch.running.collect.Given as given
 use Rattle.kalah_run.proofs.batch.running.collect.Goals as goal
 use Rattle.kalah_run.proofs.batch.running.collect.Goals.{in-Some, in-None, then-not-failed, else-not-failed}
@@ -22,14 +23,14 @@ loop-init g c = record {
 }
 
 -- an outcome was got
-got : (g : given.Over) (c : goal.After-accept g) → HasGot c.loop.pass c.match-get_soon.outcome c.match-get_soon.pass
+got : (g : given.Over) (c : goal.After-write-in-loop g) → HasGot c.loop.pass c.match-get_soon.outcome c.match-get_soon.pass
 got g c = elim c.match-get_soon.branch [
   | in-Some w ↦ search rules
   | in-None w ↦ search rules
 ]
 
 -- what was written stays
-keeps : (g : given.Over) (c : goal.After-accept g) → Keeps (g.W.Sink.written c.loop.out) (g.W.Sink.written c.match-get_soon.out)
+keeps : (g : given.Over) (c : goal.After-write-in-loop g) → Keeps (g.W.Sink.written c.loop.out) (g.W.Sink.written c.match-get_soon.out)
 keeps g c = elim c.match-get_soon.branch [
   | in-Some w ↦ search rules
   | in-None w ↦ elim w.if-not-failed.branch [
@@ -39,7 +40,7 @@ keeps g c = elim c.match-get_soon.branch [
 ]
 
 -- and a failure is not undone
-sound : (g : given.Over) (c : goal.After-accept g) → g.W.Sink.has_failed c.match-get_soon.out ≡ false → g.W.Sink.has_failed c.loop.out ≡ false
+sound : (g : given.Over) (c : goal.After-write-in-loop g) → g.W.Sink.has_failed c.match-get_soon.out ≡ false → g.W.Sink.has_failed c.loop.out ≡ false
 sound g c = elim c.match-get_soon.branch [
   | in-Some w ↦ search rules
   | in-None w ↦ elim w.if-not-failed.branch [
@@ -60,9 +61,13 @@ loop-preserved g c =
       all = ap (λ (l : List (ℕ × Job)). length l) more ∙ length-append c.loop.pass.got ((worker, outcome) ∷ []) ∙ omega (arith, c.loop.invariant.all);
       few_tries = search rules;
       progress = λ files jobs begun so_far.
-          subst (λ (l : List Job). HasWritten files jobs l begun (g.W.Sink.written c.accept.new.out)
-          (g.W.Sink.has_failed c.accept.new.out) c.accept.new.self × Waits c.accept.new.self)
+          subst (λ (l : List Job). HasWritten files jobs l begun (g.W.Sink.written c.write-in-loop.new.out)
+          (g.W.Sink.has_failed c.write-in-loop.new.out) c.write-in-loop.new.self × Waits c.write-in-loop.new.self)
           (sym (ap (λ (l : List (ℕ × Job)). outcomes_in l) more ∙ map-append (λ (p : ℕ × Job). p.1) c.loop.pass.got ((worker, outcome) ∷ [])))
-          (c.accept.ensures files jobs _ begun
-          (still_written files jobs _ begun _ _ _ _ _ (keeps g c) (sound g c) (c.loop.invariant.progress files jobs begun so_far).0));
+          (let so_far = still_written files jobs _ begun _ _ _ _ _ (keeps g c) (sound g c) (c.loop.invariant.progress files jobs begun so_far).0 in
+          c.write-in-loop.ensures files jobs _ begun (record {
+            of_files = so_far.of_files;
+            of_jobs = so_far.of_jobs;
+            progress = progress_offered so_far.progress outcome c.offer.new.self c.offer.result c.offer.ensures.offers;
+          }));
     }
