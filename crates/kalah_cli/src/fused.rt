@@ -1,5 +1,5 @@
 //! A writer that is not called again after its first error.
-ghost use Rattle.std.specs.Prelude.{◌≡◌, ◌≢◌, ◌↔◌, [], true, false, IfErr, IfOk, IsErr, IsTrue, OnOk};
+ghost use Rattle.std.specs.Prelude.{◌≡◌, ◌≢◌, ◌↔◌, [], true, false, IfErr, IfOk, IsErr, OnOk};
 ghost use Rattle.std.specs.IoError.{error_kind};
 ghost use Rattle.std.specs.Io.{WritesAtMost};
 ghost use Rattle.std.specs.Io.KnownBytes.{Keeps, WriteAppends};
@@ -27,24 +27,6 @@ impl<W> Fused<W> {
             has_failed: false,
         }
     }
-
-    // Returns an error if a call has failed.
-    fn check(&self) -> io::Result<()>
-        ensures fails { IsErr result ↔ (self.now.has_failed ≡ true) }
-        ensures kind { IfErr result (λ e. error_kind e ≡ ErrorKind.BrokenPipe) }
-    {
-        if self.has_failed {
-            return Err(io::Error::from(ErrorKind::BrokenPipe));
-        }
-        Ok(())
-    }
-}
-
-// Returns whether a call that returned this error has failed.
-fn is_failure(error: &io::Error) -> bool
-    ensures { IsTrue result ↔ (error_kind error.now ≢ ErrorKind.Interrupted) }
-{
-    error.kind() != ErrorKind::Interrupted
 }
 
 impl<W: Write> Write for Fused<W> {
@@ -57,11 +39,13 @@ impl<W: Write> Write for Fused<W> {
         ensures error { IfErr result (λ e. (self.new.has_failed ≡ true) ↔ (error_kind e ≢ ErrorKind.Interrupted)) }
         ensures taken { IfOk result (λ n. (self.new.has_failed ≡ true) ↔ ((n ≡ 0) × (buf.now ≢ []))) }
     {
-        self.check()?;
+        if self.has_failed {
+            return Err(io::Error::from(ErrorKind::BrokenPipe));
+        }
         let written = self.writer.write(buf);
         self.has_failed = match &written {
             Ok(taken) => *taken == 0 && !buf.is_empty(),
-            Err(error) => is_failure(error),
+            Err(error) => error.kind() != ErrorKind::Interrupted,
         };
         written
     }
@@ -72,11 +56,13 @@ impl<W: Write> Write for Fused<W> {
         ensures error { IfErr result (λ e. (self.new.has_failed ≡ true) ↔ (error_kind e ≢ ErrorKind.Interrupted)) }
         ensures flushed { OnOk result (self.new.has_failed ≡ false) }
     {
-        self.check()?;
+        if self.has_failed {
+            return Err(io::Error::from(ErrorKind::BrokenPipe));
+        }
         let flushed = self.writer.flush();
         self.has_failed = match &flushed {
             Ok(()) => false,
-            Err(error) => is_failure(error),
+            Err(error) => error.kind() != ErrorKind::Interrupted,
         };
         flushed
     }
