@@ -2,7 +2,7 @@
 ghost use Rattle.std.specs.Prelude.{◌≡◌, ◌≢◌, ◌↔◌, Err, IfErr, IfOk, IsErrOf, OnOk, false, map, true};
 ghost use Rattle.std.specs.List.{list_any};
 ghost use Rattle.kalah_cli.specs.Request.{IsInLimits};
-ghost use Rattle.kalah_cli.specs.SolveFiles.{AnswersTo, BeginsTo, CountsTo, has_line_feed};
+ghost use Rattle.kalah_cli.specs.SolveFiles.{AnswersTo, BeginsTo, has_line_feed};
 
 use crate::failure::Failure;
 use crate::files::read_files;
@@ -10,25 +10,18 @@ use crate::progress::{Progress, StandardError};
 use crate::request::FilesRequest;
 use crate::status::ExitStatus;
 use kalah_jobs::Sink;
-use kalah_run::{BatchSize, OpenGate, Tally, answer_batch};
+use kalah_run::{BatchSize, OpenGate, answer_batch};
 use std::alloc::Global;
 use std::io::Write;
 use std::rt::Files;
 use std::sync::Wait;
 use std::thread::Threads;
 
-// Returns whether the name has a line feed in it, so that its answers could be taken for more than one line.
-fn has_line_feed(name: &str) -> bool
-    ensures { result ≡ has_line_feed name.now }
-{
-    name.as_bytes().contains(&b'\n')
-}
-
-// Returns whether one of the names has a line feed in it.
+// Returns whether one of the names has a line feed in it, so that its answers could be taken for more than one line.
 fn any_has_line_feed(names: &[&str]) -> bool
     ensures { result ≡ list_any (λ name. has_line_feed name.now) names.now }
 {
-    names.iter().any(|name| has_line_feed(*name))
+    names.iter().any(|name| name.as_bytes().contains(&b'\n'))
 }
 
 // Reads the named files and writes the answer to what is asked of each line of them.
@@ -38,15 +31,14 @@ fn answer_files<'a, R: Files + Threads + Wait + Sync + StandardError, O: Sink>(
     alloc: Global,
     request: &FilesRequest<'a>,
     out: &mut O,
-) -> Result<Tally, Failure<'a>>
+) -> Result<ExitStatus, Failure<'a>>
     requires limits { IsInLimits request.now }
     requires sink { O.has_failed out.old ≡ false }
-    ensures solved { IfOk result (λ tally. CountsTo request.now.question (map (λ name. name.now) request.now.files.items)
-        (O.written out.old) (O.written out.new) tally) }
+    ensures solved { IfOk result (λ status. AnswersTo request.now.question (map (λ name. name.now) request.now.files.items)
+        (O.written out.old) (O.written out.new) status) }
+    ensures no_failure { IfOk result (λ status. status ≢ ExitStatus.Failed) }
     ensures begins { BeginsTo request.now.question (map (λ name. name.now) request.now.files.items)
         (O.written out.old) (O.written out.new) }
-    ensures one_line { OnOk result
-        (list_any has_line_feed (map (λ name. name.now) request.now.files.items) ≡ false) }
     ensures line_feed { IsErrOf result Failure.LineFeed
         ↔ list_any has_line_feed (map (λ name. name.now) request.now.files.items) ≡ true }
     ensures handed_on { OnOk result (O.is_handed_on out.new ≡ true) }
@@ -74,20 +66,9 @@ fn answer_files<'a, R: Files + Threads + Wait + Sync + StandardError, O: Sink>(
         answer_batch(rt, alloc, question, files, size, &OpenGate, out)
     };
     match answered {
-        Ok(tally) => Ok(tally),
+        Ok(tally) if tally.faults == 0 => Ok(ExitStatus::Clean),
+        Ok(_) => Ok(ExitStatus::LineFaults),
         Err(fault) => Err(Failure::from(fault)),
-    }
-}
-
-// Returns the exit status once all lines are answered.
-fn status_of(tally: Tally) -> ExitStatus
-    ensures clean { result ≡ ExitStatus.Clean ↔ tally.faults ≡ 0 }
-    ensures lines { result ≢ ExitStatus.Failed }
-{
-    if tally.faults == 0 {
-        ExitStatus::Clean
-    } else {
-        ExitStatus::LineFaults
     }
 }
 
@@ -112,7 +93,7 @@ pub(crate) fn run_files<R: Files + Threads + Wait + Sync + StandardError, O: Sin
     ensures handed_on { result ≢ ExitStatus.Failed → O.is_handed_on out.new ≡ true }
 {
     match answer_files(rt, alloc, request, out) {
-        Ok(tally) => status_of(tally),
+        Ok(status) => status,
         Err(failure) => failure.report(err),
     }
 }
