@@ -222,14 +222,13 @@ fn count_request<'a>(found: &ArgMatches<'a>) -> Request<'a>
     }
 }
 
-// Returns the matches of the subcommand of this name, if it was met.
-fn matches_of<'m, 'a>(matches: &'m ArgMatches<'a>, name: &str) -> Option<&'m ArgMatches<'a>>
+// Returns the name of the subcommand that was met, and its matches.
+fn subcommand_of<'m, 'a>(matches: &'m ArgMatches<'a>) -> (&'a str, &'m ArgMatches<'a>)
     requires { IsTaken (subcommand_rows_of matches.now) }
-    ensures met { IsSome result ↔ (subcommand_name_of matches.now ≡ Some name.now) }
-    ensures rows { IfSome result (λ found. subcommand_rows_of matches.now ≡ Some (name.now, rows_of (found_of found.now))) }
-    ensures taken { IfSome result (λ found. AreMatches name.now (rows_of (found_of found.now))) }
+    ensures rows { subcommand_rows_of matches.now ≡ Some (result.0.now, rows_of (found_of result.1.now)) }
+    ensures taken { AreMatches result.0.now (rows_of (found_of result.1.now)) }
 {
-    matches.subcommand_matches(name)
+    matches.subcommand().unwrap()
 }
 
 // Returns the request of the matches of a subcommand, which must have what it needs.
@@ -239,29 +238,17 @@ fn requested<'a>(alloc: Global, matches: &ArgMatches<'a>) -> Result<Request<'a>,
         (λ r. option_and_then asked_by (subcommand_rows_of matches.now) ≡ Some (asked_for r)) }
     ensures range { IfOk result IsInRange }
 {
-    if let Some(found) = matches_of(matches, "moves") {
-        return Ok(moves_request(found));
+    let (name, found) = subcommand_of(matches);
+    match name {
+        "moves" => Ok(moves_request(found)),
+        "play" => Ok(play_request(found)),
+        "solve" => files_request(alloc, Question::BestMove, found),
+        "values" => files_request(alloc, Question::Values, found),
+        "ask" => Ok(ask_request(found)),
+        "steps" => files_request(alloc, Question::Steps, found),
+        "show" => Ok(show_request(found)),
+        _ => Ok(count_request(found)),
     }
-    if let Some(found) = matches_of(matches, "play") {
-        return Ok(play_request(found));
-    }
-    if let Some(found) = matches_of(matches, "solve") {
-        return files_request(alloc, Question::BestMove, found);
-    }
-    if let Some(found) = matches_of(matches, "values") {
-        return files_request(alloc, Question::Values, found);
-    }
-    if let Some(found) = matches_of(matches, "ask") {
-        return Ok(ask_request(found));
-    }
-    if let Some(found) = matches_of(matches, "steps") {
-        return files_request(alloc, Question::Steps, found);
-    }
-    if let Some(found) = matches_of(matches, "show") {
-        return Ok(show_request(found));
-    }
-    let found = matches_of(matches, "count").unwrap();
-    Ok(count_request(found))
 }
 
 /// Parses the arguments, whose first is the program's name. Fails with the command line's own
