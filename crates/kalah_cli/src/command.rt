@@ -26,18 +26,12 @@ const TABLE_OF_ONE: &str = "table entries of the search, 1 to 1048576";
 
 const TABLE_OF_WORKERS: &str = "table entries of each worker, 1 to 1048576";
 
-// Returns a command of this name, without arguments.
-fn named<'a>(alloc: Global, name: &'a str, about: &'a str) -> Command<'a>
-    ensures { app_of result ≡ new_app name.entry.now }
-{
-    Command::new(alloc, name).about(about)
-}
-
 // Returns a subcommand of this name, without arguments. Its help ends in this text.
 fn subcommand<'a>(alloc: Global, name: &'a str, about: &'a str, long_help: &'a str) -> Command<'a>
     ensures { app_of result ≡ new_app name.entry.now }
 {
-    named(alloc, name, about)
+    Command::new(alloc, name)
+        .about(about)
         .after_help(help::SHORT_OF_SUBCOMMAND)
         .after_long_help(long_help)
 }
@@ -229,7 +223,8 @@ fn program<'a>(alloc: Global) -> Command<'a>
     ensures { app_of result ≡ program_app }
 {
     let about = "Solves small positions of Kalah: the best house and the margin of best play";
-    named(alloc, "kalah", about)
+    Command::new(alloc, "kalah")
+        .about(about)
         .version(VERSION_LINE)
         .after_help(help::SHORT)
         .after_long_help(help::LONG)

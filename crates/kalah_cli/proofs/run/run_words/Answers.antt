@@ -54,28 +54,13 @@ returns-in-Ok-clause-by_words g c = by_words _ _ _ _ _ (returns-in-Ok-clause-acc
 pub returns-in-Ok-clause-unchanged : goal.returns-in-Ok-clause-unchanged
 returns-in-Ok-clause-unchanged g c = λ none. c.run_request.ensures.unchanged (none (asked_for c.in-Ok.request) (request_taken g c))
 
-pub returns-in-Ok-clause-failed : goal.returns-in-Ok-clause-failed
-returns-in-Ok-clause-failed g c = c.run_request.ensures.failed
-
-pub returns-in-Ok-clause-handed_on : goal.returns-in-Ok-clause-handed_on
-returns-in-Ok-clause-handed_on g c = c.run_request.ensures.handed_on
-
 pub returns-in-Ok-clause-stopped : goal.returns-in-Ok-clause-stopped
 returns-in-Ok-clause-stopped g c = λ question table taken. c.run_request.ensures.stopped question table (is_asked g c (ask question table) taken)
 
 -- ---- the parse failed
 
-pub refuse-requires : goal.refuse-requires
-refuse-requires g c = c.requires.sink
-
-pub returns-clause-failed : goal.returns-clause-failed
-returns-clause-failed g c = c.refuse.ensures.failed
-
 pub returns-clause-unchanged : goal.returns-clause-unchanged
 returns-clause-unchanged g c = λ none. c.refuse.ensures.unchanged
-
-pub returns-clause-handed_on : goal.returns-clause-handed_on
-returns-clause-handed_on g c = λ went flushed. c.refuse.ensures.handed_on went
 
 -- the error has a kind of the arguments' fault
 has_kind : (g : Over) (c : After-drop-words-2 g) → HasKind (fault_of kalah_app (texts_of c.args.words.items)) c.in-Err.error
