@@ -1,14 +1,14 @@
 //! The requests that a command line can make.
-ghost use Rattle.std.specs.Prelude.{◌≡◌, ◌↔◌, ℕ, All, List, [], ◌∷◌, IfErr, IfOk, IfSome, IsSome, MatchResult, Some, codes, false, is_some, map, option_and_then, true};
+ghost use Rattle.std.specs.Prelude.{◌≡◌, ℕ, All, List, [], ◌∷◌, IfErr, IfOk, MatchResult, Some, codes, false, is_some, map, option_and_then, true};
 ghost use Rattle.clap.specs.Faults.{fault_of};
 ghost use Rattle.clap.specs.Kinds.{FailsBy};
 ghost use Rattle.clap.specs.Simple.{subcommand_rows_of};
 ghost use Rattle.clap.specs.Walk.{all_of, first_of, rows_of};
-ghost use Rattle.clap.specs.Words.{found_of, kind_of, subcommand_name_of};
+ghost use Rattle.clap.specs.Words.{found_of, kind_of};
 ghost use Rattle.clap.specs.declared.error.kind.ErrorKind.TheVariants.{OutOfMemory};
 ghost use Rattle.kalah_solve.specs.Table.Entries.{most_entries};
 ghost use Rattle.kalah_cli.specs.Command.{kalah_app};
-ghost use Rattle.kalah_cli.specs.Request.{AreMatches, Asked, HasFlag, HasNumber, IsInRange, IsPlainWord, IsTaken, IsTableSize, IsTakenAs, MayHaveNumber, answers, ask_asked, asked_by, asked_for, command_of, count_asked, files_asked, is_set, moves, moves_asked, number_given, play_asked, question_of, show_asked, table_asked, table_of};
+ghost use Rattle.kalah_cli.specs.Request.{AreMatches, Asked, HasFlag, HasNumber, IsInRange, IsPlainWord, IsTaken, IsTableSize, IsTakenAs, MayHaveNumber, answers, asked_by, asked_for, command_of, files_asked, is_set, moves, number_given, question_of, table_asked, table_of};
 
 use crate::command::command;
 use clap::{ArgMatches, Error};
@@ -117,32 +117,6 @@ fn files_of<'a>(alloc: Global, found: &ArgMatches<'a>) -> Result<Vec<&'a str>, A
     Ok(found.get_strs("file").unwrap().to_vec(alloc)?)
 }
 
-// Returns the request of the matches of `moves`.
-fn moves_request<'a>(found: &ArgMatches<'a>) -> Request<'a>
-    requires { AreMatches (codes "moves") (rows_of (found_of found.now)) }
-    ensures asked { moves_asked (rows_of (found_of found.now)) ≡ Some (asked_for result) }
-    ensures range { IsInRange result }
-{
-    Request::Moves {
-        line: line_of(found),
-        boards: is_set(found, "boards"),
-    }
-}
-
-// Returns the request of the matches of `play`.
-fn play_request<'a>(found: &ArgMatches<'a>) -> Request<'a>
-    requires { AreMatches (codes "play") (rows_of (found_of found.now)) }
-    ensures asked { play_asked (rows_of (found_of found.now)) ≡ Some (asked_for result) }
-    ensures range { IsInRange result }
-{
-    Request::Play {
-        line: line_of(found),
-        table: number_of(found, "table"),
-        boards: is_set(found, "boards"),
-        first: given_byte(found, "first"),
-    }
-}
-
 // Returns the table size in the matches of a subcommand with files: 1, the least, for steps, which need no table.
 fn table_of(question: Question, found: &ArgMatches<'_>) -> u32
     requires { AreMatches (command_of question) (rows_of (found_of found.now)) }
@@ -185,43 +159,6 @@ fn question_of(values: bool) -> Question
     }
 }
 
-// Returns the request of the matches of `ask`.
-fn ask_request<'a>(found: &ArgMatches<'a>) -> Request<'a>
-    requires { AreMatches (codes "ask") (rows_of (found_of found.now)) }
-    ensures asked { ask_asked (rows_of (found_of found.now)) ≡ Some (asked_for result) }
-    ensures range { IsInRange result }
-{
-    Request::Ask {
-        question: question_of(is_set(found, "values")),
-        table: number_of(found, "table"),
-    }
-}
-
-// Returns the request of the matches of `show`.
-fn show_request<'a>(found: &ArgMatches<'a>) -> Request<'a>
-    requires { AreMatches (codes "show") (rows_of (found_of found.now)) }
-    ensures asked { show_asked (rows_of (found_of found.now)) ≡ Some (asked_for result) }
-    ensures range { IsInRange result }
-{
-    Request::Show {
-        line: line_of(found),
-        table: number_of(found, "table"),
-        plain: is_set(found, "plain"),
-    }
-}
-
-// Returns the request of the matches of `count`.
-fn count_request<'a>(found: &ArgMatches<'a>) -> Request<'a>
-    requires { AreMatches (codes "count") (rows_of (found_of found.now)) }
-    ensures asked { count_asked (rows_of (found_of found.now)) ≡ Some (asked_for result) }
-    ensures range { IsInRange result }
-{
-    Request::Count {
-        depth: given_byte(found, "depth").unwrap(),
-        line: line_of(found),
-    }
-}
-
 // Returns the name of the subcommand that was met, and its matches.
 fn subcommand_of<'m, 'a>(matches: &'m ArgMatches<'a>) -> (&'a str, &'m ArgMatches<'a>)
     requires { IsTaken (subcommand_rows_of matches.now) }
@@ -240,14 +177,33 @@ fn requested<'a>(alloc: Global, matches: &ArgMatches<'a>) -> Result<Request<'a>,
 {
     let (name, found) = subcommand_of(matches);
     match name {
-        "moves" => Ok(moves_request(found)),
-        "play" => Ok(play_request(found)),
+        "moves" => Ok(Request::Moves {
+            line: line_of(found),
+            boards: is_set(found, "boards"),
+        }),
+        "play" => Ok(Request::Play {
+            line: line_of(found),
+            table: number_of(found, "table"),
+            boards: is_set(found, "boards"),
+            first: given_byte(found, "first"),
+        }),
         "solve" => files_request(alloc, Question::BestMove, found),
         "values" => files_request(alloc, Question::Values, found),
-        "ask" => Ok(ask_request(found)),
+        "ask" => Ok(Request::Ask {
+            question: question_of(is_set(found, "values")),
+            table: number_of(found, "table"),
+        }),
         "steps" => files_request(alloc, Question::Steps, found),
-        "show" => Ok(show_request(found)),
-        _ => Ok(count_request(found)),
+        "show" => Ok(Request::Show {
+            line: line_of(found),
+            table: number_of(found, "table"),
+            plain: is_set(found, "plain"),
+        }),
+        "count" => Ok(Request::Count {
+            depth: given_byte(found, "depth").unwrap(),
+            line: line_of(found),
+        }),
+        _ => unreachable!(),
     }
 }
 
