@@ -132,17 +132,6 @@ fn assert_said(rt: &impl Host, status: ExitStatus, rows: &[(&[&str], &str)]) {
     }
 }
 
-// Mistakes in these arguments end the run with a text on standard error only.
-fn assert_usage(rt: &impl Host, rows: &[&[&str]]) {
-    for words in rows {
-        let run = run_on(rt, *words);
-        let is_usage = run.status == ExitStatus::Failed
-            && run.out.is_empty()
-            && run.err.starts_with(b"error: ");
-        assert!(rt; is_usage, "{words:?}");
-    }
-}
-
 // Lines, and what `moves` prints for them.
 const MOVES: &[(&str, &str)] = &[
     ("1,1/0 1,1/0", "1 1,1/0 0,2/0 turn\n2 1,0/1 1,1/0 again\n"),
@@ -166,6 +155,15 @@ const UNREAD: &[(&[&str], &str)] = &[
     (&["moves", ""], "fault empty\n"),
     (&["moves", "1,1/0 1/0"], "fault houses\n"),
     (&["moves", "16/0 16/0"], "fault seeds\n"),
+    (&["moves", "--boards", "1/0 1,1/0"], "fault houses\n"),
+    (&["play", "01/0 1/0"], "fault shape\n"),
+    (&["play", "--boards", ""], "fault empty\n"),
+    (&["play", "--", "-1/0 1/0"], "fault shape\n"),
+    (&["play", "--first=3", "01/0 1/0"], "fault shape\n"),
+    (&["show", "--plain", "01/0 1/0"], "fault shape\n"),
+    (&["show", "--table=1", "01/0 1/0"], "fault shape\n"),
+    (&["count", "0", "01/0 1/0"], "fault shape\n"),
+    (&["count", "20", "01/0 1/0"], "fault shape\n"),
 ];
 
 #[test]
@@ -204,11 +202,38 @@ const MISTAKES: &[&[&str]] = &[
     &["play", "--workers", "1", "1/0 1/0"],
     &["play", "--table", "0", "1/0 1/0"],
     &["play", "--boards", "--boards", "1/0 1/0"],
+    // A house is a number from 1 to 6, and `show` takes no boards.
+    &["play", "--first=0", "1/0 1/0"],
+    &["play", "--first=7", "1/0 1/0"],
+    &["play", "--first", "1/0 1/0"],
+    &["show", "--boards", "1/0 1/0"],
+    &["show", "--table=0", "1/0 1/0"],
+    &["show"],
+    // A depth is a number from 0 to 20, and behind it stands one line.
+    &["count", "21", "1/0 1/0"],
+    &["count", "-1", "1/0 1/0"],
+    &["count", "", "1/0 1/0"],
+    &["count", "two", "1/0 1/0"],
+    &["count", "1.0", "1/0 1/0"],
+    &["count", "256", "1/0 1/0"],
+    &["count", "18446744073709551617", "1/0 1/0"],
+    &["count", "1/0 1/0", "1"],
+    &["count", "1/0 1/0"],
+    &["count", "1"],
+    &["count"],
+    &["count", "1", "1/0 1/0", "1/0 1/0"],
+    &["count", "--table=1", "1", "1/0 1/0"],
 ];
 
 #[test]
 fn mistakes_in_the_words(rt: HostRuntime) {
-    assert_usage(&rt, MISTAKES);
+    for words in MISTAKES {
+        let run = run_on(&rt, *words);
+        let is_usage = run.status == ExitStatus::Failed
+            && run.out.is_empty()
+            && run.err.starts_with(b"error: ");
+        assert!(rt; is_usage, "{words:?}");
+    }
 }
 
 // Arguments that ask for help.
@@ -241,6 +266,12 @@ const NOT_READ: &[(&[&str], &str)] = &[
         &["solve", "kalah_run_none.txt", "x\ny"],
         "kalah: line feed in a file name\n",
     ),
+    (&["values", "/", "x.txt"], "kalah: cannot read /\n"),
+    (
+        &["values", "/", "x\ny"],
+        "kalah: line feed in a file name\n",
+    ),
+    (&["steps", "/", "x.txt"], "kalah: cannot read /\n"),
 ];
 
 #[test]
@@ -289,29 +320,41 @@ fn assert_stops_at(rt: &impl Host, words: &[&str], calls: u32, k: u32) {
     let run = run_failing(rt, words, k);
     assert!(rt;
         (run.has_failed, run.calls) == (k <= calls, k.min(calls)),
-        "at {k}"
+        "{words:?} at {k}"
     );
-    assert!(rt; run.is_told(), "at {k}");
+    assert!(rt; run.is_told(), "{words:?} at {k}");
 }
 
-// It ends at each of its calls that fails.
-fn assert_stops(rt: &impl Host, words: &[&str], calls: u32) {
-    for k in 1..8u32 {
-        assert_stops_at(rt, words, calls, k);
-    }
-}
+// Arguments, and how many calls the run makes of its output.
+const CALLS: &[(&[&str], u32)] = &[
+    // The text is written in one call, and a flush ends it.
+    (&["--help"], 2),
+    (&["--version"], 2),
+    (&["-V"], 2),
+    // Each move is written in one call, and a flush ends them.
+    (&["moves", "1,1/0 1,1/0"], 3),
+    // The game is written in two moves, with a flush before each search and at the end.
+    (&["play", "1,1/0 1,1/0"], 5),
+    (&["play", "--first=2", "1,1/0 1,1/0"], 4),
+    // The picture is written, flushed before the search, and again behind the values.
+    (&["show", "1,1/0 1,1/0"], 4),
+    (&["show", "--plain", "1,1/0 1,1/0"], 2),
+    // Each line is flushed before the next house is counted.
+    (&["count", "2", "1,1/0 1,1/0"], 6),
+    (&["count", "0", "1,1/0 1,1/0"], 2),
+    // Each line is written in one call, and a flush ends them.
+    (&["values", "stopped.txt"], 3),
+    (&["steps", "stopped.txt"], 4),
+];
 
-// Each move is written in one call, and a flush ends them.
+// A run ends at each of its calls that fails.
 #[test]
 fn stops_at_a_failed_write(rt: HostRuntime) {
-    assert_stops(&rt, &["moves", "1,1/0 1,1/0"], 3);
-}
-
-// The text is written in one call, and a flush ends it.
-#[test]
-fn a_failed_write_of_help_or_of_the_version(rt: HostRuntime) {
-    for word in ["--help", "--version", "-V"] {
-        assert_stops(&rt, [word].as_slice(), 2);
+    write_file(&rt, "stopped.txt", b"1,1/0 1,1/0\n2/0 2/0");
+    for (words, calls) in CALLS {
+        for k in 1..8u32 {
+            assert_stops_at(&rt, *words, *calls, k);
+        }
     }
 }
 

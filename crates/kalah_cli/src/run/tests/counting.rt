@@ -1,6 +1,6 @@
 //! Runs of `kalah count`.
-use super::{assert_answers, assert_stops, assert_usage};
-use crate::status::ExitStatus::{Clean, LineFaults};
+use super::assert_answers;
+use crate::status::ExitStatus::Clean;
 
 // The depth and the line, and what is printed for them.
 const COUNTED: &[(&str, &str, &str)] = &[
@@ -30,41 +30,4 @@ fn counts_the_ways_to_play_on(rt: HostRuntime) {
     for (depth, line, text) in COUNTED {
         assert_answers(&rt, &["count", *depth, *line], Clean, (*text, ""));
     }
-}
-
-#[test]
-fn tells_the_fault_of_a_line_that_is_not_read(rt: HostRuntime) {
-    for depth in ["0", "20"] {
-        let fault = ("", "fault shape\n");
-        assert_answers(&rt, &["count", depth, "01/0 1/0"], LineFaults, fault);
-    }
-}
-
-// Arguments that are not accepted: a depth is a number from 0 to 20, and behind it stands one line.
-const NOT_TAKEN: &[&[&str]] = &[
-    &["count", "21", "1/0 1/0"],
-    &["count", "-1", "1/0 1/0"],
-    &["count", "", "1/0 1/0"],
-    &["count", "two", "1/0 1/0"],
-    &["count", "1.0", "1/0 1/0"],
-    &["count", "256", "1/0 1/0"],
-    &["count", "18446744073709551617", "1/0 1/0"],
-    &["count", "1/0 1/0", "1"],
-    &["count", "1/0 1/0"],
-    &["count", "1"],
-    &["count"],
-    &["count", "1", "1/0 1/0", "1/0 1/0"],
-    &["count", "--table=1", "1", "1/0 1/0"],
-];
-
-#[test]
-fn takes_a_depth_of_0_to_20_and_one_line(rt: HostRuntime) {
-    assert_usage(&rt, NOT_TAKEN);
-}
-
-// Each line is flushed before the next house is counted.
-#[test]
-fn counting_stops_at_a_failed_write(rt: HostRuntime) {
-    assert_stops(&rt, &["count", "2", "1,1/0 1,1/0"], 6);
-    assert_stops(&rt, &["count", "0", "1,1/0 1,1/0"], 2);
 }

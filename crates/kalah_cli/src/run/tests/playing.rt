@@ -1,6 +1,6 @@
 //! Runs of `kalah play`, and of `kalah moves` with boards.
-use super::{Host, assert_answers, assert_said, assert_stops, assert_written};
-use crate::status::ExitStatus::{Clean, LineFaults};
+use super::{Host, assert_answers, assert_written};
+use crate::status::ExitStatus::Clean;
 
 // Lines, and the games that best play leads to from their positions.
 const GAMES: &[(&str, &str)] = &[
@@ -121,23 +121,4 @@ const DRAWN: &[(&[&str], &str)] = &[
 #[test]
 fn draws_boards_below_their_lines(rt: HostRuntime) {
     assert_written(&rt, DRAWN);
-}
-
-// Arguments with lines that can't be read, and their messages.
-const UNREAD: &[(&[&str], &str)] = &[
-    (&["play", "01/0 1/0"], "fault shape\n"),
-    (&["play", "--boards", ""], "fault empty\n"),
-    (&["moves", "--boards", "1/0 1,1/0"], "fault houses\n"),
-    (&["play", "--", "-1/0 1/0"], "fault shape\n"),
-];
-
-#[test]
-fn tells_the_fault_of_an_unread_line(rt: HostRuntime) {
-    assert_said(&rt, LineFaults, UNREAD);
-}
-
-// The game is written in two moves, with a flush before each search and at the end.
-#[test]
-fn stops_at_a_failed_write(rt: HostRuntime) {
-    assert_stops(&rt, &["play", "1,1/0 1,1/0"], 5);
 }

@@ -1,6 +1,6 @@
 //! Runs of `kalah show`, and of `kalah play` with a first house.
-use super::{assert_answers, assert_said, assert_stops, assert_usage, assert_written};
-use crate::status::ExitStatus::{Failed, LineFaults};
+use super::{assert_said, assert_written};
+use crate::status::ExitStatus::Failed;
 
 // Words, and the picture that they print.
 const SHOWN: &[(&[&str], &str)] = &[
@@ -105,39 +105,4 @@ const UNMOVED: &[(&[&str], &str)] = &[
 #[test]
 fn says_which_house_may_not_be_moved(rt: HostRuntime) {
     assert_said(&rt, Failed, UNMOVED);
-}
-
-// Words that are not taken: a house is a number from 1 to 6, and `show` takes no boards.
-const NOT_TAKEN: &[&[&str]] = &[
-    &["play", "--first=0", "1/0 1/0"],
-    &["play", "--first=7", "1/0 1/0"],
-    &["play", "--first", "1/0 1/0"],
-    &["show", "--boards", "1/0 1/0"],
-    &["show", "--table=0", "1/0 1/0"],
-    &["show"],
-];
-
-#[test]
-fn takes_no_other_words(rt: HostRuntime) {
-    assert_usage(&rt, NOT_TAKEN);
-}
-
-#[test]
-fn tells_the_fault_of_a_line_before_its_house(rt: HostRuntime) {
-    for words in [
-        ["show", "--plain", "01/0 1/0"],
-        ["show", "--table=1", "01/0 1/0"],
-        ["play", "--first=3", "01/0 1/0"],
-    ] {
-        let fault = ("", "fault shape\n");
-        assert_answers(&rt, words.as_slice(), LineFaults, fault);
-    }
-}
-
-// The picture is written, flushed before the search, and again behind the values.
-#[test]
-fn stops_at_a_failed_write(rt: HostRuntime) {
-    assert_stops(&rt, &["show", "1,1/0 1,1/0"], 4);
-    assert_stops(&rt, &["show", "--plain", "1,1/0 1,1/0"], 2);
-    assert_stops(&rt, &["play", "--first=2", "1,1/0 1,1/0"], 4);
 }

@@ -1,5 +1,5 @@
 //! Runs of `kalah steps` over files that are written first.
-use super::{assert_answers, assert_stops, write_file};
+use super::{assert_answers, write_file};
 use crate::status::ExitStatus;
 use crate::status::ExitStatus::{Clean, LineFaults};
 
@@ -32,11 +32,4 @@ fn tells_each_step_and_what_is_no_position(rt: HostRuntime) {
             assert_answers(&rt, &words, *status, (*text, ""));
         }
     }
-}
-
-// Each line is written in one call, and a flush ends them.
-#[test]
-fn telling_steps_stops_at_a_failed_write(rt: HostRuntime) {
-    write_file(&rt, "stopped.txt", b"1,1/0 1,1/0\n2/0 2/0");
-    assert_stops(&rt, &["steps", "stopped.txt"], 4);
 }

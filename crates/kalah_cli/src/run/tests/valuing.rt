@@ -1,7 +1,7 @@
 //! Runs of `kalah values` over files that are written first.
-use super::{assert_answers, assert_said, assert_stops, write_file};
+use super::{assert_answers, write_file};
 use crate::status::ExitStatus;
-use crate::status::ExitStatus::{Clean, Failed, LineFaults};
+use crate::status::ExitStatus::{Clean, LineFaults};
 
 const FOUR_LINES: &str = "1,1/0 1,1/0\n2/0 2/0\n0,0/3 1,2/4\n01/0 1/0\n";
 
@@ -46,26 +46,4 @@ fn tells_both_rules_odd_bytes_and_no_line(rt: HostRuntime) {
         write_file(&rt, "v.txt", *bytes);
         assert_answers(&rt, &["values", "v.txt"], *status, (*text, ""));
     }
-}
-
-// Arguments with files that can't all be read, and their messages.
-const NOT_READ: &[(&[&str], &str)] = &[
-    (&["values", "/", "x.txt"], "kalah: cannot read /\n"),
-    (
-        &["values", "/", "x\ny"],
-        "kalah: line feed in a file name\n",
-    ),
-    (&["steps", "/", "x.txt"], "kalah: cannot read /\n"),
-];
-
-#[test]
-fn values_and_steps_of_files_that_are_not_read(rt: HostRuntime) {
-    assert_said(&rt, Failed, NOT_READ);
-}
-
-// Each line is written in one call, and a flush ends them.
-#[test]
-fn telling_values_stops_at_a_failed_write(rt: HostRuntime) {
-    write_file(&rt, "stops.txt", b"1,1/0 1,1/0\n2/0 2/0");
-    assert_stops(&rt, &["values", "stops.txt"], 3);
 }
