@@ -118,16 +118,16 @@ first_move h {p = p} (passes_turn {h = k} {houses = rest} _ has turn game) going
 -- ---- what holds of the lines of its moves
 
 -- what holds of any lines
-pub of_any : (boards : Bool) (p : Position) (Holds : List ℕ → Type 0) → HasEqualSides p → ((lines : List ℕ) → Holds lines) →
+pub of_any : {boards : Bool} {p : Position} {Holds : List ℕ → Type 0} → HasEqualSides p → ((lines : List ℕ) → Holds lines) →
     OfBestGame boards p Holds
-of_any boards p Holds even all =
+of_any {boards} {p} {Holds} even all =
     let game = game_ends best_house best_house best_is_strategy best_is_strategy p even in
     of_game boards p game.0 game.1 Holds even game.2 (all (game_lines boards p game.0))
 
 -- what holds of the line of the first move, followed by any lines
-pub of_first : (boards : Bool) (p : Position) (h : ℕ) (s : Step) (Holds : List ℕ → Type 0) → IsFirst p h s →
+pub of_first : {boards : Bool} {p : Position} {h : ℕ} {s : Step} {Holds : List ℕ → Type 0} → IsFirst p h s →
     ((lines : List ℕ) → Holds (move_lines boards h s ++ lines)) → OfBestGame boards p Holds
-of_first boards p h s Holds first all =
+of_first {boards} {p} {h} {s} {Holds} first all =
     let game = game_ends best_house best_house best_is_strategy best_is_strategy p first.even in
     let begun = first_move h game.2 first.going first.best in
     let lines = game_lines boards (position_after (step_of p h)) begun.0 in
@@ -143,25 +143,25 @@ of_more boards p q h s houses final Rest Holds first game next rest more =
     (subst (λ x. Holds (move_lines boards h x ++ game_lines boards (position_after x) houses)) first.step
     (more (game_lines boards (position_after s) houses) (subst (λ r. Rest (game_lines boards r houses)) next rest)))
 
-pub of_next : (boards : Bool) (p q : Position) (h : ℕ) (s : Step) (Rest Holds : List ℕ → Type 0) → IsFirst p h s →
+pub of_next : {boards : Bool} {p q : Position} {h : ℕ} {s : Step} {Rest Holds : List ℕ → Type 0} → IsFirst p h s →
     (s ≡ step.Again q) ⊎ (s ≡ step.Turn q) → ((lines : List ℕ) → Rest lines → Holds (move_lines boards h s ++ lines)) →
     OfBestGame boards q Rest → OfBestGame boards p Holds
-of_next boards p q h s Rest Holds first is more rest =
+of_next {boards} {p} {q} {h} {s} {Rest} {Holds} first is more rest =
     let game = next_game p q h s rest.houses rest.final first is rest.is_best.game in
     let next : q ≡ position_after s = elim is [ inl again ↦ sym (ap position_after again) | inr turn ↦ sym (ap position_after turn) ] in
     of_more boards p q h s rest.houses game.0 Rest Holds first game.1 next rest.holds more
 
 -- the last move
-pub of_last : (boards : Bool) (p e : Position) (h : ℕ) (s : Step) (Holds : List ℕ → Type 0) → IsFirst p h s → s ≡ step.Over e →
+pub of_last : {boards : Bool} {p e : Position} {h : ℕ} {s : Step} {Holds : List ℕ → Type 0} → IsFirst p h s → s ≡ step.Over e →
     Holds (move_lines boards h s ++ []) → OfBestGame boards p Holds
-of_last boards p e h s Holds first is holds =
+of_last {boards} {p} {e} {h} {s} {Holds} first is holds =
     let game = over_game p e h s first is in
     of_more boards p e h s [] game.0 (λ lines. lines ≡ []) Holds first game.1 (sym (ap position_after is)) refl
     (λ lines none. subst (λ l. Holds (move_lines boards h s ++ l)) (sym none) holds)
 
 -- of a game that is over there are none
-pub of_end : (boards : Bool) (p : Position) (Holds : List ℕ → Type 0) → HasEqualSides p → is_over p ≡ true → Holds [] → OfBestGame boards p Holds
-of_end boards p Holds even over holds = of_game boards p [] p Holds even (is_at_end over) holds
+pub of_end : {boards : Bool} {p : Position} {Holds : List ℕ → Type 0} → HasEqualSides p → is_over p ≡ true → Holds [] → OfBestGame boards p Holds
+of_end {boards} {p} {Holds} even over holds = of_game boards p [] p Holds even (is_at_end over) holds
 
 -- ---- what is written of them
 
@@ -196,15 +196,14 @@ on_ok_always (Err e) p = tt
 -- what holds of any lines behind the first picture holds of it
 pub of_any_game : (first : Option ℕ) (boards : Bool) (p : Position) (Holds : List ℕ → Type 0) → HasEqualSides p →
     ((lines : List ℕ) → Holds (board_lines boards p ++ lines)) → OfGame first boards p Holds
-of_any_game None boards p Holds even all = of_any boards p _ even all
-of_any_game (Some h) boards p Holds even all =
-    of_any boards (position_after (step_of p h)) _ (even_after p h) (λ lines. all (move_lines boards h (step_of p h) ++ lines))
+of_any_game None boards p Holds even all = of_any even all
+of_any_game (Some h) boards p Holds even all = of_any (even_after p h) (λ lines. all (move_lines boards h (step_of p h) ++ lines))
 
 -- and so does what holds of any lines behind the move that is asked for
 pub of_first_house : (first : Option ℕ) (boards : Bool) (p : Position) (h : ℕ) (s : Step) (Holds : List ℕ → Type 0) → first ≡ Some h →
     s ≡ step_of p h → ((lines : List ℕ) → Holds (board_lines boards p ++ (move_lines boards h s ++ lines))) → OfGame first boards p Holds
 of_first_house first boards p h s Holds asked same all = subst (λ f. OfGame f boards p Holds) (sym asked)
-    (of_any boards (position_after (step_of p h)) _ (even_after p h)
+    (of_any (even_after p h)
     (λ lines. subst (λ x. Holds (board_lines boards p ++ (move_lines boards h x ++ lines))) same (all lines)))
 
 -- what holds of the lines of a game holds of it behind the first picture
@@ -228,6 +227,6 @@ behind_move first boards p next h s Lines Holds asked same is more game = subst 
     })
 
 -- the house may be moved, so a prefix of the game is all that is owed
-pub begins_play : (first : Option ℕ) (boards : Bool) (p : Position) (old new : Option (List ℕ)) → MayBegin first p →
+pub begins_play : {first : Option ℕ} {boards : Bool} {p : Position} {old new : Option (List ℕ)} → MayBegin first p →
     OfGame first boards p (λ text. AppendsStart old new text) → BeginsToPlay first boards p old new
-begins_play first boards p old new may game = record { moved = λ _. game; unmoved = λ not. absurd (not may) }
+begins_play may game = record { moved = λ _. game; unmoved = λ not. absurd (not may) }

@@ -21,18 +21,16 @@ first_of {p} {margin} {h} {s} limits told verdict step =
 
 pub returns-in_err-flush-clause-begins : goal.returns-in_err-flush-clause-begins
 returns-in_err-flush-clause-begins g t c =
-    of_any c.args.boards c.args.board.now _ (board_equal_sides c.args.board.now c.m-side.ensures.limits)
-    (λ lines. start_kept_all _ _ lines c.flush.ensures.keeps)
+    of_any (board_equal_sides c.args.board.now c.m-side.ensures.limits) (λ lines. start_kept_all _ _ lines c.flush.ensures.keeps)
 
 pub returns-in-Over-clause-game : goal.returns-in-Over-clause-game
 returns-in-Over-clause-game g t c =
-    of_end c.args.boards c.args.board.now _ (board_equal_sides c.args.board.now c.m-side.ensures.limits)
-    c.in-Over.ensures.best_play.over (kept_appends _ _ _ [] c.flush.ensures.keeps (Appends-nil _))
+    of_end (board_equal_sides c.args.board.now c.m-side.ensures.limits) c.in-Over.ensures.best_play.over
+    (kept_appends _ _ _ [] c.flush.ensures.keeps (Appends-nil _))
 
 pub returns-in-Over-clause-begins : goal.returns-in-Over-clause-begins
 returns-in-Over-clause-begins g t c =
-    of_any c.args.boards c.args.board.now _ (board_equal_sides c.args.board.now c.m-side.ensures.limits)
-    (λ lines. start_kept_all _ _ lines c.flush.ensures.keeps)
+    of_any (board_equal_sides c.args.board.now c.m-side.ensures.limits) (λ lines. start_kept_all _ _ lines c.flush.ensures.keeps)
 
 pub apply-step-requires : goal.apply-step-requires
 apply-step-requires g t c =
@@ -43,8 +41,7 @@ apply-step-requires g t c =
 pub returns-in_err-write_move-clause-begins : goal.returns-in_err-write_move-clause-begins
 returns-in_err-write_move-clause-begins g t c =
     let first = first_of c.m-side.ensures.limits c.in-Best.ensures.best_play c.in-Best.ensures.verdict c.apply-step.ensures.step in
-    of_first c.args.boards c.args.board.now c.in-Best.house c.apply-step.result _ first
-    (λ lines. begins_move _ _ _ _ lines c.flush.ensures.keeps c.write_move.ensures.start)
+    of_first first (λ lines. begins_move _ _ _ _ lines c.flush.ensures.keeps c.write_move.ensures.start)
 
 pub write_game-requires : goal.write_game-requires
 write_game-requires g t c κs within =
@@ -57,24 +54,24 @@ pub returns-in-Again-clause-game : goal.returns-in-Again-clause-game
 returns-in-Again-clause-game g t c =
     let first = first_of c.m-side.ensures.limits c.in-Best.ensures.best_play c.in-Best.ensures.verdict c.apply-step.ensures.step in
     on_ok_weaker c.write_game.result
-    (of_next c.args.boards c.args.board.now c.in-Again.next c.in-Best.house c.apply-step.result _ _ first c.in-Again.is
-    (λ lines rest. goes_on _ _ _ _ _ lines c.flush.ensures.keeps c.in_ok-write_move.ensures.adds rest)) c.write_game.ensures.game
+    (of_next first c.in-Again.is (λ lines rest. goes_on _ _ _ _ _ lines c.flush.ensures.keeps c.in_ok-write_move.ensures.adds rest))
+    c.write_game.ensures.game
 
 pub returns-in-Again-clause-begins : goal.returns-in-Again-clause-begins
 returns-in-Again-clause-begins g t c =
     let first = first_of c.m-side.ensures.limits c.in-Best.ensures.best_play c.in-Best.ensures.verdict c.apply-step.ensures.step in
-    of_next c.args.boards c.args.board.now c.in-Again.next c.in-Best.house c.apply-step.result _ _ first c.in-Again.is
-    (λ lines rest. begins_on _ _ _ _ _ lines c.flush.ensures.keeps c.in_ok-write_move.ensures.adds rest) c.write_game.ensures.begins
+    of_next first c.in-Again.is (λ lines rest. begins_on _ _ _ _ _ lines c.flush.ensures.keeps c.in_ok-write_move.ensures.adds rest)
+    c.write_game.ensures.begins
 
 pub returns-in-Over-step-clause-game : goal.returns-in-Over-step-clause-game
 returns-in-Over-step-clause-game g t c =
     let first = first_of c.m-side.ensures.limits c.in-Best.ensures.best_play c.in-Best.ensures.verdict c.apply-step.ensures.step in
     on_ok_always c.flush-in-Over-step.result
-    (of_last c.args.boards c.args.board.now c.in-Over-step.field-0 c.in-Best.house c.apply-step.result _ first c.in-Over-step.is
+    (of_last first c.in-Over-step.is
     (goes_on _ _ _ _ _ [] c.flush.ensures.keeps c.in_ok-write_move.ensures.adds (kept_appends _ _ _ [] c.flush-in-Over-step.ensures.keeps (Appends-nil _))))
 
 pub returns-in-Over-step-clause-begins : goal.returns-in-Over-step-clause-begins
 returns-in-Over-step-clause-begins g t c =
     let first = first_of c.m-side.ensures.limits c.in-Best.ensures.best_play c.in-Best.ensures.verdict c.apply-step.ensures.step in
-    of_first c.args.boards c.args.board.now c.in-Best.house c.apply-step.result _ first
+    of_first first
     (λ lines. begins_on _ _ _ _ _ lines c.flush.ensures.keeps c.in_ok-write_move.ensures.adds (start_kept_all _ _ lines c.flush-in-Over-step.ensures.keeps))

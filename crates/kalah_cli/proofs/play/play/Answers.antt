@@ -8,7 +8,7 @@ use Rattle.kalah_cli.proofs.Played.{after_step, begins_play, behind_move, of_any
 use Rattle.kalah_cli.proofs.play.play.Goals as goal
 
 pub returns-in_err-write_board-clause-begins : goal.returns-in_err-write_board-clause-begins
-returns-in_err-write_board-clause-begins g c = begins_play c.args.first c.args.boards c.args.board.now _ _ c.requires.house
+returns-in_err-write_board-clause-begins g c = begins_play c.requires.house
     (of_any_game c.args.first c.args.boards c.args.board.now _ (board_equal_sides c.args.board.now c.m-side.ensures.limits)
     (λ lines. start_longer _ _ (board_lines c.args.boards c.args.board.now) lines c.write_board.ensures.start))
 
@@ -22,13 +22,13 @@ returns-in_default-clause-game g c = on_ok_weaker c.write_game.result
     c.write_game.ensures.game
 
 pub returns-in_default-clause-begins : goal.returns-in_default-clause-begins
-returns-in_default-clause-begins g c = begins_play c.args.first c.args.boards c.args.board.now _ _ c.requires.house
+returns-in_default-clause-begins g c = begins_play c.requires.house
     (of_best c.args.first c.args.boards c.args.board.now _ _ c.in_default.is
     (λ lines rest. start_then _ _ _ _ (board_lines c.args.boards c.args.board.now) lines refl c.in_ok-write_board.ensures.adds rest)
     c.write_game.ensures.begins)
 
 pub returns-in_err-write_move-clause-begins : goal.returns-in_err-write_move-clause-begins
-returns-in_err-write_move-clause-begins g c = begins_play c.args.first c.args.boards c.args.board.now _ _ c.requires.house
+returns-in_err-write_move-clause-begins g c = begins_play c.requires.house
     (of_first_house c.args.first c.args.boards c.args.board.now c.in-Some.h c.apply-step.result _ c.in-Some.is c.apply-step.ensures.step
     (λ lines. start_then _ _ _ _ (board_lines c.args.boards c.args.board.now) _ refl c.in_ok-write_board.ensures.adds
     (start_longer _ _ _ lines c.write_move.ensures.start)))
@@ -46,7 +46,7 @@ returns-clause-game g c = on_ok_weaker c.write_game-in-Again.result
     c.write_game-in-Again.ensures.game
 
 pub returns-clause-begins : goal.returns-clause-begins
-returns-clause-begins g c = begins_play c.args.first c.args.boards c.args.board.now _ _ c.requires.house
+returns-clause-begins g c = begins_play c.requires.house
     (behind_move c.args.first c.args.boards c.args.board.now c.in-Again.next c.in-Some.h c.apply-step.result _ _ c.in-Some.is
     c.apply-step.ensures.step (after_step c.apply-step.result c.in-Again.next c.in-Again.is)
     (λ lines rest. start_then _ _ _ _ (board_lines c.args.boards c.args.board.now)
