@@ -1,7 +1,7 @@
 //! The command line of the program.
 ghost use Rattle.std.specs.Prelude.{◌≡◌, IfOk, false, true};
 ghost use Rattle.clap.specs.Words.{app_of, new_app, rule_of, with_rule, with_subcommand};
-ghost use Rattle.kalah_cli.specs.Command.{IsReadBy, answers_app, ask_app, count_app, depth_rule, file_rule, first_rule, flag_rule, kalah_app, line_rule, moves_app, number_rule, play_app, program_app, show_app, steps_app, table_rule, value_rule, workers_rule};
+ghost use Rattle.kalah_cli.specs.Command.{IsReadBy, answers_app, ask_app, count_app, file_rule, flag_rule, kalah_app, line_rule, moves_app, number_rule, play_app, program_app, show_app, steps_app, table_rule, value_rule, workers_rule};
 
 use crate::help;
 use crate::version::VERSION_LINE;
@@ -113,16 +113,6 @@ fn table_arg<'a>(alloc: Global, help: &'a str) -> Arg<'a>
     number_arg(alloc, "table", help, MOST_ENTRIES, "65536")
 }
 
-// Returns the option `--first H`.
-fn first_arg<'a>(alloc: Global) -> Arg<'a>
-    ensures { IsReadBy first_rule result }
-{
-    let help = "begins with house H, 1 to 6, and goes on with best play";
-    value_arg(alloc, "first", "H", help)
-        .long("first")
-        .value_parser(ValueParser::unsigned(1, MOST_HOUSES as u64))
-}
-
 // Returns `play [--table N] [--boards] [--first H] LINE`.
 fn play_command<'a>(alloc: Global) -> Result<Command<'a>, AllocError>
     ensures { IfOk result (λ c. app_of c ≡ play_app) }
@@ -131,7 +121,11 @@ fn play_command<'a>(alloc: Global) -> Result<Command<'a>, AllocError>
     let command = subcommand(alloc, "play", about, help::LONG_OF_PLAY);
     let command = with_arg(command, table_arg(alloc, TABLE_OF_ONE))?;
     let command = with_arg(command, flag_arg(alloc, "boards", BOARDS))?;
-    let command = with_arg(command, first_arg(alloc))?;
+    let help = "begins with house H, 1 to 6, and goes on with best play";
+    let first = value_arg(alloc, "first", "H", help)
+        .long("first")
+        .value_parser(ValueParser::unsigned(1, MOST_HOUSES as u64));
+    let command = with_arg(command, first)?;
     with_arg(command, line_arg(alloc))
 }
 
@@ -184,27 +178,17 @@ fn show_command<'a>(alloc: Global) -> Result<Command<'a>, AllocError>
     with_arg(command, line_arg(alloc))
 }
 
-// Returns the argument DEPTH of `count`.
-fn depth_arg<'a>(alloc: Global) -> Arg<'a>
-    ensures { IsReadBy depth_rule result }
-{
-    value_arg(
-        alloc,
-        "depth",
-        "DEPTH",
-        "how many moves each way has, 0 to 20",
-    )
-    .value_parser(ValueParser::unsigned(0, MOST_DEPTH as u64))
-    .required(true)
-}
-
 // Returns `count DEPTH LINE`.
 fn count_command<'a>(alloc: Global) -> Result<Command<'a>, AllocError>
     ensures { IfOk result (λ c. app_of c ≡ count_app) }
 {
     let about = "Counts the ways to play on from a position, for each first move";
     let command = subcommand(alloc, "count", about, help::LONG_OF_COUNT);
-    let command = with_arg(command, depth_arg(alloc))?;
+    let help = "how many moves each way has, 0 to 20";
+    let depth = value_arg(alloc, "depth", "DEPTH", help)
+        .value_parser(ValueParser::unsigned(0, MOST_DEPTH as u64))
+        .required(true);
+    let command = with_arg(command, depth)?;
     with_arg(command, line_arg(alloc))
 }
 
