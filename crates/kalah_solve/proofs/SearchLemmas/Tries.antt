@@ -219,15 +219,21 @@ each_last P marks h last each =
     let at : h - 1 + 1 ≡ h = omega (arith, last.first) in
     subst P at (each (h - 1) (last_marked marks h last))
 
--- the houses that are marked may be moved, and go on to
-pub marks_fewer : (a : Rows) (marks h : ℕ) → IsLastMark marks h → ((i : ℕ) → 0 < cell marks i → Contains (legal_houses (bare a)) (i + 1)) →
-    (i : ℕ) → 0 < cell (marks - 32 ^ (h - 1)) i → Contains (legal_houses (bare a)) (i + 1)
-marks_fewer a marks h last legal = each_fewer (Contains (legal_houses (bare a))) marks h last legal
+-- marked houses that may all be moved
+pub record MayMove (a : Rows) (marks : ℕ) : Type 0 where
+  pub small : marks < 2 ^ 30
+  pub legal : (i : ℕ) → 0 < cell marks i → Contains (legal_houses (bare a)) (i + 1)
 
--- the last of them too
-pub last_legal : (a : Rows) (marks h : ℕ) → IsLastMark marks h →
-    ((i : ℕ) → 0 < cell marks i → Contains (legal_houses (bare a)) (i + 1)) → Contains (legal_houses (bare a)) h
-last_legal a marks h last legal = each_last (Contains (legal_houses (bare a))) marks h last legal
+-- the last of them
+pub last_legal : {a : Rows} {marks h : ℕ} → MayMove a marks → IsLastMark marks h → Contains (legal_houses (bare a)) h
+last_legal {a} {marks} {h} may last = each_last (Contains (legal_houses (bare a))) marks h last may.legal
+
+-- and those before it
+pub moves_fewer : {a : Rows} {marks h : ℕ} → MayMove a marks → IsLastMark marks h → MayMove a (marks - 32 ^ (h - 1))
+moves_fewer {a} {marks} {h} may last = record {
+  small = omega (arith, may.small);
+  legal = each_fewer (Contains (legal_houses (bare a))) marks h last may.legal;
+}
 
 -- each house that ends in the store is still marked, or takes at most `most` seeds
 abbrev pub AreAgain : Rows → ℕ → ℕ → Type 0

@@ -10,7 +10,7 @@ use Rattle.kalah_solve.specs.Search.Tried.{EndsInStore, WinsAtMost}
 use Rattle.kalah_solve.proofs.RowMarks.{cell_none, marks_fall}
 use Rattle.kalah_solve.proofs.SolverLemmas.StepWorths.{goes_on, step_falls}
 use Rattle.kalah_solve.proofs.BoundsLemmas.Winnings.{taken_share}
-use Rattle.kalah_solve.proofs.SearchLemmas.Tries.{move_enough, turn_enough, turn_at_most, turn_of, turn_keeps, turn_at, bound_up_to, bound_left, low_more, played_none, played_more, played_bound, ending_legal, marked_legal, marks_fewer, last_legal, each_fewer, each_last, again_none, again_fewer, untried_first, untried_fewer, none_untried}
+use Rattle.kalah_solve.proofs.SearchLemmas.Tries.{move_enough, turn_enough, turn_at_most, turn_of, turn_keeps, turn_at, bound_up_to, bound_left, low_more, played_none, played_more, played_bound, ending_legal, marked_legal, moves_fewer, last_legal, each_fewer, each_last, again_none, again_fewer, untried_first, untried_fewer, none_untried}
 use Rattle.kalah_solve.proofs.search.Search.+search.Goals as goal
 
 pub look-bound_step-requires : goal.look-bound_step-requires
@@ -132,16 +132,17 @@ bound_again-loop-left-init g t c =
     let a = c.args.houses.now in
     let marks = c.again_houses-left.ensures in
     record {
-      small = marks.small;
       low = λ enough. refl;
-      legal = λ i some. let both = (marks.marked i).0 some in ending_legal a i marks.limits c.requires.going both.0 both.1;
+      may = record {
+        small = marks.small;
+        legal = λ i some. let both = (marks.marked i).0 some in ending_legal a i marks.limits c.requires.going both.0 both.1;
+      };
       ends = λ i some. ((marks.marked i).0 some).1;
       tried = again_none a 0 c.again_houses-left.result marks.marked;
     }
 
 pub bound_again-play_into_store-requires-clause-legal : goal.bound_again-play_into_store-requires-clause-legal
-bound_again-play_into_store-requires-clause-legal g t c =
-    last_legal c.args.houses.now c.loop-left.left c.split_last-h.result.0 c.split_last-h.ensures.last c.loop-left.invariant.legal
+bound_again-play_into_store-requires-clause-legal g t c = last_legal c.loop-left.invariant.may c.split_last-h.ensures.last
 
 pub bound_again-play_into_store-requires-clause-ends : goal.bound_again-play_into_store-requires-clause-ends
 bound_again-play_into_store-requires-clause-ends g t c =
@@ -152,14 +153,14 @@ bound_again-bound_step-bound-requires g t c κs within =
     let a = c.args.houses.now in
     let h = c.split_last-h.result.0 in
     let limits = c.seeds-seeds.ensures.limits in
-    let has = last_legal a c.loop-left.left h c.split_last-h.ensures.last c.loop-left.invariant.legal in (
+    let has = last_legal c.loop-left.invariant.may c.split_last-h.ensures.last in (
       omega (arith, step_falls a h c.play_into_store.result limits has c.play_into_store.ensures),
       (within, goes_on a h c.play_into_store.result limits has c.play_into_store.ensures),
     )
 
 pub bound_again-returns-then-bar-bound-clause-lower : goal.bound_again-returns-then-bar-bound-clause-lower
 bound_again-returns-then-bar-bound-clause-lower g t c =
-    let has = last_legal c.args.houses.now c.loop-left.left c.split_last-h.result.0 c.split_last-h.ensures.last c.loop-left.invariant.legal in
+    let has = last_legal c.loop-left.invariant.may c.split_last-h.ensures.last in
     move_enough c.args.houses.now c.args.bar c.split_last-h.result.0 _ c.again_houses-left.ensures.limits has
     (rw c.play_into_store.ensures at c.bound_step-bound.ensures)
 
@@ -173,9 +174,8 @@ bound_again-loop-left-preserved g t c =
     let new_is : c.max-most.result ≡ max c.loop-left.most c.bound_step-bound.result = search (rules, c.max-most.ensures) in
     let takes : WinsAtMost a c.bound_step-bound.result h = rw c.play_into_store.ensures at (c.bound_step-bound.ensures.upper c.if-bar-bound.false) in
     rw c.split_last-h.ensures.rest (record {
-      small = omega (arith, before.small, marks_fall marks h last);
       low = low_more c.args.bar c.loop-left.most c.bound_step-bound.result c.max-most.result before.low c.if-bar-bound.false new_is;
-      legal = marks_fewer a marks h last before.legal;
+      may = moves_fewer before.may last;
       ends = each_fewer (EndsInStore a) marks h last before.ends;
       tried = again_fewer a c.loop-left.most marks h c.bound_step-bound.result c.max-most.result before.tried last takes new_is;
     })
@@ -193,19 +193,18 @@ others_waiting-loop-left-init g t c =
     let a = c.args.houses.now in
     let marks = c.other_houses-left.ensures in
     record {
-      small = marks.small;
       low = λ enough. refl;
-      legal = λ i some. marked_legal a i marks.limits c.requires.going ((marks.marked i).0 some).0;
+      may = record { small = marks.small; legal = λ i some. marked_legal a i marks.limits c.requires.going ((marks.marked i).0 some).0 };
       played = played_none a 0 c.other_houses-left.result _ _ (search rules) (search rules) c.requires.none marks.marked;
     }
 
 pub others_waiting-look-requires : goal.others_waiting-look-requires
 others_waiting-look-requires g t c κs within =
-    (omega arith, (within, last_legal c.args.houses.now c.loop-left.left c.split_last-h.result.0 c.split_last-h.ensures.last c.loop-left.invariant.legal))
+    (omega arith, (within, last_legal c.loop-left.invariant.may c.split_last-h.ensures.last))
 
 pub others_waiting-returns-then-bar-bound : goal.others_waiting-returns-then-bar-bound
 others_waiting-returns-then-bar-bound g t c =
-    let has = last_legal c.args.houses.now c.loop-left.left c.split_last-h.result.0 c.split_last-h.ensures.last c.loop-left.invariant.legal in
+    let has = last_legal c.loop-left.invariant.may c.split_last-h.ensures.last in
     record {
       lower = move_enough c.args.houses.now c.args.bar c.split_last-h.result.0 _ c.other_houses-left.ensures.limits has c.in-Bounded.ensures;
       waiting = c.loop-left.invariant.played.waiting.each;
@@ -221,9 +220,8 @@ others_waiting-loop-left-preserved g t c =
     let before = c.loop-left.invariant in
     let new_is : c.max-most.result ≡ max c.loop-left.most c.in-Bounded.bound = search (rules, c.max-most.ensures) in
     rw c.split_last-h.ensures.rest (record {
-      small = omega (arith, before.small, marks_fall marks h last);
       low = low_more c.args.bar c.loop-left.most c.in-Bounded.bound c.max-most.result before.low c.if-bar-bound.false new_is;
-      legal = marks_fewer a marks h last before.legal;
+      may = moves_fewer before.may last;
       played = played_bound a c.loop-left.most marks h c.loop-left.priorities c.loop-left.turns before.played last c.in-Bounded.bound c.max-most.result
           (c.in-Bounded.ensures.upper c.if-bar-bound.false) new_is;
     })
@@ -248,9 +246,8 @@ others_waiting-loop-left-preserved-in-Waits g t c =
     let last = c.split_last-h.ensures.last in
     let before = c.loop-left.invariant in
     rw c.split_last-h.ensures.rest (record {
-      small = omega (arith, before.small, marks_fall marks h last);
       low = before.low;
-      legal = marks_fewer a marks h last before.legal;
+      may = moves_fewer before.may last;
       played = played_more a c.loop-left.most marks h c.loop-left.priorities c.loop-left.turns before.played last c.in-Waits.priority c.in-Waits.next
           c.in-Waits.ensures.0 c.in-Waits.ensures.1;
     })

@@ -1,12 +1,11 @@
 use Rattle.kalah_rules.specs.Position.{bare}
-use Rattle.std.proofs.Common.{◌+◌, ◌*◌, ◌^◌, ◌<◌, ◌≤◌, ◌≡◌, ℕ, get_or}
-use Rattle.std.specs.Prelude.{sum, Contains}
-use Rattle.kalah_rules.specs.Play.{legal_houses}
+use Rattle.std.proofs.Common.{◌+◌, ◌*◌, ◌<◌, ◌≤◌, ◌≡◌, ℕ, get_or}
+use Rattle.std.specs.Prelude.{sum}
 use Rattle.kalah_rules.specs.Measure.{moves_left}
 use Rattle.kalah_solve.specs.Solver.StepWorth.{moves_after}
 use Rattle.kalah_solve.specs.RowMarks.{cell}
 use Rattle.kalah_solve.specs.Search.Tried.{EndsInStore}
-use Rattle.kalah_solve.proofs.SearchLemmas.Tries.{AreAgain, ArePlayed, AreUntried, WaitsWith}
+use Rattle.kalah_solve.proofs.SearchLemmas.Tries.{AreAgain, ArePlayed, AreUntried, MayMove, WaitsWith}
 use Rattle.kalah_solve.proofs.search.Search.+search.Given as goal
 
 abbrev pub decreases-bound : goal.decreases-bound
@@ -35,9 +34,8 @@ decreases-bound_turn g l = 9 * moves_left (bare l.next) + 7
 
 abbrev pub invariant-bound_again-loop-left : goal.invariant-bound_again-loop-left
 invariant-bound_again-loop-left g l = record {
-  small : l.left < 2 ^ 30;
   low : l.bar ≤ l.most → l.most ≡ 0;
-  legal : (i : ℕ) → 0 < cell l.left i → Contains (legal_houses (bare l.houses)) (i + 1);
+  may : MayMove l.houses l.left;
   ends : (i : ℕ) → 0 < cell l.left i → EndsInStore l.houses (i + 1);
   tried : AreAgain l.houses l.most l.left;
 }
@@ -47,9 +45,8 @@ decreases-bound_again-loop-left g l = l.left
 
 abbrev pub invariant-others_waiting-loop-left : goal.invariant-others_waiting-loop-left
 invariant-others_waiting-loop-left g l = record {
-  small : l.left < 2 ^ 30;
   low : l.bar ≤ l.most → l.most ≡ 0;
-  legal : (i : ℕ) → 0 < cell l.left i → Contains (legal_houses (bare l.houses)) (i + 1);
+  may : MayMove l.houses l.left;
   played : ArePlayed l.houses l.most l.left l.priorities l.turns;
 }
 

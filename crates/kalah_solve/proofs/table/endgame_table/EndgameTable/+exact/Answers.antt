@@ -3,7 +3,7 @@ use Rattle.kalah_rules.specs.declared.step.HousesStep.TheVariants.{Again, Turn}
 use Rattle.kalah_solve.proofs.BoundsLemmas.Winnings.{taken_share}
 use Rattle.kalah_solve.proofs.SolverLemmas.StepWorths.{leads_by}
 use Rattle.kalah_solve.proofs.RowMarks.{marks_fall}
-use Rattle.kalah_solve.proofs.SearchLemmas.Tries.{marked_legal, marks_fewer, last_legal}
+use Rattle.kalah_solve.proofs.SearchLemmas.Tries.{marked_legal, moves_fewer, last_legal}
 use Rattle.kalah_solve.proofs.TableLemmas.MostWon.{most_of_none, most_more, most_all, most_won}
 use Rattle.kalah_solve.proofs.table.endgame_table.EndgameTable.+exact.Goals as goal
 
@@ -12,14 +12,13 @@ most_won-loop-left-init g t c =
     let a = c.args.houses.now in
     let marks = c.filled_houses-left.ensures in
     record {
-      small = marks.small;
-      legal = λ i some. marked_legal a i marks.limits c.requires.going ((marks.marked i).0 some);
+      may = record { small = marks.small; legal = λ i some. marked_legal a i marks.limits c.requires.going ((marks.marked i).0 some) };
       is = most_of_none a c.filled_houses-left.result marks.marked;
     }
 
 pub most_won-move_wins-requires : goal.most_won-move_wins-requires
 most_won-move_wins-requires g t c κs within =
-    let has = last_legal c.args.houses.now c.loop-left.left c.split_last-h.result.0 c.split_last-h.ensures.last c.loop-left.invariant.legal in
+    let has = last_legal c.loop-left.invariant.may c.split_last-h.ensures.last in
     (omega arith, (within, (has, c.requires.few)))
 
 pub most_won-returns-then-most-seeds : goal.most_won-returns-then-most-seeds
@@ -29,7 +28,7 @@ most_won-returns-then-most-seeds g t c =
     let last = c.split_last-h.ensures.last in
     let before = c.loop-left.invariant in
     let limits = c.seeds-seeds.ensures.limits in
-    let has = last_legal c.args.houses.now marks h last before.legal in
+    let has = last_legal before.may last in
     most_all c.args.houses.now (marks - 32 ^ (h - 1)) c.max-most.result limits
     (most_more c.args.houses.now marks c.loop-left.most h c.move_wins.result c.max-most.result limits before.is last has c.move_wins.ensures
     (search (rules, c.max-most.ensures)))
@@ -41,10 +40,9 @@ most_won-loop-left-preserved g t c =
     let h = c.split_last-h.result.0 in
     let last = c.split_last-h.ensures.last in
     let before = c.loop-left.invariant in
-    let has = last_legal c.args.houses.now marks h last before.legal in
+    let has = last_legal before.may last in
     rw c.split_last-h.ensures.rest (record {
-      small = omega (arith, before.small, marks_fall marks h last);
-      legal = marks_fewer c.args.houses.now marks h last before.legal;
+      may = moves_fewer before.may last;
       is = most_more c.args.houses.now marks c.loop-left.most h c.move_wins.result c.max-most.result c.seeds-seeds.ensures.limits before.is last has
           c.move_wins.ensures
           (search (rules, c.max-most.ensures));
