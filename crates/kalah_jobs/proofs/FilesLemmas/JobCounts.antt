@@ -166,7 +166,8 @@ pub stored : (jobs : List (List Entry)) (offsets : List ℕ) (entries : List Ent
 stored jobs offsets entries known is = subst (λ js. AreFew js × AreCounted js offsets entries) is known
 
 -- there are as many entries as jobs
-pub all_counted : (jobs : List (List Entry)) (offsets : List ℕ) (entries : List Entry) → AreCounted jobs offsets entries → length entries ≡ job_count jobs
+pub all_counted : (jobs : List (List Entry)) (offsets : List ℕ) (entries : List Entry) → AreCounted jobs offsets entries
+    → length entries ≡ job_count jobs
 all_counted jobs offsets entries counted = ap length counted.entries_are ∙ length-all_entries jobs
 
 -- ---- offsets
@@ -257,7 +258,8 @@ has_job jobs offsets entries n p counted few started bound =
     let first = leb-true (get_or offsets (p - 1) 0) n (started.0 (p - 1) 0 (omega arith) (omega (arith, some))) in
     let low : job_count (take (p - 1) jobs) ≤ n = omega (arith, first, counted.before (p - 1) (omega (arith, within))) in
     let past = leb-false (get_or offsets p 0) n (started.1 p 0 (omega arith) (omega (arith, within, counted.as_many))) in
-    let next : job_count (take (p - 1 + 1) jobs) ≡ job_count (take p jobs) = ap (λ k. job_count (take k jobs)) (let same : p - 1 + 1 ≡ p = omega (arith, some) in same) in
+    let same : p - 1 + 1 ≡ p = omega (arith, some) in
+    let next : job_count (take (p - 1 + 1) jobs) ≡ job_count (take p jobs) = ap (λ k. job_count (take k jobs)) same in
     record {
       some = some;
       within = omega (arith, some, within);
@@ -340,7 +342,8 @@ counted_low question files i =
     omega (arith, all, sum_by-take-le lines_in files i)
 
 -- of as many files and lines as a batch may have
-pub few_jobs : (question : Question) (files : List NamedBytes) → length files ≤ most_files → lines_in_all files ≤ most_lines → AreFew (jobs_to question files)
+pub few_jobs : (question : Question) (files : List NamedBytes) → length files ≤ most_files → lines_in_all files ≤ most_lines
+    → AreFew (jobs_to question files)
 few_jobs question files few_files few_lines = record {
   few_files = omega (arith, few_files, length-map files (λ (f : NamedBytes). entries_to question f.bytes));
   few_lines = omega (arith, few_lines, job_count-jobs_to question files);

@@ -13,7 +13,8 @@ set_behind [] n v = refl
 set_behind (x ∷ xs) n v = ap (λ ys. x ∷ ys) (set_behind xs n v)
 
 -- padded values, and one more
-padded_more : (xs : List MoveValue) (v : MoveValue) → length xs < 6 → slice_set (padded_with no_value xs) (length xs) v ≡ padded_with no_value (xs ++ v ∷ [])
+padded_more : (xs : List MoveValue) (v : MoveValue) → length xs < 6
+    → slice_set (padded_with no_value xs) (length xs) v ≡ padded_with no_value (xs ++ v ∷ [])
 padded_more xs v few =
     let before : 6 - length xs ≡ suc (5 - length xs) = omega arith in
     let after : 6 - length (xs ++ v ∷ []) ≡ 5 - length xs = omega (arith, length-append xs (v ∷ [])) in

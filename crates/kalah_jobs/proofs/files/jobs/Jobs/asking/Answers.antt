@@ -13,7 +13,8 @@ counted : (c : After-len) → AreCounted (jobs_to c.args.question (take (c.loop-
 counted c =
     let own = entries_to c.args.question c.deref.result.now in
     let read = ap (entries_to c.args.question) (c.deref.ensures.value ∙ ap (λ (f : NamedBytes). f.bytes) c.file.view_is) in
-    subst (λ entries. AreCounted (jobs_to c.args.question (take (c.loop-file.file-index + 1) c.args.files.now)) (c.loop-file.offsets.items ++ c.len.result ∷ []) entries)
+    let jobs = jobs_to c.args.question (take (c.loop-file.file-index + 1) c.args.files.now) in
+    subst (λ entries. AreCounted jobs (c.loop-file.offsets.items ++ c.len.result ∷ []) entries)
     (sym c.in_ok-read_entries.ensures)
     (read_more c.args.question c.args.files.now c.loop-file.file-index c.loop-file.offsets.items c.loop-file.entries.items own c.file-item.result c.len.result
     c.loop-file.invariant.counted c.loop-file-test.true c.file-item.is read (omega (arith, c.len.ensures, ap length c.in_ok-read_entries.ensures)))

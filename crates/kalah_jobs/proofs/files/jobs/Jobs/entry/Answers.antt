@@ -13,4 +13,5 @@ pub returns : goal.returns
 returns c =
     let known = stored c.args.self.now _ _ c.self.invariant c.self.view_is in
     let offset = c.index.ensures ∙ offset_is c.args.self.now _ _ c.args.f c.index.result.now known.1 (omega (arith, c.requires.file)) in
-    entry_there c.args.self.now _ _ c.args.f c.args.line _ c.index-2.result.now known.1 c.requires.file c.requires.line (omega (arith, offset)) c.index-2.ensures
+    entry_there c.args.self.now _ _ c.args.f c.args.line _ c.index-2.result.now known.1 c.requires.file c.requires.line
+    (omega (arith, offset)) c.index-2.ensures

@@ -47,7 +47,8 @@ returns c =
     let at = (goal.at.returns c).After-partition_point-file in
     let start = offset at c.index.result.now c.index.ensures in
     let job = has at in
-    let number : c.args.n ≡ job_count (take (c.partition_point-file.result - 1) c.args.self.now) + (c.args.n - c.index.result.now) = omega (arith, start, job.low) in
+    let number : c.args.n ≡ job_count (take (c.partition_point-file.result - 1) c.args.self.now) + (c.args.n - c.index.result.now) =
+    omega (arith, start, job.low) in
     slice_get-job_list c.args.self.now (c.partition_point-file.result - 1) (c.args.n - c.index.result.now) c.args.n c.index-2.result.now number
     (entry_there c.args.self.now _ _ (c.partition_point-file.result - 1) (c.args.n - c.index.result.now) c.args.n c.index-2.result.now
     (counted at) job.within (omega (arith, start, job.line)) number c.index-2.ensures)
