@@ -116,7 +116,7 @@ impl<A: Allocator + Clone> Search<A> {
         self.seen_many_seeds |= seeds >= MANY_SEEDS;
         self.grow_endings();
         if seeds <= self.ending_limit.seeds {
-            let won = self.table.endings.won(*houses);
+            let won = self.table.won(*houses);
             return window.clamp(2 * won as i32 - seeds as i32);
         }
         let known = self.known_margins(houses);

@@ -1,9 +1,11 @@
 //! A bounded table of what is known of houses.
-ghost use Rattle.std.specs.Prelude.{◌≡◌, ◌≤◌, ◌⊎◌, length, min, nat_eq, IfOk, IfSome, IsSome, Some};
+ghost use Rattle.std.specs.Prelude.{◌≡◌, ◌≤◌, ◌⊎◌, length, min, nat_eq, IfOk, IfSome, IsSome, Some, false};
 ghost use Rattle.std.specs.Map.{lookup};
 ghost use Rattle.kalah_rules.specs.Key.{key_of};
+ghost use Rattle.kalah_rules.specs.Position.{bare, is_over};
 ghost use Rattle.kalah_solve.specs.Table.Entries.{most_entries, empty_table};
 ghost use Rattle.kalah_solve.specs.Table.DirectTable.{places_for};
+ghost use Rattle.kalah_solve.specs.Table.EndgameTable.{IsEnding};
 ghost use Rattle.kalah_solve.specs.Solver.Worth.{houses_worth};
 
 pub(crate) mod direct_table;
@@ -56,6 +58,7 @@ impl<A: Allocator + Clone> Model for Table<A> {
 impl<A: Allocator + Clone> Table<A> {
     ghost use Rattle.kalah_solve.specs.Bounds.Intervals.{Encloses};
     ghost use Rattle.kalah_solve.specs.Table.Entries.{AreTrue};
+    ghost use Rattle.kalah_solve.specs.Bounds.Won.{won};
 
     /// Makes an empty table with room for `capacity` entries, 1 to 1,048,576.
     ///
@@ -116,6 +119,17 @@ impl<A: Allocator + Clone> Table<A> {
         if let Ok(places) = self.all_places() {
             self.places = places;
         }
+    }
+
+    // Returns how many seeds the mover takes from houses with few seeds. It stands apart from the search, whose own functions are
+    // small enough to be inlined then.
+    #[inline(never)]
+    pub(crate) fn won(&self, houses: Houses) -> u8
+        requires going { is_over (bare houses) ≡ false }
+        requires few { IsEnding houses }
+        ensures { result ≡ won houses }
+    {
+        self.endings.won(houses)
     }
 
     // Returns the interval known for the houses, which become the most recently used.

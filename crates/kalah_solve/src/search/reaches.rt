@@ -32,7 +32,7 @@ impl<A: Allocator + Clone> Search<A> {
         ensures { IsSoftBound bar (won houses) result }
     {
         if houses.seeds() <= self.ending_limit.seeds {
-            return self.table.endings.won(houses);
+            return self.table.won(houses);
         }
         self.bound_by_search(houses, bar)
     }
