@@ -1,5 +1,5 @@
 -- The lines that are answered by a fault are those that are not read.
-use Rattle.std.proofs.Common.{◌≡◌, ℕ, suc, ◌+◌, List, [], ◌∷◌, ◌++◌, cond, refl, ap, sym, ◌∙◌}
+use Rattle.std.proofs.Common.{◌≡◌, ℕ, suc, ◌+◌, List, [], ◌∷◌, cond, refl, ap, sym, ◌∙◌}
 use Rattle.std.specs.Prelude.{count_by, Bool, true, false, if◌then◌else◌}
 use Rattle.std.proofs.lemmas.List.Sums.{sum_by-cons, sum_by-append}
 use Rattle.kalah_rules.specs.Position.{is_over, final_margin}

@@ -1,23 +1,15 @@
 -- What is stated of files and what is stated of their jobs is the same.
 use Rattle.std.proofs.Common.{◌≡◌, ℕ, suc, ◌+◌, ◌<◌, List, [], ◌∷◌, ◌++◌, length, map, get_or, cond, refl, ap, sym, ◌∙◌, arith}
-use Rattle.std.specs.Prelude.{sum_by, count_by, Bool, true, false, if◌then◌else◌}
+use Rattle.std.specs.Prelude.{sum_by, count_by}
 use Rattle.std.specs.List.{flat_map, enumerate_from}
 use Rattle.std.proofs.lemmas.List.Sums.{sum_by-cons, sum_by-append}
-use Rattle.kalah_rules.specs.Position.{is_over, final_margin}
-use Rattle.kalah_solve.specs.Solver.Worth.{worth, best_house}
-use Rattle.kalah_solve.specs.Solver.MoveValues.{values_of}
 use Rattle.kalah_jobs.specs.declared.writing.answer.Taken.{Taken}
-use Rattle.kalah_jobs.specs.declared.writing.answer.Answer.{Answer}
-use Rattle.kalah_jobs.specs.declared.writing.answer.Answer.TheVariants as answer
 use Rattle.kalah_jobs.specs.Files.NamedBytes.{NamedBytes}
 use Rattle.kalah_jobs.specs.Files.Lines.{line_feed, lines_of}
 use Rattle.kalah_jobs.specs.Files.Entry.{entry_of}
-use Rattle.kalah_jobs.specs.Files.Question.{entry_asked, entry_to}
+use Rattle.kalah_jobs.specs.Files.Question.{entry_to}
 use Rattle.kalah_jobs.specs.declared.files.question.Question.{Question}
-use Rattle.kalah_jobs.specs.declared.files.question.Question.TheVariants.{BestMove, Values, Steps}
-use Rattle.kalah_jobs.specs.declared.files.entry.Entry.{Entry}
-use Rattle.kalah_jobs.specs.declared.files.entry.Entry.TheVariants.{Position, ValuesOf, StepsOf, Bad}
-use Rattle.kalah_jobs.specs.Writing.Answer.{answer_of, answer_line, is_fault}
+use Rattle.kalah_jobs.specs.Writing.Answer.{answer_of, answer_line}
 use Rattle.kalah_jobs.specs.Files.JobList.{line_job, file_jobs, jobs_from, job_list}
 use Rattle.kalah_jobs.specs.Files.Jobs.{entries_to, jobs_to}
 use Rattle.kalah_jobs.specs.Writing.Output.{line_output, file_output, output_to, is_faulty, tally_of, text_of_line, text_of_file, answer_text_of, output_of_jobs, names_of, is_faulty_job, FilesAreTheirJobs}

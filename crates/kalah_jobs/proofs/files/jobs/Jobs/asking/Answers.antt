@@ -1,7 +1,6 @@
-use Rattle.std.proofs.Common.{◌≡◌, ◌∙◌, ◌+◌, [], ◌∷◌, ◌++◌, take, rules, ap, sym, subst, length, arith}
+use Rattle.std.proofs.Common.{◌∙◌, ◌+◌, [], ◌∷◌, ◌++◌, take, rules, ap, sym, subst, length, arith}
 use Rattle.std.proofs.lemmas.List.{take_all}
 use Rattle.kalah_jobs.specs.Files.NamedBytes.{NamedBytes}
-use Rattle.kalah_jobs.specs.Files.JobList.{by_file}
 use Rattle.kalah_jobs.specs.Files.Jobs.{AreCounted, AreFew, entries_to, jobs_to}
 use Rattle.kalah_jobs.proofs.FilesLemmas.JobCounts.{all_counted, by_file_is, counted_low, counted_none, few_jobs, read_more}
 use Rattle.kalah_jobs.proofs.files.jobs.Jobs.asking.Goals as goal

@@ -1,5 +1,4 @@
-use Rattle.std.proofs.Common.{◌≡◌, ◌∙◌, take, arith}
-use Rattle.kalah_jobs.specs.Files.Jobs.{job_count}
+use Rattle.std.proofs.Common.{◌∙◌, arith}
 use Rattle.kalah_jobs.proofs.FilesLemmas.JobCounts.{entry_there, line_within, offset_is, stored}
 use Rattle.kalah_jobs.proofs.files.jobs.Jobs.entry.Goals as goal
 

@@ -1,5 +1,4 @@
-use Rattle.std.proofs.Common.{◌≡◌, ◌∙◌, sym, arith}
-use Rattle.kalah_jobs.specs.Files.Jobs.{job_count}
+use Rattle.std.proofs.Common.{arith}
 use Rattle.kalah_jobs.proofs.FilesLemmas.JobCounts.{all_counted, length-job_list, stored}
 use Rattle.kalah_jobs.proofs.files.jobs.Jobs.total.Goals as goal
 
@@ -13,7 +12,9 @@ returns-clause-lines c =
     omega (arith, c.len.ensures, all_counted c.args.self.now _ _ (stored c.args.self.now _ _ c.self.invariant c.self.view_is).1)
 
 pub returns-clause-jobs : goal.returns-clause-jobs
-returns-clause-jobs c = returns-clause-lines c ∙ sym (length-job_list c.args.self.now)
+returns-clause-jobs c =
+    let known = stored c.args.self.now _ _ c.self.invariant c.self.view_is in
+    omega (arith, c.len.ensures, all_counted c.args.self.now _ _ known.1, length-job_list c.args.self.now)
 
 pub returns-clause-low : goal.returns-clause-low
 returns-clause-low c =

@@ -1,4 +1,4 @@
-use Rattle.std.proofs.Common.{◌≡◌, ℕ, ◌+◌, ◌-◌, List, length}
+use Rattle.std.proofs.Common.{ℕ, ◌+◌, ◌-◌, List, length}
 use Rattle.std.specs.Prelude.{Option}
 use Rattle.kalah_jobs.specs.Files.NamedBytes.{NamedBytes}
 use Rattle.kalah_jobs.specs.declared.files.job.Job.{Job}
