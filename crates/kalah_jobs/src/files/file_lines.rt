@@ -22,16 +22,6 @@ pub(crate) fn first_line(bytes: &[u8]) -> (&[u8], &[u8])
     (bytes, &bytes[bytes.len()..])
 }
 
-// Returns the number of lines. The last byte ends a line, or stands in one that is not ended.
-pub(crate) fn count_lines(bytes: &[u8]) -> usize
-    ensures { result ≡ length (lines_of bytes.now) }
-{
-    match bytes.split_last() {
-        Some((_, before)) => count_feeds(before) + 1,
-        None => 0,
-    }
-}
-
 // Returns the number of line feeds in a block of bytes. It counts in a byte, so that the processor compares many bytes at once.
 fn count_feeds_in_block(block: &[u8]) -> u8
     requires { length block.now ≤ BLOCK }
@@ -46,17 +36,20 @@ fn count_feeds_in_block(block: &[u8]) -> u8
     count
 }
 
-// Returns the number of line feeds.
-fn count_feeds(bytes: &[u8]) -> usize
-    ensures is { result ≡ count_by (λ byte. byte == line_feed) bytes.now }
-    ensures low { result ≤ length bytes.now }
+// Returns the number of lines.
+pub(crate) fn count_lines(bytes: &[u8]) -> usize
+    ensures { result ≡ length (lines_of bytes.now) }
 {
-    let mut count = 0;
-    let mut rest = bytes;
+    let Some((_, before)) = bytes.split_last() else {
+        return 0;
+    };
+    // The last byte ends a line, or stands in one that is not ended.
+    let mut lines = 1;
+    let mut rest = before;
     while !rest.is_empty() {
         let (block, after) = rest.split_at(rest.len().min(BLOCK));
-        count += count_feeds_in_block(block) as usize;
+        lines += count_feeds_in_block(block) as usize;
         rest = after;
     }
-    count
+    lines
 }

@@ -1,22 +1,12 @@
 //! The first line of some bytes, as an entry.
 ghost use Rattle.std.specs.Prelude.{◌<◌, IfSome, length};
-ghost use Rattle.kalah_jobs.specs.Files.FirstEntry.{IsLineEnd, HasFirstEntry, BeginsWithPosition};
+ghost use Rattle.kalah_jobs.specs.Files.FirstEntry.{HasFirstEntry, BeginsWithPosition};
 
 use crate::files::entry::Entry;
 use crate::files::file_lines::{LINE_FEED, first_line};
 use crate::files::question::Question;
 use crate::line::one_pass::{take_rule, take_side};
 use kalah_rules::Board;
-
-// Returns the bytes after the end of a line: a line feed, or the end of the bytes.
-fn after_line(bytes: &[u8]) -> Option<&[u8]>
-    ensures { IfSome result (λ rest. IsLineEnd bytes.now rest.now) }
-{
-    let Some((end, rest)) = bytes.split_first() else {
-        return Some(bytes);
-    };
-    if *end == LINE_FEED { Some(rest) } else { None }
-}
 
 // Returns the position of the first line of some bytes, if it is read in one pass, and the bytes after that line.
 fn first_position(bytes: &[u8]) -> Option<(Board, &[u8])>
@@ -29,7 +19,11 @@ fn first_position(bytes: &[u8]) -> Option<(Board, &[u8])>
     }
     let (other, other_store, rest) = take_side(rest)?;
     let (rule, rest) = take_rule(rest);
-    let rest = after_line(rest)?;
+    let rest = match rest.split_first() {
+        None => rest,
+        Some((end, after)) if *end == LINE_FEED => after,
+        Some(_) => return None,
+    };
     let board = Board::of_rows(&own, own_store, &other, other_store, rule)?;
     Some((board, rest))
 }

@@ -88,17 +88,6 @@ fn prepend_place(text: &mut StackText, line: u32)
     text.prepend(":");
 }
 
-// Puts what stands behind the name in an answer line in front of the text.
-#[inline(always)]
-fn prepend_ending(text: &mut StackText, taken: &Taken)
-    requires short { length text.old ≤ 1 }
-    requires one_line { IsOfOneLine taken.now.answer }
-    ensures { text.new ≡ codes ":" ++ (decimal (taken.now.line + 1) ++ (codes " " ++ (answer_words taken.now.answer ++ text.old))) }
-{
-    prepend_words(text, &taken.answer);
-    prepend_place(text, taken.line);
-}
-
 /// Returns the answer line of a line of the file `name`, without a line feed: `NAME:LINE MARGIN house H`, `NAME:LINE MARGIN over`,
 /// `NAME:LINE H:V H:V ..` or `NAME:LINE fault WORD`. LINE counts from 1, and a negative MARGIN has a `-` in front. Of steps it is
 /// a line `NAME:LINE H POSITION again`, `turn` or `over` for each legal house, with a line feed between any two.
@@ -113,7 +102,8 @@ pub fn answer_text(alloc: Global, name: &str, taken: &Taken) -> Result<String, A
             push_steps(&mut text, name, ending.as_str(), board)?;
         }
         _ => {
-            prepend_ending(&mut ending, taken);
+            prepend_words(&mut ending, &taken.answer);
+            prepend_place(&mut ending, taken.line);
             text.push_str(name)?;
             text.push_str(ending.as_str())?;
         }
@@ -141,7 +131,8 @@ pub fn write_answer<W: Sink>(out: &mut W, name: &str, taken: &Taken) -> Result<(
         }
         _ => {
             text.prepend("\n");
-            prepend_ending(&mut text, taken);
+            prepend_words(&mut text, &taken.answer);
+            prepend_place(&mut text, taken.line);
             write_named(out, name, &mut text)?;
         }
     }
