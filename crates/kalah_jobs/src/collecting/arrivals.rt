@@ -27,20 +27,6 @@ impl Model for Arrivals {
     ghost invariant = { λ a. (a.ready ≡ front_of a.slots.items) × (a.taken ≤ a.ready) × (length a.slots.items ≤ most_lines) };
 }
 
-// Returns the first empty slot, if those below `from` are full.
-#[tactic(auto, using(crate::proofs::Fronts::front_within, crate::proofs::Fronts::front_more, crate::proofs::Fronts::front_stops))]
-fn first_gap(slots: &[Option<Answer>], from: u32) -> u32
-    requires full { from ≤ front_of slots.now }
-    requires short { length slots.now ≤ most_lines }
-    ensures { result ≡ front_of slots.now }
-{
-    let mut gap = from;
-    while (gap as usize) < slots.len() && slots[gap as usize].is_some() {
-        gap += 1;
-    }
-    gap
-}
-
 impl Arrivals {
     // Makes the state of a file of `lines` lines with no answer yet.
     #[tactic(auto, using(crate::proofs::Fronts::front_none))]
@@ -86,7 +72,7 @@ impl Arrivals {
     }
 
     // Stores the answer of a line, and returns how many lines became ready.
-    #[tactic(auto, using(crate::proofs::Fronts::front_set))]
+    #[tactic(auto, using(crate::proofs::Fronts::front_set, crate::proofs::Fronts::front_within, crate::proofs::Fronts::front_more))]
     pub(crate) fn accept(&mut self, line: u32, answer: Answer) -> u32
         requires within { line < line_count self.old }
         requires first { came_for self.old line ≡ None }
@@ -95,7 +81,11 @@ impl Arrivals {
     {
         self.slots[line as usize] = Some(answer);
         let before = self.ready;
-        self.ready = first_gap(self.slots.as_slice(), before);
+        while (self.ready as usize) < self.slots.len()
+            && self.slots[self.ready as usize].is_some()
+        {
+            self.ready += 1;
+        }
         self.ready - before
     }
 

@@ -1,0 +1,17 @@
+use Rattle.std.proofs.Common.{◌≤◌, ap, arith, rules}
+use Rattle.kalah_jobs.specs.Collecting.CollectorState.{front, front_of}
+use Rattle.kalah_jobs.proofs.Fronts.{front_stops, front_within}
+use Rattle.kalah_jobs.proofs.collecting.arrivals.Arrivals.accept.Goals.{then-loop-self-test+else-is_some, else-loop-self-test}
+use Rattle.kalah_jobs.proofs.collecting.arrivals.Arrivals.accept.Goals as goal
+
+pub invariant_of-self : goal.invariant_of-self
+invariant_of-self c =
+    let stops : front_of c.loop-self.self-inside.slots.items ≤ c.loop-self.self-inside.ready = elim c.loop-self-test.branch [
+      | then-loop-self-test+else-is_some w ↦ front_stops _ _ (search rules)
+      | else-loop-self-test w ↦ omega (arith, front_within c.loop-self.self-inside.slots.items, w.loop-self-test.false)
+    ] in
+    (omega (arith, stops, c.loop-self.invariant.within), search rules, search rules)
+
+pub returns-clause-risen : goal.returns-clause-risen
+returns-clause-risen c =
+    omega (arith, (invariant_of-self c).0, c.loop-self.invariant.low, c.self.invariant.0, ap front c.self.view_is)
