@@ -63,7 +63,7 @@ fn answer_jobs<'a, R: Threads + Wait + Sync, G: Gate, W: Sink>(
         pass,
         passes,
         puts,
-    } = Workers::open(alloc, jobs, size.for_lines(jobs.total()))?;
+    } = Workers::open(alloc, jobs, size)?;
     let shared = SharedWork {
         desk: &desk,
         queue: &queue,

@@ -1,5 +1,5 @@
 -- What is known of the workers of a batch before they run.
-use Rattle.std.specs.Prelude.{◌≡◌, ℕ, ◌<◌, ◌≤◌, List, [], length, vec_capacity}
+use Rattle.std.specs.Prelude.{◌≡◌, ℕ, ◌<◌, ◌≤◌, max, min, List, [], length, vec_capacity}
 use Rattle.std.specs.List.{All}
 use Rattle.std.specs.declared.alloc.Global.{Global}
 use Rattle.crossbeam_utils.specs.Padded.{padded_value}
@@ -26,9 +26,10 @@ HasTable entries w = (padded_value {T = Solver Global} w.solver).search.table �
 abbrev pub HaveTables : ℕ → List Worker → Type 0
 HaveTables entries workers = All (HasTable entries) workers
 
--- for these jobs: each worker is at work and has its place and its table, and nothing was got
+-- for these jobs: there is a worker at least, and else no more than jobs; each is at work and has its place and its table, and
+-- nothing was got
 pub record AreReady (jobs : List (List Entry)) (size : BatchSize) (w : Workers) : Type 0 where
-  pub workers : length w.list.items ≡ size.workers
+  pub workers : length w.list.items ≡ max 1 (min size.workers (job_count jobs))
   pub tables : HaveTables size.table w.list.items
   pub total : w.desk.total ≡ job_count jobs
   pub some : 0 < length w.list.items

@@ -93,15 +93,17 @@ pub(crate) struct Workers {
 }
 
 impl Workers {
-    /// Makes the workers for these jobs, of the given size. It allocates all its memory here.
+    /// Makes the workers for these jobs, of the given size: one at least, and else no more than lines. It allocates all its memory here.
     pub(crate) fn open(alloc: Global, jobs: &Jobs, size: BatchSize) -> Result<Workers, AllocError>
         ensures { IfOk result (AreReady jobs.now size) }
     {
-        let (desk, passes) = Desk::open(alloc, jobs.total(), size.workers)?;
-        let (queue, puts, pass) = ResultsQueue::open(alloc, QUEUE_CAPACITY, size.workers)?;
+        let total = jobs.total();
+        let count = size.workers.min(total).max(1);
+        let (desk, passes) = Desk::open(alloc, total, count)?;
+        let (queue, puts, pass) = ResultsQueue::open(alloc, QUEUE_CAPACITY, count)?;
         let list = put_together(alloc, passes, puts, size)?;
-        let passes = Vec::with_capacity(alloc, size.workers as usize)?;
-        let puts = Vec::with_capacity(alloc, size.workers as usize)?;
+        let passes = Vec::with_capacity(alloc, count as usize)?;
+        let puts = Vec::with_capacity(alloc, count as usize)?;
         Ok(Workers {
             desk,
             queue,

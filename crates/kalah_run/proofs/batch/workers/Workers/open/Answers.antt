@@ -14,17 +14,17 @@ returns c =
     let desk = c.in_ok-desk.ensures in
     let queue = c.in_ok-queue.queue.id in
     let opened = c.in_ok-queue.ensures.puts in
-    let count : length workers ≡ c.args.size.workers =
+    let count : length workers ≡ c.max-count.result =
     sym (length-map workers (λ (w : Worker). w.pass)) ∙ ap (λ (l : List PassState). length l) are.passes ∙ desk.passes.0 in
     let puts = subst (λ (l : List PutState). ArePassesFrom queue 0 l) (sym are.puts) opened.1 in
     record {
-      workers = count;
+      workers = omega (arith, count, c.max-count.ensures, c.min.ensures, c.total-total.ensures.lines);
       tables = are.tables;
-      total = desk.desk.0 ∙ c.total.ensures.lines;
+      total = desk.desk.0 ∙ c.total-total.ensures.lines;
       some = omega (arith, count, c.args.size.few_workers.0);
       passes = count ∙ sym desk.desk.1;
-      at_work = new_at_work (record { desk = c.in_ok-desk.desk; queue = queue; jobs = c.args.jobs.now }) workers c.args.size.workers
-          (subst (λ (l : List PassState). AreNewPasses c.in_ok-desk.desk c.args.size.workers l) (sym are.passes) desk.passes) puts
+      at_work = new_at_work (record { desk = c.in_ok-desk.desk; queue = queue; jobs = c.args.jobs.now }) workers c.max-count.result
+          (subst (λ (l : List PassState). AreNewPasses c.in_ok-desk.desk c.max-count.result l) (sym are.passes) desk.passes) puts
           (subst (λ (l : List PutState). All (λ p. p.sent ≡ []) l) (sym are.puts) opened.2);
       puts = puts;
       pass = c.in_ok-queue.ensures.get
