@@ -14,7 +14,7 @@ pub(crate) mod rule;
 
 use crate::desk::pass::Pass;
 use crate::desk::rule::{DeskPlan, DeskRule, DeskView, DrawNumber, HandOut, Reclaim, StartClosing};
-use atomic_table::{Seat, Shared, Table};
+use atomic_table::Table;
 use std::alloc::{AllocError, Global};
 use std::marker::Model;
 
@@ -57,24 +57,6 @@ impl Model for ClosedDesk {
     ghost view = { λ c. record { drawn = c.drawn; spent = c.spent } };
 
     ghost inverse = { λ c. record { drawn = c.drawn; spent = c.spent } };
-}
-
-// Reclaims the passes, from the last to the first. The seat ends with the rows of all.
-fn reclaim(
-    shared: &Shared<(), DeskView, DeskPlan, DeskRule>,
-    mut closer: Seat<(), DeskView>,
-    mut passes: Vec<Pass>,
-) -> Seat<(), DeskView>
-    requires table { (closer.table_id ≡ shared.now.table_id) × (0 < shared.now.table_id.words) }
-    requires passes { All (λ p. p.desk ≡ shared.now.table_id) passes.items }
-    requires closer { closer.me.0 ≡ Closing [] }
-    ensures { (result.table_id ≡ closer.table_id) × (result.me.0 ≡ Closing (drawn_rows passes.items)) }
-{
-    while let Some(pass) = passes.pop() {
-        let Pass { seat, is_spent: _ } = pass;
-        shared.join_seat::<Reclaim>(&mut closer, seat);
-    }
-    closer
 }
 
 impl Desk {
@@ -153,8 +135,12 @@ impl Desk {
         ensures whole { IsTrue result.spent → result.drawn ≡ self.total }
     {
         let Desk { table, total } = self;
-        let (_, closer) = table.shared.load_new_seat::<StartClosing>(0);
-        let closer = reclaim(&table.shared, closer, passes);
+        let (_, mut closer) = table.shared.load_new_seat::<StartClosing>(0);
+        let mut rest = passes;
+        while let Some(pass) = rest.pop() {
+            let Pass { seat, is_spent: _ } = pass;
+            table.shared.join_seat::<Reclaim>(&mut closer, seat);
+        }
         let closed = table.close_with(closer);
         let word = closed.word(0);
         closed.free();

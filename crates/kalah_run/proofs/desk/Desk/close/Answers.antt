@@ -1,24 +1,33 @@
-use Rattle.std.proofs.Common.{rules, ◌≡◌, ◌+◌, ◌<◌, ◌≤◌, ℕ, sym, ap, ◌∙◌, subst}
+use Rattle.std.proofs.Common.{rules, List, [], ◌∷◌, ◌++◌, length, get_or, length-append, arith, ◌≡◌, ◌+◌, ◌<◌, ◌≤◌, ℕ, sym, ap, ◌∙◌, subst}
 use Rattle.std.specs.Prelude.{nat_lt, if◌then◌else◌}
-use Rattle.std.proofs.lemmas.List.{length-map}
+use Rattle.std.proofs.lemmas.List.{length-map, map-append, append_assoc, get_or_append_left}
 use Rattle.kalah_run.specs.Desk.Rows.{drawn_in, spent_in, AreLawful}
-use Rattle.kalah_run.specs.Desk.States.{drawn_rows}
+use Rattle.kalah_run.specs.Desk.Kept.{rows_in}
+use Rattle.kalah_run.specs.Desk.States.{PassState, drawn_rows}
+use Rattle.kalah_run.specs.declared.desk.rule.DeskView.TheVariants.{Closing}
 use Rattle.kalah_run.proofs.DeskLemmas.Once.{stands_once, stands_nowhere}
-use Rattle.kalah_run.proofs.DeskLemmas.Seats.{starts_closing}
+use Rattle.kalah_run.proofs.DeskLemmas.Seats.{reclaims_as, starts_closing}
 use Rattle.kalah_run.proofs.DeskLemmas.Ends.{ends, drawn_at_end, spent_at_end}
 use Rattle.kalah_run.proofs.desk.Desk.close.Goals as goal
 
 pub load_new_seat-closer-requires : goal.load_new_seat-closer-requires
 load_new_seat-closer-requires c = (search rules, starts_closing _ _)
 
+-- no pass is left, so the seat has the rows of all
+closed : (c : goal.After-drop-rest) → c.loop-pass.closer.me.0 ≡ Closing (drawn_rows c.args.passes.items)
+closed c =
+    let none : c.loop-pass.rest.items ≡ [] = search rules in
+    c.loop-pass.invariant.closing
+    ∙ ap Closing (ap (λ (l : List PassState). drawn_rows l ++ rows_in c.loop-pass.closer.me.0) (sym none) ∙ c.loop-pass.invariant.rows)
+
 -- the last word, and the rows
-last : (c : goal.After-min)
+last : (c : goal.After-drop-rest)
     → (c.word-word.result ≡ drawn_in (drawn_rows c.args.passes.items) + spent_in (drawn_rows c.args.passes.items))
     × AreLawful c.self.inside.total (drawn_rows c.args.passes.items)
 last c =
     let all = length-map c.args.passes.items (λ p. p.row) ∙ c.requires.all ∙ sym (ap (λ d. d.passes) c.self.view_is) in
     let e = ends c.self.inside.table.shared.key _ _ (drawn_rows c.args.passes.items) _ _ _
-    c.reclaim-closer.ensures.1 c.close_with-closed.ensures.values.2 all c.word-word.ensures in
+    (closed c) c.close_with-closed.ensures.values.2 all c.word-word.ensures in
     (e.0, subst (λ (t : ℕ). AreLawful t (drawn_rows c.args.passes.items)) c.self.invariant.2 e.1)
 
 pub returns-clause-lawful : goal.returns-clause-lawful
@@ -38,3 +47,28 @@ returns-clause-others c x high = stands_nowhere _ _ (last c).1 x (subst (λ (n :
 
 pub returns-clause-spent : goal.returns-clause-spent
 returns-clause-spent c = spent_at_end c.self.inside.total c.word-word.result (drawn_rows c.args.passes.items) (last c).0 (last c).1
+
+pub join_seat-requires : goal.join_seat-requires
+join_seat-requires c =
+    (search rules, search rules, search rules, search rules, reclaims_as _ _ _ _ _ c.loop-pass.invariant.closing (ap (λ m. m.0) c.pass.invariant.0))
+
+pub loop-pass-preserved : goal.loop-pass-preserved
+loop-pass-preserved c =
+    let left : List PassState = c.pop.new.self.items in
+    let parts : c.loop-pass.rest.items ≡ left ++ c.in-Some.pass ∷ [] = c.in-Some.ensures.items in
+    let past = rows_in c.loop-pass.closer.me.0 in
+    let row : rows_in c.join_seat.new.seat.me.0 ≡ c.in-Some.pass.row ∷ past = search rules in
+    record {
+      table = search rules;
+      passes = λ k d low.
+          let within : k < length c.loop-pass.rest.items =
+          omega (arith, low, ap (λ (l : List PassState). length l) parts, length-append left (c.in-Some.pass ∷ [])) in
+          ap (λ (p : PassState). p.desk)
+          (sym (ap (λ (l : List PassState). get_or l k d) parts ∙ get_or_append_left left (c.in-Some.pass ∷ []) d k low))
+          ∙ c.loop-pass.invariant.passes k d within;
+      closing = search rules;
+      rows = ap (λ rows. drawn_rows left ++ rows) row
+          ∙ sym (append_assoc (drawn_rows left) (c.in-Some.pass.row ∷ []) past)
+          ∙ ap (λ rows. rows ++ past) (sym (map-append (λ (p : PassState). p.row) left (c.in-Some.pass ∷ [])) ∙ ap drawn_rows (sym parts))
+          ∙ c.loop-pass.invariant.rows;
+    }

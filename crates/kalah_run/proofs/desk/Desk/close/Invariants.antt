@@ -2,15 +2,15 @@ use Rattle.std.proofs.Common.{◌≡◌, ◌++◌, vec_len, All}
 use Rattle.kalah_run.specs.declared.desk.rule.DeskView.TheVariants.{Closing}
 use Rattle.kalah_run.specs.Desk.Kept.{rows_in}
 use Rattle.kalah_run.specs.Desk.States.{drawn_rows}
-use Rattle.kalah_run.proofs.desk.reclaim.Given as goal
+use Rattle.kalah_run.proofs.desk.Desk.close.Given as goal
 
 abbrev pub invariant-loop-pass : goal.invariant-loop-pass
 invariant-loop-pass l = record {
-  table : l.closer.table_id ≡ l.shared.table_id;
-  passes : All (λ p. p.desk ≡ l.shared.table_id) l.passes.items;
+  table : l.closer.table_id ≡ l.table.shared.table_id;
+  passes : All (λ p. p.desk ≡ l.table.shared.table_id) l.rest.items;
   closing : l.closer.me.0 ≡ Closing (rows_in l.closer.me.0);
-  rows : drawn_rows l.passes.items ++ rows_in l.closer.me.0 ≡ drawn_rows l.fn.passes.items;
+  rows : drawn_rows l.rest.items ++ rows_in l.closer.me.0 ≡ drawn_rows l.fn.passes.items;
 }
 
 abbrev pub decreases-loop-pass : goal.decreases-loop-pass
-decreases-loop-pass l = vec_len l.passes
+decreases-loop-pass l = vec_len l.rest
