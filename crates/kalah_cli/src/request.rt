@@ -3,12 +3,12 @@ ghost use Rattle.std.specs.Prelude.{◌≡◌, ℕ, All, List, [], ◌∷◌, If
 ghost use Rattle.clap.specs.Faults.{fault_of};
 ghost use Rattle.clap.specs.Kinds.{FailsBy};
 ghost use Rattle.clap.specs.Simple.{subcommand_rows_of};
-ghost use Rattle.clap.specs.Walk.{all_of, first_of, rows_of};
+ghost use Rattle.clap.specs.Walk.{first_of, rows_of};
 ghost use Rattle.clap.specs.Words.{found_of, kind_of};
 ghost use Rattle.clap.specs.declared.error.kind.ErrorKind.TheVariants.{OutOfMemory};
 ghost use Rattle.kalah_solve.specs.Table.Entries.{most_entries};
 ghost use Rattle.kalah_cli.specs.Command.{kalah_app};
-ghost use Rattle.kalah_cli.specs.Request.{AreMatches, Asked, HasFlag, HasNumber, IsInRange, IsPlainWord, IsTaken, IsTableSize, IsTakenAs, MayHaveNumber, answers, asked_by, asked_for, command_of, files_asked, is_set, moves, number_given, question_of, table_asked, table_of};
+ghost use Rattle.kalah_cli.specs.Request.{AreMatches, Asked, HasFlag, HasNumber, IsInRange, IsPlainWord, IsTaken, IsTableSize, IsTakenAs, MayHaveNumber, answers, asked_by, asked_for, command_of, files_asked, is_set, moves, number_given, question_of, table_of};
 
 use crate::command::command;
 use clap::{ArgMatches, Error};
@@ -108,28 +108,8 @@ fn line_of<'a>(found: &ArgMatches<'a>) -> &'a str
     found.get_str("line").unwrap()
 }
 
-// Returns the names of the files of `solve`, `values` or `steps`.
-fn files_of<'a>(alloc: Global, found: &ArgMatches<'a>) -> Result<Vec<&'a str>, AllocError>
-    requires { is_some (all_of (codes "file") (rows_of (found_of found.now))) ≡ true }
-    ensures { IfOk result
-        (λ files. all_of (codes "file") (rows_of (found_of found.now)) ≡ Some (map (λ f. f.now) files.items)) }
-{
-    Ok(found.get_strs("file").unwrap().to_vec(alloc)?)
-}
-
-// Returns the table size in the matches of a subcommand with files: 1, the least, for steps, which need no table.
-fn table_of(question: Question, found: &ArgMatches<'_>) -> u32
-    requires { AreMatches (command_of question) (rows_of (found_of found.now)) }
-    ensures asked { table_asked question (rows_of (found_of found.now)) ≡ Some result }
-    ensures range { IsTableSize result }
-{
-    match question {
-        Question::BestMove | Question::Values => number_of(found, "table"),
-        Question::Steps => 1,
-    }
-}
-
-// Returns the request of the matches of `solve`, `values` or `steps`, which ask this of files.
+// Returns the request of the matches of `solve`, `values` or `steps`, which ask this of files. The table of steps, which need none, has one
+// entry, the least.
 fn files_request<'a>(
     alloc: Global,
     question: Question,
@@ -142,9 +122,12 @@ fn files_request<'a>(
     Ok(Request::Files(FilesRequest {
         question,
         workers: number_of(found, "workers"),
-        table: table_of(question, found),
+        table: match question {
+            Question::BestMove | Question::Values => number_of(found, "table"),
+            Question::Steps => 1,
+        },
         progress: is_set(found, "progress"),
-        files: files_of(alloc, found)?,
+        files: found.get_strs("file").unwrap().to_vec(alloc)?,
     }))
 }
 
