@@ -1,7 +1,7 @@
 -- What the getters of matches return, by the rows of the matches.
-use Rattle.std.proofs.Common.{◌≡◌, ◌∙◌, ◌<◌, ◌≤◌, ◌^◌, ℕ, Bool, true, false, refl, ap, inl, inr, List, Option, Some, None, Result, Ok, Err, is_some, arith, codes, map, sym}
+use Rattle.std.proofs.Common.{◌≡◌, ◌∙◌, ◌<◌, ◌≤◌, ◌^◌, ℕ, Bool, true, false, refl, ap, inl, inr, List, Option, Some, None, is_some, arith, codes, map, sym}
 use Rattle.std.specs.Prelude.{option_map}
-use Rattle.std.specs.Str.Parse.{ParsesUnsigned, digits_value, without_leading_plus}
+use Rattle.std.specs.Str.Parse.{ExplainsUnsignedError, HasUnsignedDigitsIfOk, ParsesUnsigned, digits_value, without_leading_plus}
 use Rattle.std.specs.Borrow.{Bor}
 use Rattle.clap.specs.Matches.{ReadsOne, matched_of, one_text, raw_values}
 use Rattle.clap.specs.Walk.{Row, Text, all_of, one_of, rows_of}
@@ -22,21 +22,24 @@ pub values_are : (f : Found) (id : Text) (o : Option (Bor (List (Bor Text)))) (s
 values_are f id o s copied read is same =
     sym (raw_values-rows f id) ∙ sym read ∙ ap (option_map (λ s. map (λ v. v.now) s.now)) is ∙ ap (λ vs. Some (map (λ v. v.now) vs)) (sym same)
 
--- the getter of a type of numbers, which reads the text as `reads` says, returns the number under the name
-pub number_read : (E : Type 0) (reads : Text → Result ℕ E → Type 0) (width low high : ℕ) (f : Found) (id : Text) (r : Option ℕ)
-    → (one_text f id ≡ None → r ≡ None) → ((t : Text) → one_text f id ≡ Some t → ReadsOne reads t r)
-    → ((t : Text) (x : Result ℕ E) → reads t x → ParsesUnsigned width 10 t x) → high < 2 ^ width → MayHaveNumber id low high (rows_of f)
-    → r ≡ number_given id (rows_of f)
-number_read E reads width low high f id r absent value parses fits may = go (one_of id (rows_of f)) r refl absent value
+-- the getter of a type of numbers of this width returns the number under the name
+pub number_read : (width low high : ℕ) (f : Found) (id : Text) (r : Option ℕ)
+    → (one_text f id ≡ None → r ≡ None)
+    → ((t : Text) → one_text f id ≡ Some t
+    → ReadsOne (λ t x. ParsesUnsigned width 10 t x × ExplainsUnsignedError 10 t x × HasUnsignedDigitsIfOk t x) t r)
+    → high < 2 ^ width → MayHaveNumber id low high (rows_of f) → r ≡ number_given id (rows_of f)
+number_read width low high f id r absent value fits may = go (one_of id (rows_of f)) r refl absent value
   where
     go : (o : Option Text) (r : Option ℕ) → one_of id (rows_of f) ≡ o → (one_text f id ≡ None → r ≡ None)
-        → ((t : Text) → one_text f id ≡ Some t → ReadsOne reads t r) → r ≡ number_given id (rows_of f)
+        → ((t : Text) → one_text f id ≡ Some t
+        → ReadsOne (λ t x. ParsesUnsigned width 10 t x × ExplainsUnsignedError 10 t x × HasUnsignedDigitsIfOk t x) t r)
+        → r ≡ number_given id (rows_of f)
     go None r is absent value = rw is (absent (one_text-rows f id ∙ is))
-    go (Some t) (Some n) is absent value = rw is (ap (λ n. Some n) (parses t (Ok n) (value t (one_text-rows f id ∙ is))).1)
+    go (Some t) (Some n) is absent value = rw is (ap (λ n. Some n) (value t (one_text-rows f id ∙ is)).0.1)
     go (Some t) None is absent value =
         let failed = value t (one_text-rows f id ∙ is) in
         let range = may t is in
-        absurd (parses t (Err failed.0) failed.1 (range.0, omega (arith, range.3, fits)))
+        absurd (failed.1.0 (range.0, omega (arith, range.3, fits)))
 
 -- the number is in the range of those that may be there
 pub number_in_range : (id : Text) (low high : ℕ) (rows : List Row) (n : ℕ) → MayHaveNumber id low high rows → number_given id rows ≡ Some n

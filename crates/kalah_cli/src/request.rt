@@ -67,21 +67,13 @@ pub struct FilesRequest<'a> {
     pub files: Vec<&'a str>,
 }
 
-// Returns the number of an option, if it has one.
-fn given_number(found: &ArgMatches<'_>, id: &str) -> Option<u32>
-    requires { MayHaveNumber id.now 1 most_entries (rows_of (found_of found.now)) }
-    ensures { result ≡ number_given id.now (rows_of (found_of found.now)) }
-{
-    found.get_one::<u32>(id)
-}
-
 // Returns the number of an option that has one.
 fn number_of(found: &ArgMatches<'_>, id: &str) -> u32
     requires { HasNumber id.now 1 most_entries (rows_of (found_of found.now)) }
     ensures given { number_given id.now (rows_of (found_of found.now)) ≡ Some result }
     ensures range { IsTableSize result }
 {
-    given_number(found, id).unwrap()
+    found.get_one::<u32>(id).unwrap()
 }
 
 // Returns the small number of an argument, if it has one.

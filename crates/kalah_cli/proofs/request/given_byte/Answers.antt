@@ -1,9 +1,8 @@
 use Rattle.std.proofs.Common.{arith}
-use Rattle.std.specs.Str.Parse.{ExplainsUnsignedError, HasUnsignedDigitsIfOk, ParsesUnsigned}
 use Rattle.clap.specs.Words.{found_of}
 use Rattle.kalah_cli.proofs.Getters.{number_read}
 use Rattle.kalah_cli.proofs.request.given_byte.Goals as goal
 
 pub returns : goal.returns
-returns c = number_read _ (λ t r. ParsesUnsigned 8 10 t r × ExplainsUnsignedError 10 t r × HasUnsignedDigitsIfOk t r) 8 0 255
-    (found_of c.args.found.now) c.args.id.now c.get_one.result c.get_one.ensures.none c.get_one.ensures.value (λ t r reads. reads.0) (omega arith) c.requires
+returns c = number_read 8 0 255 (found_of c.args.found.now) c.args.id.now c.get_one.result c.get_one.ensures.none c.get_one.ensures.value
+    (omega arith) c.requires
