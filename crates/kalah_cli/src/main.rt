@@ -31,14 +31,10 @@ use std::io::{BufWriter, ErrorKind, Write};
 use std::process::ExitCode;
 use std::{env, io};
 
-// Returns the program's arguments. The first is its name.
-fn words_of(rt: &HostRuntime) -> io::Result<Vec<String>> {
-    Ok(env::args(rt)?.collect(rt.alloc())?)
-}
-
 fn main(rt: HostRuntime) -> ExitCode {
     let mut err = rt.stderr();
-    let words = match words_of(&rt) {
+    // The first word is the program's name.
+    let words: Vec<String> = match env::args(&rt).and_then(|args| Ok(args.collect(rt.alloc())?)) {
         Ok(words) => words,
         Err(error) if error.kind() == ErrorKind::OutOfMemory => {
             return ExitCode::from(Failure::OutOfMemory.report(&mut err).code());
