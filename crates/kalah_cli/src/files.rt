@@ -1,5 +1,5 @@
 //! Whole files.
-ghost use Rattle.std.specs.Prelude.{◌≡◌, ◌≢◌, ◌<◌, ◌≤◌, IfErr, IfOk, IfSome, IsErrOf, OnOk, length, map};
+ghost use Rattle.std.specs.Prelude.{◌≡◌, ◌≢◌, ◌<◌, ◌≤◌, All, IfErr, IfOk, IfSome, IsErrOf, OnOk, length, map};
 ghost use Rattle.std.specs.Io.KnownBytes.{Consumes, IsAtEnd};
 ghost use Rattle.kalah_jobs.specs.Limits.{most_file_bytes};
 
@@ -55,27 +55,6 @@ pub(crate) fn read_limited<F: Read>(
     Err(ReadFault::TooLong)
 }
 
-// Reads the file of this name.
-fn read_file<'a, R: Files>(rt: &R, alloc: Global, name: &'a str) -> Result<FileText, Failure<'a>>
-    ensures named { IfOk result (λ file. file.name ≡ name.now) }
-    ensures within { IfOk result (λ file. length file.bytes ≤ most_file_bytes) }
-    ensures not_written { IfErr result (λ failure. failure ≢ Failure.Write) }
-    ensures not_line_feed { IfErr result (λ failure. failure ≢ Failure.LineFeed) }
-{
-    let Ok(mut file) = fs::open(rt, name) else {
-        return Err(Failure::Unreadable(name));
-    };
-    let bytes = match read_limited(alloc, &mut file, MOST_FILE_BYTES) {
-        Ok(bytes) => bytes,
-        Err(ReadFault::OutOfMemory) => return Err(Failure::OutOfMemory),
-        Err(_) => return Err(Failure::Unreadable(name)),
-    };
-    match String::from_str(alloc, name) {
-        Ok(name) => Ok(FileText { name, bytes }),
-        Err(_) => Err(Failure::OutOfMemory),
-    }
-}
-
 /// Reads the files of these names, in order, up to the first that can't be read.
 pub(crate) fn read_files<'a, R: Files>(
     rt: &R,
@@ -84,13 +63,24 @@ pub(crate) fn read_files<'a, R: Files>(
 ) -> Result<Vec<FileText>, Failure<'a>>
     ensures named { IfOk result
         (λ files. map (λ file. file.name) files.items ≡ map (λ name. name.now) names.now) }
+    ensures within { IfOk result (λ files. All (λ file. length file.bytes ≤ most_file_bytes) files.items) }
     ensures not_written { IfErr result (λ failure. failure ≢ Failure.Write) }
     ensures not_line_feed { IfErr result (λ failure. failure ≢ Failure.LineFeed) }
 {
     let mut files = Vec::new(alloc);
     for name in names {
-        let file = read_file(rt, alloc, *name)?;
-        if files.push(file).is_err() {
+        let Ok(mut file) = fs::open(rt, *name) else {
+            return Err(Failure::Unreadable(*name));
+        };
+        let bytes = match read_limited(alloc, &mut file, MOST_FILE_BYTES) {
+            Ok(bytes) => bytes,
+            Err(ReadFault::OutOfMemory) => return Err(Failure::OutOfMemory),
+            Err(_) => return Err(Failure::Unreadable(*name)),
+        };
+        let Ok(name) = String::from_str(alloc, *name) else {
+            return Err(Failure::OutOfMemory);
+        };
+        if files.push(FileText { name, bytes }).is_err() {
             return Err(Failure::OutOfMemory);
         }
     }
