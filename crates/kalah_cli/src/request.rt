@@ -134,23 +134,16 @@ fn question_of(values: bool) -> Question
     }
 }
 
-// Returns the name of the subcommand that was met, and its matches.
-fn subcommand_of<'m, 'a>(matches: &'m ArgMatches<'a>) -> (&'a str, &'m ArgMatches<'a>)
-    requires { IsTaken (subcommand_rows_of matches.now) }
-    ensures rows { subcommand_rows_of matches.now ≡ Some (result.0.now, rows_of (found_of result.1.now)) }
-    ensures taken { AreMatches result.0.now (rows_of (found_of result.1.now)) }
-{
-    matches.subcommand().unwrap()
-}
-
-// Returns the request of the matches of a subcommand, which must have what it needs.
-fn requested<'a>(alloc: Global, matches: &ArgMatches<'a>) -> Result<Request<'a>, AllocError>
-    requires { IsTaken (subcommand_rows_of matches.now) }
-    ensures asked { IfOk result
-        (λ r. option_and_then asked_by (subcommand_rows_of matches.now) ≡ Some (asked_for r)) }
+// Returns the request of the matches of the subcommand of this name.
+fn requested<'a>(
+    alloc: Global,
+    name: &str,
+    found: &ArgMatches<'a>,
+) -> Result<Request<'a>, AllocError>
+    requires { AreMatches name.now (rows_of (found_of found.now)) }
+    ensures asked { IfOk result (λ r. asked_by (name.now, rows_of (found_of found.now)) ≡ Some (asked_for r)) }
     ensures range { IfOk result IsInRange }
 {
-    let (name, found) = subcommand_of(matches);
     match name {
         "moves" => Ok(Request::Moves {
             line: line_of(found),
@@ -204,7 +197,8 @@ pub(crate) fn parse<'a, S: AsStr>(alloc: Global, words: &'a [S]) -> Result<Reque
         → MatchResult result (λ r. asked_for r ≡ answers question 4 (table_of question) false (file ∷ files)) (λ e. kind_of e ≡ OutOfMemory) }
 {
     let matches = command(alloc)?.try_get_matches_from(words)?;
-    Ok(requested(alloc, &matches)?)
+    let (name, found) = matches.subcommand().unwrap();
+    Ok(requested(alloc, name, found)?)
 }
 
 #[cfg(test)]

@@ -1,4 +1,4 @@
-use Rattle.std.proofs.Common.{◌≡◌, map, subst, sym}
+use Rattle.std.proofs.Common.{◌≡◌, map, rules, subst, sym}
 use Rattle.clap.specs.Faults.{fault_of}
 use Rattle.clap.specs.Kinds.{HasKind}
 use Rattle.clap.specs.declared.error.Error.{Error}
@@ -12,17 +12,26 @@ use Rattle.kalah_cli.proofs.ManyWords.{files_taken}
 use Rattle.kalah_cli.proofs.request.parse.Given.{Over}
 use Rattle.kalah_cli.proofs.request.parse.Goals as goal
 
+pub unwrap-requires : goal.unwrap-requires
+unwrap-requires g c =
+    let words = map g.S.AsStr.text c.args.words.now in
+    let read = parsed _ words _ c.in_ok-command.ensures c.in_ok-matches.ensures.kinds (λ simple. (c.in_ok-matches.ensures.matches simple).1) in
+    let taken = is_taken words _ read.0 read.1 in
+    search rules
+
 pub requested-requires : goal.requested-requires
 requested-requires g c =
     let words = map g.S.AsStr.text c.args.words.now in
     let read = parsed _ words _ c.in_ok-command.ensures c.in_ok-matches.ensures.kinds (λ simple. (c.in_ok-matches.ensures.matches simple).1) in
-    is_taken words _ read.0 read.1
+    let taken = is_taken words _ read.0 read.1 in
+    search rules
 
 pub returns-clause-taken : goal.returns-clause-taken
 returns-clause-taken g c =
     let words = map g.S.AsStr.text c.args.words.now in
     let read = parsed _ words _ c.in_ok-command.ensures c.in_ok-matches.ensures.kinds (λ simple. (c.in_ok-matches.ensures.matches simple).1) in
-    (read.0, asked_is words _ _ read.1 c.in_ok-requested.ensures.asked)
+    let taken = is_taken words _ read.0 read.1 in
+    (read.0, asked_is words _ _ read.1 (search rules))
 
 pub returns-clause-kinds : goal.returns-clause-kinds
 returns-clause-kinds g c = (returns-clause-taken g c).0

@@ -8,51 +8,51 @@ use Rattle.kalah_cli.proofs.Subcommands.{given, has_flag, has_number, may_have_n
 use Rattle.kalah_cli.proofs.request.requested.Goals as goal
 
 pub line_of-requires : goal.line_of-requires
-line_of-requires c = ap is_some (given (codes "line") (rw c.in-moves.is at c.subcommand_of.ensures.taken) refl refl).first
+line_of-requires c = ap is_some (given (codes "line") (rw c.in-moves.is at c.requires) refl refl).first
 
 pub is_set-requires : goal.is_set-requires
-is_set-requires c = has_flag (codes "boards") (rw c.in-moves.is at c.subcommand_of.ensures.taken) refl refl
+is_set-requires c = has_flag (codes "boards") (rw c.in-moves.is at c.requires) refl refl
 
 pub line_of-requires-in-play : goal.line_of-requires-in-play
-line_of-requires-in-play c = ap is_some (given (codes "line") (rw c.in-play.is at c.subcommand_of.ensures.taken) refl refl).first
+line_of-requires-in-play c = ap is_some (given (codes "line") (rw c.in-play.is at c.requires) refl refl).first
 
 pub number_of-requires : goal.number_of-requires
-number_of-requires c = has_number (codes "table") 1 most_entries (rw c.in-play.is at c.subcommand_of.ensures.taken) refl refl (omega arith) (omega arith) refl
+number_of-requires c = has_number (codes "table") 1 most_entries (rw c.in-play.is at c.requires) refl refl (omega arith) (omega arith) refl
 
 pub is_set-requires-in-play : goal.is_set-requires-in-play
-is_set-requires-in-play c = has_flag (codes "boards") (rw c.in-play.is at c.subcommand_of.ensures.taken) refl refl
+is_set-requires-in-play c = has_flag (codes "boards") (rw c.in-play.is at c.requires) refl refl
 
 pub given_byte-requires : goal.given_byte-requires
-given_byte-requires c = may_have_number (codes "first") 0 255 (rw c.in-play.is at c.subcommand_of.ensures.taken) refl refl (omega arith) (omega arith)
+given_byte-requires c = may_have_number (codes "first") 0 255 (rw c.in-play.is at c.requires) refl refl (omega arith) (omega arith)
 
 pub is_set-requires-in-ask : goal.is_set-requires-in-ask
-is_set-requires-in-ask c = has_flag (codes "values") (rw c.in-ask.is at c.subcommand_of.ensures.taken) refl refl
+is_set-requires-in-ask c = has_flag (codes "values") (rw c.in-ask.is at c.requires) refl refl
 
 pub number_of-requires-in-ask : goal.number_of-requires-in-ask
 number_of-requires-in-ask c =
-    has_number (codes "table") 1 most_entries (rw c.in-ask.is at c.subcommand_of.ensures.taken) refl refl (omega arith) (omega arith) refl
+    has_number (codes "table") 1 most_entries (rw c.in-ask.is at c.requires) refl refl (omega arith) (omega arith) refl
 
 pub line_of-requires-in-show : goal.line_of-requires-in-show
-line_of-requires-in-show c = ap is_some (given (codes "line") (rw c.in-show.is at c.subcommand_of.ensures.taken) refl refl).first
+line_of-requires-in-show c = ap is_some (given (codes "line") (rw c.in-show.is at c.requires) refl refl).first
 
 pub number_of-requires-in-show : goal.number_of-requires-in-show
 number_of-requires-in-show c =
-    has_number (codes "table") 1 most_entries (rw c.in-show.is at c.subcommand_of.ensures.taken) refl refl (omega arith) (omega arith) refl
+    has_number (codes "table") 1 most_entries (rw c.in-show.is at c.requires) refl refl (omega arith) (omega arith) refl
 
 pub is_set-requires-in-show : goal.is_set-requires-in-show
-is_set-requires-in-show c = has_flag (codes "plain") (rw c.in-show.is at c.subcommand_of.ensures.taken) refl refl
+is_set-requires-in-show c = has_flag (codes "plain") (rw c.in-show.is at c.requires) refl refl
 
 pub given_byte-requires-in-count : goal.given_byte-requires-in-count
-given_byte-requires-in-count c = may_have_number (codes "depth") 0 255 (rw c.in-count.is at c.subcommand_of.ensures.taken) refl refl (omega arith) (omega arith)
+given_byte-requires-in-count c = may_have_number (codes "depth") 0 255 (rw c.in-count.is at c.requires) refl refl (omega arith) (omega arith)
 
 pub unwrap-requires : goal.unwrap-requires
 unwrap-requires c = ap is_some c.given_byte-in-count.ensures
-    ∙ (has_number (codes "depth") 0 most_depth (rw c.in-count.is at c.subcommand_of.ensures.taken) refl refl (omega arith) (omega arith) refl).1
+    ∙ (has_number (codes "depth") 0 most_depth (rw c.in-count.is at c.requires) refl refl (omega arith) (omega arith) refl).1
 
 pub line_of-requires-in-count : goal.line_of-requires-in-count
-line_of-requires-in-count c = ap is_some (given (codes "line") (rw c.in-count.is at c.subcommand_of.ensures.taken) refl refl).first
+line_of-requires-in-count c = ap is_some (given (codes "line") (rw c.in-count.is at c.requires) refl refl).first
 
 pub returns-in-count-clause-range : goal.returns-in-count-clause-range
-returns-in-count-clause-range c = (number_in_range (codes "depth") 0 most_depth (rows_of (found_of c.subcommand_of.result.1.now)) c.unwrap.result
-    (may_have_number (codes "depth") 0 most_depth (rw c.in-count.is at c.subcommand_of.ensures.taken) refl refl (omega arith) (omega arith))
+returns-in-count-clause-range c = (number_in_range (codes "depth") 0 most_depth (rows_of (found_of c.args.found.now)) c.unwrap.result
+    (may_have_number (codes "depth") 0 most_depth (rw c.in-count.is at c.requires) refl refl (omega arith) (omega arith))
     (sym c.given_byte-in-count.ensures ∙ c.unwrap.ensures)).1
