@@ -156,11 +156,7 @@ impl ResultsQueue {
             }
             *tries -= 1;
             if backoff.is_completed() {
-                // A microsecond or two, without a yield: on a busy machine the other threads then run for some milliseconds.
-                let pause = Backoff::new();
-                for _ in 0..5 {
-                    pause.spin();
-                }
+                spin_shortly();
             } else {
                 backoff.snooze();
             }
@@ -219,5 +215,13 @@ impl ClosedQueue {
         ensures { result ≡ self.now.left }
     {
         self.left
+    }
+}
+
+// Pauses for a microsecond or two. It never yields: on a busy machine the other threads then run for some milliseconds.
+fn spin_shortly() {
+    let backoff = Backoff::new();
+    for _ in 0..5 {
+        backoff.spin();
     }
 }
