@@ -12,7 +12,7 @@ use Rattle.kalah_jobs.specs.declared.files.question.Question.{Question}
 use Rattle.kalah_jobs.specs.declared.files.question.Question.TheVariants.{BestMove, Values, Steps}
 use Rattle.kalah_jobs.specs.declared.files.entry.Entry.{Entry}
 use Rattle.kalah_jobs.specs.declared.files.entry.Entry.TheVariants.{Position, ValuesOf, StepsOf, Bad}
-use Rattle.kalah_jobs.specs.Writing.Answer.{answer_of, is_fault}
+use Rattle.kalah_jobs.specs.Writing.Answer.{answer_of, is_fault, is_faulty_entry}
 use Rattle.kalah_jobs.specs.Files.JobList.{line_job, file_jobs, jobs_from, job_list}
 use Rattle.kalah_jobs.specs.Writing.Output.{is_faulty_job}
 use Rattle.kalah_jobs.proofs.FilesLemmas.JobCounts.{all_entries}
@@ -54,10 +54,6 @@ bad_if_asked Steps (Bad fault) = refl
 -- what is asked of a position makes no fault of it
 pub asked_fault : (question : Question) (entry : Entry) → is_fault (answer_of (entry_asked question entry)) ≡ is_fault (answer_of entry)
 asked_fault question entry = bad_is_fault (entry_asked question entry) ∙ bad_if_asked question entry ∙ sym (bad_is_fault entry)
-
--- the entry is answered by a fault
-abbrev pub is_faulty_entry : Entry → Bool
-is_faulty_entry entry = is_fault (answer_of entry)
 
 faulty_in_file : (f k : ℕ) (own : List Entry) → count_by is_faulty_job (file_jobs f k own) ≡ count_by is_faulty_entry own
 faulty_in_file f k [] = refl

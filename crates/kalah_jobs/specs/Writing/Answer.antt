@@ -44,6 +44,10 @@ is_fault (Values values) = false
 is_fault (Steps p) = false
 is_fault (Fault fault) = true
 
+-- the line with this entry is answered by a fault
+abbrev pub is_faulty_entry : Entry → Bool
+is_faulty_entry entry = is_fault (answer_of entry)
+
 -- `H:V`
 abbrev pub value_words : MoveValue → List ℕ
 value_words v = decimal v.house ++ (codes ":" ++ signed_decimal v.value)

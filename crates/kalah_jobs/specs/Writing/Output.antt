@@ -6,7 +6,7 @@ use Rattle.kalah_jobs.specs.declared.writing.answer.Taken.{Taken}
 use Rattle.kalah_jobs.specs.Files.NamedBytes.{NamedBytes}
 use Rattle.kalah_jobs.specs.Files.Lines.{line_feed, lines_of}
 use Rattle.kalah_jobs.specs.Files.Entry.{entry_of}
-use Rattle.kalah_jobs.specs.Writing.Answer.{answer_of, is_fault, answer_line}
+use Rattle.kalah_jobs.specs.Writing.Answer.{answer_of, is_faulty_entry, answer_line}
 use Rattle.kalah_jobs.specs.declared.files.job.Job.{Job}
 use Rattle.kalah_jobs.specs.Files.JobList.{job_list}
 use Rattle.kalah_jobs.specs.Files.Question.{entry_to}
@@ -44,7 +44,7 @@ steps_output_of files = output_to Steps files
 
 -- the line is answered by a fault, to any question
 abbrev pub is_faulty : List ℕ → Bool
-is_faulty line = is_fault (answer_of (entry_of line))
+is_faulty line = is_faulty_entry (entry_of line)
 
 -- the number of lines answered, and the number of faults among them
 pub record LineCounts : Type 0 where
@@ -85,7 +85,7 @@ names_of files = map (λ file. file.name) files
 
 -- the offer is answered by a fault
 abbrev pub is_faulty_job : Job → Bool
-is_faulty_job o = is_fault (answer_of o.entry)
+is_faulty_job o = is_faulty_entry o.entry
 
 -- what is stated of files and what is stated of their jobs is the same, for each question
 pub record FilesAreTheirJobs : Type 0 where

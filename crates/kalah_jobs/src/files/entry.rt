@@ -1,7 +1,7 @@
 //! The content of a line of a file, and what is asked of it.
 ghost use Rattle.std.specs.Prelude.{◌≡◌};
 ghost use Rattle.kalah_jobs.specs.Files.Question.{entry_asked, entry_to};
-ghost use Rattle.kalah_jobs.specs.Writing.Answer.{answer_of, is_fault};
+ghost use Rattle.kalah_jobs.specs.Writing.Answer.{is_faulty_entry};
 
 use crate::files::question::Question;
 use crate::line::line_fault::LineFault;
@@ -45,10 +45,11 @@ impl Entry {
             Err(fault) => Entry::Bad(fault),
         }
     }
+
     // Returns whether the line is not read, so that it is answered by its fault.
     #[tactic(auto, using(crate::proofs::FilesLemmas::Faults::bad_is_fault))]
     pub(crate) fn is_bad(&self) -> bool
-        ensures { result ≡ is_fault (answer_of self.now) }
+        ensures { result ≡ is_faulty_entry self.now }
     {
         match self {
             Entry::Position(_) | Entry::ValuesOf(_) | Entry::StepsOf(_) => false,

@@ -1,10 +1,11 @@
 //! The jobs of a batch: the lines of its files.
-ghost use Rattle.std.specs.Prelude.{◌≡◌, ◌<◌, ◌≤◌, ◌↔◌, ◌++◌, length, count_by, IfNone, IfOk, IfSome, OnOk, slice_get, slice_index, ℕ, Some, Err};
+ghost use Rattle.std.specs.Prelude.{◌≡◌, ◌<◌, ◌≤◌, ◌↔◌, ◌++◌, ◌+◌, length, count_by, IfNone, IfOk, IfSome, OnOk, slice_get, slice_index, ℕ, Some, Err};
 ghost use Rattle.std.specs.List.Sorted.{IsNonDecreasing};
 ghost use Rattle.kalah_jobs.specs.Files.JobList.{entries_of, line_job, job_list};
 ghost use Rattle.kalah_jobs.specs.Files.Lines.{lines_of};
 ghost use Rattle.kalah_jobs.specs.Limits.{most_files, most_lines};
 ghost use Rattle.kalah_jobs.specs.Files.Jobs.{entries_to, lines_in_all, jobs_of, jobs_to, job_count};
+ghost use Rattle.kalah_jobs.specs.Writing.Answer.{is_faulty_entry};
 ghost use Rattle.kalah_jobs.specs.Writing.Output.{is_faulty_job};
 
 use crate::files::entry::Entry;
@@ -50,21 +51,25 @@ pub struct Jobs {
     entries: Vec<Entry>,
     // For each file the number of its first job, and then the number of all jobs.
     offsets: Vec<u32>,
+    // How many jobs are answered by a fault.
+    faults: u32,
 }
 
 impl Model for Jobs {
-    ghost use Rattle.std.specs.Prelude.{List};
+    ghost use Rattle.std.specs.Prelude.{◌≡◌, List, count_by};
     ghost use Rattle.kalah_jobs.specs.declared.files.entry.Entry.{Entry};
 
     ghost Value = { List (List Entry) };
 
     ghost use Rattle.kalah_jobs.specs.Files.JobList.{by_file};
     ghost use Rattle.kalah_jobs.specs.Files.Jobs.{AreCounted, AreFew};
+    ghost use Rattle.kalah_jobs.specs.Writing.Answer.{is_faulty_entry};
 
     ghost view = { λ j. by_file j.offsets.items j.entries.items };
 
-    ghost invariant = { λ j. AreFew (by_file j.offsets.items j.entries.items)
-        × AreCounted (by_file j.offsets.items j.entries.items) j.offsets.items j.entries.items };
+    ghost invariant = { λ j. (AreFew (by_file j.offsets.items j.entries.items)
+        × AreCounted (by_file j.offsets.items j.entries.items) j.offsets.items j.entries.items)
+        × (j.faults ≡ count_by is_faulty_entry j.entries.items) };
 }
 
 impl Jobs {
@@ -97,11 +102,16 @@ impl Jobs {
         let mut entries = Vec::with_capacity(alloc, lines)?;
         let mut offsets = Vec::with_capacity(alloc, files.len() + 1)?;
         offsets.push_reserved(0);
+        let mut faults = 0;
         for file in files {
-            read_entries(question, &file.bytes, &mut entries)?;
+            faults += read_entries(question, &file.bytes, &mut entries)?;
             offsets.push_reserved(entries.len() as u32);
         }
-        Ok(Jobs { entries, offsets })
+        Ok(Jobs {
+            entries,
+            offsets,
+            faults: faults as u32,
+        })
     }
 
     /// Returns the number of jobs, at most 1,000,000: the lines of all files.
@@ -168,13 +178,7 @@ impl Jobs {
     pub fn faults(&self) -> u32
         ensures { result ≡ count_by is_faulty_job (job_list self.now) }
     {
-        let mut faults = 0;
-        for entry in &self.entries {
-            if entry.is_bad() {
-                faults += 1;
-            }
-        }
-        faults
+        self.faults
     }
 }
 
@@ -194,21 +198,27 @@ fn few_lines(files: &[FileText]) -> Option<usize>
     Some(MOST_LINES - room)
 }
 
-// Appends the entries of the lines of some bytes, with this question.
+// Appends the entries of the lines of some bytes, with this question. Returns how many of these lines are answered by a fault.
 fn read_entries(
     question: Question,
     bytes: &[u8],
     entries: &mut Vec<Entry>,
-) -> Result<(), AllocError>
-    ensures { OnOk result (entries.new.items ≡ entries.old.items ++ entries_to question bytes.now) }
+) -> Result<usize, AllocError>
+    ensures read { OnOk result (entries.new.items ≡ entries.old.items ++ entries_to question bytes.now) }
+    ensures faults { IfOk result (λ faults. count_by is_faulty_entry entries.new.items
+        ≡ count_by is_faulty_entry entries.old.items + faults) }
 {
+    let mut faults = 0;
     let mut rest = bytes;
     while !rest.is_empty() {
         let (entry, after) = first_entry(question, rest);
+        if entry.is_bad() {
+            faults += 1;
+        }
         entries.push(entry)?;
         rest = after;
     }
-    Ok(())
+    Ok(faults)
 }
 
 #[cfg(test)]

@@ -1,11 +1,15 @@
-use Rattle.std.proofs.Common.{◌≡◌, ◌++◌, length, map}
+use Rattle.std.proofs.Common.{◌≡◌, ◌+◌, ◌++◌, length, map, count_by}
 use Rattle.kalah_jobs.specs.Files.Lines.{lines_of}
 use Rattle.kalah_jobs.specs.Files.Question.{entry_to}
+use Rattle.kalah_jobs.specs.Writing.Answer.{is_faulty_entry}
 use Rattle.kalah_jobs.proofs.files.jobs.read_entries.Given as goal
 
 abbrev pub invariant-loop-rest : goal.invariant-loop-rest
-invariant-loop-rest l =
-    l.entries.items ++ map (entry_to l.question) (lines_of l.rest) ≡ l.fn.entries.items ++ map (entry_to l.question) (lines_of l.fn.bytes)
+invariant-loop-rest l = record {
+  read : l.entries.items ++ map (entry_to l.question) (lines_of l.rest)
+      ≡ l.fn.entries.items ++ map (entry_to l.question) (lines_of l.fn.bytes);
+  faults : count_by is_faulty_entry l.entries.items ≡ count_by is_faulty_entry l.fn.entries.items + l.faults;
+}
 
 abbrev pub decreases-loop-rest : goal.decreases-loop-rest
 decreases-loop-rest l = length l.rest

@@ -1,7 +1,9 @@
 use Rattle.std.proofs.Common.{◌∙◌, ◌+◌, [], ◌∷◌, ◌++◌, take, rules, ap, sym, subst, length, arith}
 use Rattle.std.proofs.lemmas.List.{take_all}
+use Rattle.std.proofs.lemmas.List.Sums.{count_by-le-length}
 use Rattle.kalah_jobs.specs.Files.NamedBytes.{NamedBytes}
 use Rattle.kalah_jobs.specs.Files.Jobs.{AreCounted, AreFew, entries_to, jobs_to}
+use Rattle.kalah_jobs.specs.Writing.Answer.{is_faulty_entry}
 use Rattle.kalah_jobs.proofs.FilesLemmas.JobCounts.{all_counted, by_file_is, counted_low, counted_none, few_jobs, read_more}
 use Rattle.kalah_jobs.proofs.files.jobs.Jobs.asking.Goals as goal
 use Rattle.kalah_jobs.proofs.files.jobs.Jobs.asking.Goals.{After-len}
@@ -14,9 +16,9 @@ counted c =
     let read = ap (entries_to c.args.question) (c.deref.ensures.value ∙ ap (λ (f : NamedBytes). f.bytes) c.file.view_is) in
     let jobs = jobs_to c.args.question (take (c.loop-file.file-index + 1) c.args.files.now) in
     subst (λ entries. AreCounted jobs (c.loop-file.offsets.items ++ c.len.result ∷ []) entries)
-    (sym c.in_ok-read_entries.ensures)
+    (sym c.in_ok-faults.ensures.read)
     (read_more c.args.question c.args.files.now c.loop-file.file-index c.loop-file.offsets.items c.loop-file.entries.items own c.file-item.result c.len.result
-    c.loop-file.invariant.counted c.loop-file-test.true c.file-item.is read (omega (arith, c.len.ensures, ap length c.in_ok-read_entries.ensures)))
+    c.loop-file.invariant.counted c.loop-file-test.true c.file-item.is read (omega (arith, c.len.ensures, ap length c.in_ok-faults.ensures.read)))
 
 pub overflow_cast-len : goal.overflow_cast-len
 overflow_cast-len c =
@@ -29,15 +31,28 @@ overflow_cast-len c =
       c.in-Some.ensures.some,
     )
 
+pub overflow_cast-result : goal.overflow_cast-result
+overflow_cast-result c =
+    omega (
+      arith,
+      c.loop-file.invariant.faults,
+      count_by-le-length is_faulty_entry c.loop-file.entries.items,
+      all_counted (jobs_to c.args.question (take c.loop-file.file-index c.args.files.now)) _ _ c.loop-file.invariant.counted,
+      counted_low c.args.question c.args.files.now c.loop-file.file-index,
+      c.in-Some.ensures.some,
+    )
+
 pub loop-file-init : goal.loop-file-init
 loop-file-init c = record {
   counted = rw (c.push_reserved.ensures.items, c.in_ok-offsets.ensures.items, c.in_ok-entries.ensures.items) counted_none;
+  faults = search rules;
   room = search rules;
 }
 
 pub loop-file-preserved : goal.loop-file-preserved
 loop-file-preserved c = record {
   counted = rw (c.push_reserved-in-loop-file.ensures.items) (counted (goal.at.loop-file-preserved c).After-len);
+  faults = search rules;
   room = search rules;
 }
 
@@ -49,8 +64,7 @@ returns-clause-value c =
 pub invariant_of-result : goal.invariant_of-result
 invariant_of-result c =
     let all = ap (jobs_to c.args.question) (take_all c.loop-file.file-index c.args.files.now (omega (arith, c.loop-file-test.false))) in
-    let are = by_file_is (jobs_to c.args.question (take c.loop-file.file-index c.args.files.now)) _ _ c.loop-file.invariant.counted in (
-      subst AreFew (sym (are ∙ all))
-          (few_jobs c.args.question c.args.files.now (omega (arith, c.if-files-gt-MOST_FILES.false)) (omega (arith, c.in-Some.ensures.some))),
-      subst (λ jobs. AreCounted jobs c.loop-file.offsets.items c.loop-file.entries.items) (sym are) c.loop-file.invariant.counted,
-    )
+    let are = by_file_is (jobs_to c.args.question (take c.loop-file.file-index c.args.files.now)) _ _ c.loop-file.invariant.counted in
+    let few = few_jobs c.args.question c.args.files.now (omega (arith, c.if-files-gt-MOST_FILES.false)) (omega (arith, c.in-Some.ensures.some)) in
+    let counted = subst (λ jobs. AreCounted jobs c.loop-file.offsets.items c.loop-file.entries.items) (sym are) c.loop-file.invariant.counted in
+    ((subst AreFew (sym (are ∙ all)) few, counted), c.loop-file.invariant.faults)

@@ -8,7 +8,7 @@ use Rattle.kalah_jobs.proofs.files.jobs.Jobs.find.Goals.{After-partition_point-f
 use Rattle.kalah_jobs.proofs.files.jobs.Jobs.find.Goals as goal
 
 counted : (c : After-partition_point-file) → AreCounted c.args.self.now c.self.inside.offsets.items c.self.inside.entries.items
-counted c = (stored c.args.self.now _ _ c.self.invariant c.self.view_is).1
+counted c = (stored c.args.self.now _ _ c.self.invariant.0 c.self.view_is).1
 
 -- the offsets before the point are at most n, and the others are not
 parted : (c : After-partition_point-file) → AreStarted c.self.inside.offsets.items c.args.n c.partition_point-file.result

@@ -9,14 +9,14 @@ use Rattle.kalah_jobs.proofs.files.jobs.Jobs.lines.Goals.{After-index-2}
 first : (c : After-index-2) → c.index-2.result.now ≡ job_count (take c.args.f c.args.self.now)
 first c =
     c.index-2.ensures
-    ∙ offset_is c.args.self.now _ _ c.args.f c.index-2.result.now (stored c.args.self.now _ _ c.self.invariant c.self.view_is).1
+    ∙ offset_is c.args.self.now _ _ c.args.f c.index-2.result.now (stored c.args.self.now _ _ c.self.invariant.0 c.self.view_is).1
     (omega (arith, c.requires))
 
 -- and that of the file after it
 next : (c : After-index-2) → c.index.result.now ≡ job_count (take (c.args.f + 1) c.args.self.now)
 next c =
     c.index.ensures
-    ∙ offset_is c.args.self.now _ _ (c.args.f + 1) c.index.result.now (stored c.args.self.now _ _ c.self.invariant c.self.view_is).1
+    ∙ offset_is c.args.self.now _ _ (c.args.f + 1) c.index.result.now (stored c.args.self.now _ _ c.self.invariant.0 c.self.view_is).1
     (omega (arith, c.requires))
 
 pub overflow_sub-result : goal.overflow_sub-result
@@ -32,7 +32,7 @@ returns-clause-is c =
 pub returns-clause-low : goal.returns-clause-low
 returns-clause-low c =
     let at = (goal.at.returns-clause-low c).After-index-2 in
-    let known = stored c.args.self.now _ _ c.self.invariant c.self.view_is in
+    let known = stored c.args.self.now _ _ c.self.invariant.0 c.self.view_is in
     omega (
       arith,
       next at,
