@@ -23,19 +23,19 @@ kalah_is_simple : is_simple kalah_app ≡ true
 unfolding clap_on_literals
 kalah_is_simple = refl
 
--- if it succeeds, the arguments have no fault, and the matches are theirs
-pub parsed : (a : App) (words : List Text) (o : Option (Text × List Row)) → a ≡ kalah_app → (is_simple_and_free a ≡ true → fault_of a words ≡ [])
-    → (is_simple a ≡ true → o ≡ subcommand_of a words) → (fault_of kalah_app words ≡ []) × (o ≡ subcommand_of kalah_app words)
-parsed a words o is none rows = (
-  subst (λ b. fault_of b words ≡ []) is (none (ap is_simple_and_free is ∙ app_is_simple)),
-  rows (ap is_simple is ∙ kalah_is_simple) ∙ ap (λ b. subcommand_of b words) is,
-)
+-- what is known of a parse that succeeds: the arguments have no fault, the matches are theirs, and a subcommand was met
+pub record IsParsed (words : List Text) (o : Option (Text × List Row)) : Type 0 where
+  pub none : fault_of kalah_app words ≡ []
+  pub same : o ≡ subcommand_of kalah_app words
+  pub taken : IsTaken o
 
--- so a subcommand was met
-pub is_taken : (words : List Text) (o : Option (Text × List Row)) → fault_of kalah_app words ≡ [] → o ≡ subcommand_of kalah_app words → IsTaken o
-is_taken words o none same =
+pub parsed : (a : App) (words : List Text) (o : Option (Text × List Row)) → a ≡ kalah_app → (is_simple_and_free a ≡ true → fault_of a words ≡ [])
+    → (is_simple a ≡ true → o ≡ subcommand_of a words) → IsParsed words o
+parsed a words o is none rows =
+    let none : fault_of kalah_app words ≡ [] = subst (λ b. fault_of b words ≡ []) is (none (ap is_simple_and_free is ∙ app_is_simple)) in
+    let same : o ≡ subcommand_of kalah_app words = rows (ap is_simple is ∙ kalah_is_simple) ∙ ap (λ b. subcommand_of b words) is in
     let met = taken_has kalah_app words usable refl none in
-    (met.0, met.1, same ∙ met.2, (words, none, met.2))
+    record { none = none; same = same; taken = (met.0, met.1, same ∙ met.2, (words, none, met.2)) }
 
 -- and what its matches ask for is what the arguments ask for
 pub asked_is : (words : List Text) (o : Option (Text × List Row)) (a : Asked) → o ≡ subcommand_of kalah_app words → option_and_then asked_by o ≡ Some a

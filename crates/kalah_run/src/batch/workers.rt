@@ -1,6 +1,5 @@
 //! The workers of a batch, with their desk and queue.
 ghost use Rattle.std.specs.Prelude.{◌≡◌, ◌≤◌, [], length, vec_len, vec_capacity, IfOk};
-ghost use Rattle.kalah_solve.specs.Table.Entries.{empty_table};
 ghost use Rattle.kalah_run.specs.Batch.AtWork.{passes_of, puts_of};
 ghost use Rattle.kalah_run.specs.Batch.Workers.{AreReady, HaveTables};
 
@@ -18,17 +17,8 @@ use std::alloc::{AllocError, Global};
 /// The most outcomes that may be on their way to the calling thread.
 pub(crate) const QUEUE_CAPACITY: u32 = 256;
 
-// Makes a solver for one more worker. All share what they learn of endings.
-fn new_solver(alloc: Global, workers: &[Worker], size: BatchSize) -> Result<Solver, AllocError>
-    ensures { IfOk result (λ solver. solver.search.table ≡ empty_table size.table) }
-{
-    match workers.last() {
-        Some(worker) => worker.solver.sharing_endings(alloc, size.table),
-        None => Ok(Solver::new(Table::new(alloc, size.table)?)),
-    }
-}
-
-// Makes a worker for each pair of passes, in their order, each with a solver of its own.
+// Makes a worker for each pair of passes, in their order, each with a solver and a table of its own. All share what they learn of
+// endings.
 fn put_together(
     alloc: Global,
     passes: Vec<Pass>,
@@ -40,13 +30,16 @@ fn put_together(
     ensures puts { IfOk result (λ workers. puts_of workers.items ≡ puts.items) }
     ensures tables { IfOk result (λ workers. HaveTables size.table workers.items) }
 {
-    let mut workers = Vec::with_capacity(alloc, passes.len())?;
+    let mut workers: Vec<Worker> = Vec::with_capacity(alloc, passes.len())?;
     let mut puts = puts.into_iter();
     for pass in passes {
         let Some(put) = puts.next() else {
             unreachable!()
         };
-        let solver = new_solver(alloc, &workers, size)?;
+        let solver = match workers.last() {
+            Some(worker) => worker.solver.sharing_endings(alloc, size.table)?,
+            None => Solver::new(Table::new(alloc, size.table)?),
+        };
         workers.push(Worker {
             pass,
             put,

@@ -7,7 +7,7 @@ use Rattle.clap.specs.declared.error.kind.ErrorKind.TheVariants.{OutOfMemory}
 use Rattle.kalah_cli.specs.Command.{kalah_app}
 use Rattle.kalah_cli.specs.Request.{Asked, IsTakenAs}
 use Rattle.kalah_cli.proofs.Laws.{moves_taken, taken_at, taken_once}
-use Rattle.kalah_cli.proofs.Parsed.{asked_is, by_memory_alone, faulty, if_error, is_taken, on_error, parsed}
+use Rattle.kalah_cli.proofs.Parsed.{asked_is, by_memory_alone, faulty, if_error, on_error, parsed}
 use Rattle.kalah_cli.proofs.ManyWords.{files_taken}
 use Rattle.kalah_cli.proofs.request.parse.Given.{Over}
 use Rattle.kalah_cli.proofs.request.parse.Goals as goal
@@ -16,22 +16,19 @@ pub unwrap-requires : goal.unwrap-requires
 unwrap-requires g c =
     let words = map g.S.AsStr.text c.args.words.now in
     let read = parsed _ words _ c.in_ok-command.ensures c.in_ok-matches.ensures.kinds (λ simple. (c.in_ok-matches.ensures.matches simple).1) in
-    let taken = is_taken words _ read.0 read.1 in
     search rules
 
 pub requested-requires : goal.requested-requires
 requested-requires g c =
     let words = map g.S.AsStr.text c.args.words.now in
     let read = parsed _ words _ c.in_ok-command.ensures c.in_ok-matches.ensures.kinds (λ simple. (c.in_ok-matches.ensures.matches simple).1) in
-    let taken = is_taken words _ read.0 read.1 in
     search rules
 
 pub returns-clause-taken : goal.returns-clause-taken
 returns-clause-taken g c =
     let words = map g.S.AsStr.text c.args.words.now in
     let read = parsed _ words _ c.in_ok-command.ensures c.in_ok-matches.ensures.kinds (λ simple. (c.in_ok-matches.ensures.matches simple).1) in
-    let taken = is_taken words _ read.0 read.1 in
-    (read.0, asked_is words _ _ read.1 (search rules))
+    (read.none, asked_is words _ _ read.same (search rules))
 
 pub returns-clause-kinds : goal.returns-clause-kinds
 returns-clause-kinds g c = (returns-clause-taken g c).0
