@@ -56,3 +56,6 @@ pub returns-in-count-clause-range : goal.returns-in-count-clause-range
 returns-in-count-clause-range c = (number_in_range (codes "depth") 0 most_depth (rows_of (found_of c.args.found.now)) c.unwrap.result
     (may_have_number (codes "depth") 0 most_depth (rw c.in-count.is at c.requires) refl refl (omega arith) (omega arith))
     (sym c.given_byte-in-count.ensures ∙ c.unwrap.ensures)).1
+
+pub returns-in-values-clause-asked : goal.returns-in-values-clause-asked
+returns-in-values-clause-asked c = rw c.in-values.is c.files_request-in-values.ensures.asked
