@@ -23,7 +23,7 @@ kalah_is_simple : is_simple kalah_app ≡ true
 unfolding clap_on_literals
 kalah_is_simple = refl
 
--- what is known of a parse that succeeds: the arguments have no fault, the matches are theirs, and a subcommand was met
+-- what is known of a parse that succeeds: the arguments have no fault, the matches are theirs, and they have a subcommand
 pub record IsParsed (words : List Text) (o : Option (Text × List Row)) : Type 0 where
   pub none : fault_of kalah_app words ≡ []
   pub same : o ≡ subcommand_of kalah_app words

@@ -83,9 +83,9 @@ output_of_jobs names jobs = text_of_jobs (answer_text_of names) jobs
 abbrev pub names_of : List NamedBytes → List (List ℕ)
 names_of files = map (λ file. file.name) files
 
--- the offer is answered by a fault
+-- the job is answered by a fault
 abbrev pub is_faulty_job : Job → Bool
-is_faulty_job o = is_faulty_entry o.entry
+is_faulty_job job = is_faulty_entry job.entry
 
 -- what is stated of files and what is stated of their jobs is the same, for each question
 pub record FilesAreTheirJobs : Type 0 where
