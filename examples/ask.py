@@ -1,16 +1,29 @@
 """Asks one run of kalah about positions one by one: each answer is there before the next position is known.
 
     python3 examples/ask.py LINE..
+
+It needs `kalah`, as examples/kalah.py says.
 """
 
-import subprocess
-import sys
+from kalah import Fault, Over, Solver
+from script import arguments, run
 
-with subprocess.Popen(["./kalah", "ask"], stdin=subprocess.PIPE, stdout=subprocess.PIPE, text=True, bufsize=1) as kalah:
 
-    def ask(line):
-        kalah.stdin.write(line + "\n")
-        return kalah.stdout.readline().rstrip()
+def said(solver, line):
+    """What is printed of a line."""
+    try:
+        answer = solver.ask(line)
+    except Fault as fault:
+        return str(fault)
+    return f"{answer.margin} over" if isinstance(answer, Over) else f"{answer.margin} house {answer.house}"
 
-    for position in sys.argv[1:]:
-        print(f"{position}: {ask(position)}")
+
+def main():
+    parser = arguments(__doc__)
+    parser.add_argument("line", nargs="+")
+    with Solver() as solver:
+        for line in parser.parse_args().line:
+            print(f"{line}: {said(solver, line)}")
+
+
+run(main)

@@ -1,0 +1,35 @@
+"""What the scripts of this folder share: their help is the text at their top, and they end without a traceback."""
+
+import argparse
+import os
+import signal
+import sys
+
+from kalah import Fault, Gone
+
+
+def arguments(text):
+    """Returns a parser of arguments whose help is this text."""
+    return argparse.ArgumentParser(description=text, formatter_class=argparse.RawDescriptionHelpFormatter)
+
+
+def run(main):
+    """Runs a script. Ctrl-C ends it, and so does a reader that has seen enough, as `head`. If it fails, standard error says why, and the
+    status is 1 for a line that is not a position and else 2."""
+    try:
+        main()
+        print(end="", flush=True)
+    except KeyboardInterrupt:
+        end_by(signal.SIGINT)
+    except BrokenPipeError:
+        end_by(signal.SIGPIPE)
+    except (Gone, OSError, ValueError) as why:
+        print(f"{os.path.basename(sys.argv[0])}: {why}", file=sys.stderr, flush=True)
+        # What is still in a buffer can't be written either.
+        os._exit(1 if isinstance(why, Fault) else 2)
+
+
+def end_by(number):
+    """Ends this process by a signal, as a program ends that doesn't handle it."""
+    signal.signal(number, signal.SIG_DFL)
+    signal.raise_signal(number)
