@@ -1,19 +1,111 @@
-// Asks one run of kalah about positions one by one; Node gives it a socket to read from.
+// Asks one run of kalah what each move is worth, position by position; Node gives it a socket to read from.
 //
 //     node examples/ask.js LINE..
+//
+// Other programs use the class `Solver`. A question gets its own answer or fails: an answer is taken only if it is whole and has the form
+// that docs/FORMAT.md gives it. If not, the run is ended, and the next question starts another. It needs `kalah`: the program that the
+// environment variable KALAH names, or on the path, or at the top of this repository.
 
-const { spawn } = require("node:child_process");
-const { createInterface } = require("node:readline");
+const { spawn, spawnSync } = require("node:child_process");
+const path = require("node:path");
 
-const kalah = spawn("./kalah", ["ask", "--values"]);
-const answers = createInterface({ input: kalah.stdout })[Symbol.asyncIterator]();
+const OLDEST = [1, 1, 0];
+const NUMBER = "(?:0|-?[1-9][0-9]{0,2})";
+const ANSWER = new RegExp(`^(?:[1-6]:${NUMBER}(?: [1-6]:${NUMBER})*|${NUMBER} over|fault (?:long|empty|shape|houses|seeds))\n$`);
+// An answer has fewer characters.
+const LONGEST = 1000;
 
-async function ask(line) {
-  kalah.stdin.write(line + "\n");
-  return (await answers.next()).value;
+class Gone extends Error {}
+
+// Returns the program. Fails with `Gone` if there is none, or an older one.
+function find() {
+  const named = process.env.KALAH;
+  for (const program of named ? [named] : ["kalah", path.join(__dirname, "..", "kalah")]) {
+    const said = spawnSync(program, ["--version"], { encoding: "utf8", timeout: 10_000 });
+    if (said.error?.code === "ENOENT") continue;
+    const version = /^kalah ([0-9]+)\.([0-9]+)\.([0-9]+)\n$/.exec(said.stdout ?? "")?.slice(1).map(Number);
+    const place = version?.findIndex((number, i) => number !== OLDEST[i]);
+    if (version && (place === -1 || version[place] > OLDEST[place])) return program;
+    throw new Gone(`${program} is not kalah ${OLDEST.join(".")} or newer`);
+  }
+  throw new Gone(`there is no program ${named ?? "kalah"}; \`make\` builds it`);
 }
 
-(async () => {
-  for (const position of process.argv.slice(2)) console.log(`${position}: ${await ask(position)}`);
-  kalah.stdin.end();
-})();
+// A run of `kalah ask --values`. A question fails with `Gone` if its answer takes more than `seconds`.
+class Solver {
+  constructor(seconds = 60) {
+    this.seconds = seconds;
+    this.turn = Promise.resolve();
+    this.run = this.question = null;
+  }
+
+  // Returns a promise of the answer to a line, as `kalah ask --values` prints it. Questions wait for each other.
+  ask(line) {
+    if (/[\n\0]|\p{Surrogate}/u.test(line)) return Promise.reject(new RangeError("a question is one line of text"));
+    const answer = this.turn.then(() => this.exchange(line));
+    this.turn = answer.catch(() => {});
+    return answer;
+  }
+
+  // Ends the run, and with it a question that it has not answered.
+  close(why = "the solver is closed") {
+    this.run?.kill("SIGKILL");
+    this.question?.reject(new Gone(why));
+    this.run = this.question = null;
+  }
+
+  start() {
+    this.program ??= find();
+    const run = spawn(this.program, ["ask", "--values"], { stdio: ["pipe", "pipe", "inherit"] });
+    // What a run reports after its end counts for nothing.
+    const fail = (why) => this.run === run && this.close(why);
+    run.stdout.setEncoding("utf8").on("data", (text) => this.run === run && this.hear(text));
+    for (const part of [run, run.stdin, run.stdout]) part.on("error", (why) => fail(why.message));
+    run.on("close", () => fail("kalah has ended"));
+    return run;
+  }
+
+  hear(text) {
+    if (!this.question) return this.close();
+    const { resolve, heard } = this.question;
+    const answer = (this.question.heard = heard + text);
+    if (!answer.includes("\n") && answer.length < LONGEST) return;
+    if (!ANSWER.test(answer)) return this.close(`kalah writes ${JSON.stringify(answer)}, which isn't an answer`);
+    this.question = null;
+    resolve(answer.slice(0, -1));
+  }
+
+  exchange(line) {
+    let timer;
+    return new Promise((resolve, reject) => {
+      this.run ??= this.start();
+      this.question = { resolve, reject, heard: "" };
+      timer = setTimeout(() => this.close(`kalah has not answered in ${this.seconds} seconds`), 1000 * this.seconds);
+      this.run.stdin.write(line + "\n");
+    }).finally(() => clearTimeout(timer));
+  }
+}
+
+async function main(lines) {
+  if (!lines.length || ["-h", "--help"].includes(lines[0])) {
+    (lines.length ? console.log : console.error)("usage: node examples/ask.js LINE..");
+    process.exitCode = lines.length ? 0 : 2;
+    return;
+  }
+  const solver = new Solver();
+  try {
+    for (const line of lines) console.log(`${line}: ${await solver.ask(line)}`);
+  } catch (why) {
+    console.error(`ask.js: ${why.message}`);
+    process.exitCode = 2;
+  } finally {
+    solver.close();
+  }
+}
+
+module.exports = { Gone, Solver };
+if (require.main === module) {
+  // A reader that has seen enough, as `head`, ends the program.
+  process.stdout.on("error", (why) => process.exit(why.code === "EPIPE" ? 0 : 2));
+  main(process.argv.slice(2));
+}

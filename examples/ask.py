@@ -20,7 +20,7 @@ def said(solver, line):
 
 def main():
     parser = arguments(__doc__)
-    parser.add_argument("line", nargs="+")
+    parser.add_argument("line", nargs="+", metavar="LINE")
     with Solver() as solver:
         for line in parser.parse_args().line:
             print(f"{line}: {said(solver, line)}")

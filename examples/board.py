@@ -2,12 +2,16 @@
 
     python3 examples/board.py LINE > board.svg
 
-Each house is a circle with its number of seeds, and a store stands at each end. It takes any position that `kalah show` takes, and
-doesn't check it. Other programs call `svg`.
+Each house is a circle with its number of seeds, and a store stands at each end. Other programs call `read` and `svg`. It needs `kalah`, as
+examples/kalah.py says, which checks the line.
 """
 
-import sys
+import html
+import re
 from collections import namedtuple
+
+from kalah import moves
+from script import arguments, run
 
 # What a board holds: the seeds in the houses of a player, and in the store.
 Side = namedtuple("Side", "houses store")
@@ -17,13 +21,15 @@ FONT = 'font-family="sans-serif" text-anchor="middle" dominant-baseline="central
 
 
 def read(line):
-    """The two sides of a line: that of the player to move, and that of the other player."""
-    sides = (word.split("/") for word in line.split()[:2])
-    return [Side(tuple(map(int, houses.split(","))), int(store)) for houses, store in sides]
+    """The two sides of a position: that of the player to move, and that of the other player."""
+    form = re.fullmatch("([0-9,]+)/([0-9]+) ([0-9,]+)/([0-9]+)(?: e)?", line)
+    if not form:
+        raise ValueError(f"{line!r} is not a position")
+    return [Side(tuple(map(int, form[houses].split(","))), int(form[houses + 1])) for houses in (1, 3)]
 
 
 def text(x, y, words, size=20, color="#222"):
-    return f'<text x="{x}" y="{y}" font-size="{size}" fill="{color}" {FONT}>{words}</text>'
+    return f'<text x="{x}" y="{y}" font-size="{size}" fill="{color}" {FONT}>{html.escape(str(words))}</text>'
 
 
 def house(x, y, seeds, is_marked):
@@ -44,7 +50,7 @@ def svg(below, above, marked=None, title="A position of Kalah"):
     width, height = 2 * MARGIN + 2 * STORE + CELL * m, 2 * MARGIN + 2 * CELL
     parts = [
         f'<svg xmlns="http://www.w3.org/2000/svg" width="{width}" height="{height}" viewBox="0 0 {width} {height}" role="img">',
-        f"<title>{title}</title>",
+        f"<title>{html.escape(title)}</title>",
         f'<rect width="{width}" height="{height}" rx="28" fill="#c98f4e"/>',
         store(MARGIN, above.store),
         store(width - MARGIN - STORE, below.store),
@@ -56,6 +62,13 @@ def svg(below, above, marked=None, title="A position of Kalah"):
     return "\n".join([*parts, "</svg>"])
 
 
-if __name__ == "__main__":
-    line = sys.argv[1]
+def main():
+    parser = arguments(__doc__)
+    parser.add_argument("line", metavar="LINE")
+    line = parser.parse_args().line
+    moves(line)
     print(svg(*read(line), title=f"Kalah, the player below moves: {line}"))
+
+
+if __name__ == "__main__":
+    run(main)

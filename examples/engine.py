@@ -2,10 +2,13 @@
 which docs/COOKBOOK.md finds. It answers lines of both rules with up to 16 seeds in houses; of a larger position it says so.
 
     python3 examples/engine.py FILE
+
+It needs no other program.
 """
 
-import sys
 from functools import cache
+
+from script import arguments, run
 
 MOST_SEEDS = 16
 
@@ -58,9 +61,14 @@ def worth(own, other, takes_alone):
 
 
 def main():
-    name = sys.argv[1]
+    parser = arguments(__doc__)
+    parser.add_argument("file", metavar="FILE")
+    name = parser.parse_args().file
     for number, line in enumerate(open(name), 1):
-        [(own, own_store), (other, other_store)], takes_alone = read(line)
+        try:
+            [(own, own_store), (other, other_store)], takes_alone = read(line)
+        except ValueError:
+            raise ValueError(f"{name}:{number} is not a position") from None
         ahead = own_store - other_store
         if not (any(own) and any(other)):
             words = f"{ahead + worth(own, other, takes_alone)} over"
@@ -71,4 +79,4 @@ def main():
         print(f"{name}:{number} {words}")
 
 
-main()
+run(main)

@@ -2,9 +2,11 @@
 docs/COOKBOOK.md finds. It takes lines of both rules.
 
     python3 examples/generator.py FILE
+
+It needs no other program.
 """
 
-import sys
+from script import arguments, run
 
 
 def read(line):
@@ -57,10 +59,16 @@ def steps(line):
 
 
 def main():
-    name = sys.argv[1]
+    parser = arguments(__doc__)
+    parser.add_argument("file", metavar="FILE")
+    name = parser.parse_args().file
     for number, line in enumerate(open(name), 1):
-        for words in steps(line):
+        try:
+            said = list(steps(line))
+        except ValueError:
+            raise ValueError(f"{name}:{number} is not a position") from None
+        for words in said:
             print(f"{name}:{number} {words}")
 
 
-main()
+run(main)

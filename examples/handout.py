@@ -4,18 +4,16 @@
 
 South, who moves first, always sits below. Below each board stands the move that leads to the next one, with its value: the margin
 that the move gets in best play, for the player who makes it. The house that is moved is marked. With --first H the game begins with
-house H, to see what that move leads to.
+house H, to see what that move leads to. It needs `kalah`, as examples/kalah.py says.
 """
 
-import argparse
 import html
-import shutil
-import subprocess
-import sys
+import re
 
 from board import read, svg
+from kalah import Solver, Values, play
+from script import arguments, run
 
-KALAH = shutil.which("kalah") or "./kalah"
 PLAYERS = ["South", "North"]
 PAGE = """<!DOCTYPE html>
 <html lang="en">
@@ -40,46 +38,37 @@ p {{ margin: 0.4em 0 0; }}
 </html>"""
 
 
-def kalah(*words, lines=""):
-    """What the program prints for these words, line by line. Where it fails, it has said why."""
-    done = subprocess.run([KALAH, *words], input=lines, stdout=subprocess.PIPE, text=True)
-    if done.returncode:
-        sys.exit(done.returncode)
-    return done.stdout.splitlines()
-
-
 def game_of(line, first):
-    """The positions of the game, each with the player who moves there, and the moves between them: a house and a word."""
-    options = [] if first is None else [f"--first={first}"]
-    positions, moves, player = [(line, 0)], [], 0
-    for move in kalah("play", *options, "--", line):
-        house, *position, word = move.split(" ")
-        moves.append((int(house), word))
-        player ^= word == "turn"
-        positions.append((" ".join(position), player))
+    """The positions of the game, each with the player who moves there, and the moves between them."""
+    positions, moves, player = [(line, 0)], play(line, first), 0
+    for move in moves:
+        player ^= move.word == "turn"
+        positions.append((move.position, player))
     return positions, moves
 
 
-def values_of(lines):
-    """For each position what its moves are worth, by their houses. There are none where the game is over."""
-    for answer in kalah("ask", "--values", lines="".join(line + "\n" for line in lines)):
-        yield {} if answer.endswith(" over") else {int(h): int(v) for h, v in (word.split(":") for word in answer.split(" "))}
+def values_of(solver, position):
+    """What the moves of a position are worth, by their houses. A store may have more seeds than a line that is asked for, so stores are
+    counted here."""
+    own, other = read(position)
+    values = solver.ask(re.sub("/[0-9]+", "/0", position)).by_house
+    return {house: value + own.store - other.store for house, value in values.items()}
 
 
 def board(position, player, marked=None):
     """The board of a position, with South below, and a house of the player to move marked."""
     sides = read(position)
     rows = ["below", "above"]
-    return svg(*(sides if player == 0 else sides[::-1]), marked and (rows[player], marked), html.escape(position))
+    return svg(*(sides if player == 0 else sides[::-1]), marked and (rows[player], marked), position)
 
 
-def caption(number, player, house, word, values):
+def caption(number, player, move, values):
     """What is said of a move."""
-    said = f"<b>{number}. {PLAYERS[player]}</b> moves house {house}, worth {values[house]:+d}"
+    said = f"<b>{number}. {PLAYERS[player]}</b> moves house {move.house}, worth {values[move.house]:+d}"
     best = max(values, key=values.get)
-    if values[house] < values[best]:
+    if values[move.house] < values[best]:
         said += f" (house {best} is worth {values[best]:+d})"
-    return said + {"again": ", and moves again.", "turn": ".", "over": ", and the game is over."}[word]
+    return said + {"again": ", and moves again.", "turn": ".", "over": ", and the game is over."}[move.word]
 
 
 def result(position, player):
@@ -92,10 +81,11 @@ def result(position, player):
 
 def page(line, first):
     positions, moves = game_of(line, first)
-    values = list(values_of(position for position, _ in positions))
     steps = []
-    for number, ((position, player), (house, word), worth) in enumerate(zip(positions, moves, values), 1):
-        steps.append(f"<li>{board(position, player, house)}\n<p>{caption(number, player, house, word, worth)}</p></li>")
+    with Solver(Values) as solver:
+        for number, ((position, player), move) in enumerate(zip(positions, moves), 1):
+            said = caption(number, player, move, values_of(solver, position))
+            steps.append(f"<li>{board(position, player, move.house)}\n<p>{said}</p></li>")
     steps.append(f"<li>{board(*positions[-1])}\n<p>{result(*positions[-1])}</p></li>")
     begins = "Both players always make a best move." if first is None else f"South begins with house {first}; then both always make a best move."
     title = f"Kalah: {html.escape(line)}"
@@ -103,11 +93,12 @@ def page(line, first):
 
 
 def main():
-    parser = argparse.ArgumentParser(description=__doc__, formatter_class=argparse.RawDescriptionHelpFormatter)
-    parser.add_argument("--first", type=int)
-    parser.add_argument("line")
+    parser = arguments(__doc__)
+    parser.add_argument("--first", type=int, metavar="H", help="the house that South moves first")
+    parser.add_argument("line", metavar="LINE")
     asked = parser.parse_args()
     print(page(asked.line, asked.first))
 
 
-main()
+if __name__ == "__main__":
+    run(main)
