@@ -20,7 +20,11 @@
 #include <time.h>
 #include <unistd.h>
 
-enum { MILLISECONDS = 60000, ROOM = 200 };
+/* The time for an answer, and the bytes of an answer at most. */
+#ifndef MILLISECONDS
+#define MILLISECONDS 60000
+#endif
+enum { ROOM = 200 };
 static const char *const ANSWER = "^((0|-?[1-9][0-9]{0,2}) (house [1-6]|over)|fault (long|empty|shape|houses|seeds))$";
 static const char *const VERSION = "^kalah (1\\.([1-9]|[1-9][0-9]+)|([2-9]|[1-9][0-9]+)\\.[0-9]+)\\.[0-9]+$";
 
@@ -167,14 +171,14 @@ int main(int count, char **words)
         fprintf(stderr, "ask: there is no kalah 1.1.0 or newer\n");
         return 2;
     }
+    int status = 0;
     for (int i = 1; i < count; i++) {
         if (!ask(&run, words[i], answer)) {
             fprintf(stderr, "ask: no answer to %s\n", words[i]);
-            return 2;
-        }
-        if (printf("%s: %s\n", words[i], answer) < 0 || fflush(stdout) != 0)
+            status = 2;
+        } else if (printf("%s: %s\n", words[i], answer) < 0 || fflush(stdout) != 0)
             return 2;
     }
     end(&run);
-    return 0;
+    return status;
 }

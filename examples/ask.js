@@ -11,7 +11,9 @@ const path = require("node:path");
 
 const OLDEST = [1, 1, 0];
 const NUMBER = "(?:0|-?[1-9][0-9]{0,2})";
-const ANSWER = new RegExp(`^(?:[1-6]:${NUMBER}(?: [1-6]:${NUMBER})*|${NUMBER} over|fault (?:long|empty|shape|houses|seeds))\n$`);
+const VALUES = [1, 2, 3, 4, 5, 6].map((house) => `(?: ${house}:${NUMBER})?`).join("");
+// The form of an answer, after a space.
+const ANSWER = new RegExp(`^(?:(?= [1-6]:)${VALUES}| ${NUMBER} over| fault (?:long|empty|shape|houses|seeds))\n$`);
 // An answer has fewer characters.
 const LONGEST = 1000;
 
@@ -49,9 +51,11 @@ class Solver {
 
   // Ends the run, and with it a question that it has not answered.
   close(why = "the solver is closed") {
-    this.run?.kill("SIGKILL");
-    this.question?.reject(new Gone(why));
+    const { run, question } = this;
     this.run = this.question = null;
+    for (const part of run ? [run.stdin, run.stdout] : []) part.destroy();
+    run?.kill("SIGKILL");
+    question?.reject(new Gone(why));
   }
 
   start() {
@@ -70,7 +74,7 @@ class Solver {
     const { resolve, heard } = this.question;
     const answer = (this.question.heard = heard + text);
     if (!answer.includes("\n") && answer.length < LONGEST) return;
-    if (!ANSWER.test(answer)) return this.close(`kalah writes ${JSON.stringify(answer)}, which isn't an answer`);
+    if (!ANSWER.test(" " + answer)) return this.close(`kalah writes ${JSON.stringify(answer)}, which isn't an answer`);
     this.question = null;
     resolve(answer.slice(0, -1));
   }

@@ -80,10 +80,8 @@ class Values:
 
     @classmethod
     def read(cls, text):
-        if not re.fullmatch(f"[1-6]:{NUMBER}(?: [1-6]:{NUMBER})*", text):
-            return None
-        pairs = [tuple(map(int, pair.split(":"))) for pair in text.split(" ")]
-        return cls(dict(pairs)) if pairs == sorted(dict(pairs).items()) else None
+        form = re.fullmatch("".join(f"(?: {house}:({NUMBER}))?" for house in range(1, 7)), " " + text)
+        return form and cls({house: int(value) for house, value in enumerate(form.groups(), 1) if value})
 
 
 @dataclass(frozen=True)

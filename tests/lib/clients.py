@@ -1,0 +1,304 @@
+"""The trials of the clients in examples/, for tests/examples: `kalah.py`, `ask.js` and `ask.c` are asked random lines, and run on programs
+that misbehave. Each question must get its own answer, or fail; the question after a failure must be answered.
+"""
+
+import json
+import os
+import signal
+import subprocess
+import sys
+from concurrent.futures import ThreadPoolExecutor
+from contextlib import suppress
+from itertools import zip_longest
+from pathlib import Path
+
+from lib.drawn import Drawn
+
+EXAMPLES = Path(__file__).resolve().parents[2] / "examples"
+sys.path.insert(0, str(EXAMPLES))
+
+import kalah
+
+QUESTIONS = 10_000
+LINES = ["1,1/0 1,1/0", "0,0/3 1,2/4", "1/0", "2,2,2/0 2,2,2/0"]
+REFUSED = ["1/0 1/0\n1,1/0 1,1/0", "\n", "1/0 1/0\0", "1/0 1/0\ud800"]
+GONE, INVALID = "no answer", "no question"
+# The seconds after which an answer is missing, where it is.
+SHORT = 1
+# The seconds after which a client counts as endless.
+PATIENCE = 60
+
+# Programs in the shell that misbehave once they are asked.
+MISBEHAVING = [
+    "exit",
+    "read -r line; exit",
+    "read -r line; printf '2 hou'; exit",
+    "read -r line; printf '2 house 2'; exit",
+    "read -r line; printf '2 house 2\\n2 house 2\\n'; exec sleep 600",
+    "read -r line; printf '2 hou'; exec sleep 600",
+    "exec sleep 600",
+    "exec cat 3>&1 > /dev/null",
+    "read -r line; sleep 1.2; echo '2 house 2'; exec cat 3>&1 > /dev/null",
+    "exec < /dev/null; sleep 2",
+    "read -r line; exec yes 2",
+    "read -r line; exec tr '\\0' 2 < /dev/zero",
+    "exec cat > /dev/null",
+]
+
+# A program that takes the first text out of a folder and runs it; if there is none, or its version is asked, it is the program itself.
+FAKE = """#!/bin/sh
+exec 2> /dev/null
+if [ "$1" != --version ]; then
+    for text in "$0.starts"/*; do
+        [ -e "$text" ] || break
+        mv "$text" "$0.now"
+        . "$0.now"
+        exit
+    done
+fi
+exec "{program}" "$@"
+"""
+
+# Prints the next line of a file for each line that it reads. The last one may be cut; then it ends.
+CUT = """
+while read -r line; do
+    if read -r answer <&3; then echo "$answer"; else printf '%s' "$answer"; exit; fi
+done 3< "{answers}"
+"""
+
+# What is no answer, whichever question is asked.
+GARBAGE = [
+    *(b"", b"2", b"2 house", b"2 house ", b"2 house 0", b"2 house 7", b"2 house 22", b"02 house 2", b"+2 house 2", b"-0 over", b"1000 over"),
+    *(b"2 house 2 ", b" 2 house 2", b"2  house 2", b"2\thouse 2", b"2 house 2\r", b"2 house 2\0", b"\xd9\xa2 house 2", b"2 house 2\xff"),
+    *(b"1:2 ", b"1:2 3", b"0:1", b"7:1", b"1:2,2:3", b"1:", b"1:+2", b"1:1000", b"x:1 2 house 2"),
+    *(b"fault", b"fault none", b"fault shape ", b"FAULT shape", b"over", b"2 over house 2", b"2 house 2\n2 house 2", b"kalah: write failed"),
+]
+# What is no answer to one of the questions.
+GARBAGE_OF = {"solve": [b"1:2", b"1:-2 2:2"], "values": [b"2 house 2", b"2:1 1:2", b"1:1 1:1", b"1:12:1"]}
+
+# Asks each line of a list in Node, and prints the list of outcomes.
+ASK_IN_NODE = """
+const { Gone, Solver } = require(process.argv[1]);
+(async () => {
+  const solver = new Solver(Number(process.argv[2])), said = [];
+  for (const line of JSON.parse(require("node:fs").readFileSync(0))) {
+    said.push(await solver.ask(line).catch((why) => (why instanceof Gone ? "no answer" : "no question")));
+  }
+  solver.close();
+  console.log(JSON.stringify(said));
+})();
+"""
+
+
+class Wrong(Exception):
+    """A client does something other than it must."""
+
+
+def text_of(answer):
+    """Returns the line that an answer was read from."""
+    if isinstance(answer, kalah.Values):
+        return " ".join(f"{house}:{value}" for house, value in answer.by_house.items())
+    return f"{answer.margin} over" if isinstance(answer, kalah.Over) else f"{answer.margin} house {answer.house}"
+
+
+def outcome(solver, line):
+    """Returns the outcome of a question to a solver of kalah.py."""
+    try:
+        return text_of(solver.ask(line))
+    except kalah.Fault as fault:
+        return str(fault)
+    except ValueError:
+        return INVALID
+    except kalah.Gone:
+        return GONE
+
+
+class Python:
+    def __init__(self, kind, form):
+        self.kind, self.form, self.name, self.refused = kind, form, f"kalah.py, {kind.__name__}", REFUSED
+
+    def ask(self, program, lines, seconds=60):
+        """Returns the outcome of each question to one solver that runs the program."""
+        with kalah.Solver(self.kind, str(program), seconds) as solver:
+            return [outcome(solver, line) for line in lines]
+
+
+class Node:
+    form, name, refused = "values", "ask.js", REFUSED
+
+    def ask(self, program, lines, seconds=60):
+        words = ["node", "-e", ASK_IN_NODE, EXAMPLES / "ask.js", str(seconds)]
+        how = {"env": {**os.environ, "KALAH": str(program)}, "stdout": subprocess.PIPE, "timeout": PATIENCE}
+        return json.loads(subprocess.run(words, input=json.dumps(lines).encode(), **how).stdout)
+
+
+class C:
+    """It takes its lines as arguments, which can't have a NUL, and prints each before its answer; its time is set when it is built."""
+
+    form, name, refused = "solve", "ask.c", [line for line in REFUSED if "\n" in line]
+
+    def __init__(self, folder):
+        self.built = {seconds: folder / f"ask-{seconds}" for seconds in (60, SHORT)}
+        for seconds, path in self.built.items():
+            options = ["-std=c11", "-Wall", "-Wextra", "-Werror", f"-DMILLISECONDS={int(1000 * seconds)}"]
+            subprocess.run(["cc", *options, "-o", path, EXAMPLES / "ask.c"], check=True)
+
+    def ask(self, program, lines, seconds=60):
+        how = {"env": {**os.environ, "KALAH": str(program)}, "stdout": subprocess.PIPE, "stderr": subprocess.STDOUT, "timeout": PATIENCE}
+        out, said = subprocess.run([self.built[seconds], *lines], **how).stdout.decode(), []
+        for line in lines:
+            refusal = f"ask: no answer to {line}\n"
+            is_answered = out.startswith(f"{line}: ")
+            answer, _, out = out[len(line) + 2 :].partition("\n") if is_answered else (GONE, "", out.removeprefix(refusal))
+            said.append(answer)
+        return said + [out] if out else said
+
+
+def compare(client, what, want, got):
+    for number, (wanted, found) in enumerate(zip_longest(want, got), 1):
+        if wanted != found:
+            raise Wrong(f"{client.name}, {what}, question {number}: {found!r} in place of {wanted!r}")
+
+
+def answers(program, form, lines):
+    """Returns what the program answers to the lines of a file."""
+    data = "".join(line + "\n" for line in lines).encode()
+    out = subprocess.run([program, form, "/dev/stdin"], input=data, stdout=subprocess.PIPE).stdout
+    return [line.partition(" ")[2] for line in out.decode().split("\n")[:-1]]
+
+
+def fake(folder, program, texts):
+    """Returns a program that runs each of these texts of the shell once, at its first start, its second and so on, and is then `program`."""
+    path, starts = folder / "fake", folder / "fake.starts"
+    starts.mkdir(exist_ok=True)
+    for number, text in enumerate(texts):
+        (starts / f"{number:03}").write_text(text)
+    path.write_text(FAKE.format(program=program))
+    path.chmod(0o755)
+    return path
+
+
+class ClientTrials:
+    """The trials of a client. `program` is the real one."""
+
+    def __init__(self, client, program, folder, seed):
+        self.client, self.program, self.folder, self.drawn = client, program, folder, Drawn(seed)
+        self.want = answers(program, client.form, LINES)
+
+    def run(self):
+        self.random_lines()
+        self.refused_lines()
+        self.misbehaving()
+        self.cut()
+        self.garbage()
+
+    def random_lines(self):
+        lines = []
+        while len(lines) < QUESTIONS:
+            with suppress(UnicodeDecodeError):
+                lines.append(self.drawn.new_line().replace(b"\0", b"").decode())
+        compare(self.client, "random lines", answers(self.program, self.client.form, lines), self.client.ask(self.program, lines))
+
+    def refused_lines(self):
+        """A line that is no question is refused, and the next one gets its own answer."""
+        refusal = GONE if self.client.name == "ask.c" else INVALID
+        for line in self.client.refused:
+            got = self.client.ask(self.program, [LINES[0], line, *LINES])
+            compare(self.client, repr(line), [self.want[0], refusal, *self.want], got)
+
+    def misbehaving(self):
+        """Each of the first runs misbehaves. Its question fails, and the next one starts another run."""
+        program = fake(self.folder, self.program, MISBEHAVING)
+        got = self.client.ask(program, [*LINES[-1:] * len(MISBEHAVING), *LINES], SHORT)
+        compare(self.client, "misbehaving", [*[GONE] * len(MISBEHAVING), *self.want], got)
+
+    def cut(self):
+        """The program ends after each number of bytes: the questions that it has answered by then are answered, and the next one fails."""
+        whole = "".join(answer + "\n" for answer in self.want)
+        starts, lines, want = [], [], []
+        for size in range(len(whole)):
+            answers = self.folder / f"cut-{size}"
+            answers.write_text(whole[:size])
+            starts.append(CUT.format(answers=answers))
+            answered = whole[:size].count("\n")
+            lines += LINES[: answered + 1]
+            want += [*self.want[:answered], GONE]
+        compare(self.client, "cut", want, self.client.ask(fake(self.folder, self.program, starts), lines))
+
+    def garbage(self):
+        """Each text that is no answer fails its question."""
+        texts = [*GARBAGE, *GARBAGE_OF[self.client.form]]
+        starts = []
+        for number, text in enumerate(texts):
+            (self.folder / f"garbage-{number}").write_bytes(text + b"\n")
+            starts.append(f"read -r line; exec cat '{self.folder}/garbage-{number}'")
+        compare(self.client, "garbage", [GONE] * len(texts), self.client.ask(fake(self.folder, self.program, starts), LINES[:1] * len(texts)))
+
+
+class Interrupted(Exception):
+    """What a signal raises in the middle of a question."""
+
+
+class SolverTrials:
+    """The trials of one solver of kalah.py that is interrupted, forked, shared by threads, or asked at length."""
+
+    def __init__(self, program, folder):
+        self.client = Python(kalah.Best, "solve")
+        self.program, self.folder = program, folder
+        self.want = answers(program, "solve", LINES)
+
+    def run(self):
+        self.interrupted()
+        self.forked()
+        self.shared()
+        self.at_length()
+        self.too_old()
+
+    def interrupted(self):
+        """An exception leaves a question whose answer is still to come: the next question doesn't get it."""
+
+        def interrupt(*_):
+            raise Interrupted
+
+        signal.signal(signal.SIGALRM, interrupt)
+        slow = f'while read -r line; do sleep 0.3; echo "$line" | "{self.program}" ask; done'
+        with kalah.Solver(kalah.Best, str(fake(self.folder, self.program, [slow]))) as solver:
+            signal.setitimer(signal.ITIMER_REAL, 0.15)
+            try:
+                raise Wrong(f"{outcome(solver, LINES[-1])} has come in spite of a signal")
+            except Interrupted:
+                compare(self.client, "interrupted", self.want, [outcome(solver, line) for line in LINES])
+
+    def forked(self):
+        """Both processes ask at once after a fork, and each gets its own answers."""
+        with kalah.Solver(kalah.Best, str(self.program)) as solver:
+            outcome(solver, LINES[0])
+            child = os.fork()
+            lines, want = (LINES, self.want) if child else (LINES[::-1], self.want[::-1])
+            got = [outcome(solver, line) for line in lines * 100]
+            if child == 0:
+                os._exit(got != want * 100)
+            compare(self.client, "after a fork", want * 100, got)
+            if os.waitpid(child, 0)[1]:
+                raise Wrong("kalah.py: a forked process got another answer")
+
+    def shared(self):
+        """Threads ask one solver at once."""
+        with kalah.Solver(kalah.Best, str(self.program)) as solver, ThreadPoolExecutor(8) as pool:
+            lines = LINES * 200
+            compare(self.client, "shared by threads", self.want * 200, pool.map(lambda line: outcome(solver, line), lines))
+
+    def at_length(self):
+        """A question that fills every pipe is answered, or fails if nobody reads it."""
+        line = "1" * 10_000_000
+        compare(self.client, "at length", ["fault long"], self.client.ask(self.program, [line]))
+        deaf = fake(self.folder, self.program, ["exec sleep 600"])
+        compare(self.client, "unread", [GONE, *self.want], self.client.ask(deaf, [line, *LINES], SHORT))
+
+    def too_old(self):
+        for version in ("kalah 1.0.9", "kalah 0.9.9", "kalah 1.1", "kalah 1.1.0 ", "kalah 1.1.0\\n", "calah 1.1.0", ""):
+            program = self.folder / f"version {version}"
+            program.write_text(f"#!/bin/sh\nprintf '{version}\\n'\n")
+            program.chmod(0o755)
+            compare(self.client, repr(version), [GONE], self.client.ask(program, LINES[:1]))
+        compare(self.client, "missing", [GONE], self.client.ask(self.folder / "no program", LINES[:1]))
