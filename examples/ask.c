@@ -163,9 +163,9 @@ int main(int count, char **words)
     struct run run = {0};
     char answer[ROOM];
     signal(SIGPIPE, SIG_IGN);
-    if (count < 2) {
-        fprintf(stderr, "usage: ask LINE..\n");
-        return 2;
+    if (count < 2 || strcmp(words[1], "--help") == 0) {
+        fprintf(count < 2 ? stderr : stdout, "usage: ask LINE..\nIt needs kalah on the path, or named by KALAH.\n");
+        return count < 2 ? 2 : 0;
     }
     if (!is_new_enough()) {
         fprintf(stderr, "ask: there is no kalah 1.1.0 or newer\n");

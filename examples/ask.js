@@ -92,7 +92,7 @@ class Solver {
 
 async function main(lines) {
   if (!lines.length || ["-h", "--help"].includes(lines[0])) {
-    (lines.length ? console.log : console.error)("usage: node examples/ask.js LINE..");
+    (lines.length ? console.log : console.error)("usage: node examples/ask.js LINE..\nIt needs kalah on the path, or named by KALAH.");
     process.exitCode = lines.length ? 0 : 2;
     return;
   }
