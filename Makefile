@@ -4,7 +4,7 @@ PREFIX ?= /usr/local
 # How many processors a check may use: by default all of them, but at most one for each 2 GB of memory.
 JOBS ?= $(shell awk -v all="$$(nproc)" '/^MemTotal/ { some = int($$2 / 2000000); print some < 1 ? 1 : some < all ? some : all }' /proc/meminfo)
 
-.PHONY: all check test install uninstall bench clean
+.PHONY: all try check test install uninstall dist deb bench clean
 
 # Proves the program and all that it depends on, and builds ./kalah.
 all: kalah
@@ -15,6 +15,12 @@ kalah: FORCE
 
 FORCE:
 
+# Before the proofs: runs the program with the toolchain's run-time checks, on one position and on a file.
+try:
+	@echo "Nothing is proved yet: \`make\` does that. Each of these takes up to a minute."
+	cd crates/kalah_cli && rt try -- moves '1,1/0 1,1/0'
+	cd crates/kalah_cli && rt try --data examples/first.txt=../../examples/first.txt -- solve examples/first.txt
+
 # While you work: proves and tests what has changed, over the results that earlier checks kept.
 check:
 	tests/check
@@ -24,22 +30,34 @@ check:
 test:
 	tests/gate
 
-# The files that are installed.
+# The files that are installed, and the folder of pages, examples and licences.
 INSTALLED = bin/kalah share/man/man1/kalah.1 share/bash-completion/completions/kalah share/zsh/site-functions/_kalah \
 	share/fish/vendor_completions.d/kalah.fish
+PAGES = share/doc/kalah
 
-# Installs the program as `make` built it, its manual page, and the completions for bash, zsh and fish. It needs no prover.
+# Installs the program as `make` built it, its manual page, the completions for bash, zsh and fish, and its pages. It needs no prover.
 install:
 	@test -x kalah || { echo "make install: there is no ./kalah yet; run \`make\` first" >&2; exit 1; }
-	install -d $(addprefix $(DESTDIR)$(PREFIX)/,$(dir $(INSTALLED)))
+	install -d $(addprefix $(DESTDIR)$(PREFIX)/,$(dir $(INSTALLED)) $(PAGES)/docs $(PAGES)/examples)
 	install -m 755 kalah $(DESTDIR)$(PREFIX)/bin/kalah
 	install -m 644 docs/kalah.1 $(DESTDIR)$(PREFIX)/share/man/man1/kalah.1
 	install -m 644 completions/kalah.bash $(DESTDIR)$(PREFIX)/share/bash-completion/completions/kalah
 	install -m 644 completions/kalah.zsh $(DESTDIR)$(PREFIX)/share/zsh/site-functions/_kalah
 	install -m 644 completions/kalah.fish $(DESTDIR)$(PREFIX)/share/fish/vendor_completions.d/kalah.fish
+	install -m 644 README.md LICENSE-APACHE LICENSE-MIT packaging/copyright $(DESTDIR)$(PREFIX)/$(PAGES)
+	install -m 644 docs/*.md $(DESTDIR)$(PREFIX)/$(PAGES)/docs
+	install -m 644 $(wildcard examples/*.*) $(DESTDIR)$(PREFIX)/$(PAGES)/examples
 
 uninstall:
 	rm -f $(addprefix $(DESTDIR)$(PREFIX)/,$(INSTALLED))
+	rm -rf $(DESTDIR)$(PREFIX)/$(PAGES)
+
+# The program as `make` built it, packed for machines without the toolchain: dist/ gets an archive, or a package for Debian.
+dist:
+	packaging/pack tar
+
+deb:
+	packaging/pack deb
 
 # How long the program takes on the position files of bench/, and how many instructions.
 bench: kalah

@@ -127,13 +127,6 @@ static bool exchange(struct run *run, const char *question, char answer[ROOM], c
     return strlen(answer) == got - 1 && has_form(answer, form);
 }
 
-/* Whether a run has ended, or written what nobody asked. */
-static bool is_out_of_step(const struct run *run)
-{
-    struct pollfd end = {.fd = run->from, .events = POLLIN};
-    return poll(&end, 1, 0) != 0;
-}
-
 static bool is_new_enough(void)
 {
     struct run run;
@@ -151,7 +144,7 @@ static bool ask(struct run *run, const char *line, char answer[ROOM])
         return false;
     sprintf(question, "%s\n", line);
     const bool is_started = run->pid > 0 || start(run, "ask");
-    const bool is_answered = is_started && !is_out_of_step(run) && exchange(run, question, answer, ANSWER);
+    const bool is_answered = is_started && exchange(run, question, answer, ANSWER);
     if (!is_answered)
         end(run);
     free(question);

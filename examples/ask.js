@@ -73,6 +73,7 @@ class Solver {
     if (!this.question) return this.close();
     const { resolve, heard } = this.question;
     const answer = (this.question.heard = heard + text);
+    if (this.run.stdin.writableLength) return this.close("kalah answers a question that is not yet written");
     if (!answer.includes("\n") && answer.length < LONGEST) return;
     if (!ANSWER.test(" " + answer)) return this.close(`kalah writes ${JSON.stringify(answer)}, which isn't an answer`);
     this.question = null;

@@ -204,8 +204,6 @@ def exchange(run, question, timeout):
     answers, poller, rest, answer = run.stdout.fileno(), select.poll(), memoryview(question), b""
     last = time.monotonic() + (timeout or 0)
     poller.register(answers, select.POLLIN)
-    if poller.poll(0):
-        raise Gone("kalah has ended, or has written what nobody asked")
     poller.register(run.stdin, select.POLLOUT)
     while not answer.endswith(b"\n"):
         ready = poller.poll(None if timeout is None else max(0, 1000 * (last - time.monotonic())))

@@ -7,6 +7,7 @@ import os
 import signal
 import subprocess
 import sys
+import time
 from concurrent.futures import ThreadPoolExecutor
 from contextlib import suppress
 from itertools import zip_longest
@@ -20,8 +21,9 @@ sys.path.insert(0, str(EXAMPLES))
 import kalah
 
 QUESTIONS = 10_000
-LINES = ["1,1/0 1,1/0", "0,0/3 1,2/4", "1/0", "2,2,2/0 2,2,2/0"]
-REFUSED = ["1/0 1/0\n1,1/0 1,1/0", "\n", "1/0 1/0\0", "1/0 1/0\ud800"]
+LINES = ["1,1/30 1,1/0", "0,0/3 1,2/4", "1/0", "2,2,2/0 2,2,2/0"]
+# The first one is answered twice, and the second answer takes a while.
+REFUSED = ["1/0 1/0\n2,3,2,3,2,3/0 3,2,3,2,3,3/0", "\n", "1/0 1/0\0", "1/0 1/0\ud800"]
 GONE, INVALID = "no answer", "no question"
 # The seconds after which an answer is missing, where it is.
 SHORT = 1
@@ -42,8 +44,12 @@ MISBEHAVING = [
     "exec < /dev/null; sleep 2",
     "read -r line; exec yes 2",
     "read -r line; exec tr '\\0' 2 < /dev/zero",
+    "read -r line; while printf 2; do sleep 0.3; done",
     "exec cat > /dev/null",
 ]
+
+# Programs that don't read a question, of which each fills the pipe.
+DEAF = ["exec sleep 600", "echo '4 over'; exec sleep 600", "exit", "exec < /dev/null; exec sleep 600"]
 
 # A program that takes the first text out of a folder and runs it; if there is none, or its version is asked, it is the program itself.
 FAKE = """#!/bin/sh
@@ -76,13 +82,15 @@ GARBAGE = [
 # What is no answer to one of the questions.
 GARBAGE_OF = {"solve": [b"1:2", b"1:-2 2:2"], "values": [b"2 house 2", b"2:1 1:2", b"1:1 1:1", b"1:12:1"]}
 
-# Asks each line of a list in Node, and prints the list of outcomes.
+# Asks the lines of a list in Node, all at once, and prints the list of outcomes. Between two lists it waits for a while.
 ASK_IN_NODE = """
 const { Gone, Solver } = require(process.argv[1]);
 (async () => {
   const solver = new Solver(Number(process.argv[2])), said = [];
-  for (const line of JSON.parse(require("node:fs").readFileSync(0))) {
-    said.push(await solver.ask(line).catch((why) => (why instanceof Gone ? "no answer" : "no question")));
+  const ask = (line) => solver.ask(line).catch((why) => (why instanceof Gone ? "no answer" : "no question"));
+  for (const lines of JSON.parse(require("node:fs").readFileSync(0))) {
+    said.push(...(await Promise.all(lines.map(ask))));
+    await new Promise((resolve) => setTimeout(resolve, 500));
   }
   solver.close();
   console.log(JSON.stringify(said));
@@ -114,28 +122,41 @@ def outcome(solver, line):
 
 
 class Python:
+    refused, longest = REFUSED, 10_000_000
+
     def __init__(self, kind, form):
-        self.kind, self.form, self.name, self.refused = kind, form, f"kalah.py, {kind.__name__}", REFUSED
+        self.kind, self.form, self.name = kind, form, f"kalah.py, {kind.__name__}"
 
     def ask(self, program, lines, seconds=60):
         """Returns the outcome of each question to one solver that runs the program."""
+        return self.ask_and_wait(program, [lines], seconds)
+
+    def ask_and_wait(self, program, lists, seconds=60):
+        """Returns the outcomes of lists of questions, between which it waits for a while."""
+        said = []
         with kalah.Solver(self.kind, str(program), seconds) as solver:
-            return [outcome(solver, line) for line in lines]
+            for number, lines in enumerate(lists):
+                time.sleep(0.5 if number else 0)
+                said += [outcome(solver, line) for line in lines]
+        return said
 
 
 class Node:
-    form, name, refused = "values", "ask.js", REFUSED
+    form, name, refused, longest = "values", "ask.js", REFUSED, 10_000_000
 
     def ask(self, program, lines, seconds=60):
+        return self.ask_and_wait(program, [lines], seconds)
+
+    def ask_and_wait(self, program, lists, seconds=60):
         words = ["node", "-e", ASK_IN_NODE, EXAMPLES / "ask.js", str(seconds)]
         how = {"env": {**os.environ, "KALAH": str(program)}, "stdout": subprocess.PIPE, "timeout": PATIENCE}
-        return json.loads(subprocess.run(words, input=json.dumps(lines).encode(), **how).stdout)
+        return json.loads(subprocess.run(words, input=json.dumps(lists).encode(), **how).stdout)
 
 
 class C:
     """It takes its lines as arguments, which can't have a NUL, and prints each before its answer; its time is set when it is built."""
 
-    form, name, refused = "solve", "ask.c", [line for line in REFUSED if "\n" in line]
+    form, name, refused, longest = "solve", "ask.c", [line for line in REFUSED if "\n" in line], 100_000
 
     def __init__(self, folder):
         self.built = {seconds: folder / f"ask-{seconds}" for seconds in (60, SHORT)}
@@ -189,6 +210,7 @@ class ClientTrials:
         self.random_lines()
         self.refused_lines()
         self.misbehaving()
+        self.at_length()
         self.cut()
         self.garbage()
 
@@ -211,6 +233,12 @@ class ClientTrials:
         program = fake(self.folder, self.program, MISBEHAVING)
         got = self.client.ask(program, [*LINES[-1:] * len(MISBEHAVING), *LINES], SHORT)
         compare(self.client, "misbehaving", [*[GONE] * len(MISBEHAVING), *self.want], got)
+
+    def at_length(self):
+        """A line that fills the pipe is answered, or fails if it is not read."""
+        line = "1" * self.client.longest
+        got = self.client.ask(fake(self.folder, self.program, DEAF), [line] * len(DEAF) + [line, *LINES], SHORT)
+        compare(self.client, "at length", [*[GONE] * len(DEAF), "fault long", *self.want], got)
 
     def cut(self):
         """The program ends after each number of bytes: the questions that it has answered by then are answered, and the next one fails."""
@@ -235,6 +263,14 @@ class ClientTrials:
         compare(self.client, "garbage", [GONE] * len(texts), self.client.ask(fake(self.folder, self.program, starts), LINES[:1] * len(texts)))
 
 
+def unasked(client, program, folder):
+    """What a program writes though nobody has asked is no answer to the next question. In Node the run is ended at once."""
+    want = answers(program, client.form, LINES)
+    faulty = fake(folder, program, [f"read -r line; echo '{want[0]}'; sleep 0.2; echo '9 over'; exec sleep 600"])
+    got = client.ask_and_wait(faulty, [LINES[:1], LINES[1:2], LINES])
+    compare(client, "unasked", [want[0], want[1] if client.name == "ask.js" else GONE, *want], got)
+
+
 class Interrupted(Exception):
     """What a signal raises in the middle of a question."""
 
@@ -251,7 +287,6 @@ class SolverTrials:
         self.interrupted()
         self.forked()
         self.shared()
-        self.at_length()
         self.too_old()
 
     def interrupted(self):
@@ -283,17 +318,11 @@ class SolverTrials:
                 raise Wrong("kalah.py: a forked process got another answer")
 
     def shared(self):
-        """Threads ask one solver at once."""
-        with kalah.Solver(kalah.Best, str(self.program)) as solver, ThreadPoolExecutor(8) as pool:
+        """Threads ask one solver, which is one run."""
+        program = fake(self.folder, self.program, [f'exec "{self.program}" "$@"', "exit"])
+        with kalah.Solver(kalah.Best, str(program)) as solver, ThreadPoolExecutor(8) as pool:
             lines = LINES * 200
             compare(self.client, "shared by threads", self.want * 200, pool.map(lambda line: outcome(solver, line), lines))
-
-    def at_length(self):
-        """A question that fills every pipe is answered, or fails if nobody reads it."""
-        line = "1" * 10_000_000
-        compare(self.client, "at length", ["fault long"], self.client.ask(self.program, [line]))
-        deaf = fake(self.folder, self.program, ["exec sleep 600"])
-        compare(self.client, "unread", [GONE, *self.want], self.client.ask(deaf, [line, *LINES], SHORT))
 
     def too_old(self):
         for version in ("kalah 1.0.9", "kalah 0.9.9", "kalah 1.1", "kalah 1.1.0 ", "kalah 1.1.0\\n", "calah 1.1.0", ""):
