@@ -1,0 +1,110 @@
+"""Checks a certificate: lines that prove the margin of best play of a position, each by lines above it.
+
+    python3 examples/check.py FILE
+
+It needs no other program or file. It prints what the lines prove of the last one's position, or which line doesn't follow, and why.
+docs/RULES.md has the rules, docs/CERTIFICATES.md the form of a line.
+"""
+
+import argparse
+import re
+import signal
+import sys
+
+SEEDS, MARGIN = "(?:0|[1-9][0-9]?)", "(?:0|-?[1-9][0-9]{0,2})"
+SIDE = f"({SEEDS}(?:,{SEEDS}){{0,5}}/(?:0|[1-9][0-9]{{0,2}}))"
+LINE = re.compile(f"{SIDE} {SIDE}( e)? at (least|most) ({MARGIN})(?: house ([1-6]))?\n?")
+
+
+# The rules. A position has the cells of the player to move, those of the other player, and whether the empty-capture rule holds. A
+# player's cells are the houses and then the store.
+def is_over(own, other):
+    return not any(own[:-1]) or not any(other[:-1])
+
+
+def after(own, other, takes_empty, house):
+    """Returns the position after a move, and whether the mover comes first in it, who moves again if the game isn't over."""
+    m = len(own) - 1
+    cells, at = [*own, *other[:m]], house - 1
+    seeds, cells[at] = cells[at], 0
+    for _ in range(seeds):
+        at = (at + 1) % (2 * m + 1)
+        cells[at] += 1
+    across = 2 * m - at
+    if at < m and cells[at] == 1 and (cells[across] or takes_empty):
+        cells[m] += cells[at] + cells[across]
+        cells[at] = cells[across] = 0
+    own, other = tuple(cells[: m + 1]), (*cells[m + 1 :], other[m])
+    return ((own, other, takes_empty), True) if at == m else ((other, own, takes_empty), False)
+
+
+# A claim has a position, whether its first player has a strategy, or else the other one, and the margin that this player gets by it.
+def holds(claim, known):
+    (own, other, _), is_first, margin = claim
+    mine, theirs = (own, other) if is_first else (other, own)
+    # At the worst, all that is left goes to the other player.
+    surely = sum(mine) - sum(theirs) if is_over(own, other) else 2 * mine[-1] - sum(own + other)
+    return margin <= max(surely, known.get(claim[:2], surely))
+
+
+def needs(claim, house):
+    """Returns the claims that prove one: of the position after the strategy's move, or after each move of the other player."""
+    (own, other, takes_empty), is_first, margin = claim
+    if is_over(own, other):
+        return [claim]
+    houses = [number for number, seeds in enumerate(own[:-1], 1) if seeds and (not is_first or number == house)]
+    moves = (after(own, other, takes_empty, number) for number in houses)
+    return [(reached, is_first == is_same, margin) for reached, is_same in moves]
+
+
+def read(line):
+    """Returns the claim of a line and its house; no claim if the line has another form."""
+    form = LINE.fullmatch(line)
+    if not form or form[1].count(",") != form[2].count(","):
+        return None, None
+    own, other = (tuple(map(int, re.split("[,/]", side))) for side in form.group(1, 2))
+    is_first, margin = form[4] == "least", int(form[5])
+    return ((own, other, bool(form[3])), is_first, margin if is_first else -margin), form[6] and int(form[6])
+
+
+def said(claim):
+    (*sides, takes_empty), is_first, margin = claim
+    own, other = (",".join(map(str, cells[:-1])) + f"/{cells[-1]}" for cells in sides)
+    return f"{own} {other}{' e' * takes_empty} at {'least' if is_first else 'most'} {margin if is_first else -margin}"
+
+
+def check(lines):
+    """Returns what the lines prove of the last one's position. Fails with the first line that doesn't follow."""
+    known, claim, number, numbered = {}, None, 0, enumerate(lines, 1)
+    for number, line in numbered:
+        claim, house = read(line)
+        needed = needs(claim, house) if claim else []
+        if not needed:
+            raise ValueError(f"line {number} {'names no house that can be moved' if claim else 'has another form'}")
+        for lacking in needed:
+            if not holds(lacking, known):
+                claims = ((below, read(line)[0]) for below, line in numbered)
+                below = next((below for below, found in claims if found and holds(lacking, {found[:2]: found[2]})), None)
+                where = f"only line {below} proves, below it: they could go round in a circle" if below else "no line proves"
+                raise ValueError(f"line {number} doesn't follow: it needs {said(lacking)}, which {where}")
+        known[claim[:2]] = max(claim[2], known.get(claim[:2], claim[2]))
+    if not claim:
+        raise ValueError("there is no line")
+    is_whole = known.get((claim[0], not claim[1])) == -claim[2]
+    proved = re.sub("at (least|most)", "has the margin", said(claim)) if is_whole else said(claim)
+    return f"{proved}: all {number} lines follow"
+
+
+def main():
+    parser = argparse.ArgumentParser(description=__doc__, formatter_class=argparse.RawDescriptionHelpFormatter)
+    parser.add_argument("file", metavar="FILE", help="a certificate")
+    signal.signal(signal.SIGINT, signal.SIG_DFL)
+    try:
+        with open(parser.parse_args().file, errors="replace") as lines:
+            print(check(lines), flush=True)
+    except (OSError, ValueError) as why:
+        sys.exit(f"check.py: {why}")
+
+
+if __name__ == "__main__":
+    main()
