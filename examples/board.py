@@ -2,8 +2,8 @@
 
     python3 examples/board.py LINE > board.svg
 
-Each house is a circle with its number of seeds, and a store stands at each end. Other programs call `read` and `svg`. It needs `kalah`, as
-examples/kalah.py says, which checks the line.
+Each house is a circle with its number of seeds, and a store stands at each end. The small numbers at the edges are those of the houses, as
+their owner counts them. Other programs call `read` and `svg`. It needs `kalah`, as examples/kalah.py says, which checks the line.
 """
 
 import html
@@ -16,7 +16,9 @@ from script import arguments, run
 # What a board holds: the seeds in the houses of a player, and in the store.
 Side = namedtuple("Side", "houses store")
 
-CELL, STORE, MARGIN = 60, 54, 10
+CELL, STORE, MARGIN, EDGE = 60, 54, 10, 16
+# How far the middles of the two rows of houses are from the upper edge.
+ABOVE, BELOW = EDGE + CELL / 2, EDGE + CELL * 3 / 2
 FONT = 'font-family="sans-serif" text-anchor="middle" dominant-baseline="central"'
 
 
@@ -39,15 +41,15 @@ def house(x, y, seeds, is_marked):
 
 
 def store(x, seeds):
-    box = f'<rect x="{x}" y="{MARGIN}" width="{STORE}" height="{2 * CELL}" rx="24" fill="#fff8ea" stroke="#7a5230" stroke-width="2"/>'
-    return box + text(x + STORE / 2, MARGIN + CELL, seeds, 24)
+    box = f'<rect x="{x}" y="{EDGE + 4}" width="{STORE}" height="{2 * CELL - 8}" rx="24" fill="#fff8ea" stroke="#7a5230" stroke-width="2"/>'
+    return box + text(x + STORE / 2, EDGE + CELL, seeds, 24)
 
 
 def svg(below, above, marked=None, title="A position of Kalah"):
     """The board with these sides. The marked house is one of ("below", H) and ("above", H). The houses above go from right to left, as
     that player sees them."""
     m = len(below.houses)
-    width, height = 2 * MARGIN + 2 * STORE + CELL * m, 2 * MARGIN + 2 * CELL
+    width, height = 2 * MARGIN + 2 * STORE + CELL * m, 2 * EDGE + 2 * CELL
     parts = [
         f'<svg xmlns="http://www.w3.org/2000/svg" width="{width}" height="{height}" viewBox="0 0 {width} {height}" role="img">',
         f"<title>{html.escape(title)}</title>",
@@ -57,8 +59,9 @@ def svg(below, above, marked=None, title="A position of Kalah"):
     ]
     for place in range(m):
         x = MARGIN + STORE + CELL * place + CELL / 2
-        parts.append(house(x, MARGIN + CELL / 2, above.houses[m - 1 - place], marked == ("above", m - place)))
-        parts.append(house(x, MARGIN + CELL * 3 / 2, below.houses[place], marked == ("below", place + 1)))
+        parts.append(text(x, EDGE / 2 + 2, m - place, 12, "#5a3a1e") + text(x, height - EDGE / 2 - 2, place + 1, 12, "#5a3a1e"))
+        parts.append(house(x, ABOVE, above.houses[m - 1 - place], marked == ("above", m - place)))
+        parts.append(house(x, BELOW, below.houses[place], marked == ("below", place + 1)))
     return "\n".join([*parts, "</svg>"])
 
 

@@ -22,20 +22,23 @@ PAGE = """<!DOCTYPE html>
 <title>{title}</title>
 <style>
 body {{ font-family: sans-serif; margin: 2em auto; max-width: 46em; }}
-ol {{ list-style: none; padding: 0; display: flex; flex-wrap: wrap; gap: 1.5em; }}
+ol {{ list-style: none; padding: 0; margin-top: 1.5em; display: flex; flex-wrap: wrap; gap: 1.5em; }}
 li {{ break-inside: avoid; width: 22em; }}
 svg {{ max-width: 100%; height: auto; }}
 p {{ margin: 0.4em 0 0; }}
+.loss {{ color: #b00020; }}
+.worst {{ outline: 3px solid #b00020; outline-offset: 6px; border-radius: 6px; }}
 </style>
 </head>
 <body>
 <h1>{title}</h1>
-<p>{intro}</p>
-<ol>
-{steps}
-</ol>
+{games}
 </body>
 </html>"""
+GAME = """<p>{intro}</p>
+<ol>
+{steps}
+</ol>"""
 
 
 def game_of(line, first):
@@ -67,8 +70,14 @@ def caption(number, player, move, values):
     said = f"<b>{number}. {PLAYERS[player]}</b> moves house {move.house}, worth {values[move.house]:+d}"
     best = max(values, key=values.get)
     if values[move.house] < values[best]:
-        said += f" (house {best} is worth {values[best]:+d})"
+        lost = values[best] - values[move.house]
+        said += f', <span class="loss">which loses {lost} (house {best} is worth {values[best]:+d})</span>'
     return said + {"again": ", and moves again.", "turn": ".", "over": ", and the game is over."}[move.word]
+
+
+def step(position, player, said, marked=None, name=""):
+    """A board with what is said below it."""
+    return f"<li{name and f' class={name}'}>{board(position, player, marked)}\n<p>{said}</p></li>"
 
 
 def result(position, player):
@@ -76,7 +85,7 @@ def result(position, player):
     below, above = read(position)[:: -1 if player else 1]
     south, north = (sum(side.houses) + side.store for side in (below, above))
     words = "It is a draw" if south == north else f"{PLAYERS[south < north]} wins"
-    return f"<b>{words}</b>, {max(south, north)} to {min(south, north)}."
+    return f"{words}, {max(south, north)} to {min(south, north)}."
 
 
 def page(line, first):
@@ -85,11 +94,11 @@ def page(line, first):
     with Solver(Values) as solver:
         for number, ((position, player), move) in enumerate(zip(positions, moves), 1):
             said = caption(number, player, move, values_of(solver, position))
-            steps.append(f"<li>{board(position, player, move.house)}\n<p>{said}</p></li>")
-    steps.append(f"<li>{board(*positions[-1])}\n<p>{result(*positions[-1])}</p></li>")
-    begins = "Both players always make a best move." if first is None else f"South begins with house {first}; then both always make a best move."
-    title = f"Kalah: {html.escape(line)}"
-    return PAGE.format(title=title, intro=f"South sits below and moves first. {begins}", steps="\n".join(steps))
+            steps.append(step(position, player, said, move.house))
+    steps.append(step(*positions[-1], f"<b>{result(*positions[-1])}</b>"))
+    begins = "Both" if first is None else f"South begins with house {first}; then both"
+    game = GAME.format(intro=f"South sits below and moves first. {begins} always make a best move.", steps="\n".join(steps))
+    return PAGE.format(title=f"Kalah: {html.escape(line)}", games=game)
 
 
 def main():

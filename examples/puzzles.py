@@ -1,91 +1,86 @@
 """Picks puzzles among the positions of a file: those in which exactly one move wins, and others may be chosen. The hardest come first.
 
-    kalah values /dev/stdin < FILE | python3 examples/puzzles.py FILE
+    python3 examples/puzzles.py [--depth N] FILE
 
 Each line has the number of moves that a plain search must look ahead to find the winning move and to stay with it, by how much the best
 other move falls short, the position, and what its moves are worth. A puzzle looks hard if the search must look far, and then if another
-move is almost as good. A plain search takes the stores for the margin where it stops.
+move is almost as good. A plain search takes the stores for the margin where it stops. It looks ahead at most N moves, or 8: if the last
+search is wrong, the line begins with `more than`.
+
+It needs `kalah`, as examples/kalah.py says. A line with a fault is named on standard error, and the status is then 1. On a terminal that
+shows how many lines are done.
 """
 
-import signal
-import sys
-from functools import cache
+from functools import lru_cache
 
-FARTHEST = 40
+from check import after, is_over, read
+from kalah import Over, Solver, Values
+from script import arguments, of_lines, run
 
-
-def read(line):
-    """The two rows of a line, and whether an empty house across is captured; and by how much the player to move is ahead."""
-    (own, own_store), (other, other_store) = (side.split("/") for side in line.split()[:2])
-    rows = [tuple(map(int, row.split(","))) for row in (own, other)]
-    return (*rows, line.endswith(" e")), int(own_store) - int(other_store)
+# How many margins the search remembers.
+MOST_MARGINS = 1 << 16
 
 
-def after(own, other, house, takes_empty):
-    """The two rows after a move, what the mover's store gains, and whether the mover has another move."""
-    m = len(own)
-    cells = [*own, 0, *other]
-    seeds, cells[house], at = cells[house], 0, house
-    for _ in range(seeds):
-        at = (at + 1) % len(cells)
-        cells[at] += 1
-    across = 2 * m - at
-    if at < m and cells[at] == 1 and (cells[across] or takes_empty):
-        cells[m] += 1 + cells[across]
-        cells[at] = cells[across] = 0
-    return tuple(cells[:m]), tuple(cells[m + 1 :]), cells[m], at == m
-
-
-@cache
-def seen(own, other, takes_empty, moves):
-    """The margin from here on, as a search sees it that looks `moves` moves ahead."""
-    if not (any(own) and any(other)):
+@lru_cache(MOST_MARGINS)
+def seen(position, depth):
+    """The margin as it is seen by a search that looks this many moves ahead."""
+    own, other, _ = position
+    if is_over(own, other):
         return sum(own) - sum(other)
-    return max(seen_of_moves(own, other, takes_empty, moves).values()) if moves else 0
+    return max(seen_of_moves(position, depth).values()) if depth else own[-1] - other[-1]
 
 
-def seen_of_moves(own, other, takes_empty, moves):
-    """What each house's move seems to be worth to that search."""
+def seen_of_moves(position, depth):
+    """What the move of each house seems to be worth to that search."""
     found = {}
-    for house, seeds in enumerate(own):
+    for house, seeds in enumerate(position[0][:-1], 1):
         if seeds:
-            mine, theirs, gain, again = after(own, other, house, takes_empty)
-            if again:
-                found[house + 1] = gain + seen(mine, theirs, takes_empty, moves - 1)
-            else:
-                found[house + 1] = gain - seen(theirs, mine, takes_empty, moves - 1)
+            reached, is_same = after(*position, house)
+            margin = seen(reached, depth - 1)
+            found[house] = margin if is_same else -margin
     return found
 
 
-def how_far(position, values, winner):
-    """How many moves the search must look ahead."""
+def how_far(position, values, winner, most):
+    """How many moves the search must look ahead: one more than `most` if it is still wrong."""
     far = 1
-    for moves in range(1, FARTHEST):
-        found = seen_of_moves(*position, moves)
+    for depth in range(1, most + 1):
+        found = seen_of_moves(position, depth)
         if found == values:
             return far
         if [house for house, value in found.items() if value == max(found.values())] != [winner]:
-            far = moves + 1
+            far = depth + 1
     return far
 
 
+def puzzle_of(line, solver, most):
+    """The words of a puzzle, behind the numbers by which they are sorted; None if the position is none."""
+    answer = solver.ask(line)
+    if isinstance(answer, Over):
+        return None
+    values = answer.by_house
+    best, *others = sorted(values.values(), reverse=True)
+    if not others or not best > 0 >= others[0]:
+        return None
+    seen.cache_clear()
+    position = read(f"{line} at most 0")[0][0]
+    far, gap = how_far(position, values, max(values, key=values.get), most), best - others[0]
+    moves = "1 move" if far == 1 else f"{far} moves" if far <= most else f"more than {most} moves"
+    worth = " ".join(f"{house}:{value}" for house, value in values.items())
+    return -far, gap, f"{moves} ahead, by {gap}: {line} {worth}"
+
+
 def main():
-    # A reader that has seen enough, as `head`, ends the program.
-    signal.signal(signal.SIGPIPE, signal.SIG_DFL)
-    puzzles = []
-    for line, answer in zip(open(sys.argv[1]), sys.stdin):
-        line, words = line.rstrip("\n"), answer.split()[1:]
-        if ":" not in words[0]:
-            continue
-        values = {int(house): int(value) for house, value in (word.split(":") for word in words)}
-        best, *others = sorted(values.values(), reverse=True)
-        if others and best > 0 >= others[0]:
-            position, ahead = read(line)
-            bare = {house: value - ahead for house, value in values.items()}
-            far = how_far(position, bare, max(values, key=values.get))
-            puzzles.append((-far, best - others[0], line, " ".join(words)))
-    for far, gap, line, words in sorted(puzzles):
-        print(f"{-far} moves ahead, by {gap}: {line} {words}")
+    parser = arguments(__doc__)
+    parser.add_argument("--depth", type=int, choices=range(1, 41), default=8, metavar="N", help="the depth of the search, 1 to 40 moves")
+    parser.add_argument("file", metavar="FILE", help="a file of positions")
+    asked = parser.parse_args()
+    with Solver(Values) as solver:
+        puzzles, has_failed = of_lines(asked.file, lambda line: puzzle_of(line, solver, asked.depth))
+    for _, _, words in sorted(puzzles):
+        print(words)
+    return has_failed
 
 
-main()
+if __name__ == "__main__":
+    run(main)

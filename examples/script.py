@@ -14,11 +14,12 @@ def arguments(text):
 
 
 def run(main):
-    """Runs a script. Ctrl-C ends it, and so does a reader that has seen enough, as `head`. If it fails, standard error says why, and the
-    status is 1 for a line that is not a position and else 2."""
+    """Runs a script, which may return its status. Ctrl-C ends it, and so does a reader that has seen enough, as `head`. If it fails,
+    standard error says why, and the status is 1 for a line that is not a position and else 2."""
     try:
-        main()
+        status = main()
         print(end="", flush=True)
+        sys.exit(status)
     except KeyboardInterrupt:
         end_by(signal.SIGINT)
     except BrokenPipeError:
@@ -33,3 +34,20 @@ def end_by(number):
     """Ends this process by a signal, as a program ends that doesn't handle it."""
     signal.signal(number, signal.SIG_DFL)
     signal.raise_signal(number)
+
+
+def of_lines(name, make):
+    """Returns what `make` returns for each line of a file, without None, and whether some line failed, which standard error then names.
+    If that is a terminal, it shows how many lines are done."""
+    with open(name) as file:
+        lines = [line.rstrip("\n") for line in file]
+    made, has_failed, is_shown = [], False, sys.stderr.isatty()
+    for number, line in enumerate(lines, 1):
+        try:
+            made.append(make(line))
+        except ValueError as why:
+            has_failed = True
+            print(f"{os.path.basename(sys.argv[0])}: {name}:{number}: {why}", file=sys.stderr)
+        if is_shown:
+            print(f"\r{number} of {len(lines)}" if number < len(lines) else "\r\033[K", end="", file=sys.stderr, flush=True)
+    return [one for one in made if one is not None], has_failed

@@ -1,0 +1,319 @@
+"""The trials of the scripts in examples/ that make something of answers, for tests/examples: certificates, reviews of games, positions,
+puzzles, booklets and tables.
+"""
+
+import csv
+import os
+import random
+import re
+import sqlite3
+import subprocess
+import sys
+from itertools import product
+from xml.dom import minidom
+
+from lib import reference
+from lib.clients import EXAMPLES, Wrong, kalah
+
+import board
+import certify
+import check
+import positions
+import review
+
+CERTIFICATES, GAMES = 100, 30
+RULES = ["", " e"]
+HOSTILE = "</title><script>alert(1)</script>"
+# The most memory of a script, in kilobytes.
+KILOBYTES = 100_000
+
+
+def must(holds, what):
+    if not holds:
+        raise Wrong(what)
+
+
+def drawn_line(draw, houses, seeds):
+    """A line of either rule, up to these numbers of houses a side and of seeds, in which both players have seeds."""
+    position = draw.choice(positions.Positions(draw.randint(1, houses), draw.randint(2, seeds)))
+    return re.sub("/0", lambda _: f"/{draw.choice([0, 0, 1, 9, 99])}", position) + draw.choice(RULES)
+
+
+class Truth:
+    """In the place of the claims that were proved, the margins of the reference."""
+
+    def get(self, claim, _):
+        (own, other, takes_empty), is_first = claim
+        sides = (reference.Side(cells[:-1], cells[-1]) for cells in (own, other))
+        margin, _ = reference.best_play(reference.Position(*sides, takes_empty))
+        return margin if is_first else -margin
+
+
+def try_each_step():
+    """A line follows from true claims if and only if it is true."""
+    for line, rule in product((EXAMPLES / "small.txt").read_text().split("\n")[:-1], RULES):
+        position = reference.read((line + rule).encode())
+        margin, _ = reference.best_play(position)
+        (cells, _, _), _ = check.read(f"{line}{rule} at most 0")
+        for bound, house in product(range(margin - 1, margin + 2), [None, *range(1, len(cells[0]) + 1)]):
+            for is_first in (True, False):
+                needed = check.needs((cells, is_first, bound if is_first else -bound), house)
+                follows = needed != [] and all(check.holds(one, Truth()) for one in needed)
+                is_legal = house in reference.legal(position)
+                is_true = is_legal and reference.value(position, house) >= bound if is_first else margin <= bound
+                must(follows == is_true, f"check.py, {line}{rule}, {is_first}, {bound}, {house}: {follows}")
+
+
+class CertificateTrials:
+    """The certificates of drawn positions prove their margins, and what is changed in one is refused."""
+
+    def __init__(self, draw, solver, best):
+        self.draw, self.solver, self.best = draw, solver, best
+
+    def run(self):
+        for _ in range(CERTIFICATES):
+            line = drawn_line(self.draw, 6, 13)
+            margin, lines = self.best.ask(line).margin, list(certify.certificate(line, self.solver))
+            got = check.check(lines)
+            must(got == f"{line} has the margin {margin}: all {len(lines)} lines follow", f"certificate of {line}: {got}")
+            self.change(line, margin, lines)
+
+    def change(self, line, margin, lines):
+        most, least = f"{line} at most {margin}", lines[-1]
+        half = lines[: lines.index(most) + 1]
+        must(check.check(half) == f"{most}: all {len(half)} lines follow", f"check.py: half a certificate of {line}")
+        for root, stronger in ((most, f"{line} at most {margin - 1}"), (least, least.replace(f"least {margin}", f"least {margin + 1}"))):
+            self.refuse([stronger if one == root else one for one in lines], "no line proves")
+        for bad in ("", least + " ", least.upper(), least.replace(" at least", ""), least.replace("/", ",0/", 1), f"0{least}", f"{least}0"):
+            self.refuse([*lines[:-1], bad, least], "has another form")
+        inner = [number for number, one in enumerate(lines[:-1]) if one != most]
+        if inner:
+            self.change_inner(lines, self.draw.choice(inner))
+
+    def change_inner(self, lines, number):
+        """Another line needs this one, so it can't be missing, follow later, or claim less or something else."""
+        above, one, below = lines[:number], lines[number], lines[number + 1 :]
+        (position, is_first, margin), house = check.read(one)
+        self.refuse([*above, *below], "no line proves")
+        self.refuse([*above, *below, one], f"only line {len(lines)} proves")
+        weaker = check.said((position, is_first, margin - 1)) + (f" house {house}" if house else "")
+        self.refuse([*above, weaker, *below], "no line proves")
+        must("has the margin" in check.check([*above, one, weaker, *below]), f"check.py: a weaker line after {one}")
+        self.refuse([*above, re.sub("^[0-9]+", lambda seeds: str(int(seeds[0]) + 1), one), *below], "")
+        values = certify.values(self.solver, position) if is_first else {}
+        for other in range(1, 7):
+            if is_first and values.get(other, -1000) < margin:
+                self.refuse([*above, one.replace(f"house {house}", f"house {other}"), *below], "" if other in values else "names no house")
+
+    def refuse(self, lines, why):
+        try:
+            said = check.check(lines)
+        except ValueError as refusal:
+            must(why in str(refusal), f"check.py: {refusal}, in place of {why}")
+            return
+        raise Wrong(f"check.py: {said}, for\n" + "\n".join(lines))
+
+
+def drawn_game(draw, line):
+    """The houses of a game that is played at random, and for each the player and the values there; and the final margin for South."""
+    position, word, player, moved = reference.read(line.encode()), "", 0, []
+    while word != "over":
+        house = draw.choice(reference.legal(position))
+        moved.append((player, house, {legal: reference.value(position, legal) for legal in reference.legal(position)}))
+        position, word = reference.after(position, house)
+        player ^= word == "turn"
+    margin, _ = reference.best_play(position)
+    return moved, -margin if player else margin
+
+
+class ReviewTrials:
+    def __init__(self, draw, solver, best):
+        self.draw, self.solver, self.best = draw, solver, best
+
+    def run(self):
+        for _ in range(GAMES):
+            line = drawn_line(self.draw, 4, 8)
+            self.best_game(line)
+            self.random_game(line)
+
+    def review(self, line, houses):
+        return review.Game(" ".join([line, *map(str, houses)]), self.solver)
+
+    def best_game(self, line):
+        game = self.review(line, [move.house for move in kalah.play(line)])
+        must(game.is_over and not game.flaw and not any(played.lost for played in game.played), f"review.py: best play of {line} loses")
+
+    def random_game(self, line):
+        moved, margin = drawn_game(self.draw, line)
+        houses = [house for _, house, _ in moved]
+        game = self.review(line, houses)
+        got = [(played.player, played.move.house, played.values) for played in game.played]
+        must(got == moved and game.is_over and not game.flaw, f"review.py: {line} {houses}: {got}")
+        lost = [sum(played.lost for played in game.of(player)) for player in (0, 1)]
+        must(margin == self.best.ask(line).margin - lost[0] + lost[1], f"review.py: {line} {houses} loses {lost}")
+        must("draw" in game.end() if margin == 0 else f"{'North' if margin < 0 else 'South'} wins" in game.end(), f"{line}: {game.end()}")
+        worst = [max(played.lost for played in game.of(player)) > 0 for player in (0, 1) if game.of(player)]
+        must(game.html().count("worst move") == sum(worst), f"review.py --html: {line} {houses}")
+        self.flaws(line, houses, moved)
+
+    def flaws(self, line, houses, moved):
+        number = self.draw.randrange(len(houses))
+        player, _, values = moved[number]
+        house = self.draw.choice(sorted({*range(8)} - {*values}))
+        game = self.review(line, [*houses[:number], house, *houses[number:]])
+        want = f"move {number + 1}: {['South', 'North'][player]} can't move house {house}"
+        must(game.flaw == want and len(game.played) == number, f"review.py: {game.flaw} in place of {want}")
+        game = self.review(line, [*houses, 1])
+        must(game.flaw == f"move {len(houses) + 1}, house 1: the game is over", f"review.py: {line} {houses} 1: {game.flaw}")
+        must(not number or "isn't over" in self.review(line, houses[:number]).end(), f"review.py: {line} {houses[:number]}")
+
+
+def try_board():
+    """The numbers of a board, from left to right and downwards: North's houses are counted from the right."""
+    texts = minidom.parseString(board.svg(*board.read("1,2,3/4 5,6,7/8"))).getElementsByTagName("text")
+    placed = sorted((float(text.getAttribute("y")), float(text.getAttribute("x")), text.firstChild.data) for text in texts)
+    must("".join(words for _, _, words in placed) == "321" "765" "84" "123" "123", f"board.py: {placed}")
+
+
+def try_positions():
+    """The positions of each small size are all there are, and a sample has each once at most."""
+    for m, seeds in product(range(1, 4), range(2, 7)):
+        every = [row for row in product(range(seeds + 1), repeat=2 * m) if sum(row) == seeds and any(row[:m]) and any(row[m:])]
+        want = {" ".join(",".join(map(str, row[place : place + m])) + "/0" for place in (0, m)) for row in every}
+        got = [*positions.Positions(m, seeds)]
+        must(len(got) == len(want) and {*got} == want, f"positions.py {m} {seeds}: {len(got)} in place of {len(want)}")
+
+
+class ScriptTrials:
+    """The scripts as they are run, in a folder of their own, on files whose names have spaces."""
+
+    def __init__(self, folder):
+        self.folder = folder
+
+    def run(self):
+        self.sample()
+        self.puzzles()
+        self.real_boards()
+        self.booklet()
+        self.table()
+        self.games()
+
+    def script(self, name, *words, status=0):
+        """Returns what a script prints, on both outputs."""
+        done = subprocess.run([sys.executable, "-B", EXAMPLES / name, *map(str, words)], cwd=self.folder, capture_output=True, text=True)
+        must(done.returncode == status and "Traceback" not in done.stderr, f"{name} {words}: status {done.returncode}\n{done.stderr}")
+        return done.stdout, done.stderr
+
+    def sample(self):
+        sizes = 3, 5, "--sample", 100, "--seed"
+        first, again, other = (self.script("positions.py", *sizes, seed)[0].splitlines() for seed in (1, 1, 2))
+        must(first == again != other and len({*first}) == 100, "positions.py: a sample is not that of its seed")
+        _, err = self.script("positions.py", 3, 5, "--sample", 1000, status=2)
+        must(err == "positions.py: there are 210 positions\n", f"positions.py: {err}")
+
+    def puzzles(self):
+        """Each puzzle has exactly one move that wins, and others; no other position has; and faults are named."""
+        lines = [*positions.Positions(2, 6), "1,1,1/0 3,0,0/0 e", "2,1/0 3,0/0 e", "1,1/0", "0,0/3 1,2/4"]
+        (self.folder / "a b.txt").write_text("".join(line + "\n" for line in lines))
+        out, err = self.script("puzzles.py", "a b.txt", status=1)
+        must(err == f"puzzles.py: a b.txt:{len(lines) - 1}: fault shape\n", f"puzzles.py: {err}")
+        want = set()
+        for line in lines:
+            position = reference.read(line.encode())
+            legal = [] if isinstance(position, str) else reference.legal(position)
+            values = {house: reference.value(position, house) for house in legal}
+            if len(values) > 1 and sum(value > 0 for value in values.values()) == 1:
+                want.add(f"{line} {' '.join(f'{house}:{value}' for house, value in values.items())}")
+        puzzles = [re.fullmatch("(more than )?([0-9]+) moves? ahead, by [0-9]+: (.*)", line) for line in out.splitlines()]
+        must(all(puzzles) and {puzzle[3] for puzzle in puzzles} == want, f"puzzles.py: {out}")
+        far = [int(puzzle[2]) for puzzle in puzzles]
+        must(far == sorted(far, reverse=True), f"puzzles.py: the hardest don't come first: {far}")
+
+    def real_boards(self):
+        """Puzzles and certificates of six houses take little time and memory."""
+        (self.folder / "real.txt").write_text(self.script("positions.py", 6, 20, "--sample", 40)[0])
+        self.measured("puzzles.py", "real.txt", seconds=40)
+        for rule in RULES:
+            position = self.script("positions.py", 6, 20, "--sample", 1)[0].rstrip("\n") + rule
+            (self.folder / "certificate").write_text(self.measured("certify.py", position, seconds=120))
+            must(f"{position} has the margin " in self.script("check.py", "certificate")[0], f"certify.py {position}")
+        (self.folder / "certificate").write_text("1,1/0 1,1/0 at least 3 house 2\n")
+        _, err = self.script("check.py", "certificate", status=1)
+        must(err == "check.py: line 1 doesn't follow: it needs 1,0/1 1,1/0 at least 3, which no line proves\n", f"check.py: {err}")
+
+    def measured(self, name, *words, seconds):
+        """Returns what a script prints within these seconds, with little memory."""
+        words = ["sh", "-c", f'ulimit -d {KILOBYTES}; exec "$@"', "sh", sys.executable, "-B", EXAMPLES / name, *words]
+        done = subprocess.run(words, cwd=self.folder, capture_output=True, text=True, timeout=seconds)
+        must(done.returncode == 0 and not done.stderr, f"{name}: status {done.returncode}\n{done.stderr}")
+        return done.stdout
+
+    def booklet(self):
+        """It has a board and a solution for each puzzle, and no text gets in unescaped."""
+        lines = ["4 moves ahead, by 2: 1,3/0 1,1/0 1:2 2:0", "1,3/0 2,0/0", "1,0/0 0,2/0 e", "1 move ahead, by 1: 1,0/0 0,2/0 e 1:-1"]
+        (self.folder / "a b.txt").write_text("\n".join(lines))
+        page, _ = self.script("booklet.py", "--title", HOSTILE, "a b.txt")
+        parts = "<section>", "<svg", "<li>", "moves and wins", "house 2 draws", "North wins, 2 to 1"
+        counts = [page.count(part) for part in parts]
+        must(counts == [4, 4, 4, 2, 2, 2] and "<script" not in page, f"booklet.py: {counts}")
+        (self.folder / "c.txt").write_text("0,0/3 1,2/4\n1,1/0 1,1/0\n1/0\n")
+        page, err = self.script("booklet.py", "c.txt", status=1)
+        want = "booklet.py: c.txt:1: the game is over\nbooklet.py: c.txt:3: fault shape\n"
+        must(page.count("<svg") == 1 and err == want, f"booklet.py: {err}")
+
+    def table(self):
+        """It has a row for each position, as CSV and in a database, of the answers of kalah or of others."""
+        lines = ["1,1/0 1,1/0", "1,0/0 0,2/9 e\r", "0,0/3 1,2/4", "1/0", "0,0,1,2,0,3/7 1,0,0,0,0,2/0"]
+        (self.folder / "a b.txt").write_bytes("\n".join(lines).encode())
+        out, err = self.script("table.py", "a b.txt", status=1)
+        rows = [*csv.reader(out.splitlines())]
+        want = [
+            [lines[0], "2", "2", "-2", "2", "", "", "", ""],
+            ["1,0/0 0,2/9 e", "-10", "1", "-10", "", "", "", "", ""],
+            [lines[2], "-4", "", "", "", "", "", "", ""],
+            [lines[4], "10", "4", "", "", "6", "10", "", "0"],
+        ]
+        columns = ["position", "margin", "best", *(f"house{house}" for house in range(1, 7))]
+        must(rows == [columns, *want] and err == "table.py: a b.txt:4: fault shape\n", f"table.py: {out}{err}")
+        answers = ["x:1 1:-2 2:2", "y:2 1:-10", "x:3 -4 over", "x:4 too large: 20 seeds", "a b:5 3:6 4:10 6:0"]
+        (self.folder / "answers").write_text("\n".join(answers))
+        for words in (["--name", "kalah"], ["--name", 'a "b', "--answers", "answers"], ["--name", "kalah"]):
+            self.script("table.py", "--sqlite", "data.db", *words, "a b.txt", status=1)
+        for name in ("kalah", 'a "b'):
+            quoted = name.replace('"', '""')
+            stored = sqlite3.connect(self.folder / "data.db").execute(f'SELECT {", ".join(columns)} FROM "{quoted}"')
+            found = [["" if cell is None else str(cell) for cell in row] for row in stored]
+            must(found == want, f"table.py, {name}: {found}")
+        for wrong in (answers[:4], [*answers, "x:6 0 over"], [answers[1], answers[0], *answers[2:]]):
+            (self.folder / "answers").write_text("\n".join(wrong))
+            must(self.script("table.py", "--answers", "answers", "a b.txt", status=2)[0] == "", f"table.py: {wrong}")
+
+    def games(self):
+        (self.folder / "a b.txt").write_text("1,1/0 1,1/0 2 1\n\n1,1/0 1,1/0 1 2 2\n1/0 1 2\n")
+        out, err = self.script("review.py", "--games", "a b.txt", status=1)
+        lines = out.splitlines()
+        want = ["a b.txt:1 1,1/0 1,1/0", "1. South moves house 2, worth +2, and moves again.", "a b.txt:4 1/0 1"]
+        must([lines[0], lines[1], lines[-1]] == want and len(lines) == 12, f"review.py: {out}")
+        want = "1. South moves house 1, worth -2, which loses 4 (house 2 is worth +2).\n"
+        must(want in out and "\nSouth: moves 1, mistakes 1, lost 4.\n" in out, f"review.py: {out}")
+        want = "review.py: a b.txt:3: move 3: North can't move house 2\nreview.py: a b.txt:4: fault shape\n"
+        must(err == want, f"review.py: {err}")
+        page, _ = self.script("review.py", "--html", "--games", "a b.txt", status=1)
+        counts = [page.count(part) for part in ("<h2>", "<svg", "worst move", "which loses 4")]
+        must(counts == [3, 6, 1, 1], f"review.py --html: {counts}")
+        page, _ = self.script("review.py", "--html", HOSTILE, status=1)
+        must("<script" not in page, f"review.py --html: {page}")
+
+
+def try_scripts(program, folder, seed):
+    """Makes all trials."""
+    os.environ["KALAH"] = str(program)
+    kalah.find.cache_clear()
+    draw = random.Random(seed)
+    try_each_step()
+    try_board()
+    try_positions()
+    with kalah.Solver(kalah.Values) as solver, kalah.Solver(kalah.Best) as best:
+        CertificateTrials(draw, solver, best).run()
+        ReviewTrials(draw, solver, best).run()
+    ScriptTrials(folder).run()
