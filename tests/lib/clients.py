@@ -48,7 +48,7 @@ MISBEHAVING = [
     "exec cat > /dev/null",
 ]
 
-# Programs that don't read a question, of which each fills the pipe.
+# Programs that don't read a question that is longer than a pipe.
 DEAF = ["exec sleep 600", "echo '4 over'; exec sleep 600", "exit", "exec < /dev/null; exec sleep 600"]
 
 # A program that takes the first text out of a folder and runs it; if there is none, or its version is asked, it is the program itself.
