@@ -60,23 +60,27 @@ def worth(own, other, takes_alone):
     return max(values(own, other, takes_alone).values())
 
 
+def answer(line):
+    """Returns what `kalah values` prints of a line behind its place."""
+    [(own, own_store), (other, other_store)], takes_alone = read(line)
+    ahead = own_store - other_store
+    if not (any(own) and any(other)):
+        return f"{ahead + worth(own, other, takes_alone)} over"
+    if sum(own + other) > MOST_SEEDS:
+        return f"too large: {sum(own + other)} seeds"
+    return " ".join(f"{house}:{ahead + value}" for house, value in values(own, other, takes_alone).items())
+
+
 def main():
     parser = arguments(__doc__)
     parser.add_argument("file", metavar="FILE")
     name = parser.parse_args().file
-    for number, line in enumerate(open(name), 1):
-        try:
-            [(own, own_store), (other, other_store)], takes_alone = read(line)
-        except ValueError:
-            raise ValueError(f"{name}:{number} is not a position") from None
-        ahead = own_store - other_store
-        if not (any(own) and any(other)):
-            words = f"{ahead + worth(own, other, takes_alone)} over"
-        elif sum(own + other) > MOST_SEEDS:
-            words = f"too large: {sum(own + other)} seeds"
-        else:
-            words = " ".join(f"{house}:{ahead + value}" for house, value in values(own, other, takes_alone).items())
-        print(f"{name}:{number} {words}")
+    with open(name) as lines:
+        for number, line in enumerate(lines, 1):
+            try:
+                print(f"{name}:{number} {answer(line)}")
+            except (ValueError, IndexError):
+                raise ValueError(f"{name}:{number} is not a position") from None
 
 
 run(main)

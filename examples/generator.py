@@ -47,7 +47,7 @@ def after(own, other, house, takes_alone):
 
 
 def steps(line):
-    """What stands behind the place in each line that answers this one."""
+    """Yields what stands behind the place in each line that answers this one."""
     own, other, takes_alone = read(line)
     if not (any(own[0]) and any(other[0])):
         yield f"{sum(own[0]) + own[1] - sum(other[0]) - other[1]} over"
@@ -62,13 +62,13 @@ def main():
     parser = arguments(__doc__)
     parser.add_argument("file", metavar="FILE")
     name = parser.parse_args().file
-    for number, line in enumerate(open(name), 1):
-        try:
-            said = list(steps(line))
-        except ValueError:
-            raise ValueError(f"{name}:{number} is not a position") from None
-        for words in said:
-            print(f"{name}:{number} {words}")
+    with open(name) as lines:
+        for number, line in enumerate(lines, 1):
+            try:
+                for words in steps(line):
+                    print(f"{name}:{number} {words}")
+            except (ValueError, IndexError):
+                raise ValueError(f"{name}:{number} is not a position") from None
 
 
 run(main)

@@ -122,7 +122,7 @@ def outcome(solver, line):
 
 
 class Python:
-    refused, longest = REFUSED, 10_000_000
+    refused, longest = REFUSED, 1_000_000
 
     def __init__(self, kind, form):
         self.kind, self.form, self.name = kind, form, f"kalah.py, {kind.__name__}"
@@ -142,7 +142,7 @@ class Python:
 
 
 class Node:
-    form, name, refused, longest = "values", "ask.js", REFUSED, 10_000_000
+    form, name, refused, longest = "values", "ask.js", REFUSED, 1_000_000
 
     def ask(self, program, lines, seconds=60):
         return self.ask_and_wait(program, [lines], seconds)
