@@ -136,7 +136,7 @@ static bool is_new_enough(void)
     return is;
 }
 
-/* Asks a line, in a run that is started if there is none. Returns whether there is an answer. If not, there is no run. */
+/* Asks a line, in a run that is started if there is none. Returns whether there is an answer. A line feed would begin another question. */
 static bool ask(struct run *run, const char *line, char answer[ROOM])
 {
     char *question = strchr(line, '\n') == NULL ? malloc(strlen(line) + 2) : NULL;

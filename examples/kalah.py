@@ -127,9 +127,9 @@ class Solver:
         return answer
 
     def _start(self):
-        self._owner = os.getpid()
+        self._owner, words = os.getpid(), [find(self.program), "ask", *self.kind.OPTIONS]
         try:
-            run = subprocess.Popen([find(self.program), "ask", *self.kind.OPTIONS], stdin=subprocess.PIPE, stdout=subprocess.PIPE, bufsize=0)
+            run = subprocess.Popen(words, stdin=subprocess.PIPE, stdout=subprocess.PIPE, bufsize=0)
         except OSError as why:
             raise Gone(str(why)) from None
         os.set_blocking(run.stdin.fileno(), False)

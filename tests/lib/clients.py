@@ -74,10 +74,10 @@ done 3< "{answers}"
 
 # What is no answer, whichever question is asked.
 GARBAGE = [
-    *(b"", b"2", b"2 house", b"2 house ", b"2 house 0", b"2 house 7", b"2 house 22", b"02 house 2", b"+2 house 2", b"-0 over", b"1000 over"),
-    *(b"2 house 2 ", b" 2 house 2", b"2  house 2", b"2\thouse 2", b"2 house 2\r", b"2 house 2\0", b"\xd9\xa2 house 2", b"2 house 2\xff"),
+    *(b"", b"2", b"2 house", b"2 house ", b"2 house 0", b"2 house 7", b"2 house 22", b"02 house 2", b"+2 house 2"),
+    *(b"-0 over", b"1000 over", b"2 house 2 ", b" 2 house 2", b"2  house 2", b"2\thouse 2", b"2 house 2\r", b"2 house 2\0", b"\xd9\xa2 house 2", b"2 house 2\xff"),
     *(b"1:2 ", b"1:2 3", b"0:1", b"7:1", b"1:2,2:3", b"1:", b"1:+2", b"1:1000", b"x:1 2 house 2"),
-    *(b"fault", b"fault none", b"fault shape ", b"FAULT shape", b"over", b"2 over house 2", b"2 house 2\n2 house 2", b"kalah: write failed"),
+    *(b"fault", b"fault none", b"fault shape ", b"FAULT shape", b"over", b"2 over house 2", b"2 house 2\n2 house 2"),
 ]
 # What is no answer to one of the questions.
 GARBAGE_OF = {"solve": [b"1:2", b"1:-2 2:2"], "values": [b"2 house 2", b"2:1 1:2", b"1:1 1:1", b"1:12:1"]}
@@ -189,7 +189,7 @@ def answers(program, form, lines):
 
 
 def fake(folder, program, texts):
-    """Returns a program that runs each of these texts of the shell once, at its first start, its second and so on, and is then `program`."""
+    """Returns a program that runs these texts of the shell, one at each start, and is then `program`."""
     path, starts = folder / "fake", folder / "fake.starts"
     starts.mkdir(exist_ok=True)
     for number, text in enumerate(texts):
@@ -260,7 +260,8 @@ class ClientTrials:
         for number, text in enumerate(texts):
             (self.folder / f"garbage-{number}").write_bytes(text + b"\n")
             starts.append(f"read -r line; exec cat '{self.folder}/garbage-{number}'")
-        compare(self.client, "garbage", [GONE] * len(texts), self.client.ask(fake(self.folder, self.program, starts), LINES[:1] * len(texts)))
+        got = self.client.ask(fake(self.folder, self.program, starts), LINES[:1] * len(texts))
+        compare(self.client, "garbage", [GONE] * len(texts), got)
 
 
 def unasked(client, program, folder):
