@@ -75,9 +75,9 @@ done 3< "{answers}"
 # What is no answer, whichever question is asked.
 GARBAGE = [
     *(b"", b"2", b"2 house", b"2 house ", b"2 house 0", b"2 house 7", b"2 house 22", b"02 house 2", b"+2 house 2"),
-    *(b"-0 over", b"1000 over", b"2 house 2 ", b" 2 house 2", b"2  house 2", b"2\thouse 2", b"2 house 2\r", b"2 house 2\0", b"\xd9\xa2 house 2", b"2 house 2\xff"),
-    *(b"1:2 ", b"1:2 3", b"0:1", b"7:1", b"1:2,2:3", b"1:", b"1:+2", b"1:1000", b"x:1 2 house 2"),
-    *(b"fault", b"fault none", b"fault shape ", b"FAULT shape", b"over", b"2 over house 2", b"2 house 2\n2 house 2"),
+    *(b"-0 over", b"1000 over", b"2 house 2 ", b" 2 house 2", b"2  house 2", b"2\thouse 2", b"2 house 2\r", b"2 house 2\0"),
+    *(b"\xd9\xa2 house 2", b"2 house 2\xff", b"1:2 ", b"1:2 3", b"0:1", b"7:1", b"1:2,2:3", b"1:", b"1:+2", b"1:1000"),
+    *(b"x:1 2 house 2", b"fault", b"fault none", b"fault shape ", b"FAULT shape", b"over", b"2 over house 2", b"2 house 2\n2 house 2"),
 ]
 # What is no answer to one of the questions.
 GARBAGE_OF = {"solve": [b"1:2", b"1:-2 2:2"], "values": [b"2 house 2", b"2:1 1:2", b"1:1 1:1", b"1:12:1"]}
