@@ -4,7 +4,7 @@ PREFIX ?= /usr/local
 # How many processors a check may use: by default all of them, but at most one for each 2 GB of memory.
 JOBS ?= $(shell awk -v all="$$(nproc)" '/^MemTotal/ { some = int($$2 / 2000000); print some < 1 ? 1 : some < all ? some : all }' /proc/meminfo)
 
-.PHONY: all try check test exhaust install uninstall dist deb bench clean
+.PHONY: all try check test exhaust test-page install uninstall dist deb bench clean
 
 # Proves the program and all that it depends on, and builds ./kalah.
 all: kalah
@@ -33,6 +33,10 @@ test:
 # Compares the program with the values of all 42 million positions of up to 15 seeds, in some 15 minutes of processor.
 exhaust: kalah
 	tests/exhaust --program kalah
+
+# Plays on the page of examples/web.py in a browser. It needs Chromium, and says so if there is none.
+test-page: kalah
+	tests/page --program kalah
 
 # The files that are installed, and the folder of pages, examples and licences.
 INSTALLED = bin/kalah share/man/man1/kalah.1 share/bash-completion/completions/kalah share/zsh/site-functions/_kalah \

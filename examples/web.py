@@ -1,0 +1,193 @@
+"""A board to click, in a browser.
+
+    python3 examples/web.py [--port N] LINE
+
+It prints the address of a page that shows this position, and serves it to this machine alone until Ctrl-C. There one plays, alone or
+against the solver, takes moves back, and sees what each move is worth. The address has the line of the position after its `#`.
+
+The page posts lines to /moves, /values and /best. Each of these gets one JSON object: an answer, or an `error` and a status that is not
+200. It needs `kalah`, as examples/kalah.py says.
+"""
+
+import json
+import re
+import socket
+import sys
+import threading
+from dataclasses import asdict
+from http import HTTPStatus
+from http.server import BaseHTTPRequestHandler, ThreadingHTTPServer
+from pathlib import Path
+from urllib.parse import quote
+
+from kalah import Best, Fault, Gone, Over, Solver, Steps, Values
+from script import arguments, run
+
+PAGE = Path(__file__).with_name("web.html")
+# Only this machine gets an answer, and of its pages only the one that is served here.
+NAMES = ["127.0.0.1", "localhost"]
+HEADERS = {
+    "Content-Security-Policy": "default-src 'none'; script-src 'unsafe-inline'; style-src 'unsafe-inline'; img-src data:; "
+    "connect-src 'self'; base-uri 'none'; form-action 'none'; frame-ancestors 'none'",
+    "X-Content-Type-Options": "nosniff",
+    "Referrer-Policy": "no-referrer",
+    "Cache-Control": "no-store",
+}
+# The answers to the questions of the page. Each kind has a run of `kalah` of its own.
+KINDS = {"/moves": Steps, "/values": Values, "/best": Best}
+# The most bytes of a question, and of one that is too long the most that are read before it is refused.
+LONGEST, MOST_READ = 200, 1 << 20
+# The most questions that are answered or wait at a time.
+MOST_AT_ONCE = 16
+
+
+class Refused(Exception):
+    """A request that gets no answer: its status, and why."""
+
+    def __init__(self, status, why):
+        super().__init__(why)
+        self.status = status
+
+
+class Handler(BaseHTTPRequestHandler):
+    """One request. `timeout` is how many seconds a client may take to write."""
+
+    timeout = 10
+    # What is no request gets a reply with headers, too.
+    default_request_version = "HTTP/1.0"
+
+    def do_GET(self):
+        self.serve(self.page)
+
+    def do_POST(self):
+        self.serve(self.answer)
+
+    def serve(self, find):
+        try:
+            body = self.body()
+            self.check_sender()
+            kind, content = find(body)
+        except Refused as why:
+            self.refuse(why.status, str(why))
+        else:
+            self.reply(200, kind, content)
+
+    def body(self):
+        """Returns the bytes after the headers. They are read even if the request is refused then, as many clients read no reply before."""
+        lengths = self.headers.get_all("Content-Length", [])
+        if self.command == "GET" and not lengths:
+            return b""
+        if "Transfer-Encoding" in self.headers or len(lengths) != 1 or not re.fullmatch("[0-9]{1,18}", lengths[0]):
+            raise Refused(411, "a question has one Content-Length")
+        length = int(lengths[0])
+        try:
+            body = self.rfile.read(min(length, MOST_READ))
+        except socket.timeout:
+            raise Refused(408, "the question has not come in time") from None
+        if length > LONGEST:
+            raise Refused(413, f"a question has at most {LONGEST} bytes")
+        if len(body) < length:
+            raise Refused(400, "the question is cut")
+        return body
+
+    def check_sender(self):
+        """Another page may have this machine's address under a name of its own, or post to it."""
+        hosts, origins = self.headers.get_all("Host", []), self.headers.get_all("Origin", [])
+        if len(hosts) != 1 or hosts[0] not in self.server.hosts:
+            raise Refused(403, "this host is not served")
+        if any(origin not in [f"http://{host}" for host in self.server.hosts] for origin in origins):
+            raise Refused(403, "a page of another origin gets no answer")
+
+    def page(self, _):
+        if self.path != "/":
+            raise Refused(404, "there is no such page")
+        return "text/html; charset=utf-8", self.server.page
+
+    def answer(self, body):
+        ask = self.server.ask.get(self.path)
+        if not ask:
+            raise Refused(404, "there is no such question")
+        if not self.server.room.acquire(blocking=False):
+            raise Refused(503, "too many questions at once")
+        try:
+            answer = ask(body.decode())
+        except Gone as why:
+            raise Refused(503, str(why)) from None
+        except UnicodeDecodeError:
+            raise Refused(400, "a question is text in UTF-8") from None
+        except ValueError as why:
+            raise Refused(422 if isinstance(why, Fault) else 400, str(why)) from None
+        finally:
+            self.server.room.release()
+        return "application/json", as_json({"is_over": isinstance(answer, Over), **asdict(answer)})
+
+    def send_error(self, code, *_):
+        """What http.server itself refuses, whose words may be those of the client."""
+        self.refuse(code, HTTPStatus(code).phrase)
+
+    def refuse(self, status, why):
+        self.reply(status, "application/json", as_json({"error": why}))
+
+    def reply(self, status, kind, content):
+        self.send_response(status)
+        for name, value in {**HEADERS, "Content-Type": kind, "Content-Length": len(content)}.items():
+            self.send_header(name, str(value))
+        self.end_headers()
+        if self.command != "HEAD":
+            self.wfile.write(content)
+
+    def log_message(self, *_):
+        pass
+
+
+class Server(ThreadingHTTPServer):
+    """Serves the page, and answers its questions."""
+
+    request_queue_size = 128
+
+    def __init__(self, port, program=None, timeout=60):
+        self.page, self.solvers = PAGE.read_bytes(), {path: Solver(kind, program, timeout) for path, kind in KINDS.items()}
+        self.ask = {path: solver.ask for path, solver in self.solvers.items()}
+        super().__init__((NAMES[0], port), Handler)
+        self.room = threading.BoundedSemaphore(MOST_AT_ONCE)
+        # A browser leaves out the port that is usual.
+        self.hosts = [name + port for name in NAMES for port in (f":{self.server_port}", "")[: 1 + (self.server_port == 80)]]
+
+    def server_close(self):
+        super().server_close()
+        for solver in self.solvers.values():
+            solver.__exit__()
+
+    def handle_error(self, request, client_address):
+        why = sys.exc_info()[1]
+        if not isinstance(why, OSError):
+            return super().handle_error(request, client_address)
+        print(f"web.py: a client has gone away: {why}", file=sys.stderr, flush=True)
+
+    def address(self, line):
+        return f"http://{NAMES[0]}:{self.server_port}/#{quote(line, safe=',/')}"
+
+
+def as_json(answer):
+    return json.dumps(answer).encode()
+
+
+def port(text):
+    if not 0 <= int(text) < 1 << 16:
+        raise ValueError
+    return int(text)
+
+
+def main():
+    parser = arguments(__doc__)
+    parser.add_argument("--port", type=port, default=8000, metavar="N", help="the port of the address (8000); with 0 any that is free")
+    parser.add_argument("line", metavar="LINE")
+    asked = parser.parse_args()
+    with Server(asked.port) as server:
+        server.ask["/moves"](asked.line)
+        print(server.address(asked.line), flush=True)
+        server.serve_forever()
+
+
+if __name__ == "__main__":
+    run(main)
