@@ -11,7 +11,7 @@ _kalah() {
         play) options='--table --boards --first -h --help' ;;
         solve | values) options='--workers --table --progress -h --help' ;;
         steps) options='--workers --progress -h --help' ;;
-        ask) options='--values --table -h --help' ;;
+        ask) options='--values --steps --table -h --help' ;;
         show) options='--plain --table -h --help' ;;
         count) options='-h --help' ;;
     esac

@@ -12,6 +12,7 @@ complete -c kalah -n __fish_use_subcommand -a steps -d 'Print each legal move of
 complete -c kalah -n __fish_use_subcommand -a show -d 'Draw a position, and below each house what its move is worth'
 complete -c kalah -n __fish_use_subcommand -a count -d 'Count the ways to play on from a position, for each first move'
 complete -c kalah -n '__fish_seen_subcommand_from ask' -l values -d 'Print what each move is worth, as values does'
+complete -c kalah -n '__fish_seen_subcommand_from ask' -l steps -d 'Print each legal move, as steps does'
 complete -c kalah -n '__fish_seen_subcommand_from moves play' -l boards -d 'Draw each position below its line'
 complete -c kalah -n '__fish_seen_subcommand_from play solve values ask show' -l table -x -d 'Table entries of each worker, 1 to 1048576'
 complete -c kalah -n '__fish_seen_subcommand_from play' -l first -x -a '1 2 3 4 5 6' -d 'Begin with this house'

@@ -29,7 +29,11 @@ _kalah() {
                 play) _arguments $help $table $boards '--first=[begin with this house, 1 to 6]:house: ' '1:position in quotes: ' ;;
                 show) _arguments $help '--plain[draw the position alone]' $table '1:position in quotes: ' ;;
                 count) _arguments $help '1:number of moves, 0 to 20: ' '2:position in quotes: ' ;;
-                ask) _arguments $help '--values[print what each move is worth, as values does]' $table ;;
+                ask)
+                    local values='(--steps)--values[print what each move is worth, as values does]'
+                    local steps='(--values --table)--steps[print each legal move, as steps does]'
+                    _arguments $help $values $steps "(--steps)$table"
+                    ;;
                 solve | values) _arguments $help $workers $table $progress '*:file of positions:_files' ;;
                 steps) _arguments $help $workers $progress '*:file of positions:_files' ;;
             esac

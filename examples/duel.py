@@ -3,15 +3,22 @@
     python3 examples/duel.py [--second] LINE
 
 You sit below and begin, or the solver does with --second. Type the number of a house, counted from your left. At the end of the
-input, or with q, the game ends. One run of `kalah ask` answers for the solver; `kalah moves` has the rules. It needs `kalah`, as
+input, or with q, the game ends. One run of `kalah ask` answers for the solver, and another one has the rules. It needs `kalah`, as
 examples/kalah.py says.
 """
 
 import sys
 
 from board import read
-from kalah import Best, Solver, moves, output
+from kalah import Best, Over, Solver, Steps
 from script import arguments, run
+
+
+def picture(position):
+    """The board, with the player to move below, as `kalah show --plain` draws it."""
+    own, other = read(position)
+    above, below = ("".join(f"{seeds:4}" for seeds in houses) for houses in (other.houses[::-1], own.houses))
+    return f"    {above}\n{other.store:4}{' ' * len(below)}{own.store:4}\n    {below}\n"
 
 
 def typed(possible):
@@ -27,12 +34,13 @@ def typed(possible):
         print("that house can't be moved")
 
 
-def duel(solver, position, is_person):
+def duel(solver, rules, position, is_person):
     """Plays to the end, and says who won."""
     word = ""
-    while possible := {} if word == "over" else {str(move.house): move for move in moves(position)}:
+    while word != "over" and not isinstance(steps := rules.ask(position), Over):
+        possible = {str(move.house): move for move in steps.moves}
         if is_person:
-            print(output(["show", "--plain", "--", position]), end="")
+            print(picture(position), end="")
         house = typed(possible) if is_person else str(solver.ask(position).house)
         if house is None:
             return
@@ -49,8 +57,9 @@ def main():
     parser.add_argument("--second", action="store_true", help="the solver begins")
     parser.add_argument("line", metavar="LINE")
     asked = parser.parse_args()
-    with Solver(Best) as solver:
-        duel(solver, asked.line, not asked.second)
+    with Solver(Best) as solver, Solver(Steps) as rules:
+        duel(solver, rules, asked.line, not asked.second)
 
 
-run(main)
+if __name__ == "__main__":
+    run(main)

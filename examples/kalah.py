@@ -26,7 +26,7 @@ import time
 from dataclasses import dataclass
 from pathlib import Path
 
-OLDEST = 1, 1, 0
+OLDEST = 1, 2, 0
 NUMBER = "(?:0|-?[1-9][0-9]{0,2})"
 SIDE = "[0-9]{1,2}(?:,[0-9]{1,2}){0,5}/[0-9]{1,3}"
 OVER = re.compile(f"({NUMBER}) over")
@@ -93,8 +93,22 @@ class Move:
     word: str
 
 
+@dataclass(frozen=True)
+class Steps:
+    """The legal moves, with rising houses."""
+
+    moves: list
+
+    OPTIONS = ["--steps"]
+
+    @classmethod
+    def read(cls, text):
+        moves = read_moves(text.split("; "))
+        return cls(moves) if moves and all(one.house < next.house for one, next in zip(moves, moves[1:])) else None
+
+
 class Solver:
-    """A run of `kalah ask`. `kind` is the class of its answers, `Best` or `Values`. A question fails if the answer takes more than
+    """A run of `kalah ask`. `kind` is the class of its answers, `Best`, `Values` or `Steps`. A question fails if the answer takes more than
     `timeout` seconds; if that is None, it never does."""
 
     def __init__(self, kind=Best, program=None, timeout=60):
@@ -150,13 +164,13 @@ class Solver:
 
 def moves(line, program=None):
     """Returns the moves from a position. Fails as `Solver.ask` does."""
-    return read_moves(output(["moves", "--", one_line(line)], program))
+    return printed_moves(output(["moves", "--", one_line(line)], program))
 
 
 def play(line, first=None, program=None, timeout=60):
     """Returns the moves of a game of best play, which begins with house `first` if there is one. Fails as `Solver.ask` does."""
     options = [] if first is None else [f"--first={first}"]
-    return read_moves(output(["play", *options, "--", one_line(line)], program, timeout))
+    return printed_moves(output(["play", *options, "--", one_line(line)], program, timeout))
 
 
 def output(words, program=None, timeout=60):
@@ -230,9 +244,15 @@ def end(run):
             run.kill()
 
 
-def read_moves(text):
+def printed_moves(text):
     *lines, rest = text.split("\n")
-    found = [MOVE.fullmatch(line) for line in lines]
-    if rest or not all(found):
+    moves = read_moves(lines)
+    if rest or moves is None:
         raise Gone(f"kalah prints {text!r}, which isn't a list of moves")
-    return [Move(int(move[1]), move[2], move[3]) for move in found]
+    return moves
+
+
+def read_moves(texts):
+    """Returns the moves of these texts, or None if one is not a move."""
+    found = [MOVE.fullmatch(text) for text in texts]
+    return [Move(int(move[1]), move[2], move[3]) for move in found] if all(found) else None

@@ -13,7 +13,7 @@ from pathlib import Path
 
 from lib import reference
 from lib.differing import Differs, read_soon
-from lib.drawn import SEARCHING, TABLES
+from lib.drawn import LONG_GAME, SEARCHING, SUBCOMMANDS, TABLES
 from lib.reference import Run
 
 # The number of lines that are sent one by one to a run.
@@ -25,6 +25,9 @@ INPUTS = [*product(["pipe", "sockets"], [1, 7, None]), ("file", None), ("termina
 # The number of bytes without a line feed before an answer, and the most memory that may be used then, in kilobytes.
 LONG = 100_000_000
 ROOM = 16_384
+
+# What is said once to somebody who types.
+HINT = b"kalah: waits for positions, one a line, as 1,1/0 1,1/0; Ctrl-D ends\n"
 
 # The line that one run answers repeatedly, which takes long if what was learned is lost after each answer.
 AGAIN = b"2,3,2,3,2,3/0 3,2,3,2,3,3/0\n"
@@ -56,9 +59,10 @@ class AskTrials:
     """The trials of `ask`, for the class `Trials`."""
 
     def form(self):
-        """Returns `solve` or `values`, and the arguments of `ask` for it."""
-        form, table = self.drawn.card("asked forms", SEARCHING), self.drawn.card("asked tables", TABLES)
-        options = [[] if form == "solve" else ["--values"], [] if table is None else [f"--table={table}"]]
+        """Returns `solve`, `values` or `steps`, and the arguments of `ask` for it."""
+        form = self.drawn.card("asked forms", SUBCOMMANDS)
+        table = self.drawn.card("asked tables", TABLES) if form in SEARCHING else None
+        options = [[] if form == "solve" else [f"--{form}"], [] if table is None else [f"--table={table}"]]
         self.drawn.chance.shuffle(options)
         return form, ["ask", *options[0], *options[1]]
 
@@ -72,7 +76,7 @@ class AskTrials:
             want = got = b""
             for _ in range(QUESTIONS):
                 line = self.drawn.line() + self.drawn.chance.choice([b"", b"\r"])
-                answer = reference.answer(form, line) + b"\n"
+                answer = reference.in_one_line(form, line) + b"\n"
                 os.write(writer, line + b"\n")
                 want, got = want + answer, got + read_soon(process.stdout.fileno(), len(answer))
                 if got != want:
@@ -105,9 +109,18 @@ class AskTrials:
                 os.close(writer)
             end = self.end_of(process)
             out.seek(0)
-            self.compare(want, end._replace(out=out.read()))
+            self.compare(want._replace(err=HINT if place == "terminal" else b""), end._replace(out=out.read()))
         if place == "terminal":
             os.close(writer)
+
+    def asked_with_a_hard_one(self):
+        """An easy line is answered before the hard one that was sent with it is."""
+        form, place = self.drawn.card("asked with a hard one", list(product(SEARCHING, ["pipe", "terminal", "file"])))
+        line = self.drawn.line()
+        self.put({})
+        words = ["ask", "--table", "1", *["--values"] * (form == "values")]
+        want = reference.answer(form, line) + b"\n"
+        self.compare(Run(want, b"", 0), Run(self.before_more(words, place, line + b"\n" + LONG_GAME + b"\n"), b"", 0))
 
     def asked_in_vain(self):
         """Input that can't be read is reported, behind the answers to what could; and nothing is read after an answer can't be written."""
@@ -168,6 +181,7 @@ class AskTrials:
 ASK_KINDS = {
     "asked_one_by_one": 20,
     "asked_at_once": 2 * len(INPUTS),
+    "asked_with_a_hard_one": 6,
     "asked_in_vain": 3,
     "asked_at_length": 1,
     "asked_again": 1,

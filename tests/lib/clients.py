@@ -10,7 +10,7 @@ import sys
 import time
 from concurrent.futures import ThreadPoolExecutor
 from contextlib import suppress
-from itertools import zip_longest
+from itertools import groupby, zip_longest
 from pathlib import Path
 
 from lib.drawn import Drawn
@@ -80,7 +80,14 @@ GARBAGE = [
     *(b"x:1 2 house 2", b"fault", b"fault none", b"fault shape ", b"FAULT shape", b"over", b"2 over house 2", b"2 house 2\n2 house 2"),
 ]
 # What is no answer to one of the questions.
-GARBAGE_OF = {"solve": [b"1:2", b"1:-2 2:2"], "values": [b"2 house 2", b"2:1 1:2", b"1:1 1:1", b"1:12:1"]}
+GARBAGE_OF = {
+    "solve": [b"1:2", b"1:-2 2:2", b"1 1,1/0 0,2/0 turn"],
+    "values": [b"2 house 2", b"2:1 1:2", b"1:1 1:1", b"1:12:1", b"1 1,1/0 0,2/0 turn"],
+    "steps": [
+        *(b"2 house 2", b"1:2", b"1 1,1/0 0,2/0 turn;", b"1 1,1/0 0,2/0 turn; ", b"1 1,1/0 0,2/0 turn 2 1,0/1 1,1/0 again"),
+        *(b"2 1,0/1 1,1/0 again; 1 1,1/0 0,2/0 turn", b"1 1,1/0 0,2/0 turn; 1 1,1/0 0,2/0 turn", b"1 1,1/0 0,2/0 end", b"7 1/0 1/0 turn"),
+    ],
+}
 
 # Asks the lines of a list in Node, all at once, and prints the list of outcomes. Between two lists it waits for a while.
 ASK_IN_NODE = """
@@ -104,6 +111,8 @@ class Wrong(Exception):
 
 def text_of(answer):
     """Returns the line that an answer was read from."""
+    if isinstance(answer, kalah.Steps):
+        return "; ".join(f"{move.house} {move.position} {move.word}" for move in answer.moves)
     if isinstance(answer, kalah.Values):
         return " ".join(f"{house}:{value}" for house, value in answer.by_house.items())
     return f"{answer.margin} over" if isinstance(answer, kalah.Over) else f"{answer.margin} house {answer.house}"
@@ -182,10 +191,11 @@ def compare(client, what, want, got):
 
 
 def answers(program, form, lines):
-    """Returns what the program answers to the lines of a file."""
+    """Returns what the program answers to the lines of a file, each in one line."""
     data = "".join(line + "\n" for line in lines).encode()
     out = subprocess.run([program, form, "/dev/stdin"], input=data, stdout=subprocess.PIPE).stdout
-    return [line.partition(" ")[2] for line in out.decode().split("\n")[:-1]]
+    said = [line.partition(" ") for line in out.decode().split("\n")[:-1]]
+    return ["; ".join(text for _, _, text in texts) for _, texts in groupby(said, lambda parts: parts[0])]
 
 
 def fake(folder, program, texts):
@@ -326,7 +336,7 @@ class SolverTrials:
             compare(self.client, "shared by threads", self.want * 200, pool.map(lambda line: outcome(solver, line), lines))
 
     def too_old(self):
-        for version in ("kalah 1.0.9", "kalah 0.9.9", "kalah 1.1", "kalah 1.1.0 ", "kalah 1.1.0\\n", "calah 1.1.0", ""):
+        for version in ("kalah 1.1.9", "kalah 0.9.9", "kalah 1.2", "kalah 1.2.0 ", "kalah 1.2.0\\n", "calah 1.2.0", ""):
             program = self.folder / f"version {version}"
             program.write_text(f"#!/bin/sh\nprintf '{version}\\n'\n")
             program.chmod(0o755)

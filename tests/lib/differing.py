@@ -23,3 +23,14 @@ def read_soon(reader, size):
                 # The end of a file, so far.
                 time.sleep(0.01)
     return got
+
+
+def read_piece(reader):
+    """Reads what there is, once something has come, or nothing if nothing comes soon."""
+    end = time.monotonic() + SOON
+    while time.monotonic() < end:
+        if select.select([reader], [], [], 0.01)[0] and (piece := os.read(reader, 1 << 16)):
+            return piece
+        # The end of a file, so far.
+        time.sleep(0.001)
+    return b""

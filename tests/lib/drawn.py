@@ -4,6 +4,7 @@ Each list in capitals is a deck: every card of it is drawn before any is repeate
 """
 
 import random
+from collections import Counter
 from itertools import chain
 
 from lib.reference import Position, Side, read, text
@@ -34,6 +35,7 @@ NAMES = [
 
 # Names that can't be opened as a file if there is only a file `a` and a folder `folder`.
 NO_FILES = ["b", "", "a ", "A", "a/", "a/b", "folder", ".", "/", "no/a", "n" * 256, "n" * 5000, "./" * 2048 + "a"]
+NO_FILES += ["1,1/0 1,1/0", "1/99 1/0 e", "1/0", "1/0 1,1/0", "16/0 16/0"]
 
 # Lines just within the limits and just past them, and lines that are almost of the form.
 LINES_AT_LIMITS = [
@@ -53,6 +55,9 @@ FAULTS = ["shape", "houses", "seeds", "long shape", "long houses", "long seeds",
 
 # The lines of `moves`: these, lines with these faults, or any. No argument has a byte of 0.
 LINES_OF_MOVES = [*(line for line in LINES_AT_LIMITS if b"\0" not in line), *FULL_STORES, *FAULTS, *[None] * 80]
+
+# A game whose first moves take long, each about a second with a table of one entry.
+LONG_GAME = b"3,2,1,4,4,3/0 1,0,1,3,4,5/0"
 
 # The place of `--boards` among the arguments: missing, before the line or behind it.
 BOARDS = [None, 0, 1]
@@ -124,6 +129,12 @@ class Drawn:
             cells[self.chance.choice(heaps)] += 1
         own, other = Side(tuple(cells[:m]), self.store()), Side(tuple(cells[m:]), self.store())
         return text(Position(own, other, self.happens(0.5))).encode()
+
+    def full_position(self):
+        """Returns the line of a position of six houses a side and 27 to 31 seeds."""
+        cells = Counter(self.chance.choices(range(12), k=self.chance.randint(27, 31)))
+        houses = tuple(cells[house] for house in range(12))
+        return text(Position(Side(houses[:6], 0), Side(houses[6:], 0), False)).encode()
 
     def with_stores(self, line):
         """Returns the line of the same houses with stores."""

@@ -211,10 +211,22 @@ def play(line, boards=False, first=None):
     return Run(said.encode(), b"", 0)
 
 
+def in_one_line(subcommand, line):
+    """Returns what `kalah ask` answers to a line, if it answers as `solve`, `values` or `steps`."""
+    return b"; ".join(texts(subcommand, line))
+
+
 def asked(subcommand, data):
-    """`kalah ask`, with the answers of `solve` or `values` to the lines of these bytes."""
-    said = [answer(subcommand, line) for line in lines_of(data)]
+    """`kalah ask`, with the answers of `solve`, `values` or `steps` to the lines of these bytes."""
+    said = [in_one_line(subcommand, line) for line in lines_of(data)]
     return Run(b"".join(words + b"\n" for words in said), b"", int(any(words.startswith(b"fault") for words in said)))
+
+
+def unread(name):
+    """A file that can't be read. If its name is a position, it may be meant as one."""
+    run = failed(b"cannot read " + name)
+    tip = b"" if isinstance(read(name), str) else b"  tip: for a position, use `kalah show '%b'`, or `kalah ask`\n" % name
+    return run._replace(err=run.err + tip)
 
 
 def answers(subcommand, files):
@@ -224,7 +236,7 @@ def answers(subcommand, files):
         return failed(b"line feed in a file name")
     for name, data in files:
         if data is None or len(data) > MOST_BYTES_OF_A_FILE:
-            return failed(b"cannot read " + name)
+            return unread(name)
     if len(files) > MOST_FILES:
         return failed(b"too many files")
     batch = [(name, lines_of(data)) for name, data in files]

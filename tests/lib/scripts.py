@@ -18,6 +18,7 @@ from lib.clients import EXAMPLES, Wrong, kalah
 import board
 import certify
 import check
+import duel
 import positions
 import review
 
@@ -175,6 +176,13 @@ def try_board():
     must("".join(words for _, _, words in placed) == "321" "765" "84" "123" "123", f"board.py: {placed}")
 
 
+def try_pictures(draw):
+    """duel.py draws each position as the program does."""
+    for _ in range(GAMES):
+        line = drawn_line(draw, 6, 31)
+        must(duel.picture(line) == reference.picture(reference.read(line.encode())), f"duel.py, {line}: {duel.picture(line)}")
+
+
 def try_positions():
     """The positions of each small size are all there are, and a sample has each once at most."""
     for m, seeds in product(range(1, 4), range(2, 7)):
@@ -312,6 +320,7 @@ def try_scripts(program, folder, seed):
     draw = random.Random(seed)
     try_each_step()
     try_board()
+    try_pictures(draw)
     try_positions()
     with kalah.Solver(kalah.Values) as solver, kalah.Solver(kalah.Best) as best:
         CertificateTrials(draw, solver, best).run()

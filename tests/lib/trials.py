@@ -3,6 +3,7 @@
 import os
 import pty
 import re
+import resource
 import shutil
 import socket
 import subprocess
@@ -16,8 +17,8 @@ from pathlib import Path
 
 from lib import reference
 from lib.asked import ASK_KINDS, AskTrials
-from lib.differing import SOON, Differs, read_soon
-from lib.drawn import BYTES, DEPTHS, FILES, LINES, LINES_OF_MOVES, NO_FILES, PLAIN, SEARCHING, SUBCOMMANDS, TABLES, Drawn
+from lib.differing import SOON, Differs, read_piece, read_soon
+from lib.drawn import BYTES, DEPTHS, FILES, LINES, LINES_OF_MOVES, LONG_GAME, NO_FILES, PLAIN, SEARCHING, SUBCOMMANDS, TABLES, Drawn
 from lib.reference import Run
 
 TESTS = Path(__file__).resolve().parents[1]
@@ -48,6 +49,8 @@ MISTAKES = [
     *([b"\xff"], ["moves", b"1/0 1/0\x80"], ["solve", "a", b"\xed\xa0\x80"], ["solve", "a", "--workers", b"4\xc3"]),
 ]
 
+MISTAKES += [["ask", "--steps=1"], ["ask", "--steps", "--steps"], ["ask", "--step"], ["ask", "--table=", "--values"], ["ask", "--table", "a"]]
+MISTAKES += [["ask", "--values", "--steps"], ["ask", "--table=1", "--steps"], ["ask", "--table", "65536", "--values", "--steps"]]
 MISTAKES += [[other, *words[1:]] for other in ("values", "steps") for words in MISTAKES if words[:1] == ["solve"]]
 MISTAKES += [["steps", "--table", "1", "a"], ["steps", "a", "--table=65536"], ["steps", "--boards", "a"]]
 
@@ -58,6 +61,7 @@ VERSION = [["--version"], ["-V"], ["-V", "-h"], ["--version", "stop"], ["-V", "s
 
 # Words that are not taken, and all that is said of them.
 FOR_MORE = "\n\nFor more information, try '--help'.\n"
+CONFLICT = "error: the argument '--steps' cannot be used with '--values' or '--table <N>'\n\nUsage: kalah ask [OPTIONS]"
 USAGES = [
     (["best"], f"error: unrecognized subcommand 'best'\n\nUsage: kalah <COMMAND>{FOR_MORE}"),
     (["stop"], f"error: unrecognized subcommand 'stop'\n\n  tip: a similar subcommand exists: 'steps'\n\nUsage: kalah <COMMAND>{FOR_MORE}"),
@@ -65,6 +69,7 @@ USAGES = [
     (["solve"], f"error: the following required arguments were not provided:\n  <FILE>...\n\nUsage: kalah solve <FILE>...{FOR_MORE}"),
     (["solve", "--workers=0", "a"], f"error: invalid value '0' for '--workers <N>': 0 is not in 1..=64{FOR_MORE}"),
     (["values", "a", "--table=0"], f"error: invalid value '0' for '--table <N>': 0 is not in 1..=1048576{FOR_MORE}"),
+    *((["ask", "--steps", option], f"{CONFLICT}{FOR_MORE}") for option in ("--values", "--table=65536")),
     (
         ["play", "--board", "1/0 1/0"],
         "error: unexpected argument '--board' found\n\n  tip: a similar argument exists: '--boards'\n\n"
@@ -82,7 +87,11 @@ HELP_OF_OPTIONS = {
     "play": [BOARDS_HELP],
     "solve": [WORKERS_HELP, PROGRESS_HELP, FILE_HELP],
     "values": [WORKERS_HELP, PROGRESS_HELP, FILE_HELP],
-    "ask": ["prints what each move is worth, as `values`"],
+    "ask": [
+        "prints what each move is worth, as `values`",
+        "prints each legal move, as `steps`, with `; ` between any two",
+        "table entries of the search, 1 to 1048576 [default: 65536]",
+    ],
     "count": ["how many moves each way has, 0 to 20", "a position in quotes, as '1,1/0 1,1/0'"],
 }
 
@@ -129,12 +138,23 @@ STREAMS_OF_RUNS = list(product(STREAMS, RUNS))
 # The output from which answers are read while the run goes on, and the number of lines before one that takes long.
 FIRST_ANSWERS = list(product(["pipe", "terminal", "file"], [1, 64, 65, 1000]))
 
-# Where the first position of a game, or a picture, is read; its first move takes half a minute with a table of one entry.
+# Runs whose output soon takes no more: after a first line, or at once.
+NO_READER_IS_LEFT = list(product(SEARCHING, ["1", "4"], ["pipe", "/dev/full"]))
+
+# Where the first position of a game, or a picture, is read; its first move takes a second with a table of one entry.
 FIRST_PICTURES = list(product(["pipe", "terminal", "file"], [["play", "--boards"], ["show"]]))
-LONG_GAME = b"3,2,1,4,4,3/0 1,0,1,3,4,5/0"
+
+# Where the first move of a game is read: one that is found, and one that is given, after which the long game is played.
+FIRST_MOVES = list(product(["pipe", "terminal", "file"], [["play", LONG_GAME], ["play", "--first=2", b"1,2,0,2,4,5/0 3,2,1,4,4,3/0"]]))
+
+# Runs whose first rows take a small part of their time.
+ROW_BY_ROW = [["count", "12", LONG_GAME], ["play", "--table", "1", "--first=2", b"1,2,0,2,4,5/0 3,2,1,4,4,3/0"]]
 
 # The numbers of workers that are observed at work.
 BUSY_WORKERS = [2, 3, 5, 16, 64]
+
+# For how many ticks of the clock a worker is observed.
+AT_WORK = 100
 
 # The numbers of lines, with more workers than lines.
 FEW_LINES = [1, 2, 3, 7]
@@ -462,6 +482,37 @@ class Trials(AskTrials):
     def run_in_shell(self, words, streams):
         return self.run(["-c", f'exec "$@" {streams}', "sh", self.program, *words], executable="/bin/sh")
 
+    def no_reader_is_left(self):
+        """A run whose output takes no more begins no further line. It takes at most a tenth of the processor time that all its lines
+        would take, by that of the first of them."""
+        subcommand, workers, place = self.drawn.card("no reader is left", NO_READER_IS_LEFT)
+        words = [subcommand, "--workers", workers, "a"]
+        lines = [self.drawn.full_position() + b"\n" for _ in range(2000)]
+        self.put({"a": b"".join(lines[:30])})
+        few, of_few = self.timed(lambda: self.run(words))
+        self.put({"a": b"".join(lines)})
+        first = few.out[: few.out.index(b"\n") + 1] if place == "pipe" else b""
+        got, spent = self.timed(lambda: self.run_into(place, words, len(first)))
+        self.compare(Run(first, b"kalah: write failed\n", 2), got)
+        if spent > of_few / 30 * len(lines) / 10:
+            raise Differs(f"30 lines took {of_few:.2f} s of processor, and {len(lines)} that nobody reads {spent:.2f} s")
+
+    def timed(self, run):
+        """Returns the result of a run, and the processor time that it took, in seconds."""
+        before = resource.getrusage(resource.RUSAGE_CHILDREN)
+        result = run()
+        after = resource.getrusage(resource.RUSAGE_CHILDREN)
+        return result, after.ru_utime + after.ru_stime - before.ru_utime - before.ru_stime
+
+    def run_into(self, place, words, size):
+        """Returns the result of a run into a file that is full, or into a pipe that is closed after so many bytes."""
+        reader, writer = os.pipe() if place == "pipe" else (os.open(os.devnull, os.O_RDONLY), os.open(place, os.O_WRONLY))
+        with self.start(words, stdout=writer) as process:
+            os.close(writer)
+            got = read_soon(reader, size)
+            os.close(reader)
+            return self.end_of(process)._replace(out=got)
+
     def first_answers(self):
         """Answers are read while a later line is being solved."""
         place, lines = self.drawn.card("first answers", FIRST_ANSWERS)
@@ -496,6 +547,44 @@ class Trials(AskTrials):
         self.compare(Run(want, b"", 0), Run(got, b"", 0))
         if has_ended:
             raise Differs("the run has ended, though its first move takes long")
+
+    def first_move(self):
+        """The first move of a game is read before the second is found."""
+        place, words = self.drawn.card("first moves", FIRST_MOVES)
+        rows = reference.moves(words[-1]).out.splitlines(keepends=True)
+        self.put({})
+        got = self.before_more([*words, "--table", "1"], place)
+        if got not in rows:
+            raise Differs(f"the first move came with the next ones: {got.decode()!r}")
+
+    def before_more(self, words, place, lines=b""):
+        """Returns what a run that is asked these lines writes at first. On a busy machine what was written separately may be read together:
+        then it is tried again."""
+        for _ in range(3):
+            got = self.first_piece(words, place, lines)
+            if got.count(b"\n") == 1:
+                break
+        return got
+
+    def first_piece(self, words, place, lines):
+        reader, writer = two_ends(place)
+        with self.start(words, stdin=subprocess.PIPE, stdout=writer, bufsize=0) as process:
+            process.stdin.write(lines)
+            got = read_piece(reader)
+            process.kill()
+        os.close(reader)
+        os.close(writer)
+        return got
+
+    def ends_at_a_failed_write(self):
+        """A run that writes row by row ends at the first row that can't be written, and so takes a small part of its time."""
+        words = self.drawn.card("row by row", ROW_BY_ROW)
+        self.put({})
+        _, of_all = self.timed(lambda: self.run(words))
+        got, spent = self.timed(lambda: self.run_into("/dev/full", words, 0))
+        self.compare(reference.failed(b"write failed"), got)
+        if spent > of_all / 2:
+            raise Differs(f"the run took {of_all:.2f} s of processor, and {spent:.2f} s where its first row can't be written")
 
     def busy_workers(self):
         """The number of threads that work in parallel is the requested number of workers. They share one table of endings: with a
@@ -552,16 +641,17 @@ class Trials(AskTrials):
         self.look_at_progress(shown.decode(), sum(len(reference.lines_of(data)) for _, data in files), place == "terminal")
 
     def look_at_progress(self, shown, lines, in_place):
-        """The shown numbers rise from none to all lines, each with its share."""
-        end = "" if in_place else "\n"
-        rows = re.findall(r"\r?kalah: (\d+) of (\d+) lines, (\d+) %\n?", shown)
-        counts = [int(answered) for answered, _, _ in rows]
-        again = [f"{chr(13) * in_place}kalah: {n} of {lines} lines, {100 * n // max(lines, 1) if lines else 100} %{end}" for n in counts]
-        if shown != "".join(again) + "\n" * in_place or counts != sorted(set(counts)) or counts[0] != 0 or counts[-1] != lines:
+        """The shown numbers rise from none to all lines, each with its share: a line for each per cent, or one line that is rewritten."""
+        begin, end = ("\r", "\x1b[K") if in_place else ("", "\n")
+        rows = [(int(answered), left) for answered, left in re.findall(r"kalah: (\d+) of \d+ lines, \d+ %(, \d+ (?:s|min|h) left)?", shown)]
+        again = [f"{begin}kalah: {n} of {lines} lines, {100 * n // lines if lines else 100} %{left}{end}" for n, left in rows]
+        counts = [n for n, _ in rows]
+        if shown != "".join(again) + "\n" * in_place or counts != sorted(set(counts)) or rows[0] != (0, "") or rows[-1] != (lines, ""):
             raise Differs(f"progress is shown as {shown[:300]!r} .. {shown[-100:]!r}")
-        steps = [n * (1000 if in_place else 100) // max(lines, 1) for n in counts]
-        if len(set(steps)) < len(steps):
-            raise Differs(f"progress is shown twice for one share: {shown[:300]!r}")
+        parts = 1000 if in_place else 100
+        steps = {-(-lines * part // parts) for part in range(parts + 1)}
+        if steps - set(counts) or (set(counts) - steps and not in_place):
+            raise Differs(f"progress leaves out a share, or shows one twice: {shown[:300]!r}")
 
     def one_pipe_twice(self):
         """A file is read for each time that it is named: of a pipe, all there is the first time, and nothing more."""
@@ -627,18 +717,19 @@ class Trials(AskTrials):
             raise Differs(f"{lines} lines went out in {len(pieces)} writes")
 
     def waits_at_rest(self):
-        """While one worker is at work, the other threads take almost no processor time."""
+        """While one worker is at work, the other threads together take at most a tenth of its processor time. A thread that spins beside
+        the worker on one processor may yield to it each time, so it isn't seen in each trial."""
         self.put({"a": HARD})
         with self.start([self.searching(), "--table", "1", "--workers", "1", "a"]) as process:
             end = time.monotonic() + SOON
-            while busy_threads(process) < 1 and time.monotonic() < end:
+            worker = waiting = 0
+            while worker < AT_WORK and time.monotonic() < end:
                 time.sleep(0.05)
-            before = sorted(ticks_of(process).values())[:-1]
-            time.sleep(1)
-            after = sorted(ticks_of(process).values())[:-1]
+                *others, worker = sorted(ticks_of(process).values())
+                waiting = sum(others)
             process.kill()
-        if sum(after) - sum(before) > os.sysconf("SC_CLK_TCK") // 5:
-            raise Differs(f"in a second the threads that wait took {sum(after) - sum(before)} ticks of the clock")
+        if worker < AT_WORK or waiting > worker // 10:
+            raise Differs(f"while the worker took {worker} ticks of the clock, the threads that wait took {waiting}")
 
 
 # How often each trial is made in one round of all of them.
@@ -659,8 +750,11 @@ KINDS = {
     "help": len(HELP),
     "version": len(VERSION),
     "streams": len(STREAMS_OF_RUNS),
+    "no_reader_is_left": len(NO_READER_IS_LEFT),
     "first_answers": len(FIRST_ANSWERS),
     "first_picture": len(FIRST_PICTURES),
+    "first_move": len(FIRST_MOVES),
+    "ends_at_a_failed_write": len(ROW_BY_ROW),
     "busy_workers": len(BUSY_WORKERS),
     "few_lines": len(FEW_LINES),
     "progress": 4 * len(PROGRESS),
@@ -672,5 +766,5 @@ KINDS = {
     "many_large_tables": 1,
     "no_word": 1,
     "few_writes": 1,
-    "waits_at_rest": 1,
+    "waits_at_rest": 3,
 }

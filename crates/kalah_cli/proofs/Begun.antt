@@ -1,6 +1,8 @@
 -- What was begun, of what the arguments ask for.
 use Rattle.std.proofs.Common.{◌≡◌, inl, ℕ, Bool, true, false, List, [], ◌∷◌, ◌++◌, Option, ap, append-nil, append_assoc, drop, flat_map, get_or, length, map, refl, subst, sym, take, ◌+◌, ◌<◌, ◌∙◌}
-use Rattle.std.specs.Io.KnownBytes.{Appends, Keeps}
+use Rattle.std.specs.Io.Buffered.{reader_buffer, reader_capacity, reader_inner, reader_remaining}
+use Rattle.std.specs.Io.KnownBytes.{Appends, Consumes, Keeps, prepend_known}
+use Rattle.std.specs.declared.io.buffered.BufReader.{BufReader}
 use Rattle.kalah_rules.specs.Position.{Position, HasEqualSides}
 use Rattle.kalah_rules.specs.Play.{position_after}
 use Rattle.kalah_rules.specs.Sowing.{after}
@@ -16,13 +18,14 @@ use Rattle.kalah_jobs.proofs.WritingLemmas.Starts.{start_kept_all, start_longer,
 use Rattle.kalah_jobs.proofs.WritingLemmas.StepLines.{first_moves, one_more}
 use Rattle.kalah_cli.specs.Moves.{board_lines, move_lines}
 use Rattle.kalah_cli.specs.Play.{BeginsToPlay}
-use Rattle.kalah_cli.specs.Request.{Asked, answers, ask, count, moves, play, show}
+use Rattle.kalah_cli.specs.Request.{Asked, answers, ask, conflict, count, moves, play, show}
 use Rattle.kalah_cli.specs.Runs.{Begins}
-use Rattle.kalah_cli.specs.Ask.{BeginsLines, StopsBetweenLines}
+use Rattle.kalah_cli.specs.Ask.{AnswersLines, AreFirst, BeginsLines, StopsBetweenLines}
 use Rattle.kalah_cli.specs.SolveFiles.{BeginsTo}
+use Rattle.kalah_cli.specs.declared.status.ExitStatus.{ExitStatus}
 use Rattle.std.proofs.KnownBytes.{Appends-kept, Appends-nil, Appends-trans}
 use Rattle.std.proofs.lemmas.Bool.{false_from_ne_true, false≢true}
-use Rattle.std.specs.Prelude.{Err, Ok, OnOk, Result, ◌↔◌}
+use Rattle.std.specs.Prelude.{Err, IfSome, None, Ok, OnOk, Result, Some, ◌==◌, ◌↔◌, if◌then◌else◌}
 use Rattle.kalah_jobs.proofs.AskingLemmas.AnswersTo.{answers_split, no_answers}
 use Rattle.kalah_jobs.specs.Asking.Asked.{IsBegun, IsCutOff, answers_to}
 use Rattle.std.proofs.Math.Seq.{take-append-add}
@@ -79,28 +82,81 @@ pub begins_nothing : (question : Question) (names : List (List ℕ)) (old : Opti
 begins_nothing question names old = record { files = empty_files names; named = their_names names; start = start_none old _ }
 
 -- and of the answers to any lines
-pub no_lines_begun : (question : Question) (old : Option (List ℕ)) → BeginsLines question old old
-no_lines_begun question old = record { read = []; start = start_none old _ }
+-- a reader that reads ahead has at first all that the other has
+pub all_unread : {T A : Type 0} (remaining : T → Option (List ℕ)) (r : BufReader T A) (inner : T) → reader_inner r ≡ inner → reader_buffer r ≡ []
+    → reader_capacity r ≡ 8192 → remaining inner ≡ reader_remaining remaining r
+all_unread {T} {A} remaining r inner is empty capacity =
+    sym (ap (λ n. if n == 0 then None else prepend_known (reader_buffer r) (remaining r.inner)) capacity
+    ∙ ap (λ l. prepend_known l (remaining r.inner)) empty
+    ∙ none_before (remaining r.inner)
+    ∙ ap remaining is)
+  where
+    none_before : (known : Option (List ℕ)) → prepend_known [] known ≡ known
+    none_before None = refl
+    none_before (Some xs) = refl
 
-pub stops_before_lines : (question : Question) (old : Option (List ℕ)) → StopsBetweenLines question old old
-stops_before_lines question old = record {
+-- no bytes stand first
+none_first : (unread : Option (List ℕ)) → AreFirst [] unread
+none_first None = tt
+none_first (Some bytes) = (bytes, refl)
+
+-- what was taken stood first
+taken_first : (before after : Option (List ℕ)) (taken : List ℕ) → Consumes before after taken → AreFirst taken before
+taken_first None after taken is = tt
+taken_first (Some bytes) None taken is = absurd is
+taken_first (Some bytes) (Some rest) taken is = (rest, is)
+
+-- and so did a first part of it
+part_first : (before after : Option (List ℕ)) (lines part : List ℕ) → Consumes before after (lines ++ part) → AreFirst lines before
+part_first None after lines part is = tt
+part_first (Some bytes) None lines part is = absurd is
+part_first (Some bytes) (Some rest) lines part is = (part ++ rest, is ∙ append_assoc lines part rest)
+
+-- what is known of these bytes is known of bytes that nobody knows
+pub asked_of_any : (question : Question) (unread old new : Option (List ℕ)) (status : ExitStatus) → AnswersLines question unread old new status
+    → AnswersLines question None old new status
+asked_of_any question unread old new status is = record { read = is.read; all = tt; written = is.written; clean = is.clean }
+
+pub begun_of_any : (question : Question) (unread old new : Option (List ℕ)) → BeginsLines question unread old new → BeginsLines question None old new
+begun_of_any question unread old new is = record { read = is.read; first = tt; start = is.start }
+
+pub stopped_of_any : (question : Question) (unread old new : Option (List ℕ)) → StopsBetweenLines question unread old new
+    → StopsBetweenLines question None old new
+stopped_of_any question unread old new is = record { lines = is.lines; first = tt; ended = is.ended; written = is.written }
+
+pub no_lines_begun : (question : Question) (unread old : Option (List ℕ)) → BeginsLines question unread old old
+no_lines_begun question unread old = record { read = []; first = none_first unread; start = start_none old _ }
+
+pub stops_before_lines : (question : Question) (unread old : Option (List ℕ)) → StopsBetweenLines question unread old old
+stops_before_lines question unread old = record {
   lines = [];
+  first = none_first unread;
   ended = inl refl;
   written = subst (Appends old old) (sym (no_answers question)) (Appends-nil old);
 }
 
 -- a prefix of the answers to lines, and of that to the next one, is a prefix of all of them
-pub lines_begun : (question : Question) (before after old new : Option (List ℕ)) → IsBegun question before after old new → BeginsLines question old new
-lines_begun question before after old new begun =
+pub lines_begun : (question : Question) (unread before after old new : Option (List ℕ)) → unread ≡ before → IsBegun question before after old new
+    → BeginsLines question unread old new
+lines_begun question unread before after old new is begun =
     let first = answers_to question begun.lines in
     let rest = answers_to question begun.last in
     let all = ap (take (length first + begun.count)) (answers_split question begun.lines begun.last begun.ended) ∙ take-append-add first rest begun.count in
-    record { read = begun.lines ++ begun.last; start = (length first + begun.count, subst (Appends old new) (sym all) begun.written) }
+    record {
+      read = begun.lines ++ begun.last;
+      first = subst (AreFirst (begun.lines ++ begun.last)) (sym is) (taken_first before after _ begun.taken);
+      start = (length first + begun.count, subst (Appends old new) (sym all) begun.written);
+    }
 
 -- if a read failed
-pub lines_cut_off : (question : Question) (before after old new : Option (List ℕ)) → IsCutOff question before after old new →
-    StopsBetweenLines question old new
-lines_cut_off question before after old new cut = record { lines = cut.lines; ended = cut.ended; written = cut.written }
+pub lines_cut_off : (question : Question) (unread before after old new : Option (List ℕ)) → unread ≡ before → IsCutOff question before after old new →
+    StopsBetweenLines question unread old new
+lines_cut_off question unread before after old new is cut = record {
+  lines = cut.lines;
+  first = subst (AreFirst cut.lines) (sym is) (part_first before after cut.lines cut.part cut.taken);
+  ended = cut.ended;
+  written = cut.written;
+}
 
 -- a position that a line writes has as many houses on each side
 pub even_read : (line : List ℕ) (p : Position) → Reads line p → HasEqualSides p
@@ -118,6 +174,7 @@ pub begins_none : (a : Asked) (old : Option (List ℕ)) → Begins a old old
 begins_none (moves boards line) old = λ p reads. start_none old _
 begins_none (play first table boards line) old = λ p reads. begins_no_play first boards p old (even_read line p reads)
 begins_none (answers question workers table progress names) old = begins_nothing question names old
-begins_none (ask question table) old = no_lines_begun question old
+begins_none (ask question table) old = no_lines_begun question None old
 begins_none (show plain table line) old = λ p reads. start_none old _
 begins_none (count depth line) old = λ p reads. start_none old _
+begins_none conflict old = start_none old []

@@ -1,5 +1,5 @@
 -- What arguments are accepted as, and what is done for them.
-use Rattle.std.proofs.Common.{◌≡◌, ◌≢◌, ◌∙◌, ◌⊎◌, inl, inr, ℕ, false, true, List, [], ◌∷◌, None, Option, ap, refl, subst, sym}
+use Rattle.std.proofs.Common.{◌≡◌, ◌≢◌, ◌∙◌, ◌⊎◌, inl, inr, ℕ, false, List, [], ◌∷◌, Option, ap, refl, subst, sym}
 use Rattle.std.specs.List.{All}
 use Rattle.clap.specs.Values.{kind_of}
 use Rattle.clap.specs.Walk.{Text}
@@ -10,18 +10,19 @@ use Rattle.clap.specs.declared.error.kind.ErrorKind.{ErrorKind}
 use Rattle.clap.specs.declared.error.kind.ErrorKind.TheVariants.{DisplayHelp, DisplayVersion, MissingRequiredArgument, OutOfMemory}
 use Rattle.kalah_rules.specs.Position.{Position}
 use Rattle.kalah_jobs.specs.declared.files.question.Question.{Question}
-use Rattle.kalah_cli.specs.Command.{default_entries, kalah_app}
-use Rattle.kalah_jobs.specs.declared.files.question.Question.TheVariants.{BestMove, Steps, Values}
-use Rattle.kalah_cli.specs.Request.{Asked, AsksNot, IsPlainWord, IsRefused, IsTakenAs, answers, ask, command_of, count, moves, play, table_of, show}
+use Rattle.kalah_cli.specs.Command.{kalah_app}
+use Rattle.kalah_jobs.specs.declared.files.question.Question.TheVariants.{BestMove}
+use Rattle.kalah_cli.specs.Request.{Asked, AsksNot, IsPlainWord, IsRefused, IsTakenAs, answers, ask, command_of, conflict, count, moves, play, table_of, show}
 use Rattle.kalah_cli.specs.Runs.{Does, DoesByItsWords, DoesWhatIsAsked, Prints, RefusesTheRest}
 use Rattle.kalah_cli.specs.declared.status.ExitStatus.{ExitStatus}
 use Rattle.kalah_cli.specs.declared.status.ExitStatus.TheVariants.{Clean, Failed}
-use Rattle.kalah_cli.proofs.Laws.{ask_taken, ask_values_taken, moves_taken, play_taken, show_plain_taken, show_taken, taken_at, version_asked}
+use Rattle.kalah_cli.proofs.Laws.{moves_taken, taken_at}
 use Rattle.kalah_cli.proofs.Plain.{read_is_plain}
 use Rattle.kalah_cli.proofs.ManyWords.{files_taken, no_file_is_missed}
 
 -- `solve`, `values` or `steps` and plain words are accepted as asking this of files, or a file is missing
-pub files_or_none : (question : Question) (words : List Text) (name : Text) (files : List Text) → words ≡ name ∷ command_of question ∷ files
+pub files_or_none : (question : Question) (words : List Text) (name : Text) (files : List Text) →
+    words ≡ name ∷ command_of question ∷ files
     → All IsPlainWord files → IsTakenAs words (answers question 4 (table_of question) false files)
     ⊎ (fault_of kalah_app words ≡ MissingRequiredArgument ∷ [])
 files_or_none question words name [] is plain = inr (ap (fault_of kalah_app) is ∙ no_file_is_missed question name)
@@ -38,6 +39,7 @@ failed_does (answers question workers table progress names) old new status faile
 failed_does (ask question table) old new status failed = λ went. absurd (went failed)
 failed_does (show plain table line) old new status failed = failed_prints line _ status failed
 failed_does (count depth line) old new status failed = failed_prints line _ status failed
+failed_does conflict old new status failed = failed
 
 -- arguments that have a single fault are refused, and ask for nothing else
 refused_by : (words : List Text) (k : ErrorKind) → fault_of kalah_app words ≡ k ∷ [] → IsRefused words
@@ -46,39 +48,25 @@ refused_by words k is none = let bad : k ∷ [] ≡ [] = sym is ∙ none in cc
 asks_not : (words : List Text) (k alone : ErrorKind) → k ≢ alone → fault_of kalah_app words ≡ alone ∷ [] → AsksNot k words
 asks_not words k alone other is among = elim (subst (IsAmong k) is among) [ inl same ↦ other same | inr bad ↦ bad ]
 
--- so what is promised of arguments that are accepted, and of those that are refused, covers the arguments of each subcommand
+-- so what is promised of arguments that are accepted, and of those that are refused, covers those of `moves` and `solve`
 module _ {O : Type 0} (written : O → Option (List ℕ)) (words : List Text) (old new : O) (status : ExitStatus)
     (accepted : DoesWhatIsAsked written words old new status) (refused : RefusesTheRest written words old new status) where
-  of_files : (question : Question) (name : Text) (files : List Text) → words ≡ name ∷ command_of question ∷ files → All IsPlainWord files
+  of_files : (question : Question) (name : Text) (files : List Text) → words ≡ name ∷ command_of question ∷ files →
+      All IsPlainWord files
       → Does (answers question 4 (table_of question) false files) (written old) (written new) status
   of_files question name files is plain went = elim (files_or_none question words name files is plain) [
     | inl taken ↦ accepted.does (answers question 4 (table_of question) false files) taken went
     | inr missed ↦ absurd (went (refused.usage (refused_by words MissingRequiredArgument missed)
-        (asks_not words DisplayHelp MissingRequiredArgument (λ e. cc) missed) (asks_not words DisplayVersion MissingRequiredArgument (λ e. cc) missed)).0)
+        (asks_not words DisplayHelp MissingRequiredArgument (λ e. cc) missed)
+        (asks_not words DisplayVersion MissingRequiredArgument (λ e. cc) missed)).0)
   ]
 
   pub by_words : DoesByItsWords written words old new status
   by_words = record {
-    moves = λ name line is p reads. accepted.does (moves false line) (taken_at is (moves_taken name line (read_is_plain line p reads))) p reads;
-    played = λ name line is p reads.
-        let played = accepted.does (play None default_entries false line) (taken_at is (play_taken name line (read_is_plain line p reads))) p reads in
-        (played.0, λ clean. (played.1 clean).1);
-    shown = λ name line is p reads. accepted.does (show false default_entries line) (taken_at is (show_taken name line (read_is_plain line p reads))) p reads;
-    shown_plain = λ name line is p reads.
-        accepted.does (show true default_entries line) (taken_at is (show_plain_taken name line (read_is_plain line p reads))) p reads;
-    unread = λ name line is plain none. elim is [
-      | inl moved ↦ accepted.unread_line (moves false line) line (taken_at moved (moves_taken name line plain)) refl none
-      | inr played ↦ accepted.unread_line (play None default_entries false line) line (taken_at played (play_taken name line plain)) refl none
-    ];
+    moves = λ name line is p reads. accepted.does (moves false line) (taken_at is (moves_taken name line (read_is_plain line p reads))) p
+        reads;
+    unread = λ name line is plain none. accepted.unread_line (moves false line) line (taken_at is (moves_taken name line plain)) refl none;
     solved = of_files BestMove;
-    valued = of_files Values;
-    stepped = of_files Steps;
-    asked = λ name is. accepted.does (ask BestMove default_entries) (taken_at is (ask_taken name));
-    asked_values = λ name is. accepted.does (ask Values default_entries) (taken_at is (ask_values_taken name));
-    version_word = λ name is. let asks = version_asked words name is in (
-      refused.no_line (refused_by words DisplayVersion asks),
-      refused.version (refused_by words DisplayVersion asks) (asks_not words DisplayHelp DisplayVersion (λ e. cc) asks),
-    );
   }
 
 -- an error of arguments that ask for no help, or for no version, is no such request

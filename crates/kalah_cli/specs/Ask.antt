@@ -1,5 +1,5 @@
--- What `kalah ask` writes. No contract knows the bytes of the standard input.
-use Rattle.std.specs.Prelude.{◌≡◌, ◌↔◌, ℕ, List, Option, true}
+-- What `kalah ask` writes for the bytes that a reader had left, where these are known. Of the standard input they aren't.
+use Rattle.std.specs.Prelude.{◌≡◌, ◌↔◌, ℕ, List, ◌++◌, IfSome, Option, true}
 use Rattle.std.specs.Io.KnownBytes.{Appends}
 use Rattle.kalah_jobs.specs.Asking.Asked.{answers_to, are_all_read}
 use Rattle.kalah_jobs.specs.Writing.Given.{AppendsStart}
@@ -8,20 +8,27 @@ use Rattle.kalah_jobs.specs.declared.files.question.Question.{Question}
 use Rattle.kalah_cli.specs.declared.status.ExitStatus.{ExitStatus}
 use Rattle.kalah_cli.specs.declared.status.ExitStatus.TheVariants.{Clean}
 
--- some bytes were read, and between the two states the answers to their lines were written, if this is asked of positions, and
--- nothing else was; the status is clean exactly when no line is a fault
-pub record AnswersLines (question : Question) (old new : Option (List ℕ)) (status : ExitStatus) : Type 0 where
+-- these bytes stand first among those that the reader had
+abbrev pub AreFirst : List ℕ → Option (List ℕ) → Type 0
+AreFirst read unread = IfSome unread (λ bytes. (rest : List ℕ) × (bytes ≡ read ++ rest))
+
+-- some bytes were read, which are all that there were, and between the two states the answers to their lines were written, if this is
+-- asked of positions, and nothing else was; the status is clean exactly when no line is a fault
+pub record AnswersLines (question : Question) (unread old new : Option (List ℕ)) (status : ExitStatus) : Type 0 where
   pub read : List ℕ
+  pub all : IfSome unread (λ bytes. read ≡ bytes)
   pub written : Appends old new (answers_to question read)
   pub clean : status ≡ Clean ↔ are_all_read read ≡ true
 
 -- a prefix of these answers was written, and nothing else
-pub record BeginsLines (question : Question) (old new : Option (List ℕ)) : Type 0 where
+pub record BeginsLines (question : Question) (unread old new : Option (List ℕ)) : Type 0 where
   pub read : List ℕ
+  pub first : AreFirst read unread
   pub start : AppendsStart old new (answers_to question read)
 
 -- the answers to lines that were read completely were written, and nothing else
-pub record StopsBetweenLines (question : Question) (old new : Option (List ℕ)) : Type 0 where
+pub record StopsBetweenLines (question : Question) (unread old new : Option (List ℕ)) : Type 0 where
   pub lines : List ℕ
+  pub first : AreFirst lines unread
   pub ended : EndsWithItsLine lines
   pub written : Appends old new (answers_to question lines)

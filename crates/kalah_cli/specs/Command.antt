@@ -21,9 +21,13 @@ value_rule name = record (new_rule name) { value_names = 1; action = Some Set }
 abbrev pub line_rule : Rule
 line_rule = record (value_rule (codes "line")) { required = true }
 
+-- `--NAME N`: a number from 1 to the most, or nothing
+abbrev pub limited_rule : Text → ℕ → Rule
+limited_rule name most = record (value_rule name) { long = Some name; parser = Some (Unsigned 1 most) }
+
 -- `--NAME N`: a number from 1 to the most, and the default if it isn't given
 abbrev pub number_rule : Text → ℕ → Text → Rule
-number_rule name most default = record (value_rule name) { long = Some name; parser = Some (Unsigned 1 most); defaults = default ∷ [] }
+number_rule name most default = record (limited_rule name most) { defaults = default ∷ [] }
 
 -- DEPTH: a number up to the most, which is required
 abbrev pub depth_rule : Rule
@@ -43,7 +47,7 @@ table_rule = number_rule (codes "table") most_entries (codes "65536")
 
 -- `--first H`: the number of a house, or nothing
 abbrev pub first_rule : Rule
-first_rule = record (value_rule (codes "first")) { long = Some (codes "first"); parser = Some (Unsigned 1 most_houses) }
+first_rule = limited_rule (codes "first") most_houses
 
 -- `--NAME`, a flag
 abbrev pub flag_rule : Text → Rule
@@ -71,9 +75,11 @@ solve_app = answers_app (codes "solve")
 abbrev pub values_app : App
 values_app = answers_app (codes "values")
 
--- `ask [--values] [--table N]`
+-- `ask [--values] [--steps] [--table N]`, where a table has no default, as `--steps` excludes it
 abbrev pub ask_app : App
-ask_app = with_rule (with_rule (new_app (codes "ask")) (flag_rule (codes "values"))) table_rule
+ask_app =
+    with_rule (with_rule (with_rule (new_app (codes "ask")) (flag_rule (codes "values"))) (flag_rule (codes "steps")))
+    (limited_rule (codes "table") most_entries)
 
 -- `steps [--workers N] [--progress] FILE..`
 abbrev pub steps_app : App

@@ -34,10 +34,6 @@ WritesGame boards p old new = OfBestGame boards p (λ lines. Appends old new lin
 abbrev pub BeginsGame : Bool → Position → Option (List ℕ) → Option (List ℕ) → Type 0
 BeginsGame boards p old new = OfBestGame boards p (λ lines. AppendsStart old new lines)
 
--- the first position, if boards are drawn, and the moves of that game were written, and nothing else
-abbrev pub PlaysBest : Bool → Position → Option (List ℕ) → Option (List ℕ) → Type 0
-PlaysBest boards p old new = OfBestGame boards p (λ lines. Appends old new (board_lines boards p ++ lines))
-
 -- ---- a game with a first move that is asked for
 
 -- the house that is asked for may be moved
@@ -49,7 +45,8 @@ MayBegin (Some h) p = Contains (legal_houses p) h
 abbrev pub OfGame : Option ℕ → Bool → Position → (List ℕ → Type 0) → Type 0
 OfGame None boards p Holds = OfBestGame boards p (λ lines. Holds (board_lines boards p ++ lines))
 OfGame (Some h) boards p Holds =
-    OfBestGame boards (position_after (step_of p h)) (λ lines. Holds (board_lines boards p ++ (move_lines boards h (step_of p h) ++ lines)))
+    OfBestGame boards (position_after (step_of p h))
+    (λ lines. Holds (board_lines boards p ++ (move_lines boards h (step_of p h) ++ lines)))
 
 -- the house may be moved, and that game was written, and nothing else
 abbrev pub Plays : Option ℕ → Bool → Position → Option (List ℕ) → Option (List ℕ) → Type 0

@@ -1,5 +1,5 @@
 -- What the arguments of a command line ask the program to do.
-use Rattle.std.specs.Prelude.{ℕ, Bool, false, List, [], ◌∷◌, Option, Some, codes, ◌<◌, ◌≤◌, ◌≡◌, ◌≢◌, ◌⊎◌, length, map, option_map, string_bytes, option_and_then, if◌then◌else◌, is_some, true, ⊤}
+use Rattle.std.specs.Prelude.{ℕ, Bool, false, List, [], ◌∷◌, Option, None, Some, codes, ◌<◌, ◌≤◌, ◌≡◌, ◌≢◌, ◌⊎◌, length, map, option_map, string_bytes, option_and_then, if◌then◌else◌, is_some, true, unwrap_or, ⊤}
 use Rattle.std.specs.declared.string.String.{String}
 use Rattle.std.specs.Option.{option_map_or}
 use Rattle.std.specs.Str.{bytes_eq}
@@ -16,7 +16,7 @@ use Rattle.kalah_solve.specs.Table.Entries.{most_entries}
 use Rattle.kalah_run.specs.Limits.{most_workers}
 use Rattle.kalah_cli.specs.Command.{default_entries, kalah_app}
 use Rattle.kalah_cli.specs.declared.request.Request.{Request}
-use Rattle.kalah_cli.specs.declared.request.Request.TheVariants.{Moves, Play, Files, Ask, Show, Count}
+use Rattle.kalah_cli.specs.declared.request.Request.TheVariants.{Moves, Play, Files, Ask, Show, Count, Conflict}
 use Rattle.kalah_cli.specs.declared.request.FilesRequest.{FilesRequest}
 
 module _ {A : Type 0} where
@@ -27,7 +27,7 @@ module _ {A : Type 0} where
 -- what can be asked: the moves of a line, with boards drawn or not; the game of best play from a line, or behind its move of a house,
 -- found with a table of the given size; something of each position in files, by a number of workers with such tables; or of each line of
 -- the standard input, with such a table; or a picture of a line, plain or with what its moves are worth, found with such a table; or the
--- number of ways of that many moves to play on from a line
+-- number of ways of that many moves to play on from a line; or nothing, by options that exclude each other
 pub data Asked : Type 0 where
   moves : Bool → Text → Asked
   play : Option ℕ → ℕ → Bool → Text → Asked
@@ -35,6 +35,7 @@ pub data Asked : Type 0 where
   ask : Question → ℕ → Asked
   show : Bool → ℕ → Text → Asked
   count : ℕ → Text → Asked
+  conflict : Asked
 
 -- the subcommand that asks this of files
 abbrev pub command_of : Question → Text
@@ -83,13 +84,17 @@ files_asked question rows = option_and_then (λ table. option_and_then (λ worke
     (number_given (codes "workers") rows))
     (table_asked question rows)
 
--- what is asked if the flag `--values` is set, and if it isn't
-abbrev pub question_of : Bool → Question
-question_of values = if values then Values else BestMove
+-- what `ask` asks for with these flags `--values` and `--steps`, and with this table: steps exclude the other two
+abbrev pub ask_for : Bool → Bool → Option ℕ → Asked
+ask_for false false table = ask BestMove (unwrap_or table default_entries)
+ask_for true false table = ask Values (unwrap_or table default_entries)
+ask_for false true None = ask Steps (table_of Steps)
+ask_for false true (Some entries) = conflict
+ask_for true true table = conflict
 
 -- what the matches of `ask` ask for
-abbrev pub ask_asked : List Row → Option Asked
-ask_asked rows = option_map (ask (question_of (is_set (codes "values") rows))) (number_given (codes "table") rows)
+abbrev pub ask_asked : List Row → Asked
+ask_asked rows = ask_for (is_set (codes "values") rows) (is_set (codes "steps") rows) (number_given (codes "table") rows)
 
 -- what the matches of `show` ask for
 abbrev pub show_asked : List Row → Option Asked
@@ -107,7 +112,7 @@ asked_by p =
     else (if bytes_eq p.0 (codes "play") then play_asked p.1
     else (if bytes_eq p.0 (codes "solve") then files_asked BestMove p.1
     else (if bytes_eq p.0 (codes "values") then files_asked Values p.1
-    else (if bytes_eq p.0 (codes "ask") then ask_asked p.1
+    else (if bytes_eq p.0 (codes "ask") then Some (ask_asked p.1)
     else (if bytes_eq p.0 (codes "steps") then files_asked Steps p.1
     else (if bytes_eq p.0 (codes "show") then show_asked p.1 else count_asked p.1))))))
 
@@ -127,10 +132,6 @@ IsRefused words = fault_of kalah_app words ≢ []
 abbrev pub AsksNot : ErrorKind → List Text → Type 0
 AsksNot kind words = IsAmong kind (fault_of kalah_app words) → ⊥
 
--- behind the program's name stands a flag that asks for the version, and nothing else
-abbrev pub IsVersionWord : Text → List Text → Type 0
-IsVersionWord name words = (words ≡ name ∷ codes "--version" ∷ []) ⊎ (words ≡ name ∷ codes "-V" ∷ [])
-
 -- what a request asks for
 abbrev pub asked_for : Request → Asked
 asked_for (Moves line boards) = moves boards line.now
@@ -139,6 +140,7 @@ asked_for (Files b) = answers b.question b.workers b.table b.progress (map (λ f
 asked_for (Ask question table) = ask question table
 asked_for (Show line table plain) = show plain table line.now
 asked_for (Count depth line) = count depth line.now
+asked_for Conflict = conflict
 
 -- a table has one entry at least, and the most
 abbrev pub IsTableSize : ℕ → Type 0
@@ -155,6 +157,7 @@ IsInRange (Files b) = IsInLimits b
 IsInRange (Ask question table) = IsTableSize table
 IsInRange (Show line table plain) = IsTableSize table
 IsInRange (Count depth line) = depth ≤ most_depth
+IsInRange Conflict = ⊤
 
 -- an argument that is no flag: it isn't empty and doesn't begin with `-` (45)
 abbrev pub IsPlainWord : Text → Type 0

@@ -1,5 +1,5 @@
 -- What the program does for each request.
-use Rattle.std.specs.Prelude.{◌≡◌, ◌≢◌, ◌⊎◌, ◌++◌, ◌∷◌, ℕ, List, [], Option, codes, false, ⊤}
+use Rattle.std.specs.Prelude.{◌≡◌, ◌≢◌, ◌++◌, ◌∷◌, ℕ, List, [], None, Option, codes, false, ⊤}
 use Rattle.std.specs.List.{All}
 use Rattle.std.specs.Io.KnownBytes.{Appends}
 use Rattle.clap.specs.Words.{Text}
@@ -7,13 +7,11 @@ use Rattle.clap.specs.declared.error.kind.ErrorKind.TheVariants.{DisplayHelp, Di
 use Rattle.kalah_rules.specs.Position.{Position}
 use Rattle.kalah_jobs.specs.Writing.Given.{AppendsStart}
 use Rattle.kalah_jobs.specs.Line.Line.{Reads}
-use Rattle.kalah_jobs.specs.Writing.Picture.{picture_of}
-use Rattle.kalah_jobs.specs.Writing.Shown.{shown_of}
-use Rattle.kalah_jobs.specs.declared.files.question.Question.TheVariants.{BestMove, Steps, Values}
+use Rattle.kalah_jobs.specs.declared.files.question.Question.TheVariants.{BestMove}
 use Rattle.kalah_cli.specs.Moves.{moves_output}
-use Rattle.kalah_cli.specs.Play.{BeginsToPlay, MayBegin, Plays, PlaysBest}
+use Rattle.kalah_cli.specs.Play.{BeginsToPlay, MayBegin, Plays}
 use Rattle.kalah_cli.specs.Count.{count_output}
-use Rattle.kalah_cli.specs.Request.{Asked, AsksNot, IsPlainWord, IsRefused, IsTakenAs, IsVersionWord, moves, play, answers, ask, show, count}
+use Rattle.kalah_cli.specs.Request.{Asked, AsksNot, IsPlainWord, IsRefused, IsTakenAs, moves, play, answers, ask, show, count, conflict}
 use Rattle.kalah_cli.specs.Show.{show_output}
 use Rattle.kalah_cli.specs.Ask.{AnswersLines, BeginsLines}
 use Rattle.kalah_cli.specs.SolveFiles.{AnswersTo, BeginsTo}
@@ -29,18 +27,20 @@ abbrev pub Does : Asked → Option (List ℕ) → Option (List ℕ) → ExitStat
 Does (moves boards line) old new status = Prints line (λ p. Appends old new (moves_output boards p)) status
 Does (play first table boards line) old new status = Prints line (λ p. Plays first boards p old new) status
 Does (answers question workers table progress names) old new status = status ≢ Failed → AnswersTo question names old new status
-Does (ask question table) old new status = status ≢ Failed → AnswersLines question old new status
+Does (ask question table) old new status = status ≢ Failed → AnswersLines question None old new status
 Does (show plain table line) old new status = Prints line (λ p. Appends old new (show_output plain p)) status
 Does (count depth line) old new status = Prints line (λ p. Appends old new (count_output depth p)) status
+Does conflict old new status = status ≡ Failed
 
 -- a prefix of what was asked was written between the two states, and nothing else
 abbrev pub Begins : Asked → Option (List ℕ) → Option (List ℕ) → Type 0
 Begins (moves boards line) old new = (p : Position) → Reads line p → AppendsStart old new (moves_output boards p)
 Begins (play first table boards line) old new = (p : Position) → Reads line p → BeginsToPlay first boards p old new
 Begins (answers question workers table progress names) old new = BeginsTo question names old new
-Begins (ask question table) old new = BeginsLines question old new
+Begins (ask question table) old new = BeginsLines question None old new
 Begins (show plain table line) old new = (p : Position) → Reads line p → AppendsStart old new (show_output plain p)
 Begins (count depth line) old new = (p : Position) → Reads line p → AppendsStart old new (count_output depth p)
+Begins conflict old new = AppendsStart old new []
 
 -- what is asked is asked of this line
 abbrev pub IsOfLine : Asked → Text → Type 0
@@ -62,7 +62,7 @@ IsUnmoved _ = ⊥
 
 -- what is written if the version is asked for: the program's name, its version and a line feed (10)
 abbrev pub version_line : Text
-version_line = codes "kalah 1.1.0" ++ 10 ∷ []
+version_line = codes "kalah 1.2.0" ++ 10 ∷ []
 
 -- no position is written by the line
 abbrev pub IsUnread : Text → Type 0
@@ -77,40 +77,25 @@ module _ {O : Type 0} (written : O → Option (List ℕ)) (words : List Text) (o
     -- in any case: a prefix of what is asked for was written, and nothing else
     pub begins : (a : Asked) → IsTakenAs words a → Begins a (written old) (written new)
     -- arguments about a line that can't be read
-    pub unread_line : (a : Asked) (line : Text) → IsTakenAs words a → IsOfLine a line → IsUnread line → (status ≢ Clean) × (new ≡ old)
+    pub unread_line : (a : Asked) (line : Text) → IsTakenAs words a → IsOfLine a line → IsUnread line →
+        (status ≢ Clean) × (new ≡ old)
     -- arguments that ask for a game that begins with a house that may not be moved
     pub unmoved : (a : Asked) → IsTakenAs words a → IsUnmoved a → (status ≡ Failed) × (new ≡ old)
+    -- options that exclude each other
+    pub conflicts : IsTakenAs words conflict → (status ≡ Failed) × (new ≡ old)
 
-  -- the arguments of each subcommand without options, and a few with one
+  -- the arguments of `moves` and of `solve` without options
   pub record DoesByItsWords : Type 0 where
     -- `moves` and a line that can be read: its moves are written, if nothing fails
     pub moves : (name line : Text) → words ≡ name ∷ codes "moves" ∷ line ∷ []
         → Prints line (λ p. Appends (written old) (written new) (moves_output false p)) status
-    -- `play` and a line that can be read: its game of best play is written, if nothing fails
-    pub played : (name line : Text) → words ≡ name ∷ codes "play" ∷ line ∷ []
-        → Prints line (λ p. PlaysBest false p (written old) (written new)) status
-    -- `show`, or `show --plain`, and a line that is read: its picture is written, with what its moves are worth, or alone
-    pub shown : (name line : Text) → words ≡ name ∷ codes "show" ∷ line ∷ []
-        → Prints line (λ p. Appends (written old) (written new) (shown_of p)) status
-    pub shown_plain : (name line : Text) → words ≡ name ∷ codes "show" ∷ codes "--plain" ∷ line ∷ []
-        → Prints line (λ p. Appends (written old) (written new) (picture_of p)) status
-    -- `moves` or `play` and a line that can't be read, but is no flag
-    pub unread : (name line : Text) → (words ≡ name ∷ codes "moves" ∷ line ∷ []) ⊎ (words ≡ name ∷ codes "play" ∷ line ∷ [])
-        → IsPlainWord line → IsUnread line → (status ≢ Clean) × (new ≡ old)
-    -- `solve`, `values` or `steps`, and files whose names are no flags: what is asked of them is written, if nothing fails
-    pub solved : (name : Text) (files : List Text) → words ≡ name ∷ codes "solve" ∷ files → All IsPlainWord files → status ≢ Failed
+    -- `moves` and a line that can't be read, but is no flag
+    pub unread : (name line : Text) → words ≡ name ∷ codes "moves" ∷ line ∷ [] → IsPlainWord line → IsUnread line
+        → (status ≢ Clean) × (new ≡ old)
+    -- `solve`, and files whose names are no flags: their answers are written, if nothing fails
+    pub solved : (name : Text) (files : List Text) → words ≡ name ∷ codes "solve" ∷ files → All IsPlainWord files →
+        status ≢ Failed
         → AnswersTo BestMove files (written old) (written new) status
-    pub valued : (name : Text) (files : List Text) → words ≡ name ∷ codes "values" ∷ files → All IsPlainWord files → status ≢ Failed
-        → AnswersTo Values files (written old) (written new) status
-    pub stepped : (name : Text) (files : List Text) → words ≡ name ∷ codes "steps" ∷ files → All IsPlainWord files → status ≢ Failed
-        → AnswersTo Steps files (written old) (written new) status
-    -- `ask`, or `ask --values`: of some bytes that were read, what is asked of their lines is written, if nothing fails
-    pub asked : (name : Text) → words ≡ name ∷ codes "ask" ∷ [] → status ≢ Failed → AnswersLines BestMove (written old) (written new) status
-    pub asked_values : (name : Text) → words ≡ name ∷ codes "ask" ∷ codes "--values" ∷ [] → status ≢ Failed
-        → AnswersLines Values (written old) (written new) status
-    -- `--version` or `-V` alone: the version is written, if nothing fails
-    pub version_word : (name : Text) → IsVersionWord name words → (status ≢ LineFaults)
-        × (status ≡ Clean → Appends (written old) (written new) version_line)
 
   -- arguments that are refused
   pub record RefusesTheRest : Type 0 where

@@ -1,5 +1,6 @@
 //! `kalah ask`.
-ghost use Rattle.std.specs.Prelude.{◌≡◌, ◌≢◌, false, true};
+ghost use Rattle.std.specs.Prelude.{◌≡◌, ◌≢◌, IfOk, false, true};
+ghost use Rattle.std.specs.Io.Buffered.{reader_remaining};
 ghost use Rattle.kalah_cli.specs.Request.{IsTableSize};
 ghost use Rattle.kalah_cli.specs.Ask.{AnswersLines, BeginsLines, StopsBetweenLines};
 
@@ -8,14 +9,40 @@ use crate::status::ExitStatus;
 use kalah_jobs::{AskFault, Question, Sink, answer_lines};
 use kalah_solve::{Solver, Table};
 use std::alloc::Global;
-use std::io::{BufReader, Input, Write};
+use std::io;
+use std::io::{BufReader, Input, IsTerminal, Read, Write};
 
-/// Answers what is asked of each line of the standard input, all with one solver, and reads more only after the answers to all that
-/// was read are written. Memory is requested before the first read, except for the entries of the table.
-#[tactic(auto, using(crate::proofs::Begun::lines_begun, crate::proofs::Begun::lines_cut_off, crate::proofs::Begun::stops_before_lines))]
-pub(crate) fn run_ask<R: Input, O: Sink, E: Write>(
-    rt: &R,
+/// A runtime's standard input.
+pub trait StandardInput: Input {
+    /// Returns whether standard input is a terminal, where somebody types.
+    fn is_typed(&self) -> bool;
+}
+
+impl StandardInput for HostRuntime {
+    fn is_typed(&self) -> bool {
+        self.stdin().is_terminal()
+    }
+}
+
+// What a terminal is told.
+const HINT: &str = "kalah: waits for positions, one a line, as 1,1/0 1,1/0; Ctrl-D ends\n";
+
+// Returns a reader that reads ahead, with all that the reader has left.
+#[tactic(auto, using(crate::proofs::Begun::all_unread))]
+fn reading_ahead<I: Read + Drop>(alloc: Global, input: I) -> io::Result<BufReader<I>>
+    ensures { IfOk result (λ r. I.remaining input ≡ reader_remaining I.remaining r) }
+{
+    BufReader::new(alloc, input)
+}
+
+/// Answers what is asked of each line of a reader, all with one solver, and reads more only after the answers to all that was read are
+/// written. Memory is requested before the first read, except for the entries of the table. Where somebody types, it first says on
+/// `err` what it waits for.
+#[tactic(auto, using(crate::proofs::Begun::stops_before_lines))]
+pub(crate) fn run_ask<I: Read + Drop, O: Sink, E: Write>(
     alloc: Global,
+    input: I,
+    is_typed: bool,
     question: Question,
     table: u32,
     out: &mut O,
@@ -24,19 +51,22 @@ pub(crate) fn run_ask<R: Input, O: Sink, E: Write>(
     requires table { IsTableSize table }
     requires sink { O.has_failed out.old ≡ false }
     ensures asked { result ≢ ExitStatus.Failed
-        → AnswersLines question (O.written out.old) (O.written out.new) result }
-    ensures begins { BeginsLines question (O.written out.old) (O.written out.new) }
+        → AnswersLines question (I.remaining input) (O.written out.old) (O.written out.new) result }
+    ensures begins { BeginsLines question (I.remaining input) (O.written out.old) (O.written out.new) }
     ensures failed { O.has_failed out.new ≡ true → result ≡ ExitStatus.Failed }
     ensures stopped { result ≡ ExitStatus.Failed → O.has_failed out.new ≡ false
-        → StopsBetweenLines question (O.written out.old) (O.written out.new) }
+        → StopsBetweenLines question (I.remaining input) (O.written out.old) (O.written out.new) }
     ensures handed_on { O.has_failed out.new ≡ false → O.is_handed_on out.old ≡ true → O.is_handed_on out.new ≡ true }
 {
     let Ok(table) = Table::new(alloc, table) else {
         return Failure::OutOfMemory.report(err);
     };
-    let Ok(mut input) = BufReader::new(alloc, rt.reader()) else {
+    let Ok(mut input) = reading_ahead(alloc, input) else {
         return Failure::OutOfMemory.report(err);
     };
+    if is_typed {
+        let _ = err.write_all(HINT.as_bytes());
+    }
     match answer_lines(&mut input, question, &mut Solver::new(table), out) {
         Ok(true) => ExitStatus::Clean,
         Ok(false) => ExitStatus::LineFaults,

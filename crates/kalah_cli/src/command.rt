@@ -1,7 +1,7 @@
 //! The command line of the program.
 ghost use Rattle.std.specs.Prelude.{◌≡◌, IfOk, false, true};
 ghost use Rattle.clap.specs.Words.{app_of, new_app, rule_of, with_rule, with_subcommand};
-ghost use Rattle.kalah_cli.specs.Command.{IsReadBy, answers_app, ask_app, count_app, file_rule, flag_rule, kalah_app, line_rule, moves_app, number_rule, play_app, program_app, show_app, steps_app, table_rule, value_rule, workers_rule};
+ghost use Rattle.kalah_cli.specs.Command.{IsReadBy, answers_app, ask_app, count_app, file_rule, flag_rule, kalah_app, limited_rule, line_rule, moves_app, number_rule, play_app, program_app, show_app, steps_app, table_rule, value_rule, workers_rule};
 
 use crate::help;
 use crate::version::VERSION_LINE;
@@ -82,7 +82,22 @@ fn moves_command<'a>(alloc: Global) -> Result<Command<'a>, AllocError>
     with_arg(command, line_arg(alloc))
 }
 
-// Returns the option `--NAME N`, a number from 1 to the most.
+// Returns the option `--NAME N`, a number from 1 to the most. In the help N has this name.
+fn limited_arg<'a>(
+    alloc: Global,
+    name: &'a str,
+    value_name: &'a str,
+    help: &'a str,
+    most: u32,
+) -> Arg<'a>
+    ensures { IsReadBy (limited_rule name.entry.now most) result }
+{
+    value_arg(alloc, name, value_name, help)
+        .long(name)
+        .value_parser(ValueParser::unsigned(1, most as u64))
+}
+
+// Returns the option `--NAME N`, a number from 1 to the most, with a default.
 fn number_arg<'a>(
     alloc: Global,
     name: &'a str,
@@ -92,10 +107,7 @@ fn number_arg<'a>(
 ) -> Arg<'a>
     ensures { IsReadBy (number_rule name.entry.now most default.entry.now) result }
 {
-    value_arg(alloc, name, "N", help)
-        .long(name)
-        .value_parser(ValueParser::unsigned(1, most as u64))
-        .default_value(default)
+    limited_arg(alloc, name, "N", help, most).default_value(default)
 }
 
 // Returns the option `--workers N`.
@@ -122,9 +134,7 @@ fn play_command<'a>(alloc: Global) -> Result<Command<'a>, AllocError>
     let command = with_arg(command, table_arg(alloc, TABLE_OF_ONE))?;
     let command = with_arg(command, flag_arg(alloc, "boards", BOARDS))?;
     let help = "begins with house H, 1 to 6, and goes on with best play";
-    let first = value_arg(alloc, "first", "H", help)
-        .long("first")
-        .value_parser(ValueParser::unsigned(1, MOST_HOUSES as u64));
+    let first = limited_arg(alloc, "first", "H", help, MOST_HOUSES as u32);
     let command = with_arg(command, first)?;
     with_arg(command, line_arg(alloc))
 }
@@ -155,7 +165,7 @@ fn answers_command<'a>(
     with_arg(command, file_arg(alloc))
 }
 
-// Returns `ask [--values] [--table N]`.
+// Returns `ask [--values] [--steps] [--table N]`.
 fn ask_command<'a>(alloc: Global) -> Result<Command<'a>, AllocError>
     ensures { IfOk result (λ c. app_of c ≡ ask_app) }
 {
@@ -163,7 +173,13 @@ fn ask_command<'a>(alloc: Global) -> Result<Command<'a>, AllocError>
     let command = subcommand(alloc, "ask", about, help::LONG_OF_ASK);
     let help = "prints what each move is worth, as `values`";
     let command = with_arg(command, flag_arg(alloc, "values", help))?;
-    with_arg(command, table_arg(alloc, TABLE_OF_ONE))
+    let help = "prints each legal move, as `steps`, with `; ` between any two";
+    let command = with_arg(command, flag_arg(alloc, "steps", help))?;
+    let help = "table entries of the search, 1 to 1048576 [default: 65536]";
+    with_arg(
+        command,
+        limited_arg(alloc, "table", "N", help, MOST_ENTRIES),
+    )
 }
 
 // Returns `show [--plain] [--table N] LINE`.
@@ -233,7 +249,7 @@ fn with_command<'a>(
 /// - `moves [--boards] LINE`
 /// - `play [--table N] [--boards] [--first H] LINE`
 /// - `solve [--workers N] [--table N] [--progress] FILE..`, and `values` with the same arguments
-/// - `ask [--values] [--table N]`
+/// - `ask [--values] [--steps] [--table N]`
 /// - `steps [--workers N] [--progress] FILE..`
 /// - `show [--plain] [--table N] LINE`
 /// - `count DEPTH LINE`

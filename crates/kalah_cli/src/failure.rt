@@ -3,7 +3,7 @@ ghost use Rattle.std.specs.Prelude.{◌≡◌};
 ghost use Rattle.kalah_cli.specs.Failure.{failure_of};
 
 use crate::status::ExitStatus;
-use kalah_jobs::LineFault;
+use kalah_jobs::{LineFault, read_line};
 use kalah_run::RunFault;
 use std::fmt;
 use std::io::Write;
@@ -28,11 +28,20 @@ pub(crate) enum Failure<'a> {
 }
 
 impl Failure<'_> {
-    /// Reports the failure on `err`, and returns the exit status. If the report can't be written, it is dropped.
+    /// Reports the failure on `err`, and returns the exit status. If a file can't be read whose name is a position, it says what
+    /// prints that. If the report can't be written, it is dropped.
     pub(crate) fn report<E: Write>(self, err: &mut E) -> ExitStatus
         ensures { result ≡ ExitStatus.Failed }
     {
         let _ = writeln!(err, "kalah: {self}");
+        if let Failure::Unreadable(name) = self {
+            if read_line(name.as_bytes()).is_ok() {
+                let _ = writeln!(
+                    err,
+                    "  tip: for a position, use `kalah show '{name}'`, or `kalah ask`"
+                );
+            }
+        }
         ExitStatus::Failed
     }
 }

@@ -70,7 +70,8 @@ may be moved:
     FILE:LINE MARGIN over       as `solve`
     FILE:LINE fault WORD        as `solve`
 `kalah ask` prints for each line of standard input, before it reads on, what
-`solve` prints after FILE:LINE, or with --values what `values` prints there.
+`solve` prints after FILE:LINE, or with --values what `values` prints there, or
+with --steps what `steps` prints there, in one line with `; ` between moves.
 A margin is what the player to move ends with, less what the other player ends
 with.
 
@@ -169,6 +170,9 @@ answer line before the next line is read. So a program can ask for positions one
 by one:
     2 house 2      the margin of best play, and the first best house
     1:-2 2:2       with --values: each house that may be moved, and its margin
+    1 1,1/0 0,2/0 turn; 2 1,0/1 1,1/0 again
+                   with --steps: the moves as `steps` prints them; no --values
+                   or --table goes with it
     -4 over        the game is over, with this margin
     fault shape    not a position
 `kalah --help` has the form of positions, the rules, and the words of faults.";
@@ -185,6 +189,15 @@ line, in order:
     first.txt:5 -4 over             the game is over, with this margin
     first.txt:9 fault shape         not a position
 `kalah --help` has the form of positions, the rules, and the words of faults.";
+
+/// The error for options of `ask` that exclude each other.
+pub(crate) const CONFLICT: &str = "\
+error: the argument '--steps' cannot be used with '--values' or '--table <N>'
+
+Usage: kalah ask [OPTIONS]
+
+For more information, try '--help'.
+";
 
 /// What is added to the error for arguments that seem to be one position without quotes.
 pub(crate) const QUOTES: &str =

@@ -1,6 +1,7 @@
 //! `kalah play LINE`.
 ghost use Rattle.std.specs.Prelude.{◌≡◌, ◌≢◌, ◌↔◌, IfNone, IfSome, IsErr, OnOk, false, true};
 ghost use Rattle.kalah_rules.specs.Position.{Position};
+ghost use Rattle.kalah_solve.specs.Solver.Verdict.{TellsBestPlay, verdict_of};
 ghost use Rattle.kalah_jobs.specs.Line.Line.{Reads};
 ghost use Rattle.kalah_cli.specs.Request.{IsTableSize};
 ghost use Rattle.kalah_cli.specs.Play.{BeginsGame, BeginsToPlay, MayBegin, Plays, WritesGame};
@@ -15,6 +16,16 @@ use kalah_solve::{Solver, Table, Verdict};
 use std::alloc::Global;
 use std::io;
 use std::io::Write;
+
+// Finds the best move of a board. All earlier moves are shown.
+fn solve_shown<O: Sink>(solver: &mut Solver, board: &Board, out: &O) -> Verdict
+    requires shown { O.is_handed_on out.now ≡ true }
+    ensures verdict { result ≡ verdict_of board.now }
+    ensures best_play { TellsBestPlay board.now result }
+{
+    let _ = out;
+    solver.solve(board)
+}
 
 // Writes the moves of the game of best play from a board on, each as soon as it is found.
 #[cycle(game)]
@@ -32,7 +43,7 @@ fn write_game<O: Sink>(
 {
     let _side = board.m();
     out.flush()?;
-    let house = match solver.solve(board) {
+    let house = match solve_shown(solver, board, out) {
         Verdict::Over { .. } => return Ok(()),
         Verdict::Best { house, .. } => house,
     };

@@ -1,35 +1,44 @@
 //! `--progress`: the progress of a batch, on standard error.
 use kalah_jobs::FileText;
-use kalah_run::Gate;
-use std::io::{Eprint, IsTerminal};
-use std::sync::atomic::AtomicU64;
-use std::sync::atomic::Ordering::SeqCst;
-use std::sync::{Mutex, Wait};
+use kalah_run::Watch;
+use std::io::{IsTerminal, Write};
+use std::rt::Clock;
+use std::time::Instant;
 
-/// A runtime's standard error.
-pub trait StandardError: Eprint {
-    /// Returns whether standard error is a terminal, on which a line can be rewritten in place.
+/// What a runtime tells of its standard error and of the time.
+pub trait StandardError: Clock {
+    /// Returns whether standard error is a terminal.
     fn is_terminal(&self) -> bool;
+
+    /// Returns whether standard output is a terminal.
+    fn shows_answers(&self) -> bool;
 }
 
 impl StandardError for HostRuntime {
     fn is_terminal(&self) -> bool {
         self.stderr().is_terminal()
     }
+
+    fn shows_answers(&self) -> bool {
+        self.stdout().is_terminal()
+    }
 }
 
-/// Shows how many lines of a batch are answered: one line for each per cent, or on a terminal one line that is rewritten ten times
-/// as often. Text that standard error does not accept is dropped.
+/// Shows how many lines of a batch are answered, and how long the others will take at that rate: one line for each per cent, or on a
+/// terminal without the answers one line that is rewritten ten times as often. Text that standard error does not accept is dropped.
 #[derive(Drop)]
-pub(crate) struct Progress<'a, R> {
+pub(crate) struct Progress<'a, R, E> {
     rt: &'a R,
+    err: &'a mut E,
     // The number of lines of the batch.
     lines: u64,
-    is_terminal: bool,
-    answered: AtomicU64,
-    // The number of answered lines at which the text is shown again. Written under the lock.
-    next: AtomicU64,
-    writing: Mutex<()>,
+    // Whether one line is rewritten.
+    in_place: bool,
+    begun: Option<Instant>,
+    answered: u64,
+    // The number of answered lines that was shown last, and that at which the text is shown again.
+    shown: u64,
+    next: u64,
 }
 
 // Returns how many lines the files have together.
@@ -48,59 +57,99 @@ fn share(answered: u64, lines: u64, parts: u64) -> u64 {
         .unwrap_or(parts)
 }
 
-impl<'a, R: StandardError + Wait> Progress<'a, R> {
-    /// Shows that no line of these files is answered yet.
-    pub(crate) fn begin(rt: &'a R, files: &[FileText]) -> Progress<'a, R> {
-        let progress = Progress {
+// Returns a time in the largest unit of which it has two.
+fn in_units(seconds: u64) -> (u64, &'static str) {
+    match seconds {
+        0..=119 => (seconds, "s"),
+        120..=7199 => (seconds / 60, "min"),
+        _ => (seconds / 3600, "h"),
+    }
+}
+
+impl<'a, R: StandardError, E: Write> Progress<'a, R, E> {
+    /// Shows that no line of these files is answered yet. If nothing is to be shown, this is a watch that does nothing.
+    pub(crate) fn begin(
+        rt: &'a R,
+        err: &'a mut E,
+        files: &[FileText],
+        is_shown: bool,
+    ) -> Progress<'a, R, E> {
+        let mut progress = Progress {
             rt,
-            lines: count_lines(files),
-            is_terminal: rt.is_terminal(),
-            answered: AtomicU64::new(0),
-            next: AtomicU64::new(0),
-            writing: Mutex::new(()),
+            err,
+            lines: if is_shown { count_lines(files) } else { 0 },
+            in_place: is_shown && rt.is_terminal() && !rt.shows_answers(),
+            begun: Instant::now(rt).ok(),
+            answered: 0,
+            shown: 0,
+            next: u64::MAX,
         };
-        progress.show(0);
+        if is_shown {
+            progress.show();
+        }
         progress
     }
 
-    /// Ends the line on a terminal, if the batch ended before all lines were answered.
-    pub(crate) fn end(&self) {
-        if self.is_terminal && self.answered.load(SeqCst) < self.lines {
-            let _ = eprint!(self.rt; "\n");
+    /// Ends the line that is rewritten, if the batch ended before all lines were answered.
+    pub(crate) fn end(&mut self) {
+        if self.in_place && self.shown < self.lines {
+            let _ = writeln!(self.err);
         }
     }
 
-    // Shows that `answered` lines are answered, unless another thread has shown this step or a later one.
-    fn show(&self, answered: u64) {
-        let _writing = self.writing.lock(self.rt);
-        if answered < self.next.load(SeqCst) {
-            return;
+    // Shows how many lines are answered.
+    fn show(&mut self) {
+        let (answered, lines) = (self.answered, self.lines);
+        self.shown = answered;
+        self.next = self.next_after(answered);
+        let begin = if self.in_place { "\r" } else { "" };
+        let per_cent = share(answered, lines, 100);
+        let _ = write!(
+            self.err,
+            "{begin}kalah: {answered} of {lines} lines, {per_cent} %"
+        );
+        if let Some(seconds) = self.seconds_left() {
+            let (count, unit) = in_units(seconds);
+            let _ = write!(self.err, ", {count} {unit} left");
         }
-        self.next.store(self.next_after(answered), SeqCst);
-        let (begin, end) = match self.is_terminal {
-            true if answered < self.lines => ("\r", ""),
-            true => ("\r", "\n"),
-            false => ("", "\n"),
+        // What an earlier and longer text had behind this one is erased.
+        let end = match self.in_place {
+            true if answered < lines => "\x1b[K",
+            true => "\x1b[K\n",
+            false => "\n",
         };
-        let (lines, per_cent) = (self.lines, share(answered, self.lines, 100));
-        let _ = eprint!(self.rt; "{begin}kalah: {answered} of {lines} lines, {per_cent} %{end}");
+        let _ = self.err.write_all(end.as_bytes());
+    }
+
+    // Returns how long the other lines take at the rate so far, if that is known.
+    fn seconds_left(&self) -> Option<u64> {
+        let seconds = self.begun?.elapsed(self.rt).ok()?.as_secs();
+        let left = self.lines.saturating_sub(self.answered);
+        if seconds == 0 || left == 0 {
+            return None;
+        }
+        seconds.saturating_mul(left).checked_div(self.answered)
     }
 
     // Returns the number of answered lines at which the text is shown again.
     fn next_after(&self, answered: u64) -> u64 {
-        let parts = if self.is_terminal { 1000 } else { 100 };
+        let parts = if self.in_place { 1000 } else { 100 };
         let part = share(answered, self.lines, parts).saturating_add(1);
         self.lines.saturating_mul(part).div_ceil(parts)
     }
 }
 
-impl<R: StandardError + Wait + Sync> Gate for Progress<'_, R> {
-    fn before(&self, _job: u32) {}
+impl<R: StandardError, E: Write> Watch for Progress<'_, R, E> {
+    fn accepts(&mut self) {
+        self.answered = self.answered.saturating_add(1);
+        if self.answered >= self.next {
+            self.show();
+        }
+    }
 
-    fn after(&self, _job: u32) {
-        let answered = self.answered.fetch_add(1, SeqCst).saturating_add(1);
-        if answered >= self.next.load(SeqCst) {
-            self.show(answered);
+    fn waits(&mut self) {
+        if self.in_place && self.answered > self.shown {
+            self.show();
         }
     }
 }

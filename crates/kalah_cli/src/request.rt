@@ -1,5 +1,5 @@
 //! The requests that a command line can make.
-ghost use Rattle.std.specs.Prelude.{◌≡◌, ℕ, All, List, [], ◌∷◌, IfErr, IfOk, MatchResult, Some, codes, false, is_some, map, option_and_then, true};
+ghost use Rattle.std.specs.Prelude.{◌≡◌, ℕ, All, List, [], ◌∷◌, IfErr, IfOk, IfSome, MatchResult, Some, codes, false, is_some, map, option_and_then, true};
 ghost use Rattle.clap.specs.Faults.{fault_of};
 ghost use Rattle.clap.specs.Kinds.{FailsBy};
 ghost use Rattle.clap.specs.Simple.{subcommand_rows_of};
@@ -8,13 +8,16 @@ ghost use Rattle.clap.specs.Words.{found_of, kind_of};
 ghost use Rattle.clap.specs.declared.error.kind.ErrorKind.TheVariants.{OutOfMemory};
 ghost use Rattle.kalah_solve.specs.Table.Entries.{most_entries};
 ghost use Rattle.kalah_cli.specs.Command.{kalah_app};
-ghost use Rattle.kalah_cli.specs.Request.{AreMatches, Asked, HasFlag, HasNumber, IsInRange, IsPlainWord, IsTaken, IsTableSize, IsTakenAs, MayHaveNumber, answers, asked_by, asked_for, command_of, files_asked, is_set, moves, number_given, question_of, table_of};
+ghost use Rattle.kalah_cli.specs.Request.{AreMatches, Asked, HasFlag, HasNumber, IsInRange, IsPlainWord, IsTaken, IsTableSize, IsTakenAs, MayHaveNumber, answers, ask_for, asked_by, asked_for, command_of, files_asked, is_set, moves, number_given, table_of};
 
 use crate::command::command;
 use clap::{ArgMatches, Error};
 use kalah_jobs::Question;
 use std::alloc::{AllocError, Global};
 use std::convert::AsStr;
+
+// The entries of a table that is not given.
+const DEFAULT_ENTRIES: u32 = 65_536;
 
 /// What the arguments ask the program to do.
 #[derive(Drop, PartialEq, Eq)]
@@ -50,6 +53,8 @@ pub enum Request<'a> {
         depth: u8,
         line: &'a str,
     },
+    /// Refuse options that exclude each other.
+    Conflict,
 }
 
 /// What is asked of the positions of files, and how they are answered.
@@ -67,13 +72,22 @@ pub struct FilesRequest<'a> {
     pub files: Vec<&'a str>,
 }
 
+// Returns the number of an option, if it is given.
+fn given_number(found: &ArgMatches<'_>, id: &str) -> Option<u32>
+    requires { MayHaveNumber id.now 1 most_entries (rows_of (found_of found.now)) }
+    ensures given { result ≡ number_given id.now (rows_of (found_of found.now)) }
+    ensures range { IfSome result IsTableSize }
+{
+    found.get_one::<u32>(id)
+}
+
 // Returns the number of an option that has one.
 fn number_of(found: &ArgMatches<'_>, id: &str) -> u32
     requires { HasNumber id.now 1 most_entries (rows_of (found_of found.now)) }
     ensures given { number_given id.now (rows_of (found_of found.now)) ≡ Some result }
     ensures range { IsTableSize result }
 {
-    found.get_one::<u32>(id).unwrap()
+    given_number(found, id).unwrap()
 }
 
 // Returns the small number of an argument, if it has one.
@@ -123,15 +137,19 @@ fn files_request<'a>(
     }))
 }
 
-// Returns the question with or without the flag `--values`.
-fn question_of(values: bool) -> Question
-    ensures { result ≡ question_of values }
+// Returns the request of `ask` with these flags `--values` and `--steps`, and with this table.
+fn ask_request<'a>(values: bool, steps: bool, table: Option<u32>) -> Request<'a>
+    requires { IfSome table IsTableSize }
+    ensures asked { asked_for result ≡ ask_for values steps table }
+    ensures range { IsInRange result }
 {
-    if values {
-        Question::Values
-    } else {
-        Question::BestMove
-    }
+    let (question, table) = match (values, steps, table) {
+        (false, false, _) => (Question::BestMove, table.unwrap_or(DEFAULT_ENTRIES)),
+        (true, false, _) => (Question::Values, table.unwrap_or(DEFAULT_ENTRIES)),
+        (false, true, None) => (Question::Steps, 1),
+        _ => return Request::Conflict,
+    };
+    Request::Ask { question, table }
 }
 
 // Returns the request of the matches of the subcommand of this name.
@@ -157,10 +175,10 @@ fn requested<'a>(
         }),
         "solve" => files_request(alloc, Question::BestMove, found),
         "values" => files_request(alloc, Question::Values, found),
-        "ask" => Ok(Request::Ask {
-            question: question_of(is_set(found, "values")),
-            table: number_of(found, "table"),
-        }),
+        "ask" => {
+            let (values, steps) = (is_set(found, "values"), is_set(found, "steps"));
+            Ok(ask_request(values, steps, given_number(found, "table")))
+        }
         "steps" => files_request(alloc, Question::Steps, found),
         "show" => Ok(Request::Show {
             line: line_of(found),

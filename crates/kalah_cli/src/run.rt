@@ -1,14 +1,14 @@
 //! The program, run on its arguments.
-ghost use Rattle.std.specs.Prelude.{◌≡◌, ◌≢◌, ◌<◌, ℕ, List, false, true, vec_len};
+ghost use Rattle.std.specs.Prelude.{◌≡◌, ◌≢◌, ◌<◌, ℕ, List, None, false, true, vec_len};
 ghost use Rattle.std.specs.Io.KnownBytes.{Appends};
 ghost use Rattle.clap.specs.Values.{kind_of};
 ghost use Rattle.clap.specs.declared.error.kind.ErrorKind.TheVariants.{DisplayHelp, DisplayVersion};
 ghost use Rattle.kalah_jobs.specs.declared.files.question.Question.{Question};
 ghost use Rattle.kalah_cli.specs.Ask.{StopsBetweenLines};
-ghost use Rattle.kalah_cli.specs.Request.{Asked, IsInRange, IsTakenAs, ask, asked_for, texts_of};
+ghost use Rattle.kalah_cli.specs.Request.{Asked, IsInRange, IsTakenAs, ask, asked_for, conflict, texts_of};
 ghost use Rattle.kalah_cli.specs.Runs.{Begins, Does, DoesByItsWords, DoesWhatIsAsked, IsOfLine, IsOfNoInput, IsUnmoved, IsUnread, RefusesTheRest, version_line};
 
-use crate::ask::run_ask;
+use crate::ask::{StandardInput, run_ask};
 use crate::count::run_count;
 use crate::failure::Failure;
 use crate::help;
@@ -24,7 +24,7 @@ use clap::Error;
 use clap::error::ErrorKind;
 use kalah_jobs::Sink;
 use std::alloc::Global;
-use std::io::{Input, Write};
+use std::io::Write;
 use std::rt::Files;
 use std::sync::Wait;
 use std::thread::Threads;
@@ -94,7 +94,7 @@ fn refuse<O: Sink, E: Write>(
 }
 
 // Carries out the request.
-fn run_request<R: Files + Input + StandardError + Threads + Wait + Sync, O: Sink, E: Write>(
+fn run_request<R: Files + StandardInput + StandardError + Threads + Wait + Sync, O: Sink, E: Write>(
     rt: &R,
     alloc: Global,
     request: &Request<'_>,
@@ -108,11 +108,12 @@ fn run_request<R: Files + Input + StandardError + Threads + Wait + Sync, O: Sink
     ensures unread { (line : List ℕ) → IsOfLine (asked_for request.now) line → IsUnread line
         → (result ≡ ExitStatus.LineFaults) × (out.new ≡ out.old) }
     ensures unmoved { IsUnmoved (asked_for request.now) → (result ≡ ExitStatus.Failed) × (out.new ≡ out.old) }
+    ensures conflicts { asked_for request.now ≡ conflict → (result ≡ ExitStatus.Failed) × (out.new ≡ out.old) }
     ensures failed { O.has_failed out.new ≡ true → result ≡ ExitStatus.Failed }
     ensures unchanged { IsOfNoInput (asked_for request.now) → result ≡ ExitStatus.Failed → O.has_failed out.new ≡ false
         → out.new ≡ out.old }
     ensures stopped { (question : Question) (table : ℕ) → asked_for request.now ≡ ask question table → result ≡ ExitStatus.Failed
-        → O.has_failed out.new ≡ false → StopsBetweenLines question (O.written out.old) (O.written out.new) }
+        → O.has_failed out.new ≡ false → StopsBetweenLines question None (O.written out.old) (O.written out.new) }
     ensures handed_on { result ≢ ExitStatus.Failed → O.is_handed_on out.old ≡ true → O.is_handed_on out.new ≡ true }
 {
     match request {
@@ -124,9 +125,23 @@ fn run_request<R: Files + Input + StandardError + Threads + Wait + Sync, O: Sink
             first,
         } => run_play(alloc, line, *table, *boards, *first, out, err),
         Request::Files(files) => run_files(rt, alloc, files, out, err),
-        Request::Ask { question, table } => run_ask(rt, alloc, *question, *table, out, err),
+        Request::Ask { question, table } => {
+            run_ask(
+                alloc,
+                rt.reader(),
+                rt.is_typed(),
+                *question,
+                *table,
+                out,
+                err,
+            )
+        }
         Request::Show { line, table, plain } => run_show(alloc, line, *table, *plain, out, err),
         Request::Count { depth, line } => run_count(*depth, line, out, err),
+        Request::Conflict => {
+            let _ = err.write_all(help::CONFLICT.as_bytes());
+            ExitStatus::Failed
+        }
     }
 }
 
@@ -137,13 +152,11 @@ fn run_request<R: Files + Input + StandardError + Threads + Wait + Sync, O: Sink
 /// position with what its moves are worth, and `count DEPTH LINE` counts the ways to play on from it.
 /// `--version` prints which version this is. Answers, help and the version go to `out`, messages about failures
 /// and unread lines to `err`; a failing write to `err` changes nothing.
-pub fn run_words<R: Files + Input + StandardError + Threads + Wait + Sync, O: Sink, E: Write>(
-    rt: &R,
-    alloc: Global,
-    words: Vec<String>,
-    out: &mut O,
-    err: &mut E,
-) -> ExitStatus
+pub fn run_words<
+    R: Files + StandardInput + StandardError + Threads + Wait + Sync,
+    O: Sink,
+    E: Write,
+>(rt: &R, alloc: Global, words: Vec<String>, out: &mut O, err: &mut E) -> ExitStatus
     requires sink { O.has_failed out.old ≡ false }
     requires named { 0 < vec_len words }
     // Accepted arguments, in general, and by their words.
@@ -156,7 +169,7 @@ pub fn run_words<R: Files + Input + StandardError + Threads + Wait + Sync, O: Si
     ensures unchanged { ((a : Asked) → IsTakenAs (texts_of words.items) a → IsOfNoInput a) → result ≡ ExitStatus.Failed
         → O.has_failed out.new ≡ false → out.new ≡ out.old }
     ensures stopped { (question : Question) (table : ℕ) → IsTakenAs (texts_of words.items) (ask question table) → result ≡ ExitStatus.Failed
-        → O.has_failed out.new ≡ false → StopsBetweenLines question (O.written out.old) (O.written out.new) }
+        → O.has_failed out.new ≡ false → StopsBetweenLines question None (O.written out.old) (O.written out.new) }
     // If it did not, all that was written is flushed.
     ensures handed_on { result ≢ ExitStatus.Failed → O.is_handed_on out.old ≡ true → O.is_handed_on out.new ≡ true }
 {

@@ -10,7 +10,7 @@ use crate::progress::{Progress, StandardError};
 use crate::request::FilesRequest;
 use crate::status::ExitStatus;
 use kalah_jobs::Sink;
-use kalah_run::{BatchSize, OpenGate, answer_batch};
+use kalah_run::{BatchSize, OpenGate, Rest, answer_batch};
 use std::alloc::Global;
 use std::io::Write;
 use std::rt::Files;
@@ -26,11 +26,12 @@ fn any_has_line_feed(names: &[&str]) -> bool
 
 // Reads the named files and writes the answer to what is asked of each line of them.
 #[tactic(auto, using(crate::proofs::Names::texts_have_line_feed, crate::proofs::Begun::begins_nothing))]
-fn answer_files<'a, R: Files + Threads + Wait + Sync + StandardError, O: Sink>(
+fn answer_files<'a, R: Files + Threads + Wait + Sync + StandardError, O: Sink, E: Write>(
     rt: &R,
     alloc: Global,
     request: &FilesRequest<'a>,
     out: &mut O,
+    err: &mut E,
 ) -> Result<ExitStatus, Failure<'a>>
     requires limits { IsInLimits request.now }
     requires sink { O.has_failed out.old ≡ false }
@@ -56,15 +57,21 @@ fn answer_files<'a, R: Files + Threads + Wait + Sync + StandardError, O: Sink>(
         workers: request.workers,
         table: request.table,
     };
-    let question = request.question;
-    let answered = if request.progress {
-        let progress = Progress::begin(rt, files);
-        let answered = answer_batch(rt, alloc, question, files, size, &progress, out);
-        progress.end();
-        answered
-    } else {
-        answer_batch(rt, alloc, question, files, size, &OpenGate, out)
-    };
+    let (question, rest) = (request.question, Rest::Leave);
+    let mut progress = Progress::begin(rt, err, files, request.progress);
+    let gate = &OpenGate;
+    let answered = answer_batch(
+        rt,
+        alloc,
+        question,
+        files,
+        size,
+        rest,
+        gate,
+        &mut progress,
+        out,
+    );
+    progress.end();
     match answered {
         Ok(tally) if tally.faults == 0 => Ok(ExitStatus::Clean),
         Ok(_) => Ok(ExitStatus::LineFaults),
@@ -92,7 +99,7 @@ pub(crate) fn run_files<R: Files + Threads + Wait + Sync + StandardError, O: Sin
         → out.new ≡ out.old }
     ensures handed_on { result ≢ ExitStatus.Failed → O.is_handed_on out.new ≡ true }
 {
-    match answer_files(rt, alloc, request, out) {
+    match answer_files(rt, alloc, request, out, err) {
         Ok(status) => status,
         Err(failure) => failure.report(err),
     }

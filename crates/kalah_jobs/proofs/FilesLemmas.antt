@@ -1,5 +1,4 @@
 pub mod SplitLines
-pub mod FirstEntries
 pub mod OneLines
 pub mod JobCounts
 pub mod Faults

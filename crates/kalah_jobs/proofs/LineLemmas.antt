@@ -1,10 +1,11 @@
 pub mod Cuts
 pub mod Numbers
-pub mod OnePass
+pub mod Front
+pub mod Sides
 pub mod Houses
 pub mod Forms
 pub mod Readings
-pub mod Cells
 pub mod LineEnds
 pub mod Texts
+pub mod ParsedLines
 pub mod PlainLines

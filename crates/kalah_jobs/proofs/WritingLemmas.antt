@@ -4,11 +4,9 @@ pub mod Utf8Texts
 pub mod JobOutput
 pub mod Starts
 pub mod StepLines
+pub mod InOneLine
 pub mod Joined
 pub mod Pictures
 pub mod SplitFiles
-pub mod NumberTexts
-pub mod StepTexts
 pub mod AnswerTexts
-pub mod SmallAnswers
 pub mod Shown

@@ -1,6 +1,5 @@
 pub mod Entry
 pub mod Question
-pub mod FirstEntry
 pub mod JobList
 pub mod NamedBytes
 pub mod Lines

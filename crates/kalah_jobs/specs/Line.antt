@@ -1,7 +1,7 @@
-pub mod HouseNumbers
 pub mod Line
+pub mod Front
+pub mod Side
 pub mod LineFault
 pub mod Reading
 pub mod ParsedLine
 pub mod LineLaws
-pub mod SplitAt

@@ -2,9 +2,7 @@
 pub(crate) mod entry;
 pub(crate) mod file_lines;
 pub(crate) mod file_text;
-pub(crate) mod first_entry;
 pub(crate) mod job;
 pub(crate) mod jobs;
 pub(crate) mod laws;
 pub(crate) mod question;
-pub(crate) mod same_entry;

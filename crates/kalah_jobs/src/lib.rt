@@ -35,12 +35,9 @@ pub use line::reading::read_line;
 pub use writing::answer::{Answer, Taken};
 pub use writing::answer_line::{answer_text, write_answer};
 pub use writing::counts::{write_total, write_ways};
-pub use writing::laws::{
-    answer_lines_tell_answers, answers_have_small_numbers, files_split_between_lines,
-    output_splits_by_files, what_is_written_tells_answers,
-};
-pub use writing::picture::{picture_lines_are_short, pictures_tell_positions, write_picture};
+pub use writing::laws::{files_split_between_lines, output_splits_by_files};
+pub use writing::picture::write_picture;
 pub use writing::position_text::{line_text, step_text, write_step};
-pub use writing::shown::{shown_tells_values, write_values};
+pub use writing::shown::write_values;
 pub use writing::sink::Sink;
 pub use writing::stream::{Stream, write_pieces};

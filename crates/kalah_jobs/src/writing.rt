@@ -11,4 +11,5 @@ pub(crate) mod shown;
 pub(crate) mod sink;
 pub(crate) mod stack_text;
 pub(crate) mod steps;
+pub(crate) mod steps_in_line;
 pub(crate) mod stream;

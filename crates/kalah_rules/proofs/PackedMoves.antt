@@ -16,8 +16,7 @@ use Rattle.kalah_rules.proofs.Legal.{last_house_own, last_house_store, last_hous
 use Rattle.kalah_rules.specs.Key.{number_of}
 use Rattle.kalah_rules.specs.Packed.{Shows, ones}
 use Rattle.kalah_rules.specs.declared.houses.play.RowNumbers.{RowNumbers}
-use Rattle.kalah_rules.specs.Sowings.{own_gained, other_gained, store_gained, last_place, IsSowing}
-use Rattle.kalah_rules.specs.declared.houses.sowings.Sowing.{Sowing}
+use Rattle.kalah_rules.specs.Sowings.{own_gained, other_gained, store_gained, last_place}
 use Rattle.kalah_rules.proofs.Keys.{number_of-small}
 use Rattle.kalah_rules.proofs.Packing.{pow_five, pow_other, low_cell, moved_small, moved_far, number_of-set, number_of-all, number_of-up_to, read_seeds, own_sown, other_sown, own_gain, other_gain}
 
@@ -60,15 +59,6 @@ kept_by q i none r shows = elim (cases_Bool (seeds q.own i == 1)) [
   | inl one ↦ rw (one, none) shows
   | inr more ↦ rw more shows
 ]
-
--- gains from which the seeds of a house were taken
-pub gains_less : (gained house : ℕ) → gained < 2 ^ 64 → house < 2 ^ 64 → ((gained + (2 ^ 64 - house)) % 2 ^ 64 + house) % 2 ^ 64 ≡ gained
-gains_less gained house small house_small = omega arith
-
--- gains that lack what a house had, added to rows that have it
-sum_of_gains : (rows gains house gained total : ℕ) → (gains + house) % 2 ^ 64 ≡ gained → rows + gained ≡ total + house → total < 2 ^ 64 →
-    (rows + gains) % 2 ^ 64 ≡ total
-sum_of_gains rows gains house gained total is adds small = omega arith
 
 -- what a sowing of c seeds of house h adds if it ends in the store without a lap
 record GainsIntoStore (m h c : ℕ) : Type 0 where
@@ -145,33 +135,34 @@ module _ (a : Rows) (h : ℕ) (w : IsWithinHouses a) (holds : HoldsSeeds (bare a
   own_small : number_of q.own < 2 ^ 30
   own_small = number_of-small 6 q.own (omega (arith, sown_keeps.side, w.at_most_six)) (omega (arith, few))
 
-  -- what is added to both rows leaves them as they are sown
-  pub sum_shows : (s : Sowing) (rows : ℕ) → IsSowing (length a.own) h (seeds a.own h) s → rows ≡ number_of a.own + 2 ^ 30 * number_of a.other →
-      Shows (record { rows = (rows + s.gains) % 2 ^ 64; store = s.store }) q
-  sum_shows s rows is rows_are =
+  -- both rows without the house's seeds, and with what they gain
+  pub sown_rows : (rows house gains : ℕ) → rows ≡ number_of a.own + 2 ^ 30 * number_of a.other → house ≡ 32 ^ (h - 1) * seeds a.own h →
+      gains ≡ own_gained (length a.own) h (seeds a.own h) + 2 ^ 30 * other_gained (length a.own) h (seeds a.own h) →
+      rows - house + gains ≡ number_of q.own + 2 ^ 30 * number_of q.other
+  sown_rows rows house gains rows_are house_is gains_are = omega (arith, rows_are, house_is, gains_are, own_is, other_is, lifted_is)
+
+  -- show the position after the sowing
+  pub rows_show : (rows store : ℕ) → rows ≡ number_of q.own + 2 ^ 30 * number_of q.other →
+      store ≡ store_gained (length a.own) h (seeds a.own h) → Shows (record { rows = rows; store = store }) q
+  rows_show rows store rows_are store_is' = record {
+    own = omega (arith, rows_are, own_small);
+    other = omega (arith, rows_are, own_small);
+    store = store_is' ∙ sym store_is;
+  }
+
+  -- and are numbers of 60 bits
+  pub sown_small : number_of q.own + 2 ^ 30 * number_of q.other < 2 ^ 60
+  sown_small =
       let other_small : number_of q.other < 2 ^ 30 = number_of-small 6 q.other (omega (arith, sown_keeps.other_side, w.same_side, w.at_most_six))
       (omega (arith, few)) in
-      let added : (rows + s.gains) % 2 ^ 64 ≡ number_of q.own + 2 ^ 30 * number_of q.other =
-      sum_of_gains rows s.gains (32 ^ (h - 1) * seeds a.own h) _ _ is.gains (omega (arith, rows_are, own_is, other_is))
-      (omega (arith, own_small, other_small)) in
-      record {
-        own = rw added (omega (arith, own_small));
-        other = rw added (omega (arith, own_small));
-        store = is.store ∙ sym store_is;
-      }
+      omega (arith, own_small, other_small)
 
   -- a house whose last seed falls into the store without a lap
   pub into_store : (rows house own_more : ℕ) → seeds a.own h + h ≡ length a.own + 1 → rows ≡ number_of a.own + 2 ^ 30 * number_of a.other →
       house ≡ 32 ^ (h - 1) * seeds a.own h → own_more + ones h ≡ ones (length a.own) → Shows (record { rows = rows - house + own_more; store = 1 }) q
   into_store rows house own_more ends rows_are house_is own_more_is =
       let gains = store_gains (length a.own) h (seeds a.own h) holds.first holds.last ends in
-      let now : rows - house + own_more ≡ number_of q.own + 2 ^ 30 * number_of q.other =
-      omega (arith, rows_are, house_is, own_is, other_is, lifted_is, own_more_is, gains.own, gains.other) in
-      record {
-        own = omega (arith, now, own_small);
-        other = omega (arith, now, own_small);
-        store = omega (arith, store_is, gains.store);
-      }
+      rows_show _ 1 (sown_rows rows house own_more rows_are house_is (omega (arith, own_more_is, gains.own, gains.other))) (sym gains.store)
 
   -- and few in the store
   pub store_few : q.own_store ≤ 31

@@ -20,10 +20,10 @@ store_gained m h c = gain (lap_length m) c (store_distance m h)
 abbrev pub last_place : ℕ → ℕ → ℕ → ℕ
 last_place m h c = (h - 1 + c) % lap_length m + 1
 
--- how c seeds of house h are sown: what is added to both rows of a key, modulo 2 ^ 64, takes them out of the house and puts in what
--- each row gains; the last one falls into the cell of its place, with five bits for each place
+-- how c seeds of house h are sown, once they are taken out of it: what both rows of a key gain, and the store; the last one falls into
+-- the cell of its place, with five bits for each place
 pub record IsSowing (m h c : ℕ) (s : Sowing) : Type 0 where
-  pub gains : (s.gains + 32 ^ (h - 1) * c) % 2 ^ 64 ≡ own_gained m h c + 2 ^ 30 * other_gained m h c
+  pub gains : s.gains ≡ own_gained m h c + 2 ^ 30 * other_gained m h c
   pub store : s.store ≡ store_gained m h c
   pub end : s.end ≡ 5 * (last_place m h c - 1)
 

@@ -3,5 +3,4 @@ pub mod Draws
 pub mod Seats
 pub mod Ends
 pub mod Once
-pub mod Spent
 pub mod Law

@@ -1,9 +1,8 @@
 pub mod Faults
-pub mod NoLine
 pub mod Answering
-pub mod Work
+pub mod NoLine
 pub mod AtWork
-pub mod Workers
+pub mod OpenBatch
 pub mod Texts
 pub mod UnderWay
 pub mod OrderedOutput

@@ -8,40 +8,63 @@ ghost use Rattle.kalah_run.specs.Batch.Answering.{AnswersBatch};
 ghost use Rattle.kalah_run.specs.declared.batch.run_fault.RunFault.TheVariants.{OutOfMemory, NoWorker, Write};
 
 pub(crate) mod gate;
+pub(crate) mod laws;
+mod open_batch;
 mod ordered_output;
 pub(crate) mod run_fault;
 mod running;
 mod shared_work;
 pub(crate) mod size;
-pub(crate) mod tally;
 #[cfg(test)]
 mod tests;
+pub(crate) mod watch;
 mod worker;
-mod workers;
 
 use crate::batch::gate::Gate;
+use crate::batch::open_batch::{OpenBatch, take_apart};
 use crate::batch::ordered_output::OrderedOutput;
 use crate::batch::run_fault::RunFault;
-use crate::batch::running::{Ran, run_and_write};
+use crate::batch::running::run_and_write;
 use crate::batch::shared_work::SharedWork;
-use crate::batch::size::BatchSize;
-use crate::batch::tally::Tally;
+use crate::batch::size::{BatchSize, Rest};
+use crate::batch::watch::{NoWatch, Watch};
 use crate::batch::worker::Crew;
-use crate::batch::workers::{Workers, take_apart};
 use kalah_jobs::{FileText, Jobs, Question, Sink};
 use std::alloc::Global;
+use std::marker::Model;
 use std::sync::Wait;
 use std::thread::Threads;
 
+/// How many lines a batch has answered.
+#[derive(Clone, Copy, Debug, PartialEq, Eq)]
+pub struct Tally {
+    /// The number of lines that were answered.
+    pub lines: u32,
+    /// The number of lines that were answered by a fault.
+    pub faults: u32,
+}
+
+impl Model for Tally {
+    ghost use Rattle.kalah_jobs.specs.Writing.Output.{LineCounts};
+
+    ghost Value = { LineCounts };
+
+    ghost view = { λ t. record { lines = t.lines; faults = t.faults } };
+
+    ghost inverse = { λ t. record { lines = t.lines; faults = t.faults } };
+}
+
 // Answers the jobs of the files, and writes each answer line once it is ready and all earlier ones are written. If there is no job,
 // no worker is started and nothing fails.
-fn answer_jobs<'a, R: Threads + Wait + Sync, G: Gate, W: Sink>(
+fn answer_jobs<'a, R: Threads + Wait + Sync, G: Gate, V: Watch, W: Sink>(
     rt: &R,
     alloc: Global,
     files: &'a [FileText],
     jobs: &'a Jobs,
     size: BatchSize,
+    rest: Rest,
     gate: &'a G,
+    watch: &mut V,
     out: &mut W,
 ) -> Result<(), RunFault>
     requires jobs { length jobs.now ≡ length files.now }
@@ -56,30 +79,21 @@ fn answer_jobs<'a, R: Threads + Wait + Sync, G: Gate, W: Sink>(
         return Ok(());
     }
     let output = OrderedOutput::new(alloc, files, jobs)?;
-    let Workers {
-        desk,
-        queue,
-        list: workers,
+    let OpenBatch {
+        shared,
+        workers,
         pass,
         passes,
         puts,
-    } = Workers::open(alloc, jobs, size)?;
-    let shared = SharedWork {
-        desk: &desk,
-        queue: &queue,
-        jobs,
-        gate,
-    };
+    } = OpenBatch::open(alloc, jobs, size, rest, gate)?;
     let crew = Crew {
         shared: &shared,
         workers,
     };
-    let Ran {
-        workers,
-        pass,
-        output: _,
-    } = run_and_write(rt, crew, pass, output, out)?;
+    let (workers, pass, output) = run_and_write(rt, crew, pass, output, watch, out)?;
+    drop(output);
     let (passes, puts) = take_apart(workers, passes, puts);
+    let SharedWork { desk, queue, .. } = shared;
     desk.close(passes);
     queue.close(rt, puts, pass);
     Ok(())
@@ -88,23 +102,26 @@ fn answer_jobs<'a, R: Threads + Wait + Sync, G: Gate, W: Sink>(
 /// Answers what is asked of every line of the files, with workers and tables of the given size. It writes one answer line for each,
 /// in the order of the files and of their lines, once it is ready and all earlier ones are written; then it flushes the output.
 ///
-/// If it succeeds, exactly these lines were written, and the tally counts them. The gate is called for each job.
+/// If it succeeds, exactly these lines were written, and the tally counts them, the gate was called for each job, and the watch for each outcome.
 ///
 /// Fails with the first of these that holds:
 /// - `TooManyFiles` if there are more than 256 files;
 /// - `TooManyLines` if they have more than 1,000,000 lines together;
 /// - `OutOfMemory` if memory was refused before the first worker began;
 /// - `NoWorker` if there is a line and no thread could be started;
-/// - `Write` if a write or the flush failed. From then on nothing more is written, and the remaining lines are still solved.
+/// - `Write` if a write or the flush failed. From then on nothing more is written, and `rest` says what happens to the lines that
+///   are left.
 ///
 /// The first four write nothing. After `Write`, what was written is a prefix of the answer lines.
-pub fn answer_batch<R: Threads + Wait + Sync, G: Gate, W: Sink>(
+pub fn answer_batch<R: Threads + Wait + Sync, G: Gate, V: Watch, W: Sink>(
     rt: &R,
     alloc: Global,
     question: Question,
     files: &[FileText],
     size: BatchSize,
+    rest: Rest,
     gate: &G,
+    watch: &mut V,
     out: &mut W,
 ) -> Result<Tally, RunFault>
     requires fresh { W.has_failed out.old ≡ false }
@@ -113,7 +130,7 @@ pub fn answer_batch<R: Threads + Wait + Sync, G: Gate, W: Sink>(
     ensures { AnswersBatch W.written W.has_failed W.is_handed_on (output_to question files.now) files.now out.old out.new result }
 {
     let jobs = Jobs::asking(alloc, question, files)?;
-    answer_jobs(rt, alloc, files, &jobs, size, gate, out)?;
+    answer_jobs(rt, alloc, files, &jobs, size, rest, gate, watch, out)?;
     if out.failed() || out.flush().is_err() {
         return Err(RunFault::Write);
     }
@@ -124,7 +141,7 @@ pub fn answer_batch<R: Threads + Wait + Sync, G: Gate, W: Sink>(
 }
 
 /// Solves every line of the files: `answer_batch` with the best move asked, by `workers` workers, 1 to 64, each with a table of
-/// `table` entries, 1 to 1,048,576.
+/// `table` entries, 1 to 1,048,576. If a write fails, the remaining lines are still solved, and the gate is called for each.
 pub fn solve_batch<R: Threads + Wait + Sync, G: Gate, W: Sink>(
     rt: &R,
     alloc: Global,
@@ -142,5 +159,7 @@ pub fn solve_batch<R: Threads + Wait + Sync, G: Gate, W: Sink>(
     ensures { AnswersBatch W.written W.has_failed W.is_handed_on (output_of files.now) files.now out.old out.new result }
 {
     let size = BatchSize { workers, table };
-    answer_batch(rt, alloc, Question::BestMove, files, size, gate, out)
+    let question = Question::BestMove;
+    let (rest, watch) = (Rest::Solve, &mut NoWatch);
+    answer_batch(rt, alloc, question, files, size, rest, gate, watch, out)
 }

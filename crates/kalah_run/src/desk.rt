@@ -1,9 +1,8 @@
 //! The desk: its passes draw the numbers below a total from one word, each number once.
-ghost use Rattle.std.specs.Prelude.{◌≡◌, ℕ, ◌<◌, ◌≤◌, ◌↔◌, [], ◌∷◌, ◌++◌, length, true, false, nat_lt, if◌then◌else◌, All, IfOk, IfSome, IfNone, IsTrue};
-ghost use Rattle.kalah_jobs.specs.Collecting.Shares.{times_in};
+ghost use Rattle.std.specs.Prelude.{◌≡◌, ℕ, ◌<◌, ◌≤◌, ◌↔◌, [], ◌∷◌, ◌++◌, length, true, false, All, IfOk, IfSome, IfNone, IsTrue};
 ghost use Rattle.kalah_jobs.specs.Limits.{most_lines};
 ghost use Rattle.kalah_run.specs.Limits.{AreWorkers};
-ghost use Rattle.kalah_run.specs.Desk.Rows.{drawn_row, drawn_numbers, drawn_in, spent_in, AreLawful, StandsOnce, StandsNowhere};
+ghost use Rattle.kalah_run.specs.Desk.Rows.{drawn_row, spent_in, DealsEachOnce};
 ghost use Rattle.kalah_run.specs.Desk.Kept.{opening_view};
 ghost use Rattle.kalah_run.specs.Desk.States.{IsPassAt, AreNewPasses, drawn_rows};
 ghost use Rattle.kalah_run.specs.declared.desk.rule.DeskView.TheVariants.{Closing};
@@ -125,14 +124,8 @@ impl Desk {
         requires own { All (IsPassAt self) passes.items }
 
         // The rows, pass by pass, in the order handed in.
-        ensures lawful { AreLawful self.total (drawn_rows passes.items) }
-        ensures each_once { (x : ℕ) → times_in x (drawn_numbers (drawn_rows passes.items)) ≡ (if nat_lt x result.drawn then 1 else 0) }
-        ensures once { (x : ℕ) → x < result.drawn → StandsOnce x (drawn_rows passes.items) }
-        ensures others { (x : ℕ) → result.drawn ≤ x → StandsNowhere x (drawn_rows passes.items) }
-
-        ensures drawn { result.drawn ≡ drawn_in (drawn_rows passes.items) }
+        ensures deals { DealsEachOnce self.total result.drawn (drawn_rows passes.items) }
         ensures spent { IsTrue result.spent ↔ (0 < spent_in (drawn_rows passes.items)) }
-        ensures whole { IsTrue result.spent → result.drawn ≡ self.total }
     {
         let Desk { table, total } = self;
         let (_, mut closer) = table.shared.load_new_seat::<StartClosing>(0);

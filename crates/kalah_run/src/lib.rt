@@ -9,10 +9,11 @@ mod queue;
 mod tests;
 
 pub use batch::gate::{Gate, OpenGate};
+pub use batch::laws::no_line_is_answered;
 pub use batch::run_fault::RunFault;
-pub use batch::size::BatchSize;
-pub use batch::tally::Tally;
-pub use batch::{answer_batch, solve_batch};
+pub use batch::size::{BatchSize, Rest};
+pub use batch::watch::{NoWatch, Watch};
+pub use batch::{Tally, answer_batch, solve_batch};
 pub use desk::laws::desk_is_lawful;
 pub use desk::pass::Pass;
 pub use desk::{ClosedDesk, Desk};

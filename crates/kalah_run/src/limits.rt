@@ -8,6 +8,13 @@ pub const MOST_WORKERS: u32 = 64;
 /// The most places of a results queue.
 pub const MOST_PLACES: u32 = 1024;
 
+/// The most outcomes that may be on their way to the calling thread: more than there are workers, so that each may send its last
+/// one after the calling thread has got all others.
+pub(crate) const QUEUE_PLACES: u32 = 256;
+
+/// The most tries that are saved up. They take longer than waking a worker that found the queue full.
+pub(crate) const MOST_TRIES: u32 = 64;
+
 /// The limits of what is run, as numbers. A law over the definitions that contracts cite.
 pub fn limits_of_runs()
     ensures workers { most_workers ≡ 64 }

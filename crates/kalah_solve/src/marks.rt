@@ -7,7 +7,7 @@ ghost use Rattle.kalah_solve.specs.RowMarks.{cell, each, distances, IsLastMark};
 use kalah_rules::Houses;
 
 // Each house of a row is marked.
-pub(crate) const ONE_EACH: u64 = 0x210_8421;
+const ONE_EACH: u64 = 0x210_8421;
 
 // A row with fifteen seeds in each house.
 const FIFTEEN_EACH: u64 = 15 * ONE_EACH;

@@ -5,19 +5,19 @@ ghost use Rattle.kalah_solve.specs.Solver.Worth.{houses_worth};
 ghost use Rattle.kalah_solve.specs.Bounds.Intervals.{Encloses, least_margin, most_margin, within};
 ghost use Rattle.kalah_solve.specs.Table.Entries.{most_entries, empty_table};
 ghost use Rattle.kalah_solve.specs.Bounds.Won.{won, IsWithinBounds};
-ghost use Rattle.kalah_solve.specs.Table.EndgameTable.{most_ending_seeds};
 
 pub(crate) mod move_order;
-pub(crate) mod priorities;
 mod reaches;
 #[cfg(test)]
 mod tests;
+mod work;
 
 use crate::bounds::interval::Interval;
 use crate::bounds::seed_bounds::SeedBounds;
 use crate::bounds::window::Window;
+use crate::search::move_order::MoveOrder;
+use crate::search::work::{EndingLimit, Work};
 use crate::table::Table;
-use crate::table::endgame_table::MOST_ENDING_SEEDS;
 use kalah_rules::Houses;
 use std::alloc::{AllocError, Allocator, Global};
 
@@ -27,35 +27,15 @@ const MOST_PLACED: u8 = 20;
 /// An answer that took fewer nodes than this is not worth an entry.
 const LEAST_WORK: u64 = 60;
 
-/// A search with this many nodes is long. From then on it has all its places, which cost a short one more than they save.
-const LONG_SEARCH: u64 = 300_000;
-
-/// A search begins with the endings of up to this many seeds.
-const FIRST_ENDING_SEEDS: u8 = 8;
-
-/// All endings are used once houses with this many seeds or more were searched and the search has `MUCH_WORK` nodes: finding more
-/// of them costs a search of few seeds, or a short one, more than it saves.
-const MANY_SEEDS: u8 = 17;
-
-/// The number of nodes from which all endings pay.
-const MUCH_WORK: u64 = 60_000;
-
-// The most seeds for which a search looks up what the mover takes among the endings.
-#[derive(Clone, Copy)]
-struct EndingLimit {
-    seeds: u8,
-    ghost few: { seeds ≤ most_ending_seeds },
-}
-
 /// A search with its table. Its results depend on none of its limits.
 #[derive(Drop)]
 pub struct Search<A: Allocator + Clone = Global> {
     table: Table<A>,
+    order: MoveOrder,
     most_placed: u8,
     least_work: u64,
     ending_limit: EndingLimit,
-    seen_many_seeds: bool,
-    nodes: u64,
+    work: Work,
 }
 
 impl<A: Allocator + Clone> Search<A> {
@@ -63,15 +43,14 @@ impl<A: Allocator + Clone> Search<A> {
     pub fn new(table: Table<A>) -> Search<A>
         ensures { result.table ≡ table }
     {
+        let work = Work::new();
         Search {
             table,
+            order: MoveOrder::new(),
             most_placed: MOST_PLACED,
             least_work: LEAST_WORK,
-            ending_limit: EndingLimit {
-                seeds: FIRST_ENDING_SEEDS,
-            },
-            seen_many_seeds: false,
-            nodes: 0,
+            ending_limit: work.ending_limit(),
+            work,
         }
     }
 
@@ -89,11 +68,11 @@ impl<A: Allocator + Clone> Search<A> {
     pub fn with_all_entries(table: Table<A>) -> Search<A> {
         Search {
             table,
+            order: MoveOrder::new(),
             most_placed: 0,
             least_work: 0,
-            ending_limit: EndingLimit { seeds: 0 },
-            seen_many_seeds: false,
-            nodes: 0,
+            ending_limit: EndingLimit::none(),
+            work: Work::new(),
         }
     }
 
@@ -104,7 +83,7 @@ impl<A: Allocator + Clone> Search<A> {
 
     #[cfg(test)]
     pub fn nodes(&self) -> u64 {
-        self.nodes
+        self.work.all_nodes()
     }
 
     /// The worth of the houses, raised to the window's lower end and lowered to its upper one. That of an ending is looked up.
@@ -113,7 +92,7 @@ impl<A: Allocator + Clone> Search<A> {
         ensures { result ≡ within window.lo window.hi (houses_worth houses.now) }
     {
         let seeds = houses.seeds();
-        self.seen_many_seeds |= seeds >= MANY_SEEDS;
+        self.work.turn_to(houses);
         self.grow_endings();
         if seeds <= self.ending_limit.seeds {
             let won = self.table.won(*houses);
@@ -123,10 +102,10 @@ impl<A: Allocator + Clone> Search<A> {
         let Some(narrow) = window.narrowed(known) else {
             return window.clamp(known.lo as i32);
         };
-        let before = self.nodes;
+        let before = self.work.nodes();
         let won = self.won_within(houses, SeedBounds::of_window(narrow, seeds));
         let answer = narrow.clamp(2 * won as i32 - seeds as i32);
-        let work = self.nodes.wrapping_sub(before);
+        let work = self.work.nodes().saturating_sub(before);
         self.learn_margins(
             *houses,
             narrow.interval_of(answer).intersection(known),
@@ -171,26 +150,27 @@ impl<A: Allocator + Clone> Search<A> {
         low
     }
 
-    // Counts one more node, and returns how many there were before. Endings grow once the search had much work, and all places are laid
-    // out once it is long.
+    // Counts one more node, and returns how many of the game there were before.
     fn count_node(&mut self) -> u64 {
-        let before = self.nodes;
-        self.nodes = before.wrapping_add(1);
-        if self.nodes == MUCH_WORK {
-            self.grow_endings();
-        }
-        if self.nodes == LONG_SEARCH {
-            self.table.grow();
+        let before = self.work.nodes();
+        if self.work.count_node() {
+            self.grow();
         }
         before
     }
 
-    // Uses all endings from now on, if the search uses endings and had many seeds and much work.
+    // Uses more endings, and all places.
+    #[cold]
+    #[inline(never)]
+    fn grow(&mut self) {
+        self.grow_endings();
+        self.table.grow();
+    }
+
+    // Uses the endings that pay, if the search uses endings.
     fn grow_endings(&mut self) {
-        if self.seen_many_seeds && self.nodes >= MUCH_WORK && self.ending_limit.seeds > 0 {
-            self.ending_limit = EndingLimit {
-                seeds: MOST_ENDING_SEEDS,
-            };
+        if self.ending_limit.seeds > 0 {
+            self.ending_limit = self.work.ending_limit();
         }
     }
 

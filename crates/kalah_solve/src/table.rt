@@ -110,12 +110,15 @@ impl<A: Allocator + Clone> Table<A> {
         DirectTable::new(self.entries.allocator().clone()?, count as u32)
     }
 
-    // Lays out all places, if there is memory for them. The contents of the first ones are dropped.
+    // Lays out all places, unless they are, or there is no memory for them. The contents of the first ones are dropped.
     #[cold]
     #[inline(never)]
     pub(crate) fn grow(&mut self)
         ensures { self.new ≡ self.old }
     {
+        if self.places.len() >= self.entries.cap().get() {
+            return;
+        }
         if let Ok(places) = self.all_places() {
             self.places = places;
         }

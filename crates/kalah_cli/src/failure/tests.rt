@@ -14,6 +14,10 @@ fn each_failure_is_said_in_its_words(rt: HostRuntime) {
     let unreadable = Failure::Unreadable("a.txt");
     assert_said(&rt, Failure::LineFeed, "kalah: line feed in a file name\n");
     assert_said(&rt, unreadable, "kalah: cannot read a.txt\n");
+    let position =
+        "kalah: cannot read 1/0 1/0 e\n  tip: for a position, use `kalah show '1/0 1/0 e'`, or `kalah ask`\n";
+    assert_said(&rt, Failure::Unreadable("1/0 1/0 e"), position);
+    assert_said(&rt, Failure::Unreadable("1/0"), "kalah: cannot read 1/0\n");
     assert_said(&rt, Failure::TooManyFiles, "kalah: too many files\n");
     assert_said(&rt, Failure::TooManyLines, "kalah: too many lines\n");
     assert_said(&rt, Failure::OutOfMemory, "kalah: out of memory\n");

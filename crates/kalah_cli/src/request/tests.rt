@@ -1,9 +1,4 @@
 use crate::request::{FilesRequest, Request, parse};
-use clap::error::ErrorKind;
-use clap::error::ErrorKind::{
-    DisplayHelp, DisplayVersion, InvalidSubcommand, MissingRequiredArgument, MissingSubcommand,
-    TooManyValues, UnknownArgument, ValueValidation,
-};
 use kalah_jobs::Question;
 use std::process::Abort;
 
@@ -138,40 +133,10 @@ fn reads_ask(rt: HostRuntime) {
     assert_asks(&rt, &words, &lines(Question::BestMove, 1));
     let words = ["kalah", "ask", "--table", "1048576", "--values"];
     assert_asks(&rt, &words, &lines(Question::Values, 1048576));
-}
-
-fn fails_with(rt: &(impl Abort + AllocGlobal), words: &[&str], kind: ErrorKind) -> bool {
-    parse(rt.alloc(), words).is_err_and(|error| error.kind() == kind)
-}
-
-// Arguments that make no request, and the kind of their error.
-const REFUSED: &[(&[&str], ErrorKind)] = &[
-    (&["kalah"], MissingSubcommand),
-    (&["kalah", "stop"], InvalidSubcommand),
-    (&["kalah", "solve"], MissingRequiredArgument),
-    (&["kalah", "steps"], MissingRequiredArgument),
-    (&["kalah", "steps", "--table", "1", "a"], UnknownArgument),
-    (&["kalah", "ask", "a"], UnknownArgument),
-    (&["kalah", "ask", "--values=1"], TooManyValues),
-    (&["kalah", "count", "1"], MissingRequiredArgument),
-    (&["kalah", "count", "21", "1/0 1/0"], ValueValidation),
-    (&["kalah", "count", "-1", "1/0 1/0"], UnknownArgument),
-    (&["kalah", "--help"], DisplayHelp),
-    (&["kalah", "--version"], DisplayVersion),
-    (&["kalah", "-V"], DisplayVersion),
-    (&["kalah", "solve", "--help"], DisplayHelp),
-    (&["kalah", "solve", "--workers", "0", "a"], ValueValidation),
-    (&["kalah", "solve", "--table", "0", "a"], ValueValidation),
-    (&["kalah", "solve", "--workers", "65", "a"], ValueValidation),
-    (
-        &["kalah", "solve", "--table", "1048577", "a"],
-        ValueValidation,
-    ),
-];
-
-#[test]
-fn refuses(rt: HostRuntime) {
-    for (words, kind) in REFUSED {
-        assert!(rt; fails_with(&rt, *words, *kind), "{words:?}");
+    let words = ["kalah", "ask", "--steps"];
+    assert_asks(&rt, &words, &lines(Question::Steps, 1));
+    for other in ["--values", "--table=65536"] {
+        assert_asks(&rt, &["k", "ask", "--steps", other], &Request::Conflict);
+        assert_asks(&rt, &["k", "ask", other, "--steps"], &Request::Conflict);
     }
 }

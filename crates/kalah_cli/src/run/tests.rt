@@ -10,10 +10,11 @@ mod stepping;
 mod valuing;
 
 use super::run_words;
+use crate::ask::StandardInput;
 use crate::progress::StandardError;
 use crate::status::ExitStatus;
 use kalah_jobs::{Sink, Stream};
-use std::io::{ErrorKind, Input, Write};
+use std::io::{ErrorKind, Write};
 use std::process::Abort;
 use std::rt::Files;
 use std::sync::Wait;
@@ -21,9 +22,10 @@ use std::thread::Threads;
 use std::{fs, io};
 
 /// What a run needs of its runtime, and what a test does with it.
-trait Host: Abort + AllocGlobal + Files + Input + StandardError + Threads + Wait + Sync {}
+trait Host: Abort + AllocGlobal + Files + StandardInput + StandardError + Threads + Wait + Sync {}
 
-impl<R: Abort + AllocGlobal + Files + Input + StandardError + Threads + Wait + Sync> Host for R {}
+impl<R: Abort + AllocGlobal + Files + StandardInput + StandardError + Threads + Wait + Sync> Host
+    for R {}
 
 /// Returns an error at its `fails_at`th call, counted from 1, and at each later one.
 #[derive(Drop)]
@@ -195,6 +197,9 @@ const MISTAKES: &[&[&str]] = &[
     &["values", "--workers", "65", "a.txt"],
     &["values", "--table", "0", "a.txt"],
     &["values", "--table", "1048577", "a.txt"],
+    &["steps", "--table", "1", "a.txt"],
+    &["ask", "a.txt"],
+    &["ask", "--values=1"],
     &["moves", "-1/0 1/0"],
     &["moves", "1/0 1/0", "1/0 1/0"],
     &["moves", "--boards=yes", "1/0 1/0"],

@@ -2,10 +2,10 @@
 use Rattle.std.proofs.Common.{◌≡◌, ◌≢◌, ◌∙◌, ℕ, Bool, true, false, List, [], ◌∷◌, ◌++◌, take, inl, inr, refl, sym, ap, ap₂, subst, arith, append-nil, append_assoc, not, ◌&&◌}
 use Rattle.std.specs.Prelude.{Option}
 use Rattle.std.specs.Io.KnownBytes.{Appends, Consumes, IsAtEnd, Keeps}
-use Rattle.std.proofs.KnownBytes.{Appends-kept, Appends-nil, Appends-trans, Consumes-kept, Consumes-nil, Consumes-trans, Consumes-whole}
+use Rattle.std.proofs.KnownBytes.{Appends-kept, Appends-nil, Appends-trans, Consumes-kept, Consumes-nil, Consumes-trans, Consumes-whole, Keeps-refl}
 use Rattle.std.proofs.lemmas.List.Elements.{All-nil, All-push}
 use Rattle.kalah_jobs.specs.declared.files.question.Question.{Question}
-use Rattle.kalah_jobs.specs.Asking.Asked.{IsAnswered, IsBegun, IsCutOff, answers_to, are_all_read, is_last_read, kept_bytes, told, told_last}
+use Rattle.kalah_jobs.specs.Asking.Asked.{AreAnswered, Asking, IsAnswered, IsBegun, IsCutOff, answers_to, are_all_read, is_last_read, kept_bytes, told, told_last}
 use Rattle.kalah_jobs.specs.Files.Lines.{line_feed, HasNoLineFeed}
 use Rattle.kalah_jobs.specs.Writing.Given.{AppendsStart}
 use Rattle.kalah_jobs.specs.Writing.Output.{is_faulty}
@@ -110,6 +110,14 @@ cut_off question before now next old new kept line all_read u left keeps = recor
   taken = Consumes-kept before now next (u.lines ++ u.part) u.taken left;
   written = Appends-kept old new kept (answers_to question u.lines) u.written keeps;
 }
+
+-- all lines so far are answered
+pub answered_so_far : (asking : Asking) (question : Question) (before now old new : Option (List ℕ)) (line : List ℕ) (all_read : Bool)
+    → asking ≡ record { question = question; before = before; old = old } → Underway question before now old new line all_read
+    → AreAnswered asking now new
+answered_so_far asking question before now old new line all_read is u =
+    subst (λ (a : Asking). AreAnswered a now new) (sym is)
+    (cut_off question before now now old new new line all_read u (Keeps-refl now) (Keeps-refl new))
 
 -- nothing more was read or written
 pub begun_so_far : (question : Question) (before now next old new kept : Option (List ℕ)) (line : List ℕ) (all_read : Bool)

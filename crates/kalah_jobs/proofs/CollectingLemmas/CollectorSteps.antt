@@ -51,11 +51,13 @@ pub wanted_file : (jobs : List (List Entry)) (files : List FileState) (o : Job) 
 wanted_file jobs files o w = w.0.0.0.0
 
 -- of a line that the file has
-pub wanted_line : (jobs : List (List Entry)) (files : List FileState) (o : Job) → IsWanted jobs files o → o.line < line_count (state_of files o.file)
+pub wanted_line : (jobs : List (List Entry)) (files : List FileState) (o : Job) → IsWanted jobs files o →
+    o.line < line_count (state_of files o.file)
 wanted_line jobs files o w = w.0.0.1
 
 -- with that line's entry
-pub wanted_entry : (jobs : List (List Entry)) (files : List FileState) (o : Job) → IsWanted jobs files o → entry_at jobs o.file o.line ≡ Some o.entry
+pub wanted_entry : (jobs : List (List Entry)) (files : List FileState) (o : Job) → IsWanted jobs files o →
+    entry_at jobs o.file o.line ≡ Some o.entry
 wanted_entry jobs files o w = w.0.1
 
 -- the value of what is Some
@@ -91,7 +93,8 @@ record IsElsewhere (files : List FileState) (o : Job) (a : Answer) (f k : ℕ) :
   kept : came_for (state_of (after_offer files o.file o.line a) f) k ≡ came_for (state_of files f) k
 
 -- one of the two holds of each line
-after_cases : (files : List FileState) (o : Job) (a : Answer) → o.file < length files → o.line < line_count (state_of files o.file) → (f k : ℕ)
+after_cases : (files : List FileState) (o : Job) (a : Answer) → o.file < length files →
+    o.line < line_count (state_of files o.file) → (f k : ℕ)
     → IsHere files o a f k ⊎ IsElsewhere files o a f k
 after_cases files o a file_low line_low f k =
     let s : FileState = state_of files o.file in
@@ -107,18 +110,25 @@ after_cases files o a file_low line_low f k =
     inl (record { file_is = p; line_is = q; came = ap (λ t. came_for t k) here ∙ ap (λ j. came_for w j) q ∙ new }))
     (λ (nq : k ≡ o.line → ⊥).
     let same : came_for w k ≡ came_for s k = get_or-set_other s.arrived o.line k (Some a) None nq in
-    inr (record { apart = λ h. nq h.1; kept = ap (λ t. came_for t k) here ∙ same ∙ ap (λ g. came_for (state_of files g) k) (sym p) }))
+    inr (record {
+      apart = λ h. nq h.1;
+      kept = ap (λ t. came_for t k) here ∙ same
+          ∙ ap (λ g. came_for (state_of files g) k) (sym p);
+    }))
     (cases_eq k o.line))
-    (λ (np : f ≡ o.file → ⊥). inr (record { apart = λ h. np h.0; kept = ap (λ t. came_for t k) (state_other files o.file f w np) }))
+    (λ (np : f ≡ o.file → ⊥). inr
+    (record { apart = λ h. np h.0; kept = ap (λ t. came_for t k) (state_other files o.file f w np) }))
     (cases_eq f o.file)
 
 -- a number of lines stays if an answer is put down
 counts_offer : (jobs : List (List Entry)) (files : List FileState) (f k : ℕ) (a : Answer) → HasLinesOf jobs files →
     HasLinesOf jobs (after_offer files f k a)
-counts_offer jobs files f k a h = counts_set files f (with_answer (state_of files f) k a) (length-set (state_of files f).arrived k (Some a)) ∙ h
+counts_offer jobs files f k a h =
+    counts_set files f (with_answer (state_of files f) k a) (length-set (state_of files f).arrived k (Some a)) ∙ h
 
 -- an accepted offer keeps what holds
-pub holds_accepted : (jobs : List (List Entry)) (past : List Job) (files : List FileState) (o : Job) → HoldsOffered jobs past files → IsWanted jobs files o
+pub holds_accepted : (jobs : List (List Entry)) (past : List Job) (files : List FileState) (o : Job) → HoldsOffered jobs past files →
+    IsWanted jobs files o
     → HoldsOffered jobs (past ++ o ∷ []) (after_offer files o.file o.line (answer_of o.entry))
 holds_accepted jobs past files o holds wanted =
     let a : Answer = answer_of o.entry in
@@ -131,7 +141,8 @@ holds_accepted jobs past files o holds wanted =
       came = λ f k e is has.
           ⊎_elim {C = came_for (state_of now f) k ≡ Some (answer_of e)}
           (λ (x : IsHere files o a f k).
-          let e_is : o.entry ≡ e = one_entry (entry_at jobs f k) o.entry e (entry_moves jobs f o.file k o.line x.file_is x.line_is ∙ entry_is) is in
+          let e_is : o.entry ≡ e =
+          one_entry (entry_at jobs f k) o.entry e (entry_moves jobs f o.file k o.line x.file_is x.line_is ∙ entry_is) is in
           x.came ∙ ap (λ y. Some (answer_of y)) e_is)
           (λ (x : IsElsewhere files o a f k).
           x.kept ∙ ⊎_elim
@@ -152,7 +163,13 @@ holds_accepted jobs past files o holds wanted =
           })
           (λ (x : IsElsewhere files o a f k).
           let old = holds.only f k b (sym x.kept ∙ is) in
-          record { entry = old.entry; at = old.at; is = old.is; offered = Contains-append_left past (o ∷ []) (line_job f k old.entry) old.offered })
+          record {
+            entry = old.entry;
+            at = old.at;
+            is = old.is;
+            offered =
+                Contains-append_left past (o ∷ []) (line_job f k old.entry) old.offered;
+          })
           (after_cases files o a file_low line_low f k);
     }
 
@@ -171,15 +188,18 @@ file_there (s ∷ files) (suc f) k low = let h = file_there files f k low in ome
 pub refused_came : (jobs : List (List Entry)) (files : List FileState) (f k : ℕ) (e : Entry) (r : Refusal) → HasLinesOf jobs files →
     entry_at jobs f k ≡ Some e
     → IsRefusedFor jobs files (line_job f k e) r → IsSome (came_for (state_of files f) k)
-refused_came jobs files f k e NoSuchFile h is refused = absurd (let low = file_there files f k (line_there jobs files f k e h is) in omega arith)
+refused_came jobs files f k e NoSuchFile h is refused =
+    absurd (let low = file_there files f k (line_there jobs files f k e h is) in omega arith)
 refused_came jobs files f k e FileEnded h is refused =
     front_came (state_of files f).arrived k (let low = line_there jobs files f k e h is in let ended = refused.1 in omega arith)
-refused_came jobs files f k e NoSuchLine h is refused = absurd (let low = line_there jobs files f k e h is in let past = refused.1 in omega arith)
+refused_came jobs files f k e NoSuchLine h is refused =
+    absurd (let low = line_there jobs files f k e h is in let past = refused.1 in omega arith)
 refused_came jobs files f k e WrongPosition h is refused = absurd (refused.1 is)
 refused_came jobs files f k e Double h is refused = refused.1
 
 -- a refused offer changes nothing, and what holds stays true with one more offer
-pub holds_refused : (jobs : List (List Entry)) (past : List Job) (files : List FileState) (o : Job) (r : Refusal) → HoldsOffered jobs past files →
+pub holds_refused : (jobs : List (List Entry)) (past : List Job) (files : List FileState) (o : Job) (r : Refusal) →
+    HoldsOffered jobs past files →
     IsRefusedFor jobs files o r
     → HoldsOffered jobs (past ++ o ∷ []) files
 holds_refused jobs past files o r holds refused = record {
@@ -196,7 +216,13 @@ holds_refused jobs past files o r holds refused = record {
       (Contains-push_cases past o (line_job f k e) has);
   only = λ f k a is.
       let old = holds.only f k a is in
-      record { entry = old.entry; at = old.at; is = old.is; offered = Contains-append_left past (o ∷ []) (line_job f k old.entry) old.offered };
+      record {
+        entry = old.entry;
+        at = old.at;
+        is = old.is;
+        offered =
+            Contains-append_left past (o ∷ []) (line_job f k old.entry) old.offered;
+      };
 }
 
 -- a take changes nothing of what came

@@ -210,7 +210,8 @@ line_has f k l j e [] at is = absurd (let bad : None ≡ Some e = is in cc)
 line_has f k l zero e (x ∷ entries) at is =
     let x_is : x ≡ e = cc in
     subst (λ y. Contains (file_jobs f k (x ∷ entries)) (line_job f l y)) x_is
-    (subst (λ m. Contains (file_jobs f k (x ∷ entries)) (line_job f m x)) (omega arith) (contains_first (line_job f k x) (file_jobs f (suc k) entries)))
+    (subst (λ m. Contains (file_jobs f k (x ∷ entries)) (line_job f m x)) (omega arith)
+    (contains_first (line_job f k x) (file_jobs f (suc k) entries)))
 line_has f k l (suc j) e (x ∷ entries) at is =
     contains_later (line_job f k x) (line_job f l e) (file_jobs f (suc k) entries) (line_has f (suc k) l j e entries (omega arith) is)
 
@@ -225,7 +226,8 @@ job_has f g (suc i) k e (entries ∷ jobs) at is =
     Contains-append_right (file_jobs f 0 entries) (jobs_from (suc f) jobs) (line_job g k e) (job_has (suc f) g i k e jobs (omega arith) is)
 
 -- what is known of a list with each job once
-same_times : (jobs : List (List Entry)) (got : List Job) → AreJobsInSomeOrder jobs got → (o : Job) → times o got ≡ times o (job_list jobs)
+same_times : (jobs : List (List Entry)) (got : List Job) → AreJobsInSomeOrder jobs got → (o : Job) →
+    times o got ≡ times o (job_list jobs)
 unfolding times
 same_times jobs got h o = h.same_counts (λ x. same_job o x)
 
@@ -239,7 +241,8 @@ each_came jobs got h f k e is =
     contains_from_times o got (omega arith)
 
 -- a list that has an offer's line with an equal entry has the offer
-contains_by_entry : (past : List Job) (o : Job) (e : Entry) → e ≡ o.entry → Contains past (line_job o.file o.line e) → Contains past o
+contains_by_entry : (past : List Job) (o : Job) (e : Entry) → e ≡ o.entry → Contains past (line_job o.file o.line e) →
+    Contains past o
 contains_by_entry past o e is has = subst (λ x. Contains past (line_job o.file o.line x)) is has
 
 -- an offer among the jobs that was not offered before
@@ -300,8 +303,9 @@ shares_law jobs rows got rest shared whole =
 -- the law of offers
 pub offers_law : OffersLaw
 offers_law jobs past o rest files after gave h run step =
-    each_accepted o rest h (runs jobs [] past (new_files jobs) files run (start jobs)).offered after gave step
+    each_accepted o rest h (runs jobs [] (λ f. []) past (new_files jobs) files run (start jobs)).offered after gave step
 
 -- the law of fronts
 pub fronts_law : FrontsLaw
-fronts_law jobs events files h run = fronts_full jobs (offers events) files h (runs jobs [] events (new_files jobs) files run (start jobs)).offered
+fronts_law jobs events files h run =
+    fronts_full jobs (offers events) files h (runs jobs [] (λ f. []) events (new_files jobs) files run (start jobs)).offered

@@ -171,12 +171,16 @@ unfolding count_below total
 below_true zero = refl
 below_true (suc n) = let a = below_true n in omega arith
 
+-- as many were received as there are numbers
+pub as_many_as_numbers : {X : Type 0} (n : ℕ) (f : ℕ → X) (rows : List (List ℕ)) (got : List (ℕ × X)) → AreShared n f rows got → length got ≡ n
+as_many_as_numbers {X} n f rows got s =
+    sym (length-map got (λ (t : ℕ × X). t.1))
+    ∙ sym (count_true (map (λ (t : ℕ × X). t.1) got))
+    ∙ got_all_once (λ (x : X). true) n f rows got s
+    ∙ below_true n
+
 -- if as many were got as there are, nothing is left
 pub nothing_left : {X : Type 0} (n : ℕ) (f : ℕ → X) (rows : List (List ℕ)) (got rest : List (ℕ × X)) →
     AreShared n f rows (got ++ rest) → length got ≡ n → rest ≡ []
-nothing_left {X} n f rows got rest s whole =
-    let all : List (ℕ × X) = got ++ rest in
-    let a : count_by (λ (x : X). true) (map (λ (t : ℕ × X). t.1) all) ≡ count_below n (λ x. true) = got_all_once (λ (x : X). true) n f rows all s in
-    let b : length all ≡ n = sym (length-map all (λ (t : ℕ × X). t.1)) ∙ sym (count_true (map (λ (t : ℕ × X). t.1) all)) ∙ a ∙ below_true n in
-    let c : length all ≡ length got + length rest = length-append got rest in
-    nil_from_length rest (omega arith)
+nothing_left n f rows got rest s whole =
+    nil_from_length rest (omega (arith, as_many_as_numbers n f rows (got ++ rest) s, length-append got rest, whole))

@@ -6,9 +6,10 @@ use Rattle.std.specs.List.Sorted.{IsNonDecreasing, IsPartitionPoint}
 use Rattle.std.proofs.Math.Dec.{leb}
 use Rattle.std.proofs.lemmas.Bool.{cases_lt, leb-true, leb-false}
 use Rattle.std.proofs.lemmas.List.{take_all, take_more, take-append-le, get_or_append_left, length-map, map-append, append-nil, append_assoc}
+use Rattle.std.proofs.lemmas.Option.{slice_get-get_or, slice_get_within}
 use Rattle.std.proofs.lemmas.List.Concat.{flat_map-append}
 use Rattle.std.proofs.lemmas.List.Sums.{sum_by-cons, sum_by_push, sum_by-take-le}
-use Rattle.std.proofs.Math.Seq.{get_or-append_seam}
+use Rattle.std.proofs.Math.Seq.{drop-append_seam, get_or-append_seam}
 use Rattle.kalah_jobs.specs.declared.files.entry.Entry.{Entry}
 use Rattle.kalah_jobs.specs.Files.NamedBytes.{NamedBytes}
 use Rattle.kalah_jobs.specs.Files.JobList.{entries_of, line_job, file_jobs, jobs_from, job_list, by_file}
@@ -56,10 +57,10 @@ length-job_list jobs = length-jobs_from 0 jobs
 
 -- ---- the place of a line in the list of jobs
 
-slice_get-append_left : {X : Type 0} (xs ys : List X) (i : ℕ) (x : X) → slice_get xs i ≡ Some x → slice_get (xs ++ ys) i ≡ Some x
-slice_get-append_left [] ys i x is = cc
-slice_get-append_left (y ∷ xs) ys zero x is = is
-slice_get-append_left (y ∷ xs) ys (suc i) x is = slice_get-append_left xs ys i x is
+slice_get-left : {X : Type 0} (xs ys : List X) (i : ℕ) → i < length xs → slice_get (xs ++ ys) i ≡ slice_get xs i
+slice_get-left [] ys i low = absurd (omega arith)
+slice_get-left (x ∷ xs) ys zero low = refl
+slice_get-left (x ∷ xs) ys (suc i) low = slice_get-left xs ys i (omega arith)
 
 slice_get-append_right : {X : Type 0} (xs ys : List X) (n i : ℕ) → n ≡ length xs + i → slice_get (xs ++ ys) n ≡ slice_get ys i
 slice_get-append_right [] ys n i is = ap (λ m. slice_get ys m) (let e : n ≡ i = omega arith in e)
@@ -82,11 +83,13 @@ slice_get-jobs_from f zero h k n (entries ∷ jobs) e file number is =
     let n_is : n ≡ k = omega arith in
     let f_is : f ≡ h = omega arith in
     ap (λ m. slice_get (file_jobs f 0 entries ++ jobs_from (suc f) jobs) m) n_is
-    ∙ slice_get-append_left (file_jobs f 0 entries) (jobs_from (suc f) jobs) k (line_job f k e) here
+    ∙ slice_get-left (file_jobs f 0 entries) (jobs_from (suc f) jobs) k
+    (slice_get_within (file_jobs f 0 entries) k (line_job f k e) here) ∙ here
     ∙ ap (λ m. Some (line_job m k e)) f_is
 slice_get-jobs_from f (suc g) h k n (entries ∷ jobs) e file number is =
     let m : ℕ = job_count (take g jobs) + k in
-    let past : n ≡ length (file_jobs f 0 entries) + m = omega (arith, length-file_jobs f 0 entries, job_count-cons entries (take g jobs)) in
+    let past : n ≡ length (file_jobs f 0 entries) + m =
+    omega (arith, length-file_jobs f 0 entries, job_count-cons entries (take g jobs)) in
     slice_get-append_right (file_jobs f 0 entries) (jobs_from (suc f) jobs) n m past
     ∙ slice_get-jobs_from (suc f) g h k m jobs e (omega arith) refl is
 
@@ -106,25 +109,18 @@ pub length-all_entries : (jobs : List (List Entry)) → length (all_entries jobs
 length-all_entries [] = refl
 length-all_entries (own ∷ jobs) = omega (arith, length-append own (all_entries jobs), length-all_entries jobs, job_count-cons own jobs)
 
-slice_get-left : {X : Type 0} (xs ys : List X) (i : ℕ) → i < length xs → slice_get (xs ++ ys) i ≡ slice_get xs i
-slice_get-left [] ys i low = absurd (omega arith)
-slice_get-left (x ∷ xs) ys zero low = refl
-slice_get-left (x ∷ xs) ys (suc i) low = slice_get-left xs ys i (omega arith)
-
 -- line k of file f comes after the entries of the files before f
-pub slice_get-all_entries : (jobs : List (List Entry)) (f k n : ℕ) → n ≡ job_count (take f jobs) + k → k < length (entries_of jobs f)
+pub slice_get-all_entries : (jobs : List (List Entry)) (f k n : ℕ) → n ≡ job_count (take f jobs) + k →
+    k < length (entries_of jobs f)
     → slice_get (all_entries jobs) n ≡ slice_get (entries_of jobs f) k
 slice_get-all_entries [] f k n number low = absurd (omega arith)
 slice_get-all_entries (own ∷ jobs) zero k n number low =
-    ap (λ m. slice_get (own ++ all_entries jobs) m) (let same : n ≡ k = omega arith in same) ∙ slice_get-left own (all_entries jobs) k low
+    ap (λ m. slice_get (own ++ all_entries jobs) m) (let same : n ≡ k = omega arith in same)
+    ∙ slice_get-left own (all_entries jobs) k low
 slice_get-all_entries (own ∷ jobs) (suc f) k n number low =
     let m : ℕ = job_count (take f jobs) + k in
     slice_get-append_right own (all_entries jobs) n m (omega (arith, job_count-cons own (take f jobs)))
     ∙ slice_get-all_entries jobs f k m refl low
-
-drop_past : {X : Type 0} (past rest : List X) → drop (length past) (past ++ rest) ≡ rest
-drop_past [] rest = refl
-drop_past (x ∷ past) rest = drop_past past rest
 
 -- the entries between two offsets
 between : {X : Type 0} (past own rest : List X) (start end : ℕ) → start ≡ length past → end ≡ length past + length own
@@ -133,7 +129,7 @@ between past own rest start end start_is end_is =
     let many : end - start ≡ length own = omega arith in
     ap (λ n. take n (drop start (past ++ (own ++ rest)))) many
     ∙ ap (λ n. take (length own) (drop n (past ++ (own ++ rest)))) start_is
-    ∙ ap (take (length own)) (drop_past past (own ++ rest))
+    ∙ ap (take (length own)) (drop-append_seam past (own ++ rest))
     ∙ take-append-le (length own) own rest (omega arith)
     ∙ take_all (length own) own (omega arith)
 
@@ -150,11 +146,13 @@ by_file_behind past (own ∷ jobs) (start ∷ end ∷ offsets) as_many before =
     let end_is : end ≡ length past + length own = omega (arith, before 1 (omega arith), job_count-cons own (take 0 jobs)) in
     let behind = by_file_behind (past ++ own) jobs (end ∷ offsets) (omega arith) (λ f low.
     omega (arith, before (suc f) (omega arith), job_count-cons own (take f jobs), length-append past own)) in
-    ap (λ first. first ∷ by_file (end ∷ offsets) (past ++ (own ++ all_entries jobs))) (between past own (all_entries jobs) start end start_is end_is)
+    ap (λ first. first ∷ by_file (end ∷ offsets) (past ++ (own ++ all_entries jobs)))
+    (between past own (all_entries jobs) start end start_is end_is)
     ∙ ap (λ entries. own ∷ by_file (end ∷ offsets) entries) (sym (append_assoc past own (all_entries jobs)))
     ∙ ap (λ others. own ∷ others) behind
 
-pub by_file_is : (jobs : List (List Entry)) (offsets : List ℕ) (entries : List Entry) → AreCounted jobs offsets entries → by_file offsets entries ≡ jobs
+pub by_file_is : (jobs : List (List Entry)) (offsets : List ℕ) (entries : List Entry) → AreCounted jobs offsets entries →
+    by_file offsets entries ≡ jobs
 by_file_is jobs offsets entries counted =
     ap (by_file offsets) counted.entries_are
     ∙ by_file_behind [] jobs offsets counted.as_many (λ f low. omega (arith, counted.before f low))
@@ -179,12 +177,14 @@ get_or_any (x ∷ xs) zero d e low = refl
 get_or_any (x ∷ xs) (suc i) d e low = get_or_any xs i d e (omega arith)
 
 -- an offset, read for any default
-pub offset_is : (jobs : List (List Entry)) (offsets : List ℕ) (entries : List Entry) (f d : ℕ) → AreCounted jobs offsets entries → f ≤ length jobs
+pub offset_is : (jobs : List (List Entry)) (offsets : List ℕ) (entries : List Entry) (f d : ℕ) → AreCounted jobs offsets entries →
+    f ≤ length jobs
     → get_or offsets f d ≡ job_count (take f jobs)
 offset_is jobs offsets entries f d counted low = get_or_any offsets f d 0 (omega (arith, counted.as_many)) ∙ counted.before f low
 
 -- the offsets ascend
-pub offsets_rise : (jobs : List (List Entry)) (offsets : List ℕ) (entries : List Entry) → AreCounted jobs offsets entries → IsNonDecreasing offsets
+pub offsets_rise : (jobs : List (List Entry)) (offsets : List ℕ) (entries : List Entry) → AreCounted jobs offsets entries →
+    IsNonDecreasing offsets
 offsets_rise jobs offsets entries counted i j d low high =
     let within : j ≤ length jobs = omega (arith, counted.as_many) in
     omega (
@@ -202,7 +202,8 @@ lines_between jobs f within = ap job_count (take_more jobs f [] within) ∙ sum_
 -- ---- the file of a job
 
 -- line k of file f is among the entries
-pub line_within : (jobs : List (List Entry)) (offsets : List ℕ) (entries : List Entry) (f k : ℕ) → AreCounted jobs offsets entries → f < length jobs
+pub line_within : (jobs : List (List Entry)) (offsets : List ℕ) (entries : List Entry) (f k : ℕ) →
+    AreCounted jobs offsets entries → f < length jobs
     → k < length (entries_of jobs f) → job_count (take f jobs) + k < length entries
 line_within jobs offsets entries f k counted within low =
     omega (
@@ -213,19 +214,15 @@ line_within jobs offsets entries f k counted within low =
       all_counted jobs offsets entries counted,
     )
 
-slice_get_read : {X : Type 0} (xs : List X) (n : ℕ) (x : X) → n < length xs → x ≡ get_or xs n x → slice_get xs n ≡ Some x
-slice_get_read [] n x low is = absurd (omega arith)
-slice_get_read (y ∷ xs) zero x low is = ap Some (sym is)
-slice_get_read (y ∷ xs) (suc n) x low is = slice_get_read xs n x (omega arith) is
-
 -- the entry that stands there is that of the line
-pub entry_there : (jobs : List (List Entry)) (offsets : List ℕ) (entries : List Entry) (f k n : ℕ) (e : Entry) → AreCounted jobs offsets entries
+pub entry_there : (jobs : List (List Entry)) (offsets : List ℕ) (entries : List Entry) (f k n : ℕ) (e : Entry) →
+    AreCounted jobs offsets entries
     → f < length jobs → k < length (entries_of jobs f) → n ≡ job_count (take f jobs) + k → e ≡ get_or entries n e
     → slice_get (entries_of jobs f) k ≡ Some e
 entry_there jobs offsets entries f k n e counted within low number is =
     sym (slice_get-all_entries jobs f k n number low)
     ∙ ap (λ all. slice_get all n) (sym counted.entries_are)
-    ∙ slice_get_read entries n e (omega (arith, number, line_within jobs offsets entries f k counted within low)) is
+    ∙ slice_get-get_or entries n e (omega (arith, number, line_within jobs offsets entries f k counted within low)) ∙ ap Some (sym is)
 
 -- p is how many offsets are at most n
 abbrev pub AreStarted : List ℕ → ℕ → ℕ → Type 0
@@ -238,7 +235,8 @@ pub record HasJob (jobs : List (List Entry)) (n p : ℕ) : Type 0 where
   pub low : job_count (take (p - 1) jobs) ≤ n
   pub line : n - job_count (take (p - 1) jobs) < length (entries_of jobs (p - 1))
 
-pub has_job : (jobs : List (List Entry)) (offsets : List ℕ) (entries : List Entry) (n p : ℕ) → AreCounted jobs offsets entries → n < job_count jobs
+pub has_job : (jobs : List (List Entry)) (offsets : List ℕ) (entries : List Entry) (n p : ℕ) → AreCounted jobs offsets entries →
+    n < job_count jobs
     → AreStarted offsets n p → p ≤ length offsets → HasJob jobs n p
 has_job jobs offsets entries n p counted few started bound =
     let some : 1 ≤ p =
@@ -290,11 +288,13 @@ pub counted_none : AreCounted [] (0 ∷ []) []
 counted_none = record {
   entries_are = refl;
   as_many = refl;
-  before = λ f low. ap (λ g. get_or (0 ∷ []) g 0) (let none : f ≡ 0 = omega arith in none) ∙ sym (ap job_count (take_all f [] (omega arith)));
+  before = λ f low. ap (λ g. get_or (0 ∷ []) g 0) (let none : f ≡ 0 = omega arith in none)
+      ∙ sym (ap job_count (take_all f [] (omega arith)));
 }
 
 -- one file more is counted
-pub counted_more : (jobs : List (List Entry)) (offsets : List ℕ) (entries own : List Entry) (all : ℕ) → AreCounted jobs offsets entries
+pub counted_more : (jobs : List (List Entry)) (offsets : List ℕ) (entries own : List Entry) (all : ℕ) →
+    AreCounted jobs offsets entries
     → all ≡ length (entries ++ own) → AreCounted (jobs ++ own ∷ []) (offsets ++ all ∷ []) (entries ++ own)
 counted_more jobs offsets entries own all counted all_is =
     let more : all_entries (jobs ++ own ∷ []) ≡ entries ++ own =
@@ -322,12 +322,14 @@ counted_more jobs offsets entries own all counted all_is =
     }
 
 -- one file more is read
-pub read_more : (question : Question) (files : List NamedBytes) (i : ℕ) (offsets : List ℕ) (entries own : List Entry) (file : NamedBytes) (all : ℕ)
+pub read_more : (question : Question) (files : List NamedBytes) (i : ℕ) (offsets : List ℕ) (entries own : List Entry)
+    (file : NamedBytes) (all : ℕ)
     → AreCounted (jobs_to question (take i files)) offsets entries → i < length files → file ≡ get_or files i file
     → own ≡ entries_to question file.bytes → all ≡ length (entries ++ own)
     → AreCounted (jobs_to question (take (i + 1) files)) (offsets ++ all ∷ []) (entries ++ own)
 read_more question files i offsets entries own file all counted low is read all_is =
-    let more : take (i + 1) files ≡ take i files ++ file ∷ [] = take_more files i file low ∙ ap (λ x. take i files ++ x ∷ []) (sym is) in
+    let more : take (i + 1) files ≡ take i files ++ file ∷ [] = take_more files i file low
+    ∙ ap (λ x. take i files ++ x ∷ []) (sym is) in
     let jobs_are : jobs_to question (take (i + 1) files) ≡ jobs_to question (take i files) ++ own ∷ [] =
     ap (jobs_to question) more
     ∙ map-append (λ (f : NamedBytes). entries_to question f.bytes) (take i files) (file ∷ [])
@@ -336,7 +338,8 @@ read_more question files i offsets entries own file all counted low is read all_
     (counted_more (jobs_to question (take i files)) offsets entries own all counted all_is)
 
 -- the entries so far are no more than the lines of all files
-pub counted_low : (question : Question) (files : List NamedBytes) (i : ℕ) → job_count (jobs_to question (take i files)) ≤ lines_in_all files
+pub counted_low : (question : Question) (files : List NamedBytes) (i : ℕ) →
+    job_count (jobs_to question (take i files)) ≤ lines_in_all files
 counted_low question files i =
     let all : job_count (jobs_to question (take i files)) ≡ sum_by lines_in (take i files) = job_count-jobs_to question (take i files) in
     omega (arith, all, sum_by-take-le lines_in files i)

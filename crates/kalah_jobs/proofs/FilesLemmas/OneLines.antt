@@ -6,14 +6,12 @@ use Rattle.std.proofs.lemmas.Bool.{cases_eq}
 use Rattle.std.proofs.lemmas.List.{append-nil}
 use Rattle.std.proofs.lemmas.List.Elements.{All-nil, All-cons, All-head, All-tail}
 use Rattle.kalah_jobs.specs.Files.Lines.{line_feed, lines_of, HasNoLineFeed, with_line_feeds, EndsInOpenLine, AreLines, LinesAreOne}
-use Rattle.kalah_jobs.proofs.FilesLemmas.SplitLines.{lines_of-feed, lines_of-byte}
-
-abbrev IsNoFeed : ℕ → Type 0
-IsNoFeed byte = byte ≢ line_feed
+use Rattle.kalah_jobs.proofs.FilesLemmas.SplitLines.{IsNoFeed, lines_of-byte, lines_of-ended, lines_of-feed, lines_of-open}
 
 -- ---- the lines of the bytes are lines of them
 
-whole_after_byte : (byte : ℕ) (lines : List (List ℕ)) → byte ≢ line_feed → All HasNoLineFeed lines → All HasNoLineFeed (onto_first byte lines)
+whole_after_byte : (byte : ℕ) (lines : List (List ℕ)) → byte ≢ line_feed → All HasNoLineFeed lines →
+    All HasNoLineFeed (onto_first byte lines)
 whole_after_byte byte [] not whole =
     All-cons HasNoLineFeed (byte ∷ []) [] (All-cons IsNoFeed byte [] not (All-nil IsNoFeed)) (All-nil HasNoLineFeed)
 whole_after_byte byte (line ∷ lines) not whole =
@@ -51,7 +49,8 @@ open_after_byte byte bytes lines (line ∷ before) last pieces_are bytes_are som
   some_bytes = some;
 }
 
-are_lines_after_feed : (bytes : List ℕ) (lines : List (List ℕ)) → AreLines bytes lines → AreLines (line_feed ∷ bytes) ([] ∷ lines)
+are_lines_after_feed : (bytes : List ℕ) (lines : List (List ℕ)) → AreLines bytes lines →
+    AreLines (line_feed ∷ bytes) ([] ∷ lines)
 are_lines_after_feed bytes lines are = record {
   whole = All-cons HasNoLineFeed [] lines (All-nil IsNoFeed) are.whole;
   parts =
@@ -86,26 +85,14 @@ are_lines_of (byte ∷ bytes) =
     ⊎_elim
     (λ (is : byte ≡ line_feed).
     subst (λ lines. AreLines (byte ∷ bytes) lines) (sym (lines_of-feed byte bytes is))
-    (subst (λ b. AreLines (b ∷ bytes) ([] ∷ lines_of bytes)) (sym is) (are_lines_after_feed bytes (lines_of bytes) (are_lines_of bytes))))
+    (subst (λ b. AreLines (b ∷ bytes) ([] ∷ lines_of bytes)) (sym is)
+    (are_lines_after_feed bytes (lines_of bytes) (are_lines_of bytes))))
     (λ (not : byte ≡ line_feed → ⊥).
     subst (λ lines. AreLines (byte ∷ bytes) lines) (sym (lines_of-byte byte bytes not))
     (are_lines_after_byte byte bytes (lines_of bytes) not (are_lines_of bytes)))
     (cases_eq byte line_feed)
 
 -- ---- and no others are
-
-lines_of-ended : (line rest : List ℕ) → HasNoLineFeed line → lines_of (line ++ line_feed ∷ rest) ≡ line ∷ lines_of rest
-lines_of-ended [] rest whole = lines_of-feed line_feed rest refl
-lines_of-ended (byte ∷ line) rest whole =
-    lines_of-byte byte (line ++ line_feed ∷ rest) (All-head IsNoFeed byte line whole)
-    ∙ ap (λ lines. onto_first byte lines) (lines_of-ended line rest (All-tail IsNoFeed byte line whole))
-
-lines_of-open : (byte : ℕ) (line : List ℕ) → HasNoLineFeed (byte ∷ line) → lines_of (byte ∷ line) ≡ (byte ∷ line) ∷ []
-unfolding lines_of
-lines_of-open byte [] whole = lines_of-byte byte [] (All-head IsNoFeed byte [] whole)
-lines_of-open byte (another ∷ line) whole =
-    lines_of-byte byte (another ∷ line) (All-head IsNoFeed byte (another ∷ line) whole)
-    ∙ ap (λ lines. onto_first byte lines) (lines_of-open another line (All-tail IsNoFeed byte (another ∷ line) whole))
 
 lines_of-feeds : (pieces : List (List ℕ)) (rest : List ℕ) → All HasNoLineFeed pieces →
     lines_of (with_line_feeds pieces ++ rest) ≡ pieces ++ lines_of rest
@@ -116,11 +103,8 @@ lines_of-feeds (piece ∷ pieces) rest whole =
     ∙ lines_of-ended piece (with_line_feeds pieces ++ rest) (All-head HasNoLineFeed piece pieces whole)
     ∙ ap (λ lines. piece ∷ lines) (lines_of-feeds pieces rest (All-tail HasNoLineFeed piece pieces whole))
 
-lines_of-open_last : (last : List ℕ) → HasNoLineFeed last → last ≢ [] → lines_of last ≡ last ∷ []
-lines_of-open_last [] whole some = absurd (some refl)
-lines_of-open_last (byte ∷ line) whole some = lines_of-open byte line whole
-
-All-before : (before : List (List ℕ)) (last : List ℕ) → All HasNoLineFeed (before ++ last ∷ []) → All HasNoLineFeed before × HasNoLineFeed last
+All-before : (before : List (List ℕ)) (last : List ℕ) → All HasNoLineFeed (before ++ last ∷ []) →
+    All HasNoLineFeed before × HasNoLineFeed last
 All-before [] last whole = (All-nil HasNoLineFeed, All-head HasNoLineFeed last [] whole)
 All-before (piece ∷ before) last whole =
     let rest = All-before before last (All-tail HasNoLineFeed piece (before ++ last ∷ []) whole) in
@@ -141,7 +125,7 @@ no_others bytes pieces are =
     ∙ sym
     (ap lines_of unended.bytes_are
     ∙ lines_of-feeds unended.before unended.last whole.0
-    ∙ ap (λ lines. unended.before ++ lines) (lines_of-open_last unended.last whole.1 unended.some_bytes)))
+    ∙ ap (λ lines. unended.before ++ lines) (lines_of-open unended.last whole.1 unended.some_bytes)))
     are.parts
 
 pub lines_are_one : LinesAreOne

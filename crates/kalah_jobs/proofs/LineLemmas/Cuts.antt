@@ -1,9 +1,6 @@
 -- A text cut at each byte of one kind.
-use Rattle.std.proofs.Common.{◌≡◌, ◌≢◌, ℕ, ◌+◌, ◌<◌, false, ◌==◌, List, [], ◌∷◌, ◌++◌, length, get_or, take, drop, All, refl, sym, ap, ◌∙◌, take-append-drop, eq-eqb}
+use Rattle.std.proofs.Common.{◌≡◌, ℕ, false, ◌==◌, List, [], ◌∷◌, ◌++◌, All, refl, sym, ap, ◌∙◌, eq-eqb}
 use Rattle.std.specs.List.{join_with_byte}
-use Rattle.std.proofs.lemmas.Bool.{ne_eqb}
-use Rattle.std.proofs.lemmas.List.{drop_more, take_more}
-use Rattle.std.proofs.lemmas.List.Elements.{All-nil, All-cons, All-append}
 use Rattle.std.proofs.lemmas.List.Splits.{slice_split_none, slice_split_at, join_with_byte-slice_split}
 use Rattle.kalah_jobs.specs.Line.Reading.{parts_at}
 
@@ -14,33 +11,19 @@ Lacks byte text = All (λ b. (b == byte) ≡ false) text
 pub parts_of_one : (byte : ℕ) (text : List ℕ) → Lacks byte text → parts_at byte text ≡ text ∷ []
 parts_of_one byte text lacks = slice_split_none (λ b. b == byte) text lacks
 
-pub parts_of_more : (byte : ℕ) (first rest : List ℕ) → Lacks byte first → parts_at byte (first ++ byte ∷ rest) ≡ first ∷ parts_at byte rest
+pub parts_of_more : (byte : ℕ) (first rest : List ℕ) → Lacks byte first →
+    parts_at byte (first ++ byte ∷ rest) ≡ first ∷ parts_at byte rest
 parts_of_more byte first rest lacks = slice_split_at (λ b. b == byte) first byte rest lacks (eq-eqb byte byte refl)
-
--- the first part ends at the first such byte, which stands at place i
-pub parts_from_place : (byte : ℕ) (text : List ℕ) (i : ℕ) → i < length text → get_or text i 0 ≡ byte → Lacks byte (take i text) →
-    parts_at byte text ≡ take i text ∷ parts_at byte (drop (i + 1) text)
-parts_from_place byte text i lt at lacks =
-    let parts : text ≡ take i text ++ byte ∷ drop (i + 1) text =
-    sym (take-append-drop i text) ∙ ap (λ zs. take i text ++ zs) (drop_more text i 0 lt ∙ ap (λ z. z ∷ drop (i + 1) text) at) in
-    ap (parts_at byte) parts ∙ parts_of_more byte (take i text) (drop (i + 1) text) lacks
 
 -- one part is the text
 pub text_of_one : (byte : ℕ) (text only : List ℕ) → parts_at byte text ≡ only ∷ [] → text ≡ only
 text_of_one byte text only e = sym (join_with_byte-slice_split byte text) ∙ ap (join_with_byte byte) e
 
 -- two parts stand round the byte
-pub text_of_two : (byte : ℕ) (text first second : List ℕ) → parts_at byte text ≡ first ∷ second ∷ [] → text ≡ first ++ byte ∷ second
+pub text_of_two : (byte : ℕ) (text first second : List ℕ) → parts_at byte text ≡ first ∷ second ∷ [] →
+    text ≡ first ++ byte ∷ second
 text_of_two byte text first second e = sym (join_with_byte-slice_split byte text) ∙ ap (join_with_byte byte) e
 
 pub text_of_three : (byte : ℕ) (text first second third : List ℕ) → parts_at byte text ≡ first ∷ second ∷ third ∷ [] →
     text ≡ first ++ byte ∷ (second ++ byte ∷ third)
 text_of_three byte text first second third e = sym (join_with_byte-slice_split byte text) ∙ ap (join_with_byte byte) e
-
--- one more byte that is another
-pub lacks_more : (byte : ℕ) (text : List ℕ) (i : ℕ) → i < length text → get_or text i 0 ≢ byte → Lacks byte (take i text) →
-    Lacks byte (take (i + 1) text)
-lacks_more byte text i lt other lacks =
-    rw (take_more text i 0 lt)
-    (All-append (λ b. (b == byte) ≡ false) (take i text) (get_or text i 0 ∷ []) lacks
-    (All-cons (λ b. (b == byte) ≡ false) (get_or text i 0) [] (ne_eqb (get_or text i 0) byte other) (All-nil (λ b. (b == byte) ≡ false))))

@@ -6,11 +6,12 @@ use Rattle.std.proofs.lemmas.List.Elements.{All-cons, All-append}
 use Rattle.std.specs.List.{join_with_byte}
 use Rattle.kalah_jobs.specs.Line.Line.{comma, slash, IsNumber, AreHouses, IsSide}
 use Rattle.kalah_jobs.specs.Line.Reading.{◌>>=◌, parts_at, number_read, numbers_read, side_from, side_of}
-use Rattle.kalah_jobs.proofs.LineLemmas.Cuts.{Lacks, parts_of_one, parts_of_more, text_of_one, text_of_two}
+use Rattle.kalah_jobs.proofs.LineLemmas.Cuts.{Lacks, parts_of_one, parts_of_more, text_of_two}
 use Rattle.kalah_jobs.proofs.LineLemmas.Numbers.{number_of_is_number, number_is_read, number_lacks}
 
 -- the value of a step that succeeded
-pub bind_some : {A B : Type 0} (r : Option A) (f : A → Option B) (y : B) → (r >>= f) ≡ Some y → (x : A) × ((r ≡ Some x) × (f x ≡ Some y))
+pub bind_some : {A B : Type 0} (r : Option A) (f : A → Option B) (y : B) → (r >>= f) ≡ Some y → (x : A)
+    × ((r ≡ Some x) × (f x ≡ Some y))
 bind_some None f y e = absurd cc
 bind_some (Some x) f y e = (x, (refl, e))
 
@@ -38,12 +39,14 @@ pieces_are_houses (piece ∷ next ∷ pieces) houses some e =
     let rest = pieces_are_houses (next ∷ pieces) others.0 (omega arith) others.1.0 in
     let number = number_of_is_number piece read.0 read.1.0 in
     subst (AreHouses (join_with_byte comma (piece ∷ next ∷ pieces))) (some_is (read.0 ∷ others.0) houses others.1.1)
-    (are_more (join_with_byte comma (piece ∷ next ∷ pieces)) piece (join_with_byte comma (next ∷ pieces)) read.0 others.0 refl number rest)
+    (are_more (join_with_byte comma (piece ∷ next ∷ pieces)) piece (join_with_byte comma (next ∷ pieces)) read.0 others.0 refl
+    number rest)
 
 pub numbers_of_are_houses : (text houses : List ℕ) → numbers_read (parts_at comma text) ≡ Some houses → AreHouses text houses
 numbers_of_are_houses text houses e =
     let some : 0 < length (parts_at comma text) = omega (arith, length-slice_split (λ b. b == comma) text) in
-    subst (λ (t : List ℕ). AreHouses t houses) (join_with_byte-slice_split comma text) (pieces_are_houses (parts_at comma text) houses some e)
+    subst (λ (t : List ℕ). AreHouses t houses) (join_with_byte-slice_split comma text)
+    (pieces_are_houses (parts_at comma text) houses some e)
 
 pub houses_are_read : (text houses : List ℕ) → AreHouses text houses → numbers_read (parts_at comma text) ≡ Some houses
 houses_are_read text [] h = absurd h
@@ -70,7 +73,8 @@ houses_lack byte text (n ∷ m ∷ houses) low other h =
 -- a side that is read was cut in two
 side_from_two : (parts : List (List ℕ)) (side : List ℕ × ℕ) → side_from parts ≡ Some side →
     (houses : List ℕ) × ((store : List ℕ)
-    × ((parts ≡ houses ∷ store ∷ []) × (numbers_read (parts_at comma houses) ≡ Some side.0) × (number_read store ≡ Some side.1)))
+    × ((parts ≡ houses ∷ store ∷ []) × (numbers_read (parts_at comma houses) ≡ Some side.0)
+    × (number_read store ≡ Some side.1)))
 side_from_two [] side e = absurd cc
 side_from_two (a ∷ []) side e = absurd cc
 side_from_two (a ∷ b ∷ []) side e =
@@ -93,7 +97,8 @@ side_of_is_side text side e =
 
 pub side_is_read : (text houses : List ℕ) (store : ℕ) → IsSide text houses store → side_of text ≡ Some (houses, store)
 side_is_read text houses store side =
-    let front = parts_of_more slash side.houses_text side.store_text (houses_lack slash side.houses_text houses (lit< tt) (λ e. cc) side.houses_written) in
+    let front = parts_of_more slash side.houses_text side.store_text
+    (houses_lack slash side.houses_text houses (lit< tt) (λ e. cc) side.houses_written) in
     let back = parts_of_one slash side.store_text (number_lacks slash side.store_text store (lit< tt) side.store_written) in
     let two : parts_at slash text ≡ side.houses_text ∷ side.store_text ∷ [] =
     ap (parts_at slash) side.parts ∙ front ∙ ap (λ (more : List (List ℕ)). side.houses_text ∷ more) back in
@@ -115,13 +120,3 @@ side_lacks byte text houses store low no_comma no_slash side =
 pub houses_are_some : (text houses : List ℕ) → AreHouses text houses → 1 ≤ length houses
 houses_are_some text [] h = absurd h
 houses_are_some text (n ∷ houses) h = omega arith
-
--- what follows the first slash and is no number makes no side
-pub no_store_no_side : (text houses store : List ℕ) → parts_at slash text ≡ houses ∷ parts_at slash store → number_read store ≡ None →
-    side_of text ≡ None
-no_store_no_side text houses store cut none = ap side_from cut ∙ by_parts (parts_at slash store) refl where
-  by_parts : (parts : List (List ℕ)) → parts_at slash store ≡ parts → side_from (houses ∷ parts) ≡ None
-  by_parts [] e = refl
-  by_parts (only ∷ []) e = ap (λ r. r >>= λ n. numbers_read (parts_at comma houses) >>= λ row. Some (row, n))
-      (ap number_read (sym (text_of_one slash store only e)) ∙ none)
-  by_parts (first ∷ second ∷ more) e = refl

@@ -46,7 +46,7 @@ cases_nil (byte ∷ text) = inr (λ e. cc)
 
 -- ---- what a text is read as
 
-is_not_read_if_empty : (text : List ℕ) (p : Position) → text ≡ [] → IsLineOf text p → ⊥
+pub is_not_read_if_empty : (text : List ℕ) (p : Position) → text ≡ [] → IsLineOf text p → ⊥
 is_not_read_if_empty text p empty line =
     let read : ◌≡◌ {A = Option Position} None (Some p) = ap written_of (sym empty) ∙ line_is_written text p line in
     cc
@@ -54,22 +54,23 @@ is_not_read_if_empty text p empty line =
 pub long_is_read : (text : List ℕ) → most_bytes < length text → reading_of_text text ≡ Err Long
 long_is_read text long = rw (lt-ltb _ _ long) refl
 
-empty_is_read : (text : List ℕ) → text ≡ [] → reading_of_text text ≡ Err Empty
+pub empty_is_read : (text : List ℕ) → text ≡ [] → reading_of_text text ≡ Err Empty
 empty_is_read text empty = ap reading_of_text empty
 
-written_is_read : (text : List ℕ) → length text ≤ most_bytes → text ≢ [] → reading_of_text text ≡ admitted_if_written (written_of text)
+pub written_is_read : (text : List ℕ) → length text ≤ most_bytes → text ≢ [] →
+    reading_of_text text ≡ admitted_if_written (written_of text)
 written_is_read text few some =
     let has_bytes : length text ≢ 0 = λ none. some (nil_from_length text none) in
     rw (le-ltb _ _ few, ne_eqb _ _ has_bytes) refl
 
-shape_is_read : (text : List ℕ) → ((p : Position) → ¬ IsLineOf text p) → admitted_if_written (written_of text) ≡ Err Shape
+pub shape_is_read : (text : List ℕ) → ((p : Position) → ¬ IsLineOf text p) → admitted_if_written (written_of text) ≡ Err Shape
 shape_is_read text none =
     (elim (written_of text) as (λ (r : Option Position). written_of text ≡ r → admitted_if_written r ≡ Err Shape) [
       | None ↦ λ e. refl
       | Some p ↦ λ e. absurd (none p (written_is_line text p e))
     ]) refl
 
-form_is_read : (text : List ℕ) (p : Position) → IsLineOf text p → admitted_if_written (written_of text) ≡ admitted p
+pub form_is_read : (text : List ℕ) (p : Position) → IsLineOf text p → admitted_if_written (written_of text) ≡ admitted p
 form_is_read text p line = ap admitted_if_written (line_is_written text p line)
 
 -- ---- what is read of a line, from what holds of it
@@ -158,7 +159,8 @@ with_bytes line few some =
         Shape,
         record {
           holds = λ p form. let read : ◌≡◌ {A = Option Position} None (Some p) = sym e ∙ line_is_written text p form in cc;
-          first = no_fault_before text 3 (omega arith) (λ _. not_long) (λ _. some) (λ lt. absurd (omega (arith, lt))) (λ lt. absurd (omega (arith, lt)));
+          first = no_fault_before text 3 (omega arith) (λ _. not_long) (λ _. some) (λ lt. absurd (omega (arith, lt)))
+              (λ lt. absurd (omega (arith, lt)));
         },
       )
       | Some p ↦ λ e. with_form line p few some (written_is_line text p e)
@@ -211,7 +213,8 @@ reading_has_fault line fault e = elim (is_read_or_faulty line) [
       let other : ◌≡◌ {A = Result Position LineFault} (Ok reads.0) (Err fault) = sym (reads_is_reading line reads.0 reads.1) ∙ e in
       absurd cc
   | inr faulty ↦
-      let same : ◌≡◌ {A = Result Position LineFault} (Err faulty.0) (Err fault) = sym (fault_is_reading line faulty.0 faulty.1) ∙ e in
+      let same : ◌≡◌ {A = Result Position LineFault} (Err faulty.0) (Err fault) = sym (fault_is_reading line faulty.0 faulty.1)
+      ∙ e in
       let is : faulty.0 ≡ fault = cc in
       subst (HasFault line) is faulty.1
 ]

@@ -1,9 +1,10 @@
 -- The text of a position is the line that writes it.
-use Rattle.std.proofs.Common.{◌≡◌, ℕ, ◌+◌, ◌*◌, ◌≤◌, List, [], ◌∷◌, ◌++◌, length, map, Result, Ok, Err, refl, sym, ap, ap₂, subst, ◌∙◌, append-nil, length-append, arith, lit<}
+use Rattle.std.proofs.Common.{◌≡◌, ℕ, ◌*◌, ◌≤◌, List, [], ◌∷◌, ◌++◌, length, map, All, Result, Ok, Err, refl, sym, ap, ap₂, subst, ◌∙◌, append-nil, length-append, arith, lit<}
 use Rattle.std.specs.Prelude.{codes, decimal, sum, IfOk}
 use Rattle.std.specs.List.{join_with_byte}
 use Rattle.std.proofs.lemmas.Fmt.{length-decimal-le}
-use Rattle.std.proofs.lemmas.List.Sums.{sum_by-cons}
+use Rattle.std.proofs.lemmas.List.Elements.{All-head, All-tail, All-from_get_or}
+use Rattle.std.proofs.lemmas.List.Sums.{get_or-le-sum_by}
 use Rattle.kalah_rules.specs.Limits.{most_in_store}
 use Rattle.kalah_rules.specs.Position.{Position, IsWithinLimits}
 use Rattle.kalah_rules.specs.declared.rule.Rule.{Rule}
@@ -24,7 +25,7 @@ houses_text text (n ∷ []) h = number_text text n h
 houses_text text (n ∷ m ∷ houses) h =
     h.1.1.0 ∙ ap₂ (λ (a b : List ℕ). a ++ comma ∷ b) (number_text h.0 n h.1.1.1) (houses_text h.1.0 (m ∷ houses) h.1.1.2)
 
-is_side_text : (text houses : List ℕ) (store : ℕ) → IsSide text houses store → text ≡ side_text houses store
+pub is_side_text : (text houses : List ℕ) (store : ℕ) → IsSide text houses store → text ≡ side_text houses store
 is_side_text text houses store side =
     side.parts ∙ ap₂ (λ (a b : List ℕ). a ++ slash ∷ b) (houses_text side.houses_text houses side.houses_written)
     (number_text side.store_text store side.store_written)
@@ -36,7 +37,8 @@ is_line_text text p line =
     let other = is_side_text line.other_text p.other p.other_store line.other_side in
     line.parts ∙ ap₂ (λ (a b : List ℕ). a ++ space ∷ b ++ ending_of p.rule) own other
 
-pub text_if_ok : (line : List ℕ) (r : Result Position LineFault) → r ≡ reading_of line → IfOk r (λ p. without_cr line ≡ line_text_of p)
+pub text_if_ok : (line : List ℕ) (r : Result Position LineFault) → r ≡ reading_of line →
+    IfOk r (λ p. without_cr line ≡ line_text_of p)
 text_if_ok line (Ok p) e = is_line_text (without_cr line) p (reading_reads line p (sym e)).form
 text_if_ok line (Err fault) e = tt
 
@@ -54,22 +56,29 @@ stores_if_ok line (Err fault) e = tt
 
 -- every number has at most two digits
 abbrev pub AllShort : List ℕ → Type 0
-AllShort [] = Unit {0}
-AllShort (n ∷ ns) = (n ≤ 99) × AllShort ns
+AllShort houses = All (λ n. n ≤ 99) houses
 
-pub short_from_sum : (houses : List ℕ) → sum houses ≤ 99 → AllShort houses
-short_from_sum [] few = tt
-short_from_sum (n ∷ houses) few =
-    let total : sum (n ∷ houses) ≡ n + sum houses = sum_by-cons (λ x. x) n houses in
-    (omega (arith, few, total), short_from_sum houses (omega (arith, few, total)))
+first_short : (n : ℕ) (houses : List ℕ) → AllShort (n ∷ houses) → n ≤ 99
+first_short n houses short = All-head (λ (x : ℕ). x ≤ 99) n houses short
 
-text_are_houses : (houses : List ℕ) → 1 ≤ length houses → AllShort houses → AreHouses (join_with_byte comma (map decimal houses)) houses
+others_short : (n : ℕ) (houses : List ℕ) → AllShort (n ∷ houses) → AllShort houses
+others_short n houses short = All-tail (λ (x : ℕ). x ≤ 99) n houses short
+
+short_from_sum : (houses : List ℕ) → sum houses ≤ 99 → AllShort houses
+short_from_sum houses few =
+    All-from_get_or (λ (n : ℕ). n ≤ 99) houses 0
+    (λ i within. omega (arith, few, get_or-le-sum_by (λ (n : ℕ). n) houses i 0 within))
+
+text_are_houses : (houses : List ℕ) → 1 ≤ length houses → AllShort houses →
+    AreHouses (join_with_byte comma (map decimal houses)) houses
 text_are_houses [] some short = absurd (omega (arith, some))
-text_are_houses (n ∷ []) some short = decimal_is_number n short.0
+text_are_houses (n ∷ []) some short = decimal_is_number n (first_short n [] short)
 text_are_houses (n ∷ m ∷ houses) some short =
-    (decimal n, (join_with_byte comma (map decimal (m ∷ houses)), (refl, decimal_is_number n short.0, text_are_houses (m ∷ houses) (omega arith) short.1)))
+    let rest = text_are_houses (m ∷ houses) (omega arith) (others_short n (m ∷ houses) short) in
+    (decimal n, (join_with_byte comma (map decimal (m ∷ houses)), (refl, decimal_is_number n (first_short n (m ∷ houses) short), rest)))
 
-text_is_side : (houses : List ℕ) (store : ℕ) → 1 ≤ length houses → AllShort houses → store ≤ 99 → IsSide (side_text houses store) houses store
+pub text_is_side : (houses : List ℕ) (store : ℕ) → 1 ≤ length houses → AllShort houses → store ≤ 99 →
+    IsSide (side_text houses store) houses store
 text_is_side houses store some short low = record {
   houses_text = join_with_byte comma (map decimal houses);
   store_text = decimal store;
@@ -93,13 +102,17 @@ text_is_line p limits own_low other_low = record {
 
 houses_text_length : (houses : List ℕ) → AllShort houses → length (join_with_byte comma (map decimal houses)) ≤ 3 * length houses
 houses_text_length [] short = omega arith
-houses_text_length (n ∷ []) short = omega (arith, length-decimal-le 2 n (lit< tt) (omega (arith, short.0)) (omega (arith, short.0)))
+houses_text_length (n ∷ []) short =
+    let low = first_short n [] short in
+    omega (arith, length-decimal-le 2 n (lit< tt) (omega (arith, low)) (omega (arith, low)))
 houses_text_length (n ∷ m ∷ houses) short =
-    let first = length-decimal-le 2 n (lit< tt) (omega (arith, short.0)) (omega (arith, short.0)) in
-    let rest = houses_text_length (m ∷ houses) short.1 in
+    let low = first_short n (m ∷ houses) short in
+    let first = length-decimal-le 2 n (lit< tt) (omega (arith, low)) (omega (arith, low)) in
+    let rest = houses_text_length (m ∷ houses) (others_short n (m ∷ houses) short) in
     omega (arith, first, rest, length-append (decimal n) (comma ∷ join_with_byte comma (map decimal (m ∷ houses))))
 
-side_text_length : (houses : List ℕ) (store : ℕ) → length houses ≤ 6 → AllShort houses → store ≤ 99 → length (side_text houses store) ≤ 21
+side_text_length : (houses : List ℕ) (store : ℕ) → length houses ≤ 6 → AllShort houses → store ≤ 99 →
+    length (side_text houses store) ≤ 21
 side_text_length houses store few short low =
     let own = houses_text_length houses short in
     let last = length-decimal-le 2 store (lit< tt) (omega (arith, low)) (omega (arith, low)) in
@@ -111,7 +124,8 @@ ending_length EmptyCapture = omega arith
 
 -- ---- the text of a position is read back
 
-text_has_few_bytes : (p : Position) → IsWithinLimits p → p.own_store ≤ 99 → p.other_store ≤ 99 → length (line_text_of p) ≤ most_bytes
+text_has_few_bytes : (p : Position) → IsWithinLimits p → p.own_store ≤ 99 → p.other_store ≤ 99 →
+    length (line_text_of p) ≤ most_bytes
 unfolding line_text_of
 text_has_few_bytes p limits own_low other_low =
     let own = side_text p.own p.own_store in
@@ -134,14 +148,16 @@ text_without_cr front houses store Classic low =
     let last = number_ends_without_cr slash (decimal store) store (decimal_is_number store low) in
     ap without_cr (append-nil (front ++ space ∷ side_text houses store))
     ∙ without_cr-append front space (side_text houses store)
-    ∙ ap (λ (t : List ℕ). front ++ t) (without_cr-append (space ∷ row) slash (decimal store) ∙ ap (λ (t : List ℕ). (space ∷ row) ++ t) last)
+    ∙ ap (λ (t : List ℕ). front ++ t)
+    (without_cr-append (space ∷ row) slash (decimal store) ∙ ap (λ (t : List ℕ). (space ∷ row) ++ t) last)
     ∙ sym (append-nil (front ++ space ∷ side_text houses store))
 text_without_cr front houses store EmptyCapture low = without_cr-append (front ++ space ∷ side_text houses store) space (codes "e")
 
 pub text_is_read_back : (p : Position) → IsWithinLimits p → p.own_store ≤ 99 → p.other_store ≤ 99 → Reads (line_text_of p) p
 unfolding line_text_of
 text_is_read_back p limits own_low other_low =
-    let same : without_cr (line_text_of p) ≡ line_text_of p = text_without_cr (side_text p.own p.own_store) p.other p.other_store p.rule other_low in
+    let same : without_cr (line_text_of p) ≡ line_text_of p =
+    text_without_cr (side_text p.own p.own_store) p.other p.other_store p.rule other_low in
     record {
       few_bytes = rw same (text_has_few_bytes p limits own_low other_low);
       form = subst (λ (t : List ℕ). IsLineOf t p) (sym same) (text_is_line p limits own_low other_low);

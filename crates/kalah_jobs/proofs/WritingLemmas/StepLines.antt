@@ -22,14 +22,15 @@ first_moves one moves others i same =
 pub line_is : (name place text : List ℕ) → ((name ++ place) ++ text) ++ line_feed ∷ [] ≡ name ++ (place ++ (text ++ line_feed ∷ []))
 line_is name place text = append_assoc (name ++ place) text (line_feed ∷ []) ∙ append_assoc name place (text ++ line_feed ∷ [])
 
--- what stands before line i
-abbrev before_line : ℕ → List ℕ
-before_line zero = []
-before_line (suc i) = line_feed ∷ []
+module _ (between : List ℕ) where
+  -- what stands before text i, with these bytes between any two
+  abbrev pub before_text : ℕ → List ℕ
+  before_text zero = []
+  before_text (suc i) = between
 
-before_by_test : (i : ℕ) → before_line i ≡ cond (i == 0) [] (line_feed ∷ [])
-before_by_test zero = refl
-before_by_test (suc i) = ap (λ b. cond b [] (line_feed ∷ [])) (sym (ne_eqb (suc i) 0 (λ e. omega (arith, e))))
+  pub before_by_test : (i : ℕ) → before_text i ≡ cond (i == 0) [] between
+  before_by_test zero = refl
+  before_by_test (suc i) = ap (λ b. cond b [] between) (sym (ne_eqb (suc i) 0 (λ e. omega (arith, e))))
 
 module _ (place : List ℕ) (text : ℕ → List ℕ) where
   -- the lines of moves, with a line feed between any two
@@ -47,7 +48,7 @@ module _ (place : List ℕ) (text : ℕ → List ℕ) where
       ∙ sym (append_assoc (place ++ text h) (line_feed ∷ []) (flat_map (λ j. (place ++ text j) ++ line_feed ∷ []) (k ∷ moves)))
 
   one_line_more : (moves : List ℕ) (i : ℕ) → i < length moves →
-      joined_lines (take (suc i) moves) ≡ joined_lines (take i moves) ++ (before_line i ++ (place ++ text (get_or moves i 0)))
+      joined_lines (take (suc i) moves) ≡ joined_lines (take i moves) ++ (before_text (line_feed ∷ []) i ++ (place ++ text (get_or moves i 0)))
   one_line_more [] i within = absurd (omega (arith, within))
   one_line_more (h ∷ moves) zero within = refl
   one_line_more (h ∷ []) (suc i) within = absurd (omega (arith, within))
@@ -61,4 +62,4 @@ module _ (place : List ℕ) (text : ℕ → List ℕ) where
       joined_lines (take (i + 1) moves) ≡ joined_lines (take i moves) ++ (cond (i == 0) [] (line_feed ∷ []) ++ (place ++ text (get_or moves i 0)))
   line_more moves i within =
       ap (λ n. joined_lines (take n moves)) (add-one i) ∙ one_line_more moves i within
-      ∙ ap (λ l. joined_lines (take i moves) ++ (l ++ (place ++ text (get_or moves i 0)))) (before_by_test i)
+      ∙ ap (λ l. joined_lines (take i moves) ++ (l ++ (place ++ text (get_or moves i 0)))) (before_by_test (line_feed ∷ []) i)

@@ -1,15 +1,18 @@
 -- What is written where lines come one after another, and each is answered. A reader is seen as the bytes that it has left, and a
 -- sink as those that were written to it, before and after, where these are known.
-use Rattle.std.specs.Prelude.{◌≡◌, ◌≢◌, ℕ, ◌+◌, ◌≤◌, List, [], ◌∷◌, ◌++◌, Bool, true, not, IfSome, Option, None, Some, length, take, map}
+use Rattle.std.specs.Prelude.{◌≡◌, ◌≢◌, ℕ, ◌+◌, ◌<◌, ◌≤◌, List, [], ◌∷◌, ◌++◌, Bool, true, not, IfSome, Option, None, Some, length, take, map}
 use Rattle.std.specs.List.{flat_map, enumerate_from, join_with_byte, list_any}
 use Rattle.std.specs.Io.KnownBytes.{Appends, Consumes}
+use Rattle.kalah_rules.specs.Position.{seeds_in_houses}
+use Rattle.kalah_jobs.specs.declared.files.entry.Entry.{Entry}
+use Rattle.kalah_jobs.specs.declared.files.entry.Entry.TheVariants.{Position, ValuesOf}
 use Rattle.kalah_jobs.specs.declared.files.question.Question.{Question}
 use Rattle.kalah_jobs.specs.declared.files.question.Question.TheVariants.{Steps}
 use Rattle.kalah_jobs.specs.Limits.{most_bytes}
 use Rattle.kalah_jobs.specs.Files.Lines.{line_feed, lines_of, HasNoLineFeed}
 use Rattle.kalah_jobs.specs.Files.NamedBytes.{NamedBytes}
 use Rattle.kalah_jobs.specs.Files.Question.{entry_to}
-use Rattle.kalah_jobs.specs.Writing.Answer.{answer_of, answer_texts, answer_words, place_words}
+use Rattle.kalah_jobs.specs.Writing.Answer.{answer_of, answer_texts, answer_words, in_one_line, place_words}
 use Rattle.kalah_jobs.specs.Writing.Output.{is_faulty, output_to, line_output}
 use Rattle.kalah_jobs.specs.Writing.Splitting.{EndsWithItsLine}
 
@@ -60,6 +63,26 @@ pub record IsCutOff (question : Question) (before after old new : Option (List �
   pub taken : Consumes before after (lines ++ part)
   pub written : Appends old new (answers_to question lines)
 
+-- what is asked of the lines of a reader, with the reader and the sink as they were then
+pub record Asking : Type 0 where
+  pub question : Question
+  pub before : Option (List ℕ)
+  pub old : Option (List ℕ)
+
+-- all lines that were read since then are answered
+abbrev pub AreAnswered : Asking → Option (List ℕ) → Option (List ℕ) → Type 0
+AreAnswered a after new = IsCutOff a.question a.before after a.old new
+
+-- the most seeds in houses of a position that is solved in no time
+abbrev pub quick_seeds : ℕ
+quick_seeds = 9
+
+-- the position is to be solved, and has more seeds in houses
+abbrev pub TakesLong : Entry → Type 0
+TakesLong (Position p) = quick_seeds < seeds_in_houses p
+TakesLong (ValuesOf p) = quick_seeds < seeds_in_houses p
+TakesLong _ = ⊥
+
 -- Lines were read, and then no more than one. The answers to the lines were written, then a prefix of the answer to that one,
 -- and nothing else was.
 pub record IsBegun (question : Question) (before after old new : Option (List ℕ)) : Type 0 where
@@ -76,14 +99,14 @@ abbrev pub texts_told : Question → List ℕ → List (List ℕ)
 texts_told question line = answer_texts (answer_of (entry_to question line))
 
 -- What is written for lines that are asked of is what is written for a file with these bytes, but for what stands before each
--- answer, or before each of its texts where steps are asked; and what begins with whole lines is answered as they are, and then
--- as the rest is.
+-- answer; where steps are asked, the texts that have a line each for a file stand in one line, with `; ` between any two. And what
+-- begins with whole lines is answered as they are, and then as the rest is.
 pub record AnswersAreThoseOfAFile : Type 0 where
   pub lines : (question : Question) → question ≢ Steps → (name : List ℕ) (number : ℕ) (line : List ℕ) →
       line_output question name (number, line) ≡ place_words name number ++ told question line
   pub file : (question : Question) → question ≢ Steps → (file : NamedBytes) →
       output_to question (file ∷ []) ≡ flat_map (λ p. place_words file.name p.0 ++ told question p.1) (enumerate_from 0 (lines_of file.bytes))
-  pub texts : (question : Question) (line : List ℕ) → told question line ≡ join_with_byte line_feed (texts_told question line) ++ line_feed ∷ []
+  pub texts : (question : Question) (line : List ℕ) → told question line ≡ in_one_line (texts_told question line) ++ line_feed ∷ []
   pub placed : (question : Question) (name : List ℕ) (number : ℕ) (line : List ℕ) → line_output question name (number, line)
       ≡ join_with_byte line_feed (map (λ text. place_words name number ++ text) (texts_told question line)) ++ line_feed ∷ []
   pub parts : (question : Question) (lines more : List ℕ) → EndsWithItsLine lines →

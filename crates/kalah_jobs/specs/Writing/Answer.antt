@@ -77,9 +77,15 @@ IsOfOneLine (Values values) = ⊤
 IsOfOneLine (Steps p) = ⊥
 IsOfOneLine (Fault fault) = ⊤
 
--- the texts with a line feed between any two
+-- texts in one line, with `; ` between any two
+abbrev pub in_one_line : List (List ℕ) → List ℕ
+in_one_line [] = []
+in_one_line (text ∷ []) = text
+in_one_line (text ∷ next ∷ texts) = text ++ (codes "; " ++ in_one_line (next ∷ texts))
+
+-- the answer in one line
 abbrev pub answer_words : Answer → List ℕ
-answer_words answer = join_with_byte line_feed (answer_texts answer)
+answer_words answer = in_one_line (answer_texts answer)
 
 -- what stands before each text in the line that has it, of a line given with its number, which counts from 0: `NAME:LINE `
 abbrev pub place_words : List ℕ → ℕ → List ℕ

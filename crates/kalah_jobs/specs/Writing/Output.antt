@@ -12,7 +12,7 @@ use Rattle.kalah_jobs.specs.Files.JobList.{job_list}
 use Rattle.kalah_jobs.specs.Files.Question.{entry_to}
 use Rattle.kalah_jobs.specs.Files.Jobs.{jobs_to}
 use Rattle.kalah_jobs.specs.declared.files.question.Question.{Question}
-use Rattle.kalah_jobs.specs.declared.files.question.Question.TheVariants.{BestMove, Values, Steps}
+use Rattle.kalah_jobs.specs.declared.files.question.Question.TheVariants.{BestMove}
 
 -- the answer line of a line with this entry, or its lines, each followed by a line feed; the number counts from 0
 abbrev pub answered : List ℕ → ℕ → Entry → List ℕ
@@ -33,14 +33,6 @@ output_to question files = flat_map (file_output question) files
 -- if the best move is asked of each position
 abbrev pub output_of : List NamedBytes → List ℕ
 output_of files = output_to BestMove files
-
--- if the values of its moves are asked
-abbrev pub values_output_of : List NamedBytes → List ℕ
-values_output_of files = output_to Values files
-
--- where the steps of its moves are asked
-abbrev pub steps_output_of : List NamedBytes → List ℕ
-steps_output_of files = output_to Steps files
 
 -- the line is answered by a fault, to any question
 abbrev pub is_faulty : List ℕ → Bool
@@ -89,6 +81,8 @@ is_faulty_job job = is_faulty_entry job.entry
 
 -- what is stated of files and what is stated of their jobs is the same, for each question
 pub record FilesAreTheirJobs : Type 0 where
-  pub output : (question : Question) (files : List NamedBytes) → output_to question files ≡ output_of_jobs (names_of files) (jobs_to question files)
+  pub output : (question : Question) (files : List NamedBytes) →
+      output_to question files ≡ output_of_jobs (names_of files) (jobs_to question files)
   pub lines : (question : Question) (files : List NamedBytes) → (tally_of files).lines ≡ length (job_list (jobs_to question files))
-  pub faults : (question : Question) (files : List NamedBytes) → (tally_of files).faults ≡ count_by is_faulty_job (job_list (jobs_to question files))
+  pub faults : (question : Question) (files : List NamedBytes) →
+      (tally_of files).faults ≡ count_by is_faulty_job (job_list (jobs_to question files))

@@ -1,7 +1,7 @@
 -- How a position is drawn, as a board with the player to move below.
-use Rattle.std.specs.Prelude.{◌≡◌, ℕ, ◌-◌, ◌*◌, ◌≤◌, List, [], ◌∷◌, ◌++◌, length, flat_map, replicate, decimal}
+use Rattle.std.specs.Prelude.{ℕ, ◌-◌, ◌*◌, List, [], ◌∷◌, ◌++◌, length, flat_map, replicate, decimal}
 use Rattle.std.specs.List.{range_with_len}
-use Rattle.kalah_rules.specs.Position.{Position, IsWithinLimits, opposite, seeds, side_length}
+use Rattle.kalah_rules.specs.Position.{Position, opposite, seeds, side_length}
 use Rattle.kalah_jobs.specs.Line.Line.{space}
 use Rattle.kalah_jobs.specs.Files.Lines.{line_feed}
 use Rattle.kalah_jobs.specs.Writing.Player.{houses_of}
@@ -40,18 +40,3 @@ stores_line p = cell p.other_store ++ (empty_columns (side_length p) ++ cell p.o
 -- the other player's houses above, the stores, and the mover's houses below
 unfoldable pub picture_of : Position → List ℕ
 picture_of p = houses_line Other p ++ (line_feed ∷ stores_line p ++ (line_feed ∷ houses_line Mover p ++ line_feed ∷ []))
-
--- ---- laws
-
--- two positions of one rule with the same picture are the same
-abbrev pub PicturesTellPositions : Type 0
-PicturesTellPositions = (p q : Position) → IsWithinLimits p → IsWithinLimits q → p.rule ≡ q.rule → picture_of p ≡ picture_of q → p ≡ q
-
--- no line of a picture has more than 32 bytes
-pub record HasShortLines (p : Position) : Type 0 where
-  pub above : length (houses_line Other p) ≤ 32
-  pub between : length (stores_line p) ≤ 32
-  pub below : length (houses_line Mover p) ≤ 32
-
-abbrev pub PictureLinesAreShort : Type 0
-PictureLinesAreShort = (p : Position) → IsWithinLimits p → HasShortLines p

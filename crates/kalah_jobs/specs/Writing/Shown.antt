@@ -1,14 +1,13 @@
 -- A position as it is shown: its picture, and below it what each move is worth.
-use Rattle.std.specs.Prelude.{◌≡◌, ℕ, ℤ, ◌+◌, ◌-◌, ◌≤◌, List, [], ◌∷◌, ◌++◌, if◌then◌else◌, codes, length, replicate, ⊤}
+use Rattle.std.specs.Prelude.{ℕ, ℤ, ◌+◌, ◌-◌, ◌≤◌, List, [], ◌∷◌, ◌++◌, All, if◌then◌else◌, codes, length, replicate, ⊤}
 use Rattle.std.specs.Fmt.{signed_decimal}
-use Rattle.kalah_rules.specs.Position.{Position, IsWithinLimits, final_margin, is_over}
+use Rattle.kalah_rules.specs.Limits.{most_houses}
+use Rattle.kalah_rules.specs.Position.{Position, IsSmallMargin, final_margin, is_over}
 use Rattle.kalah_solve.specs.Solver.MoveValues.{values_of}
 use Rattle.kalah_solve.specs.declared.solver.move_values.MoveValue.{MoveValue}
 use Rattle.kalah_jobs.specs.Files.Lines.{line_feed}
 use Rattle.kalah_jobs.specs.Line.Line.{space}
 use Rattle.kalah_jobs.specs.Writing.Picture.{column_width, empty_columns, picture_of}
-use Rattle.kalah_jobs.specs.Writing.Splitting.{HasSmallNumbers}
-use Rattle.kalah_jobs.specs.declared.writing.answer.Answer.TheVariants.{Values}
 
 -- a value at the right of a column, which it fills where it is less than -99
 abbrev pub value_cell : ℤ → List ℕ
@@ -31,22 +30,18 @@ values_line p = if is_over p then over_words (final_margin p) else value_columns
 unfoldable pub shown_of : Position → List ℕ
 shown_of p = picture_of p ++ (values_line p ++ line_feed ∷ [])
 
--- ---- laws
+-- ---- values that have columns
 
 -- the houses rise, from `low` on
 abbrev pub Rise : ℕ → List MoveValue → Type 0
 Rise low [] = ⊤
 Rise low (v ∷ vs) = (low ≤ v.house) × Rise (v.house + 1) vs
 
--- each value has a column of its own
-abbrev pub HaveColumns : List MoveValue → Type 0
-HaveColumns values = Rise 1 values × HasSmallNumbers (Values values)
+-- values and houses are ones that a game can have
+abbrev pub AreSmall : List MoveValue → Type 0
+AreSmall values = All (λ v. IsSmallMargin v.value × (v.house ≤ most_houses)) values
 
--- positions of one rule that are shown alike are the same; values that stand alike are the same, and those of a position's moves do
--- have columns; and the line below a picture is no longer than a line of it may be
-pub record ShownTellsValues : Type 0 where
-  pub positions : (p q : Position) → IsWithinLimits p → IsWithinLimits q → p.rule ≡ q.rule → shown_of p ≡ shown_of q → p ≡ q
-  pub values : (values others : List MoveValue) → HaveColumns values → HaveColumns others → value_columns 0 values ≡ value_columns 0 others
-      → values ≡ others
-  pub columns : (p : Position) → IsWithinLimits p → HaveColumns (values_of p)
-  pub short : (p : Position) → IsWithinLimits p → length (values_line p) ≤ 32
+-- each value has a column of its own
+pub record HaveColumns (values : List MoveValue) : Type 0 where
+  pub rise : Rise 1 values
+  pub small : AreSmall values

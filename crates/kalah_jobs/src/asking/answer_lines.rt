@@ -1,7 +1,7 @@
 //! Lines of a reader, answered as they come.
 ghost use Rattle.std.specs.Prelude.{◌≡◌, ◌↔◌, true, false, IfOk, IsErrOf};
 ghost use Rattle.std.specs.Io.Buffered.{reader_remaining};
-ghost use Rattle.kalah_jobs.specs.Asking.Asked.{IsAnswered, IsBegun, IsCutOff};
+ghost use Rattle.kalah_jobs.specs.Asking.Asked.{Asking, IsAnswered, IsBegun, IsCutOff};
 
 use crate::asking::ask_fault::AskFault;
 use crate::asking::line_head::LineHead;
@@ -15,10 +15,47 @@ use std::io::{BufReader, Read};
 /// The byte that ends a line.
 const LINE_FEED: u8 = b'\n';
 
+// Answers the lines of a reader as `answer_lines` does, if this is what is asked of them.
+#[tactic(auto, using(crate::proofs::AskingLemmas::Underway::answered_so_far))]
+fn answer_each<I: Read + Drop, O: Sink>(
+    input: &mut BufReader<I>,
+    question: Question,
+    solver: &mut Solver,
+    out: &mut O,
+) -> Result<bool, AskFault>
+    ghost asking: { Asking }
+    requires asked { asking ≡ record { question = question; before = reader_remaining I.remaining input.old; old = O.written out.old } }
+    requires sink { O.has_failed out.old ≡ false }
+    ensures answered { IfOk result (λ all_read. IsAnswered question (reader_remaining I.remaining input.old)
+        (reader_remaining I.remaining input.new) (O.written out.old) (O.written out.new) all_read) }
+    ensures cut_off { IsErrOf result AskFault.Read → IsCutOff question (reader_remaining I.remaining input.old)
+        (reader_remaining I.remaining input.new) (O.written out.old) (O.written out.new) }
+    ensures begins { IsBegun question (reader_remaining I.remaining input.old) (reader_remaining I.remaining input.new)
+        (O.written out.old) (O.written out.new) }
+    ensures failed { O.has_failed out.new ≡ true ↔ IsErrOf result AskFault.Write }
+    ensures handed_on { O.has_failed out.new ≡ false → O.is_handed_on out.new ≡ true }
+{
+    let mut line = LineHead::new();
+    let mut all_read = true;
+    for _ in 0..u64::MAX {
+        let Some(byte) = next_byte(input, out)? else {
+            return Ok(all_read & tell_last(&line, question, solver, out)?);
+        };
+        if byte == LINE_FEED {
+            all_read &= tell(&line, question, solver, out)?;
+            line = LineHead::new();
+        } else {
+            line.push(byte);
+        }
+    }
+    hand_on(out)?;
+    Err(AskFault::Read)
+}
+
 /// Answers what is asked of each line of the reader, up to its end, and returns whether each line was read as a position. A line ends
 /// as in a file of positions: with a line feed, or at the end if it isn't empty. Each answer is written as a batch writes it,
-/// without the file's name and the line's number, followed by a line feed. The number and the length of the lines are unlimited:
-/// only the solver takes memory, and it keeps what it learns for later lines.
+/// without the file's name and the line's number, in one line: steps with `; ` between any two. The number and the length of the
+/// lines are unlimited: only the solver takes memory, and it keeps what it learns for later lines.
 ///
 /// Before each read of the reader, all lines that it gave have been answered and the answers flushed. Answers are also flushed
 /// before a position with many seeds is solved. An interrupted read is repeated.
@@ -46,21 +83,7 @@ pub fn answer_lines<I: Read + Drop, O: Sink>(
     // If no write failed, all that was written is flushed.
     ensures handed_on { O.has_failed out.new ≡ false → O.is_handed_on out.new ≡ true }
 {
-    let mut line = LineHead::new();
-    let mut all_read = true;
-    for _ in 0..u64::MAX {
-        let Some(byte) = next_byte(input, out)? else {
-            return Ok(all_read & tell_last(&line, question, solver, out)?);
-        };
-        if byte == LINE_FEED {
-            all_read &= tell(&line, question, solver, out)?;
-            line = LineHead::new();
-        } else {
-            line.push(byte);
-        }
-    }
-    hand_on(out)?;
-    Err(AskFault::Read)
+    answer_each(input, question, solver, out)
 }
 
 #[cfg(test)]

@@ -2,7 +2,7 @@
 ghost use Rattle.std.specs.Prelude.{◌≡◌, ◌↔◌, [], true, false, None, IfErr, IfOk, IsErrOf, OnErr, OnOk};
 ghost use Rattle.std.specs.Io.KnownBytes.{Consumes, IsAtEnd, Keeps};
 ghost use Rattle.std.specs.Io.Buffered.{reader_buffer, reader_remaining};
-ghost use Rattle.kalah_jobs.specs.Asking.Asked.{bytes_of};
+ghost use Rattle.kalah_jobs.specs.Asking.Asked.{AreAnswered, Asking, bytes_of};
 
 use crate::asking::ask_fault::AskFault;
 use crate::writing::sink::Sink;
@@ -24,7 +24,9 @@ pub(crate) fn hand_on<O: Sink>(out: &mut O) -> Result<(), AskFault>
 
 // Reads, if no byte is left that was read ahead. An interrupted read is repeated.
 fn read_ahead<I: Read + Drop, O: Sink>(input: &mut BufReader<I>, out: &O) -> Result<(), AskFault>
-    // All that was written is flushed.
+    ghost asking: { Asking }
+    // All lines so far are answered, and all that was written is flushed.
+    requires answered { AreAnswered asking (reader_remaining I.remaining input.old) (O.written out.now) }
     requires handed_on { O.is_handed_on out.now ≡ true }
     ensures keeps { Keeps (reader_remaining I.remaining input.old) (reader_remaining I.remaining input.new) }
     ensures end { OnOk result (reader_buffer input.new ≡ []
@@ -42,12 +44,14 @@ fn read_ahead<I: Read + Drop, O: Sink>(input: &mut BufReader<I>, out: &O) -> Res
     Err(AskFault::Read)
 }
 
-// Returns the next byte, or `None` at the end. If a read fails, all output was flushed.
+// Returns the next byte, or `None` at the end. Before a read all lines so far are answered, and all output is flushed.
 pub(crate) fn next_byte<I: Read + Drop, O: Sink>(
     input: &mut BufReader<I>,
     out: &mut O,
 ) -> Result<Option<u8>, AskFault>
-    requires { O.has_failed out.old ≡ false }
+    ghost asking: { Asking }
+    requires answered { AreAnswered asking (reader_remaining I.remaining input.old) (O.written out.old) }
+    requires sink { O.has_failed out.old ≡ false }
     ensures taken { IfOk result (λ byte. Consumes (reader_remaining I.remaining input.old)
         (reader_remaining I.remaining input.new) (bytes_of byte)) }
     ensures end { IfOk result (λ byte. byte ≡ None → IsAtEnd (reader_remaining I.remaining input.old)) }

@@ -1,7 +1,8 @@
 //! The answer to one line.
 ghost use Rattle.std.specs.Prelude.{◌≡◌, ◌↔◌, not, true, false, IfErr, IfOk, IsErrOf, OnOk};
 ghost use Rattle.std.specs.Io.KnownBytes.{Appends};
-ghost use Rattle.kalah_jobs.specs.Asking.Asked.{is_last_read, told, told_last};
+ghost use Rattle.kalah_jobs.specs.Asking.Asked.{TakesLong, is_last_read, told, told_last};
+ghost use Rattle.kalah_jobs.specs.Writing.Answer.{answer_of};
 ghost use Rattle.kalah_jobs.specs.Writing.Given.{AppendsStart};
 ghost use Rattle.kalah_jobs.specs.Writing.Output.{is_faulty};
 
@@ -11,19 +12,31 @@ use crate::asking::reading_ahead::hand_on;
 use crate::collecting::outcome::Outcome;
 use crate::files::entry::Entry;
 use crate::files::question::Question;
+use crate::writing::answer::Answer;
 use crate::writing::answer_line::write_words;
 use crate::writing::sink::Sink;
 use kalah_solve::Solver;
 
 // The most seeds in houses of a position that is solved before earlier answers are flushed.
-const FEW_SEEDS: u8 = 9;
+const QUICK_SEEDS: u8 = 9;
 
 // Returns whether the answer may take a while.
-fn takes_long(entry: &Entry) -> bool {
+fn takes_long(entry: &Entry) -> bool
+    ensures { result ≡ true ↔ TakesLong entry.now }
+{
     match entry {
-        Entry::Position(board) | Entry::ValuesOf(board) => board.houses().seeds() > FEW_SEEDS,
+        Entry::Position(board) | Entry::ValuesOf(board) => board.houses().seeds() > QUICK_SEEDS,
         Entry::StepsOf(_) | Entry::Bad(_) => false,
     }
+}
+
+// Finds the answer to what a line asks. All earlier answers are flushed if that may take a while.
+fn find<O: Sink>(entry: Entry, solver: &mut Solver, out: &O) -> Answer
+    requires handed_on { TakesLong entry → O.is_handed_on out.now ≡ true }
+    ensures { result ≡ answer_of entry }
+{
+    let _ = out;
+    Outcome::of(0, 0, entry, solver).answer()
 }
 
 // Writes the answer to a line, and a line feed, and returns whether the line was read.
@@ -45,7 +58,7 @@ pub(crate) fn tell<O: Sink>(
     if takes_long(&entry) {
         hand_on(out)?;
     }
-    let answer = Outcome::of(0, 0, entry, solver).answer();
+    let answer = find(entry, solver, out);
     match write_words(out, &answer) {
         Ok(()) => Ok(!entry.is_bad()),
         Err(_) => Err(AskFault::Write),

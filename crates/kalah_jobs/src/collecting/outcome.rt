@@ -117,6 +117,3 @@ impl Outcome {
         self.answer
     }
 }
-
-#[cfg(test)]
-mod tests;

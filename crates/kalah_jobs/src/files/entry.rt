@@ -1,5 +1,5 @@
 //! The content of a line of a file, and what is asked of it.
-ghost use Rattle.std.specs.Prelude.{◌≡◌};
+ghost use Rattle.std.specs.Prelude.{◌≡◌, ◌↔◌, IsTrue};
 ghost use Rattle.kalah_jobs.specs.Files.Question.{entry_asked, entry_to};
 ghost use Rattle.kalah_jobs.specs.Writing.Answer.{is_faulty_entry};
 
@@ -25,6 +25,7 @@ impl Entry {
     ghost use Rattle.kalah_jobs.specs.declared.files.entry.Entry.TheVariants.{Position};
 
     // Returns the content of a line that writes this position, with this question.
+    #[inline(always)]
     pub(crate) fn of_board(question: Question, board: Board) -> Entry
         ensures { result ≡ entry_asked question (Position board) }
     {
@@ -37,6 +38,7 @@ impl Entry {
 
     // Returns the content of the line, with this question.
     #[tactic(auto, unfolding(crate::specs::Files::Entry::entry_of))]
+    #[inline(always)]
     pub(crate) fn of_line(question: Question, line: &[u8]) -> Entry
         ensures { result ≡ entry_to question line.now }
     {
@@ -55,5 +57,18 @@ impl Entry {
             Entry::Position(_) | Entry::ValuesOf(_) | Entry::StepsOf(_) => false,
             Entry::Bad(_) => true,
         }
+    }
+}
+
+// Returns whether two entries are equal.
+pub(crate) fn is_same_entry(a: &Entry, b: &Entry) -> bool
+    ensures { IsTrue result ↔ (a.now ≡ b.now) }
+{
+    match (a, b) {
+        (Entry::Position(p), Entry::Position(q))
+        | (Entry::ValuesOf(p), Entry::ValuesOf(q))
+        | (Entry::StepsOf(p), Entry::StepsOf(q)) => p.m() == q.m() && *p == *q,
+        (Entry::Bad(x), Entry::Bad(y)) => x == y,
+        _ => false,
     }
 }

@@ -9,6 +9,7 @@ pub(crate) const LINE_FEED: u8 = b'\n';
 const BLOCK: usize = 255;
 
 // Returns the first line of some bytes, and the bytes after it.
+#[inline(always)]
 pub(crate) fn first_line(bytes: &[u8]) -> (&[u8], &[u8])
     requires { 0 < length bytes.now }
     ensures lines { lines_of bytes.now ≡ result.0.now ∷ lines_of result.1.now }

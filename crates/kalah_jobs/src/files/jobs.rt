@@ -9,9 +9,8 @@ ghost use Rattle.kalah_jobs.specs.Writing.Answer.{is_faulty_entry};
 ghost use Rattle.kalah_jobs.specs.Writing.Output.{is_faulty_job};
 
 use crate::files::entry::Entry;
-use crate::files::file_lines::count_lines;
+use crate::files::file_lines::{count_lines, first_line};
 use crate::files::file_text::FileText;
-use crate::files::first_entry::first_entry;
 use crate::files::job::Job;
 use crate::files::question::Question;
 use crate::limits::{MOST_FILES, MOST_LINES};
@@ -211,7 +210,8 @@ fn read_entries(
     let mut faults = 0;
     let mut rest = bytes;
     while !rest.is_empty() {
-        let (entry, after) = first_entry(question, rest);
+        let (line, after) = first_line(rest);
+        let entry = Entry::of_line(question, line);
         if entry.is_bad() {
             faults += 1;
         }

@@ -10,6 +10,3 @@ pub enum Question {
     /// Each legal house, with what its move leads to. This takes no search.
     Steps,
 }
-
-#[cfg(test)]
-mod tests;

@@ -31,21 +31,3 @@ impl LineFault {
         }
     }
 }
-
-#[cfg(test)]
-mod tests {
-    use super::*;
-
-    #[test]
-    fn words(rt: HostRuntime) {
-        for (fault, word) in [
-            (LineFault::Long, "long"),
-            (LineFault::Empty, "empty"),
-            (LineFault::Shape, "shape"),
-            (LineFault::Houses, "houses"),
-            (LineFault::Seeds, "seeds"),
-        ] {
-            assert!(rt; fault.word() == word);
-        }
-    }
-}

@@ -1,15 +1,25 @@
 //! Numbers of at most two digits.
-ghost use Rattle.std.specs.Prelude.{◌≡◌, ◌≤◌, IfSome};
-ghost use Rattle.kalah_jobs.specs.Line.Reading.{number_read};
+ghost use Rattle.std.specs.Prelude.{◌≡◌, ℕ, List, IfSome};
+ghost use Rattle.std.specs.Option.{IsSomeAnd};
+ghost use Rattle.kalah_jobs.specs.Line.Front.{BeginsWithNumber, EndsNumber};
 
-// Returns the number that the text writes: `0`, or one or two digits that do not start with `0`.
-pub(crate) fn read_number(text: &[u8]) -> Option<u8>
-    ensures value { result ≡ number_read text.now }
-    ensures low { IfSome result (λ n. n ≤ 99) }
+// Returns the number at the front of some bytes, and the bytes after it: `0`, or one or two digits that do not start with `0`.
+#[inline(always)]
+pub(crate) fn take_number(bytes: &[u8]) -> Option<(u8, &[u8])>
+    ensures is { IfSome result (λ found. BeginsWithNumber bytes.now found.0 found.1.now) }
+    // Where a number ends before another byte than a digit, it is found.
+    ensures every { (n : ℕ) (rest : List ℕ) → EndsNumber rest → BeginsWithNumber bytes.now n rest
+        → IsSomeAnd result (λ found. found.1.now ≡ rest) }
 {
-    match text {
-        [ones @ b'0'..=b'9'] => Some(*ones - b'0'),
-        [tens @ b'1'..=b'9', ones @ b'0'..=b'9'] => Some(10 * (*tens - b'0') + (*ones - b'0')),
-        _ => None,
+    let (first, rest) = bytes.split_first()?;
+    if !first.is_ascii_digit() {
+        return None;
+    }
+    let high = *first - b'0';
+    match rest.split_first() {
+        Some((ones, more)) if high > 0 && ones.is_ascii_digit() => {
+            Some((10 * high + (*ones - b'0'), more))
+        }
+        _ => Some((high, rest)),
     }
 }

@@ -1,13 +1,11 @@
 //! The form of a position line, before its limits are tested.
-ghost use Rattle.std.specs.Prelude.{◌≡◌, ◌≤◌, [], length};
-ghost use Rattle.std.specs.Option.{option_map, option_map_or};
-ghost use Rattle.kalah_jobs.specs.Limits.{most_bytes};
-ghost use Rattle.kalah_jobs.specs.Line.Line.{space};
-ghost use Rattle.kalah_jobs.specs.Line.Reading.{rule_of, parts_at};
+ghost use Rattle.std.specs.Prelude.{◌≡◌, ◌≤◌, length, IfSome, IfNone, Some};
+ghost use Rattle.kalah_rules.specs.declared.rule.Rule.{Rule as AnyRule};
+ghost use Rattle.kalah_jobs.specs.Line.Line.{ending_of};
 
+use crate::line::line_fault::LineFault;
 use crate::line::side::Side;
-use crate::line::split_at::split_at;
-use kalah_rules::Rule;
+use kalah_rules::{Board, MOST_HOUSES, Rule};
 
 /// Two sides and a rule, of any number of houses and seeds.
 #[derive(Drop)]
@@ -17,33 +15,57 @@ pub(crate) struct ParsedLine {
     pub(crate) rule: Rule,
 }
 
-// Returns the rule that the text after the second side names.
-fn read_rule(ending: Option<&[u8]>) -> Option<Rule>
-    ensures { result ≡ rule_of (option_map_or (λ text. parts_at space text.now) ending.entry []) }
+// Returns the rule that what stands after the second side names.
+fn read_rule(ending: &[u8]) -> Option<Rule>
+    ensures is { IfSome result (λ rule. ending.now ≡ ending_of rule) }
+    ensures every { (rule : AnyRule) → ending.now ≡ ending_of rule → result ≡ Some rule }
 {
-    let Some(text) = ending else {
-        return Some(Rule::Classic);
-    };
-    match text {
-        b"e" => Some(Rule::EmptyCapture),
+    match ending {
+        [] => Some(Rule::Classic),
+        [b' ', b'e'] => Some(Rule::EmptyCapture),
         _ => None,
     }
 }
 
 impl ParsedLine {
-    ghost use Rattle.kalah_jobs.specs.Line.Reading.{written_of};
-    ghost use Rattle.kalah_jobs.specs.Line.ParsedLine.{position_shown};
+    ghost use Rattle.kalah_rules.specs.Position.{Position};
+    ghost use Rattle.kalah_jobs.specs.Limits.{most_bytes};
+    ghost use Rattle.kalah_jobs.specs.Line.Line.{IsLineOf};
+    ghost use Rattle.kalah_jobs.specs.Line.ParsedLine.{Shows};
+    ghost use Rattle.kalah_jobs.specs.Line.Reading.{admitted};
 
     // Reads the two sides of a text, with one space between them, and the rule that its ending names.
+    #[inline(always)]
     pub(crate) fn read(text: &[u8]) -> Option<ParsedLine>
         requires { length text.now ≤ most_bytes }
-        ensures { option_map position_shown result ≡ written_of text.now }
+        ensures is { IfSome result (λ line. (p : Position) × (Shows line p × IsLineOf text.now p)) }
+        ensures none { IfNone result ((p : Position) → ¬ IsLineOf text.now p) }
     {
-        let (own, rest) = split_at(text, b' ');
-        let (other, ending) = split_at(rest?, b' ');
-        let rule = read_rule(ending)?;
-        let own = Side::read(own)?;
-        let other = Side::read(other)?;
+        let (own, rest) = Side::take(text)?;
+        let (mark, rest) = rest.split_first()?;
+        if *mark != b' ' {
+            return None;
+        }
+        let (other, rest) = Side::take(rest)?;
+        let rule = read_rule(rest)?;
         Some(ParsedLine { own, other, rule })
+    }
+
+    // Returns the board of the line. Fails with `Houses` or else `Seeds` if it is not within the limits.
+    #[inline(always)]
+    pub(crate) fn board(&self) -> Result<Board, LineFault>
+        ensures { (p : Position) → Shows self.now p → result ≡ admitted p }
+    {
+        let (own, other) = (&self.own, &self.other);
+        if own.left_out == 0 && other.left_out == 0 {
+            let board = Board::of_rows(&own.row, own.store, &other.row, other.store, self.rule);
+            if let Some(board) = board {
+                return Ok(board);
+            }
+        }
+        if own.len() != other.len() || own.len() > MOST_HOUSES {
+            return Err(LineFault::Houses);
+        }
+        Err(LineFault::Seeds)
     }
 }

@@ -11,9 +11,10 @@ mod tests;
 use crate::limits::MOST_LINE_BYTES;
 use crate::line::line_fault::LineFault;
 use crate::line::parsed_line::ParsedLine;
-use kalah_rules::{Board, MOST_HOUSES};
+use kalah_rules::Board;
 
 // Returns the line without one CR at its end, if it has one.
+#[inline(always)]
 fn drop_cr(line: &[u8]) -> &[u8]
     ensures { result.now ≡ without_cr line.now }
 {
@@ -24,27 +25,18 @@ fn drop_cr(line: &[u8]) -> &[u8]
 }
 
 // Returns the position of a line whose CR is dropped, or its first fault.
+#[inline(always)]
 fn read_text(text: &[u8]) -> Result<Board, LineFault>
     ensures { result ≡ reading_of_text text.now }
 {
     if text.len() > MOST_LINE_BYTES {
         return Err(LineFault::Long);
     }
-    if text.is_empty() {
-        return Err(LineFault::Empty);
+    match ParsedLine::read(text) {
+        Some(line) => line.board(),
+        None if text.is_empty() => Err(LineFault::Empty),
+        None => Err(LineFault::Shape),
     }
-    let Some(line) = ParsedLine::read(text) else {
-        return Err(LineFault::Shape);
-    };
-    let (own, other) = (&line.own, &line.other);
-    let m = own.houses.len();
-    if other.houses.len() != m || m > MOST_HOUSES {
-        return Err(LineFault::Houses);
-    }
-    let own_cells = own.houses.six_cells();
-    let other_cells = other.houses.six_cells();
-    let board = Board::new(m, own_cells, own.store, other_cells, other.store, line.rule);
-    board.ok_or(LineFault::Seeds)
 }
 
 /// Returns the position that a line writes, such as `1,1/0 1,1/0`: the mover's houses with a comma between each two, a slash and
@@ -53,6 +45,7 @@ fn read_text(text: &[u8]) -> Result<Board, LineFault>
 /// `0`. One CR at the end is dropped first.
 ///
 /// Fails with the first fault that holds, in the order of `LineFault`, if the line writes no position within the limits.
+#[inline(always)]
 pub fn read_line(bytes: &[u8]) -> Result<Board, LineFault>
     // A position that is read is the one that the line writes, within the limits, and the line is its text.
     ensures reads { IfOk result (λ p. Reads bytes.now p) }

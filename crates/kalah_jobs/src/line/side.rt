@@ -1,33 +1,84 @@
 //! One side of a position line: its houses and its store.
-ghost use Rattle.std.specs.Prelude.{◌≡◌, ◌≤◌, length};
+ghost use Rattle.std.specs.Prelude.{◌≤◌};
 
-use crate::line::house_numbers::HouseNumbers;
-use crate::line::number::read_number;
-use crate::line::split_at::split_at;
+use crate::line::number::take_number;
+use kalah_rules::HouseRow;
 
-/// A side as it is written.
+/// A side of any number of houses.
 #[derive(Drop)]
 pub(crate) struct Side {
-    pub(crate) houses: HouseNumbers,
+    // The houses that have room in a row.
+    pub(crate) row: HouseRow,
+    // The number of the others.
+    pub(crate) left_out: u8,
     pub(crate) store: u8,
-    ghost some_house: { 1 ≤ length houses },
-    ghost low_store: { store ≤ 99 },
+    ghost few: { left_out ≤ 80 },
 }
 
 impl Side {
-    ghost use Rattle.std.specs.Option.{option_map};
+    ghost use Rattle.std.specs.Prelude.{◌≡◌, ◌≤◌, ◌<◌, ◌+◌, ◌∷◌, [], ◌++◌, ℕ, List, length, IfSome};
+    ghost use Rattle.std.specs.Option.{IsSomeAnd};
     ghost use Rattle.kalah_jobs.specs.Limits.{most_bytes};
-    ghost use Rattle.kalah_jobs.specs.Line.Reading.{side_of};
+    ghost use Rattle.kalah_jobs.specs.Line.Front.{BeginsWithSide, EndsNumber};
+    ghost use Rattle.kalah_jobs.specs.Line.Side.{AreKept};
 
-    // Reads the houses before the one slash of a text, and the store after it.
-    #[inline(always)]
-    pub(crate) fn read(text: &[u8]) -> Option<Side>
-        requires { length text.now ≤ most_bytes }
-        ensures { option_map (λ side. (side.houses, side.store)) result ≡ side_of text.now }
+    // Makes a side without houses.
+    fn new() -> Side
+        ensures houses { AreKept [] result.row result.left_out }
+        ensures none { result.left_out ≡ 0 }
     {
-        let (houses, store) = split_at(text, b'/');
-        let store = read_number(store?)?;
-        let houses = HouseNumbers::read(houses)?;
-        Some(Side { houses, store })
+        Side {
+            row: HouseRow::new(),
+            left_out: 0,
+            store: 0,
+        }
+    }
+
+    // Appends a house.
+    #[inline(always)]
+    fn push(&mut self, seeds: u8)
+        requires { self.old.left_out < most_bytes }
+        ensures houses { (houses : List ℕ) → AreKept houses self.old.row self.old.left_out
+            → AreKept (houses ++ seeds ∷ []) self.new.row self.new.left_out }
+        ensures one { self.new.left_out ≤ self.old.left_out + 1 }
+    {
+        if !self.row.push(seeds) {
+            self.left_out += 1;
+        }
+    }
+
+    // Returns the side at the front of some bytes, and the bytes after it.
+    #[inline(always)]
+    pub(crate) fn take(bytes: &[u8]) -> Option<(Side, &[u8])>
+        requires { length bytes.now ≤ most_bytes }
+        ensures is { IfSome result (λ found. (houses : List ℕ)
+            × (AreKept houses found.0.row found.0.left_out × BeginsWithSide bytes.now houses found.0.store found.1.now)) }
+        // Where a side ends before another byte than a digit, it is found.
+        ensures every { (houses : List ℕ) (store : ℕ) (rest : List ℕ) → EndsNumber rest
+            → BeginsWithSide bytes.now houses store rest → IsSomeAnd result (λ found. found.1.now ≡ rest) }
+    {
+        let mut side = Side::new();
+        let mut rest = bytes;
+        loop {
+            let (seeds, after) = take_number(rest)?;
+            side.push(seeds);
+            let (mark, more) = after.split_first()?;
+            if *mark == b'/' {
+                let (store, after) = take_number(more)?;
+                side.store = store;
+                return Some((side, after));
+            }
+            if *mark != b',' {
+                return None;
+            }
+            rest = more;
+        }
+    }
+
+    // Returns the number of houses.
+    pub(crate) fn len(&self) -> u8
+        ensures { result ≡ length self.now.row + self.now.left_out }
+    {
+        self.row.len() + self.left_out
     }
 }

@@ -13,6 +13,7 @@ use crate::writing::named_text::write_named;
 use crate::writing::sink::Sink;
 use crate::writing::stack_text::{ROOM, StackText};
 use crate::writing::steps::{push_steps, write_steps};
+use crate::writing::steps_in_line::write_steps_in_line;
 use kalah_solve::{MoveValue, MoveValues};
 use std::alloc::{AllocError, Global};
 use std::io;
@@ -148,7 +149,7 @@ pub(crate) fn write_words<W: Sink>(out: &mut W, answer: &Answer) -> Result<(), i
     ensures start { AppendsStart (W.written out.old) (W.written out.new) (answer_words answer.now ++ line_feed ∷ []) }
 {
     match answer {
-        Answer::Steps(board) => write_steps(out, "", "", board),
+        Answer::Steps(board) => write_steps_in_line(out, board),
         _ => {
             let mut text = StackText::new();
             text.prepend("\n");

@@ -5,9 +5,6 @@ ghost use Rattle.kalah_rules.specs.Limits.{most_houses};
 ghost use Rattle.kalah_jobs.specs.Writing.Counts.{ways_line, total_line};
 ghost use Rattle.kalah_jobs.specs.Writing.Given.{AppendsStart};
 
-#[cfg(test)]
-mod tests;
-
 use crate::writing::sink::Sink;
 use crate::writing::stack_text::StackText;
 use std::io;

@@ -3,10 +3,7 @@ ghost use Rattle.std.specs.Prelude.{◌≡◌, ◌↔◌, ◌≤◌, ◌+◌, �
 ghost use Rattle.std.specs.Io.KnownBytes.{Appends};
 ghost use Rattle.kalah_jobs.specs.Writing.Given.{AppendsStart};
 ghost use Rattle.kalah_rules.specs.Position.{side_length};
-ghost use Rattle.kalah_jobs.specs.Writing.Picture.{PictureLinesAreShort, PicturesTellPositions, cell, house_in, houses_line, picture_of};
-
-#[cfg(test)]
-mod tests;
+ghost use Rattle.kalah_jobs.specs.Writing.Picture.{cell, house_in, houses_line, picture_of};
 
 use crate::writing::player::Player;
 use crate::writing::sink::Sink;
@@ -87,13 +84,3 @@ pub fn write_picture<W: Sink>(out: &mut W, board: &Board) -> Result<(), io::Erro
 {
     out.write_all(picture(board).bytes())
 }
-
-/// Two boards of one rule with the same picture are the same.
-pub fn pictures_tell_positions()
-    ensures { PicturesTellPositions }
-{}
-
-/// No line of a picture has more than 32 bytes.
-pub fn picture_lines_are_short()
-    ensures { PictureLinesAreShort }
-{}

@@ -6,12 +6,7 @@ ghost use Rattle.kalah_rules.specs.Position.{IsSmallMargin};
 ghost use Rattle.kalah_solve.specs.Solver.MoveValues.{values_of};
 ghost use Rattle.kalah_jobs.specs.Files.Lines.{line_feed};
 ghost use Rattle.kalah_jobs.specs.Writing.Given.{AppendsStart};
-ghost use Rattle.kalah_jobs.specs.Writing.Shown.{Rise, ShownTellsValues, over_words, value_cell, value_columns, values_line};
-ghost use Rattle.kalah_jobs.specs.Writing.Splitting.{HasSmallNumbers};
-ghost use Rattle.kalah_jobs.specs.declared.writing.answer.Answer.TheVariants.{Values};
-
-#[cfg(test)]
-mod tests;
+ghost use Rattle.kalah_jobs.specs.Writing.Shown.{AreSmall, Rise, over_words, value_cell, value_columns, values_line};
 
 use crate::writing::picture::COLUMN;
 use crate::writing::sink::Sink;
@@ -39,7 +34,7 @@ fn put_columns(text: &mut StackText, values: &MoveValues, i: u8, behind: u8)
     requires within { i ≤ length values.now }
     requires behind { behind ≤ most_houses + 1 }
     requires rise { Rise behind (drop i values.now) }
-    requires small { HasSmallNumbers (Values (drop i values.now)) }
+    requires small { AreSmall (drop i values.now) }
     ensures row { text.new ≡ value_columns behind (drop i values.now) ++ text.old }
     ensures short { length text.new ≤ length text.old + 4 * (most_houses + 1 - behind) }
 {
@@ -87,9 +82,3 @@ pub fn write_values<W: Sink>(
 {
     out.write_all(line_below(board, values).bytes())
 }
-
-/// Two boards of one rule that are shown alike, with a picture and the line below it, are the same; and so are two lists of values
-/// that stand alike in their columns. No line has more than 32 bytes.
-pub fn shown_tells_values()
-    ensures { ShownTellsValues }
-{}

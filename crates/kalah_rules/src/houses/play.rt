@@ -47,8 +47,9 @@ impl Houses {
         requires sowing { IsSowing (length self.now.own) h (seeds self.now.own h) sowing }
         ensures { Shows result (sown (bare self.now) h) }
     {
+        let lifted = self.key % SIDE - alone(h, seeds_at(self.own_row(), h));
         RowNumbers {
-            rows: (self.key % SIDE).wrapping_add(sowing.gains),
+            rows: lifted + sowing.gains,
             store: sowing.store as u64,
         }
     }

@@ -1,8 +1,8 @@
-//! How each house is sown, for each number of its seeds: a sowing is one addition to a key.
+//! How each house is sown, for each number of its seeds: its seeds are taken out of it, and a sowing is one addition to a key then.
 ghost use Rattle.std.specs.Prelude.{◌+◌, ◌/◌, ◌%◌, ◌<◌, ◌≤◌};
 ghost use Rattle.kalah_rules.specs.Sowings.{IsSowing};
 
-use crate::houses::numbers::{OTHER_ROW, alone, other_gains, own_gains};
+use crate::houses::numbers::{OTHER_ROW, other_gains, own_gains};
 use std::marker::Model;
 
 // The number of cells of the table: 32 for each house of each side.
@@ -11,7 +11,7 @@ const CELLS: usize = 1344;
 /// How the seeds of one house are sown.
 #[derive(Clone, Copy)]
 pub(super) struct Sowing {
-    // What is added to both rows of a key, modulo 2^64.
+    // What both rows of a key gain.
     pub(super) gains: u64,
     // What the store gains.
     pub(super) store: u8,
@@ -32,9 +32,8 @@ impl Sowing {
         let lap = 2 * m + 1;
         let laps = count / lap;
         let reach = h + count % lap;
-        let gained = own_gains(m, h, laps, reach) + OTHER_ROW * other_gains(m, laps, reach);
         Sowing {
-            gains: gained.wrapping_sub(alone(h, count as u64)),
+            gains: own_gains(m, h, laps, reach) + OTHER_ROW * other_gains(m, laps, reach),
             store: laps + if reach > m { 1 } else { 0 },
             end: 5 * ((h - 1 + count) % lap),
         }

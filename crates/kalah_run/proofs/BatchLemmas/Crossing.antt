@@ -57,8 +57,8 @@ queue_sync : IsSync ResultsQueue.the_row
 queue_sync = search (sendable, crosses, shared_sync, lease_sync, tagged_send) depth 60
 
 -- so what workers share may be
-pub shared_work_sync : (κ : NamedLft) (G : RattleType) → IsSync G → IsSync (SharedWork.the_row κ G)
-shared_work_sync κ G s = search (sendable, jobs_sync, desk_sync, queue_sync) depth 60
+shared_work_sync : (κ : NamedLft) (G : RattleType) → IsSync G → IsSync (SharedWork.the_row κ G)
+shared_work_sync κ G s = search (sendable, crosses, jobs_sync, desk_sync, queue_sync) depth 60
 
 -- and workers may be handed over
 pub worker_send : IsSend Worker.the_row

@@ -1,6 +1,6 @@
 -- What stands written when a batch has ended.
 use Rattle.std.proofs.Common.{◌≡◌, ℕ, List, ◌+◌, [], ◌∷◌, length, refl, sym, ap, ◌∙◌, subst, arith}
-use Rattle.std.specs.Prelude.{Option, Some, None, Bool, count_by}
+use Rattle.std.specs.Prelude.{Option, Some, None, Bool, true, count_by}
 use Rattle.std.specs.Io.KnownBytes.{Appends, Keeps}
 use Rattle.kalah_jobs.specs.declared.writing.answer.Taken.{Taken}
 use Rattle.kalah_jobs.specs.declared.files.entry.Entry.{Entry}
@@ -14,7 +14,7 @@ use Rattle.std.proofs.lemmas.List.Sums.{sum_by-cons}
 use Rattle.kalah_jobs.specs.Writing.Output.{answer_text_of, output_to, output_of_jobs, names_of, tally_of, LineCounts, text_of_file, text_of_jobs, is_faulty_job}
 use Rattle.kalah_jobs.specs.Collecting.Batch.{AreJobsInSomeOrder}
 use Rattle.kalah_run.specs.Batch.UnderWay.{WasGiven}
-use Rattle.kalah_run.proofs.BatchLemmas.Progress.{progress_end}
+use Rattle.kalah_run.proofs.BatchLemmas.Progress.{progress_end, progress_failed}
 use Rattle.kalah_run.proofs.BatchLemmas.Giving.{given_none}
 use Rattle.kalah_jobs.proofs.WritingLemmas.JobOutput.{files_are_their_jobs}
 use Rattle.kalah_run.specs.Batch.Texts.{text_of}
@@ -26,14 +26,21 @@ texts_are_output : (files : List NamedBytes) (jobs : List (List Entry)) → text
 unfolding text_of
 texts_are_output files jobs = refl
 
--- Each job was accepted once, and the output doesn't wait for a line: the sink was given all.
+-- what is known of an output, with the jobs of its files
 module _ (files : List NamedBytes) (jobs : List (List Entry)) (past : List Job) (begun out : Option (List ℕ)) (failed : Bool) (r : OrderedOutput)
-    (each : AreJobsInSomeOrder jobs past) (so_far : HasWritten files jobs past begun out failed r) (waits : Waits r) where
-  pub all_given : WasGiven begun out failed (output_of_jobs (names_of files) jobs)
-  all_given =
+    (so_far : HasWritten files jobs past begun out failed r) where
+  output_is : text_of_jobs (text_of files) r.jobs.now ≡ output_of_jobs (names_of files) jobs
+  output_is = ap (λ l. text_of_jobs (text_of files) l) so_far.of_jobs ∙ texts_are_output files jobs
+
+  -- each job was accepted once, and the output doesn't wait for a line: the sink was given all
+  pub all_given : AreJobsInSomeOrder jobs past → Waits r → WasGiven begun out failed (output_of_jobs (names_of files) jobs)
+  all_given each waits =
       let once : AreJobsInSomeOrder r.jobs.now past = subst (λ l. AreJobsInSomeOrder l past) (sym so_far.of_jobs) each in
-      subst (λ l. WasGiven begun out failed l) (ap (λ l. text_of_jobs (text_of files) l) so_far.of_jobs ∙ texts_are_output files jobs)
-      (progress_end so_far.progress once waits)
+      subst (λ l. WasGiven begun out failed l) output_is (progress_end so_far.progress once waits)
+
+  -- the sink has failed
+  pub failed_given : failed ≡ true → WasGiven begun out failed (output_of_jobs (names_of files) jobs)
+  failed_given broken = subst (λ l. WasGiven begun out failed l) output_is (progress_failed so_far.progress broken)
 
 -- the output of the jobs of the files is that of the files
 pub given_output : (question : Question) (files : List NamedBytes) (jobs : List (List Entry)) (begun out : Option (List ℕ))

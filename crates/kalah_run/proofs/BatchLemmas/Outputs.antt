@@ -13,7 +13,7 @@ use Rattle.kalah_jobs.specs.Files.Lines.{line_feed}
 use Rattle.kalah_jobs.specs.Files.NamedBytes.{NamedBytes}
 use Rattle.kalah_run.proofs.BatchLemmas.Giving.{given_kept}
 use Rattle.kalah_run.specs.declared.batch.ordered_output.OrderedOutput.{OrderedOutput}
-use Rattle.kalah_run.specs.Batch.OrderedOutput.{HasWritten}
+use Rattle.kalah_run.specs.Batch.OrderedOutput.{HasWritten, AcceptsAll}
 use Rattle.kalah_run.specs.Batch.Texts.{text_of}
 use Rattle.kalah_run.specs.Batch.UnderWay.{IsUnderWay}
 
@@ -57,6 +57,13 @@ still_written files jobs past begun out later failed fails r keeps sound is = re
     written = given_kept begun out later failed fails _ is.progress.written keeps sound;
   };
 }
+
+-- so it has still accepted what it had
+pub still_accepted : (past : List Job) (before after : OrderedOutput) (old out later : Option (List ℕ)) (had failed fails : Bool) → Keeps out later
+    → (fails ≡ false → failed ≡ false) → AcceptsAll past before old had after out failed → AcceptsAll past before old had after later fails
+still_accepted past before after old out later had failed fails keeps sound accepts files jobs begun so_far =
+    let now = accepts files jobs begun so_far in
+    (still_written files jobs past begun out later failed fails after keeps sound now.0, now.1)
 
 -- what a call that wrote all, or failed, did if it has not failed
 pub whole_where_sound : {A E : Type 0} (all : Type 0) (r : Result A E) (failed : Bool) → (IsErr r → failed ≡ true) → OnOk r all

@@ -1,9 +1,10 @@
 -- The loop that writes each line once it is ready and all before it were written.
-use Rattle.std.proofs.Common.{◌≡◌, ℕ, ◌+◌, ◌<◌, ◌≤◌, ⊎_elim, List, [], ◌∷◌, ◌++◌, length, get_or, take, Bool, refl, sym, ap, ◌∙◌, subst, arith}
+use Rattle.std.proofs.Common.{◌≡◌, ℕ, ◌+◌, ◌<◌, ◌≤◌, ⊎_elim, List, [], ◌∷◌, ◌++◌, length, get_or, take, drop, append_assoc, Bool, true, refl, sym, ap, ◌∙◌, subst, arith}
 use Rattle.std.specs.Prelude.{Option, Some, None, Result, Ok, Err}
 use Rattle.std.specs.List.{flat_map, enumerate_from}
 use Rattle.std.proofs.lemmas.Bool.{cases_eq, cases_lt}
-use Rattle.std.proofs.lemmas.List.{append-nil, get_or_past, take_all, take_more, flat_map_more}
+use Rattle.std.proofs.lemmas.Grind.{flat_map-append}
+use Rattle.std.proofs.lemmas.List.{append-nil, get_or_past, take-append-drop, take_all, take_more, flat_map_more}
 use Rattle.std.proofs.lemmas.List.FromFn.{length-enumerate_from}
 use Rattle.std.proofs.lemmas.Option.{slice_get_within}
 use Rattle.kalah_jobs.specs.declared.files.entry.Entry.{Entry}
@@ -21,7 +22,7 @@ use Rattle.kalah_run.specs.Batch.UnderWay.{WasGiven, written_upto, IsUnderWay}
 use Rattle.kalah_jobs.proofs.CollectingLemmas.CollectorSteps.{state_same, state_other, files_many, lines_are, wanted_file, holds_accepted, holds_refused, holds_take}
 use Rattle.kalah_jobs.proofs.CollectingLemmas.CollectorRuns.{numbered_at, numbered_is, start, taken_is, taken_after_offer, front_after_offer, new_taken}
 use Rattle.kalah_jobs.proofs.CollectingLemmas.JobOrders.{fronts_full}
-use Rattle.kalah_run.proofs.BatchLemmas.Giving.{given_none}
+use Rattle.kalah_run.proofs.BatchLemmas.Giving.{given_none, given_off}
 
 -- what is written, line by line and file by file
 module _ (text : ℕ → Taken → List ℕ) (jobs : List (List Entry)) where
@@ -75,6 +76,42 @@ module _ (text : ℕ → Taken → List ℕ) (jobs : List (List Entry)) where
       (take_all f js (omega arith))
       ∙ ap (λ l. text_of_jobs text jobs ++ flat_map (text_of_line text f) l) no_line
       ∙ append-nil (text_of_jobs text jobs)
+
+  -- the first lines of a file, and then the others
+  written_line_rest : (f n : ℕ) → written_upto text jobs f n ++ flat_map (text_of_line text f) (drop n (enumerate_from 0 (entries_of jobs f)))
+      ≡ written_upto text jobs f (length (entries_of jobs f))
+  unfolding written_upto
+  written_line_rest f n =
+      let T = text_of_line text f in
+      let before : List ℕ = flat_map (text_of_file text) (take f (enumerate_from 0 jobs)) in
+      let xs : List (ℕ × Entry) = enumerate_from 0 (entries_of jobs f) in
+      let many : length xs ≡ length (entries_of jobs f) = length-enumerate_from 0 (entries_of jobs f) in
+      append_assoc before (flat_map T (take n xs)) (flat_map T (drop n xs))
+      ∙ ap (λ l. before ++ l) (sym (flat_map-append T (take n xs) (drop n xs)) ∙ ap (flat_map T) (take-append-drop n xs)
+      ∙ ap (flat_map T) (sym (take_all (length (entries_of jobs f)) xs (omega arith))))
+
+  -- the first files, and then the others
+  written_file_rest : (f : ℕ) → written_upto text jobs f 0 ++ flat_map (text_of_file text) (drop f (enumerate_from 0 jobs)) ≡ text_of_jobs text jobs
+  unfolding written_upto
+  written_file_rest f =
+      let js : List (ℕ × List Entry) = enumerate_from 0 jobs in
+      ap (λ l. l ++ flat_map (text_of_file text) (drop f js)) (append-nil (flat_map (text_of_file text) (take f js)))
+      ∙ sym (flat_map-append (text_of_file text) (take f js) (drop f js)) ∙ ap (flat_map (text_of_file text)) (take-append-drop f js)
+
+  -- what is written is the first part of all
+  written_first : (f n : ℕ) → (rest : List ℕ) × (written_upto text jobs f n ++ rest ≡ text_of_jobs text jobs)
+  written_first f n =
+      ⊎_elim
+      (λ (low : f < length jobs).
+      let lines : List ℕ = flat_map (text_of_line text f) (drop n (enumerate_from 0 (entries_of jobs f))) in
+      let later : List ℕ = flat_map (text_of_file text) (drop (f + 1) (enumerate_from 0 jobs)) in (
+        lines ++ later,
+        sym (append_assoc (written_upto text jobs f n) lines later)
+            ∙ ap (λ l. l ++ later) (written_line_rest f n ∙ written_file f low)
+            ∙ written_file_rest (f + 1),
+      ))
+      (λ (high : length jobs ≤ f). ([], append-nil (written_upto text jobs f n) ∙ written_all f n high))
+      (cases_lt f (length jobs))
 
   -- nothing yet
   written_none : written_upto text jobs 0 0 ≡ []
@@ -203,6 +240,12 @@ module _ {text : ℕ → Taken → List ℕ} {jobs : List (List Entry)} {past : 
       subst (λ (s : List FileState). IsUnderWay text jobs (past ++ o ∷ []) s f begun out failed) (sym step.kept) (progress_accepted o step.wanted)
   progress_offered o after (Err r) step =
       subst (λ (s : List FileState). IsUnderWay text jobs (past ++ o ∷ []) s f begun out failed) (sym step.unchanged) (progress_refused o r step.cause)
+
+  -- a sink that has failed was given all, as far as it took it
+  pub progress_failed : failed ≡ true → WasGiven begun out failed (text_of_jobs text jobs)
+  progress_failed broken =
+      let all = written_first text jobs f (state_of files f).taken in
+      subst (λ (l : List ℕ). WasGiven begun out failed l) all.1 (given_off begun out failed _ all.0 progress.written broken)
 
   -- Each job was offered once, and the current file, if there is one, has not ended.
   module _ (each : AreJobsInSomeOrder jobs past) (waits : f < length files → HasEnded (state_of files f) → ⊥) where

@@ -9,7 +9,7 @@ use Rattle.kalah_run.specs.Queue.States.{PutState}
 use Rattle.kalah_run.specs.Desk.States.{PassState}
 use Rattle.kalah_run.specs.declared.batch.worker.Worker.{Worker}
 use Rattle.kalah_run.specs.Batch.AtWork.{passes_of, puts_of}
-use Rattle.kalah_run.specs.Batch.Workers.{HasTable, HaveTables}
+use Rattle.kalah_run.specs.Batch.OpenBatch.{HasTable, HaveTables}
 
 -- one worker more
 pub passes_more : (workers workers' : List Worker) (w : Worker) (yielded : List PassState) → workers' ≡ workers ++ w ∷ []

@@ -10,7 +10,7 @@ use Rattle.kalah_jobs.specs.declared.files.entry.Entry.TheVariants.{Bad}
 use Rattle.kalah_jobs.specs.declared.line.line_fault.LineFault.TheVariants.{Empty}
 use Rattle.kalah_jobs.specs.Collecting.Batch.{job}
 use Rattle.kalah_run.specs.declared.desk.rule.DrawnRow.{DrawnRow}
-use Rattle.kalah_run.specs.Batch.Work.{drawn_jobs}
+use Rattle.kalah_run.specs.Batch.AtWork.{drawn_jobs}
 
 -- job number n is what stands there in the list of jobs
 job_at : (jobs : List (List Entry)) (n : ℕ) (o : Job) → slice_get (job_list jobs) n ≡ Some o → job jobs n ≡ o

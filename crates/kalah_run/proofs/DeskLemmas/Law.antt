@@ -8,20 +8,16 @@ use Rattle.kalah_run.specs.declared.desk.rule.DeskPlan.{DeskPlan}
 use Rattle.kalah_run.specs.declared.desk.rule.DeskView.{DeskView}
 use Rattle.kalah_run.specs.Desk.Rows.{drawn_in}
 use Rattle.kalah_run.specs.Desk.Kept.{IsKept, all_rows}
-use Rattle.kalah_run.specs.Desk.Law.{DealsEachOnce}
-use Rattle.kalah_run.proofs.DeskLemmas.Once.{stands_once, stands_nowhere}
+use Rattle.kalah_run.specs.Desk.Law.{CountsWhatItDeals}
+use Rattle.kalah_run.proofs.DeskLemmas.Once.{deals_each_once}
 use Rattle.kalah_run.proofs.DeskLemmas.Sums.{rows_within_passes}
 
-pub desk_is_lawful : (plan : DeskPlan) (state : State ⊤ DeskView) → IsKept plan state → DealsEachOnce plan.total state.words (all_rows state.views)
+pub desk_is_lawful : (plan : DeskPlan) (state : State ⊤ DeskView) → IsKept plan state → CountsWhatItDeals plan.total state.words (all_rows state.views)
 desk_is_lawful plan state kept =
     let rows : List DrawnRow = all_rows state.views in
     record {
       drawn = drawn_in rows;
-      within = kept.lawful.within;
-      once = stands_once plan.total rows kept.lawful;
-      no_other = stands_nowhere plan.total rows kept.lawful;
-      rising = kept.lawful.rising;
-      spent = kept.lawful.spent;
+      deals = deals_each_once plan.total rows kept.lawful;
       word = kept.word;
       most = omega (arith, kept.lawful.within, kept.few.1, kept.passes, rows_within_passes state.views, count_by-le-length (λ r. r.spent) rows);
     }

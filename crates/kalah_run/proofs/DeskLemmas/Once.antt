@@ -1,11 +1,13 @@
 -- In lawful rows each number below the count stands in one row, there once, and no other number stands in any row.
 use Rattle.std.proofs.Common.{◌≡◌, ◌≢◌, ⊎_elim, ℕ, zero, suc, ◌<◌, ◌≤◌, List, [], ◌∷◌, length, get_or, refl, sym, ap, ◌∙◌, arith}
-use Rattle.std.specs.Prelude.{◌==◌, sum_by, count_by, if◌then◌else◌}
+use Rattle.std.specs.Prelude.{◌==◌, All, nat_lt, sum_by, count_by, if◌then◌else◌}
 use Rattle.std.proofs.lemmas.Bool.{lt-ltb, le-ltb, cases_lt}
+use Rattle.std.proofs.lemmas.List.{length-map}
 use Rattle.std.proofs.lemmas.List.Sums.{sum_by-cons, get_or-le-sum_by}
 use Rattle.kalah_run.specs.declared.desk.rule.DrawnRow.{DrawnRow}
 use Rattle.kalah_jobs.specs.Collecting.Shares.{times_in}
-use Rattle.kalah_run.specs.Desk.Rows.{drawn_numbers, drawn_in, AreLawful, StandsOnce, StandsNowhere}
+use Rattle.kalah_run.specs.Desk.Rows.{drawn_numbers, drawn_in, AreLawful, DealsEachOnce, StandsOnce, StandsNowhere}
+use Rattle.kalah_run.specs.Desk.States.{PassState, drawn_rows}
 use Rattle.kalah_run.proofs.DeskLemmas.Sums.{times_rows}
 
 -- one term is 1, and the others are 0
@@ -38,13 +40,61 @@ one_term f (r ∷ rs) sum =
     none_before place here others zero d within apart = here
     none_before place here others (suc k) d within apart = others k d (omega arith) (λ same. apart (ap suc same))
 
-pub stands_once : (total : ℕ) (rows : List DrawnRow) → AreLawful total rows → (x : ℕ) → x < drawn_in rows → StandsOnce x rows
+stands_once : (total : ℕ) (rows : List DrawnRow) → AreLawful total rows → (x : ℕ) → x < drawn_in rows → StandsOnce x rows
 stands_once total rows lawful x low =
     let t = one_term (λ r. count_by (λ y. y == x) r.numbers) rows
     (sym (times_rows x rows) ∙ lawful.each_once x ∙ ap (λ b. if b then 1 else 0) (lt-ltb x (drawn_in rows) low)) in
     record { place = t.place; within = t.within; once = t.one; nowhere_else = t.no_other }
 
-pub stands_nowhere : (total : ℕ) (rows : List DrawnRow) → AreLawful total rows → (x : ℕ) → drawn_in rows ≤ x → StandsNowhere x rows
+stands_nowhere : (total : ℕ) (rows : List DrawnRow) → AreLawful total rows → (x : ℕ) → drawn_in rows ≤ x → StandsNowhere x rows
 stands_nowhere total rows lawful x high k d within =
     let none : times_in x (drawn_numbers rows) ≡ 0 = lawful.each_once x ∙ ap (λ b. if b then 1 else 0) (le-ltb x (drawn_in rows) high) in
     omega (arith, times_rows x rows, get_or-le-sum_by (λ r. count_by (λ y. y == x) r.numbers) rows k d within)
+
+-- rows of which each number below the count stands in one, and there once, are lawful in these words
+pub deals_each_once : (total : ℕ) (rows : List DrawnRow) → AreLawful total rows → DealsEachOnce total (drawn_in rows) rows
+deals_each_once total rows lawful = record {
+  within = lawful.within;
+  count = refl;
+  once = stands_once total rows lawful;
+  no_other = stands_nowhere total rows lawful;
+  rising = lawful.rising;
+  spent = lawful.spent;
+}
+
+-- terms that are 0 sum to 0
+sum_none : (f : DrawnRow → ℕ) (rows : List DrawnRow) → All (λ r. f r ≡ 0) rows → sum_by f rows ≡ 0
+sum_none f [] none = refl
+sum_none f (r ∷ rs) none =
+    omega (arith, sum_by-cons f r rs, none 0 r (omega arith), sum_none f rs (λ k d within. none (suc k) d (omega arith)))
+
+-- terms of which one is 1 and the others are 0 sum to 1
+sum_one : (f : DrawnRow → ℕ) (rows : List DrawnRow) (place : ℕ) → place < length rows → ((d : DrawnRow) → f (get_or rows place d) ≡ 1)
+    → ((k : ℕ) (d : DrawnRow) → k < length rows → k ≢ place → f (get_or rows k d) ≡ 0) → sum_by f rows ≡ 1
+sum_one f [] place within one others = absurd (omega arith)
+sum_one f (r ∷ rs) zero within one others =
+    omega (arith, sum_by-cons f r rs, one r, sum_none f rs (λ k d low. others (suc k) d (omega arith) (λ same. absurd (omega arith))))
+sum_one f (r ∷ rs) (suc place) within one others =
+    omega (
+      arith,
+      sum_by-cons f r rs,
+      others 0 r (omega arith) (λ same. absurd (omega arith)),
+      sum_one f rs place (omega arith) one (λ k d low apart. others (suc k) d (omega arith) (λ same. apart (omega arith))),
+    )
+
+-- so each number below the count stands in all rows together once, and no other does
+pub dealt_once : (total drawn : ℕ) (rows : List DrawnRow) → DealsEachOnce total drawn rows
+    → (x : ℕ) → times_in x (drawn_numbers rows) ≡ (if nat_lt x drawn then 1 else 0)
+dealt_once total drawn rows deals x =
+    let f : DrawnRow → ℕ = λ r. count_by (λ y. y == x) r.numbers in
+    times_rows x rows
+    ∙ ⊎_elim
+    (λ (low : x < drawn).
+    let stands = deals.once x low in
+    sum_one f rows stands.place stands.within stands.once stands.nowhere_else ∙ sym (ap (λ b. if b then 1 else 0) (lt-ltb x drawn low)))
+    (λ (high : drawn ≤ x). sum_none f rows (deals.no_other x high) ∙ sym (ap (λ b. if b then 1 else 0) (le-ltb x drawn high)))
+    (cases_lt x drawn)
+
+-- there are as many rows of numbers as passes
+pub length-drawn_numbers : (passes : List PassState) → length (drawn_numbers (drawn_rows passes)) ≡ length passes
+length-drawn_numbers passes = length-map (drawn_rows passes) (λ (r : DrawnRow). r.numbers) ∙ length-map passes (λ (p : PassState). p.row)

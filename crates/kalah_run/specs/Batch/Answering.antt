@@ -6,7 +6,6 @@ use Rattle.kalah_jobs.specs.Limits.{most_files, most_lines}
 use Rattle.kalah_jobs.specs.Files.Jobs.{lines_in_all}
 use Rattle.kalah_jobs.specs.Files.NamedBytes.{NamedBytes}
 use Rattle.kalah_jobs.specs.Writing.Output.{LineCounts, tally_of}
-use Rattle.kalah_run.specs.Batch.NoLine.{AnswersNothing}
 use Rattle.kalah_run.specs.declared.batch.run_fault.RunFault.{RunFault}
 use Rattle.kalah_run.specs.declared.batch.run_fault.RunFault.TheVariants.{TooManyFiles, TooManyLines, NoWorker, Write}
 
@@ -27,5 +26,3 @@ pub record AnswersBatch {W : Type 0} (bytes : W → Option (List ℕ)) (has_fail
   pub write : (result ≡ Err Write) ↔ (has_failed new ≡ true)
   -- any other fault leaves the output as it was
   pub untouched : IfErr result (λ e. e ≢ Write → new ≡ old)
-  -- files without a line
-  pub no_line : lines_in_all files ≡ 0 → AnswersNothing (bytes old) (bytes new) result

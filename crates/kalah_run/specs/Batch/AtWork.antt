@@ -1,10 +1,18 @@
 -- What is known of workers, before and after they have run.
 use Rattle.std.specs.Prelude.{◌≡◌, ℕ, ◌<◌, true, List, length, map, slice_index_or}
 use Rattle.std.specs.List.{All}
+use Rattle.kalah_jobs.specs.declared.files.entry.Entry.{Entry}
+use Rattle.kalah_jobs.specs.declared.files.job.Job.{Job}
+use Rattle.kalah_jobs.specs.Collecting.Batch.{job}
 use Rattle.kalah_run.specs.Desk.States.{PassState, IsPassAt}
 use Rattle.kalah_run.specs.Queue.States.{PutState}
-use Rattle.kalah_run.specs.Batch.Work.{Work, drawn_jobs}
+use Rattle.kalah_run.specs.declared.batch.size.Rest.TheVariants.{Solve}
+use Rattle.kalah_run.specs.declared.batch.shared_work.SharedWork.{SharedWork}
 use Rattle.kalah_run.specs.declared.batch.worker.Worker.{Worker}
+
+-- the jobs of the numbers that were drawn, in order: their outcomes are sent
+unfoldable pub drawn_jobs : List (List Entry) → List ℕ → List Job
+drawn_jobs jobs numbers = map (job jobs) numbers
 
 -- the passes by which the workers draw, and those by which they send
 abbrev pub passes_of : List Worker → List PassState
@@ -13,22 +21,23 @@ passes_of workers = map (λ w. w.pass) workers
 abbrev pub puts_of : List Worker → List PutState
 puts_of workers = map (λ w. w.put) workers
 
--- the worker draws at the desk and sends through the queue, and it has sent the outcomes of the jobs of its row, in order
-pub record IsAtWork (work : Work) (w : Worker) : Type 0 where
-  pub draws : IsPassAt work.desk w.pass
-  pub sends : w.put.queue ≡ work.queue
-  pub sent : w.put.sent ≡ drawn_jobs work.jobs w.pass.row.numbers
+module _ {G : Type 0} where
+  -- the worker draws at the desk and sends through the queue, and it has sent the outcomes of the jobs of its row, in order
+  pub record IsAtWork (shared : SharedWork G) (w : Worker) : Type 0 where
+    pub draws : IsPassAt shared.desk w.pass
+    pub sends : w.put.queue ≡ shared.queue.id
+    pub sent : w.put.sent ≡ drawn_jobs shared.jobs.now w.pass.row.numbers
 
-abbrev pub AreAtWork : Work → List Worker → Type 0
-AreAtWork work workers = All (IsAtWork work) workers
+  abbrev pub AreAtWork : SharedWork G → List Worker → Type 0
+  AreAtWork shared workers = All (IsAtWork shared) workers
 
--- the worker has run: it keeps its number, and there is nothing left to draw
-pub record HasRun (work : Work) (before after : Worker) : Type 0 where
-  pub at_work : IsAtWork work after
-  pub number : after.put.number ≡ before.put.number
-  pub spent : after.pass.row.spent ≡ true
+  -- the worker has run: it keeps its number, and there is nothing left to draw, or the rest may be left
+  pub record HasRun (shared : SharedWork G) (before after : Worker) : Type 0 where
+    pub at_work : IsAtWork shared after
+    pub number : after.put.number ≡ before.put.number
+    pub spent : shared.rest ≡ Solve → after.pass.row.spent ≡ true
 
--- each worker has run, and stands in its place
-pub record HaveRun (work : Work) (before after : List Worker) : Type 0 where
-  pub as_many : length after ≡ length before
-  pub each : (k : ℕ) (d : Worker) → k < length before → HasRun work (slice_index_or before k d) (slice_index_or after k d)
+  -- each worker has run, and stands in its place
+  pub record HaveRun (shared : SharedWork G) (before after : List Worker) : Type 0 where
+    pub as_many : length after ≡ length before
+    pub each : (k : ℕ) (d : Worker) → k < length before → HasRun shared (slice_index_or before k d) (slice_index_or after k d)

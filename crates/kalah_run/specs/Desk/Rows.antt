@@ -40,3 +40,13 @@ StandsNowhere x rows = All (λ r. count_by (λ y. y == x) r.numbers ≡ 0) rows
 -- one above the last number of a row, and 0 for an empty row: it grows with each draw, so the total bounds the draws of a loop
 abbrev pub least_above : List ℕ → ℕ
 least_above numbers = fold (λ above x. x + 1) 0 numbers
+
+-- The rows hold the first `drawn` of the numbers below the total: each number below `drawn` stands in one row, and there once; no other
+-- stands in any; and each row ascends. A pass is spent only if all numbers are drawn.
+pub record DealsEachOnce (total drawn : ℕ) (rows : List DrawnRow) : Type 0 where
+  pub within : drawn ≤ total
+  pub count : drawn ≡ drawn_in rows
+  pub once : (number : ℕ) → number < drawn → StandsOnce number rows
+  pub no_other : (number : ℕ) → drawn ≤ number → StandsNowhere number rows
+  pub rising : All (λ row. AllPairs (λ x y. x < y) row.numbers) rows
+  pub spent : 0 < spent_in rows → drawn ≡ total

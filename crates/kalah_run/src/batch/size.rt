@@ -1,4 +1,4 @@
-//! The number of workers of a batch, and the size of their tables.
+//! How a batch is run: by how many workers, with tables of which size, and how long.
 ghost use Rattle.kalah_run.specs.Limits.{AreWorkers, IsTableSize};
 
 /// The number of workers of a batch, 1 to 64, and the number of entries of each one's table, 1 to 1,048,576.
@@ -8,4 +8,13 @@ pub struct BatchSize {
     pub table: u32,
     ghost few_workers: { AreWorkers workers },
     ghost table_size: { IsTableSize table },
+}
+
+/// What happens to the jobs that are left when the output has failed.
+#[derive(Clone, Copy, Debug, PartialEq, Eq)]
+pub enum Rest {
+    /// They are solved, and the gate is told of each.
+    Solve,
+    /// No worker begins a further job. Jobs under way are finished.
+    Leave,
 }

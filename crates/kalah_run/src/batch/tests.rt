@@ -7,7 +7,7 @@ mod told;
 mod values;
 mod writers;
 
-use crate::{BatchSize, Gate, OpenGate, RunFault, Tally, answer_batch, solve_batch};
+use crate::{BatchSize, Gate, NoWatch, OpenGate, Rest, RunFault, Tally, answer_batch, solve_batch};
 use kalah_jobs::{FileText, Question, Sink, Stream};
 use std::alloc::{AllocError, Global};
 use std::process::Abort;
@@ -145,6 +145,7 @@ fn batch_of<R: Threads + Wait + Sync, G: Gate, W: Sink>(
     alloc: Global,
     question: Question,
     files: &[FileText],
+    rest: Rest,
     gate: &G,
     out: &mut W,
 ) -> Result<Tally, RunFault>
@@ -154,7 +155,17 @@ fn batch_of<R: Threads + Wait + Sync, G: Gate, W: Sink>(
         workers: 2,
         table: 16,
     };
-    answer_batch(rt, alloc, question, files, size, gate, out)
+    answer_batch(
+        rt,
+        alloc,
+        question,
+        files,
+        size,
+        rest,
+        gate,
+        &mut NoWatch,
+        out,
+    )
 }
 
 // Sizes of a table, from one entry to the most allowed.

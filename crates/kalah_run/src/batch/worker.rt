@@ -1,4 +1,6 @@
 //! A worker of a batch, and how all of them are run.
+ghost use Rattle.kalah_run.specs.Batch.AtWork.{IsAtWork, AreAtWork, HasRun, HaveRun};
+
 use crate::batch::gate::Gate;
 use crate::batch::shared_work::SharedWork;
 use crate::desk::pass::Pass;
@@ -21,15 +23,15 @@ pub(crate) struct Worker {
 }
 
 impl Worker {
-    ghost use Rattle.kalah_run.specs.Batch.AtWork.{IsAtWork, HasRun};
-    ghost use Rattle.kalah_run.specs.Batch.Work.{work_of};
-
-    // Draws jobs, solves each and sends its outcome, until there is nothing left to draw.
+    // Draws jobs, solves each and sends its outcome, until there is nothing left to draw or the workers are to stop.
     fn run<R: Wait, G: Gate>(&mut self, rt: &R, shared: &SharedWork<'_, G>)
-        requires { IsAtWork (work_of shared.now) self.old }
-        ensures { HasRun (work_of shared.now) self.old self.new }
+        requires { IsAtWork shared.now self.old }
+        ensures { HasRun shared.now self.old self.new }
     {
-        while let Some(drawn) = shared.desk.draw(&mut self.pass) {
+        while shared.goes_on() {
+            let Some(drawn) = shared.desk.draw(&mut self.pass) else {
+                return;
+            };
             shared.gate.before(drawn);
             let outcome = Outcome::of_job(shared.jobs, drawn, &mut self.solver);
             shared.queue.put(rt, &mut self.put, outcome);
@@ -47,12 +49,11 @@ pub(crate) struct Crew<'a, 'b, G: Gate> {
 
 impl<'a, 'b, G: Gate> Crew<'a, 'b, G> {
     ghost use Rattle.kalah_run.specs.Batch.AtWork.{IsAtWork, AreAtWork, HasRun, HaveRun};
-    ghost use Rattle.kalah_run.specs.Batch.Work.{work_of};
 
     /// Runs each worker in a thread of its own, as far as threads can be started, and returns the workers.
     pub(crate) fn run<R: Threads + Wait + Sync>(self, rt: &R) -> Vec<Worker>
-        requires { AreAtWork (work_of self.shared.now) self.workers.items }
-        ensures { HaveRun (work_of self.entry.shared.now) self.entry.workers.items result.items }
+        requires { AreAtWork self.shared.now self.workers.items }
+        ensures { HaveRun self.entry.shared.now self.entry.workers.items result.items }
     {
         let Crew {
             shared,
@@ -63,8 +64,8 @@ impl<'a, 'b, G: Gate> Crew<'a, 'b, G> {
             workers.as_mut_slice(),
             MOST_WORKERS as usize,
             &|_, worker: &mut Worker|
-                requires { IsAtWork (work_of shared.now) worker.old }
-                ensures { HasRun (work_of shared.entry.now) worker.old worker.new }
+                requires { IsAtWork shared.now worker.old }
+                ensures { HasRun shared.entry.now worker.old worker.new }
             { worker.run(rt, shared) },
         );
         workers

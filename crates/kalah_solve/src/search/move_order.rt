@@ -1,73 +1,84 @@
-//! An estimate of how good a turn is, before its outcome is known. It orders the moves, and states nothing about their worth.
-ghost use Rattle.std.specs.Prelude.{◌≡◌, ◌+◌, ◌%◌, ◌≤◌, ◌<◌};
+//! The order of turns: an estimate of how good each is, before its outcome is known. It states nothing about their worth.
+ghost use Rattle.std.specs.Prelude.{◌≡◌, ◌+◌, ◌%◌, ◌≤◌, ◌<◌, ℕ, Contains, slice_index};
 
 #[cfg(test)]
 mod tests;
+mod weights;
 
-use crate::marks::ONE_EACH;
+use crate::search::move_order::weights::{GAIN, HOUSES, PLACES};
 use kalah_rules::Houses;
 
-// The place value of the other player's first house in a key.
-const OTHER_ROW: u64 = 0x4000_0000;
-
-// The place value just past the houses in a key.
-const SIDE: u64 = 0x1000_0000_0000_0000;
-
-// Multiplied by this, a row becomes two equal rows.
-const BOTH: u64 = OTHER_ROW + 1;
-
-// The row whose houses all end in the store, by the number of houses a side: each house holds as many seeds as its distance from
-// the store. Past the last house stand more seeds than a row can have. Both rows are this one.
-static ALL_END_IN_STORE: [u64; 7] = [
-    0x3FFF_FFFF * BOTH,
-    0x3FFF_FFE1 * BOTH,
-    0x3FFF_FC22 * BOTH,
-    0x3FFF_8443 * BOTH,
-    0x3FF0_8864 * BOTH,
-    0x3E11_0C85 * BOTH,
-    0x0221_90A6 * BOTH,
-];
-
-// Returns the houses of both rows that have seeds, marked.
-fn filled(rows: u64) -> u64 {
-    const FIFTEEN_EACH: u64 = 15 * ONE_EACH * BOTH;
-    (((rows & FIFTEEN_EACH).wrapping_add(FIFTEEN_EACH) | rows) >> 4) & (ONE_EACH * BOTH)
+/// What orders the turns: the weights of the houses, two neighbours at a time.
+#[derive(Drop)]
+pub(crate) struct MoveOrder {
+    // What two houses count, for each two of the twelve and each number of seeds of either. No two count more than 255.
+    pairs: [u8; 6144],
 }
 
-// Returns the houses of both rows whose last seed would fall into the store of their player without a lap, marked.
-fn ending_in_store(rows: u64, m: u8) -> u64
-    requires { m ≤ 6 }
-{
-    filled(rows ^ ALL_END_IN_STORE[m as usize]) ^ (ONE_EACH * BOTH)
+impl MoveOrder {
+    /// Computes the table.
+    pub(crate) fn new() -> MoveOrder {
+        let mut pairs = [0u8; 6144];
+        for pair in 0..6usize {
+            for second in 0..32usize {
+                for first in 0..32usize {
+                    let weight = HOUSES[2 * pair][first % 16];
+                    let sum = weight.saturating_add(HOUSES[2 * pair + 1][second % 16]);
+                    pairs[1024 * pair + 32 * second + first] = sum;
+                }
+            }
+        }
+        MoveOrder { pairs }
+    }
+
+    // Returns what the houses count that a turn leaves.
+    #[inline(always)]
+    fn weight(&self, m: u8, next: &Houses) -> u32
+        requires { m ≤ 6 }
+        ensures { result ≤ 1530 }
+    {
+        // The house next to a store is the last of six, for any number of houses.
+        let cells = next.key() << (5 * (6 - m));
+        let mut weight = 0;
+        for i in 0..6usize {
+            let pair = (cells >> (10 * i)) % 1024;
+            weight += self.pairs[1024 * i + pair as usize] as u32;
+        }
+        weight
+    }
+
+    /// Returns the estimate for a turn of house `h` of `m` that brought `gained` seeds to the store and leaves these houses to the other
+    /// player, times 8, and what names the house: so two turns of a position are never equal, and of equal estimates the house nearest
+    /// the store comes first.
+    ///
+    /// It counts what came to the store, the place of the house, and each house that is left, by its place and its seeds.
+    #[inline(always)]
+    pub(crate) fn priority(&self, m: u8, h: u8, gained: u8, next: &Houses) -> u16
+        requires side { m ≤ 6 }
+        requires first { 1 ≤ h }
+        requires last { h ≤ 6 }
+        ensures some { 0 < result }
+        ensures house { result % 8 + 1 ≡ h }
+    {
+        let place = PLACES[(6 - m + h) as usize] as u32;
+        // A turn gains at most 31 seeds.
+        let gain = GAIN * (gained as u32 % 32);
+        let estimate = 1 + gain + place + self.weight(m, next);
+        (8 * estimate + (h as u32 - 1)) as u16
+    }
 }
 
-// Returns the number of seeds in the first row, which is at most 31.
-fn sum(rows: u64) -> u32
-    ensures { result < 32 }
-{
-    ((rows.wrapping_mul(ONE_EACH) >> 25) % 32) as u32
-}
+/// As many priorities as the processor compares at once, house 1 first: those past the last house are 0.
+pub(crate) type Priorities = [u16; 8];
 
-/// Returns the estimate for a turn of house `h` of `m` that brought `gained` seeds to the store and leaves these houses to the other
-/// player, times 8, and what names the house: so two turns of a position are never equal, and of equal estimates the house nearest the store
-/// comes first.
-///
-/// It counts most of all what came to the store, and how few houses the other player can choose from; then what lies in the mover's
-/// own houses, how many of those could move again, and how near to the store they are.
-pub(crate) fn priority(m: u8, h: u8, gained: u8, next: &Houses) -> u16
-    requires side { m ≤ 6 }
-    requires first { 1 ≤ h }
-    requires last { h ≤ 6 }
-    ensures some { 0 < result }
-    ensures house { result % 8 + 1 ≡ h }
+/// Returns the highest priority.
+pub(crate) fn highest(priorities: &Priorities) -> u16
+    ensures found { Contains priorities.now result }
+    ensures highest { (k : ℕ) → slice_index priorities.now k ≤ result }
 {
-    let rows = next.key() % SIDE;
-    let filled = filled(rows);
-    let ending = ending_in_store(rows, m);
-    let own = rows / OTHER_ROW;
-    let choices = sum((filled | 4u64.wrapping_mul(ending)) / OTHER_ROW);
-    let kept = 2 * sum(own) + choices + 31 - (own % 32) as u32;
-    let left = 2 * sum(filled.wrapping_mul(3).wrapping_add(ending));
-    let estimate = 16 * gained as u32 + 2 * h as u32 + kept + 63 - left;
-    (8 * estimate + (h as u32 - 1)) as u16
+    let mut most = priorities[0];
+    for i in 1..8usize {
+        most = most.max(priorities[i]);
+    }
+    most
 }

@@ -10,8 +10,7 @@ ghost use Rattle.kalah_solve.specs.Search.Tried.{IsSoftBound, WinsAtMost, EndsIn
 use crate::bounds::seed_bounds::SeedBounds;
 use crate::marks::{again_houses, other_houses, split_last};
 use crate::search::Search;
-use crate::search::move_order::priority;
-use crate::search::priorities::{Priorities, highest};
+use crate::search::move_order::{Priorities, highest};
 use kalah_rules::{Houses, HousesStep};
 use std::alloc::Allocator;
 
@@ -53,7 +52,7 @@ impl<A: Allocator + Clone> Search<A> {
         }
         let before = self.count_node();
         let bound = self.explore(&houses, bar);
-        let work = self.nodes.wrapping_sub(before);
+        let work = self.work.nodes().saturating_sub(before);
         let learned = if bar <= bound {
             SeedBounds {
                 least: bound,
@@ -172,7 +171,7 @@ impl<A: Allocator + Clone> Search<A> {
         match step {
             HousesStep::Turn(gained, next) => {
                 if gained < bar && next.seeds() > self.ending_limit.seeds {
-                    return Look::Waits(priority(houses.m(), h, gained, &next), next);
+                    return Look::Waits(self.order.priority(houses.m(), h, gained, &next), next);
                 }
                 Look::Bounded(self.bound_turn(gained, next, bar))
             }

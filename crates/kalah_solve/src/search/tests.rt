@@ -31,7 +31,7 @@ fn nodes_of_games(rt: &impl Abort, search: &mut Search) -> u64 {
     for (m, seeds, worth) in [(2, 7, 8), (3, 5, 6), (4, 3, 6), (5, 3, 6), (6, 2, 6)] {
         tells_worth(rt, search, &begun(rt, m, seeds), worth);
     }
-    search.nodes
+    search.nodes()
 }
 
 // And how many nanoseconds.
@@ -58,7 +58,7 @@ fn assert_nodes(rt: &(impl Abort + Print), nodes: u64, expected: u32) {
 fn games_as_they_begin_take_few_nodes(rt: HostRuntime) {
     let (nodes, took) = nodes_and_time(&rt, &mut new_search(&rt, rt.alloc()));
     prints_time(&rt, nodes, took);
-    assert_nodes(&rt, nodes, 48_677);
+    assert_nodes(&rt, nodes, 56_161);
 }
 
 // Houses a side, the houses of the mover and of the other player, and what they are worth.
@@ -89,19 +89,19 @@ fn nodes_of(rt: &impl Abort, search: &mut Search, positions: &[Position]) -> u64
         let houses = Houses::new(*m, *own, *other, Rule::Classic).expect(rt, "beyond the limits");
         tells_worth(rt, search, &houses, *worth);
     }
-    search.nodes
+    search.nodes()
 }
 
 #[test]
 fn hard_positions_take_few_nodes(rt: HostRuntime) {
     let nodes = nodes_of(&rt, &mut new_search(&rt, rt.alloc()), &HARD);
-    assert_nodes(&rt, nodes, 217_434);
+    assert_nodes(&rt, nodes, 209_065);
 }
 
 #[test]
 fn small_positions_take_few_nodes(rt: HostRuntime) {
     let nodes = nodes_of(&rt, &mut new_search(&rt, rt.alloc()), &SMALL);
-    assert_nodes(&rt, nodes, 253);
+    assert_nodes(&rt, nodes, 428);
 }
 
 // Whether nothing is known of the houses by their place.
@@ -129,9 +129,9 @@ fn what_is_learned_of_a_move_is_kept_in_its_place(rt: HostRuntime) {
     learns_of_next(&rt, &mut new_search(&rt, rt.alloc()), &next);
 }
 
-// Places are laid out anew at the node that makes the search long.
+// Places are laid out anew at the node from which on all pay.
 fn becomes_long(rt: &impl Abort, search: &mut Search, next: &Houses) {
-    search.nodes = LONG_SEARCH - 2;
+    search.work.set_nodes(15_998);
     search.count_node();
     assert!(rt; !is_unknown(search, next));
     search.count_node();
@@ -147,41 +147,40 @@ fn a_long_search_has_all_its_places(rt: HostRuntime) {
     tells_worth(&rt, &mut search, &begun(&rt, 2, 5), 6);
 }
 
-// Two houses a side; the mover's first one holds `first` seeds, and each other house `others`.
-fn two_houses(rt: &impl Abort, first: u8, others: u8) -> Houses {
-    let own = [first, others, 0, 0, 0, 0];
-    let other = [others, others, 0, 0, 0, 0];
-    Houses::new(2, own, other, Rule::Classic).expect(rt, "beyond the limits")
-}
-
-// From the node after the first `before` on, the endings in use have up to `most` seeds.
-fn asks_for_endings(rt: &impl Abort, search: &mut Search, before: u64, most: u8) {
-    search.nodes = before;
+// After `before` nodes of a game one more is counted, and then the endings in use have up to `most` seeds.
+fn uses_endings(rt: &impl Abort, search: &mut Search, before: u64, most: u8) {
+    search.work.set_nodes(before);
     search.count_node();
     assert!(rt; search.ending_limit.seeds == most);
 }
 
 #[test]
-fn endings_grow_once_many_seeds_had_much_work(rt: HostRuntime) {
+fn endings_grow_with_the_nodes_of_a_game(rt: HostRuntime) {
     let mut search = new_search(&rt, rt.alloc());
-    for (before, first, worth, most) in [
-        (59_999, 4, -10, 8),
-        (0, 5, -1, 8),
-        (59_998, 4, -10, 8),
-        (59_999, 4, -10, 9),
-        (0, 4, -10, 9),
-    ] {
-        asks_for_endings(&rt, &mut search, before, most);
-        tells_worth(&rt, &mut search, &two_houses(&rt, first, 4), worth);
+    tells_worth(&rt, &mut search, &begun(&rt, 2, 5), 6);
+    for (before, most) in [(15_998, 7), (15_999, 8), (45_998, 8), (45_999, 9)] {
+        uses_endings(&rt, &mut search, before, most);
     }
 }
 
+// The worth of houses is this one, after which the endings in use have up to `most` seeds.
+fn uses_endings_for(
+    rt: &impl Abort,
+    search: &mut Search,
+    (m, seeds, worth): (u8, u8, i32),
+    most: u8,
+) {
+    tells_worth(rt, search, &begun(rt, m, seeds), worth);
+    assert!(rt; search.ending_limit.seeds == most);
+}
+
 #[test]
-fn endings_grow_where_many_seeds_come_after_much_work(rt: HostRuntime) {
+fn each_game_has_the_endings_of_its_own_nodes(rt: HostRuntime) {
     let mut search = new_search(&rt, rt.alloc());
-    asks_for_endings(&rt, &mut search, 59_999, 8);
-    tells_worth(&rt, &mut search, &two_houses(&rt, 4, 4), -10);
-    assert!(rt; search.ending_limit.seeds == 8);
-    tells_worth(&rt, &mut search, &two_houses(&rt, 5, 4), -1);
-    assert!(rt; search.ending_limit.seeds == 9);
+    uses_endings_for(&rt, &mut search, (2, 3, -2), 7);
+    // All of them only once there were many seeds.
+    uses_endings(&rt, &mut search, 45_999, 8);
+    uses_endings_for(&rt, &mut search, (2, 5, 6), 9);
+    uses_endings_for(&rt, &mut search, (3, 2, 4), 7);
+    uses_endings_for(&rt, &mut search, (2, 3, -2), 9);
 }

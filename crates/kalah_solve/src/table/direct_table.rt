@@ -116,8 +116,10 @@ impl<A: Allocator> DirectTable<A> {
         Ok(DirectTable { places })
     }
 
-    #[cfg(test)]
-    pub(crate) fn len(&self) -> usize {
+    /// Returns the number of places.
+    pub(crate) fn len(&self) -> usize
+        ensures { result ≡ length self.now }
+    {
         self.places.len()
     }
 

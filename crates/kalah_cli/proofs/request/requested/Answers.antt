@@ -25,12 +25,14 @@ is_set-requires-in-play c = has_flag (codes "boards") (rw c.in-play.is at c.requ
 pub given_byte-requires : goal.given_byte-requires
 given_byte-requires c = may_have_number (codes "first") 0 255 (rw c.in-play.is at c.requires) refl refl (omega arith) (omega arith)
 
-pub is_set-requires-in-ask : goal.is_set-requires-in-ask
-is_set-requires-in-ask c = has_flag (codes "values") (rw c.in-ask.is at c.requires) refl refl
+pub is_set-values-requires : goal.is_set-values-requires
+is_set-values-requires c = has_flag (codes "values") (rw c.in-ask.is at c.requires) refl refl
 
-pub number_of-requires-in-ask : goal.number_of-requires-in-ask
-number_of-requires-in-ask c =
-    has_number (codes "table") 1 most_entries (rw c.in-ask.is at c.requires) refl refl (omega arith) (omega arith) refl
+pub is_set-steps-requires : goal.is_set-steps-requires
+is_set-steps-requires c = has_flag (codes "steps") (rw c.in-ask.is at c.requires) refl refl
+
+pub given_number-requires : goal.given_number-requires
+given_number-requires c = may_have_number (codes "table") 1 most_entries (rw c.in-ask.is at c.requires) refl refl (omega arith) (omega arith)
 
 pub line_of-requires-in-show : goal.line_of-requires-in-show
 line_of-requires-in-show c = ap is_some (given (codes "line") (rw c.in-show.is at c.requires) refl refl).first

@@ -1,10 +1,10 @@
-use Rattle.std.proofs.Common.{◌≡◌, ◌∙◌, [], ap, subst, sym}
+use Rattle.std.proofs.Common.{◌≡◌, ◌∙◌, [], ap, subst, sym, None}
 use Rattle.clap.specs.Faults.{fault_of}
 use Rattle.clap.specs.Kinds.{HasKind}
 use Rattle.clap.specs.declared.error.kind.ErrorKind.TheVariants.{DisplayHelp, DisplayVersion}
 use Rattle.kalah_cli.specs.Ask.{StopsBetweenLines}
 use Rattle.kalah_cli.specs.Command.{kalah_app}
-use Rattle.kalah_cli.specs.Request.{Asked, IsTakenAs, ask, asked_for, texts_of}
+use Rattle.kalah_cli.specs.Request.{Asked, IsTakenAs, ask, asked_for, conflict, texts_of}
 use Rattle.kalah_cli.specs.Runs.{Begins, Does, IsOfLine, IsUnmoved}
 use Rattle.kalah_cli.specs.declared.status.ExitStatus.TheVariants.{Failed}
 use Rattle.kalah_cli.proofs.Begun.{begins_none, stops_before_lines}
@@ -35,6 +35,7 @@ returns-in-Ok-clause-accepted g c = record {
       let faulty = ends.0 in
       (λ e. cc, ends.1);
   unmoved = λ a taken unmoved. c.run_request.ensures.unmoved (subst IsUnmoved (sym (is_asked g c a taken)) unmoved);
+  conflicts = λ taken. c.run_request.ensures.conflicts (is_asked g c conflict taken);
 }
 
 -- they have no fault
@@ -83,6 +84,7 @@ returns-clause-accepted g c = record {
       let status = ends.0 in
       (λ e. cc, ends.1);
   unmoved = λ a taken unmoved. failed g c a taken;
+  conflicts = λ taken. failed g c conflict taken;
 }
 
 pub returns-clause-refused : goal.returns-clause-refused
@@ -101,5 +103,5 @@ returns-clause-by_words g c = by_words _ _ _ _ _ (returns-clause-accepted g c) (
 
 pub returns-clause-stopped : goal.returns-clause-stopped
 returns-clause-stopped g c = λ question table taken stopped kept.
-    subst (λ o. StopsBetweenLines question (g.O.Sink.written c.args.out.now) (g.O.Sink.written o)) (sym (failed g c (ask question table) taken).1)
-    (stops_before_lines question (g.O.Sink.written c.args.out.now))
+    subst (λ o. StopsBetweenLines question None (g.O.Sink.written c.args.out.now) (g.O.Sink.written o)) (sym (failed g c (ask question table) taken).1)
+    (stops_before_lines question None (g.O.Sink.written c.args.out.now))

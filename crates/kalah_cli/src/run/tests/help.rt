@@ -152,6 +152,6 @@ const OF_THE_VERSION: &[&[&str]] = &[
 #[test]
 fn the_version_is_one_line(rt: HostRuntime) {
     for words in OF_THE_VERSION {
-        assert_answers(&rt, *words, Clean, ("kalah 1.1.0\n", ""));
+        assert_answers(&rt, *words, Clean, ("kalah 1.2.0\n", ""));
     }
 }

@@ -71,6 +71,15 @@ fn each_line_is_answered_by_values(rt: HostRuntime) {
     assert!(rt; is_told(&rt, Question::Values, bytes, text, false));
 }
 
+#[test]
+fn each_line_is_answered_by_its_steps_in_one_line(rt: HostRuntime) {
+    let (bytes, text) = (
+        b"1,1/0 1,1/0\n0,0/3 1,2/4\n3/0 1/0 e\n\n0,1/0 1,0/0".as_slice(),
+        "1 1,1/0 0,2/0 turn; 2 1,0/1 1,1/0 again\n-4 over\n1 0/4 0/0 e over\nfault empty\n2 0,0/1 0,0/1 over\n",
+    );
+    assert!(rt; is_told(&rt, Question::Steps, bytes, text, false));
+}
+
 // `n` bytes `x`, followed by `end`, are answered by this text.
 fn assert_long(rt: &(impl Abort + AllocGlobal), n: usize, end: &[u8], text: &str) {
     let mut bytes = Vec::<u8>::new(rt.alloc());

@@ -144,21 +144,6 @@ fn answers_each_offer(rt: HostRuntime) {
     trial.assert_each_offer(&rt);
 }
 
-// Takes each line once, with the second one offered first.
-fn assert_gives_each_once(rt: &impl Abort, trial: &mut Trial) {
-    trial.assert_offer(rt, (0, 1), 2, Ok(0));
-    trial.assert_takes_none(rt, 0);
-    trial.assert_offer(rt, (0, 0), 1, Ok(2));
-    trial.assert_offer(rt, (0, 2), 3, Ok(1));
-    assert_ended(rt, trial, 0, true);
-    trial.assert_takes_all(rt);
-}
-
-#[test]
-fn gives_each_line_once(rt: HostRuntime) {
-    assert_gives_each_once(&rt, &mut Trial::new(&rt));
-}
-
 // The lines of the first file, with their seeds.
 const ONE: (u32, u8) = (0, 1);
 

@@ -1,4 +1,4 @@
-use crate::{Stream, line_text, read_line, step_text, write_step};
+use crate::{line_text, read_line, step_text};
 use kalah_rules::{Board, Step};
 use std::process::Abort;
 
@@ -52,71 +52,5 @@ const STEPS: &[(&str, u8, &str)] = &[
 fn steps_with_their_words(rt: HostRuntime) {
     for (line, h, text) in STEPS {
         assert_printed(&rt, line, *h, text);
-    }
-}
-
-// The move of house `h` is written so, with a line feed.
-fn assert_written(rt: &(impl Abort + AllocGlobal), line: &str, h: u8, text: &str) {
-    let mut out = Stream::new(Vec::<u8>::new(rt.alloc()));
-    write_step(&mut out, h, &step(rt, line, h)).expect(rt, text);
-    assert!(rt;
-        out.into_inner().strip_suffix(b"\n") == Some(text.as_bytes()),
-        "{line}"
-    );
-}
-
-#[test]
-fn a_step_is_written_as_it_is_printed(rt: HostRuntime) {
-    for (line, h, text) in STEPS {
-        assert_written(&rt, line, *h, text);
-    }
-}
-
-// A line whose first store holds `seeds` seeds is read back.
-fn assert_store(rt: &(impl Abort + AllocGlobal), seeds: u8) {
-    assert!(rt; seeds <= 99);
-    let line = format!(in rt.alloc(); "1/{seeds} 1/{}", 99 - seeds);
-    assert_read_back(rt, line.expect(rt, "no memory").as_str());
-}
-
-#[test]
-fn lines_with_each_number_of_seeds_in_a_store(rt: HostRuntime) {
-    for seeds in 0..100u8 {
-        assert_store(&rt, seeds);
-    }
-}
-
-// A number between two texts.
-fn between(rt: &(impl Abort + AllocGlobal), (before, number, after): (&str, u32, &str)) -> String {
-    format!(in rt.alloc(); "{before}{number}{after}").expect(rt, "no memory")
-}
-
-// The move of house 1 from the position of a line has this text.
-fn assert_fills(rt: &(impl Abort + AllocGlobal), line: (&str, u32, &str), text: (&str, u32, &str)) {
-    assert_printed(
-        rt,
-        between(rt, line).as_str(),
-        1,
-        between(rt, text).as_str(),
-    );
-}
-
-#[test]
-fn steps_that_fill_a_store(rt: HostRuntime) {
-    // House 1 captures all but three seeds.
-    for seeds in 1..29u32 {
-        assert_fills(
-            &rt,
-            ("3/99 ", seeds, "/0"),
-            ("1 0/", 102 + seeds, " 0/0 over"),
-        );
-    }
-    // One seed ends the game, and the other player keeps all others.
-    for seeds in 1..31u32 {
-        assert_fills(
-            &rt,
-            ("1/0 ", seeds, "/99"),
-            ("1 0/1 0/", 99 + seeds, " over"),
-        );
     }
 }

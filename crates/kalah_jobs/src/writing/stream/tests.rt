@@ -108,38 +108,6 @@ impl Write for Full {
     }
 }
 
-/// Takes all bytes, and counts them.
-#[derive(Drop)]
-struct Counting {
-    bytes: usize,
-}
-
-impl Write for Counting {
-    fn write(&mut self, buf: &[u8]) -> io::Result<usize> {
-        self.bytes = self.bytes.saturating_add(buf.len());
-        Ok(buf.len())
-    }
-
-    fn flush(&mut self) -> io::Result<()> {
-        Ok(())
-    }
-}
-
-// How many bytes reach the writer of a stream that takes the piece.
-fn passed_on(piece: &[u8]) -> Option<usize> {
-    let mut out = Stream::new(Counting { bytes: 0 });
-    out.write_all(piece).ok()?;
-    Some(out.into_inner().bytes)
-}
-
-#[test]
-fn takes_pieces_of_every_size(rt: HostRuntime) {
-    let bytes = vec![in rt.alloc(); b'x'; 100_000].expect(&rt, "no memory");
-    for size in 0..bytes.len() + 1 {
-        assert!(rt; passed_on(&bytes[..size]) == Some(size));
-    }
-}
-
 // The sink takes the bytes, and has not failed.
 fn assert_takes<W: Sink>(rt: &impl Abort, out: &mut W, bytes: &[u8])
     ensures { W.has_failed out.new ≡ false }

@@ -7,7 +7,6 @@ use Rattle.kalah_jobs.specs.Writing.Output.{is_faulty_job}
 use Rattle.kalah_jobs.proofs.FilesLemmas.JobCounts.{job_count-jobs_to}
 use Rattle.kalah_jobs.proofs.WritingLemmas.Starts.{start_kept}
 use Rattle.kalah_run.proofs.BatchLemmas.Ends.{appended_kept, given_output, counted_tally}
-use Rattle.kalah_run.proofs.BatchLemmas.NoLine.{nothing_answered}
 use Rattle.kalah_run.proofs.batch.answer_batch.Given.{Over}
 use Rattle.kalah_run.proofs.batch.answer_batch.Goals.{then-failed-via-then-failed, then-failed-via-else-failed+then-is_err}
 use Rattle.kalah_run.proofs.batch.answer_batch.Goals as goal
@@ -24,8 +23,6 @@ returns-in_err-answer_jobs g c = record {
       omega (arith, c.in_err-answer_jobs.ensures.some, ap job_count c.in_ok-jobs.ensures.value, job_count-jobs_to c.args.question c.args.files.now);
   write = search rules;
   untouched = search rules;
-  no_line = λ none. absurd
-      (omega (arith, none, c.in_err-answer_jobs.ensures.some, ap job_count c.in_ok-jobs.ensures.value, job_count-jobs_to c.args.question c.args.files.now));
 }
 
 -- a flush, or none, keeps what was written
@@ -56,8 +53,6 @@ returns-then-failed g c =
       no_worker = search rules;
       write = search rules;
       untouched = search rules;
-      no_line = λ none. nothing_answered c.args.question c.args.files.now none _ _ _ (start_kept _ _ _ _ given.start (kept g c))
-          (search rules) (search rules) (search rules);
     }
 
 pub returns : goal.returns
@@ -76,6 +71,4 @@ returns g c =
       no_worker = search rules;
       write = search rules;
       untouched = search rules;
-      no_line = λ none. nothing_answered c.args.question c.args.files.now none _ _ _ (start_kept _ _ _ _ given.start c.flush.ensures.keeps)
-          tally (search rules) (search rules);
     }

@@ -1,7 +1,7 @@
 //! A batch with each request for memory refused once.
 use super::{ANSWERS, batch_of, four_files};
 use crate::tests::out_of_memory::mark;
-use crate::{OpenGate, RunFault, Tally};
+use crate::{OpenGate, Rest, RunFault, Tally};
 use kalah_jobs::{FileText, Question, Sink, Stream};
 use std::alloc::Global;
 use std::process::Abort;
@@ -40,7 +40,7 @@ fn answer_of<R: Abort + Threads + Wait + Sync>(
     let room = Vec::<u8>::with_capacity(alloc, 1024);
     let room = room.or_else(|_| Vec::with_capacity(alloc, 1024))?;
     let mut out = Stream::new(room);
-    let answer = batch_of(rt, alloc, question, files, &OpenGate, &mut out);
+    let answer = batch_of(rt, alloc, question, files, Rest::Solve, &OpenGate, &mut out);
     let text = match (&answer, question) {
         (Ok(_), Question::BestMove) => ANSWERS,
         (Ok(_), Question::Values) => VALUES,

@@ -1,6 +1,6 @@
 //! What the gate observes: each job once, and that an outcome is sent only once there is room for it.
 use super::{lines_are_answered, same_lines};
-use crate::batch::workers::QUEUE_CAPACITY;
+use crate::limits::QUEUE_PLACES;
 use crate::{Gate, solve_batch};
 use kalah_jobs::Stream;
 use std::alloc::Global;
@@ -87,7 +87,7 @@ fn the_gate_is_told_of_each_job_once(rt: HostRuntime) {
 }
 
 // The number of outcomes that are got, or wait in the queue, while the first line is written.
-const ROOM: u32 = QUEUE_CAPACITY + 1;
+const ROOM: u32 = QUEUE_PLACES + 1;
 
 // How many turns the test waits for a job to be sent though there is no room.
 const A_WHILE: u32 = 1_000_000;

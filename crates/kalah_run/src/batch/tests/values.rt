@@ -2,7 +2,7 @@
 ghost use Rattle.std.specs.Prelude.{◌<◌, ◌≤◌};
 
 use super::add_file;
-use crate::{BatchSize, OpenGate, Tally, answer_batch};
+use crate::{BatchSize, NoWatch, OpenGate, Rest, Tally, answer_batch};
 use kalah_jobs::{FileText, Question, Sink, Stream};
 use std::alloc::Global;
 use std::process::Abort;
@@ -75,7 +75,17 @@ fn is_told<R: Threads + Wait + Sync>(
 {
     let mut out = Stream::new(Vec::<u8>::new(alloc));
     let size = BatchSize { workers, table };
-    let tally = answer_batch(rt, alloc, told.0, files, size, &OpenGate, &mut out);
+    let tally = answer_batch(
+        rt,
+        alloc,
+        told.0,
+        files,
+        size,
+        Rest::Solve,
+        &OpenGate,
+        &mut NoWatch,
+        &mut out,
+    );
     let written = out.into_inner();
     tally == Ok(TEN_LINES) && written.as_slice() == told.1.as_bytes()
 }

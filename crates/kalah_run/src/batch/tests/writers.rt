@@ -1,6 +1,7 @@
 //! Batches whose writer fails.
 use super::{ANSWERS, batch_of, four_files, same_answers, same_lines};
-use crate::{Gate, OpenGate, RunFault, Tally, solve_batch};
+use crate::limits::QUEUE_PLACES;
+use crate::{Gate, OpenGate, Rest, RunFault, Tally, solve_batch};
 use kalah_jobs::{FileText, Question, Sink, Stream};
 use std::alloc::Global;
 use std::io;
@@ -63,14 +64,17 @@ impl Write for Failing {
     }
 }
 
-/// Counts the jobs that are done.
+/// Counts the jobs that have begun, and those that are done.
 #[derive(Drop)]
 struct Counting {
+    begun: AtomicU32,
     done: AtomicU32,
 }
 
 impl Gate for Counting {
-    fn before(&self, _job: u32) {}
+    fn before(&self, _job: u32) {
+        self.begun.fetch_add(1, Ordering::SeqCst);
+    }
 
     fn after(&self, _job: u32) {
         self.done.fetch_add(1, Ordering::SeqCst);
@@ -82,6 +86,7 @@ impl Gate for Counting {
 struct Run {
     tally: Result<Tally, RunFault>,
     writer: Failing,
+    begun: u32,
     done: u32,
 }
 
@@ -90,18 +95,20 @@ fn run_with<R: Threads + Wait + Sync>(
     alloc: Global,
     question: Question,
     files: &[FileText],
+    rest: Rest,
     calls: u32,
 ) -> Run {
     let gate = Counting {
+        begun: AtomicU32::new(0),
         done: AtomicU32::new(0),
     };
     let mut out = Stream::new(Failing::after(alloc, calls));
-    let tally = batch_of(rt, alloc, question, files, &gate, &mut out);
-    let done = gate.done.load(Ordering::SeqCst);
+    let tally = batch_of(rt, alloc, question, files, rest, &gate, &mut out);
     Run {
         tally,
         writer: out.into_inner(),
-        done,
+        begun: gate.begun.load(Ordering::SeqCst),
+        done: gate.done.load(Ordering::SeqCst),
     }
 }
 
@@ -113,7 +120,7 @@ fn is_whole<R: Abort + Threads + Wait + Sync>(
     files: &[FileText],
     calls: u32,
 ) -> bool {
-    let run = run_with(rt, alloc, question, files, calls);
+    let run = run_with(rt, alloc, question, files, Rest::Solve, calls);
     let is_quiet = run.done == 7 && run.writer.later_calls == 0;
     let is_whole = run.tally == Ok(SEVEN_LINES);
     assert!(rt;
@@ -146,10 +153,30 @@ fn every_failing_call_ends_the_writing_and_nothing_else(rt: HostRuntime) {
 fn all_jobs_are_done_though_the_writer_takes_one_line(rt: HostRuntime) {
     let alloc = rt.alloc();
     let files = same_lines(&rt, alloc, 200);
-    let run = run_with(&rt, alloc, Question::BestMove, &files, CALLS_OF_A_LINE);
+    let run = run_with(
+        &rt,
+        alloc,
+        Question::BestMove,
+        &files,
+        Rest::Solve,
+        CALLS_OF_A_LINE,
+    );
     let came = (run.tally, run.done, run.writer.later_calls);
     let line = run.writer.bytes.as_slice() == b"n:1 0 house 1\n".as_slice();
     assert!(rt; (came, line) == ((Err(RunFault::Write), 200, 0), true));
+}
+
+// The most jobs that two workers begin of which only one outcome is got before they are to stop: it, those in the queue, and of each worker
+// the job under way and one for which it was about to go on.
+const MOST_BEGUN: u32 = 1 + QUEUE_PLACES + 2 * 2;
+
+#[test]
+fn no_job_begins_once_the_rest_is_left(rt: HostRuntime) {
+    let alloc = rt.alloc();
+    let files = same_lines(&rt, alloc, 3000);
+    let run = run_with(&rt, alloc, Question::BestMove, &files, Rest::Leave, 0);
+    assert!(rt; run.tally == Err(RunFault::Write) && run.writer.later_calls == 0);
+    assert!(rt; run.begun <= MOST_BEGUN && run.done == run.begun);
 }
 
 /// Takes all bytes, and returns an error at the flush.

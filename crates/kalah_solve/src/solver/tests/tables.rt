@@ -85,15 +85,13 @@ pub(super) fn agree_with_plain(rt: &impl Abort, solver: &mut Solver) {
     }
 }
 
-// Six houses a side with many seeds, so that endings of nine are used. Together they take enough nodes that the search
-// is long.
+// Six houses a side with many seeds. By either rule they take so many nodes that all endings are used.
 fn tells_hard_houses(rt: &impl Abort, solver: &mut Solver) {
     for (rule, margin) in [(Rule::Classic, -6), (Rule::EmptyCapture, -4)] {
         let board = Board::new(6, [3, 2, 3, 2, 3, 2], 0, [2, 3, 2, 3, 2, 3], 0, rule);
         let board = board.expect(rt, "beyond the limits");
-        tells(rt, solver, &board, best(margin, 5));
+        assert!(rt; nodes_for(rt, solver, &board, best(margin, 5)) >= 46_000);
     }
-    assert!(rt; solver.search.nodes() >= 300_000);
 }
 
 // The verdict takes no node if it `is_looked_up`, and only then.
@@ -107,17 +105,18 @@ fn looks_up(
     assert!(rt; (nodes_for(rt, solver, board, verdict) == 0) == is_looked_up);
 }
 
-// Those of 7 and 8 seeds are looked up from the first node on, and those of 9 once many seeds were searched, which holds if it
-// `is_long`.
+// Those of 7 seeds are looked up from the first node on, and those of 8 and 9 if the search `is_long`.
 fn looks_up_endings(rt: &impl Abort, solver: &mut Solver, is_long: bool) {
     for (rule, own, margin, house, at_once) in [
-        (Rule::Classic, [2, 1, 1], 3, 3, true),
-        (Rule::EmptyCapture, [2, 1, 2], -2, 1, true),
-        (Rule::Classic, [2, 2, 2], 1, 2, false),
-        (Rule::EmptyCapture, [2, 2, 2], 3, 2, false),
-        (Rule::Classic, [2, 1, 3], -1, 1, false),
+        (Rule::Classic, [0, 0, 0, 2, 1, 1], 1, 6, true),
+        (Rule::EmptyCapture, [0, 0, 0, 2, 1, 1], 1, 5, true),
+        (Rule::Classic, [0, 0, 0, 2, 1, 2], -2, 4, false),
+        (Rule::EmptyCapture, [0, 0, 0, 2, 1, 2], 2, 5, false),
+        (Rule::Classic, [0, 0, 0, 2, 2, 2], -3, 4, false),
+        (Rule::EmptyCapture, [0, 0, 0, 2, 2, 2], -3, 4, false),
     ] {
-        let board = three(rt, rule, own, [1, 1, 1], (0, 0));
+        let board = Board::new(6, own, 0, [0, 0, 0, 1, 1, 1], 0, rule);
+        let board = board.expect(rt, "beyond the limits");
         looks_up(rt, solver, &board, best(margin, house), at_once || is_long);
     }
 }

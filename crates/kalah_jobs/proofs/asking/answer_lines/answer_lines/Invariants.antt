@@ -1,10 +1,9 @@
-use Rattle.std.proofs.Common.{◌≡◌, false}
 use Rattle.std.specs.Io.Buffered.{reader_remaining}
-use Rattle.kalah_jobs.proofs.AskingLemmas.Underway.{Underway}
 use Rattle.kalah_jobs.proofs.asking.answer_lines.answer_lines.Given as goal
 
--- the lines that were read are answered
-abbrev pub invariant-loop : goal.invariant-loop
-invariant-loop g l = Underway l.question (reader_remaining g.I.Read.remaining l.fn.input) (reader_remaining g.I.Read.remaining l.input)
-    (g.O.Sink.written l.fn.out) (g.O.Sink.written l.out) l.line l.all_read
-    × (g.O.Sink.has_failed l.out ≡ false)
+abbrev pub ghost-answer_each : goal.ghost-answer_each
+ghost-answer_each g a = record {
+  question = a.question;
+  before = reader_remaining g.I.Read.remaining a.input.now;
+  old = g.O.Sink.written a.out.now;
+}

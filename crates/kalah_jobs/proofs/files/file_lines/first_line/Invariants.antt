@@ -1,5 +1,6 @@
-use Rattle.std.proofs.Common.{◌≡◌, ℕ, ◌<◌, get_or}
+use Rattle.std.proofs.Common.{take}
+use Rattle.kalah_jobs.specs.Files.Lines.{HasNoLineFeed}
 use Rattle.kalah_jobs.proofs.files.file_lines.first_line.Given as goal
 
 abbrev pub invariant-loop-i : goal.invariant-loop-i
-invariant-loop-i l = (k : ℕ) → k < l.i → get_or l.bytes k 0 ≡ 10 → ⊥
+invariant-loop-i l = HasNoLineFeed (take l.i l.bytes)

@@ -5,7 +5,8 @@ use Rattle.kalah_jobs.proofs.line.reading.drop_cr.Goals as goal
 
 pub returns-in-Some : goal.returns-in-Some
 returns-in-Some c =
-    sym (ap without_cr (c.in-Some.ensures.cases.0 ∙ ap (λ last. c.in-Some.text.now ++ last ∷ []) c.if-last-eq13.true) ∙ without_cr-cr c.in-Some.text.now)
+    sym (ap without_cr (c.in-Some.ensures.cases.0 ∙ ap (λ last. c.in-Some.text.now ++ last ∷ []) c.if-last-eq13.true)
+    ∙ without_cr-cr c.in-Some.text.now)
 
 pub returns-in_default : goal.returns-in_default
 returns-in_default c =

@@ -3,12 +3,12 @@ use Rattle.std.specs.Io.KnownBytes.{Keeps}
 use Rattle.std.proofs.lemmas.List.{map-append, length-append}
 use Rattle.kalah_jobs.specs.declared.files.job.Job.{Job}
 use Rattle.kalah_run.specs.Queue.States.{GetState, HasGot}
-use Rattle.kalah_run.specs.Batch.OrderedOutput.{HasWritten, Waits, outcomes_in}
-use Rattle.kalah_run.proofs.BatchLemmas.Outputs.{still_written}
+use Rattle.kalah_run.specs.Batch.OrderedOutput.{AcceptsAll, HasWritten, Waits, outcomes_in}
+use Rattle.kalah_run.proofs.BatchLemmas.Outputs.{still_written, still_accepted}
 use Rattle.kalah_run.proofs.BatchLemmas.Progress.{progress_offered}
 use Rattle.kalah_run.proofs.batch.running.collect.Given as given
 use Rattle.kalah_run.proofs.batch.running.collect.Goals as goal
-use Rattle.kalah_run.proofs.batch.running.collect.Goals.{in-Some, in-None, then-not-failed, else-not-failed}
+use Rattle.kalah_run.proofs.batch.running.collect.Goals.{in-Some, in-None+in-Some-flush_and_get}
 
 pub loop-init : goal.loop-init
 loop-init g c = record {
@@ -23,30 +23,24 @@ loop-init g c = record {
 }
 
 -- an outcome was got
-got : (g : given.Over) (c : goal.After-write-in-loop g) → HasGot c.loop.pass c.match-get_soon.outcome c.match-get_soon.pass
+got : (g : given.Over) (c : goal.After-accepts g) → HasGot c.loop.pass c.match-get_soon.outcome c.match-get_soon.pass
 got g c = elim c.match-get_soon.branch [
   | in-Some w ↦ search rules
-  | in-None w ↦ search rules
+  | in-None+in-Some-flush_and_get w ↦ search rules
 ]
 
 -- what was written stays
-keeps : (g : given.Over) (c : goal.After-write-in-loop g) → Keeps (g.W.Sink.written c.loop.out) (g.W.Sink.written c.match-get_soon.out)
+keeps : (g : given.Over) (c : goal.After-accepts g) → Keeps (g.W.Sink.written c.loop.out) (g.W.Sink.written c.match-get_soon.out)
 keeps g c = elim c.match-get_soon.branch [
   | in-Some w ↦ search rules
-  | in-None w ↦ elim w.if-not-failed.branch [
-    | then-not-failed w' ↦ search rules
-    | else-not-failed w' ↦ search rules
-  ]
+  | in-None+in-Some-flush_and_get w ↦ search rules
 ]
 
 -- and a failure is not undone
-sound : (g : given.Over) (c : goal.After-write-in-loop g) → g.W.Sink.has_failed c.match-get_soon.out ≡ false → g.W.Sink.has_failed c.loop.out ≡ false
+sound : (g : given.Over) (c : goal.After-accepts g) → g.W.Sink.has_failed c.match-get_soon.out ≡ false → g.W.Sink.has_failed c.loop.out ≡ false
 sound g c = elim c.match-get_soon.branch [
   | in-Some w ↦ search rules
-  | in-None w ↦ elim w.if-not-failed.branch [
-    | then-not-failed w' ↦ search rules
-    | else-not-failed w' ↦ search rules
-  ]
+  | in-None+in-Some-flush_and_get w ↦ search rules
 ]
 
 pub loop-preserved : goal.loop-preserved
@@ -64,10 +58,22 @@ loop-preserved g c =
           subst (λ (l : List Job). HasWritten files jobs l begun (g.W.Sink.written c.write-in-loop.new.out)
           (g.W.Sink.has_failed c.write-in-loop.new.out) c.write-in-loop.new.self × Waits c.write-in-loop.new.self)
           (sym (ap (λ (l : List (ℕ × Job)). outcomes_in l) more ∙ map-append (λ (p : ℕ × Job). p.1) c.loop.pass.got ((worker, outcome) ∷ [])))
-          (let so_far = still_written files jobs _ begun _ _ _ _ _ (keeps g c) (sound g c) (c.loop.invariant.progress files jobs begun so_far).0 in
+          (let so_far = still_written files jobs _ begun _ _ _ _ _ (keeps g c) (sound g c)
+          (c.loop.invariant.progress files jobs begun so_far).0 in
           c.write-in-loop.ensures files jobs _ begun (record {
             of_files = so_far.of_files;
             of_jobs = so_far.of_jobs;
             progress = progress_offered so_far.progress outcome c.offer.new.self c.offer.result c.offer.ensures.offers;
           }));
     }
+
+pub returns-in-None-flush_and_get-clause-progress : goal.returns-in-None-flush_and_get-clause-progress
+returns-in-None-flush_and_get-clause-progress g c =
+    subst (λ (p : GetState). AcceptsAll (outcomes_in p.got) c.args.output.now (g.W.Sink.written c.args.out.now) (g.W.Sink.has_failed c.args.out.now)
+    c.loop.output (g.W.Sink.written c.flush_and_get.new.out) (g.W.Sink.has_failed c.flush_and_get.new.out))
+    (sym (c.in-None-flush_and_get.ensures.got ∙ c.in-None.ensures.pass))
+    (still_accepted _ _ _ _ _ _ _ _ _ c.flush_and_get.ensures.keeps c.flush_and_get.ensures.sound c.loop.invariant.progress)
+
+pub returns-then-not-failed-clause-progress : goal.returns-then-not-failed-clause-progress
+returns-then-not-failed-clause-progress g c =
+    still_accepted _ _ _ _ _ _ _ _ _ c.before_waiting.ensures.keeps (λ sound. search rules) c.loop.invariant.progress

@@ -1,9 +1,8 @@
-use Rattle.std.proofs.Common.{arith, refl, lt-ltb, ◌≡◌, ◌+◌, ◌*◌, ◌%◌, ◌^◌, ◌<◌, nat_lt}
+use Rattle.std.proofs.Common.{arith, refl, lt-ltb, ◌≡◌, ◌+◌, ◌*◌, ◌%◌, nat_lt}
 use Rattle.std.specs.Prelude.{if◌then◌else◌}
 use Rattle.std.proofs.lemmas.Bool.{le-ltb}
 use Rattle.kalah_rules.specs.Sowings.{own_gained, other_gained}
 use Rattle.kalah_rules.proofs.Packing.{own_gain, other_gain, store_gain}
-use Rattle.kalah_rules.proofs.PackedMoves.{gains_less}
 use Rattle.kalah_rules.proofs.houses.sowings.Sowing.new.Goals as goal
 use Rattle.kalah_rules.proofs.houses.sowings.Sowing.new.Goals.{then-reach-m, else-reach-m}
 
@@ -20,10 +19,8 @@ returns c =
       | then-reach-m w ↦ rw (w.result-is, lt-ltb _ _ w.if-reach-m.true) refl
       | else-reach-m w ↦ rw (w.result-is, le-ltb _ _ w.if-reach-m.false) refl
     ] in
-    let small : own_gained m h count + 2 ^ 30 * other_gained m h count < 2 ^ 64 =
-    omega (arith, own, other, c.own_gains.ensures.small, c.other_gains.ensures.small) in
     record {
-      gains = rw (own, other, ← c.alone.ensures) (gains_less _ _ small c.alone.type_inv);
+      gains = omega (arith, own, other);
       store = omega (arith, tested, store_gain m h count first last);
       end = omega arith;
     }

@@ -8,19 +8,19 @@ use Rattle.kalah_run.proofs.BatchLemmas.Sendings.{drawn_jobs-more}
 use Rattle.kalah_run.proofs.batch.worker.Worker.run.Goals as goal
 
 -- with no job in hand, all that was drawn is sent
-pub loop-drawn-preserved : goal.loop-drawn-preserved
-loop-drawn-preserved g c =
-    let before = c.loop-drawn.invariant.at_work in
+pub loop-self-preserved : goal.loop-self-preserved
+loop-self-preserved g c =
+    let before = c.loop-self.invariant.at_work in
     record {
       at_work = record {
         draws = c.draw.ensures.own;
         sends = ap (λ (p : PutState). p.queue) c.put.ensures ∙ before.sends;
-        sent = drawn_jobs-more c.args.shared.now.jobs.now c.loop-drawn.self.pass.row c.draw.new.pass.row c.in-Some.drawn c.of_job-outcome.result
-            c.loop-drawn.self.put.sent c.put.new.pass.sent before.sent (ap (λ (r : DrawnRow). r.numbers) c.in-Some.ensures.drawn)
+        sent = drawn_jobs-more c.args.shared.now.jobs.now c.loop-self.self.pass.row c.draw.new.pass.row c.in-Some.drawn c.of_job-outcome.result
+            c.loop-self.self.put.sent c.put.new.pass.sent before.sent (ap (λ (r : DrawnRow). r.numbers) c.in-Some.ensures.drawn)
             c.of_job-outcome.ensures
             (ap (λ (p : PutState). p.sent) c.put.ensures);
       };
-      number = ap (λ (p : PutState). p.number) c.put.ensures ∙ c.loop-drawn.invariant.number;
+      number = ap (λ (p : PutState). p.number) c.put.ensures ∙ c.loop-self.invariant.number;
     }
 
 -- a list of numbers below a limit has none above it
@@ -37,5 +37,5 @@ less_left numbers more number total is above below =
     let before = none_above numbers 0 number (omega arith) above in
     omega (arith, last, before, below)
 
-pub loop-drawn-smaller : goal.loop-drawn-smaller
-loop-drawn-smaller g c = less_left _ _ _ _ (ap (λ (r : DrawnRow). r.numbers) c.in-Some.ensures.drawn) c.in-Some.ensures.above c.in-Some.ensures.below
+pub loop-self-smaller : goal.loop-self-smaller
+loop-self-smaller g c = less_left _ _ _ _ (ap (λ (r : DrawnRow). r.numbers) c.in-Some.ensures.drawn) c.in-Some.ensures.above c.in-Some.ensures.below

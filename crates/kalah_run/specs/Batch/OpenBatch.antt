@@ -1,0 +1,43 @@
+-- What is known of a batch that is open, before its workers run.
+use Rattle.std.specs.Prelude.{◌≡◌, ℕ, ◌<◌, ◌≤◌, max, min, List, [], length, vec_capacity}
+use Rattle.std.specs.List.{All}
+use Rattle.std.specs.declared.alloc.Global.{Global}
+use Rattle.crossbeam_utils.specs.Padded.{padded_value}
+use Rattle.kalah_solve.specs.declared.solver.Solver.{Solver}
+use Rattle.kalah_jobs.specs.declared.files.entry.Entry.{Entry}
+use Rattle.kalah_jobs.specs.Files.Jobs.{job_count}
+use Rattle.kalah_solve.specs.Table.Entries.{empty_table}
+use Rattle.kalah_run.specs.Queue.States.{ArePassesFrom}
+use Rattle.kalah_run.specs.Batch.AtWork.{puts_of, AreAtWork}
+use Rattle.kalah_run.specs.declared.batch.size.BatchSize.{BatchSize}
+use Rattle.kalah_run.specs.declared.batch.worker.Worker.{Worker}
+use Rattle.kalah_run.specs.declared.batch.size.Rest.{Rest}
+use Rattle.kalah_run.specs.declared.batch.open_batch.OpenBatch.{OpenBatch}
+
+-- the worker has an empty table with room for this many entries
+abbrev pub HasTable : ℕ → Worker → Type 0
+HasTable entries w = (padded_value {T = Solver Global} w.solver).search.table ≡ empty_table entries
+
+abbrev pub HaveTables : ℕ → List Worker → Type 0
+HaveTables entries workers = All (HasTable entries) workers
+
+module _ {G : Type 0} where
+  -- the two lists for the passes' return are empty, and have room for them
+  pub record HasRoom (b : OpenBatch G) : Type 0 where
+    pub empty : (b.passes.items ≡ []) × (b.puts.items ≡ [])
+    pub passes : length b.workers.items ≤ vec_capacity b.passes
+    pub puts : length b.workers.items ≤ vec_capacity b.puts
+
+  -- for these jobs, of this size: there is a worker at least, and else no more than jobs; each is at work and has its place and its
+  -- table, and nothing was got
+  pub record IsReadyToRun (jobs : List (List Entry)) (size : BatchSize) (rest : Rest) (b : OpenBatch G) : Type 0 where
+    pub workers : length b.workers.items ≡ max 1 (min size.workers (job_count jobs))
+    pub tables : HaveTables size.table b.workers.items
+    pub of_jobs : b.shared.jobs.now ≡ jobs
+    pub of_rest : b.shared.rest ≡ rest
+    pub some : 0 < length b.workers.items
+    pub passes : length b.workers.items ≡ b.shared.desk.passes
+    pub at_work : AreAtWork b.shared b.workers.items
+    pub puts : ArePassesFrom b.shared.queue.id 0 (puts_of b.workers.items)
+    pub pass : b.pass ≡ record { queue = b.shared.queue.id; workers = length b.workers.items; got = [] }
+    pub room : HasRoom b

@@ -1,0 +1,43 @@
+use Rattle.std.proofs.Common.{arith, ◌≡◌, ◌≤◌, ◌<◌, ◌+◌, ℕ, List, length, get_or, inl, inr}
+use Rattle.std.specs.Prelude.{Contains, max}
+use Rattle.std.proofs.lemmas.Bool.{cases_eq, cases_lt}
+use Rattle.std.proofs.lemmas.List.{get_or_past}
+use Rattle.std.proofs.lemmas.List.Elements.{Contains-get_or}
+use Rattle.kalah_solve.proofs.search.move_order.highest.Goals as goal
+
+-- the greater of a priority and the next one is a priority
+found_more : (xs : List ℕ) (most i new : ℕ) → Contains xs most → i < length xs → new ≡ max most (get_or xs i 0) → Contains xs new
+found_more xs most i new found inside is = elim (cases_lt most (get_or xs i 0)) [
+  | inl less ↦ let at : new ≡ get_or xs i 0 = omega (arith, is, less) in rw at (Contains-get_or xs i 0 inside)
+  | inr more ↦ let at : new ≡ most = omega (arith, is, more) in rw at found
+]
+
+-- and no priority up to it is higher
+highest_more : (xs : List ℕ) (most i new : ℕ) → ((k : ℕ) → k < i → get_or xs k 0 ≤ most) → new ≡ max most (get_or xs i 0) →
+    (k : ℕ) → k < i + 1 → get_or xs k 0 ≤ new
+highest_more xs most i new highest is k below = elim (cases_eq k i) [
+  | inl same ↦ rw same (omega (arith, is))
+  | inr other ↦ omega (arith, is, highest k (omega (arith, below, other)))
+]
+
+pub loop-i-init : goal.loop-i-init
+loop-i-init c = record {
+  found = Contains-get_or c.args.priorities.now 0 0 (omega (arith, c.told-priorities));
+  highest = λ k below. let first : k ≡ 0 = omega (arith, below) in rw first (omega arith);
+}
+
+pub loop-i-preserved : goal.loop-i-preserved
+loop-i-preserved c = record {
+  found = found_more c.args.priorities.now c.loop-i.most c.loop-i.i c.max-most.result c.loop-i.invariant.found
+      (omega (arith, c.told-priorities, c.loop-i-test.true)) c.max-most.ensures;
+  highest = highest_more c.args.priorities.now c.loop-i.most c.loop-i.i c.max-most.result c.loop-i.invariant.highest c.max-most.ensures;
+}
+
+pub returns-clause-found : goal.returns-clause-found
+returns-clause-found c = c.loop-i.invariant.found
+
+pub returns-clause-highest : goal.returns-clause-highest
+returns-clause-highest c = λ k. elim (cases_lt k 8) [
+  | inl inside ↦ c.loop-i.invariant.highest k (omega (arith, inside, c.loop-i-test.false))
+  | inr past ↦ rw (get_or_past c.args.priorities.now k 0 (omega (arith, past, c.told-priorities))) (omega arith)
+]

@@ -1,0 +1,104 @@
+//! The work of a search: how many nodes it had of each game, and which endings pay after them.
+ghost use Rattle.std.specs.Prelude.{◌≤◌, ◌<◌};
+ghost use Rattle.kalah_solve.specs.Table.EndgameTable.{most_ending_seeds};
+
+use crate::table::endgame_table::MOST_ENDING_SEEDS;
+use kalah_rules::Houses;
+
+// The nodes of a game from which on all places pay, and endings of 8 seeds, not only those of up to 7: to find an ending costs as much as
+// a node.
+const SOME_NODES: u64 = 16_000;
+
+// The nodes of a game from which on all endings pay, once houses with so many seeds were asked about.
+const MANY_NODES: u64 = 46_000;
+
+const MANY_SEEDS: u8 = 17;
+
+/// The most seeds for which a search looks up what the mover takes among the endings.
+#[derive(Clone, Copy)]
+pub(super) struct EndingLimit {
+    pub(super) seeds: u8,
+    ghost few: { seeds ≤ most_ending_seeds },
+}
+
+impl EndingLimit {
+    /// Returns the limit by which no ending is looked up.
+    #[cfg(test)]
+    pub(super) fn none() -> EndingLimit {
+        EndingLimit { seeds: 0 }
+    }
+}
+
+/// The nodes of a search.
+#[derive(Drop)]
+pub(super) struct Work {
+    // The game that is searched: houses a side and rule, as in the upper bits of a key.
+    game: usize,
+    // How many nodes of it there were, and of each game before it was searched last.
+    nodes: u64,
+    nodes_before: [u64; 16],
+    // Whether houses with many seeds were asked about.
+    seen_many_seeds: bool,
+    ghost is_game: { game < 16 },
+}
+
+impl Work {
+    pub(super) fn new() -> Work {
+        Work {
+            game: 0,
+            nodes: 0,
+            nodes_before: [0; 16],
+            seen_many_seeds: false,
+        }
+    }
+
+    /// Goes on with the game of these houses, which are asked about.
+    pub(super) fn turn_to(&mut self, houses: &Houses) {
+        self.nodes_before[self.game] = self.nodes;
+        self.game = (houses.key() >> 60) as usize;
+        self.nodes = self.nodes_before[self.game];
+        self.seen_many_seeds |= houses.seeds() >= MANY_SEEDS;
+    }
+
+    /// Returns the limit of endings that pays now.
+    pub(super) fn ending_limit(&self) -> EndingLimit {
+        EndingLimit {
+            seeds: if self.nodes < SOME_NODES {
+                7
+            } else if self.nodes < MANY_NODES || !self.seen_many_seeds {
+                8
+            } else {
+                MOST_ENDING_SEEDS
+            },
+        }
+    }
+
+    /// Returns how many nodes of the game there were.
+    pub(super) fn nodes(&self) -> u64 {
+        self.nodes
+    }
+
+    /// Counts one more node. Returns whether more pays from this one on.
+    #[inline(always)]
+    pub(super) fn count_node(&mut self) -> bool {
+        self.nodes = self.nodes.saturating_add(1);
+        self.nodes == SOME_NODES || self.nodes == MANY_NODES
+    }
+
+    #[cfg(test)]
+    pub(super) fn set_nodes(&mut self, nodes: u64) {
+        self.nodes = nodes;
+    }
+
+    /// Returns how many nodes of all games there were.
+    #[cfg(test)]
+    pub(super) fn all_nodes(&self) -> u64 {
+        let mut nodes = self.nodes;
+        for game in 0..16usize {
+            if game != self.game {
+                nodes = nodes.saturating_add(self.nodes_before[game]);
+            }
+        }
+        nodes
+    }
+}
