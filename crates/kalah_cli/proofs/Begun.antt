@@ -23,11 +23,12 @@ use Rattle.kalah_cli.specs.Runs.{Begins}
 use Rattle.kalah_cli.specs.Ask.{AnswersLines, AreFirst, BeginsLines, StopsBetweenLines}
 use Rattle.kalah_cli.specs.SolveFiles.{BeginsTo}
 use Rattle.kalah_cli.specs.declared.status.ExitStatus.{ExitStatus}
+use Rattle.kalah_cli.specs.declared.status.ExitStatus.TheVariants.{Clean}
 use Rattle.std.proofs.KnownBytes.{Appends-kept, Appends-nil, Appends-trans}
 use Rattle.std.proofs.lemmas.Bool.{false_from_ne_true, false≢true}
 use Rattle.std.specs.Prelude.{Err, IfSome, None, Ok, OnOk, Result, Some, ◌==◌, ◌↔◌, if◌then◌else◌}
 use Rattle.kalah_jobs.proofs.AskingLemmas.AnswersTo.{answers_split, no_answers}
-use Rattle.kalah_jobs.specs.Asking.Asked.{IsBegun, IsCutOff, answers_to}
+use Rattle.kalah_jobs.specs.Asking.Asked.{IsAnswered, IsBegun, IsCutOff, answers_to}
 use Rattle.std.proofs.Math.Seq.{take-append-add}
 use Rattle.kalah_cli.proofs.Played.{of_any_game}
 
@@ -81,7 +82,6 @@ their_names (name ∷ names) = ap (λ l. name ∷ l) (their_names names)
 pub begins_nothing : (question : Question) (names : List (List ℕ)) (old : Option (List ℕ)) → BeginsTo question names old old
 begins_nothing question names old = record { files = empty_files names; named = their_names names; start = start_none old _ }
 
--- and of the answers to any lines
 -- a reader that reads ahead has at first all that the other has
 pub all_unread : {T A : Type 0} (remaining : T → Option (List ℕ)) (r : BufReader T A) (inner : T) → reader_inner r ≡ inner → reader_buffer r ≡ []
     → reader_capacity r ≡ 8192 → remaining inner ≡ reader_remaining remaining r
@@ -124,6 +124,7 @@ pub stopped_of_any : (question : Question) (unread old new : Option (List ℕ)) 
     → StopsBetweenLines question None old new
 stopped_of_any question unread old new is = record { lines = is.lines; first = tt; ended = is.ended; written = is.written }
 
+-- nothing is a prefix of the answers to any lines
 pub no_lines_begun : (question : Question) (unread old : Option (List ℕ)) → BeginsLines question unread old old
 no_lines_begun question unread old = record { read = []; first = none_first unread; start = start_none old _ }
 
@@ -133,6 +134,17 @@ stops_before_lines question unread old = record {
   first = none_first unread;
   ended = inl refl;
   written = subst (Appends old old) (sym (no_answers question)) (Appends-nil old);
+}
+
+-- all that the reader had was answered
+pub lines_answered : {question : Question} {unread before after old new : Option (List ℕ)} {all_read : Bool} {status : ExitStatus}
+    → unread ≡ before → (is : IsAnswered question before after old new all_read) → (status ≡ Clean) ↔ (all_read ≡ true)
+    → AnswersLines question unread old new status
+lines_answered same is clean = record {
+  read = is.read;
+  all = subst (λ u. IfSome u (λ bytes. is.read ≡ bytes)) (sym same) is.all;
+  written = is.written;
+  clean = (λ e. sym is.status ∙ clean.0 e, λ e. clean.1 (is.status ∙ e));
 }
 
 -- a prefix of the answers to lines, and of that to the next one, is a prefix of all of them

@@ -12,8 +12,10 @@ use Rattle.clap.specs.Words.{Row, Text, all_of, first_of, one_of, subcommand_of}
 use Rattle.kalah_jobs.specs.declared.files.question.Question.{Question}
 use Rattle.kalah_jobs.specs.declared.files.question.Question.TheVariants.{BestMove, Values, Steps}
 use Rattle.kalah_rules.specs.Limits.{most_depth}
-use Rattle.kalah_solve.specs.Table.Entries.{most_entries}
-use Rattle.kalah_run.specs.Limits.{most_workers}
+use Rattle.kalah_solve.specs.Table.Entries.{empty_table}
+use Rattle.kalah_solve.specs.declared.solver.Solver.{Solver}
+use Rattle.std.specs.declared.alloc.Global.{Global}
+use Rattle.kalah_run.specs.Limits.{AreWorkers, IsTableSize}
 use Rattle.kalah_cli.specs.Command.{default_entries, kalah_app}
 use Rattle.kalah_cli.specs.declared.request.Request.{Request}
 use Rattle.kalah_cli.specs.declared.request.Request.TheVariants.{Moves, Play, Files, Ask, Show, Count, Conflict}
@@ -142,14 +144,15 @@ asked_for (Show line table plain) = show plain table line.now
 asked_for (Count depth line) = count depth line.now
 asked_for Conflict = conflict
 
--- a table has one entry at least, and the most
-abbrev pub IsTableSize : ℕ → Type 0
-IsTableSize entries = (1 ≤ entries) × (entries ≤ most_entries)
-
 -- workers and entries are in their ranges, and there is a file
 abbrev pub IsInLimits : FilesRequest → Type 0
-IsInLimits b = (1 ≤ b.workers) × (b.workers ≤ most_workers) × IsTableSize b.table × (0 < length b.files.items)
+IsInLimits b = AreWorkers b.workers × IsTableSize b.table × (0 < length b.files.items)
 
+-- the solver has an empty table of this size
+abbrev pub HasTable : ℕ → Solver Global → Type 0
+HasTable entries solver = solver.search.table ≡ empty_table entries
+
+-- numbers are in their ranges
 abbrev pub IsInRange : Request → Type 0
 IsInRange (Moves line boards) = ⊤
 IsInRange (Play line table boards first) = IsTableSize table

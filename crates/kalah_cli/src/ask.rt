@@ -1,30 +1,18 @@
 //! `kalah ask`.
 ghost use Rattle.std.specs.Prelude.{◌≡◌, ◌≢◌, IfOk, false, true};
 ghost use Rattle.std.specs.Io.Buffered.{reader_remaining};
-ghost use Rattle.kalah_cli.specs.Request.{IsTableSize};
+ghost use Rattle.kalah_run.specs.Limits.{IsTableSize};
 ghost use Rattle.kalah_cli.specs.Ask.{AnswersLines, BeginsLines, StopsBetweenLines};
 
 use crate::failure::Failure;
+use crate::solver::new_solver;
 use crate::status::ExitStatus;
 use kalah_jobs::{AskFault, Question, Sink, answer_lines};
-use kalah_solve::{Solver, Table};
 use std::alloc::Global;
 use std::io;
-use std::io::{BufReader, Input, IsTerminal, Read, Write};
+use std::io::{BufReader, Read, Write};
 
-/// A runtime's standard input.
-pub trait StandardInput: Input {
-    /// Returns whether standard input is a terminal, where somebody types.
-    fn is_typed(&self) -> bool;
-}
-
-impl StandardInput for HostRuntime {
-    fn is_typed(&self) -> bool {
-        self.stdin().is_terminal()
-    }
-}
-
-// What a terminal is told.
+// What is written to a terminal before lines are typed.
 const HINT: &str = "kalah: waits for positions, one a line, as 1,1/0 1,1/0; Ctrl-D ends\n";
 
 // Returns a reader that reads ahead, with all that the reader has left.
@@ -36,8 +24,8 @@ fn reading_ahead<I: Read + Drop>(alloc: Global, input: I) -> io::Result<BufReade
 }
 
 /// Answers what is asked of each line of a reader, all with one solver, and reads more only after the answers to all that was read are
-/// written. Memory is requested before the first read, except for the entries of the table. Where somebody types, it first says on
-/// `err` what it waits for.
+/// written. Memory is requested before the first read, except for the entries of the table. If the reader
+/// is a terminal, it first says on `err` what it waits for.
 #[tactic(auto, using(crate::proofs::Begun::stops_before_lines))]
 pub(crate) fn run_ask<I: Read + Drop, O: Sink, E: Write>(
     alloc: Global,
@@ -58,7 +46,7 @@ pub(crate) fn run_ask<I: Read + Drop, O: Sink, E: Write>(
         → StopsBetweenLines question (I.remaining input) (O.written out.old) (O.written out.new) }
     ensures handed_on { O.has_failed out.new ≡ false → O.is_handed_on out.old ≡ true → O.is_handed_on out.new ≡ true }
 {
-    let Ok(table) = Table::new(alloc, table) else {
+    let Ok(mut solver) = new_solver(alloc, table) else {
         return Failure::OutOfMemory.report(err);
     };
     let Ok(mut input) = reading_ahead(alloc, input) else {
@@ -67,7 +55,7 @@ pub(crate) fn run_ask<I: Read + Drop, O: Sink, E: Write>(
     if is_typed {
         let _ = err.write_all(HINT.as_bytes());
     }
-    match answer_lines(&mut input, question, &mut Solver::new(table), out) {
+    match answer_lines(&mut input, question, &mut solver, out) {
         Ok(true) => ExitStatus::Clean,
         Ok(false) => ExitStatus::LineFaults,
         Err(AskFault::Read) => Failure::StandardInput.report(err),

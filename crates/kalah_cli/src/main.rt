@@ -19,7 +19,9 @@ mod request;
 mod run;
 mod show;
 mod solve_files;
+mod solver;
 mod status;
+mod terminal;
 mod version;
 
 use failure::Failure;

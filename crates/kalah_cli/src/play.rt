@@ -3,16 +3,17 @@ ghost use Rattle.std.specs.Prelude.{◌≡◌, ◌≢◌, ◌↔◌, IfNone, IfS
 ghost use Rattle.kalah_rules.specs.Position.{Position};
 ghost use Rattle.kalah_solve.specs.Solver.Verdict.{TellsBestPlay, verdict_of};
 ghost use Rattle.kalah_jobs.specs.Line.Line.{Reads};
-ghost use Rattle.kalah_cli.specs.Request.{IsTableSize};
+ghost use Rattle.kalah_run.specs.Limits.{IsTableSize};
 ghost use Rattle.kalah_cli.specs.Play.{BeginsGame, BeginsToPlay, MayBegin, Plays, WritesGame};
 ghost use Rattle.kalah_cli.specs.Runs.{IsUnread, Prints};
 
 use crate::failure::{Failure, report_fault};
 use crate::moves::{write_board, write_move};
+use crate::solver::new_solver;
 use crate::status::ExitStatus;
 use kalah_jobs::{Sink, read_line};
 use kalah_rules::{Board, Step};
-use kalah_solve::{Solver, Table, Verdict};
+use kalah_solve::{Solver, Verdict};
 use std::alloc::Global;
 use std::io;
 use std::io::Write;
@@ -126,10 +127,10 @@ pub(crate) fn run_play<O: Sink, E: Write>(
     if let Some(h) = unmoved_house(&board, first) {
         return Failure::Unmoved(h).report(err);
     }
-    let Ok(table) = Table::new(alloc, table) else {
+    let Ok(mut solver) = new_solver(alloc, table) else {
         return Failure::OutOfMemory.report(err);
     };
-    match play(&mut Solver::new(table), &board, first, boards, out) {
+    match play(&mut solver, &board, first, boards, out) {
         Ok(()) => ExitStatus::Clean,
         Err(_) => Failure::Write.report(err),
     }

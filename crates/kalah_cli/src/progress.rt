@@ -1,28 +1,10 @@
 //! `--progress`: the progress of a batch, on standard error.
+use crate::terminal::Terminal;
 use kalah_jobs::FileText;
 use kalah_run::Watch;
-use std::io::{IsTerminal, Write};
+use std::io::Write;
 use std::rt::Clock;
 use std::time::Instant;
-
-/// What a runtime tells of its standard error and of the time.
-pub trait StandardError: Clock {
-    /// Returns whether standard error is a terminal.
-    fn is_terminal(&self) -> bool;
-
-    /// Returns whether standard output is a terminal.
-    fn shows_answers(&self) -> bool;
-}
-
-impl StandardError for HostRuntime {
-    fn is_terminal(&self) -> bool {
-        self.stderr().is_terminal()
-    }
-
-    fn shows_answers(&self) -> bool {
-        self.stdout().is_terminal()
-    }
-}
 
 /// Shows how many lines of a batch are answered, and how long the others will take at that rate: one line for each per cent, or on a
 /// terminal without the answers one line that is rewritten ten times as often. Text that standard error does not accept is dropped.
@@ -57,7 +39,7 @@ fn share(answered: u64, lines: u64, parts: u64) -> u64 {
         .unwrap_or(parts)
 }
 
-// Returns a time in the largest unit of which it has two.
+// Returns a time in the largest unit that it has two or more of, rounded down.
 fn in_units(seconds: u64) -> (u64, &'static str) {
     match seconds {
         0..=119 => (seconds, "s"),
@@ -66,7 +48,7 @@ fn in_units(seconds: u64) -> (u64, &'static str) {
     }
 }
 
-impl<'a, R: StandardError, E: Write> Progress<'a, R, E> {
+impl<'a, R: Clock + Terminal, E: Write> Progress<'a, R, E> {
     /// Shows that no line of these files is answered yet. If nothing is to be shown, this is a watch that does nothing.
     pub(crate) fn begin(
         rt: &'a R,
@@ -78,7 +60,7 @@ impl<'a, R: StandardError, E: Write> Progress<'a, R, E> {
             rt,
             err,
             lines: if is_shown { count_lines(files) } else { 0 },
-            in_place: is_shown && rt.is_terminal() && !rt.shows_answers(),
+            in_place: is_shown && rt.shows_errors() && !rt.shows_answers(),
             begun: Instant::now(rt).ok(),
             answered: 0,
             shown: 0,
@@ -112,7 +94,7 @@ impl<'a, R: StandardError, E: Write> Progress<'a, R, E> {
             let (count, unit) = in_units(seconds);
             let _ = write!(self.err, ", {count} {unit} left");
         }
-        // What an earlier and longer text had behind this one is erased.
+        // What is left of an earlier and longer text is erased.
         let end = match self.in_place {
             true if answered < lines => "\x1b[K",
             true => "\x1b[K\n",
@@ -139,7 +121,7 @@ impl<'a, R: StandardError, E: Write> Progress<'a, R, E> {
     }
 }
 
-impl<R: StandardError, E: Write> Watch for Progress<'_, R, E> {
+impl<R: Clock + Terminal, E: Write> Watch for Progress<'_, R, E> {
     fn accepts(&mut self) {
         self.answered = self.answered.saturating_add(1);
         if self.answered >= self.next {

@@ -7,8 +7,9 @@ ghost use Rattle.clap.specs.Walk.{first_of, rows_of};
 ghost use Rattle.clap.specs.Words.{found_of, kind_of};
 ghost use Rattle.clap.specs.declared.error.kind.ErrorKind.TheVariants.{OutOfMemory};
 ghost use Rattle.kalah_solve.specs.Table.Entries.{most_entries};
+ghost use Rattle.kalah_run.specs.Limits.{IsTableSize};
 ghost use Rattle.kalah_cli.specs.Command.{kalah_app};
-ghost use Rattle.kalah_cli.specs.Request.{AreMatches, Asked, HasFlag, HasNumber, IsInRange, IsPlainWord, IsTaken, IsTableSize, IsTakenAs, MayHaveNumber, answers, ask_for, asked_by, asked_for, command_of, files_asked, is_set, moves, number_given, table_of};
+ghost use Rattle.kalah_cli.specs.Request.{AreMatches, Asked, HasFlag, HasNumber, IsInRange, IsPlainWord, IsTaken, IsTakenAs, MayHaveNumber, answers, ask_for, asked_by, asked_for, command_of, files_asked, is_set, moves, number_given, table_of};
 
 use crate::command::command;
 use clap::{ArgMatches, Error};

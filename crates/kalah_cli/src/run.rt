@@ -8,24 +8,24 @@ ghost use Rattle.kalah_cli.specs.Ask.{StopsBetweenLines};
 ghost use Rattle.kalah_cli.specs.Request.{Asked, IsInRange, IsTakenAs, ask, asked_for, conflict, texts_of};
 ghost use Rattle.kalah_cli.specs.Runs.{Begins, Does, DoesByItsWords, DoesWhatIsAsked, IsOfLine, IsOfNoInput, IsUnmoved, IsUnread, RefusesTheRest, version_line};
 
-use crate::ask::{StandardInput, run_ask};
+use crate::ask::run_ask;
 use crate::count::run_count;
 use crate::failure::Failure;
 use crate::help;
 use crate::moves::run_moves;
 use crate::play::run_play;
-use crate::progress::StandardError;
 use crate::request::{Request, parse};
 use crate::show::run_show;
 use crate::solve_files::run_files;
 use crate::status::ExitStatus;
+use crate::terminal::Terminal;
 use crate::version::VERSION_LINE;
 use clap::Error;
 use clap::error::ErrorKind;
 use kalah_jobs::Sink;
 use std::alloc::Global;
-use std::io::Write;
-use std::rt::Files;
+use std::io::{Input, Write};
+use std::rt::{Clock, Files};
 use std::sync::Wait;
 use std::thread::Threads;
 
@@ -94,7 +94,7 @@ fn refuse<O: Sink, E: Write>(
 }
 
 // Carries out the request.
-fn run_request<R: Files + StandardInput + StandardError + Threads + Wait + Sync, O: Sink, E: Write>(
+fn run_request<R: Files + Input + Clock + Terminal + Threads + Wait + Sync, O: Sink, E: Write>(
     rt: &R,
     alloc: Global,
     request: &Request<'_>,
@@ -153,7 +153,7 @@ fn run_request<R: Files + StandardInput + StandardError + Threads + Wait + Sync,
 /// `--version` prints which version this is. Answers, help and the version go to `out`, messages about failures
 /// and unread lines to `err`; a failing write to `err` changes nothing.
 pub fn run_words<
-    R: Files + StandardInput + StandardError + Threads + Wait + Sync,
+    R: Files + Input + Clock + Terminal + Threads + Wait + Sync,
     O: Sink,
     E: Write,
 >(rt: &R, alloc: Global, words: Vec<String>, out: &mut O, err: &mut E) -> ExitStatus

@@ -6,15 +6,16 @@ ghost use Rattle.kalah_jobs.specs.Line.Line.{Reads};
 ghost use Rattle.kalah_jobs.specs.Writing.Given.{AppendsStart};
 ghost use Rattle.kalah_jobs.specs.Writing.Picture.{picture_of};
 ghost use Rattle.kalah_jobs.specs.Writing.Shown.{shown_of};
-ghost use Rattle.kalah_cli.specs.Request.{IsTableSize};
+ghost use Rattle.kalah_run.specs.Limits.{IsTableSize};
 ghost use Rattle.kalah_cli.specs.Runs.{IsUnread, Prints};
 ghost use Rattle.kalah_cli.specs.Show.{show_output};
 
 use crate::failure::{Failure, report_fault};
+use crate::solver::new_solver;
 use crate::status::ExitStatus;
 use kalah_jobs::{Sink, read_line, write_picture, write_values};
 use kalah_rules::Board;
-use kalah_solve::{Solver, Table};
+use kalah_solve::Solver;
 use std::alloc::Global;
 use std::io;
 use std::io::Write;
@@ -78,10 +79,10 @@ pub(crate) fn run_show<O: Sink, E: Write>(
             Err(_) => Failure::Write.report(err),
         };
     }
-    let Ok(table) = Table::new(alloc, table) else {
+    let Ok(mut solver) = new_solver(alloc, table) else {
         return Failure::OutOfMemory.report(err);
     };
-    match write_shown(&mut Solver::new(table), &board, out) {
+    match write_shown(&mut solver, &board, out) {
         Ok(()) => ExitStatus::Clean,
         Err(_) => Failure::Write.report(err),
     }

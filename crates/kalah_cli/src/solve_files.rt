@@ -6,14 +6,15 @@ ghost use Rattle.kalah_cli.specs.SolveFiles.{AnswersTo, BeginsTo, has_line_feed}
 
 use crate::failure::Failure;
 use crate::files::read_files;
-use crate::progress::{Progress, StandardError};
+use crate::progress::Progress;
 use crate::request::FilesRequest;
 use crate::status::ExitStatus;
+use crate::terminal::Terminal;
 use kalah_jobs::Sink;
 use kalah_run::{BatchSize, OpenGate, Rest, answer_batch};
 use std::alloc::Global;
 use std::io::Write;
-use std::rt::Files;
+use std::rt::{Clock, Files};
 use std::sync::Wait;
 use std::thread::Threads;
 
@@ -26,7 +27,7 @@ fn any_has_line_feed(names: &[&str]) -> bool
 
 // Reads the named files and writes the answer to what is asked of each line of them.
 #[tactic(auto, using(crate::proofs::Names::texts_have_line_feed, crate::proofs::Begun::begins_nothing))]
-fn answer_files<'a, R: Files + Threads + Wait + Sync + StandardError, O: Sink, E: Write>(
+fn answer_files<'a, R: Files + Clock + Terminal + Threads + Wait + Sync, O: Sink, E: Write>(
     rt: &R,
     alloc: Global,
     request: &FilesRequest<'a>,
@@ -80,7 +81,7 @@ fn answer_files<'a, R: Files + Threads + Wait + Sync + StandardError, O: Sink, E
 }
 
 /// Answers what is asked of each line of the named files.
-pub(crate) fn run_files<R: Files + Threads + Wait + Sync + StandardError, O: Sink, E: Write>(
+pub(crate) fn run_files<R: Files + Clock + Terminal + Threads + Wait + Sync, O: Sink, E: Write>(
     rt: &R,
     alloc: Global,
     request: &FilesRequest<'_>,

@@ -78,11 +78,11 @@ fn answer_jobs<'a, R: Threads + Wait + Sync, G: Gate, V: Watch, W: Sink>(
     if jobs.total() == 0 {
         return Ok(());
     }
-    let output = OrderedOutput::new(alloc, files, jobs)?;
+    let ordered = OrderedOutput::new(alloc, files, jobs)?;
     let OpenBatch {
         shared,
         workers,
-        pass,
+        get,
         passes,
         puts,
     } = OpenBatch::open(alloc, jobs, size, rest, gate)?;
@@ -90,19 +90,19 @@ fn answer_jobs<'a, R: Threads + Wait + Sync, G: Gate, V: Watch, W: Sink>(
         shared: &shared,
         workers,
     };
-    let (workers, pass, output) = run_and_write(rt, crew, pass, output, watch, out)?;
-    drop(output);
+    let (workers, get, _) = run_and_write(rt, crew, get, ordered, watch, out)?;
     let (passes, puts) = take_apart(workers, passes, puts);
     let SharedWork { desk, queue, .. } = shared;
     desk.close(passes);
-    queue.close(rt, puts, pass);
+    queue.close(rt, puts, get);
     Ok(())
 }
 
 /// Answers what is asked of every line of the files, with workers and tables of the given size. It writes one answer line for each,
 /// in the order of the files and of their lines, once it is ready and all earlier ones are written; then it flushes the output.
 ///
-/// If it succeeds, exactly these lines were written, and the tally counts them, the gate was called for each job, and the watch for each outcome.
+/// If it succeeds, exactly these lines were written, and the tally counts them. The gate was called for each job, and the watch for
+/// each outcome.
 ///
 /// Fails with the first of these that holds:
 /// - `TooManyFiles` if there are more than 256 files;

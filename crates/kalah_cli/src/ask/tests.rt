@@ -3,7 +3,7 @@ use crate::status::ExitStatus;
 use kalah_jobs::{Question, Stream};
 use std::process::Abort;
 
-// The lines of these bytes are answered by this text, and the run ends so. A terminal is told once what is awaited.
+// The lines of these bytes are answered by this text, and the run ends so. At a terminal the program says once what it waits for.
 fn assert_asked(
     rt: &(impl Abort + AllocGlobal),
     question: Question,

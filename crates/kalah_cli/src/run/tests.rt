@@ -10,21 +10,20 @@ mod stepping;
 mod valuing;
 
 use super::run_words;
-use crate::ask::StandardInput;
-use crate::progress::StandardError;
 use crate::status::ExitStatus;
+use crate::terminal::Terminal;
 use kalah_jobs::{Sink, Stream};
-use std::io::{ErrorKind, Write};
+use std::io::{ErrorKind, Input, Write};
 use std::process::Abort;
-use std::rt::Files;
+use std::rt::{Clock, Files};
 use std::sync::Wait;
 use std::thread::Threads;
 use std::{fs, io};
 
 /// What a run needs of its runtime, and what a test does with it.
-trait Host: Abort + AllocGlobal + Files + StandardInput + StandardError + Threads + Wait + Sync {}
+trait Host: Abort + AllocGlobal + Files + Input + Clock + Terminal + Threads + Wait + Sync {}
 
-impl<R: Abort + AllocGlobal + Files + StandardInput + StandardError + Threads + Wait + Sync> Host
+impl<R: Abort + AllocGlobal + Files + Input + Clock + Terminal + Threads + Wait + Sync> Host
     for R {}
 
 /// Returns an error at its `fails_at`th call, counted from 1, and at each later one.

@@ -15,10 +15,6 @@ pub parts_of_more : (byte : ℕ) (first rest : List ℕ) → Lacks byte first �
     parts_at byte (first ++ byte ∷ rest) ≡ first ∷ parts_at byte rest
 parts_of_more byte first rest lacks = slice_split_at (λ b. b == byte) first byte rest lacks (eq-eqb byte byte refl)
 
--- one part is the text
-pub text_of_one : (byte : ℕ) (text only : List ℕ) → parts_at byte text ≡ only ∷ [] → text ≡ only
-text_of_one byte text only e = sym (join_with_byte-slice_split byte text) ∙ ap (join_with_byte byte) e
-
 -- two parts stand round the byte
 pub text_of_two : (byte : ℕ) (text first second : List ℕ) → parts_at byte text ≡ first ∷ second ∷ [] →
     text ≡ first ++ byte ∷ second

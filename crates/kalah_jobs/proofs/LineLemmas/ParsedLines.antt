@@ -1,4 +1,4 @@
--- A line as its sides and its ending, one after another.
+-- A line as its two sides and its ending, in order.
 use Rattle.std.proofs.Common.{◌≡◌, ℕ, ◌≤◌, List, [], ◌∷◌, ◌++◌, refl, sym, ap, subst, ◌∙◌, append_assoc, arith}
 use Rattle.std.proofs.lemmas.List.Elements.{All-nil, All-cons}
 use Rattle.kalah_rules.specs.Position.{Position}

@@ -1,70 +1,13 @@
 -- A side, as it is taken from the front of some bytes.
-use Rattle.std.proofs.Common.{◌≡◌, ℕ, ◌+◌, ◌<◌, ◌≤◌, ◌⊎◌, inl, inr, List, [], ◌∷◌, ◌++◌, length, map, All, Bool, true, false, refl, sym, ap, ap₂, subst, ◌∙◌, append_assoc, length-append, arith}
-use Rattle.std.specs.Prelude.{decimal, sum, IsTrue, MatchBool, ◌↔◌}
+use Rattle.std.proofs.Common.{◌≡◌, ℕ, ◌+◌, ◌≤◌, ◌⊎◌, inl, inr, List, [], ◌∷◌, ◌++◌, length, map, All, refl, sym, ap, ap₂, subst, ◌∙◌, append_assoc, length-append, arith}
+use Rattle.std.specs.Prelude.{decimal}
 use Rattle.std.specs.List.{join_with_byte}
-use Rattle.std.proofs.lemmas.Bool.{cases_lt}
 use Rattle.std.proofs.lemmas.List.{length_push}
 use Rattle.std.proofs.lemmas.List.Elements.{All-nil, All-cons, All-append, All-head, All-tail}
-use Rattle.std.proofs.lemmas.List.Sums.{sum_by_push}
-use Rattle.kalah_rules.specs.Limits.{most_houses, most_seeds}
 use Rattle.kalah_jobs.specs.Line.Line.{comma, slash, side_text}
 use Rattle.kalah_jobs.specs.Line.Front.{BeginsWithNumber, BeginsWithSide, EndsNumber}
-use Rattle.kalah_jobs.specs.Line.Side.{AreKept, HaveNoRoom}
+use Rattle.kalah_jobs.specs.Line.Side.{AreKept}
 use Rattle.kalah_jobs.specs.declared.line.side.Side.{Side}
-
--- ---- a house more
-
--- one that has no room in the row
-lack_room : (houses row : List ℕ) (seeds : ℕ) → row ≡ houses →
-    ¬ ((length row < most_houses) × (sum row + seeds ≤ most_seeds)) →
-    (most_houses < length houses + 1) ⊎ (most_seeds < sum houses + seeds)
-lack_room houses row seeds is full = elim (cases_lt (length row) most_houses) [
-  | inl few ↦ elim (cases_lt most_seeds (sum row + seeds)) [
-    | inl many ↦ inr (subst (λ (hs : List ℕ). most_seeds < sum hs + seeds) is many)
-    | inr fits ↦ absurd (full (few, fits))
-  ]
-  | inr many ↦ inl (omega (arith, many, ap length is))
-]
-
-lack_more : (houses : List ℕ) (seeds : ℕ) → (most_houses < length houses) ⊎ (most_seeds < sum houses) →
-    (most_houses < length houses + 1) ⊎ (most_seeds < sum houses + seeds)
-lack_more houses seeds (inl many) = inl (omega (arith, many))
-lack_more houses seeds (inr many) = inr (omega (arith, many))
-
-no_room : (left_out : ℕ) (houses : List ℕ) (seeds : ℕ) → 0 < left_out → (most_houses < length houses + 1)
-    ⊎ (most_seeds < sum houses + seeds) →
-    HaveNoRoom (houses ++ seeds ∷ []) left_out
-no_room left_out houses seeds some many = record {
-  some = some;
-  many = elim many [
-    | inl m ↦ inl (omega (arith, m, length_push houses seeds))
-    | inr m ↦ inr (omega (arith, m, sum_by_push (λ (x : ℕ). x) houses seeds))
-  ];
-}
-
--- what is known of a side and of what a push makes of it, as the row has room or not
-pub record IsPushed (side new : Side) (seeds : ℕ) (has_room : Bool) : Type 0 where
-  pub room : IsTrue has_room ↔ ((length side.row < most_houses) × (sum side.row + seeds ≤ most_seeds))
-  pub row : MatchBool has_room (new.row ≡ side.row ++ seeds ∷ []) (new.row ≡ side.row)
-  pub left_out : MatchBool has_room (new.left_out ≡ side.left_out) (new.left_out ≡ side.left_out + 1)
-
-pub has_more : (side new : Side) (seeds : ℕ) (has_room : Bool) → IsPushed side new seeds has_room → (houses : List ℕ) →
-    AreKept houses side.row side.left_out →
-    AreKept (houses ++ seeds ∷ []) new.row new.left_out
-has_more side new seeds true is houses has = record {
-  count = omega (arith, has.count, ap length is.row, length_push side.row seeds, length_push houses seeds, is.left_out);
-  kept = elim has.kept [
-    | inl same ↦ inl (is.row ∙ ap (λ (hs : List ℕ). hs ++ seeds ∷ []) same)
-    | inr lack ↦ inr (no_room new.left_out houses seeds (omega (arith, is.left_out, lack.some)) (lack_more houses seeds lack.many))
-  ];
-}
-has_more side new seeds false is houses has = record {
-  count = omega (arith, has.count, ap length is.row, length_push houses seeds, is.left_out);
-  kept = inr (no_room new.left_out houses seeds (omega (arith, is.left_out)) (elim has.kept [
-    | inl same ↦ lack_room houses side.row seeds same (λ room. cc (is.room.1 room))
-    | inr lack ↦ lack_more houses seeds lack.many
-  ]));
-}
 
 -- ---- the front of a side
 

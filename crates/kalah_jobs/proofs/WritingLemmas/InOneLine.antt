@@ -1,4 +1,4 @@
--- Texts in one line, one after another.
+-- Texts joined in one line.
 use Rattle.std.proofs.Common.{◌≡◌, ℕ, zero, suc, ◌+◌, ◌<◌, List, [], ◌∷◌, ◌++◌, length, map, get_or, take, cond, codes, ◌==◌, refl, sym, ap, ap₂, ◌∙◌, append_assoc, append-nil, add-one, arith}
 use Rattle.kalah_jobs.specs.Writing.Answer.{in_one_line}
 use Rattle.kalah_jobs.proofs.WritingLemmas.StepLines.{before_by_test, before_text}

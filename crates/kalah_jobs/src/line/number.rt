@@ -7,7 +7,7 @@ ghost use Rattle.kalah_jobs.specs.Line.Front.{BeginsWithNumber, EndsNumber};
 #[inline(always)]
 pub(crate) fn take_number(bytes: &[u8]) -> Option<(u8, &[u8])>
     ensures is { IfSome result (λ found. BeginsWithNumber bytes.now found.0 found.1.now) }
-    // Where a number ends before another byte than a digit, it is found.
+    // A number that no digit follows is found.
     ensures every { (n : ℕ) (rest : List ℕ) → EndsNumber rest → BeginsWithNumber bytes.now n rest
         → IsSomeAnd result (λ found. found.1.now ≡ rest) }
 {

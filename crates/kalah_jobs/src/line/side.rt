@@ -53,7 +53,7 @@ impl Side {
         requires { length bytes.now ≤ most_bytes }
         ensures is { IfSome result (λ found. (houses : List ℕ)
             × (AreKept houses found.0.row found.0.left_out × BeginsWithSide bytes.now houses found.0.store found.1.now)) }
-        // Where a side ends before another byte than a digit, it is found.
+        // A side that no digit follows is found.
         ensures every { (houses : List ℕ) (store : ℕ) (rest : List ℕ) → EndsNumber rest
             → BeginsWithSide bytes.now houses store rest → IsSomeAnd result (λ found. found.1.now ≡ rest) }
     {

@@ -51,7 +51,7 @@ stands_nowhere total rows lawful x high k d within =
     let none : times_in x (drawn_numbers rows) ≡ 0 = lawful.each_once x ∙ ap (λ b. if b then 1 else 0) (le-ltb x (drawn_in rows) high) in
     omega (arith, times_rows x rows, get_or-le-sum_by (λ r. count_by (λ y. y == x) r.numbers) rows k d within)
 
--- rows of which each number below the count stands in one, and there once, are lawful in these words
+-- if each number below the count stands in one row, and there once, the rows are lawful in these words
 pub deals_each_once : (total : ℕ) (rows : List DrawnRow) → AreLawful total rows → DealsEachOnce total (drawn_in rows) rows
 deals_each_once total rows lawful = record {
   within = lawful.within;
@@ -68,7 +68,7 @@ sum_none f [] none = refl
 sum_none f (r ∷ rs) none =
     omega (arith, sum_by-cons f r rs, none 0 r (omega arith), sum_none f rs (λ k d within. none (suc k) d (omega arith)))
 
--- terms of which one is 1 and the others are 0 sum to 1
+-- if one term is 1 and the others are 0, their sum is 1
 sum_one : (f : DrawnRow → ℕ) (rows : List DrawnRow) (place : ℕ) → place < length rows → ((d : DrawnRow) → f (get_or rows place d) ≡ 1)
     → ((k : ℕ) (d : DrawnRow) → k < length rows → k ≢ place → f (get_or rows k d) ≡ 0) → sum_by f rows ≡ 1
 sum_one f [] place within one others = absurd (omega arith)

@@ -11,17 +11,18 @@ use Rattle.kalah_run.specs.declared.batch.worker.Worker.{Worker}
 
 module _ {G : Type 0} where
   -- the workers are at work, and nothing was got of what they send
-  pub record CanRun (shared : SharedWork G) (workers : List Worker) (pass : GetState) (output : OrderedOutput) : Type 0 where
+  pub record CanRun (shared : SharedWork G) (workers : List Worker) (get : GetState) (ordered : OrderedOutput) : Type 0 where
     pub at_work : AreAtWork shared workers
-    pub queue : pass.queue ≡ shared.queue.id
-    pub nothing_got : pass.got ≡ []
+    pub queue : get.queue ≡ shared.queue.id
+    pub nothing_got : get.got ≡ []
 
   -- Each worker has run. One outcome was received for each job, unless the rest is left; and the output has accepted them, if a sink
   -- was `old` and is `new`.
-  pub record HasEnded {W : Type 0} (bytes : W → Option (List ℕ)) (has_failed : W → Bool) (shared : SharedWork G) (workers : List Worker)
-      (pass : GetState) (output : OrderedOutput) (old new : W) (ran : List Worker) (passed : GetState) (after : OrderedOutput) : Type 0 where
-    pub all_ran : HaveRun shared workers ran
-    pub queue : passed.queue ≡ pass.queue
-    pub passes : passed.workers ≡ pass.workers
-    pub all_got : (length passed.got ≡ job_count output.jobs.now) ⊎ IsLeft shared.rest (has_failed new)
-    pub progress : AcceptsAll (outcomes_in passed.got) output (bytes old) (has_failed old) after (bytes new) (has_failed new)
+  pub record HasEnded {W : Type 0} (bytes : W → Option (List ℕ)) (has_failed : W → Bool) (shared : SharedWork G)
+      (workers : List Worker) (get : GetState) (ordered : OrderedOutput) (old new : W)
+      (workers' : List Worker) (get' : GetState) (ordered' : OrderedOutput) : Type 0 where
+    pub all_ran : HaveRun shared workers workers'
+    pub queue : get'.queue ≡ get.queue
+    pub as_many : get'.workers ≡ get.workers
+    pub all_got : (length get'.got ≡ job_count ordered.jobs.now) ⊎ IsLeft shared.rest (has_failed new)
+    pub progress : AcceptsAll (outcomes_in get'.got) ordered (bytes old) (has_failed old) ordered' (bytes new) (has_failed new)

@@ -80,14 +80,14 @@ pub(crate) fn take_apart(
 pub(crate) struct OpenBatch<'a, G: Gate> {
     pub(crate) shared: SharedWork<'a, G>,
     pub(crate) workers: Vec<Worker>,
-    pub(crate) pass: GetPass,
+    pub(crate) get: GetPass,
     pub(crate) passes: Vec<Pass>,
     pub(crate) puts: Vec<PutPass>,
 }
 
 impl<'a, G: Gate> OpenBatch<'a, G> {
-    /// Opens a batch of these jobs, of the given size: one worker at least, and else no more than lines. It allocates all its memory
-    /// here.
+    /// Opens a batch of these jobs, with the workers asked for, but at most one for each line, and one for no line. All its memory is
+    /// allocated here.
     pub(crate) fn open(
         alloc: Global,
         jobs: &'a Jobs,
@@ -100,7 +100,7 @@ impl<'a, G: Gate> OpenBatch<'a, G> {
         let total = jobs.total();
         let count = size.workers.min(total).max(1);
         let (desk, passes) = Desk::open(alloc, total, count)?;
-        let (queue, puts, pass) = ResultsQueue::open(alloc, QUEUE_PLACES, count)?;
+        let (queue, puts, get) = ResultsQueue::open(alloc, QUEUE_PLACES, count)?;
         let workers = put_together(alloc, passes, puts, size)?;
         let passes = Vec::with_capacity(alloc, count as usize)?;
         let puts = Vec::with_capacity(alloc, count as usize)?;
@@ -114,7 +114,7 @@ impl<'a, G: Gate> OpenBatch<'a, G> {
                 is_stopped: AtomicBool::new(false),
             },
             workers,
-            pass,
+            get,
             passes,
             puts,
         })

@@ -36,25 +36,25 @@ impl<'a, 'b, G: Gate> Promise<Vec<Worker>> for AllHaveRun<'a, 'b, G> {
 }
 
 // Gets an outcome that may come late. No other call of this thread sleeps while outcomes are to come.
-fn get_later<R: Wait, W: Sink>(rt: &R, queue: &ResultsQueue, pass: &mut GetPass, out: &W) -> Outcome
-    requires pass { pass.old.queue ≡ queue.now.id }
+fn get_later<R: Wait, W: Sink>(rt: &R, queue: &ResultsQueue, get: &mut GetPass, out: &W) -> Outcome
+    requires queue { get.old.queue ≡ queue.now.id }
     // The sink has flushed all that was written, unless it may keep bytes in its buffer while its caller waits.
     requires ready { IsReady (W.has_failed out.now) (W.may_hold_back out.now) (W.is_handed_on out.now) }
-    ensures { HasGot pass.old result pass.new }
+    ensures { HasGot get.old result get.new }
 {
     let _ = out;
-    queue.get(rt, pass)
+    queue.get(rt, get)
 }
 
 // Gets an outcome that is already in the queue, now that the workers are stopped.
 #[cold]
 #[inline(never)]
-fn get_last(queue: &ResultsQueue, pass: &mut GetPass) -> Option<Outcome>
-    requires pass { pass.old.queue ≡ queue.now.id }
-    ensures { MatchOption result (pass.new ≡ pass.old) (λ outcome. HasGot pass.old outcome pass.new) }
+fn get_last(queue: &ResultsQueue, get: &mut GetPass) -> Option<Outcome>
+    requires queue { get.old.queue ≡ queue.now.id }
+    ensures { MatchOption result (get.new ≡ get.old) (λ outcome. HasGot get.old outcome get.new) }
 {
     let mut one_try = 1;
-    queue.get_soon(pass, &mut one_try)
+    queue.get_soon(get, &mut one_try)
 }
 
 // Gets an outcome that did not come soon. The output flushes what it buffers before the wait. Returns `None` once the workers are stopped
@@ -64,12 +64,12 @@ fn get_last(queue: &ResultsQueue, pass: &mut GetPass) -> Option<Outcome>
 fn flush_and_get<R: Wait, G: Gate, V: Watch, W: Sink>(
     rt: &R,
     shared: &SharedWork<'_, G>,
-    pass: &mut GetPass,
+    get: &mut GetPass,
     watch: &mut V,
     out: &mut W,
 ) -> Option<Outcome>
-    requires pass { pass.old.queue ≡ shared.now.queue.id }
-    ensures got { MatchOption result (pass.new ≡ pass.old) (λ outcome. HasGot pass.old outcome pass.new) }
+    requires queue { get.old.queue ≡ shared.now.queue.id }
+    ensures got { MatchOption result (get.new ≡ get.old) (λ outcome. HasGot get.old outcome get.new) }
     ensures left { IfNone result (IsLeft shared.now.rest (W.has_failed out.new)) }
     ensures keeps { Keeps (W.written out.old) (W.written out.new) }
     ensures sound { W.has_failed out.new ≡ false → W.has_failed out.old ≡ false }
@@ -78,10 +78,10 @@ fn flush_and_get<R: Wait, G: Gate, V: Watch, W: Sink>(
         out.before_waiting();
     }
     if shared.stop_after(out.failed()) {
-        return get_last(&shared.queue, pass);
+        return get_last(&shared.queue, get);
     }
     watch.waits();
-    Some(get_later(rt, &shared.queue, pass, out))
+    Some(get_later(rt, &shared.queue, get, out))
 }
 
 // Accepts the outcome of each job, and writes each line once it is ready and all earlier ones are written; then it flushes the output.
@@ -89,36 +89,36 @@ fn flush_and_get<R: Wait, G: Gate, V: Watch, W: Sink>(
 fn collect<R: Wait, G: Gate, V: Watch, W: Sink>(
     rt: &R,
     shared: &SharedWork<'_, G>,
-    pass: &mut GetPass,
-    output: &mut OrderedOutput<'_>,
+    get: &mut GetPass,
+    ordered: &mut OrderedOutput<'_>,
     watch: &mut V,
     out: &mut W,
 )
-    requires pass { pass.old.queue ≡ shared.now.queue.id }
-    requires first { pass.old.got ≡ [] }
-    ensures same { (pass.new.queue ≡ pass.old.queue) × (pass.new.workers ≡ pass.old.workers) }
-    ensures all { (length pass.new.got ≡ job_count output.old.jobs.now) ⊎ IsLeft shared.now.rest (W.has_failed out.new) }
-    ensures progress { AcceptsAll (outcomes_in pass.new.got) output.old (W.written out.old) (W.has_failed out.old)
-        output.new (W.written out.new) (W.has_failed out.new) }
+    requires queue { get.old.queue ≡ shared.now.queue.id }
+    requires first { get.old.got ≡ [] }
+    ensures same { (get.new.queue ≡ get.old.queue) × (get.new.workers ≡ get.old.workers) }
+    ensures all { (length get.new.got ≡ job_count ordered.old.jobs.now) ⊎ IsLeft shared.now.rest (W.has_failed out.new) }
+    ensures progress { AcceptsAll (outcomes_in get.new.got) ordered.old (W.written out.old) (W.has_failed out.old)
+        ordered.new (W.written out.new) (W.has_failed out.new) }
     // The thread may wait for the workers to end.
     ensures ready { IsReady (W.has_failed out.new) (W.may_hold_back out.new) (W.is_handed_on out.new) }
 {
-    let total = output.jobs.total();
-    output.write(out);
+    let total = ordered.jobs.total();
+    ordered.write(out);
     let mut tries = 0u32;
     for _ in 0..total {
         // One try more for each outcome, so that tries that find nothing take a small share of the time that the outcomes took.
         tries = (tries + 1).min(MOST_TRIES);
         shared.stop_after(out.failed());
-        let outcome = match shared.queue.get_soon(pass, &mut tries) {
+        let outcome = match shared.queue.get_soon(get, &mut tries) {
             Some(outcome) => outcome,
-            None => match flush_and_get(rt, shared, pass, watch, out) {
+            None => match flush_and_get(rt, shared, get, watch, out) {
                 Some(outcome) => outcome,
                 None => return,
             },
         };
-        let _ = output.collector.offer(output.jobs, outcome);
-        output.write(out);
+        let _ = ordered.collector.offer(ordered.jobs, outcome);
+        ordered.write(out);
         watch.accepts();
     }
     if !out.failed() {
@@ -131,14 +131,14 @@ fn collect<R: Wait, G: Gate, V: Watch, W: Sink>(
 pub(crate) fn run_and_write<'a, R: Threads + Wait + Sync, G: Gate, V: Watch, W: Sink>(
     rt: &R,
     crew: Crew<'_, '_, G>,
-    pass: GetPass,
-    output: OrderedOutput<'a>,
+    get: GetPass,
+    ordered: OrderedOutput<'a>,
     watch: &mut V,
     out: &mut W,
 ) -> Result<(Vec<Worker>, GetPass, OrderedOutput<'a>), RunFault>
-    requires { CanRun crew.shared.now crew.workers.items pass output }
+    requires { CanRun crew.shared.now crew.workers.items get ordered }
     ensures ended { IfOk result (λ r. HasEnded W.written W.has_failed crew.entry.shared.now crew.entry.workers.items
-        pass output.entry out.old out.new r.0.items r.1 r.2) }
+        get ordered.entry out.old out.new r.0.items r.1 r.2) }
     ensures fault { IfErr result (λ e. e ≡ RunFault.NoWorker) }
     ensures untouched { OnErr result (out.new ≡ out.old) }
 {
@@ -150,10 +150,10 @@ pub(crate) fn run_and_write<'a, R: Threads + Wait + Sync, G: Gate, V: Watch, W: 
             &mut V,
             &mut W,
         )
-            requires { IsSync R.row × IsSync G.row × CanRun crew.shared.now crew.workers.items pass output }
+            requires { IsSync R.row × IsSync G.row × CanRun crew.shared.now crew.workers.items get ordered }
             ensures names { (result.1.ghost_name ≡ watch.entry.ghost_name) × (result.2.ghost_name ≡ out.entry.ghost_name) }
             ensures ended { IfOk result.0 (λ r. HasEnded W.written W.has_failed crew.entry.shared.now crew.entry.workers.items
-                pass output.entry out.entry.now result.2.now r.0.items r.1 r.2) }
+                get ordered.entry out.entry.now result.2.now r.0.items r.1 r.2) }
             ensures fault { IfErr result.0 (λ e. e ≡ RunFault.NoWorker) }
             ensures untouched { OnErr result.0 (result.2.now ≡ out.entry.now) }
         {
@@ -168,10 +168,10 @@ pub(crate) fn run_and_write<'a, R: Threads + Wait + Sync, G: Gate, V: Watch, W: 
             let Ok(child) = started else {
                 return (Err(RunFault::NoWorker), watch, out);
             };
-            let (mut pass, mut output) = (pass, output);
-            collect(rt, shared, &mut pass, &mut output, watch, out);
+            let (mut get, mut ordered) = (get, ordered);
+            collect(rt, shared, &mut get, &mut ordered, watch, out);
             let workers = child.join(rt);
-            (Ok((workers, pass, output)), watch, out)
+            (Ok((workers, get, ordered)), watch, out)
         },
     );
     ran

@@ -1,4 +1,4 @@
-//! How a batch is run: by how many workers, with tables of which size, and how long.
+//! How a batch is run: its workers, the size of their tables, and what a failed write leaves.
 ghost use Rattle.kalah_run.specs.Limits.{AreWorkers, IsTableSize};
 
 /// The number of workers of a batch, 1 to 64, and the number of entries of each one's table, 1 to 1,048,576.
@@ -13,7 +13,7 @@ pub struct BatchSize {
 /// What happens to the jobs that are left when the output has failed.
 #[derive(Clone, Copy, Debug, PartialEq, Eq)]
 pub enum Rest {
-    /// They are solved, and the gate is told of each.
+    /// They are solved, and the gate is called for each.
     Solve,
     /// No worker begins a further job. Jobs under way are finished.
     Leave,

@@ -1,7 +1,7 @@
-//! The watch: an observer that the calling thread tells how far a batch has come.
+//! The watch: an observer of the progress of a batch.
 
-/// The calling thread calls `accepts` for each outcome that it has accepted, once what is ready of the answers is written, and `waits`
-/// before it waits for an outcome. It does nothing else meanwhile: a watch that blocks delays the batch.
+/// An observer of the progress of a batch. The calling thread calls `accepts` for each outcome that it has accepted, once the answers
+/// that are ready are written, and `waits` before it waits for an outcome. A watch that blocks delays the batch.
 pub trait Watch {
     /// One more line is answered.
     fn accepts(&mut self);

@@ -9,7 +9,7 @@ use kalah_rules::Houses;
 // a node.
 const SOME_NODES: u64 = 16_000;
 
-// The nodes of a game from which on all endings pay, once houses with so many seeds were asked about.
+// The nodes of a game from which on all endings pay, once houses with `MANY_SEEDS` seeds were searched.
 const MANY_NODES: u64 = 46_000;
 
 const MANY_SEEDS: u8 = 17;

@@ -1,27 +1,14 @@
-use Rattle.std.proofs.Common.{◌≡◌, refl, rules, subst, sym}
-use Rattle.std.specs.Prelude.{IfSome}
-use Rattle.kalah_cli.proofs.Begun.{lines_begun, lines_cut_off}
+use Rattle.std.proofs.Common.{refl, rules}
+use Rattle.kalah_cli.proofs.Begun.{lines_answered, lines_begun, lines_cut_off}
 use Rattle.kalah_cli.proofs.ask.run_ask.Goals as goal
 
 pub returns-in-Ok-true-clause-asked : goal.returns-in-Ok-true-clause-asked
 returns-in-Ok-true-clause-asked g c = λ went.
-    let done = c.in-Ok-true.ensures.answered in
-    record {
-      read = done.read;
-      all = subst (λ u. IfSome u (λ bytes. done.read ≡ bytes)) (sym c.in-Ok-reading_ahead.ensures) done.all;
-      written = done.written;
-      clean = (λ e. search rules, λ e. refl);
-    }
+    lines_answered c.in-Ok-reading_ahead.ensures c.in-Ok-true.ensures.answered (λ e. search rules, λ e. refl)
 
 pub returns-in-Ok-false-clause-asked : goal.returns-in-Ok-false-clause-asked
 returns-in-Ok-false-clause-asked g c = λ went.
-    let done = c.in-Ok-false.ensures.answered in
-    record {
-      read = done.read;
-      all = subst (λ u. IfSome u (λ bytes. done.read ≡ bytes)) (sym c.in-Ok-reading_ahead.ensures) done.all;
-      written = done.written;
-      clean = (λ e. cc, λ e. cc);
-    }
+    lines_answered c.in-Ok-reading_ahead.ensures c.in-Ok-false.ensures.answered (λ e. cc, λ e. cc)
 
 pub returns-in-Ok-true-clause-begins : goal.returns-in-Ok-true-clause-begins
 returns-in-Ok-true-clause-begins g c = lines_begun _ _ _ _ _ _ c.in-Ok-reading_ahead.ensures c.answer_lines.ensures.begins

@@ -4,8 +4,8 @@ use Rattle.clap.specs.Walk.{rows_of}
 use Rattle.clap.specs.Words.{found_of}
 use Rattle.clap.proofs.WalkLemmas.{raw_values-rows}
 use Rattle.kalah_solve.specs.Table.Entries.{most_entries}
-use Rattle.kalah_run.specs.Limits.{most_workers}
-use Rattle.kalah_cli.specs.Request.{IsTableSize, table_asked}
+use Rattle.kalah_run.specs.Limits.{IsTableSize, most_workers}
+use Rattle.kalah_cli.specs.Request.{table_asked}
 use Rattle.kalah_cli.proofs.Getters.{is_there, number_in_range, values_are}
 use Rattle.kalah_cli.proofs.Subcommands.{given, has_flag, has_number, may_have_number, takes_files, takes_table}
 use Rattle.kalah_cli.proofs.request.files_request.Goals.{in-BestMove, in-Steps}
@@ -53,4 +53,4 @@ returns-clause-range c =
       | in-BestMove w ↦ rw w.result-is w.number_of-in-BestMove.ensures.range
       | in-Steps w ↦ rw w.result-is (omega arith, omega arith)
     ] in
-    (few.0, few.1, table, omega (arith, ap length same))
+    ((omega (arith, few.0), few.1), table, omega (arith, ap length same))

@@ -3,7 +3,8 @@ use Rattle.std.specs.Prelude.{IfSome}
 use Rattle.clap.specs.Walk.{Row, Text, rows_of}
 use Rattle.clap.specs.Words.{found_of}
 use Rattle.kalah_solve.specs.Table.Entries.{most_entries}
-use Rattle.kalah_cli.specs.Request.{IsTableSize, MayHaveNumber, number_given}
+use Rattle.kalah_run.specs.Limits.{IsTableSize}
+use Rattle.kalah_cli.specs.Request.{MayHaveNumber, number_given}
 use Rattle.kalah_cli.proofs.Getters.{number_in_range, number_read}
 use Rattle.kalah_cli.proofs.request.given_number.Goals as goal
 

@@ -26,8 +26,8 @@ run_and_write-requires-after_bounds g c κs within =
     let ready = c.in_ok-shared.ensures in
     record {
       at_work = ready.at_work;
-      queue = ap (λ (p : GetState). p.queue) ready.pass;
-      nothing_got = ap (λ (p : GetState). p.got) ready.pass;
+      queue = ap (λ (p : GetState). p.queue) ready.get;
+      nothing_got = ap (λ (p : GetState). p.got) ready.get;
     }
 
 -- ---- the passes come back
@@ -47,8 +47,8 @@ close-requires-2-clause-puts g c =
         ap (λ (l : List PutState). length l) puts,
         length-map c.in_ok-workers.workers.items (λ (w : Worker). w.put),
         run.all_ran.as_many,
-        run.passes,
-        ap (λ (p : GetState). p.workers) c.in_ok-shared.ensures.pass,
+        run.as_many,
+        ap (λ (p : GetState). p.workers) c.in_ok-shared.ensures.get,
       ),
       subst (λ (l : List PutState). ArePassesFrom c.in_ok-shared.field-0.shared.queue.id 0 l) (sym puts)
           (puts_after _ _ _ 0 run.all_ran c.in_ok-shared.ensures.puts),
@@ -57,37 +57,37 @@ close-requires-2-clause-puts g c =
 -- ---- what has come is written
 
 -- each job's outcome was got once, if as many were got as there are jobs
-each_got : (g : Over) (c : goal.After-drop-shared-2 g) → length c.in_ok-workers.pass.got ≡ job_count c.args.jobs.now
-    → AreJobsInSomeOrder c.args.jobs.now (outcomes_in c.in_ok-workers.pass.got)
+each_got : (g : Over) (c : goal.After-drop-shared-2 g) → length c.in_ok-workers.get.got ≡ job_count c.args.jobs.now
+    → AreJobsInSomeOrder c.args.jobs.now (outcomes_in c.in_ok-workers.get.got)
 each_got g c all =
     let ready = c.in_ok-shared.ensures in
     let run = c.in_ok-workers.ensures.ended in
-    let pass = c.in_ok-workers.pass in
-    let as_many = run.all_ran.as_many ∙ sym (run.passes ∙ ap (λ (p : GetState). p.workers) ready.pass) in
+    let get = c.in_ok-workers.get in
+    let as_many = run.all_ran.as_many ∙ sym (run.as_many ∙ ap (λ (p : GetState). p.workers) ready.get) in
     let rest = c.close-2.ensures.whole in
     let jobs = c.in_ok-shared.field-0.shared.jobs.now in
     let total : c.in_ok-shared.field-0.shared.desk.total ≡ job_count jobs = c.in_ok-shared.field-0.shared.each_job in
     let deals = subst (λ (n : ℕ). DealsEachOnce n c.close.result.drawn (drawn_rows (passes_of c.in_ok-workers.workers.items))) total
     (subst (λ (l : List PassState). DealsEachOnce c.in_ok-shared.field-0.shared.desk.total c.close.result.drawn (drawn_rows l))
     c.take_apart-passes.ensures.passes c.close.ensures.deals) in
-    let accounts = subst (λ (l : List PutState). Accounts pass.workers (sent_by l) (pass.got ++ rest.0)) c.take_apart-passes.ensures.puts rest.2 in
-    subst (λ (js : List (List Entry)). AreJobsInSomeOrder js (outcomes_in pass.got)) ready.of_jobs
-    (each_job_got c.in_ok-shared.field-0.shared c.in_ok-workers.workers.items pass.workers c.close.result.drawn pass.got rest.0
+    let accounts = subst (λ (l : List PutState). Accounts get.workers (sent_by l) (get.got ++ rest.0)) c.take_apart-passes.ensures.puts rest.2 in
+    subst (λ (js : List (List Entry)). AreJobsInSomeOrder js (outcomes_in get.got)) ready.of_jobs
+    (each_job_got c.in_ok-shared.field-0.shared c.in_ok-workers.workers.items get.workers c.close.result.drawn get.got rest.0
     (run_at_work _ _ _ run.all_ran) as_many deals accounts (all ∙ sym (ap job_count ready.of_jobs)))
 
 -- the output has accepted what was got
 all_written : (g : Over) (c : goal.After-drop-shared-2 g)
-    → HasWritten c.args.files.now c.args.jobs.now (outcomes_in c.in_ok-workers.pass.got) (g.W.Sink.written c.args.out.now)
+    → HasWritten c.args.files.now c.args.jobs.now (outcomes_in c.in_ok-workers.get.got) (g.W.Sink.written c.args.out.now)
     (g.W.Sink.written c.run_and_write.new.out)
-    (g.W.Sink.has_failed c.run_and_write.new.out) c.in_ok-workers.output × Waits c.in_ok-workers.output
+    (g.W.Sink.has_failed c.run_and_write.new.out) c.in_ok-workers.field-0-2 × Waits c.in_ok-workers.field-0-2
 all_written g c =
     let begun = g.W.Sink.written c.args.out.now in
-    c.in_ok-workers.ensures.ended.progress c.args.files.now c.args.jobs.now begun (c.in_ok-output.ensures begun (g.W.Sink.has_failed c.args.out.now))
+    c.in_ok-workers.ensures.ended.progress c.args.files.now c.args.jobs.now begun (c.in_ok-ordered.ensures begun (g.W.Sink.has_failed c.args.out.now))
 
 pub returns-clause-given : goal.returns-clause-given
 returns-clause-given g c =
     ⊎_elim
     (λ all. all_given c.args.files.now c.args.jobs.now _ _ _ _ _ (all_written g c).0
-    (each_got g c (all ∙ ap job_count (c.in_ok-output.ensures None false).of_jobs)) (all_written g c).1)
+    (each_got g c (all ∙ ap job_count (c.in_ok-ordered.ensures None false).of_jobs)) (all_written g c).1)
     (λ left. failed_given c.args.files.now c.args.jobs.now _ _ _ _ _ (all_written g c).0 left.1)
     c.in_ok-workers.ensures.ended.all_got

@@ -166,8 +166,8 @@ fn all_jobs_are_done_though_the_writer_takes_one_line(rt: HostRuntime) {
     assert!(rt; (came, line) == ((Err(RunFault::Write), 200, 0), true));
 }
 
-// The most jobs that two workers begin of which only one outcome is got before they are to stop: it, those in the queue, and of each worker
-// the job under way and one for which it was about to go on.
+// The most jobs that two workers begin if only one outcome is got before they are to stop: its own, those in the queue, and for each
+// worker the one under way and one more.
 const MOST_BEGUN: u32 = 1 + QUEUE_PLACES + 2 * 2;
 
 #[test]

@@ -4,10 +4,10 @@ use Rattle.kalah_run.proofs.batch.running.collect.Given as goal
 
 abbrev pub invariant-loop : goal.invariant-loop
 invariant-loop g l = record {
-  queue : l.pass.queue ≡ l.fn.pass.queue;
-  workers : l.pass.workers ≡ l.fn.pass.workers;
-  all : length l.pass.got ≡ l.counter;
+  queue : l.get.queue ≡ l.fn.get.queue;
+  workers : l.get.workers ≡ l.fn.get.workers;
+  all : length l.get.got ≡ l.counter;
   few_tries : l.tries ≤ 64;
-  progress : AcceptsAll (outcomes_in l.pass.got) l.fn.output (g.W.Sink.written l.fn.out) (g.W.Sink.has_failed l.fn.out)
-      l.output (g.W.Sink.written l.out) (g.W.Sink.has_failed l.out);
+  progress : AcceptsAll (outcomes_in l.get.got) l.fn.ordered (g.W.Sink.written l.fn.out) (g.W.Sink.has_failed l.fn.out)
+      l.ordered (g.W.Sink.written l.out) (g.W.Sink.has_failed l.out);
 }

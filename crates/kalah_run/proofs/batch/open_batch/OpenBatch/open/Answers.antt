@@ -22,13 +22,12 @@ returns g c =
       tables = are.tables;
       of_jobs = refl;
       of_rest = refl;
-      some = omega (arith, count, c.args.size.few_workers.0);
       passes = count ∙ sym desk.desk.1;
       at_work = new_at_work _ workers c.max-count.result
           (subst (λ (l : List PassState). AreNewPasses c.in_ok-desk.desk c.max-count.result l) (sym are.passes) desk.passes) puts
           (subst (λ (l : List PutState). All (λ p. p.sent ≡ []) l) (sym are.puts) opened.2);
       puts = puts;
-      pass = c.in_ok-queue.ensures.get
+      get = c.in_ok-queue.ensures.get
           ∙ ap (λ n. let p : GetState = record { queue = queue; workers = n; got = [] } in p) (sym count);
       room = record {
         empty = (c.in_ok-passes.ensures.items, c.in_ok-puts.ensures.items);
