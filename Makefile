@@ -21,9 +21,9 @@ try:
 	cd crates/kalah_cli && rt try -- moves '1,1/0 1,1/0'
 	cd crates/kalah_cli && rt try --data examples/first.txt=../../examples/first.txt -- solve examples/first.txt
 
-# While you work: proves and tests what has changed, over the results that earlier checks kept.
+# While you work: proves and tests what has changed, over the results that earlier checks kept; with CRATES=.. up to these crates alone.
 check:
-	tests/check
+	JOBS=$(JOBS) tests/check $(CRATES)
 
 # The test suite: every proof from nothing, the tests and the program's stored run; and, over what that has built, seeded mistakes that
 # the prover must refuse, refused memory, the steps by which threads wait, and random trials. At the end it prints the time of each stage.

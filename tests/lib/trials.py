@@ -1,5 +1,6 @@
 """The trials of tests/agree: runs of the program, and their required results."""
 
+import fcntl
 import os
 import pty
 import re
@@ -9,6 +10,7 @@ import socket
 import subprocess
 import sys
 import tempfile
+import termios
 import time
 import tty
 from contextlib import suppress
@@ -77,24 +79,6 @@ USAGES = [
     ),
 ]
 
-# What the help of a subcommand says of its options and arguments.
-BOARDS_HELP = "draws each position below its line"
-WORKERS_HELP = "solves up to N lines in parallel, 1 to 64"
-PROGRESS_HELP = "shows on standard error how many lines are answered"
-FILE_HELP = "files of positions, one a line; /dev/stdin for standard input"
-HELP_OF_OPTIONS = {
-    "moves": [BOARDS_HELP],
-    "play": [BOARDS_HELP],
-    "solve": [WORKERS_HELP, PROGRESS_HELP, FILE_HELP],
-    "values": [WORKERS_HELP, PROGRESS_HELP, FILE_HELP],
-    "ask": [
-        "prints what each move is worth, as `values`",
-        "prints each legal move, as `steps`, with `; ` between any two",
-        "table entries of the search, 1 to 1048576 [default: 65536]",
-    ],
-    "count": ["how many moves each way has, 0 to 20", "a position in quotes, as '1,1/0 1,1/0'"],
-}
-
 PROGRAM_NAMES = ["kalah", "./kalah", "/bin/kalah", "k l", "é", "-", "--help"]
 
 # The names that a subcommand is given which answers files, and the size of the file `a`, which is all there is.
@@ -106,6 +90,8 @@ LIMITS = [
     (["./" * 2045 + "a"] * 256, 8),
     (["a"], reference.MOST_BYTES_OF_A_FILE),
     (["a"], reference.MOST_BYTES_OF_A_FILE + 1),
+    (["a", "b"], reference.MOST_BYTES_OF_A_FILE + 1),
+    (["b", "a"], reference.MOST_BYTES_OF_A_FILE + 1),
 ]
 
 # Redirections of the standard streams, and those among them that accept no answer.
@@ -153,14 +139,26 @@ ROW_BY_ROW = [["count", "12", LONG_GAME], ["play", "--table", "1", "--first=2", 
 # The numbers of workers that are observed at work.
 BUSY_WORKERS = [2, 3, 5, 16, 64]
 
+# How full a pipe is that accepts no more: the last page may have room for less than a line.
+PIPE_SIZE = 15 * 4096
+
 # For how many ticks of the clock a worker is observed.
 AT_WORK = 100
 
 # The numbers of lines, with more workers than lines.
 FEW_LINES = [1, 2, 3, 7]
 
-# The standard error on which progress is shown.
-PROGRESS = ["pipe", "terminal", "file", "/dev/full", "closed"]
+# The standard error on which progress is shown, and the lines of the run: none, many quick ones with as many workers as there may be, or any.
+PROGRESS = list(product(["pipe", "terminal", "file", "/dev/full", "closed"], ["none", "quick", "any"]))
+
+# A line that is answered at once.
+QUICK = b"1/0 1/0\n"
+
+# The address space of runs, in kB: of one with few lines, and of one with as many workers and as large tables as there may be. Each needs
+# about half of that or less. And the most that the second may have in memory at once, in kB, if its lines are quick.
+LITTLE_SPACE = 24_000
+SPACE_OF_MANY = 64_000
+MEMORY_OF_MANY = 16_000
 
 # With a table of one entry each of these lines takes seconds, so no run finishes all of them.
 HARD = b"2,3,2,3,2,3/0 3,2,3,2,3,3/0\n" * 1000
@@ -204,9 +202,10 @@ def version_line():
     return (rest.partition("\n")[0].strip() + "\n").encode()
 
 
-def help_text(name):
-    """Returns the help of a program of this name: that of tests/data/help.txt, which names it `kalah` in its usage line."""
-    return (TESTS / "data/help.txt").read_bytes().replace(b"Usage: kalah ", b"Usage: " + name + b" ")
+def help_text(words, name):
+    """Returns the help that arguments ask for, of a program of this name: a copy in tests/data/help, which has `kalah` in its usage line."""
+    file = "kalah.txt" if words == ["--help"] else f"{words[0]}.txt"
+    return (TESTS / "data/help" / file).read_bytes().replace(b"Usage: kalah ", b"Usage: " + name + b" ")
 
 
 def two_ends(place):
@@ -247,9 +246,14 @@ def busy_threads(process):
     return sum(thread != process.pid and ticks >= 2 for thread, ticks in ticks_of(process).items())
 
 
-def in_memory(process):
-    """Returns how much of the process is in memory, in kB."""
-    return int(re.search(r"VmRSS:\s*(\d+)", Path(f"/proc/{process.pid}/status").read_text())[1])
+def in_memory(process, which="VmRSS"):
+    """Returns how much of the process is in memory, in kB; `VmHWM` is the most there was so far."""
+    return int(re.search(rf"{which}:\s*(\d+)", Path(f"/proc/{process.pid}/status").read_text())[1])
+
+
+def bytes_in(reader):
+    """Returns how many bytes of a pipe are there to be read."""
+    return int.from_bytes(fcntl.ioctl(reader, termios.FIONREAD, bytes(4)), sys.byteorder)
 
 
 def has_open(process, path):
@@ -445,12 +449,12 @@ class Trials(AskTrials):
             self.compare(reference.failed(b"a word is not UTF-8"), got)
 
     def help(self):
-        """Help names the program by the last part of its first word. The program's own help is compared whole."""
+        """Help names the program by the last part of its first word. Each `--help` is compared whole, and of `-h` the usage line."""
         self.put({"a": b"1/0 1/0"})
         words, name = self.drawn.card("help", HELP), self.drawn.card("names in help", PROGRAM_NAMES)
         own_name = os.path.basename(name).encode()
         got = self.run(words, name)
-        self.compare(Run(help_text(own_name) if words == ["--help"] else got.out, b"", 0), got)
+        self.compare(Run(help_text(words, own_name) if words[-1] == "--help" else got.out, b"", 0), got)
         usage = b"Usage: " + own_name + b" "
         if usage not in got.out:
             raise Differs(f"no {usage} in {got.out}")
@@ -481,6 +485,10 @@ class Trials(AskTrials):
 
     def run_in_shell(self, words, streams):
         return self.run(["-c", f'exec "$@" {streams}', "sh", self.program, *words], executable="/bin/sh")
+
+    def run_within(self, kilobytes, words):
+        """Returns the result of a run with so much address space."""
+        return self.run(["-c", f'ulimit -v {kilobytes}; exec "$@"', "sh", self.program, *words], executable="/bin/sh")
 
     def no_reader_is_left(self):
         """A run whose output takes no more begins no further line. It takes at most a tenth of the processor time that all its lines
@@ -617,12 +625,14 @@ class Trials(AskTrials):
 
     def progress(self):
         """Standard error shows how many lines are answered, and standard output is the same as without."""
-        place = self.drawn.card("progress", PROGRESS)
-        files = [(name, self.drawn.file(self.drawn.chance.choice([0, 1, 7, 150, 2500]))) for name in ("a", "b")]
+        place, lines = self.drawn.card("progress", PROGRESS)
+        files = self.files_of_progress(lines)
         self.put(dict(files))
         subcommand = self.subcommand()
         want = reference.answers(subcommand, [(name.encode(), data) for name, data in files])
         words = self.drawn.words(subcommand, [name for name, _ in files])
+        if lines == "quick":
+            words = [subcommand, "--workers=64", *(name for name, _ in files)]
         words.insert(1 if "--" in words else self.drawn.chance.choice([1, len(words)]), "--progress")
         if place in ("/dev/full", "closed"):
             got = self.run_in_shell(words, "2>&-" if place == "closed" else f"2>{place}")
@@ -639,6 +649,13 @@ class Trials(AskTrials):
             self.compare(want._replace(err=shown), Run(out.read(), shown, process.returncode))
         os.close(reader)
         self.look_at_progress(shown.decode(), sum(len(reference.lines_of(data)) for _, data in files), place == "terminal")
+
+    def files_of_progress(self, lines):
+        """Returns two files for a run of which progress is shown."""
+        if lines == "quick":
+            return [("a", QUICK * 2500), ("b", b"")]
+        sizes = [0] if lines == "none" else [0, 1, 7, 150, 2500]
+        return [(name, self.drawn.file(self.drawn.chance.choice(sizes))) for name in ("a", "b")]
 
     def look_at_progress(self, shown, lines, in_place):
         """The shown numbers rise from none to all lines, each with its share: a line for each per cent, or one line that is rewritten."""
@@ -673,16 +690,6 @@ class Trials(AskTrials):
             fill(self.files / "a", data, process)
         self.compare(reference.answers(subcommand, [(b"a", data) for data in contents]), self.end_of(process))
 
-    def help_of_options(self):
-        """Each help says of its options and its argument what they are for."""
-        self.put({})
-        word, texts = self.drawn.card("help of options", list(HELP_OF_OPTIONS.items()))
-        got = self.run([word, "--help"])
-        lost = [text for text in texts if text not in " ".join(got.out.decode().split())]
-        self.compare(Run(got.out, b"", 0), got)
-        if lost:
-            raise Differs(f"the help of {word} does not say: {lost}")
-
     def usage(self):
         """All that is said of words that are not taken."""
         words, said = self.drawn.card("usages", USAGES)
@@ -690,11 +697,34 @@ class Trials(AskTrials):
         self.compare(Run(b"", said.encode(), 2), self.run(words))
 
     def many_large_tables(self):
-        """As many workers as there may be, each with as large a table as there may be."""
+        """As many workers as there may be, each with as large a table as there may be. A table takes memory as it is used."""
         data = self.drawn.file(200)
+        self.put({"a": data, "b": QUICK * 10_000})
+        words = [self.searching(), "--workers=64", "--table=1048576"]
+        want = reference.answers(words[0], [(b"a", data)])
+        self.compare(want, self.run([*words, "a"]))
+        self.compare(want, self.run_within(SPACE_OF_MANY, [*words, "a"]))
+        kilobytes = self.memory_of([*words, "b"])
+        if kilobytes > MEMORY_OF_MANY:
+            raise Differs(f"64 workers with large tables take {kilobytes} kB for quick lines")
+
+    def few_lines_in_little_space(self):
+        """A run of few lines requests little memory."""
+        data = self.drawn.file(self.drawn.chance.randint(0, 7))
         self.put({"a": data})
-        subcommand = self.searching()
-        self.compare(reference.answers(subcommand, [(b"a", data)]), self.run([subcommand, "--workers=64", "--table=1048576", "a"]))
+        subcommand = self.drawn.card("in little space", SUBCOMMANDS)
+        self.compare(reference.answers(subcommand, [(b"a", data)]), self.run_within(LITTLE_SPACE, [subcommand, "--workers=1", "a"]))
+
+    def memory_of(self, words):
+        """Returns the most that a run has in memory, in kB, until its output has filled a pipe that nobody reads."""
+        reader, writer = os.pipe()
+        with self.start(words, stdout=writer) as process:
+            os.close(writer)
+            soon(lambda: process.poll() is not None or bytes_in(reader) >= PIPE_SIZE)
+            kilobytes = in_memory(process, "VmHWM")
+            process.kill()
+        os.close(reader)
+        return kilobytes
 
     def no_word(self):
         """Without any word, not even a name, nothing is written to the standard output. Newer systems hand over an empty word."""
@@ -757,13 +787,13 @@ KINDS = {
     "ends_at_a_failed_write": len(ROW_BY_ROW),
     "busy_workers": len(BUSY_WORKERS),
     "few_lines": len(FEW_LINES),
-    "progress": 4 * len(PROGRESS),
+    "progress": len(PROGRESS),
     **ASK_KINDS,
     "one_pipe_twice": 2,
     "a_named_pipe_twice": 2,
-    "help_of_options": len(HELP_OF_OPTIONS),
     "usage": len(USAGES),
-    "many_large_tables": 1,
+    "many_large_tables": len(SEARCHING),
+    "few_lines_in_little_space": len(SUBCOMMANDS),
     "no_word": 1,
     "few_writes": 1,
     "waits_at_rest": 3,

@@ -1,0 +1,112 @@
+"""What pages say of the sources: docs/INTERFACE.md lists all that the crates export, of which tests/data/interface.txt has the signatures
+that are kept; docs/PROOFS.md names the clauses and laws that carry each promise; CONTRIBUTING.md quotes lines of files; and all pages
+name files. The functions that compare these return how they differ, or None."""
+
+import re
+
+from lib.crates import TOP, crates
+
+INTERFACE, SIGNATURES = "docs/INTERFACE.md", "tests/data/interface.txt"
+PROMISES, EXCERPTS = "docs/PROOFS.md", "CONTRIBUTING.md"
+# Where an implementation or a trait begins, and where a function begins.
+ROOT = re.compile(r"(?:impl(?:<[^{]*?>)? (?:\w+(?:<.*?>)? for )?&?|pub trait )(\w+)")
+FUNCTION = re.compile(r"( *)(pub )?(?:const )?fn (\w+)")
+# What ends a signature, and what is the signature of a law: a function that takes nothing and returns nothing.
+END = re.compile(r" \{|;$|\n *(?:requires|ensures|//|\{)", re.MULTILINE)
+LAW = re.compile(r"\w+(<[^(]*>)?\(\)")
+
+
+def in_one_form(signature):
+    """Returns a signature without what only its layout has."""
+    return re.sub(r",? ([)>])", r"\1", re.sub(r"([(<]) ", r"\1", " ".join(signature.split())))
+
+
+def signatures_of(file):
+    """Yields the signature of each public function of a file and of each function of its public traits, after its type or trait."""
+    root, is_trait, lines = "", False, file.read_text().splitlines()
+    for number, line in enumerate(lines):
+        if found := ROOT.match(line):
+            root, is_trait = f"{found[1]}::", line.startswith("pub trait")
+        elif line.startswith("}"):
+            root, is_trait = "", False
+        if (found := FUNCTION.match(line)) and (found[2] or is_trait):
+            text = "\n".join([line[found.start(3):], *lines[number + 1:]])
+            yield root * bool(found[1]) + in_one_form(END.split(text, maxsplit=1)[0])
+
+
+def name_of(signature):
+    """Returns the name in a signature."""
+    return re.match(r"[\w:]+", signature)[0]
+
+
+def exported_by(crate):
+    """Returns the signatures that a library exports, but for those of laws, and the names that it exports without a function. A program
+    exports nothing."""
+    root = TOP / "crates" / crate / "src/lib.rt"
+    rows = re.findall(r"^pub use ([^;]+);", root.read_text(), re.MULTILINE) if root.exists() else []
+    names = {name for row in rows for name in re.findall(r"\w+", row.partition("{")[2] or row.rpartition("::")[2])}
+    files = (file for file in root.parent.rglob("*.rt") if "tests" not in file.parts)
+    found = [text for file in files for text in signatures_of(file) if name_of(text).partition("::")[0] in names]
+    return {text for text in found if not LAW.fullmatch(text)}, names - {name_of(text).partition("::")[0] for text in found}
+
+
+def functions_named(text):
+    """Returns the functions that a text names: as `f`, as `T::f`, or after a type, as `T`: `f`, `g`."""
+    lists = re.findall(r"`(\w+)`: ((?:`\w+`(?:,\s+)?)+)", text)
+    of_types = {f"{root}::{name}" for root, names in lists for name in re.findall(r"\w+", names)}
+    return of_types | set(re.findall(r"`([\w:]+)`", text))
+
+
+def interface_differs():
+    """The page names each function whose signature is kept, and in its last section each other one, and each other exported name."""
+    kept = set((TOP / SIGNATURES).read_text().splitlines())
+    signatures, others = (set().union(*parts) for parts in zip(*map(exported_by, crates())))
+    if kept - signatures:
+        return f"{SIGNATURES}: no crate exports {sorted(kept - signatures)}"
+    kept_part, _, further_part = (TOP / INTERFACE).read_text().partition("\n## Further")
+    lost = set(map(name_of, kept)) - functions_named(kept_part)
+    lost |= set(map(name_of, signatures - kept)) - functions_named(further_part)
+    lost |= {name for name in others if not name.startswith("MOST_")} - set(re.findall(r"\w+", kept_part + further_part))
+    lost |= {name for name in functions_named(further_part) if "::" in name} - set(map(name_of, signatures - kept))
+    return f"{INTERFACE}: these are not where they belong: {sorted(lost)}" if lost else None
+
+
+def promises_differ():
+    """Each row of the table names functions, types or files, and then clauses there, laws, or definitions."""
+    files = {path: path.read_text() for path in (TOP / "crates").glob("*/src/**/*.rt") if "tests" not in path.parts}
+    laws = "\n".join(text for path, text in files.items() if path.name in ("laws.rt", "limits.rt"))
+    specs = "\n".join(path.read_text() for path in (TOP / "crates").glob("*/specs/**/*.antt"))
+    rows = re.findall(r"^\| (.*) \| (.*) \| (.*) \|$", (TOP / PROMISES).read_text(), re.MULTILINE)[1:]
+    for promise, places, carried in rows:
+        code = ""
+        for place in re.findall(r"`([\w:.]+)`", places):
+            begins = re.compile(rf"\b(fn|struct|trait) {place.rpartition('::')[2]}\b")
+            there = [text for path, text in files.items() if path.name == place or begins.search(text)]
+            if not there:
+                return f"{PROMISES}: {promise}: there is no {place}"
+            code += "\n".join(there)
+        for name in re.findall(r"`(\w+)`", carried):
+            if not (re.search(rf"\bensures {name} ", code) or re.search(rf"\bfn {name}\b", laws) or re.search(rf"\bpub (record )?{name}\b", specs)):
+                return f"{PROMISES}: {promise}: there is no {name}"
+    return None if rows else f"{PROMISES}: no promise"
+
+
+def excerpts_differ():
+    """Each block stands whole in the file that the line above it names."""
+    parts = re.split(r"^```\w*\n", (TOP / EXCERPTS).read_text(), flags=re.MULTILINE)
+    for prose, block in zip(parts[::2], parts[1::2]):
+        file = re.findall(r"`([\w/.]+)`:\n\n?$", prose)
+        if not file or block.strip("\n") not in (TOP / file[0]).read_text():
+            return f"{EXCERPTS}: {file or 'no file'} doesn't have this:\n{block}"
+    return None if len(parts) > 1 else f"{EXCERPTS}: no excerpt"
+
+
+def files_differ():
+    """Each file of the repository that a page names in backticks is there, with as many of its folders as are named."""
+    tops = [TOP / folder for folder in ("crates", "tests", "docs", "examples", "bench", "packaging", "completions")]
+    paths = [f"/{path.relative_to(TOP)}" for top in tops for path in top.rglob("*.*") if "/out/" not in f"{path}"]
+    for page in [*TOP.glob("*.md"), *(TOP / "docs").glob("*.md")]:
+        for name in set(re.findall(r"`([\w/.]+\.(?:rt|antt|py|c|js|txt|md|edit))`", page.read_text())):
+            if not (TOP / name).exists() and not any(path.endswith(f"/{name}") for path in paths):
+                return f"{page.relative_to(TOP)}: there is no file {name}"
+    return None
