@@ -33,11 +33,14 @@ use Rattle.std.proofs.Math.Seq.{take-append-add}
 use Rattle.kalah_cli.proofs.Played.{of_any_game}
 
 -- all was written, and then flushed
-pub begins_all : (old between new : Option (List ℕ)) (bs : List ℕ) → Appends old between bs → Keeps between new → AppendsStart old new bs
-begins_all old between new bs all keeps = start_then old between new bs bs [] (sym (append-nil bs)) all (start_kept_all between new [] keeps)
+pub begins_all : (old between new : Option (List ℕ)) (bs : List ℕ) → Appends old between bs → Keeps between new
+    → AppendsStart old new bs
+begins_all old between new bs all keeps = start_then old between new bs bs [] (sym (append-nil bs)) all
+    (start_kept_all between new [] keeps)
 
 -- so if the flush succeeds, all was written
-pub all_if_flushed : {A E : Type 0} (r : Result A E) (old between new : Option (List ℕ)) (bs : List ℕ) → Appends old between bs → Keeps between new →
+pub all_if_flushed : {A E : Type 0} (r : Result A E) (old between new : Option (List ℕ)) (bs : List ℕ) → Appends old between bs
+    → Keeps between new →
     OnOk r (Appends old new bs)
 all_if_flushed (Ok x) old between new bs all keeps = Appends-kept old between new bs all keeps
 all_if_flushed (Err e) old between new bs all keeps = tt
@@ -47,7 +50,8 @@ pub none_failed : {failed : Bool} → (false ≡ true) ↔ (failed ≡ true) →
 none_failed tells = false_from_ne_true _ (λ e. false≢true (tells.1 e))
 
 -- the lines of the first moves were written
-module _ (one : ℕ → List ℕ) {moves all : List ℕ} (same : moves ≡ all) (i house : ℕ) (within : i < length moves) (is : house ≡ get_or moves i 0)
+module _ (one : ℕ → List ℕ) {moves all : List ℕ} (same : moves ≡ all) (i house : ℕ) (within : i < length moves)
+    (is : house ≡ get_or moves i 0)
     (old between new : Option (List ℕ)) (so_far : Appends old between (flat_map one (take i moves))) where
   -- and that of one move more
   pub line_added : Appends between new (one house) → Appends old new (flat_map one (take (i + 1) moves))
@@ -83,7 +87,8 @@ pub begins_nothing : (question : Question) (names : List (List ℕ)) (old : Opti
 begins_nothing question names old = record { files = empty_files names; named = their_names names; start = start_none old _ }
 
 -- a reader that reads ahead has at first all that the other has
-pub all_unread : {T A : Type 0} (remaining : T → Option (List ℕ)) (r : BufReader T A) (inner : T) → reader_inner r ≡ inner → reader_buffer r ≡ []
+pub all_unread : {T A : Type 0} (remaining : T → Option (List ℕ)) (r : BufReader T A) (inner : T) → reader_inner r ≡ inner
+    → reader_buffer r ≡ []
     → reader_capacity r ≡ 8192 → remaining inner ≡ reader_remaining remaining r
 all_unread {T} {A} remaining r inner is empty capacity =
     sym (ap (λ n. if n == 0 then None else prepend_known (reader_buffer r) (remaining r.inner)) capacity
@@ -113,11 +118,13 @@ part_first (Some bytes) None lines part is = absurd is
 part_first (Some bytes) (Some rest) lines part is = (part ++ rest, is ∙ append_assoc lines part rest)
 
 -- what is known of these bytes is known of bytes that nobody knows
-pub asked_of_any : (question : Question) (unread old new : Option (List ℕ)) (status : ExitStatus) → AnswersLines question unread old new status
+pub asked_of_any : (question : Question) (unread old new : Option (List ℕ)) (status : ExitStatus)
+    → AnswersLines question unread old new status
     → AnswersLines question None old new status
 asked_of_any question unread old new status is = record { read = is.read; all = tt; written = is.written; clean = is.clean }
 
-pub begun_of_any : (question : Question) (unread old new : Option (List ℕ)) → BeginsLines question unread old new → BeginsLines question None old new
+pub begun_of_any : (question : Question) (unread old new : Option (List ℕ)) → BeginsLines question unread old new
+    → BeginsLines question None old new
 begun_of_any question unread old new is = record { read = is.read; first = tt; start = is.start }
 
 pub stopped_of_any : (question : Question) (unread old new : Option (List ℕ)) → StopsBetweenLines question unread old new
@@ -148,12 +155,14 @@ lines_answered same is clean = record {
 }
 
 -- a prefix of the answers to lines, and of that to the next one, is a prefix of all of them
-pub lines_begun : (question : Question) (unread before after old new : Option (List ℕ)) → unread ≡ before → IsBegun question before after old new
+pub lines_begun : (question : Question) (unread before after old new : Option (List ℕ)) → unread ≡ before
+    → IsBegun question before after old new
     → BeginsLines question unread old new
 lines_begun question unread before after old new is begun =
     let first = answers_to question begun.lines in
     let rest = answers_to question begun.last in
-    let all = ap (take (length first + begun.count)) (answers_split question begun.lines begun.last begun.ended) ∙ take-append-add first rest begun.count in
+    let all = ap (take (length first + begun.count)) (answers_split question begun.lines begun.last begun.ended)
+        ∙ take-append-add first rest begun.count in
     record {
       read = begun.lines ++ begun.last;
       first = subst (AreFirst (begun.lines ++ begun.last)) (sym is) (taken_first before after _ begun.taken);
@@ -161,7 +170,8 @@ lines_begun question unread before after old new is begun =
     }
 
 -- if a read failed
-pub lines_cut_off : (question : Question) (unread before after old new : Option (List ℕ)) → unread ≡ before → IsCutOff question before after old new →
+pub lines_cut_off : (question : Question) (unread before after old new : Option (List ℕ)) → unread ≡ before
+    → IsCutOff question before after old new →
     StopsBetweenLines question unread old new
 lines_cut_off question unread before after old new is cut = record {
   lines = cut.lines;
@@ -175,7 +185,8 @@ pub even_read : (line : List ℕ) (p : Position) → Reads line p → HasEqualSi
 even_read line p reads = record { same = reads.sides.same_side }
 
 -- nothing is a prefix of a game, with a first house or without
-pub begins_no_play : (first : Option ℕ) (boards : Bool) (p : Position) (old : Option (List ℕ)) → HasEqualSides p → BeginsToPlay first boards p old old
+pub begins_no_play : (first : Option ℕ) (boards : Bool) (p : Position) (old : Option (List ℕ)) → HasEqualSides p
+    → BeginsToPlay first boards p old old
 begins_no_play first boards p old even = record {
   moved = λ may. of_any_game first boards p _ even (λ lines. start_none old _);
   unmoved = λ not. start_none old [];

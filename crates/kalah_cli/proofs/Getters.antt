@@ -20,7 +20,8 @@ pub values_are : (f : Found) (id : Text) (o : Option (Bor (List (Bor Text)))) (s
     → option_map (λ s. map (λ v. v.now) s.now) o ≡ option_map raw_values (matched_of f id) → o ≡ Some s → copied ≡ s.now
     → all_of id (rows_of f) ≡ Some (map (λ v. v.now) copied)
 values_are f id o s copied read is same =
-    sym (raw_values-rows f id) ∙ sym read ∙ ap (option_map (λ s. map (λ v. v.now) s.now)) is ∙ ap (λ vs. Some (map (λ v. v.now) vs)) (sym same)
+    sym (raw_values-rows f id) ∙ sym read ∙ ap (option_map (λ s. map (λ v. v.now) s.now)) is
+        ∙ ap (λ vs. Some (map (λ v. v.now) vs)) (sym same)
 
 -- the getter of a type of numbers of this width returns the number under the name
 pub number_read : (width low high : ℕ) (f : Found) (id : Text) (r : Option ℕ)
@@ -42,7 +43,8 @@ number_read width low high f id r absent value fits may = go (one_of id (rows_of
         absurd (failed.1.0 (range.0, omega (arith, range.3, fits)))
 
 -- the number is in the range of those that may be there
-pub number_in_range : (id : Text) (low high : ℕ) (rows : List Row) (n : ℕ) → MayHaveNumber id low high rows → number_given id rows ≡ Some n
+pub number_in_range : (id : Text) (low high : ℕ) (rows : List Row) (n : ℕ) → MayHaveNumber id low high rows
+    → number_given id rows ≡ Some n
     → (low ≤ n) × (n ≤ high)
 number_in_range id low high rows n may is = elim (cases_Option (one_of id rows)) [
   | inl none ↦ absurd (let bad : None ≡ Some n = rw none at is in cc)
@@ -54,7 +56,8 @@ number_in_range id low high rows n may is = elim (cases_Option (one_of id rows))
 
 -- the getter of a flag determines whether it is set
 pub flag_read : (f : Found) (id : Text) (r : Bool) → HasFlag id (rows_of f) → (one_text f id ≡ None → r ≡ false)
-    → (one_text f id ≡ Some (codes "true") → r ≡ true) → (one_text f id ≡ Some (codes "false") → r ≡ false) → r ≡ is_set id (rows_of f)
+    → (one_text f id ≡ Some (codes "true") → r ≡ true) → (one_text f id ≡ Some (codes "false") → r ≡ false)
+    → r ≡ is_set id (rows_of f)
 flag_read f id r has absent set unset = elim (cases_Option (one_of id (rows_of f))) [
   | inl none ↦ rw (absent (one_text-rows f id ∙ none), none) refl
   | inr some ↦ elim (has some.0 some.1) [

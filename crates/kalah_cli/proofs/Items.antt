@@ -35,7 +35,8 @@ pub more_than : {X : Type 0} (xs ys : List X) → 0 < length xs → 0 < length (
 more_than xs ys h = simp length-append (omega arith)
 
 -- an item that passes is found
-pub any_found : {X : Type 0} (t : X → Bool) (xs : List X) → list_any t xs ≡ true → (x : X) × (find t xs ≡ Some x) × (t x ≡ true)
+pub any_found : {X : Type 0} (t : X → Bool) (xs : List X) → list_any t xs ≡ true → (x : X) × (find t xs ≡ Some x)
+    × (t x ≡ true)
 any_found t [] e = cc
 any_found t (x ∷ xs) e = elim (cases_Bool (t x)) [
   | inl is ↦ (x, rw is refl, is)
@@ -43,7 +44,8 @@ any_found t (x ∷ xs) e = elim (cases_Bool (t x)) [
 ]
 
 -- an item that is found passes, so one does
-pub found_passes : {X : Type 0} (t : X → Bool) (xs : List X) (a : X) → find t xs ≡ Some a → (t a ≡ true) × (list_any t xs ≡ true)
+pub found_passes : {X : Type 0} (t : X → Bool) (xs : List X) (a : X) → find t xs ≡ Some a → (t a ≡ true)
+    × (list_any t xs ≡ true)
 found_passes t [] a e = cc
 found_passes t (x ∷ xs) a e = elim (cases_Bool (t x)) [
   | inl is ↦ let same : Some x ≡ Some a = rw is at e in (subst (λ y. t y ≡ true) (let one : x ≡ a = cc in one) is, rw is refl)
@@ -78,7 +80,8 @@ each_found name (x ∷ xs) e =
     let parts = both _ (distinct name xs) e in
     (rw ((bytes_eq-Decides (name x) (name x)).1 refl) refl, behind xs (none_pass _ xs (not-true _ parts.0)) (each_found name xs parts.1))
   where
-    behind : (ys : List _) → AllOf (λ y. bytes_eq (name x) (name y) ≡ false) ys → AllOf (λ y. find (λ z. bytes_eq (name z) (name y)) xs ≡ Some y) ys
+    behind : (ys : List _) → AllOf (λ y. bytes_eq (name x) (name y) ≡ false) ys
+        → AllOf (λ y. find (λ z. bytes_eq (name z) (name y)) xs ≡ Some y) ys
         → AllOf (λ y. find (λ z. bytes_eq (name z) (name y)) (x ∷ xs) ≡ Some y) ys
     behind [] others found = tt
     behind (y ∷ ys) others found = (rw others.0 found.0, behind ys others.1 found.1)

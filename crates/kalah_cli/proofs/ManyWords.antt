@@ -52,7 +52,8 @@ behind files word = record {
 
 -- the walk goes on from the first plain argument, which has no fault
 first_step : (s : Shape) → TakesFiles s.rules → (x : ℕ) (xs : Text) → (x == 45) ≡ false
-    → (walked s.rules [] (walk_from nothing_held) (x ∷ xs) ≡ behind [] (x ∷ xs)) × (turn_fault s [] (walk_from nothing_held) (x ∷ xs) ≡ [])
+    → (walked s.rules [] (walk_from nothing_held) (x ∷ xs) ≡ behind [] (x ∷ xs))
+    × (turn_fault s [] (walk_from nothing_held) (x ∷ xs) ≡ [])
 unfolding clap_on_literals
 first_step s takes x xs e = (simp (e, takes.0) refl, simp (e, takes.0) refl)
 
@@ -72,7 +73,8 @@ record Ends (s : Shape) (files : List Text) (w : Walk) (words : List Text) : Typ
 
 -- so it does from one word before, if that has no fault
 before : (s : Shape) (files : List Text) (w next : Walk) (word : Text) (words : List Text)
-    → (walked s.rules [] w word ≡ next) × (turn_fault s [] w word ≡ []) → Ends s files next words → Ends s files w (word ∷ words)
+    → (walked s.rules [] w word ≡ next) × (turn_fault s [] w word ≡ []) → Ends s files next words
+    → Ends s files w (word ∷ words)
 unfolding walk_fault
 before s files w next word words goes ends = record {
   rows = ap (λ w. (settled s.rules (fold (walked s.rules []) w words).held).rows) goes.0 ∙ ends.rows;
@@ -162,7 +164,8 @@ unfolding walk_fault defaults_fault
 files_taken question name file files plain =
     let words = file ∷ files in
     let end = all_end (shape question) (takes question) file files plain in
-    let level : level_fault (shape question) [] nothing_held words false [] ≡ [] = rw (end.passes, end.settles, end.rows) (needs question file files) in
+    let level : level_fault (shape question) [] nothing_held words false [] ≡ [] =
+        rw (end.passes, end.settles, end.rows) (needs question file files) in
     let stop = stops question in
     let walked_on : walk program.top.rules (names_of program) nothing_held (command_of question ∷ words)
     ≡ record (walk_from nothing_held) { stopped = Some (command_of question, words) } =
@@ -174,7 +177,8 @@ files_taken question name file files plain =
     (rw (stop.1, stop.0, passes, walked_on, found question, level) refl, ap (option_and_then asked_by) rows ∙ asks question file files)
 
 -- and without a file one is missing
-pub no_file_is_missed : (question : Question) (name : Text) → fault_of kalah_app (name ∷ command_of question ∷ []) ≡ MissingRequiredArgument ∷ []
+pub no_file_is_missed : (question : Question) (name : Text) →
+    fault_of kalah_app (name ∷ command_of question ∷ []) ≡ MissingRequiredArgument ∷ []
 unfolding clap_on_literals
 no_file_is_missed BestMove name = refl
 no_file_is_missed Values name = refl

@@ -49,18 +49,21 @@ pub record IsFirst (p : Position) (h : ℕ) (s : Step) : Type 0 where
   pub step : s ≡ step_of p h
 
 -- the solver's verdict has the best house, if the game goes on
-pub best_told : (p : Position) (margin : ℤ) (house : ℕ) → is_over p ≡ false → Best margin house ≡ verdict_of p → house ≡ best_house p
+pub best_told : (p : Position) (margin : ℤ) (house : ℕ) → is_over p ≡ false → Best margin house ≡ verdict_of p
+    → house ≡ best_house p
 best_told p margin house going is =
     let told : Best margin house ≡ Best (worth p) (best_house p) =
     is ∙ ap (λ b. if b then Over (final_margin p) else Best (worth p) (best_house p)) going in
     cc
 
 -- the best house is legal
-pub best_is_legal : (p : Position) (house : ℕ) → HasEqualSides p → is_over p ≡ false → house ≡ best_house p → Contains (legal_houses p) house
+pub best_is_legal : (p : Position) (house : ℕ) → HasEqualSides p → is_over p ≡ false → house ≡ best_house p
+    → Contains (legal_houses p) house
 best_is_legal p house even going best = rw best (best_is_strategy.moves p even going)
 
 -- the position after a step, in each case
-pub after_step : (s : Step) (p : Position) → (s ≡ step.Again p) ⊎ ((s ≡ step.Turn p) ⊎ (s ≡ step.Over p)) → p ≡ position_after s
+pub after_step : (s : Step) (p : Position) → (s ≡ step.Again p) ⊎ ((s ≡ step.Turn p) ⊎ (s ≡ step.Over p))
+    → p ≡ position_after s
 after_step s p (inl again) = sym (ap position_after again)
 after_step s p (inr (inl turn)) = sym (ap position_after turn)
 after_step s p (inr (inr over)) = sym (ap position_after over)
@@ -78,7 +81,8 @@ even_after p h = go (is_over (after p h)) (is_again p h)
 -- ---- a move more in front
 
 -- after a move that does not end the game, fewer moves are left
-pub fewer_left : (p q : Position) (h : ℕ) (s : Step) → IsFirst p h s → (s ≡ step.Again q) ⊎ (s ≡ step.Turn q) → moves_left q < moves_left p
+pub fewer_left : (p q : Position) (h : ℕ) (s : Step) → IsFirst p h s → (s ≡ step.Again q) ⊎ (s ≡ step.Turn q)
+    → moves_left q < moves_left p
 fewer_left p q h s first (inl again) =
     again_fewer p h q first.even (best_is_legal p h first.even first.going first.best) (sym again ∙ first.step)
 fewer_left p q h s first (inr turn) =
@@ -88,16 +92,19 @@ fewer_left p q h s first (inr turn) =
 followed_best : (p : Position) (h : ℕ) → h ≡ best_house p → Contains (follow best_house p) h
 followed_best p h best = rw best (contains_first (best_house p) [])
 
-next_game : (p q : Position) (h : ℕ) (s : Step) (houses : List ℕ) (final : Position) → IsFirst p h s → (s ≡ step.Again q) ⊎ (s ≡ step.Turn q) →
+next_game : (p q : Position) (h : ℕ) (s : Step) (houses : List ℕ) (final : Position) → IsFirst p h s → (s ≡ step.Again q)
+    ⊎ (s ≡ step.Turn q) →
     BestGame q houses final → (end : Position) × BestGame p (h ∷ houses) end
 next_game p q h s houses final first (inl again) game =
     let moved_to = again_step (is_over (after p h)) (is_again p h) (after p h) q (sym again ∙ first.step) in
     (final, moves_on first.going (followed_best p h first.best) moved_to.1 (subst (λ r. BestGame r houses final) moved_to.2 game))
 next_game p q h s houses final first (inr turn) game =
     let moved_to = turn_step (is_over (after p h)) (is_again p h) (after p h) q (sym turn ∙ first.step) in
-    (swapped final, passes_turn first.going (followed_best p h first.best) moved_to.1 (subst (λ r. BestGame r houses final) moved_to.2 game))
+    (swapped final, passes_turn first.going (followed_best p h first.best) moved_to.1
+        (subst (λ r. BestGame r houses final) moved_to.2 game))
 
-over_game : (p e : Position) (h : ℕ) (s : Step) → IsFirst p h s → s ≡ step.Over e → (final : Position) × BestGame p (h ∷ []) final
+over_game : (p e : Position) (h : ℕ) (s : Step) → IsFirst p h s → s ≡ step.Over e → (final : Position)
+    × BestGame p (h ∷ []) final
 over_game p e h s first over =
     let moved_to = over_step (is_over (after p h)) (is_again p h) (after p h) e (sym over ∙ first.step) in
     let moved = followed_best p h first.best in
@@ -107,7 +114,8 @@ over_game p e h s first over =
     ]
 
 -- it begins with the best house
-first_move : (h : ℕ) {p : Position} {houses : List ℕ} {final : Position} → BestGame p houses final → is_over p ≡ false → h ≡ best_house p →
+first_move : (h : ℕ) {p : Position} {houses : List ℕ} {final : Position} → BestGame p houses final → is_over p ≡ false
+    → h ≡ best_house p →
     (rest : List ℕ) × (houses ≡ h ∷ rest)
 first_move h (is_at_end over) going best = absurd (let both : true ≡ false = sym over ∙ going in cc)
 first_move h {p = p} (moves_on {h = k} {houses = rest} _ has again game) going best =
@@ -132,10 +140,12 @@ of_first {boards} {p} {h} {s} {Holds} first all =
     let begun = first_move h game.2 first.going first.best in
     let lines = game_lines boards (position_after (step_of p h)) begun.0 in
     of_game boards p game.0 game.1 Holds first.even game.2
-    (subst (λ hs. Holds (game_lines boards p hs)) (sym begun.1) (subst (λ x. Holds (move_lines boards h x ++ lines)) first.step (all lines)))
+    (subst (λ hs. Holds (game_lines boards p hs)) (sym begun.1)
+        (subst (λ x. Holds (move_lines boards h x ++ lines)) first.step (all lines)))
 
 -- what holds of them behind that line, if the rest is of the game from there on
-of_more : (boards : Bool) (p q : Position) (h : ℕ) (s : Step) (houses : List ℕ) (final : Position) (Rest Holds : List ℕ → Type 0) →
+of_more : (boards : Bool) (p q : Position) (h : ℕ) (s : Step) (houses : List ℕ) (final : Position)
+    (Rest Holds : List ℕ → Type 0) →
     IsFirst p h s → BestGame p (h ∷ houses) final → q ≡ position_after s → Rest (game_lines boards q houses) →
     ((lines : List ℕ) → Rest lines → Holds (move_lines boards h s ++ lines)) → OfBestGame boards p Holds
 of_more boards p q h s houses final Rest Holds first game next rest more =
@@ -148,11 +158,13 @@ pub of_next : {boards : Bool} {p q : Position} {h : ℕ} {s : Step} {Rest Holds 
     OfBestGame boards q Rest → OfBestGame boards p Holds
 of_next {boards} {p} {q} {h} {s} {Rest} {Holds} first is more rest =
     let game = next_game p q h s rest.houses rest.final first is rest.is_best.game in
-    let next : q ≡ position_after s = elim is [ inl again ↦ sym (ap position_after again) | inr turn ↦ sym (ap position_after turn) ] in
+    let next : q ≡ position_after s =
+        elim is [ inl again ↦ sym (ap position_after again) | inr turn ↦ sym (ap position_after turn) ] in
     of_more boards p q h s rest.houses game.0 Rest Holds first game.1 next rest.holds more
 
 -- the last move
-pub of_last : {boards : Bool} {p e : Position} {h : ℕ} {s : Step} {Holds : List ℕ → Type 0} → IsFirst p h s → s ≡ step.Over e →
+pub of_last : {boards : Bool} {p e : Position} {h : ℕ} {s : Step} {Holds : List ℕ → Type 0} → IsFirst p h s
+    → s ≡ step.Over e →
     Holds (move_lines boards h s ++ []) → OfBestGame boards p Holds
 of_last {boards} {p} {e} {h} {s} {Holds} first is holds =
     let game = over_game p e h s first is in
@@ -160,7 +172,8 @@ of_last {boards} {p} {e} {h} {s} {Holds} first is holds =
     (λ lines none. subst (λ l. Holds (move_lines boards h s ++ l)) (sym none) holds)
 
 -- of a game that is over there are none
-pub of_end : {boards : Bool} {p : Position} {Holds : List ℕ → Type 0} → HasEqualSides p → is_over p ≡ true → Holds [] → OfBestGame boards p Holds
+pub of_end : {boards : Bool} {p : Position} {Holds : List ℕ → Type 0} → HasEqualSides p → is_over p ≡ true → Holds []
+    → OfBestGame boards p Holds
 of_end {boards} {p} {Holds} even over holds = of_game boards p [] p Holds even (is_at_end over) holds
 
 -- ---- what is written of them
@@ -172,7 +185,8 @@ kept_appends a b c bytes keeps rest = Appends-trans a b c [] bytes (Appends-kept
 -- a prefix of the line of a move was written, after nothing was
 pub begins_move : (old ready new : Option (List ℕ)) (move lines : List ℕ) → Keeps old ready → AppendsStart ready new move →
     AppendsStart old new (move ++ lines)
-begins_move old ready new move lines keeps start = start_longer old new move lines (start.0, kept_appends old ready new (take start.0 move) keeps start.1)
+begins_move old ready new move lines keeps start = start_longer old new move lines
+    (start.0, kept_appends old ready new (take start.0 move) keeps start.1)
 
 -- all of it, and then a prefix of more lines
 pub begins_on : (old ready moved new : Option (List ℕ)) (move lines : List ℕ) → Keeps old ready → Appends ready moved move →
@@ -182,9 +196,11 @@ begins_on old ready moved new move lines keeps all rest =
     start_then old moved new (move ++ lines) move lines refl (kept_appends old ready moved move keeps all) rest
 
 -- all of both
-pub goes_on : (old ready moved new : Option (List ℕ)) (move lines : List ℕ) → Keeps old ready → Appends ready moved move → Appends moved new lines
+pub goes_on : (old ready moved new : Option (List ℕ)) (move lines : List ℕ) → Keeps old ready → Appends ready moved move
+    → Appends moved new lines
     → Appends old new (move ++ lines)
-goes_on old ready moved new move lines keeps all rest = kept_appends old ready new (move ++ lines) keeps (Appends-trans ready moved new move lines all rest)
+goes_on old ready moved new move lines keeps all rest = kept_appends old ready new (move ++ lines) keeps
+    (Appends-trans ready moved new move lines all rest)
 
 -- what holds if a call succeeds
 pub on_ok_always : {A E P : Type 0} (r : Result A E) → P → OnOk r P
@@ -200,29 +216,37 @@ of_any_game None boards p Holds even all = of_any even all
 of_any_game (Some h) boards p Holds even all = of_any (even_after p h) (λ lines. all (move_lines boards h (step_of p h) ++ lines))
 
 -- and so does what holds of any lines behind the move that is asked for
-pub of_first_house : (first : Option ℕ) (boards : Bool) (p : Position) (h : ℕ) (s : Step) (Holds : List ℕ → Type 0) → first ≡ Some h →
-    s ≡ step_of p h → ((lines : List ℕ) → Holds (board_lines boards p ++ (move_lines boards h s ++ lines))) → OfGame first boards p Holds
+pub of_first_house : (first : Option ℕ) (boards : Bool) (p : Position) (h : ℕ) (s : Step) (Holds : List ℕ → Type 0)
+    → first ≡ Some h →
+    s ≡ step_of p h → ((lines : List ℕ) → Holds (board_lines boards p ++ (move_lines boards h s ++ lines)))
+        → OfGame first boards p Holds
 of_first_house first boards p h s Holds asked same all = subst (λ f. OfGame f boards p Holds) (sym asked)
     (of_any (even_after p h)
     (λ lines. subst (λ x. Holds (board_lines boards p ++ (move_lines boards h x ++ lines))) same (all lines)))
 
 -- what holds of the lines of a game holds of it behind the first picture
 pub of_best : (first : Option ℕ) (boards : Bool) (p : Position) (Lines Holds : List ℕ → Type 0) → first ≡ None →
-    ((lines : List ℕ) → Lines lines → Holds (board_lines boards p ++ lines)) → OfBestGame boards p Lines → OfGame first boards p Holds
+    ((lines : List ℕ) → Lines lines → Holds (board_lines boards p ++ lines)) → OfBestGame boards p Lines
+        → OfGame first boards p Holds
 of_best first boards p Lines Holds none more game = subst (λ f. OfGame f boards p Holds) (sym none)
     (record { houses = game.houses; final = game.final; is_best = game.is_best; holds = more _ game.holds })
 
 -- and behind the first picture and the move that is asked for, where the game goes on from the position after it
-pub behind_move : (first : Option ℕ) (boards : Bool) (p next : Position) (h : ℕ) (s : Step) (Lines Holds : List ℕ → Type 0) → first ≡ Some h →
+pub behind_move : (first : Option ℕ) (boards : Bool) (p next : Position) (h : ℕ) (s : Step) (Lines Holds : List ℕ → Type 0)
+    → first ≡ Some h →
     s ≡ step_of p h → next ≡ position_after s →
-    ((lines : List ℕ) → Lines lines → Holds (board_lines boards p ++ (move_lines boards h s ++ lines))) → OfBestGame boards next Lines →
+    ((lines : List ℕ) → Lines lines → Holds (board_lines boards p ++ (move_lines boards h s ++ lines)))
+        → OfBestGame boards next Lines →
     OfGame first boards p Holds
 behind_move first boards p next h s Lines Holds asked same is more game = subst (λ f. OfGame f boards p Holds) (sym asked)
     (let rest = subst (λ q. OfBestGame boards q Lines) (is ∙ ap position_after same) game in record {
       houses = rest.houses;
       final = rest.final;
       is_best = rest.is_best;
-      holds = subst (λ x. Holds (board_lines boards p ++ (move_lines boards h x ++ game_lines boards (position_after (step_of p h)) rest.houses)))
+      holds =
+          subst
+          (λ x. Holds
+          (board_lines boards p ++ (move_lines boards h x ++ game_lines boards (position_after (step_of p h)) rest.houses)))
           same (more _ rest.holds);
     })
 

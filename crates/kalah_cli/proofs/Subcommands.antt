@@ -38,19 +38,23 @@ abbrev pub Takes : Text → Text → Rule → Type 0
 Takes name id a = arg_in subs name id ≡ Some a
 
 -- a number is in the range of its argument
-pub may_have_number : {name : Text} {rows : List Row} (id : Text) {a : Rule} {low high : ℕ} (least most : ℕ) → AreMatches name rows → Takes name id a
+pub may_have_number : {name : Text} {rows : List Row} (id : Text) {a : Rule} {low high : ℕ} (least most : ℕ) → AreMatches name rows
+    → Takes name id a
     → a.parser ≡ Some (Unsigned low high) → least ≤ low → high ≤ most → MayHaveNumber id least most rows
 may_have_number {name} {rows} id {a} least most m takes parser lower higher t e =
     let written = ap (λ p. reading_of (parser_of_value p)) parser in
-    let range = subst (λ p. Accepts a.ignore_case (parser_of_value p) t) parser (accepted_in rows id a (has_of name rows m id a takes) written t e) in
+    let range = subst (λ p. Accepts a.ignore_case (parser_of_value p) t) parser
+        (accepted_in rows id a (has_of name rows m id a takes) written t e) in
     (range.0, range.1, omega (arith, range.2, lower), omega (arith, range.3, higher))
 
 -- an argument that is required or has a default has a value
-pub given : {name : Text} {rows : List Row} (id : Text) {a : Rule} → AreMatches name rows → Takes name id a → is_wanted a ≡ true → Given rows id a
+pub given : {name : Text} {rows : List Row} (id : Text) {a : Rule} → AreMatches name rows → Takes name id a → is_wanted a ≡ true
+    → Given rows id a
 given {name} {rows} id {a} m takes wanted = given_in rows id a (has_of name rows m id a takes) wanted
 
 -- so a number is there, in its range
-pub has_number : {name : Text} {rows : List Row} (id : Text) {a : Rule} {low high : ℕ} (least most : ℕ) → AreMatches name rows → Takes name id a
+pub has_number : {name : Text} {rows : List Row} (id : Text) {a : Rule} {low high : ℕ} (least most : ℕ) → AreMatches name rows
+    → Takes name id a
     → a.parser ≡ Some (Unsigned low high) → least ≤ low → high ≤ most → is_wanted a ≡ true → HasNumber id least most rows
 has_number id least most m takes parser lower higher wanted = (
   may_have_number id least most m takes parser lower higher,
@@ -58,11 +62,13 @@ has_number id least most m takes parser lower higher wanted = (
 )
 
 -- a flag is set or isn't
-pub has_flag : {name : Text} {rows : List Row} (id : Text) {a : Rule} → AreMatches name rows → Takes name id a → a.parser ≡ Some vp.Bool
+pub has_flag : {name : Text} {rows : List Row} (id : Text) {a : Rule} → AreMatches name rows → Takes name id a
+    → a.parser ≡ Some vp.Bool
     → HasFlag id rows
 has_flag {name} {rows} id {a} m takes parser t e =
     let written = ap (λ p. reading_of (parser_of_value p)) parser in
-    let said = subst (λ p. Accepts a.ignore_case (parser_of_value p) t) parser (accepted_in rows id a (has_of name rows m id a takes) written t e) in
+    let said = subst (λ p. Accepts a.ignore_case (parser_of_value p) t) parser
+        (accepted_in rows id a (has_of name rows m id a takes) written t e) in
     elim (cases_Bool (bytes_eq t (codes "true"))) [
       | inl is ↦ inl ((bytes_eq-Decides t (codes "true")).0 is)
       | inr not ↦ inr ((bytes_eq-Decides t (codes "false")).0 (rw not at said))

@@ -63,11 +63,13 @@ moves_app = with_rule (with_rule (new_app (codes "moves")) (flag_rule (codes "bo
 
 -- `play [--table N] [--boards] [--first H] LINE`
 abbrev pub play_app : App
-play_app = with_rule (with_rule (with_rule (with_rule (new_app (codes "play")) table_rule) (flag_rule (codes "boards"))) first_rule) line_rule
+play_app = with_rule (with_rule (with_rule (with_rule (new_app (codes "play")) table_rule) (flag_rule (codes "boards"))) first_rule)
+    line_rule
 
 -- `NAME [--workers N] [--table N] [--progress] FILE..`
 abbrev pub answers_app : Text → App
-answers_app name = with_rule (with_rule (with_rule (with_rule (new_app name) workers_rule) table_rule) (flag_rule (codes "progress"))) file_rule
+answers_app name = with_rule (with_rule (with_rule (with_rule (new_app name) workers_rule) table_rule) (flag_rule (codes "progress")))
+    file_rule
 
 abbrev pub solve_app : App
 solve_app = answers_app (codes "solve")
@@ -95,12 +97,14 @@ count_app = with_rule (with_rule (new_app (codes "count")) depth_rule) line_rule
 
 -- the program with no subcommand yet
 abbrev pub program_app : App
-program_app = on_top (λ s. record s { has_version = true; subcommand_required = true; disable_help_subcommand = true }) (new_app (codes "kalah"))
+program_app = on_top (λ s. record s { has_version = true; subcommand_required = true; disable_help_subcommand = true })
+    (new_app (codes "kalah"))
 
 -- the program with the subcommands that search
 abbrev solvers_app : App
 solvers_app =
-    with_subcommand (with_subcommand (with_subcommand (with_subcommand (with_subcommand program_app moves_app.top) play_app.top) solve_app.top)
+    with_subcommand
+        (with_subcommand (with_subcommand (with_subcommand (with_subcommand program_app moves_app.top) play_app.top) solve_app.top)
     values_app.top) ask_app.top
 
 -- the program, which is always given one of its subcommands

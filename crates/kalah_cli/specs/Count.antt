@@ -5,7 +5,8 @@ use Rattle.kalah_rules.specs.Play.{legal_houses}
 use Rattle.kalah_rules.specs.Ways.{ways, ways_by}
 use Rattle.kalah_jobs.specs.Writing.Counts.{total_line, ways_line}
 
--- a line for each legal house, in ascending order: the number of ways of that many moves that begin with its move. No way of no moves begins with one
+-- a line for each legal house, in ascending order: the number of ways of that many moves that begin with its move. No way of no moves
+-- begins with one
 abbrev pub ways_lines : ℕ → Position → List ℕ
 ways_lines zero p = []
 ways_lines (suc n) p = flat_map (λ h. ways_line h (ways_by n p h)) (legal_houses p)

@@ -67,6 +67,3 @@ impl<W: Write> Write for Fused<W> {
         flushed
     }
 }
-
-#[cfg(test)]
-mod tests;

@@ -27,7 +27,8 @@ front_stops (Some a ∷ xs) zero gap = cc
 front_stops (Some a ∷ xs) (suc k) gap = omega (arith, front_stops xs k gap)
 
 -- a line that has come at the front moves it on
-pub front_more : (xs : List (Option Answer)) (k : ℕ) → k ≤ front_of xs → is_some (get_or xs k None) ≡ true → k + 1 ≤ front_of xs
+pub front_more : (xs : List (Option Answer)) (k : ℕ) → k ≤ front_of xs → is_some (get_or xs k None) ≡ true
+    → k + 1 ≤ front_of xs
 front_more [] k low here = cc
 front_more (None ∷ xs) zero low here = cc
 front_more (None ∷ xs) (suc k) low here = absurd (omega arith)
@@ -47,16 +48,19 @@ front_none zero = refl
 front_none (suc n) = refl
 
 -- if all lines came the front is at the end
-pub front_full : (xs : List (Option Answer)) → ((k : ℕ) → k < length xs → is_some (get_or xs k None) ≡ true) → front_of xs ≡ length xs
+pub front_full : (xs : List (Option Answer)) → ((k : ℕ) → k < length xs → is_some (get_or xs k None) ≡ true)
+    → front_of xs ≡ length xs
 front_full [] all = refl
 front_full (None ∷ xs) all = let h = all 0 (omega arith) in cc
 front_full (Some a ∷ xs) all = omega (arith, front_full xs (λ k low. all (suc k) (omega arith)))
 
 -- if the first m lines have come, the front has come so far
-pub front_least : (xs : List (Option Answer)) (m : ℕ) → ((k : ℕ) → k < m → is_some (get_or xs k None) ≡ true) → m ≤ front_of xs
+pub front_least : (xs : List (Option Answer)) (m : ℕ) → ((k : ℕ) → k < m → is_some (get_or xs k None) ≡ true)
+    → m ≤ front_of xs
 front_least xs m all =
     ⊎_elim
-    (λ (short : front_of xs < m). let more : front_of xs + 1 ≤ front_of xs = front_more xs (front_of xs) (omega arith) (all (front_of xs) short) in
+    (λ (short : front_of xs < m). let more : front_of xs + 1 ≤ front_of xs = front_more xs (front_of xs) (omega arith)
+        (all (front_of xs) short) in
     absurd (omega arith))
     (λ (long : m ≤ front_of xs). long)
     (cases_lt (front_of xs) m)

@@ -30,7 +30,8 @@ row_of n f = map f (range_with_len 1 n)
 -- house h is emptied, and c seeds are sown from it
 unfoldable pub sow : Position → ℕ → ℕ → Position
 sow p h c = record p {
-  own = row_of (side_length p) (λ i. (if i == h then 0 else seeds p.own i) + gain (lap_length (side_length p)) c (own_distance (side_length p) h i));
+  own = row_of (side_length p) (λ i.
+      (if i == h then 0 else seeds p.own i) + gain (lap_length (side_length p)) c (own_distance (side_length p) h i));
   own_store = p.own_store + gain (lap_length (side_length p)) c (store_distance (side_length p) h);
   other = row_of (side_length p) (λ j. seeds p.other j + gain (lap_length (side_length p)) c (other_distance (side_length p) h j));
 }

@@ -8,8 +8,6 @@ pub(crate) mod house_row;
 mod numbers;
 mod play;
 pub(crate) mod sowings;
-#[cfg(test)]
-mod tests;
 
 use crate::houses::house_row::HouseRow;
 use crate::houses::numbers::{

@@ -1,6 +1,7 @@
 //! The limits of a batch.
 ghost use Rattle.std.specs.Prelude.{◌≡◌};
 ghost use Rattle.kalah_run.specs.Limits.{most_places, most_workers};
+ghost use Rattle.kalah_run.specs.declared.limits.TheConstants.{MOST_TRIES, QUEUE_PLACES};
 
 /// The most workers that answer a batch.
 pub const MOST_WORKERS: u32 = 64;
@@ -15,8 +16,10 @@ pub(crate) const QUEUE_PLACES: u32 = 256;
 /// The most tries that are saved up. They take longer than waking a worker that found the queue full.
 pub(crate) const MOST_TRIES: u32 = 64;
 
-/// The limits of what is run, as numbers. A law over the definitions that contracts cite.
+/// The limits of what is run, as numbers: a law over the definitions that contracts cite, and over the places and the tries of a batch.
 pub fn limits_of_runs()
     ensures workers { most_workers ≡ 64 }
     ensures places { most_places ≡ 1024 }
+    ensures queue { QUEUE_PLACES ≡ 256 }
+    ensures tries { MOST_TRIES ≡ 64 }
 {}

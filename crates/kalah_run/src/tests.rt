@@ -1,3 +1,2 @@
 //! What the tests of several modules share.
-pub(crate) mod drawn;
 pub(crate) mod out_of_memory;

@@ -10,7 +10,7 @@ ghost use Rattle.kalah_solve.specs.Solver.Verdict.{verdict_of, TellsBestPlay, Is
 pub(crate) mod laws;
 pub(crate) mod move_values;
 #[cfg(test)]
-mod tests;
+pub(crate) mod tests;
 mod values;
 pub(crate) mod verdict;
 

@@ -1,4 +1,3 @@
-//! What the tests of several rooms share.
-pub(crate) mod granting;
+//! What the tests of several modules share.
 pub(crate) mod out_of_memory;
 pub(crate) mod plain;

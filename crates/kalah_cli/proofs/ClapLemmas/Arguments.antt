@@ -31,7 +31,8 @@ abbrev FitsIn : List Rule → Row → Type 0
 FitsIn c r = (a : Rule) → arg_by_id c r.id ≡ Some a → Fits a r
 
 -- one argument has an id
-fits_same : (c : List Rule) (id : Text) (a b : Rule) (r : Row) → arg_by_id c id ≡ Some a → arg_by_id c id ≡ Some b → Fits a r → Fits b r
+fits_same : (c : List Rule) (id : Text) (a b : Rule) (r : Row) → arg_by_id c id ≡ Some a → arg_by_id c id ≡ Some b → Fits a r
+    → Fits b r
 fits_same c id a b r one other fit = subst (λ x. Fits x r) (let same : a ≡ b = cc in same) fit
 
 -- an argument that is found by its id, and has a value at each use, makes rows that fit it
@@ -80,7 +81,8 @@ pub record Has (rows : List Row) (id : Text) (a : Rule) : Type 0 where
   pub there : is_wanted a ≡ true → has_row id rows ≡ true
 
 -- a default makes a row, which stays
-defaults_made : (c : List Rule) (rows : List Row) → AllOf (λ a. is_empty a.defaults ≡ false → has_row a.id (fold with_default rows c) ≡ true) c
+defaults_made : (c : List Rule) (rows : List Row) → AllOf (λ a. is_empty a.defaults ≡ false
+    → has_row a.id (fold with_default rows c) ≡ true) c
 defaults_made [] rows = tt
 defaults_made (a ∷ rest) rows = (
   λ some. rows_stay a.id rest (with_default rows a) (go a.defaults refl some),
@@ -123,7 +125,8 @@ level_has s words usable e id a found =
           (λ some. let row = given_row a.id rows some in (found_passes _ rows row.0 row.1).1));
     }
   where
-    go : {P : Type 0} (empty required given : Bool) → (required || not empty) ≡ true → (required && not given) ≡ false → (empty ≡ false → P)
+    go : {P : Type 0} (empty required given : Bool) → (required || not empty) ≡ true → (required && not given) ≡ false →
+        (empty ≡ false → P)
         → (given ≡ true → P) → P
     go empty true true w none by_default by_use = by_use refl
     go false false given w none by_default by_use = by_default refl
@@ -146,7 +149,8 @@ given_in rows id a has wanted =
     let fit = has.fits row.0 row.1 in
     go row.0 row.0.values row.1 refl fit.reading fit.some
   where
-    go : (r : Row) (vs : List Text) → find (λ r. bytes_eq r.id id) rows ≡ Some r → r.values ≡ vs → r.reading ≡ reading_by a → 0 < length vs
+    go : (r : Row) (vs : List Text) → find (λ r. bytes_eq r.id id) rows ≡ Some r → r.values ≡ vs → r.reading ≡ reading_by a
+        → 0 < length vs
         → Given rows id a
     go r [] is e f some = absurd (omega arith)
     go r (v ∷ vs) is e f some = record {
@@ -158,7 +162,8 @@ given_in rows id a has wanted =
     }
 
 -- what a typed getter reads is accepted
-pub accepted_in : (rows : List Row) (id : Text) (a : Rule) → Has rows id a → reading_by a ≡ AsWritten → (t : Text) → one_of id rows ≡ Some t
+pub accepted_in : (rows : List Row) (id : Text) (a : Rule) → Has rows id a → reading_by a ≡ AsWritten → (t : Text)
+    → one_of id rows ≡ Some t
     → Accepts a.ignore_case (parser_of_value a.parser) t
 accepted_in rows id a has written t e = elim (cases_Option (find (λ r. bytes_eq r.id id) rows)) [
   | inl none ↦ absurd (let bad : None ≡ Some t = rw none at e in cc)
@@ -167,7 +172,8 @@ accepted_in rows id a has written t e = elim (cases_Option (find (λ r. bytes_eq
       first _ some.0.values some.0.reading fit.accepted (fit.reading ∙ written) (rw some.1 at e)
 ]
   where
-    first : (Q : Text → Type 0) (vs : List Text) (how : Reading) → AllOf Q vs → how ≡ AsWritten → option_map (read_as how) (slice_get vs 0) ≡ Some t
+    first : (Q : Text → Type 0) (vs : List Text) (how : Reading) → AllOf Q vs → how ≡ AsWritten
+        → option_map (read_as how) (slice_get vs 0) ≡ Some t
         → Q t
     first Q [] how all is f = cc
     first Q (v ∷ vs) how all is f =
@@ -192,7 +198,8 @@ HasOf subs name rows = (id : Text) (a : Rule) → arg_in subs name id ≡ Some a
 abbrev pub Enters : App → Option (Text × List Row) → Type 0
 Enters a o = (name : Text) × (rows : List Row) × (o ≡ Some (name, rows)) × HasOf a.subs name rows
 
-entered_has : (a : App) (stop : Option (Text × List Text)) → all_usable a.subs ≡ true → is_some (entered a stop) ≡ true → entered_fault a stop ≡ []
+entered_has : (a : App) (stop : Option (Text × List Text)) → all_usable a.subs ≡ true → is_some (entered a stop) ≡ true
+    → entered_fault a stop ≡ []
     → Enters a (entered a stop)
 entered_has a None usable some e = cc
 entered_has a (Some p) usable some e = elim (cases_Option (find (λ s. answers_to p.0 (label_of s)) a.subs)) [
@@ -201,12 +208,14 @@ entered_has a (Some p) usable some e = elim (cases_Option (find (λ s. answers_t
       let s = met.0 in
       let parts = both (distinct (λ (s : Shape). s.name) a.subs) _ usable in
       let own = found_all _ (λ s. answers_to p.0 (label_of s)) a.subs s (each_found (λ (s : Shape). s.name) a.subs parts.0) met.1 in
-      let args = found_all _ (λ s. answers_to p.0 (label_of s)) a.subs s (all_pass (λ (s : Shape). are_usable s.rules) a.subs parts.1) met.1 in
+      let args = found_all _ (λ s. answers_to p.0 (label_of s)) a.subs s
+          (all_pass (λ (s : Shape). are_usable s.rules) a.subs parts.1) met.1 in
       rw met.1 (s.name, rows_after s.rules [] p.1, refl, λ id b found. level_has s p.1 args (rw met.1 at e) id b (rw own at found))
 ]
 
 -- arguments that fail by no kind enter one, if one is required
-pub taken_has : (a : App) (words : List Text) → all_usable (built a).subs ≡ true → (built a).top.subcommand_required ≡ true → fault_of a words ≡ []
+pub taken_has : (a : App) (words : List Text) → all_usable (built a).subs ≡ true → (built a).top.subcommand_required ≡ true
+    → fault_of a words ≡ []
     → Enters (built a) (subcommand_of a words)
 taken_has a words usable required e =
     let rest = argument_words a words in

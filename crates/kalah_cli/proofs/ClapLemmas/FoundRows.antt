@@ -15,7 +15,8 @@ use Rattle.clap.specs.declared.parser.matches.ValueSource.{ValueSource}
 use Rattle.kalah_cli.proofs.Items.{AllOf, any_found, cases_Option}
 
 -- values of no fault are accepted by the parser
-pub values_pass : (ignore_case : Bool) (p : ValueParser) (vs : List Text) → values_kinds ignore_case p vs ≡ [] → AllOf (Accepts ignore_case p) vs
+pub values_pass : (ignore_case : Bool) (p : ValueParser) (vs : List Text) → values_kinds ignore_case p vs ≡ []
+    → AllOf (Accepts ignore_case p) vs
 values_pass ignore_case p [] e = tt
 values_pass ignore_case p (v ∷ vs) e = elim (cases_Bool (accepts ignore_case p v)) [
   | inl is ↦ (accepts-Accepts ignore_case p v is, values_pass ignore_case p vs (rw is at e))
@@ -68,7 +69,8 @@ given_row id rows e = elim (cases_Option (find (λ r. bytes_eq r.id id) rows)) [
 ]
 
 -- a row stays there while all defaults are filled in
-pub rows_stay : (id : Text) (c : List Rule) (rows : List Row) → has_row id rows ≡ true → has_row id (fold with_default rows c) ≡ true
+pub rows_stay : (id : Text) (c : List Rule) (rows : List Row) → has_row id rows ≡ true
+    → has_row id (fold with_default rows c) ≡ true
 rows_stay id [] rows e = e
 rows_stay id (a ∷ rest) rows e = rows_stay id rest (with_default rows a) (default_stays id rows a e)
 

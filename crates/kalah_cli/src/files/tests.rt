@@ -62,15 +62,3 @@ fn a_byte_more_than_the_limit_is_too_long(rt: HostRuntime) {
         assert!(rt; is_told, "at {limit}");
     }
 }
-
-#[test]
-fn reads_more_than_one_chunk(rt: HostRuntime) {
-    let bytes = [7u8; 10_000];
-    let mut reader = bytes.as_slice();
-    match read_limited(rt.alloc(), &mut reader, 10_000) {
-        Ok(read) => assert!(rt; read.as_slice() == bytes.as_slice()),
-        Err(_) => assert!(rt; false),
-    }
-    let mut empty = b"".as_slice();
-    assert!(rt; read_limited(rt.alloc(), &mut empty, 0).is_ok_and(|read| read.is_empty()));
-}

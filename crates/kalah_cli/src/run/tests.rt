@@ -1,4 +1,4 @@
-ghost use Rattle.std.specs.Prelude.{◌≡◌, ◌<◌, Some, vec_len};
+ghost use Rattle.std.specs.Prelude.{◌<◌, vec_len};
 
 mod counting;
 mod help;
@@ -6,7 +6,6 @@ mod hostile;
 mod playing;
 mod showing;
 mod solving;
-mod stepping;
 mod valuing;
 
 use super::run_words;
@@ -18,7 +17,7 @@ use std::process::Abort;
 use std::rt::{Clock, Files};
 use std::sync::Wait;
 use std::thread::Threads;
-use std::{fs, io};
+use std::{fs, io, str};
 
 /// What a run needs of its runtime, and what a test does with it.
 trait Host: Abort + AllocGlobal + Files + Input + Clock + Terminal + Threads + Wait + Sync {}
@@ -42,28 +41,20 @@ impl Failing {
             fails_at,
         }
     }
+}
 
-    fn count_call(&mut self) -> Result<(), io::Error>
-        ensures { self.new.bytes ≡ self.old.bytes }
-    {
+impl Write for Failing {
+    fn write(&mut self, buf: &[u8]) -> io::Result<usize> {
+        self.flush()?;
+        self.bytes.write(buf)
+    }
+
+    fn flush(&mut self) -> io::Result<()> {
         self.calls = self.calls.saturating_add(1);
         if self.calls >= self.fails_at {
             return Err(io::Error::from(ErrorKind::BrokenPipe));
         }
         Ok(())
-    }
-}
-
-impl Write for Failing {
-    ghost contents = { λ w. Some w.bytes.items };
-
-    fn write(&mut self, buf: &[u8]) -> io::Result<usize> {
-        self.count_call()?;
-        self.bytes.write(buf)
-    }
-
-    fn flush(&mut self) -> io::Result<()> {
-        self.count_call()
     }
 }
 
@@ -106,17 +97,12 @@ fn run_on(rt: &impl Host, texts: &[&str]) -> Run {
     }
 }
 
-// The run ended with this status and these bytes on both outputs.
-fn answers(run: &Run, status: ExitStatus, out: &str, err: &str) -> bool {
-    run.status == status
-        && run.out.as_slice() == out.as_bytes()
-        && run.err.as_slice() == err.as_bytes()
-}
-
-// A run with these arguments ends so.
+// A run with these arguments ends with this status, and with these bytes on both outputs.
 fn assert_answers(rt: &impl Host, words: &[&str], status: ExitStatus, (out, err): (&str, &str)) {
     let run = run_on(rt, words);
-    assert!(rt; answers(&run, status, out, err), "{words:?}");
+    assert!(rt; run.status == status, "{words:?}");
+    assert!(rt; run.out.as_slice() == out.as_bytes(), "{words:?}");
+    assert!(rt; run.err.as_slice() == err.as_bytes(), "{words:?}");
 }
 
 // Runs with these arguments are clean, and write these texts.
@@ -133,21 +119,22 @@ fn assert_said(rt: &impl Host, status: ExitStatus, rows: &[(&[&str], &str)]) {
     }
 }
 
-// Lines, and what `moves` prints for them.
-const MOVES: &[(&str, &str)] = &[
-    ("1,1/0 1,1/0", "1 1,1/0 0,2/0 turn\n2 1,0/1 1,1/0 again\n"),
-    ("3/0 3/0", "1 0/6 0/0 over\n"),
-    ("1/99 1/99", "1 0/100 0/100 over\n"),
-    ("8/0 8/0", "1 11/0 2/3 turn\n"),
-    ("1,0/0 0,2/0 e", "1 0,0/1 0,0/2 e over\n"),
-    ("0/0 1/0", ""),
+// Positions, and their moves.
+const MOVES: &[(&[&str], &str)] = &[
+    (
+        &["moves", "1,1/0 1,1/0"],
+        "1 1,1/0 0,2/0 turn\n2 1,0/1 1,1/0 again\n",
+    ),
+    (&["moves", "3/0 3/0"], "1 0/6 0/0 over\n"),
+    (&["moves", "1/99 1/99"], "1 0/100 0/100 over\n"),
+    (&["moves", "8/0 8/0"], "1 11/0 2/3 turn\n"),
+    (&["moves", "1,0/0 0,2/0 e"], "1 0,0/1 0,0/2 e over\n"),
+    (&["moves", "0/0 1/0"], ""),
 ];
 
 #[test]
-fn shows_the_moves_of_a_position(rt: HostRuntime) {
-    for (line, moves) in MOVES {
-        assert_answers(&rt, &["moves", *line], ExitStatus::Clean, (*moves, ""));
-    }
+fn prints_the_moves_of_a_position(rt: HostRuntime) {
+    assert_written(&rt, MOVES);
 }
 
 // Arguments with a line that can't be read, and the message.
@@ -240,25 +227,6 @@ fn mistakes_in_the_words(rt: HostRuntime) {
     }
 }
 
-// Arguments that ask for help.
-const HELP: &[&[&str]] = &[
-    &["--help"],
-    &["-h"],
-    &["moves", "--help"],
-    &["play", "--help"],
-    &["solve", "--help"],
-    &["values", "--help"],
-];
-
-#[test]
-fn help_goes_to_the_output(rt: HostRuntime) {
-    for words in HELP {
-        let shown = run_on(&rt, *words);
-        assert!(rt; shown.status == ExitStatus::Clean, "{words:?}");
-        assert!(rt; !shown.out.is_empty() && shown.err.is_empty());
-    }
-}
-
 // Arguments with a file that can't be read, and the message.
 const NOT_READ: &[(&[&str], &str)] = &[
     (
@@ -284,49 +252,21 @@ fn a_file_that_is_not_read(rt: HostRuntime) {
     assert_said(&rt, ExitStatus::Failed, NOT_READ);
 }
 
-/// The result of a run whose output failed, or accepted all.
-#[derive(Drop)]
-struct Stopped {
-    status: ExitStatus,
-    has_failed: bool,
-    calls: u32,
-    err: Vec<u8>,
-}
-
-impl Stopped {
-    // Whether the run ended as it must, given whether its output failed or accepted all.
-    fn is_told(&self) -> bool {
-        let (status, err) = if self.has_failed {
-            (ExitStatus::Failed, "kalah: write failed\n")
-        } else {
-            (ExitStatus::Clean, "")
-        };
-        self.status == status && self.err.as_slice() == err.as_bytes()
-    }
-}
-
-// A run whose output fails at its call number `fails_at`, and at each later one.
-fn run_failing(rt: &impl Host, texts: &[&str], fails_at: u32) -> Stopped {
+// If the output fails at its call number `k`, and at each later one, the run ends there. It makes `calls` calls if none fails.
+fn assert_stops_at(rt: &impl Host, texts: &[&str], calls: u32, k: u32) {
     let words = words_of(rt, texts);
-    let mut out = Stream::new(Failing::new(rt, fails_at));
+    let mut out = Stream::new(Failing::new(rt, k));
     let mut err = Vec::<u8>::new(rt.alloc());
     let status = run_words(rt, rt.alloc(), words, &mut out, &mut err);
-    Stopped {
-        status,
-        has_failed: out.failed(),
-        calls: out.into_inner().calls,
-        err,
-    }
-}
-
-// If the output fails at its call number `k`, the run ends there. It makes `calls` calls if none fails.
-fn assert_stops_at(rt: &impl Host, words: &[&str], calls: u32, k: u32) {
-    let run = run_failing(rt, words, k);
-    assert!(rt;
-        (run.has_failed, run.calls) == (k <= calls, k.min(calls)),
-        "{words:?} at {k}"
-    );
-    assert!(rt; run.is_told(), "{words:?} at {k}");
+    let ends = if k <= calls {
+        (ExitStatus::Failed, true, "kalah: write failed\n")
+    } else {
+        (ExitStatus::Clean, false, "")
+    };
+    let has_failed = out.failed();
+    let said = str::from_utf8(err.as_slice()).unwrap_or("no text");
+    assert!(rt; (status, has_failed, said) == ends, "{texts:?} at {k}");
+    assert!(rt; out.into_inner().calls == k.min(calls), "{texts:?} at {k}");
 }
 
 // Arguments, and how many calls the run makes of its output.
@@ -347,6 +287,7 @@ const CALLS: &[(&[&str], u32)] = &[
     (&["count", "2", "1,1/0 1,1/0"], 6),
     (&["count", "0", "1,1/0 1,1/0"], 2),
     // Each line is written in one call, and a flush ends them.
+    (&["solve", "stopped.txt"], 3),
     (&["values", "stopped.txt"], 3),
     (&["steps", "stopped.txt"], 4),
 ];

@@ -45,7 +45,8 @@ lines_of_ended (byte ∷ piece) none =
     ∙ ap (onto_first byte) (lines_of_ended piece (All-tail IsOther byte piece none))
 
 -- a piece that isn't empty is one line if nothing follows
-pub lines_of_open : (byte : ℕ) (piece : List ℕ) → HasNoLineFeed (byte ∷ piece) → lines_of (byte ∷ piece) ≡ (byte ∷ piece) ∷ []
+pub lines_of_open : (byte : ℕ) (piece : List ℕ) → HasNoLineFeed (byte ∷ piece)
+    → lines_of (byte ∷ piece) ≡ (byte ∷ piece) ∷ []
 unfolding lines_of
 lines_of_open byte [] none = lines_of-byte byte [] (All-head IsOther byte [] none)
 lines_of_open byte (next ∷ piece) none =
@@ -67,14 +68,16 @@ pub answers_split : (question : Question) (lines more : List ℕ) → EndsWithIt
     answers_to question (lines ++ more) ≡ answers_to question lines ++ answers_to question more
 unfolding answers_to
 answers_split question lines more ends =
-    ap (flat_map (told question)) (files_split_between_lines.parts lines more ends).lines ∙ flat_map-append (told question) (lines_of lines) (lines_of more)
+    ap (flat_map (told question)) (files_split_between_lines.parts lines more ends).lines
+        ∙ flat_map-append (told question) (lines_of lines) (lines_of more)
 
 pub no_answers : (question : Question) → answers_to question [] ≡ []
 unfolding answers_to
 no_answers question = ap (flat_map (told question)) no_lines
 
 -- the answer to one line
-pub answers_to_one : (question : Question) (bytes line : List ℕ) → lines_of bytes ≡ line ∷ [] → answers_to question bytes ≡ told question line
+pub answers_to_one : (question : Question) (bytes line : List ℕ) → lines_of bytes ≡ line ∷ []
+    → answers_to question bytes ≡ told question line
 unfolding answers_to
 answers_to_one question bytes line one = ap (flat_map (told question)) one ∙ append-nil (told question line)
 
@@ -124,7 +127,8 @@ too_long line long = ap entry_of_reading (long_reading line (omega (arith, cr_is
 pub kept_says : (line : List ℕ) → entry_of (take kept_bytes line) ≡ entry_of line
 kept_says line = elim (cases_lt kept_bytes (length line)) [
   | inl long ↦
-      too_long (take kept_bytes line) (omega (arith, length-take-le kept_bytes line (omega (arith, long)))) ∙ sym (too_long line (omega (arith, long)))
+      too_long (take kept_bytes line) (omega (arith, length-take-le kept_bytes line (omega (arith, long))))
+          ∙ sym (too_long line (omega (arith, long)))
   | inr short ↦ ap entry_of (take_all kept_bytes line short)
 ]
 
@@ -136,7 +140,8 @@ pub kept_faulty : (line : List ℕ) → is_faulty (take kept_bytes line) ≡ is_
 kept_faulty line = ap (λ entry. is_fault (answer_of entry)) (kept_says line)
 
 -- one byte more of those that are kept
-pub kept_more : (line : List ℕ) (byte : ℕ) → take kept_bytes (take kept_bytes line ++ byte ∷ []) ≡ take kept_bytes (line ++ byte ∷ [])
+pub kept_more : (line : List ℕ) (byte : ℕ) → take kept_bytes (take kept_bytes line ++ byte ∷ []) ≡ take kept_bytes
+    (line ++ byte ∷ [])
 kept_more line byte = go kept_bytes line
   where
     go : (n : ℕ) (line : List ℕ) → take n (take n line ++ byte ∷ []) ≡ take n (line ++ byte ∷ [])
@@ -145,7 +150,8 @@ kept_more line byte = go kept_bytes line
     go (suc n) (first ∷ line) = ap (λ l. first ∷ l) (go n line)
 
 -- what stands behind the last line feed is answered as its lines are
-pub last_told : (question : Question) (piece : List ℕ) → HasNoLineFeed piece → answers_to question piece ≡ told_last question (take kept_bytes piece)
+pub last_told : (question : Question) (piece : List ℕ) → HasNoLineFeed piece
+    → answers_to question piece ≡ told_last question (take kept_bytes piece)
 last_told question [] none = no_answers question
 last_told question (byte ∷ piece) none =
     answers_to_one question (byte ∷ piece) (byte ∷ piece) (lines_of_open byte piece none) ∙ sym (kept_told question (byte ∷ piece))

@@ -64,10 +64,12 @@ both a b c d is too = ap₂ (λ x y. x && y) is too ∙ swapped c d
     swapped false false = refl
 
 -- the bytes of a line, as they were taken
-whole_line : (before now next : Option (List ℕ)) (lines part : List ℕ) → Consumes before now (lines ++ part) → Consumes now next (line_feed ∷ [])
+whole_line : (before now next : Option (List ℕ)) (lines part : List ℕ) → Consumes before now (lines ++ part)
+    → Consumes now next (line_feed ∷ [])
     → Consumes before next (lines ++ (part ++ line_feed ∷ []))
 whole_line before now next lines part taken end =
-    subst (Consumes before next) (append_assoc lines part (line_feed ∷ [])) (Consumes-trans before now next (lines ++ part) (line_feed ∷ []) taken end)
+    subst (Consumes before next) (append_assoc lines part (line_feed ∷ []))
+        (Consumes-trans before now next (lines ++ part) (line_feed ∷ []) taken end)
 
 -- the line that was kept in part is answered as the whole of it
 told_whole : (question : Question) (line part : List ℕ) → line ≡ take kept_bytes part → told question line ≡ told question part
@@ -80,14 +82,16 @@ pub line_read : (question : Question) (before now next old new kept more : Optio
     → Underway question before next old more [] (all_read && is_read)
 line_read question before now next old new kept more line all_read is_read u end keeps tells read =
     let one = lines_of_ended u.part u.unended in
-    let ended_now : EndsWithItsLine (u.lines ++ (u.part ++ line_feed ∷ [])) = inr (u.lines ++ u.part, sym (append_assoc u.lines u.part (line_feed ∷ []))) in
+    let ended_now : EndsWithItsLine (u.lines ++ (u.part ++ line_feed ∷ [])) =
+        inr (u.lines ++ u.part, sym (append_assoc u.lines u.part (line_feed ∷ []))) in
     record {
       lines = u.lines ++ (u.part ++ line_feed ∷ []);
       part = [];
       ended = ended_now;
       unended = All-nil IsOther;
       kept = refl;
-      taken = subst (Consumes before next) (sym (append-nil (u.lines ++ (u.part ++ line_feed ∷ [])))) (whole_line before now next u.lines u.part u.taken end);
+      taken = subst (Consumes before next) (sym (append-nil (u.lines ++ (u.part ++ line_feed ∷ []))))
+          (whole_line before now next u.lines u.part u.taken end);
       written = subst (Appends old more) (sym (answers_to_more question u.lines (u.part ++ line_feed ∷ []) u.part u.ended one))
           (Appends-trans old kept more (answers_to question u.lines) (told question u.part)
           (Appends-kept old new kept (answers_to question u.lines) u.written keeps)
@@ -129,7 +133,8 @@ begun_so_far question before now next old new kept line all_read u left keeps = 
   one = one_line u.part u.unended;
   taken = Consumes-kept before now next (u.lines ++ u.part) u.taken left;
   count = 0;
-  written = subst (Appends old kept) (sym (append-nil (answers_to question u.lines))) (Appends-kept old new kept (answers_to question u.lines) u.written keeps);
+  written = subst (Appends old kept) (sym (append-nil (answers_to question u.lines)))
+      (Appends-kept old new kept (answers_to question u.lines) u.written keeps);
 }
 
 -- a line was read, and its answer was begun

@@ -52,7 +52,8 @@ total_first zero f = omega arith
 total_first (suc n) f = let a = total_first n f in let b : total (suc (suc n)) f ≡ total (suc n) f + f (suc n) = refl in omega arith
 
 -- a sum over a list, by place
-pub total_rows : {X : Type 0} (g : X → ℕ) (d : X) (rows : List X) → total (length rows) (λ w. g (slice_index_or rows w d)) ≡ sum_by g rows
+pub total_rows : {X : Type 0} (g : X → ℕ) (d : X) (rows : List X)
+    → total (length rows) (λ w. g (slice_index_or rows w d)) ≡ sum_by g rows
 unfolding total
 total_rows g d [] = refl
 total_rows g d (r ∷ rs) =
@@ -108,7 +109,8 @@ count_split q m (z ∷ zs) below =
     step z ∙ ap (λ (b : Bool). cond b 1 0 + count_by (λ y. y == z) zs) (eq-eqb z z refl) ∙ omega arith in
     let one : f z ≡ g z + cond (q z) 1 0 = more (q z) (count_by (λ y. y == z) (z ∷ zs)) (count_by (λ y. y == z) zs) here in
     let other : (x : ℕ) → x ≢ z → f x ≡ g x =
-    λ x ne. ap (chosen (q x)) (step x ∙ ap (λ (b : Bool). cond b 1 0 + count_by (λ y. y == x) zs) (ne_eqb z x (λ e. ne (sym e))) ∙ omega arith) in
+    λ x ne. ap (chosen (q x)) (step x ∙ ap (λ (b : Bool). cond b 1 0 + count_by (λ y. y == x) zs) (ne_eqb z x (λ e. ne (sym e)))
+        ∙ omega arith) in
     let a : total m f ≡ total m g + cond (q z) 1 0 = total_one m f g z (cond (q z) 1 0) (All-head P z zs below) one other in
     let b : count_by q zs ≡ total m g = count_split q m zs (All-tail P z zs below) in
     omega (arith, sum_by-cons (λ y. cond (q y) 1 0) z zs)
@@ -135,7 +137,8 @@ all_below n (z ∷ zs) none =
 -- rows counted in one list
 count_flat : (q : ℕ → Bool) (rows : List (List ℕ)) → count_by q (flat_map (λ r. r) rows) ≡ sum_by (λ r. count_by q r) rows
 count_flat q [] = refl
-count_flat q (r ∷ rs) = omega (arith, count_flat q rs, sum_by-cons (λ r. count_by q r) r rs, sum_by-append (λ x. cond (q x) 1 0) r (flat_map (λ r. r) rs))
+count_flat q (r ∷ rs) = omega (arith, count_flat q rs, sum_by-cons (λ r. count_by q r) r rs,
+    sum_by-append (λ x. cond (q x) 1 0) r (flat_map (λ r. r) rs))
 
 -- in lawful rows, as many numbers pass a test as among all numbers below n
 rows_count : (n : ℕ) (rows : List (List ℕ)) (q : ℕ → Bool) → ((x : ℕ) → times_in x rows ≡ (if nat_lt x n then 1 else 0)) →
@@ -143,14 +146,17 @@ rows_count : (n : ℕ) (rows : List (List ℕ)) (q : ℕ → Bool) → ((x : ℕ
 unfolding count_below chosen
 rows_count n rows q once =
     let flat : List ℕ = flat_map (λ r. r) rows in
-    let times : (x : ℕ) → count_by (λ y. y == x) flat ≡ (if nat_lt x n then 1 else 0) = λ x. count_flat (λ y. y == x) rows ∙ once x in
+    let times : (x : ℕ) → count_by (λ y. y == x) flat ≡ (if nat_lt x n then 1 else 0) = λ x. count_flat (λ y. y == x) rows
+        ∙ once x in
     let low : All (λ x. x < n) flat = all_below n flat (λ x g. times x ∙ ap (λ (b : Bool). if b then 1 else 0) (le-ltb x n g)) in
-    let one : (x : ℕ) → x < n → count_by (λ y. y == x) flat ≡ 1 = λ x l. times x ∙ ap (λ (b : Bool). if b then 1 else 0) (lt-ltb x n l) in
+    let one : (x : ℕ) → x < n → count_by (λ y. y == x) flat ≡ 1 =
+        λ x l. times x ∙ ap (λ (b : Bool). if b then 1 else 0) (lt-ltb x n l) in
     sym (count_flat q rows) ∙ count_split q n flat low
     ∙ total_same n (λ x. chosen (q x) (count_by (λ y. y == x) flat)) (λ x. cond (q x) 1 0) (λ x l. ap (chosen (q x)) (one x l))
 
 -- for each test, the number of received results that pass it equals that of the results of all numbers
-pub got_all_once : {X : Type 0} (p : X → Bool) (n : ℕ) (f : ℕ → X) (rows : List (List ℕ)) (got : List (ℕ × X)) → AreShared n f rows got
+pub got_all_once : {X : Type 0} (p : X → Bool) (n : ℕ) (f : ℕ → X) (rows : List (List ℕ)) (got : List (ℕ × X))
+    → AreShared n f rows got
     → count_by p (map (λ t. t.1) got) ≡ count_below n (λ x. p (f x))
 got_all_once {X} p n f rows got s =
     let q : ℕ → Bool = λ x. p (f x) in
@@ -172,7 +178,8 @@ below_true zero = refl
 below_true (suc n) = let a = below_true n in omega arith
 
 -- as many were received as there are numbers
-pub as_many_as_numbers : {X : Type 0} (n : ℕ) (f : ℕ → X) (rows : List (List ℕ)) (got : List (ℕ × X)) → AreShared n f rows got → length got ≡ n
+pub as_many_as_numbers : {X : Type 0} (n : ℕ) (f : ℕ → X) (rows : List (List ℕ)) (got : List (ℕ × X)) → AreShared n f rows got
+    → length got ≡ n
 as_many_as_numbers {X} n f rows got s =
     sym (length-map got (λ (t : ℕ × X). t.1))
     ∙ sym (count_true (map (λ (t : ℕ × X). t.1) got))

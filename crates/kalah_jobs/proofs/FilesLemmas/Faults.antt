@@ -62,7 +62,8 @@ faulty_in_file f k (entry ∷ own) =
     ∙ ap (λ n. one_if is_faulty_entry entry + n) (faulty_in_file f (suc k) own)
     ∙ sym (sum_by-cons (one_if is_faulty_entry) entry own)
 
-faulty_from : (f : ℕ) (jobs : List (List Entry)) → count_by is_faulty_job (jobs_from f jobs) ≡ count_by is_faulty_entry (all_entries jobs)
+faulty_from : (f : ℕ) (jobs : List (List Entry)) → count_by is_faulty_job (jobs_from f jobs) ≡ count_by is_faulty_entry
+    (all_entries jobs)
 faulty_from f [] = refl
 faulty_from f (own ∷ jobs) =
     sum_by-append (one_if is_faulty_job) (file_jobs f 0 own) (jobs_from (suc f) jobs)

@@ -41,8 +41,10 @@ position_in d (entry.StepsOf p) = p
 position_in d (entry.Bad fault) = d
 
 -- entries that ask the same of two boards are equal if and only if the boards are
-pub same_entries : {a b : Entry} {p q : Position} {result : Bool} (asks : Position → Entry) → ((x d : Position) → position_in d (asks x) ≡ x)
-    → IsWithinLimits p → IsWithinLimits q → result ≡ same_board p q → a ≡ asks p → b ≡ asks q → (result ≡ true) ↔ (a ≡ b)
+pub same_entries : {a b : Entry} {p q : Position} {result : Bool} (asks : Position → Entry) →
+    ((x d : Position) → position_in d (asks x) ≡ x)
+    → IsWithinLimits p → IsWithinLimits q → result ≡ same_board p q → a ≡ asks p → b ≡ asks q → (result ≡ true)
+    ↔ (a ≡ b)
 same_entries {a} {b} {p} {q} asks of p_limits q_limits is a_is b_is = (
   λ yes. a_is ∙ ap asks (same_board_means p q p_limits q_limits (sym is ∙ yes)) ∙ sym b_is,
   λ same.

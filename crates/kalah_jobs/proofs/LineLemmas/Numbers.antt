@@ -67,7 +67,8 @@ number_text (tens ∷ ones ∷ []) n h =
     let first : tens ≡ 48 + n / 10 = omega (arith, h.0, high) in
     let second : ones ≡ 48 + n % 10 = omega (arith, h.0, h.1, h.2, h.3) in
     let front : decimal (n / 10) ≡ (48 + n / 10) ∷ [] = decimal_digit (n / 10) (omega (arith, h.0, high)) in
-    let step : decimal n ≡ decimal (n / 10) ++ ((48 + n % 10) ∷ []) = decimal_step n (omega (arith, h.0, h.1, h.3)) (omega (arith, h.0, h.2, h.3)) in
+    let step : decimal n ≡ decimal (n / 10) ++ ((48 + n % 10) ∷ []) =
+        decimal_step n (omega (arith, h.0, h.1, h.3)) (omega (arith, h.0, h.2, h.3)) in
     ap₂ (λ (a b : ℕ). a ∷ b ∷ []) first second ∙ sym (step ∙ ap (λ (t : List ℕ). t ++ ((48 + n % 10) ∷ [])) front)
 number_text (a ∷ b ∷ c ∷ rest) n h = absurd h
 
@@ -95,7 +96,8 @@ other_byte byte c low digit = ne_eqb c byte (λ e. omega (arith, digit))
 -- no byte below the digits stands in a number
 pub number_lacks : (byte : ℕ) (text : List ℕ) (n : ℕ) → byte < 48 → IsNumber text n → Lacks byte text
 number_lacks byte [] n low h = absurd h
-number_lacks byte (ones ∷ []) n low h = All-cons (λ b. (b == byte) ≡ false) ones [] (other_byte byte ones low h.0) (All-nil (λ b. (b == byte) ≡ false))
+number_lacks byte (ones ∷ []) n low h = All-cons (λ b. (b == byte) ≡ false) ones [] (other_byte byte ones low h.0)
+    (All-nil (λ b. (b == byte) ≡ false))
 number_lacks byte (tens ∷ ones ∷ []) n low h =
     All-cons (λ b. (b == byte) ≡ false) tens (ones ∷ []) (other_byte byte tens low h.0)
     (All-cons (λ b. (b == byte) ≡ false) ones [] (other_byte byte ones low h.2) (All-nil (λ b. (b == byte) ≡ false)))

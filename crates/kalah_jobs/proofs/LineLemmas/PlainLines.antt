@@ -32,7 +32,8 @@ abbrev last_or : ℕ → List ℕ → ℕ
 last_or byte [] = byte
 last_or byte (first ∷ rest) = last_or first rest
 
-last_or-append : (byte : ℕ) (front : List ℕ) (first : ℕ) (rest : List ℕ) → last_or byte (front ++ first ∷ rest) ≡ last_or first rest
+last_or-append : (byte : ℕ) (front : List ℕ) (first : ℕ) (rest : List ℕ)
+    → last_or byte (front ++ first ∷ rest) ≡ last_or first rest
 last_or-append byte [] first rest = refl
 last_or-append byte (other ∷ front) first rest = last_or-append other front first rest
 

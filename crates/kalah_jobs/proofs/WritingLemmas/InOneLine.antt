@@ -35,5 +35,6 @@ module _ (text : ℕ → List ℕ) where
   texts_begin (h ∷ k ∷ moves) (suc i) within =
       let more = texts_begin (k ∷ moves) i (omega (arith, within)) in (
         more.0,
-        ap (λ l. text h ++ (codes "; " ++ l)) more.1 ∙ sym (append_assoc (text h) (codes "; " ++ texts_in_line (take (suc i) (k ∷ moves))) more.0),
+        ap (λ l. text h ++ (codes "; " ++ l)) more.1
+            ∙ sym (append_assoc (text h) (codes "; " ++ texts_in_line (take (suc i) (k ∷ moves))) more.0),
       )

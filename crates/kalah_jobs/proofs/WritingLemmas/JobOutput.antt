@@ -21,13 +21,16 @@ abbrev IsUnder : (ℕ → Taken → List ℕ) → ℕ → List ℕ → Type 0
 IsUnder text n name = (taken : Taken) → text n taken ≡ answer_line name taken ++ line_feed ∷ []
 
 -- the lines of a file from number k on
-lines_told : (question : Question) (text : ℕ → Taken → List ℕ) (n : ℕ) (name : List ℕ) (k : ℕ) (lines : List (List ℕ)) → IsUnder text n name
-    → flat_map (line_output question name) (enumerate_from k lines) ≡ flat_map (text_of_line text n) (enumerate_from k (map (entry_to question) lines))
+lines_told : (question : Question) (text : ℕ → Taken → List ℕ) (n : ℕ) (name : List ℕ) (k : ℕ) (lines : List (List ℕ))
+    → IsUnder text n name
+    → flat_map (line_output question name) (enumerate_from k lines) ≡ flat_map (text_of_line text n)
+    (enumerate_from k (map (entry_to question) lines))
 lines_told question text n name k [] under = refl
 lines_told question text n name k (line ∷ lines) under =
     ap (λ bytes. bytes ++ flat_map (line_output question name) (enumerate_from (k + 1) lines))
     (sym (under (record { line = k; answer = answer_of (entry_to question line) })))
-    ∙ ap (λ bytes. text n (record { line = k; answer = answer_of (entry_to question line) }) ++ bytes) (lines_told question text n name (k + 1) lines under)
+    ∙ ap (λ bytes. text n (record { line = k; answer = answer_of (entry_to question line) }) ++ bytes)
+    (lines_told question text n name (k + 1) lines under)
 
 file_told : (question : Question) (text : ℕ → Taken → List ℕ) (n : ℕ) (file : NamedBytes) → IsUnder text n file.name
     → file_output question file ≡ text_of_file text (n, entries_to question file.bytes)
@@ -44,11 +47,13 @@ files_told question text n (file ∷ files) under =
     ∙ ap (λ bytes. text_of_file text (n, entries_to question file.bytes) ++ bytes)
     (files_told question text (n + 1) files (λ m i is low. under m (suc i) (omega arith) (omega arith)))
 
-same_output : (question : Question) (files : List NamedBytes) → output_to question files ≡ output_of_jobs (names_of files) (jobs_to question files)
+same_output : (question : Question) (files : List NamedBytes) →
+    output_to question files ≡ output_of_jobs (names_of files) (jobs_to question files)
 unfolding output_to
 same_output question files =
     files_told question (answer_text_of (names_of files)) 0 files
-    (λ m i is low taken. ap (λ j. answer_line (get_or (names_of files) j []) taken ++ line_feed ∷ []) (let e : m ≡ i = omega arith in e))
+    (λ m i is low taken. ap (λ j. answer_line (get_or (names_of files) j []) taken ++ line_feed ∷ [])
+        (let e : m ≡ i = omega arith in e))
 
 same_lines : (question : Question) (files : List NamedBytes) → (tally_of files).lines ≡ length (job_list (jobs_to question files))
 unfolding tally_of
@@ -59,7 +64,8 @@ faults_of_lines : (question : Question) (f k : ℕ) (lines : List (List ℕ)) �
 faults_of_lines question f k [] = refl
 faults_of_lines question f k (line ∷ lines) =
     sum_by-cons (one_if is_faulty_job) (line_job f k (entry_to question line)) (file_jobs f (suc k) (map (entry_to question) lines))
-    ∙ ap (λ b. cond b 1 0 + count_by is_faulty_job (file_jobs f (suc k) (map (entry_to question) lines))) (asked_fault question (entry_of line))
+    ∙ ap (λ b. cond b 1 0 + count_by is_faulty_job (file_jobs f (suc k) (map (entry_to question) lines)))
+    (asked_fault question (entry_of line))
     ∙ ap (λ m. one_if is_faulty line + m) (faults_of_lines question f (suc k) lines)
     ∙ sym (sum_by-cons (one_if is_faulty) line lines)
 
@@ -69,15 +75,18 @@ unfolding entries_to
 faults_of_file question f bytes = faults_of_lines question f 0 (lines_of bytes)
 
 faults_of_files : (question : Question) (f : ℕ) (files : List NamedBytes)
-    → sum_by (λ (file : NamedBytes). count_by is_faulty (lines_of file.bytes)) files ≡ count_by is_faulty_job (jobs_from f (jobs_to question files))
+    → sum_by (λ (file : NamedBytes). count_by is_faulty (lines_of file.bytes)) files ≡ count_by is_faulty_job
+    (jobs_from f (jobs_to question files))
 faults_of_files question f [] = refl
 faults_of_files question f (file ∷ files) =
     sum_by-cons (λ (x : NamedBytes). count_by is_faulty (lines_of x.bytes)) file files
     ∙ ap (λ m. count_by is_faulty (lines_of file.bytes) + m) (faults_of_files question (suc f) files)
     ∙ ap (λ m. m + count_by is_faulty_job (jobs_from (suc f) (jobs_to question files))) (sym (faults_of_file question f file.bytes))
-    ∙ sym (sum_by-append (one_if is_faulty_job) (file_jobs f 0 (entries_to question file.bytes)) (jobs_from (suc f) (jobs_to question files)))
+    ∙ sym (sum_by-append (one_if is_faulty_job) (file_jobs f 0 (entries_to question file.bytes))
+    (jobs_from (suc f) (jobs_to question files)))
 
-same_faults : (question : Question) (files : List NamedBytes) → (tally_of files).faults ≡ count_by is_faulty_job (job_list (jobs_to question files))
+same_faults : (question : Question) (files : List NamedBytes) →
+    (tally_of files).faults ≡ count_by is_faulty_job (job_list (jobs_to question files))
 unfolding tally_of
 same_faults question files = faults_of_files question 0 files
 

@@ -20,11 +20,13 @@ module _ {A : Type 0} (byte : ℕ) (text_of : A → List ℕ) where
       text_of item ++ byte ∷ joined_from items (suc i) ≡ joined_from items i
   joined_before [] i item other is within = absurd (omega arith)
   joined_before (x ∷ []) zero item other is within = absurd (omega arith)
-  joined_before (x ∷ y ∷ items) zero item other is within = ap (λ z. text_of z ++ byte ∷ join_with_byte byte (map text_of (y ∷ items))) (sym is)
+  joined_before (x ∷ y ∷ items) zero item other is within =
+      ap (λ z. text_of z ++ byte ∷ join_with_byte byte (map text_of (y ∷ items))) (sym is)
   joined_before (x ∷ items) (suc i) item other is within = joined_before items i item other is (omega arith)
 
   -- one text and the byte before what stands there
-  pub before_those : (items : List A) (i : ℕ) (item other : A) (old after : List ℕ) → get_or items (i - 1) other ≡ item → 0 < i →
+  pub before_those : (items : List A) (i : ℕ) (item other : A) (old after : List ℕ) → get_or items (i - 1) other ≡ item
+      → 0 < i →
       i < length items →
       after ≡ text_of item ++ byte ∷ (joined_from items i ++ old) → after ≡ joined_from items (i - 1) ++ old
   before_those items i item other old after is low within e =

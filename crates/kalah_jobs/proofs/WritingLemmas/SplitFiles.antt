@@ -39,7 +39,8 @@ output_splits_by_files = record { asked = output_of_both; best_moves = output_of
 
 -- ---- lines
 
-onto_first-append : (byte : ℕ) (lines more : List (List ℕ)) → 0 < length lines → onto_first byte (lines ++ more) ≡ onto_first byte lines ++ more
+onto_first-append : (byte : ℕ) (lines more : List (List ℕ)) → 0 < length lines
+    → onto_first byte (lines ++ more) ≡ onto_first byte lines ++ more
 onto_first-append byte [] more some = absurd (omega arith)
 onto_first-append byte (line ∷ lines) more some = refl
 
@@ -56,7 +57,8 @@ lines_of_none : (second : List ℕ) → lines_of second ≡ lines_of [] ++ lines
 unfolding lines_of
 lines_of_none second = refl
 
-lines_of_both : (front second : List ℕ) → lines_of ((front ++ line_feed ∷ []) ++ second) ≡ lines_of (front ++ line_feed ∷ []) ++ lines_of second
+lines_of_both : (front second : List ℕ) → lines_of ((front ++ line_feed ∷ []) ++ second) ≡ lines_of
+    (front ++ line_feed ∷ []) ++ lines_of second
 lines_of_both [] second =
     lines_of-feed line_feed second refl ∙ ap (λ (lines : List (List ℕ)). lines ++ lines_of second) (sym one_feed)
 lines_of_both (byte ∷ front) second = elim (cases_eq byte line_feed) [
@@ -105,13 +107,15 @@ tally_is : (bytes : List ℕ) → tally_in bytes ≡ counts (length (lines_of by
 unfolding tally_of
 tally_is bytes = ap₂ counts (zero-add (length (lines_of bytes))) (zero-add (count_by is_faulty (lines_of bytes)))
 
-tally_split : (first second : List ℕ) → EndsWithItsLine first → tally_in (first ++ second) ≡ counted_together (tally_in first) (tally_in second)
+tally_split : (first second : List ℕ) → EndsWithItsLine first
+    → tally_in (first ++ second) ≡ counted_together (tally_in first) (tally_in second)
 tally_split first second ends =
     let lines = lines_split first second ends in
     tally_is (first ++ second)
     ∙ ap₂ counts
     (ap length lines ∙ length-append (lines_of first) (lines_of second))
-    (ap (count_by is_faulty) lines ∙ sum_by-append (λ (line : List ℕ). if is_faulty line then 1 else 0) (lines_of first) (lines_of second))
+    (ap (count_by is_faulty) lines ∙ sum_by-append (λ (line : List ℕ). if is_faulty line then 1 else 0) (lines_of first)
+        (lines_of second))
     ∙ sym (ap₂ counted_together (tally_is first) (tally_is second))
 
 pub files_split_between_lines : FilesSplitBetweenLines

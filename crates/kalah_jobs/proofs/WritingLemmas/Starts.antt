@@ -20,7 +20,8 @@ pub start_then : (old between new : Option (List ℕ)) (bs done rest : List ℕ)
     AppendsStart between new rest
     → AppendsStart old new bs
 start_then old between new bs done rest parts first start =
-    let is : take (length done + start.0) bs ≡ done ++ take start.0 rest = ap (take (length done + start.0)) parts ∙ take-append-add done rest start.0 in
+    let is : take (length done + start.0) bs ≡ done ++ take start.0 rest = ap (take (length done + start.0)) parts
+        ∙ take-append-add done rest start.0 in
     (length done + start.0, subst (λ l. Appends old new l) (sym is) (Appends-trans old between new done (take start.0 rest) first start.1))
 
 -- a prefix is also one of what is longer
@@ -31,5 +32,6 @@ start_longer old new bs cs start =
     start_then old new new (bs ++ cs) (take start.0 bs) (drop start.0 bs ++ cs) all start.1 (start_none new (drop start.0 bs ++ cs))
 
 -- what keeps the bytes keeps the prefix
-pub start_kept : (old between new : Option (List ℕ)) (bs : List ℕ) → AppendsStart old between bs → Keeps between new → AppendsStart old new bs
+pub start_kept : (old between new : Option (List ℕ)) (bs : List ℕ) → AppendsStart old between bs → Keeps between new
+    → AppendsStart old new bs
 start_kept old between new bs start kept = (start.0, Appends-kept old between new (take start.0 bs) start.1 kept)

@@ -10,7 +10,8 @@ use Rattle.kalah_jobs.specs.Files.Lines.{line_feed}
 pub one_more : (one : ℕ → List ℕ) (moves : List ℕ) (i house : ℕ) → i < length moves → house ≡ get_or moves i 0
     → flat_map one (take (i + 1) moves) ≡ flat_map one (take i moves) ++ one house
 one_more one moves i house within is =
-    ap (flat_map one) (take_more moves i 0 within ∙ ap (λ h. take i moves ++ h ∷ []) (sym is)) ∙ sym (flat_map_more one [] (take i moves) house)
+    ap (flat_map one) (take_more moves i 0 within ∙ ap (λ h. take i moves ++ h ∷ []) (sym is))
+        ∙ sym (flat_map_more one [] (take i moves) house)
 
 -- the first moves, and then the others
 pub first_moves : (one : ℕ → List ℕ) (moves others : List ℕ) (i : ℕ) → moves ≡ others →
@@ -19,7 +20,8 @@ first_moves one moves others i same =
     sym (flat_map-append one (take i moves) (drop i moves)) ∙ ap (flat_map one) (take-append-drop i moves ∙ same)
 
 -- the name and the place of a line, and then the text of a move with a line feed
-pub line_is : (name place text : List ℕ) → ((name ++ place) ++ text) ++ line_feed ∷ [] ≡ name ++ (place ++ (text ++ line_feed ∷ []))
+pub line_is : (name place text : List ℕ) → ((name ++ place) ++ text) ++ line_feed ∷ [] ≡ name ++
+    (place ++ (text ++ line_feed ∷ []))
 line_is name place text = append_assoc (name ++ place) text (line_feed ∷ []) ∙ append_assoc name place (text ++ line_feed ∷ [])
 
 module _ (between : List ℕ) where
@@ -48,18 +50,21 @@ module _ (place : List ℕ) (text : ℕ → List ℕ) where
       ∙ sym (append_assoc (place ++ text h) (line_feed ∷ []) (flat_map (λ j. (place ++ text j) ++ line_feed ∷ []) (k ∷ moves)))
 
   one_line_more : (moves : List ℕ) (i : ℕ) → i < length moves →
-      joined_lines (take (suc i) moves) ≡ joined_lines (take i moves) ++ (before_text (line_feed ∷ []) i ++ (place ++ text (get_or moves i 0)))
+      joined_lines (take (suc i) moves) ≡ joined_lines (take i moves) ++
+          (before_text (line_feed ∷ []) i ++ (place ++ text (get_or moves i 0)))
   one_line_more [] i within = absurd (omega (arith, within))
   one_line_more (h ∷ moves) zero within = refl
   one_line_more (h ∷ []) (suc i) within = absurd (omega (arith, within))
   one_line_more (h ∷ k ∷ moves) (suc zero) within = refl
   one_line_more (h ∷ k ∷ moves) (suc (suc i)) within =
       ap (λ l. (place ++ text h) ++ line_feed ∷ l) (one_line_more (k ∷ moves) (suc i) (omega (arith, within)))
-      ∙ sym (append_assoc (place ++ text h) (line_feed ∷ joined_lines (take (suc i) (k ∷ moves))) (line_feed ∷ (place ++ text (get_or moves i 0))))
+      ∙ sym (append_assoc (place ++ text h) (line_feed ∷ joined_lines (take (suc i) (k ∷ moves)))
+      (line_feed ∷ (place ++ text (get_or moves i 0))))
 
   -- one line more
   pub line_more : (moves : List ℕ) (i : ℕ) → i < length moves →
-      joined_lines (take (i + 1) moves) ≡ joined_lines (take i moves) ++ (cond (i == 0) [] (line_feed ∷ []) ++ (place ++ text (get_or moves i 0)))
+      joined_lines (take (i + 1) moves) ≡ joined_lines (take i moves) ++
+          (cond (i == 0) [] (line_feed ∷ []) ++ (place ++ text (get_or moves i 0)))
   line_more moves i within =
       ap (λ n. joined_lines (take n moves)) (add-one i) ∙ one_line_more moves i within
       ∙ ap (λ l. joined_lines (take i moves) ++ (l ++ (place ++ text (get_or moves i 0)))) (before_by_test (line_feed ∷ []) i)

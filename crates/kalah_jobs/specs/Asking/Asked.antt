@@ -105,7 +105,8 @@ pub record AnswersAreThoseOfAFile : Type 0 where
   pub lines : (question : Question) → question ≢ Steps → (name : List ℕ) (number : ℕ) (line : List ℕ) →
       line_output question name (number, line) ≡ place_words name number ++ told question line
   pub file : (question : Question) → question ≢ Steps → (file : NamedBytes) →
-      output_to question (file ∷ []) ≡ flat_map (λ p. place_words file.name p.0 ++ told question p.1) (enumerate_from 0 (lines_of file.bytes))
+      output_to question (file ∷ []) ≡ flat_map (λ p. place_words file.name p.0 ++ told question p.1)
+          (enumerate_from 0 (lines_of file.bytes))
   pub texts : (question : Question) (line : List ℕ) → told question line ≡ in_one_line (texts_told question line) ++ line_feed ∷ []
   pub placed : (question : Question) (name : List ℕ) (number : ℕ) (line : List ℕ) → line_output question name (number, line)
       ≡ join_with_byte line_feed (map (λ text. place_words name number ++ text) (texts_told question line)) ++ line_feed ∷ []

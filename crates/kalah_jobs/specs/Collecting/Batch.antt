@@ -27,8 +27,10 @@ SharesLaw = (jobs : List (List Entry)) (rows : List (List ℕ)) (got rest : List
 
 -- If each job is offered once, in any order and with any takes between, each offer is accepted.
 abbrev pub OffersLaw : Type 0
-OffersLaw = (jobs : List (List Entry)) (past : List Event) (o : Job) (rest : List Job) (files after : List FileState) (gave : Result ℕ Refusal)
-    → AreJobsInSomeOrder jobs (offers past ++ o ∷ rest) → Runs jobs (new_files jobs) past files → Offers jobs files o gave after → IsOk gave
+OffersLaw = (jobs : List (List Entry)) (past : List Event) (o : Job) (rest : List Job) (files after : List FileState)
+    (gave : Result ℕ Refusal)
+    → AreJobsInSomeOrder jobs (offers past ++ o ∷ rest) → Runs jobs (new_files jobs) past files → Offers jobs files o gave after
+    → IsOk gave
 
 -- And in the end every line of every file is ready.
 abbrev pub FrontsLaw : Type 0

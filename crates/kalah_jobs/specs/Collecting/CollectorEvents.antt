@@ -23,7 +23,8 @@ pub record Refuses (jobs : List (List Entry)) (files : List FileState) (o : Job)
 
 -- the result of an offer, and the files after it
 abbrev pub Offers : List (List Entry) → List FileState → Job → Result ℕ Refusal → List FileState → Type 0
-Offers jobs files o gave after = MatchResult gave (λ ready. Accepts jobs files o ready after) (λ refusal. Refuses jobs files o refusal after)
+Offers jobs files o gave after = MatchResult gave (λ ready. Accepts jobs files o ready after)
+    (λ refusal. Refuses jobs files o refusal after)
 
 -- a take returns the next line of the file
 pub record Gives (files : List FileState) (f : ℕ) (gave : Taken) (after : List FileState) : Type 0 where

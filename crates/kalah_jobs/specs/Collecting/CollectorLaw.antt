@@ -26,4 +26,5 @@ pub record Meets (jobs : List (List Entry)) (events : List Event) (files : List 
 
 -- the law, over every list of offers and takes
 abbrev pub CollectorLaw : Type 0
-CollectorLaw = (jobs : List (List Entry)) (events : List Event) (files : List FileState) → Runs jobs (new_files jobs) events files → Meets jobs events files
+CollectorLaw = (jobs : List (List Entry)) (events : List Event) (files : List FileState) → Runs jobs (new_files jobs) events files
+    → Meets jobs events files

@@ -16,4 +16,5 @@ outcome_of o = record { file = o.file; line = o.line; entry = o.entry; answer = 
 
 -- the answer of an outcome is determined by its entry, so its offer determines the outcome
 pub outcome_again : (o : Inside) → o.answer ≡ answer_of o.entry → outcome_of (job_of o) ≡ o
-outcome_again o h = sym (ap (λ (a : Answer). let same : Inside = record { file = o.file; line = o.line; entry = o.entry; answer = a } in same) h)
+outcome_again o h =
+    sym (ap (λ (a : Answer). let same : Inside = record { file = o.file; line = o.line; entry = o.entry; answer = a } in same) h)

@@ -37,6 +37,7 @@ IsRefusedFor jobs files o Double = HasEntry jobs files o × IsSome (came_for (st
 
 -- An offer that is wanted meets no refusal, and no offer meets two: so each is answered in one way only.
 pub record RefusalsLaw : Type 0 where
-  pub wanted : (jobs : List (List Entry)) (files : List FileState) (o : Job) (r : Refusal) → IsWanted jobs files o → IsRefusedFor jobs files o r → ⊥
+  pub wanted : (jobs : List (List Entry)) (files : List FileState) (o : Job) (r : Refusal) → IsWanted jobs files o
+      → IsRefusedFor jobs files o r → ⊥
   pub one : (jobs : List (List Entry)) (files : List FileState) (o : Job) (q r : Refusal) → IsRefusedFor jobs files o q →
       IsRefusedFor jobs files o r → q ≡ r

@@ -44,7 +44,8 @@ without_cr (byte ∷ more ∷ rest) = byte ∷ without_cr (more ∷ rest)
 abbrev pub IsNumber : List ℕ → ℕ → Type 0
 IsNumber [] n = ⊥
 IsNumber (ones ∷ []) n = IsAsciiDigit ones × (n ≡ ones - zero_digit)
-IsNumber (tens ∷ ones ∷ []) n = IsAsciiDigit tens × (tens ≢ zero_digit) × IsAsciiDigit ones × (n ≡ 10 * (tens - zero_digit) + (ones - zero_digit))
+IsNumber (tens ∷ ones ∷ []) n = IsAsciiDigit tens × (tens ≢ zero_digit) × IsAsciiDigit ones
+    × (n ≡ 10 * (tens - zero_digit) + (ones - zero_digit))
 IsNumber (_ ∷ _ ∷ _ ∷ _) n = ⊥
 
 -- the text writes the houses: one number or more, with a comma between each two
@@ -52,7 +53,8 @@ abbrev pub AreHouses : List ℕ → List ℕ → Type 0
 AreHouses text [] = ⊥
 AreHouses text (house ∷ []) = IsNumber text house
 AreHouses text (house ∷ other ∷ houses) =
-    (first : List ℕ) × ((rest : List ℕ) × ((text ≡ first ++ comma ∷ rest) × IsNumber first house × AreHouses rest (other ∷ houses)))
+    (first : List ℕ)
+        × ((rest : List ℕ) × ((text ≡ first ++ comma ∷ rest) × IsNumber first house × AreHouses rest (other ∷ houses)))
 
 -- the text writes a side: its houses, a slash and its store
 pub record IsSide (text : List ℕ) (houses : List ℕ) (store : ℕ) : Type 0 where

@@ -16,7 +16,8 @@ EveryLineIsItsText = (line : List ℕ) (p : Position) → Reads line p → witho
 
 -- the text of every position within the limits of a line is read as that position
 abbrev pub EveryTextIsReadBack : Type 0
-EveryTextIsReadBack = (p : Position) → IsWithinLimits p → p.own_store ≤ most_in_store → p.other_store ≤ most_in_store → Reads (line_text_of p) p
+EveryTextIsReadBack = (p : Position) → IsWithinLimits p → p.own_store ≤ most_in_store → p.other_store ≤ most_in_store
+    → Reads (line_text_of p) p
 
 -- the line is read as the position by a program that knows no ending and accepts at most `seeds` seeds
 pub record ReadsPlainly (seeds : ℕ) (line : List ℕ) (p : Position) : Type 0 where
@@ -32,7 +33,8 @@ pub record ReadsPlainly (seeds : ℕ) (line : List ℕ) (p : Position) : Type 0 
 
 -- what such a program reads, of fewer seeds and without endings, is read here as the same position
 abbrev pub PlainLinesReadTheSame : Type 0
-PlainLinesReadTheSame = (seeds : ℕ) (line : List ℕ) (p : Position) → seeds ≤ most_seeds → ReadsPlainly seeds line p → Reads line p
+PlainLinesReadTheSame = (seeds : ℕ) (line : List ℕ) (p : Position) → seeds ≤ most_seeds → ReadsPlainly seeds line p
+    → Reads line p
 
 -- of the lines that are read, those that end in ` e` are under the empty-capture rule, and no others
 abbrev pub OnlyTheEndingNamesTheRule : Type 0

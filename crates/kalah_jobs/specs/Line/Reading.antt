@@ -25,7 +25,8 @@ abbrev pub number_read : List ℕ → Option ℕ
 number_read [] = None
 number_read (ones ∷ []) = if is_ascii_digit ones then Some (ones - zero_digit) else None
 number_read (tens ∷ ones ∷ []) =
-    if is_ascii_digit tens && not (tens == zero_digit) && is_ascii_digit ones then Some (10 * (tens - zero_digit) + (ones - zero_digit)) else None
+    if is_ascii_digit tens && not (tens == zero_digit) && is_ascii_digit ones
+        then Some (10 * (tens - zero_digit) + (ones - zero_digit)) else None
 number_read (_ ∷ _ ∷ _ ∷ _) = None
 
 -- the numbers of all the texts

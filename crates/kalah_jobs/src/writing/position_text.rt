@@ -9,9 +9,6 @@ ghost use Rattle.kalah_jobs.specs.Files.Lines.{line_feed};
 ghost use Rattle.kalah_jobs.specs.Line.Line.{Reads, ending_of, side_text, line_text_of, word_of_step, step_text_of};
 ghost use Rattle.kalah_jobs.specs.Writing.Player.{houses_of, store_of};
 
-#[cfg(test)]
-mod tests;
-
 use crate::writing::player::Player;
 use crate::writing::sink::Sink;
 use crate::writing::stack_text::{ROOM, StackText};

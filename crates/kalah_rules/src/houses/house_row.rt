@@ -3,9 +3,6 @@ ghost use Rattle.std.specs.Prelude.{◌≡◌, ◌+◌, ◌<◌, ◌≤◌, ◌�
 ghost use Rattle.kalah_rules.specs.Key.{number_of};
 ghost use Rattle.kalah_rules.specs.Limits.{most_houses, most_seeds};
 
-#[cfg(test)]
-mod tests;
-
 use crate::houses::numbers::alone;
 use crate::limits::{MOST_HOUSES, MOST_SEEDS};
 use std::marker::Model;

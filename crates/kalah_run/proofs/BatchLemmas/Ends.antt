@@ -22,12 +22,14 @@ use Rattle.kalah_run.specs.Batch.OrderedOutput.{HasWritten, Waits}
 use Rattle.kalah_run.specs.declared.batch.ordered_output.OrderedOutput.{OrderedOutput}
 
 -- the texts of all jobs are their output
-texts_are_output : (files : List NamedBytes) (jobs : List (List Entry)) → text_of_jobs (text_of files) jobs ≡ output_of_jobs (names_of files) jobs
+texts_are_output : (files : List NamedBytes) (jobs : List (List Entry))
+    → text_of_jobs (text_of files) jobs ≡ output_of_jobs (names_of files) jobs
 unfolding text_of
 texts_are_output files jobs = refl
 
 -- what is known of an output, with the jobs of its files
-module _ (files : List NamedBytes) (jobs : List (List Entry)) (past : List Job) (begun out : Option (List ℕ)) (failed : Bool) (r : OrderedOutput)
+module _ (files : List NamedBytes) (jobs : List (List Entry)) (past : List Job) (begun out : Option (List ℕ)) (failed : Bool)
+    (r : OrderedOutput)
     (so_far : HasWritten files jobs past begun out failed r) where
   output_is : text_of_jobs (text_of files) r.jobs.now ≡ output_of_jobs (names_of files) jobs
   output_is = ap (λ l. text_of_jobs (text_of files) l) so_far.of_jobs ∙ texts_are_output files jobs
@@ -47,7 +49,8 @@ pub given_output : (question : Question) (files : List NamedBytes) (jobs : List 
     (failed : Bool) → jobs ≡ jobs_to question files
     → WasGiven begun out failed (output_of_jobs (names_of files) jobs) → WasGiven begun out failed (output_to question files)
 given_output question files jobs begun out failed are given =
-    subst (λ l. WasGiven begun out failed l) (ap (output_of_jobs (names_of files)) are ∙ sym (files_are_their_jobs.output question files)) given
+    subst (λ l. WasGiven begun out failed l) (ap (output_of_jobs (names_of files)) are
+        ∙ sym (files_are_their_jobs.output question files)) given
 
 -- a flush keeps what was appended
 pub appended_kept : (before between after : Option (List ℕ)) (bytes : List ℕ) → Appends before between bytes → Keeps between after
@@ -61,17 +64,21 @@ appended_kept (Some xs) (Some ys) (Some zs) bytes wrote kept = kept ∙ wrote
 pub no_texts : (text : ℕ → Taken → List ℕ) (f : ℕ) (jobs : List (List Entry)) → job_count jobs ≡ 0
     → flat_map (text_of_file text) (enumerate_from f jobs) ≡ []
 no_texts text f [] none = refl
-no_texts text f ([] ∷ jobs) none = no_texts text (f + 1) jobs (let all = sum_by-cons (λ (es : List Entry). length es) [] jobs in omega (arith, all, none))
-no_texts text f ((e ∷ es) ∷ jobs) none = absurd (let all = sum_by-cons (λ (es : List Entry). length es) (e ∷ es) jobs in omega (arith, all, none))
+no_texts text f ([] ∷ jobs) none = no_texts text (f + 1) jobs
+    (let all = sum_by-cons (λ (es : List Entry). length es) [] jobs in omega (arith, all, none))
+no_texts text f ((e ∷ es) ∷ jobs) none =
+    absurd (let all = sum_by-cons (λ (es : List Entry). length es) (e ∷ es) jobs in omega (arith, all, none))
 
 -- with no job there is no output, and nothing was written
-pub given_no_output : (files : List NamedBytes) (jobs : List (List Entry)) (begun : Option (List ℕ)) (failed : Bool) → job_count jobs ≡ 0
+pub given_no_output : (files : List NamedBytes) (jobs : List (List Entry)) (begun : Option (List ℕ)) (failed : Bool)
+    → job_count jobs ≡ 0
     → WasGiven begun begun failed (output_of_jobs (names_of files) jobs)
 given_no_output files jobs begun failed none =
     subst (λ l. WasGiven begun begun failed l) (sym (no_texts (answer_text_of (names_of files)) 0 jobs none)) (given_none begun failed)
 
 -- the lines and the faults that were counted are the tally of the files
-pub counted_tally : (question : Question) (files : List NamedBytes) (lines faults : ℕ) → lines ≡ length (job_list (jobs_to question files))
+pub counted_tally : (question : Question) (files : List NamedBytes) (lines faults : ℕ)
+    → lines ≡ length (job_list (jobs_to question files))
     → faults ≡ count_by is_faulty_job (job_list (jobs_to question files)) →
     (let counts : LineCounts = record { lines = lines; faults = faults } in counts) ≡ tally_of files
 counted_tally question files lines faults all faulty =

@@ -12,7 +12,8 @@ pub given_none : (begun : Option (List ℕ)) (failed : Bool) → WasGiven begun 
 given_none begun failed = record { start = start_none begun []; whole = λ sound. Appends-nil begun }
 
 -- it is given more, and takes a prefix of it, or all if it has not failed then
-pub given_on : (begun out more : Option (List ℕ)) (failed fails : Bool) (bs cs : List ℕ) → WasGiven begun out failed bs → failed ≡ false
+pub given_on : (begun out more : Option (List ℕ)) (failed fails : Bool) (bs cs : List ℕ) → WasGiven begun out failed bs
+    → failed ≡ false
     → AppendsStart out more cs → (fails ≡ false → Appends out more cs) → WasGiven begun more fails (bs ++ cs)
 given_on begun out more failed fails bs cs given sound start all = record {
   start = start_then begun out more (bs ++ cs) bs cs refl (given.whole sound) start;
@@ -28,7 +29,8 @@ given_off begun out failed bs cs given broken = record {
 }
 
 -- what it holds is flushed
-pub given_kept : (begun out more : Option (List ℕ)) (failed fails : Bool) (bs : List ℕ) → WasGiven begun out failed bs → Keeps out more
+pub given_kept : (begun out more : Option (List ℕ)) (failed fails : Bool) (bs : List ℕ) → WasGiven begun out failed bs
+    → Keeps out more
     → (fails ≡ false → failed ≡ false) → WasGiven begun more fails bs
 given_kept begun out more failed fails bs given keeps was_sound = record {
   start = start_kept begun out more bs given.start keeps;

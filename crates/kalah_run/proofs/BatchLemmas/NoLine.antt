@@ -45,10 +45,12 @@ module _ (question : Question) (files : List NamedBytes) (none : lines_in_all fi
 
   no_tally : tally_of files ≡ record { lines = 0; faults = 0 }
   no_tally =
-      let empty : length (job_list (jobs_to question files)) ≡ 0 = length-job_list (jobs_to question files) ∙ (job_count-jobs_to question files ∙ none) in
+      let empty : length (job_list (jobs_to question files)) ≡ 0 = length-job_list (jobs_to question files)
+          ∙ (job_count-jobs_to question files ∙ none) in
       sym (counted_tally question files 0 0 (sym empty) (no_faults (jobs_to question files) empty))
 
-  pub nothing_answered : (old new : Option (List ℕ)) (result : Result LineCounts RunFault) → AppendsStart old new (output_to question files)
+  pub nothing_answered : (old new : Option (List ℕ)) (result : Result LineCounts RunFault)
+      → AppendsStart old new (output_to question files)
       → IfOk result (λ tally. tally ≡ tally_of files)
       → ((result ≡ Err TooManyLines) ↔ ((length files ≤ most_files) × (most_lines < lines_in_all files)))
       → (result ≡ Err NoWorker → 0 < lines_in_all files) → AnswersNothing old new result

@@ -26,19 +26,23 @@ text_of_file files f file name taken low at is =
     (get_or-map (λ (x : NamedBytes). x.name) files f file [] low ∙ sym (ap (λ (x : NamedBytes). x.name) at) ∙ sym is)
 
 -- an output advances with the state of what is under way
-pub written_on : (files : List NamedBytes) (jobs : List (List Entry)) (past : List Job) (begun out more : Option (List ℕ)) (failed fails : Bool)
+pub written_on : (files : List NamedBytes) (jobs : List (List Entry)) (past : List Job) (begun out more : Option (List ℕ))
+    (failed fails : Bool)
     (r after : OrderedOutput) → after.files.now ≡ r.files.now → after.jobs.now ≡ r.jobs.now
     → (IsUnderWay (text_of r.files.now) r.jobs.now past r.collector r.current begun out failed
     → IsUnderWay (text_of r.files.now) r.jobs.now past after.collector after.current begun more fails)
     → HasWritten files jobs past begun out failed r → HasWritten files jobs past begun more fails after
 written_on files jobs past begun out more failed fails r after same_files same_jobs on is =
     let from : IsUnderWay (text_of r.files.now) r.jobs.now past r.collector r.current begun out failed =
-    subst (λ (fs : List NamedBytes). IsUnderWay (text_of fs) r.jobs.now past r.collector r.current begun out failed) (sym is.of_files) is.progress in
+    subst (λ (fs : List NamedBytes). IsUnderWay (text_of fs) r.jobs.now past r.collector r.current begun out failed)
+        (sym is.of_files) is.progress in
     record {
       of_files = same_files ∙ is.of_files;
       of_jobs = same_jobs ∙ is.of_jobs;
-      progress = subst (λ (js : List (List Entry)). IsUnderWay (text_of files) js past after.collector after.current begun more fails) (sym same_jobs)
-          (subst (λ (fs : List NamedBytes). IsUnderWay (text_of fs) r.jobs.now past after.collector after.current begun more fails) is.of_files
+      progress = subst (λ (js : List (List Entry)). IsUnderWay (text_of files) js past after.collector after.current begun more fails)
+          (sym same_jobs)
+          (subst (λ (fs : List NamedBytes). IsUnderWay (text_of fs) r.jobs.now past after.collector after.current begun more fails)
+              is.of_files
           (on from));
     }
 
@@ -59,8 +63,10 @@ still_written files jobs past begun out later failed fails r keeps sound is = re
 }
 
 -- so it has still accepted what it had
-pub still_accepted : (past : List Job) (before after : OrderedOutput) (old out later : Option (List ℕ)) (had failed fails : Bool) → Keeps out later
-    → (fails ≡ false → failed ≡ false) → AcceptsAll past before old had after out failed → AcceptsAll past before old had after later fails
+pub still_accepted : (past : List Job) (before after : OrderedOutput) (old out later : Option (List ℕ)) (had failed fails : Bool)
+    → Keeps out later
+    → (fails ≡ false → failed ≡ false) → AcceptsAll past before old had after out failed
+    → AcceptsAll past before old had after later fails
 still_accepted past before after old out later had failed fails keeps sound accepts files jobs begun so_far =
     let now = accepts files jobs begun so_far in
     (still_written files jobs past begun out later failed fails after keeps sound now.0, now.1)

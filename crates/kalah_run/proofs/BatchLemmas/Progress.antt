@@ -44,7 +44,8 @@ module _ (text : ℕ → Taken → List ℕ) (jobs : List (List Entry)) where
       ∙ ap (λ l. before ++ flat_map (text_of_line text f) l) (sym more)
 
   -- one file more
-  written_file : (f : ℕ) → f < length jobs → written_upto text jobs f (length (entries_of jobs f)) ≡ written_upto text jobs (f + 1) 0
+  written_file : (f : ℕ) → f < length jobs → written_upto text jobs f (length (entries_of jobs f)) ≡ written_upto text
+      jobs (f + 1) 0
   unfolding written_upto
   written_file f low =
       let js : List (ℕ × List Entry) = enumerate_from 0 jobs in
@@ -78,7 +79,8 @@ module _ (text : ℕ → Taken → List ℕ) (jobs : List (List Entry)) where
       ∙ append-nil (text_of_jobs text jobs)
 
   -- the first lines of a file, and then the others
-  written_line_rest : (f n : ℕ) → written_upto text jobs f n ++ flat_map (text_of_line text f) (drop n (enumerate_from 0 (entries_of jobs f)))
+  written_line_rest : (f n : ℕ) → written_upto text jobs f n ++ flat_map (text_of_line text f)
+      (drop n (enumerate_from 0 (entries_of jobs f)))
       ≡ written_upto text jobs f (length (entries_of jobs f))
   unfolding written_upto
   written_line_rest f n =
@@ -91,7 +93,8 @@ module _ (text : ℕ → Taken → List ℕ) (jobs : List (List Entry)) where
       ∙ ap (flat_map T) (sym (take_all (length (entries_of jobs f)) xs (omega arith))))
 
   -- the first files, and then the others
-  written_file_rest : (f : ℕ) → written_upto text jobs f 0 ++ flat_map (text_of_file text) (drop f (enumerate_from 0 jobs)) ≡ text_of_jobs text jobs
+  written_file_rest : (f : ℕ) → written_upto text jobs f 0 ++ flat_map (text_of_file text) (drop f (enumerate_from 0 jobs)) ≡
+      text_of_jobs text jobs
   unfolding written_upto
   written_file_rest f =
       let js : List (ℕ × List Entry) = enumerate_from 0 jobs in
@@ -132,7 +135,8 @@ module _ (text : ℕ → Taken → List ℕ) (jobs : List (List Entry)) where
       }
 
 -- a step of a batch that is under way
-module _ {text : ℕ → Taken → List ℕ} {jobs : List (List Entry)} {past : List Job} {files : List FileState} {f : ℕ} {begun out : Option (List ℕ)}
+module _ {text : ℕ → Taken → List ℕ} {jobs : List (List Entry)} {past : List Job} {files : List FileState} {f : ℕ}
+    {begun out : Option (List ℕ)}
     {failed : Bool} (progress : IsUnderWay text jobs past files f begun out failed) where
   -- A line is taken, and its text passed to the sink.
   pub wrote_line : (after : List FileState) (t : Taken) (more : Option (List ℕ)) (fails : Bool) → Takes files f (Some t) after
@@ -160,12 +164,14 @@ module _ {text : ℕ → Taken → List ℕ} {jobs : List (List Entry)} {past : 
             ⊎_elim
             (λ (p : g ≡ f).
             let a : (state_of now g).taken ≡ n + 1 = ap (λ x. (state_of now x).taken) p ∙ taken in
-            let b : front (state_of now g) ≡ front (state_of files f) = ap (λ x. front (state_of now x)) p ∙ ap (λ (s : FileState). front s) here in
+            let b : front (state_of now g) ≡ front (state_of files f) = ap (λ x. front (state_of now x)) p
+                ∙ ap (λ (s : FileState). front s) here in
             let c = step.next_line.ready in
             omega arith)
             (λ (np : g ≡ f → ⊥). subst (λ (s : FileState). s.taken ≤ front s) (sym (other g np)) (progress.within g))
             (cases_eq g f);
-        before = λ g g_low. subst (λ (s : FileState). s.taken ≡ line_count s) (sym (other g (λ q. omega arith))) (progress.before g g_low);
+        before = λ g g_low. subst (λ (s : FileState). s.taken ≡ line_count s) (sym (other g (λ q. omega arith)))
+            (progress.before g g_low);
         behind = λ g g_high. ap (λ (s : FileState). s.taken) (other g (λ q. omega arith)) ∙ progress.behind g g_high;
         written = subst (λ (l : List ℕ). WasGiven begun more fails l) text_is (gives (written_upto text jobs f n) progress.written);
       } in
@@ -206,7 +212,8 @@ module _ {text : ℕ → Taken → List ℕ} {jobs : List (List Entry)} {past : 
   progress_accepted o wanted =
       let low = wanted_file jobs files o wanted in
       let now : List FileState = after_offer files o.file o.line (answer_of o.entry) in
-      let taken : (g : ℕ) → (state_of now g).taken ≡ (state_of files g).taken = λ g. taken_after_offer files o (answer_of o.entry) low g in
+      let taken : (g : ℕ) → (state_of now g).taken ≡ (state_of files g).taken =
+          λ g. taken_after_offer files o (answer_of o.entry) low g in
       let holds = holds_accepted jobs past files o progress.holds wanted in
       record {
         holds = holds;
@@ -224,7 +231,8 @@ module _ {text : ℕ → Taken → List ℕ} {jobs : List (List Entry)} {past : 
       }
 
   -- so does a refused one
-  progress_refused : (o : Job) (r : Refusal) → IsRefusedFor jobs files o r → IsUnderWay text jobs (past ++ o ∷ []) files f begun out failed
+  progress_refused : (o : Job) (r : Refusal) → IsRefusedFor jobs files o r
+      → IsUnderWay text jobs (past ++ o ∷ []) files f begun out failed
   progress_refused o r refused = record {
     holds = holds_refused jobs past files o r progress.holds refused;
     within = progress.within;
@@ -237,9 +245,11 @@ module _ {text : ℕ → Taken → List ℕ} {jobs : List (List Entry)} {past : 
   pub progress_offered : (o : Job) (after : List FileState) (gave : Result ℕ Refusal) → Offers jobs files o gave after
       → IsUnderWay text jobs (past ++ o ∷ []) after f begun out failed
   progress_offered o after (Ok ready) step =
-      subst (λ (s : List FileState). IsUnderWay text jobs (past ++ o ∷ []) s f begun out failed) (sym step.kept) (progress_accepted o step.wanted)
+      subst (λ (s : List FileState). IsUnderWay text jobs (past ++ o ∷ []) s f begun out failed) (sym step.kept)
+          (progress_accepted o step.wanted)
   progress_offered o after (Err r) step =
-      subst (λ (s : List FileState). IsUnderWay text jobs (past ++ o ∷ []) s f begun out failed) (sym step.unchanged) (progress_refused o r step.cause)
+      subst (λ (s : List FileState). IsUnderWay text jobs (past ++ o ∷ []) s f begun out failed) (sym step.unchanged)
+          (progress_refused o r step.cause)
 
   -- a sink that has failed was given all, as far as it took it
   pub progress_failed : failed ≡ true → WasGiven begun out failed (text_of_jobs text jobs)
@@ -262,4 +272,5 @@ module _ {text : ℕ → Taken → List ℕ} {jobs : List (List Entry)} {past : 
     progress_end =
         let many : length files ≡ length jobs = files_many jobs files progress.holds.counts in
         let high : length files ≤ f = past_all in
-        subst (λ (l : List ℕ). WasGiven begun out failed l) (written_all text jobs f (state_of files f).taken (omega arith)) progress.written
+        subst (λ (l : List ℕ). WasGiven begun out failed l) (written_all text jobs f (state_of files f).taken (omega arith))
+            progress.written

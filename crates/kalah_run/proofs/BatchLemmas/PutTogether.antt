@@ -28,7 +28,8 @@ puts_more workers workers' w waiting waiting' all is took so_far =
     ∙ ap (λ l. puts_of workers ++ l) (sym took)
     ∙ so_far
 
-pub tables_more : (workers workers' : List Worker) (w : Worker) (solver : Solver Global) (entries : ℕ) → workers' ≡ workers ++ w ∷ []
+pub tables_more : (workers workers' : List Worker) (w : Worker) (solver : Solver Global) (entries : ℕ)
+    → workers' ≡ workers ++ w ∷ []
     → padded_value w.solver ≡ solver → solver.search.table ≡ empty_table entries →
     HaveTables entries workers → HaveTables entries workers'
 tables_more workers workers' w solver entries is has_it empty so_far =

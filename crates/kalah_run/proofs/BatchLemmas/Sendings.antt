@@ -30,6 +30,7 @@ drawn_jobs-more jobs row row' n o sent sent' so_far drawn is more =
     ∙ ap (λ x. drawn_jobs jobs x) (sym drawn)
 
 -- nothing is drawn and nothing sent
-pub drawn_jobs-none : (jobs : List (List Entry)) (numbers : List ℕ) (sent : List Job) → numbers ≡ [] → sent ≡ [] → sent ≡ drawn_jobs jobs numbers
+pub drawn_jobs-none : (jobs : List (List Entry)) (numbers : List ℕ) (sent : List Job) → numbers ≡ [] → sent ≡ []
+    → sent ≡ drawn_jobs jobs numbers
 unfolding drawn_jobs
 drawn_jobs-none jobs numbers sent none nothing = nothing ∙ sym (ap (λ x. drawn_jobs jobs x) none)

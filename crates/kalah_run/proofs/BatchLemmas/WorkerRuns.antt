@@ -32,14 +32,16 @@ put_queue id n (p ∷ ps) zero d from within = from.0
 put_queue id n (p ∷ ps) (suc k) d from within = put_queue id (suc n) ps k d from.2 (omega arith)
 
 -- workers of new passes are at work
-pub new_at_work : {G : Type 0} (shared : SharedWork G) (workers : List Worker) (count : ℕ) → AreNewPasses shared.desk count (passes_of workers)
+pub new_at_work : {G : Type 0} (shared : SharedWork G) (workers : List Worker) (count : ℕ)
+    → AreNewPasses shared.desk count (passes_of workers)
     → ArePassesFrom shared.queue.id 0 (puts_of workers)
     → All (λ p. p.sent ≡ []) (puts_of workers) → AreAtWork shared workers
 new_at_work shared workers count new from unsent = λ k d within.
     let w = get_or workers k d in
     let low : k < count = omega (arith, new.0, length-map workers (λ (x : Worker). x.pass)) in
     let put_low : k < length (puts_of workers) = omega (arith, length-map workers (λ (x : Worker). x.put)) in
-    let pass : w.pass ≡ new_pass shared.desk k = sym (get_or-map (λ (x : Worker). x.pass) workers k d w.pass within) ∙ new.1 k w.pass low in
+    let pass : w.pass ≡ new_pass shared.desk k = sym (get_or-map (λ (x : Worker). x.pass) workers k d w.pass within)
+        ∙ new.1 k w.pass low in
     let put : get_or (puts_of workers) k w.put ≡ w.put = get_or-map (λ (x : Worker). x.put) workers k d w.put within in
     record {
       draws = (ap (λ (p : PassState). p.desk) pass, ap (λ (p : PassState). p.total) pass);
@@ -71,26 +73,31 @@ module _ {G : Type 0} (shared : SharedWork G) (before after : List Worker) (run 
   run_passes = All-map (IsPassAt shared.desk) (λ (w : Worker). w.pass) after (λ k d within. (run_at_work k d within).draws)
 
 -- what worker w sent are the outcomes of its row
-sent_in_order : {G : Type 0} (shared : SharedWork G) (workers : List Worker) (w : ℕ) → AreAtWork shared workers → w < length workers →
+sent_in_order : {G : Type 0} (shared : SharedWork G) (workers : List Worker) (w : ℕ) → AreAtWork shared workers
+    → w < length workers →
     get_or (sent_by (puts_of workers)) w [] ≡ drawn_jobs shared.jobs.now (get_or (drawn_numbers (drawn_rows (passes_of workers))) w [])
 sent_in_order shared [] w at_work within = absurd (omega arith)
 sent_in_order shared (x ∷ xs) zero at_work within = (at_work 0 x (omega arith)).sent
-sent_in_order shared (x ∷ xs) (suc w) at_work within = sent_in_order shared xs w (λ k d low. at_work (suc k) d (omega arith)) (omega arith)
+sent_in_order shared (x ∷ xs) (suc w) at_work within = sent_in_order shared xs w (λ k d low. at_work (suc k) d (omega arith))
+    (omega arith)
 
 drawn_jobs_are : (jobs : List (List Entry)) (numbers : List ℕ) → drawn_jobs jobs numbers ≡ map (job jobs) numbers
 unfolding drawn_jobs
 drawn_jobs_are jobs numbers = refl
 
--- Each number below the count of those drawn stands in the rows once, and the pairs that were got and those left inside account for what was
+-- Each number below the count of those drawn stands in the rows once, and the pairs that were got and those left inside account for what
+-- was
 -- sent; as many were got as there are jobs: so each job was got once.
-pub each_job_got : {G : Type 0} (shared : SharedWork G) (workers : List Worker) (count drawn : ℕ) (got rest : List (ℕ × Job)) → AreAtWork shared workers
+pub each_job_got : {G : Type 0} (shared : SharedWork G) (workers : List Worker) (count drawn : ℕ) (got rest : List (ℕ × Job))
+    → AreAtWork shared workers
     → length workers ≡ count → DealsEachOnce (job_count shared.jobs.now) drawn (drawn_rows (passes_of workers))
     → Accounts count (sent_by (puts_of workers)) (got ++ rest) → length got ≡ job_count shared.jobs.now
     → AreJobsInSomeOrder shared.jobs.now (outcomes_in got)
 each_job_got shared workers count drawn got rest at_work as_many deals accounts all =
     let jobs = shared.jobs.now in
     let rows = drawn_numbers (drawn_rows (passes_of workers)) in
-    let row_count : length rows ≡ length workers = length-drawn_numbers (passes_of workers) ∙ length-map workers (λ (w : Worker). w.pass) in
+    let row_count : length rows ≡ length workers = length-drawn_numbers (passes_of workers)
+        ∙ length-map workers (λ (w : Worker). w.pass) in
     let sent_count : length (sent_by (puts_of workers)) ≡ length workers =
     length-map (puts_of workers) (λ (p : PutState). p.sent) ∙ length-map workers (λ (w : Worker). w.put) in
     let row_workers : count ≡ length rows = sym as_many ∙ sym row_count in

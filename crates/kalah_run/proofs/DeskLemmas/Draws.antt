@@ -36,12 +36,15 @@ spent_view total number numbers = Drawing total number (drawn_row numbers true)
 
 -- a number in a row is below the count of all numbers
 stands_below : (views : List DeskView) (seat total number : ℕ) (r : DrawnRow) (plan_total : ℕ)
-    → get_elem? views seat ≡ some (Drawing total number r) → AreLawful plan_total (all_rows views) → All (λ x. x < drawn_in (all_rows views)) r.numbers
+    → get_elem? views seat ≡ some (Drawing total number r) → AreLawful plan_total (all_rows views)
+    → All (λ x. x < drawn_in (all_rows views)) r.numbers
 stands_below views seat total number r plan_total at lawful k d within =
     let x : ℕ = get_or r.numbers k d in
     let here : cond (x == x) 1 0 ≤ count_by (λ y. y == x) r.numbers = get_or-le-sum_by (λ y. cond (y == x) 1 0) r.numbers k d within in
-    let mine : sum_by (times x) (r ∷ []) ≤ sum_by (times x) (all_rows views) = rows_at (times x) views seat (Drawing total number r) at in
-    below x (drawn_in (all_rows views)) (count_by (λ y. y == x) r.numbers) here (omega (arith, times_rows x (all_rows views), lawful.each_once x))
+    let mine : sum_by (times x) (r ∷ []) ≤ sum_by (times x) (all_rows views) =
+        rows_at (times x) views seat (Drawing total number r) at in
+    below x (drawn_in (all_rows views)) (count_by (λ y. y == x) r.numbers) here
+        (omega (arith, times_rows x (all_rows views), lawful.each_once x))
   where
     below : (x c n : ℕ) → cond (x == x) 1 0 ≤ n → n ≤ (if nat_lt x c then 1 else 0) → x < c
     below x c n here few = grind (arith, nat_tests)
@@ -51,7 +54,8 @@ one_more : (x c n : ℕ) → n ≡ c → (if nat_lt x c then 1 else 0) + cond (n
 one_more x c n same = grind (arith, nat_tests)
 
 -- a draw that finds n, of a pass that is not spent
-module _ {S : Type 0} (plan : DeskPlan) (s : State S DeskView) (seat total number : ℕ) (numbers : List ℕ) (n : ℕ) (kept : IsKept plan s)
+module _ {S : Type 0} (plan : DeskPlan) (s : State S DeskView) (seat total number : ℕ) (numbers : List ℕ) (n : ℕ)
+    (kept : IsKept plan s)
     (at : get_elem? s.views seat ≡ some (unspent_view total number numbers))
     (is : n ≡ drawn_in (all_rows s.views) + spent_in (all_rows s.views)) where
   -- n is below the total: the rows stay lawful with n at the end of the pass's row, if it is above all others, and the count is
@@ -137,7 +141,8 @@ module _ {S : Type 0} (plan : DeskPlan) (s : State S DeskView) (seat total numbe
 
 -- no more passes are spent than there are
 few_spent : {S : Type 0} (plan : DeskPlan) (s : State S DeskView) → IsKept plan s → spent_in (all_rows s.views) ≤ plan.passes
-few_spent plan s kept = omega (arith, kept.passes, count_by-le-length (λ (r : DrawnRow). r.spent) (all_rows s.views), rows_within_passes s.views)
+few_spent plan s kept = omega (arith, kept.passes, count_by-le-length (λ (r : DrawnRow). r.spent) (all_rows s.views),
+    rows_within_passes s.views)
 
 -- a draw of a pass that is not spent
 pub draws : {S : Type 0} (plan : DeskPlan) (slots seat total number : ℕ) (numbers : List ℕ)
@@ -149,7 +154,8 @@ draws {S} plan slots seat total number numbers s kept homes at fits =
     let small : drawn_in (all_rows s.views) ≤ most_lines = omega (arith, kept.lawful.within, kept.few.0) in
     let few : spent_in (all_rows s.views) ≤ most_workers = omega (arith, few_spent plan s kept, kept.few.1) in
     let next : (n + 1) % 2 ^ 64 ≡ n + 1 = mod-eq_of_lt (omega arith) in
-    let words : set s.words 0 ((n + 1) % 2 ^ 64) ≡ (n + 1) ∷ [] = ap (λ ws. set ws 0 ((n + 1) % 2 ^ 64)) kept.word ∙ ap (λ m. m ∷ []) next in
+    let words : set s.words 0 ((n + 1) % 2 ^ 64) ≡ (n + 1) ∷ [] = ap (λ ws. set ws 0 ((n + 1) % 2 ^ 64)) kept.word
+        ∙ ap (λ m. m ∷ []) next in
     let after : DeskView → State S DeskView =
     λ w. record { words = set s.words 0 ((n + 1) % 2 ^ 64); homes = s.homes; views = set s.views seat w } in
     let done : (w : DeskView) × IsKept {S = S} plan (after w) × DrawsFrom (unspent_view total number numbers) n w =
@@ -186,7 +192,8 @@ draws {S} plan slots seat total number numbers s kept homes at fits =
     in (done.0, keeps, tt, done.1, (refl, done.2))
 
 -- the same, of a pass whose view is known to be that of one that is not spent
-pub draws_as : {S : Type 0} (plan : DeskPlan) (slots seat : ℕ) (me : Me S DeskView) → me ≡ (as_pass_view me.0, []) → (row_in me.0).spent ≡ false
+pub draws_as : {S : Type 0} (plan : DeskPlan) (slots seat : ℕ) (me : Me S DeskView) → me ≡ (as_pass_view me.0, []) →
+    (row_in me.0).spent ≡ false
     → Allows {S = S} (IsKept plan) slots seat me 0 (λ n. (n + 1) % 2 ^ 64) (Draws (step slots 0 1 0 none) me)
 draws_as {S} plan slots seat me is unspent =
     let v = me.0 in

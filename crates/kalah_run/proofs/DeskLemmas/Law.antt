@@ -12,12 +12,14 @@ use Rattle.kalah_run.specs.Desk.Law.{CountsWhatItDeals}
 use Rattle.kalah_run.proofs.DeskLemmas.Once.{deals_each_once}
 use Rattle.kalah_run.proofs.DeskLemmas.Sums.{rows_within_passes}
 
-pub desk_is_lawful : (plan : DeskPlan) (state : State ⊤ DeskView) → IsKept plan state → CountsWhatItDeals plan.total state.words (all_rows state.views)
+pub desk_is_lawful : (plan : DeskPlan) (state : State ⊤ DeskView) → IsKept plan state
+    → CountsWhatItDeals plan.total state.words (all_rows state.views)
 desk_is_lawful plan state kept =
     let rows : List DrawnRow = all_rows state.views in
     record {
       drawn = drawn_in rows;
       deals = deals_each_once plan.total rows kept.lawful;
       word = kept.word;
-      most = omega (arith, kept.lawful.within, kept.few.1, kept.passes, rows_within_passes state.views, count_by-le-length (λ r. r.spent) rows);
+      most = omega (arith, kept.lawful.within, kept.few.1, kept.passes, rows_within_passes state.views,
+          count_by-le-length (λ r. r.spent) rows);
     }

@@ -28,7 +28,8 @@ one_term f (r ∷ rs) sum =
     (λ (none : f r ≤ 0).
     let here : f r ≡ 0 = omega arith in
     let t = one_term f rs (omega (arith, sum_by-cons f r rs)) in
-    record { place = suc t.place; within = (let within = t.within in omega arith); one = t.one; no_other = none_before t.place here t.no_other })
+    record { place = suc t.place; within = (let within = t.within in omega arith); one = t.one;
+        no_other = none_before t.place here t.no_other })
     (cases_lt 0 (f r))
   where
     none_else : sum_by f rs ≡ 0 → (k : ℕ) (d : DrawnRow) → k < length (r ∷ rs) → k ≢ 0 → f (get_or (r ∷ rs) k d) ≡ 0
@@ -46,9 +47,11 @@ stands_once total rows lawful x low =
     (sym (times_rows x rows) ∙ lawful.each_once x ∙ ap (λ b. if b then 1 else 0) (lt-ltb x (drawn_in rows) low)) in
     record { place = t.place; within = t.within; once = t.one; nowhere_else = t.no_other }
 
-stands_nowhere : (total : ℕ) (rows : List DrawnRow) → AreLawful total rows → (x : ℕ) → drawn_in rows ≤ x → StandsNowhere x rows
+stands_nowhere : (total : ℕ) (rows : List DrawnRow) → AreLawful total rows → (x : ℕ) → drawn_in rows ≤ x
+    → StandsNowhere x rows
 stands_nowhere total rows lawful x high k d within =
-    let none : times_in x (drawn_numbers rows) ≡ 0 = lawful.each_once x ∙ ap (λ b. if b then 1 else 0) (le-ltb x (drawn_in rows) high) in
+    let none : times_in x (drawn_numbers rows) ≡ 0 = lawful.each_once x
+        ∙ ap (λ b. if b then 1 else 0) (le-ltb x (drawn_in rows) high) in
     omega (arith, times_rows x rows, get_or-le-sum_by (λ r. count_by (λ y. y == x) r.numbers) rows k d within)
 
 -- if each number below the count stands in one row, and there once, the rows are lawful in these words
@@ -69,7 +72,8 @@ sum_none f (r ∷ rs) none =
     omega (arith, sum_by-cons f r rs, none 0 r (omega arith), sum_none f rs (λ k d within. none (suc k) d (omega arith)))
 
 -- if one term is 1 and the others are 0, their sum is 1
-sum_one : (f : DrawnRow → ℕ) (rows : List DrawnRow) (place : ℕ) → place < length rows → ((d : DrawnRow) → f (get_or rows place d) ≡ 1)
+sum_one : (f : DrawnRow → ℕ) (rows : List DrawnRow) (place : ℕ) → place < length rows →
+    ((d : DrawnRow) → f (get_or rows place d) ≡ 1)
     → ((k : ℕ) (d : DrawnRow) → k < length rows → k ≢ place → f (get_or rows k d) ≡ 0) → sum_by f rows ≡ 1
 sum_one f [] place within one others = absurd (omega arith)
 sum_one f (r ∷ rs) zero within one others =
@@ -97,4 +101,5 @@ dealt_once total drawn rows deals x =
 
 -- there are as many rows of numbers as passes
 pub length-drawn_numbers : (passes : List PassState) → length (drawn_numbers (drawn_rows passes)) ≡ length passes
-length-drawn_numbers passes = length-map (drawn_rows passes) (λ (r : DrawnRow). r.numbers) ∙ length-map passes (λ (p : PassState). p.row)
+length-drawn_numbers passes = length-map (drawn_rows passes) (λ (r : DrawnRow). r.numbers)
+    ∙ length-map passes (λ (p : PassState). p.row)

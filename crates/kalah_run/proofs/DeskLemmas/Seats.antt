@@ -1,4 +1,5 @@
--- The seats that come and go keep the rule: the first one, those of passes that are handed out, the closing one, and those of passes that are reclaimed.
+-- The seats that come and go keep the rule: the first one, those of passes that are handed out, the closing one, and those of passes that
+-- are reclaimed.
 use Rattle.std.proofs.Common.{◌≡◌, ◌≢◌, ⊎_elim, ℕ, zero, suc, ◌+◌, ◌-◌, ◌<◌, ◌≤◌, List, [], ◌∷◌, ◌++◌, length, set, false, cond, refl, sym, ap, ◌∙◌, subst, arith, length-append}
 use Rattle.std.specs.Prelude.{nat_lt, sum_by, All, AllPairs, if◌then◌else◌}
 use Rattle.std.proofs.lemmas.List.Sums.{sum_by-cons}
@@ -28,7 +29,8 @@ lawful_alike : (total : ℕ) (rows others : List DrawnRow) → drawn_in others �
     → All (λ r. AllPairs (λ x y. x < y) r.numbers) others → AreLawful total rows → AreLawful total others
 lawful_alike total rows others drawn same spent rising was = record {
   within = omega (arith, was.within);
-  each_once = λ x. times_rows x others ∙ same x ∙ sym (times_rows x rows) ∙ was.each_once x ∙ ap (λ c. if nat_lt x c then 1 else 0) (sym drawn);
+  each_once = λ x. times_rows x others ∙ same x ∙ sym (times_rows x rows) ∙ was.each_once x
+      ∙ ap (λ c. if nat_lt x c then 1 else 0) (sym drawn);
   rising = rising;
   spent = λ some_spent. drawn ∙ was.spent (omega arith);
 }
@@ -80,7 +82,8 @@ hands_out {S} plan seat total handed_out left some_left s kept at =
     }
 
 -- the next pass is handed out, at a view that is known
-pub hands_out_as : {S : Type 0} (plan : DeskPlan) (seat : ℕ) (v : DeskView) (total handed_out left : ℕ) → v ≡ Opening total handed_out left → 0 < left
+pub hands_out_as : {S : Type 0} (plan : DeskPlan) (seat : ℕ) (v : DeskView) (total handed_out left : ℕ)
+    → v ≡ Opening total handed_out left → 0 < left
     → Splits {S = S} (IsKept plan) seat v (after_handing_out v) (pass_handed_out v)
 hands_out_as {S} plan seat v total handed_out left is some_left =
     subst (λ (u : DeskView). Splits {S = S} (IsKept plan) seat u (after_handing_out u) (pass_handed_out u)) (sym is)
@@ -104,8 +107,10 @@ pub starts_closing : {S : Type 0} (plan : DeskPlan) (slots : ℕ)
 starts_closing {S} plan slots s kept homes fits =
     let w : DeskView = Closing [] in
     let P : DrawnRow → Type 0 = λ r. AllPairs (λ x y. x < y) r.numbers in
-    let drawn : drawn_in (all_rows (s.views ++ w ∷ [])) ≡ drawn_in (all_rows s.views) = omega (arith, rows_push (λ r. length r.numbers) s.views w) in
-    let spent : spent_in (all_rows (s.views ++ w ∷ [])) ≡ spent_in (all_rows s.views) = omega (arith, rows_push (λ r. cond r.spent 1 0) s.views w) in
+    let drawn : drawn_in (all_rows (s.views ++ w ∷ [])) ≡ drawn_in (all_rows s.views) =
+        omega (arith, rows_push (λ r. length r.numbers) s.views w) in
+    let spent : spent_in (all_rows (s.views ++ w ∷ [])) ≡ spent_in (all_rows s.views) =
+        omega (arith, rows_push (λ r. cond r.spent 1 0) s.views w) in
     let same : (x : ℕ) → sum_by (times x) (all_rows (s.views ++ w ∷ [])) ≡ sum_by (times x) (all_rows s.views) =
     λ x. omega (arith, rows_push (times x) s.views w) in (
       w,
@@ -123,7 +128,8 @@ starts_closing {S} plan slots s kept homes fits =
 
 -- a pass is reclaimed
 pub reclaims : {S : Type 0} (plan : DeskPlan) (seat : ℕ) (rows : List DrawnRow) (other total number : ℕ) (r : DrawnRow)
-    → Joins {S = S} (IsKept plan) seat (Closing rows) other (Drawing total number r) (after_reclaiming_row (Closing rows) (Drawing total number r)) ended_view
+    → Joins {S = S} (IsKept plan) seat (Closing rows) other (Drawing total number r)
+    (after_reclaiming_row (Closing rows) (Drawing total number r)) ended_view
 reclaims {S} plan seat rows other total number r s kept at apart there =
     let v : DeskView = Closing rows in
     let u : DeskView = Drawing total number r in
@@ -139,8 +145,10 @@ reclaims {S} plan seat rows other total number r s kept at apart there =
       few = kept.few;
       word = kept.word ∙ ap (λ m. m ∷ []) (omega (arith, same (λ q. length q.numbers), same (λ q. cond q.spent 1 0)));
       passes = omega (arith, passes_set s.views seat v w at, passes_set between other u Ended there, kept.passes);
-      lawful = lawful_alike plan.total (all_rows s.views) (all_rows now) (same (λ q. length q.numbers)) (λ x. same (times x)) (same (λ q. cond q.spent 1 0))
-          (all_set P between other Ended (all_set P s.views seat w kept.lawful.rising (All-append P (r ∷ []) rows theirs own)) (All-nil P)) kept.lawful;
+      lawful = lawful_alike plan.total (all_rows s.views) (all_rows now) (same (λ q. length q.numbers)) (λ x. same (times x))
+          (same (λ q. cond q.spent 1 0))
+          (all_set P between other Ended (all_set P s.views seat w kept.lawful.rising (All-append P (r ∷ []) rows theirs own))
+              (All-nil P)) kept.lawful;
       totals = totals_set plan between other Ended (totals_set plan s.views seat w kept.totals tt) tt;
     }
   where
@@ -154,8 +162,10 @@ reclaims {S} plan seat rows other total number r s kept at apart there =
 
 -- a pass is reclaimed, at views that are known
 pub reclaims_as : {S : Type 0} (plan : DeskPlan) (seat : ℕ) (v : DeskView) (other : ℕ) (w : DeskView)
-    → v ≡ Closing (rows_in v) → w ≡ as_pass_view w → Joins {S = S} (IsKept plan) seat v other w (after_reclaiming_row v w) ended_view
+    → v ≡ Closing (rows_in v) → w ≡ as_pass_view w → Joins {S = S} (IsKept plan) seat v other w
+    (after_reclaiming_row v w) ended_view
 reclaims_as {S} plan seat v other w is pass =
     subst (λ (u : DeskView). Joins {S = S} (IsKept plan) seat u other w (after_reclaiming_row u w) ended_view) (sym is)
-    (subst (λ (u : DeskView). Joins {S = S} (IsKept plan) seat (Closing (rows_in v)) other u (after_reclaiming_row (Closing (rows_in v)) u) ended_view)
+    (subst (λ (u : DeskView). Joins {S = S} (IsKept plan) seat (Closing (rows_in v)) other u
+        (after_reclaiming_row (Closing (rows_in v)) u) ended_view)
     (sym pass) (reclaims plan seat (rows_in v) other (total_in w) (number_in w) (row_in w)))

@@ -19,7 +19,8 @@ lawful : (pairs items taken : List (ℕ × Job)) (closed passes made : ℕ) (kno
     → taken ++ items ≡ pairs → length views ≡ passes
     → get_elem? views 0 ≡ some (Getting made taken known) → Each (Fits pairs taken closed passes) views → IsLawful items views
 lawful pairs items taken closed passes made known views e size first h =
-    let sized : Each (Fits pairs taken closed (length views)) views = subst (λ (n : ℕ). Each (Fits pairs taken closed n) views) (sym size) h in
+    let sized : Each (Fits pairs taken closed (length views)) views =
+        subst (λ (n : ℕ). Each (Fits pairs taken closed n) views) (sym size) h in
     record {
       taken = taken;
       closed = closed;
@@ -33,14 +34,17 @@ lawful pairs items taken closed passes made known views e size first h =
 
 pub begins : IsLawful [] (first_view ∷ [])
 begins =
-    let fits : FitsGet [] [] 0 1 0 0 [] [] = record { foremost = refl; count = refl; all_got = refl; ended_known = refl; accounts = accounts_none } in
+    let fits : FitsGet [] [] 0 1 0 0 [] [] = record { foremost = refl; count = refl; all_got = refl; ended_known = refl;
+        accounts = accounts_none } in
     record { taken = []; closed = 0; made = 0; known = []; getter = refl; fits = each_one (Fits [] [] 0 1) first_view fits }
 
 -- ---- a worker puts an outcome
 
 -- the views of the other passes fit the pairs with one more, of a worker that has not ended
-fits_more : (pairs taken : List (ℕ × Job)) (closed passes place : ℕ) (x : ℕ × Job) → place ≡ suc x.0 → place < passes → closed ≤ x.0
-    → (j : ℕ) (u : QueueView) → j ≢ place → Fits pairs taken closed passes j u → Fits (pairs ++ x ∷ []) taken closed passes j u
+fits_more : (pairs taken : List (ℕ × Job)) (closed passes place : ℕ) (x : ℕ × Job) → place ≡ suc x.0 → place < passes
+    → closed ≤ x.0
+    → (j : ℕ) (u : QueueView) → j ≢ place → Fits pairs taken closed passes j u
+    → Fits (pairs ++ x ∷ []) taken closed passes j u
 fits_more pairs taken closed passes place x behind within running j (Putting number sent) other h =
     let ne : x.0 ≢ number = (λ q. other (h.behind ∙ (ap suc (sym q) ∙ sym behind))) in
     record { behind = h.behind; running = h.running; all_sent = h.all_sent ∙ sym (of_same number pairs x ne) }
@@ -56,7 +60,8 @@ fits_more pairs taken closed passes place x behind within running j (Getting mad
     }
 fits_more pairs taken closed passes place x behind within running j Ended other h = tt
 
-puts_at : (n place : ℕ) (x : ℕ × Job) (sent : List Job) → Pushes IsLawful n place (Putting x.0 sent) x (λ w. w ≡ Putting x.0 (sent ++ x.1 ∷ []))
+puts_at : (n place : ℕ) (x : ℕ × Job) (sent : List Job) →
+    Pushes IsLawful n place (Putting x.0 sent) x (λ w. w ≡ Putting x.0 (sent ++ x.1 ∷ []))
 puts_at n place x sent items views room h at =
     let pairs : List (ℕ × Job) = h.taken ++ items in
     let w : QueueView = Putting x.0 (sent ++ x.1 ∷ []) in
@@ -81,7 +86,8 @@ puts_at n place x sent items views room h at =
 
 pub puts : (n place : ℕ) (v : QueueView) (x : ℕ × Job) (sent : List Job) → v ≡ Putting x.0 sent
     → Pushes IsLawful n place v x (λ w. w ≡ after_put v x)
-puts n place v x sent e = subst (λ (u : QueueView). Pushes IsLawful n place u x (λ w. w ≡ after_put u x)) (sym e) (puts_at n place x sent)
+puts n place v x sent e = subst (λ (u : QueueView). Pushes IsLawful n place u x (λ w. w ≡ after_put u x)) (sym e)
+    (puts_at n place x sent)
 
 -- ---- the oldest pair is got
 
@@ -133,13 +139,15 @@ fits_made pairs taken closed passes after place foremost j (Getting made got kno
 fits_made pairs taken closed passes after place foremost j Ended other h = tt
 
 -- one view more, at the end
-each_more : (F : ℕ → QueueView → Type 0) (views : List QueueView) (w : QueueView) → Each F views → F (length views) w → Each F (views ++ w ∷ [])
+each_more : (F : ℕ → QueueView → Type 0) (views : List QueueView) (w : QueueView) → Each F views → F (length views) w
+    → Each F (views ++ w ∷ [])
 each_more F views w h fits j u e =
     ⊎_elim (λ (x : get_elem? views j ≡ some u). h j u x)
     (λ (x : (j ≡ length views) × (w ≡ u)). subst (λ (y : ℕ × QueueView). F y.0 y.1) (λ i. (sym x.0 i, x.1 i)) fits)
     (at_end views w u j e)
 
-forks_at : (place made : ℕ) (got : List (ℕ × Job)) → Forks IsLawful place (Getting made got []) (Getting (made + 1) got []) (Putting made [])
+forks_at : (place made : ℕ) (got : List (ℕ × Job)) → Forks IsLawful place (Getting made got []) (Getting (made + 1) got [])
+    (Putting made [])
 forks_at place made got items views h at =
     let pairs : List (ℕ × Job) = h.taken ++ items in
     let mine : FitsGet pairs h.taken h.closed (length views) place made got [] = h.fits place (Getting made got []) at in
@@ -170,19 +178,22 @@ forks_at place made got items views h at =
 
 pub forks : (place : ℕ) (v : QueueView) (made : ℕ) (got : List (ℕ × Job)) → v ≡ Getting made got []
     → Forks IsLawful place v (after_making_one v) (one_made v)
-forks place v made got e = subst (λ (u : QueueView). Forks IsLawful place u (after_making_one u) (one_made u)) (sym e) (forks_at place made got)
+forks place v made got e = subst (λ (u : QueueView). Forks IsLawful place u (after_making_one u) (one_made u)) (sym e)
+    (forks_at place made got)
 
 -- ---- a worker's pass is reclaimed
 
 -- the views of the other passes fit if one worker more has ended
 fits_ended : (pairs taken : List (ℕ × Job)) (closed passes place ended : ℕ) → place ≡ 0 → ended ≡ suc closed
-    → (j : ℕ) (u : QueueView) → j ≢ place → j ≢ ended → Fits pairs taken closed passes j u → Fits pairs taken (closed + 1) passes j u
+    → (j : ℕ) (u : QueueView) → j ≢ place → j ≢ ended → Fits pairs taken closed passes j u
+    → Fits pairs taken (closed + 1) passes j u
 fits_ended pairs taken closed passes place ended foremost is j (Putting number sent) other apart h =
     let behind : j ≡ suc number = h.behind in
     let running : closed ≤ number = h.running in
     let ne : number ≢ closed = (λ q. apart (behind ∙ (ap suc q ∙ sym is))) in
     record { behind = behind; running = omega arith; all_sent = h.all_sent }
-fits_ended pairs taken closed passes place ended foremost is j (Getting made got known) other apart h = absurd (other (h.foremost ∙ sym foremost))
+fits_ended pairs taken closed passes place ended foremost is j (Getting made got known) other apart h =
+    absurd (other (h.foremost ∙ sym foremost))
 fits_ended pairs taken closed passes place ended foremost is j Ended other apart h = tt
 
 merges_at : (place other made : ℕ) (got : List (ℕ × Job)) (known : List (List Job)) (sent : List Job)
@@ -215,7 +226,8 @@ merges_at place other made got known sent items views h at two at_other =
     let apart : Each Apart vs = each_set Apart views place both (λ _. fits)
     (λ j u away e ne. fits_ended pairs h.taken h.closed (length views) place other mine.foremost last j u away ne (h.fits j u e)) in
     let done : Each F (set vs other Ended) = each_set F vs other Ended tt (λ j u ne e. apart j u e ne) in
-    let got_now : both ≡ Getting made h.taken (known ++ sent ∷ []) = ap (λ (l : List (ℕ × Job)). Getting made l (known ++ sent ∷ [])) mine.all_got in
+    let got_now : both ≡ Getting made h.taken (known ++ sent ∷ []) =
+        ap (λ (l : List (ℕ × Job)). Getting made l (known ++ sent ∷ [])) mine.all_got in
     let first = first_same vs other _ Ended (omega arith) (first_set views place _ both mine.foremost h.getter ∙ ap some got_now) in
     lawful pairs items h.taken (h.closed + 1) (length views) made (known ++ sent ∷ []) (set vs other Ended) refl
     (length-set vs other Ended ∙ length-set views place both) first done
@@ -226,7 +238,8 @@ pub merges : (place : ℕ) (v : QueueView) (other : ℕ) (u : QueueView) (made :
     → Merges IsLawful place v other u (after_reclaiming_sent v u) Ended
 merges place v other u made got known number sent e e' is =
     let e'' : u ≡ Putting (length known) sent = e' ∙ ap (λ (n : ℕ). Putting n sent) is in
-    subst (λ (p : QueueView × QueueView). Merges IsLawful place p.0 other p.1 (after_reclaiming_sent p.0 p.1) Ended) (λ i. (sym e i, sym e'' i))
+    subst (λ (p : QueueView × QueueView). Merges IsLawful place p.0 other p.1 (after_reclaiming_sent p.0 p.1) Ended)
+        (λ i. (sym e i, sym e'' i))
     (merges_at place other made got known sent)
 
 -- ---- what the pass to get learns of the queue

@@ -5,7 +5,8 @@ use Rattle.atomic_table.specs.Seated.{TableId}
 use Rattle.kalah_run.specs.Queue.States.{PutState, ArePassesFrom}
 
 -- the pass of the next worker goes behind
-pub one_pass_more : (id : TableId) (n : ℕ) (ps : List PutState) (p : PutState) → ArePassesFrom id n ps → p.queue ≡ id → p.number ≡ n + length ps
+pub one_pass_more : (id : TableId) (n : ℕ) (ps : List PutState) (p : PutState) → ArePassesFrom id n ps → p.queue ≡ id
+    → p.number ≡ n + length ps
     → ArePassesFrom id n (ps ++ p ∷ [])
 one_pass_more id n [] p h q is = (q, omega arith, tt)
 one_pass_more id n (x ∷ xs) p h q is = (h.0, h.1, one_pass_more id (suc n) xs p h.2 q (omega arith))

@@ -31,7 +31,8 @@ pub of_same : (w : ℕ) (xs : List (ℕ × Job)) (t : ℕ × Job) → t.0 ≢ w 
 of_same w xs t e = of_append w xs (t ∷ []) ∙ (ap (λ (l : List Job). of w xs ++ l) (other_pair w t [] e) ∙ append-nil (of w xs))
 
 -- a worker beyond all has no pair
-pub of_none : (workers w : ℕ) (xs : List (ℕ × Job)) → All (λ (t : ℕ × Job). t.0 < workers) xs → workers ≤ w → of w xs ≡ []
+pub of_none : (workers w : ℕ) (xs : List (ℕ × Job)) → All (λ (t : ℕ × Job). t.0 < workers) xs → workers ≤ w
+    → of w xs ≡ []
 of_none workers w [] below le = refl
 of_none workers w (t ∷ ts) below le =
     let h : t.0 < workers = below 0 t (omega arith) in
@@ -63,7 +64,8 @@ pub accounts_none : Accounts 0 [] []
 accounts_none = record { below = λ k d lt. absurd (omega arith); whole = λ w lt. absurd (omega arith) }
 
 -- a pair more, of a worker whose list isn't known yet
-pub accounts_pair : (workers : ℕ) (known : List (List Job)) (pairs : List (ℕ × Job)) (x : ℕ × Job) → x.0 < workers → length known ≤ x.0
+pub accounts_pair : (workers : ℕ) (known : List (List Job)) (pairs : List (ℕ × Job)) (x : ℕ × Job) → x.0 < workers
+    → length known ≤ x.0
     → Accounts workers known pairs → Accounts workers known (pairs ++ x ∷ [])
 accounts_pair workers known pairs x lt le h =
     record {
@@ -81,6 +83,7 @@ accounts_worker workers known pairs h =
     }
 
 -- a list more that is known: what the worker with the number after those known has sent
-pub accounts_known : (workers : ℕ) (known : List (List Job)) (pairs : List (ℕ × Job)) (sent : List Job) → sent ≡ of (length known) pairs
+pub accounts_known : (workers : ℕ) (known : List (List Job)) (pairs : List (ℕ × Job)) (sent : List Job)
+    → sent ≡ of (length known) pairs
     → Accounts workers known pairs → Accounts workers (known ++ sent ∷ []) pairs
 accounts_known workers known pairs sent e h = record { below = h.below; whole = known_more known sent (λ w. of w pairs) h.whole (sym e) }

@@ -22,7 +22,8 @@ at_end [] a b zero e = inr (refl, some-injective a b e)
 at_end [] a b (suc place) e = absurd (some-ne-none b (sym e))
 at_end (x ∷ xs) a b zero e = inl e
 at_end (x ∷ xs) a b (suc place) e =
-    ⊎_elim (λ (h : get_elem? xs place ≡ some b). inl h) (λ (h : (place ≡ length xs) × (a ≡ b)). inr (ap suc h.0, h.1)) (at_end xs a b place e)
+    ⊎_elim (λ (h : get_elem? xs place ≡ some b). inl h) (λ (h : (place ≡ length xs) × (a ≡ b)). inr (ap suc h.0, h.1))
+        (at_end xs a b place e)
 
 -- if one view changes, its fact is shown anew and the others' may change with it
 pub each_set : (F : ℕ → QueueView → Type 0) (views : List QueueView) (place : ℕ) (w : QueueView) → F place w
@@ -48,7 +49,8 @@ first_same (x ∷ xs) zero v w behind e = absurd (omega arith)
 first_same (x ∷ xs) (suc place) v w behind e = e
 
 -- and if there is one more
-pub first_longer : (views : List QueueView) (v w : QueueView) → get_elem? views 0 ≡ some v → get_elem? (views ++ w ∷ []) 0 ≡ some v
+pub first_longer : (views : List QueueView) (v w : QueueView) → get_elem? views 0 ≡ some v
+    → get_elem? (views ++ w ∷ []) 0 ≡ some v
 first_longer [] v w e = absurd (some-ne-none v (sym e))
 first_longer (x ∷ xs) v w e = e
 

@@ -17,6 +17,7 @@ pub record AnswersNothing (old new : Option (List ℕ)) (result : Result LineCou
 
 -- So it is with every batch that keeps its promises, for each question and a sink of any kind.
 abbrev pub NoLineIsAnswered : {W : Type 0} → (W → Option (List ℕ)) → (W → Bool) → (W → Bool) → Type 0
-NoLineIsAnswered {W} bytes has_failed is_handed_on = (question : Question) (files : List NamedBytes) (old new : W) (result : Result LineCounts RunFault)
+NoLineIsAnswered {W} bytes has_failed is_handed_on = (question : Question) (files : List NamedBytes) (old new : W)
+    (result : Result LineCounts RunFault)
     → AnswersBatch bytes has_failed is_handed_on (output_to question files) files old new result → lines_in_all files ≡ 0
     → AnswersNothing (bytes old) (bytes new) result

@@ -28,10 +28,12 @@ outcomes_in pairs = map (λ pair. pair.1) pairs
 
 -- An output writes what is ready, and then waits.
 abbrev pub WritesReady : OrderedOutput → Option (List ℕ) → Bool → OrderedOutput → Option (List ℕ) → Bool → Type 0
-WritesReady r out failed after more fails = (files : List NamedBytes) → (jobs : List (List Entry)) → (past : List Job) → (begun : Option (List ℕ))
+WritesReady r out failed after more fails = (files : List NamedBytes) → (jobs : List (List Entry)) → (past : List Job) →
+    (begun : Option (List ℕ))
     → HasWritten files jobs past begun out failed r → HasWritten files jobs past begun more fails after × Waits after
 
 -- It accepts the first outcomes, and all of them.
-abbrev pub AcceptsAll : List Job → OrderedOutput → Option (List ℕ) → Bool → OrderedOutput → Option (List ℕ) → Bool → Type 0
+abbrev pub AcceptsAll : List Job → OrderedOutput → Option (List ℕ) → Bool → OrderedOutput → Option (List ℕ)
+    → Bool → Type 0
 AcceptsAll all r out failed after more fails = (files : List NamedBytes) → (jobs : List (List Entry)) → (begun : Option (List ℕ))
     → HasWritten files jobs [] begun out failed r → HasWritten files jobs all begun more fails after × Waits after

@@ -26,7 +26,8 @@ pub record WasGiven (begun out : Option (List ℕ)) (failed : Bool) (bs : List �
 -- the texts of the files before f, and of the first n lines of f
 unfoldable pub written_upto : (ℕ → Taken → List ℕ) → List (List Entry) → ℕ → ℕ → List ℕ
 written_upto text jobs f n =
-    flat_map (text_of_file text) (take f (enumerate_from 0 jobs)) ++ flat_map (text_of_line text f) (take n (enumerate_from 0 (entries_of jobs f)))
+    flat_map (text_of_file text) (take f (enumerate_from 0 jobs)) ++ flat_map (text_of_line text f)
+        (take n (enumerate_from 0 (entries_of jobs f)))
 
 -- With these offers made, the files before f are completely taken and those behind it not at all. The sink was given the text of each
 -- line that was taken, in order.

@@ -17,4 +17,5 @@ pub record CountsWhatItDeals (total : ℕ) (words : List ℕ) (rows : List Drawn
 
 -- between any two steps of any threads, for any passes
 abbrev pub DeskIsLawful : Type 0
-DeskIsLawful = (plan : DeskPlan) (state : State ⊤ DeskView) → IsKept plan state → CountsWhatItDeals plan.total state.words (all_rows state.views)
+DeskIsLawful = (plan : DeskPlan) (state : State ⊤ DeskView) → IsKept plan state
+    → CountsWhatItDeals plan.total state.words (all_rows state.views)

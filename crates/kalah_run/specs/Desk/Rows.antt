@@ -31,7 +31,8 @@ pub record StandsOnce (x : ℕ) (rows : List DrawnRow) : Type 0 where
   pub place : ℕ
   pub within : place < length rows
   pub once : (d : DrawnRow) → count_by (λ y. y == x) (slice_index_or rows place d).numbers ≡ 1
-  pub nowhere_else : (k : ℕ) (d : DrawnRow) → k < length rows → k ≢ place → count_by (λ y. y == x) (slice_index_or rows k d).numbers ≡ 0
+  pub nowhere_else : (k : ℕ) (d : DrawnRow) → k < length rows → k ≢ place
+      → count_by (λ y. y == x) (slice_index_or rows k d).numbers ≡ 0
 
 -- x stands in no row
 abbrev pub StandsNowhere : ℕ → List DrawnRow → Type 0

@@ -34,7 +34,8 @@ new_pass desk number = record { desk = desk.id; total = desk.total; number = num
 
 -- the first passes of the desk, each with its number
 abbrev pub AreNewPasses : DeskState → ℕ → List PassState → Type 0
-AreNewPasses desk count passes = (length passes ≡ count) × ((k : ℕ) (d : PassState) → k < count → slice_index_or passes k d ≡ new_pass desk k)
+AreNewPasses desk count passes = (length passes ≡ count) × ((k : ℕ) (d : PassState) → k < count
+    → slice_index_or passes k d ≡ new_pass desk k)
 
 -- the rows, pass by pass
 abbrev pub drawn_rows : List PassState → List DrawnRow

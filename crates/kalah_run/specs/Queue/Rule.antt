@@ -8,14 +8,17 @@ use Rattle.kalah_run.specs.declared.queue.rule.QueueView.{QueueView}
 use Rattle.kalah_run.specs.declared.queue.rule.QueueView.TheVariants.{Getting, Putting, Ended}
 use Rattle.kalah_run.specs.Queue.Lists.{Accounts}
 
--- A pass to put stands behind the one to get, at the place of its worker's number, and knows what that worker has sent. The first `closed` workers have ended.
+-- A pass to put stands behind the one to get, at the place of its worker's number, and knows what that worker has sent. The first `closed`
+-- workers have ended.
 pub record FitsPut (pairs : List (ℕ × Job)) (closed place number : ℕ) (sent : List Job) : Type 0 where
   pub behind : place ≡ suc number
   pub running : closed ≤ number
   pub all_sent : sent ≡ of number pairs
 
--- The one pass to get stands first. It knows how many passes to put were made, what was taken out, and what the workers sent that have ended.
-pub record FitsGet (pairs taken : List (ℕ × Job)) (closed passes place made : ℕ) (got : List (ℕ × Job)) (known : List (List Job)) : Type 0 where
+-- The one pass to get stands first. It knows how many passes to put were made, what was taken out, and what the workers sent that have
+-- ended.
+pub record FitsGet (pairs taken : List (ℕ × Job)) (closed passes place made : ℕ) (got : List (ℕ × Job))
+    (known : List (List Job)) : Type 0 where
   pub foremost : place ≡ 0
   pub count : passes ≡ suc made
   pub all_got : got ≡ taken
@@ -36,4 +39,5 @@ pub record IsLawful (items : List (ℕ × Job)) (views : List QueueView) : Type 
   pub made : ℕ
   pub known : List (List Job)
   pub getter : get_elem? views 0 ≡ some (Getting made taken known)
-  pub fits : (place : ℕ) (v : QueueView) → get_elem? views place ≡ some v → Fits (taken ++ items) taken closed (length views) place v
+  pub fits : (place : ℕ) (v : QueueView) → get_elem? views place ≡ some v
+      → Fits (taken ++ items) taken closed (length views) place v

@@ -22,7 +22,8 @@ pub record GetState : Type 0 where
 
 -- the outcome of one of the workers stands behind what was got
 abbrev pub HasGot : GetState → Job → GetState → Type 0
-HasGot before outcome after = (worker : ℕ) × (worker < before.workers) × (after ≡ record before { got = before.got ++ (worker, outcome) ∷ [] })
+HasGot before outcome after = (worker : ℕ) × (worker < before.workers)
+    × (after ≡ record before { got = before.got ++ (worker, outcome) ∷ [] })
 
 -- how many pairs were put and not got
 pub record ClosedQueueState : Type 0 where

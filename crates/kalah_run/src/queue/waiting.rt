@@ -124,6 +124,3 @@ impl Drop for Waiting<'_> {
         }
     }
 }
-
-#[cfg(test)]
-mod tests;

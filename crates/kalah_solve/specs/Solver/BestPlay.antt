@@ -37,7 +37,8 @@ Secures mine p v = (houses : List ℕ) (final : Position) → Game (follow mine)
 
 -- each game in which the opponent follows `theirs` ends with at most v for the player to move, for any play of that player
 abbrev pub HoldsTo : Strategy → Position → ℤ → Type 0
-HoldsTo theirs p v = (houses : List ℕ) (final : Position) → Game legal_houses (follow theirs) p houses final → final_margin final ≤ℤ v
+HoldsTo theirs p v = (houses : List ℕ) (final : Position) → Game legal_houses (follow theirs) p houses final
+    → final_margin final ≤ℤ v
 
 -- v is the margin of best play: the player to move has a strategy that secures it, and the opponent one that allows no more
 pub record IsBestPlay (p : Position) (v : ℤ) : Type 0 where

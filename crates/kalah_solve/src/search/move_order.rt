@@ -1,8 +1,6 @@
 //! The order of turns: an estimate of how good each is, before its outcome is known. It states nothing about their worth.
 ghost use Rattle.std.specs.Prelude.{◌≡◌, ◌+◌, ◌%◌, ◌≤◌, ◌<◌, ℕ, Contains, slice_index};
 
-#[cfg(test)]
-mod tests;
 mod weights;
 
 use crate::search::move_order::weights::{GAIN, HOUSES, PLACES};

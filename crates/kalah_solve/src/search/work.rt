@@ -85,11 +85,6 @@ impl Work {
         self.nodes == SOME_NODES || self.nodes == MANY_NODES
     }
 
-    #[cfg(test)]
-    pub(super) fn set_nodes(&mut self, nodes: u64) {
-        self.nodes = nodes;
-    }
-
     /// Returns how many nodes of all games there were.
     #[cfg(test)]
     pub(super) fn all_nodes(&self) -> u64 {

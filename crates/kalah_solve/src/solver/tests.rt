@@ -1,184 +1,109 @@
-mod memory;
-mod sharing_endings;
-mod tables;
-mod values;
-
 use super::*;
 use crate::bounds::interval::Interval;
 use crate::key::{pack, unpack};
 use crate::search::Search;
 use crate::tests::plain;
-use kalah_rules::{Houses, Rule};
-use std::alloc::{AllocError, Global};
+use kalah_rules::Rule;
 use std::process::Abort;
 
-// The margin of best play and its house.
-fn best(margin: i32, house: u8) -> Verdict {
-    Verdict::Best { margin, house }
+// A solver with this table, into which the search puts every answer if it `keeps_all`.
+pub(crate) fn solver_with(table: Table, keeps_all: bool) -> Solver {
+    if keeps_all {
+        Solver {
+            search: Search::with_all_entries(table),
+        }
+    } else {
+        Solver::new(table)
+    }
 }
 
-// A table with room for `entries` entries, 1 to 1,048,576.
-fn table_of<A: Allocator + Clone>(
-    rt: &impl Abort,
-    alloc: A,
-    entries: u32,
-) -> Result<Table<A>, AllocError> {
+// The same with a table of this size.
+fn solver_of(rt: &impl Abort, alloc: Global, entries: u32, keeps_all: bool) -> Solver {
     assert!(rt; 1 <= entries && entries <= 1_048_576);
-    Table::new(alloc, entries)
+    let table = Table::new(alloc, entries).expect(rt, "no memory for a table");
+    solver_with(table, keeps_all)
 }
 
-// A solver with a table of this size.
-fn solver_of(rt: &impl Abort, alloc: Global, entries: u32) -> Solver {
-    Solver::new(table_of(rt, alloc, entries).expect(rt, "no memory for a table"))
-}
-
-// A board with two houses a side; the last number of each side is its store.
-fn two(rt: &impl Abort, rule: Rule, own: [u8; 3], other: [u8; 3]) -> Board {
-    let own_houses = [own[0], own[1], 0, 0, 0, 0];
-    let other_houses = [other[0], other[1], 0, 0, 0, 0];
-    let board = Board::new(2, own_houses, own[2], other_houses, other[2], rule);
+// A board with up to three houses a side; the last number of each side is its store.
+fn board(rt: &impl Abort, m: u8, own: [u8; 4], other: [u8; 4], rule: Rule) -> Board {
+    let own_houses = [own[0], own[1], own[2], 0, 0, 0];
+    let other_houses = [other[0], other[1], other[2], 0, 0, 0];
+    let board = Board::new(m, own_houses, own[3], other_houses, other[3], rule);
     board.expect(rt, "beyond the limits")
 }
 
-// A board with one house a side and empty stores.
-fn one(rt: &impl Abort, own: u8, other: u8) -> Board {
-    let own_houses = [own, 0, 0, 0, 0, 0];
-    let other_houses = [other, 0, 0, 0, 0, 0];
-    let board = Board::new(1, own_houses, 0, other_houses, 0, Rule::Classic);
-    board.expect(rt, "beyond the limits")
-}
-
-// The verdict of the board is this one.
-fn tells<A: Allocator + Clone>(
-    rt: &impl Abort,
-    solver: &mut Solver<A>,
-    board: &Board,
-    verdict: Verdict,
-) {
-    assert!(rt; solver.solve(board) == verdict);
-}
-
-// Two positions that differ only in their stores.
-fn tells_same_houses<A: Allocator + Clone>(rt: &impl Abort, solver: &mut Solver<A>) {
-    let bare = two(rt, Rule::Classic, [1, 1, 0], [1, 1, 0]);
-    let rich = two(rt, Rule::Classic, [1, 1, 9], [1, 1, 4]);
-    tells(rt, solver, &bare, best(2, 2));
-    tells(rt, solver, &rich, best(7, 2));
-}
-
-// Those, and then those that leave entries.
-fn tells_shared_entries(rt: &impl Abort, solver: &mut Solver) {
-    tells_same_houses(rt, solver);
-    tables::tells_busy_houses(rt, solver);
-}
-
-#[test]
-fn same_houses_with_other_stores_share_an_entry(rt: HostRuntime) {
-    tells_shared_entries(&rt, &mut solver_of(&rt, rt.alloc(), 1));
-}
-
-// The worked positions with one house a side, in order.
-fn tells_one_house<A: Allocator + Clone>(rt: &impl Abort, solver: &mut Solver<A>) {
-    for (own, other, margin) in [
-        (1, 1, 0),
-        (2, 2, -2),
-        (3, 3, 6),
-        (4, 4, -2),
-        (5, 5, 2),
-        (6, 6, 0),
-        (8, 7, -9),
-        (8, 8, 0),
-        (16, 15, 7),
-    ] {
-        tells(rt, solver, &one(rt, own, other), best(margin, 1));
+// The margin of best play and its house, or 0 for a game that is over.
+fn verdict(margin: i32, house: u8) -> Verdict {
+    if house == 0 {
+        Verdict::Over { margin }
+    } else {
+        Verdict::Best { margin, house }
     }
 }
 
-// Those with two houses a side, in order, and a game that is over.
-fn tells_two_houses<A: Allocator + Clone>(rt: &impl Abort, solver: &mut Solver<A>) {
-    for (own, other, margin, house) in [
-        ([1, 1, 0], [1, 1, 0], 2, 2),
-        ([5, 0, 0], [1, 0, 0], 2, 1),
-        ([1, 1, 0], [0, 1, 0], 1, 1),
-        ([1, 0, 0], [0, 2, 0], 1, 1),
-        ([1, 1, 9], [1, 1, 4], 7, 2),
-    ] {
-        let board = two(rt, Rule::Classic, own, other);
-        tells(rt, solver, &board, best(margin, house));
-    }
-    let over = two(rt, Rule::Classic, [0, 0, 3], [1, 2, 4]);
-    tells(rt, solver, &over, Verdict::Over { margin: -4 });
-}
+// Houses a side, both sides, the rule, and the verdict.
+type Worked = (u8, [u8; 4], [u8; 4], Rule, i32, u8);
 
-// Those, and then those that leave entries, with a table of `entries` entries.
-fn tells_worked_positions(rt: &impl Abort, alloc: Global, entries: u32) {
-    let mut solver = solver_of(rt, alloc, entries);
-    tells_one_house(rt, &mut solver);
-    tells_two_houses(rt, &mut solver);
-    tables::tells_busy_houses(rt, &mut solver);
-}
+// The last ones take so much work that an answer is kept, and differ in their rule or stores alone.
+const WORKED: [Worked; 28] = [
+    (1, [1, 0, 0, 0], [1, 0, 0, 0], Rule::Classic, 0, 1),
+    (1, [2, 0, 0, 0], [2, 0, 0, 0], Rule::Classic, -2, 1),
+    (1, [3, 0, 0, 0], [3, 0, 0, 0], Rule::Classic, 6, 1),
+    (1, [4, 0, 0, 0], [4, 0, 0, 0], Rule::Classic, -2, 1),
+    (1, [5, 0, 0, 0], [5, 0, 0, 0], Rule::Classic, 2, 1),
+    (1, [6, 0, 0, 0], [6, 0, 0, 0], Rule::Classic, 0, 1),
+    (2, [1, 1, 0, 0], [1, 1, 0, 0], Rule::Classic, 2, 2),
+    (2, [5, 0, 0, 0], [1, 0, 0, 0], Rule::Classic, 2, 1),
+    (2, [1, 1, 0, 0], [0, 1, 0, 0], Rule::Classic, 1, 1),
+    (2, [1, 0, 0, 0], [0, 2, 0, 0], Rule::Classic, 1, 1),
+    (2, [0, 0, 0, 3], [1, 2, 0, 4], Rule::Classic, -4, 0),
+    (1, [0, 0, 0, 0], [0, 0, 0, 0], Rule::Classic, 0, 0),
+    (1, [15, 0, 0, 99], [0, 0, 0, 0], Rule::Classic, 114, 0),
+    (1, [31, 0, 0, 99], [0, 0, 0, 0], Rule::Classic, 130, 0),
+    (1, [8, 0, 0, 0], [7, 0, 0, 0], Rule::Classic, -9, 1),
+    (1, [8, 0, 0, 0], [8, 0, 0, 0], Rule::Classic, 0, 1),
+    (1, [16, 0, 0, 0], [15, 0, 0, 0], Rule::Classic, 7, 1),
+    (2, [1, 1, 0, 0], [1, 1, 0, 0], Rule::Classic, 2, 2),
+    (2, [1, 1, 0, 9], [1, 1, 0, 4], Rule::Classic, 7, 2),
+    (2, [1, 0, 0, 0], [0, 2, 0, 0], Rule::EmptyCapture, -1, 1),
+    (2, [1, 0, 0, 0], [0, 2, 0, 0], Rule::Classic, 1, 1),
+    (2, [1, 1, 0, 0], [0, 1, 0, 0], Rule::EmptyCapture, 1, 1),
+    (1, [3, 0, 0, 0], [3, 0, 0, 0], Rule::EmptyCapture, 6, 1),
+    (1, [0, 0, 0, 0], [0, 0, 0, 0], Rule::EmptyCapture, 0, 0),
+    (3, [4, 1, 4, 0], [3, 3, 2, 0], Rule::Classic, 3, 1),
+    (3, [4, 1, 4, 0], [3, 3, 2, 0], Rule::EmptyCapture, 9, 1),
+    (3, [4, 1, 4, 9], [3, 3, 2, 4], Rule::Classic, 8, 1),
+    (3, [4, 1, 4, 9], [3, 3, 2, 4], Rule::EmptyCapture, 14, 1),
+];
 
-#[test]
-fn tells_worked_positions_with_one_entry(rt: HostRuntime) {
-    tells_worked_positions(&rt, rt.alloc(), 1);
-}
-
-#[test]
-fn tells_worked_positions_with_a_large_table(rt: HostRuntime) {
-    tells_worked_positions(&rt, rt.alloc(), 65_536);
-}
-
-// Positions whose worth differs between the rules.
-fn tells_rules(rt: &impl Abort, solver: &mut Solver) {
-    for (rule, own, other, margin) in [
-        (Rule::Classic, [1, 0, 0], [0, 2, 0], 1),
-        (Rule::EmptyCapture, [1, 0, 0], [0, 2, 0], -1),
-        (Rule::EmptyCapture, [1, 1, 0], [0, 1, 0], 1),
-    ] {
-        tells(rt, solver, &two(rt, rule, own, other), best(margin, 1));
+// The verdicts, in order.
+pub(crate) fn tells_worked_positions(rt: &impl Abort, solver: &mut Solver) {
+    for (m, own, other, rule, margin, house) in WORKED {
+        let board = board(rt, m, own, other, rule);
+        assert!(rt; solver.solve(&board) == verdict(margin, house));
     }
 }
 
-// Those, and then those that leave entries by each rule.
-fn tells_entries_of_rules(rt: &impl Abort, solver: &mut Solver) {
-    tells_rules(rt, solver);
-    tables::tells_busy_houses(rt, solver);
-    tables::keeps_the_last_two(rt, solver);
+#[test]
+fn tells_worked_positions_with_each_table(rt: HostRuntime) {
+    for (entries, keeps_all) in [
+        (1, false),
+        (4, false),
+        (65_536, false),
+        (1, true),
+        (65_536, true),
+    ] {
+        let mut solver = solver_of(&rt, rt.alloc(), entries, keeps_all);
+        tells_worked_positions(&rt, &mut solver);
+    }
 }
 
 #[test]
-fn rules_have_entries_of_their_own(rt: HostRuntime) {
-    tells_entries_of_rules(&rt, &mut solver_of(&rt, rt.alloc(), 4));
-}
-
-// A search in this window has this answer, after which this interval is known.
-fn leaves(
-    rt: &impl Abort,
-    search: &mut Search,
-    houses: &Houses,
-    window: Window,
-    (answer, known): (i32, Interval),
-) {
-    assert!(rt; !houses.is_over());
-    assert!(rt; search.search(houses, window) == answer);
-    assert!(rt; search.entry(houses) == Some(known));
-}
-
-// Three windows, in order.
-fn leaves_intervals(rt: &impl Abort, search: &mut Search) {
-    let houses = one(rt, 3, 3).houses();
-    let low = Window { lo: -2, hi: 2 };
-    leaves(rt, search, &houses, low, (2, Interval { lo: 2, hi: 31 }));
-    let high = Window { lo: 7, hi: 9 };
-    leaves(rt, search, &houses, high, (7, Interval { lo: 2, hi: 7 }));
-    let whole = Window::whole();
-    leaves(rt, search, &houses, whole, (6, Interval { lo: 6, hi: 6 }));
-}
-
-#[test]
-fn windows_leave_intervals(rt: HostRuntime) {
-    let table = Table::new(rt.alloc(), 100);
-    leaves_intervals(&rt, &mut memory::solver_with(&rt, table, true).search);
+fn the_plain_recursion_tells_worked_positions(rt: HostRuntime) {
+    for (m, own, other, rule, margin, house) in WORKED {
+        let board = board(&rt, m, own, other, rule);
+        assert!(rt; plain::solve(&board) == verdict(margin, house));
+    }
 }
 
 // Each position with two houses a side and at most four seeds has the verdict of the plain recursion.
@@ -187,41 +112,60 @@ fn agrees_with_plain(rt: &impl Abort, solver: &mut Solver, rule: Rule) {
         for b in 0..5 - a {
             for c in 0..5 - a - b {
                 for d in 0..5 - a - b - c {
-                    let board = two(rt, rule, [a, b, 0], [c, d, 0]);
-                    tells(rt, solver, &board, plain::solve(&board));
+                    let board = board(rt, 2, [a, b, 0, 0], [c, d, 0, 0], rule);
+                    assert!(rt; solver.solve(&board) == plain::solve(&board));
                 }
             }
         }
     }
 }
 
-// By the one rule, and then by the other.
-fn agrees_by_each_rule(rt: &impl Abort, solver: &mut Solver) {
-    agrees_with_plain(rt, solver, Rule::Classic);
-    agrees_with_plain(rt, solver, Rule::EmptyCapture);
-}
-
-// Those, and then those that leave entries, with a table of `entries` entries.
-fn agrees_with_entries(rt: &impl Abort, alloc: Global, entries: u32) {
-    let mut solver = solver_of(rt, alloc, entries);
-    agrees_by_each_rule(rt, &mut solver);
-    tables::agree_with_plain(rt, &mut solver);
+#[test]
+fn agrees_with_plain_with_each_table(rt: HostRuntime) {
+    for (entries, keeps_all) in [(1, false), (65_536, false), (65_536, true)] {
+        let mut solver = solver_of(&rt, rt.alloc(), entries, keeps_all);
+        agrees_with_plain(&rt, &mut solver, Rule::Classic);
+        agrees_with_plain(&rt, &mut solver, Rule::EmptyCapture);
+    }
 }
 
 #[test]
-fn agrees_with_plain_with_one_entry(rt: HostRuntime) {
-    agrees_with_entries(&rt, rt.alloc(), 1);
+fn windows_leave_intervals(rt: HostRuntime) {
+    let houses = board(&rt, 1, [3, 0, 0, 0], [3, 0, 0, 0], Rule::Classic).houses();
+    assert!(rt; !houses.is_over());
+    let search = &mut solver_of(&rt, rt.alloc(), 100, true).search;
+    for (window, answer, lo, hi) in [
+        (Window { lo: -2, hi: 2 }, 2, 2, 31),
+        (Window { lo: 7, hi: 9 }, 7, 2, 7),
+        (Window::whole(), 6, 6, 6),
+    ] {
+        assert!(rt; search.search(&houses, window) == answer);
+        assert!(rt; search.entry(&houses) == Some(Interval { lo, hi }));
+    }
 }
 
-#[test]
-fn agrees_with_plain_with_a_large_table(rt: HostRuntime) {
-    agrees_with_entries(&rt, rt.alloc(), 65_536);
-}
+// Positions, and the values of their houses from the first on.
+const VALUES: [(u8, [u8; 4], [u8; 4], Rule, &[i16]); 6] = [
+    (2, [1, 1, 0, 0], [1, 1, 0, 0], Rule::Classic, &[-2, 2]),
+    (2, [1, 1, 0, 9], [1, 1, 0, 4], Rule::Classic, &[3, 7]),
+    (1, [2, 0, 0, 0], [2, 0, 0, 0], Rule::Classic, &[-2]),
+    (2, [0, 0, 0, 3], [1, 2, 0, 4], Rule::Classic, &[]),
+    (2, [1, 0, 0, 0], [0, 2, 0, 0], Rule::Classic, &[1]),
+    (2, [1, 0, 0, 0], [0, 2, 0, 0], Rule::EmptyCapture, &[-1]),
+];
 
 #[test]
-fn agrees_with_plain_with_every_answer_kept(rt: HostRuntime) {
-    let table = Table::new(rt.alloc(), 65_536);
-    agrees_by_each_rule(&rt, &mut memory::solver_with(&rt, table, true));
+fn tells_values_of_worked_positions(rt: HostRuntime) {
+    let mut solver = solver_of(&rt, rt.alloc(), 1, false);
+    for (m, own, other, rule, want) in VALUES {
+        let values = solver.values(&board(&rt, m, own, other, rule));
+        assert!(rt; usize::from(values.len()) == want.len());
+        for i in 0..values.len() {
+            let told = values.get(i);
+            assert!(rt; told.house == i + 1);
+            assert!(rt; Some(&told.value) == want.get(usize::from(i)));
+        }
+    }
 }
 
 #[test]

@@ -1,6 +1,7 @@
 //! Tests in which each request for memory of the global allocator is refused once. With ample memory these tests just pass.
 //! `tests/refuse` runs each of them repeatedly, with the first request refused, then the second, and so on: the test must
 //! pass each time, until the request that is refused is one of its own marks.
+use crate::solver::tests::{solver_with, tells_worked_positions};
 use crate::{Solver, Table, Verdict, pack, unpack};
 use kalah_rules::{Board, Houses, Rule};
 use std::alloc::{AllocError, Global};
@@ -17,24 +18,22 @@ fn mark(alloc: Global, place: &'static str) -> Result<(), Fail> {
 
 // Makes a table with one entry, at the second try if the first was refused.
 fn new_table(alloc: Global) -> Result<Table, AllocError> {
-    Table::new(alloc, 1).or_else(|_| Table::new(alloc, 1))
+    match Table::new(alloc, 1) {
+        Ok(table) => Ok(table),
+        Err(_) => Table::new(alloc, 1),
+    }
 }
 
 const ONES: [u8; 6] = [1, 1, 0, 0, 0, 0];
-
-// Packs and unpacks houses.
-fn packs(rt: &impl Abort) {
-    let houses = Houses::new(2, ONES, ONES, Rule::Classic).expect(rt, "beyond the limits");
-    assert!(rt; pack(&houses) == 0x2000_0008_4000_0021);
-    assert!(rt; unpack(0x2000_0008_4000_0021) == Some(houses));
-}
 
 #[test]
 fn a_key_and_a_solver_take_no_memory(rt: HostRuntime) -> Result<(), Fail> {
     let alloc = rt.alloc();
     let table = new_table(alloc)?;
     mark(alloc, "before the calls without memory")?;
-    packs(&rt);
+    let houses = Houses::new(2, ONES, ONES, Rule::Classic).expect(&rt, "beyond the limits");
+    assert!(rt; pack(&houses) == 0x2000_0008_4000_0021);
+    assert!(rt; unpack(0x2000_0008_4000_0021) == Some(houses));
     let _solver = Solver::new(table);
     mark(alloc, "after all")
 }
@@ -52,7 +51,28 @@ fn tells_both(rt: &impl Abort, solver: &mut Solver) {
 fn one_table_for_two_positions(rt: HostRuntime) -> Result<(), Fail> {
     let alloc = rt.alloc();
     let table = new_table(alloc)?;
-    tells_both(&rt, &mut Solver::new(table));
+    tells_both(&rt, &mut solver_with(table, false));
+    mark(alloc, "after all")
+}
+
+// Each answer is put into the table.
+#[test]
+fn one_entry_for_two_positions(rt: HostRuntime) -> Result<(), Fail> {
+    let alloc = rt.alloc();
+    let table = new_table(alloc)?;
+    tells_both(&rt, &mut solver_with(table, true));
+    mark(alloc, "after all")
+}
+
+// Each answer is put into the table, and has an entry of its own, for which it takes memory.
+#[test]
+fn many_entries(rt: HostRuntime) -> Result<(), Fail> {
+    let alloc = rt.alloc();
+    let table = match Table::new(alloc, 1_024) {
+        Ok(table) => table,
+        Err(_) => Table::new(alloc, 1_024)?,
+    };
+    tells_worked_positions(&rt, &mut solver_with(table, true));
     mark(alloc, "after all")
 }
 
@@ -60,9 +80,10 @@ fn one_table_for_two_positions(rt: HostRuntime) -> Result<(), Fail> {
 fn a_solver_beside_another(rt: HostRuntime) -> Result<(), Fail> {
     let alloc = rt.alloc();
     let first = Solver::new(new_table(alloc)?);
-    let mut second = first
-        .sharing_endings(alloc, 1)
-        .or_else(|_| first.sharing_endings(alloc, 1))?;
+    let mut second = match first.sharing_endings(alloc, 1) {
+        Ok(second) => second,
+        Err(_) => first.sharing_endings(alloc, 1)?,
+    };
     tells_both(&rt, &mut second);
     mark(alloc, "after all")
 }

@@ -23,4 +23,5 @@ pub returns-clause-begins : goal.returns-clause-begins
 returns-clause-begins g c = lines_begun _ _ _ _ _ _ c.in-Ok-reading_ahead.ensures c.answer_lines.ensures.begins
 
 pub returns-in-Err-Read-clause-stopped : goal.returns-in-Err-Read-clause-stopped
-returns-in-Err-Read-clause-stopped g c = λ _ _. lines_cut_off _ _ _ _ _ _ c.in-Ok-reading_ahead.ensures (c.answer_lines.ensures.cut_off (search rules))
+returns-in-Err-Read-clause-stopped g c = λ _ _. lines_cut_off _ _ _ _ _ _ c.in-Ok-reading_ahead.ensures
+    (c.answer_lines.ensures.cut_off (search rules))

@@ -8,5 +8,6 @@ abbrev pub invariant-loop-i : goal.invariant-loop-i
 invariant-loop-i g l = record {
   same : l.moves ≡ legal_houses l.board;
   whole : g.O.Sink.has_failed l.out ≡ false;
-  adds : Appends (g.O.Sink.written l.initial.out) (g.O.Sink.written l.out) (flat_map (λ h. move_lines l.fn.boards h (step_of l.board h)) (take l.i l.moves));
+  adds : Appends (g.O.Sink.written l.initial.out) (g.O.Sink.written l.out)
+      (flat_map (λ h. move_lines l.fn.boards h (step_of l.board h)) (take l.i l.moves));
 }

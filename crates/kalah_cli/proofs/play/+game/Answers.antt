@@ -14,7 +14,8 @@ use Rattle.kalah_cli.proofs.Played.{IsFirst, begins_move, begins_on, best_is_leg
 use Rattle.kalah_cli.proofs.play.+game.Goals as goal
 
 -- the solver's best move is the first move of the game
-first_of : {p : Position} {margin : ℤ} {h : ℕ} {s : Step} → IsWithinLimits p → TellsBestMove p margin h → Best margin h ≡ verdict_of p →
+first_of : {p : Position} {margin : ℤ} {h : ℕ} {s : Step} → IsWithinLimits p → TellsBestMove p margin h
+    → Best margin h ≡ verdict_of p →
     s ≡ step_of p h → IsFirst p h s
 first_of {p} {margin} {h} {s} limits told verdict step =
     record { even = board_equal_sides p limits; going = told.going; best = best_told p margin h told.going verdict; step = step }
@@ -68,10 +69,12 @@ returns-in-Over-step-clause-game g t c =
     let first = first_of c.m-side.ensures.limits c.in-Best.ensures.best_play c.in-Best.ensures.verdict c.apply-step.ensures.step in
     on_ok_always c.flush-in-Over-step.result
     (of_last first c.in-Over-step.is
-    (goes_on _ _ _ _ _ [] c.flush.ensures.keeps c.in_ok-write_move.ensures.adds (kept_appends _ _ _ [] c.flush-in-Over-step.ensures.keeps (Appends-nil _))))
+    (goes_on _ _ _ _ _ [] c.flush.ensures.keeps c.in_ok-write_move.ensures.adds
+        (kept_appends _ _ _ [] c.flush-in-Over-step.ensures.keeps (Appends-nil _))))
 
 pub returns-in-Over-step-clause-begins : goal.returns-in-Over-step-clause-begins
 returns-in-Over-step-clause-begins g t c =
     let first = first_of c.m-side.ensures.limits c.in-Best.ensures.best_play c.in-Best.ensures.verdict c.apply-step.ensures.step in
     of_first first
-    (λ lines. begins_on _ _ _ _ _ lines c.flush.ensures.keeps c.in_ok-write_move.ensures.adds (start_kept_all _ _ lines c.flush-in-Over-step.ensures.keeps))
+    (λ lines. begins_on _ _ _ _ _ lines c.flush.ensures.keeps c.in_ok-write_move.ensures.adds
+        (start_kept_all _ _ lines c.flush-in-Over-step.ensures.keeps))

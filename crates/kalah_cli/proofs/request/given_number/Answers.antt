@@ -13,7 +13,8 @@ returns-clause-given c = number_read 32 1 most_entries (found_of c.args.found.no
     c.get_one.ensures.none c.get_one.ensures.value (omega arith) c.requires
 
 -- what is given is the size of a table
-size_given : (id : Text) (rows : List Row) (r : Option ℕ) → MayHaveNumber id 1 most_entries rows → r ≡ number_given id rows → IfSome r IsTableSize
+size_given : (id : Text) (rows : List Row) (r : Option ℕ) → MayHaveNumber id 1 most_entries rows → r ≡ number_given id rows
+    → IfSome r IsTableSize
 size_given id rows None may is = tt
 size_given id rows (Some n) may is = number_in_range id 1 most_entries rows n may (sym is)
 

@@ -32,7 +32,8 @@ pub is_set-steps-requires : goal.is_set-steps-requires
 is_set-steps-requires c = has_flag (codes "steps") (rw c.in-ask.is at c.requires) refl refl
 
 pub given_number-requires : goal.given_number-requires
-given_number-requires c = may_have_number (codes "table") 1 most_entries (rw c.in-ask.is at c.requires) refl refl (omega arith) (omega arith)
+given_number-requires c = may_have_number (codes "table") 1 most_entries (rw c.in-ask.is at c.requires) refl refl (omega arith)
+    (omega arith)
 
 pub line_of-requires-in-show : goal.line_of-requires-in-show
 line_of-requires-in-show c = ap is_some (given (codes "line") (rw c.in-show.is at c.requires) refl refl).first
@@ -45,7 +46,8 @@ pub is_set-requires-in-show : goal.is_set-requires-in-show
 is_set-requires-in-show c = has_flag (codes "plain") (rw c.in-show.is at c.requires) refl refl
 
 pub given_byte-requires-in-count : goal.given_byte-requires-in-count
-given_byte-requires-in-count c = may_have_number (codes "depth") 0 255 (rw c.in-count.is at c.requires) refl refl (omega arith) (omega arith)
+given_byte-requires-in-count c = may_have_number (codes "depth") 0 255 (rw c.in-count.is at c.requires) refl refl (omega arith)
+    (omega arith)
 
 pub unwrap-requires : goal.unwrap-requires
 unwrap-requires c = ap is_some c.given_byte-in-count.ensures

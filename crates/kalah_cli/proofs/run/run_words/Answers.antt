@@ -56,7 +56,8 @@ pub returns-in-Ok-clause-unchanged : goal.returns-in-Ok-clause-unchanged
 returns-in-Ok-clause-unchanged g c = λ none. c.run_request.ensures.unchanged (none (asked_for c.in-Ok.request) (request_taken g c))
 
 pub returns-in-Ok-clause-stopped : goal.returns-in-Ok-clause-stopped
-returns-in-Ok-clause-stopped g c = λ question table taken. c.run_request.ensures.stopped question table (is_asked g c (ask question table) taken)
+returns-in-Ok-clause-stopped g c = λ question table taken. c.run_request.ensures.stopped question table
+    (is_asked g c (ask question table) taken)
 
 -- ---- the parse failed
 
@@ -65,7 +66,8 @@ returns-clause-unchanged g c = λ none. c.refuse.ensures.unchanged
 
 -- the error has a kind of the arguments' fault
 has_kind : (g : Over) (c : After-drop-words-2 g) → HasKind (fault_of kalah_app (texts_of c.args.words.items)) c.in-Err.error
-has_kind g c = subst (λ words. HasKind (fault_of kalah_app (texts_of words)) c.in-Err.error) c.as_slice.ensures.value c.in-Err.ensures.kinds
+has_kind g c = subst (λ words. HasKind (fault_of kalah_app (texts_of words)) c.in-Err.error) c.as_slice.ensures.value
+    c.in-Err.ensures.kinds
 
 -- if the arguments are accepted, but memory was refused
 failed : (g : Over) (c : After-drop-words-2 g) (a : Asked) → IsTakenAs (texts_of c.args.words.items) a
@@ -103,5 +105,6 @@ returns-clause-by_words g c = by_words _ _ _ _ _ (returns-clause-accepted g c) (
 
 pub returns-clause-stopped : goal.returns-clause-stopped
 returns-clause-stopped g c = λ question table taken stopped kept.
-    subst (λ o. StopsBetweenLines question None (g.O.Sink.written c.args.out.now) (g.O.Sink.written o)) (sym (failed g c (ask question table) taken).1)
+    subst (λ o. StopsBetweenLines question None (g.O.Sink.written c.args.out.now) (g.O.Sink.written o))
+        (sym (failed g c (ask question table) taken).1)
     (stops_before_lines question None (g.O.Sink.written c.args.out.now))

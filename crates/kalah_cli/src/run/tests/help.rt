@@ -1,32 +1,21 @@
 //! What the help says, and the version.
-use super::{Host, assert_answers, run_on};
+use super::{assert_answers, run_on};
 use crate::help;
 use crate::status::ExitStatus::{Clean, Failed};
 use std::str;
 
-const OF_THE_PROGRAM: &[&str] = &[
-    "Solves small positions of Kalah: the best house and the margin of best play",
-    "moves",
-    "solve",
-    "values",
-    "Prints each legal move of a position, and the position after it",
-    "Prints the best house and the margin of best play of each position",
-    "Prints what each move of each position is worth",
-    "Answers each line of standard input before it reads the next",
-    "Prints each legal move of each position, and what it leads to",
-    "Draws a position, and below each house what its move is worth",
-    "Counts the ways to play on from a position, for each first move",
+// Of the program. `tests/data/help.txt` has the whole of it.
+const LONG: &[&str] = &[
     "  -h, --help\n          Print help (see a summary with '-h')\n",
-    "  -V, --version\n          Print version\n",
     help::LONG,
 ];
 
-const OF_THE_PROGRAM_IN_SHORT: &[&str] = &[
+const SHORT: &[&str] = &[
     "  -h, --help     Print help (see more with '--help')\n  -V, --version  Print version\n",
     "`kalah --help` explains positions, the rules, answers and exit statuses.",
 ];
 
-const OF_MOVES: &[&str] = &[
+const MOVES: &[&str] = &[
     "Prints each legal move of a position, and the position after it",
     "<LINE>",
     "a position in quotes, as '1,1/0 1,1/0'",
@@ -34,7 +23,7 @@ const OF_MOVES: &[&str] = &[
     "`kalah --help` has the rules",
 ];
 
-const OF_ASK: &[&str] = &[
+const ASK: &[&str] = &[
     "--values",
     "prints what each move is worth, as `values`",
     "--table <N>",
@@ -42,7 +31,7 @@ const OF_ASK: &[&str] = &[
 ];
 
 // Of `solve` and of `values`.
-const OF_BATCHES: &[&str] = &[
+const BATCHES: &[&str] = &[
     "--workers <N>",
     "solves up to N lines in parallel, 1 to 64",
     "[default: 4]",
@@ -58,7 +47,14 @@ const OF_BATCHES: &[&str] = &[
     "`kalah --help` has the form of positions, the rules, and the words of faults.",
 ];
 
-const OF_PLAY: &[&str] = &[
+const STEPS: &[&str] = &[
+    "Prints each legal move of each position, and what it leads to",
+    "--workers <N>",
+    "[default: 4]",
+    "<FILE>...",
+];
+
+const PLAY: &[&str] = &[
     "Prints the game that best play leads to from a position, move by move",
     "table entries of the search, 1 to 1048576",
     "--first <H>",
@@ -66,7 +62,7 @@ const OF_PLAY: &[&str] = &[
     "The search runs in one thread, with one table of its own.",
 ];
 
-const OF_SHOW: &[&str] = &[
+const SHOW: &[&str] = &[
     "Draws a position, and below each house what its move is worth",
     "--plain",
     "draws the position alone, and searches nothing",
@@ -75,72 +71,65 @@ const OF_SHOW: &[&str] = &[
     "    over, margin 3\n",
 ];
 
-const OF_COUNT: &[&str] = &[
+const COUNT: &[&str] = &[
     "Counts the ways to play on from a position, for each first move",
     "<DEPTH>",
     "how many moves each way has, 0 to 20",
     "    1 2\n    2 1\n    total 3\n",
 ];
 
-// The help that these words ask for has each of these parts in it.
-fn assert_says(rt: &impl Host, words: &[&str], parts: &[&str]) {
-    let run = run_on(rt, words);
-    assert!(rt; run.status == Clean);
-    let text = str::from_utf8(run.out.as_slice()).expect(rt, "no text");
-    for part in parts {
-        assert!(rt; text.contains(*part), "no {part}");
-    }
-}
+// Arguments that ask for help, and parts of it.
+const HELP: &[(&[&str], &[&str])] = &[
+    (&["--help"], LONG),
+    (&["-h"], SHORT),
+    (&["moves", "--help"], MOVES),
+    (&["ask", "--help"], ASK),
+    (&["solve", "--help"], BATCHES),
+    (&["values", "--help"], BATCHES),
+    (&["steps", "--help"], STEPS),
+    (&["play", "--help"], PLAY),
+    (&["show", "--help"], SHOW),
+    (&["count", "--help"], COUNT),
+];
 
 #[test]
 fn the_help_says_what_there_is_to_ask_for(rt: HostRuntime) {
-    assert_says(&rt, &["--help"], OF_THE_PROGRAM);
-    assert_says(&rt, &["-h"], OF_THE_PROGRAM_IN_SHORT);
-    assert_says(&rt, &["moves", "--help"], OF_MOVES);
-    assert_says(&rt, &["ask", "--help"], OF_ASK);
-    assert_says(&rt, &["play", "--help"], OF_PLAY);
-    assert_says(&rt, &["show", "--help"], OF_SHOW);
-    assert_says(&rt, &["count", "--help"], OF_COUNT);
-    for subcommand in ["solve", "values"] {
-        assert_says(&rt, &[subcommand, "--help"], OF_BATCHES);
+    for (words, parts) in HELP {
+        let run = run_on(&rt, *words);
+        assert!(rt; run.status == Clean && run.err.is_empty(), "{words:?}");
+        let text = str::from_utf8(run.out.as_slice()).expect(&rt, "no text");
+        for part in *parts {
+            assert!(rt; text.contains(*part), "no {part}");
+        }
     }
 }
 
-// Arguments whose first two after the subcommand are the halves of a position, or are not.
-const WITHOUT_QUOTES: &[&[&str]] = &[
-    &["moves", "1,1/0", "1,1/0"],
-    &["moves", "--boards", "1,1/0", "1,1/0"],
-    &["play", "1,1/0", "1,1/0", "e"],
-    &["show", "1,1/0", "1,1/0"],
-    &["count", "2", "1,1/0", "1,1/0"],
+// Arguments that are refused, and whether standard error speaks of quotes: it does if the first two after the subcommand are the
+// halves of a position.
+const REFUSED: &[(&[&str], bool)] = &[
+    (&["moves", "1,1/0", "1,1/0"], true),
+    (&["moves", "--boards", "1,1/0", "1,1/0"], true),
+    (&["play", "1,1/0", "1,1/0", "e"], true),
+    (&["show", "1,1/0", "1,1/0"], true),
+    (&["count", "2", "1,1/0", "1,1/0"], true),
+    (&["moves", "1,1/0 1,1/0", "1"], false),
+    (&["play", "--board", "1,1/0 1,1/0"], false),
+    (&["solve", "a/b", "c/d", "--board"], false),
+    (&["moves"], false),
 ];
-
-const WITH_QUOTES: &[&[&str]] = &[
-    &["moves", "1,1/0 1,1/0", "1"],
-    &["play", "--board", "1,1/0 1,1/0"],
-    &["solve", "a/b", "c/d", "--board"],
-    &["moves"],
-];
-
-// Whether standard error speaks of quotes.
-fn speaks_of_quotes(rt: &impl Host, words: &[&str]) -> bool {
-    let run = run_on(rt, words);
-    assert!(rt; run.status == Failed && run.out.is_empty());
-    let text = str::from_utf8(run.err.as_slice()).expect(rt, "no text");
-    text.contains("put it in quotes: '1,1/0 1,1/0'\n")
-}
 
 #[test]
 fn a_position_without_quotes_is_pointed_out(rt: HostRuntime) {
-    for words in WITHOUT_QUOTES {
-        assert!(rt; speaks_of_quotes(&rt, *words));
-    }
-    for words in WITH_QUOTES {
-        assert!(rt; !speaks_of_quotes(&rt, *words));
+    for (words, speaks_of_quotes) in REFUSED {
+        let run = run_on(&rt, *words);
+        assert!(rt; run.status == Failed && run.out.is_empty());
+        let text = str::from_utf8(run.err.as_slice()).expect(&rt, "no text");
+        let quotes = "put it in quotes: '1,1/0 1,1/0'\n";
+        assert!(rt; text.contains(quotes) == *speaks_of_quotes, "{words:?}");
     }
 }
 
-// Words that ask for the version before anything else.
+// Arguments that ask for the version before anything else.
 const OF_THE_VERSION: &[&[&str]] = &[
     &["--version"],
     &["-V"],

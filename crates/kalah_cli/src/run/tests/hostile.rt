@@ -52,24 +52,14 @@ fn a_file_may_end_anywhere(rt: HostRuntime) {
     }
 }
 
-// A file may have this name.
-fn assert_is_a_name(rt: &impl Host, name: &str) {
-    let text = format!(in rt.alloc(); "{name}:1 0 house 1\n").expect(rt, "no memory");
-    assert_file_answers(rt, name, b"1/0 1/0", text.as_str());
-}
-
-// No file has this name.
-fn assert_is_not_read(rt: &impl Host, name: &str) {
-    let text = format!(in rt.alloc(); "kalah: cannot read {name}\n").expect(rt, "no memory");
-    assert_answers(rt, &["solve", name], Failed, ("", text.as_str()));
-}
-
 #[test]
 fn a_name_is_any_text_in_one_line(rt: HostRuntime) {
     for name in ["odd name é:1.txt", "odd\t\"$(x)'.txt", "odd\r.txt"] {
-        assert_is_a_name(&rt, name);
+        let text = format!(in rt.alloc(); "{name}:1 0 house 1\n").expect(&rt, "no memory");
+        assert_file_answers(&rt, name, b"1/0 1/0", text.as_str());
     }
     for name in ["", "odd\0name", "odd.txt/", "no/odd.txt"] {
-        assert_is_not_read(&rt, name);
+        let text = format!(in rt.alloc(); "kalah: cannot read {name}\n").expect(&rt, "no memory");
+        assert_answers(&rt, &["solve", name], Failed, ("", text.as_str()));
     }
 }

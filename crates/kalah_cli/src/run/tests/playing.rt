@@ -1,12 +1,15 @@
 //! Runs of `kalah play`, and of `kalah moves` with boards.
-use super::{Host, assert_answers, assert_written};
-use crate::status::ExitStatus::Clean;
+use super::{assert_said, assert_written};
+use crate::status::ExitStatus::Failed;
 
-// Lines, and the games that best play leads to from their positions.
-const GAMES: &[(&str, &str)] = &[
-    ("1,1/0 1,1/0", "2 1,0/1 1,1/0 again\n1 0,0/3 0,0/1 over\n"),
+// Arguments, and the game that they print.
+const GAMES: &[(&[&str], &str)] = &[
     (
-        "3,3/0 3,3/0",
+        &["play", "1,1/0 1,1/0"],
+        "2 1,0/1 1,1/0 again\n1 0,0/3 0,0/1 over\n",
+    ),
+    (
+        &["play", "--table", "1", "3,3/0 3,3/0"],
         "\
 1 4,3/0 0,4/1 turn
 1 1,5/1 0,4/1 turn
@@ -16,7 +19,7 @@ const GAMES: &[(&str, &str)] = &[
 ",
     ),
     (
-        "2,0,1/0 1,2,0/0 e",
+        &["play", "2,0,1/0 1,2,0/0 e"],
         "\
 3 2,0,0/1 1,2,0/0 e again
 1 0,2,0/0 0,1,0/3 e turn
@@ -24,66 +27,20 @@ const GAMES: &[(&str, &str)] = &[
 3 0,0,0/2 0,0,0/4 e over
 ",
     ),
-    ("3/0 3/0", "1 0/6 0/0 over\n"),
-    ("0,0/3 1,2/4", ""),
+    (&["play", "0,0/3 1,2/4"], ""),
     (
-        "4,4,4/0 4,4,4/0",
-        "\
-1 5,4,4/0 0,5,5/1 turn
-1 1,6,5/1 0,5,5/1 turn
-2 1,6,6/1 2,0,6/2 turn
-2 3,1,7/2 2,0,7/2 turn
-1 0,2,8/3 2,0,7/2 again
-3 1,3,1/5 3,1,8/2 again
-2 4,1,8/2 1,0,2/6 turn
-1 2,0,2/6 0,2,9/3 turn
-1 0,2,9/3 0,1,3/6 turn
-2 0,0,10/4 0,1,3/6 again
-3 2,3,4/6 1,1,1/6 turn
-1 1,1,1/6 0,4,5/6 turn
-1 0,4,5/6 0,2,1/6 turn
-2 1,3,1/6 0,0,6/7 turn
-2 1,0,6/7 1,0,2/7 turn
-3 2,0,3/7 2,0,0/10 turn
-1 2,0,0/10 0,1,4/7 turn
-1 0,1,4/7 0,1,1/10 turn
-2 0,1,1/10 0,0,5/7 turn
-3 0,1,0/11 0,0,5/7 again
-2 0,0,5/7 0,0,1/11 turn
-3 0,0,0/11 0,0,0/13 over
-",
+        &["play", "--first", "1", "1,1/0 1,1/0"],
+        "1 1,1/0 0,2/0 turn\n1 0,2/0 0,2/0 turn\n2 0,0/1 0,0/3 over\n",
     ),
-];
-
-// This game is played, with a table of one entry and of many.
-fn assert_plays(rt: &impl Host, line: &str, game: &str) {
-    for table in ["1", "65536"] {
-        assert_answers(rt, &["play", "--table", table, line], Clean, (game, ""));
-    }
-}
-
-#[test]
-fn plays_the_game_of_best_play(rt: HostRuntime) {
-    for (line, game) in GAMES {
-        assert_plays(&rt, *line, *game);
-    }
-}
-
-// Arguments, and what they print with boards.
-const DRAWN: &[(&[&str], &str)] = &[
     (
-        &["play", "--boards", "1,1/0 1,1/0"],
-        "       1   1
-   0           0
-       1   1
-2 1,0/1 1,1/0 again
-       1   1
-   0           1
-       1   0
-1 0,0/3 0,0/1 over
-       0   0
-   1           3
-       0   0
+        &["play", "3/0 3/0", "--first=1", "--boards"],
+        "       3
+   0       0
+       3
+1 0/6 0/0 over
+       0
+   0       6
+       0
 ",
     ),
     (
@@ -119,6 +76,27 @@ const DRAWN: &[(&[&str], &str)] = &[
 ];
 
 #[test]
-fn draws_boards_below_their_lines(rt: HostRuntime) {
-    assert_written(&rt, DRAWN);
+fn prints_the_game_of_best_play(rt: HostRuntime) {
+    assert_written(&rt, GAMES);
+}
+
+// Arguments with a house that may not be moved: it is empty, there is none, or the game is over.
+const UNMOVED: &[(&[&str], &str)] = &[
+    (
+        &["play", "--first=1", "0,1/0 1,1/0"],
+        "kalah: house 1 can't be moved\n",
+    ),
+    (
+        &["play", "--first=3", "--boards", "1,1/0 1,1/0"],
+        "kalah: house 3 can't be moved\n",
+    ),
+    (
+        &["play", "--first=2", "1,1/0 0,0/0"],
+        "kalah: house 2 can't be moved\n",
+    ),
+];
+
+#[test]
+fn says_which_house_may_not_be_moved(rt: HostRuntime) {
+    assert_said(&rt, Failed, UNMOVED);
 }

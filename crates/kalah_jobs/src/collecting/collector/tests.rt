@@ -28,22 +28,17 @@ impl Trial {
         out_of_memory::trial_of(rt).expect(rt, "no memory")
     }
 
-    // Offers a line with the entry `entry`.
-    fn offer(&mut self, (file, line): (u32, u32), entry: Entry) -> Answered {
-        let outcome = Outcome::of(file, line, entry, &mut self.solver);
-        self.collector.offer(&self.jobs, outcome)
-    }
-
     // Offers a line with the entry `entry`, and compares the answer.
     fn assert_answers(
         &mut self,
         rt: &impl Abort,
-        place: (u32, u32),
+        (file, line): (u32, u32),
         entry: Entry,
         answered: Answered,
     ) {
-        let told = self.offer(place, entry);
-        assert!(rt; told == answered, "{place:?} with {entry:?}");
+        let outcome = Outcome::of(file, line, entry, &mut self.solver);
+        let told = self.collector.offer(&self.jobs, outcome);
+        assert!(rt; told == answered, "{file}, {line} with {entry:?}");
     }
 
     // Offers a line with `seeds` seeds, and compares the answer.
@@ -57,11 +52,6 @@ impl Trial {
         assert!(rt; self.collector.take(0) == Some(Taken { line, answer }));
     }
 
-    // There is no line of this file to take.
-    fn assert_takes_none(&mut self, rt: &impl Abort, f: u32) {
-        assert!(rt; self.collector.take(f).is_none(), "of file {f}");
-    }
-
     // Takes the three lines of the first file, each once, with the margins of best play, and nothing else.
     fn assert_takes_all(&mut self, rt: &impl Abort) {
         assert!(rt; !self.collector.all_taken());
@@ -69,7 +59,7 @@ impl Trial {
         self.assert_takes(rt, 1, -2);
         self.assert_takes(rt, 2, 6);
         for f in [0, 1, 9] {
-            self.assert_takes_none(rt, f);
+            assert!(rt; self.collector.take(f).is_none(), "of file {f}");
         }
         assert!(rt; self.collector.all_taken());
     }
@@ -130,29 +120,19 @@ const EACH_OFFER: &[((u32, u32), u8, EachAnswered)] = &[
     ((1, 0), 1, (ENDED, ENDED, ENDED)),
 ];
 
-// Whether every line of a file is ready or taken.
-fn assert_ended(rt: &impl Abort, trial: &Trial, f: u32, ended: bool) {
-    assert!(rt; trial.collector.ended(f) == ended, "of file {f}");
-}
+// A line of the first file, and its seeds.
+type Line = (u32, u8);
 
-#[test]
-fn answers_each_offer(rt: HostRuntime) {
-    let mut trial = Trial::new(&rt);
-    assert_ended(&rt, &trial, 0, false);
-    assert_ended(&rt, &trial, 1, true);
-    assert_ended(&rt, &trial, 2, false);
-    trial.assert_each_offer(&rt);
-}
+const ONE: Line = (0, 1);
 
-// The lines of the first file, with their seeds.
-const ONE: (u32, u8) = (0, 1);
+const TWO: Line = (1, 2);
 
-const TWO: (u32, u8) = (1, 2);
+const THREE: Line = (2, 3);
 
-const THREE: (u32, u8) = (2, 3);
+const ORDERED: [Line; 3] = [ONE, TWO, THREE];
 
 // The lines in each order, and how many become ready by each offer.
-const ORDERS: &[[((u32, u8), u32); 3]] = &[
+const ORDERS: &[[(Line, u32); 3]] = &[
     [(ONE, 1), (TWO, 1), (THREE, 1)],
     [(ONE, 1), (THREE, 0), (TWO, 2)],
     [(TWO, 0), (ONE, 2), (THREE, 1)],
@@ -161,31 +141,23 @@ const ORDERS: &[[((u32, u8), u32); 3]] = &[
     [(THREE, 0), (TWO, 0), (ONE, 3)],
 ];
 
-// Offers the lines in this order.
-fn assert_ready(rt: &impl Abort, trial: &mut Trial, offers: &[((u32, u8), u32)]) {
-    for ((line, seeds), ready) in offers {
-        trial.assert_offer(rt, (0, *line), *seeds, Ok(*ready));
-    }
-}
-
 #[test]
 fn releases_lines_in_order(rt: HostRuntime) {
     for offers in ORDERS {
-        assert_ready(&rt, &mut Trial::new(&rt), offers);
+        let mut trial = Trial::new(&rt);
+        for ((line, seeds), ready) in offers {
+            trial.assert_offer(&rt, (0, *line), *seeds, Ok(*ready));
+        }
     }
-}
-
-// Refuses the first line once it was taken.
-fn assert_refuses_taken(rt: &impl Abort, trial: &mut Trial) {
-    trial.assert_offer(rt, (0, 0), 1, Ok(1));
-    trial.assert_takes(rt, 0, 0);
-    trial.assert_offer(rt, (0, 0), 1, Err(Double));
-    trial.assert_takes_none(rt, 0);
 }
 
 #[test]
 fn refuses_a_line_that_was_taken(rt: HostRuntime) {
-    assert_refuses_taken(&rt, &mut Trial::new(&rt));
+    let mut trial = Trial::new(&rt);
+    trial.assert_offer(&rt, (0, 0), 1, Ok(1));
+    trial.assert_takes(&rt, 0, 0);
+    trial.assert_offer(&rt, (0, 0), 1, Err(Double));
+    assert!(rt; trial.collector.take(0).is_none());
 }
 
 #[test]
@@ -196,26 +168,16 @@ fn refuses_a_position_under_the_other_rule(rt: HostRuntime) {
     trial.assert_offer(&rt, (0, 0), 1, Ok(1));
 }
 
-// Offers a line after three unknown results: one for a file that is not there, one for a line past the last, and one with the
-// offer's own file and line and another entry. The last two and the offer itself are answered so.
-fn assert_after_strangers(
-    rt: &impl Abort,
-    trial: &mut Trial,
-    place: (u32, u32),
-    seeds: u8,
-    (past, other, own): EachAnswered,
-) {
-    trial.assert_offer(rt, (5, place.1), seeds, NOWHERE);
-    trial.assert_offer(rt, (0, 3), seeds, past);
-    trial.assert_answers(rt, place, Entry::Bad(LineFault::Empty), other);
-    trial.assert_offer(rt, place, seeds, own);
-}
-
+// Before each offer come three unknown results: one for a file that is not there, one for a line past the last, and one with the
+// offer's own file and line and another entry.
 #[test]
 fn strangers_change_nothing(rt: HostRuntime) {
     let mut trial = Trial::new(&rt);
-    for (place, seeds, answered) in EACH_OFFER {
-        assert_after_strangers(&rt, &mut trial, *place, *seeds, *answered);
+    for (place, seeds, (past, other, own)) in EACH_OFFER {
+        trial.assert_offer(&rt, (5, place.1), *seeds, NOWHERE);
+        trial.assert_offer(&rt, (0, 3), *seeds, *past);
+        trial.assert_answers(&rt, *place, Entry::Bad(LineFault::Empty), *other);
+        trial.assert_offer(&rt, *place, *seeds, *own);
     }
     trial.assert_takes_all(&rt);
 }

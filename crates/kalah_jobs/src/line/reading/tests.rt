@@ -8,51 +8,34 @@ fn assert_fault(rt: &impl Abort, line: &[u8], fault: LineFault) {
     assert!(rt; Entry::of_line(Question::BestMove, line) == Entry::Bad(fault));
 }
 
-// The line is read as a board of one house a side: its seeds, and what its store holds.
-fn assert_reads(rt: &impl Abort, line: &[u8], own: (u8, u8), other: (u8, u8), rule: Rule) {
-    let own_row = [own.0, 0, 0, 0, 0, 0];
-    let other_row = [other.0, 0, 0, 0, 0, 0];
-    let board = Board::new(1, own_row, own.1, other_row, other.1, rule);
-    let board = board.expect(rt, "within the limits");
-    assert!(rt; read_line(line) == Ok(board));
-    assert!(rt; Entry::of_line(Question::BestMove, line) == Entry::Position(board));
-}
-
-const OTHER_SHAPES: &[&[u8]] = &[
-    b"01/0 1/0",
-    b"1/100 1/0",
-    b"100/0 1/0",
-    b"-1/0 1/0",
-    b"1/0  1/0",
-    b"1/0\t1/0",
-    b"1/0",
-    b"/0 /0",
-    b"1,,1/0 1/0",
-    b"1/0 1/0\0",
-    b"\xef\xbb\xbf1/0 1/0",
-    b"\xff\xfe",
+// Lines that can't be read, and why.
+const FAULTS: &[(&[u8], LineFault)] = &[
+    (b"", LineFault::Empty),
+    (b"\r", LineFault::Empty),
+    (b"01/0 1/0", LineFault::Shape),
+    (b"1/100 1/0", LineFault::Shape),
+    (b"100/0 1/0", LineFault::Shape),
+    (b"-1/0 1/0", LineFault::Shape),
+    (b"1/0  1/0", LineFault::Shape),
+    (b"1/0", LineFault::Shape),
+    (b"/0 /0", LineFault::Shape),
+    (b"1,,1/0 1/0", LineFault::Shape),
+    (b"1/0 1/0\r\r", LineFault::Shape),
+    (b"1/0 1/0 E", LineFault::Shape),
+    (b"1/0 1/0  e", LineFault::Shape),
+    (b"1/0 1/0e", LineFault::Shape),
+    (b"1/0 1/0 e ", LineFault::Shape),
+    (b"1/0 1/0 ", LineFault::Shape),
+    (b"1,1/0 1/0", LineFault::Houses),
+    (b"1,1/0 16/0", LineFault::Houses),
+    (b"1,0,0,0,0,0,0/0 1,0,0,0,0,0,0/0", LineFault::Houses),
+    (b"16/0 16/0", LineFault::Seeds),
 ];
 
 #[test]
-fn lines_of_another_shape(rt: HostRuntime) {
-    for line in OTHER_SHAPES {
-        assert_fault(&rt, line, LineFault::Shape);
-    }
-}
-
-const OTHER_ENDINGS: &[&[u8]] = &[
-    b"1/0 1/0\r\r",
-    b"1/0 1/0 E",
-    b"1/0 1/0  e",
-    b"1/0 1/0e",
-    b"1/0 1/0 e ",
-    b"1/0 1/0 ",
-];
-
-#[test]
-fn endings_of_another_shape(rt: HostRuntime) {
-    for line in OTHER_ENDINGS {
-        assert_fault(&rt, line, LineFault::Shape);
+fn lines_that_are_not_read(rt: HostRuntime) {
+    for (line, fault) in FAULTS {
+        assert_fault(&rt, line, *fault);
     }
 }
 
@@ -64,21 +47,6 @@ fn at_most_eighty_bytes(rt: HostRuntime) {
     line[80] = b'\r';
     assert_fault(&rt, &line[..81], LineFault::Shape);
     assert_fault(&rt, &line, LineFault::Long);
-}
-
-#[test]
-fn lines_of_no_bytes(rt: HostRuntime) {
-    assert_fault(&rt, b"", LineFault::Empty);
-    assert_fault(&rt, b"\r", LineFault::Empty);
-}
-
-#[test]
-fn other_houses_and_too_many_seeds(rt: HostRuntime) {
-    assert_fault(&rt, b"1,1/0 1/0", LineFault::Houses);
-    assert_fault(&rt, b"1,1/0 16/0", LineFault::Houses);
-    assert_fault(&rt, b"1,0,0,0,0,0,0/0 1,0,0,0,0,0,0/0", LineFault::Houses);
-    assert_fault(&rt, b"16/0 16/0", LineFault::Seeds);
-    assert_fault(&rt, b"99/0 99/0", LineFault::Seeds);
 }
 
 // Lines that are read as boards of one house a side: the seeds and the store of each side, and the rule.
@@ -95,7 +63,12 @@ const READ: &[(&[u8], (u8, u8), (u8, u8), Rule)] = &[
 #[test]
 fn lines_that_are_read(rt: HostRuntime) {
     for (line, own, other, rule) in READ {
-        assert_reads(&rt, line, *own, *other, *rule);
+        let own_row = [own.0, 0, 0, 0, 0, 0];
+        let other_row = [other.0, 0, 0, 0, 0, 0];
+        let board = Board::new(1, own_row, own.1, other_row, other.1, *rule);
+        let board = board.expect(&rt, "within the limits");
+        assert!(rt; read_line(line) == Ok(board));
+        assert!(rt; Entry::of_line(Question::BestMove, line) == Entry::Position(board));
     }
 }
 

@@ -36,8 +36,10 @@ loop-i-preserved c =
       words = before_those space value_words values c.loop-i.i v v c.args.text.now c.prepend_value-in-loop-i.new.text
           (get_or_from_slice_get values (c.loop-i.i - 1) v v c.get-in-loop-i.ensures) c.loop-i-test.true c.loop-i.invariant.within
           (c.prepend_value-in-loop-i.ensures.value
-          ∙ ap (λ (ws : List ℕ). value_words v ++ ws) (c.prepend.ensures.piece ∙ ap (λ (ws : List ℕ). codes " " ++ ws) c.loop-i.invariant.words));
-      short = omega (arith, c.prepend_value-in-loop-i.ensures.short, c.prepend.ensures.longer, c.loop-i.invariant.short, c.loop-i-test.true);
+          ∙ ap (λ (ws : List ℕ). value_words v ++ ws) (c.prepend.ensures.piece
+          ∙ ap (λ (ws : List ℕ). codes " " ++ ws) c.loop-i.invariant.words));
+      short = omega (arith, c.prepend_value-in-loop-i.ensures.short, c.prepend.ensures.longer, c.loop-i.invariant.short,
+          c.loop-i-test.true);
     }
 
 pub returns-clause-short : goal.returns-clause-short

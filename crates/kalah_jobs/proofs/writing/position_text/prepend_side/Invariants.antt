@@ -8,7 +8,8 @@ abbrev pub invariant-loop-i : goal.invariant-loop-i
 invariant-loop-i l = record {
   low : 1 ≤ l.i;
   high : l.i ≤ length (houses_of l.player l.board);
-  side : l.text ≡ joined_from comma decimal (houses_of l.player l.board) (l.i - 1) ++ slash ∷ (decimal (store_of l.player l.board) ++ l.fn.text);
+  side : l.text ≡ joined_from comma decimal (houses_of l.player l.board) (l.i - 1) ++ slash ∷
+      (decimal (store_of l.player l.board) ++ l.fn.text);
   short : length l.text + 4 * l.i ≤ length l.fn.text + 7 + 4 * length (houses_of l.player l.board);
 }
 

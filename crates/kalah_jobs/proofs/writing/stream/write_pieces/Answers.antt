@@ -16,7 +16,9 @@ part_then before between after bytes taken part rest =
     start_then before between after bytes (take taken bytes) _ (sym parts) part rest
 
 pub returns-in_err-write_rest-in-Ok-clause-start : goal.returns-in_err-write_rest-in-Ok-clause-start
-returns-in_err-write_rest-in-Ok-clause-start g c = part_then _ _ _ c.args.bytes.now c.in-Ok.taken c.in-Ok.ensures.bytes c.write_rest.ensures.start
+returns-in_err-write_rest-in-Ok-clause-start g c = part_then _ _ _ c.args.bytes.now c.in-Ok.taken c.in-Ok.ensures.bytes
+    c.write_rest.ensures.start
 
 pub returns-in_ok-write_rest-in-Ok-clause-start : goal.returns-in_ok-write_rest-in-Ok-clause-start
-returns-in_ok-write_rest-in-Ok-clause-start g c = part_then _ _ _ c.args.bytes.now c.in-Ok.taken c.in-Ok.ensures.bytes c.write_rest.ensures.start
+returns-in_ok-write_rest-in-Ok-clause-start g c = part_then _ _ _ c.args.bytes.now c.in-Ok.taken c.in-Ok.ensures.bytes
+    c.write_rest.ensures.start

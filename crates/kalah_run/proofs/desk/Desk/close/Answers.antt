@@ -31,16 +31,19 @@ last c =
 
 pub returns-clause-deals : goal.returns-clause-deals
 returns-clause-deals c =
-    let drawn = c.min.ensures ∙ drawn_at_end c.self.inside.total c.word-word.result (drawn_rows c.args.passes.items) (last c).0 (last c).1 in
+    let drawn = c.min.ensures ∙ drawn_at_end c.self.inside.total c.word-word.result (drawn_rows c.args.passes.items) (last c).0
+        (last c).1 in
     subst (λ (n : ℕ). DealsEachOnce c.args.self.total n (drawn_rows c.args.passes.items)) (sym drawn)
-    (deals_each_once c.args.self.total _ (subst (λ (t : ℕ). AreLawful t (drawn_rows c.args.passes.items)) (ap (λ d. d.total) c.self.view_is) (last c).1))
+    (deals_each_once c.args.self.total _ (subst (λ (t : ℕ). AreLawful t (drawn_rows c.args.passes.items))
+        (ap (λ d. d.total) c.self.view_is) (last c).1))
 
 pub returns-clause-spent : goal.returns-clause-spent
 returns-clause-spent c = spent_at_end c.self.inside.total c.word-word.result (drawn_rows c.args.passes.items) (last c).0 (last c).1
 
 pub join_seat-requires : goal.join_seat-requires
 join_seat-requires c =
-    (search rules, search rules, search rules, search rules, reclaims_as _ _ _ _ _ c.loop-pass.invariant.closing (ap (λ m. m.0) c.pass.invariant.0))
+    (search rules, search rules, search rules, search rules, reclaims_as _ _ _ _ _ c.loop-pass.invariant.closing
+        (ap (λ m. m.0) c.pass.invariant.0))
 
 pub loop-pass-preserved : goal.loop-pass-preserved
 loop-pass-preserved c =
@@ -59,6 +62,7 @@ loop-pass-preserved c =
       closing = search rules;
       rows = ap (λ rows. drawn_rows left ++ rows) row
           ∙ sym (append_assoc (drawn_rows left) (c.in-Some.pass.row ∷ []) past)
-          ∙ ap (λ rows. rows ++ past) (sym (map-append (λ (p : PassState). p.row) left (c.in-Some.pass ∷ [])) ∙ ap drawn_rows (sym parts))
+          ∙ ap (λ rows. rows ++ past) (sym (map-append (λ (p : PassState). p.row) left (c.in-Some.pass ∷ []))
+          ∙ ap drawn_rows (sym parts))
           ∙ c.loop-pass.invariant.rows;
     }

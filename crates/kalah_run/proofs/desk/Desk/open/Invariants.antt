@@ -9,5 +9,6 @@ invariant-loop l = record {
   table : l.opener.table_id ≡ l.table.shared.table_id;
   opener : l.opener.me ≡ (Opening l.table.shared.key.total l.counter (l.passes - l.counter), []);
   room : vec_capacity l.handed_out ≡ l.passes;
-  handed_out : AreNewPasses (record { id = l.table.shared.table_id; total = l.table.shared.key.total; passes = l.passes }) l.counter l.handed_out.items;
+  handed_out : AreNewPasses (record { id = l.table.shared.table_id; total = l.table.shared.key.total; passes = l.passes }) l.counter
+      l.handed_out.items;
 }

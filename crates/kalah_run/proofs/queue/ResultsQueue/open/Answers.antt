@@ -19,5 +19,7 @@ loop-number-preserved c =
       count = search rules;
       room = omega arith;
       passes = rw c.push_reserved.ensures.items (one_pass_more _ 0 _ _ so_far.passes (search rules) (search rules));
-      unsent = rw c.push_reserved.ensures.items (all_and_one (λ p. p.sent ≡ []) _ _ so_far.unsent (ap sent_in (views.1 ∙ ap one_made so_far.made)));
+      unsent =
+          rw c.push_reserved.ensures.items (all_and_one (λ p. p.sent ≡ []) _ _ so_far.unsent
+          (ap sent_in (views.1 ∙ ap one_made so_far.made)));
     }

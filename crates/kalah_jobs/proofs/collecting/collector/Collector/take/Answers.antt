@@ -8,7 +8,8 @@ use Rattle.kalah_jobs.proofs.collecting.collector.Collector.take.Goals as goal
 
 -- a take from a file leaves its lines
 counts_next : (old new : FileState) (gave : Option Taken)
-    → MatchOption gave (HasNoNext old × (new ≡ old)) (λ taken. IsNext old taken × (new ≡ with_one_taken old)) → line_count new ≡ line_count old
+    → MatchOption gave (HasNoNext old × (new ≡ old)) (λ taken. IsNext old taken × (new ≡ with_one_taken old))
+    → line_count new ≡ line_count old
 counts_next old new None step = ap (λ (s : FileState). line_count s) step.1
 counts_next old new (Some t) step = ap (λ (s : FileState). line_count s) step.1
 

@@ -14,7 +14,8 @@ counted c = (stored c.args.self.now _ _ c.self.invariant.0 c.self.view_is).1
 parted : (c : After-partition_point-file) → AreStarted c.self.inside.offsets.items c.args.n c.partition_point-file.result
 parted c =
     subst (λ offsets. AreStarted offsets c.args.n c.partition_point-file.result) c.deref.ensures.value
-    (IsPartitionPoint-from_clause (λ y. leb y c.args.n) c.deref.result.now c.partition_point-file.result c.partition_point-file.ensures.partitioned
+    (IsPartitionPoint-from_clause (λ y. leb y c.args.n) c.deref.result.now c.partition_point-file.result
+        c.partition_point-file.ensures.partitioned
     (IsPartitionedBy-leb (λ x. x) c.deref.result.now c.args.n
     (subst (λ offsets. IsNonDecreasing offsets) (sym c.deref.ensures.value) (offsets_rise c.args.self.now _ _ (counted c))))
     (λ a r f' k. search rules))
@@ -28,10 +29,12 @@ pub overflow_sub-file : goal.overflow_sub-file
 overflow_sub-file c = (has c).some
 
 -- the offset of the file, however it is read
-offset : (c : After-partition_point-file) (read : ℕ) → read ≡ get_or c.self.inside.offsets.items (c.partition_point-file.result - 1) read
+offset : (c : After-partition_point-file) (read : ℕ) → read ≡ get_or c.self.inside.offsets.items
+    (c.partition_point-file.result - 1) read
     → read ≡ job_count (take (c.partition_point-file.result - 1) c.args.self.now)
 offset c read is =
-    is ∙ offset_is c.args.self.now _ _ (c.partition_point-file.result - 1) read (counted c) (let within = (has c).within in omega (arith, within))
+    is ∙ offset_is c.args.self.now _ _ (c.partition_point-file.result - 1) read (counted c)
+        (let within = (has c).within in omega (arith, within))
 
 pub overflow_sub-line : goal.overflow_sub-line
 overflow_sub-line c =
@@ -49,6 +52,7 @@ returns c =
     let job = has at in
     let number : c.args.n ≡ job_count (take (c.partition_point-file.result - 1) c.args.self.now) + (c.args.n - c.index.result.now) =
     omega (arith, start, job.low) in
-    slice_get-job_list c.args.self.now (c.partition_point-file.result - 1) (c.args.n - c.index.result.now) c.args.n c.index-2.result.now number
+    slice_get-job_list c.args.self.now (c.partition_point-file.result - 1) (c.args.n - c.index.result.now) c.args.n
+        c.index-2.result.now number
     (entry_there c.args.self.now _ _ (c.partition_point-file.result - 1) (c.args.n - c.index.result.now) c.args.n c.index-2.result.now
     (counted at) job.within (omega (arith, start, job.line)) number c.index-2.ensures)

@@ -6,5 +6,6 @@ pub invariant_of-self : goal.invariant_of-self
 invariant_of-self c = (
   search rules,
   omega (arith, c.self.invariant.1, c.write_digits-self-inside.ensures.start),
-  piece_before _ _ _ c.write_digits-self-inside.ensures.written (number_is_text c.args.n (omega (arith, c.ranges.n.fits))) c.self.invariant.2,
+  piece_before _ _ _ c.write_digits-self-inside.ensures.written (number_is_text c.args.n (omega (arith, c.ranges.n.fits)))
+      c.self.invariant.2,
 )

@@ -15,7 +15,8 @@ loop-self-preserved g c =
       at_work = record {
         draws = c.draw.ensures.own;
         sends = ap (λ (p : PutState). p.queue) c.put.ensures ∙ before.sends;
-        sent = drawn_jobs-more c.args.shared.now.jobs.now c.loop-self.self.pass.row c.draw.new.pass.row c.in-Some.drawn c.of_job-outcome.result
+        sent = drawn_jobs-more c.args.shared.now.jobs.now c.loop-self.self.pass.row c.draw.new.pass.row c.in-Some.drawn
+            c.of_job-outcome.result
             c.loop-self.self.put.sent c.put.new.pass.sent before.sent (ap (λ (r : DrawnRow). r.numbers) c.in-Some.ensures.drawn)
             c.of_job-outcome.ensures
             (ap (λ (p : PutState). p.sent) c.put.ensures);
@@ -24,13 +25,15 @@ loop-self-preserved g c =
     }
 
 -- a list of numbers below a limit has none above it
-none_above : (numbers : List ℕ) (first limit : ℕ) → first ≤ limit → All (λ x. x < limit) numbers → fold (λ above x. x + 1) first numbers ≤ limit
+none_above : (numbers : List ℕ) (first limit : ℕ) → first ≤ limit → All (λ x. x < limit) numbers
+    → fold (λ above x. x + 1) first numbers ≤ limit
 none_above [] first limit low below = low
 none_above (x ∷ xs) first limit low below = none_above xs (x + 1) limit (let least = below 0 x (omega arith) in omega arith)
     (λ k d within. below (suc k) d (omega arith))
 
 -- with one number more there is less left to draw
-less_left : (numbers more : List ℕ) (number total : ℕ) → more ≡ numbers ++ number ∷ [] → All (λ x. x < number) numbers → number < total
+less_left : (numbers more : List ℕ) (number total : ℕ) → more ≡ numbers ++ number ∷ [] → All (λ x. x < number) numbers
+    → number < total
     → total - least_above more < total - least_above numbers
 less_left numbers more number total is above below =
     let last : least_above more ≡ number + 1 = ap least_above is ∙ fold-append (λ above x. x + 1) 0 numbers (number ∷ []) in
@@ -38,4 +41,5 @@ less_left numbers more number total is above below =
     omega (arith, last, before, below)
 
 pub loop-self-smaller : goal.loop-self-smaller
-loop-self-smaller g c = less_left _ _ _ _ (ap (λ (r : DrawnRow). r.numbers) c.in-Some.ensures.drawn) c.in-Some.ensures.above c.in-Some.ensures.below
+loop-self-smaller g c = less_left _ _ _ _ (ap (λ (r : DrawnRow). r.numbers) c.in-Some.ensures.drawn) c.in-Some.ensures.above
+    c.in-Some.ensures.below
