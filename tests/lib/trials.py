@@ -151,6 +151,12 @@ FEW_LINES = [1, 2, 3, 7]
 # The standard error on which progress is shown, and the lines of the run: none, many quick ones with as many workers as there may be, or any.
 PROGRESS = list(product(["pipe", "terminal", "file", "/dev/full", "closed"], ["none", "quick", "any"]))
 
+# The subcommands that search with one table, after how many ticks of the clock it is measured, and the kB that the largest one takes then,
+# at least, beside one with a single entry.
+ONE_SEARCH = ["ask", "play", "show"]
+SEARCHED = 20
+FILLED = 7_000
+
 # A line that is answered at once.
 QUICK = b"1/0 1/0\n"
 
@@ -708,6 +714,24 @@ class Trials(AskTrials):
         if kilobytes > MEMORY_OF_MANY:
             raise Differs(f"64 workers with large tables take {kilobytes} kB for quick lines")
 
+    def tables_as_asked(self):
+        """The table of `ask`, `play` and `show` is as large as they are asked to make it: a search fills it."""
+        subcommand = self.drawn.card("one search", ONE_SEARCH)
+        self.put({})
+        small, large = (self.memory_of_search(subcommand, entries) for entries in (1, 1 << 20))
+        if large < small + FILLED:
+            raise Differs(f"{subcommand} takes {small} kB with a table of one entry, and {large} kB with the largest")
+
+    def memory_of_search(self, subcommand, entries):
+        """Returns the most that a long search has in memory, in kB, after some time at work."""
+        line = [] if subcommand == "ask" else [LONG_GAME]
+        with self.start([subcommand, f"--table={entries}", *line], stdin=subprocess.PIPE, bufsize=0) as process:
+            process.stdin.write(LONG_GAME + b"\n")
+            soon(lambda: process.poll() is not None or sum(ticks_of(process).values()) >= SEARCHED)
+            kilobytes = in_memory(process, "VmHWM")
+            process.kill()
+        return kilobytes
+
     def few_lines_in_little_space(self):
         """A run of few lines requests little memory."""
         data = self.drawn.file(self.drawn.chance.randint(0, 7))
@@ -793,6 +817,7 @@ KINDS = {
     "a_named_pipe_twice": 2,
     "usage": len(USAGES),
     "many_large_tables": len(SEARCHING),
+    "tables_as_asked": len(ONE_SEARCH),
     "few_lines_in_little_space": len(SUBCOMMANDS),
     "no_word": 1,
     "few_writes": 1,
