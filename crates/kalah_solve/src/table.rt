@@ -46,13 +46,14 @@ pub struct Table<A: Allocator + Clone = Global> {
 }
 
 impl<A: Allocator + Clone> Model for Table<A> {
+    ghost use Rattle.kalah_solve.specs.Table.DirectTable.{ArePlaces};
     ghost use Rattle.kalah_solve.specs.Table.Entries.{TableState, AreTrue};
 
     ghost Value = { TableState };
 
     ghost view = { λ t. record { entries = t.entries.entries; capacity = t.entries.cap } };
 
-    ghost invariant = { λ t. AreTrue t.entries.entries };
+    ghost invariant = { λ t. AreTrue t.entries.entries × ArePlaces t.entries.cap t.places };
 }
 
 impl<A: Allocator + Clone> Table<A> {

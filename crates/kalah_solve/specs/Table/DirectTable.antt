@@ -1,8 +1,10 @@
 -- What the places of houses state.
-use Rattle.std.specs.Prelude.{◌≡◌, ℕ, ◌*◌, ◌/◌, ◌%◌, ◌^◌, ◌<◌, ◌≤◌, max, List, length, slice_index_or}
+use Rattle.std.specs.Prelude.{◌≡◌, ◌⊎◌, ℕ, ◌*◌, ◌/◌, ◌%◌, ◌^◌, ◌<◌, ◌≤◌, max, min, List, length, slice_index_or}
 use Rattle.kalah_rules.specs.Position.{Rows, IsWithinHouses}
 use Rattle.kalah_rules.specs.Key.{key_of}
 use Rattle.kalah_solve.specs.Bounds.Won.{won}
+use Rattle.kalah_solve.specs.Table.Entries.{most_entries}
+use Rattle.kalah_solve.specs.declared.table.TheConstants.{FIRST_PLACES}
 use Rattle.kalah_solve.specs.declared.table.direct_table.Place.{Place}
 
 -- a key, mixed: each key has a number of its own
@@ -44,6 +46,11 @@ StoreBounds places = (a : Rows) (number : ℕ) (d : Place) → IsWithinHouses a 
 -- how many places there are beside a number of entries: that many, and never fewer than 1,024
 abbrev pub places_for : ℕ → ℕ
 places_for entries = max 1024 entries
+
+-- the places of a table with room for this many entries: its first ones, or all
+abbrev pub ArePlaces : ℕ → List Place → Type 0
+ArePlaces entries places = (length places ≡ places_for (min entries FIRST_PLACES))
+    ⊎ (length places ≡ places_for (min entries most_entries))
 
 -- enough places that no two keys share a place and what it leaves open
 pub record AreEnough (count : ℕ) : Type 0 where

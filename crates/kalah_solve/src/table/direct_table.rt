@@ -137,6 +137,7 @@ impl<A: Allocator> DirectTable<A> {
     /// Stores in the place of the houses that the mover's share is within this one.
     pub(crate) fn keep(&mut self, houses: &Houses, bounds: SeedBounds)
         requires { IsWithinBounds bounds (won houses.now) }
+        ensures { length self.new ≡ length self.old }
     {
         let mixed = mixed_key(houses);
         let stored = Place::of(rest_of(mixed), bounds);

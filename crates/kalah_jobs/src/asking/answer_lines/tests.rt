@@ -85,18 +85,19 @@ fn a_line_may_have_eighty_bytes(rt: HostRuntime) {
     }
 }
 
-/// A reader of its bytes one by one. It is interrupted before each, and returns an error at their end.
+/// A reader of its bytes one by one. It is interrupted this often before the first and once before each other, and returns an error at
+/// their end.
 #[derive(Drop)]
 struct Halting {
     bytes: &'static [u8],
     at: usize,
-    is_interrupted: bool,
+    interrupts: u32,
 }
 
 impl Read for Halting {
     fn read(&mut self, buf: &mut [u8]) -> io::Result<usize> {
-        self.is_interrupted = !self.is_interrupted;
-        if self.is_interrupted {
+        if self.interrupts > 0 {
+            self.interrupts -= 1;
             return Err(io::Error::from(ErrorKind::Interrupted));
         }
         if self.at >= self.bytes.len() {
@@ -107,6 +108,7 @@ impl Read for Halting {
         }
         buf[0] = self.bytes[self.at];
         self.at += 1;
+        self.interrupts = 1;
         Ok(1)
     }
 }
@@ -116,7 +118,7 @@ fn lines_before_a_read_that_fails_are_answered(rt: HostRuntime) {
     let reader = Halting {
         bytes: b"1,1/0 1,1/0\nx\n1/0 1/0",
         at: 0,
-        is_interrupted: false,
+        interrupts: 100_000,
     };
     let (out, end) = told(&rt, Question::BestMove, reader);
     assert!(rt; out.as_slice() == "2 house 2\nfault shape\n".as_bytes());
