@@ -1,8 +1,10 @@
 -- What makes the program fail.
+use Rattle.std.specs.Prelude.{ℕ, List, Contains, ⊤}
+use Rattle.std.specs.Borrow.{Bor}
 use Rattle.kalah_run.specs.declared.batch.run_fault.RunFault.{RunFault}
 use Rattle.kalah_run.specs.declared.batch.run_fault.RunFault.TheVariants as fault
 use Rattle.kalah_cli.specs.declared.failure.Failure.{Failure}
-use Rattle.kalah_cli.specs.declared.failure.Failure.TheVariants.{TooManyFiles, TooManyLines, OutOfMemory, NoWorker, Write}
+use Rattle.kalah_cli.specs.declared.failure.Failure.TheVariants.{TooManyFiles, TooManyLines, OutOfMemory, NoWorker, Unreadable, Write}
 
 -- the failure for a fault of the batch
 abbrev pub failure_of : RunFault → Failure
@@ -11,3 +13,8 @@ failure_of fault.TooManyLines = TooManyLines
 failure_of fault.OutOfMemory = OutOfMemory
 failure_of fault.NoWorker = NoWorker
 failure_of fault.Write = Write
+
+-- a file that can't be read is one of those with these names
+abbrev pub IsOneOf : List (Bor (List ℕ)) → Failure → Type 0
+IsOneOf names (Unreadable name) = Contains names name
+IsOneOf names _ = ⊤

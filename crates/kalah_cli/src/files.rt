@@ -2,6 +2,7 @@
 ghost use Rattle.std.specs.Prelude.{◌≡◌, ◌≢◌, ◌<◌, ◌≤◌, All, IfErr, IfOk, IfSome, IsErrOf, OnOk, length, map};
 ghost use Rattle.std.specs.Io.KnownBytes.{Consumes, IsAtEnd};
 ghost use Rattle.kalah_jobs.specs.Limits.{most_file_bytes};
+ghost use Rattle.kalah_cli.specs.Failure.{IsOneOf};
 
 use crate::failure::Failure;
 use kalah_jobs::{FileText, MOST_FILE_BYTES};
@@ -66,6 +67,7 @@ pub(crate) fn read_files<'a, R: Files>(
     ensures within { IfOk result (λ files. All (λ file. length file.bytes ≤ most_file_bytes) files.items) }
     ensures not_written { IfErr result (λ failure. failure ≢ Failure.Write) }
     ensures not_line_feed { IfErr result (λ failure. failure ≢ Failure.LineFeed) }
+    ensures one_of_them { IfErr result (IsOneOf names.now) }
 {
     let mut files = Vec::new(alloc);
     for name in names {

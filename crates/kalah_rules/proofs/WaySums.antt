@@ -1,15 +1,14 @@
 -- The ways to play on: stores do not influence them, and how they are summed up.
 use Rattle.std.proofs.Common.{zero, suc, ◌≡◌, ℕ, ◌+◌, ◌-◌, ◌*◌, ◌^◌, ◌<◌, ◌≤◌, inl, inr, List, [], ◌∷◌, ◌++◌, length, arith, ap, sym, ◌∙◌, refl, add-one, append-nil, lt-ltb}
 use mir.Val.{bool_byte}
-use Rattle.std.specs.Prelude.{Bool, true, false, if◌then◌else◌, ◌==◌, sum_by, filter, nat_lt, All}
+use Rattle.std.specs.Prelude.{Bool, true, false, if◌then◌else◌, ◌==◌, sum_by, filter, nat_lt}
 use Rattle.std.specs.List.{range_with_len}
 use Rattle.std.proofs.lemmas.Bool.{cases_Bool, le-ltb}
 use Rattle.std.proofs.lemmas.Bool.Decides.{nat_tests}
-use Rattle.std.proofs.lemmas.List.{length-replicate}
-use Rattle.std.proofs.lemmas.List.Sums.{sum_by-cons, sum_by-le, sum_by_push}
-use Rattle.std.proofs.Math.Nat.{mul-le-mul_right, pow-zero, pow-succ', pow-le-pow_right}
+use Rattle.std.proofs.lemmas.List.Sums.{sum_by-cons, sum_by_push}
+use Rattle.std.proofs.Math.Nat.{mul-le-mul_right, pow-succ', pow-le-pow_right}
 use Rattle.kalah_rules.specs.Limits.{most_depth, most_houses}
-use Rattle.kalah_rules.specs.Position.{Position, Rows, HasEqualSides, side_length, seeds, is_over, rows_of, bare, swept, swapped}
+use Rattle.kalah_rules.specs.Position.{Position, Rows, side_length, seeds, is_over, rows_of, bare, swept, swapped}
 use Rattle.kalah_rules.specs.Sowing.{after, is_again}
 use Rattle.kalah_rules.specs.Play.{legal_houses, position_after, step_of, step_to}
 use Rattle.kalah_rules.specs.HousesStep.{houses_step, houses_step_to}
@@ -20,7 +19,6 @@ use Rattle.kalah_rules.proofs.Rows.{same_position}
 use Rattle.kalah_rules.proofs.Boards.{sum-zeros}
 use Rattle.kalah_rules.proofs.Legal.{filter_range_more, length-filter_range}
 use Rattle.kalah_rules.proofs.Stores.{with_more, after_with_more, is_with_more}
-use Rattle.kalah_rules.proofs.Ends.{after_side, after_equal_sides}
 
 -- ---- by their definition
 pub ways_none : (p : Position) → ways 0 p ≡ 1
@@ -112,37 +110,6 @@ legal_few p = elim (cases_Bool (is_over p)) [
   | inl over ↦ rw over (omega arith)
   | inr going ↦ rw going (length-filter_range _ 1 (side_length p))
 ]
-
--- a position with that number of houses on both sides
-record HasSides (m : ℕ) (p : Position) : Type 0 where
-  own : side_length p ≡ m
-  other : length p.other ≡ m
-
-step_sides : (m : ℕ) (q : Position) (over again : Bool) → is_over q ≡ over → HasSides m q → HasSides m (position_after (step_to q again))
-step_sides m q true again is sides =
-    let long = length-replicate {A = ℕ} (side_length q) 0 in
-    rw is (record { own = long ∙ sides.own; other = long ∙ sides.own })
-step_sides m q false true is sides = rw is sides
-step_sides m q false false is sides = rw is (record { own = sides.other; other = sides.own })
-
-move_sides : (m : ℕ) (p : Position) (h : ℕ) → HasSides m p → HasSides m (position_after (step_of p h))
-move_sides m p h sides =
-    let q = after p h in
-    let side = after_side p h ∙ sides.own in
-    step_sides m q (is_over q) (is_again p h) refl (record { own = side; other = (after_equal_sides p h).same ∙ side })
-
-ways_few : (m n : ℕ) (p : Position) → HasSides m p → ways n p ≤ m ^ n
-ways_few m zero p sides = omega (arith, ways_none p, pow-zero m)
-ways_few m (suc n) p sides =
-    let each : All (λ h. ways_by n p h ≤ m ^ n) (legal_houses p) = λ k d h. ways_few m n _ (move_sides m p _ sides) in
-    let all = sum_by-le (ways_by n p) (m ^ n) (legal_houses p) each in
-    let power = pow-succ' m n in
-    let few : length (legal_houses p) ≤ m = omega (arith, legal_few p, sides.own) in
-    let times = mul-le-mul_right (m ^ n) few in
-    omega (arith, ways_suc n p, all, times, power)
-
-pub ways_most : (n : ℕ) (p : Position) → HasEqualSides p → ways n p ≤ side_length p ^ n
-ways_most n p even = ways_few (side_length p) n p (record { own = refl; other = even.same })
 
 sum_ones : (xs : List ℕ) → sum_by (λ x. 1) xs ≡ length xs
 sum_ones [] = refl

@@ -17,7 +17,7 @@ pub use board::Board;
 pub use houses::Houses;
 pub use houses::house_row::HouseRow;
 pub use houses::sowings::Sowings;
-pub use laws::{every_move_nears_end, sowing_is_seed_by_seed, ways_add_up};
+pub use laws::{every_move_nears_end, sowing_is_seed_by_seed};
 pub use limits::{MOST_DEPTH, MOST_HOUSES, MOST_IN_STORE, MOST_SEEDS, limits_of_positions};
 pub use moves::Moves;
 pub use rule::Rule;
