@@ -20,9 +20,11 @@ pub row_distance-set : (row : List ℕ) (i v : ℕ) → 1 ≤ i → i ≤ length
 unfolding row_distance
 row_distance-set row i v low high =
     let new = slice_set row (i - 1) v in
-    let change = sum_range_change (λ j. seeds new j * (length row + 1 - j)) (λ j. seeds row j * (length row + 1 - j)) 1 (length row) i low (omega arith)
+    let change = sum_range_change (λ j. seeds new j * (length row + 1 - j)) (λ j. seeds row j * (length row + 1 - j)) 1 (length row) i low
+    (omega arith)
     (λ j j_low ne. ap (λ x. x * (length row + 1 - j)) (seeds-set_other row i j v low j_low ne)) in
-    let at : seeds new i * (length row + 1 - i) ≡ v * (length row + 1 - i) = ap (λ x. x * (length row + 1 - i)) (seeds-set_same row i v low high) in
+    let at : seeds new i * (length row + 1 - i) ≡ v * (length row + 1 - i) =
+    ap (λ x. x * (length row + 1 - i)) (seeds-set_same row i v low high) in
     rw (length-set row (i - 1) v) (change ∙ ap (λ x. row_distance row + x) at)
 
 -- a cell that c seeds reach gets one at least
@@ -78,7 +80,8 @@ module _ (p : Position) (h : ℕ) (holds : HoldsSeeds p h) (same : length p.othe
 
   -- all seeds fall before the store
   pub way_falls_all : seeds p.own h + h ≤ side_length p → distance_to_stores (sown p h) < distance_to_stores p
-  way_falls_all near = fall_all (distance_to_stores (sown p h)) (distance_to_stores p) (seeds p.own h) (side_length p) h holds.last (holds.some)
+  way_falls_all near = fall_all (distance_to_stores (sown p h)) (distance_to_stores p) (seeds p.own h) (side_length p) h holds.last
+      (holds.some)
       (way_falls (seeds p.own h) near)
 
   -- a seed that reaches the store leaves fewer in houses
@@ -124,7 +127,8 @@ pub after_nearer : (p : Position) (h : ℕ) → HoldsSeeds p h → HasEqualSides
 unfolding after
 after_nearer p h holds even = nearer_by p (sown p h) _ (sown_nearer p h holds even.same) (captured_falls (sown p h) (last_house p h))
 
-capture_side : (q : Position) (o : Option ℕ) → (side_length (captured q o) ≡ side_length q) × (length (captured q o).other ≡ length q.other)
+capture_side : (q : Position) (o : Option ℕ) → (side_length (captured q o) ≡ side_length q)
+    × (length (captured q o).other ≡ length q.other)
 capture_side q None = (refl, refl)
 capture_side q (Some i) = elim (cases_Bool (can_capture q i)) [
   | inl taken ↦ rw taken (length-set q.own (i - 1) 0, length-set q.other (opposite q i - 1) 0)
@@ -152,7 +156,8 @@ distance_below p even =
     let other = rw even.same at (row_distance_le p.other) in
     add_rows (side_length p) (sum p.own) (sum p.other) (row_distance p.own) (row_distance p.other) (row_distance_le p.own) other
 
-pub moves_left_falls : (p q : Position) → HasEqualSides q → side_length q ≡ side_length p → IsNearerEnd q p → moves_left q < moves_left p
+pub moves_left_falls : (p q : Position) → HasEqualSides q → side_length q ≡ side_length p → IsNearerEnd q p
+    → moves_left q < moves_left p
 moves_left_falls p q even side (inl fewer) =
     rw side (lower_by_seeds (side_length p) (seeds_in_houses p) (seeds_in_houses q) (distance_to_stores p) (distance_to_stores q) fewer
     (rw side at (distance_below q even)))

@@ -31,7 +31,7 @@ module _ {count number seeds : ℕ} (x : ℕ) (row : IsPackedRow count number se
       let one : number_of (x ∷ []) ≡ x = omega arith in
       number_of-append houses (x ∷ []) ∙ rw (length-cells count number, row.number_is, one) refl
 
-  -- it stands behind the others
+  -- it stands after the others
   pub houses_pushed : cells (count + 1) (number + 32 ^ count * x) ≡ houses ++ x ∷ []
   houses_pushed =
       let long : length (houses ++ x ∷ []) ≡ count + 1 = omega (arith, length-append houses (x ∷ []), length-cells count number) in
@@ -52,7 +52,8 @@ module _ {count number seeds : ℕ} (x : ℕ) (row : IsPackedRow count number se
 -- the key of two rows and a rule
 pub packed_rows : (own other : List ℕ) (rule : Rule) (own_number other_number m bit seeds : ℕ) →
     IsWithinHouses (record { own = own; other = other; rule = rule }) →
-    own_number ≡ number_of own → other_number ≡ number_of other → m ≡ length own → bit ≡ rule_bit rule → seeds ≡ sum own + sum other →
+    own_number ≡ number_of own → other_number ≡ number_of other → m ≡ length own → bit ≡ rule_bit rule
+    → seeds ≡ sum own + sum other →
     IsPacked (own_number + 2 ^ 30 * other_number + 2 ^ 60 * (m + 8 * bit)) seeds
     × (rows_at (own_number + 2 ^ 30 * other_number + 2 ^ 60 * (m + 8 * bit)) ≡ record { own = own; other = other; rule = rule })
 packed_rows own other rule own_number other_number m bit seeds within own_is other_is m_is bit_is seeds_are =

@@ -26,15 +26,18 @@ use Rattle.kalah_rules.proofs.PackedMoves.{KeepsSeeds, after_keeps}
 use Rattle.kalah_rules.proofs.Stores.{with_more, after_of_rows}
 
 -- ---- the parts of a step
-pub step_over : (q : Position) (again : Bool) → is_over q ≡ true → houses_step_to q again ≡ Over (q.own_store + sum q.own) (q.other_store + sum q.other)
+pub step_over : (q : Position) (again : Bool) → is_over q ≡ true
+    → houses_step_to q again ≡ Over (q.own_store + sum q.own) (q.other_store + sum q.other)
 step_over q again over = rw over refl
 
 -- a game that goes on with the mover
-pub step_again : (q : Position) (again : Bool) → is_over q ≡ false → again ≡ true → houses_step_to q again ≡ Again q.own_store (rows_of q)
+pub step_again : (q : Position) (again : Bool) → is_over q ≡ false → again ≡ true
+    → houses_step_to q again ≡ Again q.own_store (rows_of q)
 step_again q again going more = rw (going, more) refl
 
 -- and with the other player
-pub step_turn : (q : Position) (again : Bool) → is_over q ≡ false → again ≡ false → houses_step_to q again ≡ Turn q.own_store (rows_of (swapped q))
+pub step_turn : (q : Position) (again : Bool) → is_over q ≡ false → again ≡ false
+    → houses_step_to q again ≡ Turn q.own_store (rows_of (swapped q))
 step_turn q again going more = rw (going, more) refl
 
 -- what holds of both
@@ -88,7 +91,8 @@ pub record IsStepTo (a : Rows) (h key seeds : ℕ) (step : Rows → HousesStep) 
   pub packed : IsPacked key seeds
   pub is : step (rows_at key) ≡ houses_step a h
 
-pub store_small : {a : Rows} {h : ℕ} {r : RowNumbers} → IsWithinHouses a → Contains (legal_houses (bare a)) h → Shows r (after (bare a) h) →
+pub store_small : {a : Rows} {h : ℕ} {r : RowNumbers} → IsWithinHouses a → Contains (legal_houses (bare a)) h
+    → Shows r (after (bare a) h) →
     r.store ≤ 31
 store_small {a} {h} {r} w has shows =
     let keeps = after_keeps a h w (legal_holds (bare a) h has) in
@@ -122,8 +126,10 @@ module _ {a : Rows} {h key seeds : ℕ} {r : RowNumbers} (packed : IsPacked key 
       let empty : sum q.own ≡ 0 = sum-zero q.own (sym shows.own ∙ none) in
       let over : is_over q ≡ true = rw empty refl in
       let mine : r.store ≡ q.own_store + sum q.own = omega (arith, shows.store, empty) in
-      let theirs : seeds - r.store ≡ q.other_store + sum q.other = omega (arith, shows.store, keeps.play, keeps.other_store, is.seeds_are, empty) in
-      ap (λ x. Over x (seeds - r.store)) mine ∙ ap (λ x. Over (q.own_store + sum q.own) x) theirs ∙ sym (step_over q (is_again (bare a) h) over)
+      let theirs : seeds - r.store ≡ q.other_store + sum q.other =
+      omega (arith, shows.store, keeps.play, keeps.other_store, is.seeds_are, empty) in
+      ap (λ x. Over x (seeds - r.store)) mine ∙ ap (λ x. Over (q.own_store + sum q.own) x) theirs
+      ∙ sym (step_over q (is_again (bare a) h) over)
 
   -- or the other player has none
   pub over_other : r.rows / 2 ^ 30 ≡ 0 → Over seeds 0 ≡ houses_step a h
@@ -159,7 +165,8 @@ module _ {a : Rows} {h key seeds : ℕ} {r : RowNumbers} (packed : IsPacked key 
         let rule : rule_bit q.rule ≡ rule_bit a.rule = ap rule_bit keeps.rule in
         let there = packed_as (rows_of (swapped q)) (r.rows / 2 ^ 30 + 2 ^ 30 * (r.rows % 2 ^ 30) + key / 2 ^ 60 * 2 ^ 60) (seeds - r.store)
         (swapped_within q within)
-        (omega (arith, shows.own, shows.other, keeps.other_side, is.limits.same_side)) (omega (arith, shows.store, keeps.play, is.seeds_are)) in
+        (omega (arith, shows.own, shows.other, keeps.other_side, is.limits.same_side))
+        (omega (arith, shows.store, keeps.play, is.seeds_are)) in
         record { packed = there.0; is = rw (shows.store, there.1) (sym (step_turn q (is_again (bare a) h) going passed)) }
 
 -- ---- a step on houses, applied to a position
@@ -175,7 +182,8 @@ IsStepWithin p (Over own other) = IsWithinLimits (with_stores (without_seeds (ro
 IsStepWithin p (Again gained b) = IsWithinLimits (with_stores b (p.own_store + gained) p.other_store)
 IsStepWithin p (Turn gained b) = IsWithinLimits (with_stores b p.other_store (p.own_store + gained))
 
-step_with_to : (p q : Position) (over again : Bool) → side_length q ≡ side_length p → q.rule ≡ p.rule → q.other_store ≡ 0 → is_over q ≡ over →
+step_with_to : (p q : Position) (over again : Bool) → side_length q ≡ side_length p → q.rule ≡ p.rule → q.other_store ≡ 0
+    → is_over q ≡ over →
     step_with p (houses_step_to q again) ≡ step_to (with_more p.own_store p.other_store q) again
 step_with_to p q true again side rule none is =
     rw (is, side) (ap step.Over (same_position refl (omega arith) refl (omega arith) (sym rule)))
@@ -190,10 +198,12 @@ pub step_is : (p : Position) (h : ℕ) → IsWithinHouses (rows_of p) → HoldsS
 step_is p h w holds =
     let q = after (bare (rows_of p)) h in
     let keeps = after_keeps (rows_of p) h w holds in
-    step_with_to p q (is_over q) (is_again p h) keeps.side keeps.rule keeps.other_store refl ∙ ap (λ x. step_to x (is_again p h)) (sym (after_of_rows p h))
+    step_with_to p q (is_over q) (is_again p h) keeps.side keeps.rule keeps.other_store refl
+    ∙ ap (λ x. step_to x (is_again p h)) (sym (after_of_rows p h))
 
 -- and within the limits
-pub step_within : (p : Position) (h : ℕ) → IsWithinLimits p → HoldsSeeds (bare (rows_of p)) h → IsStepWithin p (houses_step (rows_of p) h)
+pub step_within : (p : Position) (h : ℕ) → IsWithinLimits p → HoldsSeeds (bare (rows_of p)) h
+    → IsStepWithin p (houses_step (rows_of p) h)
 step_within p h l holds =
     let a = rows_of p in
     let q = after (bare a) h in
@@ -214,7 +224,8 @@ step_within p h l holds =
     })
     (λ going. on_cond (IsStepWithin p) (is_again (bare a) h) _ _
     (λ again. limits_with on (omega (arith, keeps.play, l.own_store_low)) (omega (arith, keeps.play, l.other_store_low)))
-    (λ turn. limits_with (swapped_within q on) (omega (arith, keeps.play, l.other_store_low)) (omega (arith, keeps.play, l.own_store_low))))
+    (λ turn. limits_with (swapped_within q on) (omega (arith, keeps.play, l.other_store_low))
+    (omega (arith, keeps.play, l.own_store_low))))
 
 -- all that a board needs of a step of its houses
 pub record IsStepOf (p : Position) (h : ℕ) (s : HousesStep) : Type 0 where
@@ -222,7 +233,8 @@ pub record IsStepOf (p : Position) (h : ℕ) (s : HousesStep) : Type 0 where
   pub within : IsStepWithin p s
   pub nearer : IsNearerEnd (after p h) p
 
-pub board_step : {b : Rows} {own_store other_store h : ℕ} {p : Position} {s t : HousesStep} → IsWithinLimits (with_stores b own_store other_store) →
+pub board_step : {b : Rows} {own_store other_store h : ℕ} {p : Position} {s t : HousesStep}
+    → IsWithinLimits (with_stores b own_store other_store) →
     with_stores b own_store other_store ≡ p → Contains (legal_houses p) h → t ≡ s → t ≡ houses_step b h →
     IsStepOf (with_stores b own_store other_store) h s
 board_step {b} {own_store} {other_store} {h} l view has to is =

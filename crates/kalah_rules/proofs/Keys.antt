@@ -52,7 +52,8 @@ length-cells zero k = refl
 length-cells (suc n) k = omega (arith, length-cells n (k / 32))
 
 -- the cells of a row's number are the row, with anything above it
-pub cells-number_of : (n : ℕ) (xs : List ℕ) (rest : ℕ) → length xs ≡ n → sum xs ≤ 31 → cells n (number_of xs + 32 ^ n * rest) ≡ xs
+pub cells-number_of : (n : ℕ) (xs : List ℕ) (rest : ℕ) → length xs ≡ n → sum xs ≤ 31
+    → cells n (number_of xs + 32 ^ n * rest) ≡ xs
 cells-number_of zero [] rest long few = refl
 cells-number_of zero (x ∷ xs) rest long few = absurd (omega arith)
 cells-number_of (suc n) [] rest long few = absurd (omega arith)
@@ -121,7 +122,8 @@ key_says a k h e =
     let other_number : k / 2 ^ 30 ≡ number_of (padded a.other) + 32 ^ 6 * above = omega (arith, h.at_most_six) in
     record {
       own_cells = rw own_number (cells-number_of 6 (padded a.own) _ (length-padded a.own h.at_most_six) (omega (arith, sum-padded a.own)));
-      other_cells = rw other_number (cells-number_of 6 (padded a.other) above (length-padded a.other other_long) (omega (arith, sum-padded a.other)));
+      other_cells =
+          rw other_number (cells-number_of 6 (padded a.other) above (length-padded a.other other_long) (omega (arith, sum-padded a.other)));
       side = omega (arith, h.at_most_six);
       rule = omega (arith, h.at_most_six);
     }
@@ -155,13 +157,15 @@ pub rows_of_key : (a : Rows) (k : ℕ) (rule : Rule) → IsWithinHouses a → ke
 rows_of_key a k rule h e bit =
     let says = key_says a k h e in
     let own_shown : take (side_at k) (cells 6 k) ≡ a.own = rw (says.side, says.own_cells) (take-padded a.own) in
-    let other_shown : take (side_at k) (cells 6 (k / 2 ^ 30)) ≡ a.other = rw (says.side, says.other_cells, sym h.same_side) (take-padded a.other) in
+    let other_shown : take (side_at k) (cells 6 (k / 2 ^ 30)) ≡ a.other =
+    rw (says.side, says.other_cells, sym h.same_side) (take-padded a.other) in
     same_rows_of own_shown other_shown (rule_bit-same rule a.rule (bit ∙ says.rule))
 
 -- the parts of a key make the key
 key_from_parts : (k side : ℕ) (own other : List ℕ) (rule : Rule) → number_of own + 2 ^ 30 * (k / 2 ^ 30) ≡ k →
     number_of other + 2 ^ 30 * (k / 2 ^ 30 / 2 ^ 30) ≡ k / 2 ^ 30 →
-    padded (take side own) ≡ own → padded (take side other) ≡ other → length (take side own) ≡ side → side ≡ k / 2 ^ 60 % 8 →
+    padded (take side own) ≡ own → padded (take side other) ≡ other → length (take side own) ≡ side
+    → side ≡ k / 2 ^ 60 % 8 →
     rule_bit rule ≡ k / 2 ^ 63 →
     key_of (rows_from side own other rule) ≡ k
 key_from_parts k side own other rule own_is other_is own_padded other_padded long side_is bit =
@@ -197,12 +201,14 @@ rows_at_key a h =
 key_of-small : (b : Rows) → IsWithinHouses b → key_of b < 2 ^ 64
 key_of-small b h =
     let own_small : number_of b.own < 2 ^ 30 = number_of-small 6 b.own h.at_most_six (omega (arith, h.few_seeds)) in
-    let other_small : number_of b.other < 2 ^ 30 = number_of-small 6 b.other (omega (arith, h.at_most_six, h.same_side)) (omega (arith, h.few_seeds)) in
+    let other_small : number_of b.other < 2 ^ 30 = number_of-small 6 b.other (omega (arith, h.at_most_six, h.same_side))
+    (omega (arith, h.few_seeds)) in
     let bit = rule_bit-small b.rule in
     omega (arith, h.at_most_six)
 
 -- the key of houses, with their number of seeds, is those houses packed
-pub packed_as : (b : Rows) (k s : ℕ) → IsWithinHouses b → k ≡ key_of b → s ≡ seeds_in_houses (bare b) → IsPacked k s × (rows_at k ≡ b)
+pub packed_as : (b : Rows) (k s : ℕ) → IsWithinHouses b → k ≡ key_of b → s ≡ seeds_in_houses (bare b) → IsPacked k s
+    × (rows_at k ≡ b)
 packed_as b k s h e seeds_are =
     let rows : rows_at k ≡ b = ap rows_at e ∙ rows_at_key b h in (
       record {
@@ -265,7 +271,8 @@ other_number_at a k h e =
     omega (arith, e)
 
 -- both rows
-pub rows_number_at : (a : Rows) (k : ℕ) → IsWithinHouses a → key_of a ≡ k → k % 2 ^ 60 ≡ number_of a.own + 2 ^ 30 * number_of a.other
+pub rows_number_at : (a : Rows) (k : ℕ) → IsWithinHouses a → key_of a ≡ k
+    → k % 2 ^ 60 ≡ number_of a.own + 2 ^ 30 * number_of a.other
 rows_number_at a k h e = omega (arith, own_number_at a k h e, other_number_at a k h e)
 
 -- the number of the last houses of a row, and its bound

@@ -14,7 +14,12 @@ div-mod-suc n k pos =
     elim (cases_lt (k % n + 1) n) [
       | inl small ↦
           let e : k + 1 ≡ k / n * n + (k % n + 1) = omega (arith, whole) in
-          inl (small, ap (λ x. x % n) e ∙ mod-mul-add (k / n) n (k % n + 1) small, ap (λ x. x / n) e ∙ div-mul-add (k / n) n (k % n + 1) small)
+          inl (
+            small,
+            ap (λ x. x % n) e ∙ mod-mul-add (k / n) n (k % n + 1) small,
+            ap (λ x. x / n) e
+                ∙ div-mul-add (k / n) n (k % n + 1) small,
+          )
       | inr large ↦
           let full : k % n + 1 ≡ n = omega (arith, large, mod_below k n pos) in
           let e : k + 1 ≡ (k / n + 1) * n + 0 = omega (arith, whole, full) in

@@ -30,7 +30,8 @@ find_in_range f a (suc n) i low high here before = elim (cases_eq a i) [
       rw first (find_in_range f (a + 1) n i (omega arith) (omega arith) here (λ j j_low j_high. before j (omega arith) j_high))
 ]
 
-pub find_none : (f : ℕ → Bool) (a n : ℕ) → ((j : ℕ) → a ≤ j → j < a + n → f j ≡ false) → find f (range_with_len a n) ≡ None
+pub find_none : (f : ℕ → Bool) (a n : ℕ) → ((j : ℕ) → a ≤ j → j < a + n → f j ≡ false)
+    → find f (range_with_len a n) ≡ None
 find_none f a zero fails = refl
 find_none f a (suc n) fails =
     let first : f a ≡ false = fails a (omega arith) (omega arith) in
@@ -39,13 +40,15 @@ find_none f a (suc n) fails =
 -- the house in which the last seed falls
 pub last_house_own : (p : Position) (h i : ℕ) → HoldsSeeds p h → 1 ≤ i → i ≤ side_length p →
     own_distance (side_length p) h i ≡ last_distance p h → last_house p h ≡ Some i
-last_house_own p h i holds low high at = find_in_range (λ j. own_distance (side_length p) h j == last_distance p h) 1 (side_length p) i low (omega arith)
+last_house_own p h i holds low high at = find_in_range (λ j. own_distance (side_length p) h j == last_distance p h) 1 (side_length p) i low
+    (omega arith)
     (eq-eqb (own_distance (side_length p) h i) (last_distance p h) at)
     (λ j j_low j_high. ne_eqb (own_distance (side_length p) h j) (last_distance p h) (λ e.
     let ne : j ≢ i = λ same. omega arith in
     own_distance_apart (side_length p) h holds.first holds.last j i j_low (omega arith) low high ne (e ∙ sym at)))
 
-pub last_house_store : (p : Position) (h : ℕ) → HoldsSeeds p h → store_distance (side_length p) h ≡ last_distance p h → last_house p h ≡ None
+pub last_house_store : (p : Position) (h : ℕ) → HoldsSeeds p h → store_distance (side_length p) h ≡ last_distance p h
+    → last_house p h ≡ None
 last_house_store p h holds at = find_none (λ j. own_distance (side_length p) h j == last_distance p h) 1 (side_length p)
     (λ j j_low j_high. ne_eqb (own_distance (side_length p) h j) (last_distance p h) (λ e.
     own_from_store (side_length p) h holds.first holds.last j j_low (omega arith) (e ∙ sym at)))
@@ -98,7 +101,8 @@ legal_holds p h has =
 
 pub holds_legal : (p : Position) (h : ℕ) → HoldsSeeds p h → is_over p ≡ false → Contains (legal_houses p) h
 holds_legal p h holds going = rw going
-    (contains_range (λ i. nat_lt 0 (seeds p.own i)) 1 (side_length p) h holds.first (omega (arith, holds.last)) (lt-ltb 0 (seeds p.own h) holds.some))
+    (contains_range (λ i. nat_lt 0 (seeds p.own i)) 1 (side_length p) h holds.first (omega (arith, holds.last))
+    (lt-ltb 0 (seeds p.own h) holds.some))
 
 -- one house more
 pub filter_range_more : (f : ℕ → Bool) (a n j : ℕ) → a + n ≡ j →
@@ -106,4 +110,9 @@ pub filter_range_more : (f : ℕ → Bool) (a n j : ℕ) → a + n ≡ j →
 filter_range_more f a n j at = rw (range_more a n, at) (filter-append f (range_with_len a n) (j ∷ []))
 
 pub length-filter_range : (f : ℕ → Bool) (a n : ℕ) → length (filter f (range_with_len a n)) ≤ n
-length-filter_range f a n = omega (arith, length-filter f (range_with_len a n), count_by-le-length f (range_with_len a n), length-range_with_len a n)
+length-filter_range f a n = omega (
+  arith,
+  length-filter f (range_with_len a n),
+  count_by-le-length f (range_with_len a n),
+  length-range_with_len a n,
+)

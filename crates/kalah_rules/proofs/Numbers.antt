@@ -15,7 +15,8 @@ sum_range_same f g a (suc n) same =
     omega (arith, sum_by-cons f a (range_with_len (a + 1) n), sum_by-cons g a (range_with_len (a + 1) n), same a (omega arith), rest)
 
 -- a sum over a range whose term changes at one place
-pub sum_range_change : (f g : ℕ → ℕ) (a n i : ℕ) → a ≤ i → i < a + n → ((j : ℕ) → a ≤ j → j ≢ i → f j ≡ g j) →
+pub sum_range_change : (f g : ℕ → ℕ) (a n i : ℕ) → a ≤ i → i < a + n →
+    ((j : ℕ) → a ≤ j → j ≢ i → f j ≡ g j) →
     sum_by f (range_with_len a n) + g i ≡ sum_by g (range_with_len a n) + f i
 sum_range_change f g a zero i low high same = absurd (omega arith)
 sum_range_change f g a (suc n) i low high same =
@@ -51,7 +52,8 @@ set_less xs k = elim (cases_lt k (length xs)) [
 pub distance_step : (t fx r n x s sxs : ℕ) → t ≡ fx + r → fx ≤ x * n → r ≤ n * s → sxs ≡ x + s → t ≤ n * sxs
 distance_step t fx r n x s sxs whole first rest sum_is = rw sum_is (omega arith)
 
-pub slice_index_more : (x : ℕ) (xs : List ℕ) (a j : ℕ) → a + 1 ≤ j → slice_index (x ∷ xs) (j - a) ≡ slice_index xs (j - (a + 1))
+pub slice_index_more : (x : ℕ) (xs : List ℕ) (a j : ℕ) → a + 1 ≤ j
+    → slice_index (x ∷ xs) (j - a) ≡ slice_index xs (j - (a + 1))
 slice_index_more x xs a j low = let e : j - a ≡ suc (j - (a + 1)) = omega arith in rw e refl
 
 pub distance_range_le : (row : List ℕ) (a n : ℕ) (w : ℕ → ℕ) → ((i : ℕ) → a ≤ i → w i ≤ n)
@@ -64,7 +66,8 @@ distance_range_le (x ∷ xs) a n w near =
     let first : f a ≤ x * n = rw start (mul-le x (w a) x n (omega arith) (near a (omega arith))) in
     let rest : sum_by f (range_with_len (a + 1) (length xs)) ≡ sum_by g (range_with_len (a + 1) (length xs)) =
     sum_range_same f g (a + 1) (length xs) (λ j j_low. ap (λ k. k * w j) (slice_index_more x xs a j j_low)) in
-    let below : sum_by f (range_with_len (a + 1) (length xs)) ≤ n * sum xs = rw rest (distance_range_le xs (a + 1) n w (λ i low. near i (omega arith))) in
+    let below : sum_by f (range_with_len (a + 1) (length xs)) ≤ n * sum xs =
+    rw rest (distance_range_le xs (a + 1) n w (λ i low. near i (omega arith))) in
     distance_step _ (f a) _ n x (sum xs) _ (sum_by-cons f a (range_with_len (a + 1) (length xs))) first below (sum_by-cons (λ y. y) x xs)
 
 pub add_rows : (m a b u v : ℕ) → u ≤ m * a → v ≤ m * b → u + v ≤ m * (a + b)

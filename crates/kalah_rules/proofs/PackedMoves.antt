@@ -121,7 +121,8 @@ module _ (a : Rows) (h : ℕ) (w : IsWithinHouses a) (holds : HoldsSeeds (bare a
   -- the seeds that are read off the row are those of the house
   pub house_read : (row n : ℕ) → row ≡ number_of a.own → n ≡ row / 32 ^ (h - 1) % 32 → n ≡ seeds a.own h
   house_read row n row_is read =
-      read ∙ ap (λ n. n / 32 ^ (h - 1) % 32) row_is ∙ read_seeds a.own (h - 1) (omega (arith, holds.first, holds.last)) (omega (arith, w.few_seeds))
+      read ∙ ap (λ n. n / 32 ^ (h - 1) % 32) row_is ∙ read_seeds a.own (h - 1) (omega (arith, holds.first, holds.last))
+      (omega (arith, w.few_seeds))
 
   -- the row without the house's seeds
   pub lifted_is : number_of (lifted (bare a) h).own + 32 ^ (h - 1) * seeds a.own h ≡ number_of a.own
@@ -136,7 +137,8 @@ module _ (a : Rows) (h : ℕ) (w : IsWithinHouses a) (holds : HoldsSeeds (bare a
   own_small = number_of-small 6 q.own (omega (arith, sown_keeps.side, w.at_most_six)) (omega (arith, few))
 
   -- both rows without the house's seeds, and with what they gain
-  pub sown_rows : (rows house gains : ℕ) → rows ≡ number_of a.own + 2 ^ 30 * number_of a.other → house ≡ 32 ^ (h - 1) * seeds a.own h →
+  pub sown_rows : (rows house gains : ℕ) → rows ≡ number_of a.own + 2 ^ 30 * number_of a.other
+      → house ≡ 32 ^ (h - 1) * seeds a.own h →
       gains ≡ own_gained (length a.own) h (seeds a.own h) + 2 ^ 30 * other_gained (length a.own) h (seeds a.own h) →
       rows - house + gains ≡ number_of q.own + 2 ^ 30 * number_of q.other
   sown_rows rows house gains rows_are house_is gains_are = omega (arith, rows_are, house_is, gains_are, own_is, other_is, lifted_is)
@@ -153,13 +155,16 @@ module _ (a : Rows) (h : ℕ) (w : IsWithinHouses a) (holds : HoldsSeeds (bare a
   -- and are numbers of 60 bits
   pub sown_small : number_of q.own + 2 ^ 30 * number_of q.other < 2 ^ 60
   sown_small =
-      let other_small : number_of q.other < 2 ^ 30 = number_of-small 6 q.other (omega (arith, sown_keeps.other_side, w.same_side, w.at_most_six))
+      let other_small : number_of q.other < 2 ^ 30 = number_of-small 6 q.other
+      (omega (arith, sown_keeps.other_side, w.same_side, w.at_most_six))
       (omega (arith, few)) in
       omega (arith, own_small, other_small)
 
   -- a house whose last seed falls into the store without a lap
-  pub into_store : (rows house own_more : ℕ) → seeds a.own h + h ≡ length a.own + 1 → rows ≡ number_of a.own + 2 ^ 30 * number_of a.other →
-      house ≡ 32 ^ (h - 1) * seeds a.own h → own_more + ones h ≡ ones (length a.own) → Shows (record { rows = rows - house + own_more; store = 1 }) q
+  pub into_store : (rows house own_more : ℕ) → seeds a.own h + h ≡ length a.own + 1
+      → rows ≡ number_of a.own + 2 ^ 30 * number_of a.other →
+      house ≡ 32 ^ (h - 1) * seeds a.own h → own_more + ones h ≡ ones (length a.own)
+      → Shows (record { rows = rows - house + own_more; store = 1 }) q
   into_store rows house own_more ends rows_are house_is own_more_is =
       let gains = store_gains (length a.own) h (seeds a.own h) holds.first holds.last ends in
       rows_show _ 1 (sown_rows rows house own_more rows_are house_is (omega (arith, own_more_is, gains.own, gains.other))) (sym gains.store)
@@ -177,14 +182,16 @@ module _ (a : Rows) (h : ℕ) (w : IsWithinHouses a) (holds : HoldsSeeds (bare a
       ∙ read_seeds q.own (i - 1) (omega (arith, sown_keeps.side)) (omega (arith, few)))
 
   -- the house across
-  pub read_across : (r : RowNumbers) (i bit : ℕ) → Shows r q → 1 ≤ i → i ≤ length a.own → bit ≡ 30 + 5 * (opposite q i - 1) →
+  pub read_across : (r : RowNumbers) (i bit : ℕ) → Shows r q → 1 ≤ i → i ≤ length a.own
+      → bit ≡ 30 + 5 * (opposite q i - 1) →
       r.rows / 2 ^ bit % 32 ≡ seeds q.other (opposite q i)
   read_across r i bit shows low high at =
       let side = sown_keeps.side in
       let other_side = sown_keeps.other_side in
       let same = w.same_side in
       rw (at, pow_other (opposite q i - 1)) (ap (λ n. n % 32) (sym (div-div-eq-div-mul r.rows (2 ^ 30) (32 ^ (opposite q i - 1))))
-      ∙ ap (λ n. n / 32 ^ (opposite q i - 1) % 32) shows.other ∙ read_seeds q.other (opposite q i - 1) (omega arith) (omega (arith, few)))
+      ∙ ap (λ n. n / 32 ^ (opposite q i - 1) % 32) shows.other
+      ∙ read_seeds q.other (opposite q i - 1) (omega arith) (omega (arith, few)))
 
   -- the last seed captures nothing
   shows_more : (r : RowNumbers) (i : ℕ) → Shows r q → seeds q.own i ≢ 1 → Shows r (captured q (Some i))
@@ -194,7 +201,8 @@ module _ (a : Rows) (h : ℕ) (w : IsWithinHouses a) (holds : HoldsSeeds (bare a
   ]
 
   -- or the rule does not let it
-  shows_none : (r : RowNumbers) (i : ℕ) → Shows r q → captures a.rule (seeds q.other (opposite q i)) ≡ false → Shows r (captured q (Some i))
+  shows_none : (r : RowNumbers) (i : ℕ) → Shows r q → captures a.rule (seeds q.other (opposite q i)) ≡ false
+      → Shows r (captured q (Some i))
   shows_none r i shows kept = kept_by q i (rw sown_keeps.rule kept) r shows
 
   -- it captures
@@ -209,7 +217,8 @@ module _ (a : Rows) (h : ℕ) (w : IsWithinHouses a) (holds : HoldsSeeds (bare a
       let own_set = number_of-set q.own (i - 1) 0 (omega arith) in
       let other_set = number_of-set q.other (opposite q i - 1) 0 (omega arith) in
       let one_at : 32 ^ (i - 1) * seeds q.own i ≡ 32 ^ (i - 1) * 1 = ap (λ n. 32 ^ (i - 1) * n) one in
-      let off = taken_off r.rows x y _ _ _ _ shows.own shows.other (omega (arith, own_set, one_at, x_is)) (omega (arith, other_set, y_is)) in
+      let off = taken_off r.rows x y _ _ _ _ shows.own shows.other (omega (arith, own_set, one_at, x_is))
+      (omega (arith, other_set, y_is)) in
       let store_shown = shows.store in
       rw (captured_some q i one (rw sown_keeps.rule some)) (record { own = off.0; other = off.1; store = omega arith })
 
@@ -236,7 +245,8 @@ module _ (a : Rows) (h : ℕ) (w : IsWithinHouses a) (holds : HoldsSeeds (bare a
 
   -- and lies there
   pub caught_within : (r : RowNumbers) (i last taken : ℕ) → Shows r q → 1 ≤ i → i ≤ length a.own → last ≤ seeds q.own i →
-      taken ≤ seeds q.other (opposite q i) → (32 ^ (i - 1) * last ≤ r.rows % 2 ^ 30) × (32 ^ (opposite q i - 1) * taken ≤ r.rows / 2 ^ 30)
+      taken ≤ seeds q.other (opposite q i) → (32 ^ (i - 1) * last ≤ r.rows % 2 ^ 30)
+      × (32 ^ (opposite q i - 1) * taken ≤ r.rows / 2 ^ 30)
   caught_within r i last taken shows low high last_few taken_few =
       let side = sown_keeps.side in
       let other_side = sown_keeps.other_side in
@@ -253,13 +263,15 @@ module _ (a : Rows) (h : ℕ) (w : IsWithinHouses a) (holds : HoldsSeeds (bare a
       )
 
   -- all that a capture does to the rows, read and written by bits
-  pub capture_shows : (r : RowNumbers) (i bit across last taken : ℕ) → Shows r q → 1 ≤ i → i ≤ length a.own → bit ≡ 5 * (i - 1) →
+  pub capture_shows : (r : RowNumbers) (i bit across last taken : ℕ) → Shows r q → 1 ≤ i → i ≤ length a.own
+      → bit ≡ 5 * (i - 1) →
       across ≡ 25 + 5 * length a.own - bit →
       MatchBool ((r.rows / 2 ^ bit % 32 == 1) && captures a.rule (r.rows / 2 ^ across % 32))
       ((last ≡ 1) × (taken ≡ r.rows / 2 ^ across % 32)) ((last ≡ 0) × (taken ≡ 0)) →
       last ≤ r.rows / 2 ^ bit % 32 → taken ≤ r.rows / 2 ^ across % 32 →
       (taken * 2 ^ across % 2 ^ 64 ≤ r.rows - last * 2 ^ bit % 2 ^ 64)
-      × Shows (record { rows = r.rows - last * 2 ^ bit % 2 ^ 64 - taken * 2 ^ across % 2 ^ 64; store = r.store + last + taken }) (captured q (Some i))
+      × Shows (record { rows = r.rows - last * 2 ^ bit % 2 ^ 64 - taken * 2 ^ across % 2 ^ 64; store = r.store + last + taken })
+      (captured q (Some i))
   capture_shows r i bit across last taken shows low high bit_is across_is told last_few taken_few =
       let side = sown_keeps.side in
       let near : i - 1 ≤ 5 = omega (arith, high, w.at_most_six) in
@@ -267,7 +279,8 @@ module _ (a : Rows) (h : ℕ) (w : IsWithinHouses a) (holds : HoldsSeeds (bare a
       let opposite_is : across ≡ 30 + 5 * (opposite q i - 1) = omega (arith, across_is, bit_is, side, low, high) in
       let here = read_own r i bit shows low high bit_is in
       let there = read_across r i across shows low high opposite_is in
-      let x : last * 2 ^ bit % 2 ^ 64 ≡ 32 ^ (i - 1) * last = rw (bit_is, pow_five (i - 1)) (moved_small (i - 1) last near (omega (arith, last_few))) in
+      let x : last * 2 ^ bit % 2 ^ 64 ≡ 32 ^ (i - 1) * last =
+      rw (bit_is, pow_five (i - 1)) (moved_small (i - 1) last near (omega (arith, last_few))) in
       let y : taken * 2 ^ across % 2 ^ 64 ≡ 2 ^ 30 * (32 ^ (opposite q i - 1) * taken) =
       rw (opposite_is, pow_other (opposite q i - 1)) (moved_far (opposite q i - 1) taken far (omega (arith, taken_few))) in
       let within = caught_within r i last taken shows low high (omega (arith, last_few, here)) (omega (arith, taken_few, there)) in (
@@ -307,7 +320,8 @@ keeps_then p q r h k = record {
 -- no seed is lost in a move
 pub after_keeps : (a : Rows) (h : ℕ) → IsWithinHouses a → HoldsSeeds (bare a) h → KeepsSeeds (bare a) (after (bare a) h)
 unfolding after
-after_keeps a h w holds = keeps_then (bare a) (sown (bare a) h) _ (sown_keeps a h w holds) (captured_keeps (sown (bare a) h) (last_house (bare a) h))
+after_keeps a h w holds = keeps_then (bare a) (sown (bare a) h) _ (sown_keeps a h w holds)
+    (captured_keeps (sown (bare a) h) (last_house (bare a) h))
 
 -- where the last seed falls, by its place
 module _ (p : Position) (h : ℕ) (holds : HoldsSeeds p h) where
@@ -332,7 +346,8 @@ module _ (p : Position) (h : ℕ) (holds : HoldsSeeds p h) where
   laps_and_distance = omega (arith, div-add-mod' (seeds p.own h - 1) (lap_length (side_length p)), holds.some)
 
   -- so much past whole laps is the place
-  place_after : (laps at : ℕ) → h + seeds p.own h ≡ laps * lap_length (side_length p) + at → 1 ≤ at → at ≤ lap_length (side_length p) →
+  place_after : (laps at : ℕ) → h + seeds p.own h ≡ laps * lap_length (side_length p) + at → 1 ≤ at
+      → at ≤ lap_length (side_length p) →
       last_place (side_length p) h (seeds p.own h) ≡ at
   place_after laps at whole low high =
       let n = lap_length (side_length p) in
@@ -340,7 +355,8 @@ module _ (p : Position) (h : ℕ) (holds : HoldsSeeds p h) where
       ap (λ x. x % n + 1) rest ∙ ap (λ x. x + 1) (mod-mul-add laps n (at - 1) (omega (arith, low, high))) ∙ omega (arith, low)
 
   -- the place of a last seed that doesn't come round
-  place_near : h + last_distance p h ≤ lap_length (side_length p) → last_place (side_length p) h (seeds p.own h) ≡ h + last_distance p h
+  place_near : h + last_distance p h ≤ lap_length (side_length p)
+      → last_place (side_length p) h (seeds p.own h) ≡ h + last_distance p h
   place_near near = place_after ((seeds p.own h - 1) / lap_length (side_length p)) (h + last_distance p h)
       (omega (arith, laps_and_distance)) (omega (arith, last_low)) near
 
@@ -381,7 +397,8 @@ module _ (p : Position) (h : ℕ) (holds : HoldsSeeds p h) where
   ]
 
   -- it falls into the store or beyond
-  pub after_past : (r : RowNumbers) → side_length p < last_place (side_length p) h (seeds p.own h) → Shows r (sown p h) → Shows r (after p h)
+  pub after_past : (r : RowNumbers) → side_length p < last_place (side_length p) h (seeds p.own h) → Shows r (sown p h)
+      → Shows r (after p h)
   after_past r past shows =
       let last = holds.last in
       let at = place_past past in

@@ -64,7 +64,8 @@ read_seeds (x ∷ xs) (suc k) h few =
     rw past (read_seeds xs k (omega arith) (omega arith))
 
 -- a house is written into a row's number
-pub number_of-set : (xs : List ℕ) (k v : ℕ) → k < length xs → number_of (slice_set xs k v) + 32 ^ k * get_or xs k 0 ≡ number_of xs + 32 ^ k * v
+pub number_of-set : (xs : List ℕ) (k v : ℕ) → k < length xs
+    → number_of (slice_set xs k v) + 32 ^ k * get_or xs k 0 ≡ number_of xs + 32 ^ k * v
 number_of-set [] k v h = absurd (omega arith)
 number_of-set (x ∷ xs) zero v h = omega arith
 number_of-set (x ∷ xs) (suc k) v h =
@@ -81,10 +82,12 @@ number_of-more n f =
 
 -- one house more at the end
 number_of-suc : (n : ℕ) (f : ℕ → ℕ) → number_of (row_of (suc n) f) ≡ number_of (row_of n f) + 32 ^ n * f (suc n)
-number_of-suc n f = let e : n + 1 ≡ suc n = add-one n in subst (λ k. number_of (row_of k f) ≡ number_of (row_of n f) + 32 ^ n * f k) e (number_of-more n f)
+number_of-suc n f = let e : n + 1 ≡ suc n = add-one n in subst (λ k. number_of (row_of k f) ≡ number_of (row_of n f) + 32 ^ n * f k) e
+    (number_of-more n f)
 
 -- rows are added house by house
-pub number_of-plus : (n : ℕ) (f g : ℕ → ℕ) → number_of (row_of n (λ i. f i + g i)) ≡ number_of (row_of n f) + number_of (row_of n g)
+pub number_of-plus : (n : ℕ) (f g : ℕ → ℕ) → number_of (row_of n (λ i. f i + g i)) ≡ number_of (row_of n f) + number_of
+    (row_of n g)
 number_of-plus zero f g = refl
 number_of-plus (suc n) f g =
     let before = number_of-plus n f g in
@@ -116,14 +119,15 @@ number_of-up_to (suc n) x h = elim (cases_eq x (suc n)) [
 -- a row whose house h is emptied
 pub lifted_row : (xs : List ℕ) (h : ℕ) → 1 ≤ h → h ≤ length xs →
     row_of (length xs) (λ i. if i == h then 0 else seeds xs i) ≡ slice_set xs (h - 1) 0
-lifted_row xs h low high = sym (same_as_row (slice_set xs (h - 1) 0) (length xs) _ (length-set xs (h - 1) 0) (λ i i_low i_high. elim (cases_eq i h) [
-  | inl here ↦
-      let empty : seeds (slice_set xs (h - 1) 0) i ≡ 0 = rw here (seeds-set_same xs h 0 low high) in
-      grind (arith, nat_tests, empty)
-  | inr there ↦
-      let kept : seeds (slice_set xs (h - 1) 0) i ≡ seeds xs i = seeds-set_other xs h i 0 low i_low there in
-      grind (arith, nat_tests, kept)
-]))
+lifted_row xs h low high =
+    sym (same_as_row (slice_set xs (h - 1) 0) (length xs) _ (length-set xs (h - 1) 0) (λ i i_low i_high. elim (cases_eq i h) [
+      | inl here ↦
+          let empty : seeds (slice_set xs (h - 1) 0) i ≡ 0 = rw here (seeds-set_same xs h 0 low high) in
+          grind (arith, nat_tests, empty)
+      | inr there ↦
+          let kept : seeds (slice_set xs (h - 1) 0) i ≡ seeds xs i = seeds-set_other xs h i 0 low i_low there in
+          grind (arith, nat_tests, kept)
+    ]))
 
 -- the cells of the last lap, which begins past house h and has r seeds
 pub own_lap : (m h r i : ℕ) → 1 ≤ h → h ≤ m → r < lap_length m → 1 ≤ i → i ≤ m →
@@ -136,7 +140,8 @@ other_lap m h r j low high j_low = grind (arith, nat_tests)
 
 -- ---- what a sowing adds
 pub own_sown : (xs : List ℕ) (h c : ℕ) → 1 ≤ h → h ≤ length xs →
-    number_of (row_of (length xs) (λ i. (if i == h then 0 else seeds xs i) + gain (lap_length (length xs)) c (own_distance (length xs) h i)))
+    number_of
+    (row_of (length xs) (λ i. (if i == h then 0 else seeds xs i) + gain (lap_length (length xs)) c (own_distance (length xs) h i)))
     + 32 ^ (h - 1) * seeds xs h ≡ number_of xs + own_gained (length xs) h c
 own_sown xs h c low high =
     let kept : ℕ → ℕ = λ i. if i == h then 0 else seeds xs i in
@@ -203,6 +208,10 @@ ones_le a (suc b) h = elim (cases_eq a (suc b)) [
   | inl same ↦ rw same (omega arith)
   | inr less ↦ let on = ones_le a b (omega arith) in omega (arith, number_of-suc b (λ i. 1))
 ]
+
+-- the ones of the first houses are what six leave below the next house
+pub ones_below : (k : ℕ) → k ≤ 5 → 34636833 % (32 ^ k * 32) ≡ ones (suc k)
+ones_below k h = up_to_five (λ k. 34636833 % (32 ^ k * 32) ≡ ones (suc k)) k h refl refl refl refl refl refl
 
 -- a row moved up by a few houses fits sixty-four bits
 pub moved_small : (k x : ℕ) → k ≤ 5 → x < 2 ^ 30 → x * 32 ^ k % 2 ^ 64 ≡ 32 ^ k * x

@@ -21,14 +21,16 @@ pub seeds-row_of : (n : ℕ) (f : ℕ → ℕ) (i : ℕ) → 1 ≤ i → i ≤ n
 seeds-row_of n f i low high = get_or-map-range_with_len f 1 n (i - 1) i 0 (omega arith) (omega arith)
 
 -- two rows with the same seeds in each house
-pub same_rows : (xs ys : List ℕ) → length xs ≡ length ys → ((i : ℕ) → 1 ≤ i → i ≤ length xs → seeds xs i ≡ seeds ys i) → xs ≡ ys
+pub same_rows : (xs ys : List ℕ) → length xs ≡ length ys → ((i : ℕ) → 1 ≤ i → i ≤ length xs → seeds xs i ≡ seeds ys i)
+    → xs ≡ ys
 same_rows xs ys long each = same_number_lists xs ys long (λ k h.
     let low : 1 ≤ k + 1 = omega arith in
     let high : k + 1 ≤ length xs = omega arith in
     let at : k + 1 - 1 ≡ k = omega arith in
     rw at at (each (k + 1) low high))
 
-pub same_as_row : (xs : List ℕ) (n : ℕ) (f : ℕ → ℕ) → length xs ≡ n → ((i : ℕ) → 1 ≤ i → i ≤ n → seeds xs i ≡ f i) →
+pub same_as_row : (xs : List ℕ) (n : ℕ) (f : ℕ → ℕ) → length xs ≡ n →
+    ((i : ℕ) → 1 ≤ i → i ≤ n → seeds xs i ≡ f i) →
     xs ≡ row_of n f
 same_as_row xs n f long each = same_rows xs (row_of n f) (long ∙ sym (length-row_of n f)) (λ i low high.
     let high' : i ≤ n = omega arith in
@@ -55,7 +57,8 @@ row_of_more n f g i low high here others =
     sym (same_as_row (slice_set (row_of n f) (i - 1) (seeds (row_of n f) i + 1)) n g
     (length-set (row_of n f) (i - 1) (seeds (row_of n f) i + 1) ∙ length-row_of n f)
     (λ j j_low j_high. elim (cases_eq j i) [
-      | inl e ↦ rw e (seeds-set_same (row_of n f) i (seeds (row_of n f) i + 1) low long ∙ ap (λ x. x + 1) (seeds-row_of n f i low high) ∙ sym here)
+      | inl e ↦ rw e (seeds-set_same (row_of n f) i (seeds (row_of n f) i + 1) low long ∙ ap (λ x. x + 1) (seeds-row_of n f i low high)
+          ∙ sym here)
       | inr ne ↦ seeds-set_other (row_of n f) i j (seeds (row_of n f) i + 1) low j_low ne ∙ seeds-row_of n f j j_low j_high
           ∙ sym (others j j_low j_high ne)
     ]))

@@ -19,7 +19,8 @@ module _ (m h : ℕ) (h_low : 1 ≤ h) (h_high : h ≤ m) where
   pub own_distance_high : (i : ℕ) → 1 ≤ i → i ≤ m → own_distance m h i ≤ lap_length m
   own_distance_high i low high = grind (arith, nat_tests)
 
-  pub own_distance_apart : (i j : ℕ) → 1 ≤ i → i ≤ m → 1 ≤ j → j ≤ m → i ≢ j → own_distance m h i ≢ own_distance m h j
+  pub own_distance_apart : (i j : ℕ) → 1 ≤ i → i ≤ m → 1 ≤ j → j ≤ m → i ≢ j
+      → own_distance m h i ≢ own_distance m h j
   own_distance_apart i j i_low i_high j_low j_high other = grind (arith, nat_tests)
 
   pub own_from_store : (i : ℕ) → 1 ≤ i → i ≤ m → own_distance m h i ≢ store_distance m h
@@ -68,9 +69,11 @@ module _ (p : Position) (h : ℕ) (low : 1 ≤ h) (high : h ≤ side_length p) w
   -- a cell away from the next distance gets nothing
   own_kept : (k d : ℕ) → d ≡ k % lap_length (side_length p) + 1 → (j : ℕ) → 1 ≤ j → j ≤ side_length p →
       own_distance (side_length p) h j ≢ d →
-      gain (lap_length (side_length p)) (k + 1) (own_distance (side_length p) h j) ≡ gain (lap_length (side_length p)) k (own_distance (side_length p) h j)
+      gain (lap_length (side_length p)) (k + 1) (own_distance (side_length p) h j) ≡ gain (lap_length (side_length p)) k
+      (own_distance (side_length p) h j)
   own_kept k d next j j_low j_high ne =
-      gain_same _ k _ (own_distance_low (side_length p) h low high j j_low j_high) (own_distance_high (side_length p) h low high j j_low j_high)
+      gain_same _ k _ (own_distance_low (side_length p) h low high j j_low j_high)
+      (own_distance_high (side_length p) h low high j j_low j_high)
       (λ e. ne (e ∙ sym next))
 
   store_kept : (k d : ℕ) → d ≡ k % lap_length (side_length p) + 1 → store_distance (side_length p) h ≢ d →
@@ -78,13 +81,15 @@ module _ (p : Position) (h : ℕ) (low : 1 ≤ h) (high : h ≤ side_length p) w
       ≡ p.own_store + gain (lap_length (side_length p)) k (store_distance (side_length p) h)
   store_kept k d next ne = ap (λ x. p.own_store + x) (gain_same _ k _ store_low store_high (λ e. ne (e ∙ sym next)))
 
-  other_kept : (k d : ℕ) → d ≡ k % lap_length (side_length p) + 1 → (j : ℕ) → j ≤ side_length p → other_distance (side_length p) h j ≢ d →
+  other_kept : (k d : ℕ) → d ≡ k % lap_length (side_length p) + 1 → (j : ℕ) → j ≤ side_length p
+      → other_distance (side_length p) h j ≢ d →
       gain (lap_length (side_length p)) (k + 1) (other_distance (side_length p) h j)
       ≡ gain (lap_length (side_length p)) k (other_distance (side_length p) h j)
   other_kept k d next j j_high ne = gain_same _ k _ (other_low j) (other_high j j_high) (λ e. ne (e ∙ sym next))
 
   -- one seed more goes to the cell at the next distance
-  pub sow_more : (k : ℕ) (cell : Cell) → IsCellOf (side_length p) cell → distance (side_length p) h cell ≡ k % lap_length (side_length p) + 1 →
+  pub sow_more : (k : ℕ) (cell : Cell) → IsCellOf (side_length p) cell
+      → distance (side_length p) h cell ≡ k % lap_length (side_length p) + 1 →
       sow p h (k + 1) ≡ with_seed (sow p h k) cell
   unfolding sow
   sow_more k (Own i) is_cell next = same_position
@@ -118,7 +123,8 @@ module _ (p : Position) (h : ℕ) (low : 1 ≤ h) (high : h ≤ side_length p) w
       refl refl
 
 -- some cell lies at each distance of a lap
-pub cell_at : (m h d : ℕ) → 1 ≤ h → h ≤ m → 1 ≤ d → d ≤ lap_length m → (cell : Cell) × IsCellOf m cell × (distance m h cell ≡ d)
+pub cell_at : (m h d : ℕ) → 1 ≤ h → h ≤ m → 1 ≤ d → d ≤ lap_length m → (cell : Cell) × IsCellOf m cell
+    × (distance m h cell ≡ d)
 cell_at m h d low high d_low d_high =
     elim (cases_lt (m + 1 - h) d) [
       | inr near ↦ elim (cases_eq (m + 1 - h) d) [
@@ -127,7 +133,12 @@ cell_at m h d low high d_low d_high =
       ]
       | inl past ↦ elim (cases_lt (2 * m + 1 - h) d) [
         | inr near ↦ (Other (d - (m + 1 - h)), (omega arith, omega arith), omega arith)
-        | inl far ↦ (Own (d - (2 * m + 1 - h)), (omega arith, omega arith), own_distance_back m h (d - (2 * m + 1 - h)) (omega arith) ∙ omega arith)
+        | inl far ↦ (
+          Own (d - (2 * m + 1 - h)),
+          (omega arith, omega arith),
+          own_distance_back m h (d - (2 * m + 1 - h)) (omega arith)
+              ∙ omega arith,
+        )
       ]
     ]
 
@@ -145,7 +156,8 @@ pub record AddsOne (p q : Position) : Type 0 where
   pub houses : seeds_in_houses q ≤ seeds_in_houses p + 1
   pub play : q.own_store + seeds_in_houses q ≡ p.own_store + seeds_in_houses p + 1
 
-pub with_seed_adds : (p : Position) (cell : Cell) → length p.other ≡ side_length p → IsCellOf (side_length p) cell → AddsOne p (with_seed p cell)
+pub with_seed_adds : (p : Position) (cell : Cell) → length p.other ≡ side_length p → IsCellOf (side_length p) cell
+    → AddsOne p (with_seed p cell)
 with_seed_adds p (Own i) same is_cell =
     let e = sum-slice_set p.own i (seeds p.own i + 1) is_cell.0 is_cell.1 in
     record { houses = omega (arith, e); play = omega (arith, e) }
@@ -173,7 +185,8 @@ pub next_cell : (p : Position) (h : ℕ) → 1 ≤ h → h ≤ side_length p →
     (cell : Cell) × IsCellOf (side_length p) cell × (distance (side_length p) h cell ≡ k % lap_length (side_length p) + 1)
 next_cell p h low high k =
     let pos : 0 < lap_length (side_length p) = omega arith in
-    cell_at (side_length p) h (k % lap_length (side_length p) + 1) low high (omega arith) (omega (arith, mod_below k (lap_length (side_length p)) pos))
+    cell_at (side_length p) h (k % lap_length (side_length p) + 1) low high (omega arith)
+    (omega (arith, mod_below k (lap_length (side_length p)) pos))
 
 pub sow_keeps : (p : Position) (h : ℕ) → 1 ≤ h → h ≤ side_length p → length p.other ≡ side_length p → (k : ℕ) →
     HasSown p (seeds p.own h) k (sow p h k)

@@ -19,7 +19,8 @@ use Rattle.kalah_rules.proofs.HousesSteps.{IsStepTo, over_own, again_packed}
 use Rattle.kalah_rules.specs.Sowings.{last_place}
 use Rattle.kalah_rules.proofs.PackedMoves.{short_distance, after_past, again_at, other_is, lifted_is, into_store}
 
-module _ {a : Rows} {h key seeds : ℕ} {r : RowNumbers} (packed : IsPacked key seeds) (view : rows_at key ≡ a) (has : Contains (legal_houses (bare a)) h)
+module _ {a : Rows} {h key seeds : ℕ} {r : RowNumbers} (packed : IsPacked key seeds) (view : rows_at key ≡ a)
+    (has : Contains (legal_houses (bare a)) h)
     (ends : position.seeds a.own h + h ≡ length a.own + 1) (shows : Shows r (sown (bare a) h)) where
   w : IsWithinHouses a
   w = (pack_of packed view).limits
@@ -54,15 +55,18 @@ module _ {a : Rows} {h key seeds : ℕ} {r : RowNumbers} (packed : IsPacked key 
   pub store_packed : 0 < r.rows % 2 ^ 30 → IsStepTo a h (r.rows + key / 2 ^ 60 * 2 ^ 60) (seeds - r.store) (Again r.store)
   store_packed some = again_packed packed view has store_shows (λ none. absurd (omega (arith, none, some))) other_some again
 
--- what a move does to the key whose last seed falls into the store without a lap: `house` are the seeds of the house where they stand in the
+-- what a move does to the key whose last seed falls into the store without a lap: `house` are the seeds of the house where they stand in
+-- the
 -- row, `own_more` is one seed in each house after it
 pub record MovesIntoStore (a : Rows) (h key seeds house own_more : ℕ) : Type 0 where
   pub fits : house ≤ key
   pub goes_on : 0 < (key - house + own_more) % 2 ^ 30 → IsStepTo a h (key - house + own_more) (seeds - 1) (Again 1)
   pub over : (key - house + own_more) % 2 ^ 30 ≡ 0 → Over 1 (seeds - 1) ≡ houses_step a h
 
-pub moves_into_store : {a : Rows} {h key seeds house own_more : ℕ} → IsPacked key seeds → rows_at key ≡ a → Contains (legal_houses (bare a)) h →
-    position.seeds a.own h + h ≡ length a.own + 1 → house ≡ 32 ^ (h - 1) * position.seeds a.own h → own_more + ones h ≡ ones (length a.own) →
+pub moves_into_store : {a : Rows} {h key seeds house own_more : ℕ} → IsPacked key seeds → rows_at key ≡ a
+    → Contains (legal_houses (bare a)) h →
+    position.seeds a.own h + h ≡ length a.own + 1 → house ≡ 32 ^ (h - 1) * position.seeds a.own h
+    → own_more + ones h ≡ ones (length a.own) →
     MovesIntoStore a h key seeds house own_more
 moves_into_store {a} {h} {key} {seeds} {house} {own_more} packed view has ends house_is own_more_is =
     let pack = pack_of packed view in

@@ -29,7 +29,8 @@ captured_with_more a b q (Some i) = elim (cases_Bool (can_capture q i)) [
 -- a move keeps what was added
 pub after_with_more : (a b : ℕ) (p : Position) (h : ℕ) → after (with_more a b p) h ≡ with_more a b (after p h)
 unfolding after
-after_with_more a b p h = ap (λ q. captured q (last_house p h)) (sow_with_more a b p h (seeds p.own h)) ∙ captured_with_more a b (sown p h) (last_house p h)
+after_with_more a b p h = ap (λ q. captured q (last_house p h)) (sow_with_more a b p h (seeds p.own h))
+    ∙ captured_with_more a b (sown p h) (last_house p h)
 
 -- a position is its houses, with what the stores hold added
 pub is_with_more : (p : Position) → p ≡ with_more p.own_store p.other_store (bare (rows_of p))

@@ -41,7 +41,7 @@ sum_same : (f g : ℕ → ℕ) (xs : List ℕ) → ((x : ℕ) → f x ≡ g x) �
 sum_same f g xs same = ap (λ (k : ℕ → ℕ). sum_by k xs) (λ i x. same x i)
 
 -- ---- stores
--- what was added stays behind a step
+-- what was added stays after a step
 step_with_more : (n a b : ℕ) (q : Position) (over again : Bool) → is_over q ≡ over →
     ((c d : ℕ) (p : Position) → ways n (with_more c d p) ≡ ways n p) →
     ways n (position_after (step_to (with_more a b q) again)) ≡ ways n (position_after (step_to q again))
@@ -64,7 +64,7 @@ pub ways_of_rows : (n : ℕ) (p : Position) → ways n p ≡ ways n (bare (rows_
 ways_of_rows n p = ap (ways n) (is_with_more p) ∙ ways_with_more n p.own_store p.other_store (bare (rows_of p))
 
 -- ---- steps on houses
--- the ways behind a step
+-- the ways after a step
 abbrev pub ways_from : ℕ → HousesStep → ℕ
 ways_from n (Over own other) = if n == 0 then 1 else 0
 ways_from n (Again gained a) = ways n (bare a)
@@ -88,13 +88,14 @@ ways_step_to n q true again is = rw is (ways_swept n q)
 ways_step_to n q false true is = rw is (ways_of_rows n q)
 ways_step_to n q false false is = rw is (ways_of_rows n (swapped q))
 
--- the ways behind a move are those behind the step of the houses
-pub ways_by_step : (n : ℕ) (a : Rows) (h : ℕ) (s t : HousesStep) → t ≡ houses_step a h → t ≡ s → ways_from n s ≡ ways_by n (bare a) h
+-- the ways after a move are those after the step of the houses
+pub ways_by_step : (n : ℕ) (a : Rows) (h : ℕ) (s t : HousesStep) → t ≡ houses_step a h → t ≡ s
+    → ways_from n s ≡ ways_by n (bare a) h
 ways_by_step n a h s t is to =
     ap (ways_from n) (sym to ∙ is)
     ∙ sym (ways_step_to n (after (bare a) h) (is_over (after (bare a) h)) (is_again (bare a) h) refl)
 
--- the ways behind a move of a position are those of its houses
+-- the ways after a move of a position are those of its houses
 pub ways_by_of_rows : (n : ℕ) (p : Position) (h : ℕ) → ways_by n (bare (rows_of p)) h ≡ ways_by n p h
 ways_by_of_rows n p h =
     let a = p.own_store in
@@ -127,10 +128,12 @@ ways_one p =
 abbrev pub seeded_before : List ℕ → ℕ → List ℕ
 seeded_before row h = filter (λ i. nat_lt 0 (seeds row i)) (range_with_len 1 (h - 1))
 
-seeded_next : (row : List ℕ) (h : ℕ) → 1 ≤ h → seeded_before row (h + 1) ≡ filter (λ i. nat_lt 0 (seeds row i)) (range_with_len 1 (h - 1 + 1))
+seeded_next : (row : List ℕ) (h : ℕ) → 1 ≤ h → seeded_before row (h + 1) ≡ filter (λ i. nat_lt 0 (seeds row i))
+    (range_with_len 1 (h - 1 + 1))
 seeded_next row h low = ap (λ n. filter (λ i. nat_lt 0 (seeds row i)) (range_with_len 1 n)) (omega arith)
 
-pub seeded_more : (row : List ℕ) (h : ℕ) → 1 ≤ h → 0 < seeds row h → seeded_before row (h + 1) ≡ seeded_before row h ++ h ∷ []
+pub seeded_more : (row : List ℕ) (h : ℕ) → 1 ≤ h → 0 < seeds row h
+    → seeded_before row (h + 1) ≡ seeded_before row h ++ h ∷ []
 seeded_more row h low some =
     seeded_next row h low
     ∙ filter_range_more (λ i. nat_lt 0 (seeds row i)) 1 (h - 1) h (omega arith)
@@ -152,7 +155,7 @@ seeded_legal p h going end =
     rw (last, going) refl
 
 -- ---- one house more
--- the ways behind the moves of the houses before house h, for n moves more, at most 6 for each of these moves
+-- the ways after the moves of the houses before house h, for n moves more, at most 6 for each of these moves
 pub record AreWaysBefore (n : ℕ) (p : Position) (h : ℕ) (total : ℕ) : Type 0 where
   pub sum : total ≡ sum_by (ways_by n p) (seeded_before p.own h)
   pub small : total ≤ (h - 1) * most_houses ^ n
@@ -175,14 +178,16 @@ before_more n p h total count before low some is few =
       small = omega (arith, before.small, few, six_more n h low);
     }
 
-pub before_same : (n : ℕ) (p : Position) (h total : ℕ) → AreWaysBefore n p h total → 1 ≤ h → seeds p.own h ≤ 0 → AreWaysBefore n p (h + 1) total
+pub before_same : (n : ℕ) (p : Position) (h total : ℕ) → AreWaysBefore n p h total → 1 ≤ h → seeds p.own h ≤ 0
+    → AreWaysBefore n p (h + 1) total
 before_same n p h total before low none = record {
   sum = rw (seeded_same p.own h low none) before.sum;
   small = omega (arith, before.small, six_more n h low);
 }
 
--- behind the last house they are all ways
-pub before_all : (n : ℕ) (p : Position) (h total : ℕ) → AreWaysBefore n p h total → is_over p ≡ false → h ≡ side_length p + 1 →
+-- after the last house they are all ways
+pub before_all : (n : ℕ) (p : Position) (h total : ℕ) → AreWaysBefore n p h total → is_over p ≡ false
+    → h ≡ side_length p + 1 →
     total ≡ ways (n + 1) p
 before_all n p h total before going end =
     before.sum ∙ ap (sum_by (ways_by n p)) (seeded_legal p h going end) ∙ sym (ways_more n p)

@@ -13,7 +13,8 @@ EveryMoveNearsEnd = (p : Position) (h : ℕ) → HasEqualSides p → Contains (l
 -- house h is emptied, and each of the seeds sown goes to the cell after the last one, round and round the lap
 pub record IsSownSeedBySeed (p : Position) (h : ℕ) : Type 0 where
   pub none : sow p h 0 ≡ lifted p h
-  pub more : (k : ℕ) (cell : Cell) → IsCellOf (side_length p) cell → distance (side_length p) h cell ≡ k % lap_length (side_length p) + 1 →
+  pub more : (k : ℕ) (cell : Cell) → IsCellOf (side_length p) cell
+      → distance (side_length p) h cell ≡ k % lap_length (side_length p) + 1 →
       sow p h (k + 1) ≡ with_seed (sow p h k) cell
 
 abbrev pub SowingIsSeedBySeed : Type 0

@@ -13,7 +13,8 @@ distance_to_stores p = row_distance p.own + row_distance p.other
 
 -- q has fewer seeds in houses than p, or equally many that are nearer to the stores
 abbrev pub IsNearerEnd : Position → Position → Type 0
-IsNearerEnd q p = (seeds_in_houses q < seeds_in_houses p) ⊎ ((seeds_in_houses q ≡ seeds_in_houses p) × (distance_to_stores q < distance_to_stores p))
+IsNearerEnd q p = (seeds_in_houses q < seeds_in_houses p) ⊎ ((seeds_in_houses q ≡ seeds_in_houses p)
+    × (distance_to_stores q < distance_to_stores p))
 
 -- an upper bound of the number of moves that are left
 abbrev pub moves_left : Position → ℕ

@@ -1,5 +1,5 @@
 -- Houses in one number.
-use Rattle.std.specs.Prelude.{◌≡◌, ℕ, ◌≤◌, ◌/◌, ◌%◌, ◌^◌, if◌then◌else◌, nat_le, sum}
+use Rattle.std.specs.Prelude.{◌≡◌, ℕ, ◌≤◌, ◌+◌, ◌-◌, ◌*◌, ◌/◌, ◌%◌, ◌^◌, if◌then◌else◌, nat_le, sum}
 use Rattle.kalah_rules.specs.Position.{Position, seeds_in_houses, bare, IsWithinHouses}
 use Rattle.kalah_rules.specs.Sowing.{row_of}
 use Rattle.kalah_rules.specs.Limits.{most_houses, most_seeds}
@@ -24,6 +24,11 @@ pub record Shows (r : RowNumbers) (p : Position) : Type 0 where
   pub own : r.rows % 2 ^ 30 ≡ number_of p.own
   pub other : r.rows / 2 ^ 30 ≡ number_of p.other
   pub store : r.store ≡ p.own_store
+
+-- a house of a row begins at this bit of its number
+pub record BeginsHouse (bit : ℕ) : Type 0 where
+  pub whole : 5 * (bit / 5 + 1 - 1) ≡ bit
+  pub last : bit ≤ 25
 
 -- one seed in each of n houses
 abbrev pub ones : ℕ → ℕ

@@ -6,7 +6,7 @@ use Rattle.kalah_rules.specs.Sowing.{after, is_again}
 use Rattle.kalah_rules.specs.declared.step.Step.{Step}
 use Rattle.kalah_rules.specs.declared.step.Step.TheVariants.{Again, Turn, Over}
 
--- the houses that hold seeds, rising, and none if the game is over
+-- the houses that hold seeds, in ascending order, and none if the game is over
 abbrev pub legal_houses : Position → List ℕ
 legal_houses p = if is_over p then [] else filter (λ i. nat_lt 0 (seeds p.own i)) (range_with_len 1 (side_length p))
 

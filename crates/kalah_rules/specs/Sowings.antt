@@ -1,5 +1,5 @@
 -- A sowing as one addition to a key.
-use Rattle.std.specs.Prelude.{◌≡◌, ℕ, ◌+◌, ◌-◌, ◌*◌, ◌/◌, ◌%◌, ◌^◌, ◌<◌, List, slice_index}
+use Rattle.std.specs.Prelude.{◌≡◌, ℕ, ◌+◌, ◌-◌, ◌*◌, ◌%◌, ◌^◌, ◌<◌, ◌≤◌, List, slice_index_or}
 use Rattle.kalah_rules.specs.Key.{number_of}
 use Rattle.kalah_rules.specs.Sowing.{lap_length, row_of, gain, own_distance, store_distance, other_distance}
 use Rattle.kalah_rules.specs.declared.houses.sowings.Sowing.{Sowing}
@@ -27,7 +27,14 @@ pub record IsSowing (m h c : ℕ) (s : Sowing) : Type 0 where
   pub store : s.store ≡ store_gained m h c
   pub end : s.end ≡ 5 * (last_place m h c - 1)
 
--- the first n cells hold the sowings: cell 192 * m + 32 * (h - 1) + c that of c seeds of house h
-abbrev pub AreSowings : ℕ → List ℕ → List ℕ → List ℕ → Type 0
-AreSowings n gains stores ends = (k : ℕ) → k < n → k / 32 % 6 < k / 192 →
-    IsSowing (k / 192) (k / 32 % 6 + 1) (k % 32) (record { gains = slice_index gains k; store = slice_index stores k; end = slice_index ends k })
+-- the cell of c seeds of house h, on sides of m houses
+pub record IsSowingCell (m h c k : ℕ) : Type 0 where
+  pub first : 1 ≤ h
+  pub last : h ≤ m
+  pub side : m ≤ 6
+  pub few : c < 32
+  pub is : k ≡ 32 * (m + 5 * (h - 1) - 1) + c
+
+-- the first n cells hold the sowings
+abbrev pub AreSowings : ℕ → List Sowing → Type 0
+AreSowings n cells = (m h c k : ℕ) (d : Sowing) → IsSowingCell m h c k → k < n → IsSowing m h c (slice_index_or cells k d)

@@ -8,6 +8,6 @@ unfoldable pub ways : ℕ → Position → ℕ
 ways zero p = 1
 ways (suc n) p = sum_by (λ h. ways n (position_after (step_of p h))) (legal_houses p)
 
--- the number of ways to play on for n moves behind the move of house h
+-- the number of ways to play on for n moves after the move of house h
 abbrev pub ways_by : ℕ → Position → ℕ → ℕ
 ways_by n p h = ways n (position_after (step_of p h))

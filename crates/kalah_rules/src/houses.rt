@@ -4,11 +4,13 @@ ghost use Rattle.kalah_rules.specs.Position.{Rows, seeds, seeds_in_houses, is_ov
 ghost use Rattle.kalah_rules.specs.Cells.{CanBeHouses, rows_from};
 ghost use Rattle.kalah_rules.specs.Key.{number_of, key_of, IsKey};
 
+pub(crate) mod house;
 pub(crate) mod house_row;
 mod numbers;
 mod play;
 pub(crate) mod sowings;
 
+use crate::houses::house::House;
 use crate::houses::house_row::HouseRow;
 use crate::houses::numbers::{
     OTHER_ROW, RULE, SIDE, cells_of, number_of, rule_number, rule_of, seeds_at,
@@ -165,7 +167,17 @@ impl Houses {
         ensures value { result ≡ seeds self.now.own i }
         ensures small { result < 32 }
     {
-        seeds_at(self.own_row(), i) as u8
+        seeds_at(self.own_row(), House::new(i)) as u8
+    }
+
+    // Returns the number of seeds in a house of the mover.
+    #[inline(always)]
+    fn own_in(&self, house: House) -> u8
+        requires { house ≤ length self.now.own }
+        ensures value { result ≡ seeds self.now.own house }
+        ensures small { result < 32 }
+    {
+        seeds_at(self.own_row(), house) as u8
     }
 
     /// Returns the number of seeds in the other player's house `i`, which is 1 to `m`.
@@ -175,7 +187,7 @@ impl Houses {
         ensures value { result ≡ seeds self.now.other i }
         ensures small { result < 32 }
     {
-        seeds_at(self.other_row(), i) as u8
+        seeds_at(self.other_row(), House::new(i)) as u8
     }
 
     /// Returns whether the game is over: the houses of one of the players are all empty.

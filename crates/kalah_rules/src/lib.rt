@@ -15,6 +15,7 @@ mod ways;
 
 pub use board::Board;
 pub use houses::Houses;
+pub use houses::house::House;
 pub use houses::house_row::HouseRow;
 pub use houses::sowings::Sowings;
 pub use laws::{every_move_nears_end, sowing_is_seed_by_seed};

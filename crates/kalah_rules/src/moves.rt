@@ -3,7 +3,7 @@ ghost use Rattle.std.specs.Prelude.{◌≡◌, ℕ, ◌<◌, [], ◌∷◌, ◌+
 
 use std::marker::Model;
 
-/// The legal moves of a position: the houses that may be moved, in rising order. At most six.
+/// The legal moves of a position: the houses that may be moved, in ascending order. At most six.
 #[derive(Clone, Copy, Debug, PartialEq, Eq)]
 pub struct Moves {
     houses: [u8; 6],

@@ -10,6 +10,7 @@ mod tests;
 
 use crate::board::Board;
 use crate::houses::Houses;
+use crate::houses::house::House;
 use crate::houses::sowings::Sowings;
 use crate::step::HousesStep;
 
@@ -56,7 +57,7 @@ impl Houses {
         sum
     }
 
-    // Returns the number of ways to play on for `depth` moves behind the move of house `h`.
+    // Returns the number of ways to play on for `depth` moves after the move of house `h`.
     #[cycle(ways)]
     fn ways_by(&self, sowings: &Sowings, h: u8, depth: u8) -> u64
         requires legal { Contains (legal_houses (bare self.now)) h }
@@ -64,7 +65,8 @@ impl Houses {
         ensures ways { result ≡ ways_by depth (bare self.now) h }
         ensures small { result ≤ most_houses ^ depth }
     {
-        match self.play_by(sowings, h) {
+        let _side = self.m();
+        match self.play_by(sowings, House::new(h)) {
             HousesStep::Over { .. } => u64::from(depth == 0),
             HousesStep::Again(_, next) | HousesStep::Turn(_, next) => next.ways(sowings, depth),
         }
@@ -83,7 +85,7 @@ impl Board {
         self.houses().ways(&sowings, depth)
     }
 
-    /// Returns the number of ways to play on for `depth` moves, which is less than 20, behind the move of house `h`, which must be legal.
+    /// Returns the number of ways to play on for `depth` moves, which is less than 20, after the move of house `h`, which must be legal.
     /// That move itself isn't counted in `depth`.
     pub fn ways_by(&self, h: u8, depth: u8) -> u64
         requires legal { Contains (legal_houses self.now) h }

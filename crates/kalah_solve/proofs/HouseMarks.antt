@@ -23,7 +23,8 @@ module _ (a : Rows) (row : ℕ) (w : IsWithinHouses a) (row_is : row ≡ number_
   -- the last seed of a house falls into the store if its number of seeds equals its distance
   ends_at : (i : ℕ) → EndsInStore a (i + 1) ↔ (slice_index a.own i + i ≡ length a.own)
   ends_at i =
-      let at : slice_index a.own (i + 1 - 1) ≡ slice_index a.own i = let place : i + 1 - 1 ≡ i = omega arith in ap (λ j. slice_index a.own j) place in
+      let at : slice_index a.own (i + 1 - 1) ≡ slice_index a.own i = let place : i + 1 - 1 ≡ i = omega arith in
+      ap (λ j. slice_index a.own j) place in
       (λ ends. omega (arith, at, ends), λ is. omega (arith, at, is))
 
   -- what is marked has seeds
@@ -67,13 +68,20 @@ module _ (a : Rows) (row : ℕ) (w : IsWithinHouses a) (row_is : row ≡ number_
       | inl low ↦
           let again = again_marked i in
           let within : 0 < cell n i → 0 < cell row i =
-          λ some. let both = again.0 some in let ends = (ends_at i).0 both.1 in let before = both.0 in omega (arith, ends, own_cell i, before) in
+          λ some. let both = again.0 some in let ends = (ends_at i).0 both.1 in let before = both.0 in
+          omega (arith, ends, own_cell i, before) in
           let one = one_other (cell row i) (cell f i) (cell n i) (cells i low) (single i low) within in (
             λ some. let both = one.0 (omega (arith, apart, some)) in
                 let filled : 0 < slice_index a.own i = let has = both.0 in omega (arith, has, own_cell i) in (
                   filled,
-                  λ ends. both.1 (again.1
-                      (elim (cases_lt i (length a.own)) [ inl before ↦ before | inr beyond ↦ absurd (omega (arith, filled, own_past i beyond)) ], ends)),
+                  λ ends. both.1 (again.1 (
+                    elim (cases_lt i (length a.own)) [
+                      | inl before ↦ before
+                      | inr beyond ↦ absurd
+                          (omega (arith, filled, own_past i beyond))
+                    ],
+                    ends,
+                  )),
                 ),
             λ both. let has = both.0 in
                 let marked = one.1 (omega (arith, has, own_cell i), λ some. both.1 (again.0 some).1) in

@@ -8,8 +8,9 @@ use Rattle.std.proofs.lemmas.Bool.{cases_lt, cases_eq}
 use Rattle.std.specs.Int.Count.{count_leading_zeros}
 use Rattle.std.proofs.Math.Pow.{pow_mono}
 use Rattle.kalah_rules.specs.Key.{number_of}
+use Rattle.kalah_rules.specs.Packed.{BeginsHouse}
 use Rattle.kalah_rules.proofs.Packing.{pow_five}
-use Rattle.kalah_solve.specs.RowMarks.{cell, each, distances, IsLastMark}
+use Rattle.kalah_solve.specs.RowMarks.{cell, each, distances, AreMarks, IsLastMark}
 
 -- no row, no cell
 pub cell_none : (i : ℕ) → cell 0 i ≡ 0
@@ -36,6 +37,20 @@ others_stay (suc q) (suc i) n low high other =
     ap (λ k. cell k i) rest ∙ others_stay q i (n / 32) (omega (arith, next_power q, low)) (omega (arith, next_power (suc q), high))
     (λ same. other (ap suc same))
 
+-- and no more of it
+top_less : (q n : ℕ) → 32 ^ q ≤ n → n < 32 ^ suc q → cell (n - 32 ^ q) q ≤ cell n q
+top_less zero n low high = omega (arith, low, high)
+top_less (suc q) n low high =
+    let rest : (n - 32 ^ suc q) / 32 ≡ n / 32 - 32 ^ q = omega (arith, next_power q, low) in
+    rw rest (top_less q (n / 32) (omega (arith, next_power q, low)) (omega (arith, next_power (suc q), high)))
+
+-- the highest cell with one bounds the number
+top_single : (q n : ℕ) → n < 32 ^ suc q → cell n q ≤ 1 → n < 2 * 32 ^ q
+top_single zero n high single = omega (arith, high, single)
+top_single (suc q) n high single =
+    let rest = top_single q (n / 32) (omega (arith, next_power (suc q), high)) single in
+    omega (arith, next_power q, rest)
+
 -- so what is left of some marks without the last was there before, and each that is missing was that one or was not marked
 module _ (marks h : ℕ) (is : IsLastMark marks h) where
   pub last_marked : 0 < cell marks (h - 1)
@@ -59,7 +74,8 @@ pub marks_fall : (marks h : ℕ) → IsLastMark marks h → marks - 32 ^ (h - 1)
 marks_fall marks h is = omega (arith, is.low, power_some (h - 1))
 
 -- the last mark is found by the leading zeros
-pub last_by_zeros : (marks zeros : ℕ) → 0 < marks → marks < 2 ^ 30 → zeros ≡ count_leading_zeros 64 marks → IsLastMark marks ((63 - zeros) / 5 + 1)
+pub last_by_zeros : (marks zeros : ℕ) → 0 < marks → marks < 2 ^ 30 → zeros ≡ count_leading_zeros 64 marks
+    → IsLastMark marks ((63 - zeros) / 5 + 1)
 last_by_zeros marks zeros some small is =
     let top = leading_top 64 marks some (omega (arith, small)) in
     let q = (63 - zeros) / 5 in
@@ -73,24 +89,59 @@ last_by_zeros marks zeros some small is =
       first = omega arith;
       last = elim (cases_lt q 6) [
         | inl less ↦ omega (arith, less)
-        | inr many ↦ absurd (let power : 2 ^ 30 ≤ 2 ^ (5 * q) = pow_mono {i = 30} (omega (arith, many)) in omega (arith, power, pow_five q, low, small))
+        | inr many ↦ absurd (let power : 2 ^ 30 ≤ 2 ^ (5 * q) = pow_mono {i = 30} (omega (arith, many)) in omega
+            (arith, power, pow_five q, low, small))
       ];
       low = rw at low;
       high = rw at high;
     }
 
--- and is worth so much
-pub last_is_worth : (marks q : ℕ) → marks < 2 ^ 30 → IsLastMark marks (q + 1) → 1 * 2 ^ (5 * q) % 2 ^ 64 ≡ 32 ^ q
-last_is_worth marks q small is =
+-- they are where it begins
+pub last_begins : (marks zeros : ℕ) → 0 < marks → AreMarks marks → zeros ≡ count_leading_zeros 64 marks
+    → BeginsHouse (63 - zeros)
+last_begins marks zeros some are is =
+    let top = leading_top 64 marks some (omega (arith, are.small)) in
+    let q = (63 - zeros) / 5 in
     let at : q + 1 - 1 ≡ q = omega arith in
-    let low : 32 ^ q ≤ marks = rw at at is.low in
-    omega (arith, low, small, pow_five q)
+    let last = last_by_zeros marks zeros some are.small is in
+    let few = top_single q marks (rw at at last.high) (are.single q) in
+    let place : 63 - zeros ≡ top.0 = omega (arith, is, top.1) in
+    let whole : 5 * q ≡ 63 - zeros = elim (cases_lt (5 * q) (63 - zeros)) [
+      | inl less ↦ absurd (let power : 2 ^ suc (5 * q) ≤ 2 ^ top.0 = pow_mono {i = suc (5 * q)} (omega (arith, less, place)) in
+          omega (arith, power, pow_five q, top.2, few))
+      | inr same ↦ omega (arith, same)
+    ] in
+    record { whole = ap (λ n. 5 * n) at ∙ whole; last = omega (arith, whole, last.last) }
+
+-- and worth so much
+pub last_is_worth : (marks bit : ℕ) → marks < 2 ^ 30 → IsLastMark marks (bit / 5 + 1) → BeginsHouse bit →
+    1 * 2 ^ bit % 2 ^ 64 ≡ 32 ^ (bit / 5 + 1 - 1)
+last_is_worth marks bit small is begins =
+    let power = ap (λ n. 2 ^ n) begins.whole in
+    omega (arith, is.low, small, pow_five (bit / 5 + 1 - 1), power)
+
+-- the others are marks still
+pub marks_fewer : (marks h : ℕ) → AreMarks marks → IsLastMark marks h → AreMarks (marks - 32 ^ (h - 1))
+marks_fewer marks h are is = record {
+  small = omega (arith, are.small);
+  single = λ i. elim (cases_eq i (h - 1)) [
+    | inl same ↦ rw same (omega (arith, top_less (h - 1) marks is.low is.high, are.single (h - 1)))
+    | inr other ↦ rw (others_stay (h - 1) i marks is.low is.high other) (are.single i)
+  ];
+}
 
 -- cells past a small row are empty
 pub cell_past : (k i n : ℕ) → n < 32 ^ k → k ≤ i → cell n i ≡ 0
 cell_past zero i n small past = let none : n ≡ 0 = omega (arith, small) in ap (λ j. cell j i) none ∙ cell_none i
 cell_past (suc k) zero n small past = absurd (omega (arith, past))
 cell_past (suc k) (suc i) n small past = cell_past k i (n / 32) (omega (arith, next_power k, small)) (omega (arith, past))
+
+-- six cells with one at most are marks
+pub six_marks : (n : ℕ) → n < 2 ^ 30 → ((i : ℕ) → i < 6 → cell n i ≤ 1) → AreMarks n
+six_marks n small single = record {
+  small = small;
+  single = λ i. elim (cases_lt i 6) [ inl inside ↦ single i inside | inr past ↦ omega (arith, cell_past 6 i n small past) ];
+}
 
 -- ---- the cells of rows
 pub cell_of_row : (xs : List ℕ) (i : ℕ) → sum xs ≤ 31 → cell (number_of xs) i ≡ get_or xs i 0
@@ -192,19 +243,22 @@ one_ending x d = elim (cases_eq x d) [
       let marked : bit_xor (min 1 (bit_xor x d)) 1 ≡ 1 = rw none refl in
       (λ some. same, λ is. omega (arith, marked))
   | inr other ↦
-      let some : 0 < bit_xor x d = elim (cases_eq (bit_xor x d) 0) [ inl none ↦ absurd (other (xor_apart x d none)) | inr more ↦ omega (arith, more) ] in
+      let some : 0 < bit_xor x d = elim (cases_eq (bit_xor x d) 0)
+      [ inl none ↦ absurd (other (xor_apart x d none)) | inr more ↦ omega (arith, more) ] in
       let full : min 1 (bit_xor x d) ≡ 1 = omega (arith, some) in
       let none : bit_xor (min 1 (bit_xor x d)) 1 ≡ 0 = rw full refl in
       (λ marked. absurd (omega (arith, none, marked)), λ is. absurd (other is))
 ]
 
 -- the marks of a row of m cells, by what was found of all of them at once
-module _ (f d e m n i : ℕ) (few : m ≤ 6) (d_is : d ≡ distances m) (e_is : e ≡ each m 1) (f_is : cell f i ≡ min 1 (cell (bit_xor n d) i)) where
+module _ (f d e m n i : ℕ) (few : m ≤ 6) (d_is : d ≡ distances m) (e_is : e ≡ each m 1)
+    (f_is : cell f i ≡ min 1 (cell (bit_xor n d) i)) where
   ending_cell : cell (bit_xor f e) i ≡ bit_xor (min 1 (bit_xor (cell n i) (m - i))) (cell (each m 1) i)
   ending_cell =
       let compared : cell (bit_xor n d) i ≡ bit_xor (cell n i) (m - i) =
       cell_xor i n d ∙ ap (λ j. bit_xor (cell n i) j) (ap (λ k. cell k i) d_is ∙ cell_of_distances m i few) in
-      cell_xor i f e ∙ ap (λ k. bit_xor (cell f i) (cell k i)) e_is ∙ ap (λ j. bit_xor j (cell (each m 1) i)) (f_is ∙ ap (λ j. min 1 j) compared)
+      cell_xor i f e ∙ ap (λ k. bit_xor (cell f i) (cell k i)) e_is
+      ∙ ap (λ j. bit_xor j (cell (each m 1) i)) (f_is ∙ ap (λ j. min 1 j) compared)
 
   pub ending_marked : i < m → (0 < cell (bit_xor f e) i) ↔ (cell n i + i ≡ m)
   ending_marked inside =
@@ -231,8 +285,10 @@ module _ (f d e m n i : ℕ) (few : m ≤ 6) (d_is : d ≡ distances m) (e_is : 
 pub one_other : (x f e : ℕ) → f ≡ min 1 x → e ≤ 1 → (0 < e → 0 < x) → (0 < bit_xor f e) ↔ ((0 < x) × ¬ (0 < e))
 one_other x f e f_is single within = elim (cases_eq e 0) [
   | inl none ↦
-      let is : bit_xor f e ≡ f = ap (λ k. bit_xor f k) none ∙ xor_zero_r f in
-      (λ some. (omega (arith, is, some, f_is), λ marked. omega (arith, none, marked)), λ both. let some = both.0 in omega (arith, is, some, f_is))
+      let is : bit_xor f e ≡ f = ap (λ k. bit_xor f k) none ∙ xor_zero_r f in (
+        λ some. (omega (arith, is, some, f_is), λ marked. omega (arith, none, marked)),
+        λ both. let some = both.0 in omega (arith, is, some, f_is),
+      )
   | inr some ↦
       let full : f ≡ 1 = let has = within (omega (arith, some)) in omega (arith, f_is, has) in
       let one : e ≡ 1 = omega (arith, some, single) in

@@ -16,6 +16,11 @@ abbrev pub distances : ℕ → ℕ
 distances zero = 0
 distances (suc m) = distances m * 32 + suc m
 
+-- marks of some of six cells
+pub record AreMarks (marks : ℕ) : Type 0 where
+  pub small : marks < 2 ^ 30
+  pub single : (i : ℕ) → cell marks i ≤ 1
+
 -- house h is the last one that is marked
 pub record IsLastMark (marks h : ℕ) : Type 0 where
   pub first : 1 ≤ h

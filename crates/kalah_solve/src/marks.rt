@@ -1,10 +1,10 @@
-//! Marks of houses: a number with five bits for each house of a row, house 1 lowest, which are 1 if the house is marked and else 0.
+//! Marks of houses: a number with five bits for each house of a row, house 1 lowest, which are 1 if the house is marked, otherwise 0.
 ghost use Rattle.std.specs.Prelude.{◌≡◌, ◌↔◌, ◌+◌, ◌-◌, ◌≤◌, ◌<◌, ◌^◌, ℕ, min, length, slice_index};
 ghost use Rattle.kalah_rules.specs.Position.{IsWithinHouses};
 ghost use Rattle.kalah_solve.specs.Search.Tried.{EndsInStore};
-ghost use Rattle.kalah_solve.specs.RowMarks.{cell, each, distances, IsLastMark};
+ghost use Rattle.kalah_solve.specs.RowMarks.{cell, each, distances, AreMarks, IsLastMark};
 
-use kalah_rules::Houses;
+use kalah_rules::{House, Houses};
 
 // Each house of a row is marked.
 const ONE_EACH: u64 = 0x210_8421;
@@ -57,7 +57,7 @@ pub(crate) fn ending_in_store(row: u64, m: u8) -> u64
 /// Returns the mover's houses that have seeds, marked.
 pub(crate) fn filled_houses(houses: &Houses) -> u64
     ensures marked { (i : ℕ) → (0 < cell result i) ↔ (0 < slice_index houses.now.own i) }
-    ensures small { result < 2 ^ 30 }
+    ensures marks { AreMarks result }
     ensures limits { IsWithinHouses houses.now }
 {
     filled(houses.own_row())
@@ -66,7 +66,7 @@ pub(crate) fn filled_houses(houses: &Houses) -> u64
 /// Returns the mover's houses whose last seed would fall into the store without a lap, marked.
 pub(crate) fn again_houses(houses: &Houses) -> u64
     ensures marked { (i : ℕ) → (0 < cell result i) ↔ ((i < length houses.now.own) × EndsInStore houses.now (i + 1)) }
-    ensures small { result < 2 ^ 30 }
+    ensures marks { AreMarks result }
     ensures limits { IsWithinHouses houses.now }
 {
     ending_in_store(houses.own_row(), houses.m())
@@ -75,7 +75,7 @@ pub(crate) fn again_houses(houses: &Houses) -> u64
 /// Returns the mover's other houses that have seeds, marked.
 pub(crate) fn other_houses(houses: &Houses) -> u64
     ensures marked { (i : ℕ) → (0 < cell result i) ↔ ((0 < slice_index houses.now.own i) × ¬ EndsInStore houses.now (i + 1)) }
-    ensures small { result < 2 ^ 30 }
+    ensures marks { AreMarks result }
     ensures limits { IsWithinHouses houses.now }
 {
     let row = houses.own_row();
@@ -83,12 +83,12 @@ pub(crate) fn other_houses(houses: &Houses) -> u64
 }
 
 /// Returns the last marked house, and the marks without it.
-pub(crate) fn split_last(marks: u64) -> (u8, u64)
+pub(crate) fn split_last(marks: u64) -> (House, u64)
     requires some { 0 < marks }
-    requires small { marks < 2 ^ 30 }
+    requires marks { AreMarks marks }
     ensures last { IsLastMark marks result.0 }
     ensures rest { result.1 ≡ marks - 32 ^ (result.0 - 1) }
 {
-    let place = (63 - marks.leading_zeros()) / 5;
-    (place as u8 + 1, marks - (1 << (5 * place)))
+    let bit = 63 - marks.leading_zeros();
+    (House::at(bit as u8), marks - (1 << bit))
 }

@@ -51,7 +51,7 @@ impl<A: Allocator + Clone> Solver<A> {
         Ok(Solver { search })
     }
 
-    /// Returns what the position is worth to the player to move: the final margin of a game that is over, and else the margin
+    /// Returns what the position is worth to the player to move: the final margin of a game that is over, otherwise the margin
     /// of best play with the lowest house that attains it. What the table learns on the way is kept for later
     /// positions; if there is no memory for an entry, it is left out.
     pub fn solve(&mut self, board: &Board) -> Verdict

@@ -21,7 +21,7 @@ impl Board {
         self.own(h) > 0
     }
 
-    /// Returns the mover's houses that may be moved, in rising order: those that hold seeds, or none if the game is over.
+    /// Returns the mover's houses that may be moved, in ascending order: those that hold seeds, or none if the game is over.
     pub fn legal(&self) -> Moves
         ensures { result ≡ legal_houses self.now }
     {

@@ -3,6 +3,7 @@ ghost use Rattle.std.specs.Prelude.{◌≡◌, ◌+◌, ◌-◌, ◌*◌, ◌/�
 ghost use Rattle.kalah_rules.specs.Key.{number_of, cells, rule_bit};
 ghost use Rattle.kalah_rules.specs.Packed.{ones, ones_up_to};
 
+use crate::houses::house::House;
 use crate::rule::Rule;
 
 // The factor of the other player's houses in a key: they begin at bit 30.
@@ -69,24 +70,25 @@ pub(super) fn rule_of(bit: u64) -> Rule
     }
 }
 
-// Returns the number of seeds in house `i` of a row.
-pub(super) fn seeds_at(row: u64, i: u8) -> u64
-    requires low { 1 ≤ i }
-    requires high { i ≤ 6 }
-    ensures { result ≡ row / 32 ^ (i - 1) % 32 }
+// Returns the number of seeds in a house of a row.
+#[inline(always)]
+pub(super) fn seeds_at(row: u64, house: House) -> u64
+    ensures { result ≡ row / 32 ^ (house - 1) % 32 }
 {
-    (row >> (5 * (i - 1))) % 32
+    (row >> house.bit()) % 32
 }
 
-// Returns a row with `seeds` seeds in house `i`, and none elsewhere.
-pub(super) fn alone(i: u8, seeds: u64) -> u64
-    requires low { 1 ≤ i }
-    requires high { i ≤ 6 }
-    requires few { seeds < 32 }
-    ensures { result ≡ 32 ^ (i - 1) * seeds }
+// Returns a row with `seeds` seeds in this house, and none elsewhere.
+#[inline(always)]
+pub(super) fn alone(house: House, seeds: u64) -> u64
+    requires { seeds < 32 }
+    ensures { result ≡ 32 ^ (house - 1) * seeds }
 {
-    seeds << (5 * (i - 1))
+    seeds << house.bit()
 }
+
+// One seed in each of six houses.
+const ONE_EACH: u64 = 0x210_8421;
 
 static ONES: [u64; 7] = [0, 1, 33, 1057, 33825, 1082401, 34636833];
 
@@ -97,6 +99,15 @@ pub(super) fn one_each(n: u8) -> u64
     ensures small { result ≤ 34636833 }
 {
     ONES[n as usize]
+}
+
+// Returns a row with one seed in each house up to this one.
+#[inline(always)]
+pub(super) fn one_each_to(house: House) -> u64
+    ensures value { result ≡ ones house }
+    ensures small { result ≤ 34636833 }
+{
+    ONE_EACH % (32 << house.bit())
 }
 
 // Returns a row of `m` houses with one seed in each house up to `x`.

@@ -7,7 +7,8 @@ ghost use Rattle.kalah_rules.specs.Sowing.{sown, captures, captured, after, is_a
 ghost use Rattle.kalah_rules.specs.Sowings.{IsSowing, last_place};
 
 use crate::houses::Houses;
-use crate::houses::numbers::{OTHER_ROW, SIDE, alone, one_each, seeds_at};
+use crate::houses::house::House;
+use crate::houses::numbers::{OTHER_ROW, SIDE, alone, one_each, one_each_to, seeds_at};
 use crate::houses::sowings::{Sowing, Sowings};
 use crate::rule::Rule;
 use crate::step::HousesStep;
@@ -40,14 +41,14 @@ impl Houses {
     ghost use Rattle.kalah_rules.specs.Packed.{Shows};
     ghost use Rattle.kalah_rules.specs.HousesStep.{houses_step};
 
-    // Sows house `h`.
+    // Sows this house.
     #[inline(always)]
-    fn sow(&self, h: u8, sowing: Sowing) -> RowNumbers
-        requires holds { HoldsSeeds (bare self.now) h }
-        requires sowing { IsSowing (length self.now.own) h (seeds self.now.own h) sowing }
-        ensures { Shows result (sown (bare self.now) h) }
+    fn sow(&self, house: House, sowing: Sowing) -> RowNumbers
+        requires holds { HoldsSeeds (bare self.now) house }
+        requires sowing { IsSowing (length self.now.own) house (seeds self.now.own house) sowing }
+        ensures { Shows result (sown (bare self.now) house) }
     {
-        let lifted = self.key % SIDE - alone(h, seeds_at(self.own_row(), h));
+        let lifted = self.key % SIDE - alone(house, seeds_at(self.own_row(), house));
         RowNumbers {
             rows: lifted + sowing.gains,
             store: sowing.store as u64,
@@ -56,12 +57,12 @@ impl Houses {
 
     // Returns the rows after the capture that the last seed makes in its house, which begins at bit `end`, if it makes one.
     #[inline(always)]
-    fn capture(&self, h: u8, rows: RowNumbers, end: u8) -> RowNumbers
-        requires holds { HoldsSeeds (bare self.now) h }
-        requires shows { Shows rows (sown (bare self.now) h) }
-        requires end { end ≡ 5 * (last_place (length self.now.own) h (seeds self.now.own h) - 1) }
-        requires own { last_place (length self.now.own) h (seeds self.now.own h) ≤ length self.now.own }
-        ensures { Shows result (captured (sown (bare self.now) h) (Some (last_place (length self.now.own) h (seeds self.now.own h)))) }
+    fn capture(&self, house: House, rows: RowNumbers, end: u8) -> RowNumbers
+        requires holds { HoldsSeeds (bare self.now) house }
+        requires shows { Shows rows (sown (bare self.now) house) }
+        requires end { end ≡ 5 * (last_place (length self.now.own) house (seeds self.now.own house) - 1) }
+        requires own { last_place (length self.now.own) house (seeds self.now.own house) ≤ length self.now.own }
+        ensures { Shows result (captured (sown (bare self.now) house) (Some (last_place (length self.now.own) house (seeds self.now.own house)))) }
     {
         let across = 25 + 5 * self.m() - end;
         let here = (rows.rows >> end) % 32;
@@ -72,31 +73,31 @@ impl Houses {
         }
     }
 
-    // Returns the rows after the move of house `h`.
+    // Returns the rows after the move of this house.
     #[inline(always)]
-    fn after(&self, h: u8, sowing: Sowing) -> RowNumbers
-        requires holds { HoldsSeeds (bare self.now) h }
-        requires sowing { IsSowing (length self.now.own) h (seeds self.now.own h) sowing }
-        ensures { Shows result (after (bare self.now) h) }
+    fn after(&self, house: House, sowing: Sowing) -> RowNumbers
+        requires holds { HoldsSeeds (bare self.now) house }
+        requires sowing { IsSowing (length self.now.own) house (seeds self.now.own house) sowing }
+        ensures { Shows result (after (bare self.now) house) }
     {
-        let rows = self.sow(h, sowing);
+        let rows = self.sow(house, sowing);
         if sowing.end < 5 * self.m() {
-            self.capture(h, rows, sowing.end)
+            self.capture(house, rows, sowing.end)
         } else {
             rows
         }
     }
 
-    /// Plays the mover's house `h`, which must be legal and whose last seed must fall into the store without a lap. The result is that
+    /// Plays a house of the mover, which must be legal and whose last seed must fall into the store without a lap. The result is that
     /// of `play`, computed with less work.
     #[inline(always)]
-    pub fn play_into_store(&self, h: u8) -> HousesStep
-        requires legal { Contains (legal_houses (bare self.now)) h }
-        requires ends { seeds self.now.own h + h ≡ length self.now.own + 1 }
-        ensures { result ≡ houses_step self.now h }
+    pub fn play_into_store(&self, house: House) -> HousesStep
+        requires legal { Contains (legal_houses (bare self.now)) house }
+        requires ends { seeds self.now.own house + house ≡ length self.now.own + 1 }
+        ensures { result ≡ houses_step self.now house }
     {
-        let lifted = self.key - alone(h, seeds_at(self.own_row(), h));
-        let key = lifted + (one_each(self.m()) - one_each(h));
+        let lifted = self.key - alone(house, seeds_at(self.own_row(), house));
+        let key = lifted + (one_each(self.m()) - one_each_to(house));
         let seeds = self.seeds - 1;
         if key % OTHER_ROW > 0 {
             return HousesStep::Again(1, Houses { key, seeds });
@@ -107,14 +108,14 @@ impl Houses {
         }
     }
 
-    // Returns the step of house `h`, from the rows after its move and whether it moves again.
+    // Returns the step of this house, from the rows after its move and whether it moves again.
     #[inline(always)]
-    fn step(&self, h: u8, rows: RowNumbers, again: bool) -> HousesStep
-        requires legal { Contains (legal_houses (bare self.now)) h }
-        requires rows { Shows rows (after (bare self.now) h) }
-        requires again { again ≡ is_again (bare self.now) h }
+    fn step(&self, house: House, rows: RowNumbers, again: bool) -> HousesStep
+        requires legal { Contains (legal_houses (bare self.now)) house }
+        requires rows { Shows rows (after (bare self.now) house) }
+        requires again { again ≡ is_again (bare self.now) house }
         requires limits { IsWithinHouses self.now }
-        ensures { result ≡ houses_step self.now h }
+        ensures { result ≡ houses_step self.now house }
     {
         let gained = rows.store as u8;
         let seeds = self.seeds - rows.store;
@@ -142,15 +143,15 @@ impl Houses {
         }
     }
 
-    // Plays house `h`, whose seeds are sown so.
+    // Plays this house, whose seeds are sown so.
     #[inline(always)]
-    fn play_as(&self, h: u8, sowing: Sowing) -> HousesStep
-        requires legal { Contains (legal_houses (bare self.now)) h }
-        requires sowing { IsSowing (length self.now.own) h (seeds self.now.own h) sowing }
-        ensures { result ≡ houses_step self.now h }
+    fn play_as(&self, house: House, sowing: Sowing) -> HousesStep
+        requires legal { Contains (legal_houses (bare self.now)) house }
+        requires sowing { IsSowing (length self.now.own) house (seeds self.now.own house) sowing }
+        ensures { result ≡ houses_step self.now house }
     {
         let again = sowing.end == 5 * self.m();
-        self.step(h, self.after(h, sowing), again)
+        self.step(house, self.after(house, sowing), again)
     }
 
     /// Plays the mover's house `h`, which must be legal.
@@ -164,15 +165,16 @@ impl Houses {
         requires { Contains (legal_houses (bare self.now)) h }
         ensures { result ≡ houses_step self.now h }
     {
-        self.play_as(h, Sowing::new(self.m(), h, self.own(h)))
+        let sowing = Sowing::new(self.m(), h, self.own(h));
+        self.play_as(House::new(h), sowing)
     }
 
-    /// Plays the mover's house `h`, which must be legal. The result is that of `play`, computed with less work.
+    /// Plays a house of the mover, which must be legal. The result is that of `play`, computed with less work.
     #[inline(always)]
-    pub fn play_by(&self, sowings: &Sowings, h: u8) -> HousesStep
-        requires { Contains (legal_houses (bare self.now)) h }
-        ensures { result ≡ houses_step self.now h }
+    pub fn play_by(&self, sowings: &Sowings, house: House) -> HousesStep
+        requires { Contains (legal_houses (bare self.now)) house }
+        ensures { result ≡ houses_step self.now house }
     {
-        self.play_as(h, sowings.get(self.m(), h, self.own(h)))
+        self.play_as(house, sowings.get(self.m(), house, self.own_in(house)))
     }
 }

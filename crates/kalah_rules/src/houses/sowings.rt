@@ -1,12 +1,14 @@
 //! How each house is sown, for each number of its seeds: its seeds are taken out of it, and a sowing is one addition to a key then.
-ghost use Rattle.std.specs.Prelude.{◌+◌, ◌/◌, ◌%◌, ◌<◌, ◌≤◌};
-ghost use Rattle.kalah_rules.specs.Sowings.{IsSowing};
+ghost use Rattle.std.specs.Prelude.{◌<◌, ◌≤◌, ℕ};
+ghost use Rattle.kalah_rules.specs.Sowings.{IsSowing, IsSowingCell};
 
+use crate::houses::house::House;
 use crate::houses::numbers::{OTHER_ROW, other_gains, own_gains};
 use std::marker::Model;
 
-// The number of cells of the table: 32 for each house of each side.
-const CELLS: usize = 1344;
+// The number of cells of the table. A house that begins at bit b has its 32 cells at row b + m - 1 on sides of m houses. So the sides of
+// 1 to 5 houses fill the bits of a house, and those of 6 have the rows of 1 house past its only one.
+const CELLS: usize = 992;
 
 /// How the seeds of one house are sown.
 #[derive(Clone, Copy)]
@@ -41,11 +43,9 @@ impl Sowing {
 }
 
 /// The sowings of all houses, by the number of houses a side and the number of seeds. A move by this table takes less work.
-#[derive(Clone, Drop)]
+#[derive(Drop)]
 pub struct Sowings {
-    gains: [u64; 1344],
-    stores: [u8; 1344],
-    ends: [u8; 1344],
+    cells: [Sowing; 992],
 }
 
 impl Model for Sowings {
@@ -55,59 +55,53 @@ impl Model for Sowings {
 
     ghost view = { λ _. tt };
 
-    ghost invariant = { λ s. AreSowings 1344 s.gains s.stores s.ends };
+    ghost invariant = { λ s. AreSowings 992 s.cells };
 }
 
-// Returns the sowing of cell `i`, if its house is one of the side.
+// Fills the cells of no house.
+const NO_SOWING: Sowing = Sowing {
+    gains: 0,
+    store: 0,
+    end: 0,
+};
+
+// Returns the sowing of cell `i`, if it is a house's.
 fn sowing_at(i: usize) -> Sowing
-    requires { i < 1344 }
-    ensures { i / 32 % 6 < i / 192 → IsSowing (i / 192) (i / 32 % 6 + 1) (i % 32) result }
+    requires { i < 992 }
+    ensures { (m h c : ℕ) → IsSowingCell m h c i → IsSowing m h c result }
 {
-    let m = (i / 192) as u8;
-    let h = (i / 32 % 6) as u8 + 1;
-    if h > m {
-        return Sowing {
-            gains: 0,
-            store: 0,
-            end: 0,
-        };
+    let row = (i / 32) as u8;
+    let count = (i % 32) as u8;
+    if row > 0 && row % 5 == 0 {
+        return Sowing::new(6, row / 5, count);
     }
-    Sowing::new(m, h, (i % 32) as u8)
+    let m = row % 5 + 1;
+    let h = row / 5 + 1;
+    if h > m {
+        return NO_SOWING;
+    }
+    Sowing::new(m, h, count)
 }
 
 impl Sowings {
     /// Computes the table.
     pub fn new() -> Sowings {
-        let mut gains = [0u64; 1344];
-        let mut stores = [0u8; 1344];
-        let mut ends = [0u8; 1344];
+        let mut cells = [NO_SOWING; 992];
         for i in 0..CELLS {
-            let sowing = sowing_at(i);
-            gains[i] = sowing.gains;
-            stores[i] = sowing.store;
-            ends[i] = sowing.end;
+            cells[i] = sowing_at(i);
         }
-        Sowings {
-            gains,
-            stores,
-            ends,
-        }
+        Sowings { cells }
     }
 
-    /// Returns how the `count` seeds of house `h` are sown, on sides of `m` houses.
+    /// Returns how the `count` seeds of a house are sown, on sides of `m` houses.
     #[inline(always)]
-    pub(super) fn get(&self, m: u8, h: u8, count: u8) -> Sowing
-        requires first { 1 ≤ h }
-        requires last { h ≤ m }
+    pub(super) fn get(&self, m: u8, house: House, count: u8) -> Sowing
+        requires last { house ≤ m }
         requires side { m ≤ 6 }
         requires few { count < 32 }
-        ensures { IsSowing m h count result }
+        ensures { IsSowing m house count result }
     {
-        let cell = 192 * m as usize + 32 * (h as usize - 1) + count as usize;
-        Sowing {
-            gains: self.gains[cell],
-            store: self.stores[cell],
-            end: self.ends[cell],
-        }
+        let row = m + house.bit() - 1;
+        self.cells[32 * row as usize + count as usize]
     }
 }

@@ -12,7 +12,8 @@ pub record IsHalf (z : ℤ) (half : ℕ) : Type 0 where
   pub low : pos (half + half) ≤ℤ int_max (pos 0) z
   pub high : z ≤ℤ pos (half + half + 1)
 
-module _ (window : Window) (n low high : ℕ) (is_low : IsHalf (window.lo +ℤ pos n) low) (is_high : IsHalf (window.hi +ℤ pos n +ℤ pos 1) high) where
+module _ (window : Window) (n low high : ℕ) (is_low : IsHalf (window.lo +ℤ pos n) low)
+    (is_high : IsHalf (window.hi +ℤ pos n +ℤ pos 1) high) where
   -- the shares of a window's ends are in order
   pub shares_ordered : low ≤ high
   shares_ordered = omega (arith, ints, clamps, window.ordered, is_low.low, is_high.high)

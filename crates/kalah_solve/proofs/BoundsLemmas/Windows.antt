@@ -19,7 +19,8 @@ known_answers lo hi z k ordered holds none = omega (arith, ints, clamps, ordered
 -- what the mover takes, raised and lowered to the shares that a window distinguishes, makes the worth in the window
 pub won_by_bounds : (a : Rows) (lo hi : ℤ) (n t : ℕ) (asked : SeedBounds) → IsWithinHouses a → n ≡ seeds_in_houses (bare a) →
     asked.least ≤ asked.most →
-    ((u : ℕ) → u ≤ n → within lo hi (pos (2 * max asked.least (min asked.most u)) -ℤ pos n) ≡ within lo hi (pos (2 * u) -ℤ pos n)) →
+    ((u : ℕ) → u ≤ n → within lo hi (pos (2 * max asked.least (min asked.most u)) -ℤ pos n) ≡ within lo hi
+    (pos (2 * u) -ℤ pos n)) →
     t ≡ max asked.least (min asked.most (won a)) → {answer : ℤ} →
     answer ≡ within lo hi (to_z w32 (of_z w32 (to_z w32 (of_z w32 (pos 2 *ℤ to_z w32 t)) -ℤ to_z w32 n))) →
     answer ≡ within lo hi (houses_worth a)

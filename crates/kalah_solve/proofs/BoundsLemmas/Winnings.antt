@@ -37,7 +37,8 @@ step_share a (Turn gained b) leads each =
     (gained + left, record { few = omega (arith, leads.kept); is = omega (arith, ints, leads.kept, on.1.few, on.1.is) })
 
 -- what houses are worth is the margin of some share of their seeds, by the moves left
-share_by : (n : ℕ) (a : Rows) → IsWithinHouses a → moves_left (bare a) < n → (t : ℕ) × IsShare (seeds_in_houses (bare a)) (houses_worth a) t
+share_by : (n : ℕ) (a : Rows) → IsWithinHouses a → moves_left (bare a) < n → (t : ℕ)
+    × IsShare (seeds_in_houses (bare a)) (houses_worth a) t
 share_by zero a w few = absurd (omega arith)
 share_by (suc n) a w few = elim (cases_Bool (is_over (bare a))) [
   | inl over ↦ (sum a.own, rw (worth_of_over (bare a) over) (record { few = omega arith; is = omega (arith, ints) }))
@@ -104,7 +105,8 @@ module _ (a : Rows) (w : IsWithinHouses a) where
   taken_most h has = omega (arith, ints, (taken_by_move h has).is, (taken_share a w).is, value_le_worth a h w has)
 
   -- and some move takes as many
-  pub taken_reached : is_over (bare a) ≡ false → (h : ℕ) × Contains (legal_houses (bare a)) h × (won_by_step (houses_step a h) ≡ won a)
+  pub taken_reached : is_over (bare a) ≡ false → (h : ℕ) × Contains (legal_houses (bare a)) h
+      × (won_by_step (houses_step a h) ≡ won a)
   taken_reached going =
       let at = worth_reached a w going in
       (at.0, at.1, omega (arith, ints, (taken_by_move at.0 at.1).is, (taken_share a w).is, at.2))

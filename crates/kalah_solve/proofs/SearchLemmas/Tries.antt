@@ -11,9 +11,9 @@ use Rattle.kalah_rules.specs.declared.step.HousesStep.TheVariants.{Turn}
 use Rattle.kalah_rules.proofs.Legal.{holds_legal, legal_holds}
 use Rattle.kalah_solve.specs.Bounds.Won.{won, won_by_step}
 use Rattle.kalah_solve.specs.Search.Tried.{IsSoftBound, WinsAtMost, EndsInStore, IsTurnOf, AreWaiting}
-use Rattle.kalah_solve.specs.RowMarks.{cell, IsLastMark}
+use Rattle.kalah_solve.specs.RowMarks.{cell, AreMarks, IsLastMark}
 use Rattle.kalah_solve.proofs.SolverLemmas.StepWorths.{leads_by}
-use Rattle.kalah_solve.proofs.RowMarks.{last_marked, left_before, gone_before}
+use Rattle.kalah_solve.proofs.RowMarks.{last_marked, left_before, gone_before, marks_fewer}
 use Rattle.kalah_solve.proofs.BoundsLemmas.Winnings.{taken_most, taken_reached}
 
 -- the meaning of a passed test, and of a failed one
@@ -34,20 +34,25 @@ bound_up_to bar number bound is = elim (cases_lt bound bar) [
 ]
 
 -- the most of some bounds that fall short falls short too, unless it is 0
-pub low_more : (bar most bound new : ℕ) → (bar ≤ most → most ≡ 0) → bound < bar → new ≡ max most bound → bar ≤ new → new ≡ 0
+pub low_more : (bar most bound new : ℕ) → (bar ≤ most → most ≡ 0) → bound < bar → new ≡ max most bound → bar ≤ new
+    → new ≡ 0
 low_more bar most bound new low short is enough = elim (cases_lt most bar) [
   | inl less ↦ absurd (omega (arith, is, short, less, enough))
   | inr more ↦ absurd (omega (arith, short, more, low more))
 ]
 
 -- what is left of all is bounded by what the bound leaves
-pub bound_left : (bar all seeds gained number bound : ℕ) → all ≡ gained + seeds → number ≤ seeds → gained < bar → bar ≤ all →
+pub bound_left : (bar all seeds gained number bound : ℕ) → all ≡ gained + seeds → number ≤ seeds → gained < bar
+    → bar ≤ all →
     IsSoftBound (all - bar + 1) number bound → IsSoftBound bar (gained + (seeds - number)) (all - bound)
 bound_left bar all seeds gained number bound is few low high b = elim (cases_lt bound (all - bar + 1)) [
   | inl less ↦ let most = b.upper less in
       record { lower = λ enough. omega (arith, is, few, most, less, high); upper = λ short. absurd (omega (arith, short, less, high)) }
   | inr enough ↦ let least = b.lower (omega (arith, enough)) in
-      record { lower = λ reached. absurd (omega (arith, reached, enough, low, is, least, few)); upper = λ short. omega (arith, is, few, least) }
+      record {
+        lower = λ reached. absurd (omega (arith, reached, enough, low, is, least, few));
+        upper = λ short. omega (arith, is, few, least);
+      }
 ]
 
 -- a house with seeds may be moved, if the game goes on
@@ -67,11 +72,13 @@ turn_bound : (a : Rows) (bar h priority bound : ℕ) (b : Rows) → IsTurnOf a h
 turn_bound a bar h priority bound b turn is = rw turn.step is
 
 pub turn_enough : (a : Rows) (bar h priority bound : ℕ) (b : Rows) → IsWithinHouses a → IsTurnOf a h priority b →
-    IsSoftBound bar (seeds_in_houses (bare a) - seeds_in_houses (bare b) + (seeds_in_houses (bare b) - won b)) bound → bar ≤ bound → bound ≤ won a
+    IsSoftBound bar (seeds_in_houses (bare a) - seeds_in_houses (bare b) + (seeds_in_houses (bare b) - won b)) bound → bar ≤ bound
+    → bound ≤ won a
 turn_enough a bar h priority bound b w turn is = move_enough a bar h bound w turn.legal (turn_bound a bar h priority bound b turn is)
 
 pub turn_at_most : (a : Rows) (bar h priority bound : ℕ) (b : Rows) → IsTurnOf a h priority b →
-    IsSoftBound bar (seeds_in_houses (bare a) - seeds_in_houses (bare b) + (seeds_in_houses (bare b) - won b)) bound → bound < bar → WinsAtMost a bound h
+    IsSoftBound bar (seeds_in_houses (bare a) - seeds_in_houses (bare b) + (seeds_in_houses (bare b) - won b)) bound → bound < bar
+    → WinsAtMost a bound h
 turn_at_most a bar h priority bound b turn is short = (turn_bound a bar h priority bound b turn is).upper short
 
 -- a turn that was played waits
@@ -103,19 +110,20 @@ pub record AreTurns (a : Rows) (priorities : List ℕ) (turns : List Rows) : Typ
 turns_more : (a : Rows) (h : ℕ) (priorities : List ℕ) (turns : List Rows) (v : ℕ) (b : Rows) → AreTurns a priorities turns →
     length turns ≡ 6 → 1 ≤ h → h ≤ 6 → IsTurnOf a h v b →
     AreTurns a (slice_set priorities (h - 1) v) (slice_set turns (h - 1) b)
-turns_more a h priorities turns v b are places low last is = let inside : h - 1 < length turns = omega (arith, places, low, last) in record {
-  cells = length-set priorities (h - 1) v ∙ are.cells;
-  each = λ k high d. elim (cases_eq k (h - 1)) [
-    | inl same ↦
-        let at : h ≡ k + 1 = omega arith in
-        let place : h - 1 < length priorities = omega (arith, are.cells, low, last) in
-        rw (same, get_or-set_same priorities (h - 1) v 0 place, get_or-set_same turns (h - 1) b d inside)
-        (subst (λ i. IsTurnOf a i v b) (at ∙ ap (λ i. i + 1) same) is)
-    | inr other ↦
-        rw (get_or-set_other priorities (h - 1) k v 0 other, get_or-set_other turns (h - 1) k b d other)
-        (are.each k (rw (get_or-set_other priorities (h - 1) k v 0 other) at high) d)
-  ];
-}
+turns_more a h priorities turns v b are places low last is = let inside : h - 1 < length turns =
+    omega (arith, places, low, last) in record {
+      cells = length-set priorities (h - 1) v ∙ are.cells;
+      each = λ k high d. elim (cases_eq k (h - 1)) [
+        | inl same ↦
+            let at : h ≡ k + 1 = omega arith in
+            let place : h - 1 < length priorities = omega (arith, are.cells, low, last) in
+            rw (same, get_or-set_same priorities (h - 1) v 0 place, get_or-set_same turns (h - 1) b d inside)
+            (subst (λ i. IsTurnOf a i v b) (at ∙ ap (λ i. i + 1) same) is)
+        | inr other ↦
+            rw (get_or-set_other priorities (h - 1) k v 0 other, get_or-set_other turns (h - 1) k b d other)
+            (are.each k (rw (get_or-set_other priorities (h - 1) k v 0 other) at high) d)
+      ];
+    }
 
 -- one that waits no more
 turns_fewer : (a : Rows) (priorities : List ℕ) (turns : List Rows) (at : ℕ) → AreTurns a priorities turns → at < 6 →
@@ -126,7 +134,8 @@ turns_fewer a priorities turns at are place = let inside : at < length prioritie
     | inl same ↦
         let none : get_or (slice_set priorities at 0) k 0 ≡ 0 = rw same (get_or-set_same priorities at 0 0 inside) in
         absurd (omega (arith, none))
-    | inr other ↦ λ d. rw (get_or-set_other priorities at k 0 0 other) (are.each k (rw (get_or-set_other priorities at k 0 0 other) at high) d)
+    | inr other ↦ λ d. rw (get_or-set_other priorities at k 0 0 other)
+        (are.each k (rw (get_or-set_other priorities at k 0 0 other) at high) d)
   ];
 }
 
@@ -161,12 +170,14 @@ module _ (a : Rows) (most marks h : ℕ) (priorities : List ℕ) (turns : List R
       | inr other ↦
           let first = (legal_holds (bare a) i may).first in
           let place : i - 1 ≢ h - 1 = omega (arith, first, last.first, other) in
-          is.others i may (gone_before marks h last (i - 1) place gone) (rw (get_or-set_other priorities (h - 1) (i - 1) v 0 place) at none) apart
+          is.others i may (gone_before marks h last (i - 1) place gone)
+          (rw (get_or-set_other priorities (h - 1) (i - 1) v 0 place) at none) apart
     ];
   }
 
   -- or takes at most `bound`
-  pub played_bound : (bound new : ℕ) → WinsAtMost a bound h → new ≡ max most bound → ArePlayed a new (marks - 32 ^ (h - 1)) priorities turns
+  pub played_bound : (bound new : ℕ) → WinsAtMost a bound h → new ≡ max most bound
+      → ArePlayed a new (marks - 32 ^ (h - 1)) priorities turns
   played_bound bound new takes new_is = record {
     waiting = is.waiting;
     places = is.places;
@@ -180,7 +191,8 @@ module _ (a : Rows) (most marks h : ℕ) (priorities : List ℕ) (turns : List R
   }
 
 -- before any was played
-pub played_none : (a : Rows) (most marks : ℕ) (priorities : List ℕ) (turns : List Rows) → length priorities ≡ 8 → length turns ≡ 6 →
+pub played_none : (a : Rows) (most marks : ℕ) (priorities : List ℕ) (turns : List Rows) → length priorities ≡ 8
+    → length turns ≡ 6 →
     ((k : ℕ) → get_or priorities k 0 ≡ 0) →
     ((i : ℕ) → (0 < cell marks i) ↔ ((0 < get_or a.own i 0) × ¬ EndsInStore a (i + 1))) → ArePlayed a most marks priorities turns
 played_none a most marks priorities turns cells places empty marked = record {
@@ -204,7 +216,8 @@ marked_legal a i w going some = elim (cases_lt i (length a.own)) [
 ]
 
 -- and so may each that ends in the store
-pub ending_legal : (a : Rows) (i : ℕ) → IsWithinHouses a → is_over (bare a) ≡ false → i < length a.own → EndsInStore a (i + 1) →
+pub ending_legal : (a : Rows) (i : ℕ) → IsWithinHouses a → is_over (bare a) ≡ false → i < length a.own
+    → EndsInStore a (i + 1) →
     Contains (legal_houses (bare a)) (i + 1)
 ending_legal a i w going inside ends = filled_legal a (i + 1) going (omega arith) (omega (arith, inside)) (omega (arith, inside, ends))
 
@@ -221,7 +234,7 @@ each_last P marks h last each =
 
 -- marked houses that may all be moved
 pub record MayMove (a : Rows) (marks : ℕ) : Type 0 where
-  pub small : marks < 2 ^ 30
+  pub are : AreMarks marks
   pub legal : (i : ℕ) → 0 < cell marks i → Contains (legal_houses (bare a)) (i + 1)
 
 -- the last of them
@@ -231,13 +244,14 @@ last_legal {a} {marks} {h} may last = each_last (Contains (legal_houses (bare a)
 -- and those before it
 pub moves_fewer : {a : Rows} {marks h : ℕ} → MayMove a marks → IsLastMark marks h → MayMove a (marks - 32 ^ (h - 1))
 moves_fewer {a} {marks} {h} may last = record {
-  small = omega (arith, may.small);
+  are = marks_fewer marks h may.are last;
   legal = each_fewer (Contains (legal_houses (bare a))) marks h last may.legal;
 }
 
 -- each house that ends in the store is still marked, or takes at most `most` seeds
 abbrev pub AreAgain : Rows → ℕ → ℕ → Type 0
-AreAgain a most marks = (h : ℕ) → Contains (legal_houses (bare a)) h → EndsInStore a h → cell marks (h - 1) ≡ 0 → WinsAtMost a most h
+AreAgain a most marks = (h : ℕ) → Contains (legal_houses (bare a)) h → EndsInStore a h → cell marks (h - 1) ≡ 0
+    → WinsAtMost a most h
 
 pub again_none : (a : Rows) (most marks : ℕ) → ((i : ℕ) → (0 < cell marks i) ↔ ((i < length a.own) × EndsInStore a (i + 1))) →
     AreAgain a most marks
@@ -277,8 +291,10 @@ turn_at {a} {most} {priorities} {turns} {priority} w untried found some =
     record { place = omega (arith, same, holds.last, w.at_most_six); priority = rw same here; turn = rw same turn }
 
 -- before any was tried, but those that end in the store
-pub untried_first : (a : Rows) (bar again others : ℕ) (priorities : List ℕ) (turns : List Rows) (new : ℕ) → length priorities ≡ 8 →
-    AreWaiting a bar others priorities turns → ((h : ℕ) → Contains (legal_houses (bare a)) h → EndsInStore a h → WinsAtMost a again h) →
+pub untried_first : (a : Rows) (bar again others : ℕ) (priorities : List ℕ) (turns : List Rows) (new : ℕ)
+    → length priorities ≡ 8 →
+    AreWaiting a bar others priorities turns → ((h : ℕ) → Contains (legal_houses (bare a)) h → EndsInStore a h
+    → WinsAtMost a again h) →
     others < bar → new ≡ max again others → AreUntried a new priorities turns
 untried_first a bar again others priorities turns new cells are ends short new_is = record {
   waiting = record { cells = cells; each = are.waiting };
@@ -289,7 +305,8 @@ untried_first a bar again others priorities turns new cells are ends short new_i
 }
 
 -- one move more was tried
-pub untried_fewer : (a : Rows) (most : ℕ) (priorities : List ℕ) (turns : List Rows) (at bound new : ℕ) → AreUntried a most priorities turns →
+pub untried_fewer : (a : Rows) (most : ℕ) (priorities : List ℕ) (turns : List Rows) (at bound new : ℕ)
+    → AreUntried a most priorities turns →
     at < 6 → WinsAtMost a bound (at + 1) → new ≡ max most bound → AreUntried a new (slice_set priorities at 0) turns
 untried_fewer a most priorities turns at bound new is place takes new_is = record {
   waiting = turns_fewer a priorities turns at is.waiting place;
@@ -303,7 +320,8 @@ untried_fewer a most priorities turns at bound new is place takes new_is = recor
 }
 
 -- if no priority is left, best play takes at most as many
-pub none_untried : (a : Rows) (most : ℕ) (priorities : List ℕ) (turns : List Rows) (highest : ℕ) → IsWithinHouses a → is_over (bare a) ≡ false →
+pub none_untried : (a : Rows) (most : ℕ) (priorities : List ℕ) (turns : List Rows) (highest : ℕ) → IsWithinHouses a
+    → is_over (bare a) ≡ false →
     AreUntried a most priorities turns → ((k : ℕ) → get_or priorities k 0 ≤ highest) → highest ≡ 0 → won a ≤ most
 none_untried a most priorities turns highest w going is above none =
     all_at_most a most w going (λ h has. is.tried h has (let below = above (h - 1) in omega (arith, below, none)))

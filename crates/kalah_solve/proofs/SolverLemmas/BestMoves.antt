@@ -28,7 +28,8 @@ best_move p even = record { best_play = worth_is_best p even; begins = (best_hou
 -- against an opponent who plays best, the first move of a game gets no more than its value
 pub first_bound : {mine theirs : Way} {p : Position} {houses : List ℕ} {final : Position} → KeepsRules mine → KeepsRules theirs →
     HasEqualSides p → is_over p ≡ false →
-    PlaysBest theirs → Game mine theirs p houses final → (h : ℕ) × Contains (mine p) h × (final_margin final ≤ℤ value_of_move p h)
+    PlaysBest theirs → Game mine theirs p houses final → (h : ℕ) × Contains (mine p) h
+    × (final_margin final ≤ℤ value_of_move p h)
 first_bound m t even going best (is_at_end over) = absurd (cc)
 first_bound {p = p} m t even going best (moves_on {h = h} going' has again rest) =
     let value = value_going_on p h again in
@@ -43,11 +44,13 @@ first_bound {p = p} m t even going best (passes_turn {h = h} {final = final} goi
     )
 
 -- so a best move is legal, and attains the worth
-pub best_moves_legal : (p : Position) (h : ℕ) (v : ℤ) → HasEqualSides p → is_over p ≡ false → IsBestMove p h v → Contains (legal_houses p) h
+pub best_moves_legal : (p : Position) (h : ℕ) (v : ℤ) → HasEqualSides p → is_over p ≡ false → IsBestMove p h v
+    → Contains (legal_houses p) h
 best_moves_legal p h v even going is = rw (← is.begins.2) (is.begins.1.moves p even going)
 
 -- and attains the worth
-pub best_moves_attain : (p : Position) (h : ℕ) → HasEqualSides p → is_over p ≡ false → IsBestMove p h (worth p) → value_of_move p h ≡ worth p
+pub best_moves_attain : (p : Position) (h : ℕ) → HasEqualSides p → is_over p ≡ false → IsBestMove p h (worth p)
+    → value_of_move p h ≡ worth p
 best_moves_attain p h even going is =
     let mine = is.begins.0 in
     let game = ends_at_least mine best_house is.begins.1 best_is_strategy p even (worth p) is.begins.3 in
@@ -57,7 +60,8 @@ best_moves_attain p h even going is =
     omega (arith, ints, game.3, rw is_h at first.2, most)
 
 -- the best house is the lowest legal house that attains the worth
-pub best_lowest : (p : Position) (h : ℕ) → is_over p ≡ false → Contains (legal_houses p) h → value_of_move p h ≡ worth p → best_house p ≤ h
+pub best_lowest : (p : Position) (h : ℕ) → is_over p ≡ false → Contains (legal_houses p) h → value_of_move p h ≡ worth p
+    → best_house p ≤ h
 best_lowest p h going is_legal attains =
     let rising : legal_houses p ≡ filter (λ i. nat_lt 0 (seeds p.own i)) (range_with_len 1 (side_length p)) =
     ap (λ (b : Bool). if b then [] else filter (λ i. nat_lt 0 (seeds p.own i)) (range_with_len 1 (side_length p))) going in
@@ -73,10 +77,12 @@ best_is_lowest p even going = record {
 }
 
 -- and the lowest best move
-pub best_house_lowest : (p : Position) (h : ℕ) → HasEqualSides p → is_over p ≡ false → IsBestMove p h (worth p) → best_house p ≤ h
-best_house_lowest p h even going is = best_lowest p h going (best_moves_legal p h (worth p) even going is) (best_moves_attain p h even going is)
+pub best_house_lowest : (p : Position) (h : ℕ) → HasEqualSides p → is_over p ≡ false → IsBestMove p h (worth p)
+    → best_house p ≤ h
+best_house_lowest p h even going is = best_lowest p h going (best_moves_legal p h (worth p) even going is)
+    (best_moves_attain p h even going is)
 
--- the strategy that moves house h if it is a best move, and else the lowest best house
+-- the strategy that moves house h if it is a best move, otherwise the lowest best house
 pub prefers : ℕ → Position → ℕ → Bool
 prefers h p k = (k == h) && int_eq (value_of_move p k) (worth p)
 
@@ -126,7 +132,8 @@ prefer_attains h p even going = found_or (λ k. value_of_move p k ≡ worth p) (
 -- it moves house h if that attains the worth
 pub prefer_is : (h : ℕ) (p : Position) → Contains (legal_houses p) h → value_of_move p h ≡ worth p → prefer h p ≡ h
 unfolding prefer
-prefer_is h p has attains = find_is (prefers h p) (legal_houses p) h (best_house p) has (prefers_best h p attains) (λ j passes. (prefers_is h p j passes).0)
+prefer_is h p has attains = find_is (prefers h p) (legal_houses p) h (best_house p) has (prefers_best h p attains)
+    (λ j passes. (prefers_is h p j passes).0)
 
 -- so it plays best
 pub prefer_plays : (h : ℕ) → PlaysBest (follow (prefer h))

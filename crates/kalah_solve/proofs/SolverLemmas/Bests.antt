@@ -17,7 +17,8 @@ use Rattle.kalah_solve.specs.declared.solver.verdict.Verdict.TheVariants.{Best, 
 use Rattle.kalah_solve.proofs.SolverLemmas.Worths.{greatest_more, worth_of_going}
 
 -- the last house is found if no earlier one passes
-find_last : (p : ℕ → Bool) (xs : List ℕ) (y : ℕ) → ((k : ℕ) → k < length xs → p (get_or xs k 0) ≡ false) → p y ≡ true →
+find_last : (p : ℕ → Bool) (xs : List ℕ) (y : ℕ) → ((k : ℕ) → k < length xs → p (get_or xs k 0) ≡ false)
+    → p y ≡ true →
     find p (xs ++ y ∷ []) ≡ Some y
 find_last p [] y fails here = rw here refl
 find_last p (x ∷ xs) y fails here =
@@ -29,7 +30,8 @@ pub value_le : (f : ℕ → ℤ) (xs : List ℕ) (k : ℕ) → k < length xs →
 value_le f [] k within = absurd (omega arith)
 value_le f (x ∷ xs) zero within = (fold-int_max_bounds (f x) (map f xs) _ refl).0
 value_le f (x ∷ xs) (suc k) within =
-    rw (get_or-map f xs k 0 (pos 0) (omega arith)) at ((fold-int_max_bounds (f x) (map f xs) _ refl).1 k (pos 0) (omega (arith, length-map xs f)))
+    rw (get_or-map f xs k 0 (pos 0) (omega arith)) at ((fold-int_max_bounds (f x) (map f xs) _ refl).1 k (pos 0)
+    (omega (arith, length-map xs f)))
 
 -- equal numbers pass the test
 pub eq_yes : (a b : ℤ) → a ≡ b → int_eq a b ≡ true
@@ -125,7 +127,8 @@ verdict_of_over p margin over is =
     ap Over is ∙ ap (λ (b : Bool). if b then Over (final_margin p) else Best (worth p) (best_house p)) (sym over)
 
 -- a legal house with a margin that a player can have
-pub small_best : (p : Position) (margin : ℤ) (house : ℕ) → IsWithinLimits p → Contains (legal_houses p) house → IsSmallMargin margin →
+pub small_best : (p : Position) (margin : ℤ) (house : ℕ) → IsWithinLimits p → Contains (legal_houses p) house
+    → IsSmallMargin margin →
     IsSmallBest margin house
 small_best p margin house limits is_legal is_small =
     let holds = legal_holds p house is_legal in

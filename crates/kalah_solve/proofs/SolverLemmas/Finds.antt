@@ -17,7 +17,8 @@ pub contains_later : (x : ℕ) (xs : List ℕ) (k : ℕ) → Contains xs k → C
 contains_later x xs k has = (suc has.0, omega (arith, has.1), has.2)
 
 -- and nothing else
-pub contains_cases : (x k : ℕ) (xs : List ℕ) (i : ℕ) → i < length (x ∷ xs) → get_or (x ∷ xs) i k ≡ k → (x ≡ k) ⊎ Contains xs k
+pub contains_cases : (x k : ℕ) (xs : List ℕ) (i : ℕ) → i < length (x ∷ xs) → get_or (x ∷ xs) i k ≡ k → (x ≡ k)
+    ⊎ Contains xs k
 contains_cases x k xs zero within at = inl at
 contains_cases x k xs (suc i) within at = inr (i, omega arith, at)
 
@@ -27,8 +28,12 @@ greatest_is_one f [] some = absurd (omega arith)
 greatest_is_one f (x ∷ xs) some = elim (fold-int_max_reached (f x) (map f xs) _ refl) [
   | inl start ↦ (x, contains_first x xs, sym start)
   | inr later ↦
-      let within : later.0 < length xs = omega (arith, later.1, length-map xs f) in
-      (get_or xs later.0 0, contains_later x xs _ (Contains-get_or xs later.0 0 within), sym (get_or-map f xs later.0 0 _ within) ∙ later.2)
+      let within : later.0 < length xs = omega (arith, later.1, length-map xs f) in (
+        get_or xs later.0 0,
+        contains_later x xs _ (Contains-get_or xs later.0 0 within),
+        sym (get_or-map f xs later.0 0 _ within)
+            ∙ later.2,
+      )
 ]
 
 -- what a search finds is in the list, and passes
@@ -77,7 +82,8 @@ find_lowest t g a (suc n) h has passes = elim (cases_Bool (g a)) [
 ]
 
 -- also if the list is given by its equation
-pub lowest_of : (t g : ℕ → Bool) (a n h : ℕ) (xs : List ℕ) → xs ≡ filter g (range_with_len a n) → Contains xs h → t h ≡ true →
+pub lowest_of : (t g : ℕ → Bool) (a n h : ℕ) (xs : List ℕ) → xs ≡ filter g (range_with_len a n) → Contains xs h
+    → t h ≡ true →
     unwrap_or (find t xs) 0 ≤ h
 lowest_of t g a n h xs is has passes = rw is (find_lowest t g a n h (rw is at has) passes)
 
@@ -91,7 +97,8 @@ found_or P t (x ∷ xs) d default passes = elim (cases_Bool (t x)) [
 ]
 
 -- if only one number passes, that one is found
-pub find_is : (t : ℕ → Bool) (xs : List ℕ) (k d : ℕ) → Contains xs k → t k ≡ true → ((j : ℕ) → t j ≡ true → j ≡ k) →
+pub find_is : (t : ℕ → Bool) (xs : List ℕ) (k d : ℕ) → Contains xs k → t k ≡ true →
+    ((j : ℕ) → t j ≡ true → j ≡ k) →
     unwrap_or (find t xs) d ≡ k
 find_is t [] k d has passes only = absurd (omega (arith, has.1))
 find_is t (x ∷ xs) k d has passes only = elim (cases_Bool (t x)) [

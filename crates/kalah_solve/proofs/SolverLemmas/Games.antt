@@ -17,10 +17,12 @@ use Rattle.kalah_solve.proofs.SolverLemmas.Values.{over_swapped}
 
 -- a way that moves only legal houses
 pub record KeepsRules (way : Way) : Type 0 where
-  pub legal_only : (p : Position) (h : ℕ) → HasEqualSides p → is_over p ≡ false → Contains (way p) h → Contains (legal_houses p) h
+  pub legal_only : (p : Position) (h : ℕ) → HasEqualSides p → is_over p ≡ false → Contains (way p) h
+      → Contains (legal_houses p) h
 
 -- two strategies play a game to its end
-pub ends_within : (n : ℕ) (mine theirs : Strategy) → IsStrategy mine → IsStrategy theirs → (p : Position) → HasEqualSides p → moves_left p ≤ n →
+pub ends_within : (n : ℕ) (mine theirs : Strategy) → IsStrategy mine → IsStrategy theirs → (p : Position) → HasEqualSides p
+    → moves_left p ≤ n →
     (houses : List ℕ) × (final : Position) × Game (follow mine) (follow theirs) p houses final
 ends_within zero mine theirs m t p even few = ([], p, is_at_end (over_at_end p (omega arith)))
 ends_within (suc n) mine theirs m t p even few = elim (cases_Bool (is_over p)) [
@@ -35,7 +37,8 @@ ends_within (suc n) mine theirs m t p even few = elim (cases_Bool (is_over p)) [
             (mine p ∷ rest.0, rest.1, moves_on going (contains_first (mine p) []) again rest.2)
         | inr turn ↦
             let turned = swap_fewer (after p (mine p)) next_even in
-            let rest = ends_within n theirs mine t m (swapped (after p (mine p))) (swapped_equal_sides (after p (mine p)) next_even) (omega arith) in
+            let rest = ends_within n theirs mine t m (swapped (after p (mine p))) (swapped_equal_sides (after p (mine p)) next_even)
+            (omega arith) in
             (mine p ∷ rest.0, swapped rest.1, passes_turn going (contains_first (mine p) []) turn rest.2)
       ]
 ]
@@ -45,7 +48,8 @@ pub game_ends : StrategiesPlayAGame
 game_ends mine theirs m t p even = ends_within (moves_left p) mine theirs m t p even (omega arith)
 
 -- each move leaves fewer, and the last position is over
-pub ends_in_time : {mine theirs : Way} {p : Position} {houses : List ℕ} {final : Position} → KeepsRules mine → KeepsRules theirs → HasEqualSides p →
+pub ends_in_time : {mine theirs : Way} {p : Position} {houses : List ℕ} {final : Position} → KeepsRules mine → KeepsRules theirs
+    → HasEqualSides p →
     Game mine theirs p houses final → EndsInTime p houses final
 ends_in_time m t even (is_at_end over) = record { over = over; short = omega arith }
 ends_in_time {mine} {theirs} {p} m t even (moves_on {h = h} going has again rest) =
@@ -84,13 +88,15 @@ pub follow_one : (s : Strategy) → HasNoChoice (follow s)
 follow_one s = record { one = λ p h k has also. sym (followed s p h has) ∙ followed s p k also }
 
 -- two games without a choice are the same
-pub game_is_one : {mine theirs : Way} {p : Position} {houses others : List ℕ} {final other : Position} → HasNoChoice mine → HasNoChoice theirs →
+pub game_is_one : {mine theirs : Way} {p : Position} {houses others : List ℕ} {final other : Position} → HasNoChoice mine
+    → HasNoChoice theirs →
     Game mine theirs p houses final → Game mine theirs p others other → (houses ≡ others) × (final ≡ other)
 game_is_one m t (is_at_end over) (is_at_end over') = (refl, refl)
 game_is_one m t (is_at_end over) (moves_on going has again rest) = cc
 game_is_one m t (is_at_end over) (passes_turn going has turn rest) = cc
 game_is_one m t (moves_on going has again rest) (is_at_end over) = cc
-game_is_one {mine} {theirs} {p} m t (moves_on {h = h} going has again rest) (moves_on {h = k} {houses = houses} {final = final} going' has' again' rest') =
+game_is_one {mine} {theirs} {p} m t (moves_on {h = h} going has again rest)
+    (moves_on {h = k} {houses = houses} {final = final} going' has' again' rest') =
     let e : k ≡ h = m.one p k h has' has in
     let same = game_is_one m t rest (subst (λ x. Game mine theirs (after p x) houses final) e rest') in
     (cc (same.0, e), same.1)
@@ -101,7 +107,8 @@ game_is_one m t (passes_turn going has turn rest) (is_at_end over) = cc
 game_is_one {mine} {theirs} {p} m t (passes_turn {h = h} going has turn rest) (moves_on {h = k} going' has' again rest') =
     let e : k ≡ h = m.one p k h has' has in
     absurd (let differs = rw e at again in cc)
-game_is_one {mine} {theirs} {p} m t (passes_turn {h = h} going has turn rest) (passes_turn {h = k} {houses = houses} {final = final} going' has' turn' rest') =
+game_is_one {mine} {theirs} {p} m t (passes_turn {h = h} going has turn rest)
+    (passes_turn {h = k} {houses = houses} {final = final} going' has' turn' rest') =
     let e : k ≡ h = m.one p k h has' has in
     let same = game_is_one t m rest (subst (λ x. Game theirs mine (swapped (after p x)) houses final) e rest') in
     (cc (same.0, e), ap swapped same.1)

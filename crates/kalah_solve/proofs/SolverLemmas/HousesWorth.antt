@@ -34,9 +34,11 @@ sides : (a : Rows) → IsWithinHouses a → HasEqualSides (bare a)
 sides a w = record { same = w.same_side }
 
 -- no house is worth more
-pub value_le_worth : (a : Rows) (h : ℕ) → IsWithinHouses a → Contains (legal_houses (bare a)) h → value_of_move (bare a) h ≤ℤ houses_worth a
+pub value_le_worth : (a : Rows) (h : ℕ) → IsWithinHouses a → Contains (legal_houses (bare a)) h
+    → value_of_move (bare a) h ≤ℤ houses_worth a
 value_le_worth a h w has =
-    rw (worth_of_going (bare a) (sides a w) (legal_going (bare a) h has)) (le_greatest _ _ (map_has (value_of_move (bare a)) (legal_houses (bare a)) h has))
+    rw (worth_of_going (bare a) (sides a w) (legal_going (bare a) h has))
+    (le_greatest _ _ (map_has (value_of_move (bare a)) (legal_houses (bare a)) h has))
 
 -- and some house is worth as much
 pub worth_reached : (a : Rows) → IsWithinHouses a → is_over (bare a) ≡ false →

@@ -75,7 +75,8 @@ record IsWithinBelow (n : ℕ) (way wider : Way) : Type 0 where
 -- a game in which fewer moves are left is one of wider ways, too
 widened_below : {mine theirs mine' theirs' : Way} {p : Position} {houses : List ℕ} {final : Position} → (n : ℕ) →
     IsWithinBelow n mine mine' → IsWithinBelow n theirs theirs' →
-    KeepsRules mine → KeepsRules theirs → HasEqualSides p → moves_left p < n → Game mine theirs p houses final → Game mine' theirs' p houses final
+    KeepsRules mine → KeepsRules theirs → HasEqualSides p → moves_left p < n → Game mine theirs p houses final
+    → Game mine' theirs' p houses final
 widened_below n m t mk tk even low (is_at_end over) = is_at_end over
 widened_below {mine} {theirs} {mine'} {theirs'} {p} n m t mk tk even low (moves_on {h = h} going has again rest) =
     let fewer = after_fewer p h (legal_holds p h (mk.legal_only p h even going has)) even in
@@ -83,7 +84,8 @@ widened_below {mine} {theirs} {mine'} {theirs'} {p} n m t mk tk even low (moves_
 widened_below {mine} {theirs} {mine'} {theirs'} {p} n m t mk tk even low (passes_turn {h = h} going has turn rest) =
     let fewer = after_fewer p h (legal_holds p h (mk.legal_only p h even going has)) even in
     let turned = swap_fewer (after p h) (after_equal_sides p h) in
-    passes_turn going (m.widens p h low has) turn (widened_below n t m tk mk (swapped_equal_sides (after p h) (after_equal_sides p h)) (omega arith) rest)
+    passes_turn going (m.widens p h low has) turn (widened_below n t m tk mk (swapped_equal_sides (after p h) (after_equal_sides p h))
+    (omega arith) rest)
 
 -- after its first move the strategy plays the lowest best house
 later_best : (n h : ℕ) → IsWithinBelow n (follow (beginning n h)) (follow best_house)
@@ -96,7 +98,8 @@ same_below n way = record { widens = λ p k low has. has }
 -- ---- what the move secures
 
 -- a game that the strategy begins with house h ends with at least the value of the move
-begun_low : (p : Position) (h : ℕ) (houses : List ℕ) (final : Position) → HasEqualSides p → is_over p ≡ false → Contains (legal_houses p) h →
+begun_low : (p : Position) (h : ℕ) (houses : List ℕ) (final : Position) → HasEqualSides p → is_over p ≡ false
+    → Contains (legal_houses p) h →
     Game (follow (beginning (moves_left p) h)) legal_houses p houses final → value_of_move p h ≤ℤ final_margin final
 begun_low p h houses final even going is_legal (is_at_end over) = absurd (cc)
 begun_low p h (k ∷ houses) final even going is_legal (moves_on going' has again rest) =
@@ -145,7 +148,8 @@ begun_high p h houses final even (passes_turn {final = last} going has turn rest
       arith,
       ints,
       value_passing p h turn,
-      (bounds (strategy_keeps best_house best_is_strategy) legal_keeps (swapped_equal_sides (after p h) (after_equal_sides p h)) rest).low best_plays,
+      (bounds (strategy_keeps best_house best_is_strategy) legal_keeps (swapped_equal_sides (after p h) (after_equal_sides p h)) rest).low
+          best_plays,
     ))
 
 -- the law on the value of a move
@@ -166,12 +170,15 @@ begun_most : (mine theirs : Strategy) (p : Position) (h : ℕ) (w : ℤ) (houses
     Game (follow mine) (follow theirs) p houses final → Game legal_houses (follow theirs) p houses final → final_margin final ≤ℤ w
 begun_most mine theirs p h w houses final going begins holds (is_at_end over) wide = absurd (cc)
 begun_most mine theirs p h w (k ∷ houses) final going begins holds (moves_on going' has again rest) wide =
-    holds houses final (subst (λ j. Game legal_houses (follow theirs) p (j ∷ houses) final) (sym (followed mine p k has) ∙ begins) wide)
+    holds houses final (subst (λ j. Game legal_houses (follow theirs) p (j ∷ houses) final)
+    (sym (followed mine p k has) ∙ begins) wide)
 begun_most mine theirs p h w (k ∷ houses) final going begins holds (passes_turn {final = last} going' has turn rest) wide =
-    holds houses (swapped last) (subst (λ j. Game legal_houses (follow theirs) p (j ∷ houses) (swapped last)) (sym (followed mine p k has) ∙ begins) wide)
+    holds houses (swapped last) (subst (λ j. Game legal_houses (follow theirs) p (j ∷ houses) (swapped last))
+    (sym (followed mine p k has) ∙ begins) wide)
 
 -- so of two numbers that a move secures, and no more, neither is above the other
-worth_at_most : (p : Position) (h : ℕ) (v w : ℤ) → HasEqualSides p → is_over p ≡ false → IsWorthOfMove p h v → IsWorthOfMove p h w → v ≤ℤ w
+worth_at_most : (p : Position) (h : ℕ) (v w : ℤ) → HasEqualSides p → is_over p ≡ false → IsWorthOfMove p h v
+    → IsWorthOfMove p h w → v ≤ℤ w
 worth_at_most p h v w even going a b =
     let mine = a.secured.0 in
     let theirs = b.held.0 in
@@ -183,7 +190,12 @@ worth_at_most p h v w even going a b =
 
 -- the law on one value
 pub worth_of_move_is_one : WorthOfMoveIsOne
-worth_of_move_is_one p h v w even going a b = omega (arith, ints, worth_at_most p h v w even going a b, worth_at_most p h w v even going b a)
+worth_of_move_is_one p h v w even going a b = omega (
+  arith,
+  ints,
+  worth_at_most p h v w even going a b,
+  worth_at_most p h w v even going b a,
+)
 
 -- ---- the values of all moves
 
@@ -215,7 +227,8 @@ values_alone p (x ∷ xs) = ap (λ ys. value_of_move p x ∷ ys) (values_alone p
 
 -- the first house with a value
 first_with : (p : Position) (m : ℤ) (xs : List ℕ)
-    → option_map (λ (v : MoveValue). v.house) (find (λ v. int_eq v.value m) (map (move_value p) xs)) ≡ find (λ h. int_eq (value_of_move p h) m) xs
+    → option_map (λ (v : MoveValue). v.house) (find (λ v. int_eq v.value m) (map (move_value p) xs)) ≡ find
+    (λ h. int_eq (value_of_move p h) m) xs
 first_with p m [] = refl
 first_with p m (x ∷ xs) = elim (cases_Bool (int_eq (value_of_move p x) m)) [
   | inl here ↦ rw here refl
@@ -225,7 +238,8 @@ first_with p m (x ∷ xs) = elim (cases_Bool (int_eq (value_of_move p x) m)) [
 -- the law on the verdict
 pub values_tell_verdict : ValuesTellVerdict
 values_tell_verdict p even going =
-    let most : greatest (map (λ v. v.value) (values_of p)) ≡ worth p = ap greatest (values_alone p (legal_houses p)) ∙ sym (worth_of_going p even going) in
+    let most : greatest (map (λ v. v.value) (values_of p)) ≡ worth p = ap greatest (values_alone p (legal_houses p))
+    ∙ sym (worth_of_going p even going) in
     let first = first_with p (worth p) (legal_houses p) in
     ap (λ m. Best m (unwrap_or (option_map (λ v. v.house) (find (λ v. int_eq v.value m) (values_of p))) 0)) most
     ∙ ap (λ o. Best (worth p) (unwrap_or o 0)) first

@@ -41,11 +41,13 @@ whole_window : (found lo hi z : ℤ) → lo ≡ least_margin → hi ≡ most_mar
     found ≡ within lo hi z → found ≡ z
 whole_window found lo hi z lo_is hi_is low high e = omega (arith, ints, clamps, e, lo_is, hi_is, low, high)
 
-pub root_worth : (p : Position) (a : Rows) (found lo hi : ℤ) → IsWithinLimits p → a ≡ rows_of p → lo ≡ least_margin → hi ≡ most_margin →
+pub root_worth : (p : Position) (a : Rows) (found lo hi : ℤ) → IsWithinLimits p → a ≡ rows_of p → lo ≡ least_margin
+    → hi ≡ most_margin →
     found ≡ within lo hi (houses_worth a) → found ≡ houses_worth (rows_of p)
 root_worth p a found lo hi limits is lo_is hi_is e =
     let rows = rows_within p limits in
-    whole_window found lo hi _ lo_is hi_is (worth_low (rows_of p) rows) (worth_high (rows_of p) rows) (e ∙ ap (λ b. within lo hi (houses_worth b)) is)
+    whole_window found lo hi _ lo_is hi_is (worth_low (rows_of p) rows) (worth_high (rows_of p) rows)
+    (e ∙ ap (λ b. within lo hi (houses_worth b)) is)
 
 -- the first i houses are worth less than the margin of best play
 abbrev pub FallShort : Rows → ℕ → Type 0
@@ -53,13 +55,15 @@ FallShort a i = (k : ℕ) → k < i → int_eq (value_of_move (bare a) (get_or (
 
 module _ (a : Rows) (w : IsWithinHouses a) where
   -- a house that takes as many seeds as best play is worth as much
-  enough_is : (h : ℕ) → Contains (legal_houses (bare a)) h → won a ≤ won_by_step (houses_step a h) → value_of_move (bare a) h ≡ houses_worth a
+  enough_is : (h : ℕ) → Contains (legal_houses (bare a)) h → won a ≤ won_by_step (houses_step a h)
+      → value_of_move (bare a) h ≡ houses_worth a
   enough_is h has enough =
       let most = taken_most a w h has in
       omega (arith, ints, (taken_by_move a w h has).is, (taken_share a w).is)
 
   -- and one that takes fewer is worth less
-  short_is : (h : ℕ) → Contains (legal_houses (bare a)) h → won_by_step (houses_step a h) < won a → value_of_move (bare a) h <ℤ houses_worth a
+  short_is : (h : ℕ) → Contains (legal_houses (bare a)) h → won_by_step (houses_step a h) < won a
+      → value_of_move (bare a) h <ℤ houses_worth a
   short_is h has less = omega (arith, ints, (taken_by_move a w h has).is, (taken_share a w).is)
 
   -- the first house that is worth the margin is the one
@@ -67,7 +71,9 @@ module _ (a : Rows) (w : IsWithinHouses a) where
       value_of_move (bare a) (get_or (legal_houses (bare a)) i 0) ≡ houses_worth a →
       get_or (legal_houses (bare a)) i 0 ≡ best_house (bare a)
   root_is i inside short is =
-      sym (ap (λ o. unwrap_or o 0) (find_at (λ h. int_eq (value_of_move (bare a) h) (houses_worth a)) (legal_houses (bare a)) i inside short (eq_yes _ _ is)))
+      sym
+      (ap (λ o. unwrap_or o 0) (find_at (λ h. int_eq (value_of_move (bare a) h) (houses_worth a))
+      (legal_houses (bare a)) i inside short (eq_yes _ _ is)))
 
   -- a house that takes enough, if those before it fall short
   pub root_found : (i : ℕ) → i < length (legal_houses (bare a)) → FallShort a i →
@@ -91,7 +97,8 @@ module _ (a : Rows) (w : IsWithinHouses a) where
       let one = greatest_is_one (value_of_move (bare a)) (legal_houses (bare a)) (omega (arith, many)) in
       let worth_is = worth_of_going (bare a) (record { same = w.same_side }) going in
       let inside : one.1.0 < length (legal_houses (bare a)) = one.1.1 in
-      let place : get_or (legal_houses (bare a)) one.1.0 0 ≡ one.0 = get_or_default (legal_houses (bare a)) one.1.0 0 one.0 inside ∙ one.1.2 in
+      let place : get_or (legal_houses (bare a)) one.1.0 0 ≡ one.0 = get_or_default (legal_houses (bare a)) one.1.0 0 one.0 inside
+      ∙ one.1.2 in
       let is : value_of_move (bare a) (get_or (legal_houses (bare a)) one.1.0 0) ≡ houses_worth a =
       ap (value_of_move (bare a)) place ∙ one.2 ∙ sym worth_is in
       elim (cases_eq one.1.0 n) [
@@ -125,12 +132,32 @@ module _ (p : Position) (best : ℤ) (own other : ℕ) (limits : IsWithinLimits 
   pub told_fits : FitsSigned w32 (to_z w32 (of_z w32 best) +ℤ to_z w32 (of_z w32 (to_z w32 own -ℤ to_z w32 other)))
   told_fits =
       let rows = rows_within p limits in
-      omega (arith, ints, best_is, worth_low (rows_of p) rows, worth_high (rows_of p) rows, own_is, other_is, limits.own_store_low, limits.other_store_low)
+      omega (
+        arith,
+        ints,
+        best_is,
+        worth_low (rows_of p) rows,
+        worth_high (rows_of p) rows,
+        own_is,
+        other_is,
+        limits.own_store_low,
+        limits.other_store_low,
+      )
 
   told_is : stored best own other ≡ best +ℤ (pos p.own_store -ℤ pos p.other_store)
   told_is =
       let rows = rows_within p limits in
-      omega (arith, ints, best_is, worth_low (rows_of p) rows, worth_high (rows_of p) rows, own_is, other_is, limits.own_store_low, limits.other_store_low)
+      omega (
+        arith,
+        ints,
+        best_is,
+        worth_low (rows_of p) rows,
+        worth_high (rows_of p) rows,
+        own_is,
+        other_is,
+        limits.own_store_low,
+        limits.other_store_low,
+      )
 
   -- so it is the worth of the position
   pub told_worth : stored best own other ≡ worth p

@@ -15,7 +15,8 @@ use Rattle.kalah_solve.proofs.SolverLemmas.Games.{KeepsRules, game_ends, legal_k
 
 -- a way that moves only houses of the greatest value
 pub record PlaysBest (way : Way) : Type 0 where
-  pub attains : (p : Position) (h : ℕ) → HasEqualSides p → is_over p ≡ false → Contains (way p) h → value_of_move p h ≡ worth p
+  pub attains : (p : Position) (h : ℕ) → HasEqualSides p → is_over p ≡ false → Contains (way p) h
+      → value_of_move p h ≡ worth p
 
 -- the player who plays best gets at least the worth, and the opponent of one who does at most that
 pub record IsBounded (mine theirs : Way) (p : Position) (z : ℤ) : Type 0 where
@@ -23,7 +24,8 @@ pub record IsBounded (mine theirs : Way) (p : Position) (z : ℤ) : Type 0 where
   pub high : PlaysBest theirs → z ≤ℤ worth p
 
 -- along a whole game, for both players at once
-pub bounds : {mine theirs : Way} {p : Position} {houses : List ℕ} {final : Position} → KeepsRules mine → KeepsRules theirs → HasEqualSides p →
+pub bounds : {mine theirs : Way} {p : Position} {houses : List ℕ} {final : Position} → KeepsRules mine → KeepsRules theirs
+    → HasEqualSides p →
     Game mine theirs p houses final → IsBounded mine theirs p (final_margin final)
 bounds {p = p} m t even (is_at_end over) = record {
   low = λ best. omega (arith, ints, worth_of_over p over);
@@ -90,8 +92,18 @@ module _ (mine theirs : Strategy) (m : IsStrategy mine) (t : IsStrategy theirs) 
 -- the law on two strategies
 pub best_against_strategies : BestPlayAgainstStrategies
 best_against_strategies = record {
-  secured = λ p even. (best_house, best_is_strategy, λ theirs t. ends_at_least best_house theirs best_is_strategy t p even (worth p) (best_secures p even));
-  held = λ p even. (best_house, best_is_strategy, λ mine m. ends_at_most mine best_house m best_is_strategy p even (worth p) (best_holds p even));
+  secured = λ p even. (
+    best_house,
+    best_is_strategy,
+    λ theirs t. ends_at_least best_house theirs best_is_strategy t p even (worth p)
+        (best_secures p even),
+  );
+  held = λ p even. (
+    best_house,
+    best_is_strategy,
+    λ mine m. ends_at_most mine best_house m best_is_strategy p even (worth p)
+        (best_holds p even),
+  );
 }
 
 -- so of two margins of best play neither is above the other

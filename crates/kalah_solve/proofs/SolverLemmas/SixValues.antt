@@ -26,7 +26,8 @@ pub six_more : (count : ℕ) (cells : List MoveValue) (v : MoveValue) → IsSixA
     IsSixAtMost no_value (count + 1) (slice_set cells count v)
 six_more count cells v six few =
     let long : length (take count cells) ≡ count = length-take-le count cells (omega (arith, six.cells_are_six)) in
-    let more : take (count + 1) (slice_set cells count v) ≡ take count cells ++ v ∷ [] = take_more_set cells count v (omega (arith, six.cells_are_six)) in
+    let more : take (count + 1) (slice_set cells count v) ≡ take count cells ++ v ∷ [] =
+    take_more_set cells count v (omega (arith, six.cells_are_six)) in
     record {
       cells_are_six = length-set cells count v ∙ six.cells_are_six;
       few = omega arith;

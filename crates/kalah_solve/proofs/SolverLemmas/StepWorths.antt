@@ -23,12 +23,14 @@ worth_again : (q : Position) → q.other_store ≡ 0 → worth q ≡ pos q.own_s
 worth_again q none = worth_of_rows q ∙ omega (arith, ints)
 
 -- the same if the turn passes
-worth_turn : (q : Position) → q.other_store ≡ 0 → neg_ℤ (worth (swapped q)) ≡ pos q.own_store -ℤ houses_worth (rows_of (swapped q))
+worth_turn : (q : Position) → q.other_store ≡ 0 → neg_ℤ (worth (swapped q)) ≡ pos q.own_store -ℤ houses_worth
+    (rows_of (swapped q))
 worth_turn q none = ap neg_ℤ (worth_of_rows (swapped q)) ∙ omega (arith, ints)
 
 -- what a position after a move is worth, by its step
 worth_by_step : (q : Position) (again : Bool) → q.other_store ≡ 0 →
-    (if is_over q then final_margin q else (if again then worth q else neg_ℤ (worth (swapped q)))) ≡ worth_of_step (houses_step_to q again)
+    (if is_over q then final_margin q else (if again then worth q else neg_ℤ (worth (swapped q)))) ≡ worth_of_step
+    (houses_step_to q again)
 worth_by_step q again none = elim (cases_Bool (is_over q)) [
   | inl over ↦ rw over (omega (arith, ints))
   | inr going ↦ elim (cases_Bool again) [
@@ -38,7 +40,8 @@ worth_by_step q again none = elim (cases_Bool (is_over q)) [
 ]
 
 -- what a move is worth, by its step
-pub value_is : (a : Rows) (h : ℕ) → IsWithinHouses a → Contains (legal_houses (bare a)) h → value_of_move (bare a) h ≡ worth_of_step (houses_step a h)
+pub value_is : (a : Rows) (h : ℕ) → IsWithinHouses a → Contains (legal_houses (bare a)) h
+    → value_of_move (bare a) h ≡ worth_of_step (houses_step a h)
 value_is a h w has = worth_by_step (after (bare a) h) (is_again (bare a) h) (after_keeps a h w (legal_holds (bare a) h has)).other_store
 
 -- ---- where it leads
@@ -63,7 +66,8 @@ leads_on a h w has =
     }))
 
 -- a step that was played leads there
-pub leads_by : (a : Rows) (h : ℕ) (s : HousesStep) → IsWithinHouses a → Contains (legal_houses (bare a)) h → s ≡ houses_step a h → LeadsOn a s
+pub leads_by : (a : Rows) (h : ℕ) (s : HousesStep) → IsWithinHouses a → Contains (legal_houses (bare a)) h → s ≡ houses_step a h
+    → LeadsOn a s
 leads_by a h s w has e = subst (LeadsOn a) (sym e) (leads_on a h w has)
 
 -- ---- what the search needs of a step
@@ -73,7 +77,8 @@ goes_on_of a (Again gained b) w leads = record { few = omega (arith, leads.kept,
 goes_on_of a (Turn gained b) w leads = record { few = omega (arith, leads.kept, w.few_seeds); going = leads.going; limits = leads.limits }
 
 -- a step goes on in the game
-pub goes_on : (a : Rows) (h : ℕ) (s : HousesStep) → IsWithinHouses a → Contains (legal_houses (bare a)) h → s ≡ houses_step a h → GoesOn s
+pub goes_on : (a : Rows) (h : ℕ) (s : HousesStep) → IsWithinHouses a → Contains (legal_houses (bare a)) h → s ≡ houses_step a h
+    → GoesOn s
 goes_on a h s w has e = goes_on_of a s w (leads_by a h s w has e)
 
 -- each step leaves fewer moves
@@ -83,7 +88,8 @@ falls_of a (Again gained b) some leads = leads.fewer
 falls_of a (Turn gained b) some leads = leads.fewer
 
 -- a step leaves fewer moves
-pub step_falls : (a : Rows) (h : ℕ) (s : HousesStep) → IsWithinHouses a → Contains (legal_houses (bare a)) h → s ≡ houses_step a h →
+pub step_falls : (a : Rows) (h : ℕ) (s : HousesStep) → IsWithinHouses a → Contains (legal_houses (bare a)) h
+    → s ≡ houses_step a h →
     moves_after s < moves_left (bare a)
 step_falls a h s w has e =
     let fewer = after_fewer (bare a) h (legal_holds (bare a) h has) (record { same = w.same_side }) in

@@ -27,7 +27,8 @@ fold_shift d x [] = refl
 fold_shift d x (y ∷ ys) = ap (λ z. fold int_max z (map (λ t. t +ℤ d) ys)) (max_shift d x y) ∙ fold_shift d (int_max x y) ys
 
 -- values that are all shifted
-map_shift : (f g : ℕ → ℤ) (d : ℤ) (xs : List ℕ) → ((h : ℕ) → f h ≡ g h +ℤ d) → map f xs ≡ map (λ y. y +ℤ d) (map g xs)
+map_shift : (f g : ℕ → ℤ) (d : ℤ) (xs : List ℕ) → ((h : ℕ) → f h ≡ g h +ℤ d)
+    → map f xs ≡ map (λ y. y +ℤ d) (map g xs)
 map_shift f g d [] same = refl
 map_shift f g d (x ∷ xs) same = cc (same x, map_shift f g d xs same)
 
@@ -38,9 +39,11 @@ greatest_shift f g d [] some same = absurd (omega arith)
 greatest_shift f g d (x ∷ xs) some same = rw (same x, map_shift f g d xs same) (fold_shift d (g x) (map g xs))
 
 -- a move with each of its three ends shifted
-shift_by_step : (over more : Bool) (f v u f' v' u' : ℤ) (a b : ℕ) → f ≡ f' +ℤ (pos a -ℤ pos b) → v ≡ v' +ℤ (pos a -ℤ pos b) →
+shift_by_step : (over more : Bool) (f v u f' v' u' : ℤ) (a b : ℕ) → f ≡ f' +ℤ (pos a -ℤ pos b)
+    → v ≡ v' +ℤ (pos a -ℤ pos b) →
     u ≡ u' +ℤ (pos b -ℤ pos a) →
-    (if over then f else (if more then v else neg_ℤ u)) ≡ (if over then f' else (if more then v' else neg_ℤ u')) +ℤ (pos a -ℤ pos b)
+    (if over then f else (if more then v else neg_ℤ u)) ≡ (if over then f' else (if more then v' else neg_ℤ u')) +ℤ
+    (pos a -ℤ pos b)
 shift_by_step true more f v u f' v' u' a b one two three = one
 shift_by_step false true f v u f' v' u' a b one two three = two
 shift_by_step false false f v u f' v' u' a b one two three = omega (arith, ints, three)
@@ -61,13 +64,17 @@ worth_zero p = refl
 
 -- the worth is shifted by what was added, for any count of moves
 worth_with_more : (n a b : ℕ) (p : Position) → worth_within n (with_more a b p) ≡ worth_within n p +ℤ (pos a -ℤ pos b)
-worth_with_more zero a b p = worth_zero (with_more a b p) ∙ final_with_more a b p ∙ ap (λ z. z +ℤ (pos a -ℤ pos b)) (sym (worth_zero p))
+worth_with_more zero a b p = worth_zero (with_more a b p) ∙ final_with_more a b p
+    ∙ ap (λ z. z +ℤ (pos a -ℤ pos b)) (sym (worth_zero p))
 worth_with_more (suc n) a b p = elim (cases_Bool (is_over p)) [
-  | inl over ↦ worth_over (suc n) (with_more a b p) over ∙ final_with_more a b p ∙ ap (λ z. z +ℤ (pos a -ℤ pos b)) (sym (worth_over (suc n) p over))
+  | inl over ↦ worth_over (suc n) (with_more a b p) over ∙ final_with_more a b p
+      ∙ ap (λ z. z +ℤ (pos a -ℤ pos b)) (sym (worth_over (suc n) p over))
   | inr going ↦
       worth_more n (with_more a b p) going
-      ∙ greatest_shift (value_by (worth_within n) (with_more a b p)) (value_by (worth_within n) p) (pos a -ℤ pos b) (legal_houses p) (legal_some p going)
-      (λ h. value_with_more (worth_within n) (worth_within n) a b p h (worth_with_more n a b (after p h)) (worth_with_more n b a (swapped (after p h))))
+      ∙ greatest_shift (value_by (worth_within n) (with_more a b p)) (value_by (worth_within n) p) (pos a -ℤ pos b) (legal_houses p)
+      (legal_some p going)
+      (λ h. value_with_more (worth_within n) (worth_within n) a b p h (worth_with_more n a b (after p h))
+      (worth_with_more n b a (swapped (after p h))))
       ∙ ap (λ z. z +ℤ (pos a -ℤ pos b)) (sym (worth_more n p going))
 ]
 
@@ -104,7 +111,8 @@ pub best_of_rows : (p : Position) → best_house p ≡ best_house (bare (rows_of
 best_of_rows p = ap best_house (is_with_more p) ∙ best_with_more p.own_store p.other_store (bare (rows_of p))
 
 -- the value of a move is that of the move of the houses, moved by the stores
-pub value_of_rows : (p : Position) (h : ℕ) → value_of_move p h ≡ value_of_move (bare (rows_of p)) h +ℤ (pos p.own_store -ℤ pos p.other_store)
+pub value_of_rows : (p : Position) (h : ℕ) → value_of_move p h ≡ value_of_move (bare (rows_of p)) h +ℤ
+    (pos p.own_store -ℤ pos p.other_store)
 value_of_rows p h =
     let a = p.own_store in
     let b = p.other_store in

@@ -40,7 +40,8 @@ value_going_on p h again = elim (cases_Bool (is_over (after p h))) [
 -- and with the turn passed, its negative
 pub value_passing : (p : Position) (h : ℕ) → is_again p h ≡ false → value_of_move p h ≡ neg_ℤ (worth (swapped (after p h)))
 value_passing p h turn = elim (cases_Bool (is_over (after p h))) [
-  | inl over ↦ rw over (sym (ap neg_ℤ (worth_of_over (swapped (after p h)) (over_swapped (after p h) over)) ∙ final_swapped (after p h)))
+  | inl over ↦ rw over
+      (sym (ap neg_ℤ (worth_of_over (swapped (after p h)) (over_swapped (after p h) over)) ∙ final_swapped (after p h)))
   | inr going ↦ rw (going, turn) refl
 ]
 
@@ -50,14 +51,16 @@ pub best_found : (p : Position) → HasEqualSides p → is_over p ≡ false →
 best_found p even going =
     let best = greatest_is_one (value_of_move p) (legal_houses p) (legal_some p going) in
     let attains : value_of_move p best.0 ≡ worth p = best.2 ∙ sym (worth_of_going p even going) in
-    find_passes (λ h. int_eq (value_of_move p h) (worth p)) (legal_houses p) best.0 best.1 (eq_yes (value_of_move p best.0) (worth p) attains)
+    find_passes (λ h. int_eq (value_of_move p h) (worth p)) (legal_houses p) best.0 best.1
+    (eq_yes (value_of_move p best.0) (worth p) attains)
 
 -- so its value is the worth
 pub best_attains : (p : Position) → HasEqualSides p → is_over p ≡ false → value_of_move p (best_house p) ≡ worth p
 best_attains p even going = (Decides-int_eq (value_of_move p (best_house p)) (worth p)).0 (best_found p even going).1
 
 -- and no legal house gets more
-pub value_most : (p : Position) (h : ℕ) → HasEqualSides p → is_over p ≡ false → Contains (legal_houses p) h → value_of_move p h ≤ℤ worth p
+pub value_most : (p : Position) (h : ℕ) → HasEqualSides p → is_over p ≡ false → Contains (legal_houses p) h
+    → value_of_move p h ≤ℤ worth p
 value_most p h even going has =
     let most : value_of_move p h ≤ℤ greatest (map (value_of_move p) (legal_houses p)) =
     All-contains (λ x. value_of_move p x ≤ℤ greatest (map (value_of_move p) (legal_houses p))) (legal_houses p) h

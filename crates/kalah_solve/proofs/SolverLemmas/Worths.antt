@@ -51,7 +51,8 @@ value_same : (v w : Position → ℤ) (p : Position) (h : ℕ) → v (after p h)
 value_same v w p h again turn = rw (again, turn) refl
 
 -- one move more, if the game goes on
-pub worth_more : (n : ℕ) (p : Position) → is_over p ≡ false → worth_within (suc n) p ≡ greatest (map (value_by (worth_within n) p) (legal_houses p))
+pub worth_more : (n : ℕ) (p : Position) → is_over p ≡ false
+    → worth_within (suc n) p ≡ greatest (map (value_by (worth_within n) p) (legal_houses p))
 unfolding worth_within
 worth_more n p going = ap (λ (b : Bool). if b then final_margin p else greatest (map (value_by (worth_within n) p) (legal_houses p))) going
 
@@ -59,10 +60,12 @@ worth_more n p going = ap (λ (b : Bool). if b then final_margin p else greatest
 pub worth_over : (n : ℕ) (p : Position) → is_over p ≡ true → worth_within n p ≡ final_margin p
 unfolding worth_within
 worth_over zero p over = refl
-worth_over (suc n) p over = ap (λ (b : Bool). if b then final_margin p else greatest (map (value_by (worth_within n) p) (legal_houses p))) over
+worth_over (suc n) p over = ap (λ (b : Bool). if b then final_margin p else greatest (map (value_by (worth_within n) p) (legal_houses p)))
+    over
 
 -- two counts that are high enough give the same worth
-pub worth_same : (n k : ℕ) (p : Position) → HasEqualSides p → moves_left p ≤ n → moves_left p ≤ k → worth_within n p ≡ worth_within k p
+pub worth_same : (n k : ℕ) (p : Position) → HasEqualSides p → moves_left p ≤ n → moves_left p ≤ k
+    → worth_within n p ≡ worth_within k p
 worth_same zero k p even n_high k_high =
     let over = over_at_end p (omega arith) in
     worth_over zero p over ∙ sym (worth_over k p over)
@@ -71,13 +74,15 @@ worth_same (suc n) zero p even n_high k_high =
     worth_over (suc n) p over ∙ sym (worth_over zero p over)
 worth_same (suc n) (suc k) p even n_high k_high = elim (cases_Bool (is_over p)) [
   | inl over ↦ worth_over (suc n) p over ∙ sym (worth_over (suc k) p over)
-  | inr going ↦ worth_more n p going ∙ ap greatest (map_same (value_by (worth_within n) p) (value_by (worth_within k) p) (legal_houses p) (λ h is_legal.
+  | inr going ↦ worth_more n p going ∙ ap greatest (map_same (value_by (worth_within n) p) (value_by (worth_within k) p)
+      (legal_houses p) (λ h is_legal.
       let fewer = after_fewer p h (legal_holds p h is_legal) even in
       let next_even = after_equal_sides p h in
       let turned = swap_fewer (after p h) next_even in
       value_same (worth_within n) (worth_within k) p h
       (worth_same n k (after p h) next_even (omega arith) (omega arith))
-      (worth_same n k (swapped (after p h)) (swapped_equal_sides (after p h) next_even) (omega arith) (omega arith)))) ∙ sym (worth_more k p going)
+      (worth_same n k (swapped (after p h)) (swapped_equal_sides (after p h) next_even) (omega arith) (omega arith))))
+      ∙ sym (worth_more k p going)
 ]
 
 -- the law on the count
@@ -91,7 +96,8 @@ unfolding worth
 worth_of_over p over = worth_over (moves_left p) p over
 
 -- the margin of any other is the greatest value over the legal houses
-pub worth_of_going : (p : Position) → HasEqualSides p → is_over p ≡ false → worth p ≡ greatest (map (value_of_move p) (legal_houses p))
+pub worth_of_going : (p : Position) → HasEqualSides p → is_over p ≡ false
+    → worth p ≡ greatest (map (value_of_move p) (legal_houses p))
 unfolding worth
 worth_of_going p even going =
     worth_same (moves_left p) (suc (moves_left p)) p even (omega arith) (omega arith)
@@ -102,7 +108,8 @@ worth_of_going p even going =
     let turned = swap_fewer (after p h) next_even in
     value_same (worth_within (moves_left p)) worth p h
     (worth_same (moves_left p) (moves_left (after p h)) (after p h) next_even (omega arith) (omega arith))
-    (worth_same (moves_left p) (moves_left (swapped (after p h))) (swapped (after p h)) (swapped_equal_sides (after p h) next_even) (omega arith)
+    (worth_same (moves_left p) (moves_left (swapped (after p h))) (swapped (after p h)) (swapped_equal_sides (after p h) next_even)
+    (omega arith)
     (omega arith))))
 
 -- a sweep keeps the margin
@@ -154,7 +161,8 @@ value_of_turn p h e is =
     rw (step.2, step.0, step.1) refl
 
 -- and how many moves it leaves
-pub again_fewer : (p : Position) (h : ℕ) (e : Position) → HasEqualSides p → Contains (legal_houses p) h → Again e ≡ step_of p h →
+pub again_fewer : (p : Position) (h : ℕ) (e : Position) → HasEqualSides p → Contains (legal_houses p) h
+    → Again e ≡ step_of p h →
     moves_left e < moves_left p
 again_fewer p h e even is_legal is =
     let step = again_step (is_over (after p h)) (is_again p h) (after p h) e is in
@@ -195,7 +203,8 @@ greatest_more f [] i low high = absurd (omega arith)
 greatest_more f (x ∷ xs) zero low high = absurd (omega arith)
 greatest_more f (x ∷ xs) (suc i) low high =
     let within : i < length xs = omega arith in
-    rw (add-one (suc i)) (ap (fold int_max (f x)) (ap (map f) (rw (add-one i) at (take_more xs i 0 within)) ∙ map_push f (take i xs) (get_or xs i 0))
+    rw (add-one (suc i))
+    (ap (fold int_max (f x)) (ap (map f) (rw (add-one i) at (take_more xs i 0 within)) ∙ map_push f (take i xs) (get_or xs i 0))
     ∙ fold_push int_max (f x) (map f (take i xs)) (f (get_or xs i 0)))
 
 -- the greatest of one number

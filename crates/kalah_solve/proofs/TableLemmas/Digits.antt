@@ -14,7 +14,8 @@ higher : (n k : ℕ) → n / 2 ^ (4 * suc k) ≡ n / 16 / 2 ^ (4 * k)
 higher n k = rw (next_place k) (sym (div-div-eq-div-mul n 16 (2 ^ (4 * k))))
 
 -- a digit put at an empty place leaves all from a later place on
-pub same_past : (k e n d : ℕ) → k < e → n / 2 ^ (4 * k) % 16 ≡ 0 → d < 16 → (n + d * 2 ^ (4 * k)) / 2 ^ (4 * e) ≡ n / 2 ^ (4 * e)
+pub same_past : (k e n d : ℕ) → k < e → n / 2 ^ (4 * k) % 16 ≡ 0 → d < 16 →
+    (n + d * 2 ^ (4 * k)) / 2 ^ (4 * e) ≡ n / 2 ^ (4 * e)
 same_past k zero n d later none small = absurd (omega (arith, later))
 same_past zero (suc e) n d later none small =
     let first : (n + d * 1) / 16 ≡ n / 16 = omega (arith, none, small) in
@@ -36,11 +37,13 @@ same_before j k n d before =
     let past = k - suc j in
     let places : 4 * k ≡ 4 * suc past + 4 * j = omega (arith, before) in
     let worth : 2 ^ (4 * k) ≡ 16 * 2 ^ (4 * past) * 2 ^ (4 * j) = rw (places, pow-add 2 (4 * suc past) (4 * j), next_place past) refl in
-    let all : d * 2 ^ (4 * k) ≡ d * (16 * 2 ^ (4 * past)) * 2 ^ (4 * j) = rw worth (sym (mul_assoc d (16 * 2 ^ (4 * past)) (2 ^ (4 * j)))) in
+    let all : d * 2 ^ (4 * k) ≡ d * (16 * 2 ^ (4 * past)) * 2 ^ (4 * j) =
+    rw worth (sym (mul_assoc d (16 * 2 ^ (4 * past)) (2 ^ (4 * j)))) in
     rw (all, add-mul-div_right n (d * (16 * 2 ^ (4 * past))) (pow_pos (4 * j))) (omega arith)
 
 -- so a digit put at an empty place leaves each other digit
-pub same_elsewhere : (j k n d : ℕ) → j ≢ k → n / 2 ^ (4 * k) % 16 ≡ 0 → d < 16 → (n + d * 2 ^ (4 * k)) / 2 ^ (4 * j) % 16 ≡ n / 2 ^ (4 * j) % 16
+pub same_elsewhere : (j k n d : ℕ) → j ≢ k → n / 2 ^ (4 * k) % 16 ≡ 0 → d < 16 →
+    (n + d * 2 ^ (4 * k)) / 2 ^ (4 * j) % 16 ≡ n / 2 ^ (4 * j) % 16
 same_elsewhere j k n d other none small = elim (cases_lt j k) [
   | inl before ↦ same_before j k n d before
   | inr after ↦ ap (λ m. m % 16) (same_past k j n d (omega (arith, other, after)) none small)

@@ -48,7 +48,8 @@ module _ (c : LruCache ℕ Interval) (a : Rows) (k : ℕ) (i : Interval) (entrie
   ]
 
   -- both outcomes of a put
-  pub true_after : {X E : Type 0} (r : Result X E) (new : LruCache ℕ Interval) → OnOk r (new ≡ lru_cache (put_entries nat_eq c k i) c.cap) →
+  pub true_after : {X E : Type 0} (r : Result X E) (new : LruCache ℕ Interval)
+      → OnOk r (new ≡ lru_cache (put_entries nat_eq c k i) c.cap) →
       OnErr r (new ≡ c) → AreTrue new.entries
   true_after (Ok x) new ok err = subst (λ (d : LruCache ℕ Interval). AreTrue d.entries) (sym ok) true_put
   true_after (Err x) new ok err = subst (λ (d : LruCache ℕ Interval). AreTrue d.entries) (sym err) entries

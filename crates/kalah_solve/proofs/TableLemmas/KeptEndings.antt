@@ -10,9 +10,11 @@ use Rattle.kalah_solve.proofs.TableLemmas.Digits.{same_past, put_there, same_bef
 use Rattle.kalah_solve.proofs.TableLemmas.RowRanks.{same_houses, game_small}
 
 -- houses of one word and one place in it are the same
-same_told : (a b : Rows) → IsWithinHouses a → IsWithinHouses b → label_of a ≡ label_of b → rank_of_houses a % 8 ≡ rank_of_houses b % 8 → a ≡ b
+same_told : (a b : Rows) → IsWithinHouses a → IsWithinHouses b → label_of a ≡ label_of b
+    → rank_of_houses a % 8 ≡ rank_of_houses b % 8 → a ≡ b
 same_told a b ha hb label place =
-    same_houses a b ha hb (omega (arith, label, game_small a ha, game_small b hb)) (omega (arith, label, place, game_small a ha, game_small b hb))
+    same_houses a b ha hb (omega (arith, label, game_small a ha, game_small b hb))
+    (omega (arith, label, place, game_small a ha, game_small b hb))
 
 -- a word with nothing in its lower half has nothing at any place
 pub told_nothing : (label place : ℕ) → place ≤ 7 → stored_at (label * 2 ^ 32) place ≡ 0
@@ -34,7 +36,8 @@ tells_more word a before ha label none few b hb label_b stored =
     let place = rank_of_houses a % 8 in
     let d = suc (won a) in
     let small : d ≤ 15 = omega (arith, few) in
-    let past : stored_label (word + d * 2 ^ (4 * place)) ≡ stored_label word = same_past place 8 word d (omega arith) none (omega (arith, small)) in
+    let past : stored_label (word + d * 2 ^ (4 * place)) ≡ stored_label word =
+    same_past place 8 word d (omega arith) none (omega (arith, small)) in
     let one : stored_label word ≡ label_of b = sym past ∙ label_b in
     elim (cases_eq (rank_of_houses b % 8) place) [
       | inl same ↦

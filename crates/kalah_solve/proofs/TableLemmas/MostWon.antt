@@ -39,11 +39,13 @@ most_more a marks most h v new w is last has v_is new_is = record {
 }
 
 -- if all seeds are taken, best play takes as many
-pub most_all : (a : Rows) (marks most : ℕ) → IsWithinHouses a → IsMost a marks most → seeds_in_houses (bare a) ≤ most → most ≡ won a
+pub most_all : (a : Rows) (marks most : ℕ) → IsWithinHouses a → IsMost a marks most → seeds_in_houses (bare a) ≤ most
+    → most ≡ won a
 most_all a marks most w is full = omega (arith, full, is.reached, (taken_share a w).few)
 
 -- and so it does once no house is marked
-pub most_won : (a : Rows) (marks most : ℕ) → IsWithinHouses a → is_over (bare a) ≡ false → IsMost a marks most → marks ≡ 0 → most ≡ won a
+pub most_won : (a : Rows) (marks most : ℕ) → IsWithinHouses a → is_over (bare a) ≡ false → IsMost a marks most → marks ≡ 0
+    → most ≡ won a
 most_won a marks most w going is none =
     let best = taken_reached a w going in
     omega (arith, is.reached, best.2, is.all best.0 best.1 (rw none (cell_none (best.0 - 1))))

@@ -51,8 +51,10 @@ same_placed n a b enough ha hb rest place =
     same_key a b ha hb (same_unmixed (key_of a) (key_of b) (key_fits a ha) (key_fits b hb) (place_same n _ _ enough rest place))
 
 -- after more is kept
-pub shares_more : (places : List Place) (a : Rows) (number at : ℕ) (p : Place) → AreEnough (length places) → StoreBounds places → IsWithinHouses a →
-    number ≡ mixed (key_of a) → at ≡ place_among (length places) number → at < length places → stored_rest p ≡ left_open number →
+pub shares_more : (places : List Place) (a : Rows) (number at : ℕ) (p : Place) → AreEnough (length places) → StoreBounds places
+    → IsWithinHouses a →
+    number ≡ mixed (key_of a) → at ≡ place_among (length places) number → at < length places
+    → stored_rest p ≡ left_open number →
     IsWithinPlace p (won a) → StoreBounds (slice_set places at p)
 shares_more places a number at p enough before within is place inside rest known b number_b d within_b is_b inside_b rest_b =
     let count : length (slice_set places at p) ≡ length places = length-set places at p in

@@ -78,7 +78,12 @@ rank_apart xs [] long less = absurd (omega arith)
 rank_apart xs (y ∷ ys) long less =
     let cons = sum_by-cons (λ (z : ℕ). z) y ys in
     let cells : length xs ≡ suc (length ys) = omega arith in
-    omega (arith, rw cells at (rank_below xs), choose_rises (sum xs + suc (length ys)) (y + sum ys + length ys) (suc (length ys)) (omega arith))
+    omega (
+      arith,
+      rw cells at (rank_below xs),
+      choose_rises (sum xs + suc (length ys)) (y + sum ys + length ys) (suc (length ys))
+          (omega arith),
+    )
 
 -- so rows with one rank have as many seeds
 rank_seeds : (xs ys : List ℕ) → length xs ≡ length ys → row_rank xs ≡ row_rank ys → sum xs ≡ sum ys
@@ -101,7 +106,8 @@ rank_same (x ∷ xs) (y ∷ ys) long same =
     let cons' = sum_by-cons (λ (z : ℕ). z) y ys in
     let cells : length xs ≡ length ys = omega arith in
     let places : x + sum xs + length xs ≡ y + sum ys + length ys = omega arith in
-    let first : choose (x + sum xs + length xs) (suc (length xs)) ≡ choose (y + sum ys + length ys) (suc (length ys)) = rw (places, cells) refl in
+    let first : choose (x + sum xs + length xs) (suc (length xs)) ≡ choose (y + sum ys + length ys) (suc (length ys)) =
+    rw (places, cells) refl in
     let rest = rank_same xs ys cells (omega (arith, same, first)) in
     let here : x ≡ y = omega (arith, ap sum rest) in
     rw (here, rest) refl
@@ -111,13 +117,15 @@ pub game_small : (a : Rows) → IsWithinHouses a → game_of a ≤ 15
 game_small a ha = omega (arith, ha.at_most_six, rule_bit-small a.rule)
 
 -- houses of one game with one rank are the same
-pub same_houses : (a b : Rows) → IsWithinHouses a → IsWithinHouses b → game_of a ≡ game_of b → rank_of_houses a ≡ rank_of_houses b → a ≡ b
+pub same_houses : (a b : Rows) → IsWithinHouses a → IsWithinHouses b → game_of a ≡ game_of b
+    → rank_of_houses a ≡ rank_of_houses b → a ≡ b
 same_houses a b ha hb game rank =
     let side : length a.own ≡ length b.own = omega (arith, game, ha.at_most_six, hb.at_most_six) in
     let cells : length (a.own ++ a.other) ≡ length (b.own ++ b.other) =
     omega (arith, length-append a.own a.other, length-append b.own b.other, ha.same_side, hb.same_side, side) in
     let row = rank_same (a.own ++ a.other) (b.own ++ b.other) cells rank in
-    let own : a.own ≡ b.own = rw (take-append_seam a.own a.other, side, take-append_seam b.own b.other) at (ap (take (length a.own)) row) in
+    let own : a.own ≡ b.own = rw (take-append_seam a.own a.other, side, take-append_seam b.own b.other) at
+    (ap (take (length a.own)) row) in
     let other : a.other ≡ b.other = append_cancel_left a.own a.other b.other (rw (← own) at row) in
     same_key a b ha hb (omega (arith, game, ap number_of own, ap number_of other))
 
@@ -132,7 +140,8 @@ pub record AreSums (row : List ℕ) (number seeds : ℕ) : Type 0 where
   pub small : (number - seeds) * 17256631552825064415 % 2 ^ 64 < 2 ^ 58
   pub sums : seeds + (number - seeds) * 17256631552825064415 % 2 ^ 64 * 32 ≡ sums_number row
 
-pub sums_are : (row : List ℕ) (number seeds : ℕ) → 1 ≤ length row → number ≡ number_of row → seeds ≡ sum row → number < 2 ^ 60 →
+pub sums_are : (row : List ℕ) (number seeds : ℕ) → 1 ≤ length row → number ≡ number_of row → seeds ≡ sum row
+    → number < 2 ^ 60 →
     AreSums row number seeds
 sums_are [] number seeds some is all below = absurd (omega arith)
 sums_are (x ∷ xs) number seeds some is all below =
@@ -145,7 +154,8 @@ sums_are (x ∷ xs) number seeds some is all below =
     }
 
 -- both rows of houses in one number
-pub both_rows : (a : Rows) (own other m : ℕ) → IsWithinHouses a → own ≡ number_of a.own → other ≡ number_of a.other → own < 2 ^ 30 →
+pub both_rows : (a : Rows) (own other m : ℕ) → IsWithinHouses a → own ≡ number_of a.own → other ≡ number_of a.other
+    → own < 2 ^ 30 →
     other < 2 ^ 30 → m ≡ length a.own →
     (own + other * 2 ^ (5 * m) % 2 ^ 64 ≡ number_of (a.own ++ a.other)) × (own + other * 2 ^ (5 * m) % 2 ^ 64 < 2 ^ 60)
 both_rows a own other m within own_is other_is own_small other_small side =
@@ -188,7 +198,8 @@ module _ (row : List ℕ) (few : sum row ≤ 9) (m passed sums at : ℕ) (long :
   two_more : drop (2 * passed) row ≡ two_first ∷ two_second ∷ two_past
   two_more =
       let twice : 2 * passed + 1 + 1 ≡ 2 * (passed + 1) = omega arith in
-      rw (drop_more row (2 * passed) 0 (omega (arith, long, more)), drop_more row (2 * passed + 1) 0 (omega (arith, long, more)), twice) refl
+      rw (drop_more row (2 * passed) 0 (omega (arith, long, more)), drop_more row (2 * passed + 1) 0 (omega (arith, long, more)), twice)
+      refl
 
   two_less : sum (two_first ∷ two_second ∷ two_past) ≤ 9
   two_less =
@@ -212,7 +223,8 @@ module _ (row : List ℕ) (few : sum row ≤ 9) (m passed sums at : ℕ) (long :
       let first_cells : suc (length rest) ≡ 2 * past + 2 = omega (arith, cells) in
       let second : two_second + sum two_past + length two_past ≡ sums % 1024 / 32 + 2 * past = omega (arith, two_are.second, cells) in
       let second_cells : suc (length two_past) ≡ 2 * past + 1 = omega (arith, cells) in
-      let ways : choose (two_first + sum rest + length rest) (suc (length rest)) ≡ choose (sums % 1024 % 32 + 2 * past + 1) (2 * past + 2) =
+      let ways : choose (two_first + sum rest + length rest) (suc (length rest)) ≡ choose (sums % 1024 % 32 + 2 * past + 1)
+      (2 * past + 2) =
       rw (first, first_cells) refl in
       let ways' : choose (two_second + sum two_past + length two_past) (suc (length two_past))
       ≡ choose (sums % 1024 / 32 + 2 * past) (2 * past + 1) = rw (second, second_cells) refl in
@@ -227,7 +239,8 @@ module _ (row : List ℕ) (few : sum row ≤ 9) (m passed sums at : ℕ) (long :
       (omega (arith, two_are.first, two_less, cons, cons'), omega (arith, two_are.second, two_less, cons, cons'))
 
 -- what is added so far is small
-pub ranked_small : (row : List ℕ) (passed sums at : ℕ) → sum row ≤ 9 → length row ≤ 12 → IsRanked row passed sums at → at < 2 ^ 21
+pub ranked_small : (row : List ℕ) (passed sums at : ℕ) → sum row ≤ 9 → length row ≤ 12 → IsRanked row passed sums at
+    → at < 2 ^ 21
 ranked_small row passed sums at few long is = omega (arith, is.rank, rank_small row (omega (arith, few, long)))
 
 rank_none : (xs : List ℕ) → length xs ≡ 0 → row_rank xs ≡ 0
@@ -235,6 +248,7 @@ rank_none [] none = refl
 rank_none (x ∷ xs) none = absurd (omega arith)
 
 -- and is the rank once all cells are passed
-pub ranked_all : (row : List ℕ) (passed sums at : ℕ) → length row ≤ 2 * passed → IsRanked row passed sums at → at ≡ row_rank row
+pub ranked_all : (row : List ℕ) (passed sums at : ℕ) → length row ≤ 2 * passed → IsRanked row passed sums at
+    → at ≡ row_rank row
 ranked_all row passed sums at all is =
     omega (arith, is.rank, rank_none (drop (2 * passed) row) (omega (arith, all, length-drop (2 * passed) row)))

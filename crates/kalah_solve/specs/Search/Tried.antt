@@ -36,6 +36,8 @@ IsLook a bar h (Waits priority b) = (0 < priority) × IsTurnOf a h priority b
 -- unless that is enough
 pub record AreWaiting (a : Rows) (bar most : ℕ) (priorities : List ℕ) (turns : List Rows) : Type 0 where
   pub lower : bar ≤ most → most ≤ won a
-  pub waiting : (k : ℕ) → 0 < slice_index priorities k → (d : Rows) → IsTurnOf a (k + 1) (slice_index priorities k) (slice_index_or turns k d)
-  pub others : most < bar → (h : ℕ) → Contains (legal_houses (bare a)) h → slice_index priorities (h - 1) ≡ 0 → ¬ EndsInStore a h →
+  pub waiting : (k : ℕ) → 0 < slice_index priorities k → (d : Rows)
+      → IsTurnOf a (k + 1) (slice_index priorities k) (slice_index_or turns k d)
+  pub others : most < bar → (h : ℕ) → Contains (legal_houses (bare a)) h → slice_index priorities (h - 1) ≡ 0
+      → ¬ EndsInStore a h →
       WinsAtMost a most h

@@ -14,7 +14,8 @@ WorthOfOver = (p : Position) → is_over p ≡ true → worth p ≡ final_margin
 
 -- any other position is worth the greatest value of a legal move
 abbrev pub WorthIsGreatestValue : Type 0
-WorthIsGreatestValue = (p : Position) → HasEqualSides p → is_over p ≡ false → worth p ≡ greatest (map (value_of_move p) (legal_houses p))
+WorthIsGreatestValue = (p : Position) → HasEqualSides p → is_over p ≡ false
+    → worth p ≡ greatest (map (value_of_move p) (legal_houses p))
 
 -- and has one at least
 abbrev pub GameThatGoesOnHasMove : Type 0
@@ -57,7 +58,8 @@ StrategiesPlayAGame = (mine theirs : Strategy) → IsStrategy mine → IsStrateg
 -- and only one
 abbrev pub StrategiesPlayOneGame : Type 0
 StrategiesPlayOneGame = (mine theirs : Strategy) (p : Position) (houses others : List ℕ) (final other : Position) →
-    Game (follow mine) (follow theirs) p houses final → Game (follow mine) (follow theirs) p others other → (houses ≡ others) × (final ≡ other)
+    Game (follow mine) (follow theirs) p houses final → Game (follow mine) (follow theirs) p others other → (houses ≡ others)
+    × (final ≡ other)
 
 -- a game by the rules ends in a position that is over, after no more moves than are left
 pub record EndsInTime (p : Position) (houses : List ℕ) (final : Position) : Type 0 where
@@ -88,7 +90,8 @@ EndsWithAtLeast mine theirs p v = (houses : List ℕ) × (final : Position) × G
     × (v ≤ℤ final_margin final)
 
 abbrev pub EndsWithAtMost : Strategy → Strategy → Position → ℤ → Type 0
-EndsWithAtMost mine theirs p v = (houses : List ℕ) × (final : Position) × Game (follow mine) (follow theirs) p houses final × (final_margin final ≤ℤ v)
+EndsWithAtMost mine theirs p v = (houses : List ℕ) × (final : Position) × Game (follow mine) (follow theirs) p houses final
+    × (final_margin final ≤ℤ v)
 
 -- either player has a strategy that gets the worth or better against each strategy of the other
 pub record BestPlayAgainstStrategies : Type 0 where

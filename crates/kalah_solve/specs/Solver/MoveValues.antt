@@ -24,7 +24,8 @@ values_of p = map (move_value p) (legal_houses p)
 
 -- each game that begins with house h and in which the opponent follows `theirs` ends with at most v for the player to move
 abbrev pub HoldsMoveTo : Strategy → Position → ℕ → ℤ → Type 0
-HoldsMoveTo theirs p h v = (houses : List ℕ) (final : Position) → Game legal_houses (follow theirs) p (h ∷ houses) final → final_margin final ≤ℤ v
+HoldsMoveTo theirs p h v = (houses : List ℕ) (final : Position) → Game legal_houses (follow theirs) p (h ∷ houses) final
+    → final_margin final ≤ℤ v
 
 -- v is what the move of house h secures, and no more: a strategy that begins with it secures v, and the opponent has one that
 -- allows no more after it
@@ -52,7 +53,8 @@ ValueIsWorthOfMove = (p : Position) (h : ℕ) → HasEqualSides p → is_over p 
 
 -- and no other number is
 abbrev pub WorthOfMoveIsOne : Type 0
-WorthOfMoveIsOne = (p : Position) (h : ℕ) (v w : ℤ) → HasEqualSides p → is_over p ≡ false → IsWorthOfMove p h v → IsWorthOfMove p h w → v ≡ w
+WorthOfMoveIsOne = (p : Position) (h : ℕ) (v w : ℤ) → HasEqualSides p → is_over p ≡ false → IsWorthOfMove p h v
+    → IsWorthOfMove p h w → v ≡ w
 
 -- the greatest value and the first house that has it are the verdict
 abbrev pub ValuesTellVerdict : Type 0

@@ -7,7 +7,7 @@ use Rattle.kalah_solve.specs.Solver.BestPlay.{IsBestPlay, IsBestMove}
 use Rattle.kalah_solve.specs.declared.solver.verdict.Verdict.{Verdict}
 use Rattle.kalah_solve.specs.declared.solver.verdict.Verdict.TheVariants.{Best, Over}
 
--- the final margin of a game that is over, and else the margin of best play with the lowest house that attains it
+-- the final margin of a game that is over, otherwise the margin of best play with the lowest house that attains it
 abbrev pub verdict_of : Position → Verdict
 verdict_of p = if is_over p then Over (final_margin p) else Best (worth p) (best_house p)
 

@@ -11,7 +11,7 @@ use crate::bounds::seed_bounds::SeedBounds;
 use crate::marks::{again_houses, other_houses, split_last};
 use crate::search::Search;
 use crate::search::move_order::{Priorities, highest};
-use kalah_rules::{Houses, HousesStep};
+use kalah_rules::{House, Houses, HousesStep};
 use std::alloc::Allocator;
 
 // What is known of a move once it was played: a bound of what it takes, or the priority with which its turn waits to be searched, and
@@ -114,9 +114,9 @@ impl<A: Allocator + Clone> Search<A> {
         let mut left = again_houses(houses);
         let mut most = 0;
         while left > 0 {
-            let (h, rest) = split_last(left);
+            let (house, rest) = split_last(left);
             left = rest;
-            let bound = self.bound_step(houses.play_into_store(h), bar);
+            let bound = self.bound_step(houses.play_into_store(house), bar);
             if bar <= bound {
                 return bound;
             }
@@ -142,12 +142,13 @@ impl<A: Allocator + Clone> Search<A> {
         let mut most = 0;
         let mut left = other_houses(houses);
         while left > 0 {
-            let (h, rest) = split_last(left);
+            let (house, rest) = split_last(left);
             left = rest;
-            match self.look(houses, h, bar) {
+            match self.look(houses, house, bar) {
                 Look::Waits(priority, next) => {
-                    priorities[h as usize - 1] = priority;
-                    turns[h as usize - 1] = next;
+                    let at = house.number() as usize - 1;
+                    priorities[at] = priority;
+                    turns[at] = next;
                 }
                 Look::Bounded(bound) => {
                     if bar <= bound {
@@ -160,18 +161,21 @@ impl<A: Allocator + Clone> Search<A> {
         most
     }
 
-    // Plays house `h`. It waits if it is a turn that must be searched.
+    // Plays this house. It waits if it is a turn that must be searched.
     #[cycle(search)]
-    fn look(&mut self, houses: &Houses, h: u8, bar: u8) -> Look
-        requires legal { Contains (legal_houses (bare houses.now)) h }
-        ensures { IsLook houses.now bar h result }
+    fn look(&mut self, houses: &Houses, house: House, bar: u8) -> Look
+        requires legal { Contains (legal_houses (bare houses.now)) house }
+        ensures { IsLook houses.now bar house result }
     {
         let _seeds = houses.seeds();
-        let step = houses.play_by(&self.table.endings.sowings, h);
+        let step = houses.play_by(&self.table.endings.sowings, house);
         match step {
             HousesStep::Turn(gained, next) => {
                 if gained < bar && next.seeds() > self.ending_limit.seeds {
-                    return Look::Waits(self.order.priority(houses.m(), h, gained, &next), next);
+                    let priority = self
+                        .order
+                        .priority(houses.m(), house.number(), gained, &next);
+                    return Look::Waits(priority, next);
                 }
                 Look::Bounded(self.bound_turn(gained, next, bar))
             }

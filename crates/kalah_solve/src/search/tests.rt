@@ -36,8 +36,13 @@ static SMALL: [Position; 8] = [
     (5, [1, 2, 0, 0, 2, 0], [2, 2, 2, 1, 0, 0], -2),
 ];
 
-// Prints the number of nodes that the positions take in order, which is within 5 % of this one.
-fn assert_nodes(rt: &(impl Abort + AllocGlobal + Print), positions: &[Position], expected: u64) {
+// Prints the number of nodes that the positions take in order, which is within 5 % of this one. Returns the number of places that are
+// laid out then.
+fn places_after(
+    rt: &(impl Abort + AllocGlobal + Print),
+    positions: &[Position],
+    expected: u64,
+) -> usize {
     let table = Table::new(rt.alloc(), 65_536).expect(rt, "no memory for a table");
     let mut search = Search::new(table);
     for (m, own, other, worth) in positions {
@@ -48,19 +53,20 @@ fn assert_nodes(rt: &(impl Abort + AllocGlobal + Print), positions: &[Position],
     let nodes = search.nodes();
     println!(rt; "{nodes} nodes").expect(rt, "no output");
     assert!(rt; nodes.abs_diff(expected) < expected / 20);
+    search.table.places.len()
 }
 
 #[test]
 fn games_as_they_begin_take_few_nodes(rt: HostRuntime) {
-    assert_nodes(&rt, &GAMES, 56_161);
+    places_after(&rt, &GAMES, 54_538);
 }
 
 #[test]
 fn hard_positions_take_few_nodes(rt: HostRuntime) {
-    assert_nodes(&rt, &HARD, 209_065);
+    assert!(rt; places_after(&rt, &HARD, 203_469) == 65_536);
 }
 
 #[test]
 fn small_positions_take_few_nodes(rt: HostRuntime) {
-    assert_nodes(&rt, &SMALL, 428);
+    assert!(rt; places_after(&rt, &SMALL, 428) == 8_192);
 }

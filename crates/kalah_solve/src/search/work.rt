@@ -7,7 +7,7 @@ use kalah_rules::Houses;
 
 // The nodes of a game from which on all places pay, and endings of 8 seeds, not only those of up to 7: to find an ending costs as much as
 // a node.
-const SOME_NODES: u64 = 16_000;
+const SOME_NODES: u64 = 8_000;
 
 // The nodes of a game from which on all endings pay, once houses with `MANY_SEEDS` seeds were searched.
 const MANY_NODES: u64 = 46_000;

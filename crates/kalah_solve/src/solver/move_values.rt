@@ -59,7 +59,7 @@ impl MoveValues {
         self.count += 1;
     }
 
-    /// Returns the number of values: 0 if the game is over, and else 1 to 6.
+    /// Returns the number of values: 0 if the game is over, otherwise 1 to 6.
     pub fn len(&self) -> u8
         ensures is { result ≡ length self.now }
         ensures few { result ≤ 6 }

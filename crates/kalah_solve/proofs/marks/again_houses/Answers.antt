@@ -1,7 +1,12 @@
+use Rattle.kalah_solve.proofs.RowMarks.{six_marks}
 use Rattle.kalah_solve.proofs.HouseMarks.{again_marked}
 use Rattle.kalah_solve.proofs.marks.again_houses.Goals as goal
 
 pub returns-clause-marked : goal.returns-clause-marked
 returns-clause-marked c =
-    again_marked c.args.houses.now c.own_row.result c.own_row.ensures.limits c.own_row.ensures.value c.m.result c.ending_in_store.result c.m.ensures.side
+    again_marked c.args.houses.now c.own_row.result c.own_row.ensures.limits c.own_row.ensures.value c.m.result c.ending_in_store.result
+    c.m.ensures.side
     c.ending_in_store.ensures.small c.ending_in_store.ensures.inside c.ending_in_store.ensures.past
+
+pub returns-clause-marks : goal.returns-clause-marks
+returns-clause-marks c = six_marks c.ending_in_store.result c.ending_in_store.ensures.small c.ending_in_store.ensures.single

@@ -1,5 +1,7 @@
+use Rattle.std.proofs.Common.{arith}
+use Rattle.kalah_solve.specs.RowMarks.{cell}
 use Rattle.std.proofs.lemmas.Nat.{xor_lt}
-use Rattle.kalah_solve.proofs.RowMarks.{cell_xor}
+use Rattle.kalah_solve.proofs.RowMarks.{cell_xor, six_marks}
 use Rattle.kalah_solve.proofs.HouseMarks.{other_marked}
 use Rattle.kalah_solve.proofs.marks.other_houses.Goals as goal
 
@@ -11,5 +13,14 @@ returns-clause-marked c = λ i.
     c.filled.ensures.cells
     c.ending_in_store.ensures.single (cell_xor i c.filled.result c.ending_in_store.result)
 
-pub returns-clause-small : goal.returns-clause-small
-returns-clause-small c = xor_lt 30 c.filled.result c.ending_in_store.result c.filled.ensures.small c.ending_in_store.ensures.small
+pub returns-clause-marks : goal.returns-clause-marks
+returns-clause-marks c =
+    let filled = c.filled.result in
+    let again = c.ending_in_store.result in
+    six_marks _ (xor_lt 30 filled again c.filled.ensures.small c.ending_in_store.ensures.small) (λ i inside.
+    omega (
+      arith,
+      cell_xor i filled again,
+      xor_lt 1 (cell filled i) (cell again i) (omega (arith, c.filled.ensures.cells i inside))
+          (omega (arith, c.ending_in_store.ensures.single i inside)),
+    ))

@@ -1,23 +1,26 @@
-use Rattle.std.proofs.Common.{arith, refl, ◌≡◌, ◌+◌, ◌-◌, ◌/◌}
+use Rattle.std.proofs.Common.{arith, refl, ◌≡◌, ◌+◌, ◌-◌, ◌*◌, ◌/◌, ◌%◌, ◌^◌}
 use Rattle.std.specs.Int.Count.{count_leading_zeros}
 use Rattle.kalah_solve.specs.RowMarks.{IsLastMark}
-use Rattle.kalah_solve.proofs.RowMarks.{last_by_zeros, last_is_worth}
+use Rattle.kalah_solve.proofs.RowMarks.{last_begins, last_by_zeros, last_is_worth}
 use Rattle.kalah_solve.proofs.marks.split_last.Goals as goal
 
-last_is : (c : goal.Start) → IsLastMark c.args.marks ((63 - count_leading_zeros 64 c.args.marks) / 5 + 1)
-last_is c = last_by_zeros c.args.marks (count_leading_zeros 64 c.args.marks) c.requires.some c.requires.small refl
+pub at-requires : goal.at-requires
+at-requires c = last_begins c.args.marks (count_leading_zeros 64 c.args.marks) c.requires.some c.requires.marks refl
+
+module _ (c : goal.After-at) where
+  last_is : IsLastMark c.args.marks ((63 - count_leading_zeros 64 c.args.marks) / 5 + 1)
+  last_is = last_by_zeros c.args.marks (count_leading_zeros 64 c.args.marks) c.requires.some c.requires.marks.small refl
+
+  worth : 1 * 2 ^ (63 - count_leading_zeros 64 c.args.marks) % 2 ^ 64 ≡ 32 ^ ((63 - count_leading_zeros 64 c.args.marks) / 5 + 1 - 1)
+  worth =
+      let begins = last_begins c.args.marks (count_leading_zeros 64 c.args.marks) c.requires.some c.requires.marks refl in
+      last_is_worth c.args.marks _ c.requires.marks.small last_is begins
 
 pub overflow_sub-result : goal.overflow_sub-result
-overflow_sub-result c =
-    let q = (63 - count_leading_zeros 64 c.args.marks) / 5 in
-    let at : q + 1 - 1 ≡ q = omega arith in
-    rw (last_is_worth c.args.marks q c.requires.small (last_is c)) (rw at at (last_is c).low)
+overflow_sub-result c = omega (arith, worth c, (last_is c).low)
 
 pub returns-clause-last : goal.returns-clause-last
-returns-clause-last c = last_is c
+returns-clause-last c = rw c.at.ensures (last_is c)
 
 pub returns-clause-rest : goal.returns-clause-rest
-returns-clause-rest c =
-    let q = (63 - count_leading_zeros 64 c.args.marks) / 5 in
-    let at : q + 1 - 1 ≡ q = omega arith in
-    rw (last_is_worth c.args.marks q c.requires.small (last_is c), at) refl
+returns-clause-rest c = rw (worth c, c.at.ensures) refl

@@ -9,7 +9,7 @@ ghost use Rattle.kalah_solve.specs.Bounds.Won.{won, won_by_step};
 
 use crate::marks::{filled_houses, split_last};
 use crate::table::endgame_table::EndgameTable;
-use kalah_rules::{Houses, HousesStep};
+use kalah_rules::{House, Houses, HousesStep};
 use std::alloc::Allocator;
 
 impl<A: Allocator> EndgameTable<A> {
@@ -54,9 +54,9 @@ impl<A: Allocator> EndgameTable<A> {
         let mut left = filled_houses(houses);
         let mut most = 0;
         while left > 0 {
-            let (h, rest) = split_last(left);
+            let (house, rest) = split_last(left);
             left = rest;
-            most = most.max(self.move_wins(houses, h));
+            most = most.max(self.move_wins(houses, house));
             if most >= seeds {
                 return most;
             }
@@ -64,15 +64,15 @@ impl<A: Allocator> EndgameTable<A> {
         most
     }
 
-    // Returns how many seeds the move of house `h` takes.
+    // Returns how many seeds the move of this house takes.
     #[cycle(exact)]
-    fn move_wins(&self, houses: &Houses, h: u8) -> u8
-        requires legal { Contains (legal_houses (bare houses.now)) h }
+    fn move_wins(&self, houses: &Houses, house: House) -> u8
+        requires legal { Contains (legal_houses (bare houses.now)) house }
         requires few { IsEnding houses.now }
-        ensures { result ≡ won_by_step (houses_step houses.now h) }
+        ensures { result ≡ won_by_step (houses_step houses.now house) }
     {
         let _seeds = houses.seeds();
-        match houses.play_by(&self.sowings, h) {
+        match houses.play_by(&self.sowings, house) {
             HousesStep::Over { own, .. } => own,
             HousesStep::Again(gained, next) => gained + self.won(next),
             HousesStep::Turn(gained, next) => gained + (next.seeds() - self.won(next)),

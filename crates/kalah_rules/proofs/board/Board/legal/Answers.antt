@@ -17,9 +17,11 @@ loop-h-preserved c =
     let more = filter_range_more (λ i. nat_lt 0 (seeds c.args.self.now.own i)) 1 (c.loop-h.h - 1) c.loop-h.h (omega arith) in
     elim c.if-own-gt0.branch [
       | then-own-gt0 w ↦
-          let some : nat_lt 0 (seeds c.args.self.now.own c.loop-h.h) ≡ true = lt-ltb _ _ (omega (arith, w.if-own-gt0.true, c.own.ensures)) in
+          let some : nat_lt 0 (seeds c.args.self.now.own c.loop-h.h) ≡ true =
+          lt-ltb _ _ (omega (arith, w.if-own-gt0.true, c.own.ensures)) in
           rw (w.moves-is, w.push.ensures, c.loop-h.invariant, at, more, some) refl
       | else-own-gt0 w ↦
-          let none : nat_lt 0 (seeds c.args.self.now.own c.loop-h.h) ≡ false = le-ltb _ _ (omega (arith, w.if-own-gt0.false, c.own.ensures)) in
+          let none : nat_lt 0 (seeds c.args.self.now.own c.loop-h.h) ≡ false =
+          le-ltb _ _ (omega (arith, w.if-own-gt0.false, c.own.ensures)) in
           rw (w.moves-is, c.loop-h.invariant, at, more, none) (sym (append-nil _))
     ]

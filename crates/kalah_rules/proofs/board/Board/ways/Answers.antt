@@ -6,4 +6,5 @@ use Rattle.kalah_rules.proofs.board.Board.ways.Goals as goal
 
 pub returns-clause-ways : goal.returns-clause-ways
 returns-clause-ways c =
-    c.ways.ensures.ways ∙ ap (λ (a : Rows). ways c.args.depth (bare a)) c.houses.ensures ∙ sym (ways_of_rows c.args.depth c.args.self.now)
+    c.ways.ensures.ways ∙ ap (λ (a : Rows). ways c.args.depth (bare a)) c.houses.ensures
+    ∙ sym (ways_of_rows c.args.depth c.args.self.now)

@@ -3,7 +3,7 @@ use Rattle.std.specs.Prelude.{◌==◌}
 use Rattle.kalah_rules.specs.Position.{bare}
 use Rattle.kalah_rules.specs.Lap.{HoldsSeeds}
 use Rattle.kalah_rules.specs.declared.step.HousesStep.TheVariants.{Over, Again, Turn}
-use Rattle.kalah_rules.proofs.Legal.{holds_legal}
+use Rattle.kalah_rules.proofs.Legal.{holds_legal, legal_holds}
 use Rattle.kalah_rules.proofs.WaySums.{one_if, ways_none, ways_one, ways_over, ways_by_step, before_none, before_more, before_same, before_all, before_small, power_fits}
 use Rattle.kalah_rules.proofs.houses.Houses.+ways.Goals as goal
 use Rattle.kalah_rules.proofs.houses.Houses.+ways.Goals.{ways-then-own-gt0, ways-else-own-gt0}
@@ -76,15 +76,23 @@ ways-returns-clause-small t c =
     rw more at (before_small (c.args.depth - 1) (bare c.args.self.now) c.loop-h.h c.loop-h.sum c.loop-h.invariant
     (omega (arith, c.m-h-end.ensures.side, c.m-h-end.ensures.limits.at_most_six)))
 
+pub ways_by-new-requires-clause-first : goal.ways_by-new-requires-clause-first
+ways_by-new-requires-clause-first t c = (legal_holds (bare c.args.self.now) c.args.h c.requires.legal).first
+
+pub ways_by-new-requires-clause-last : goal.ways_by-new-requires-clause-last
+ways_by-new-requires-clause-last t c =
+    omega (arith, (legal_holds (bare c.args.self.now) c.args.h c.requires.legal).last, c.m-side.ensures.limits.at_most_six)
+
 pub ways_by-returns-in-Over-clause-ways : goal.ways_by-returns-in-Over-clause-ways
 ways_by-returns-in-Over-clause-ways t c =
+    let step = rw c.new.ensures at c.play_by.ensures in
     c.from.ensures ∙ one_if (c.args.depth == 0)
-    ∙ ways_by_step c.args.depth c.args.self.now c.args.h (Over c.in-Over.own c.in-Over.other) c.play_by.result c.play_by.ensures
-    c.in-Over.is
+    ∙ ways_by_step c.args.depth c.args.self.now c.args.h (Over c.in-Over.own c.in-Over.other) c.play_by.result step c.in-Over.is
 
 pub ways_by-returns-in-Again-clause-ways : goal.ways_by-returns-in-Again-clause-ways
 ways_by-returns-in-Again-clause-ways t c =
+    let step = rw c.new.ensures at c.play_by.ensures in
     c.ways.ensures.ways ∙ elim c.in-Again.is [
-      | inl again ↦ ways_by_step c.args.depth c.args.self.now c.args.h (Again again.0 c.in-Again.next) c.play_by.result c.play_by.ensures again.1
-      | inr turn ↦ ways_by_step c.args.depth c.args.self.now c.args.h (Turn turn.0 c.in-Again.next) c.play_by.result c.play_by.ensures turn.1
+      | inl again ↦ ways_by_step c.args.depth c.args.self.now c.args.h (Again again.0 c.in-Again.next) c.play_by.result step again.1
+      | inr turn ↦ ways_by_step c.args.depth c.args.self.now c.args.h (Turn turn.0 c.in-Again.next) c.play_by.result step turn.1
     ]

@@ -9,6 +9,6 @@ decreases-ways l = 2 * l.depth
 abbrev pub decreases-ways_by : goal.decreases-ways_by
 decreases-ways_by l = 2 * l.depth + 1
 
--- the ways behind the moves of the houses so far
+-- the ways after the moves of the houses so far
 abbrev pub invariant-ways-loop-h : goal.invariant-ways-loop-h
 invariant-ways-loop-h l = AreWaysBefore (l.depth - 1) (bare l.self) l.h l.sum

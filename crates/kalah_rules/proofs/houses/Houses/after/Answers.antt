@@ -8,10 +8,10 @@ capture-requires-clause-own c = omega (arith, c.requires.sowing.end, c.if-sowing
 
 pub returns-then-sowing-m : goal.returns-then-sowing-m
 returns-then-sowing-m c =
-    after_own (bare c.args.self.now) c.args.h c.requires.holds c.capture.result
+    after_own (bare c.args.self.now) c.args.house c.requires.holds c.capture.result
     (omega (arith, c.requires.sowing.end, c.if-sowing-m.true, c.m.ensures.side)) c.capture.ensures
 
 pub returns-else-sowing-m : goal.returns-else-sowing-m
 returns-else-sowing-m c =
-    after_past (bare c.args.self.now) c.args.h c.requires.holds c.sow-rows.result
+    after_past (bare c.args.self.now) c.args.house c.requires.holds c.sow-rows.result
     (omega (arith, c.requires.sowing.end, c.if-sowing-m.false, c.m.ensures.side)) c.sow-rows.ensures

@@ -7,7 +7,13 @@ use Rattle.kalah_rules.proofs.houses.Houses.legal_count.Goals.{then-own-gt0, els
 
 pub overflow_add-count : goal.overflow_add-count
 overflow_add-count c =
-    omega (arith, c.loop-h.invariant, seeded_few c.args.self.now.own c.loop-h.h, c.m-h-end.ensures.side, c.m-h-end.ensures.limits.at_most_six)
+    omega (
+      arith,
+      c.loop-h.invariant,
+      seeded_few c.args.self.now.own c.loop-h.h,
+      c.m-h-end.ensures.side,
+      c.m-h-end.ensures.limits.at_most_six,
+    )
 
 pub loop-h-preserved : goal.loop-h-preserved
 loop-h-preserved c =
@@ -24,8 +30,15 @@ loop-h-preserved c =
 pub returns-clause-count : goal.returns-clause-count
 returns-clause-count c =
     c.loop-h.invariant
-    ∙ ap length (seeded_legal (bare c.args.self.now) c.loop-h.h (sym c.is_over.ensures ∙ c.if-is_over.false) (omega (arith, c.m-h-end.ensures.side)))
+    ∙ ap length (seeded_legal (bare c.args.self.now) c.loop-h.h (sym c.is_over.ensures ∙ c.if-is_over.false)
+    (omega (arith, c.m-h-end.ensures.side)))
 
 pub returns-clause-few : goal.returns-clause-few
 returns-clause-few c =
-    omega (arith, c.loop-h.invariant, seeded_few c.args.self.now.own c.loop-h.h, c.m-h-end.ensures.side, c.m-h-end.ensures.limits.at_most_six)
+    omega (
+      arith,
+      c.loop-h.invariant,
+      seeded_few c.args.self.now.own c.loop-h.h,
+      c.m-h-end.ensures.side,
+      c.m-h-end.ensures.limits.at_most_six,
+    )

@@ -6,12 +6,12 @@ use Rattle.kalah_rules.proofs.PackedMoves.{again_at}
 use Rattle.kalah_rules.proofs.houses.Houses.play_as.Goals as goal
 
 pub after-requires-clause-holds : goal.after-requires-clause-holds
-after-requires-clause-holds c = legal_holds (bare c.args.self.now) c.args.h c.requires.legal
+after-requires-clause-holds c = legal_holds (bare c.args.self.now) c.args.house c.requires.legal
 
 pub step-requires-clause-again : goal.step-requires-clause-again
 step-requires-clause-again c =
     let p = bare c.args.self.now in
-    let at = again_at p c.args.h (legal_holds p c.args.h c.requires.legal) in
+    let at = again_at p c.args.house (legal_holds p c.args.house c.requires.legal) in
     let end = c.requires.sowing.end in
     let side = c.m.ensures.side in
     grind (arith, nat_tests, at, end, side)

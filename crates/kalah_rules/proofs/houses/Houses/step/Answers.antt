@@ -17,10 +17,11 @@ returns-then-own-eq0 c = over_own c.self.invariant c.self.view_is c.requires.leg
 pub returns-then-other-eq0 : goal.returns-then-other-eq0
 returns-then-other-eq0 c =
     let pack = pack_of c.self.invariant c.self.view_is in
-    rw (c.seeds.ensures.seeds, ← pack.seeds_are) (over_other c.self.invariant c.self.view_is c.requires.legal c.requires.rows c.if-other-eq0.true)
+    rw (c.seeds.ensures.seeds, ← pack.seeds_are) (over_other c.self.invariant c.self.view_is c.requires.legal c.requires.rows
+    c.if-other-eq0.true)
 
 -- the step on which the mover moves again
-again : (c : Then-again) → IsStepTo c.args.self.now c.args.h (c.args.rows.rows + c.self.inside.key / 2 ^ 60 * 2 ^ 60)
+again : (c : Then-again) → IsStepTo c.args.self.now c.args.house (c.args.rows.rows + c.self.inside.key / 2 ^ 60 * 2 ^ 60)
     (c.self.inside.seeds - c.args.rows.store) (Again c.args.rows.store)
 again c = again_packed c.self.invariant c.self.view_is c.requires.legal c.requires.rows c.if-own-eq0.false c.if-other-eq0.false
     (sym c.requires.again ∙ c.if-again.true)
@@ -35,7 +36,7 @@ pub returns-then-again : goal.returns-then-again
 returns-then-again c = (again c.before).is
 
 -- and the turn
-turn : (c : Else-again) → IsStepTo c.args.self.now c.args.h
+turn : (c : Else-again) → IsStepTo c.args.self.now c.args.house
     (c.args.rows.rows / 2 ^ 30 + 2 ^ 30 * (c.args.rows.rows % 2 ^ 30) + c.self.inside.key / 2 ^ 60 * 2 ^ 60)
     (c.self.inside.seeds - c.args.rows.store) (Turn c.args.rows.store)
 turn c = turn_packed c.self.invariant c.self.view_is c.requires.legal c.requires.rows c.if-own-eq0.false c.if-other-eq0.false

@@ -1,8 +1,6 @@
 use Rattle.std.proofs.Common.{arith, rules, refl, sym, ◌∙◌, ◌≡◌, ◌+◌, ◌-◌, ◌%◌, subst, length}
 use Rattle.std.specs.Prelude.{max}
 use Rattle.std.proofs.lemmas.List.Sums.{sum_by-set}
-use Rattle.kalah_rules.specs.Position.{bare}
-use Rattle.kalah_rules.proofs.Legal.{legal_holds}
 use Rattle.kalah_rules.specs.declared.step.HousesStep.TheVariants.{Turn}
 use Rattle.kalah_solve.specs.Solver.StepWorth.{GoesOn, GoesOnAt}
 use Rattle.kalah_solve.specs.Bounds.Won.{won}
@@ -16,16 +14,16 @@ use Rattle.kalah_solve.proofs.search.Search.+search.Goals as goal
 pub look-bound_step-requires : goal.look-bound_step-requires
 look-bound_step-requires g t c κs within =
     let limits = c.seeds-seeds.ensures.limits in (
-      omega (arith, step_falls c.args.houses.now c.args.h c.play_by-step.result limits c.requires.legal c.play_by-step.ensures),
-      (within, goes_on c.args.houses.now c.args.h c.play_by-step.result limits c.requires.legal c.play_by-step.ensures),
+      omega (arith, step_falls c.args.houses.now c.args.house c.play_by-step.result limits c.requires.legal c.play_by-step.ensures),
+      (within, goes_on c.args.houses.now c.args.house c.play_by-step.result limits c.requires.legal c.play_by-step.ensures),
     )
 
 pub look-bound_turn-requires : goal.look-bound_turn-requires
 look-bound_turn-requires g t c κs within =
     let limits = c.seeds-seeds.ensures.limits in
     let is = sym c.in-Turn.is ∙ c.play_by-step.ensures in (
-      omega (arith, step_falls c.args.houses.now c.args.h (Turn c.in-Turn.gained c.in-Turn.next) limits c.requires.legal is),
-      (within, goes_on c.args.houses.now c.args.h (Turn c.in-Turn.gained c.in-Turn.next) limits c.requires.legal is),
+      omega (arith, step_falls c.args.houses.now c.args.house (Turn c.in-Turn.gained c.in-Turn.next) limits c.requires.legal is),
+      (within, goes_on c.args.houses.now c.args.house (Turn c.in-Turn.gained c.in-Turn.next) limits c.requires.legal is),
     )
 
 pub bound_step-overflow_add-result : goal.bound_step-overflow_add-result
@@ -41,7 +39,8 @@ bound_turn-overflow_sub-result g t c =
 pub bound_turn-returns-else-all-bar : goal.bound_turn-returns-else-all-bar
 bound_turn-returns-else-all-bar g t c =
     let few = (taken_share c.args.next c.requires.on.limits).few in
-    bound_left c.args.bar (c.args.gained + c.seeds.result) _ c.args.gained (won c.args.next) c.bound.result (omega (arith, c.seeds.ensures.seeds)) few
+    bound_left c.args.bar (c.args.gained + c.seeds.result) _ c.args.gained (won c.args.next) c.bound.result
+    (omega (arith, c.seeds.ensures.seeds)) few
     c.if-bar-gained.false c.if-all-bar.false c.bound.ensures
 
 pub explore-bounds-priorities-at : goal.explore-bounds-priorities-at
@@ -68,7 +67,11 @@ explore-bound_turn-bound-requires g t c κs within =
     let here = c.loop-priority.invariant.next c.loop-priority-test.true in
     let turn = here.turn c.index-turns-at.result in (
       omega (arith, step_falls a (c.loop-priority.priority % 8 + 1) _ limits turn.legal (sym turn.step)),
-      (within, rw (c.seeds-seeds.ensures.seeds, c.seeds.ensures.seeds) (goes_on a (c.loop-priority.priority % 8 + 1) _ limits turn.legal (sym turn.step))),
+      (
+        within,
+        rw (c.seeds-seeds.ensures.seeds, c.seeds.ensures.seeds)
+            (goes_on a (c.loop-priority.priority % 8 + 1) _ limits turn.legal (sym turn.step)),
+      ),
     )
 
 pub explore-returns-then-bar-bound : goal.explore-returns-then-bar-bound
@@ -114,18 +117,12 @@ explore-returns g t c =
     }
 
 pub look-returns-then-seeds-self : goal.look-returns-then-seeds-self
-look-returns-then-seeds-self g t c = (
-  c.priority.ensures.some,
-  turn_of c.args.houses.now c.args.h c.priority.result c.in-Turn.gained c.in-Turn.next c.seeds-seeds.ensures.limits c.requires.legal
-      (sym c.in-Turn.is ∙ c.play_by-step.ensures) c.priority.ensures.house,
-)
-
-pub look-priority-requires-clause-first : goal.look-priority-requires-clause-first
-look-priority-requires-clause-first g t c = omega (arith, (legal_holds (bare c.args.houses.now) c.args.h c.requires.legal).first)
-
-pub look-priority-requires-clause-last : goal.look-priority-requires-clause-last
-look-priority-requires-clause-last g t c =
-    omega (arith, (legal_holds (bare c.args.houses.now) c.args.h c.requires.legal).last, c.seeds-seeds.ensures.limits.at_most_six)
+look-returns-then-seeds-self g t c =
+    let priority = c.priority-priority in (
+      priority.ensures.some,
+      turn_of c.args.houses.now c.args.house priority.result c.in-Turn.gained c.in-Turn.next c.seeds-seeds.ensures.limits c.requires.legal
+          (sym c.in-Turn.is ∙ c.play_by-step.ensures) (priority.ensures.house ∙ c.number.ensures.is),
+    )
 
 pub bound_again-loop-left-init : goal.bound_again-loop-left-init
 bound_again-loop-left-init g t c =
@@ -134,7 +131,7 @@ bound_again-loop-left-init g t c =
     record {
       low = λ enough. refl;
       may = record {
-        small = marks.small;
+        are = marks.marks;
         legal = λ i some. let both = (marks.marked i).0 some in ending_legal a i marks.limits c.requires.going both.0 both.1;
       };
       ends = λ i some. ((marks.marked i).0 some).1;
@@ -142,38 +139,40 @@ bound_again-loop-left-init g t c =
     }
 
 pub bound_again-play_into_store-requires-clause-legal : goal.bound_again-play_into_store-requires-clause-legal
-bound_again-play_into_store-requires-clause-legal g t c = last_legal c.loop-left.invariant.may c.split_last-h.ensures.last
+bound_again-play_into_store-requires-clause-legal g t c = last_legal c.loop-left.invariant.may c.split_last-house.ensures.last
 
 pub bound_again-play_into_store-requires-clause-ends : goal.bound_again-play_into_store-requires-clause-ends
 bound_again-play_into_store-requires-clause-ends g t c =
-    each_last (EndsInStore c.args.houses.now) c.loop-left.left c.split_last-h.result.0 c.split_last-h.ensures.last c.loop-left.invariant.ends
+    each_last (EndsInStore c.args.houses.now) c.loop-left.left c.split_last-house.result.0 c.split_last-house.ensures.last
+    c.loop-left.invariant.ends
 
 pub bound_again-bound_step-bound-requires : goal.bound_again-bound_step-bound-requires
 bound_again-bound_step-bound-requires g t c κs within =
     let a = c.args.houses.now in
-    let h = c.split_last-h.result.0 in
+    let h = c.split_last-house.result.0 in
     let limits = c.seeds-seeds.ensures.limits in
-    let has = last_legal c.loop-left.invariant.may c.split_last-h.ensures.last in (
+    let has = last_legal c.loop-left.invariant.may c.split_last-house.ensures.last in (
       omega (arith, step_falls a h c.play_into_store.result limits has c.play_into_store.ensures),
       (within, goes_on a h c.play_into_store.result limits has c.play_into_store.ensures),
     )
 
 pub bound_again-returns-then-bar-bound-clause-lower : goal.bound_again-returns-then-bar-bound-clause-lower
 bound_again-returns-then-bar-bound-clause-lower g t c =
-    let has = last_legal c.loop-left.invariant.may c.split_last-h.ensures.last in
-    move_enough c.args.houses.now c.args.bar c.split_last-h.result.0 _ c.again_houses-left.ensures.limits has
+    let has = last_legal c.loop-left.invariant.may c.split_last-house.ensures.last in
+    move_enough c.args.houses.now c.args.bar c.split_last-house.result.0 _ c.again_houses-left.ensures.limits has
     (rw c.play_into_store.ensures at c.bound_step-bound.ensures)
 
 pub bound_again-loop-left-preserved : goal.bound_again-loop-left-preserved
 bound_again-loop-left-preserved g t c =
     let a = c.args.houses.now in
     let marks = c.loop-left.left in
-    let h = c.split_last-h.result.0 in
-    let last = c.split_last-h.ensures.last in
+    let h = c.split_last-house.result.0 in
+    let last = c.split_last-house.ensures.last in
     let before = c.loop-left.invariant in
     let new_is : c.max-most.result ≡ max c.loop-left.most c.bound_step-bound.result = search (rules, c.max-most.ensures) in
-    let takes : WinsAtMost a c.bound_step-bound.result h = rw c.play_into_store.ensures at (c.bound_step-bound.ensures.upper c.if-bar-bound.false) in
-    rw c.split_last-h.ensures.rest (record {
+    let takes : WinsAtMost a c.bound_step-bound.result h = rw c.play_into_store.ensures at
+    (c.bound_step-bound.ensures.upper c.if-bar-bound.false) in
+    rw c.split_last-house.ensures.rest (record {
       low = low_more c.args.bar c.loop-left.most c.bound_step-bound.result c.max-most.result before.low c.if-bar-bound.false new_is;
       may = moves_fewer before.may last;
       ends = each_fewer (EndsInStore a) marks h last before.ends;
@@ -181,7 +180,9 @@ bound_again-loop-left-preserved g t c =
     })
 
 pub bound_again-loop-left-smaller : goal.bound_again-loop-left-smaller
-bound_again-loop-left-smaller g t c = rw c.split_last-h.ensures.rest (marks_fall c.loop-left.left c.split_last-h.result.0 c.split_last-h.ensures.last)
+bound_again-loop-left-smaller g t c =
+    let split = c.split_last-house in
+    rw split.ensures.rest (marks_fall c.loop-left.left split.result.0 split.ensures.last)
 
 pub bound_again-returns-clause-upper : goal.bound_again-returns-clause-upper
 bound_again-returns-clause-upper g t c = λ short h has ends.
@@ -194,19 +195,20 @@ others_waiting-loop-left-init g t c =
     let marks = c.other_houses-left.ensures in
     record {
       low = λ enough. refl;
-      may = record { small = marks.small; legal = λ i some. marked_legal a i marks.limits c.requires.going ((marks.marked i).0 some).0 };
+      may = record { are = marks.marks; legal = λ i some. marked_legal a i marks.limits c.requires.going ((marks.marked i).0 some).0 };
       played = played_none a 0 c.other_houses-left.result _ _ (search rules) (search rules) c.requires.none marks.marked;
     }
 
 pub others_waiting-look-requires : goal.others_waiting-look-requires
 others_waiting-look-requires g t c κs within =
-    (omega arith, (within, last_legal c.loop-left.invariant.may c.split_last-h.ensures.last))
+    (omega arith, (within, last_legal c.loop-left.invariant.may c.split_last-house.ensures.last))
 
 pub others_waiting-returns-then-bar-bound : goal.others_waiting-returns-then-bar-bound
 others_waiting-returns-then-bar-bound g t c =
-    let has = last_legal c.loop-left.invariant.may c.split_last-h.ensures.last in
+    let has = last_legal c.loop-left.invariant.may c.split_last-house.ensures.last in
     record {
-      lower = move_enough c.args.houses.now c.args.bar c.split_last-h.result.0 _ c.other_houses-left.ensures.limits has c.in-Bounded.ensures;
+      lower = move_enough c.args.houses.now c.args.bar c.split_last-house.result.0 _ c.other_houses-left.ensures.limits has
+          c.in-Bounded.ensures;
       waiting = c.loop-left.invariant.played.waiting.each;
       others = λ short. absurd (omega (arith, short, c.if-bar-bound.true));
     }
@@ -215,19 +217,22 @@ pub others_waiting-loop-left-preserved : goal.others_waiting-loop-left-preserved
 others_waiting-loop-left-preserved g t c =
     let a = c.args.houses.now in
     let marks = c.loop-left.left in
-    let h = c.split_last-h.result.0 in
-    let last = c.split_last-h.ensures.last in
+    let h = c.split_last-house.result.0 in
+    let last = c.split_last-house.ensures.last in
     let before = c.loop-left.invariant in
     let new_is : c.max-most.result ≡ max c.loop-left.most c.in-Bounded.bound = search (rules, c.max-most.ensures) in
-    rw c.split_last-h.ensures.rest (record {
+    rw c.split_last-house.ensures.rest (record {
       low = low_more c.args.bar c.loop-left.most c.in-Bounded.bound c.max-most.result before.low c.if-bar-bound.false new_is;
       may = moves_fewer before.may last;
-      played = played_bound a c.loop-left.most marks h c.loop-left.priorities c.loop-left.turns before.played last c.in-Bounded.bound c.max-most.result
+      played = played_bound a c.loop-left.most marks h c.loop-left.priorities c.loop-left.turns before.played last c.in-Bounded.bound
+          c.max-most.result
           (c.in-Bounded.ensures.upper c.if-bar-bound.false) new_is;
     })
 
 pub others_waiting-loop-left-smaller : goal.others_waiting-loop-left-smaller
-others_waiting-loop-left-smaller g t c = rw c.split_last-h.ensures.rest (marks_fall c.loop-left.left c.split_last-h.result.0 c.split_last-h.ensures.last)
+others_waiting-loop-left-smaller g t c =
+    let split = c.split_last-house in
+    rw split.ensures.rest (marks_fall c.loop-left.left split.result.0 split.ensures.last)
 
 pub others_waiting-returns : goal.others_waiting-returns
 others_waiting-returns g t c =
@@ -242,20 +247,22 @@ pub others_waiting-loop-left-preserved-in-Waits : goal.others_waiting-loop-left-
 others_waiting-loop-left-preserved-in-Waits g t c =
     let a = c.args.houses.now in
     let marks = c.loop-left.left in
-    let h = c.split_last-h.result.0 in
-    let last = c.split_last-h.ensures.last in
+    let h = c.split_last-house.result.0 in
+    let last = c.split_last-house.ensures.last in
     let before = c.loop-left.invariant in
-    rw c.split_last-h.ensures.rest (record {
+    rw (c.split_last-house.ensures.rest, c.number.ensures.is) (record {
       low = before.low;
       may = moves_fewer before.may last;
-      played = played_more a c.loop-left.most marks h c.loop-left.priorities c.loop-left.turns before.played last c.in-Waits.priority c.in-Waits.next
+      played = played_more a c.loop-left.most marks h c.loop-left.priorities c.loop-left.turns before.played last c.in-Waits.priority
+          c.in-Waits.next
           c.in-Waits.ensures.0 c.in-Waits.ensures.1;
     })
 
 pub explore-loop-priority-init : goal.explore-loop-priority-init
 explore-loop-priority-init g t c =
     let others = c.others_waiting-others.ensures in
-    let most_is : c.max-most.result ≡ max c.bound_again-again.result c.others_waiting-others.result = search (rules, c.max-most.ensures) in
+    let most_is : c.max-most.result ≡ max c.bound_again-again.result c.others_waiting-others.result =
+    search (rules, c.max-most.ensures) in
     let untried = untried_first c.args.houses.now c.args.bar _ _ _ _ c.max-most.result (search rules) others
     (c.bound_again-again.ensures.upper c.if-bar-again.false) c.if-bar-others.false most_is in
     record {

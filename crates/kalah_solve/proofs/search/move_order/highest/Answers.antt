@@ -6,14 +6,16 @@ use Rattle.std.proofs.lemmas.List.Elements.{Contains-get_or}
 use Rattle.kalah_solve.proofs.search.move_order.highest.Goals as goal
 
 -- the greater of a priority and the next one is a priority
-found_more : (xs : List ℕ) (most i new : ℕ) → Contains xs most → i < length xs → new ≡ max most (get_or xs i 0) → Contains xs new
+found_more : (xs : List ℕ) (most i new : ℕ) → Contains xs most → i < length xs → new ≡ max most (get_or xs i 0)
+    → Contains xs new
 found_more xs most i new found inside is = elim (cases_lt most (get_or xs i 0)) [
   | inl less ↦ let at : new ≡ get_or xs i 0 = omega (arith, is, less) in rw at (Contains-get_or xs i 0 inside)
   | inr more ↦ let at : new ≡ most = omega (arith, is, more) in rw at found
 ]
 
 -- and no priority up to it is higher
-highest_more : (xs : List ℕ) (most i new : ℕ) → ((k : ℕ) → k < i → get_or xs k 0 ≤ most) → new ≡ max most (get_or xs i 0) →
+highest_more : (xs : List ℕ) (most i new : ℕ) → ((k : ℕ) → k < i → get_or xs k 0 ≤ most)
+    → new ≡ max most (get_or xs i 0) →
     (k : ℕ) → k < i + 1 → get_or xs k 0 ≤ new
 highest_more xs most i new highest is k below = elim (cases_eq k i) [
   | inl same ↦ rw same (omega (arith, is))

@@ -15,16 +15,20 @@ get-requires g c = omega (arith, c.len-last.ensures, ap length c.requires.moves,
 pub returns-then-move_reaches : goal.returns-then-move_reaches
 returns-then-move_reaches g c =
     let a = c.args.houses.now in
-    let inside : c.loop-i.i < length (legal_houses (bare a)) = omega (arith, c.loop-i-test.true, c.len-last.ensures, ap length c.requires.moves) in
-    let place : c.get-h.result ≡ get_or (legal_houses (bare a)) c.loop-i.i 0 = c.get-h.ensures ∙ ap (λ xs. get_or xs c.loop-i.i 0) c.requires.moves in
+    let inside : c.loop-i.i < length (legal_houses (bare a)) = omega
+    (arith, c.loop-i-test.true, c.len-last.ensures, ap length c.requires.moves) in
+    let place : c.get-h.result ≡ get_or (legal_houses (bare a)) c.loop-i.i 0 =
+    c.get-h.ensures ∙ ap (λ xs. get_or xs c.loop-i.i 0) c.requires.moves in
     let enough = enough_of _ c.args.bar _ c.if-move_reaches.ensures refl in
     place ∙ root_found a c.seeds-seeds.ensures.limits c.loop-i.i inside c.loop-i.invariant (rw (← place, ← c.requires.best) enough)
 
 pub loop-i-preserved : goal.loop-i-preserved
 loop-i-preserved g c =
     let a = c.args.houses.now in
-    let inside : c.loop-i.i < length (legal_houses (bare a)) = omega (arith, c.loop-i-test.true, c.len-last.ensures, ap length c.requires.moves) in
-    let place : c.get-h.result ≡ get_or (legal_houses (bare a)) c.loop-i.i 0 = c.get-h.ensures ∙ ap (λ xs. get_or xs c.loop-i.i 0) c.requires.moves in
+    let inside : c.loop-i.i < length (legal_houses (bare a)) = omega
+    (arith, c.loop-i-test.true, c.len-last.ensures, ap length c.requires.moves) in
+    let place : c.get-h.result ≡ get_or (legal_houses (bare a)) c.loop-i.i 0 =
+    c.get-h.ensures ∙ ap (λ xs. get_or xs c.loop-i.i 0) c.requires.moves in
     let less = short_of _ c.args.bar _ c.if-move_reaches.ensures refl in
     root_short a c.seeds-seeds.ensures.limits c.loop-i.i inside c.loop-i.invariant (rw (← place, ← c.requires.best) less)
 

@@ -15,7 +15,8 @@ returns-then-is_over-clause-worth g c =
 -- what the search finds is the worth of the houses
 found : (g : Over) (c : goal.After-other_store g) → c.search-best.result ≡ houses_worth (rows_of c.args.board.now)
 found g c =
-    root_worth c.args.board.now c.houses.result c.search-best.result c.whole.result.lo c.whole.result.hi c.is_over.ensures.limits c.houses.ensures
+    root_worth c.args.board.now c.houses.result c.search-best.result c.whole.result.lo c.whole.result.hi c.is_over.ensures.limits
+    c.houses.ensures
     c.whole.ensures.lo c.whole.ensures.hi c.search-best.ensures
 
 pub overflow_add-result : goal.overflow_add-result

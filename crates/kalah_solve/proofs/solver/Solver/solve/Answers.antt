@@ -28,18 +28,21 @@ pub first_house-house-requires-clause-best : goal.first_house-house-requires-cla
 first_house-house-requires-clause-best g c =
     let a = c.houses-houses.result in
     let limits = c.seeds.ensures.limits in
-    let found = root_worth c.args.board.now a c.search-best.result c.whole.result.lo c.whole.result.hi c.is_over.ensures.limits c.houses-houses.ensures
+    let found = root_worth c.args.board.now a c.search-best.result c.whole.result.lo c.whole.result.hi c.is_over.ensures.limits
+    c.houses-houses.ensures
     c.whole.ensures.lo c.whole.ensures.hi c.search-best.ensures in
     let best : c.search-best.result ≡ houses_worth a = found ∙ sym (ap houses_worth c.houses-houses.ensures) in
     let sum : to_z w32 (of_z w32 (to_z w32 (of_z w32 c.search-best.result) +ℤ to_z w32 c.seeds.result))
     ≡ houses_worth a +ℤ pos (seeds_in_houses (bare a)) =
     omega (arith, ints, best, c.seeds.ensures.seeds, limits.few_seeds, worth_low a limits, worth_high a limits) in
-    half_is a (houses_worth a) c.half-bar.result limits refl (record { low = rw sum at c.half-bar.ensures.low; high = rw sum at c.half-bar.ensures.high })
+    half_is a (houses_worth a) c.half-bar.result limits refl
+    (record { low = rw sum at c.half-bar.ensures.low; high = rw sum at c.half-bar.ensures.high })
 
 -- what the search finds is the worth of the houses
 found : (g : given.Over) (c : goal.After-other_store g) → c.search-best.result ≡ houses_worth (rows_of c.args.board.now)
 found g c =
-    root_worth c.args.board.now c.houses-houses.result c.search-best.result c.whole.result.lo c.whole.result.hi c.is_over.ensures.limits c.houses-houses.ensures
+    root_worth c.args.board.now c.houses-houses.result c.search-best.result c.whole.result.lo c.whole.result.hi c.is_over.ensures.limits
+    c.houses-houses.ensures
     c.whole.ensures.lo c.whole.ensures.hi c.search-best.ensures
 
 pub overflow_add-margin : goal.overflow_add-margin
@@ -49,12 +52,14 @@ overflow_add-margin g c =
 
 -- the reported house
 house_is : (g : given.Over) (c : goal.After-other_store g) → c.first_house-house.result ≡ best_house c.args.board.now
-house_is g c = c.first_house-house.ensures ∙ ap (λ (a : Rows). best_house (bare a)) c.houses-houses.ensures ∙ sym (best_of_rows c.args.board.now)
+house_is g c = c.first_house-house.ensures ∙ ap (λ (a : Rows). best_house (bare a)) c.houses-houses.ensures
+    ∙ sym (best_of_rows c.args.board.now)
 
 pub returns-clause-verdict : goal.returns-clause-verdict
 returns-clause-verdict g c =
     let p = c.args.board.now in
-    verdict_by p (stored c.search-best.result c.own_store.result c.other_store.result) c.first_house-house.result (sym c.if-is_over.ensures.over)
+    verdict_by p (stored c.search-best.result c.own_store.result c.other_store.result) c.first_house-house.result
+    (sym c.if-is_over.ensures.over)
     (told_worth p c.search-best.result c.own_store.result c.other_store.result c.is_over.ensures.limits
     (found g c) c.own_store.ensures c.other_store.ensures) (house_is g c)
 

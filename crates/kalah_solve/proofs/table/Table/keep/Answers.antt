@@ -18,4 +18,5 @@ returns-clause-kept g c =
 pub returns-clause-again : goal.returns-clause-again
 returns-clause-again g c =
     rw (← c.self.view_is, ← c.key-key.ensures.key)
-    (put_again c.put.result c.self.inside.entries c.put.new.self c.key-key.result c.args.interval c.put.ensures.entries c.put.ensures.succeeds)
+    (put_again c.put.result c.self.inside.entries c.put.new.self c.key-key.result c.args.interval c.put.ensures.entries
+    c.put.ensures.succeeds)

@@ -10,5 +10,6 @@ invariant_of-self g c = (
 
 pub returns-clause-holds : goal.returns-clause-holds
 returns-clause-holds g c =
-    found_holds c.self.inside.entries.entries c.args.houses.now c.key-key.result c.self.invariant.0 c.key-key.ensures.limits c.key-key.ensures.key
+    found_holds c.self.inside.entries.entries c.args.houses.now c.key-key.result c.self.invariant.0 c.key-key.ensures.limits
+    c.key-key.ensures.key
     c.copied.result (sym c.get.ensures.value ∙ sym c.copied.ensures)

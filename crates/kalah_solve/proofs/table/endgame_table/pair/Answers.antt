@@ -8,4 +8,10 @@ overflow_add-result-4 c =
     let second = 10 * (c.args.i / 320 * 2) + c.args.i / 32 % 10 in
     let inside : 10 * (c.args.i / 320 * 2 + 1) + c.args.i % 32 < 120 = omega (arith, c.requires.inside, c.if-first-gt9.false) in
     let inside' : 10 * (c.args.i / 320 * 2) + c.args.i / 32 % 10 < 120 = omega (arith, c.requires.inside) in
-    omega (arith, c.requires.choices first inside, c.requires.choices second inside', choice_small first inside, choice_small second inside')
+    omega (
+      arith,
+      c.requires.choices first inside,
+      c.requires.choices second inside',
+      choice_small first inside,
+      choice_small second inside',
+    )

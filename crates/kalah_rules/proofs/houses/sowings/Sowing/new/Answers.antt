@@ -14,7 +14,8 @@ returns c =
     let first = c.requires.first in
     let last = c.requires.last in
     let own : c.own_gains.result ≡ own_gained m h count = omega (arith, c.own_gains.ensures.value, own_gain m h count first last) in
-    let other : c.other_gains.result ≡ other_gained m h count = omega (arith, c.other_gains.ensures.value, other_gain m h count first last) in
+    let other : c.other_gains.result ≡ other_gained m h count =
+    omega (arith, c.other_gains.ensures.value, other_gain m h count first last) in
     let tested : c.if-reach-m.result ≡ (if nat_lt m (h + count % (2 * m + 1)) then 1 else 0) = elim c.if-reach-m.branch [
       | then-reach-m w ↦ rw (w.result-is, lt-ltb _ _ w.if-reach-m.true) refl
       | else-reach-m w ↦ rw (w.result-is, le-ltb _ _ w.if-reach-m.false) refl

@@ -5,21 +5,20 @@ use Rattle.kalah_rules.proofs.houses.sowings.Sowings.new.Goals as goal
 
 pub loop-i-init : goal.loop-i-init
 loop-i-init c = record {
-  gains_cells = search rules;
-  stores_cells = search rules;
-  ends_cells = search rules;
-  right = λ k below house. absurd (omega (arith, below));
+  all = search rules;
+  right = λ m h c k d cell below. absurd (omega (arith, below));
 }
 
 pub loop-i-preserved : goal.loop-i-preserved
 loop-i-preserved c =
     let before = c.loop-i.invariant in
+    let sowing = c.sowing_at.result in
     record {
-      gains_cells = length-set c.loop-i.gains c.loop-i.i c.sowing_at-sowing.result.gains ∙ before.gains_cells;
-      stores_cells = length-set c.loop-i.stores c.loop-i.i c.sowing_at-sowing.result.store ∙ before.stores_cells;
-      ends_cells = length-set c.loop-i.ends c.loop-i.i c.sowing_at-sowing.result.end ∙ before.ends_cells;
-      right = sowings_more c.loop-i.gains c.loop-i.stores c.loop-i.ends c.loop-i.i c.sowing_at-sowing.result
-          (omega (arith, before.gains_cells, c.loop-i-test.true)) (omega (arith, before.stores_cells, c.loop-i-test.true))
-          (omega (arith, before.ends_cells, c.loop-i-test.true)) before.right
-          c.sowing_at-sowing.ensures;
+      all = length-set c.loop-i.cells c.loop-i.i sowing ∙ before.all;
+      right = sowings_more c.loop-i.cells c.loop-i.i sowing (omega (arith, before.all, c.loop-i-test.true)) before.right
+          c.sowing_at.ensures;
     }
+
+pub invariant_of-result : goal.invariant_of-result
+invariant_of-result c = λ m h count k d cell below.
+    c.loop-i.invariant.right m h count k d cell (omega (arith, below, c.loop-i-test.false))

@@ -3,7 +3,10 @@ use Rattle.std.proofs.lemmas.Int.{ints, clamps}
 use Rattle.kalah_solve.proofs.bounds.interval.Interval.intersection.Goals as goal
 
 pub returns-clause-held : goal.returns-clause-held
-returns-clause-held c = λ z h k. record { low = omega (arith, ints, clamps, h.low, k.low); high = omega (arith, ints, clamps, h.high, k.high) }
+returns-clause-held c = λ z h k. record {
+  low = omega (arith, ints, clamps, h.low, k.low);
+  high = omega (arith, ints, clamps, h.high, k.high);
+}
 
 pub returns-clause-no_more : goal.returns-clause-no_more
 returns-clause-no_more c = λ z h. (

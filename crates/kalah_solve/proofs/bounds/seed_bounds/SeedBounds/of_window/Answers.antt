@@ -8,7 +8,8 @@ use Rattle.kalah_solve.proofs.bounds.seed_bounds.SeedBounds.of_window.Goals.{Aft
 module _ (c : After-half-2) where
   low_half : IsHalf (c.args.window.lo +ℤ pos c.args.seeds) c.half.result
   low_half =
-      let sum : to_z w32 (of_z w32 (to_z w32 (of_z w32 c.args.window.lo) +ℤ to_z w32 c.args.seeds)) ≡ c.args.window.lo +ℤ pos c.args.seeds =
+      let sum : to_z w32 (of_z w32 (to_z w32 (of_z w32 c.args.window.lo) +ℤ to_z w32 c.args.seeds)) ≡ c.args.window.lo +ℤ pos
+      c.args.seeds =
       omega (arith, ints, c.args.window.low, c.args.window.ordered, c.args.window.high, c.requires) in
       record { low = rw sum at c.half.ensures.low; high = rw sum at c.half.ensures.high }
 

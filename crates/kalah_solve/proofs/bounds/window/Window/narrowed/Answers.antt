@@ -20,4 +20,14 @@ returns-then-hi-lo-clause-none c = λ none z holds.
 
 pub returns-else-hi-lo-clause-some : goal.returns-else-hi-lo-clause-some
 returns-else-hi-lo-clause-some c = λ z holds.
-    omega (arith, ints, clamps, c.args.self.ordered, c.if-hi-lo.false, c.max-lo.ensures.value, c.min-hi.ensures.value, holds.low, holds.high)
+    omega (
+      arith,
+      ints,
+      clamps,
+      c.args.self.ordered,
+      c.if-hi-lo.false,
+      c.max-lo.ensures.value,
+      c.min-hi.ensures.value,
+      holds.low,
+      holds.high,
+    )

@@ -28,7 +28,8 @@ invariant_of-self g c = elim c.match-get_mut.branch [
       } in
       rw w.self-inside-is (
         rw count c.self.invariant.0,
-        shares_more places c.args.houses.now mixed.result at c.of-stored.result c.self.invariant.0 c.self.invariant.1 limits mixed.ensures.mixed
+        shares_more places c.args.houses.now mixed.result at c.of-stored.result c.self.invariant.0 c.self.invariant.1 limits
+            mixed.ensures.mixed
             (rw length_is at c.place_of-at.ensures) w.in-Some.ensures.item.3.0 (c.of-stored.ensures.rest ∙ c.rest_of.ensures.rest) known,
       )
   | in_default w ↦ rw w.self-inside-is c.self.invariant

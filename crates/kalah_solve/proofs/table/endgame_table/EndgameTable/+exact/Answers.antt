@@ -12,20 +12,20 @@ most_won-loop-left-init g t c =
     let a = c.args.houses.now in
     let marks = c.filled_houses-left.ensures in
     record {
-      may = record { small = marks.small; legal = λ i some. marked_legal a i marks.limits c.requires.going ((marks.marked i).0 some) };
+      may = record { are = marks.marks; legal = λ i some. marked_legal a i marks.limits c.requires.going ((marks.marked i).0 some) };
       is = most_of_none a c.filled_houses-left.result marks.marked;
     }
 
 pub most_won-move_wins-requires : goal.most_won-move_wins-requires
 most_won-move_wins-requires g t c κs within =
-    let has = last_legal c.loop-left.invariant.may c.split_last-h.ensures.last in
+    let has = last_legal c.loop-left.invariant.may c.split_last-house.ensures.last in
     (omega arith, (within, (has, c.requires.few)))
 
 pub most_won-returns-then-most-seeds : goal.most_won-returns-then-most-seeds
 most_won-returns-then-most-seeds g t c =
     let marks = c.loop-left.left in
-    let h = c.split_last-h.result.0 in
-    let last = c.split_last-h.ensures.last in
+    let h = c.split_last-house.result.0 in
+    let last = c.split_last-house.ensures.last in
     let before = c.loop-left.invariant in
     let limits = c.seeds-seeds.ensures.limits in
     let has = last_legal before.may last in
@@ -37,19 +37,22 @@ most_won-returns-then-most-seeds g t c =
 pub most_won-loop-left-preserved : goal.most_won-loop-left-preserved
 most_won-loop-left-preserved g t c =
     let marks = c.loop-left.left in
-    let h = c.split_last-h.result.0 in
-    let last = c.split_last-h.ensures.last in
+    let h = c.split_last-house.result.0 in
+    let last = c.split_last-house.ensures.last in
     let before = c.loop-left.invariant in
     let has = last_legal before.may last in
-    rw c.split_last-h.ensures.rest (record {
+    rw c.split_last-house.ensures.rest (record {
       may = moves_fewer before.may last;
-      is = most_more c.args.houses.now marks c.loop-left.most h c.move_wins.result c.max-most.result c.seeds-seeds.ensures.limits before.is last has
+      is = most_more c.args.houses.now marks c.loop-left.most h c.move_wins.result c.max-most.result c.seeds-seeds.ensures.limits
+          before.is last has
           c.move_wins.ensures
           (search (rules, c.max-most.ensures));
     })
 
 pub most_won-loop-left-smaller : goal.most_won-loop-left-smaller
-most_won-loop-left-smaller g t c = rw c.split_last-h.ensures.rest (marks_fall c.loop-left.left c.split_last-h.result.0 c.split_last-h.ensures.last)
+most_won-loop-left-smaller g t c =
+    let split = c.split_last-house in
+    rw split.ensures.rest (marks_fall c.loop-left.left split.result.0 split.ensures.last)
 
 pub most_won-returns : goal.most_won-returns
 most_won-returns g t c =
@@ -58,30 +61,32 @@ most_won-returns g t c =
 
 pub move_wins-won-requires : goal.move_wins-won-requires
 move_wins-won-requires g t c κs within =
-    let next = leads_by c.args.houses.now c.args.h (Again c.in-Again.gained c.in-Again.next) c.seeds-seeds.ensures.limits c.requires.legal
+    let next = leads_by c.args.houses.now c.args.house (Again c.in-Again.gained c.in-Again.next) c.seeds-seeds.ensures.limits
+    c.requires.legal
     (sym c.in-Again.is ∙ c.play_by.ensures) in
     (omega (arith, next.fewer), (within, (next.going, omega (arith, next.kept, c.requires.few))))
 
 pub move_wins-overflow_add-result : goal.move_wins-overflow_add-result
 move_wins-overflow_add-result g t c =
-    let next = leads_by c.args.houses.now c.args.h (Again c.in-Again.gained c.in-Again.next) c.seeds-seeds.ensures.limits c.requires.legal
+    let next = leads_by c.args.houses.now c.args.house (Again c.in-Again.gained c.in-Again.next) c.seeds-seeds.ensures.limits
+    c.requires.legal
     (sym c.in-Again.is ∙ c.play_by.ensures) in
     omega (arith, next.kept, (taken_share c.in-Again.next next.limits).few, c.requires.few, c.won.ensures)
 
 pub move_wins-won-requires-in-Turn : goal.move_wins-won-requires-in-Turn
 move_wins-won-requires-in-Turn g t c κs within =
-    let next = leads_by c.args.houses.now c.args.h (Turn c.in-Turn.gained c.in-Turn.next) c.seeds-seeds.ensures.limits c.requires.legal
+    let next = leads_by c.args.houses.now c.args.house (Turn c.in-Turn.gained c.in-Turn.next) c.seeds-seeds.ensures.limits c.requires.legal
     (sym c.in-Turn.is ∙ c.play_by.ensures) in
     (omega (arith, next.fewer), (within, (next.going, omega (arith, next.kept, c.requires.few))))
 
 pub move_wins-overflow_sub-result : goal.move_wins-overflow_sub-result
 move_wins-overflow_sub-result g t c =
-    let next = leads_by c.args.houses.now c.args.h (Turn c.in-Turn.gained c.in-Turn.next) c.seeds-seeds.ensures.limits c.requires.legal
+    let next = leads_by c.args.houses.now c.args.house (Turn c.in-Turn.gained c.in-Turn.next) c.seeds-seeds.ensures.limits c.requires.legal
     (sym c.in-Turn.is ∙ c.play_by.ensures) in
     omega (arith, (taken_share c.in-Turn.next next.limits).few, c.seeds.ensures.seeds, c.won-in-Turn.ensures)
 
 pub move_wins-overflow_add-result-in-Turn : goal.move_wins-overflow_add-result-in-Turn
 move_wins-overflow_add-result-in-Turn g t c =
-    let next = leads_by c.args.houses.now c.args.h (Turn c.in-Turn.gained c.in-Turn.next) c.seeds-seeds.ensures.limits c.requires.legal
+    let next = leads_by c.args.houses.now c.args.house (Turn c.in-Turn.gained c.in-Turn.next) c.seeds-seeds.ensures.limits c.requires.legal
     (sym c.in-Turn.is ∙ c.play_by.ensures) in
     omega (arith, next.kept, c.requires.few, c.seeds.ensures.seeds)

@@ -21,7 +21,8 @@ store-requires g c =
     let a = c.args.houses.now in
     let word = c.begun-word in
     let label = c.label_of-label.ensures in
-    let none : stored_at word.result (rank_of_houses a % 8) ≡ 0 = rw (← c.requires.rank) (sym c.stored_at.ensures ∙ c.if-stored_at-eq0.true) in
+    let none : stored_at word.result (rank_of_houses a % 8) ≡ 0 =
+    rw (← c.requires.rank) (sym c.stored_at.ensures ∙ c.if-stored_at-eq0.true) in
     let few : won a ≤ 9 = omega (arith, c.requires.few, (taken_share a label.limits).few) in
     let one_more : c.args.known + 1 ≡ suc (won a) = omega (arith, c.requires.known) in
     rw (c.with_stored.ensures, one_more, c.requires.rank)

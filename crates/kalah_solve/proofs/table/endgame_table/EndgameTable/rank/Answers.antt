@@ -22,12 +22,14 @@ module _ (a : Rows) (within : IsWithinHouses a) (less : seeds_in_houses (bare a)
       (omega (arith, low, passes)) is
 
   ranked_here : (r : ℕ) →
-      r ≡ choose (sums % 1024 % 32 + 2 * (5 - step) + 1) (2 * (5 - step) + 2) + choose (sums % 1024 / 32 + 2 * (5 - step)) (2 * (5 - step) + 1) →
+      r ≡ choose (sums % 1024 % 32 + 2 * (5 - step) + 1) (2 * (5 - step) + 2) + choose (sums % 1024 / 32 + 2 * (5 - step))
+      (2 * (5 - step) + 1) →
       IsRanked (a.own ++ a.other) (step + 1 + length a.own - 6) (sums / 1024) (rank + r)
   ranked_here r r_is =
       let past : length a.own - (step + length a.own - 6) - 1 ≡ 5 - step = omega (arith, low, passes) in
       let next : step + 1 + length a.own - 6 ≡ step + length a.own - 6 + 1 = omega (arith, passes) in
-      rw next (rank_next (a.own ++ a.other) (few a less) (length a.own) (step + length a.own - 6) sums rank (long a within) within.at_most_six
+      rw next (rank_next (a.own ++ a.other) (few a less) (length a.own) (step + length a.own - 6) sums rank
+      (long a within) within.at_most_six
       (omega (arith, low, passes)) is r (rw past r_is))
 
 pub loop-step-init : goal.loop-step-init
@@ -48,8 +50,10 @@ pair-rank-requires-clause-second g c =
 pub loop-step-preserved : goal.loop-step-preserved
 loop-step-preserved g c = elim c.if-step-m-ge6.branch [
   | then-step-m-ge6 w ↦
-      rw (w.sums-is, w.rank-is) (ranked_here c.args.houses.now c.m-m.ensures.limits c.requires c.loop-step.step c.loop-step.sums c.loop-step.rank
-      c.loop-step-test.true (omega (arith, w.if-step-m-ge6.true, c.m-m.ensures.side)) c.loop-step.invariant w.pair-rank.result w.pair-rank.ensures.value)
+      rw (w.sums-is, w.rank-is) (ranked_here c.args.houses.now c.m-m.ensures.limits c.requires c.loop-step.step c.loop-step.sums
+      c.loop-step.rank
+      c.loop-step-test.true (omega (arith, w.if-step-m-ge6.true, c.m-m.ensures.side)) c.loop-step.invariant w.pair-rank.result
+      w.pair-rank.ensures.value)
   | else-step-m-ge6 w ↦
       let same : c.loop-step.step + 1 + length c.args.houses.now.own - 6 ≡ c.loop-step.step + length c.args.houses.now.own - 6 =
       omega (arith, w.if-step-m-ge6.false, c.m-m.ensures.side) in

@@ -1,0 +1,14 @@
+use Rattle.std.proofs.Common.{arith, ◌≡◌, ◌-◌, ◌*◌, ◌%◌, ◌^◌, ◌∙◌, ap, suc}
+use Rattle.kalah_rules.specs.Packed.{ones}
+use Rattle.kalah_rules.proofs.Packing.{pow_five, moved_small, ones_below}
+use Rattle.kalah_rules.proofs.houses.numbers.one_each_to.Goals as goal
+
+pub returns-clause-value : goal.returns-clause-value
+returns-clause-value c =
+    let k = c.args.house - 1 in
+    let last = c.bit.ensures.last in
+    let first = c.bit.ensures.first in
+    let at : suc k ≡ c.args.house = omega (arith, first) in
+    let moved : 32 * 2 ^ c.bit.result % 2 ^ 64 ≡ 32 ^ k * 32 =
+    rw (c.bit.ensures.is, pow_five k) (moved_small k 32 (omega (arith, last)) (omega arith)) in
+    rw moved (ones_below k (omega (arith, last)) ∙ ap ones at)

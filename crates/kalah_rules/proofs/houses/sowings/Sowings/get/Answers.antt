@@ -1,0 +1,14 @@
+use Rattle.std.proofs.Common.{arith, ◌+◌, ◌-◌, ◌*◌}
+use Rattle.kalah_rules.specs.Sowings.{IsSowingCell}
+use Rattle.kalah_rules.proofs.houses.sowings.Sowings.get.Goals as goal
+
+pub returns : goal.returns
+returns c =
+    let cell : IsSowingCell c.args.m c.args.house c.args.count (32 * (c.args.m + c.bit.result - 1) + c.args.count) = record {
+      first = c.bit.ensures.first;
+      last = c.requires.last;
+      side = c.requires.side;
+      few = c.requires.few;
+      is = omega (arith, c.bit.ensures.is);
+    } in
+    c.self.invariant _ _ _ _ _ cell (omega (arith, c.bit.ensures.is, c.bit.ensures.last, c.requires.side, c.requires.few))

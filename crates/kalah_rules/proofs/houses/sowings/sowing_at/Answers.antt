@@ -1,0 +1,10 @@
+use Rattle.std.proofs.Common.{arith, ◌≡◌, ◌+◌, ◌-◌, ◌*◌, ◌/◌, ◌%◌}
+use Rattle.kalah_rules.proofs.houses.sowings.sowing_at.Goals as goal
+
+pub returns-then-row-eq0 : goal.returns-then-row-eq0
+returns-then-row-eq0 c = λ m h count cell.
+    let row : c.args.i / 32 ≡ m + 5 * (h - 1) - 1 = omega (arith, cell.is, cell.few) in
+    let side : m ≡ 6 = omega (arith, row, cell.first, cell.last, cell.side, c.if-row-gt0.true, c.if-row-eq0.true) in
+    let house : h ≡ c.args.i / 32 / 5 = omega (arith, row, side, cell.first) in
+    let seeds : count ≡ c.args.i % 32 = omega (arith, cell.is, cell.few) in
+    rw (side, house, seeds) c.new.ensures

@@ -1,0 +1,69 @@
+//! A house of a row, by where it begins.
+ghost use Rattle.std.specs.Prelude.{◌≡◌, ◌-◌, ◌*◌, ◌≤◌};
+
+use std::marker::Model;
+
+/// A house of a row, 1 to 6. It is stored as the bit at which it begins in a row's number, which is what a move needs of it.
+#[derive(Clone, Copy, Debug)]
+pub struct House {
+    bit: u8,
+}
+
+impl Model for House {
+    ghost use Rattle.std.specs.Prelude.{ℕ, ◌+◌, ◌-◌, ◌*◌, ◌/◌};
+    ghost use Rattle.kalah_rules.specs.Packed.{BeginsHouse};
+
+    ghost Value = { ℕ };
+
+    ghost view = { λ house. house.bit / 5 + 1 };
+
+    ghost invariant = { λ house. BeginsHouse house.bit };
+
+    ghost inverse = { λ h. record { bit = 5 * (h - 1) } };
+
+    ghost inverse_ok = { λ house h i. record { bit = h.whole i } };
+}
+
+impl House {
+    ghost use Rattle.std.specs.Prelude.{◌+◌, ◌/◌};
+    ghost use Rattle.kalah_rules.specs.Packed.{BeginsHouse};
+
+    /// Returns house `h`, which is 1 to 6.
+    #[inline(always)]
+    pub fn new(h: u8) -> House
+        requires first { 1 ≤ h }
+        requires last { h ≤ 6 }
+        ensures { result ≡ h }
+    {
+        House { bit: 5 * (h - 1) }
+    }
+
+    /// Returns the house that begins at this bit of a row's number: 0, 5, 10, 15, 20 or 25.
+    #[inline(always)]
+    pub fn at(bit: u8) -> House
+        requires { BeginsHouse bit }
+        ensures { result ≡ bit / 5 + 1 }
+    {
+        House { bit }
+    }
+
+    /// Returns the number of the house, 1 to 6.
+    #[inline(always)]
+    pub fn number(self) -> u8
+        ensures is { result ≡ self }
+        ensures first { 1 ≤ result }
+        ensures last { result ≤ 6 }
+    {
+        self.bit / 5 + 1
+    }
+
+    // Returns the bit at which the house begins.
+    #[inline(always)]
+    pub(super) fn bit(self) -> u8
+        ensures is { result ≡ 5 * (self - 1) }
+        ensures first { 1 ≤ self }
+        ensures last { self ≤ 6 }
+    {
+        self.bit
+    }
+}
