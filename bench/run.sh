@@ -1,6 +1,6 @@
 #!/usr/bin/env bash
 # Answers the position files of this folder with one worker, by the best move and by the values of all moves, and prints for each
-# its lines, the seconds it took, and the lines in a second. On a terminal a bar stands behind it: ten marks longer where ten times
+# its lines, the seconds it took, and the lines in a second. On a terminal a bar follows: ten marks longer where ten times
 # as many lines are answered in a second. Then it prints how many instructions `solve` takes, and how many mispredicted branches, if
 # valgrind is installed; they don't change with the machine. The program is the first argument, further ones are handed to `solve` and
 # `values`.

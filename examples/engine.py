@@ -61,7 +61,7 @@ def worth(own, other, takes_alone):
 
 
 def answer(line):
-    """Returns what `kalah values` prints of a line behind its place."""
+    """Returns what `kalah values` prints of a line after its place."""
     [(own, own_store), (other, other_store)], takes_alone = read(line)
     ahead = own_store - other_store
     if not (any(own) and any(other)):

@@ -47,7 +47,7 @@ def after(own, other, house, takes_alone):
 
 
 def steps(line):
-    """Yields what stands behind the place in each line that answers this one."""
+    """Yields what stands after the place in each line that answers this one."""
     own, other, takes_alone = read(line)
     if not (any(own[0]) and any(other[0])):
         yield f"{sum(own[0]) + own[1] - sum(other[0]) - other[1]} over"

@@ -95,7 +95,7 @@ class Move:
 
 @dataclass(frozen=True)
 class Steps:
-    """The legal moves, with rising houses."""
+    """The legal moves, houses ascending."""
 
     moves: list
 

@@ -5,7 +5,7 @@
 #
 # The answers are in PART.SUBCOMMAND once all of them are there, and until then in PART.SUBCOMMAND.some. PART.SUBCOMMAND.sum has the
 # checksum of the part, so a part that has changed is answered anew. The status is 0 if the answers are there, also if some line
-# was not read, and else 1.
+# was not read, otherwise 1.
 usage='usage: part.sh PART SUBCOMMAND [OPTION..]
 It needs kalah on the path.'
 [ "$1" = --help ] && echo "$usage" && exit

@@ -54,7 +54,7 @@ def how_far(position, values, winner, most):
 
 
 def puzzle_of(line, solver, most):
-    """The words of a puzzle, behind the numbers by which they are sorted; None if the position is none."""
+    """The words of a puzzle, after the numbers by which they are sorted; None if the position is none."""
     answer = solver.ask(line)
     if isinstance(answer, Over):
         return None

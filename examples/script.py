@@ -15,7 +15,7 @@ def arguments(text):
 
 def run(main):
     """Runs a script, which may return its status. Ctrl-C ends it, and so does a reader that has seen enough, as `head`. If it fails,
-    standard error says why, and the status is 1 for a line that is not a position and else 2."""
+    standard error says why, and the status is 1 for a line that is not a position, otherwise 2."""
     try:
         status = main()
         print(end="", flush=True)

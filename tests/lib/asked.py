@@ -123,7 +123,7 @@ class AskTrials:
         self.compare(Run(want, b"", 0), Run(self.before_more(words, place, line + b"\n" + LONG_GAME + b"\n"), b"", 0))
 
     def asked_in_vain(self):
-        """Input that can't be read is reported, behind the answers to what could; and nothing is read after an answer can't be written."""
+        """Input that can't be read is reported, after the answers to what could; and nothing is read after an answer can't be written."""
         what = self.drawn.card("asked in vain", ["closed", "folder", "unheard"])
         self.put({})
         if what == "closed":

@@ -59,7 +59,7 @@ LINES_OF_MOVES = [*(line for line in LINES_AT_LIMITS if b"\0" not in line), *FUL
 # A game whose first moves take long, each about a second with a table of one entry.
 LONG_GAME = b"3,2,1,4,4,3/0 1,0,1,3,4,5/0"
 
-# The place of `--boards` among the arguments: missing, before the line or behind it.
+# The place of `--boards` among the arguments: missing, before the line or after it.
 BOARDS = [None, 0, 1]
 
 # The house that a game is asked to begin with: none, one that has seeds or any of the six, which may be empty or not there.

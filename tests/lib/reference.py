@@ -107,7 +107,7 @@ def best_play(position):
 
 @lru_cache(1 << 17)
 def answer(subcommand, line):
-    """Returns the answer of `solve` or `values` to a line of a file, behind the file's name and the line's number."""
+    """Returns the answer of `solve` or `values` to a line of a file, after the file's name and the line's number."""
     position = read(line)
     if isinstance(position, str):
         return b"fault %b" % position.encode()
@@ -119,7 +119,7 @@ def answer(subcommand, line):
 
 @lru_cache(1 << 17)
 def texts(subcommand, line):
-    """What stands behind the file's name and the line's number in each of the lines that answer a line of a file."""
+    """What stands after the file's name and the line's number in each of the lines that answer a line of a file."""
     position = read(line)
     if subcommand != "steps" or isinstance(position, str) or is_over(position):
         return [answer(subcommand, line)]
@@ -156,7 +156,7 @@ def moves(line, boards=False):
 
 def line_below(position):
     """What stands below the picture of a position: the margin of a game that is over, or the value of each move below its house, and
-    nothing behind the last one."""
+    nothing after the last one."""
     if is_over(position):
         return f"over, margin {best_play(position)[0]}\n"
     row = ["    "] * (1 + len(position.own.houses))

@@ -56,7 +56,9 @@ MISTAKES += [["ask", "--values", "--steps"], ["ask", "--table=1", "--steps"], ["
 MISTAKES += [[other, *words[1:]] for other in ("values", "steps") for words in MISTAKES if words[:1] == ["solve"]]
 MISTAKES += [["steps", "--table", "1", "a"], ["steps", "a", "--table=65536"], ["steps", "--boards", "a"]]
 
-HELP = [["--help"], ["-h"], ["moves", "--help"], ["moves", "-h"], ["play", "--help"], ["solve", "--help"], ["solve", "-h"], ["solve", "a", "-h"], ["values", "--help"], ["values", "a", "-h"], ["steps", "--help"], ["steps", "a", "-h"], ["ask", "--help"], ["ask", "-h"], ["show", "--help"], ["show", "-h"], ["count", "--help"], ["count", "-h"]]
+# The subcommands, and arguments that ask for help.
+NAMED = ["moves", "play", "solve", "values", "ask", "steps", "show", "count"]
+HELP = [[*words, option] for words in ([], *([name] for name in NAMED), *([name, "a"] for name in SUBCOMMANDS)) for option in ("--help", "-h")]
 
 # Arguments that ask for the version before anything else.
 VERSION = [["--version"], ["-V"], ["-V", "-h"], ["--version", "stop"], ["-V", "solve", "a"], ["--version", "--version"], ["-V", "--", "a"]]
@@ -139,16 +141,14 @@ ROW_BY_ROW = [["count", "12", LONG_GAME], ["play", "--table", "1", "--first=2", 
 # The numbers of workers that are observed at work.
 BUSY_WORKERS = [2, 3, 5, 16, 64]
 
-# How full a pipe is that accepts no more: the last page may have room for less than a line.
-PIPE_SIZE = 15 * 4096
-
 # For how many ticks of the clock a worker is observed.
 AT_WORK = 100
 
 # The numbers of lines, with more workers than lines.
 FEW_LINES = [1, 2, 3, 7]
 
-# The standard error on which progress is shown, and the lines of the run: none, many quick ones with as many workers as there may be, or any.
+# The standard error on which progress is shown, and the lines of the run: none, many quick ones with as many workers as there may be, or
+# any.
 PROGRESS = list(product(["pipe", "terminal", "file", "/dev/full", "closed"], ["none", "quick", "any"]))
 
 # The subcommands that search with one table, after how many ticks of the clock it is measured, and the kB that the largest one takes then,
@@ -209,8 +209,9 @@ def version_line():
 
 
 def help_text(words, name):
-    """Returns the help that arguments ask for, of a program of this name: a copy in tests/data/help, which has `kalah` in its usage line."""
-    file = "kalah.txt" if words == ["--help"] else f"{words[0]}.txt"
+    """Returns the help that arguments ask for, of a program of this name: a copy in tests/data/help, with `kalah` in its usage line."""
+    subject = "kalah" if words[0].startswith("-") else words[0]
+    file = f"{subject}{'-h' * (words[-1] == '-h')}.txt"
     return (TESTS / "data/help" / file).read_bytes().replace(b"Usage: kalah ", b"Usage: " + name + b" ")
 
 
@@ -384,7 +385,7 @@ class Trials(AskTrials):
         self.answer([("a", b"\n".join(lines))], self.drawn.card("of stored", ["solve", "steps"]))
 
     def unread_files(self):
-        """The first name that can't be opened is reported; there are files before it, and more names behind it."""
+        """The first name that can't be opened is reported; there are files before it, and more names after it."""
         there = ("a", self.drawn.file(2))
         behind = self.drawn.chance.choices([there, *((name, None) for name in NO_FILES)], k=self.drawn.chance.randint(0, 3))
         self.answer([there] * self.drawn.chance.randint(0, 10) + [(self.drawn.card("no files", NO_FILES), None), *behind])
@@ -455,15 +456,11 @@ class Trials(AskTrials):
             self.compare(reference.failed(b"a word is not UTF-8"), got)
 
     def help(self):
-        """Help names the program by the last part of its first word. Each `--help` is compared whole, and of `-h` the usage line."""
+        """Help names the program by the last part of its first word. It is compared whole."""
         self.put({"a": b"1/0 1/0"})
         words, name = self.drawn.card("help", HELP), self.drawn.card("names in help", PROGRAM_NAMES)
         own_name = os.path.basename(name).encode()
-        got = self.run(words, name)
-        self.compare(Run(help_text(words, own_name) if words[-1] == "--help" else got.out, b"", 0), got)
-        usage = b"Usage: " + own_name + b" "
-        if usage not in got.out:
-            raise Differs(f"no {usage} in {got.out}")
+        self.compare(Run(help_text(words, own_name), b"", 0), self.run(words, name))
 
     def version(self):
         """The version names the program `kalah`, for any first argument."""
@@ -740,15 +737,20 @@ class Trials(AskTrials):
         self.compare(reference.answers(subcommand, [(b"a", data)]), self.run_within(LITTLE_SPACE, [subcommand, "--workers=1", "a"]))
 
     def memory_of(self, words):
-        """Returns the most that a run has in memory, in kB, until its output has filled a pipe that nobody reads."""
+        """Returns the most that a run has in memory, in kB, until its output has filled a pipe that nobody reads: until no more comes."""
         reader, writer = os.pipe()
         with self.start(words, stdout=writer) as process:
             os.close(writer)
-            soon(lambda: process.poll() is not None or bytes_in(reader) >= PIPE_SIZE)
-            kilobytes = in_memory(process, "VmHWM")
-            process.kill()
-        os.close(reader)
-        return kilobytes
+            try:
+                soon(lambda: bytes_in(reader))
+                before = None
+                while before != bytes_in(reader):
+                    before = bytes_in(reader)
+                    time.sleep(0.1)
+                return in_memory(process, "VmHWM")
+            finally:
+                process.kill()
+                os.close(reader)
 
     def no_word(self):
         """Without any word, not even a name, nothing is written to the standard output. Newer systems hand over an empty word."""

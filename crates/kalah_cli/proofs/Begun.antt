@@ -162,7 +162,7 @@ lines_begun question unread before after old new is begun =
     let first = answers_to question begun.lines in
     let rest = answers_to question begun.last in
     let all = ap (take (length first + begun.count)) (answers_split question begun.lines begun.last begun.ended)
-        ∙ take-append-add first rest begun.count in
+    ∙ take-append-add first rest begun.count in
     record {
       read = begun.lines ++ begun.last;
       first = subst (AreFirst (begun.lines ++ begun.last)) (sym is) (taken_first before after _ begun.taken);

@@ -21,7 +21,7 @@ pub values_are : (f : Found) (id : Text) (o : Option (Bor (List (Bor Text)))) (s
     → all_of id (rows_of f) ≡ Some (map (λ v. v.now) copied)
 values_are f id o s copied read is same =
     sym (raw_values-rows f id) ∙ sym read ∙ ap (option_map (λ s. map (λ v. v.now) s.now)) is
-        ∙ ap (λ vs. Some (map (λ v. v.now) vs)) (sym same)
+    ∙ ap (λ vs. Some (map (λ v. v.now) vs)) (sym same)
 
 -- the getter of a type of numbers of this width returns the number under the name
 pub number_read : (width low high : ℕ) (f : Found) (id : Text) (r : Option ℕ)

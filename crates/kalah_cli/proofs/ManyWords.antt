@@ -1,4 +1,4 @@
--- What clap makes of `solve`, `values` or `steps` and any number of plain words behind it.
+-- What clap makes of `solve`, `values` or `steps` and any number of plain words after it.
 use Rattle.std.proofs.Common.{◌≡◌, ℕ, false, refl, List, [], ◌∷◌, ◌++◌, Some, None, codes, ◌==◌, ◌∙◌, ap, append_assoc, subst, sym}
 use Rattle.std.specs.Prelude.{find, fold, option_and_then, option_map}
 use Rattle.std.specs.List.{All}
@@ -20,7 +20,7 @@ use Rattle.kalah_jobs.specs.declared.files.question.Question.TheVariants.{BestMo
 use Rattle.kalah_cli.specs.Command.{file_rule, kalah_app, solve_app, steps_app, values_app}
 use Rattle.kalah_cli.specs.Request.{IsPlainWord, IsTakenAs, answers, asked_by, command_of, table_of}
 
--- ---- files behind a subcommand that takes them
+-- ---- files after a subcommand that takes them
 
 -- FILE.. as clap builds it, which a subcommand has
 abbrev file_built : Rule
@@ -40,7 +40,7 @@ file_rows (file ∷ files) = record {
   reading = AsWritten;
 } ∷ []
 
--- the walk behind a plain argument, before which stood these
+-- the walk after a plain argument, before which stood these
 abbrev behind : List Text → Text → Walk
 behind files word = record {
   held = record { rows = file_rows files; pending = Some (codes "file", word ∷ []); skip = 0 };
@@ -165,7 +165,7 @@ files_taken question name file files plain =
     let words = file ∷ files in
     let end = all_end (shape question) (takes question) file files plain in
     let level : level_fault (shape question) [] nothing_held words false [] ≡ [] =
-        rw (end.passes, end.settles, end.rows) (needs question file files) in
+    rw (end.passes, end.settles, end.rows) (needs question file files) in
     let stop = stops question in
     let walked_on : walk program.top.rules (names_of program) nothing_held (command_of question ∷ words)
     ≡ record (walk_from nothing_held) { stopped = Some (command_of question, words) } =

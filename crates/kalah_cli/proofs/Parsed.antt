@@ -34,7 +34,7 @@ pub parsed : (a : App) (words : List Text) (o : Option (Text × List Row)) → a
     → (is_simple a ≡ true → o ≡ subcommand_of a words) → IsParsed words o
 parsed a words o is none rows =
     let none : fault_of kalah_app words ≡ [] = subst (λ b. fault_of b words ≡ []) is
-        (none (ap is_simple_and_free is ∙ app_is_simple)) in
+    (none (ap is_simple_and_free is ∙ app_is_simple)) in
     let same : o ≡ subcommand_of kalah_app words = rows (ap is_simple is ∙ kalah_is_simple) ∙ ap (λ b. subcommand_of b words) is in
     let met = taken_has kalah_app words usable refl none in
     record { none = none; same = same; taken = (met.0, met.1, same ∙ met.2, (words, none, met.2)) }

@@ -99,9 +99,11 @@ next_game p q h s houses final first (inl again) game =
     let moved_to = again_step (is_over (after p h)) (is_again p h) (after p h) q (sym again ∙ first.step) in
     (final, moves_on first.going (followed_best p h first.best) moved_to.1 (subst (λ r. BestGame r houses final) moved_to.2 game))
 next_game p q h s houses final first (inr turn) game =
-    let moved_to = turn_step (is_over (after p h)) (is_again p h) (after p h) q (sym turn ∙ first.step) in
-    (swapped final, passes_turn first.going (followed_best p h first.best) moved_to.1
-        (subst (λ r. BestGame r houses final) moved_to.2 game))
+    let moved_to = turn_step (is_over (after p h)) (is_again p h) (after p h) q (sym turn ∙ first.step) in (
+      swapped final,
+      passes_turn first.going (followed_best p h first.best) moved_to.1
+          (subst (λ r. BestGame r houses final) moved_to.2 game),
+    )
 
 over_game : (p e : Position) (h : ℕ) (s : Step) → IsFirst p h s → s ≡ step.Over e → (final : Position)
     × BestGame p (h ∷ []) final
@@ -141,9 +143,9 @@ of_first {boards} {p} {h} {s} {Holds} first all =
     let lines = game_lines boards (position_after (step_of p h)) begun.0 in
     of_game boards p game.0 game.1 Holds first.even game.2
     (subst (λ hs. Holds (game_lines boards p hs)) (sym begun.1)
-        (subst (λ x. Holds (move_lines boards h x ++ lines)) first.step (all lines)))
+    (subst (λ x. Holds (move_lines boards h x ++ lines)) first.step (all lines)))
 
--- what holds of them behind that line, if the rest is of the game from there on
+-- what holds of them after that line, if the rest is of the game from there on
 of_more : (boards : Bool) (p q : Position) (h : ℕ) (s : Step) (houses : List ℕ) (final : Position)
     (Rest Holds : List ℕ → Type 0) →
     IsFirst p h s → BestGame p (h ∷ houses) final → q ≡ position_after s → Rest (game_lines boards q houses) →
@@ -159,7 +161,7 @@ pub of_next : {boards : Bool} {p q : Position} {h : ℕ} {s : Step} {Rest Holds 
 of_next {boards} {p} {q} {h} {s} {Rest} {Holds} first is more rest =
     let game = next_game p q h s rest.houses rest.final first is rest.is_best.game in
     let next : q ≡ position_after s =
-        elim is [ inl again ↦ sym (ap position_after again) | inr turn ↦ sym (ap position_after turn) ] in
+    elim is [ inl again ↦ sym (ap position_after again) | inr turn ↦ sym (ap position_after turn) ] in
     of_more boards p q h s rest.houses game.0 Rest Holds first game.1 next rest.holds more
 
 -- the last move
@@ -209,34 +211,34 @@ on_ok_always (Err e) p = tt
 
 -- ---- the game of `play`, with a first house or without
 
--- what holds of any lines behind the first picture holds of it
+-- what holds of any lines after the first picture holds of it
 pub of_any_game : (first : Option ℕ) (boards : Bool) (p : Position) (Holds : List ℕ → Type 0) → HasEqualSides p →
     ((lines : List ℕ) → Holds (board_lines boards p ++ lines)) → OfGame first boards p Holds
 of_any_game None boards p Holds even all = of_any even all
 of_any_game (Some h) boards p Holds even all = of_any (even_after p h) (λ lines. all (move_lines boards h (step_of p h) ++ lines))
 
--- and so does what holds of any lines behind the move that is asked for
+-- and so does what holds of any lines after the move that is asked for
 pub of_first_house : (first : Option ℕ) (boards : Bool) (p : Position) (h : ℕ) (s : Step) (Holds : List ℕ → Type 0)
     → first ≡ Some h →
     s ≡ step_of p h → ((lines : List ℕ) → Holds (board_lines boards p ++ (move_lines boards h s ++ lines)))
-        → OfGame first boards p Holds
+    → OfGame first boards p Holds
 of_first_house first boards p h s Holds asked same all = subst (λ f. OfGame f boards p Holds) (sym asked)
     (of_any (even_after p h)
     (λ lines. subst (λ x. Holds (board_lines boards p ++ (move_lines boards h x ++ lines))) same (all lines)))
 
--- what holds of the lines of a game holds of it behind the first picture
+-- what holds of the lines of a game holds of it after the first picture
 pub of_best : (first : Option ℕ) (boards : Bool) (p : Position) (Lines Holds : List ℕ → Type 0) → first ≡ None →
     ((lines : List ℕ) → Lines lines → Holds (board_lines boards p ++ lines)) → OfBestGame boards p Lines
-        → OfGame first boards p Holds
+    → OfGame first boards p Holds
 of_best first boards p Lines Holds none more game = subst (λ f. OfGame f boards p Holds) (sym none)
     (record { houses = game.houses; final = game.final; is_best = game.is_best; holds = more _ game.holds })
 
--- and behind the first picture and the move that is asked for, where the game goes on from the position after it
+-- and after the first picture and the move that is asked for, where the game goes on from the position after it
 pub behind_move : (first : Option ℕ) (boards : Bool) (p next : Position) (h : ℕ) (s : Step) (Lines Holds : List ℕ → Type 0)
     → first ≡ Some h →
     s ≡ step_of p h → next ≡ position_after s →
     ((lines : List ℕ) → Lines lines → Holds (board_lines boards p ++ (move_lines boards h s ++ lines)))
-        → OfBestGame boards next Lines →
+    → OfBestGame boards next Lines →
     OfGame first boards p Holds
 behind_move first boards p next h s Lines Holds asked same is more game = subst (λ f. OfGame f boards p Holds) (sym asked)
     (let rest = subst (λ q. OfBestGame boards q Lines) (is ∙ ap position_after same) game in record {

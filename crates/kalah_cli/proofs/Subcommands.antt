@@ -44,7 +44,7 @@ pub may_have_number : {name : Text} {rows : List Row} (id : Text) {a : Rule} {lo
 may_have_number {name} {rows} id {a} least most m takes parser lower higher t e =
     let written = ap (λ p. reading_of (parser_of_value p)) parser in
     let range = subst (λ p. Accepts a.ignore_case (parser_of_value p) t) parser
-        (accepted_in rows id a (has_of name rows m id a takes) written t e) in
+    (accepted_in rows id a (has_of name rows m id a takes) written t e) in
     (range.0, range.1, omega (arith, range.2, lower), omega (arith, range.3, higher))
 
 -- an argument that is required or has a default has a value
@@ -68,7 +68,7 @@ pub has_flag : {name : Text} {rows : List Row} (id : Text) {a : Rule} → AreMat
 has_flag {name} {rows} id {a} m takes parser t e =
     let written = ap (λ p. reading_of (parser_of_value p)) parser in
     let said = subst (λ p. Accepts a.ignore_case (parser_of_value p) t) parser
-        (accepted_in rows id a (has_of name rows m id a takes) written t e) in
+    (accepted_in rows id a (has_of name rows m id a takes) written t e) in
     elim (cases_Bool (bytes_eq t (codes "true"))) [
       | inl is ↦ inl ((bytes_eq-Decides t (codes "true")).0 is)
       | inr not ↦ inr ((bytes_eq-Decides t (codes "false")).0 (rw not at said))

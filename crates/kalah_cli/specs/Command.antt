@@ -104,7 +104,7 @@ program_app = on_top (λ s. record s { has_version = true; subcommand_required =
 abbrev solvers_app : App
 solvers_app =
     with_subcommand
-        (with_subcommand (with_subcommand (with_subcommand (with_subcommand program_app moves_app.top) play_app.top) solve_app.top)
+    (with_subcommand (with_subcommand (with_subcommand (with_subcommand program_app moves_app.top) play_app.top) solve_app.top)
     values_app.top) ask_app.top
 
 -- the program, which is always given one of its subcommands

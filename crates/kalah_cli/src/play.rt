@@ -56,7 +56,7 @@ fn write_game<O: Sink>(
     }
 }
 
-// Writes the game of best play from a board on, or behind the move of the first house, below the board if boards are drawn.
+// Writes the game of best play from a board on, or after the move of the first house, below the board if boards are drawn.
 fn play<O: Sink>(
     solver: &mut Solver,
     board: &Board,
@@ -97,7 +97,7 @@ fn unmoved_house(board: &Board, first: Option<u8>) -> Option<u8>
 }
 
 /// Prints the game that best play leads to from the position that the line writes, each move as soon as it is found; or the move of
-/// house `first`, and the game of best play behind it. A line that can't be read is answered by its fault, and a house that may not be
+/// house `first`, and the game of best play after it. A line that can't be read is answered by its fault, and a house that may not be
 /// moved by its number, on `err` only. Memory is requested before anything is written, except for the entries of the table.
 #[tactic(auto, using(crate::proofs::Begun::begins_no_play, crate::proofs::Begun::even_read))]
 pub(crate) fn run_play<O: Sink, E: Write>(

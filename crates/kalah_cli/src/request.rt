@@ -28,7 +28,7 @@ pub enum Request<'a> {
         line: &'a str,
         boards: bool,
     },
-    /// Print the game of best play from the position that this line writes, or behind its move of house `first`, 1 to 6. The search has
+    /// Print the game of best play from the position that this line writes, or after its move of house `first`, 1 to 6. The search has
     /// `table` entries, 1 to 1,048,576.
     Play {
         line: &'a str,

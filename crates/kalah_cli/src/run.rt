@@ -152,11 +152,13 @@ fn run_request<R: Files + Input + Clock + Terminal + Threads + Wait + Sync, O: S
 /// position with what its moves are worth, and `count DEPTH LINE` counts the ways to play on from it.
 /// `--version` prints which version this is. Answers, help and the version go to `out`, messages about failures
 /// and unread lines to `err`; a failing write to `err` changes nothing.
-pub fn run_words<
-    R: Files + Input + Clock + Terminal + Threads + Wait + Sync,
-    O: Sink,
-    E: Write,
->(rt: &R, alloc: Global, words: Vec<String>, out: &mut O, err: &mut E) -> ExitStatus
+pub fn run_words<R: Files + Input + Clock + Terminal + Threads + Wait + Sync, O: Sink, E: Write>(
+    rt: &R,
+    alloc: Global,
+    words: Vec<String>,
+    out: &mut O,
+    err: &mut E,
+) -> ExitStatus
     requires sink { O.has_failed out.old ≡ false }
     requires named { 0 < vec_len words }
     // Accepted arguments, in general, and by their words.

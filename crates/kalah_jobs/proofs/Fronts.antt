@@ -60,7 +60,7 @@ pub front_least : (xs : List (Option Answer)) (m : ℕ) → ((k : ℕ) → k < m
 front_least xs m all =
     ⊎_elim
     (λ (short : front_of xs < m). let more : front_of xs + 1 ≤ front_of xs = front_more xs (front_of xs) (omega arith)
-        (all (front_of xs) short) in
+    (all (front_of xs) short) in
     absurd (omega arith))
     (λ (long : m ≤ front_of xs). long)
     (cases_lt (front_of xs) m)

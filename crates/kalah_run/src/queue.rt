@@ -83,7 +83,7 @@ impl ResultsQueue {
         Ok((queue, puts, GetPass { ruled, workers }))
     }
 
-    /// Puts the outcome behind all that this worker has sent. Blocks while the queue is full: first by spinning briefly, then by sleeping.
+    /// Puts the outcome after all that this worker has sent. Blocks while the queue is full: first by spinning briefly, then by sleeping.
     #[inline(always)]
     pub fn put<R: Wait>(&self, rt: &R, pass: &mut PutPass, outcome: Outcome)
         requires { pass.old.queue ≡ self.now.id }

@@ -209,7 +209,7 @@ entered_has a (Some p) usable some e = elim (cases_Option (find (λ s. answers_t
       let parts = both (distinct (λ (s : Shape). s.name) a.subs) _ usable in
       let own = found_all _ (λ s. answers_to p.0 (label_of s)) a.subs s (each_found (λ (s : Shape). s.name) a.subs parts.0) met.1 in
       let args = found_all _ (λ s. answers_to p.0 (label_of s)) a.subs s
-          (all_pass (λ (s : Shape). are_usable s.rules) a.subs parts.1) met.1 in
+      (all_pass (λ (s : Shape). are_usable s.rules) a.subs parts.1) met.1 in
       rw met.1 (s.name, rows_after s.rules [] p.1, refl, λ id b found. level_has s p.1 args (rw met.1 at e) id b (rw own at found))
 ]
 

@@ -200,7 +200,7 @@ const MISTAKES: &[&[&str]] = &[
     &["show", "--boards", "1/0 1/0"],
     &["show", "--table=0", "1/0 1/0"],
     &["show"],
-    // A depth is a number from 0 to 20, and behind it stands one line.
+    // A depth is a number from 0 to 20, and after it stands one line.
     &["count", "21", "1/0 1/0"],
     &["count", "-1", "1/0 1/0"],
     &["count", "", "1/0 1/0"],
@@ -280,7 +280,7 @@ const CALLS: &[(&[&str], u32)] = &[
     // The game is written in two moves, with a flush before each search and at the end.
     (&["play", "1,1/0 1,1/0"], 5),
     (&["play", "--first=2", "1,1/0 1,1/0"], 4),
-    // The picture is written, flushed before the search, and again behind the values.
+    // The picture is written, flushed before the search, and again after the values.
     (&["show", "1,1/0 1,1/0"], 4),
     (&["show", "--plain", "1,1/0 1,1/0"], 2),
     // Each line is flushed before the next house is counted.

@@ -69,7 +69,7 @@ pub answers_split : (question : Question) (lines more : List ℕ) → EndsWithIt
 unfolding answers_to
 answers_split question lines more ends =
     ap (flat_map (told question)) (files_split_between_lines.parts lines more ends).lines
-        ∙ flat_map-append (told question) (lines_of lines) (lines_of more)
+    ∙ flat_map-append (told question) (lines_of lines) (lines_of more)
 
 pub no_answers : (question : Question) → answers_to question [] ≡ []
 unfolding answers_to
@@ -128,7 +128,7 @@ pub kept_says : (line : List ℕ) → entry_of (take kept_bytes line) ≡ entry_
 kept_says line = elim (cases_lt kept_bytes (length line)) [
   | inl long ↦
       too_long (take kept_bytes line) (omega (arith, length-take-le kept_bytes line (omega (arith, long))))
-          ∙ sym (too_long line (omega (arith, long)))
+      ∙ sym (too_long line (omega (arith, long)))
   | inr short ↦ ap entry_of (take_all kept_bytes line short)
 ]
 
@@ -149,7 +149,7 @@ kept_more line byte = go kept_bytes line
     go (suc n) [] = refl
     go (suc n) (first ∷ line) = ap (λ l. first ∷ l) (go n line)
 
--- what stands behind the last line feed is answered as its lines are
+-- what stands after the last line feed is answered as its lines are
 pub last_told : (question : Question) (piece : List ℕ) → HasNoLineFeed piece
     → answers_to question piece ≡ told_last question (take kept_bytes piece)
 last_told question [] none = no_answers question

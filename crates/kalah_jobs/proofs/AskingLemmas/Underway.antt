@@ -69,7 +69,7 @@ whole_line : (before now next : Option (List ℕ)) (lines part : List ℕ) → C
     → Consumes before next (lines ++ (part ++ line_feed ∷ []))
 whole_line before now next lines part taken end =
     subst (Consumes before next) (append_assoc lines part (line_feed ∷ []))
-        (Consumes-trans before now next (lines ++ part) (line_feed ∷ []) taken end)
+    (Consumes-trans before now next (lines ++ part) (line_feed ∷ []) taken end)
 
 -- the line that was kept in part is answered as the whole of it
 told_whole : (question : Question) (line part : List ℕ) → line ≡ take kept_bytes part → told question line ≡ told question part
@@ -83,7 +83,7 @@ pub line_read : (question : Question) (before now next old new kept more : Optio
 line_read question before now next old new kept more line all_read is_read u end keeps tells read =
     let one = lines_of_ended u.part u.unended in
     let ended_now : EndsWithItsLine (u.lines ++ (u.part ++ line_feed ∷ [])) =
-        inr (u.lines ++ u.part, sym (append_assoc u.lines u.part (line_feed ∷ []))) in
+    inr (u.lines ++ u.part, sym (append_assoc u.lines u.part (line_feed ∷ []))) in
     record {
       lines = u.lines ++ (u.part ++ line_feed ∷ []);
       part = [];
@@ -156,12 +156,12 @@ begun_line question before now next old new kept more line all_read u end keeps 
           (subst (λ l. Appends kept more (take start.0 l)) told_part start.1);
     }
 
--- what stands behind the last line feed is answered by the part that was kept
+-- what stands after the last line feed is answered by the part that was kept
 told_part : (question : Question) (line part : List ℕ) → line ≡ take kept_bytes part → HasNoLineFeed part →
     told_last question line ≡ answers_to question part
 told_part question line part kept none = ap (told_last question) kept ∙ sym (last_told question part none)
 
--- nothing is left, and a prefix of the answer to what stands behind the last line feed was written
+-- nothing is left, and a prefix of the answer to what stands after the last line feed was written
 pub begun_last : (question : Question) (before now next old new kept more : Option (List ℕ)) (line : List ℕ) (all_read : Bool)
     → Underway question before now old new line all_read → Consumes now next [] → Keeps new kept
     → AppendsStart kept more (told_last question line) → IsBegun question before next old more

@@ -110,7 +110,7 @@ count_split q m (z ∷ zs) below =
     let one : f z ≡ g z + cond (q z) 1 0 = more (q z) (count_by (λ y. y == z) (z ∷ zs)) (count_by (λ y. y == z) zs) here in
     let other : (x : ℕ) → x ≢ z → f x ≡ g x =
     λ x ne. ap (chosen (q x)) (step x ∙ ap (λ (b : Bool). cond b 1 0 + count_by (λ y. y == x) zs) (ne_eqb z x (λ e. ne (sym e)))
-        ∙ omega arith) in
+    ∙ omega arith) in
     let a : total m f ≡ total m g + cond (q z) 1 0 = total_one m f g z (cond (q z) 1 0) (All-head P z zs below) one other in
     let b : count_by q zs ≡ total m g = count_split q m zs (All-tail P z zs below) in
     omega (arith, sum_by-cons (λ y. cond (q y) 1 0) z zs)
@@ -137,8 +137,12 @@ all_below n (z ∷ zs) none =
 -- rows counted in one list
 count_flat : (q : ℕ → Bool) (rows : List (List ℕ)) → count_by q (flat_map (λ r. r) rows) ≡ sum_by (λ r. count_by q r) rows
 count_flat q [] = refl
-count_flat q (r ∷ rs) = omega (arith, count_flat q rs, sum_by-cons (λ r. count_by q r) r rs,
-    sum_by-append (λ x. cond (q x) 1 0) r (flat_map (λ r. r) rs))
+count_flat q (r ∷ rs) = omega (
+  arith,
+  count_flat q rs,
+  sum_by-cons (λ r. count_by q r) r rs,
+  sum_by-append (λ x. cond (q x) 1 0) r (flat_map (λ r. r) rs),
+)
 
 -- in lawful rows, as many numbers pass a test as among all numbers below n
 rows_count : (n : ℕ) (rows : List (List ℕ)) (q : ℕ → Bool) → ((x : ℕ) → times_in x rows ≡ (if nat_lt x n then 1 else 0)) →
@@ -147,10 +151,10 @@ unfolding count_below chosen
 rows_count n rows q once =
     let flat : List ℕ = flat_map (λ r. r) rows in
     let times : (x : ℕ) → count_by (λ y. y == x) flat ≡ (if nat_lt x n then 1 else 0) = λ x. count_flat (λ y. y == x) rows
-        ∙ once x in
+    ∙ once x in
     let low : All (λ x. x < n) flat = all_below n flat (λ x g. times x ∙ ap (λ (b : Bool). if b then 1 else 0) (le-ltb x n g)) in
     let one : (x : ℕ) → x < n → count_by (λ y. y == x) flat ≡ 1 =
-        λ x l. times x ∙ ap (λ (b : Bool). if b then 1 else 0) (lt-ltb x n l) in
+    λ x l. times x ∙ ap (λ (b : Bool). if b then 1 else 0) (lt-ltb x n l) in
     sym (count_flat q rows) ∙ count_split q n flat low
     ∙ total_same n (λ x. chosen (q x) (count_by (λ y. y == x) flat)) (λ x. cond (q x) 1 0) (λ x l. ap (chosen (q x)) (one x l))
 

@@ -38,7 +38,7 @@ line_of_parts : (text own other : List ℕ) (ending : List (List ℕ)) (rule : R
 line_of_parts text own other [] rule e parts =
     let is : Classic ≡ rule = cc in
     text_of_two space text own other parts ∙ sym (append-nil (own ++ space ∷ other))
-        ∙ ap (λ (r : Rule). own ++ space ∷ other ++ ending_of r) is
+    ∙ ap (λ (r : Rule). own ++ space ∷ other ++ ending_of r) is
 line_of_parts text own other ([] ∷ more) rule e parts = absurd cc
 line_of_parts text own other ((byte ∷ []) ∷ []) rule e parts =
     let read = cond_some (byte == 101) EmptyCapture rule e in

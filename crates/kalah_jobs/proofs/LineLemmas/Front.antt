@@ -44,7 +44,7 @@ one_is_all (tens ∷ ones ∷ []) n first more rest h e stops =
     absurd (stops ones rest behind (λ is. h.1 (same ∙ is)) h.2)
 one_is_all (a ∷ b ∷ c ∷ text) n first more rest h e stops = absurd h
 
--- and else two
+-- otherwise two
 two_are_all : (text : List ℕ) (n tens ones : ℕ) (more rest : List ℕ) → IsNumber text n →
     tens ∷ ones ∷ more ≡ text ++ rest →
     EndsNumber rest → IsAsciiDigit ones → more ≡ rest

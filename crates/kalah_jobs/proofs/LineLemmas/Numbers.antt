@@ -68,7 +68,7 @@ number_text (tens ∷ ones ∷ []) n h =
     let second : ones ≡ 48 + n % 10 = omega (arith, h.0, h.1, h.2, h.3) in
     let front : decimal (n / 10) ≡ (48 + n / 10) ∷ [] = decimal_digit (n / 10) (omega (arith, h.0, high)) in
     let step : decimal n ≡ decimal (n / 10) ++ ((48 + n % 10) ∷ []) =
-        decimal_step n (omega (arith, h.0, h.1, h.3)) (omega (arith, h.0, h.2, h.3)) in
+    decimal_step n (omega (arith, h.0, h.1, h.3)) (omega (arith, h.0, h.2, h.3)) in
     ap₂ (λ (a b : ℕ). a ∷ b ∷ []) first second ∙ sym (step ∙ ap (λ (t : List ℕ). t ++ ((48 + n % 10) ∷ [])) front)
 number_text (a ∷ b ∷ c ∷ rest) n h = absurd h
 

@@ -29,7 +29,7 @@ ending_ends : (rule : Rule) → EndsNumber (ending_of rule)
 ending_ends Classic = tt
 ending_ends EmptyCapture = λ digit. omega (arith, digit)
 
--- the sides of a line, and what stands behind the first one
+-- the sides of a line, and what stands after the first one
 pub record LineFront (text : List ℕ) (p : Position) : Type 0 where
   pub behind : List ℕ
   pub own : BeginsWithSide text p.own p.own_store (space ∷ behind)

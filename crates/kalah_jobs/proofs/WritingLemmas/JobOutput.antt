@@ -53,7 +53,7 @@ unfolding output_to
 same_output question files =
     files_told question (answer_text_of (names_of files)) 0 files
     (λ m i is low taken. ap (λ j. answer_line (get_or (names_of files) j []) taken ++ line_feed ∷ [])
-        (let e : m ≡ i = omega arith in e))
+    (let e : m ≡ i = omega arith in e))
 
 same_lines : (question : Question) (files : List NamedBytes) → (tally_of files).lines ≡ length (job_list (jobs_to question files))
 unfolding tally_of

@@ -42,7 +42,7 @@ pub values_from : (values : List MoveValue) (i : ℕ) (v : MoveValue) → slice_
 values_from values i v is =
     drop_more values i v (slice_get_within values i v is) ∙ ap (λ w. w ∷ drop (i + 1) values) (get_or_from_slice_get values i v v is)
 
--- the column of a value before those behind it
+-- the column of a value before those after it
 pub column_before : (behind : ℕ) (v : MoveValue) (vs : List MoveValue) (old row cell after : List ℕ) →
     row ≡ value_columns (v.house + 1) vs ++ old
     → cell ≡ value_cell v.value ++ row → after ≡ empty_columns (v.house - behind) ++ cell →
@@ -53,7 +53,7 @@ column_before behind v vs old row cell after is next e =
     (next ∙ ap (λ ws. value_cell v.value ++ ws) is ∙ sym (append_assoc (value_cell v.value) below old))
     ∙ sym (append_assoc (empty_columns (v.house - behind)) (value_cell v.value ++ below) old)
 
--- what is known of the value at place i, and of those behind it
+-- what is known of the value at place i, and of those after it
 pub record IsNext (behind : ℕ) (values : List MoveValue) (i : ℕ) (v : MoveValue) : Type 0 where
   pub within : i < length values
   pub after : behind ≤ v.house
@@ -113,6 +113,6 @@ small_moves p limits = All-map IsSmallValue (move_value p) (legal_houses p)
 pub have_columns : (p : Position) → IsWithinLimits p → HaveColumns (values_of p)
 have_columns p limits = record { rise = values_rise p; small = small_moves p limits }
 
--- behind any column before the first house
+-- after any column before the first house
 pub rise_from_none : (vs : List MoveValue) → Rise 1 vs → Rise 0 vs
 rise_from_none vs rise = rise_later 0 1 vs (omega arith) rise

@@ -115,7 +115,7 @@ tally_split first second ends =
     ∙ ap₂ counts
     (ap length lines ∙ length-append (lines_of first) (lines_of second))
     (ap (count_by is_faulty) lines ∙ sum_by-append (λ (line : List ℕ). if is_faulty line then 1 else 0) (lines_of first)
-        (lines_of second))
+    (lines_of second))
     ∙ sym (ap₂ counted_together (tally_is first) (tally_is second))
 
 pub files_split_between_lines : FilesSplitBetweenLines

@@ -21,7 +21,7 @@ pub start_then : (old between new : Option (List ℕ)) (bs done rest : List ℕ)
     → AppendsStart old new bs
 start_then old between new bs done rest parts first start =
     let is : take (length done + start.0) bs ≡ done ++ take start.0 rest = ap (take (length done + start.0)) parts
-        ∙ take-append-add done rest start.0 in
+    ∙ take-append-add done rest start.0 in
     (length done + start.0, subst (λ l. Appends old new l) (sym is) (Appends-trans old between new done (take start.0 rest) first start.1))
 
 -- a prefix is also one of what is longer

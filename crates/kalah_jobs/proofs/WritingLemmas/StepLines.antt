@@ -11,7 +11,7 @@ pub one_more : (one : ℕ → List ℕ) (moves : List ℕ) (i house : ℕ) → i
     → flat_map one (take (i + 1) moves) ≡ flat_map one (take i moves) ++ one house
 one_more one moves i house within is =
     ap (flat_map one) (take_more moves i 0 within ∙ ap (λ h. take i moves ++ h ∷ []) (sym is))
-        ∙ sym (flat_map_more one [] (take i moves) house)
+    ∙ sym (flat_map_more one [] (take i moves) house)
 
 -- the first moves, and then the others
 pub first_moves : (one : ℕ → List ℕ) (moves others : List ℕ) (i : ℕ) → moves ≡ others →
@@ -51,7 +51,7 @@ module _ (place : List ℕ) (text : ℕ → List ℕ) where
 
   one_line_more : (moves : List ℕ) (i : ℕ) → i < length moves →
       joined_lines (take (suc i) moves) ≡ joined_lines (take i moves) ++
-          (before_text (line_feed ∷ []) i ++ (place ++ text (get_or moves i 0)))
+      (before_text (line_feed ∷ []) i ++ (place ++ text (get_or moves i 0)))
   one_line_more [] i within = absurd (omega (arith, within))
   one_line_more (h ∷ moves) zero within = refl
   one_line_more (h ∷ []) (suc i) within = absurd (omega (arith, within))
@@ -64,7 +64,7 @@ module _ (place : List ℕ) (text : ℕ → List ℕ) where
   -- one line more
   pub line_more : (moves : List ℕ) (i : ℕ) → i < length moves →
       joined_lines (take (i + 1) moves) ≡ joined_lines (take i moves) ++
-          (cond (i == 0) [] (line_feed ∷ []) ++ (place ++ text (get_or moves i 0)))
+      (cond (i == 0) [] (line_feed ∷ []) ++ (place ++ text (get_or moves i 0)))
   line_more moves i within =
       ap (λ n. joined_lines (take n moves)) (add-one i) ∙ one_line_more moves i within
       ∙ ap (λ l. joined_lines (take i moves) ++ (l ++ (place ++ text (get_or moves i 0)))) (before_by_test (line_feed ∷ []) i)

@@ -29,7 +29,7 @@ bytes_of (Some byte) = byte ∷ []
 abbrev pub told : Question → List ℕ → List ℕ
 told question line = answer_words (answer_of (entry_to question line)) ++ line_feed ∷ []
 
--- the answer to what stands behind the last line feed, if anything does, and whether it is read
+-- the answer to what stands after the last line feed, if anything does, and whether it is read
 abbrev pub told_last : Question → List ℕ → List ℕ
 told_last question [] = []
 told_last question (byte ∷ line) = told question (byte ∷ line)
@@ -106,7 +106,7 @@ pub record AnswersAreThoseOfAFile : Type 0 where
       line_output question name (number, line) ≡ place_words name number ++ told question line
   pub file : (question : Question) → question ≢ Steps → (file : NamedBytes) →
       output_to question (file ∷ []) ≡ flat_map (λ p. place_words file.name p.0 ++ told question p.1)
-          (enumerate_from 0 (lines_of file.bytes))
+      (enumerate_from 0 (lines_of file.bytes))
   pub texts : (question : Question) (line : List ℕ) → told question line ≡ in_one_line (texts_told question line) ++ line_feed ∷ []
   pub placed : (question : Question) (name : List ℕ) (number : ℕ) (line : List ℕ) → line_output question name (number, line)
       ≡ join_with_byte line_feed (map (λ text. place_words name number ++ text) (texts_told question line)) ++ line_feed ∷ []

@@ -54,7 +54,7 @@ AreHouses text [] = ⊥
 AreHouses text (house ∷ []) = IsNumber text house
 AreHouses text (house ∷ other ∷ houses) =
     (first : List ℕ)
-        × ((rest : List ℕ) × ((text ≡ first ++ comma ∷ rest) × IsNumber first house × AreHouses rest (other ∷ houses)))
+    × ((rest : List ℕ) × ((text ≡ first ++ comma ∷ rest) × IsNumber first house × AreHouses rest (other ∷ houses)))
 
 -- the text writes a side: its houses, a slash and its store
 pub record IsSide (text : List ℕ) (houses : List ℕ) (store : ℕ) : Type 0 where

@@ -26,7 +26,7 @@ number_read [] = None
 number_read (ones ∷ []) = if is_ascii_digit ones then Some (ones - zero_digit) else None
 number_read (tens ∷ ones ∷ []) =
     if is_ascii_digit tens && not (tens == zero_digit) && is_ascii_digit ones
-        then Some (10 * (tens - zero_digit) + (ones - zero_digit)) else None
+    then Some (10 * (tens - zero_digit) + (ones - zero_digit)) else None
 number_read (_ ∷ _ ∷ _ ∷ _) = None
 
 -- the numbers of all the texts

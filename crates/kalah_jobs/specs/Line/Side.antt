@@ -7,7 +7,7 @@ pub record HaveNoRoom (houses : List ℕ) (left_out : ℕ) : Type 0 where
   pub some : 0 < left_out
   pub many : (most_houses < length houses) ⊎ (most_seeds < sum houses)
 
--- all of the houses are in the row if they have room there, and else some are left out
+-- all of the houses are in the row if they have room there, otherwise some are left out
 pub record AreKept (houses row : List ℕ) (left_out : ℕ) : Type 0 where
   pub count : length row + left_out ≡ length houses
   pub kept : (row ≡ houses) ⊎ HaveNoRoom houses left_out

@@ -17,15 +17,15 @@ use Rattle.kalah_jobs.specs.declared.writing.answer.Answer.{Answer}
 use Rattle.kalah_jobs.specs.declared.writing.answer.Answer.TheVariants.{Best, Over, Values, Steps, Fault}
 use Rattle.kalah_jobs.specs.declared.writing.answer.Taken.{Taken}
 
--- the final margin of a game that is over, and else the margin of best play and the lowest house that attains it
+-- the final margin of a game that is over, otherwise the margin of best play and the lowest house that attains it
 abbrev pub answer_of_position : position.Position → Answer
 answer_of_position p = if is_over p then Over (final_margin p) else Best (worth p) (best_house p)
 
--- the final margin of a game that is over, and else each legal house with the value of its move
+-- the final margin of a game that is over, otherwise each legal house with the value of its move
 abbrev pub answer_of_values : position.Position → Answer
 answer_of_values p = if is_over p then Over (final_margin p) else Values (values_of p)
 
--- the final margin of a game that is over, and else the steps of the position
+-- the final margin of a game that is over, otherwise the steps of the position
 abbrev pub answer_of_steps : position.Position → Answer
 answer_of_steps p = if is_over p then Over (final_margin p) else Steps p
 
@@ -56,7 +56,7 @@ value_words v = decimal v.house ++ (codes ":" ++ signed_decimal v.value)
 abbrev pub values_words : List MoveValue → List ℕ
 values_words values = join_with_byte space (map value_words values)
 
--- `H POSITION again`, `H POSITION turn` or `H POSITION over` for each legal house, rising
+-- `H POSITION again`, `H POSITION turn` or `H POSITION over` for each legal house, in ascending order
 abbrev pub steps_texts : position.Position → List (List ℕ)
 steps_texts p = map (λ h. step_text_of h (step_of p h)) (legal_houses p)
 

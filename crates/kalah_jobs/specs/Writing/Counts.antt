@@ -2,7 +2,7 @@
 use Rattle.std.specs.Prelude.{ℕ, List, [], ◌∷◌, ◌++◌, codes, decimal}
 use Rattle.kalah_jobs.specs.Files.Lines.{line_feed}
 
--- `H N`: a house, and the number of ways behind its move
+-- `H N`: a house, and the number of ways after its move
 abbrev pub ways_line : ℕ → ℕ → List ℕ
 ways_line house n = decimal house ++ (codes " " ++ (decimal n ++ line_feed ∷ []))
 

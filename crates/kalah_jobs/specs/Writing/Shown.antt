@@ -13,7 +13,7 @@ use Rattle.kalah_jobs.specs.Writing.Picture.{column_width, empty_columns, pictur
 abbrev pub value_cell : ℤ → List ℕ
 value_cell value = replicate (column_width - length (signed_decimal value)) space ++ signed_decimal value
 
--- the values of moves, each in the column of its house, where `behind` columns are filled already. Behind the last value stands nothing
+-- the values of moves, each in the column of its house, where `behind` columns are filled already. Nothing follows the last value
 abbrev pub value_columns : ℕ → List MoveValue → List ℕ
 value_columns behind [] = []
 value_columns behind (v ∷ vs) = empty_columns (v.house - behind) ++ (value_cell v.value ++ value_columns (v.house + 1) vs)
@@ -22,7 +22,7 @@ value_columns behind (v ∷ vs) = empty_columns (v.house - behind) ++ (value_cel
 abbrev pub over_words : ℤ → List ℕ
 over_words margin = codes "over, margin " ++ signed_decimal margin
 
--- below a picture: the final margin of a game that is over, and else what each move is worth, below its house
+-- below a picture: the final margin of a game that is over, otherwise what each move is worth, below its house
 abbrev pub values_line : Position → List ℕ
 values_line p = if is_over p then over_words (final_margin p) else value_columns 0 (values_of p)
 

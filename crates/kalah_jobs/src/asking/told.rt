@@ -65,7 +65,7 @@ pub(crate) fn tell<O: Sink>(
     }
 }
 
-// Writes the answer to what stands behind the last line feed, if anything does, and flushes. Returns whether the line was
+// Writes the answer to what stands after the last line feed, if anything does, and flushes. Returns whether the line was
 // read, if there is one.
 pub(crate) fn tell_last<O: Sink>(
     line: &LineHead,

@@ -12,7 +12,7 @@ pub enum Answer {
     Over { margin: i32 },
     /// Each legal house, in ascending order, with the margin that its move gets in best play.
     Values(MoveValues),
-    /// Each legal house of this position, rising, with what its move leads to. It is worked out where it is written.
+    /// Each legal house of this position, in ascending order, with what its move leads to. It is worked out where it is written.
     Steps(Board),
     /// Why the line is not read.
     Fault(LineFault),

@@ -9,7 +9,7 @@ use crate::writing::sink::Sink;
 use crate::writing::stack_text::StackText;
 use std::io;
 
-/// Writes a house, which is at most 6, and the number of ways to play on behind its move, as the line `1 42`. It allocates
+/// Writes a house, which is at most 6, and the number of ways to play on after its move, as the line `1 42`. It allocates
 /// nothing. It fails exactly when the sink has failed afterwards; then a prefix of the line was written, and nothing else.
 #[tactic(auto, using(crate::proofs::WritingLemmas::Lengths::number_length, crate::proofs::WritingLemmas::Lengths::byte_length))]
 pub fn write_ways<W: Sink>(out: &mut W, house: u8, ways: u64) -> Result<(), io::Error>

@@ -1,4 +1,4 @@
-//! A name and the text behind it, written to a sink.
+//! A name and the text after it, written to a sink.
 ghost use Rattle.std.specs.Prelude.{◌≡◌, ◌++◌, ◌↔◌, true, false, IsErr, OnOk};
 ghost use Rattle.std.specs.Io.KnownBytes.{Appends};
 ghost use Rattle.kalah_jobs.specs.Writing.Given.{AppendsStart};

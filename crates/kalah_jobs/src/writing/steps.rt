@@ -35,8 +35,8 @@ fn write_step_line<W: Sink>(
     write_named(out, name, &mut text)
 }
 
-/// Writes a line for each legal house of a board, rising: the name, the place and the text of its move. If there is none, it writes
-/// an empty line.
+/// Writes a line for each legal house of a board, in ascending order: the name, the place and the text of its move. If there is none,
+/// it writes an empty line.
 pub(crate) fn write_steps<W: Sink>(
     out: &mut W,
     name: &str,
@@ -69,7 +69,7 @@ fn before_line(is_first: bool) -> &'static str
     if is_first { "" } else { "\n" }
 }
 
-/// Pushes a line for each legal house of a board, rising, with a line feed between any two: the name, the place and the text of
+/// Pushes a line for each legal house of a board, in ascending order, with a line feed between any two: the name, the place and the text of
 /// its move.
 pub(crate) fn push_steps(
     text: &mut String,

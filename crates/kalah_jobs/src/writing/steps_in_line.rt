@@ -29,7 +29,7 @@ fn write_next<W: Sink>(out: &mut W, is_first: bool, board: &Board, h: u8) -> Res
     out.write_all(text.bytes())
 }
 
-/// Writes the text of the move of each legal house of a board, rising, with `; ` between any two, and a line feed.
+/// Writes the text of the move of each legal house of a board, in ascending order, with `; ` between any two, and a line feed.
 pub(crate) fn write_steps_in_line<W: Sink>(out: &mut W, board: &Board) -> Result<(), io::Error>
     requires { W.has_failed out.old ≡ false }
     ensures fails { IsErr result ↔ (W.has_failed out.new ≡ true) }

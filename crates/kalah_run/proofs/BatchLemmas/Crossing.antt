@@ -34,15 +34,19 @@ shared_sync S V K P g s =
     let fields : IsSync (Struct (owning.shape (Shared.the_type S V K P g))) = search sendable depth 20 in
     record {
       shared =
-          λ d b o ν. (fields.shared (d.words, (d.slots, (tt, tt))) b o ν,
-              shares_keyless S s V.coded.code d.table_id (g.holds d.key) d.words d.slots ν);
+          λ d b o ν. (
+            fields.shared (d.words, (d.slots, (tt, tt))) b o ν,
+            shares_keyless S s V.coded.code d.table_id (g.holds d.key) d.words d.slots ν,
+          );
     }
 
 -- and so may the right to its memory
 lease_sync : (T : RattleType) → IsSync (Lease.the_row T Heap.the_row (owned frees))
 lease_sync T =
-    record { shared = λ d b o ν q. part_keyless (Lease.the_row T Heap.the_row (owned frees))
-        (right_send T Heap.the_row (owned frees) frees) q d b o }
+    record {
+      shared = λ d b o ν q. part_keyless (Lease.the_row T Heap.the_row (owned frees))
+          (right_send T Heap.the_row (owned frees) frees) q d b o;
+    }
 
 -- outcomes may be handed over
 tagged_send : IsSend Tagged.the_row

@@ -50,7 +50,7 @@ pub given_output : (question : Question) (files : List NamedBytes) (jobs : List 
     → WasGiven begun out failed (output_of_jobs (names_of files) jobs) → WasGiven begun out failed (output_to question files)
 given_output question files jobs begun out failed are given =
     subst (λ l. WasGiven begun out failed l) (ap (output_of_jobs (names_of files)) are
-        ∙ sym (files_are_their_jobs.output question files)) given
+    ∙ sym (files_are_their_jobs.output question files)) given
 
 -- a flush keeps what was appended
 pub appended_kept : (before between after : Option (List ℕ)) (bytes : List ℕ) → Appends before between bytes → Keeps between after

@@ -46,7 +46,7 @@ module _ (question : Question) (files : List NamedBytes) (none : lines_in_all fi
   no_tally : tally_of files ≡ record { lines = 0; faults = 0 }
   no_tally =
       let empty : length (job_list (jobs_to question files)) ≡ 0 = length-job_list (jobs_to question files)
-          ∙ (job_count-jobs_to question files ∙ none) in
+      ∙ (job_count-jobs_to question files ∙ none) in
       sym (counted_tally question files 0 0 (sym empty) (no_faults (jobs_to question files) empty))
 
   pub nothing_answered : (old new : Option (List ℕ)) (result : Result LineCounts RunFault)

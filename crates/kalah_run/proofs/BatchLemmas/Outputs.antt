@@ -35,14 +35,14 @@ pub written_on : (files : List NamedBytes) (jobs : List (List Entry)) (past : Li
 written_on files jobs past begun out more failed fails r after same_files same_jobs on is =
     let from : IsUnderWay (text_of r.files.now) r.jobs.now past r.collector r.current begun out failed =
     subst (λ (fs : List NamedBytes). IsUnderWay (text_of fs) r.jobs.now past r.collector r.current begun out failed)
-        (sym is.of_files) is.progress in
+    (sym is.of_files) is.progress in
     record {
       of_files = same_files ∙ is.of_files;
       of_jobs = same_jobs ∙ is.of_jobs;
       progress = subst (λ (js : List (List Entry)). IsUnderWay (text_of files) js past after.collector after.current begun more fails)
           (sym same_jobs)
           (subst (λ (fs : List NamedBytes). IsUnderWay (text_of fs) r.jobs.now past after.collector after.current begun more fails)
-              is.of_files
+          is.of_files
           (on from));
     }
 

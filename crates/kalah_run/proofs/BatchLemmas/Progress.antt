@@ -165,7 +165,7 @@ module _ {text : ℕ → Taken → List ℕ} {jobs : List (List Entry)} {past : 
             (λ (p : g ≡ f).
             let a : (state_of now g).taken ≡ n + 1 = ap (λ x. (state_of now x).taken) p ∙ taken in
             let b : front (state_of now g) ≡ front (state_of files f) = ap (λ x. front (state_of now x)) p
-                ∙ ap (λ (s : FileState). front s) here in
+            ∙ ap (λ (s : FileState). front s) here in
             let c = step.next_line.ready in
             omega arith)
             (λ (np : g ≡ f → ⊥). subst (λ (s : FileState). s.taken ≤ front s) (sym (other g np)) (progress.within g))
@@ -213,7 +213,7 @@ module _ {text : ℕ → Taken → List ℕ} {jobs : List (List Entry)} {past : 
       let low = wanted_file jobs files o wanted in
       let now : List FileState = after_offer files o.file o.line (answer_of o.entry) in
       let taken : (g : ℕ) → (state_of now g).taken ≡ (state_of files g).taken =
-          λ g. taken_after_offer files o (answer_of o.entry) low g in
+      λ g. taken_after_offer files o (answer_of o.entry) low g in
       let holds = holds_accepted jobs past files o progress.holds wanted in
       record {
         holds = holds;
@@ -246,10 +246,10 @@ module _ {text : ℕ → Taken → List ℕ} {jobs : List (List Entry)} {past : 
       → IsUnderWay text jobs (past ++ o ∷ []) after f begun out failed
   progress_offered o after (Ok ready) step =
       subst (λ (s : List FileState). IsUnderWay text jobs (past ++ o ∷ []) s f begun out failed) (sym step.kept)
-          (progress_accepted o step.wanted)
+      (progress_accepted o step.wanted)
   progress_offered o after (Err r) step =
       subst (λ (s : List FileState). IsUnderWay text jobs (past ++ o ∷ []) s f begun out failed) (sym step.unchanged)
-          (progress_refused o r step.cause)
+      (progress_refused o r step.cause)
 
   -- a sink that has failed was given all, as far as it took it
   pub progress_failed : failed ≡ true → WasGiven begun out failed (text_of_jobs text jobs)
@@ -273,4 +273,4 @@ module _ {text : ℕ → Taken → List ℕ} {jobs : List (List Entry)} {past : 
         let many : length files ≡ length jobs = files_many jobs files progress.holds.counts in
         let high : length files ≤ f = past_all in
         subst (λ (l : List ℕ). WasGiven begun out failed l) (written_all text jobs f (state_of files f).taken (omega arith))
-            progress.written
+        progress.written

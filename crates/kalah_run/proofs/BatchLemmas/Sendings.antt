@@ -16,7 +16,7 @@ use Rattle.kalah_run.specs.Batch.AtWork.{drawn_jobs}
 job_at : (jobs : List (List Entry)) (n : ℕ) (o : Job) → slice_get (job_list jobs) n ≡ Some o → job jobs n ≡ o
 job_at jobs n o at = get_or_from_slice_get (job_list jobs) n o (line_job 0 0 (Bad Empty)) at
 
--- the outcome of the job that was drawn stands behind those of the row so far
+-- the outcome of the job that was drawn stands after those of the row so far
 pub drawn_jobs-more : (jobs : List (List Entry)) (row row' : DrawnRow) (n : ℕ) (o : Job) (sent sent' : List Job) →
     sent ≡ drawn_jobs jobs row.numbers → row'.numbers ≡ row.numbers ++ n ∷ [] → slice_get (job_list jobs) n ≡ Some o
     → sent' ≡ sent ++ o ∷ [] →

@@ -41,7 +41,7 @@ new_at_work shared workers count new from unsent = λ k d within.
     let low : k < count = omega (arith, new.0, length-map workers (λ (x : Worker). x.pass)) in
     let put_low : k < length (puts_of workers) = omega (arith, length-map workers (λ (x : Worker). x.put)) in
     let pass : w.pass ≡ new_pass shared.desk k = sym (get_or-map (λ (x : Worker). x.pass) workers k d w.pass within)
-        ∙ new.1 k w.pass low in
+    ∙ new.1 k w.pass low in
     let put : get_or (puts_of workers) k w.put ≡ w.put = get_or-map (λ (x : Worker). x.put) workers k d w.put within in
     record {
       draws = (ap (λ (p : PassState). p.desk) pass, ap (λ (p : PassState). p.total) pass);
@@ -97,7 +97,7 @@ each_job_got shared workers count drawn got rest at_work as_many deals accounts 
     let jobs = shared.jobs.now in
     let rows = drawn_numbers (drawn_rows (passes_of workers)) in
     let row_count : length rows ≡ length workers = length-drawn_numbers (passes_of workers)
-        ∙ length-map workers (λ (w : Worker). w.pass) in
+    ∙ length-map workers (λ (w : Worker). w.pass) in
     let sent_count : length (sent_by (puts_of workers)) ≡ length workers =
     length-map (puts_of workers) (λ (p : PutState). p.sent) ∙ length-map workers (λ (w : Worker). w.put) in
     let row_workers : count ≡ length rows = sym as_many ∙ sym row_count in

@@ -42,9 +42,9 @@ stands_below views seat total number r plan_total at lawful k d within =
     let x : ℕ = get_or r.numbers k d in
     let here : cond (x == x) 1 0 ≤ count_by (λ y. y == x) r.numbers = get_or-le-sum_by (λ y. cond (y == x) 1 0) r.numbers k d within in
     let mine : sum_by (times x) (r ∷ []) ≤ sum_by (times x) (all_rows views) =
-        rows_at (times x) views seat (Drawing total number r) at in
+    rows_at (times x) views seat (Drawing total number r) at in
     below x (drawn_in (all_rows views)) (count_by (λ y. y == x) r.numbers) here
-        (omega (arith, times_rows x (all_rows views), lawful.each_once x))
+    (omega (arith, times_rows x (all_rows views), lawful.each_once x))
   where
     below : (x c n : ℕ) → cond (x == x) 1 0 ≤ n → n ≤ (if nat_lt x c then 1 else 0) → x < c
     below x c n here few = grind (arith, nat_tests)
@@ -141,8 +141,12 @@ module _ {S : Type 0} (plan : DeskPlan) (s : State S DeskView) (seat total numbe
 
 -- no more passes are spent than there are
 few_spent : {S : Type 0} (plan : DeskPlan) (s : State S DeskView) → IsKept plan s → spent_in (all_rows s.views) ≤ plan.passes
-few_spent plan s kept = omega (arith, kept.passes, count_by-le-length (λ (r : DrawnRow). r.spent) (all_rows s.views),
-    rows_within_passes s.views)
+few_spent plan s kept = omega (
+  arith,
+  kept.passes,
+  count_by-le-length (λ (r : DrawnRow). r.spent) (all_rows s.views),
+  rows_within_passes s.views,
+)
 
 -- a draw of a pass that is not spent
 pub draws : {S : Type 0} (plan : DeskPlan) (slots seat total number : ℕ) (numbers : List ℕ)
@@ -155,7 +159,7 @@ draws {S} plan slots seat total number numbers s kept homes at fits =
     let few : spent_in (all_rows s.views) ≤ most_workers = omega (arith, few_spent plan s kept, kept.few.1) in
     let next : (n + 1) % 2 ^ 64 ≡ n + 1 = mod-eq_of_lt (omega arith) in
     let words : set s.words 0 ((n + 1) % 2 ^ 64) ≡ (n + 1) ∷ [] = ap (λ ws. set ws 0 ((n + 1) % 2 ^ 64)) kept.word
-        ∙ ap (λ m. m ∷ []) next in
+    ∙ ap (λ m. m ∷ []) next in
     let after : DeskView → State S DeskView =
     λ w. record { words = set s.words 0 ((n + 1) % 2 ^ 64); homes = s.homes; views = set s.views seat w } in
     let done : (w : DeskView) × IsKept {S = S} plan (after w) × DrawsFrom (unspent_view total number numbers) n w =

@@ -22,7 +22,7 @@ settles {S} plan seat rows s seen whole =
     let kept = seen.0 in
     let all : all_rows s.views ≡ rows = has_all s.views seat rows seen.1 (whole ∙ sym kept.passes) in
     subst (λ (rs : List DrawnRow). (s.words ≡ (drawn_in rs + spent_in rs) ∷ []) × AreLawful plan.total rs) all
-        (kept.word, kept.lawful)
+    (kept.word, kept.lawful)
 
 -- the same of the closed table's word
 pub ends : {S : Type 0} (plan : DeskPlan) (seat : ℕ) (v : DeskView) (rows : List DrawnRow) (ws : List ℕ) (xs : List S) (word : ℕ)
@@ -32,10 +32,10 @@ pub ends : {S : Type 0} (plan : DeskPlan) (seat : ℕ) (v : DeskView) (rows : Li
 ends {S} plan seat v rows ws xs word is last whole found =
     let s = last.0 in
     let seen : Seen {S = S} (IsKept plan) seat (Closing rows) s =
-        subst (λ (u : DeskView). Seen {S = S} (IsKept plan) seat u s) is last.1 in
+    subst (λ (u : DeskView). Seen {S = S} (IsKept plan) seat u s) is last.1 in
     let t = settles plan seat rows s seen whole in
     let at : some word ≡ some (drawn_in rows + spent_in rows) =
-        sym found ∙ ap (λ (l : List ℕ). get_elem? l 0) (sym last.2 ∙ t.0) in
+    sym found ∙ ap (λ (l : List ℕ). get_elem? l 0) (sym last.2 ∙ t.0) in
     (some-injective _ _ at, t.1)
 
 -- the last word, cut to the total, is how many numbers were drawn

@@ -20,6 +20,12 @@ desk_is_lawful plan state kept =
       drawn = drawn_in rows;
       deals = deals_each_once plan.total rows kept.lawful;
       word = kept.word;
-      most = omega (arith, kept.lawful.within, kept.few.1, kept.passes, rows_within_passes state.views,
-          count_by-le-length (λ r. r.spent) rows);
+      most = omega (
+        arith,
+        kept.lawful.within,
+        kept.few.1,
+        kept.passes,
+        rows_within_passes state.views,
+        count_by-le-length (λ r. r.spent) rows,
+      );
     }

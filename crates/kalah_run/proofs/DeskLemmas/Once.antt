@@ -28,8 +28,12 @@ one_term f (r ∷ rs) sum =
     (λ (none : f r ≤ 0).
     let here : f r ≡ 0 = omega arith in
     let t = one_term f rs (omega (arith, sum_by-cons f r rs)) in
-    record { place = suc t.place; within = (let within = t.within in omega arith); one = t.one;
-        no_other = none_before t.place here t.no_other })
+    record {
+      place = suc t.place;
+      within = (let within = t.within in omega arith);
+      one = t.one;
+      no_other = none_before t.place here t.no_other;
+    })
     (cases_lt 0 (f r))
   where
     none_else : sum_by f rs ≡ 0 → (k : ℕ) (d : DrawnRow) → k < length (r ∷ rs) → k ≢ 0 → f (get_or (r ∷ rs) k d) ≡ 0
@@ -51,7 +55,7 @@ stands_nowhere : (total : ℕ) (rows : List DrawnRow) → AreLawful total rows �
     → StandsNowhere x rows
 stands_nowhere total rows lawful x high k d within =
     let none : times_in x (drawn_numbers rows) ≡ 0 = lawful.each_once x
-        ∙ ap (λ b. if b then 1 else 0) (le-ltb x (drawn_in rows) high) in
+    ∙ ap (λ b. if b then 1 else 0) (le-ltb x (drawn_in rows) high) in
     omega (arith, times_rows x rows, get_or-le-sum_by (λ r. count_by (λ y. y == x) r.numbers) rows k d within)
 
 -- if each number below the count stands in one row, and there once, the rows are lawful in these words

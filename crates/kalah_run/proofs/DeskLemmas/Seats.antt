@@ -108,9 +108,9 @@ starts_closing {S} plan slots s kept homes fits =
     let w : DeskView = Closing [] in
     let P : DrawnRow → Type 0 = λ r. AllPairs (λ x y. x < y) r.numbers in
     let drawn : drawn_in (all_rows (s.views ++ w ∷ [])) ≡ drawn_in (all_rows s.views) =
-        omega (arith, rows_push (λ r. length r.numbers) s.views w) in
+    omega (arith, rows_push (λ r. length r.numbers) s.views w) in
     let spent : spent_in (all_rows (s.views ++ w ∷ [])) ≡ spent_in (all_rows s.views) =
-        omega (arith, rows_push (λ r. cond r.spent 1 0) s.views w) in
+    omega (arith, rows_push (λ r. cond r.spent 1 0) s.views w) in
     let same : (x : ℕ) → sum_by (times x) (all_rows (s.views ++ w ∷ [])) ≡ sum_by (times x) (all_rows s.views) =
     λ x. omega (arith, rows_push (times x) s.views w) in (
       w,
@@ -148,7 +148,7 @@ reclaims {S} plan seat rows other total number r s kept at apart there =
       lawful = lawful_alike plan.total (all_rows s.views) (all_rows now) (same (λ q. length q.numbers)) (λ x. same (times x))
           (same (λ q. cond q.spent 1 0))
           (all_set P between other Ended (all_set P s.views seat w kept.lawful.rising (All-append P (r ∷ []) rows theirs own))
-              (All-nil P)) kept.lawful;
+          (All-nil P)) kept.lawful;
       totals = totals_set plan between other Ended (totals_set plan s.views seat w kept.totals tt) tt;
     }
   where
@@ -167,5 +167,5 @@ pub reclaims_as : {S : Type 0} (plan : DeskPlan) (seat : ℕ) (v : DeskView) (ot
 reclaims_as {S} plan seat v other w is pass =
     subst (λ (u : DeskView). Joins {S = S} (IsKept plan) seat u other w (after_reclaiming_row u w) ended_view) (sym is)
     (subst (λ (u : DeskView). Joins {S = S} (IsKept plan) seat (Closing (rows_in v)) other u
-        (after_reclaiming_row (Closing (rows_in v)) u) ended_view)
+    (after_reclaiming_row (Closing (rows_in v)) u) ended_view)
     (sym pass) (reclaims plan seat (rows_in v) other (total_in w) (number_in w) (row_in w)))

@@ -22,8 +22,12 @@ times x r = count_by (λ y. y == x) r.numbers
 pub times_rows : (x : ℕ) (rows : List DrawnRow) → times_in x (drawn_numbers rows) ≡ sum_by (times x) rows
 times_rows x [] = refl
 times_rows x (r ∷ rs) =
-    omega (arith, times_rows x rs, sum_by-cons (λ numbers. count_by (λ y. y == x) numbers) r.numbers (drawn_numbers rs),
-        sum_by-cons (times x) r rs)
+    omega (
+      arith,
+      times_rows x rs,
+      sum_by-cons (λ numbers. count_by (λ y. y == x) numbers) r.numbers (drawn_numbers rs),
+      sum_by-cons (times x) r rs,
+    )
 
 -- the sum over all rows, after a change of one view
 pub rows_set : (f : DrawnRow → ℕ) (views : List DeskView) (seat : ℕ) (v w : DeskView) → get_elem? views seat ≡ some v
@@ -33,15 +37,23 @@ rows_set f (x ∷ xs) zero v w at =
     let same : sum_by f (rows_in x) ≡ sum_by f (rows_in v) = ap (λ u. sum_by f (rows_in u)) (some-injective x v at) in
     omega (arith, sum_by-append f (rows_in x) (all_rows xs), sum_by-append f (rows_in w) (all_rows xs))
 rows_set f (x ∷ xs) (suc seat) v w at =
-    omega (arith, rows_set f xs seat v w at, sum_by-append f (rows_in x) (all_rows xs),
-        sum_by-append f (rows_in x) (all_rows (set xs seat w)))
+    omega (
+      arith,
+      rows_set f xs seat v w at,
+      sum_by-append f (rows_in x) (all_rows xs),
+      sum_by-append f (rows_in x) (all_rows (set xs seat w)),
+    )
 
 -- the same with one seat more
 pub rows_push : (f : DrawnRow → ℕ) (views : List DeskView) (w : DeskView)
     → sum_by f (all_rows (views ++ w ∷ [])) ≡ sum_by f (all_rows views) + sum_by f (rows_in w)
 rows_push f [] w = ap (sum_by f) (append-nil (rows_in w)) ∙ omega arith
-rows_push f (x ∷ xs) w = omega (arith, rows_push f xs w, sum_by-append f (rows_in x) (all_rows xs),
-    sum_by-append f (rows_in x) (all_rows (xs ++ w ∷ [])))
+rows_push f (x ∷ xs) w = omega (
+  arith,
+  rows_push f xs w,
+  sum_by-append f (rows_in x) (all_rows xs),
+  sum_by-append f (rows_in x) (all_rows (xs ++ w ∷ [])),
+)
 
 -- the sum over one seat's rows is within that over all
 pub rows_at : (f : DrawnRow → ℕ) (views : List DeskView) (seat : ℕ) (v : DeskView) → get_elem? views seat ≡ some v
@@ -59,8 +71,12 @@ passes_set [] seat v w at = absurd (some-ne-none v (sym at))
 passes_set (x ∷ xs) zero v w at =
     let same : passes_in x ≡ passes_in v = ap passes_in (some-injective x v at) in
     omega (arith, sum_by-cons passes_in x xs, sum_by-cons passes_in w xs)
-passes_set (x ∷ xs) (suc seat) v w at = omega (arith, passes_set xs seat v w at, sum_by-cons passes_in x xs,
-    sum_by-cons passes_in x (set xs seat w))
+passes_set (x ∷ xs) (suc seat) v w at = omega (
+  arith,
+  passes_set xs seat v w at,
+  sum_by-cons passes_in x xs,
+  sum_by-cons passes_in x (set xs seat w),
+)
 
 -- a fact of each row in two lists is one of each row in the second
 all_back : (P : DrawnRow → Type 0) (xs ys : List DrawnRow) → All P (xs ++ ys) → All P ys
@@ -110,8 +126,13 @@ rows_within_one Ended = omega arith
 -- there are no more rows than passes
 pub rows_within_passes : (views : List DeskView) → length (all_rows views) ≤ sum_by passes_in views
 rows_within_passes [] = omega arith
-rows_within_passes (x ∷ xs) = omega (arith, rows_within_passes xs, rows_within_one x, sum_by-cons passes_in x xs,
-    length-append (rows_in x) (all_rows xs))
+rows_within_passes (x ∷ xs) = omega (
+  arith,
+  rows_within_passes xs,
+  rows_within_one x,
+  sum_by-cons passes_in x xs,
+  length-append (rows_in x) (all_rows xs),
+)
 
 -- if no seat stands for a pass there is no row
 no_passes_no_rows : (views : List DeskView) → sum_by passes_in views ≡ 0 → all_rows views ≡ []
@@ -166,4 +187,4 @@ pub totals_push : (plan : DeskPlan) (views : List DeskView) (w : DeskView) → H
     → HaveTotal plan (views ++ w ∷ [])
 totals_push plan views w others mine by v at =
     ⊎_elim (λ (old : get_elem? views by ≡ some v). others by v old) (λ (new : w ≡ v). subst (HasTotal plan.total) new mine)
-        (at_snoc views w v by at)
+    (at_snoc views w v by at)

@@ -20,7 +20,7 @@ lawful : (pairs items taken : List (ℕ × Job)) (closed passes made : ℕ) (kno
     → get_elem? views 0 ≡ some (Getting made taken known) → Each (Fits pairs taken closed passes) views → IsLawful items views
 lawful pairs items taken closed passes made known views e size first h =
     let sized : Each (Fits pairs taken closed (length views)) views =
-        subst (λ (n : ℕ). Each (Fits pairs taken closed n) views) (sym size) h in
+    subst (λ (n : ℕ). Each (Fits pairs taken closed n) views) (sym size) h in
     record {
       taken = taken;
       closed = closed;
@@ -34,8 +34,13 @@ lawful pairs items taken closed passes made known views e size first h =
 
 pub begins : IsLawful [] (first_view ∷ [])
 begins =
-    let fits : FitsGet [] [] 0 1 0 0 [] [] = record { foremost = refl; count = refl; all_got = refl; ended_known = refl;
-        accounts = accounts_none } in
+    let fits : FitsGet [] [] 0 1 0 0 [] [] = record {
+      foremost = refl;
+      count = refl;
+      all_got = refl;
+      ended_known = refl;
+      accounts = accounts_none;
+    } in
     record { taken = []; closed = 0; made = 0; known = []; getter = refl; fits = each_one (Fits [] [] 0 1) first_view fits }
 
 -- ---- a worker puts an outcome
@@ -227,7 +232,7 @@ merges_at place other made got known sent items views h at two at_other =
     (λ j u away e ne. fits_ended pairs h.taken h.closed (length views) place other mine.foremost last j u away ne (h.fits j u e)) in
     let done : Each F (set vs other Ended) = each_set F vs other Ended tt (λ j u ne e. apart j u e ne) in
     let got_now : both ≡ Getting made h.taken (known ++ sent ∷ []) =
-        ap (λ (l : List (ℕ × Job)). Getting made l (known ++ sent ∷ [])) mine.all_got in
+    ap (λ (l : List (ℕ × Job)). Getting made l (known ++ sent ∷ [])) mine.all_got in
     let first = first_same vs other _ Ended (omega arith) (first_set views place _ both mine.foremost h.getter ∙ ap some got_now) in
     lawful pairs items h.taken (h.closed + 1) (length views) made (known ++ sent ∷ []) (set vs other Ended) refl
     (length-set vs other Ended ∙ length-set views place both) first done
@@ -239,7 +244,7 @@ pub merges : (place : ℕ) (v : QueueView) (other : ℕ) (u : QueueView) (made :
 merges place v other u made got known number sent e e' is =
     let e'' : u ≡ Putting (length known) sent = e' ∙ ap (λ (n : ℕ). Putting n sent) is in
     subst (λ (p : QueueView × QueueView). Merges IsLawful place p.0 other p.1 (after_reclaiming_sent p.0 p.1) Ended)
-        (λ i. (sym e i, sym e'' i))
+    (λ i. (sym e i, sym e'' i))
     (merges_at place other made got known sent)
 
 -- ---- what the pass to get learns of the queue

@@ -11,7 +11,7 @@ pub queue_is_lawful : (items : List (ℕ × Job)) (views : List QueueView) → I
 queue_is_lawful items views h =
     let pairs : List (ℕ × Job) = h.taken ++ items in
     let first : FitsGet pairs h.taken h.closed (length views) 0 h.made h.taken h.known =
-        h.fits 0 (Getting h.made h.taken h.known) h.getter in
+    h.fits 0 (Getting h.made h.taken h.known) h.getter in
     let count : length views ≡ suc h.made = first.count in
     record {
       workers = h.made;

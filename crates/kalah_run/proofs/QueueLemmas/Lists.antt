@@ -4,7 +4,7 @@ use Rattle.std.proofs.lemmas.List.Elements.{All-append}
 use Rattle.atomic_table.specs.Seated.{TableId}
 use Rattle.kalah_run.specs.Queue.States.{PutState, ArePassesFrom}
 
--- the pass of the next worker goes behind
+-- the pass of the next worker goes last
 pub one_pass_more : (id : TableId) (n : ℕ) (ps : List PutState) (p : PutState) → ArePassesFrom id n ps → p.queue ≡ id
     → p.number ≡ n + length ps
     → ArePassesFrom id n (ps ++ p ∷ [])

@@ -22,7 +22,7 @@ own_pair w t e = ap (λ (b : Bool). if b then t.1 ∷ [] else []) (eq-eqb t.0 w 
 other_pair : (w : ℕ) (t : ℕ × Job) (l : List Job) → t.0 ≢ w → (if t.0 == w then t.1 ∷ l else l) ≡ l
 other_pair w t l e = ap (λ (b : Bool). if b then t.1 ∷ l else l) (ne_eqb t.0 w e)
 
--- the worker's own pair goes behind what it sent
+-- the worker's own pair goes after what it sent
 pub of_more : (w : ℕ) (xs : List (ℕ × Job)) (t : ℕ × Job) → t.0 ≡ w → of w (xs ++ t ∷ []) ≡ of w xs ++ t.1 ∷ []
 of_more w xs t e = of_append w xs (t ∷ []) ∙ ap (λ (l : List Job). of w xs ++ l) (own_pair w t e)
 

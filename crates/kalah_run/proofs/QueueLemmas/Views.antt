@@ -23,7 +23,7 @@ at_end [] a b (suc place) e = absurd (some-ne-none b (sym e))
 at_end (x ∷ xs) a b zero e = inl e
 at_end (x ∷ xs) a b (suc place) e =
     ⊎_elim (λ (h : get_elem? xs place ≡ some b). inl h) (λ (h : (place ≡ length xs) × (a ≡ b)). inr (ap suc h.0, h.1))
-        (at_end xs a b place e)
+    (at_end xs a b place e)
 
 -- if one view changes, its fact is shown anew and the others' may change with it
 pub each_set : (F : ℕ → QueueView → Type 0) (views : List QueueView) (place : ℕ) (w : QueueView) → F place w

@@ -8,7 +8,7 @@ use Rattle.kalah_run.specs.Batch.UnderWay.{IsUnderWay}
 use Rattle.kalah_run.specs.Batch.Texts.{text_of}
 use Rattle.kalah_run.specs.declared.batch.ordered_output.OrderedOutput.{OrderedOutput}
 
--- With these outcomes accepted, the output of these files and their jobs has written what is ready of them, in order, behind what
+-- With these outcomes accepted, the output of these files and their jobs has written what is ready of them, in order, after what
 -- the sink had when it began.
 pub record HasWritten (files : List NamedBytes) (jobs : List (List Entry)) (past : List Job) (begun out : Option (List ℕ))
     (failed : Bool) (r : OrderedOutput) : Type 0 where

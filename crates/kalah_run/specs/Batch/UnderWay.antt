@@ -17,7 +17,7 @@ use Rattle.kalah_run.specs.declared.batch.size.Rest.TheVariants.{Leave}
 abbrev pub IsLeft : Rest → Bool → Type 0
 IsLeft rest has_failed = (rest ≡ Leave) × (has_failed ≡ true)
 
--- A sink that had `begun` was given bs, in order. It has all of them behind that, unless a call of it has failed; and then it
+-- A sink that had `begun` was given bs, in order. It has all of them after that, unless a call of it has failed; and then it
 -- has a prefix of them, and nothing else.
 pub record WasGiven (begun out : Option (List ℕ)) (failed : Bool) (bs : List ℕ) : Type 0 where
   pub start : AppendsStart begun out bs
@@ -27,9 +27,9 @@ pub record WasGiven (begun out : Option (List ℕ)) (failed : Bool) (bs : List �
 unfoldable pub written_upto : (ℕ → Taken → List ℕ) → List (List Entry) → ℕ → ℕ → List ℕ
 written_upto text jobs f n =
     flat_map (text_of_file text) (take f (enumerate_from 0 jobs)) ++ flat_map (text_of_line text f)
-        (take n (enumerate_from 0 (entries_of jobs f)))
+    (take n (enumerate_from 0 (entries_of jobs f)))
 
--- With these offers made, the files before f are completely taken and those behind it not at all. The sink was given the text of each
+-- With these offers made, the files before f are completely taken and those after it not at all. The sink was given the text of each
 -- line that was taken, in order.
 pub record IsUnderWay (text : ℕ → Taken → List ℕ) (jobs : List (List Entry)) (past : List Job) (files : List FileState) (f : ℕ)
     (begun out : Option (List ℕ)) (failed : Bool) : Type 0 where

@@ -20,7 +20,7 @@ pub record GetState : Type 0 where
   pub workers : ℕ
   pub got : List (ℕ × Job)
 
--- the outcome of one of the workers stands behind what was got
+-- the outcome of one of the workers stands after what was got
 abbrev pub HasGot : GetState → Job → GetState → Type 0
 HasGot before outcome after = (worker : ℕ) × (worker < before.workers)
     × (after ≡ record before { got = before.got ++ (worker, outcome) ∷ [] })

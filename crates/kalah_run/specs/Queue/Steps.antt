@@ -39,12 +39,12 @@ abbrev pub one_made : QueueView → QueueView
 one_made (Getting made got known) = Putting made []
 one_made _ = Ended
 
--- the outcome is put behind what was sent
+-- the outcome is put after what was sent
 abbrev pub after_put : QueueView → ℕ × Job → QueueView
 after_put (Putting number sent) pair = Putting number (sent ++ pair.1 ∷ [])
 after_put view pair = view
 
--- the pair stands behind what was got
+-- the pair stands after what was got
 abbrev pub after_get : QueueView → ℕ × Job → QueueView
 after_get (Getting made got known) pair = Getting made (got ++ pair ∷ []) known
 after_get view pair = view

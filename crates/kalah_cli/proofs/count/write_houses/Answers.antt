@@ -44,7 +44,7 @@ returns-in_err-write_house-clause-start g c =
     subst (AppendsStart (g.O.Sink.written c.args.out.now) (g.O.Sink.written c.write_house.new.out))
     (sym (lines_are c.args.depth c.args.board.now c.requires.low))
     (line_begun one c.loop-i.invariant.same c.loop-i.i house (omega (arith, c.loop-i-test.true, c.len-i-end.ensures))
-        c.get-house.ensures _ _ _
+    c.get-house.ensures _ _ _
     c.loop-i.invariant.adds line)
 
 pub write_house-requires-clause-house : goal.write_house-requires-clause-house

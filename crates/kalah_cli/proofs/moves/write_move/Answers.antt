@@ -11,7 +11,7 @@ use Rattle.kalah_cli.proofs.moves.write_move.Goals as goal
 pub returns-in_err-write_step-clause-start : goal.returns-in_err-write_step-clause-start
 returns-in_err-write_step-clause-start g c =
     subst (AppendsStart (g.O.Sink.written c.args.out.now) (g.O.Sink.written c.write_step.new.out))
-        (sym (move_parts c.args.boards c.args.house c.args.step.now))
+    (sym (move_parts c.args.boards c.args.house c.args.step.now))
     (start_longer _ _ _ _ c.write_step.ensures.start)
 
 pub returns-clause-start : goal.returns-clause-start

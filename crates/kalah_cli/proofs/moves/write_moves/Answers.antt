@@ -13,7 +13,7 @@ loop-i-preserved g c =
     let one : ℕ → List ℕ = λ h. move_lines c.args.boards h (step_of c.args.board.now h) in
     let house = c.get-house.result in
     let line =
-        subst (λ s. Appends (g.O.Sink.written c.loop-i.out) (g.O.Sink.written c.write_move.new.out) (move_lines c.args.boards house s))
+    subst (λ s. Appends (g.O.Sink.written c.loop-i.out) (g.O.Sink.written c.write_move.new.out) (move_lines c.args.boards house s))
     c.apply.ensures.step c.in_ok-write_move.ensures.adds in
     record {
       same = c.loop-i.invariant.same;
@@ -28,11 +28,11 @@ returns-in_err-write_move-clause-start g c =
     let one : ℕ → List ℕ = λ h. move_lines c.args.boards h (step_of c.args.board.now h) in
     let house = c.get-house.result in
     let line =
-        subst (λ s. AppendsStart (g.O.Sink.written c.loop-i.out) (g.O.Sink.written c.write_move.new.out)
-        (move_lines c.args.boards house s))
+    subst (λ s. AppendsStart (g.O.Sink.written c.loop-i.out) (g.O.Sink.written c.write_move.new.out)
+    (move_lines c.args.boards house s))
     c.apply.ensures.step c.write_move.ensures.start in
     line_begun one c.loop-i.invariant.same c.loop-i.i house (omega (arith, c.loop-i-test.true, c.len-i-end.ensures))
-        c.get-house.ensures _ _ _
+    c.get-house.ensures _ _ _
     c.loop-i.invariant.adds line
 
 pub returns-clause-start : goal.returns-clause-start
@@ -41,6 +41,6 @@ returns-clause-start g c =
     let moves = c.legal-moves.result in
     let i = c.loop-i.i in
     subst (AppendsStart (g.O.Sink.written c.args.out.now) (g.O.Sink.written c.flush.new.self))
-        (first_moves one moves _ i c.loop-i.invariant.same)
+    (first_moves one moves _ i c.loop-i.invariant.same)
     (start_longer _ _ (flat_map one (take i moves)) (flat_map one (drop i moves))
-        (begins_all _ _ _ _ c.loop-i.invariant.adds c.flush.ensures.keeps))
+    (begins_all _ _ _ _ c.loop-i.invariant.adds c.flush.ensures.keeps))

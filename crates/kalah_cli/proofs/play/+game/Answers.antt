@@ -70,11 +70,11 @@ returns-in-Over-step-clause-game g t c =
     on_ok_always c.flush-in-Over-step.result
     (of_last first c.in-Over-step.is
     (goes_on _ _ _ _ _ [] c.flush.ensures.keeps c.in_ok-write_move.ensures.adds
-        (kept_appends _ _ _ [] c.flush-in-Over-step.ensures.keeps (Appends-nil _))))
+    (kept_appends _ _ _ [] c.flush-in-Over-step.ensures.keeps (Appends-nil _))))
 
 pub returns-in-Over-step-clause-begins : goal.returns-in-Over-step-clause-begins
 returns-in-Over-step-clause-begins g t c =
     let first = first_of c.m-side.ensures.limits c.in-Best.ensures.best_play c.in-Best.ensures.verdict c.apply-step.ensures.step in
     of_first first
     (λ lines. begins_on _ _ _ _ _ lines c.flush.ensures.keeps c.in_ok-write_move.ensures.adds
-        (start_kept_all _ _ lines c.flush-in-Over-step.ensures.keeps))
+    (start_kept_all _ _ lines c.flush-in-Over-step.ensures.keeps))

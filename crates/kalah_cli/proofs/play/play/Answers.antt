@@ -18,7 +18,7 @@ returns-in_default-clause-game g c = on_ok_weaker c.write_game.result
       c.requires.house,
       of_best c.args.first c.args.boards c.args.board.now _ _ c.in_default.is
           (λ lines rest. Appends-trans _ _ _ (board_lines c.args.boards c.args.board.now) lines c.in_ok-write_board.ensures.adds rest)
-              game,
+          game,
     ))
     c.write_game.ensures.game
 

@@ -18,7 +18,7 @@ number_of-requires c =
 pub number_of-requires-in-BestMove : goal.number_of-requires-in-BestMove
 number_of-requires-in-BestMove c =
     has_number (codes "table") 1 most_entries c.requires (takes_table c.args.question c.in-BestMove.is) refl (omega arith)
-        (omega arith) refl
+    (omega arith) refl
 
 pub is_set-requires : goal.is_set-requires
 is_set-requires c = has_flag (codes "progress") c.requires (takes_files c.args.question).1 refl
@@ -33,7 +33,7 @@ returns-clause-asked c =
     let files = values_are (found_of c.args.found.now) (codes "file") c.get_strs.result c.unwrap.result _ c.get_strs.ensures
     c.unwrap.ensures (c.in_ok-to_vec.ensures.items_if_clones_equal (λ x y h. h)) in
     let table : table_asked c.args.question (rows_of (found_of c.args.found.now)) ≡ Some c.match-question.result =
-        elim c.match-question.branch [
+    elim c.match-question.branch [
       | in-BestMove w ↦ elim w.in-BestMove.is [
         | inl best ↦ rw (best, w.result-is) w.number_of-in-BestMove.ensures.given
         | inr values ↦ rw (values, w.result-is) w.number_of-in-BestMove.ensures.given
@@ -45,7 +45,7 @@ returns-clause-asked c =
 pub returns-clause-range : goal.returns-clause-range
 returns-clause-range c =
     let workers = may_have_number (codes "workers") 1 most_workers c.requires (takes_files c.args.question).0 refl (omega arith)
-        (omega arith) in
+    (omega arith) in
     let few = number_in_range (codes "workers") 1 most_workers (rows_of (found_of c.args.found.now)) c.number_of.result workers
     c.number_of.ensures.given in
     let names = values_are (found_of c.args.found.now) (codes "file") c.get_strs.result c.unwrap.result _ c.get_strs.ensures

@@ -8,9 +8,9 @@ use Rattle.kalah_cli.proofs.request.line_of.Goals as goal
 pub unwrap-requires : goal.unwrap-requires
 unwrap-requires c =
     is_there _ c.get_str.result (ap is_some (c.get_str.ensures ∙ first_value-rows (found_of c.args.found.now) (codes "line"))
-        ∙ c.requires)
+    ∙ c.requires)
 
 pub returns : goal.returns
 returns c =
     sym (first_value-rows (found_of c.args.found.now) (codes "line")) ∙ sym c.get_str.ensures
-        ∙ ap (option_map (λ s. s.now)) c.unwrap.ensures
+    ∙ ap (option_map (λ s. s.now)) c.unwrap.ensures

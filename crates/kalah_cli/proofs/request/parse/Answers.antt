@@ -16,21 +16,21 @@ pub unwrap-requires : goal.unwrap-requires
 unwrap-requires g c =
     let words = map g.S.AsStr.text c.args.words.now in
     let read = parsed _ words _ c.in_ok-command.ensures c.in_ok-matches.ensures.kinds
-        (λ simple. (c.in_ok-matches.ensures.matches simple).1) in
+    (λ simple. (c.in_ok-matches.ensures.matches simple).1) in
     search rules
 
 pub requested-requires : goal.requested-requires
 requested-requires g c =
     let words = map g.S.AsStr.text c.args.words.now in
     let read = parsed _ words _ c.in_ok-command.ensures c.in_ok-matches.ensures.kinds
-        (λ simple. (c.in_ok-matches.ensures.matches simple).1) in
+    (λ simple. (c.in_ok-matches.ensures.matches simple).1) in
     search rules
 
 pub returns-clause-taken : goal.returns-clause-taken
 returns-clause-taken g c =
     let words = map g.S.AsStr.text c.args.words.now in
     let read = parsed _ words _ c.in_ok-command.ensures c.in_ok-matches.ensures.kinds
-        (λ simple. (c.in_ok-matches.ensures.matches simple).1) in
+    (λ simple. (c.in_ok-matches.ensures.matches simple).1) in
     (read.none, asked_is words _ _ read.same (search rules))
 
 pub returns-clause-kinds : goal.returns-clause-kinds
@@ -43,7 +43,7 @@ returns-clause-moves g c = λ name line is plain.
 pub returns-clause-files : goal.returns-clause-files
 returns-clause-files g c = λ question name file files is plain.
     taken_once (map g.S.AsStr.text c.args.words.now) _ _ (returns-clause-taken g c)
-        (taken_at is (files_taken question name file files plain))
+    (taken_at is (files_taken question name file files plain))
 
 -- the error of a parse has a kind of the arguments' fault, so it is out of memory if they are accepted
 has_kind : (g : Over) (c : goal.After-from_residual-in_err-matches g) (e : Error) → e ≡ c.in_err-matches.field-0.0
@@ -51,7 +51,7 @@ has_kind : (g : Over) (c : goal.After-from_residual-in_err-matches g) (e : Error
 has_kind g c e same =
     let words = map g.S.AsStr.text c.args.words.now in
     subst (HasKind (fault_of kalah_app words)) (sym same) (faulty _ words c.in_err-matches.field-0.0 c.in_ok-command.ensures
-        c.in_err-matches.ensures.kinds)
+    c.in_err-matches.ensures.kinds)
 
 refused : (g : Over) (c : goal.After-from_residual-in_err-matches g) (e : Error) → e ≡ c.in_err-matches.field-0.0 → (a : Asked)
     → IsTakenAs (map g.S.AsStr.text c.args.words.now) a → kind_of e ≡ OutOfMemory
@@ -70,4 +70,4 @@ returns-in_err-matches-clause-moves g c = λ name line is plain.
 pub returns-in_err-matches-clause-files : goal.returns-in_err-matches-clause-files
 returns-in_err-matches-clause-files g c = λ question name file files is plain.
     on_error _ _ _ _ c.from_residual-in_err-matches.ensures.1 (λ e same. refused g c e same _
-        (taken_at is (files_taken question name file files plain)))
+    (taken_at is (files_taken question name file files plain)))

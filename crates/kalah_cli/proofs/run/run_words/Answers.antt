@@ -106,5 +106,5 @@ returns-clause-by_words g c = by_words _ _ _ _ _ (returns-clause-accepted g c) (
 pub returns-clause-stopped : goal.returns-clause-stopped
 returns-clause-stopped g c = λ question table taken stopped kept.
     subst (λ o. StopsBetweenLines question None (g.O.Sink.written c.args.out.now) (g.O.Sink.written o))
-        (sym (failed g c (ask question table) taken).1)
+    (sym (failed g c (ask question table) taken).1)
     (stops_before_lines question None (g.O.Sink.written c.args.out.now))

@@ -18,7 +18,7 @@ returns-in_err-write_plain-clause-start g c =
 pub returns-in_err-write_values-clause-start : goal.returns-in_err-write_values-clause-start
 returns-in_err-write_values-clause-start g c =
     start_then _ _ _ _ (picture_of c.args.board.now) _ (shown_parts c.args.board.now) c.in_ok-write_plain.ensures.adds
-        c.write_values.ensures.start
+    c.write_values.ensures.start
 
 -- all of it, before the last flush
 whole : (g : Over) (c : After-flush g) → Appends (g.O.Sink.written c.args.out.now) (g.O.Sink.written c.write_values.new.out)

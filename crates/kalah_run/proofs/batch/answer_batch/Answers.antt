@@ -20,8 +20,12 @@ returns-in_err-answer_jobs g c = record {
   too_many_files = search rules;
   too_many_lines = search rules;
   no_worker = λ _.
-      omega (arith, c.in_err-answer_jobs.ensures.some, ap job_count c.in_ok-jobs.ensures.value,
-          job_count-jobs_to c.args.question c.args.files.now);
+      omega (
+        arith,
+        c.in_err-answer_jobs.ensures.some,
+        ap job_count c.in_ok-jobs.ensures.value,
+        job_count-jobs_to c.args.question c.args.files.now,
+      );
   write = search rules;
   untouched = search rules;
 }
@@ -44,7 +48,7 @@ has_failed g c = elim c.then-failed.branch [
 pub returns-then-failed : goal.returns-then-failed
 returns-then-failed g c =
     let given = given_output c.args.question c.args.files.now c.in_ok-jobs.jobs _ _ _ c.in_ok-jobs.ensures.value
-        c.in_ok-answer_jobs.ensures.given in
+    c.in_ok-answer_jobs.ensures.given in
     let failed = has_failed g c in
     record {
       written = search rules;
@@ -61,7 +65,7 @@ returns-then-failed g c =
 pub returns : goal.returns
 returns g c =
     let given = given_output c.args.question c.args.files.now c.in_ok-jobs.jobs _ _ _ c.in_ok-jobs.ensures.value
-        c.in_ok-answer_jobs.ensures.given in
+    c.in_ok-answer_jobs.ensures.given in
     let tally = counted_tally c.args.question c.args.files.now _ c.faults.result
     (c.total.ensures.jobs ∙ ap (λ jobs. length (job_list jobs)) c.in_ok-jobs.ensures.value)
     (c.faults.ensures ∙ ap (λ jobs. count_by is_faulty_job (job_list jobs)) c.in_ok-jobs.ensures.value) in

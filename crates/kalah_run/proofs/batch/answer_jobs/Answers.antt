@@ -71,7 +71,7 @@ each_got g c all =
     (subst (λ (l : List PassState). DealsEachOnce c.in_ok-shared.field-0.shared.desk.total c.close.result.drawn (drawn_rows l))
     c.take_apart-passes.ensures.passes c.close.ensures.deals) in
     let accounts = subst (λ (l : List PutState). Accounts get.workers (sent_by l) (get.got ++ rest.0))
-        c.take_apart-passes.ensures.puts rest.2 in
+    c.take_apart-passes.ensures.puts rest.2 in
     subst (λ (js : List (List Entry)). AreJobsInSomeOrder js (outcomes_in get.got)) ready.of_jobs
     (each_job_got c.in_ok-shared.field-0.shared c.in_ok-workers.workers.items get.workers c.close.result.drawn get.got rest.0
     (run_at_work _ _ _ run.all_ran) as_many deals accounts (all ∙ sym (ap job_count ready.of_jobs)))
@@ -84,7 +84,7 @@ all_written : (g : Over) (c : goal.After-drop-shared-2 g)
 all_written g c =
     let begun = g.W.Sink.written c.args.out.now in
     c.in_ok-workers.ensures.ended.progress c.args.files.now c.args.jobs.now begun
-        (c.in_ok-ordered.ensures begun (g.W.Sink.has_failed c.args.out.now))
+    (c.in_ok-ordered.ensures begun (g.W.Sink.has_failed c.args.out.now))
 
 pub returns-clause-given : goal.returns-clause-given
 returns-clause-given g c =

@@ -41,7 +41,7 @@ pub returns-in_err-all_read-clause-begins : goal.returns-in_err-all_read-clause-
 returns-in_err-all_read-clause-begins g c =
     let is = c.in-Some.is ∙ ap (λ byte. Some byte) c.if-byte-eq-LINE_FEED.true in
     begun_line _ _ _ _ _ _ _ _ _ _ c.loop.invariant.0 (taken_is _ _ _ _ is c.in_ok-byte.ensures.taken) c.in_ok-byte.ensures.keeps
-        c.tell.ensures.start
+    c.tell.ensures.start
 
 pub loop-preserved : goal.loop-preserved
 loop-preserved g c = elim c.if-byte-eq-LINE_FEED.branch [

@@ -8,11 +8,11 @@ pub returns-then-m : goal.returns-then-m
 returns-then-m c = elim c.in-Position-Position-1.branch [
   | in-Position-Position w ↦
       same_entries Position (λ x d. refl) c.m.ensures.limits c.m-in-Position-Position.ensures.limits c.eq-then-m.ensures (search rules)
-          (search rules)
+      (search rules)
   | in-Position-Position-2 w ↦
       same_entries ValuesOf (λ x d. refl) c.m.ensures.limits c.m-in-Position-Position.ensures.limits c.eq-then-m.ensures (search rules)
-          (search rules)
+      (search rules)
   | in-Position-Position-3 w ↦
       same_entries StepsOf (λ x d. refl) c.m.ensures.limits c.m-in-Position-Position.ensures.limits c.eq-then-m.ensures (search rules)
-          (search rules)
+      (search rules)
 ]

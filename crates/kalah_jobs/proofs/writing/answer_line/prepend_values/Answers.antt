@@ -38,8 +38,13 @@ loop-i-preserved c =
           (c.prepend_value-in-loop-i.ensures.value
           ∙ ap (λ (ws : List ℕ). value_words v ++ ws) (c.prepend.ensures.piece
           ∙ ap (λ (ws : List ℕ). codes " " ++ ws) c.loop-i.invariant.words));
-      short = omega (arith, c.prepend_value-in-loop-i.ensures.short, c.prepend.ensures.longer, c.loop-i.invariant.short,
-          c.loop-i-test.true);
+      short = omega (
+        arith,
+        c.prepend_value-in-loop-i.ensures.short,
+        c.prepend.ensures.longer,
+        c.loop-i.invariant.short,
+        c.loop-i-test.true,
+      );
     }
 
 pub returns-clause-short : goal.returns-clause-short

@@ -6,7 +6,7 @@ use Rattle.kalah_jobs.proofs.writing.named_text.write_apart.Goals as goal
 pub returns-in_err-write_all-clause-start : goal.returns-in_err-write_all-clause-start
 returns-in_err-write_all-clause-start g c =
     subst (λ (name : List ℕ). AppendsStart (g.W.Sink.written c.args.out.now) (g.W.Sink.written c.write_all.new.self)
-        (name ++ c.args.text.now))
+    (name ++ c.args.text.now))
     c.as_bytes.ensures.value
     (start_longer _ _ c.as_bytes.result.now c.args.text.now c.write_all.ensures.start)
 

@@ -15,7 +15,7 @@ loop-i-init c =
     let some = c.m-i.ensures.limits.some_house in
     let store = c.prepend_number.ensures.number ∙ ap (λ (n : ℕ). decimal n ++ old) (c.from.ensures ∙ c.store.ensures) in
     let last = c.prepend_number-2.ensures.number ∙ ap (λ (n : ℕ). decimal n ++ c.prepend.new.self)
-        (c.from-2.ensures ∙ c.seeds.ensures) in
+    (c.from-2.ensures ∙ c.seeds.ensures) in
     record {
       low = omega (arith, some, c.m-i.ensures.side);
       high = omega (arith, long, c.m-i.ensures.side);
@@ -23,7 +23,7 @@ loop-i-init c =
           last
           ∙ ap₂ (λ (t s : List ℕ). t ++ s)
           (last_joined comma decimal houses (c.m-i.result - 1) (seeds houses c.m-i.result) 0 refl
-              (omega (arith, some, long, c.m-i.ensures.side)))
+          (omega (arith, some, long, c.m-i.ensures.side)))
           (c.prepend.ensures.piece ∙ ap (λ (t : List ℕ). slash ∷ t) store);
       short = omega (
         arith,
@@ -51,7 +51,7 @@ loop-i-preserved c =
       side = before_those comma decimal houses i (seeds houses i) 0
           (slash ∷ (decimal (store_of c.args.player c.args.board.now) ++ c.args.text.now))
           c.prepend_number-in-loop-i.new.self refl (omega (arith, c.loop-i-test.true))
-              (omega (arith, c.loop-i.invariant.high, c.loop-i-test.true)) more;
+          (omega (arith, c.loop-i.invariant.high, c.loop-i-test.true)) more;
       short = omega (
         arith,
         c.loop-i.invariant.short,

@@ -5,7 +5,7 @@ use Rattle.kalah_jobs.specs.Line.Line.{step_text_of}
 use Rattle.kalah_jobs.proofs.WritingLemmas.StepLines.{joined_lines, line_more}
 use Rattle.kalah_jobs.proofs.writing.steps.push_steps.Goals as goal
 
--- four pieces behind what is there
+-- four pieces after what is there
 pushed_four : (first lines before name place step old a b c d : List ℕ) → old ≡ first ++ lines → a ≡ old ++ before
     → b ≡ a ++ name →
     c ≡ b ++ place → d ≡ c ++ step
@@ -26,7 +26,7 @@ loop-i-preserved c =
     let step = c.as_str.ensures ∙ c.text_of_step-step.ensures.text ∙ append-nil _
     ∙ ap₂ step_text_of c.get-h.ensures (c.apply.ensures.step ∙ ap (step_of c.args.board.now) c.get-h.ensures) in
     let done = pushed_four _ (joined_lines place text (take c.loop-i.i moves)) _ c.args.name.now c.args.place.now
-        c.as_str.result.now _ _ _ _ _
+    c.as_str.result.now _ _ _ _ _
     c.loop-i.invariant.pushed c.in_ok-push_str.ensures.bytes c.in_ok-push_str-2.ensures.bytes c.in_ok-push_str-3.ensures.bytes
     c.in_ok-push_str-4.ensures.bytes in
     record {

@@ -10,5 +10,5 @@ invariant-loop-i l = record {
   same : l.moves ≡ legal_houses l.board;
   pushed : string_bytes l.text
       ≡ string_bytes l.initial.text ++ joined_lines (l.fn.name ++ l.fn.place) (λ h. step_text_of h (step_of l.board h))
-          (take l.i l.moves);
+      (take l.i l.moves);
 }

@@ -16,7 +16,7 @@ use Rattle.kalah_jobs.proofs.writing.steps.write_steps.Goals as goal
 whole_lines : (place : List ℕ) (text : ℕ → List ℕ) (moves others : List ℕ) (i : ℕ) → moves ≡ others → 0 < length moves →
     join_with_byte line_feed (map (λ t. place ++ t) (map text others)) ++ line_feed ∷ []
     ≡ flat_map (λ h. (place ++ text h) ++ line_feed ∷ []) (take i moves) ++ flat_map (λ h. (place ++ text h) ++ line_feed ∷ [])
-        (drop i moves)
+    (drop i moves)
 whole_lines place text moves others i same some =
     ap (λ ms. join_with_byte line_feed (map (λ t. place ++ t) (map text ms)) ++ line_feed ∷ []) (sym same)
     ∙ lines_end place text moves some ∙ sym (first_moves (λ h. (place ++ text h) ++ line_feed ∷ []) moves moves i (λ _. moves))
@@ -51,7 +51,7 @@ returns-in_err-write_step_line-clause-start g c =
     ((place ++ step_text_of h s) ++ line_feed ∷ []))
     c.apply.ensures.step c.write_step_line.ensures.start in
     let so_far = start_then (g.W.Sink.written c.args.out.now) _ _ _ (flat_map one (take i moves))
-        (one h) more c.loop-i.invariant.adds first in
+    (one h) more c.loop-i.invariant.adds first in
     subst (AppendsStart (g.W.Sink.written c.args.out.now) (g.W.Sink.written c.write_step_line.new.out))
     (sym (whole_lines place text moves _ (i + 1) c.loop-i.invariant.same (omega (arith, low))))
     (start_longer _ _ (flat_map one (take (i + 1) moves)) (flat_map one (drop (i + 1) moves)) so_far)
@@ -60,7 +60,7 @@ returns-in_err-write_step_line-clause-start g c =
 all_told : (place : List ℕ) (text : ℕ → List ℕ) (moves others : List ℕ) (i : ℕ) → moves ≡ others → 0 < length moves
     → length moves ≤ i →
     flat_map (λ h. (place ++ text h) ++ line_feed ∷ []) (take i moves) ≡ join_with_byte line_feed
-        (map (λ t. place ++ t) (map text others))
+    (map (λ t. place ++ t) (map text others))
     ++ line_feed ∷ []
 all_told place text moves others i same some all =
     ap (flat_map (λ h. (place ++ text h) ++ line_feed ∷ [])) (take_all i moves all) ∙ sym (lines_end place text moves some)
@@ -72,7 +72,7 @@ returns-clause-adds g c =
     let some : 0 < length moves = omega (arith, c.if-len-eq0.false, c.len.ensures) in
     subst (Appends (g.W.Sink.written c.args.out.now) (g.W.Sink.written c.loop-i.out))
     (all_told (c.args.name.now ++ c.args.place.now) (λ h. step_text_of h (step_of c.args.board.now h)) moves _ c.loop-i.i
-        c.loop-i.invariant.same some
+    c.loop-i.invariant.same some
     (omega (arith, c.loop-i-test.false, c.len-i-end.ensures)))
     c.loop-i.invariant.adds
 
@@ -81,6 +81,6 @@ returns-clause-start g c =
     let moves = c.legal-moves.result in
     let some : 0 < length moves = omega (arith, c.if-len-eq0.false, c.len.ensures) in
     start_then _ _ _ _ _ [] (let lines = all_told (c.args.name.now ++ c.args.place.now) (λ h. step_text_of h (step_of c.args.board.now h))
-        moves _ c.loop-i.i
+    moves _ c.loop-i.i
     c.loop-i.invariant.same some (omega (arith, c.loop-i-test.false, c.len-i-end.ensures)) in sym lines ∙ sym (append-nil _))
     c.loop-i.invariant.adds (start_none _ [])

@@ -38,9 +38,11 @@ loop-preserved g c =
             so_far.1 ∙ ap (λ l. so_far.0 ++ l) (sym parts) ∙ sym (append_assoc so_far.0 taken c.match-write.rest.now),
             Appends-trans _ _ _ so_far.0 taken so_far.2 w.in-Ok.ensures.bytes,
           )
-      | in-Err w ↦
-          (so_far.0, so_far.1 ∙ ap (λ (r : Bor (List ℕ)). so_far.0 ++ r.now) (sym w.rest-is),
-              Appends-kept _ _ _ so_far.0 so_far.2 w.in-Err.ensures.bytes)
+      | in-Err w ↦ (
+        so_far.0,
+        so_far.1 ∙ ap (λ (r : Bor (List ℕ)). so_far.0 ++ r.now) (sym w.rest-is),
+        Appends-kept _ _ _ so_far.0 so_far.2 w.in-Err.ensures.bytes,
+      )
     ]
 
 pub returns-clause-start : goal.returns-clause-start

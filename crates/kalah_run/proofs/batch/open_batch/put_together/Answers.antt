@@ -10,8 +10,11 @@ loop-pass-preserved c =
     let workers = c.loop-pass.workers.items in
     let more = c.push.new.self.items in
     let empty : c.match-last.solver.search.table ≡ empty_table c.args.size.table =
-    elim c.match-last.branch [ in-Some-last+in_ok-solver-in-Some-last w ↦ search rules | in-None-last+in_ok-new-in-None-last w ↦
-        search rules ] in
+    elim c.match-last.branch [
+      | in-Some-last+in_ok-solver-in-Some-last w ↦ search rules
+      | in-None-last+in_ok-new-in-None-last w ↦
+          search rules
+    ] in
     record {
       order = append_assoc c.loop-pass.yielded (c.in-Some.pass ∷ []) (into_iter_items c.next.new.self)
           ∙ ap (λ l. c.loop-pass.yielded ++ l) (sym c.in-Some.ensures.steps.0) ∙ c.loop-pass.invariant.order;

@@ -18,7 +18,7 @@ loop-init g c = record {
   few_tries = omega arith;
   progress = λ files jobs begun so_far.
       subst (λ (l : List (ℕ × Job)). HasWritten files jobs (outcomes_in l) begun (g.W.Sink.written c.write.new.out)
-          (g.W.Sink.has_failed c.write.new.out)
+      (g.W.Sink.has_failed c.write.new.out)
       c.write.new.self × Waits c.write.new.self)
       (sym c.requires.first) (c.write.ensures files jobs [] begun so_far);
 }
@@ -61,7 +61,7 @@ loop-preserved g c =
           subst (λ (l : List Job). HasWritten files jobs l begun (g.W.Sink.written c.write-in-loop.new.out)
           (g.W.Sink.has_failed c.write-in-loop.new.out) c.write-in-loop.new.self × Waits c.write-in-loop.new.self)
           (sym (ap (λ (l : List (ℕ × Job)). outcomes_in l) more
-              ∙ map-append (λ (p : ℕ × Job). p.1) c.loop.get.got ((worker, outcome) ∷ [])))
+          ∙ map-append (λ (p : ℕ × Job). p.1) c.loop.get.got ((worker, outcome) ∷ [])))
           (let so_far = still_written files jobs _ begun _ _ _ _ _ (keeps g c) (sound g c)
           (c.loop.invariant.progress files jobs begun so_far).0 in
           c.write-in-loop.ensures files jobs _ begun (record {
@@ -74,7 +74,7 @@ loop-preserved g c =
 pub returns-in-None-flush_and_get-clause-progress : goal.returns-in-None-flush_and_get-clause-progress
 returns-in-None-flush_and_get-clause-progress g c =
     subst (λ (p : GetState). AcceptsAll (outcomes_in p.got) c.args.ordered.now (g.W.Sink.written c.args.out.now)
-        (g.W.Sink.has_failed c.args.out.now)
+    (g.W.Sink.has_failed c.args.out.now)
     c.loop.ordered (g.W.Sink.written c.flush_and_get.new.out) (g.W.Sink.has_failed c.flush_and_get.new.out))
     (sym (c.in-None-flush_and_get.ensures.got ∙ c.in-None.ensures.pass))
     (still_accepted _ _ _ _ _ _ _ _ _ c.flush_and_get.ensures.keeps c.flush_and_get.ensures.sound c.loop.invariant.progress)

@@ -32,18 +32,23 @@ last c =
 pub returns-clause-deals : goal.returns-clause-deals
 returns-clause-deals c =
     let drawn = c.min.ensures ∙ drawn_at_end c.self.inside.total c.word-word.result (drawn_rows c.args.passes.items) (last c).0
-        (last c).1 in
+    (last c).1 in
     subst (λ (n : ℕ). DealsEachOnce c.args.self.total n (drawn_rows c.args.passes.items)) (sym drawn)
     (deals_each_once c.args.self.total _ (subst (λ (t : ℕ). AreLawful t (drawn_rows c.args.passes.items))
-        (ap (λ d. d.total) c.self.view_is) (last c).1))
+    (ap (λ d. d.total) c.self.view_is) (last c).1))
 
 pub returns-clause-spent : goal.returns-clause-spent
 returns-clause-spent c = spent_at_end c.self.inside.total c.word-word.result (drawn_rows c.args.passes.items) (last c).0 (last c).1
 
 pub join_seat-requires : goal.join_seat-requires
-join_seat-requires c =
-    (search rules, search rules, search rules, search rules, reclaims_as _ _ _ _ _ c.loop-pass.invariant.closing
-        (ap (λ m. m.0) c.pass.invariant.0))
+join_seat-requires c = (
+  search rules,
+  search rules,
+  search rules,
+  search rules,
+  reclaims_as _ _ _ _ _ c.loop-pass.invariant.closing
+      (ap (λ m. m.0) c.pass.invariant.0),
+)
 
 pub loop-pass-preserved : goal.loop-pass-preserved
 loop-pass-preserved c =

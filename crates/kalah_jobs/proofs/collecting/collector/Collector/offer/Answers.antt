@@ -21,7 +21,7 @@ entry-own-requires-clause-line c =
     let viewed : files ≡ c.args.self.now = c.self.view_is in
     let count : line_count (state_of c.args.self.now c.file-3.result) ≡ line_count c.index_mut-file.result.now =
     ap (λ (l : List FileState). line_count (state_of l c.file-3.result)) (sym viewed)
-        ∙ ap (λ f. line_count (state_of files f)) (sym same)
+    ∙ ap (λ f. line_count (state_of files f)) (sym same)
     ∙ ap line_count here in
     let line_1 = c.line.ensures in
     let line_2 = c.line-2.ensures in
@@ -38,4 +38,4 @@ returns-clause-counts c =
     ∙ length-set c.index_mut-file.result.now.arrived c.line-4.result (Some c.answer.result)
     ∙ ap (λ (f : FileState). line_count f) (sym here) in
     counts_set files c.file-2.result c.accept.new.self count ∙ ap (λ (l : List FileState). map line_count l) c.self.view_is
-        ∙ c.requires
+    ∙ c.requires

@@ -8,7 +8,7 @@ use Rattle.kalah_jobs.proofs.FilesLemmas.JobCounts.{all_counted, by_file_is, cou
 use Rattle.kalah_jobs.proofs.files.jobs.Jobs.asking.Goals as goal
 use Rattle.kalah_jobs.proofs.files.jobs.Jobs.asking.Goals.{After-len}
 
--- with one file more, the entries and the offset behind them are counted
+-- with one file more, the entries and the offset after them are counted
 counted : (c : After-len) → AreCounted (jobs_to c.args.question (take (c.loop-file.file-index + 1) c.args.files.now))
     (c.loop-file.offsets.items ++ c.len.result ∷ []) c.read_entries.new.entries.items
 counted c =
@@ -18,9 +18,9 @@ counted c =
     subst (λ entries. AreCounted jobs (c.loop-file.offsets.items ++ c.len.result ∷ []) entries)
     (sym c.in_ok-faults.ensures.read)
     (read_more c.args.question c.args.files.now c.loop-file.file-index c.loop-file.offsets.items c.loop-file.entries.items own
-        c.file-item.result c.len.result
+    c.file-item.result c.len.result
     c.loop-file.invariant.counted c.loop-file-test.true c.file-item.is read
-        (omega (arith, c.len.ensures, ap length c.in_ok-faults.ensures.read)))
+    (omega (arith, c.len.ensures, ap length c.in_ok-faults.ensures.read)))
 
 pub overflow_cast-len : goal.overflow_cast-len
 overflow_cast-len c =
@@ -68,7 +68,7 @@ invariant_of-result c =
     let all = ap (jobs_to c.args.question) (take_all c.loop-file.file-index c.args.files.now (omega (arith, c.loop-file-test.false))) in
     let are = by_file_is (jobs_to c.args.question (take c.loop-file.file-index c.args.files.now)) _ _ c.loop-file.invariant.counted in
     let few = few_jobs c.args.question c.args.files.now (omega (arith, c.if-files-gt-MOST_FILES.false))
-        (omega (arith, c.in-Some.ensures.some)) in
+    (omega (arith, c.in-Some.ensures.some)) in
     let counted = subst (λ jobs. AreCounted jobs c.loop-file.offsets.items c.loop-file.entries.items)
-        (sym are) c.loop-file.invariant.counted in
+    (sym are) c.loop-file.invariant.counted in
     ((subst AreFew (sym (are ∙ all)) few, counted), c.loop-file.invariant.faults)

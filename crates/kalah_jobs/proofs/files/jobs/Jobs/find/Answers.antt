@@ -15,7 +15,7 @@ parted : (c : After-partition_point-file) → AreStarted c.self.inside.offsets.i
 parted c =
     subst (λ offsets. AreStarted offsets c.args.n c.partition_point-file.result) c.deref.ensures.value
     (IsPartitionPoint-from_clause (λ y. leb y c.args.n) c.deref.result.now c.partition_point-file.result
-        c.partition_point-file.ensures.partitioned
+    c.partition_point-file.ensures.partitioned
     (IsPartitionedBy-leb (λ x. x) c.deref.result.now c.args.n
     (subst (λ offsets. IsNonDecreasing offsets) (sym c.deref.ensures.value) (offsets_rise c.args.self.now _ _ (counted c))))
     (λ a r f' k. search rules))
@@ -34,7 +34,7 @@ offset : (c : After-partition_point-file) (read : ℕ) → read ≡ get_or c.sel
     → read ≡ job_count (take (c.partition_point-file.result - 1) c.args.self.now)
 offset c read is =
     is ∙ offset_is c.args.self.now _ _ (c.partition_point-file.result - 1) read (counted c)
-        (let within = (has c).within in omega (arith, within))
+    (let within = (has c).within in omega (arith, within))
 
 pub overflow_sub-line : goal.overflow_sub-line
 overflow_sub-line c =
@@ -53,6 +53,6 @@ returns c =
     let number : c.args.n ≡ job_count (take (c.partition_point-file.result - 1) c.args.self.now) + (c.args.n - c.index.result.now) =
     omega (arith, start, job.low) in
     slice_get-job_list c.args.self.now (c.partition_point-file.result - 1) (c.args.n - c.index.result.now) c.args.n
-        c.index-2.result.now number
+    c.index-2.result.now number
     (entry_there c.args.self.now _ _ (c.partition_point-file.result - 1) (c.args.n - c.index.result.now) c.args.n c.index-2.result.now
     (counted at) job.within (omega (arith, start, job.line)) number c.index-2.ensures)
