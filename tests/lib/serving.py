@@ -1,4 +1,4 @@
-"""The trials of examples/web.py over HTTP, for tests/examples: each question gets its own answer or a clear error, whatever else is sent.
+"""The trials of examples/web.py over HTTP, for tests/examples: each question gets its own answer or a clear error, also between bad requests.
 """
 
 import io
@@ -159,7 +159,7 @@ class ServerTrials:
             compare(path, line, asked(port, path, line))
 
     def many(self, port):
-        """Many ask at once, and some go away: each gets its own answer, or is told that there are too many."""
+        """Many ask at once, and some go away: each gets its own answer, or the error that there are too many."""
         questions = [(self.draw.choice(PATHS), drawn_line(self.draw, 3, 8)) for _ in range(DRAWN)]
         cuts = [self.draw.random() for _ in questions]
 

@@ -1,4 +1,4 @@
-"""What pages say of the sources: docs/INTERFACE.md lists all that the crates export, of which tests/data/interface.txt has the signatures
+"""What pages say of the sources: docs/INTERFACE.md lists all that the crates export; tests/data/interface.txt has the signatures
 that are kept; docs/PROOFS.md names the clauses and laws that carry each promise; CONTRIBUTING.md quotes lines of files; and all pages
 name files. The functions that compare these return how they differ, or None."""
 

@@ -516,7 +516,7 @@ class Trials(AskTrials):
         return result, after.ru_utime + after.ru_stime - before.ru_utime - before.ru_stime
 
     def run_into(self, place, words, size):
-        """Returns the result of a run into a file that is full, or into a pipe that is closed after so many bytes."""
+        """Returns the result of a run into a file that is full, or into a pipe that is closed after `size` bytes."""
         reader, writer = os.pipe() if place == "pipe" else (os.open(os.devnull, os.O_RDONLY), os.open(place, os.O_WRONLY))
         with self.start(words, stdout=writer) as process:
             os.close(writer)
@@ -654,7 +654,7 @@ class Trials(AskTrials):
         self.look_at_progress(shown.decode(), sum(len(reference.lines_of(data)) for _, data in files), place == "terminal")
 
     def files_of_progress(self, lines):
-        """Returns two files for a run of which progress is shown."""
+        """Returns two files for a run with `--progress`."""
         if lines == "quick":
             return [("a", QUICK * 2500), ("b", b"")]
         sizes = [0] if lines == "none" else [0, 1, 7, 150, 2500]

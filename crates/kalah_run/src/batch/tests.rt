@@ -26,7 +26,7 @@ b.txt:1 0 house 1
 b.txt:2 -2 house 1
 ";
 
-// The tally of four files of which one is named twice.
+// The tally of four files. One of them is named twice.
 const SEVEN_LINES: Tally = Tally {
     lines: 7,
     faults: 2,

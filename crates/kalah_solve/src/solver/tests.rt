@@ -98,7 +98,7 @@ fn tells_worked_positions_with_each_table(rt: HostRuntime) {
     }
 }
 
-// Of the long ones that differ in their stores alone it tells the first.
+// Of long positions that differ in their stores alone only the first is solved.
 #[test]
 fn the_plain_recursion_tells_worked_positions(rt: HostRuntime) {
     for (m, own, other, rule, margin, house) in WORKED {

@@ -1,4 +1,4 @@
-use Rattle.std.proofs.Common.{arith, refl, ap, ◌∙◌, ◌≡◌, ◌<◌, ◌-◌, length, get_or}
+use Rattle.std.proofs.Common.{arith, refl, ap, ◌∙◌, ◌≡◌, ◌<◌, ◌-◌, ℕ, List, length, get_or}
 use Rattle.kalah_rules.specs.Play.{legal_houses}
 use Rattle.kalah_rules.specs.Position.{bare}
 use Rattle.kalah_solve.proofs.SolverLemmas.Worths.{legal_some}
@@ -12,25 +12,24 @@ overflow_sub-last g c = omega (arith, c.len-last.ensures, ap length c.requires.m
 pub get-requires : goal.get-requires
 get-requires g c = omega (arith, c.len-last.ensures, ap length c.requires.moves, legal_some (bare c.args.houses.now) c.requires.going)
 
+-- the house that is looked at is a legal house
+looked_at : (moves legal : List ℕ) (i count house : ℕ) → count ≡ length moves → i < count - 1 → house ≡ get_or moves i 0 → moves ≡ legal →
+    (i < length legal) × (house ≡ get_or legal i 0)
+looked_at moves legal i count house many before at are =
+    (omega (arith, many, before, ap length are), at ∙ ap (λ xs. get_or xs i 0) are)
+
 pub returns-then-move_reaches : goal.returns-then-move_reaches
 returns-then-move_reaches g c =
-    let a = c.args.houses.now in
-    let inside : c.loop-i.i < length (legal_houses (bare a)) = omega
-    (arith, c.loop-i-test.true, c.len-last.ensures, ap length c.requires.moves) in
-    let place : c.get-h.result ≡ get_or (legal_houses (bare a)) c.loop-i.i 0 =
-    c.get-h.ensures ∙ ap (λ xs. get_or xs c.loop-i.i 0) c.requires.moves in
     let enough = enough_of _ c.args.bar _ c.if-move_reaches.ensures refl in
-    place ∙ root_found a c.seeds-seeds.ensures.limits c.loop-i.i inside c.loop-i.invariant (rw (← place, ← c.requires.best) enough)
+    let at = looked_at _ _ _ _ _ c.len-last.ensures c.loop-i-test.true c.get-h.ensures c.requires.moves in
+    at.1 ∙ root_found c.args.houses.now c.seeds-seeds.ensures.limits c.loop-i.i at.0 c.loop-i.invariant
+    (rw (← at.1, ← c.requires.best) enough)
 
 pub loop-i-preserved : goal.loop-i-preserved
 loop-i-preserved g c =
-    let a = c.args.houses.now in
-    let inside : c.loop-i.i < length (legal_houses (bare a)) = omega
-    (arith, c.loop-i-test.true, c.len-last.ensures, ap length c.requires.moves) in
-    let place : c.get-h.result ≡ get_or (legal_houses (bare a)) c.loop-i.i 0 =
-    c.get-h.ensures ∙ ap (λ xs. get_or xs c.loop-i.i 0) c.requires.moves in
     let less = short_of _ c.args.bar _ c.if-move_reaches.ensures refl in
-    root_short a c.seeds-seeds.ensures.limits c.loop-i.i inside c.loop-i.invariant (rw (← place, ← c.requires.best) less)
+    let at = looked_at _ _ _ _ _ c.len-last.ensures c.loop-i-test.true c.get-h.ensures c.requires.moves in
+    root_short c.args.houses.now c.seeds-seeds.ensures.limits c.loop-i.i at.0 c.loop-i.invariant (rw (← at.1, ← c.requires.best) less)
 
 pub returns : goal.returns
 returns g c =
