@@ -1,13 +1,18 @@
-//! The search: it computes what houses are worth in a window, by successive tests of what the mover takes.
-ghost use Rattle.std.specs.Prelude.{◌≡◌, ◌+◌, ◌≤◌, ◌<◌, false, ◌≤ℤ◌, max, min, IfOk};
-ghost use Rattle.kalah_rules.specs.Position.{is_over, bare};
+//! The search: tests of whether the mover takes at least so many seeds close in on what houses are worth. Inside it all is said in
+//! seeds that the mover takes; `search` alone takes a window of margins and answers a margin.
+ghost use Rattle.std.specs.Prelude.{◌≡◌, ◌↔◌, ℕ, ◌+◌, ◌-◌, ◌≤◌, ◌<◌, false, IsTrue, max, min, IfOk, Contains, slice_index};
+ghost use Rattle.kalah_rules.specs.Position.{is_over, bare, seeds_in_houses};
+ghost use Rattle.kalah_rules.specs.Play.{legal_houses};
+ghost use Rattle.kalah_rules.specs.HousesStep.{houses_step};
 ghost use Rattle.kalah_solve.specs.Solver.Worth.{houses_worth};
-ghost use Rattle.kalah_solve.specs.Bounds.Intervals.{Encloses, least_margin, most_margin, within};
+ghost use Rattle.kalah_solve.specs.Solver.StepWorth.{GoesOn, GoesOnAt};
+ghost use Rattle.kalah_solve.specs.Bounds.Intervals.{within};
+ghost use Rattle.kalah_solve.specs.Bounds.Won.{won, won_by_step};
+ghost use Rattle.kalah_solve.specs.Search.Tried.{IsSoftBound, WinsAtMost, EndsInStore, IsLook, AreWaiting};
 ghost use Rattle.kalah_solve.specs.Table.Entries.{most_entries, empty_table};
-ghost use Rattle.kalah_solve.specs.Bounds.Won.{won, IsWithinBounds};
 
+mod known;
 pub(crate) mod move_order;
-mod reaches;
 #[cfg(test)]
 mod tests;
 mod work;
@@ -15,10 +20,11 @@ mod work;
 use crate::bounds::interval::Interval;
 use crate::bounds::seed_bounds::SeedBounds;
 use crate::bounds::window::Window;
-use crate::search::move_order::MoveOrder;
+use crate::marks::{again_houses, other_houses, split_last};
+use crate::search::move_order::{MoveOrder, Priorities, highest};
 use crate::search::work::{EndingLimit, Work};
 use crate::table::Table;
-use kalah_rules::Houses;
+use kalah_rules::{House, Houses, HousesStep};
 use std::alloc::{AllocError, Allocator, Global};
 
 /// What is known of houses with at most this many seeds is kept in their place, and of others among the entries.
@@ -36,6 +42,14 @@ pub struct Search<A: Allocator + Clone = Global> {
     least_work: u64,
     ending_limit: EndingLimit,
     work: Work,
+}
+
+// What is known of a move once it was played: a bound of what it takes, or the priority with which its turn waits to be searched, and
+// the houses from which the other player would move.
+#[derive(Clone, Copy)]
+enum Look {
+    Bounded(u8),
+    Waits(u16, Houses),
 }
 
 impl<A: Allocator + Clone> Search<A> {
@@ -86,7 +100,8 @@ impl<A: Allocator + Clone> Search<A> {
         self.work.all_nodes()
     }
 
-    /// The worth of the houses, raised to the window's lower end and lowered to its upper one. That of an ending is looked up.
+    /// Returns the worth of the houses, raised to the window's lower end and lowered to its upper one. That of an ending is looked up,
+    /// and what is learned of others is kept as an entry of the table.
     pub fn search(&mut self, houses: &Houses, window: Window) -> i32
         requires going { is_over (bare houses.now) ≡ false }
         ensures { result ≡ within window.lo window.hi (houses_worth houses.now) }
@@ -114,20 +129,8 @@ impl<A: Allocator + Clone> Search<A> {
         answer
     }
 
-    // Returns an interval that holds the worth of the houses.
-    fn known_margins(&mut self, houses: &Houses) -> Interval
-        ensures holds { Encloses result (houses_worth houses.now) }
-        ensures least { least_margin ≤ℤ houses_worth houses.now }
-        ensures most { houses_worth houses.now ≤ℤ most_margin }
-    {
-        let _seeds = houses.seeds();
-        match self.table.look_up(houses) {
-            Some(interval) => interval,
-            None => Interval::whole(),
-        }
-    }
-
-    // The seeds that the mover takes, raised to the least of the share and lowered to its most: tests close in on them.
+    // Returns the seeds that the mover takes, raised to the least of the bounds and lowered to their most: tests close in on them, the
+    // first a little above half of all.
     fn won_within(&mut self, houses: &Houses, asked: SeedBounds) -> u8
         requires going { is_over (bare houses.now) ≡ false }
         requires ordered { asked.least ≤ asked.most }
@@ -150,70 +153,207 @@ impl<A: Allocator + Clone> Search<A> {
         low
     }
 
-    // Counts one more node, and returns how many of the game there were before.
-    fn count_node(&mut self) -> u64 {
-        let before = self.work.nodes();
-        if self.work.count_node() {
-            self.grow();
-        }
-        before
-    }
-
-    // Uses more endings, and all places.
-    #[cold]
-    #[inline(never)]
-    fn grow(&mut self) {
-        self.grow_endings();
-        self.table.grow();
-    }
-
-    // Uses the endings that pay, if the search uses endings.
-    fn grow_endings(&mut self) {
-        if self.ending_limit.seeds > 0 {
-            self.ending_limit = self.work.ending_limit();
-        }
-    }
-
-    // Returns what is known of the seeds that the mover takes.
-    fn known(&mut self, houses: &Houses) -> SeedBounds
-        ensures { IsWithinBounds result (won houses.now) }
+    /// Returns whether house `h` takes at least `bar` seeds.
+    pub fn move_reaches(&mut self, houses: &Houses, h: u8, bar: u8) -> bool
+        requires legal { Contains (legal_houses (bare houses.now)) h }
+        ensures { IsTrue result ↔ bar ≤ won_by_step (houses_step houses.now h) }
     {
-        if houses.seeds() <= self.most_placed {
-            self.table.places.look_up(houses)
+        let _seeds = houses.seeds();
+        bar <= self.bound_step(houses.play(h), bar)
+    }
+
+    // Returns a fail-soft bound of the number of seeds that the mover takes.
+    #[cycle(search)]
+    #[inline(always)]
+    fn bound(&mut self, houses: Houses, bar: u8) -> u8
+        requires going { is_over (bare houses) ≡ false }
+        ensures { IsSoftBound bar (won houses) result }
+    {
+        if houses.seeds() <= self.ending_limit.seeds {
+            return self.table.won(houses);
+        }
+        self.bound_by_search(houses, bar)
+    }
+
+    // The same, if the houses are no ending in use.
+    #[cycle(search)]
+    #[inline(never)]
+    fn bound_by_search(&mut self, houses: Houses, bar: u8) -> u8
+        requires going { is_over (bare houses) ≡ false }
+        ensures { IsSoftBound bar (won houses) result }
+    {
+        let known = self.known(&houses);
+        if bar <= known.least {
+            return known.least;
+        }
+        if known.most < bar {
+            return known.most;
+        }
+        let before = self.count_node();
+        let bound = self.explore(&houses, bar);
+        let work = self.work.nodes().saturating_sub(before);
+        let learned = if bar <= bound {
+            SeedBounds {
+                least: bound,
+                most: known.most,
+            }
         } else {
-            self.known_by_entry(*houses)
-        }
+            SeedBounds {
+                least: known.least,
+                most: bound,
+            }
+        };
+        self.learn(&houses, learned, work);
+        bound
     }
 
-    // The same, from the entries.
-    #[inline(never)]
-    fn known_by_entry(&mut self, houses: Houses) -> SeedBounds
-        ensures { IsWithinBounds result (won houses) }
+    // The same, by trying the moves.
+    #[cycle(search)]
+    fn explore(&mut self, houses: &Houses, bar: u8) -> u8
+        requires going { is_over (bare houses.now) ≡ false }
+        ensures { IsSoftBound bar (won houses.now) result }
     {
-        match self.table.look_up(&houses) {
-            Some(margins) => SeedBounds::of_margins(margins, houses.seeds()),
-            None => SeedBounds::unknown(&houses),
-        }
-    }
-
-    // Stores what was learned of the houses by `work` nodes.
-    fn learn(&mut self, houses: &Houses, bounds: SeedBounds, work: u64)
-        requires { IsWithinBounds bounds (won houses.now) }
-    {
+        let houses = *houses;
         let seeds = houses.seeds();
-        if seeds <= self.most_placed {
-            self.table.places.keep(houses, bounds);
-        } else {
-            self.learn_margins(*houses, bounds.margins(seeds), work);
+        let again = self.bound_again(&houses, bar);
+        if bar <= again {
+            return again;
+        }
+        let mut priorities = [0u16; 8];
+        let mut turns = [houses; 6];
+        let others = self.others_waiting(&houses, bar, &mut priorities, &mut turns);
+        if bar <= others {
+            return others;
+        }
+        let mut most = again.max(others);
+        let mut priority = highest(&priorities);
+        while priority > 0 {
+            let at = (priority % 8) as usize;
+            priorities[at] = 0;
+            let next = turns[at];
+            let bound = self.bound_turn(seeds - next.seeds(), next, bar);
+            if bar <= bound {
+                return bound;
+            }
+            most = most.max(bound);
+            priority = highest(&priorities);
+        }
+        most
+    }
+
+    // Tries the moves that end in the store, the nearest to it first. Returns the most that they take, or a bound that is enough.
+    #[cycle(search)]
+    fn bound_again(&mut self, houses: &Houses, bar: u8) -> u8
+        requires going { is_over (bare houses.now) ≡ false }
+        ensures lower { bar ≤ result → result ≤ won houses.now }
+        ensures upper { result < bar → (h : ℕ) → Contains (legal_houses (bare houses.now)) h → EndsInStore houses.now h →
+            WinsAtMost houses.now result h }
+    {
+        let _seeds = houses.seeds();
+        let mut left = again_houses(houses);
+        let mut most = 0;
+        while left > 0 {
+            let (house, rest) = split_last(left);
+            left = rest;
+            let bound = self.bound_step(houses.play_into_store(house), bar);
+            if bar <= bound {
+                return bound;
+            }
+            most = most.max(bound);
+        }
+        most
+    }
+
+    // Plays each of the other moves once. Returns the most that they take, or a bound that is enough. The turns that wait are written
+    // down, each with its priority, which is 0 for the others.
+    #[cycle(search)]
+    fn others_waiting(
+        &mut self,
+        houses: &Houses,
+        bar: u8,
+        priorities: &mut Priorities,
+        turns: &mut [Houses; 6],
+    ) -> u8
+        requires going { is_over (bare houses.now) ≡ false }
+        requires none { (k : ℕ) → slice_index priorities.old k ≡ 0 }
+        ensures { AreWaiting houses.now bar result priorities.new turns.new }
+    {
+        let mut most = 0;
+        let mut left = other_houses(houses);
+        while left > 0 {
+            let (house, rest) = split_last(left);
+            left = rest;
+            match self.look(houses, house, bar) {
+                Look::Waits(priority, next) => {
+                    let at = house.number() as usize - 1;
+                    priorities[at] = priority;
+                    turns[at] = next;
+                }
+                Look::Bounded(bound) => {
+                    if bar <= bound {
+                        return bound;
+                    }
+                    most = most.max(bound);
+                }
+            }
+        }
+        most
+    }
+
+    // Plays this house. It waits if it is a turn that must be searched.
+    #[cycle(search)]
+    fn look(&mut self, houses: &Houses, house: House, bar: u8) -> Look
+        requires legal { Contains (legal_houses (bare houses.now)) house }
+        ensures { IsLook houses.now bar house result }
+    {
+        let _seeds = houses.seeds();
+        let step = houses.play_by(&self.table.endings.sowings, house);
+        match step {
+            HousesStep::Turn(gained, next) => {
+                if gained < bar && next.seeds() > self.ending_limit.seeds {
+                    let priority = self
+                        .order
+                        .priority(houses.m(), house.number(), gained, &next);
+                    return Look::Waits(priority, next);
+                }
+                Look::Bounded(self.bound_turn(gained, next, bar))
+            }
+            _ => Look::Bounded(self.bound_step(step, bar)),
         }
     }
 
-    // Stores what was learned of their worth as an entry, unless it took too little work.
-    fn learn_margins(&mut self, houses: Houses, interval: Interval, work: u64)
-        requires { Encloses interval (houses_worth houses) }
+    // Returns a fail-soft bound of what a step takes.
+    #[cycle(search)]
+    fn bound_step(&mut self, step: HousesStep, bar: u8) -> u8
+        requires on { GoesOn step }
+        ensures { IsSoftBound bar (won_by_step step) result }
     {
-        if work >= self.least_work {
-            self.table.keep(&houses, interval);
+        match step {
+            HousesStep::Over { own, .. } => own,
+            HousesStep::Again(gained, next) => {
+                if bar <= gained {
+                    gained
+                } else {
+                    gained + self.bound(next, bar - gained)
+                }
+            }
+            HousesStep::Turn(gained, next) => self.bound_turn(gained, next, bar),
+        }
+    }
+
+    // Returns a fail-soft bound of what a turn takes: the `gained` seeds that it brought to the store, and what the other player leaves.
+    #[cycle(search)]
+    fn bound_turn(&mut self, gained: u8, next: Houses, bar: u8) -> u8
+        requires on { GoesOnAt gained next }
+        ensures { IsSoftBound bar (gained + (seeds_in_houses (bare next) - won next)) result }
+    {
+        let all = gained + next.seeds();
+        if bar <= gained {
+            gained
+        } else if all < bar {
+            all
+        } else {
+            all - self.bound(next, all - bar + 1)
         }
     }
 }

@@ -1,6 +1,7 @@
 //! How each house is sown, for each number of its seeds: its seeds are taken out of it, and a sowing is one addition to a key then.
 ghost use Rattle.std.specs.Prelude.{◌<◌, ◌≤◌, ℕ};
 ghost use Rattle.kalah_rules.specs.Sowings.{IsSowing, IsSowingCell};
+ghost use Rattle.kalah_rules.specs.declared.houses.sowings.TheConstants.{CELLS};
 
 use crate::houses::house::House;
 use crate::houses::numbers::{OTHER_ROW, other_gains, own_gains};
@@ -8,7 +9,7 @@ use std::marker::Model;
 
 // The number of cells of the table. A house that begins at bit b has its 32 cells at row b + m - 1 on sides of m houses. So the sides of
 // 1 to 5 houses fill the bits of a house, and those of 6 have the rows of 1 house past its only one.
-const CELLS: usize = 992;
+const CELLS: usize = 31 * 32;
 
 /// How the seeds of one house are sown.
 #[derive(Clone, Copy)]
@@ -45,17 +46,18 @@ impl Sowing {
 /// The sowings of all houses, by the number of houses a side and the number of seeds. A move by this table takes less work.
 #[derive(Drop)]
 pub struct Sowings {
-    cells: [Sowing; 992],
+    cells: [Sowing; CELLS],
 }
 
 impl Model for Sowings {
     ghost use Rattle.kalah_rules.specs.Sowings.{AreSowings};
+    ghost use Rattle.kalah_rules.specs.declared.houses.sowings.TheConstants.{CELLS};
 
     ghost Value = { Unit {0} };
 
     ghost view = { λ _. tt };
 
-    ghost invariant = { λ s. AreSowings 992 s.cells };
+    ghost invariant = { λ s. AreSowings CELLS s.cells };
 }
 
 // Fills the cells of no house.
@@ -67,7 +69,7 @@ const NO_SOWING: Sowing = Sowing {
 
 // Returns the sowing of cell `i`, if it is a house's.
 fn sowing_at(i: usize) -> Sowing
-    requires { i < 992 }
+    requires { i < CELLS }
     ensures { (m h c : ℕ) → IsSowingCell m h c i → IsSowing m h c result }
 {
     let row = (i / 32) as u8;
@@ -86,7 +88,7 @@ fn sowing_at(i: usize) -> Sowing
 impl Sowings {
     /// Computes the table.
     pub fn new() -> Sowings {
-        let mut cells = [NO_SOWING; 992];
+        let mut cells = [NO_SOWING; CELLS];
         for i in 0..CELLS {
             cells[i] = sowing_at(i);
         }

@@ -5,8 +5,8 @@ use Rattle.kalah_rules.specs.Play.{legal_houses}
 use Rattle.kalah_rules.specs.HousesStep.{houses_step}
 use Rattle.kalah_rules.specs.declared.step.HousesStep.TheVariants.{Turn}
 use Rattle.kalah_solve.specs.Bounds.Won.{won, won_by_step}
-use Rattle.kalah_solve.specs.declared.search.reaches.Look.{Look}
-use Rattle.kalah_solve.specs.declared.search.reaches.Look.TheVariants.{Bounded, Waits}
+use Rattle.kalah_solve.specs.declared.search.Look.{Look}
+use Rattle.kalah_solve.specs.declared.search.Look.TheVariants.{Bounded, Waits}
 
 -- a fail-soft bound of a number: from `bar` on the number is no less than the bound, and below `bar` no more
 pub record IsSoftBound (bar number bound : ℕ) : Type 0 where

@@ -5,6 +5,7 @@ ghost use Rattle.kalah_rules.specs.Key.{number_of};
 ghost use Rattle.kalah_solve.specs.Table.RowRank.{choose, sums_number, rank_of_houses};
 ghost use Rattle.kalah_solve.specs.Bounds.Won.{won};
 ghost use Rattle.kalah_solve.specs.Table.EndgameTable.{IsEnding, AreChoices, choice_at, ArePairs, pair_at};
+ghost use Rattle.kalah_solve.specs.declared.table.endgame_table.TheConstants.{COUNTS, CHOICES, PAIRS};
 
 mod exact;
 #[cfg(test)]
@@ -23,6 +24,19 @@ use std::sync::atomic::Ordering::SeqCst;
 /// The most seeds of an ending.
 pub(crate) const MOST_ENDING_SEEDS: u8 = 9;
 
+// How many numbers of seeds houses of an ending can have: 0 to the most.
+const COUNTS: usize = MOST_ENDING_SEEDS as usize + 1;
+
+// The cells of the choices: for each house of both players, one for each number of seeds.
+const CHOICES: usize = 12 * COUNTS;
+
+// The cells of the pairs for one number of pairs past them: one for each number of seeds from the second house on, and from the first
+// on, which has the five bits of a sum.
+const PAIR: usize = COUNTS * 32;
+
+// The cells of the pairs of six houses a side.
+const PAIRS: usize = 6 * PAIR;
+
 // The inverse of 31 modulo 2^64: a multiple of 31 is divided by 31 if it is multiplied by this.
 const INVERSE_OF_31: u64 = 0xEF7B_DEF7_BDEF_7BDF;
 
@@ -31,68 +45,69 @@ const INVERSE_OF_31: u64 = 0xEF7B_DEF7_BDEF_7BDF;
 #[derive(Drop)]
 pub(crate) struct EndgameTable<A: Allocator = Global> {
     words: Vec<AtomicIn<TrueWord>, A>,
-    pairs: [u32; 1920],
+    pairs: [u32; PAIRS],
     pub(crate) sowings: Sowings,
 }
 
 impl<A: Allocator> Model for EndgameTable<A> {
     ghost use Rattle.kalah_solve.specs.Table.EndgameTable.{ArePairs};
+    ghost use Rattle.kalah_solve.specs.declared.table.endgame_table.TheConstants.{PAIRS};
 
     ghost Value = { Unit {0} };
 
     ghost view = { λ _. tt };
 
-    ghost invariant = { λ e. ArePairs 1920 e.pairs };
+    ghost invariant = { λ e. ArePairs PAIRS e.pairs };
 }
 
 // Returns cell `i` of the choices, from the cells before it.
-fn choice(choices: &[u32; 120], i: usize) -> u32
-    requires inside { i < 120 }
+fn choice(choices: &[u32; CHOICES], i: usize) -> u32
+    requires inside { i < CHOICES }
     requires before { AreChoices i choices.now }
     ensures { result ≡ choice_at i }
 {
-    if i < 10 {
+    if i < COUNTS {
         return i as u32;
     }
-    if i % 10 == 0 {
+    if i % COUNTS == 0 {
         return 0;
     }
-    choices[i - 10] + choices[i - 1]
+    choices[i - COUNTS] + choices[i - 1]
 }
 
 // Returns the table of choices.
-fn choices() -> [u32; 120]
-    ensures { AreChoices 120 result }
+fn choices() -> [u32; CHOICES]
+    ensures { AreChoices CHOICES result }
 {
-    let mut choices = [0u32; 120];
-    for i in 0..120usize {
+    let mut choices = [0u32; CHOICES];
+    for i in 0..CHOICES {
         choices[i] = choice(&choices, i);
     }
     choices
 }
 
 // Returns cell `i` of the pairs, from the choices.
-fn pair(choices: &[u32; 120], i: usize) -> u32
-    requires inside { i < 1920 }
-    requires choices { AreChoices 120 choices.now }
-    ensures { i % 32 < 10 → result ≡ pair_at i }
+fn pair(choices: &[u32; CHOICES], i: usize) -> u32
+    requires inside { i < PAIRS }
+    requires choices { AreChoices CHOICES choices.now }
+    ensures { i % 32 < COUNTS → result ≡ pair_at i }
 {
     let first = i % 32;
-    let second = i / 32 % 10;
-    let past = i / 320 * 2;
-    if first > 9 {
+    let second = i / 32 % COUNTS;
+    let past = i / PAIR * 2;
+    if first >= COUNTS {
         return 0;
     }
-    choices[10 * (past + 1) + first] + choices[10 * past + second]
+    choices[COUNTS * (past + 1) + first] + choices[COUNTS * past + second]
 }
 
 // Returns the table of pairs.
-fn pairs() -> [u32; 1920]
-    ensures { ArePairs 1920 result }
+fn pairs() -> [u32; PAIRS]
+    ensures { ArePairs PAIRS result }
 {
     let choices = choices();
-    let mut pairs = [0u32; 1920];
-    for i in 0..1920usize {
+    let mut pairs = [0u32; PAIRS];
+    for i in 0..PAIRS {
         pairs[i] = pair(&choices, i);
     }
     pairs
@@ -131,11 +146,11 @@ impl<A: Allocator> EndgameTable<A> {
     // Returns what two cells add to the rank of a row, with `past` pairs past them, from the number of seeds from each of them on.
     fn pair(&self, past: usize, sums: u64) -> u32
         requires past { past < 6 }
-        requires first { sums % 32 < 10 }
-        requires second { sums / 32 < 10 }
+        requires first { sums % 32 < COUNTS }
+        requires second { sums / 32 < COUNTS }
         ensures value { result ≡ choose (sums % 32 + 2 * past + 1) (2 * past + 2) + choose (sums / 32 + 2 * past) (2 * past + 1) }
     {
-        self.pairs[320 * past + sums as usize]
+        self.pairs[PAIR * past + sums as usize]
     }
 
     // Returns the rank of the houses among those of their game, two cells at a time. The loop has six steps for any number of

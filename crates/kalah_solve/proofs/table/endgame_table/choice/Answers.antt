@@ -2,8 +2,8 @@ use Rattle.std.proofs.Common.{arith, sym, ◌-◌}
 use Rattle.kalah_solve.proofs.TableLemmas.Choices.{choice_first, choice_none, choice_next, choice_small}
 use Rattle.kalah_solve.proofs.table.endgame_table.choice.Goals as goal
 
-pub returns-then-i-lt10 : goal.returns-then-i-lt10
-returns-then-i-lt10 c = sym (choice_first c.args.i c.if-i-lt10.true)
+pub returns-then-i-lt-COUNTS : goal.returns-then-i-lt-COUNTS
+returns-then-i-lt-COUNTS c = sym (choice_first c.args.i c.if-i-lt-COUNTS.true)
 
 pub returns-then-i-eq0 : goal.returns-then-i-eq0
 returns-then-i-eq0 c = sym (choice_none c.args.i c.if-i-eq0.true)
@@ -13,8 +13,8 @@ overflow_add-result c =
     let i = c.args.i in
     omega (
       arith,
-      c.requires.before (i - 10) (omega (arith, c.if-i-lt10.false)),
-      c.requires.before (i - 1) (omega (arith, c.if-i-lt10.false)),
+      c.requires.before (i - 10) (omega (arith, c.if-i-lt-COUNTS.false)),
+      c.requires.before (i - 1) (omega (arith, c.if-i-lt-COUNTS.false)),
       choice_small (i - 10) (omega (arith, c.requires.inside)),
       choice_small (i - 1) (omega (arith, c.requires.inside)),
     )
@@ -24,7 +24,7 @@ returns c =
     let i = c.args.i in
     omega (
       arith,
-      c.requires.before (i - 10) (omega (arith, c.if-i-lt10.false)),
-      c.requires.before (i - 1) (omega (arith, c.if-i-lt10.false)),
-      choice_next i c.if-i-lt10.false c.if-i-eq0.false,
+      c.requires.before (i - 10) (omega (arith, c.if-i-lt-COUNTS.false)),
+      c.requires.before (i - 1) (omega (arith, c.if-i-lt-COUNTS.false)),
+      choice_next i c.if-i-lt-COUNTS.false c.if-i-eq0.false,
     )

@@ -1,9 +1,10 @@
 use Rattle.std.proofs.Common.{◌≡◌, length}
 use Rattle.kalah_solve.specs.Table.EndgameTable.{AreChoices}
+use Rattle.kalah_solve.specs.declared.table.endgame_table.TheConstants.{CHOICES}
 use Rattle.kalah_solve.proofs.table.endgame_table.choices.Given as goal
 
 abbrev pub invariant-loop-i : goal.invariant-loop-i
 invariant-loop-i l = record {
-  cells : length l.choices ≡ 120;
+  cells : length l.choices ≡ CHOICES;
   right : AreChoices l.i l.choices;
 }

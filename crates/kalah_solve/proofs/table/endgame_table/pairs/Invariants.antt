@@ -1,9 +1,10 @@
 use Rattle.std.proofs.Common.{◌≡◌, length}
 use Rattle.kalah_solve.specs.Table.EndgameTable.{ArePairs}
+use Rattle.kalah_solve.specs.declared.table.endgame_table.TheConstants.{PAIRS}
 use Rattle.kalah_solve.proofs.table.endgame_table.pairs.Given as goal
 
 abbrev pub invariant-loop-i : goal.invariant-loop-i
 invariant-loop-i l = record {
-  cells : length l.pairs ≡ 1920;
+  cells : length l.pairs ≡ PAIRS;
   right : ArePairs l.i l.pairs;
 }

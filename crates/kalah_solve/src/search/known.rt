@@ -1,0 +1,93 @@
+//! What a search knows of houses, what it learns of them, and how it grows with its work.
+ghost use Rattle.std.specs.Prelude.{◌≡◌, ◌≤ℤ◌};
+ghost use Rattle.kalah_solve.specs.Solver.Worth.{houses_worth};
+ghost use Rattle.kalah_solve.specs.Bounds.Intervals.{Encloses, least_margin, most_margin};
+ghost use Rattle.kalah_solve.specs.Bounds.Won.{won, IsWithinBounds};
+
+use crate::bounds::interval::Interval;
+use crate::bounds::seed_bounds::SeedBounds;
+use crate::search::Search;
+use kalah_rules::Houses;
+use std::alloc::Allocator;
+
+impl<A: Allocator + Clone> Search<A> {
+    // Returns an interval that holds the worth of the houses.
+    pub(super) fn known_margins(&mut self, houses: &Houses) -> Interval
+        ensures holds { Encloses result (houses_worth houses.now) }
+        ensures least { least_margin ≤ℤ houses_worth houses.now }
+        ensures most { houses_worth houses.now ≤ℤ most_margin }
+    {
+        let _seeds = houses.seeds();
+        match self.table.look_up(houses) {
+            Some(interval) => interval,
+            None => Interval::whole(),
+        }
+    }
+
+    // Returns what is known of the seeds that the mover takes.
+    pub(super) fn known(&mut self, houses: &Houses) -> SeedBounds
+        ensures { IsWithinBounds result (won houses.now) }
+    {
+        if houses.seeds() <= self.most_placed {
+            self.table.places.look_up(houses)
+        } else {
+            self.known_by_entry(*houses)
+        }
+    }
+
+    // The same, from the entries.
+    #[inline(never)]
+    fn known_by_entry(&mut self, houses: Houses) -> SeedBounds
+        ensures { IsWithinBounds result (won houses) }
+    {
+        match self.table.look_up(&houses) {
+            Some(margins) => SeedBounds::of_margins(margins, houses.seeds()),
+            None => SeedBounds::unknown(&houses),
+        }
+    }
+
+    // Stores what was learned of the houses by `work` nodes.
+    pub(super) fn learn(&mut self, houses: &Houses, bounds: SeedBounds, work: u64)
+        requires { IsWithinBounds bounds (won houses.now) }
+    {
+        let seeds = houses.seeds();
+        if seeds <= self.most_placed {
+            self.table.places.keep(houses, bounds);
+        } else {
+            self.learn_margins(*houses, bounds.margins(seeds), work);
+        }
+    }
+
+    // Stores what was learned of their worth as an entry, unless it took too little work.
+    pub(super) fn learn_margins(&mut self, houses: Houses, interval: Interval, work: u64)
+        requires { Encloses interval (houses_worth houses) }
+    {
+        if work >= self.least_work {
+            self.table.keep(&houses, interval);
+        }
+    }
+
+    // Counts one more node, and returns how many of the game there were before.
+    pub(super) fn count_node(&mut self) -> u64 {
+        let before = self.work.nodes();
+        if self.work.count_node() {
+            self.grow();
+        }
+        before
+    }
+
+    // Uses more endings, and all places.
+    #[cold]
+    #[inline(never)]
+    fn grow(&mut self) {
+        self.grow_endings();
+        self.table.grow();
+    }
+
+    // Uses the endings that pay, if the search uses endings.
+    pub(super) fn grow_endings(&mut self) {
+        if self.ending_limit.seeds > 0 {
+            self.ending_limit = self.work.ending_limit();
+        }
+    }
+}
