@@ -23,6 +23,8 @@ use kalah_jobs::Outcome;
 use std::alloc::{AllocError, Global};
 use std::marker::Model;
 use std::sync::Wait;
+use std::sync::atomic::AtomicBool;
+use std::sync::atomic::Ordering::SeqCst;
 
 #[cfg(test)]
 mod tests;
@@ -35,6 +37,8 @@ pub struct ResultsQueue {
     // The threads that wait for an outcome, and those that wait for room. Threads change these all the time, and read what is next to them.
     getters: CachePadded<Waiters>,
     putters: CachePadded<Waiters>,
+    // Whether the workers have ended.
+    is_ended: AtomicBool,
 }
 
 impl Model for ResultsQueue {
@@ -79,6 +83,7 @@ impl ResultsQueue {
             pairs,
             getters: CachePadded::new(Waiters::new()),
             putters: CachePadded::new(Waiters::new()),
+            is_ended: AtomicBool::new(false),
         };
         Ok((queue, puts, GetPass { ruled, workers }))
     }
@@ -141,6 +146,33 @@ impl ResultsQueue {
         unreachable!()
     }
 
+    // Says that the workers have ended, so that the collector waits for no further outcome.
+    pub(crate) fn end(&self) {
+        self.is_ended.store(true, SeqCst);
+        self.getters.call_one();
+    }
+
+    // Like `get`, but returns `None`, with nothing got, once the workers have ended and no outcome is left.
+    pub(crate) fn get_to_end<R: Wait>(&self, rt: &R, pass: &mut GetPass) -> Option<Outcome>
+        requires { pass.old.queue ≡ self.now.id }
+        ensures { MatchOption result (pass.new ≡ pass.old) (λ outcome. HasGot pass.old outcome pass.new) }
+    {
+        let mut waiting = Waiting::new(&self.getters);
+        for _ in rt.forever() {
+            let is_ended = self.is_ended.load(SeqCst);
+            if let Some(pair) = self.pairs.try_pop_as::<Gets>(&mut pass.ruled) {
+                drop(waiting);
+                self.putters.call_one();
+                return Some(pair.outcome);
+            }
+            if is_ended {
+                return None;
+            }
+            waiting.pause(rt);
+        }
+        unreachable!()
+    }
+
     // Like `get`, but never sleeps: returns `None`, with nothing got, if `tries` tries find no outcome. Each such try is spent. Only
     // the first few of them yield the processor, so that they soon end also on a busy machine.
     #[inline(always)]
@@ -177,6 +209,7 @@ impl ResultsQueue {
             pairs,
             getters: _,
             putters: _,
+            is_ended: _,
         } = self;
         let GetPass {
             mut ruled,

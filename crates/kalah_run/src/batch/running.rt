@@ -35,7 +35,7 @@ impl<'a, 'b, G: Gate> Promise<Vec<Worker>> for AllHaveRun<'a, 'b, G> {
     ghost kept_by = { λ p r. HaveRun p.0.value.shared.now p.0.value.workers.items r.items };
 }
 
-// Gets an outcome that may come late. No other call of this thread sleeps while outcomes are to come.
+// Gets an outcome that may come late.
 fn get_later<R: Wait, W: Sink>(rt: &R, queue: &ResultsQueue, get: &mut GetPass, out: &W) -> Outcome
     requires queue { get.old.queue ≡ queue.now.id }
     // The sink has flushed all that was written, unless it may keep bytes in its buffer while its caller waits.
@@ -46,19 +46,23 @@ fn get_later<R: Wait, W: Sink>(rt: &R, queue: &ResultsQueue, get: &mut GetPass, 
     queue.get(rt, get)
 }
 
-// Gets an outcome that is already in the queue, now that the workers are stopped.
-#[cold]
-#[inline(never)]
-fn get_last(queue: &ResultsQueue, get: &mut GetPass) -> Option<Outcome>
+// Gets an outcome of a job that was under way when the workers were stopped. Returns `None` once they have ended, and no outcome is left.
+fn get_last<R: Wait, W: Sink>(
+    rt: &R,
+    queue: &ResultsQueue,
+    get: &mut GetPass,
+    out: &W,
+) -> Option<Outcome>
     requires queue { get.old.queue ≡ queue.now.id }
+    requires ready { IsReady (W.has_failed out.now) (W.may_hold_back out.now) (W.is_handed_on out.now) }
     ensures { MatchOption result (get.new ≡ get.old) (λ outcome. HasGot get.old outcome get.new) }
 {
-    let mut one_try = 1;
-    queue.get_soon(get, &mut one_try)
+    let _ = out;
+    queue.get_to_end(rt, get)
 }
 
-// Gets an outcome that did not come soon. The output flushes what it buffers before the wait. Returns `None` once the workers are stopped
-// and nothing more is in the queue.
+// Gets an outcome that did not come soon. The output flushes what it buffers before the wait. Returns `None` once the workers were stopped
+// and have ended.
 #[cold]
 #[inline(never)]
 fn flush_and_get<R: Wait, G: Gate, V: Watch, W: Sink>(
@@ -78,14 +82,15 @@ fn flush_and_get<R: Wait, G: Gate, V: Watch, W: Sink>(
         out.before_waiting();
     }
     if shared.stop_after(out.failed()) {
-        return get_last(&shared.queue, get);
+        return get_last(rt, &shared.queue, get, out);
     }
     watch.waits();
     Some(get_later(rt, &shared.queue, get, out))
 }
 
 // Accepts the outcome of each job, and writes each line once it is ready and all earlier ones are written; then it flushes the output.
-// If the output fails and the rest is left, it stops the workers, and accepts what is already in the queue.
+// If the output fails and the rest is left, it stops the workers, and accepts what they still send. It accepts until they have ended, since
+// a worker may sleep until another outcome is got.
 fn collect<R: Wait, G: Gate, V: Watch, W: Sink>(
     rt: &R,
     shared: &SharedWork<'_, G>,

@@ -50,7 +50,8 @@ pub(crate) struct Crew<'a, 'b, G: Gate> {
 impl<'a, 'b, G: Gate> Crew<'a, 'b, G> {
     ghost use Rattle.kalah_run.specs.Batch.AtWork.{IsAtWork, AreAtWork, HasRun, HaveRun};
 
-    /// Runs each worker in a thread of its own, as far as threads can be started, and returns the workers.
+    /// Runs each worker in a thread of its own, as far as threads can be started, and returns the workers. The collector learns that they
+    /// have ended.
     pub(crate) fn run<R: Threads + Wait + Sync>(self, rt: &R) -> Vec<Worker>
         requires { AreAtWork self.shared.now self.workers.items }
         ensures { HaveRun self.entry.shared.now self.entry.workers.items result.items }
@@ -68,6 +69,7 @@ impl<'a, 'b, G: Gate> Crew<'a, 'b, G> {
                 ensures { HasRun shared.entry.now worker.old worker.new }
             { worker.run(rt, shared) },
         );
+        shared.queue.end();
         workers
     }
 }
