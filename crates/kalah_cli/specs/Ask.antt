@@ -1,4 +1,4 @@
--- What `kalah ask` writes for the bytes that a reader had left, where these are known. Of the standard input they aren't.
+-- What `kalah ask` writes for the bytes that a reader had left, if these are known. Of the standard input they aren't.
 use Rattle.std.specs.Prelude.{◌≡◌, ◌↔◌, ℕ, List, ◌++◌, IfSome, Option, true}
 use Rattle.std.specs.Io.KnownBytes.{Appends}
 use Rattle.kalah_jobs.specs.Asking.Asked.{answers_to, are_all_read}

@@ -77,7 +77,7 @@ solve_app = answers_app (codes "solve")
 abbrev pub values_app : App
 values_app = answers_app (codes "values")
 
--- `ask [--values] [--steps] [--table N]`, where a table has no default, as `--steps` excludes it
+-- `ask [--values] [--steps] [--table N]`, whose table has no default, as `--steps` excludes it
 abbrev pub ask_app : App
 ask_app =
     with_rule (with_rule (with_rule (new_app (codes "ask")) (flag_rule (codes "values"))) (flag_rule (codes "steps")))

@@ -13,7 +13,7 @@ abbrev pub game_lines : Bool → Position → List ℕ → List ℕ
 game_lines boards p [] = []
 game_lines boards p (h ∷ houses) = move_lines boards h (step_of p h) ++ game_lines boards (position_after (step_of p h)) houses
 
--- a game from p in which both players always move the lowest best house: the moves of `houses` lead by the rules to the end at
+-- a game from p in which both players always move the lowest-numbered best house: the moves of `houses` lead by the rules to the end at
 -- `final`, with the margin of best play for the player who moves first
 pub record IsBestGame (p : Position) (houses : List ℕ) (final : Position) : Type 0 where
   pub game : Game (follow best_house) (follow best_house) p houses final

@@ -26,10 +26,14 @@ module _ {A : Type 0} where
   abbrev pub texts_of : List (String A) → List Text
   texts_of words = map string_bytes words
 
--- what can be asked: the moves of a line, with boards drawn or not; the game of best play from a line, or after its move of a house,
--- found with a table of the given size; something of each position in files, by a number of workers with such tables; or of each line of
--- the standard input, with such a table; or a picture of a line, plain or with what its moves are worth, found with such a table; or the
--- number of ways of that many moves to play on from a line; or nothing, by options that exclude each other
+-- What can be asked, where a table has the given size:
+-- - the moves of a line, with boards drawn or not
+-- - the game of best play from a line, or after its move of a house, found with a table, with boards drawn or not
+-- - something of each position in files, by a number of workers with tables, with progress shown or not
+-- - something of each line of the standard input, with a table
+-- - a picture of a line, plain or with what its moves are worth, found with a table
+-- - the number of ways of that many moves to play on from a line
+-- - nothing, by options that exclude each other
 pub data Asked : Type 0 where
   moves : Bool → Text → Asked
   play : Option ℕ → ℕ → Bool → Text → Asked

@@ -54,7 +54,7 @@ fn margin(solver: &mut Solver, board: &Board) -> i32
 {
     match solver.solve(board) {
         Verdict::Best { margin, .. } => margin,
-        Verdict::Over { .. } => 0,
+        Verdict::Over { margin } => margin,
     }
 }
 

@@ -232,7 +232,7 @@ fn program<'a>(alloc: Global) -> Command<'a>
         .disable_help_subcommand(true)
 }
 
-// The command with one more subcommand.
+// Returns the command with one more subcommand.
 fn with_command<'a>(
     command: Command<'a>,
     subcommand: Command<'a>,
@@ -254,8 +254,8 @@ fn with_command<'a>(
 /// - `show [--plain] [--table N] LINE`
 /// - `count DEPTH LINE`
 ///
-/// There are 1 to 64 workers, 4 by default; a table has 1 to 1,048,576 entries, 65,536 by default; H is a house from 1 to 6, and DEPTH a
-/// number from 0 to 20.
+/// There are 1 to 64 workers, 4 by default. A table has 1 to 1,048,576 entries, 65,536 by default. H is a house from 1 to 6, and DEPTH a
+/// number from 0 to 20. Fails with `AllocError` only if memory was refused.
 pub fn command<'a>(alloc: Global) -> Result<Command<'a>, AllocError>
     ensures { IfOk result (λ c. app_of c ≡ kalah_app) }
 {

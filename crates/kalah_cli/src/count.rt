@@ -83,6 +83,8 @@ fn write_count<O: Sink>(board: &Board, depth: u8, out: &mut O) -> Result<(), io:
 
 /// Counts the ways of `depth` moves to play on from the position that the line writes, for each first move and in all. A line that
 /// can't be read is answered by its fault, on `err` only. It allocates nothing.
+///
+/// Returns `Clean`, `LineFaults` for a line that can't be read, or `Failed` if a write failed.
 pub(crate) fn run_count<O: Sink, E: Write>(
     depth: u8,
     line: &str,

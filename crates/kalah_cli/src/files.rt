@@ -11,7 +11,7 @@ use std::fs;
 use std::io::Read;
 use std::rt::Files;
 
-/// How many bytes are requested at once.
+/// The most bytes that one read asks for.
 const CHUNK: usize = 4096;
 
 /// Why a file was not read.
@@ -56,7 +56,10 @@ pub(crate) fn read_limited<F: Read>(
     Err(ReadFault::TooLong)
 }
 
-/// Reads the files of these names, in order, up to the first that can't be read.
+/// Returns the files of these names, in order, each read whole.
+///
+/// Fails at the first that can't be read: with `OutOfMemory` if memory was refused, otherwise with `Unreadable`. A file of more than
+/// 67,108,864 bytes can't be read.
 pub(crate) fn read_files<'a, R: Files>(
     rt: &R,
     alloc: Global,

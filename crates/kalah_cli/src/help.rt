@@ -37,10 +37,10 @@ position after the move:
     H POSITION turn   the other player is to move, and the position is seen by
                       that player
     H POSITION over   the game is over
-`kalah play LINE` prints the game in which each player always moves the lowest
-best house, a line for each move as `moves` prints it. With --boards, each
-position is drawn below its line, with the player to move at the bottom and
-houses from left to right. This is 1,2,3/4 5,6,7/8:
+`kalah play LINE` prints the game in which each player always moves the
+lowest-numbered best house, a line for each move as `moves` prints it. With
+--boards, each position is drawn below its line, with the player to move at the
+bottom and houses from left to right. This is 1,2,3/4 5,6,7/8:
        7   6   5
    8               4
        1   2   3
@@ -56,7 +56,8 @@ DEPTH moves, 0 to 20. A game that is over has no further move:
     H N      the number of ways that begin with the move of house H
     total N  the number of all ways
 `kalah solve FILE..` prints a line for each line of each file, in order:
-    FILE:LINE MARGIN house H  the margin of best play, and the first best house
+    FILE:LINE MARGIN house H  the margin of best play, and the lowest-numbered
+                              best house
     FILE:LINE MARGIN over     the game is over, with this margin
     FILE:LINE fault WORD      not a position
 `kalah values FILE..` prints for each of these lines what each move is worth:
@@ -146,7 +147,8 @@ A FILE has one position a line, such as 1,1/0 1,1/0. It may be a pipe, or
     kalah solve /dev/stdin < positions.txt
 If standard input is a socket or belongs to another user, use `kalah ask`.
 Each line of each file gets an answer line, in order:
-    first.txt:1 2 house 2      the margin of best play, and the first best house
+    first.txt:1 2 house 2      the margin of best play, and the lowest-numbered
+                               best house
     first.txt:5 -4 over        the game is over, with this margin
     first.txt:9 fault shape    not a position
 `kalah --help` has the form of positions, the rules, and the words of faults.";
@@ -168,7 +170,7 @@ pub(crate) const LONG_OF_ASK: &str = "\
 Each line of standard input is a position, such as 1,1/0 1,1/0, and gets an
 answer line before the next line is read. So a program can ask for positions one
 by one:
-    2 house 2      the margin of best play, and the first best house
+    2 house 2      the margin of best play, and the lowest-numbered best house
     1:-2 2:2       with --values: each house that may be moved, and its margin
     1 1,1/0 0,2/0 turn; 2 1,0/1 1,1/0 again
                    with --steps: the moves as `steps` prints them; no --values

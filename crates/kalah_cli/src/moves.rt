@@ -72,6 +72,8 @@ fn write_moves<O: Sink>(board: &Board, boards: bool, out: &mut O) -> Result<(), 
 
 /// Prints the moves of the position that the line writes, and draws the board after each if boards are drawn. A line that
 /// can't be read is answered by its fault, on `err` only. It allocates nothing.
+///
+/// Returns `Clean`, `LineFaults` for a line that can't be read, or `Failed` if a write failed.
 pub(crate) fn run_moves<O: Sink, E: Write>(
     line: &str,
     boards: bool,

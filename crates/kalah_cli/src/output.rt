@@ -6,8 +6,8 @@ use kalah_jobs::{Sink, write_pieces};
 use std::io;
 use std::io::{BufWriter, Write};
 
-/// A sink that buffers bytes in blocks, in the buffer of its writer: it flushes them when the program is about to wait, so that an
-/// answer is seen as soon as nothing more is ready to be written. All is flushed if the buffer is empty.
+/// A sink that buffers bytes in blocks, in the buffer of its writer. It flushes them when the program is about to wait. So an answer is
+/// seen as soon as nothing more is ready to be written. All is flushed if the buffer is empty.
 #[derive(Drop)]
 pub(crate) struct PromptStream<W: Write + Drop> {
     writer: BufWriter<W>,

@@ -96,9 +96,12 @@ fn unmoved_house(board: &Board, first: Option<u8>) -> Option<u8>
     }
 }
 
-/// Prints the game that best play leads to from the position that the line writes, each move as soon as it is found; or the move of
-/// house `first`, and the game of best play after it. A line that can't be read is answered by its fault, and a house that may not be
-/// moved by its number, on `err` only. Memory is requested before anything is written, except for the entries of the table.
+/// Prints the game that best play leads to from the position that the line writes, each move as soon as it is found. If `first` is a
+/// house, its move comes first, and then the game of best play after it. A line that can't be read is answered by its fault, and a house
+/// that may not be moved by its number, on `err` only. Memory is requested before anything is written, except for the entries of the
+/// table.
+///
+/// Returns `Clean`, `LineFaults` for a line that can't be read, or `Failed` for such a house, if memory was refused or a write failed.
 #[tactic(auto, using(crate::proofs::Begun::begins_no_play, crate::proofs::Begun::even_read))]
 pub(crate) fn run_play<O: Sink, E: Write>(
     alloc: Global,

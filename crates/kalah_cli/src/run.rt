@@ -145,13 +145,18 @@ fn run_request<R: Files + Input + Clock + Terminal + Threads + Wait + Sync, O: S
     }
 }
 
-/// Runs the program on its arguments; the first is always taken as the program's name. `moves LINE`
-/// prints the moves of a position, `play LINE` the game that best play leads to from it, `solve FILE..`
-/// answers each line of files, `values FILE..` prints what each move of them is worth, and `steps FILE..` what
-/// each of them leads to. `ask` answers each line of the standard input before it reads on, `show LINE` draws a
-/// position with what its moves are worth, and `count DEPTH LINE` counts the ways to play on from it.
-/// `--version` prints which version this is. Answers, help and the version go to `out`, messages about failures
-/// and unread lines to `err`; a failing write to `err` changes nothing.
+/// Runs the program on its arguments, and returns its exit status. The first argument is always taken as the program's name.
+///
+/// - `moves LINE` prints the moves of a position, and `play LINE` the game that best play leads to from it.
+/// - `solve FILE..` answers each line of files. `values FILE..` prints what each of its moves is worth, and `steps FILE..` what each
+///   leads to.
+/// - `ask` answers each line of the standard input before it reads on.
+/// - `show LINE` draws a position with what its moves are worth.
+/// - `count DEPTH LINE` counts the ways to play on from a position.
+/// - `--help` prints help, and `--version` the version.
+///
+/// Answers, help and the version go to `out`, and messages about failures and unread lines to `err`. A failing write to `err` changes
+/// nothing.
 pub fn run_words<R: Files + Input + Clock + Terminal + Threads + Wait + Sync, O: Sink, E: Write>(
     rt: &R,
     alloc: Global,

@@ -47,8 +47,10 @@ fn write_shown<O: Sink>(solver: &mut Solver, board: &Board, out: &mut O) -> Resu
 }
 
 /// Draws the position that the line writes and, unless `plain`, writes below it what each move is worth. A line that can't be read is
-/// answered by its fault, on `err` only. A plain picture allocates nothing; otherwise memory is requested before anything is written,
+/// answered by its fault, on `err` only. A plain picture allocates nothing. Otherwise memory is requested before anything is written,
 /// except for the entries of the table.
+///
+/// Returns `Clean`, `LineFaults` for a line that can't be read, or `Failed` if memory was refused or a write failed.
 pub(crate) fn run_show<O: Sink, E: Write>(
     alloc: Global,
     line: &str,

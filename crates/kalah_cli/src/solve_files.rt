@@ -25,7 +25,7 @@ fn any_has_line_feed(names: &[&str]) -> bool
     names.iter().any(|name| name.as_bytes().contains(&b'\n'))
 }
 
-// Reads the named files and writes the answer to what is asked of each line of them.
+// Reads the named files and writes the answer to what is asked of each line of them. Returns `Clean` or `LineFaults`.
 #[tactic(auto, using(crate::proofs::Names::texts_have_line_feed, crate::proofs::Begun::begins_nothing))]
 fn answer_files<'a, R: Files + Clock + Terminal + Threads + Wait + Sync, O: Sink, E: Write>(
     rt: &R,
@@ -81,6 +81,8 @@ fn answer_files<'a, R: Files + Clock + Terminal + Threads + Wait + Sync, O: Sink
 }
 
 /// Answers what is asked of each line of the named files.
+///
+/// Returns `Clean` if each line was read, and `LineFaults` if one was not. Otherwise returns `Failed`, and reports the failure on `err`.
 pub(crate) fn run_files<R: Files + Clock + Terminal + Threads + Wait + Sync, O: Sink, E: Write>(
     rt: &R,
     alloc: Global,

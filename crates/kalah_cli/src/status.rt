@@ -5,11 +5,11 @@ ghost use Rattle.kalah_cli.specs.Status.{status_number};
 /// The exit status of the program.
 #[derive(Clone, Copy, Debug, PartialEq, Eq)]
 pub enum ExitStatus {
-    /// Every line was read, or help was asked for.
+    /// Every line was read, or help or the version was printed.
     Clean,
     /// At least one line was not read.
     LineFaults,
-    /// The arguments, a file, memory, a worker or a write to the output failed.
+    /// The arguments, a file, standard input, memory, a worker or a write to the output failed.
     Failed,
 }
 

@@ -40,8 +40,9 @@ impl Model for Board {
 impl Board {
     /// Returns the board whose houses are the first `m` cells of each row.
     ///
-    /// Returns `None` if `m` isn't 1 to 6, a cell after the first `m` isn't 0, the houses hold more than 31 seeds together,
-    /// or a store holds more than 99.
+    /// Returns `None` if and only if one of these holds:
+    /// - `m` isn't 1 to 6, or a cell after the first `m` isn't 0;
+    /// - the houses hold more than 31 seeds together, or a store more than 99.
     pub fn new(
         m: u8,
         own: [u8; 6],
@@ -66,8 +67,9 @@ impl Board {
 
     /// Returns the board of these rows of houses. The result is that of `new` with the same houses, computed with less work.
     ///
-    /// Returns `None` if the rows differ in length or have no house, if they hold more than 31 seeds together, or if a store holds
-    /// more than 99.
+    /// Returns `None` if and only if one of these holds:
+    /// - the rows differ in length, or have no house;
+    /// - they hold more than 31 seeds together, or a store holds more than 99.
     #[inline(always)]
     pub fn of_rows(
         own: &HouseRow,
@@ -152,8 +154,8 @@ impl Board {
         self.houses.is_over()
     }
 
-    /// Returns the margin of a game that is over, -130 to 130: what the mover has in houses and store, less what the
-    /// other player has.
+    /// Returns the final margin, -130 to 130: what the mover has in houses and store, less what the other player has. The game must be
+    /// over.
     pub fn returns(&self) -> i32
         requires { IsTrue (is_over self.now) }
         ensures margin { result ≡ final_margin self.now }

@@ -23,7 +23,7 @@ use std::marker::Model;
 /// The houses of a board and its rule, without the stores. Stores change neither the legal moves nor what they do, so
 /// this is all that a solver needs.
 ///
-/// They are stored as their key and the number of seeds in them, which is as wide as the key, so that a copy has no gap.
+/// They are stored as their key and the number of seeds in them. Both are equally wide, so that a copy has no gap.
 #[derive(Clone, Copy, Debug, PartialEq, Eq)]
 pub struct Houses {
     key: u64,
@@ -51,8 +51,7 @@ impl Model for Houses {
 impl Houses {
     /// Returns the first `m` cells of each row as houses.
     ///
-    /// Returns `None` if `m` isn't 1 to 6, a cell after the first `m` isn't 0, or the houses hold more than 31 seeds
-    /// together.
+    /// Returns `None` if and only if `m` isn't 1 to 6, a later cell isn't 0, or the houses hold more than 31 seeds together.
     pub fn new(m: u8, own: [u8; 6], other: [u8; 6], rule: Rule) -> Option<Houses>
         ensures valid { IsSome result ↔ CanBeHouses m own other }
         ensures value { IfSome result (λ a. a ≡ rows_from m own other rule) }
@@ -76,7 +75,7 @@ impl Houses {
         })
     }
 
-    // Returns the houses of these two rows, unless they differ in length, have no house, or hold more than 31 seeds together.
+    // Returns the houses of these two rows, or `None` if they differ in length, have no house, or hold more than 31 seeds together.
     pub(crate) fn of_rows(own: &HouseRow, other: &HouseRow, rule: Rule) -> Option<Houses>
         ensures valid { IsSome result ↔ IsWithinHouses (record { own = own.now; other = other.now; rule = rule }) }
         ensures value { IfSome result (λ a. a ≡ record { own = own.now; other = other.now; rule = rule }) }
@@ -93,7 +92,7 @@ impl Houses {
 
     /// Returns the houses that have this key.
     ///
-    /// Returns `None` if and only if the number is no key: its number of houses a side isn't 1 to 6, a house after the last
+    /// Returns `None` if and only if the number is no key. Then its number of houses a side isn't 1 to 6, a later house
     /// isn't 0, or the houses hold more than 31 seeds together.
     pub fn of_key(key: u64) -> Option<Houses>
         ensures valid { IsSome result ↔ IsKey key }
@@ -110,8 +109,8 @@ impl Houses {
 
     /// Returns the key of these houses. Different houses have different keys.
     ///
-    /// Own house i is in the five bits from 5(i - 1) on, the other player's house i in those from 30 + 5(i - 1) on, the
-    /// number of houses a side in bits 60 to 62, and bit 63 is set for the empty-capture rule.
+    /// Own house i is in the five bits from 5(i - 1) on, and the other player's house i in those from 30 + 5(i - 1) on. Bits 60 to 62
+    /// have the number of houses a side, and bit 63 is set for the empty-capture rule.
     pub fn key(&self) -> u64
         ensures key { result ≡ key_of self.now }
         ensures limits { IsWithinHouses self.now }

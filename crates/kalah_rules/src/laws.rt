@@ -1,14 +1,14 @@
 //! Laws over all positions.
 ghost use Rattle.kalah_rules.specs.Laws.{EveryMoveNearsEnd, SowingIsSeedBySeed};
 
-/// States that every game ends, for all positions and both rules of capture: each legal move leaves fewer seeds in
-/// houses, or equally many that lie nearer to their owners' stores.
+/// Every game ends, for all positions and both rules of capture. Each legal move leaves fewer seeds in houses, or equally many that lie
+/// nearer to their owners' stores.
 pub fn every_move_nears_end()
     ensures { EveryMoveNearsEnd }
 {}
 
-/// States that the formula by which sowing is defined sows seed by seed: with no seed sown the house is empty, and each
-/// further seed goes to the next cell of the lap.
+/// The formula by which sowing is defined sows seed by seed. With no seed sown the house is empty, and each further seed goes to the next
+/// cell of the lap.
 pub fn sowing_is_seed_by_seed()
     ensures { SowingIsSeedBySeed }
 {}

@@ -12,7 +12,7 @@ pub const MOST_SEEDS: u16 = 31;
 /// the seeds in houses may come to it.
 pub const MOST_IN_STORE: u8 = 99;
 
-/// The most moves that ways to play on are counted for.
+/// The most moves of the ways to play on that are counted.
 pub const MOST_DEPTH: u8 = 20;
 
 /// The limits of a position, as numbers. A law over the definitions that contracts cite.

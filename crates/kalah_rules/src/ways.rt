@@ -57,7 +57,7 @@ impl Houses {
         sum
     }
 
-    // Returns the number of ways to play on for `depth` moves after the move of house `h`.
+    // Returns the number of ways to play on for `depth` moves, 0 to 19, after the move of house `h`.
     #[cycle(ways)]
     fn ways_by(&self, sowings: &Sowings, h: u8, depth: u8) -> u64
         requires legal { Contains (legal_houses (bare self.now)) h }
@@ -74,8 +74,8 @@ impl Houses {
 }
 
 impl Board {
-    /// Returns the number of ways to play on for `depth` moves, which is at most 20: sequences of exactly `depth` moves by the rules.
-    /// If the game is over, there is one way to play no move, and no other.
+    /// Returns the number of ways to play on for `depth` moves, 0 to 20: sequences of exactly `depth` moves by the rules. If the game is
+    /// over, there is one way to play no move, and no other.
     pub fn ways(&self, depth: u8) -> u64
         requires { depth ≤ most_depth }
         ensures ways { result ≡ ways depth self.now }
@@ -85,8 +85,8 @@ impl Board {
         self.houses().ways(&sowings, depth)
     }
 
-    /// Returns the number of ways to play on for `depth` moves, which is less than 20, after the move of house `h`, which must be legal.
-    /// That move itself isn't counted in `depth`.
+    /// Returns the number of ways to play on for `depth` moves, 0 to 19, after the move of house `h`, which must be legal. That move
+    /// itself isn't counted in `depth`.
     pub fn ways_by(&self, h: u8, depth: u8) -> u64
         requires legal { Contains (legal_houses self.now) h }
         requires depth { depth < most_depth }

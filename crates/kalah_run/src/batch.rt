@@ -98,11 +98,11 @@ fn answer_jobs<'a, R: Threads + Wait + Sync, G: Gate, V: Watch, W: Sink>(
     Ok(())
 }
 
-/// Answers what is asked of every line of the files, with workers and tables of the given size. It writes one answer line for each,
-/// in the order of the files and of their lines, once it is ready and all earlier ones are written; then it flushes the output.
+/// Answers what is asked of every line of the files, with workers and tables of the given size. It writes the answer to each, in the
+/// order of files and lines, once it is ready and all earlier ones are written. Then it flushes the output.
 ///
-/// If it succeeds, exactly these lines were written, and the tally counts them. The gate was called for each job, and the watch for
-/// each outcome.
+/// If it succeeds, exactly these answers were written, and the tally that it returns counts the lines. The gate was called for each job,
+/// and the watch for each outcome.
 ///
 /// Fails with the first of these that holds:
 /// - `TooManyFiles` if there are more than 256 files;
@@ -112,7 +112,7 @@ fn answer_jobs<'a, R: Threads + Wait + Sync, G: Gate, V: Watch, W: Sink>(
 /// - `Write` if a write or the flush failed. From then on nothing more is written, and `rest` says what happens to the lines that
 ///   are left.
 ///
-/// The first four write nothing. After `Write`, what was written is a prefix of the answer lines.
+/// The first four write nothing. After `Write`, what was written is a prefix of the answers.
 pub fn answer_batch<R: Threads + Wait + Sync, G: Gate, V: Watch, W: Sink>(
     rt: &R,
     alloc: Global,
@@ -140,8 +140,9 @@ pub fn answer_batch<R: Threads + Wait + Sync, G: Gate, V: Watch, W: Sink>(
     })
 }
 
-/// Solves every line of the files: `answer_batch` with the best move asked, by `workers` workers, 1 to 64, each with a table of
-/// `table` entries, 1 to 1,048,576. If a write fails, the remaining lines are still solved, and the gate is called for each.
+/// Solves every line of the files: `answer_batch` with the best move asked, by `workers` workers, 1 to 64. Each has a table of `table`
+/// entries, 1 to 1,048,576. If a write fails, the remaining lines are still solved, and the gate is called for each. Returns and fails
+/// as `answer_batch`.
 pub fn solve_batch<R: Threads + Wait + Sync, G: Gate, W: Sink>(
     rt: &R,
     alloc: Global,

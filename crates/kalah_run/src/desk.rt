@@ -59,8 +59,8 @@ impl Model for ClosedDesk {
 }
 
 impl Desk {
-    /// Opens a desk for the numbers below `total`, at most 1,000,000, with `passes` passes, 1 to 64:
-    /// each has an empty row, and none is spent. Fails with `AllocError` only if memory was refused.
+    /// Opens a desk for the numbers below `total`, at most 1,000,000, with `passes` passes, 1 to 64.
+    /// Each has an empty row, and none is spent. Fails with `AllocError` only if memory was refused.
     pub fn open(alloc: Global, total: u32, passes: u32) -> Result<(Desk, Vec<Pass>), AllocError>
         requires total { total ≤ most_lines }
         requires passes { AreWorkers passes }
@@ -116,9 +116,9 @@ impl Desk {
         None
     }
 
-    /// Closes the desk, which reclaims all its passes. Their rows are lawful: each number below
-    /// the count of those drawn stands in one row and there once, no other stands in any, and each
-    /// row ascends. If some pass is spent, all numbers below the total were drawn.
+    /// Closes the desk, which reclaims all its passes. Returns how many numbers were drawn, and whether some pass is spent: then that is
+    /// all below the total. The rows are lawful: each number below the count of those drawn stands in one row and there once, and no
+    /// other stands in any. Each row ascends.
     pub fn close(self, passes: Vec<Pass>) -> ClosedDesk
         requires all { length passes.items ≡ self.passes }
         requires own { All (IsPassAt self) passes.items }

@@ -55,8 +55,8 @@ impl Model for ResultsQueue {
 }
 
 impl ResultsQueue {
-    /// Opens a queue that holds up to `capacity` outcomes, 1 to 1024, with a pass to put for each of the `workers`, 1 to 64, in
-    /// the order of their numbers from 0 on, and the one pass to get. Nothing was sent or got yet.
+    /// Opens a queue that holds up to `capacity` outcomes, 1 to 1024, for `workers` workers, 1 to 64. Returns it with a pass to put for
+    /// each worker, in the order of their numbers from 0 on, and the one pass to get. Nothing was sent or got yet.
     ///
     /// Fails with `AllocError` only if memory was refused.
     pub fn open(

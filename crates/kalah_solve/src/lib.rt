@@ -1,4 +1,4 @@
-//! The margin of best play of a position of Kalah, and the lowest house that attains it.
+//! The margin of best play of a position of Kalah, and its lowest-numbered best house.
 #![tactic(auto)]
 
 mod bounds;

@@ -1,4 +1,4 @@
-//! Marks of houses: a number with five bits for each house of a row, house 1 lowest, which are 1 if the house is marked, otherwise 0.
+//! Marks of houses: a number with five bits for each house of a row, house 1 lowest. They are 1 if the house is marked, otherwise 0.
 ghost use Rattle.std.specs.Prelude.{◌≡◌, ◌↔◌, ◌+◌, ◌-◌, ◌≤◌, ◌<◌, ◌^◌, ℕ, min, length, slice_index};
 ghost use Rattle.kalah_rules.specs.Position.{IsWithinHouses};
 ghost use Rattle.kalah_solve.specs.Search.Tried.{EndsInStore};
@@ -82,7 +82,7 @@ pub(crate) fn other_houses(houses: &Houses) -> u64
     filled(row) ^ ending_in_store(row, houses.m())
 }
 
-/// Returns the last marked house, and the marks without it.
+/// Returns the last marked house, and the marks without it. Some house must be marked.
 pub(crate) fn split_last(marks: u64) -> (House, u64)
     requires some { 0 < marks }
     requires marks { AreMarks marks }

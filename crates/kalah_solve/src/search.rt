@@ -1,5 +1,5 @@
-//! The search: tests of whether the mover takes at least so many seeds close in on what houses are worth. Inside it all is said in
-//! seeds that the mover takes; `search` alone takes a window of margins and answers a margin.
+//! The search. It closes in on what houses are worth by tests whether the mover takes at least a number of seeds. `search` alone takes
+//! a window of margins and answers a margin; all else counts seeds that the mover takes.
 ghost use Rattle.std.specs.Prelude.{◌≡◌, ◌↔◌, ℕ, ◌+◌, ◌-◌, ◌≤◌, ◌<◌, false, IsTrue, max, min, IfOk, Contains, slice_index};
 ghost use Rattle.kalah_rules.specs.Position.{is_over, bare, seeds_in_houses};
 ghost use Rattle.kalah_rules.specs.Play.{legal_houses};
@@ -44,8 +44,8 @@ pub struct Search<A: Allocator + Clone = Global> {
     work: Work,
 }
 
-// What is known of a move once it was played: a bound of what it takes, or the priority with which its turn waits to be searched, and
-// the houses from which the other player would move.
+// What is known of a move once it was played: a bound of what it takes, or that its turn waits to be searched. Then it has the priority
+// of the turn, and the houses from which the other player would move.
 #[derive(Clone, Copy)]
 enum Look {
     Bounded(u8),
@@ -68,7 +68,8 @@ impl<A: Allocator + Clone> Search<A> {
         }
     }
 
-    /// Makes a search with an empty table of its own that shares with this one what is known of endings.
+    /// Makes a search with an empty table of its own that shares with this one what is known of endings. Fails with `AllocError` only if
+    /// memory was refused.
     pub fn sharing_endings(&self, alloc: A, capacity: u32) -> Result<Search<A>, AllocError>
         requires low { 1 ≤ capacity }
         requires high { capacity ≤ most_entries }
@@ -129,8 +130,8 @@ impl<A: Allocator + Clone> Search<A> {
         answer
     }
 
-    // Returns the seeds that the mover takes, raised to the least of the bounds and lowered to their most: tests close in on them, the
-    // first a little above half of all.
+    // Returns how many seeds the mover takes, raised to the least that is asked and lowered to the most. Tests close in on it, the first a
+    // little above half of all.
     fn won_within(&mut self, houses: &Houses, asked: SeedBounds) -> u8
         requires going { is_over (bare houses.now) ≡ false }
         requires ordered { asked.least ≤ asked.most }
@@ -162,7 +163,7 @@ impl<A: Allocator + Clone> Search<A> {
         bar <= self.bound_step(houses.play(h), bar)
     }
 
-    // Returns a fail-soft bound of the number of seeds that the mover takes.
+    // Returns a fail-soft bound of how many seeds the mover takes. From `bar` on it is a lower bound, and below `bar` an upper one.
     #[cycle(search)]
     #[inline(always)]
     fn bound(&mut self, houses: Houses, bar: u8) -> u8

@@ -38,8 +38,8 @@ impl<A: Allocator + Clone> Solver<A> {
         }
     }
 
-    /// Makes a solver with an empty table of its own, with room for `capacity` entries, 1 to 1,048,576. What one of the two learns of
-    /// endings the other may know too, and so may the solvers made from either, also if they run in different threads.
+    /// Makes a solver with an empty table of its own, with room for `capacity` entries, 1 to 1,048,576. The two share what they learn of
+    /// endings, with each other and with the solvers made from either, also if they run in different threads.
     ///
     /// Fails with `AllocError` only if memory was refused.
     pub fn sharing_endings(&self, alloc: A, capacity: u32) -> Result<Solver<A>, AllocError>
@@ -51,9 +51,9 @@ impl<A: Allocator + Clone> Solver<A> {
         Ok(Solver { search })
     }
 
-    /// Returns what the position is worth to the player to move: the final margin of a game that is over, otherwise the margin
-    /// of best play with the lowest house that attains it. What the table learns on the way is kept for later
-    /// positions; if there is no memory for an entry, it is left out.
+    /// Returns what the position is worth to the player to move. That is the final margin of a game that is over, otherwise the margin
+    /// of best play with the lowest-numbered best house. What the table learns on the way is kept for later positions. If there is no
+    /// memory for an entry, it is left out.
     pub fn solve(&mut self, board: &Board) -> Verdict
         ensures verdict { result ≡ verdict_of board.now }
         ensures best_play { TellsBestPlay board.now result }
@@ -72,7 +72,7 @@ impl<A: Allocator + Clone> Solver<A> {
         Verdict::Best { margin, house }
     }
 
-    // Returns the first house that takes as many seeds as best play. If all but the last fall short, it is the last.
+    // Returns the lowest-numbered house that takes as many seeds as best play. If all but the last fall short, it is the last.
     fn first_house(&mut self, houses: &Houses, moves: &Moves, bar: u8) -> u8
         requires moves { moves.now ≡ legal_houses (bare houses.now) }
         requires going { is_over (bare houses.now) ≡ false }

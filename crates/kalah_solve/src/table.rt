@@ -41,7 +41,7 @@ pub struct Table<A: Allocator + Clone = Global> {
     entries: LruCache<u64, Interval, DefaultHasher, A>,
     // What is known of houses with few seeds, each in its place.
     pub(crate) places: DirectTable<A>,
-    // What the mover takes of houses with still fewer, which tables may share.
+    // How many seeds the mover takes of endings, which have still fewer. Tables may share them.
     pub(crate) endings: Arc<EndgameTable<A>, A>,
 }
 
@@ -83,7 +83,7 @@ impl<A: Allocator + Clone> Table<A> {
         Table::with_endings(alloc, capacity, Arc::try_clone(&self.endings)?)
     }
 
-    // Makes an empty table with these endings.
+    // Makes an empty table with these endings. Fails only if memory was refused.
     fn with_endings(
         alloc: A,
         capacity: u32,

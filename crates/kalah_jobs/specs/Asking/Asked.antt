@@ -1,5 +1,5 @@
--- What is written where lines come one after another, and each is answered. A reader is seen as the bytes that it has left, and a
--- sink as those that were written to it, before and after, where these are known.
+-- What is written if lines come one after another, and each is answered. A reader is seen as the bytes that it has left, and a
+-- sink as those that were written to it, before and after, if these are known.
 use Rattle.std.specs.Prelude.{◌≡◌, ◌≢◌, ℕ, ◌+◌, ◌<◌, ◌≤◌, List, [], ◌∷◌, ◌++◌, Bool, true, not, IfSome, Option, None, Some, length, take, map}
 use Rattle.std.specs.List.{flat_map, enumerate_from, join_with_byte, list_any}
 use Rattle.std.specs.Io.KnownBytes.{Appends, Consumes}
@@ -99,7 +99,7 @@ abbrev pub texts_told : Question → List ℕ → List (List ℕ)
 texts_told question line = answer_texts (answer_of (entry_to question line))
 
 -- What is written for lines that are asked of is what is written for a file with these bytes, but for what stands before each
--- answer; where steps are asked, the texts that have a line each for a file stand in one line, with `; ` between any two. And what
+-- answer; if steps are asked, the texts that have a line each for a file stand in one line, with `; ` between any two. And what
 -- begins with whole lines is answered as they are, and then as the rest is.
 pub record AnswersAreThoseOfAFile : Type 0 where
   pub lines : (question : Question) → question ≢ Steps → (name : List ℕ) (number : ℕ) (line : List ℕ) →

@@ -17,7 +17,7 @@ use Rattle.kalah_jobs.specs.declared.writing.answer.Answer.{Answer}
 use Rattle.kalah_jobs.specs.declared.writing.answer.Answer.TheVariants.{Best, Over, Values, Steps, Fault}
 use Rattle.kalah_jobs.specs.declared.writing.answer.Taken.{Taken}
 
--- the final margin of a game that is over, otherwise the margin of best play and the lowest house that attains it
+-- the final margin of a game that is over, otherwise the margin of best play and the lowest-numbered best house
 abbrev pub answer_of_position : position.Position → Answer
 answer_of_position p = if is_over p then Over (final_margin p) else Best (worth p) (best_house p)
 
@@ -60,7 +60,7 @@ values_words values = join_with_byte space (map value_words values)
 abbrev pub steps_texts : position.Position → List (List ℕ)
 steps_texts p = map (λ h. step_text_of h (step_of p h)) (legal_houses p)
 
--- the texts of an answer, each for a line of its own: those of steps, or else one, `MARGIN house H`, `MARGIN over`, `H:V H:V ..`
+-- the texts of an answer, each for a line of its own: those of steps, otherwise one, `MARGIN house H`, `MARGIN over`, `H:V H:V ..`
 -- or `fault WORD`
 abbrev pub answer_texts : Answer → List (List ℕ)
 answer_texts (Best margin house) = (signed_decimal margin ++ (codes " house " ++ decimal house)) ∷ []

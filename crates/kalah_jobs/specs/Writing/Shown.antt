@@ -9,7 +9,7 @@ use Rattle.kalah_jobs.specs.Files.Lines.{line_feed}
 use Rattle.kalah_jobs.specs.Line.Line.{space}
 use Rattle.kalah_jobs.specs.Writing.Picture.{column_width, empty_columns, picture_of}
 
--- a value at the right of a column, which it fills where it is less than -99
+-- a value at the right of a column, which it fills if it is less than -99
 abbrev pub value_cell : ℤ → List ℕ
 value_cell value = replicate (column_width - length (signed_decimal value)) space ++ signed_decimal value
 

@@ -15,7 +15,7 @@ use std::io::{BufReader, Read};
 /// The byte that ends a line.
 const LINE_FEED: u8 = b'\n';
 
-// Answers the lines of a reader as `answer_lines` does, if this is what is asked of them.
+// Answers the lines of a reader as `answer_lines` does, with the same result.
 #[tactic(auto, using(crate::proofs::AskingLemmas::Underway::answered_so_far))]
 fn answer_each<I: Read + Drop, O: Sink>(
     input: &mut BufReader<I>,
@@ -53,9 +53,9 @@ fn answer_each<I: Read + Drop, O: Sink>(
 }
 
 /// Answers what is asked of each line of the reader, up to its end, and returns whether each line was read as a position. A line ends
-/// as in a file of positions: with a line feed, or at the end if it isn't empty. Each answer is written as a batch writes it,
-/// without the file's name and the line's number, in one line: steps with `; ` between any two. The number and the length of the
-/// lines are unlimited: only the solver takes memory, and it keeps what it learns for later lines.
+/// as in a file of positions: with a line feed, or at the end if it isn't empty. Each answer is written as a batch writes it, without
+/// the file's name and the line's number. Steps stand in one line, with `; ` between any two. The number and the length of the lines
+/// are unlimited: only the solver takes memory, and it keeps what it learns for later lines.
 ///
 /// Before each read of the reader, all lines that it gave have been answered and the answers flushed. Answers are also flushed
 /// before a position with many seeds is solved. An interrupted read is repeated.

@@ -20,7 +20,7 @@ use kalah_solve::Solver;
 // The most seeds in houses of a position that is solved before earlier answers are flushed.
 const QUICK_SEEDS: u8 = 9;
 
-// Returns whether the answer may take a while.
+// Returns whether the answer may take a while: it takes a search, and the houses hold more than 9 seeds.
 fn takes_long(entry: &Entry) -> bool
     ensures { result ≡ true ↔ TakesLong entry.now }
 {

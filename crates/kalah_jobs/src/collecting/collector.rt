@@ -45,10 +45,11 @@ impl Collector {
         Ok(Collector { files })
     }
 
-    /// Accepts an outcome, and returns how many lines of its file became ready by it: a line is ready once it and all lines
+    /// Accepts an outcome, and returns how many lines of its file became ready by it. A line is ready once it and all lines
     /// before it have been accepted. The jobs must be those that the collector was made for.
     ///
-    /// A refusal changes nothing. It is the first that holds: `NoSuchFile`, `FileEnded`, `NoSuchLine`, `WrongPosition`, `Double`.
+    /// Fails with the first `Refusal` that holds, and then changes nothing: `NoSuchFile`, `FileEnded`, `NoSuchLine`, `WrongPosition`,
+    /// `Double`.
     pub fn offer(&mut self, jobs: &Jobs, outcome: Outcome) -> Result<u32, Refusal>
         requires { HasLinesOf jobs.now self.old }
         ensures offers { Offers jobs.now self.old outcome result self.new }

@@ -59,8 +59,8 @@ fn answer_to(entry: &Entry, solver: &mut Solver) -> Answer
 }
 
 impl Outcome {
-    /// Solves one line and returns the outcome: the solver answers what is asked of a position, and a line that was not
-    /// read is answered by its fault.
+    /// Answers one line, and returns the outcome. The solver answers what is asked of a position. A line that was not read is answered
+    /// by its fault. `file` and `line` may be any numbers.
     pub fn of(file: u32, line: u32, entry: Entry, solver: &mut Solver) -> Outcome
         ensures { result ≡ record { file = file; line = line; entry = entry } }
     {
@@ -73,7 +73,7 @@ impl Outcome {
         }
     }
 
-    /// Solves job `n`, which must be below `total`, and returns its outcome: that of `of` for this job, which is not copied first.
+    /// Answers job `n`, which must be below `total`, and returns its outcome: that of `of` for this job, which is not copied first.
     #[inline(always)]
     pub fn of_job(jobs: &Jobs, n: u32, solver: &mut Solver) -> Outcome
         requires { n < job_count jobs.now }

@@ -24,7 +24,7 @@ impl Model for FileText {
 }
 
 impl FileText {
-    /// Returns how many lines the file has.
+    /// Returns the number of lines of the file.
     pub fn lines(&self) -> usize
         ensures { result ≡ lines_in self.now }
     {

@@ -84,8 +84,8 @@ impl Jobs {
 
     /// Makes the jobs of these files: each line of each file, with its entry and what is asked of its position.
     ///
-    /// Fails with `TooManyFiles` if there are more than 256 files, else with `TooManyLines` if they have more than 1,000,000 lines
-    /// together; both are tested before any allocation. Fails with `OutOfMemory` only if memory was refused.
+    /// Fails with `TooManyFiles` if there are more than 256 files, otherwise with `TooManyLines` if they have more than 1,000,000 lines
+    /// together. Both are tested before any allocation. Fails with `OutOfMemory` only if memory was refused.
     pub fn asking(alloc: Global, question: Question, files: &[FileText]) -> Result<Jobs, JobsFault>
         ensures too_many_files { (result ≡ Err JobsFault.TooManyFiles) ↔ (most_files < length files.now) }
         ensures too_many_lines { (result ≡ Err JobsFault.TooManyLines)
@@ -173,7 +173,7 @@ impl Jobs {
         }
     }
 
-    /// Returns how many jobs are answered by a fault.
+    /// Returns the number of jobs that are answered by a fault, at most `total`.
     pub fn faults(&self) -> u32
         ensures { result ≡ count_by is_faulty_job (job_list self.now) }
     {
@@ -181,7 +181,7 @@ impl Jobs {
     }
 }
 
-// Returns how many lines the files have together, if a batch may have as many.
+// Returns the number of lines that the files have together, or `None` if that is more than a batch may have.
 fn few_lines(files: &[FileText]) -> Option<usize>
     ensures some { IfSome result (λ lines. (lines ≡ lines_in_all files.now) × (lines ≤ most_lines)) }
     ensures none { IfNone result (most_lines < lines_in_all files.now) }

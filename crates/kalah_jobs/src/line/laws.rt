@@ -16,8 +16,7 @@ pub fn every_text_is_read_back()
     ensures { EveryTextIsReadBack }
 {}
 
-/// A line of two sides alone, with fewer seeds than allowed, is read as by a program that knows only the classic rule
-/// and allows fewer seeds.
+/// What is read by a program that knows only the classic rule, and allows fewer seeds, is read here as the same position.
 pub fn plain_lines_read_the_same()
     ensures { PlainLinesReadTheSame }
 {}

@@ -51,7 +51,8 @@ impl ParsedLine {
         Some(ParsedLine { own, other, rule })
     }
 
-    // Returns the board of the line. Fails with `Houses` or else `Seeds` if it is not within the limits.
+    // Returns the board of the line. If it is not within the limits, fails with `Houses` if the sides differ or are too
+    // long, otherwise with `Seeds`.
     #[inline(always)]
     pub(crate) fn board(&self) -> Result<Board, LineFault>
         ensures { (p : Position) → Shows self.now p → result ≡ admitted p }

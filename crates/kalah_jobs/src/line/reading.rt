@@ -39,8 +39,8 @@ fn read_text(text: &[u8]) -> Result<Board, LineFault>
     }
 }
 
-/// Returns the position that a line writes, such as `1,1/0 1,1/0`: the mover's houses with a comma between each two, a slash and
-/// the mover's store, one space, and the same of the other player. A line that ends in a space and `e` is played under
+/// Returns the position that a line writes, such as `1,1/0 1,1/0`. The line has the mover's houses, separated by commas, a slash, the
+/// mover's store, one space, and the other player's side in the same form. A line that ends in a space and `e` is played under
 /// `Rule::EmptyCapture`, any other under `Rule::Classic`. A number is `0`, or one or two digits that do not start with
 /// `0`. One CR at the end is dropped first.
 ///

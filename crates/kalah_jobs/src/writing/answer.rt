@@ -6,9 +6,9 @@ use kalah_solve::MoveValues;
 /// The answer to a line of a file.
 #[derive(Clone, Copy, Debug, PartialEq, Eq)]
 pub enum Answer {
-    /// The margin of best play, and the lowest house that attains it.
+    /// The margin of best play, -130 to 130, and the lowest-numbered best house, 1 to 6.
     Best { margin: i32, house: u8 },
-    /// The margin of a game that is over.
+    /// The margin of a game that is over, -130 to 130.
     Over { margin: i32 },
     /// Each legal house, in ascending order, with the margin that its move gets in best play.
     Values(MoveValues),

@@ -92,6 +92,8 @@ fn prepend_place(text: &mut StackText, line: u32)
 /// Returns the answer line of a line of the file `name`, without a line feed: `NAME:LINE MARGIN house H`, `NAME:LINE MARGIN over`,
 /// `NAME:LINE H:V H:V ..` or `NAME:LINE fault WORD`. LINE counts from 1, and a negative MARGIN has a `-` in front. Of steps it is
 /// a line `NAME:LINE H POSITION again`, `turn` or `over` for each legal house, with a line feed between any two.
+///
+/// Fails with `AllocError` only if memory was refused.
 pub fn answer_text(alloc: Global, name: &str, taken: &Taken) -> Result<String, AllocError>
     ensures { IfOk result (λ text. string_bytes text ≡ answer_line name.now taken.now) }
 {

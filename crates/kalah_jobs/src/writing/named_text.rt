@@ -7,7 +7,7 @@ use crate::writing::sink::Sink;
 use crate::writing::stack_text::StackText;
 use std::io;
 
-// Writes the name and then the text, in a call of the sink each.
+// Writes the name and then the text, each by one call of the sink.
 #[cold]
 #[inline(never)]
 fn write_apart<W: Sink>(out: &mut W, name: &str, text: &StackText) -> Result<(), io::Error>
@@ -20,7 +20,7 @@ fn write_apart<W: Sink>(out: &mut W, name: &str, text: &StackText) -> Result<(),
     out.write_all(text.bytes())
 }
 
-// Writes the name and then the text: in one call of the sink, unless the name is too long to be put in front of the text.
+// Writes the name and then the text, by one call of the sink. If the name is too long to be put in front of the text, there are two.
 #[inline(always)]
 pub(crate) fn write_named<W: Sink>(
     out: &mut W,

@@ -72,8 +72,8 @@ fn picture(board: &Board) -> StackText
     text
 }
 
-/// Draws a board in three lines: the houses of the other player, from the last to the first; the stores, with the
-/// mover's at the right; and the houses of the mover, from the first to the last. Each number is right-aligned in
+/// Draws a board in three lines. The first has the houses of the other player, from the last to the first. The second has the stores,
+/// with the mover's at the right. The third has the houses of the mover, from the first to the last. Each number is right-aligned in
 /// a column of four bytes. It allocates nothing. It fails exactly when the sink has failed afterwards; then a
 /// prefix of the picture was written, and nothing else.
 pub fn write_picture<W: Sink>(out: &mut W, board: &Board) -> Result<(), io::Error>

@@ -34,7 +34,7 @@ fn prepend_side(text: &mut StackText, board: &Board, player: Player)
     }
 }
 
-// Returns the ending of a line that names its rule.
+// Returns the ending of a line, which names its rule.
 fn ending(rule: Rule) -> &'static str
     ensures ending { result.now ≡ ending_of rule }
     ensures short { length result.now ≤ 2 }
@@ -103,7 +103,7 @@ fn prepend_step(text: &mut StackText, h: u8, step: &Step)
     text.prepend_number(u64::from(h));
 }
 
-// The text of a move, and then the end.
+// Returns the text of a move, followed by `end`.
 pub(crate) fn text_of_step(h: u8, step: &Step, end: &str) -> StackText
     requires { length end.now ≤ 1 }
     ensures text { result ≡ step_text_of h step.now ++ end.now }
@@ -115,8 +115,10 @@ pub(crate) fn text_of_step(h: u8, step: &Step, end: &str) -> StackText
     text
 }
 
-/// The text of a move: the house, the board after it and `again`, `turn` or `over`, as `1 1,1/0 0,2/0 turn`. The board is
+/// Returns the text of a move: the house, the board after it and `again`, `turn` or `over`, as `1 1,1/0 0,2/0 turn`. The board is
 /// written as by `line_text`, with stores of up to three digits.
+///
+/// Fails with `AllocError` only if memory was refused.
 pub fn step_text(alloc: Global, h: u8, step: &Step) -> Result<String, AllocError>
     ensures { IfOk result (λ text. string_bytes text ≡ step_text_of h step.now) }
 {

@@ -15,7 +15,7 @@ use kalah_rules::Board;
 use kalah_solve::{MoveValue, MoveValues};
 use std::io;
 
-// Puts the value of a move, at the right of a column, before what is there.
+// Puts the value of a move, at the right of a column, in front of the text.
 #[tactic(auto, using(crate::proofs::WritingLemmas::Shown::value_length))]
 fn put_value_cell(text: &mut StackText, value: MoveValue)
     requires small { IsSmallMargin value.value }
@@ -28,7 +28,7 @@ fn put_value_cell(text: &mut StackText, value: MoveValue)
     text.prepend_blanks(end - text.len());
 }
 
-// Puts the values from place `i` on before what is there, each in the column of its house, where `behind` columns are filled already.
+// Puts the values from place `i` on in front of the text, each in the column of its house. `behind` columns come before them.
 fn put_columns(text: &mut StackText, values: &MoveValues, i: u8, behind: u8)
     requires room { length text.old + 39 ≤ ROOM }
     requires within { i ≤ length values.now }
@@ -47,7 +47,7 @@ fn put_columns(text: &mut StackText, values: &MoveValues, i: u8, behind: u8)
     text.prepend_blanks(COLUMN * usize::from(value.house - behind));
 }
 
-// The line below the picture of a board with these values.
+// Returns the line below the picture of a board with these values.
 fn line_below(board: &Board, values: &MoveValues) -> StackText
     requires { values.now ≡ values_of board.now }
     ensures { result ≡ values_line board.now ++ line_feed ∷ [] }
@@ -63,8 +63,9 @@ fn line_below(board: &Board, values: &MoveValues) -> StackText
     text
 }
 
-/// Writes the line below the picture of a board: what each move is worth, from `values`, at the right of the column of its house,
-/// with nothing below a house that may not be moved and nothing after the last value; or `over, margin M` if the game is over.
+/// Writes the line below the picture of a board. It has what each move is worth, from `values`, at the right of the column of its
+/// house. Nothing stands below a house that may not be moved, or after the last value. If the game is over, the line is
+/// `over, margin M`.
 ///
 /// It allocates nothing. It fails exactly when the sink has failed afterwards; then a prefix of the line was written, and nothing
 /// else.

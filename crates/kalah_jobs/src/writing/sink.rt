@@ -28,7 +28,7 @@ pub trait Sink {
         ensures start { AppendsStart (written self.old) (written self.new) bytes.now };
 
     /// Flushes what is still buffered, and writes nothing of its own. It fails exactly when
-    /// the sink has failed afterwards; else nothing is buffered any more.
+    /// the sink has failed afterwards; otherwise nothing is buffered any more.
     fn flush(&mut self) -> Result<(), io::Error>
         requires { has_failed self.old ≡ false }
         ensures fails { IsErr result ↔ (has_failed self.new ≡ true) }

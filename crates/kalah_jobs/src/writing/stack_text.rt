@@ -68,7 +68,7 @@ impl StackText {
         self.bytes().len()
     }
 
-    // Puts a piece before what is there.
+    // Puts a piece in front of the text.
     #[inline]
     pub(crate) fn prepend(&mut self, piece: &str)
         requires { length piece.now + length self.old ≤ ROOM }

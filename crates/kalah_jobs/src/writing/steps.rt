@@ -69,8 +69,8 @@ fn before_line(is_first: bool) -> &'static str
     if is_first { "" } else { "\n" }
 }
 
-/// Pushes a line for each legal house of a board, in ascending order, with a line feed between any two: the name, the place and the text of
-/// its move.
+/// Pushes a line for each legal house of a board, in ascending order: the name, the place and the text of its move. Between any two
+/// stands a line feed.
 pub(crate) fn push_steps(
     text: &mut String,
     name: &str,

@@ -55,7 +55,7 @@ pub fn write_pieces<W: Write>(writer: &mut W, bytes: &[u8]) -> io::Result<()>
 }
 
 /// The sink over a writer, with that writer's bytes. It fails if a call of the writer returns an
-/// error, or if the writer takes no byte; an interrupted call is repeated and is no error.
+/// error, or if the writer takes no byte. An interrupted call is repeated and is no error.
 #[derive(Drop)]
 pub struct Stream<W> {
     writer: W,

@@ -37,9 +37,9 @@ impl Board {
         moves
     }
 
-    /// Plays the mover's house `h`, which must be legal, and returns the board after the move.
+    /// Plays the mover's house `h`, which must be legal, and returns the board after the move, with how play goes on.
     ///
-    /// The rules are those of `Houses::play`; seeds that it brings to a store are added there.
+    /// The rules are those of `Houses::play`. Seeds that it brings to a store are added there.
     pub fn apply(&self, h: u8) -> Step
         requires { Contains (legal_houses self.now) h }
         ensures step { result ≡ step_of self.now h }

@@ -129,8 +129,8 @@ pub(super) fn the_same_each(m: u8, seeds: u8) -> u64
     seeds as u64 * one_each(m)
 }
 
-// Returns what the mover's houses gain by a sowing from house `h` of `m`: `laps` whole laps, and then one seed for each cell up
-// to place `reach`. Places are counted round the lap from house 1 on; the store has place m + 1.
+// Returns what the mover's houses gain by a sowing from house `h` of `m`. It has `laps` whole laps, and then one seed for each cell up
+// to place `reach`. Places are counted round the lap from house 1 on, and the store has place m + 1.
 pub(super) fn own_gains(m: u8, h: u8, laps: u8, reach: u8) -> u64
     requires first { 1 ≤ h }
     requires last { h ≤ m }

@@ -20,8 +20,8 @@ pub(super) struct RowNumbers {
     store: u64,
 }
 
-// Returns what is captured, if the last seed makes the seeds of its house `here` and `across` lie in the house across: that seed
-// and those, or nothing. Which of the two is hard to predict, so both are numbers, and a row changes by them without a branch.
+// Returns what is captured: the last seed and the seeds across, or nothing. With the last seed its house has `here` seeds, and the
+// house across has `across`. Which of the two is hard to predict, so both are numbers, and a row changes by them without a branch.
 fn caught(rule: Rule, here: u64, across: u64) -> (u64, u64)
     requires { across < 32 }
     ensures caught { MatchBool ((here == 1) && captures rule across)
@@ -157,7 +157,7 @@ impl Houses {
     /// Plays the mover's house `h`, which must be legal.
     ///
     /// Its seeds are sown one into each cell: the mover's houses after `h`, the mover's store, the other player's houses,
-    /// the mover's houses up to `h`, and round again; the other player's store is skipped. If the last seed falls into the
+    /// the mover's houses up to `h`, and round again. The other player's store is skipped. If the last seed falls into the
     /// mover's store, the mover moves again. If it falls into an empty house of the mover, it captures as the rule says.
     /// If the houses of one player are then all empty, the game is over, and each player's houses are swept into that
     /// player's store.

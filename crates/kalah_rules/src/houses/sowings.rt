@@ -1,4 +1,4 @@
-//! How each house is sown, for each number of its seeds: its seeds are taken out of it, and a sowing is one addition to a key then.
+//! How each house is sown, for each number of its seeds. Once its seeds are taken out of it, a sowing is one addition to a key.
 ghost use Rattle.std.specs.Prelude.{◌<◌, ◌≤◌, ℕ};
 ghost use Rattle.kalah_rules.specs.Sowings.{IsSowing, IsSowingCell};
 ghost use Rattle.kalah_rules.specs.declared.houses.sowings.TheConstants.{CELLS};
@@ -7,8 +7,8 @@ use crate::houses::house::House;
 use crate::houses::numbers::{OTHER_ROW, other_gains, own_gains};
 use std::marker::Model;
 
-// The number of cells of the table. A house that begins at bit b has its 32 cells at row b + m - 1 on sides of m houses. So the sides of
-// 1 to 5 houses fill the bits of a house, and those of 6 have the rows of 1 house past its only one.
+// The number of cells of the table. A house that begins at bit b has its 32 cells at row b + m - 1 on sides of m houses. Sides of 1 to 5
+// houses have the five rows from b on. Those of 6 have the next row, which sides of 1 house never use.
 const CELLS: usize = 31 * 32;
 
 /// How the seeds of one house are sown.
@@ -18,8 +18,8 @@ pub(super) struct Sowing {
     pub(super) gains: u64,
     // What the store gains.
     pub(super) store: u8,
-    // Where the cell of the last seed begins, in bits: an own house where it does in a key, past them the store, and then the other
-    // player's houses.
+    // The bit at which the cell of the last seed begins. Own houses begin where they do in a key. The store and then the other
+    // player's houses follow.
     pub(super) end: u8,
 }
 
@@ -67,7 +67,7 @@ const NO_SOWING: Sowing = Sowing {
     end: 0,
 };
 
-// Returns the sowing of cell `i`, if it is a house's.
+// Returns the sowing of cell `i`, or `NO_SOWING` if the cell is no house's.
 fn sowing_at(i: usize) -> Sowing
     requires { i < CELLS }
     ensures { (m h c : ℕ) → IsSowingCell m h c i → IsSowing m h c result }
@@ -86,7 +86,7 @@ fn sowing_at(i: usize) -> Sowing
 }
 
 impl Sowings {
-    /// Computes the table.
+    /// Makes the table, with the sowing of each house for 0 to 31 seeds.
     pub fn new() -> Sowings {
         let mut cells = [NO_SOWING; CELLS];
         for i in 0..CELLS {

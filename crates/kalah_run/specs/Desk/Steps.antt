@@ -6,7 +6,7 @@ use Rattle.kalah_run.specs.declared.desk.rule.DeskView.TheVariants.{Opening, Dra
 use Rattle.kalah_run.specs.Desk.Rows.{drawn_row}
 use Rattle.kalah_run.specs.Desk.Kept.{rows_in}
 
--- The view w after a draw that found n: if n is below the total it ends the row, above all numbers there; else the pass is spent
+-- The view w after a draw that found n: if n is below the total it ends the row, above all numbers there; otherwise the pass is spent
 abbrev pub DrawsFrom : DeskView → ℕ → DeskView → Type 0
 DrawsFrom (Drawing total number r) n w =
     MatchBool (nat_lt n total)

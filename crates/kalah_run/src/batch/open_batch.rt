@@ -74,8 +74,8 @@ pub(crate) fn take_apart(
     (passes, puts)
 }
 
-/// A batch that is open: what its workers share, the workers, the pass to get what they send, and two lists with room for the
-/// return of their passes.
+/// A batch that is open: what its workers share, the workers, and the pass to get what they send. Two lists have room for the return of
+/// their passes.
 #[derive(Drop)]
 pub(crate) struct OpenBatch<'a, G: Gate> {
     pub(crate) shared: SharedWork<'a, G>,
@@ -86,8 +86,8 @@ pub(crate) struct OpenBatch<'a, G: Gate> {
 }
 
 impl<'a, G: Gate> OpenBatch<'a, G> {
-    /// Opens a batch of these jobs, with the workers asked for, but at most one for each line, and one for no line. All its memory is
-    /// allocated here.
+    /// Opens a batch of these jobs, with the workers asked for, but at most one for each job, and one for no job. All its memory is
+    /// allocated here. Fails with `AllocError` only if memory was refused.
     pub(crate) fn open(
         alloc: Global,
         jobs: &'a Jobs,

@@ -131,8 +131,8 @@ fn collect<R: Wait, G: Gate, V: Watch, W: Sink>(
     }
 }
 
-/// Runs the crew on further threads, and meanwhile accepts the outcome of each job and writes what is ready. Returns what was handed
-/// over. Fails with `NoWorker` if no thread could be started; then nothing is written.
+/// Runs the crew on further threads, and meanwhile accepts the outcome of each job and writes what is ready. Returns the workers, the pass
+/// and the output. Fails with `NoWorker` if no thread could be started; then nothing is written.
 pub(crate) fn run_and_write<'a, R: Threads + Wait + Sync, G: Gate, V: Watch, W: Sink>(
     rt: &R,
     crew: Crew<'_, '_, G>,

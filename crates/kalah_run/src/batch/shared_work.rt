@@ -10,8 +10,8 @@ use kalah_jobs::Jobs;
 use std::sync::atomic::AtomicBool;
 use std::sync::atomic::Ordering::SeqCst;
 
-/// What all workers of a batch share: the desk at which they draw, the queue through which they send, the jobs, the gate, and whether
-/// they are to stop.
+/// What all workers of a batch share: the desk at which they draw, the queue through which they send, the jobs and the gate. It also has
+/// what happens to the rest after a failed write, and whether they are to stop.
 #[derive(Drop)]
 pub(crate) struct SharedWork<'a, G: Gate> {
     pub(crate) desk: Desk,

@@ -1,7 +1,7 @@
 //! The watch: an observer of the progress of a batch.
 
 /// An observer of the progress of a batch. The calling thread calls `accepts` for each outcome that it has accepted, once the answers
-/// that are ready are written, and `waits` before it waits for an outcome. A watch that blocks delays the batch.
+/// that are ready are written. It calls `waits` before it waits for an outcome. A watch that blocks delays the batch.
 pub trait Watch {
     /// One more line is answered.
     fn accepts(&mut self);

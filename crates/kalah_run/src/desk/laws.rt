@@ -1,8 +1,8 @@
 //! The law of the rule under which passes draw in parallel, on a function of its own.
 ghost use Rattle.kalah_run.specs.Desk.Law.{DeskIsLawful};
 
-/// Between any two steps of any threads at a desk, each number below the count of those drawn stands in the row of one pass, and
-/// there once, and no other stands in any; and the desk's one word is at most the total and 64.
+/// A fact between any two steps of any threads at a desk. Each number below the count of those drawn stands in the row of one pass, and
+/// there once. No other stands in any. The desk's one word is at most the total and 64.
 pub fn desk_is_lawful()
     ensures { DeskIsLawful }
 {}

@@ -24,8 +24,8 @@ impl Model for PutPass {
     ghost invariant = { λ p. (p.ruled.me.1 ≡ []) × (view_of p.ruled ≡ Putting p.number (sent_in (view_of p.ruled))) };
 }
 
-/// The one right to get. Contracts see it as the identity of its queue, the number of workers, and all pairs of a worker and
-/// its outcome that were got, in order.
+/// The one right to get. Contracts see it as the identity of its queue, the number of workers, and what was got, in order: pairs of a
+/// worker and its outcome.
 #[derive(Drop)]
 pub struct GetPass {
     pub(crate) ruled: RuledPass,

@@ -24,8 +24,7 @@ impl Model for Tagged {
 
 /// What one pass of the queue knows. It is used in contracts only; no program makes one.
 pub enum QueueView {
-    /// The pass to get: how many passes to put were made, the pairs that were got, and what each worker had sent whose
-    /// pass was reclaimed.
+    /// The pass to get: how many passes to put were made, the pairs that were got, and what the workers of reclaimed passes had sent.
     Getting(u32, LinkedList<Tagged>, LinkedList<LinkedList<Outcome>>),
     /// The pass to put of one worker: the worker's number, and what it has sent.
     Putting(u32, LinkedList<Outcome>),
@@ -33,7 +32,7 @@ pub enum QueueView {
     Ended,
 }
 
-/// The rule: between any two steps, for each worker, what was got of it, followed by what the queue holds of it, is what it has
+/// The rule, between any two steps and for each worker: what was got of it, followed by what the queue holds of it, is what it has
 /// sent, in its order.
 pub struct WholeAndInOrder;
 

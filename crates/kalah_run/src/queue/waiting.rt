@@ -1,19 +1,19 @@
 //! Waiting for events of other threads: first by spinning briefly, then by sleeping. No contract mentions it, and no answer depends
 //! on it: a thread that is woken tries for itself.
 //!
-//! Why no thread sleeps while what it waits for is there: a sleeper announces itself, registers to be woken, clears any earlier
-//! wake-up, and only then tries and finds nothing. So anything that arrives after that try sees the announcement. Either its thread
+//! Why no thread sleeps while what it waits for is there: a sleeper announces itself, registers to be woken, and clears any earlier
+//! wake-up. Only then it tries and finds nothing. So anything that arrives after that try sees the announcement. Either its thread
 //! wakes a sleeper, or a wake-up is in progress that was sent after the sleeper cleared the earlier ones. Such a wake-up ends this
-//! sleep, or that of another thread which has not resumed yet: that one tries after the arrival, and wakes the next.
+//! sleep, or that of another thread which has not resumed yet. That one tries after the arrival, and wakes the next.
 //! All steps are in one total order (`SeqCst`).
 //!
 //! A try can also fail because another thread is in the way. If that thread has claimed a place and has not finished its step, what
-//! the sleeper waits for arrives with that step, after the try, and its thread wakes a sleeper. If a worker lost a place to another
-//! worker, it may sleep though there is room: what the other worker has put will be got, and that `get` wakes it. So it sleeps until
+//! the sleeper waits for arrives with that step, after the try. Then its thread wakes a sleeper. If a worker lost a place to another
+//! worker, it may sleep though there is room. What the other worker has put will be got, and that `get` wakes it. So it sleeps until
 //! the next outcome is got at the latest, and for no longer than a full queue would make it sleep.
 //!
-//! `tests/wakes` reads these steps here and in `queue.rt`, in their order, and goes through each order in which a few threads can
-//! take them, with the steps of the queue below.
+//! `tests/wakes` reads these steps here and in `queue.rt`, with the steps of the queue below. It goes through each order in which a few
+//! threads can take them.
 use crossbeam_utils::Backoff;
 use crossbeam_utils::sync::{EventCount, Key};
 use std::sync::Wait;
@@ -25,7 +25,7 @@ use std::sync::atomic::Ordering::SeqCst;
 const STEPS: u32 = 6;
 
 /// The threads that wait for the same event, such as room in a queue. They are woken sequentially: a wake-up is sent only if
-/// none is in progress, and a thread that was woken, and got what it waited for, wakes the next. So room for
+/// none is in progress. A thread that was woken, and got what it waited for, wakes the next. So room for
 /// one thread doesn't wake all of them.
 #[derive(Drop)]
 pub(crate) struct Waiters {
@@ -46,7 +46,7 @@ impl Waiters {
         }
     }
 
-    /// Wakes one of the threads that wait, if there is any. It must be used after what they wait for has come: a thread
+    /// Wakes one of the threads that wait, if there is any. It must be used after what they wait for has come. A thread
     /// that has announced itself and then found nothing is woken, or another one is that will wake it.
     pub(crate) fn call_one(&self) {
         if self.announced.load(SeqCst) > 0 && self.called.swap(1, SeqCst) == 0 {

@@ -33,7 +33,7 @@ WorthIsMostOfMoves = (p : Position) → HasEqualSides p → is_over p ≡ false 
 abbrev pub CountPlaysNoPart : Type 0
 CountPlaysNoPart = (p : Position) (n : ℕ) → HasEqualSides p → moves_left p ≤ n → worth_within n p ≡ worth p
 
--- the best house is the lowest legal house whose value is the worth
+-- the best house is the lowest-numbered legal house whose value is the worth
 pub record IsLowestBest (p : Position) (house : ℕ) : Type 0 where
   pub is_legal : Contains (legal_houses p) house
   pub attains : value_of_move p house ≡ worth p
@@ -78,7 +78,7 @@ WorthIsBestPlay = (p : Position) → HasEqualSides p → IsBestPlay p (worth p)
 abbrev pub BestPlayIsOne : Type 0
 BestPlayIsOne = (p : Position) (v w : ℤ) → HasEqualSides p → IsBestPlay p v → IsBestPlay p w → v ≡ w
 
--- always moving the lowest best house is a strategy, and the best for either side in every position
+-- always moving the lowest-numbered best house is a strategy, and the best for either side in every position
 pub record BestHouseIsBestPlay : Type 0 where
   pub is_strategy : IsStrategy best_house
   pub secures : (p : Position) → HasEqualSides p → Secures best_house p (worth p)

@@ -7,7 +7,7 @@ use Rattle.kalah_solve.specs.Solver.BestPlay.{IsBestPlay, IsBestMove}
 use Rattle.kalah_solve.specs.declared.solver.verdict.Verdict.{Verdict}
 use Rattle.kalah_solve.specs.declared.solver.verdict.Verdict.TheVariants.{Best, Over}
 
--- the final margin of a game that is over, otherwise the margin of best play with the lowest house that attains it
+-- the final margin of a game that is over, otherwise the margin of best play with the lowest-numbered best house
 abbrev pub verdict_of : Position → Verdict
 verdict_of p = if is_over p then Over (final_margin p) else Best (worth p) (best_house p)
 
@@ -21,7 +21,7 @@ abbrev pub IsSmallVerdict : Verdict → Type 0
 IsSmallVerdict (Best margin house) = IsSmallBest margin house
 IsSmallVerdict (Over margin) = IsSmallMargin margin
 
--- the game goes on, and the house is the lowest best move, which secures the margin of best play
+-- the game goes on, and the house is the lowest-numbered best house, which secures the margin of best play
 pub record TellsBestMove (p : Position) (margin : ℤ) (house : ℕ) : Type 0 where
   pub going : is_over p ≡ false
   pub best : IsBestMove p house margin
@@ -33,7 +33,7 @@ pub record TellsEnd (p : Position) (margin : ℤ) : Type 0 where
   pub final : margin ≡ final_margin p
   pub best_play : IsBestPlay p margin
 
--- the verdict states the margin of best play and the lowest best move, or the margin of a game that is over
+-- the verdict states the margin of best play and the lowest-numbered best house, or the margin of a game that is over
 abbrev pub TellsBestPlay : Position → Verdict → Type 0
 TellsBestPlay p (Best margin house) = TellsBestMove p margin house
 TellsBestPlay p (Over margin) = TellsEnd p margin

@@ -31,7 +31,7 @@ worth p = worth_within (moves_left p) p
 abbrev pub value_of_move : Position → ℕ → ℤ
 value_of_move p h = value_by worth p h
 
--- the lowest house that attains the margin of best play
+-- the lowest-numbered house that attains the margin of best play
 abbrev pub best_house : Position → ℕ
 best_house p = unwrap_or (find (λ h. int_eq (value_of_move p h) (worth p)) (legal_houses p)) 0
 

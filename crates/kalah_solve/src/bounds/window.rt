@@ -49,8 +49,8 @@ impl Window {
         margin.clamp(self.lo, self.hi)
     }
 
-    /// Returns what the answer of a search in this window implies: an answer inside the window is the worth, one at
-    /// its lower end is an upper bound, and one at its upper end a lower bound.
+    /// Returns what the answer of a search in this window implies. An answer inside the window is the worth. One at its lower end is an
+    /// upper bound, and one at its upper end a lower bound. The answer must be in the window, with its ends.
     pub fn interval_of(self, answer: i32) -> Interval
         requires least { self.lo ≤ℤ answer }
         requires most { answer ≤ℤ self.hi }

@@ -45,11 +45,11 @@ impl MoveOrder {
         weight
     }
 
-    /// Returns the estimate for a turn of house `h` of `m` that brought `gained` seeds to the store and leaves these houses to the other
-    /// player, times 8, and what names the house: so two turns of a position are never equal, and of equal estimates the house nearest
-    /// the store comes first.
+    /// Returns the priority of a turn of house `h` of `m` that brought `gained` seeds to the store and leaves these houses to the other
+    /// player. It is an estimate times 8, plus `h - 1`, which names the house. So two turns of a position are never equal, and of equal
+    /// estimates the house nearest the store comes first.
     ///
-    /// It counts what came to the store, the place of the house, and each house that is left, by its place and its seeds.
+    /// The estimate counts what came to the store, the place of the house, and each house that is left, by its place and its seeds.
     #[inline(always)]
     pub(crate) fn priority(&self, m: u8, h: u8, gained: u8, next: &Houses) -> u16
         requires side { m ≤ 6 }

@@ -5,7 +5,7 @@ ghost use Rattle.kalah_solve.specs.Table.EndgameTable.{most_ending_seeds};
 use crate::table::endgame_table::MOST_ENDING_SEEDS;
 use kalah_rules::Houses;
 
-// The nodes of a game from which on all places pay, and endings of 8 seeds, not only those of up to 7: to find an ending costs as much as
+// The nodes of a game from which on all places pay, and endings of 8 seeds, not only those of up to 7. To find an ending costs as much as
 // a node.
 const SOME_NODES: u64 = 8_000;
 
@@ -43,6 +43,7 @@ pub(super) struct Work {
 }
 
 impl Work {
+    /// Makes a count of no nodes.
     pub(super) fn new() -> Work {
         Work {
             game: 0,
@@ -78,7 +79,7 @@ impl Work {
         self.nodes
     }
 
-    /// Counts one more node. Returns whether more pays from this one on.
+    /// Counts one more node. Returns whether more endings or places may pay from this one on.
     #[inline(always)]
     pub(super) fn count_node(&mut self) -> bool {
         self.nodes = self.nodes.saturating_add(1);

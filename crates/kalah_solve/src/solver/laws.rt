@@ -2,8 +2,8 @@
 ghost use Rattle.kalah_solve.specs.Solver.Laws.{WorthOfOver, WorthIsGreatestValue, WorthIsMostOfMoves, GameThatGoesOnHasMove, CountPlaysNoPart, BestHouseIsLowest, StoresShiftWorth, StoresKeepBestHouse, StrategiesPlayAGame, StrategiesPlayOneGame, GamesEnd, WorthIsBestPlay, BestPlayIsOne, BestHouseIsBestPlay, BestPlayAgainstStrategies, BestMovesAttain, BestVerdictIsOne};
 ghost use Rattle.kalah_solve.specs.Solver.MoveValues.{ValueIsWorthOfMove, WorthOfMoveIsOne, ValuesTellVerdict};
 
-/// The worth of a position: that of a game that is over is its final margin, and that of any other position is
-/// the greatest value of a legal move. Such a position has at least one legal move.
+/// The worth of a game that is over is its final margin. That of any other position is the greatest value of a legal move. Such a
+/// position has at least one legal move.
 pub fn worth_is_greatest_value()
     ensures over { WorthOfOver }
     ensures going { WorthIsGreatestValue }
@@ -12,13 +12,13 @@ pub fn worth_is_greatest_value()
     ensures count { CountPlaysNoPart }
 {}
 
-/// The best house of a game that goes on is the lowest legal house whose value is the worth of the position.
+/// The best house of a game that goes on is the lowest-numbered legal house whose value is the worth of the position.
 pub fn best_house_is_lowest()
     ensures { BestHouseIsLowest }
 {}
 
-/// Stores do not influence play: the worth of a position is the difference of the stores plus the worth of its houses with
-/// empty stores, and the best house is the same for any stores.
+/// Stores do not influence play. The worth of a position is the difference of the stores plus the worth of its houses with empty stores.
+/// The best house is the same for any stores.
 pub fn stores_only_shift()
     ensures worth { StoresShiftWorth }
     ensures house { StoresKeepBestHouse }
@@ -32,9 +32,9 @@ pub fn players_play_one_game()
     ensures end { GamesEnd }
 {}
 
-/// The worth of a position is the margin of best play: the player to move has a strategy that gets at least as much
-/// against any play of the other player, the other player has one that allows no more, and no other margin is both. Always
-/// moving the lowest best house is such a strategy, for either player and in every position.
+/// The worth of a position is the margin of best play. The player to move has a strategy that gets at least as much against any play of
+/// the other player, who has one that allows no more. No other margin is both. Always moving the lowest-numbered best house is such a
+/// strategy, for either player and in every position.
 pub fn worth_is_best_play()
     ensures worth { WorthIsBestPlay }
     ensures one { BestPlayIsOne }
@@ -52,14 +52,14 @@ pub fn best_verdict_is_one()
     ensures { BestVerdictIsOne }
 {}
 
-/// The value of a move is what it secures, and no more: the player to move has a strategy that begins with it and gets at
-/// least as much, the other player has one that allows no more after it, and no other margin is both.
+/// The value of a move is what it secures, and no more. The player to move has a strategy that begins with it and gets at least as much.
+/// The other player has one that allows no more after it. No other margin is both.
 pub fn value_is_worth_of_move()
     ensures worth { ValueIsWorthOfMove }
     ensures one { WorthOfMoveIsOne }
 {}
 
-/// In a game that goes on, the verdict is the greatest of the moves' values and the first house that has it.
+/// In a game that goes on, the verdict is the greatest of the moves' values and the lowest-numbered house that has it.
 pub fn values_tell_verdict()
     ensures { ValuesTellVerdict }
 {}

@@ -67,7 +67,7 @@ impl MoveValues {
         self.count
     }
 
-    /// Returns the value at index `i`, counted from 0.
+    /// Returns the value at index `i`, which counts from 0 and is below `len`.
     pub fn get(&self, i: u8) -> MoveValue
         requires { i < length self.now }
         ensures { slice_get self.now i ≡ Some result }

@@ -12,9 +12,9 @@ use kalah_rules::{Board, Step};
 use std::alloc::Allocator;
 
 impl<A: Allocator + Clone> Solver<A> {
-    /// Returns the value of each legal move to the player to move, with the houses in ascending order: the margin that the move gets
+    /// Returns the value of each legal move to the player to move, with the houses in ascending order. It is the margin that the move gets
     /// in best play, which is what it secures and no more. The list is empty if the game is over. The moves share what the table
-    /// learns, which is kept for later positions; if there is no memory for an entry, it is left out.
+    /// learns, which is kept for later positions. If there is no memory for an entry, it is left out.
     pub fn values(&mut self, board: &Board) -> MoveValues
         ensures values { result ≡ values_of board.now }
         ensures best_play { TellMoves board.now result }
@@ -28,7 +28,7 @@ impl<A: Allocator + Clone> Solver<A> {
         values
     }
 
-    // Returns the house `h` with the value of its move.
+    // Returns house `h` with the value of its move.
     fn move_value(&mut self, board: &Board, h: u8) -> MoveValue
         requires { Contains (legal_houses board.now) h }
         ensures { result ≡ move_value board.now h }

@@ -20,14 +20,15 @@ const MIX: u64 = 0x9E37_79B9_7F4A_7C15;
 // The number of values of what a place leaves open.
 const OPEN: u64 = 0x40_0000_0000_0000;
 
-// What is known of some houses that have this place, as one number: from bit 10 on what the place leaves open of their key, and
-// below it the most and the least that the mover takes. Initially it holds what is known of all houses.
+// What is known of some houses that have this place, as one number. From bit 10 on it has what the place leaves open of their key, and
+// below that the most and the least that the mover takes. Initially it holds what is known of all houses.
 #[derive(Clone, Copy)]
 struct Place {
     stored: u64,
 }
 
 impl Place {
+    // Returns the place that stores these bounds of the houses that leave this open.
     fn of(rest: u64, bounds: SeedBounds) -> Place
         requires rest { rest < 2 ^ 54 }
         requires least { bounds.least ≤ most_seeds }
@@ -40,12 +41,14 @@ impl Place {
         }
     }
 
+    // Returns what the place leaves open of the key of its houses.
     fn rest(self) -> u64
         ensures { result ≡ stored_rest self }
     {
         self.stored / 1024
     }
 
+    // Returns the bounds that it stores.
     fn bounds(self) -> SeedBounds
         ensures least { result.least ≡ stored_least self }
         ensures most { result.most ≡ stored_most self }
@@ -101,9 +104,9 @@ fn rest_of(mixed: u64) -> u64
 }
 
 impl<A: Allocator> DirectTable<A> {
-    /// Makes `count` places, or 1,024 if that is more.
+    /// Makes `count` places, or 1,024 if that is more, with nothing known.
     ///
-    /// Fails with `AllocError` if there is no memory for them.
+    /// Fails with `AllocError` only if memory was refused.
     pub(crate) fn new(alloc: A, count: u32) -> Result<DirectTable<A>, AllocError>
         ensures { IfOk result (λ p. length p ≡ places_for count) }
     {
@@ -123,7 +126,8 @@ impl<A: Allocator> DirectTable<A> {
         self.places.len()
     }
 
-    /// Returns what the place of the houses states of them: the share that the mover takes.
+    /// Returns what the place of the houses states of them: bounds of the seeds that the mover takes. They are 0 and all seeds if it is
+    /// about others.
     pub(crate) fn look_up(&self, houses: &Houses) -> SeedBounds
         ensures { IsWithinBounds result (won houses.now) }
     {
@@ -134,7 +138,7 @@ impl<A: Allocator> DirectTable<A> {
         }
     }
 
-    /// Stores in the place of the houses that the mover's share is within this one.
+    /// Stores in the place of the houses that what the mover takes is within these bounds.
     pub(crate) fn keep(&mut self, houses: &Houses, bounds: SeedBounds)
         requires { IsWithinBounds bounds (won houses.now) }
         ensures { length self.new ≡ length self.old }

@@ -134,7 +134,7 @@ fn sums_of(houses: &Houses) -> u64
 impl<A: Allocator> EndgameTable<A> {
     /// Makes a table with nothing known and room for all words.
     ///
-    /// Fails with `AllocError` if there is no memory for it.
+    /// Fails with `AllocError` only if memory was refused.
     pub(crate) fn new(alloc: A) -> Result<EndgameTable<A>, AllocError> {
         Ok(EndgameTable {
             words: empty_words(alloc)?,
@@ -143,7 +143,7 @@ impl<A: Allocator> EndgameTable<A> {
         })
     }
 
-    // Returns what two cells add to the rank of a row, with `past` pairs past them, from the number of seeds from each of them on.
+    // Returns what two cells add to the rank of a row, with `past` pairs past them. `sums` has the number of seeds from each of them on.
     fn pair(&self, past: usize, sums: u64) -> u32
         requires past { past < 6 }
         requires first { sums % 32 < COUNTS }

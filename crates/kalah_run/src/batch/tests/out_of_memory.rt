@@ -9,8 +9,8 @@ use std::sync::Wait;
 use std::test::Fail;
 use std::thread::Threads;
 
-// The result of the batch of the files, with a writer that has all its room. If memory is refused, nothing was written, and
-// else all answers.
+// The result of the batch of the files, with a writer that has all its room. If memory is refused, nothing was written,
+// otherwise all answers.
 fn answer_of<R: Abort + Threads + Wait + Sync>(
     rt: &R,
     alloc: Global,

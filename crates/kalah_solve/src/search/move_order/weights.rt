@@ -6,8 +6,8 @@ pub(super) const GAIN: u32 = 64;
 /// What the house of a turn counts: cell 6 is the house next to the store, and cell 1 the farthest of six. There is none past it.
 pub(super) static PLACES: [u8; 13] = [0, 0, 25, 26, 36, 43, 51, 0, 0, 0, 0, 0, 0];
 
-/// What a house counts after a turn, by the number of its seeds modulo 16, as hardly any holds more: the houses of the player who is to
-/// move, then those of the mover, each row from the house farthest from its store on.
+/// What a house counts after a turn, by the number of its seeds modulo 16, as hardly any holds more. First come the houses of the player
+/// who is to move, then those of the mover. Each row begins with the house farthest from its store.
 pub(super) static HOUSES: [[u8; 16]; 12] = [
     [
         28, 1, 0, 6, 20, 52, 51, 123, 116, 116, 116, 116, 116, 116, 116, 116,

@@ -8,10 +8,11 @@ use kalah_rules::Houses;
 use std::alloc::{AllocError, Allocator};
 use std::sync::atomic::{AtomicIn, Rule};
 
-// The number of words for all endings, by both rules, with 1 to 6 houses a side.
+// The number of words for all endings, by both rules, with m houses a side for m from 1 to 6. A game has an ending of up to 9 seeds for
+// each way to choose 2m of 2m + 9 things, and a word for each eight of them, rounded up.
 const WORDS: usize = 104_104;
 
-// The index of the first word of each game.
+// The index of the first word of each game, as `game_of` numbers them.
 pub(super) const FIRST_WORDS: [u32; 16] = [
     0, 0, 7, 97, 723, 3_762, 15_310, 0, 0, 52_052, 52_059, 52_149, 52_775, 55_814, 67_362, 0,
 ];
@@ -43,7 +44,7 @@ pub(super) fn label_of(houses: &Houses, rank: u32) -> u64
     game_of(houses) as u64 + 16 * (rank as u64 / 8)
 }
 
-// Returns entry `at` of a word: 0 if nothing is known, else one more than the mover takes.
+// Returns what a word stores at `at`: 0 if nothing is known, otherwise one more than the mover takes.
 pub(super) fn stored_at(word: u64, at: u32) -> u64
     requires { at < 8 }
     ensures { result ≡ stored_at word at }
@@ -51,7 +52,7 @@ pub(super) fn stored_at(word: u64, at: u32) -> u64
     (word >> (4 * at)) % 16
 }
 
-// Returns the word that was found if it has this label, else an empty word with the label.
+// Returns the word that was found if it has this label, otherwise an empty word with the label.
 pub(super) fn begun(label: u64, found: u64) -> u64
     requires small { label < 2 ^ 32 }
     requires found { StoresWon found }
@@ -65,7 +66,7 @@ pub(super) fn begun(label: u64, found: u64) -> u64
     }
 }
 
-// Returns the word with `told` stored at a place that was empty.
+// Returns the word with `stored` at a place that was empty.
 pub(super) fn with_stored(word: u64, at: u32, stored: u64) -> u64
     requires place { at < 8 }
     requires nothing { stored_at word at ≡ 0 }
@@ -75,7 +76,7 @@ pub(super) fn with_stored(word: u64, at: u32, stored: u64) -> u64
     word + (stored << (4 * at))
 }
 
-// Returns words with no ending known.
+// Returns words with no ending known. Fails only if memory was refused.
 pub(super) fn empty_words<A: Allocator>(
     alloc: A,
 ) -> Result<Vec<AtomicIn<TrueWord>, A>, AllocError> {
