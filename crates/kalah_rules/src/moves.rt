@@ -1,7 +1,9 @@
 //! The houses that may be moved.
 ghost use Rattle.std.specs.Prelude.{◌≡◌, ℕ, ◌<◌, [], ◌∷◌, ◌++◌, length, slice_index};
+ghost use Rattle.std.specs.Slice.Iter.{iter_rest};
 
 use std::marker::Model;
+use std::slice;
 
 /// The legal moves of a position: the houses that may be moved, in ascending order. At most six.
 #[derive(Clone, Copy, Debug, PartialEq, Eq)]
@@ -58,5 +60,24 @@ impl Moves {
         ensures { result ≡ slice_index self.now i }
     {
         self.houses[i as usize]
+    }
+
+    /// Returns an iterator over the houses, in ascending order.
+    pub fn iter(&self) -> slice::Iter<'_, u8>
+        ensures { iter_rest result ≡ self.now }
+    {
+        self.houses[..self.count as usize].iter()
+    }
+}
+
+impl<'a> IntoIterator for &'a Moves {
+    type Item = &'a u8;
+
+    type IntoIter = slice::Iter<'a, u8>;
+
+    ghost into_iter_gives = { λ of_them it. iter_rest it ≡ of_them.now };
+
+    fn into_iter(self) -> slice::Iter<'a, u8> {
+        self.iter()
     }
 }

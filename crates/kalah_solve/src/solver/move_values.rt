@@ -1,7 +1,9 @@
 //! The value of each move of a position.
 ghost use Rattle.std.specs.Prelude.{◌≡◌, ◌<◌, ◌≤◌, [], ◌∷◌, ◌++◌, length, slice_get, Some};
+ghost use Rattle.std.specs.Slice.Iter.{iter_rest};
 
 use std::marker::Model;
+use std::slice;
 
 /// A legal move and its value.
 #[derive(Clone, Copy, Debug, PartialEq, Eq)]
@@ -73,5 +75,24 @@ impl MoveValues {
         ensures { slice_get self.now i ≡ Some result }
     {
         self.values[i as usize]
+    }
+
+    /// Returns an iterator over the values, in the order of their houses.
+    pub fn iter(&self) -> slice::Iter<'_, MoveValue>
+        ensures { iter_rest result ≡ self.now }
+    {
+        self.values[..self.count as usize].iter()
+    }
+}
+
+impl<'a> IntoIterator for &'a MoveValues {
+    type Item = &'a MoveValue;
+
+    type IntoIter = slice::Iter<'a, MoveValue>;
+
+    ghost into_iter_gives = { λ of_them it. iter_rest it ≡ of_them.now };
+
+    fn into_iter(self) -> slice::Iter<'a, MoveValue> {
+        self.iter()
     }
 }

@@ -164,10 +164,9 @@ fn tells_values_of_worked_positions(rt: HostRuntime) {
     for (m, own, other, rule, want) in VALUES {
         let values = solver.values(&board(&rt, m, own, other, rule));
         assert!(rt; usize::from(values.len()) == want.len());
-        for i in 0..values.len() {
-            let told = values.get(i);
-            assert!(rt; told.house == i + 1);
-            assert!(rt; Some(&told.value) == want.get(usize::from(i)));
+        for (i, told) in values.iter().enumerate() {
+            assert!(rt; usize::from(told.house) == i + 1);
+            assert!(rt; Some(&told.value) == want.get(i));
         }
     }
 }
