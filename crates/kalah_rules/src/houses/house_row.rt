@@ -1,5 +1,5 @@
 //! The houses of one side, put together one by one.
-ghost use Rattle.std.specs.Prelude.{◌≡◌, ◌+◌, ◌<◌, ◌≤◌, ◌↔◌, [], ◌∷◌, ◌++◌, length, sum, IsTrue, MatchBool};
+ghost use Rattle.std.specs.Prelude.{◌≡◌, ◌+◌, ◌<◌, ◌≤◌, ◌^◌, ◌↔◌, [], ◌∷◌, ◌++◌, length, sum, IsTrue, MatchBool};
 ghost use Rattle.kalah_rules.specs.Key.{number_of};
 ghost use Rattle.kalah_rules.specs.Limits.{most_houses, most_seeds};
 
@@ -60,7 +60,7 @@ impl HouseRow {
     /// Returns the number of houses, at most 6.
     pub fn len(&self) -> u8
         ensures is { result ≡ length self.now }
-        ensures low { result ≤ most_houses }
+        ensures few { result ≤ most_houses }
     {
         self.count
     }
@@ -68,7 +68,7 @@ impl HouseRow {
     // Returns the houses as a number.
     pub(super) fn number(&self) -> u64
         ensures value { result ≡ number_of self.now }
-        ensures small { result < 1073741824 }
+        ensures small { result < 2 ^ 30 }
     {
         self.number
     }
@@ -76,7 +76,7 @@ impl HouseRow {
     // Returns the number of seeds.
     pub(super) fn seeds(&self) -> u64
         ensures value { result ≡ sum self.now }
-        ensures low { result ≤ most_seeds }
+        ensures few { result ≤ most_seeds }
     {
         self.seeds
     }

@@ -10,7 +10,7 @@ use crate::bounds::window::Window;
 use kalah_rules::{Houses, MOST_SEEDS};
 
 /// Bounds on the number of seeds in houses that a player takes, both inclusive.
-#[derive(Clone, Copy, Debug, PartialEq, Eq)]
+#[derive(Clone, Copy)]
 pub(crate) struct SeedBounds {
     pub least: u8,
     pub most: u8,
