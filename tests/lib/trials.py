@@ -160,6 +160,9 @@ FILLED = 7_000
 # A line that is answered at once.
 QUICK = b"1/0 1/0\n"
 
+# Where lines stand that go out together.
+FEW_WRITES = ["file", "standard input"]
+
 # The address space of runs, in kB: of one with few lines, and of one with as many workers and as large tables as there may be. Each needs
 # about half of that or less. And the most that the second may have in memory at once, in kB, if its lines are quick.
 LITTLE_SPACE = 24_000
@@ -653,6 +656,19 @@ class Trials(AskTrials):
         os.close(reader)
         self.look_at_progress(shown.decode(), sum(len(reference.lines_of(data)) for _, data in files), place == "terminal")
 
+    def progress_is_ended(self):
+        """If a write fails, the line of progress that is rewritten on a terminal is ended before that is said."""
+        self.put({"a": b"".join(self.drawn.full_position() + b"\n" for _ in range(200))})
+        reader, writer = two_ends("terminal")
+        with open("/dev/full", "wb") as full, self.start([self.searching(), "--progress", "a"], stdout=full, stderr=writer) as process:
+            os.close(writer)
+            said = read_all(reader)
+            status = process.wait(PATIENCE)
+        os.close(reader)
+        rows = rb"(\rkalah: \d+ of 200 lines, \d+ %(, \d+ \w+ left)?\x1b\[K)+\nkalah: write failed\n"
+        if status != 2 or not re.fullmatch(rows, said) or b" 200 of " in said:
+            raise Differs(f"status {status}, and progress is shown as {said[-200:]!r}")
+
     def files_of_progress(self, lines):
         """Returns two files for a run with `--progress`."""
         if lines == "quick":
@@ -762,10 +778,14 @@ class Trials(AskTrials):
     def few_writes(self):
         """Lines that are answered quickly go out together."""
         lines = 10_000
-        self.put({"a": b"1/0 1/0\n" * lines})
-        want = reference.answers("solve", [(b"a", b"1/0 1/0\n" * lines)])
+        data = QUICK * lines
+        self.put({"a": data})
+        if self.drawn.card("few writes", FEW_WRITES) == "file":
+            words, want = ["solve", "--workers=2", "a"], reference.answers("solve", [(b"a", data)])
+        else:
+            words, want = ["ask"], reference.asked("solve", data)
         reader, writer = socket.socketpair(socket.AF_UNIX, socket.SOCK_SEQPACKET)
-        with reader, self.start(["solve", "--workers=2", "a"], stdout=writer) as process:
+        with reader, open(self.files / "a", "rb") as file, self.start(words, stdin=file, stdout=writer) as process:
             writer.close()
             pieces = list(iter(lambda: reader.recv(1 << 20), b""))
             self.compare(want, self.end_of(process)._replace(out=b"".join(pieces)))
@@ -814,6 +834,7 @@ KINDS = {
     "busy_workers": len(BUSY_WORKERS),
     "few_lines": len(FEW_LINES),
     "progress": len(PROGRESS),
+    "progress_is_ended": 1,
     **ASK_KINDS,
     "one_pipe_twice": 2,
     "a_named_pipe_twice": 2,
@@ -822,6 +843,6 @@ KINDS = {
     "tables_as_asked": len(ONE_SEARCH),
     "few_lines_in_little_space": len(SUBCOMMANDS),
     "no_word": 1,
-    "few_writes": 1,
+    "few_writes": len(FEW_WRITES),
     "waits_at_rest": 3,
 }

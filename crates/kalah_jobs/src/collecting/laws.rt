@@ -3,7 +3,7 @@ ghost use Rattle.kalah_jobs.specs.Collecting.Refusals.{RefusalsLaw};
 ghost use Rattle.kalah_jobs.specs.Collecting.CollectorLaw.{CollectorLaw};
 ghost use Rattle.kalah_jobs.specs.Collecting.Batch.{SharesLaw, OffersLaw, FrontsLaw};
 
-/// An offer is either accepted or meets one refusal, the first that holds.
+/// No offer that is wanted meets a refusal, and none meets two: so each is answered in one way only.
 pub fn answers_in_one_way()
     ensures { RefusalsLaw }
 {}
@@ -13,7 +13,8 @@ pub fn keeps_its_law()
     ensures { CollectorLaw }
 {}
 
-/// If each job was drawn once and each worker sent the outcomes of its row, each job's outcome is received once.
+/// If each job was drawn once and each worker sent the outcomes of its row, then once as many outcomes are received as there are jobs,
+/// each job's is received once.
 pub fn gets_each_job_once()
     ensures { SharesLaw }
 {}

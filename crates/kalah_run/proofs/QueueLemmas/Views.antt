@@ -3,7 +3,9 @@ use Rattle.std.proofs.Common.{◌≡◌, ◌≢◌, ℕ, zero, suc, ◌<◌, Lis
 use mathlib.Core.Option.{some, some-injective, some-ne-none}
 use lib.ListN.{get_elem?}
 use Rattle.crossbeam_queue.proofs.Lists.{at_set}
+use Rattle.kalah_jobs.specs.declared.files.job.Job.{Job}
 use Rattle.kalah_run.specs.declared.queue.rule.QueueView.{QueueView}
+use Rattle.kalah_run.specs.declared.queue.rule.QueueView.TheVariants.{Getting}
 
 -- a fact of each view at its place
 abbrev pub Each : (ℕ → QueueView → Type 0) → List QueueView → Type 0
@@ -58,3 +60,8 @@ first_longer (x ∷ xs) v w e = e
 pub each_one : (F : ℕ → QueueView → Type 0) (v : QueueView) → F 0 v → Each F (v ∷ [])
 each_one F v p zero u e = subst (λ (y : QueueView). F 0 y) (some-injective v u e) p
 each_one F v p (suc place) u e = absurd (some-ne-none u (sym e))
+
+-- what the workers whose passes were reclaimed had sent
+abbrev pub known_in : QueueView → List (List Job)
+known_in (Getting made got known) = known
+known_in _ = []

@@ -1,5 +1,5 @@
 -- The rows of a desk: for each pass the numbers that it has drawn, and whether it is spent.
-use Rattle.std.specs.Prelude.{◌≡◌, ◌≢◌, ℕ, ◌+◌, ◌<◌, ◌≤◌, ◌==◌, List, length, map, fold, Bool, nat_lt, if◌then◌else◌, sum_by, count_by, All, AllPairs, slice_index_or}
+use Rattle.std.specs.Prelude.{◌≡◌, ◌≢◌, ℕ, ◌+◌, ◌<◌, ◌≤◌, ◌==◌, List, length, map, Bool, nat_lt, if◌then◌else◌, sum_by, count_by, All, AllPairs, slice_index_or}
 use Rattle.kalah_jobs.specs.Collecting.Shares.{times_in}
 use Rattle.kalah_run.specs.declared.desk.rule.DrawnRow.{DrawnRow}
 
@@ -37,10 +37,6 @@ pub record StandsOnce (x : ℕ) (rows : List DrawnRow) : Type 0 where
 -- x stands in no row
 abbrev pub StandsNowhere : ℕ → List DrawnRow → Type 0
 StandsNowhere x rows = All (λ r. count_by (λ y. y == x) r.numbers ≡ 0) rows
-
--- one above the last number of a row, and 0 for an empty row: it grows with each draw, so the total bounds the draws of a loop
-abbrev pub least_above : List ℕ → ℕ
-least_above numbers = fold (λ above x. x + 1) 0 numbers
 
 -- The rows hold the first `drawn` of the numbers below the total: each number below `drawn` stands in one row, and there once; no other
 -- stands in any; and each row ascends. A pass is spent only if all numbers are drawn.

@@ -24,11 +24,6 @@ abbrev pub got_in : QueueView → List (ℕ × Job)
 got_in (Getting made got known) = got
 got_in _ = []
 
--- what the workers whose passes were reclaimed had sent
-abbrev pub known_in : QueueView → List (List Job)
-known_in (Getting made got known) = known
-known_in _ = []
-
 -- one pass more was made
 abbrev pub after_making_one : QueueView → QueueView
 after_making_one (Getting made got known) = Getting (made + 1) got known

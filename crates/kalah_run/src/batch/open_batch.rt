@@ -77,7 +77,7 @@ pub(crate) fn take_apart(
 /// A batch that is open: what its workers share, the workers, and the pass to get what they send. Two lists have room for the return of
 /// their passes.
 #[derive(Drop)]
-pub(crate) struct OpenBatch<'a, G: Gate> {
+pub(crate) struct OpenBatch<'a, G> {
     pub(crate) shared: SharedWork<'a, G>,
     pub(crate) workers: Vec<Worker>,
     pub(crate) get: GetPass,

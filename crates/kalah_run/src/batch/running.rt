@@ -1,5 +1,5 @@
 //! Runs the workers on further threads, while the calling thread accepts what they send.
-ghost use Rattle.std.specs.Prelude.{◌≡◌, ◌+◌, ◌≤◌, ◌⊎◌, [], length, false, IfErr, IfNone, IfOk, MatchOption, OnErr};
+ghost use Rattle.std.specs.Prelude.{◌≡◌, ◌+◌, ◌≤◌, ◌⊎◌, [], length, false, true, IfErr, IfNone, IfOk, MatchOption, OnErr};
 ghost use Rattle.std.specs.Io.KnownBytes.{Keeps};
 ghost use Rattle.std.specs.Thread.{IsSync};
 ghost use Rattle.kalah_jobs.specs.Files.Jobs.{job_count};
@@ -27,21 +27,29 @@ use std::thread::{Promise, Threads};
 
 // The thread returns the list of workers that it was given, and each has run.
 #[derive(Drop)]
-struct AllHaveRun<'a, 'b, G: Gate>(Snapshot<Crew<'a, 'b, G>>);
+struct AllHaveRun<'a, 'b, G>(Snapshot<Crew<'a, 'b, G>>);
 
-impl<'a, 'b, G: Gate> Promise<Vec<Worker>> for AllHaveRun<'a, 'b, G> {
+impl<'a, 'b, G> Promise<Vec<Worker>> for AllHaveRun<'a, 'b, G> {
     ghost use Rattle.kalah_run.specs.Batch.AtWork.{HaveRun};
 
     ghost kept_by = { λ p r. HaveRun p.0.value.shared.now p.0.value.workers.items r.items };
 }
 
 // Gets an outcome that may come late.
-fn get_later<R: Wait, W: Sink>(rt: &R, queue: &ResultsQueue, get: &mut GetPass, out: &W) -> Outcome
+fn get_later<R: Wait, V: Watch, W: Sink>(
+    rt: &R,
+    queue: &ResultsQueue,
+    get: &mut GetPass,
+    watch: &V,
+    out: &W,
+) -> Outcome
     requires queue { get.old.queue ≡ queue.now.id }
+    requires known { V.is_waiting watch.now ≡ true }
     // The sink has flushed all that was written, unless it may keep bytes in its buffer while its caller waits.
     requires ready { IsReady (W.has_failed out.now) (W.may_hold_back out.now) (W.is_handed_on out.now) }
     ensures { HasGot get.old result get.new }
 {
+    let _ = watch;
     let _ = out;
     queue.get(rt, get)
 }
@@ -85,7 +93,7 @@ fn flush_and_get<R: Wait, G: Gate, V: Watch, W: Sink>(
         return get_last(rt, &shared.queue, get, out);
     }
     watch.waits();
-    Some(get_later(rt, &shared.queue, get, out))
+    Some(get_later(rt, &shared.queue, get, watch, out))
 }
 
 // Accepts the outcome of each job, and writes each line once it is ready and all earlier ones are written; then it flushes the output.

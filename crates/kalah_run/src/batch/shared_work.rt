@@ -13,7 +13,7 @@ use std::sync::atomic::Ordering::SeqCst;
 /// What all workers of a batch share: the desk at which they draw, the queue through which they send, the jobs and the gate. It also has
 /// what happens to the rest after a failed write, and whether they are to stop.
 #[derive(Drop)]
-pub(crate) struct SharedWork<'a, G: Gate> {
+pub(crate) struct SharedWork<'a, G> {
     pub(crate) desk: Desk,
     pub(crate) queue: ResultsQueue,
     pub(crate) jobs: &'a Jobs,

@@ -1,13 +1,18 @@
 //! The watch: an observer of the progress of a batch.
+ghost use Rattle.std.specs.Prelude.{◌≡◌, Bool, true};
 
 /// An observer of the progress of a batch. The calling thread calls `accepts` for each outcome that it has accepted, once the answers
 /// that are ready are written. It calls `waits` before it waits for an outcome. A watch that blocks delays the batch.
 pub trait Watch {
+    /// Whether the watch knows that the next outcome has not come yet. By default there is nothing to know.
+    ghost is_waiting: { Self → Bool } = { λ _. true };
+
     /// One more line is answered.
     fn accepts(&mut self);
 
     /// The next outcome has not come yet.
-    fn waits(&mut self);
+    fn waits(&mut self)
+        ensures known { is_waiting self.new ≡ true };
 }
 
 /// The watch that does nothing.

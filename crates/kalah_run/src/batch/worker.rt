@@ -1,4 +1,7 @@
 //! A worker of a batch, and how all of them are run.
+ghost use Rattle.std.specs.Prelude.{◌≡◌, ◌<◌, Some, slice_get, true};
+ghost use Rattle.kalah_jobs.specs.Files.JobList.{job_list};
+ghost use Rattle.kalah_jobs.specs.Files.Jobs.{job_count};
 ghost use Rattle.kalah_run.specs.Batch.AtWork.{IsAtWork, AreAtWork, HasRun, HaveRun};
 
 use crate::batch::gate::Gate;
@@ -7,11 +10,22 @@ use crate::desk::pass::Pass;
 use crate::limits::MOST_WORKERS;
 use crate::queue::passes::PutPass;
 use crossbeam_utils::CachePadded;
-use kalah_jobs::Outcome;
+use kalah_jobs::{Jobs, Outcome};
 use kalah_solve::Solver;
 use std::sync::Wait;
 use std::thread;
 use std::thread::Threads;
+
+// Finds the outcome of a job. The gate knows that the worker has it.
+#[inline(always)]
+fn find<G: Gate>(jobs: &Jobs, gate: &G, job: u32, solver: &mut Solver) -> Outcome
+    requires there { job < job_count jobs.now }
+    requires known { G.knows gate.now job ≡ true }
+    ensures { slice_get (job_list jobs.now) job ≡ Some result }
+{
+    let _ = gate;
+    Outcome::of_job(jobs, job, solver)
+}
 
 /// One worker of a batch: the pass by which it draws, the pass by which it sends, and its solver.
 #[derive(Drop)]
@@ -33,7 +47,7 @@ impl Worker {
                 return;
             };
             shared.gate.before(drawn);
-            let outcome = Outcome::of_job(shared.jobs, drawn, &mut self.solver);
+            let outcome = find(shared.jobs, shared.gate, drawn, &mut self.solver);
             shared.queue.put(rt, &mut self.put, outcome);
             shared.gate.after(drawn);
         }
@@ -42,7 +56,7 @@ impl Worker {
 
 /// The workers of a batch and what they share, handed over to be run.
 #[derive(Drop)]
-pub(crate) struct Crew<'a, 'b, G: Gate> {
+pub(crate) struct Crew<'a, 'b, G> {
     pub(crate) shared: &'a SharedWork<'b, G>,
     pub(crate) workers: Vec<Worker>,
 }

@@ -1,8 +1,8 @@
 //! Batches in which workers wait for one another: jobs are solved in parallel, drawn by any free worker, and written
-//! while later ones are under way.
+//! while later ones are under way. The watch is told of an answer once it is written.
 use super::{ONE_AND_TWO, answers, file_of, lines_are_answered};
-use crate::{Gate, Tally, solve_batch};
-use kalah_jobs::{FileText, Stream};
+use crate::{BatchSize, Gate, Rest, Tally, Watch, answer_batch};
+use kalah_jobs::{FileText, Question, Stream};
 use std::alloc::Global;
 use std::io::Write;
 use std::process::Abort;
@@ -165,6 +165,23 @@ impl Write for Telling<'_> {
     }
 }
 
+/// Counts the outcomes that are accepted, if as many lines are written then.
+#[derive(Drop)]
+struct Following<'a> {
+    written: &'a Events,
+    accepted: u32,
+}
+
+impl Watch for Following<'_> {
+    fn accepts(&mut self) {
+        if self.written.count.load(SeqCst) > self.accepted {
+            self.accepted = self.accepted.saturating_add(1);
+        }
+    }
+
+    fn waits(&mut self) {}
+}
+
 #[test]
 fn a_line_is_written_before_the_next_job_begins(rt: HostRuntime) {
     let files = two_lines(&rt, rt.alloc());
@@ -178,7 +195,26 @@ fn a_line_is_written_before_the_next_job_begins(rt: HostRuntime) {
         lines: 2,
         faults: 0,
     };
-    assert!(rt; solve_batch(&rt, rt.alloc(), &files, 1, 16, &gate, &mut out) == Ok(tally));
+    let size = BatchSize {
+        workers: 1,
+        table: 16,
+    };
+    let mut watch = Following {
+        written: &written,
+        accepted: 0,
+    };
+    let told = answer_batch(
+        &rt,
+        rt.alloc(),
+        Question::BestMove,
+        &files,
+        size,
+        Rest::Solve,
+        &gate,
+        &mut watch,
+        &mut out,
+    );
+    assert!(rt; told == Ok(tally) && watch.accepted == 2);
     assert!(rt; out.into_inner().bytes.as_slice() == TWO.as_bytes());
     assert!(rt; written.came());
 }
