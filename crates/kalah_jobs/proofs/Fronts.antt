@@ -13,11 +13,10 @@ front_within (None ∷ xs) = omega arith
 front_within (Some a ∷ xs) = omega (arith, front_within xs)
 
 -- each line below the front has come
-pub front_came : (xs : List (Option Answer)) (k : ℕ) → k < front_of xs → is_some (get_or xs k None) ≡ true
-front_came [] k low = absurd (omega arith)
-front_came (None ∷ xs) k low = absurd (omega arith)
-front_came (Some a ∷ xs) zero low = refl
-front_came (Some a ∷ xs) (suc k) low = front_came xs k (omega arith)
+pub front_came : (xs : List (Option Answer)) (k : ℕ) (d : Option Answer) → k < front_of xs → is_some (get_or xs k d) ≡ true
+front_came (Some a ∷ xs) zero d low = refl
+front_came (Some a ∷ xs) (suc k) d low = front_came xs k d (omega arith)
+front_came xs k d low = absurd (omega arith)
 
 -- the front does not pass a gap
 pub front_stops : (xs : List (Option Answer)) (k : ℕ) → is_some (get_or xs k None) ≡ false → front_of xs ≤ k

@@ -1,11 +1,10 @@
 -- What is answered, line by line.
 use Rattle.std.proofs.Common.{◌≡◌, ◌≢◌, ◌∙◌, ℕ, zero, suc, ◌+◌, ◌<◌, ◌≤◌, Bool, true, false, List, [], ◌∷◌, ◌++◌, length, take, inl, inr, refl, sym, ap, ap₂, arith, append-nil, append_assoc, map, Err, not, ◌||◌, ◌&&◌}
 use Rattle.std.specs.Prelude.{Result, Ok, if◌then◌else◌}
-use Rattle.std.specs.List.{flat_map, enumerate_from, join_with_byte, list_any, onto_first}
+use Rattle.std.specs.List.{flat_map, enumerate_from, join_with_byte, list_any}
 use Rattle.std.proofs.lemmas.Bool.{cases_lt}
 use Rattle.std.proofs.lemmas.Grind.{flat_map-append}
 use Rattle.std.proofs.lemmas.List.{length-take-le, take_all}
-use Rattle.std.proofs.lemmas.List.Elements.{All-head, All-tail}
 use Rattle.std.proofs.lemmas.List.Folds.{list_any-append}
 use Rattle.kalah_rules.specs.Position as position
 use Rattle.kalah_rules.specs.Position.{is_over}
@@ -26,32 +25,20 @@ use Rattle.kalah_jobs.specs.declared.line.line_fault.LineFault.TheVariants.{Long
 use Rattle.kalah_jobs.specs.Writing.Answer.{answer_of, answer_texts, answer_words, is_fault, place_words, IsOfOneLine}
 use Rattle.kalah_jobs.specs.Writing.Output.{is_faulty, line_output}
 use Rattle.kalah_jobs.specs.Writing.Splitting.{EndsWithItsLine}
-use Rattle.kalah_jobs.proofs.FilesLemmas.SplitLines.{lines_of-byte}
+use Rattle.kalah_jobs.proofs.FilesLemmas.SplitLines.{lines_of-ended, lines_of-open}
 use Rattle.kalah_jobs.proofs.LineLemmas.Readings.{long_is_read}
 use Rattle.kalah_jobs.proofs.WritingLemmas.SplitFiles.{files_split_between_lines}
 
 -- ---- the lines of a piece
 
--- the byte is no line feed
-abbrev pub IsOther : ℕ → Type 0
-IsOther byte = byte ≢ line_feed
-
 -- a piece that ends is one line
 pub lines_of_ended : (piece : List ℕ) → HasNoLineFeed piece → lines_of (piece ++ line_feed ∷ []) ≡ piece ∷ []
 unfolding lines_of
-lines_of_ended [] none = refl
-lines_of_ended (byte ∷ piece) none =
-    lines_of-byte byte (piece ++ line_feed ∷ []) (All-head IsOther byte piece none)
-    ∙ ap (onto_first byte) (lines_of_ended piece (All-tail IsOther byte piece none))
+lines_of_ended piece none = lines_of-ended piece [] none
 
 -- a piece that isn't empty is one line if nothing follows
-pub lines_of_open : (byte : ℕ) (piece : List ℕ) → HasNoLineFeed (byte ∷ piece)
-    → lines_of (byte ∷ piece) ≡ (byte ∷ piece) ∷ []
-unfolding lines_of
-lines_of_open byte [] none = lines_of-byte byte [] (All-head IsOther byte [] none)
-lines_of_open byte (next ∷ piece) none =
-    lines_of-byte byte (next ∷ piece) (All-head IsOther byte (next ∷ piece) none)
-    ∙ ap (onto_first byte) (lines_of_open next piece (All-tail IsOther byte (next ∷ piece) none))
+lines_of_open : (byte : ℕ) (piece : List ℕ) → HasNoLineFeed (byte ∷ piece) → lines_of (byte ∷ piece) ≡ (byte ∷ piece) ∷ []
+lines_of_open byte piece none = lines_of-open (byte ∷ piece) none (λ e. cc)
 
 no_lines : lines_of [] ≡ []
 unfolding lines_of

@@ -1,5 +1,5 @@
 -- A test by which one offer is found in a list: it holds only of that offer.
-use Rattle.std.proofs.Common.{◌≡◌, Bool, true, false, ◌&&◌, ◌==◌, refl, ap, ◌∙◌, eq-eqb}
+use Rattle.std.proofs.Common.{◌≡◌, Bool, true, false, ◌&&◌, ◌==◌, refl, ap, ap₂, eq-eqb}
 use Rattle.std.proofs.lemmas.Bool.{and_parts, and_from, eqb-true, false≢true}
 use Rattle.std.specs.Coded.{Coded, codes}
 use base.Stored.{Gv, gnil, gnum, gcons}
@@ -12,29 +12,19 @@ coded_job = hlevel codes
 -- the same code
 same_code : Gv → Gv → Bool
 same_code gnil gnil = true
-same_code gnil (gnum n) = false
-same_code gnil (gcons a b) = false
-same_code (gnum m) gnil = false
 same_code (gnum m) (gnum n) = m == n
-same_code (gnum m) (gcons a b) = false
-same_code (gcons a b) gnil = false
-same_code (gcons a b) (gnum n) = false
 same_code (gcons a b) (gcons c d) = same_code a c && same_code b d
+same_code x y = false
 
 -- which are then equal
 same_code_means : (x y : Gv) → same_code x y ≡ true → x ≡ y
 unfolding same_code
 same_code_means gnil gnil h = refl
-same_code_means gnil (gnum n) h = absurd (false≢true h)
-same_code_means gnil (gcons a b) h = absurd (false≢true h)
-same_code_means (gnum m) gnil h = absurd (false≢true h)
 same_code_means (gnum m) (gnum n) h = ap gnum (eqb-true m n h)
-same_code_means (gnum m) (gcons a b) h = absurd (false≢true h)
-same_code_means (gcons a b) gnil h = absurd (false≢true h)
-same_code_means (gcons a b) (gnum n) h = absurd (false≢true h)
 same_code_means (gcons a b) (gcons c d) h =
     let parts = and_parts (same_code a c) (same_code b d) h in
-    ap (λ x. gcons x b) (same_code_means a c parts.0) ∙ ap (λ x. gcons c x) (same_code_means b d parts.1)
+    ap₂ gcons (same_code_means a c parts.0) (same_code_means b d parts.1)
+same_code_means x y h = absurd (false≢true h)
 
 -- a code is the same as itself
 same_code_itself : (x : Gv) → same_code x x ≡ true

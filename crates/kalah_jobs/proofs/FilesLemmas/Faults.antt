@@ -1,7 +1,6 @@
 -- The lines that are answered by a fault are those that are not read.
-use Rattle.std.proofs.Common.{◌≡◌, ℕ, suc, ◌+◌, List, [], ◌∷◌, cond, refl, ap, sym, ◌∙◌}
+use Rattle.std.proofs.Common.{◌≡◌, List, refl, ap, sym, ◌∙◌}
 use Rattle.std.specs.Prelude.{count_by, Bool, true, false, if◌then◌else◌}
-use Rattle.std.proofs.lemmas.List.Sums.{sum_by-cons, sum_by-append}
 use Rattle.kalah_rules.specs.Position.{is_over, final_margin}
 use Rattle.kalah_solve.specs.Solver.Worth.{worth, best_house}
 use Rattle.kalah_solve.specs.Solver.MoveValues.{values_of}
@@ -9,17 +8,14 @@ use Rattle.kalah_jobs.specs.declared.writing.answer.Answer.{Answer}
 use Rattle.kalah_jobs.specs.declared.writing.answer.Answer.TheVariants as answer
 use Rattle.kalah_jobs.specs.Files.Question.{entry_asked}
 use Rattle.kalah_jobs.specs.declared.files.question.Question.{Question}
-use Rattle.kalah_jobs.specs.declared.files.question.Question.TheVariants.{BestMove, Values, Steps}
+use Rattle.kalah_jobs.specs.declared.files.question.Question.TheVariants.{BestMove}
 use Rattle.kalah_jobs.specs.declared.files.entry.Entry.{Entry}
 use Rattle.kalah_jobs.specs.declared.files.entry.Entry.TheVariants.{Position, ValuesOf, StepsOf, Bad}
 use Rattle.kalah_jobs.specs.Writing.Answer.{answer_of, is_fault, is_faulty_entry}
-use Rattle.kalah_jobs.specs.Files.JobList.{line_job, file_jobs, jobs_from, job_list}
+use Rattle.kalah_jobs.specs.declared.files.job.Job.{Job}
+use Rattle.kalah_jobs.specs.Files.JobList.{job_list}
 use Rattle.kalah_jobs.specs.Writing.Output.{is_faulty_job}
-use Rattle.kalah_jobs.proofs.FilesLemmas.JobCounts.{all_entries}
-
--- one if the test passes
-abbrev pub one_if : {X : Type 0} → (X → Bool) → X → ℕ
-one_if p x = cond (p x) 1 0
+use Rattle.kalah_jobs.proofs.FilesLemmas.JobCounts.{all_entries, count_map, entries_of_jobs}
 
 -- one of two answers that are no faults
 no_fault : (b : Bool) (x y : Answer) → is_fault x ≡ false → is_fault y ≡ false → is_fault (if b then x else y) ≡ false
@@ -42,35 +38,14 @@ bad_is_fault (Bad fault) = refl
 
 bad_if_asked : (question : Question) (entry : Entry) → is_bad (entry_asked question entry) ≡ is_bad entry
 bad_if_asked BestMove entry = refl
-bad_if_asked Values (Position p) = refl
-bad_if_asked Values (ValuesOf p) = refl
-bad_if_asked Values (StepsOf p) = refl
-bad_if_asked Values (Bad fault) = refl
-bad_if_asked Steps (Position p) = refl
-bad_if_asked Steps (ValuesOf p) = refl
-bad_if_asked Steps (StepsOf p) = refl
-bad_if_asked Steps (Bad fault) = refl
+bad_if_asked question (Bad fault) = refl
+bad_if_asked question entry = refl
 
 -- what is asked of a position makes no fault of it
 pub asked_fault : (question : Question) (entry : Entry) → is_fault (answer_of (entry_asked question entry)) ≡ is_fault (answer_of entry)
 asked_fault question entry = bad_is_fault (entry_asked question entry) ∙ bad_if_asked question entry ∙ sym (bad_is_fault entry)
 
-faulty_in_file : (f k : ℕ) (own : List Entry) → count_by is_faulty_job (file_jobs f k own) ≡ count_by is_faulty_entry own
-faulty_in_file f k [] = refl
-faulty_in_file f k (entry ∷ own) =
-    sum_by-cons (one_if is_faulty_job) (line_job f k entry) (file_jobs f (suc k) own)
-    ∙ ap (λ n. one_if is_faulty_entry entry + n) (faulty_in_file f (suc k) own)
-    ∙ sym (sum_by-cons (one_if is_faulty_entry) entry own)
-
-faulty_from : (f : ℕ) (jobs : List (List Entry)) → count_by is_faulty_job (jobs_from f jobs) ≡ count_by is_faulty_entry
-    (all_entries jobs)
-faulty_from f [] = refl
-faulty_from f (own ∷ jobs) =
-    sum_by-append (one_if is_faulty_job) (file_jobs f 0 own) (jobs_from (suc f) jobs)
-    ∙ ap (λ n. n + count_by is_faulty_job (jobs_from (suc f) jobs)) (faulty_in_file f 0 own)
-    ∙ ap (λ n. count_by is_faulty_entry own + n) (faulty_from (suc f) jobs)
-    ∙ sym (sum_by-append (one_if is_faulty_entry) own (all_entries jobs))
-
 -- as many jobs are answered by a fault as entries
 pub faulty_jobs : (jobs : List (List Entry)) → count_by is_faulty_job (job_list jobs) ≡ count_by is_faulty_entry (all_entries jobs)
-faulty_jobs jobs = faulty_from 0 jobs
+faulty_jobs jobs =
+    sym (count_map is_faulty_entry (λ (o : Job). o.entry) (job_list jobs)) ∙ ap (count_by is_faulty_entry) (entries_of_jobs jobs)

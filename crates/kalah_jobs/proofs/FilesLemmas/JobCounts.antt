@@ -1,16 +1,17 @@
 -- The number of jobs before each file, and the place of a line in the list of jobs.
-use Rattle.std.proofs.Common.{◌≡◌, ℕ, zero, suc, ◌+◌, ◌-◌, ◌<◌, ◌≤◌, ⊎_elim, true, false, List, [], ◌∷◌, ◌++◌, length, get_or, take, drop, refl, ap, sym, subst, ◌∙◌, arith, length-append}
-use Rattle.std.specs.Prelude.{Some, slice_get, slice_index_or, sum_by}
+use Rattle.std.proofs.Common.{◌≡◌, ℕ, zero, suc, ◌+◌, ◌-◌, ◌<◌, ◌≤◌, inl, inr, Bool, true, false, cond, List, [], ◌∷◌, ◌++◌, length, get_or, map, take, drop, refl, ap, ap₂, sym, subst, ◌∙◌, arith, length-append}
+use Rattle.std.specs.Prelude.{Some, slice_get, slice_index_or, sum_by, count_by}
 use Rattle.std.specs.List.{flat_map}
 use Rattle.std.specs.List.Sorted.{IsNonDecreasing, IsPartitionPoint}
 use Rattle.std.proofs.Math.Dec.{leb}
 use Rattle.std.proofs.lemmas.Bool.{cases_lt, leb-true, leb-false}
-use Rattle.std.proofs.lemmas.List.{take_all, take_more, take-append-le, get_or_append_left, length-map, map-append, append-nil, append_assoc}
-use Rattle.std.proofs.lemmas.Option.{slice_get-get_or, slice_get_within}
+use Rattle.std.proofs.lemmas.List.{take_all, take_more, take-take, take-append-le, get_or_append_left, get_or_default, length-map, map-append, append-nil, append_assoc}
+use Rattle.std.proofs.lemmas.Option.{slice_get-get_or, slice_get-map, slice_get_within}
 use Rattle.std.proofs.lemmas.List.Concat.{flat_map-append}
 use Rattle.std.proofs.lemmas.List.Sums.{sum_by-cons, sum_by_push, sum_by-take-le}
 use Rattle.std.proofs.Math.Seq.{drop-append_seam, get_or-append_seam}
 use Rattle.kalah_jobs.specs.declared.files.entry.Entry.{Entry}
+use Rattle.kalah_jobs.specs.declared.files.job.Job.{Job}
 use Rattle.kalah_jobs.specs.Files.NamedBytes.{NamedBytes}
 use Rattle.kalah_jobs.specs.Files.JobList.{entries_of, line_job, file_jobs, jobs_from, job_list, by_file}
 use Rattle.kalah_jobs.specs.Limits.{most_files, most_lines}
@@ -26,34 +27,45 @@ job_count-cons entries jobs = sum_by-cons length entries jobs
 
 -- fewer files have fewer jobs
 pub job_count-take : (jobs : List (List Entry)) (f g : ℕ) → f ≤ g → job_count (take f jobs) ≤ job_count (take g jobs)
-job_count-take [] zero zero low = omega arith
-job_count-take [] zero (suc g) low = omega arith
-job_count-take [] (suc f) zero low = omega arith
-job_count-take [] (suc f) (suc g) low = omega arith
-job_count-take (entries ∷ jobs) zero zero low = omega arith
-job_count-take (entries ∷ jobs) zero (suc g) low = omega arith
-job_count-take (entries ∷ jobs) (suc f) zero low = absurd (omega arith)
-job_count-take (entries ∷ jobs) (suc f) (suc g) low =
-    omega (arith, job_count-take jobs f g (omega arith), job_count-cons entries (take f jobs), job_count-cons entries (take g jobs))
+job_count-take jobs f g low =
+    subst (λ first. job_count first ≤ job_count (take g jobs)) (take-take f g jobs low) (sum_by-take-le length (take g jobs) f)
 
-length-file_jobs : (f k : ℕ) (entries : List Entry) → length (file_jobs f k entries) ≡ length entries
-length-file_jobs f k [] = refl
-length-file_jobs f k (e ∷ entries) = ap suc (length-file_jobs f (suc k) entries)
+-- of the results of f as many pass a test as there are elements whose result does
+pub count_map : {A X : Type 0} (p : X → Bool) (f : A → X) (xs : List A) → count_by p (map f xs) ≡ count_by (λ x. p (f x)) xs
+count_map p f [] = refl
+count_map {A} {X} p f (x ∷ xs) = omega (
+  arith,
+  count_map p f xs,
+  sum_by-cons (λ (y : X). cond (p y) 1 0) (f x) (map f xs),
+  sum_by-cons (λ (y : A). cond (p (f y)) 1 0) x xs,
+)
 
-length-jobs_from : (f : ℕ) (jobs : List (List Entry)) → length (jobs_from f jobs) ≡ job_count jobs
-length-jobs_from f [] = refl
-length-jobs_from f (entries ∷ jobs) =
-    omega (
-      arith,
-      length-append (file_jobs f 0 entries) (jobs_from (suc f) jobs),
-      length-file_jobs f 0 entries,
-      length-jobs_from (suc f) jobs,
-      job_count-cons entries jobs,
-    )
+-- the entries of all files
+abbrev pub all_entries : List (List Entry) → List Entry
+all_entries jobs = flat_map (λ own. own) jobs
+
+pub length-all_entries : (jobs : List (List Entry)) → length (all_entries jobs) ≡ job_count jobs
+length-all_entries [] = refl
+length-all_entries (own ∷ jobs) = omega (arith, length-append own (all_entries jobs), length-all_entries jobs, job_count-cons own jobs)
+
+entries_of_file : (f k : ℕ) (own : List Entry) → map (λ (o : Job). o.entry) (file_jobs f k own) ≡ own
+entries_of_file f k [] = refl
+entries_of_file f k (e ∷ own) = ap (λ others. e ∷ others) (entries_of_file f (suc k) own)
+
+entries_from : (f : ℕ) (jobs : List (List Entry)) → map (λ (o : Job). o.entry) (jobs_from f jobs) ≡ all_entries jobs
+entries_from f [] = refl
+entries_from f (own ∷ jobs) =
+    map-append (λ (o : Job). o.entry) (file_jobs f 0 own) (jobs_from (suc f) jobs)
+    ∙ ap₂ (λ (first others : List Entry). first ++ others) (entries_of_file f 0 own) (entries_from (suc f) jobs)
+
+-- they are those of the jobs, in order
+pub entries_of_jobs : (jobs : List (List Entry)) → map (λ (o : Job). o.entry) (job_list jobs) ≡ all_entries jobs
+entries_of_jobs jobs = entries_from 0 jobs
 
 -- there are as many jobs as lines
 pub length-job_list : (jobs : List (List Entry)) → length (job_list jobs) ≡ job_count jobs
-length-job_list jobs = length-jobs_from 0 jobs
+length-job_list jobs =
+    sym (length-map (job_list jobs) (λ (o : Job). o.entry)) ∙ ap length (entries_of_jobs jobs) ∙ length-all_entries jobs
 
 -- ---- the place of a line in the list of jobs
 
@@ -89,7 +101,12 @@ slice_get-jobs_from f zero h k n (entries ∷ jobs) e file number is =
 slice_get-jobs_from f (suc g) h k n (entries ∷ jobs) e file number is =
     let m : ℕ = job_count (take g jobs) + k in
     let past : n ≡ length (file_jobs f 0 entries) + m =
-    omega (arith, length-file_jobs f 0 entries, job_count-cons entries (take g jobs)) in
+    omega (
+      arith,
+      length-map (file_jobs f 0 entries) (λ (o : Job). o.entry),
+      ap length (entries_of_file f 0 entries),
+      job_count-cons entries (take g jobs),
+    ) in
     slice_get-append_right (file_jobs f 0 entries) (jobs_from (suc f) jobs) n m past
     ∙ slice_get-jobs_from (suc f) g h k m jobs e (omega arith) refl is
 
@@ -99,39 +116,21 @@ pub slice_get-job_list : (jobs : List (List Entry)) (f k n : ℕ) (e : Entry) �
     → slice_get (job_list jobs) n ≡ Some (line_job f k e)
 slice_get-job_list jobs f k n e number is = slice_get-jobs_from 0 f f k n jobs e (omega arith) number is
 
+-- so its entry comes after the entries of those files
+slice_get-all_entries : (jobs : List (List Entry)) (f k n : ℕ) (e : Entry) → n ≡ job_count (take f jobs) + k →
+    slice_get (entries_of jobs f) k ≡ Some e → slice_get (all_entries jobs) n ≡ Some e
+slice_get-all_entries jobs f k n e number is =
+    rw (← entries_of_jobs jobs, slice_get-map, slice_get-job_list jobs f k n e number is) refl
+
 -- ---- the entries of all files in one list
-
--- the entries of all files
-abbrev pub all_entries : List (List Entry) → List Entry
-all_entries jobs = flat_map (λ own. own) jobs
-
-pub length-all_entries : (jobs : List (List Entry)) → length (all_entries jobs) ≡ job_count jobs
-length-all_entries [] = refl
-length-all_entries (own ∷ jobs) = omega (arith, length-append own (all_entries jobs), length-all_entries jobs, job_count-cons own jobs)
-
--- line k of file f comes after the entries of the files before f
-pub slice_get-all_entries : (jobs : List (List Entry)) (f k n : ℕ) → n ≡ job_count (take f jobs) + k →
-    k < length (entries_of jobs f)
-    → slice_get (all_entries jobs) n ≡ slice_get (entries_of jobs f) k
-slice_get-all_entries [] f k n number low = absurd (omega arith)
-slice_get-all_entries (own ∷ jobs) zero k n number low =
-    ap (λ m. slice_get (own ++ all_entries jobs) m) (let same : n ≡ k = omega arith in same)
-    ∙ slice_get-left own (all_entries jobs) k low
-slice_get-all_entries (own ∷ jobs) (suc f) k n number low =
-    let m : ℕ = job_count (take f jobs) + k in
-    slice_get-append_right own (all_entries jobs) n m (omega (arith, job_count-cons own (take f jobs)))
-    ∙ slice_get-all_entries jobs f k m refl low
 
 -- the entries between two offsets
 between : {X : Type 0} (past own rest : List X) (start end : ℕ) → start ≡ length past → end ≡ length past + length own
     → take (end - start) (drop start (past ++ (own ++ rest))) ≡ own
 between past own rest start end start_is end_is =
     let many : end - start ≡ length own = omega arith in
-    ap (λ n. take n (drop start (past ++ (own ++ rest)))) many
-    ∙ ap (λ n. take (length own) (drop n (past ++ (own ++ rest)))) start_is
-    ∙ ap (take (length own)) (drop-append_seam past (own ++ rest))
-    ∙ take-append-le (length own) own rest (omega arith)
-    ∙ take_all (length own) own (omega arith)
+    rw (many, start_is, drop-append_seam past (own ++ rest), take-append-le (length own) own rest (omega arith))
+    (take_all (length own) own (omega arith))
 
 -- cut at its offsets, the list is that of the files again
 by_file_behind : (past : List Entry) (jobs : List (List Entry)) (offsets : List ℕ) → length offsets ≡ suc (length jobs)
@@ -151,78 +150,10 @@ by_file_behind past (own ∷ jobs) (start ∷ end ∷ offsets) as_many before =
     ∙ ap (λ entries. own ∷ by_file (end ∷ offsets) entries) (sym (append_assoc past own (all_entries jobs)))
     ∙ ap (λ others. own ∷ others) behind
 
-pub by_file_is : (jobs : List (List Entry)) (offsets : List ℕ) (entries : List Entry) → AreCounted jobs offsets entries →
-    by_file offsets entries ≡ jobs
-by_file_is jobs offsets entries counted =
-    ap (by_file offsets) counted.entries_are
-    ∙ by_file_behind [] jobs offsets counted.as_many (λ f low. omega (arith, counted.before f low))
-
--- what is known of jobs, of their view too
-pub stored : (jobs : List (List Entry)) (offsets : List ℕ) (entries : List Entry)
-    → AreFew (by_file offsets entries) × AreCounted (by_file offsets entries) offsets entries → by_file offsets entries ≡ jobs
-    → AreFew jobs × AreCounted jobs offsets entries
-stored jobs offsets entries known is = subst (λ js. AreFew js × AreCounted js offsets entries) is known
-
--- there are as many entries as jobs
-pub all_counted : (jobs : List (List Entry)) (offsets : List ℕ) (entries : List Entry) → AreCounted jobs offsets entries
-    → length entries ≡ job_count jobs
-all_counted jobs offsets entries counted = ap length counted.entries_are ∙ length-all_entries jobs
-
--- ---- offsets
-
--- an element that is there is read for any default
-pub get_or_any : {X : Type 0} (xs : List X) (i : ℕ) (d e : X) → i < length xs → get_or xs i d ≡ get_or xs i e
-get_or_any [] i d e low = absurd (omega arith)
-get_or_any (x ∷ xs) zero d e low = refl
-get_or_any (x ∷ xs) (suc i) d e low = get_or_any xs i d e (omega arith)
-
--- an offset, read for any default
-pub offset_is : (jobs : List (List Entry)) (offsets : List ℕ) (entries : List Entry) (f d : ℕ) → AreCounted jobs offsets entries →
-    f ≤ length jobs
-    → get_or offsets f d ≡ job_count (take f jobs)
-offset_is jobs offsets entries f d counted low = get_or_any offsets f d 0 (omega (arith, counted.as_many)) ∙ counted.before f low
-
--- the offsets ascend
-pub offsets_rise : (jobs : List (List Entry)) (offsets : List ℕ) (entries : List Entry) → AreCounted jobs offsets entries →
-    IsNonDecreasing offsets
-offsets_rise jobs offsets entries counted i j d low high =
-    let within : j ≤ length jobs = omega (arith, counted.as_many) in
-    omega (
-      arith,
-      offset_is jobs offsets entries i d counted (omega arith),
-      offset_is jobs offsets entries j d counted within,
-      job_count-take jobs i j low,
-    )
-
--- between two of them are the lines of a file
+-- between two offsets are the lines of a file
 pub lines_between : (jobs : List (List Entry)) (f : ℕ) → f < length jobs
     → job_count (take (f + 1) jobs) ≡ job_count (take f jobs) + length (entries_of jobs f)
 lines_between jobs f within = ap job_count (take_more jobs f [] within) ∙ sum_by_push length (take f jobs) (entries_of jobs f)
-
--- ---- the file of a job
-
--- line k of file f is among the entries
-pub line_within : (jobs : List (List Entry)) (offsets : List ℕ) (entries : List Entry) (f k : ℕ) →
-    AreCounted jobs offsets entries → f < length jobs
-    → k < length (entries_of jobs f) → job_count (take f jobs) + k < length entries
-line_within jobs offsets entries f k counted within low =
-    omega (
-      arith,
-      lines_between jobs f within,
-      job_count-take jobs (f + 1) (length jobs) (omega arith),
-      ap job_count (take_all (length jobs) jobs (omega arith)),
-      all_counted jobs offsets entries counted,
-    )
-
--- the entry that stands there is that of the line
-pub entry_there : (jobs : List (List Entry)) (offsets : List ℕ) (entries : List Entry) (f k n : ℕ) (e : Entry) →
-    AreCounted jobs offsets entries
-    → f < length jobs → k < length (entries_of jobs f) → n ≡ job_count (take f jobs) + k → e ≡ get_or entries n e
-    → slice_get (entries_of jobs f) k ≡ Some e
-entry_there jobs offsets entries f k n e counted within low number is =
-    sym (slice_get-all_entries jobs f k n number low)
-    ∙ ap (λ all. slice_get all n) (sym counted.entries_are)
-    ∙ slice_get-get_or entries n e (omega (arith, number, line_within jobs offsets entries f k counted within low)) ∙ ap Some (sym is)
 
 -- p is how many offsets are at most n
 abbrev pub AreStarted : List ℕ → ℕ → ℕ → Type 0
@@ -235,35 +166,78 @@ pub record HasJob (jobs : List (List Entry)) (n p : ℕ) : Type 0 where
   pub low : job_count (take (p - 1) jobs) ≤ n
   pub line : n - job_count (take (p - 1) jobs) < length (entries_of jobs (p - 1))
 
-pub has_job : (jobs : List (List Entry)) (offsets : List ℕ) (entries : List Entry) (n p : ℕ) → AreCounted jobs offsets entries →
-    n < job_count jobs
-    → AreStarted offsets n p → p ≤ length offsets → HasJob jobs n p
-has_job jobs offsets entries n p counted few started bound =
-    let some : 1 ≤ p =
-    ⊎_elim
-    (λ (none : p < 1).
-    let past = leb-false (get_or offsets 0 0) n (started.1 0 0 (omega arith) (omega (arith, counted.as_many))) in
-    absurd (omega (arith, past, counted.before 0 (omega arith))))
-    (λ (some : 1 ≤ p). some)
-    (cases_lt p 1) in
-    let within : p ≤ length jobs =
-    ⊎_elim
-    (λ (all : length jobs < p).
-    let last = leb-true (get_or offsets (length jobs) 0) n (started.0 (length jobs) 0 (omega arith) all) in
-    absurd (omega (arith, last, counted.before (length jobs) (omega arith), ap job_count (take_all (length jobs) jobs (omega arith)))))
-    (λ (within : p ≤ length jobs). within)
-    (cases_lt (length jobs) p) in
-    let first = leb-true (get_or offsets (p - 1) 0) n (started.0 (p - 1) 0 (omega arith) (omega (arith, some))) in
-    let low : job_count (take (p - 1) jobs) ≤ n = omega (arith, first, counted.before (p - 1) (omega (arith, within))) in
-    let past = leb-false (get_or offsets p 0) n (started.1 p 0 (omega arith) (omega (arith, within, counted.as_many))) in
-    let same : p - 1 + 1 ≡ p = omega (arith, some) in
-    let next : job_count (take (p - 1 + 1) jobs) ≡ job_count (take p jobs) = ap (λ k. job_count (take k jobs)) same in
-    record {
-      some = some;
-      within = omega (arith, some, within);
-      low = low;
-      line = omega (arith, low, past, counted.before p within, next, lines_between jobs (p - 1) (omega (arith, some, within)));
-    }
+-- jobs are stored by their offsets and entries
+module _ {jobs : List (List Entry)} {offsets : List ℕ} {entries : List Entry} (counted : AreCounted jobs offsets entries) where
+  pub by_file_is : by_file offsets entries ≡ jobs
+  by_file_is =
+      ap (by_file offsets) counted.entries_are
+      ∙ by_file_behind [] jobs offsets counted.as_many (λ f low. omega (arith, counted.before f low))
+
+  -- there are as many entries as jobs
+  pub all_counted : length entries ≡ job_count jobs
+  all_counted = ap length counted.entries_are ∙ length-all_entries jobs
+
+  -- an offset, read for any default
+  pub offset_is : (f d : ℕ) → f ≤ length jobs → get_or offsets f d ≡ job_count (take f jobs)
+  offset_is f d low = get_or_default offsets f d 0 (omega (arith, counted.as_many)) ∙ counted.before f low
+
+  -- the offsets ascend
+  pub offsets_rise : IsNonDecreasing offsets
+  offsets_rise i j d low high =
+      let within : j ≤ length jobs = omega (arith, counted.as_many) in
+      omega (arith, offset_is i d (omega arith), offset_is j d within, job_count-take jobs i j low)
+
+  -- none is greater than the next
+  pub offset_low : (f d e : ℕ) → f < length jobs → get_or offsets f d ≤ get_or offsets (f + 1) e
+  offset_low f d e low =
+      omega (arith, offset_is f d (omega arith), offset_is (f + 1) e (omega arith), job_count-take jobs f (f + 1) (omega arith))
+
+  -- line k of file f is among the entries
+  pub line_within : (f k : ℕ) → f < length jobs → k < length (entries_of jobs f) → job_count (take f jobs) + k < length entries
+  line_within f k within low =
+      omega (
+        arith,
+        lines_between jobs f within,
+        job_count-take jobs (f + 1) (length jobs) (omega arith),
+        ap job_count (take_all (length jobs) jobs (omega arith)),
+        all_counted,
+      )
+
+  -- the entry that stands there is that of the line
+  pub entry_there : (f k n : ℕ) (e : Entry) → f < length jobs → k < length (entries_of jobs f) →
+      n ≡ job_count (take f jobs) + k → e ≡ get_or entries n e → slice_get (entries_of jobs f) k ≡ Some e
+  entry_there f k n e within low number is =
+      let own = slice_get-get_or (entries_of jobs f) k e low in
+      own ∙ sym (slice_get-all_entries jobs f k n _ number own)
+      ∙ ap (λ all. slice_get all n) (sym counted.entries_are)
+      ∙ slice_get-get_or entries n e (omega (arith, number, line_within f k within low)) ∙ ap Some (sym is)
+
+  pub has_job : (n p : ℕ) → n < job_count jobs → AreStarted offsets n p → p ≤ length offsets → HasJob jobs n p
+  has_job n p few started bound =
+      let last = ap job_count (take_all (length jobs) jobs (omega arith)) in
+      let some : 1 ≤ p = elim (cases_lt p 1) [
+        | inl none ↦
+            let past = leb-false (get_or offsets 0 0) n (started.1 0 0 (omega arith) (omega (arith, counted.as_many))) in
+            absurd (omega (arith, past, counted.before 0 (omega arith)))
+        | inr some ↦ some
+      ] in
+      let within : p ≤ length jobs = elim (cases_lt (length jobs) p) [
+        | inl all ↦
+            let past = leb-true (get_or offsets (length jobs) 0) n (started.0 (length jobs) 0 (omega arith) all) in
+            absurd (omega (arith, past, counted.before (length jobs) (omega arith), last))
+        | inr within ↦ within
+      ] in
+      let first = leb-true (get_or offsets (p - 1) 0) n (started.0 (p - 1) 0 (omega arith) (omega (arith, some))) in
+      let past = leb-false (get_or offsets p 0) n (started.1 p 0 (omega arith) (omega (arith, within, counted.as_many))) in
+      let low : job_count (take (p - 1) jobs) ≤ n = omega (arith, first, counted.before (p - 1) (omega (arith, within))) in
+      let same : p - 1 + 1 ≡ p = omega (arith, some) in
+      let own = rw same at (lines_between jobs (p - 1) (omega (arith, some, within))) in
+      record {
+        some = some;
+        within = omega (arith, some, within);
+        low = low;
+        line = omega (arith, low, past, counted.before p within, own);
+      }
 
 -- ---- while the files are read
 
@@ -293,41 +267,41 @@ counted_none = record {
 }
 
 -- one file more is counted
-pub counted_more : (jobs : List (List Entry)) (offsets : List ℕ) (entries own : List Entry) (all : ℕ) →
+counted_more : {jobs : List (List Entry)} {offsets : List ℕ} {entries : List Entry} {all : ℕ} (own : List Entry) →
     AreCounted jobs offsets entries
     → all ≡ length (entries ++ own) → AreCounted (jobs ++ own ∷ []) (offsets ++ all ∷ []) (entries ++ own)
-counted_more jobs offsets entries own all counted all_is =
+counted_more {jobs} {offsets} {entries} {all} own counted all_is =
+    let many = length-append jobs (own ∷ []) in
     let more : all_entries (jobs ++ own ∷ []) ≡ entries ++ own =
     flat_map-append (λ (others : List Entry). others) jobs (own ∷ [])
     ∙ ap (λ others. all_entries jobs ++ others) (append-nil own)
     ∙ ap (λ others. others ++ own) (sym counted.entries_are) in
     record {
       entries_are = sym more;
-      as_many = omega (arith, counted.as_many, length-append offsets (all ∷ []), length-append jobs (own ∷ []));
-      before = λ f low.
-          ⊎_elim
-          (λ (new : length jobs < f).
-          let at : f ≡ length offsets = omega (arith, counted.as_many, length-append jobs (own ∷ [])) in
-          ap (λ n. get_or (offsets ++ all ∷ []) n 0) at
-          ∙ get_or-append_seam offsets all [] 0
-          ∙ all_is
-          ∙ ap length (sym more)
-          ∙ length-all_entries (jobs ++ own ∷ [])
-          ∙ ap job_count (sym (take_all f (jobs ++ own ∷ []) (omega (arith, at, counted.as_many, length-append jobs (own ∷ []))))))
-          (λ (old : f ≤ length jobs).
-          get_or_append_left offsets (all ∷ []) 0 f (omega (arith, counted.as_many))
-          ∙ counted.before f old
-          ∙ ap job_count (sym (take-append-le f jobs (own ∷ []) old)))
-          (cases_lt (length jobs) f);
+      as_many = omega (arith, counted.as_many, length-append offsets (all ∷ []), many);
+      before = λ f low. elim (cases_lt (length jobs) f) [
+        | inl new ↦
+            let at : f ≡ length offsets = omega (arith, counted.as_many, many) in
+            ap (λ n. get_or (offsets ++ all ∷ []) n 0) at
+            ∙ get_or-append_seam offsets all [] 0
+            ∙ all_is
+            ∙ ap length (sym more)
+            ∙ length-all_entries (jobs ++ own ∷ [])
+            ∙ ap job_count (sym (take_all f (jobs ++ own ∷ []) (omega (arith, at, counted.as_many, many))))
+        | inr old ↦
+            get_or_append_left offsets (all ∷ []) 0 f (omega (arith, counted.as_many))
+            ∙ counted.before f old
+            ∙ ap job_count (sym (take-append-le f jobs (own ∷ []) old))
+      ];
     }
 
 -- one file more is read
-pub read_more : (question : Question) (files : List NamedBytes) (i : ℕ) (offsets : List ℕ) (entries own : List Entry)
-    (file : NamedBytes) (all : ℕ)
+pub read_more : (question : Question) (files : List NamedBytes) {i : ℕ} {offsets : List ℕ} {entries own : List Entry}
+    {file : NamedBytes} {all : ℕ}
     → AreCounted (jobs_to question (take i files)) offsets entries → i < length files → file ≡ get_or files i file
     → own ≡ entries_to question file.bytes → all ≡ length (entries ++ own)
     → AreCounted (jobs_to question (take (i + 1) files)) (offsets ++ all ∷ []) (entries ++ own)
-read_more question files i offsets entries own file all counted low is read all_is =
+read_more question files {i} {offsets} {entries} {own} {file} {all} counted low is read all_is =
     let more : take (i + 1) files ≡ take i files ++ file ∷ [] = take_more files i file low
     ∙ ap (λ x. take i files ++ x ∷ []) (sym is) in
     let jobs_are : jobs_to question (take (i + 1) files) ≡ jobs_to question (take i files) ++ own ∷ [] =
@@ -335,7 +309,7 @@ read_more question files i offsets entries own file all counted low is read all_
     ∙ map-append (λ (f : NamedBytes). entries_to question f.bytes) (take i files) (file ∷ [])
     ∙ ap (λ r. jobs_to question (take i files) ++ r ∷ []) (sym read) in
     subst (λ jobs. AreCounted jobs (offsets ++ all ∷ []) (entries ++ own)) (sym jobs_are)
-    (counted_more (jobs_to question (take i files)) offsets entries own all counted all_is)
+    (counted_more own counted all_is)
 
 -- the entries so far are no more than the lines of all files
 pub counted_low : (question : Question) (files : List NamedBytes) (i : ℕ) →
@@ -351,3 +325,6 @@ few_jobs question files few_files few_lines = record {
   few_files = omega (arith, few_files, length-map files (λ (f : NamedBytes). entries_to question f.bytes));
   few_lines = omega (arith, few_lines, job_count-jobs_to question files);
 }
+
+-- what the functions of jobs need of what is counted
+pub ruleset counts_of_jobs = (all_counted, length-job_list, lines_between, offset_is, offset_low, job_count-take, line_within, entry_there)

@@ -3,7 +3,7 @@ use Rattle.std.proofs.Common.{◌≡◌, ◌≢◌, ℕ, ◌+◌, ◌<◌, ◌�
 use Rattle.std.specs.Bool.{◌==◌}
 use Rattle.std.specs.Prelude.{if◌then◌else◌}
 use Rattle.std.specs.List.{onto_first, count_by}
-use Rattle.std.proofs.lemmas.List.{take_all, drop_all, drop_more}
+use Rattle.std.proofs.lemmas.List.{take_all, drop_all, drop_more, length-append, append-nil}
 use Rattle.std.proofs.lemmas.List.Elements.{All-head, All-tail}
 use Rattle.std.proofs.Math.Seq.{take-nil}
 use Rattle.std.proofs.lemmas.List.Sums.{sum_by-cons}
@@ -60,6 +60,9 @@ lines_of-last bytes n some none =
     ap (λ rest. take n rest) (drop_all (length bytes) bytes (omega arith)) ∙ take-nil n in
     lines_of-open bytes none (λ e. omega (arith, ap length e, some)) ∙ ap (λ rest. bytes ∷ lines_of rest) (sym nothing)
 
+-- what cutting off the first line needs
+pub ruleset first_lines = (lines_of-cut, lines_of-last, take_all)
+
 -- no bytes have no lines
 pub lines_of-empty : (bytes : List ℕ) → length bytes ≡ 0 → lines_of bytes ≡ []
 unfolding lines_of
@@ -84,3 +87,9 @@ length-lines_of (byte ∷ front) last =
       length-onto_first-same byte (lines_of (front ++ last ∷ [])),
       sum_by-cons (λ (b : ℕ). if b == line_feed then 1 else 0) byte front,
     )
+
+-- what counting lines needs
+pub ruleset line_numbers = (length-lines_of, lines_of-empty, length-append)
+
+-- what reading lines to the end needs
+pub ruleset no_line = (lines_of-empty, append-nil)

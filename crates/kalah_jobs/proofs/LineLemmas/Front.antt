@@ -82,3 +82,6 @@ module _ {bytes : List ℕ} {n : ℕ} {rest : List ℕ} (begins : BeginsWithNumb
       more ≡ rest
   after_two tens ones more is ends digit =
       two_are_all (decimal n) n tens ones more rest written (sym is ∙ begins.text) ends digit
+
+-- what taking a number needs of it
+pub ruleset numbers_in_front = (one_digit, two_digits, has_bytes)

@@ -15,6 +15,9 @@ without_cr-other [] last other = rw (ne_eqb last 13 other) refl
 without_cr-other (byte ∷ []) last other = ap (λ (t : List ℕ). byte ∷ t) (without_cr-other [] last other)
 without_cr-other (byte ∷ more ∷ text) last other = ap (λ (t : List ℕ). byte ∷ t) (without_cr-other (more ∷ text) last other)
 
+-- what dropping a CR needs
+pub ruleset ends_of_lines = (without_cr-cr, without_cr-other)
+
 -- only the end of a line is looked at
 pub without_cr-append : (text : List ℕ) (byte : ℕ) (rest : List ℕ) →
     without_cr (text ++ byte ∷ rest) ≡ text ++ without_cr (byte ∷ rest)

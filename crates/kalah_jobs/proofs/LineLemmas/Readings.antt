@@ -1,5 +1,5 @@
 -- A line is read as a position, or it has its first fault.
-use Rattle.std.proofs.Common.{◌≡◌, ◌≢◌, ℕ, ◌<◌, ◌≤◌, ◌⊎◌, inl, inr, eq-eqb, List, [], ◌∷◌, length, Option, Some, None, Result, Ok, Err, refl, sym, ap, subst, ◌∙◌, arith, lit<}
+use Rattle.std.proofs.Common.{◌≡◌, ◌≢◌, ℕ, ◌+◌, ◌<◌, ◌≤◌, ◌⊎◌, inl, inr, eq-eqb, List, [], ◌∷◌, length, Option, Some, None, Result, Ok, Err, refl, sym, ap, subst, ◌∙◌, arith, lit<}
 use Rattle.std.specs.Prelude.{IfOk, IfErr}
 use Rattle.std.proofs.lemmas.Bool.{cases_lt, ne_eqb, le-ltb, lt-ltb}
 use Rattle.std.proofs.lemmas.List.{nil_from_length}
@@ -104,94 +104,75 @@ fault_is_reading line Seeds has =
 
 -- ---- every line is read, or has a fault
 
--- no fault before the n-th holds
-no_fault_before : (text : List ℕ) (n : ℕ) → n ≤ 5 → (1 < n → ¬ Holds Long text) → (2 < n → ¬ Holds Empty text)
-    → (3 < n → ¬ Holds Shape text) → (4 < n → ¬ Holds Houses text)
-    → (earlier : LineFault) → order_of earlier < n → ¬ Holds earlier text
-no_fault_before text n last long empty shape houses Long lt = long lt
-no_fault_before text n last long empty shape houses Empty lt = empty lt
-no_fault_before text n last long empty shape houses Shape lt = shape lt
-no_fault_before text n last long empty shape houses Houses lt = houses lt
-no_fault_before text n last long empty shape houses Seeds lt = absurd (omega arith)
+same_order : (a b : LineFault) → order_of a ≡ order_of b → a ≡ b
+same_order Long Long same = refl
+same_order Empty Empty same = refl
+same_order Shape Shape same = refl
+same_order Houses Houses same = refl
+same_order Seeds Seeds same = refl
+same_order a b same = absurd (omega arith)
+
+-- none of the faults before this place holds
+abbrev NoneBefore : List ℕ → ℕ → Type 0
+NoneBefore text n = (earlier : LineFault) → order_of earlier < n → ¬ Holds earlier text
+
+none_at_first : (text : List ℕ) → NoneBefore text 1
+none_at_first text Long low = absurd (omega arith)
+none_at_first text earlier low = absurd (omega arith)
+
+-- nor does the one at it
+nor_this : {text : List ℕ} (fault : LineFault) → NoneBefore text (order_of fault) → ¬ Holds fault text →
+    NoneBefore text (order_of fault + 1)
+nor_this {text} fault before not earlier low holds = elim (cases_lt (order_of earlier) (order_of fault)) [
+  | inl less ↦ before earlier less holds
+  | inr more ↦ not (subst (λ f. Holds f text) (same_order earlier fault (omega arith)) holds)
+]
 
 abbrev IsReadOrFaulty : List ℕ → Type 0
 IsReadOrFaulty line = ((p : Position) × Reads line p) ⊎ ((fault : LineFault) × HasFault line fault)
 
 -- a line of the right form
-with_form : (line : List ℕ) (p : Position) → length (without_cr line) ≤ most_bytes → without_cr line ≢ [] →
+with_form : (line : List ℕ) (p : Position) → length (without_cr line) ≤ most_bytes → NoneBefore (without_cr line) 4 →
     IsLineOf (without_cr line) p → IsReadOrFaulty line
-with_form line p few some form =
-    let text : List ℕ = without_cr line in
-    let not_long : ¬ Holds Long text = λ long. omega (arith, few, long) in
-    let not_shape : ¬ Holds Shape text = λ none. none p form in
-    elim (has_sides_in_limits p) [
-      | inl sides ↦ elim (cases_lt most_seeds (seeds_in_houses p)) [
-        | inl many ↦
-            let fit : ¬ Holds Houses text = λ h. h.1.1 (subst HasSidesInLimits (one_position text p h.0 form h.1.0) sides) in
-            inr (
-              Seeds,
-              record {
-                holds = (p, (form, many));
-                first =
-                    no_fault_before text 5 (omega arith) (λ _. not_long) (λ _. some) (λ _. not_shape) (λ _. fit);
-              },
-            )
-        | inr few_seeds ↦ inl (p, record { few_bytes = few; form = form; sides = sides; few_seeds = few_seeds })
-      ]
-      | inr none ↦
-          inr (
-            Houses,
-            record {
-              holds = (p, (form, none));
-              first =
-                  no_fault_before text 4 (omega arith) (λ _. not_long) (λ _. some) (λ _. not_shape) (λ lt. absurd (omega (arith, lt)));
-            },
-          )
-    ]
+with_form line p few none form = elim (has_sides_in_limits p) [
+  | inl sides ↦ elim (cases_lt most_seeds (seeds_in_houses p)) [
+    | inl many ↦
+        let fit : ¬ Holds Houses (without_cr line) =
+        λ h. h.1.1 (subst HasSidesInLimits (one_position (without_cr line) p h.0 form h.1.0) sides) in
+        inr (Seeds, record { holds = (p, (form, many)); first = nor_this Houses none fit })
+    | inr few_seeds ↦ inl (p, record { few_bytes = few; form = form; sides = sides; few_seeds = few_seeds })
+  ]
+  | inr others ↦ inr (Houses, record { holds = (p, (form, others)); first = none })
+]
 
 -- a line of few bytes, and of some
-with_bytes : (line : List ℕ) → length (without_cr line) ≤ most_bytes → without_cr line ≢ [] → IsReadOrFaulty line
-with_bytes line few some =
+with_bytes : (line : List ℕ) → length (without_cr line) ≤ most_bytes → NoneBefore (without_cr line) 3 → IsReadOrFaulty line
+with_bytes line few none =
     let text : List ℕ = without_cr line in
-    let not_long : ¬ Holds Long text = λ long. omega (arith, few, long) in
     (elim (written_of text) as (λ (r : Option Position). written_of text ≡ r → IsReadOrFaulty line) [
       | None ↦ λ e. inr (
         Shape,
         record {
           holds = λ p form. let read : ◌≡◌ {A = Option Position} None (Some p) = sym e ∙ line_is_written text p form in cc;
-          first = no_fault_before text 3 (omega arith) (λ _. not_long) (λ _. some) (λ lt. absurd (omega (arith, lt)))
-              (λ lt. absurd (omega (arith, lt)));
+          first = none;
         },
       )
-      | Some p ↦ λ e. with_form line p few some (written_is_line text p e)
+      | Some p ↦ λ e.
+          let form = written_is_line text p e in
+          with_form line p few (nor_this Shape none (λ shape. shape p form)) form
     ]) refl
 
 pub is_read_or_faulty : (line : List ℕ) → IsReadOrFaulty line
 is_read_or_faulty line =
     let text : List ℕ = without_cr line in
     elim (cases_lt most_bytes (length text)) [
-      | inl long ↦
-          inr (
-            Long,
-            record {
-              holds = long;
-              first = no_fault_before text 1 (omega arith) (λ lt. absurd (omega (arith, lt))) (λ lt. absurd (omega (arith, lt)))
-                  (λ lt. absurd (omega (arith, lt))) (λ lt. absurd (omega (arith, lt)));
-            },
-          )
-      | inr few ↦ elim (cases_nil text) [
-        | inl empty ↦
-            let not_long : ¬ Holds Long text = λ long. omega (arith, few, long) in
-            inr (
-              Empty,
-              record {
-                holds = empty;
-                first = no_fault_before text 2 (omega arith) (λ _. not_long) (λ lt. absurd (omega (arith, lt)))
-                    (λ lt. absurd (omega (arith, lt))) (λ lt. absurd (omega (arith, lt)));
-              },
-            )
-        | inr some ↦ with_bytes line few some
-      ]
+      | inl long ↦ inr (Long, record { holds = long; first = none_at_first text })
+      | inr few ↦
+          let none = nor_this {text = text} Long (none_at_first text) (λ long. omega (arith, few, long)) in
+          elim (cases_nil text) [
+            | inl empty ↦ inr (Empty, record { holds = empty; first = none })
+            | inr some ↦ with_bytes line few (nor_this Empty none some)
+          ]
     ]
 
 -- ---- what holds of a line, from what is read of it
@@ -232,3 +213,6 @@ reads_if_ok line (Err fault) e = tt
 pub fault_if_err : (line : List ℕ) (r : Result Position LineFault) → r ≡ reading_of line → IfErr r (λ fault. HasFault line fault)
 fault_if_err line (Ok p) e = tt
 fault_if_err line (Err fault) e = reading_has_fault line fault (sym e)
+
+-- what reading a text needs
+pub ruleset readings = (written_is_read, shape_is_read, empty_is_read, nil_from_length)

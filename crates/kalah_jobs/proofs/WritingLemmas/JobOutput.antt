@@ -9,12 +9,12 @@ use Rattle.kalah_jobs.specs.Files.Lines.{line_feed, lines_of}
 use Rattle.kalah_jobs.specs.Files.Entry.{entry_of}
 use Rattle.kalah_jobs.specs.Files.Question.{entry_to}
 use Rattle.kalah_jobs.specs.declared.files.question.Question.{Question}
-use Rattle.kalah_jobs.specs.Writing.Answer.{answer_of, answer_line}
-use Rattle.kalah_jobs.specs.Files.JobList.{line_job, file_jobs, jobs_from, job_list}
+use Rattle.kalah_jobs.specs.Writing.Answer.{answer_of, answer_line, is_faulty_entry}
+use Rattle.kalah_jobs.specs.Files.JobList.{job_list}
 use Rattle.kalah_jobs.specs.Files.Jobs.{entries_to, jobs_to}
 use Rattle.kalah_jobs.specs.Writing.Output.{line_output, file_output, output_to, is_faulty, tally_of, text_of_line, text_of_file, answer_text_of, output_of_jobs, names_of, is_faulty_job, FilesAreTheirJobs}
-use Rattle.kalah_jobs.proofs.FilesLemmas.Faults.{asked_fault, one_if}
-use Rattle.kalah_jobs.proofs.FilesLemmas.JobCounts.{length-job_list, job_count-jobs_to}
+use Rattle.kalah_jobs.proofs.FilesLemmas.Faults.{asked_fault, faulty_jobs}
+use Rattle.kalah_jobs.proofs.FilesLemmas.JobCounts.{all_entries, count_map, length-job_list, job_count-jobs_to}
 
 -- the text of what is taken of file n is the answer line under this name
 abbrev IsUnder : (ℕ → Taken → List ℕ) → ℕ → List ℕ → Type 0
@@ -59,36 +59,30 @@ same_lines : (question : Question) (files : List NamedBytes) → (tally_of files
 unfolding tally_of
 same_lines question files = sym (length-job_list (jobs_to question files) ∙ job_count-jobs_to question files)
 
-faults_of_lines : (question : Question) (f k : ℕ) (lines : List (List ℕ)) →
-    count_by is_faulty_job (file_jobs f k (map (entry_to question) lines)) ≡ count_by is_faulty lines
-faults_of_lines question f k [] = refl
-faults_of_lines question f k (line ∷ lines) =
-    sum_by-cons (one_if is_faulty_job) (line_job f k (entry_to question line)) (file_jobs f (suc k) (map (entry_to question) lines))
-    ∙ ap (λ b. cond b 1 0 + count_by is_faulty_job (file_jobs f (suc k) (map (entry_to question) lines)))
-    (asked_fault question (entry_of line))
-    ∙ ap (λ m. one_if is_faulty line + m) (faults_of_lines question f (suc k) lines)
-    ∙ sym (sum_by-cons (one_if is_faulty) line lines)
+-- a line is answered by a fault whatever is asked
+faults_of_lines : (question : Question) (lines : List (List ℕ)) →
+    count_by is_faulty_entry (map (entry_to question) lines) ≡ count_by is_faulty lines
+faults_of_lines question lines =
+    count_map is_faulty_entry (entry_to question) lines ∙ (λ i. count_by (λ line. asked_fault question (entry_of line) i) lines)
 
-faults_of_file : (question : Question) (f : ℕ) (bytes : List ℕ) →
-    count_by is_faulty_job (file_jobs f 0 (entries_to question bytes)) ≡ count_by is_faulty (lines_of bytes)
+faults_of_files : (question : Question) (files : List NamedBytes)
+    → sum_by (λ (file : NamedBytes). count_by is_faulty (lines_of file.bytes)) files
+    ≡ count_by is_faulty_entry (all_entries (jobs_to question files))
 unfolding entries_to
-faults_of_file question f bytes = faults_of_lines question f 0 (lines_of bytes)
-
-faults_of_files : (question : Question) (f : ℕ) (files : List NamedBytes)
-    → sum_by (λ (file : NamedBytes). count_by is_faulty (lines_of file.bytes)) files ≡ count_by is_faulty_job
-    (jobs_from f (jobs_to question files))
-faults_of_files question f [] = refl
-faults_of_files question f (file ∷ files) =
-    sum_by-cons (λ (x : NamedBytes). count_by is_faulty (lines_of x.bytes)) file files
-    ∙ ap (λ m. count_by is_faulty (lines_of file.bytes) + m) (faults_of_files question (suc f) files)
-    ∙ ap (λ m. m + count_by is_faulty_job (jobs_from (suc f) (jobs_to question files))) (sym (faults_of_file question f file.bytes))
-    ∙ sym (sum_by-append (one_if is_faulty_job) (file_jobs f 0 (entries_to question file.bytes))
-    (jobs_from (suc f) (jobs_to question files)))
+faults_of_files question [] = refl
+faults_of_files question (file ∷ files) =
+    omega (
+      arith,
+      sum_by-cons (λ (x : NamedBytes). count_by is_faulty (lines_of x.bytes)) file files,
+      faults_of_files question files,
+      faults_of_lines question (lines_of file.bytes),
+      sum_by-append (λ entry. cond (is_faulty_entry entry) 1 0) (entries_to question file.bytes) (all_entries (jobs_to question files)),
+    )
 
 same_faults : (question : Question) (files : List NamedBytes) →
     (tally_of files).faults ≡ count_by is_faulty_job (job_list (jobs_to question files))
 unfolding tally_of
-same_faults question files = faults_of_files question 0 files
+same_faults question files = faults_of_files question files ∙ sym (faulty_jobs (jobs_to question files))
 
 pub files_are_their_jobs : FilesAreTheirJobs
 files_are_their_jobs = record { output = same_output; lines = same_lines; faults = same_faults }

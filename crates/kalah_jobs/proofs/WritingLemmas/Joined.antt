@@ -33,3 +33,6 @@ module _ {A : Type 0} (byte : ℕ) (text_of : A → List ℕ) where
       let place : suc (i - 1) ≡ i = omega arith in
       let more = rw place at (joined_before items (i - 1) item other is (omega arith)) in
       e ∙ sym (append_assoc (text_of item) (byte ∷ joined_from items i) old) ∙ ap (λ ws. ws ++ old) more
+
+-- what joining texts from the last on needs
+pub ruleset joins = (last_joined, before_those)

@@ -116,3 +116,6 @@ have_columns p limits = record { rise = values_rise p; small = small_moves p lim
 -- after any column before the first house
 pub rise_from_none : (vs : List MoveValue) → Rise 1 vs → Rise 0 vs
 rise_from_none vs rise = rise_later 0 1 vs (omega arith) rise
+
+-- what writing the columns of values needs
+pub ruleset columns_of_values = (column_before, values_from)

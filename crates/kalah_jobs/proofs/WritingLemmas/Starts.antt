@@ -35,3 +35,6 @@ start_longer old new bs cs start =
 pub start_kept : (old between new : Option (List ℕ)) (bs : List ℕ) → AppendsStart old between bs → Keeps between new
     → AppendsStart old new bs
 start_kept old between new bs start kept = (start.0, Appends-kept old between new (take start.0 bs) start.1 kept)
+
+-- prefixes, by each way to write one
+pub ruleset starts = (start_none, start_kept_all, start_then, start_longer, start_kept)

@@ -15,6 +15,7 @@ use kalah_rules::Board;
 
 // Returns the line without one CR at its end, if it has one.
 #[inline(always)]
+#[tactic(auto, using(crate::proofs::LineLemmas::LineEnds::ends_of_lines))]
 fn drop_cr(line: &[u8]) -> &[u8]
     ensures { result.now ≡ without_cr line.now }
 {
@@ -25,6 +26,7 @@ fn drop_cr(line: &[u8]) -> &[u8]
 }
 
 // Returns the position of a line whose CR is dropped, or its first fault.
+#[tactic(auto, using(crate::proofs::LineLemmas::Readings::readings))]
 #[inline(always)]
 fn read_text(text: &[u8]) -> Result<Board, LineFault>
     ensures { result ≡ reading_of_text text.now }

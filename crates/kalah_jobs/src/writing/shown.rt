@@ -16,7 +16,7 @@ use kalah_solve::{MoveValue, MoveValues};
 use std::io;
 
 // Puts the value of a move, at the right of a column, in front of the text.
-#[tactic(auto, using(crate::proofs::WritingLemmas::Shown::value_length))]
+#[tactic(auto, using(crate::proofs::WritingLemmas::Shown::value_room))]
 fn put_value_cell(text: &mut StackText, value: MoveValue)
     requires small { IsSmallMargin value.value }
     requires room { length text.old + 11 ≤ ROOM }
@@ -29,6 +29,7 @@ fn put_value_cell(text: &mut StackText, value: MoveValue)
 }
 
 // Puts the values from place `i` on in front of the text, each in the column of its house. `behind` columns come before them.
+#[tactic(auto, using(crate::proofs::WritingLemmas::Shown::columns_of_values))]
 fn put_columns(text: &mut StackText, values: &MoveValues, i: u8, behind: u8)
     requires room { length text.old + 39 ≤ ROOM }
     requires within { i ≤ length values.now }

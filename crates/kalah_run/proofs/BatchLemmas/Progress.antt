@@ -127,7 +127,7 @@ module _ (text : ℕ → Taken → List ℕ) (jobs : List (List Entry)) where
       let kept = start jobs in
       record {
         holds = kept.offered;
-        within = kept.took.within;
+        within = kept.within;
         before = λ g low. absurd (omega arith);
         behind = λ g high. new_taken jobs g;
         written = subst (λ (l : List ℕ). WasGiven begun begun failed l)

@@ -16,31 +16,31 @@ loop-init g c = (nothing_read _ _ _ _ c.new-line.ensures, search rules)
 
 pub returns-in_err-byte-clause-cut_off : goal.returns-in_err-byte-clause-cut_off
 returns-in_err-byte-clause-cut_off g c = λ _.
-    cut_off _ _ _ _ _ _ _ _ _ c.loop.invariant.0 c.in_err-byte.ensures.untaken c.in_err-byte.ensures.keeps
+    cut_off c.loop.invariant.0 c.in_err-byte.ensures.untaken c.in_err-byte.ensures.keeps
 
 pub returns-in_err-byte-clause-begins : goal.returns-in_err-byte-clause-begins
 returns-in_err-byte-clause-begins g c =
-    begun_so_far _ _ _ _ _ _ _ _ _ c.loop.invariant.0 c.in_err-byte.ensures.untaken c.in_err-byte.ensures.keeps
+    begun_so_far c.loop.invariant.0 c.in_err-byte.ensures.untaken c.in_err-byte.ensures.keeps
 
 pub returns-in_err-tell_last-clause-begins : goal.returns-in_err-tell_last-clause-begins
 returns-in_err-tell_last-clause-begins g c =
-    begun_last _ _ _ _ _ _ _ _ _ _ c.loop.invariant.0
+    begun_last c.loop.invariant.0 _
     (taken_is _ _ _ _ c.in_default.is c.in_ok-byte.ensures.taken) c.in_ok-byte.ensures.keeps c.tell_last.ensures.start
 
 pub returns-in_default-clause-answered : goal.returns-in_default-clause-answered
 returns-in_default-clause-answered g c =
-    all_answered _ _ _ _ _ _ _ _ _ _ _ c.loop.invariant.0 (taken_is _ _ _ _ c.in_default.is c.in_ok-byte.ensures.taken)
+    all_answered c.loop.invariant.0 _ (taken_is _ _ _ _ c.in_default.is c.in_ok-byte.ensures.taken)
     (c.in_ok-byte.ensures.end c.in_default.is) c.in_ok-byte.ensures.keeps c.in_ok-tell_last.ensures.told c.in_ok-tell_last.ensures.read
 
 pub returns-in_default-clause-begins : goal.returns-in_default-clause-begins
 returns-in_default-clause-begins g c =
-    begun_last _ _ _ _ _ _ _ _ _ _ c.loop.invariant.0
+    begun_last c.loop.invariant.0 _
     (taken_is _ _ _ _ c.in_default.is c.in_ok-byte.ensures.taken) c.in_ok-byte.ensures.keeps c.tell_last.ensures.start
 
 pub returns-in_err-all_read-clause-begins : goal.returns-in_err-all_read-clause-begins
 returns-in_err-all_read-clause-begins g c =
     let is = c.in-Some.is ∙ ap (λ byte. Some byte) c.if-byte-eq-LINE_FEED.true in
-    begun_line _ _ _ _ _ _ _ _ _ _ c.loop.invariant.0 (taken_is _ _ _ _ is c.in_ok-byte.ensures.taken) c.in_ok-byte.ensures.keeps
+    begun_line c.loop.invariant.0 _ (taken_is _ _ _ _ is c.in_ok-byte.ensures.taken) c.in_ok-byte.ensures.keeps
     c.tell.ensures.start
 
 pub loop-preserved : goal.loop-preserved
@@ -48,18 +48,18 @@ loop-preserved g c = elim c.if-byte-eq-LINE_FEED.branch [
   | then-byte-eq-LINE_FEED+in_ok-all_read w ↦
       let is = c.in-Some.is ∙ ap (λ byte. Some byte) w.if-byte-eq-LINE_FEED.true in
       let told = w.in_ok-all_read.ensures in
-      let read = line_read _ _ _ _ _ _ _ _ _ _ _ c.loop.invariant.0
+      let read = line_read c.loop.invariant.0 _
       (taken_is _ _ _ _ is c.in_ok-byte.ensures.taken) c.in_ok-byte.ensures.keeps told.told told.read in
       rw (w.out-is, w.line-is, w.all_read-is, w.new-line-then-byte-eq-LINE_FEED.ensures) (read, search rules)
   | else-byte-eq-LINE_FEED w ↦
       let taken = taken_is _ _ _ _ c.in-Some.is c.in_ok-byte.ensures.taken in
-      let read = byte_read _ _ _ _ _ _ _ _ _ _ c.loop.invariant.0 w.if-byte-eq-LINE_FEED.false taken c.in_ok-byte.ensures.keeps in
+      let read = byte_read c.loop.invariant.0 _ w.if-byte-eq-LINE_FEED.false taken c.in_ok-byte.ensures.keeps in
       rw (w.out-is, w.line-is, w.all_read-is, w.push.ensures) (read, search rules)
 ]
 
 pub returns-in_err-hand_on-clause-begins : goal.returns-in_err-hand_on-clause-begins
 returns-in_err-hand_on-clause-begins g c =
-    begun_so_far _ _ _ _ _ _ _ _ _ c.loop.invariant.0 (Keeps-refl _) c.hand_on.ensures.keeps
+    begun_so_far c.loop.invariant.0 (Keeps-refl _) c.hand_on.ensures.keeps
 
 pub returns-clause-begins : goal.returns-clause-begins
-returns-clause-begins g c = begun_so_far _ _ _ _ _ _ _ _ _ c.loop.invariant.0 (Keeps-refl _) c.hand_on.ensures.keeps
+returns-clause-begins g c = begun_so_far c.loop.invariant.0 (Keeps-refl _) c.hand_on.ensures.keeps

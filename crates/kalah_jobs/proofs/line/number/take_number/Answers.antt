@@ -1,32 +1,18 @@
 use Rattle.std.proofs.Common.{◌≡◌, ◌∷◌, ap, ◌∙◌, arith, length, sym}
-use Rattle.kalah_jobs.proofs.LineLemmas.Front.{after_one, after_two, has_bytes, has_digit, one_digit, two_digits}
+use Rattle.kalah_jobs.proofs.LineLemmas.Front.{after_one, after_two, has_digit}
 use Rattle.kalah_jobs.proofs.line.number.take_number.Goals.{in_default-via-in-Some+then-high-gt0+else-is_ascii_digit, in_default-via-in-Some+else-high-gt0, in_default-via-in_default}
 use Rattle.kalah_jobs.proofs.line.number.take_number.Goals as goal
-
-pub returns-in_err-first-clause-every : goal.returns-in_err-first-clause-every
-returns-in_err-first-clause-every c n rest ends begins = absurd (omega (arith, has_bytes begins, c.in_err-first.ensures.cases))
 
 pub returns-then-not-is_ascii_digit-clause-every : goal.returns-then-not-is_ascii_digit-clause-every
 returns-then-not-is_ascii_digit-clause-every c n rest ends begins =
     let digit = has_digit begins c.in_ok-first.first.now c.in_ok-first.rest.now c.in_ok-first.ensures.cases.0 in
     grind (arith, digit, c.if-not-is_ascii_digit.ensures.cases)
 
-pub returns-in-Some-clause-is : goal.returns-in-Some-clause-is
-returns-in-Some-clause-is c =
-    two_digits c.args.bytes.now c.in_ok-first.first.now c.in-Some.ones.now c.in-Some.more.now
-    (c.in_ok-first.ensures.cases.0 ∙ ap (λ rest. c.in_ok-first.first.now ∷ rest) c.in-Some.ensures.cases.0)
-    c.if-not-is_ascii_digit.ensures.cases c.if-high-gt0.true c.if-is_ascii_digit.ensures.cases
-
 pub returns-in-Some-clause-every : goal.returns-in-Some-clause-every
 returns-in-Some-clause-every c n rest ends begins =
     after_two begins c.in_ok-first.first.now c.in-Some.ones.now c.in-Some.more.now
     (c.in_ok-first.ensures.cases.0
     ∙ ap (λ rest. c.in_ok-first.first.now ∷ rest) c.in-Some.ensures.cases.0) ends c.if-is_ascii_digit.ensures.cases
-
-pub returns-in_default-clause-is : goal.returns-in_default-clause-is
-returns-in_default-clause-is c =
-    one_digit c.args.bytes.now c.in_ok-first.first.now c.in_ok-first.rest.now c.in_ok-first.ensures.cases.0
-    c.if-not-is_ascii_digit.ensures.cases
 
 pub returns-in_default-clause-every : goal.returns-in_default-clause-every
 returns-in_default-clause-every c n rest ends begins =

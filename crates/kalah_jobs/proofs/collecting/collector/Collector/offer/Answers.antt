@@ -1,8 +1,7 @@
-use Rattle.std.proofs.Common.{◌≡◌, ◌<◌, ◌∙◌, length, List, ap, sym, arith, map}
-use Rattle.std.specs.Prelude.{Some}
-use Rattle.std.proofs.lemmas.List.{get_or_default, length-set}
+use Rattle.std.proofs.Common.{◌≡◌, ◌<◌, ◌∙◌, length, List, ap, sym, arith}
+use Rattle.std.proofs.lemmas.List.{get_or_default}
 use Rattle.kalah_jobs.specs.Collecting.CollectorState.{FileState, no_file, state_of, line_count}
-use Rattle.kalah_jobs.proofs.CollectingLemmas.CollectorSteps.{counts_set, lines_are}
+use Rattle.kalah_jobs.proofs.CollectingLemmas.CollectorSteps.{lines_are}
 use Rattle.kalah_jobs.proofs.collecting.collector.Collector.offer.Goals as goal
 
 pub entry-own-requires-clause-line : goal.entry-own-requires-clause-line
@@ -26,16 +25,3 @@ entry-own-requires-clause-line c =
     let line_1 = c.line.ensures in
     let line_2 = c.line-2.ensures in
     omega arith
-
-pub returns-clause-counts : goal.returns-clause-counts
-returns-clause-counts c =
-    let files : List FileState = c.self.inside.files.items in
-    let within : c.file-2.result < length files = omega (arith, c.if-file-len.false, c.len.ensures, c.file.ensures, c.file-2.ensures) in
-    let here : state_of files c.file-2.result ≡ c.index_mut-file.result.now =
-    get_or_default files c.file-2.result no_file c.index_mut-file.result.now within ∙ sym c.index_mut-file.ensures.value in
-    let count : line_count c.accept.new.self ≡ line_count (state_of files c.file-2.result) =
-    ap (λ (f : FileState). line_count f) c.accept.ensures.kept
-    ∙ length-set c.index_mut-file.result.now.arrived c.line-4.result (Some c.answer.result)
-    ∙ ap (λ (f : FileState). line_count f) (sym here) in
-    counts_set files c.file-2.result c.accept.new.self count ∙ ap (λ (l : List FileState). map line_count l) c.self.view_is
-    ∙ c.requires

@@ -12,14 +12,11 @@ use Rattle.kalah_jobs.proofs.files.jobs.Jobs.asking.Goals.{After-len}
 counted : (c : After-len) → AreCounted (jobs_to c.args.question (take (c.loop-file.file-index + 1) c.args.files.now))
     (c.loop-file.offsets.items ++ c.len.result ∷ []) c.read_entries.new.entries.items
 counted c =
-    let own = entries_to c.args.question c.deref.result.now in
     let read = ap (entries_to c.args.question) (c.deref.ensures.value ∙ ap (λ (f : NamedBytes). f.bytes) c.file.view_is) in
     let jobs = jobs_to c.args.question (take (c.loop-file.file-index + 1) c.args.files.now) in
     subst (λ entries. AreCounted jobs (c.loop-file.offsets.items ++ c.len.result ∷ []) entries)
     (sym c.in_ok-faults.ensures.read)
-    (read_more c.args.question c.args.files.now c.loop-file.file-index c.loop-file.offsets.items c.loop-file.entries.items own
-    c.file-item.result c.len.result
-    c.loop-file.invariant.counted c.loop-file-test.true c.file-item.is read
+    (read_more _ _ c.loop-file.invariant.counted c.loop-file-test.true c.file-item.is read
     (omega (arith, c.len.ensures, ap length c.in_ok-faults.ensures.read)))
 
 pub overflow_cast-len : goal.overflow_cast-len
@@ -28,7 +25,7 @@ overflow_cast-len c =
     omega (
       arith,
       c.len.ensures,
-      all_counted (jobs_to c.args.question (take (c.loop-file.file-index + 1) c.args.files.now)) _ _ (counted at),
+      all_counted (counted at),
       counted_low c.args.question c.args.files.now (c.loop-file.file-index + 1),
       c.in-Some.ensures.some,
     )
@@ -39,7 +36,7 @@ overflow_cast-result c =
       arith,
       c.loop-file.invariant.faults,
       count_by-le-length is_faulty_entry c.loop-file.entries.items,
-      all_counted (jobs_to c.args.question (take c.loop-file.file-index c.args.files.now)) _ _ c.loop-file.invariant.counted,
+      all_counted c.loop-file.invariant.counted,
       counted_low c.args.question c.args.files.now c.loop-file.file-index,
       c.in-Some.ensures.some,
     )
@@ -60,13 +57,13 @@ loop-file-preserved c = record {
 
 pub returns-clause-value : goal.returns-clause-value
 returns-clause-value c =
-    by_file_is (jobs_to c.args.question (take c.loop-file.file-index c.args.files.now)) _ _ c.loop-file.invariant.counted
+    by_file_is c.loop-file.invariant.counted
     ∙ ap (jobs_to c.args.question) (take_all c.loop-file.file-index c.args.files.now (omega (arith, c.loop-file-test.false)))
 
 pub invariant_of-result : goal.invariant_of-result
 invariant_of-result c =
     let all = ap (jobs_to c.args.question) (take_all c.loop-file.file-index c.args.files.now (omega (arith, c.loop-file-test.false))) in
-    let are = by_file_is (jobs_to c.args.question (take c.loop-file.file-index c.args.files.now)) _ _ c.loop-file.invariant.counted in
+    let are = by_file_is c.loop-file.invariant.counted in
     let few = few_jobs c.args.question c.args.files.now (omega (arith, c.if-files-gt-MOST_FILES.false))
     (omega (arith, c.in-Some.ensures.some)) in
     let counted = subst (λ jobs. AreCounted jobs c.loop-file.offsets.items c.loop-file.entries.items)

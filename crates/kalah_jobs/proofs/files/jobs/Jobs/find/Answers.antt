@@ -3,12 +3,12 @@ use Rattle.std.specs.List.Sorted.{IsNonDecreasing}
 use Rattle.std.proofs.Math.Dec.{leb}
 use Rattle.std.proofs.lemmas.List.Sorted.{IsPartitionedBy-leb, IsPartitionPoint-from_clause}
 use Rattle.kalah_jobs.specs.Files.Jobs.{AreCounted, job_count}
-use Rattle.kalah_jobs.proofs.FilesLemmas.JobCounts.{AreStarted, HasJob, all_counted, entry_there, has_job, offset_is, offsets_rise, slice_get-job_list, stored}
+use Rattle.kalah_jobs.proofs.FilesLemmas.JobCounts.{AreStarted, HasJob, all_counted, entry_there, has_job, offset_is, offsets_rise, slice_get-job_list}
 use Rattle.kalah_jobs.proofs.files.jobs.Jobs.find.Goals.{After-partition_point-file}
 use Rattle.kalah_jobs.proofs.files.jobs.Jobs.find.Goals as goal
 
 counted : (c : After-partition_point-file) → AreCounted c.args.self.now c.self.inside.offsets.items c.self.inside.entries.items
-counted c = (stored c.args.self.now _ _ c.self.invariant.0 c.self.view_is).1
+counted c = (rw c.self.view_is at c.self.invariant.0).1
 
 -- the offsets before the point are at most n, and the others are not
 parted : (c : After-partition_point-file) → AreStarted c.self.inside.offsets.items c.args.n c.partition_point-file.result
@@ -17,12 +17,12 @@ parted c =
     (IsPartitionPoint-from_clause (λ y. leb y c.args.n) c.deref.result.now c.partition_point-file.result
     c.partition_point-file.ensures.partitioned
     (IsPartitionedBy-leb (λ x. x) c.deref.result.now c.args.n
-    (subst (λ offsets. IsNonDecreasing offsets) (sym c.deref.ensures.value) (offsets_rise c.args.self.now _ _ (counted c))))
+    (subst (λ offsets. IsNonDecreasing offsets) (sym c.deref.ensures.value) (offsets_rise (counted c))))
     (λ a r f' k. search rules))
 
 has : (c : After-partition_point-file) → HasJob c.args.self.now c.args.n c.partition_point-file.result
 has c =
-    has_job c.args.self.now _ _ c.args.n c.partition_point-file.result (counted c) c.requires (parted c)
+    has_job (counted c) c.args.n c.partition_point-file.result c.requires (parted c)
     (omega (arith, c.partition_point-file.ensures.bound, ap length c.deref.ensures.value))
 
 pub overflow_sub-file : goal.overflow_sub-file
@@ -33,7 +33,7 @@ offset : (c : After-partition_point-file) (read : ℕ) → read ≡ get_or c.sel
     (c.partition_point-file.result - 1) read
     → read ≡ job_count (take (c.partition_point-file.result - 1) c.args.self.now)
 offset c read is =
-    is ∙ offset_is c.args.self.now _ _ (c.partition_point-file.result - 1) read (counted c)
+    is ∙ offset_is (counted c) (c.partition_point-file.result - 1) read
     (let within = (has c).within in omega (arith, within))
 
 pub overflow_sub-line : goal.overflow_sub-line
@@ -43,7 +43,7 @@ overflow_sub-line c =
 
 pub index-requires-2 : goal.index-requires-2
 index-requires-2 c =
-    omega (arith, c.requires, all_counted c.args.self.now _ _ (counted (goal.at.index-requires-2 c).After-partition_point-file))
+    omega (arith, c.requires, all_counted (counted (goal.at.index-requires-2 c).After-partition_point-file))
 
 pub returns : goal.returns
 returns c =
@@ -54,5 +54,5 @@ returns c =
     omega (arith, start, job.low) in
     slice_get-job_list c.args.self.now (c.partition_point-file.result - 1) (c.args.n - c.index.result.now) c.args.n
     c.index-2.result.now number
-    (entry_there c.args.self.now _ _ (c.partition_point-file.result - 1) (c.args.n - c.index.result.now) c.args.n c.index-2.result.now
-    (counted at) job.within (omega (arith, start, job.line)) number c.index-2.ensures)
+    (entry_there (counted at) (c.partition_point-file.result - 1) (c.args.n - c.index.result.now) c.args.n c.index-2.result.now
+    job.within (omega (arith, start, job.line)) number c.index-2.ensures)
