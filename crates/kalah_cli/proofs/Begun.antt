@@ -18,10 +18,13 @@ use Rattle.kalah_jobs.proofs.WritingLemmas.Starts.{start_kept_all, start_longer,
 use Rattle.kalah_jobs.proofs.WritingLemmas.StepLines.{first_moves, one_more}
 use Rattle.kalah_cli.specs.Moves.{board_lines, move_lines}
 use Rattle.kalah_cli.specs.Play.{BeginsToPlay}
-use Rattle.kalah_cli.specs.Request.{Asked, answers, ask, conflict, count, moves, play, show}
+use Rattle.kalah_cli.specs.Request.{Asked, answers, ask, conflict, play}
 use Rattle.kalah_cli.specs.Runs.{Begins}
 use Rattle.kalah_cli.specs.Ask.{AnswersLines, AreFirst, BeginsLines, StopsBetweenLines}
-use Rattle.kalah_cli.specs.SolveFiles.{BeginsTo}
+use Rattle.kalah_cli.specs.SolveFiles.{BeginsTo, has_line_feed}
+use Rattle.std.specs.Borrow.{Bor}
+use Rattle.std.specs.List.{list_any}
+use Rattle.clap.proofs.WalkLemmas.{list_any-map}
 use Rattle.kalah_cli.specs.declared.status.ExitStatus.{ExitStatus}
 use Rattle.kalah_cli.specs.declared.status.ExitStatus.TheVariants.{Clean}
 use Rattle.std.proofs.KnownBytes.{Appends-kept, Appends-nil, Appends-trans}
@@ -112,24 +115,18 @@ taken_first (Some bytes) None taken is = absurd is
 taken_first (Some bytes) (Some rest) taken is = (rest, is)
 
 -- and so did a first part of it
-part_first : (before after : Option (List ℕ)) (lines part : List ℕ) → Consumes before after (lines ++ part) → AreFirst lines before
-part_first None after lines part is = tt
-part_first (Some bytes) None lines part is = absurd is
-part_first (Some bytes) (Some rest) lines part is = (part ++ rest, is ∙ append_assoc lines part rest)
+part_first : (unread : Option (List ℕ)) (lines part : List ℕ) → AreFirst (lines ++ part) unread → AreFirst lines unread
+part_first None lines part first = tt
+part_first (Some bytes) lines part first = (part ++ first.0, first.1 ∙ append_assoc lines part first.0)
 
 -- what is known of these bytes is known of bytes that nobody knows
-pub asked_of_any : (question : Question) (unread old new : Option (List ℕ)) (status : ExitStatus)
-    → AnswersLines question unread old new status
-    → AnswersLines question None old new status
-asked_of_any question unread old new status is = record { read = is.read; all = tt; written = is.written; clean = is.clean }
+pub asked_of_any : {question : Question} {unread old new : Option (List ℕ)} {status : ExitStatus}
+    → AnswersLines question unread old new status → AnswersLines question None old new status
+asked_of_any is = record { read = is.read; all = tt; written = is.written; clean = is.clean }
 
-pub begun_of_any : (question : Question) (unread old new : Option (List ℕ)) → BeginsLines question unread old new
+pub begun_of_any : {question : Question} {unread old new : Option (List ℕ)} → BeginsLines question unread old new
     → BeginsLines question None old new
-begun_of_any question unread old new is = record { read = is.read; first = tt; start = is.start }
-
-pub stopped_of_any : (question : Question) (unread old new : Option (List ℕ)) → StopsBetweenLines question unread old new
-    → StopsBetweenLines question None old new
-stopped_of_any question unread old new is = record { lines = is.lines; first = tt; ended = is.ended; written = is.written }
+begun_of_any is = record { read = is.read; first = tt; start = is.start }
 
 -- nothing is a prefix of the answers to any lines
 pub no_lines_begun : (question : Question) (unread old : Option (List ℕ)) → BeginsLines question unread old old
@@ -155,10 +152,9 @@ lines_answered same is clean = record {
 }
 
 -- a prefix of the answers to lines, and of that to the next one, is a prefix of all of them
-pub lines_begun : (question : Question) (unread before after old new : Option (List ℕ)) → unread ≡ before
-    → IsBegun question before after old new
-    → BeginsLines question unread old new
-lines_begun question unread before after old new is begun =
+pub lines_begun : {question : Question} {unread before after old new : Option (List ℕ)} → unread ≡ before
+    → IsBegun question before after old new → BeginsLines question unread old new
+lines_begun {question} {before = before} {after = after} {old = old} {new = new} is begun =
     let first = answers_to question begun.lines in
     let rest = answers_to question begun.last in
     let all = ap (take (length first + begun.count)) (answers_split question begun.lines begun.last begun.ended)
@@ -170,12 +166,11 @@ lines_begun question unread before after old new is begun =
     }
 
 -- if a read failed
-pub lines_cut_off : (question : Question) (unread before after old new : Option (List ℕ)) → unread ≡ before
-    → IsCutOff question before after old new →
-    StopsBetweenLines question unread old new
-lines_cut_off question unread before after old new is cut = record {
+pub lines_cut_off : {question : Question} {unread before after old new : Option (List ℕ)} → unread ≡ before
+    → IsCutOff question before after old new → StopsBetweenLines question unread old new
+lines_cut_off {before = before} {after = after} is cut = record {
   lines = cut.lines;
-  first = subst (AreFirst cut.lines) (sym is) (part_first before after cut.lines cut.part cut.taken);
+  first = subst (AreFirst cut.lines) (sym is) (part_first before cut.lines cut.part (taken_first before after _ cut.taken));
   ended = cut.ended;
   written = cut.written;
 }
@@ -194,10 +189,13 @@ begins_no_play first boards p old even = record {
 
 -- so nothing is a prefix of all that is asked
 pub begins_none : (a : Asked) (old : Option (List ℕ)) → Begins a old old
-begins_none (moves boards line) old = λ p reads. start_none old _
 begins_none (play first table boards line) old = λ p reads. begins_no_play first boards p old (even_read line p reads)
 begins_none (answers question workers table progress names) old = begins_nothing question names old
 begins_none (ask question table) old = no_lines_begun question None old
-begins_none (show plain table line) old = λ p reads. start_none old _
-begins_none (count depth line) old = λ p reads. start_none old _
 begins_none conflict old = start_none old []
+begins_none a old = λ p reads. start_none old _
+
+-- one of the names has a line feed exactly when one of their texts has
+pub texts_have_line_feed : (names : List (Bor (List ℕ)))
+    → list_any (λ name. has_line_feed name.now) names ≡ list_any has_line_feed (map (λ name. name.now) names)
+texts_have_line_feed names = list_any-map has_line_feed (λ name. name.now) names

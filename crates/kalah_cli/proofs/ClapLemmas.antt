@@ -1,3 +1,2 @@
-pub mod FoundRows
 pub mod KeptRows
 pub mod Arguments

@@ -1,5 +1,4 @@
 pub mod Items
-pub mod Names
 pub mod Laws
 pub mod ManyWords
 pub mod ClapLemmas

@@ -50,17 +50,19 @@ behind files word = record {
   stopped = None;
 }
 
--- the walk goes on from the first plain argument, which has no fault
+-- the walk goes on over an argument without a fault
+abbrev Goes : Shape → Walk → Text → Walk → Type 0
+Goes s w word next = (walked s.rules [] w word ≡ next) × (turn_fault s [] w word ≡ [])
+
+-- so it does over the first plain argument
 first_step : (s : Shape) → TakesFiles s.rules → (x : ℕ) (xs : Text) → (x == 45) ≡ false
-    → (walked s.rules [] (walk_from nothing_held) (x ∷ xs) ≡ behind [] (x ∷ xs))
-    × (turn_fault s [] (walk_from nothing_held) (x ∷ xs) ≡ [])
+    → Goes s (walk_from nothing_held) (x ∷ xs) (behind [] (x ∷ xs))
 unfolding clap_on_literals
 first_step s takes x xs e = (simp (e, takes.0) refl, simp (e, takes.0) refl)
 
--- and from one more
+-- and over one more
 step : (s : Shape) → TakesFiles s.rules → (files : List Text) (word : Text) (x : ℕ) (xs : Text) → (x == 45) ≡ false
-    → (walked s.rules [] (behind files word) (x ∷ xs) ≡ behind (files ++ word ∷ []) (x ∷ xs))
-    × (turn_fault s [] (behind files word) (x ∷ xs) ≡ [])
+    → Goes s (behind files word) (x ∷ xs) (behind (files ++ word ∷ []) (x ∷ xs))
 unfolding clap_on_literals
 step s takes [] word x xs e = (simp (e, takes.0, takes.1) refl, simp (e, takes.0, takes.1) refl)
 step s takes (file ∷ files) word x xs e = (simp (e, takes.0, takes.1) refl, simp (e, takes.0, takes.1) refl)
@@ -73,8 +75,7 @@ record Ends (s : Shape) (files : List Text) (w : Walk) (words : List Text) : Typ
 
 -- so it does from one word before, if that has no fault
 before : (s : Shape) (files : List Text) (w next : Walk) (word : Text) (words : List Text)
-    → (walked s.rules [] w word ≡ next) × (turn_fault s [] w word ≡ []) → Ends s files next words
-    → Ends s files w (word ∷ words)
+    → Goes s w word next → Ends s files next words → Ends s files w (word ∷ words)
 unfolding walk_fault
 before s files w next word words goes ends = record {
   rows = ap (λ w. (settled s.rules (fold (walked s.rules []) w words).held).rows) goes.0 ∙ ends.rows;
@@ -120,8 +121,7 @@ shape question = built_leaf (inherited program.top (app_of question).top)
 
 takes : (question : Question) → TakesFiles (shape question).rules
 takes BestMove = (refl, refl)
-takes Values = (refl, refl)
-takes Steps = (refl, refl)
+takes question = (refl, refl)
 
 -- at its name the walk over the program's arguments stops, without a fault
 stops : (question : Question) → (walked program.top.rules (names_of program) (walk_from nothing_held) (command_of question)
@@ -129,15 +129,13 @@ stops : (question : Question) → (walked program.top.rules (names_of program) (
     × (turn_fault program.top (names_of program) (walk_from nothing_held) (command_of question) ≡ [])
 unfolding clap_on_literals
 stops BestMove = (refl, refl)
-stops Values = (refl, refl)
-stops Steps = (refl, refl)
+stops question = (refl, refl)
 
 -- and it is found
 found : (question : Question) → find (λ s. answers_to (command_of question) (label_of s)) program.subs ≡ Some (shape question)
 unfolding clap_on_literals
 found BestMove = refl
-found Values = refl
-found Steps = refl
+found question = refl
 
 -- files are all that it needs
 needs : (question : Question) (file : Text) (files : List Text)
@@ -145,8 +143,7 @@ needs : (question : Question) (file : Text) (files : List Text)
     (check_fault (shape question) (fold with_default (file_rows (file ∷ files)) (shape question).rules) false) ≡ []
 unfolding clap_on_literals
 needs BestMove file files = refl
-needs Values file files = refl
-needs Steps file files = refl
+needs question file files = refl
 
 -- and with the defaults they ask for this
 asks : (question : Question) (file : Text) (files : List Text)
@@ -154,8 +151,7 @@ asks : (question : Question) (file : Text) (files : List Text)
     ≡ Some (answers question 4 (table_of question) false (file ∷ files))
 unfolding clap_on_literals
 asks BestMove file files = refl
-asks Values file files = refl
-asks Steps file files = refl
+asks question file files = refl
 
 -- `solve`, `values` or `steps` and plain arguments are accepted as asking this of the files of these names
 pub files_taken : (question : Question) (name file : Text) (files : List Text) → All IsPlainWord (file ∷ files)
@@ -176,10 +172,7 @@ files_taken question name file files plain =
     ∙ ap (λ rows. Some ((shape question).name, fold with_default rows (shape question).rules)) end.rows in
     (rw (stop.1, stop.0, passes, walked_on, found question, level) refl, ap (option_and_then asked_by) rows ∙ asks question file files)
 
--- and without a file one is missing
-pub no_file_is_missed : (question : Question) (name : Text) →
-    fault_of kalah_app (name ∷ command_of question ∷ []) ≡ MissingRequiredArgument ∷ []
+-- and without a file `solve` misses one
+pub no_file_is_missed : (name : Text) → fault_of kalah_app (name ∷ codes "solve" ∷ []) ≡ MissingRequiredArgument ∷ []
 unfolding clap_on_literals
-no_file_is_missed BestMove name = refl
-no_file_is_missed Values name = refl
-no_file_is_missed Steps name = refl
+no_file_is_missed name = refl

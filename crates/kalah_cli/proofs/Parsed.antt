@@ -1,16 +1,12 @@
 -- What a parse of the program's arguments makes of them.
 use Rattle.std.proofs.Common.{◌≡◌, ◌∙◌, true, refl, sym, ap, subst, inl, inr, List, [], Option, Some, Result, Ok, Err}
 use Rattle.std.specs.Prelude.{IfErr, IsErrAnd, MatchResult, option_and_then}
-use Rattle.clap.specs.Values.{kind_of}
-use Rattle.clap.specs.Kinds.{HasKind}
-use Rattle.clap.specs.Walk.{Row, Text}
-use Rattle.clap.specs.Simple.{App, is_simple, subcommand_of}
-use Rattle.clap.specs.Faults.{fault_of, is_simple_and_free}
+use Rattle.clap.specs.Words.{App, HasKind, Row, Text, fault_of, is_simple, is_simple_and_free, kind_of, subcommand_of}
 use Rattle.clap.specs.declared.error.Error.{Error}
 use Rattle.clap.specs.declared.error.kind.ErrorKind.TheVariants.{OutOfMemory}
 use Rattle.clap.proofs.OnLiterals.{clap_on_literals}
 use Rattle.kalah_cli.specs.Command.{kalah_app}
-use Rattle.kalah_cli.specs.Request.{Asked, IsTaken, asked, asked_by}
+use Rattle.kalah_cli.specs.Request.{AreMatches, Asked, asked, asked_by}
 use Rattle.kalah_cli.proofs.ClapLemmas.Arguments.{taken_has}
 use Rattle.kalah_cli.proofs.Subcommands.{usable}
 
@@ -27,7 +23,7 @@ kalah_is_simple = refl
 pub record IsParsed (words : List Text) (o : Option (Text × List Row)) : Type 0 where
   pub none : fault_of kalah_app words ≡ []
   pub same : o ≡ subcommand_of kalah_app words
-  pub taken : IsTaken o
+  pub taken : (name : Text) × (rows : List Row) × (o ≡ Some (name, rows)) × AreMatches name rows
 
 pub parsed : (a : App) (words : List Text) (o : Option (Text × List Row)) → a ≡ kalah_app →
     (is_simple_and_free a ≡ true → fault_of a words ≡ [])

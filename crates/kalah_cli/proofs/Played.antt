@@ -31,16 +31,6 @@ use Rattle.kalah_cli.specs.Play.{BeginsToPlay, IsBestGame, MayBegin, OfBestGame,
 abbrev pub BestGame : Position → List ℕ → Position → Type 0
 BestGame p houses final = Game (follow best_house) (follow best_house) p houses final
 
--- their game ends with the margin of best play, so what holds of the lines of its moves holds of the game
-of_game : (boards : Bool) (p : Position) (houses : List ℕ) (final : Position) (Holds : List ℕ → Type 0) → HasEqualSides p →
-    BestGame p houses final → Holds (game_lines boards p houses) → OfBestGame boards p Holds
-of_game boards p houses final Holds even game holds =
-    let keeps = strategy_keeps best_house best_is_strategy in
-    let bounded = bounds keeps keeps even game in
-    let best : IsBestGame p houses final =
-    record { game = game; margin = omega (ints, arith, bounded.low best_plays, bounded.high best_plays) } in
-    record { houses = houses; final = final; is_best = best; holds = holds }
-
 -- the first move of the game from a position that is not over: its best house, and the step of that house
 pub record IsFirst (p : Position) (h : ℕ) (s : Step) : Type 0 where
   pub even : HasEqualSides p
@@ -127,56 +117,63 @@ first_move h {p = p} (passes_turn {h = k} {houses = rest} _ has turn game) going
 
 -- ---- what holds of the lines of its moves
 
--- what holds of any lines
-pub of_any : {boards : Bool} {p : Position} {Holds : List ℕ → Type 0} → HasEqualSides p → ((lines : List ℕ) → Holds lines) →
-    OfBestGame boards p Holds
-of_any {boards} {p} {Holds} even all =
-    let game = game_ends best_house best_house best_is_strategy best_is_strategy p even in
-    of_game boards p game.0 game.1 Holds even game.2 (all (game_lines boards p game.0))
+module _ {boards : Bool} {p : Position} {Holds : List ℕ → Type 0} where
+  -- the game ends with the margin of best play, so what holds of the lines of its moves holds of it
+  of_game : (houses : List ℕ) (final : Position) → HasEqualSides p → BestGame p houses final → Holds (game_lines boards p houses)
+      → OfBestGame boards p Holds
+  of_game houses final even game holds =
+      let keeps = strategy_keeps best_house best_is_strategy in
+      let bounded = bounds keeps keeps even game in
+      let best : IsBestGame p houses final =
+      record { game = game; margin = omega (ints, arith, bounded.low best_plays, bounded.high best_plays) } in
+      record { houses = houses; final = final; is_best = best; holds = holds }
 
--- what holds of the line of the first move, followed by any lines
-pub of_first : {boards : Bool} {p : Position} {h : ℕ} {s : Step} {Holds : List ℕ → Type 0} → IsFirst p h s →
-    ((lines : List ℕ) → Holds (move_lines boards h s ++ lines)) → OfBestGame boards p Holds
-of_first {boards} {p} {h} {s} {Holds} first all =
-    let game = game_ends best_house best_house best_is_strategy best_is_strategy p first.even in
-    let begun = first_move h game.2 first.going first.best in
-    let lines = game_lines boards (position_after (step_of p h)) begun.0 in
-    of_game boards p game.0 game.1 Holds first.even game.2
-    (subst (λ hs. Holds (game_lines boards p hs)) (sym begun.1)
-    (subst (λ x. Holds (move_lines boards h x ++ lines)) first.step (all lines)))
+  -- what holds of any lines
+  pub of_any : HasEqualSides p → ((lines : List ℕ) → Holds lines) → OfBestGame boards p Holds
+  of_any even all =
+      let game = game_ends best_house best_house best_is_strategy best_is_strategy p even in
+      of_game game.0 game.1 even game.2 (all (game_lines boards p game.0))
 
--- what holds of them after that line, if the rest is of the game from there on
-of_more : (boards : Bool) (p q : Position) (h : ℕ) (s : Step) (houses : List ℕ) (final : Position)
-    (Rest Holds : List ℕ → Type 0) →
-    IsFirst p h s → BestGame p (h ∷ houses) final → q ≡ position_after s → Rest (game_lines boards q houses) →
-    ((lines : List ℕ) → Rest lines → Holds (move_lines boards h s ++ lines)) → OfBestGame boards p Holds
-of_more boards p q h s houses final Rest Holds first game next rest more =
-    of_game boards p (h ∷ houses) final Holds first.even game
-    (subst (λ x. Holds (move_lines boards h x ++ game_lines boards (position_after x) houses)) first.step
-    (more (game_lines boards (position_after s) houses) (subst (λ r. Rest (game_lines boards r houses)) next rest)))
+  -- what holds of the line of the first move, followed by any lines
+  pub of_first : {h : ℕ} {s : Step} → IsFirst p h s → ((lines : List ℕ) → Holds (move_lines boards h s ++ lines))
+      → OfBestGame boards p Holds
+  of_first {h} {s} first all =
+      let game = game_ends best_house best_house best_is_strategy best_is_strategy p first.even in
+      let begun = first_move h game.2 first.going first.best in
+      let lines = game_lines boards (position_after (step_of p h)) begun.0 in
+      of_game game.0 game.1 first.even game.2
+      (subst (λ hs. Holds (game_lines boards p hs)) (sym begun.1)
+      (subst (λ x. Holds (move_lines boards h x ++ lines)) first.step (all lines)))
 
-pub of_next : {boards : Bool} {p q : Position} {h : ℕ} {s : Step} {Rest Holds : List ℕ → Type 0} → IsFirst p h s →
-    (s ≡ step.Again q) ⊎ (s ≡ step.Turn q) → ((lines : List ℕ) → Rest lines → Holds (move_lines boards h s ++ lines)) →
-    OfBestGame boards q Rest → OfBestGame boards p Holds
-of_next {boards} {p} {q} {h} {s} {Rest} {Holds} first is more rest =
-    let game = next_game p q h s rest.houses rest.final first is rest.is_best.game in
-    let next : q ≡ position_after s =
-    elim is [ inl again ↦ sym (ap position_after again) | inr turn ↦ sym (ap position_after turn) ] in
-    of_more boards p q h s rest.houses game.0 Rest Holds first game.1 next rest.holds more
+  -- what holds of them after that line, if the rest is of the game from there on
+  of_more : (q : Position) (h : ℕ) (s : Step) (houses : List ℕ) (final : Position) (Rest : List ℕ → Type 0) → IsFirst p h s
+      → BestGame p (h ∷ houses) final → q ≡ position_after s → Rest (game_lines boards q houses)
+      → ((lines : List ℕ) → Rest lines → Holds (move_lines boards h s ++ lines)) → OfBestGame boards p Holds
+  of_more q h s houses final Rest first game next rest more =
+      of_game (h ∷ houses) final first.even game
+      (subst (λ x. Holds (move_lines boards h x ++ game_lines boards (position_after x) houses)) first.step
+      (more (game_lines boards (position_after s) houses) (subst (λ r. Rest (game_lines boards r houses)) next rest)))
 
--- the last move
-pub of_last : {boards : Bool} {p e : Position} {h : ℕ} {s : Step} {Holds : List ℕ → Type 0} → IsFirst p h s
-    → s ≡ step.Over e →
-    Holds (move_lines boards h s ++ []) → OfBestGame boards p Holds
-of_last {boards} {p} {e} {h} {s} {Holds} first is holds =
-    let game = over_game p e h s first is in
-    of_more boards p e h s [] game.0 (λ lines. lines ≡ []) Holds first game.1 (sym (ap position_after is)) refl
-    (λ lines none. subst (λ l. Holds (move_lines boards h s ++ l)) (sym none) holds)
+  pub of_next : {q : Position} {h : ℕ} {s : Step} {Rest : List ℕ → Type 0} → IsFirst p h s
+      → (s ≡ step.Again q) ⊎ (s ≡ step.Turn q) → ((lines : List ℕ) → Rest lines → Holds (move_lines boards h s ++ lines)) → OfBestGame boards q Rest
+      → OfBestGame boards p Holds
+  of_next {q} {h} {s} {Rest} first is more rest =
+      let game = next_game p q h s rest.houses rest.final first is rest.is_best.game in
+      let next : q ≡ position_after s =
+      elim is [ inl again ↦ sym (ap position_after again) | inr turn ↦ sym (ap position_after turn) ] in
+      of_more q h s rest.houses game.0 Rest first game.1 next rest.holds more
 
--- of a game that is over there are none
-pub of_end : {boards : Bool} {p : Position} {Holds : List ℕ → Type 0} → HasEqualSides p → is_over p ≡ true → Holds []
-    → OfBestGame boards p Holds
-of_end {boards} {p} {Holds} even over holds = of_game boards p [] p Holds even (is_at_end over) holds
+  -- the last move
+  pub of_last : {e : Position} {h : ℕ} {s : Step} → IsFirst p h s → s ≡ step.Over e → Holds (move_lines boards h s ++ [])
+      → OfBestGame boards p Holds
+  of_last {e} {h} {s} first is holds =
+      let game = over_game p e h s first is in
+      of_more e h s [] game.0 (λ lines. lines ≡ []) first game.1 (sym (ap position_after is)) refl
+      (λ lines none. subst (λ l. Holds (move_lines boards h s ++ l)) (sym none) holds)
+
+  -- of a game that is over there are none
+  pub of_end : HasEqualSides p → is_over p ≡ true → Holds [] → OfBestGame boards p Holds
+  of_end even over holds = of_game [] p even (is_at_end over) holds
 
 -- ---- what is written of them
 
@@ -226,12 +223,16 @@ of_first_house first boards p h s Holds asked same all = subst (λ f. OfGame f b
     (of_any (even_after p h)
     (λ lines. subst (λ x. Holds (board_lines boards p ++ (move_lines boards h x ++ lines))) same (all lines)))
 
--- what holds of the lines of a game holds of it after the first picture
+-- what holds of the lines of a game, and what follows from it
+more_of_game : {boards : Bool} {p : Position} {Lines Holds : List ℕ → Type 0} → ((lines : List ℕ) → Lines lines → Holds lines)
+    → OfBestGame boards p Lines → OfBestGame boards p Holds
+more_of_game more game = record { houses = game.houses; final = game.final; is_best = game.is_best; holds = more _ game.holds }
+
+-- so what follows from it after the first picture
 pub of_best : (first : Option ℕ) (boards : Bool) (p : Position) (Lines Holds : List ℕ → Type 0) → first ≡ None →
     ((lines : List ℕ) → Lines lines → Holds (board_lines boards p ++ lines)) → OfBestGame boards p Lines
     → OfGame first boards p Holds
-of_best first boards p Lines Holds none more game = subst (λ f. OfGame f boards p Holds) (sym none)
-    (record { houses = game.houses; final = game.final; is_best = game.is_best; holds = more _ game.holds })
+of_best first boards p Lines Holds none more game = subst (λ f. OfGame f boards p Holds) (sym none) (more_of_game more game)
 
 -- and after the first picture and the move that is asked for, where the game goes on from the position after it
 pub behind_move : (first : Option ℕ) (boards : Bool) (p next : Position) (h : ℕ) (s : Step) (Lines Holds : List ℕ → Type 0)
@@ -241,16 +242,9 @@ pub behind_move : (first : Option ℕ) (boards : Bool) (p next : Position) (h : 
     → OfBestGame boards next Lines →
     OfGame first boards p Holds
 behind_move first boards p next h s Lines Holds asked same is more game = subst (λ f. OfGame f boards p Holds) (sym asked)
-    (let rest = subst (λ q. OfBestGame boards q Lines) (is ∙ ap position_after same) game in record {
-      houses = rest.houses;
-      final = rest.final;
-      is_best = rest.is_best;
-      holds =
-          subst
-          (λ x. Holds
-          (board_lines boards p ++ (move_lines boards h x ++ game_lines boards (position_after (step_of p h)) rest.houses)))
-          same (more _ rest.holds);
-    })
+    (more_of_game
+    (λ lines rest. subst (λ x. Holds (board_lines boards p ++ (move_lines boards h x ++ lines))) same (more lines rest))
+    (subst (λ q. OfBestGame boards q Lines) (is ∙ ap position_after same) game))
 
 -- the house may be moved, so a prefix of the game is all that is owed
 pub begins_play : {first : Option ℕ} {boards : Bool} {p : Position} {old new : Option (List ℕ)} → MayBegin first p →

@@ -1,14 +1,11 @@
 -- What the arguments of a command line ask the program to do.
-use Rattle.std.specs.Prelude.{ℕ, Bool, false, List, [], ◌∷◌, Option, None, Some, codes, ◌<◌, ◌≤◌, ◌≡◌, ◌≢◌, ◌⊎◌, length, map, option_map, string_bytes, option_and_then, if◌then◌else◌, is_some, true, unwrap_or, ⊤}
+use Rattle.std.specs.Prelude.{ℕ, Bool, false, List, [], ◌∷◌, Option, None, Some, codes, ◌<◌, ◌≤◌, ◌≡◌, ◌≢◌, length, map, option_map, string_bytes, option_and_then, if◌then◌else◌, is_some, true, unwrap_or, ⊤}
 use Rattle.std.specs.declared.string.String.{String}
 use Rattle.std.specs.Option.{option_map_or}
 use Rattle.std.specs.Str.{bytes_eq}
 use Rattle.std.specs.Str.Parse.{digits_value, without_leading_plus}
-use Rattle.clap.specs.Faults.{fault_of}
-use Rattle.clap.specs.Kinds.{IsAmong}
+use Rattle.clap.specs.Words.{IsAmong, IsUnsignedIn, Row, Text, all_of, fault_of, first_of, one_of, subcommand_of}
 use Rattle.clap.specs.declared.error.kind.ErrorKind.{ErrorKind}
-use Rattle.clap.specs.Values.{IsUnsignedIn}
-use Rattle.clap.specs.Words.{Row, Text, all_of, first_of, one_of, subcommand_of}
 use Rattle.kalah_jobs.specs.declared.files.question.Question.{Question}
 use Rattle.kalah_jobs.specs.declared.files.question.Question.TheVariants.{BestMove, Values, Steps}
 use Rattle.kalah_rules.specs.Limits.{most_depth}
@@ -177,10 +174,6 @@ IsPlainWord (x ∷ xs) = x ≢ 45
 abbrev pub AreMatches : Text → List Row → Type 0
 AreMatches name rows = (words : List Text) × (fault_of kalah_app words ≡ []) × (subcommand_of kalah_app words ≡ Some (name, rows))
 
--- a subcommand was met, with such matches
-abbrev pub IsTaken : Option (Text × List Row) → Type 0
-IsTaken o = (name : Text) × (rows : List Row) × (o ≡ Some (name, rows)) × AreMatches name rows
-
 -- the matches have a number from `low` to `high` under the name, or nothing
 abbrev pub MayHaveNumber : Text → ℕ → ℕ → List Row → Type 0
 MayHaveNumber id low high rows = (t : Text) → one_of id rows ≡ Some t → IsUnsignedIn low high t
@@ -188,7 +181,3 @@ MayHaveNumber id low high rows = (t : Text) → one_of id rows ≡ Some t → Is
 -- the matches have a number from `low` to `high` under the name
 abbrev pub HasNumber : Text → ℕ → ℕ → List Row → Type 0
 HasNumber id low high rows = MayHaveNumber id low high rows × (is_some (number_given id rows) ≡ true)
-
--- the matches state of the flag that it is set, that it isn't, or nothing
-abbrev pub HasFlag : Text → List Row → Type 0
-HasFlag id rows = (t : Text) → one_of id rows ≡ Some t → (t ≡ codes "true") ⊎ (t ≡ codes "false")

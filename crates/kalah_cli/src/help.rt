@@ -1,5 +1,37 @@
 //! The texts of the help that `clap` doesn't write itself.
 
+// What a position is, before more about a subcommand that takes one.
+macro_rules! of_a_position {
+    ($($more:literal),*) => {
+        concat!("\
+A position is one argument, so it needs quotes: '1,1/0 1,1/0'. Seen by the
+player to move, it is the seeds in that player's houses, a slash, the seeds in
+that player's store, a space, and the same for the other player. The ", $($more),*)
+    };
+}
+
+// And what the line of a move has.
+macro_rules! of_a_move {
+    ($more:literal) => {
+        of_a_position!("\
+line of a
+move has its house, the position after it, and again, turn or over:
+    1 1,1/0 0,2/0 turn
+", $more, "`kalah --help` has the rules and the meaning of these words.")
+    };
+}
+
+// What files may be, before and after more about a subcommand of this name.
+macro_rules! of_files {
+    ($name:literal, $more:literal) => {
+        concat!("\
+A FILE has one position a line, such as 1,1/0 1,1/0. It may be a pipe, or
+/dev/stdin for standard input:
+    kalah ", $name, " /dev/stdin < positions.txt
+", $more, "`kalah --help` has the form of positions, the rules, and the words of faults.")
+    };
+}
+
 /// What follows the short help of the program, which `-h` prints.
 pub(crate) const SHORT: &str =
     "`kalah --help` explains positions, the rules, answers and exit statuses.";
@@ -88,30 +120,20 @@ not read; 2 if the arguments, a file, standard input, memory, a worker or the
 output failed, and standard error says which.";
 
 /// What follows the long help of `moves`.
-pub(crate) const LONG_OF_A_LINE: &str = "\
-A position is one argument, so it needs quotes: '1,1/0 1,1/0'. Seen by the
-player to move, it is the seeds in that player's houses, a slash, the seeds in
-that player's store, a space, and the same for the other player. The line of a
-move has its house, the position after it, and again, turn or over:
-    1 1,1/0 0,2/0 turn
-`kalah --help` has the rules and the meaning of these words.";
+pub(crate) const LONG_OF_A_LINE: &str = of_a_move!("");
 
 /// What follows the long help of `play`.
-pub(crate) const LONG_OF_PLAY: &str = "\
-A position is one argument, so it needs quotes: '1,1/0 1,1/0'. Seen by the
-player to move, it is the seeds in that player's houses, a slash, the seeds in
-that player's store, a space, and the same for the other player. The line of a
-move has its house, the position after it, and again, turn or over:
-    1 1,1/0 0,2/0 turn
+pub(crate) const LONG_OF_PLAY: &str = of_a_move!(
+    "\
 With --first H the first line is the move of house H. It fails if that house
 can't be moved. The search runs in one thread, with one table of its own.
-`kalah --help` has the rules and the meaning of these words.";
+"
+);
 
 /// What follows the long help of `show`.
-pub(crate) const LONG_OF_SHOW: &str = "\
-A position is one argument, so it needs quotes: '1,1/0 1,1/0'. Seen by the
-player to move, it is the seeds in that player's houses, a slash, the seeds in
-that player's store, a space, and the same for the other player. The player
+pub(crate) const LONG_OF_SHOW: &str = of_a_position!(
+    "\
+player
 to move sits at the bottom, with houses from left to right, and below each house
 stands the margin that its move gets in best play:
        3   3   3
@@ -123,7 +145,8 @@ line has its margin:
     over, margin 3
 A margin below -99 fills its column and touches the one before it. The search
 runs in one thread, with one table of its own.
-`kalah --help` has the rules and the form of positions.";
+`kalah --help` has the rules and the form of positions."
+);
 
 /// What follows the long help of `count`.
 pub(crate) const LONG_OF_COUNT: &str = "\
@@ -141,29 +164,29 @@ a space, and the same for the other player.
 `kalah --help` has the rules and the form of positions.";
 
 /// What follows the long help of `solve`.
-pub(crate) const LONG_OF_SOLVE: &str = "\
-A FILE has one position a line, such as 1,1/0 1,1/0. It may be a pipe, or
-/dev/stdin for standard input:
-    kalah solve /dev/stdin < positions.txt
+pub(crate) const LONG_OF_SOLVE: &str = of_files!(
+    "solve",
+    "\
 If standard input is a socket or belongs to another user, use `kalah ask`.
 Each line of each file gets an answer line, in order:
     first.txt:1 2 house 2      the margin of best play, and the lowest-numbered
                                best house
     first.txt:5 -4 over        the game is over, with this margin
     first.txt:9 fault shape    not a position
-`kalah --help` has the form of positions, the rules, and the words of faults.";
+"
+);
 
 /// What follows the long help of `values`.
-pub(crate) const LONG_OF_VALUES: &str = "\
-A FILE has one position a line, such as 1,1/0 1,1/0. It may be a pipe, or
-/dev/stdin for standard input:
-    kalah values /dev/stdin < positions.txt
+pub(crate) const LONG_OF_VALUES: &str = of_files!(
+    "values",
+    "\
 If standard input is a socket or belongs to another user, use `kalah ask`.
 Each line of each file gets an answer line, in order:
     first.txt:1 1:-2 2:2       each house that may be moved, and its margin
     first.txt:5 -4 over        the game is over, with this margin
     first.txt:9 fault shape    not a position
-`kalah --help` has the form of positions, the rules, and the words of faults.";
+"
+);
 
 /// What follows the long help of `ask`.
 pub(crate) const LONG_OF_ASK: &str = "\
@@ -180,17 +203,17 @@ by one:
 `kalah --help` has the form of positions, the rules, and the words of faults.";
 
 /// What follows the long help of `steps`.
-pub(crate) const LONG_OF_STEPS: &str = "\
-A FILE has one position a line, such as 1,1/0 1,1/0. It may be a pipe, or
-/dev/stdin for standard input:
-    kalah steps /dev/stdin < positions.txt
+pub(crate) const LONG_OF_STEPS: &str = of_files!(
+    "steps",
+    "\
 Each line of each file gets a line for each house that may be moved, or one
 line, in order:
     first.txt:1 1 1,1/0 0,2/0 turn  the house, the position after its move, and
                                     again, turn or over
     first.txt:5 -4 over             the game is over, with this margin
     first.txt:9 fault shape         not a position
-`kalah --help` has the form of positions, the rules, and the words of faults.";
+"
+);
 
 /// The error for options of `ask` that exclude each other.
 pub(crate) const CONFLICT: &str = "\

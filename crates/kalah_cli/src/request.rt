@@ -1,15 +1,11 @@
 //! The requests that a command line can make.
 ghost use Rattle.std.specs.Prelude.{◌≡◌, ℕ, All, List, [], ◌∷◌, IfErr, IfOk, IfSome, MatchResult, Some, codes, false, is_some, map, option_and_then, true};
-ghost use Rattle.clap.specs.Faults.{fault_of};
-ghost use Rattle.clap.specs.Kinds.{FailsBy};
-ghost use Rattle.clap.specs.Simple.{subcommand_rows_of};
-ghost use Rattle.clap.specs.Walk.{first_of, rows_of};
-ghost use Rattle.clap.specs.Words.{found_of, kind_of};
+ghost use Rattle.clap.specs.Words.{FailsBy, fault_of, first_of, found_of, kind_of, rows_of, subcommand_rows_of};
 ghost use Rattle.clap.specs.declared.error.kind.ErrorKind.TheVariants.{OutOfMemory};
 ghost use Rattle.kalah_solve.specs.Table.Entries.{most_entries};
 ghost use Rattle.kalah_run.specs.Limits.{IsTableSize};
 ghost use Rattle.kalah_cli.specs.Command.{kalah_app};
-ghost use Rattle.kalah_cli.specs.Request.{AreMatches, Asked, HasFlag, HasNumber, IsInRange, IsPlainWord, IsTaken, IsTakenAs, MayHaveNumber, answers, ask_for, asked_by, asked_for, command_of, files_asked, is_set, moves, number_given, table_of};
+ghost use Rattle.kalah_cli.specs.Request.{AreMatches, Asked, HasNumber, IsInRange, IsPlainWord, IsTakenAs, MayHaveNumber, answers, ask_for, asked_by, asked_for, command_of, files_asked, is_set, moves, number_given, table_of};
 
 use crate::command::command;
 use clap::{ArgMatches, Error};
@@ -101,10 +97,9 @@ fn given_byte(found: &ArgMatches<'_>, id: &str) -> Option<u8>
 
 // Returns whether a flag is given.
 fn is_set(found: &ArgMatches<'_>, id: &str) -> bool
-    requires { HasFlag id.now (rows_of (found_of found.now)) }
     ensures { result ≡ is_set id.now (rows_of (found_of found.now)) }
 {
-    found.get_flag(id)
+    found.get_one::<bool>(id).unwrap_or(false)
 }
 
 // Returns the line of `moves`, `play`, `show` or `count`.

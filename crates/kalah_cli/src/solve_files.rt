@@ -26,7 +26,7 @@ fn any_has_line_feed(names: &[&str]) -> bool
 }
 
 // Reads the named files and writes the answer to what is asked of each line of them. Returns `Clean` or `LineFaults`.
-#[tactic(auto, using(crate::proofs::Names::texts_have_line_feed, crate::proofs::Begun::begins_nothing))]
+#[tactic(auto, using(crate::proofs::Begun::texts_have_line_feed, crate::proofs::Begun::begins_nothing))]
 fn answer_files<'a, R: Files + Clock + Terminal + Threads + Wait + Sync, O: Sink, E: Write>(
     rt: &R,
     alloc: Global,

@@ -302,25 +302,3 @@ fn stops_at_a_failed_write(rt: HostRuntime) {
         }
     }
 }
-
-// The status of a run whose standard error accepts nothing, and how many bytes it took.
-fn run_untold(rt: &impl Host, texts: &[&str]) -> (ExitStatus, usize) {
-    let words = words_of(rt, texts);
-    let mut out = Stream::new(Vec::<u8>::new(rt.alloc()));
-    let mut err = Failing::new(rt, 1);
-    let status = run_words(rt, rt.alloc(), words, &mut out, &mut err);
-    (status, err.bytes.len())
-}
-
-#[test]
-fn a_failing_standard_error_changes_no_status(rt: HostRuntime) {
-    let calls = [
-        (["moves", "1/0"].as_slice(), ExitStatus::LineFaults),
-        (["moves", "1/0 1/0"].as_slice(), ExitStatus::Clean),
-        (["solve", "/"].as_slice(), ExitStatus::Failed),
-        (["stop"].as_slice(), ExitStatus::Failed),
-    ];
-    for (texts, want) in calls {
-        assert!(rt; run_untold(&rt, texts) == (want, 0));
-    }
-}

@@ -11,17 +11,17 @@ returns-in-Ok-false-clause-asked g c = λ went.
     lines_answered c.in-Ok-reading_ahead.ensures c.in-Ok-false.ensures.answered (λ e. cc, λ e. cc)
 
 pub returns-in-Ok-true-clause-begins : goal.returns-in-Ok-true-clause-begins
-returns-in-Ok-true-clause-begins g c = lines_begun _ _ _ _ _ _ c.in-Ok-reading_ahead.ensures c.answer_lines.ensures.begins
+returns-in-Ok-true-clause-begins g c = lines_begun c.in-Ok-reading_ahead.ensures c.answer_lines.ensures.begins
 
 pub returns-in-Ok-false-clause-begins : goal.returns-in-Ok-false-clause-begins
-returns-in-Ok-false-clause-begins g c = lines_begun _ _ _ _ _ _ c.in-Ok-reading_ahead.ensures c.answer_lines.ensures.begins
+returns-in-Ok-false-clause-begins g c = lines_begun c.in-Ok-reading_ahead.ensures c.answer_lines.ensures.begins
 
 pub returns-in-Err-Read-clause-begins : goal.returns-in-Err-Read-clause-begins
-returns-in-Err-Read-clause-begins g c = lines_begun _ _ _ _ _ _ c.in-Ok-reading_ahead.ensures c.answer_lines.ensures.begins
+returns-in-Err-Read-clause-begins g c = lines_begun c.in-Ok-reading_ahead.ensures c.answer_lines.ensures.begins
 
 pub returns-clause-begins : goal.returns-clause-begins
-returns-clause-begins g c = lines_begun _ _ _ _ _ _ c.in-Ok-reading_ahead.ensures c.answer_lines.ensures.begins
+returns-clause-begins g c = lines_begun c.in-Ok-reading_ahead.ensures c.answer_lines.ensures.begins
 
 pub returns-in-Err-Read-clause-stopped : goal.returns-in-Err-Read-clause-stopped
-returns-in-Err-Read-clause-stopped g c = λ _ _. lines_cut_off _ _ _ _ _ _ c.in-Ok-reading_ahead.ensures
+returns-in-Err-Read-clause-stopped g c = λ _ _. lines_cut_off c.in-Ok-reading_ahead.ensures
     (c.answer_lines.ensures.cut_off (search rules))

@@ -16,7 +16,7 @@ pub returns-in_default-clause-game : goal.returns-in_default-clause-game
 returns-in_default-clause-game g c = on_ok_weaker c.write_game.result
     (λ game. (
       c.requires.house,
-      of_best c.args.first c.args.boards c.args.board.now _ _ c.in_default.is
+      of_best _ _ _ _ _ c.in_default.is
           (λ lines rest. Appends-trans _ _ _ (board_lines c.args.boards c.args.board.now) lines c.in_ok-write_board.ensures.adds rest)
           game,
     ))
@@ -24,13 +24,13 @@ returns-in_default-clause-game g c = on_ok_weaker c.write_game.result
 
 pub returns-in_default-clause-begins : goal.returns-in_default-clause-begins
 returns-in_default-clause-begins g c = begins_play c.requires.house
-    (of_best c.args.first c.args.boards c.args.board.now _ _ c.in_default.is
+    (of_best _ _ _ _ _ c.in_default.is
     (λ lines rest. start_then _ _ _ _ (board_lines c.args.boards c.args.board.now) lines refl c.in_ok-write_board.ensures.adds rest)
     c.write_game.ensures.begins)
 
 pub returns-in_err-write_move-clause-begins : goal.returns-in_err-write_move-clause-begins
 returns-in_err-write_move-clause-begins g c = begins_play c.requires.house
-    (of_first_house c.args.first c.args.boards c.args.board.now c.in-Some.h c.apply-step.result _ c.in-Some.is c.apply-step.ensures.step
+    (of_first_house _ c.args.boards c.args.board.now _ _ _ c.in-Some.is c.apply-step.ensures.step
     (λ lines. start_then _ _ _ _ (board_lines c.args.boards c.args.board.now) _ refl c.in_ok-write_board.ensures.adds
     (start_longer _ _ _ lines c.write_move.ensures.start)))
 
@@ -38,7 +38,7 @@ pub returns-clause-game : goal.returns-clause-game
 returns-clause-game g c = on_ok_weaker c.write_game-in-Again.result
     (λ game. (
       c.requires.house,
-      behind_move c.args.first c.args.boards c.args.board.now c.in-Again.next c.in-Some.h c.apply-step.result _ _ c.in-Some.is
+      behind_move _ _ c.args.board.now _ _ _ _ _ c.in-Some.is
           c.apply-step.ensures.step (after_step c.apply-step.result c.in-Again.next c.in-Again.is)
           (λ lines rest. Appends-trans _ _ _ (board_lines c.args.boards c.args.board.now)
           (move_lines c.args.boards c.in-Some.h c.apply-step.result ++ lines) c.in_ok-write_board.ensures.adds
@@ -48,7 +48,7 @@ returns-clause-game g c = on_ok_weaker c.write_game-in-Again.result
 
 pub returns-clause-begins : goal.returns-clause-begins
 returns-clause-begins g c = begins_play c.requires.house
-    (behind_move c.args.first c.args.boards c.args.board.now c.in-Again.next c.in-Some.h c.apply-step.result _ _ c.in-Some.is
+    (behind_move _ _ c.args.board.now _ _ _ _ _ c.in-Some.is
     c.apply-step.ensures.step (after_step c.apply-step.result c.in-Again.next c.in-Again.is)
     (λ lines rest. start_then _ _ _ _ (board_lines c.args.boards c.args.board.now)
     (move_lines c.args.boards c.in-Some.h c.apply-step.result ++ lines) refl c.in_ok-write_board.ensures.adds

@@ -1,13 +1,12 @@
 use Rattle.std.proofs.Common.{◌∙◌, ◌≡◌, ◌∷◌, Some, ap, arith, codes, inl, inr, is_some, length, map, refl}
 use Rattle.std.proofs.lemmas.List.{length-map}
-use Rattle.clap.specs.Walk.{rows_of}
-use Rattle.clap.specs.Words.{found_of}
+use Rattle.clap.specs.Words.{found_of, rows_of}
 use Rattle.clap.proofs.WalkLemmas.{raw_values-rows}
 use Rattle.kalah_solve.specs.Table.Entries.{most_entries}
 use Rattle.kalah_run.specs.Limits.{IsTableSize, most_workers}
 use Rattle.kalah_cli.specs.Request.{table_asked}
 use Rattle.kalah_cli.proofs.Getters.{is_there, number_in_range, values_are}
-use Rattle.kalah_cli.proofs.Subcommands.{given, has_flag, has_number, may_have_number, takes_files, takes_table}
+use Rattle.kalah_cli.proofs.Subcommands.{given, has_number, may_have_number, takes_files, takes_table}
 use Rattle.kalah_cli.proofs.request.files_request.Goals.{in-BestMove, in-Steps}
 use Rattle.kalah_cli.proofs.request.files_request.Goals as goal
 
@@ -20,13 +19,10 @@ number_of-requires-in-BestMove c =
     has_number (codes "table") 1 most_entries c.requires (takes_table c.args.question c.in-BestMove.is) refl (omega arith)
     (omega arith) refl
 
-pub is_set-requires : goal.is_set-requires
-is_set-requires c = has_flag (codes "progress") c.requires (takes_files c.args.question).1 refl
-
 pub unwrap-requires : goal.unwrap-requires
 unwrap-requires c =
     is_there _ c.get_strs.result (ap is_some (c.get_strs.ensures ∙ raw_values-rows (found_of c.args.found.now) (codes "file"))
-    ∙ ap is_some (given (codes "file") c.requires (takes_files c.args.question).2 refl).all)
+    ∙ ap is_some (given (codes "file") c.requires (takes_files c.args.question).1 refl).all)
 
 pub returns-clause-asked : goal.returns-clause-asked
 returns-clause-asked c =
@@ -50,7 +46,7 @@ returns-clause-range c =
     c.number_of.ensures.given in
     let names = values_are (found_of c.args.found.now) (codes "file") c.get_strs.result c.unwrap.result _ c.get_strs.ensures
     c.unwrap.ensures (c.in_ok-to_vec.ensures.items_if_clones_equal (λ x y h. h)) in
-    let file = given (codes "file") c.requires (takes_files c.args.question).2 refl in
+    let file = given (codes "file") c.requires (takes_files c.args.question).1 refl in
     let same : map (λ f. f.now) c.in_ok-to_vec.field-0.items ≡ file.value ∷ file.more = (let all = file.all in cc) in
     let count : length (map (λ f. f.now) c.in_ok-to_vec.field-0.items) ≡ length c.in_ok-to_vec.field-0.items = simp length-map in
     let table : IsTableSize c.match-question.result = elim c.match-question.branch [

@@ -1,7 +1,6 @@
 use Rattle.std.proofs.Common.{◌≡◌, ℕ, List, Option, None, Some, arith, sym}
 use Rattle.std.specs.Prelude.{IfSome}
-use Rattle.clap.specs.Walk.{Row, Text, rows_of}
-use Rattle.clap.specs.Words.{found_of}
+use Rattle.clap.specs.Words.{Row, Text, found_of, rows_of}
 use Rattle.kalah_solve.specs.Table.Entries.{most_entries}
 use Rattle.kalah_run.specs.Limits.{IsTableSize}
 use Rattle.kalah_cli.specs.Request.{MayHaveNumber, number_given}

@@ -1,17 +1,13 @@
 use Rattle.std.proofs.Common.{◌∙◌, ap, arith, codes, is_some, refl, sym}
-use Rattle.clap.specs.Walk.{rows_of}
-use Rattle.clap.specs.Words.{found_of}
+use Rattle.clap.specs.Words.{found_of, rows_of}
 use Rattle.kalah_rules.specs.Limits.{most_depth}
 use Rattle.kalah_solve.specs.Table.Entries.{most_entries}
 use Rattle.kalah_cli.proofs.Getters.{number_in_range}
-use Rattle.kalah_cli.proofs.Subcommands.{given, has_flag, has_number, may_have_number}
+use Rattle.kalah_cli.proofs.Subcommands.{given, has_number, may_have_number}
 use Rattle.kalah_cli.proofs.request.requested.Goals as goal
 
 pub line_of-requires : goal.line_of-requires
 line_of-requires c = ap is_some (given (codes "line") (rw c.in-moves.is at c.requires) refl refl).first
-
-pub is_set-requires : goal.is_set-requires
-is_set-requires c = has_flag (codes "boards") (rw c.in-moves.is at c.requires) refl refl
 
 pub line_of-requires-in-play : goal.line_of-requires-in-play
 line_of-requires-in-play c = ap is_some (given (codes "line") (rw c.in-play.is at c.requires) refl refl).first
@@ -19,17 +15,8 @@ line_of-requires-in-play c = ap is_some (given (codes "line") (rw c.in-play.is a
 pub number_of-requires : goal.number_of-requires
 number_of-requires c = has_number (codes "table") 1 most_entries (rw c.in-play.is at c.requires) refl refl (omega arith) (omega arith) refl
 
-pub is_set-requires-in-play : goal.is_set-requires-in-play
-is_set-requires-in-play c = has_flag (codes "boards") (rw c.in-play.is at c.requires) refl refl
-
 pub given_byte-requires : goal.given_byte-requires
 given_byte-requires c = may_have_number (codes "first") 0 255 (rw c.in-play.is at c.requires) refl refl (omega arith) (omega arith)
-
-pub is_set-values-requires : goal.is_set-values-requires
-is_set-values-requires c = has_flag (codes "values") (rw c.in-ask.is at c.requires) refl refl
-
-pub is_set-steps-requires : goal.is_set-steps-requires
-is_set-steps-requires c = has_flag (codes "steps") (rw c.in-ask.is at c.requires) refl refl
 
 pub given_number-requires : goal.given_number-requires
 given_number-requires c = may_have_number (codes "table") 1 most_entries (rw c.in-ask.is at c.requires) refl refl (omega arith)
@@ -41,9 +28,6 @@ line_of-requires-in-show c = ap is_some (given (codes "line") (rw c.in-show.is a
 pub number_of-requires-in-show : goal.number_of-requires-in-show
 number_of-requires-in-show c =
     has_number (codes "table") 1 most_entries (rw c.in-show.is at c.requires) refl refl (omega arith) (omega arith) refl
-
-pub is_set-requires-in-show : goal.is_set-requires-in-show
-is_set-requires-in-show c = has_flag (codes "plain") (rw c.in-show.is at c.requires) refl refl
 
 pub given_byte-requires-in-count : goal.given_byte-requires-in-count
 given_byte-requires-in-count c = may_have_number (codes "depth") 0 255 (rw c.in-count.is at c.requires) refl refl (omega arith)

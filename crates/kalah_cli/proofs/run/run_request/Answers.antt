@@ -1,4 +1,4 @@
-use Rattle.kalah_cli.proofs.Begun.{asked_of_any, begun_of_any, stopped_of_any}
+use Rattle.kalah_cli.proofs.Begun.{asked_of_any, begun_of_any}
 use Rattle.kalah_cli.proofs.run.run_request.Goals as goal
 
 -- Answers are written for what a seeded mistake breaks: a wrong answer fails at once, and a search only at its limits.
@@ -19,7 +19,7 @@ pub returns-in-Count-clause-begins : goal.returns-in-Count-clause-begins
 returns-in-Count-clause-begins g c = rw c.in-Count.is c.run_count.ensures.begins
 
 pub returns-in-Ask-clause-does : goal.returns-in-Ask-clause-does
-returns-in-Ask-clause-does g c = rw c.in-Ask.is (λ went. asked_of_any _ _ _ _ _ (c.run_ask.ensures.asked went))
+returns-in-Ask-clause-does g c = rw c.in-Ask.is (λ went. asked_of_any (c.run_ask.ensures.asked went))
 
 pub returns-in-Ask-clause-begins : goal.returns-in-Ask-clause-begins
-returns-in-Ask-clause-begins g c = rw c.in-Ask.is (begun_of_any _ _ _ _ c.run_ask.ensures.begins)
+returns-in-Ask-clause-begins g c = rw c.in-Ask.is (begun_of_any c.run_ask.ensures.begins)
