@@ -41,8 +41,8 @@ file_rows (file ∷ files) = record {
 } ∷ []
 
 -- the walk after a plain argument, before which stood these
-abbrev behind : List Text → Text → Walk
-behind files word = record {
+abbrev after_word : List Text → Text → Walk
+after_word files word = record {
   held = record { rows = file_rows files; pending = Some (codes "file", word ∷ []); skip = 0 };
   waiting = positional;
   position = 1;
@@ -56,13 +56,13 @@ Goes s w word next = (walked s.rules [] w word ≡ next) × (turn_fault s [] w w
 
 -- so it does over the first plain argument
 first_step : (s : Shape) → TakesFiles s.rules → (x : ℕ) (xs : Text) → (x == 45) ≡ false
-    → Goes s (walk_from nothing_held) (x ∷ xs) (behind [] (x ∷ xs))
+    → Goes s (walk_from nothing_held) (x ∷ xs) (after_word [] (x ∷ xs))
 unfolding clap_on_literals
 first_step s takes x xs e = (simp (e, takes.0) refl, simp (e, takes.0) refl)
 
 -- and over one more
 step : (s : Shape) → TakesFiles s.rules → (files : List Text) (word : Text) (x : ℕ) (xs : Text) → (x == 45) ≡ false
-    → Goes s (behind files word) (x ∷ xs) (behind (files ++ word ∷ []) (x ∷ xs))
+    → Goes s (after_word files word) (x ∷ xs) (after_word (files ++ word ∷ []) (x ∷ xs))
 unfolding clap_on_literals
 step s takes [] word x xs e = (simp (e, takes.0, takes.1) refl, simp (e, takes.0, takes.1) refl)
 step s takes (file ∷ files) word x xs e = (simp (e, takes.0, takes.1) refl, simp (e, takes.0, takes.1) refl)
@@ -84,22 +84,22 @@ before s files w next word words goes ends = record {
 }
 
 walk_ends : (s : Shape) → TakesFiles s.rules → (files : List Text) (word : Text) (rest : List Text) → All IsPlainWord rest
-    → Ends s (files ++ word ∷ rest) (behind files word) rest
+    → Ends s (files ++ word ∷ rest) (after_word files word) rest
 unfolding clap_on_literals
 walk_ends s takes [] word [] plain = record { rows = simp takes.1 refl; settles = simp takes.1 refl; passes = refl }
 walk_ends s takes (file ∷ files) word [] plain = record { rows = simp takes.1 refl; settles = simp takes.1 refl; passes = refl }
 walk_ends s takes files word ([] ∷ rest) plain = absurd (All-head IsPlainWord [] rest plain)
 walk_ends s takes files word ((x ∷ xs) ∷ rest) plain =
-    before s (files ++ word ∷ (x ∷ xs) ∷ rest) (behind files word) (behind (files ++ word ∷ []) (x ∷ xs)) (x ∷ xs) rest
+    before s (files ++ word ∷ (x ∷ xs) ∷ rest) (after_word files word) (after_word (files ++ word ∷ []) (x ∷ xs)) (x ∷ xs) rest
     (step s takes files word x xs (ne_eqb _ _ (All-head IsPlainWord (x ∷ xs) rest plain)))
-    (subst (λ all. Ends s all (behind (files ++ word ∷ []) (x ∷ xs)) rest) (append_assoc files (word ∷ []) ((x ∷ xs) ∷ rest))
+    (subst (λ all. Ends s all (after_word (files ++ word ∷ []) (x ∷ xs)) rest) (append_assoc files (word ∷ []) ((x ∷ xs) ∷ rest))
     (walk_ends s takes (files ++ word ∷ []) (x ∷ xs) rest (All-tail IsPlainWord (x ∷ xs) rest plain)))
 
 all_end : (s : Shape) → TakesFiles s.rules → (file : Text) (files : List Text) → All IsPlainWord (file ∷ files)
     → Ends s (file ∷ files) (walk_from nothing_held) (file ∷ files)
 all_end s takes [] files plain = absurd (All-head IsPlainWord [] files plain)
 all_end s takes (x ∷ xs) files plain =
-    before s ((x ∷ xs) ∷ files) (walk_from nothing_held) (behind [] (x ∷ xs)) (x ∷ xs) files
+    before s ((x ∷ xs) ∷ files) (walk_from nothing_held) (after_word [] (x ∷ xs)) (x ∷ xs) files
     (first_step s takes x xs (ne_eqb _ _ (All-head IsPlainWord (x ∷ xs) files plain)))
     (walk_ends s takes [] (x ∷ xs) files (All-tail IsPlainWord (x ∷ xs) files plain))
 

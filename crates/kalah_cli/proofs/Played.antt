@@ -16,7 +16,7 @@ use Rattle.kalah_solve.specs.Solver.BestPlay.{Game, follow}
 use Rattle.kalah_solve.specs.Solver.BestPlay.Game.{is_at_end, moves_on, passes_turn}
 use Rattle.kalah_solve.specs.Solver.Verdict.{verdict_of}
 use Rattle.kalah_solve.specs.Solver.Worth.{best_house, worth}
-use Rattle.kalah_solve.specs.declared.solver.verdict.Verdict.TheVariants.{Best, Over}
+use Rattle.kalah_solve.specs.declared.solver.Verdict.TheVariants.{Best, Over}
 use Rattle.kalah_solve.proofs.SolverLemmas.Finds.{contains_first}
 use Rattle.kalah_solve.proofs.SolverLemmas.Games.{followed, game_ends, strategy_keeps}
 use Rattle.kalah_solve.proofs.SolverLemmas.Secured.{best_is_strategy, best_plays, bounds}
@@ -155,7 +155,8 @@ module _ {boards : Bool} {p : Position} {Holds : List ℕ → Type 0} where
       (more (game_lines boards (position_after s) houses) (subst (λ r. Rest (game_lines boards r houses)) next rest)))
 
   pub of_next : {q : Position} {h : ℕ} {s : Step} {Rest : List ℕ → Type 0} → IsFirst p h s
-      → (s ≡ step.Again q) ⊎ (s ≡ step.Turn q) → ((lines : List ℕ) → Rest lines → Holds (move_lines boards h s ++ lines)) → OfBestGame boards q Rest
+      → (s ≡ step.Again q) ⊎ (s ≡ step.Turn q)
+      → ((lines : List ℕ) → Rest lines → Holds (move_lines boards h s ++ lines)) → OfBestGame boards q Rest
       → OfBestGame boards p Holds
   of_next {q} {h} {s} {Rest} first is more rest =
       let game = next_game p q h s rest.houses rest.final first is rest.is_best.game in

@@ -77,7 +77,7 @@ fn moves_command<'a>(alloc: Global) -> Result<Command<'a>, AllocError>
     ensures { IfOk result (λ c. app_of c ≡ moves_app) }
 {
     let about = "Prints each legal move of a position, and the position after it";
-    let command = subcommand(alloc, "moves", about, help::LONG_OF_A_LINE);
+    let command = subcommand(alloc, "moves", about, help::LONG_OF_MOVES);
     let command = with_arg(command, flag_arg(alloc, "boards", BOARDS))?;
     with_arg(command, line_arg(alloc))
 }

@@ -15,7 +15,7 @@ use std::rt::Files;
 const CHUNK: usize = 4096;
 
 /// Why a file was not read.
-#[derive(Clone, Copy, PartialEq, Eq)]
+#[derive(Clone, Copy)]
 pub(crate) enum ReadFault {
     /// It can't be opened, or a read returned an error of any kind.
     Unreadable,

@@ -120,7 +120,7 @@ not read; 2 if the arguments, a file, standard input, memory, a worker or the
 output failed, and standard error says which.";
 
 /// What follows the long help of `moves`.
-pub(crate) const LONG_OF_A_LINE: &str = of_a_move!("");
+pub(crate) const LONG_OF_MOVES: &str = of_a_move!("");
 
 /// What follows the long help of `play`.
 pub(crate) const LONG_OF_PLAY: &str = of_a_move!(

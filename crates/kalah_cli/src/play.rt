@@ -19,7 +19,7 @@ use std::io;
 use std::io::Write;
 
 // Finds the best move of a board. All earlier moves are shown.
-fn solve_shown<O: Sink>(solver: &mut Solver, board: &Board, out: &O) -> Verdict
+fn solve_flushed<O: Sink>(solver: &mut Solver, board: &Board, out: &O) -> Verdict
     requires shown { O.is_handed_on out.now ≡ true }
     ensures verdict { result ≡ verdict_of board.now }
     ensures best_play { TellsBestPlay board.now result }
@@ -44,7 +44,7 @@ fn write_game<O: Sink>(
 {
     let _side = board.m();
     out.flush()?;
-    let house = match solve_shown(solver, board, out) {
+    let house = match solve_flushed(solver, board, out) {
         Verdict::Over { .. } => return Ok(()),
         Verdict::Best { house, .. } => house,
     };

@@ -135,3 +135,6 @@ impl<R: Clock + Terminal, E: Write> Watch for Progress<'_, R, E> {
         }
     }
 }
+
+#[cfg(test)]
+mod tests;

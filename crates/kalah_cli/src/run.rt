@@ -29,8 +29,8 @@ use std::rt::{Clock, Files};
 use std::sync::Wait;
 use std::thread::Threads;
 
-// Shows the requested help or version.
-fn show<O: Sink, E: Write>(text: &str, out: &mut O, err: &mut E) -> ExitStatus
+// Writes the requested help or version.
+fn print_text<O: Sink, E: Write>(text: &str, out: &mut O, err: &mut E) -> ExitStatus
     requires { O.has_failed out.old ≡ false }
     ensures failed { O.has_failed out.new ≡ true → result ≡ ExitStatus.Failed }
     ensures failed_only { result ≡ ExitStatus.Failed → O.has_failed out.new ≡ true }
@@ -80,8 +80,8 @@ fn refuse<O: Sink, E: Write>(
         return Failure::OutOfMemory.report(err);
     };
     match error.kind() {
-        ErrorKind::DisplayHelp => show(text.as_str(), out, err),
-        ErrorKind::DisplayVersion => show(VERSION_LINE, out, err),
+        ErrorKind::DisplayHelp => print_text(text.as_str(), out, err),
+        ErrorKind::DisplayVersion => print_text(VERSION_LINE, out, err),
         ErrorKind::OutOfMemory => Failure::OutOfMemory.report(err),
         _ => {
             let _ = err.write_all(text.as_bytes());

@@ -1,3 +1,4 @@
+pub mod Steps
 pub mod SeedBounds
 pub mod Winnings
 pub mod Windows

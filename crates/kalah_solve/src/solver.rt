@@ -12,15 +12,22 @@ pub(crate) mod move_values;
 #[cfg(test)]
 pub(crate) mod tests;
 mod values;
-pub(crate) mod verdict;
 
 use crate::bounds::seed_bounds::half;
 use crate::bounds::window::Window;
 use crate::search::Search;
-use crate::solver::verdict::Verdict;
 use crate::table::Table;
 use kalah_rules::{Board, Houses, Moves};
 use std::alloc::{AllocError, Allocator, Global};
+
+/// The worth of a position to the player to move, and the house that attains it.
+#[derive(Clone, Copy, Debug, PartialEq, Eq)]
+pub enum Verdict {
+    /// The margin of best play, -130 to 130, and the lowest-numbered best house, 1 to 6.
+    Best { margin: i32, house: u8 },
+    /// The margin of a game that is over, -130 to 130.
+    Over { margin: i32 },
+}
 
 /// Computes what positions are worth, by a search that keeps what it learns in a table.
 #[derive(Drop)]

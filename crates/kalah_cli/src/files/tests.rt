@@ -36,7 +36,8 @@ fn assert_fails_at(rt: &(impl Abort + AllocGlobal), kind: ErrorKind, k: u32) {
     };
     let is_told = match read_limited(rt.alloc(), &mut reader, 10) {
         Ok(bytes) => k > 5 && bytes.as_slice() == TEN,
-        Err(fault) => k <= 5 && fault == ReadFault::Unreadable && reader.calls == k,
+        Err(ReadFault::Unreadable) => k <= 5 && reader.calls == k,
+        Err(_) => false,
     };
     assert!(rt; is_told, "at {k}");
 }
@@ -57,7 +58,8 @@ fn a_byte_more_than_the_limit_is_too_long(rt: HostRuntime) {
         let read = read_limited(rt.alloc(), &mut reader, limit);
         let is_told = match read {
             Ok(bytes) => limit >= 10 && bytes.as_slice() == TEN,
-            Err(fault) => limit < 10 && fault == ReadFault::TooLong,
+            Err(ReadFault::TooLong) => limit < 10,
+            Err(_) => false,
         };
         assert!(rt; is_told, "at {limit}");
     }

@@ -87,7 +87,7 @@ line_once : (o : Job) (f k : ℕ) (entries : List Entry) → IsOnce o (file_jobs
 line_once o f k [] = record { once = omega (arith, times_nil o); means = λ some. absurd (omega (arith, times_nil o)) }
 line_once o f k (e ∷ entries) =
     let later = line_once o f (suc k) entries in
-    let behind : 0 < times o (file_jobs f (suc k) entries) → k < o.line = λ some. omega (arith, (later.means some).line_is) in
+    let beyond : 0 < times o (file_jobs f (suc k) entries) → k < o.line = λ some. omega (arith, (later.means some).line_is) in
     let all = times_cons o (line_job f k e) (file_jobs f (suc k) entries) in
     elim (cases_Bool (same_job o (line_job f k e))) [
       | inl same ↦
@@ -95,7 +95,7 @@ line_once o f k (e ∷ entries) =
           let here : k ≡ o.line = ap (λ (u : Job). u.line) is in
           let one = rw same at all in
           record {
-            once = grind (arith, behind);
+            once = grind (arith, beyond);
             means = λ some. record {
               place = 0;
               file_is = sym (ap (λ (u : Job). u.file) is);
@@ -126,9 +126,9 @@ job_once o f (entries ∷ jobs) =
     let later = job_once o (suc f) jobs in
     let all = times_append o (file_jobs f 0 entries) (jobs_from (suc f) jobs) in
     let here : 0 < times o (file_jobs f 0 entries) → o.file ≡ f = λ some. (own.means some).file_is in
-    let behind : 0 < times o (jobs_from (suc f) jobs) → f < o.file = λ some. omega (arith, (later.means some).file_is) in
+    let beyond : 0 < times o (jobs_from (suc f) jobs) → f < o.file = λ some. omega (arith, (later.means some).file_is) in
     record {
-      once = grind (arith, own.once, later.once, here, behind);
+      once = grind (arith, own.once, later.once, here, beyond);
       means = λ some. elim (cases_lt 0 (times o (file_jobs f 0 entries))) [
         | inl found ↦
             let h = own.means found in

@@ -133,22 +133,22 @@ between past own rest start end start_is end_is =
     (take_all (length own) own (omega arith))
 
 -- cut at its offsets, the list is that of the files again
-by_file_behind : (past : List Entry) (jobs : List (List Entry)) (offsets : List ℕ) → length offsets ≡ suc (length jobs)
+by_file_beyond : (past : List Entry) (jobs : List (List Entry)) (offsets : List ℕ) → length offsets ≡ suc (length jobs)
     → ((f : ℕ) → f ≤ length jobs → get_or offsets f 0 ≡ length past + job_count (take f jobs))
     → by_file offsets (past ++ all_entries jobs) ≡ jobs
-by_file_behind past jobs [] as_many before = absurd (omega arith)
-by_file_behind past [] (start ∷ []) as_many before = refl
-by_file_behind past [] (start ∷ end ∷ offsets) as_many before = absurd (omega arith)
-by_file_behind past (own ∷ jobs) (start ∷ []) as_many before = absurd (omega arith)
-by_file_behind past (own ∷ jobs) (start ∷ end ∷ offsets) as_many before =
+by_file_beyond past jobs [] as_many before = absurd (omega arith)
+by_file_beyond past [] (start ∷ []) as_many before = refl
+by_file_beyond past [] (start ∷ end ∷ offsets) as_many before = absurd (omega arith)
+by_file_beyond past (own ∷ jobs) (start ∷ []) as_many before = absurd (omega arith)
+by_file_beyond past (own ∷ jobs) (start ∷ end ∷ offsets) as_many before =
     let start_is : start ≡ length past = omega (arith, before 0 (omega arith)) in
     let end_is : end ≡ length past + length own = omega (arith, before 1 (omega arith), job_count-cons own (take 0 jobs)) in
-    let behind = by_file_behind (past ++ own) jobs (end ∷ offsets) (omega arith) (λ f low.
+    let beyond = by_file_beyond (past ++ own) jobs (end ∷ offsets) (omega arith) (λ f low.
     omega (arith, before (suc f) (omega arith), job_count-cons own (take f jobs), length-append past own)) in
     ap (λ first. first ∷ by_file (end ∷ offsets) (past ++ (own ++ all_entries jobs)))
     (between past own (all_entries jobs) start end start_is end_is)
     ∙ ap (λ entries. own ∷ by_file (end ∷ offsets) entries) (sym (append_assoc past own (all_entries jobs)))
-    ∙ ap (λ others. own ∷ others) behind
+    ∙ ap (λ others. own ∷ others) beyond
 
 -- between two offsets are the lines of a file
 pub lines_between : (jobs : List (List Entry)) (f : ℕ) → f < length jobs
@@ -171,7 +171,7 @@ module _ {jobs : List (List Entry)} {offsets : List ℕ} {entries : List Entry} 
   pub by_file_is : by_file offsets entries ≡ jobs
   by_file_is =
       ap (by_file offsets) counted.entries_are
-      ∙ by_file_behind [] jobs offsets counted.as_many (λ f low. omega (arith, counted.before f low))
+      ∙ by_file_beyond [] jobs offsets counted.as_many (λ f low. omega (arith, counted.before f low))
 
   -- there are as many entries as jobs
   pub all_counted : length entries ≡ job_count jobs

@@ -35,13 +35,13 @@ digit_first (a ∷ b ∷ c ∷ text) n first more rest h e = absurd h
 
 -- it has one digit, unless another one may follow and does
 one_is_all : (text : List ℕ) (n first : ℕ) (more rest : List ℕ) → IsNumber text n → first ∷ more ≡ text ++ rest →
-    ((ones : ℕ) (behind : List ℕ) → more ≡ ones ∷ behind → first ≢ 48 → ¬ IsAsciiDigit ones) → more ≡ rest
+    ((ones : ℕ) (following : List ℕ) → more ≡ ones ∷ following → first ≢ 48 → ¬ IsAsciiDigit ones) → more ≡ rest
 one_is_all [] n first more rest h e stops = absurd h
 one_is_all (ones ∷ []) n first more rest h e stops = cc
 one_is_all (tens ∷ ones ∷ []) n first more rest h e stops =
     let same : tens ≡ first = cc in
-    let behind : more ≡ ones ∷ rest = cc in
-    absurd (stops ones rest behind (λ is. h.1 (same ∙ is)) h.2)
+    let following : more ≡ ones ∷ rest = cc in
+    absurd (stops ones rest following (λ is. h.1 (same ∙ is)) h.2)
 one_is_all (a ∷ b ∷ c ∷ text) n first more rest h e stops = absurd h
 
 -- otherwise two
@@ -75,7 +75,7 @@ module _ {bytes : List ℕ} {n : ℕ} {rest : List ℕ} (begins : BeginsWithNumb
       go (byte ∷ bs) is = omega arith
 
   pub after_one : (first : ℕ) (more : List ℕ) → bytes ≡ first ∷ more →
-      ((ones : ℕ) (behind : List ℕ) → more ≡ ones ∷ behind → first ≢ 48 → ¬ IsAsciiDigit ones) → more ≡ rest
+      ((ones : ℕ) (following : List ℕ) → more ≡ ones ∷ following → first ≢ 48 → ¬ IsAsciiDigit ones) → more ≡ rest
   after_one first more is stops = one_is_all (decimal n) n first more rest written (sym is ∙ begins.text) stops
 
   pub after_two : (tens ones : ℕ) (more : List ℕ) → bytes ≡ tens ∷ ones ∷ more → EndsNumber rest → IsAsciiDigit ones →

@@ -31,15 +31,15 @@ ending_ends EmptyCapture = λ digit. omega (arith, digit)
 
 -- the sides of a line, and what stands after the first one
 pub record LineFront (text : List ℕ) (p : Position) : Type 0 where
-  pub behind : List ℕ
-  pub own : BeginsWithSide text p.own p.own_store (space ∷ behind)
-  pub own_ends : EndsNumber (space ∷ behind)
-  pub other : BeginsWithSide behind p.other p.other_store (ending_of p.rule)
+  pub following : List ℕ
+  pub own : BeginsWithSide text p.own p.own_store (space ∷ following)
+  pub own_ends : EndsNumber (space ∷ following)
+  pub other : BeginsWithSide following p.other p.other_store (ending_of p.rule)
   pub other_ends : EndsNumber (ending_of p.rule)
 
 pub line_front : {text : List ℕ} {p : Position} → IsLineOf text p → LineFront text p
 line_front {text} {p} line = record {
-  behind = line.other_text ++ ending_of p.rule;
+  following = line.other_text ++ ending_of p.rule;
   own = side_begins line.own_side (line.parts ∙ append_assoc line.own_text (space ∷ line.other_text) (ending_of p.rule));
   own_ends = λ digit. omega (arith, digit);
   other = side_begins line.other_side refl;
@@ -48,17 +48,17 @@ line_front {text} {p} line = record {
 
 -- after the space stands the second side
 pub second_side : {text more : List ℕ} {p : Position} {mark : ℕ} (front : LineFront text p) →
-    mark ∷ more ≡ space ∷ front.behind →
+    mark ∷ more ≡ space ∷ front.following →
     BeginsWithSide more p.other p.other_store (ending_of p.rule)
 second_side {text} {more} {p} {mark} front is =
-    let same : front.behind ≡ more = cc (sym is) in
+    let same : front.following ≡ more = cc (sym is) in
     subst (λ (t : List ℕ). BeginsWithSide t p.other p.other_store (ending_of p.rule)) same front.other
 
 -- a side, a space, a side and the ending of a rule are a line
-pub line_of_sides : {text rest behind : List ℕ} (p : Position) → BeginsWithSide text p.own p.own_store rest →
-    rest ≡ space ∷ behind →
-    BeginsWithSide behind p.other p.other_store (ending_of p.rule) → IsLineOf text p
-line_of_sides {text} {rest} {behind} p own is other =
+pub line_of_sides : {text rest following : List ℕ} (p : Position) → BeginsWithSide text p.own p.own_store rest →
+    rest ≡ space ∷ following →
+    BeginsWithSide following p.other p.other_store (ending_of p.rule) → IsLineOf text p
+line_of_sides {text} {rest} {following} p own is other =
     let first = side_text p.own p.own_store in
     let second = side_text p.other p.other_store in
     record {

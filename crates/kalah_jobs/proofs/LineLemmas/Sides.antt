@@ -12,37 +12,37 @@ use Rattle.kalah_jobs.specs.declared.line.side.Side.{Side}
 -- ---- the front of a side
 
 -- the first number of a side, and what follows it: the store, or else further houses
-pub record SideFront (bytes : List ℕ) (store : ℕ) (behind : List ℕ) : Type 0 where
+pub record SideFront (bytes : List ℕ) (store : ℕ) (following : List ℕ) : Type 0 where
   pub n : ℕ
   pub after : List ℕ
   pub number : BeginsWithNumber bytes n after
   pub ends : EndsNumber after
-  pub way : (after ≡ slash ∷ (decimal store ++ behind))
-      ⊎ ((next : List ℕ) × ((after ≡ comma ∷ next) × ((houses : List ℕ) × BeginsWithSide next houses store behind)))
+  pub way : (after ≡ slash ∷ (decimal store ++ following))
+      ⊎ ((next : List ℕ) × ((after ≡ comma ∷ next) × ((houses : List ℕ) × BeginsWithSide next houses store following)))
 
-side_front : (bytes houses : List ℕ) (store : ℕ) (behind : List ℕ) → BeginsWithSide bytes houses store behind →
-    SideFront bytes store behind
-side_front bytes [] store behind begins = absurd (omega (arith, begins.some_house))
-side_front bytes (n ∷ []) store behind begins = record {
+side_front : (bytes houses : List ℕ) (store : ℕ) (following : List ℕ) → BeginsWithSide bytes houses store following →
+    SideFront bytes store following
+side_front bytes [] store following begins = absurd (omega (arith, begins.some_house))
+side_front bytes (n ∷ []) store following begins = record {
   n = n;
-  after = slash ∷ (decimal store ++ behind);
+  after = slash ∷ (decimal store ++ following);
   number = record {
-    text = begins.text ∙ append_assoc (decimal n) (slash ∷ decimal store) behind;
+    text = begins.text ∙ append_assoc (decimal n) (slash ∷ decimal store) following;
     low = All-head (λ (x : ℕ). x ≤ 99) n [] begins.houses_low;
   };
   ends = λ digit. omega (arith, digit);
   way = inl refl;
 }
-side_front bytes (n ∷ m ∷ houses) store behind begins =
+side_front bytes (n ∷ m ∷ houses) store following begins =
     let row = join_with_byte comma (map decimal (m ∷ houses)) in
-    let next = side_text (m ∷ houses) store ++ behind in
+    let next = side_text (m ∷ houses) store ++ following in
     record {
       n = n;
       after = comma ∷ next;
       number = record {
         text =
-            begins.text ∙ ap (λ (t : List ℕ). t ++ behind) (append_assoc (decimal n) (comma ∷ row) (slash ∷ decimal store))
-            ∙ append_assoc (decimal n) (comma ∷ side_text (m ∷ houses) store) behind;
+            begins.text ∙ ap (λ (t : List ℕ). t ++ following) (append_assoc (decimal n) (comma ∷ row) (slash ∷ decimal store))
+            ∙ append_assoc (decimal n) (comma ∷ side_text (m ∷ houses) store) following;
         low = All-head (λ (x : ℕ). x ≤ 99) n (m ∷ houses) begins.houses_low;
       };
       ends = λ digit. omega (arith, digit);
@@ -92,8 +92,8 @@ pub record IsTaking (bytes : List ℕ) (side : Side) (rest : List ℕ) : Type 0 
   pub has : AreKept houses side.row side.left_out
   pub low : All (λ n. n ≤ 99) houses
   pub text : bytes ≡ with_commas houses ++ rest
-  pub every : (others : List ℕ) (store : ℕ) (behind : List ℕ) → BeginsWithSide bytes others store behind →
-      SideFront rest store behind
+  pub every : (others : List ℕ) (store : ℕ) (following : List ℕ) → BeginsWithSide bytes others store following →
+      SideFront rest store following
 
 pub begins_taking : (bytes : List ℕ) (side : Side) → AreKept [] side.row side.left_out → side.left_out ≡ 0 →
     IsTaking bytes side bytes
@@ -114,7 +114,7 @@ pub record TakesNumber (side : Side) (rest : List ℕ) (new : Side) (n mark : �
   pub only : (m : ℕ) (after : List ℕ) → EndsNumber after → BeginsWithNumber rest m after → mark ∷ more ≡ after
 
 pub takes_number : {side new : Side} {rest after : List ℕ} {n mark : ℕ} {more : List ℕ} → BeginsWithNumber rest n after →
-    ((m : ℕ) (behind : List ℕ) → EndsNumber behind → BeginsWithNumber rest m behind → after ≡ behind) →
+    ((m : ℕ) (following : List ℕ) → EndsNumber following → BeginsWithNumber rest m following → after ≡ following) →
     ((houses : List ℕ) → AreKept houses side.row side.left_out → AreKept (houses ++ n ∷ []) new.row new.left_out) →
     new.left_out ≤ side.left_out + 1 →
     after ≡ mark ∷ more → TakesNumber side rest new n mark more
@@ -122,7 +122,7 @@ takes_number {side} {new} {rest} {after} {n} {mark} {more} number every has one 
   number = subst (BeginsWithNumber rest n) marks number;
   has = has;
   left_out = one;
-  only = λ m behind ends begins. sym marks ∙ every m behind ends begins;
+  only = λ m following ends begins. sym marks ∙ every m following ends begins;
 }
 
 module _ {bytes : List ℕ} {side new : Side} {rest : List ℕ} {n mark : ℕ} {more : List ℕ} (so_far : IsTaking bytes side rest)
@@ -135,11 +135,11 @@ module _ {bytes : List ℕ} {side new : Side} {rest : List ℕ} {n mark : ℕ} {
       (All-cons (λ (x : ℕ). x ≤ 99) n [] takes.number.low (All-nil (λ (x : ℕ). x ≤ 99)))
 
   -- the byte after the number is the one that every side has there
-  pub marked : (others : List ℕ) (store : ℕ) (behind : List ℕ) → BeginsWithSide bytes others store behind →
-      (mark ∷ more ≡ slash ∷ (decimal store ++ behind))
-      ⊎ ((next : List ℕ) × ((mark ∷ more ≡ comma ∷ next) × ((houses : List ℕ) × BeginsWithSide next houses store behind)))
-  marked others store behind begins =
-      let front = so_far.every others store behind begins in
+  pub marked : (others : List ℕ) (store : ℕ) (following : List ℕ) → BeginsWithSide bytes others store following →
+      (mark ∷ more ≡ slash ∷ (decimal store ++ following))
+      ⊎ ((next : List ℕ) × ((mark ∷ more ≡ comma ∷ next) × ((houses : List ℕ) × BeginsWithSide next houses store following)))
+  marked others store following begins =
+      let front = so_far.every others store following begins in
       let is = takes.only front.n front.after front.ends front.number in
       elim front.way [
         | inl stored ↦ inl (is ∙ stored)
@@ -158,23 +158,23 @@ module _ {bytes : List ℕ} {side new : Side} {rest : List ℕ} {n mark : ℕ} {
         ∙ sym (ap (λ (t : List ℕ). t ++ more) (with_commas-push so_far.houses n)
         ∙ append_assoc (with_commas so_far.houses) (decimal n ++ comma ∷ []) more
         ∙ ap (λ (t : List ℕ). with_commas so_far.houses ++ t) (append_assoc (decimal n) (comma ∷ []) more));
-    every = λ others store behind begins. elim (marked others store behind begins) [
+    every = λ others store following begins. elim (marked others store following begins) [
       | inl stored ↦ absurd (let other : comma ≡ slash = sym is ∙ cc stored in omega (arith, other))
       | inr further ↦
           let same : further.0 ≡ more = cc (sym further.1.0) in
-          subst (λ (t : List ℕ). SideFront t store behind) same (side_front further.0 further.1.1.0 store behind further.1.1.1)
+          subst (λ (t : List ℕ). SideFront t store following) same (side_front further.0 further.1.1.0 store following further.1.1.1)
     ];
   }
 
   -- the store follows, and ends the side
-  pub store_follows : (store : ℕ) (behind : List ℕ) → mark ≡ slash → BeginsWithNumber more store behind →
-      BeginsWithSide bytes (so_far.houses ++ n ∷ []) store behind
-  store_follows store behind is stored = record {
+  pub store_follows : (store : ℕ) (following : List ℕ) → mark ≡ slash → BeginsWithNumber more store following →
+      BeginsWithSide bytes (so_far.houses ++ n ∷ []) store following
+  store_follows store following is stored = record {
     text =
         bytes_are ∙ ap₂ (λ (b : ℕ) (t : List ℕ). with_commas so_far.houses ++ (decimal n ++ b ∷ t)) is stored.text
-        ∙ sym (append_assoc (join_with_byte comma (map decimal (so_far.houses ++ n ∷ []))) (slash ∷ decimal store) behind
-        ∙ ap (λ (t : List ℕ). t ++ slash ∷ (decimal store ++ behind)) (with_commas-last so_far.houses n)
-        ∙ append_assoc (with_commas so_far.houses) (decimal n) (slash ∷ (decimal store ++ behind)));
+        ∙ sym (append_assoc (join_with_byte comma (map decimal (so_far.houses ++ n ∷ []))) (slash ∷ decimal store) following
+        ∙ ap (λ (t : List ℕ). t ++ slash ∷ (decimal store ++ following)) (with_commas-last so_far.houses n)
+        ∙ append_assoc (with_commas so_far.houses) (decimal n) (slash ∷ (decimal store ++ following)));
     some_house = omega (arith, length_push so_far.houses n);
     houses_low = all_low;
     store_low = stored.low;

@@ -59,7 +59,7 @@ same_lines : (question : Question) (files : List NamedBytes) → (tally_of files
 unfolding tally_of
 same_lines question files = sym (length-job_list (jobs_to question files) ∙ job_count-jobs_to question files)
 
--- a line is answered by a fault whatever is asked
+-- a line is answered by a fault for each question
 faults_of_lines : (question : Question) (lines : List (List ℕ)) →
     count_by is_faulty_entry (map (entry_to question) lines) ≡ count_by is_faulty lines
 faults_of_lines question lines =

@@ -16,7 +16,7 @@ use Rattle.kalah_solve.specs.Solver.MoveValues.{move_value, values_of}
 use Rattle.kalah_solve.specs.declared.solver.move_values.MoveValue.{MoveValue}
 use Rattle.kalah_solve.proofs.SolverLemmas.SmallMargins.{value_small, house_small}
 use Rattle.kalah_jobs.specs.Writing.Picture.{empty_columns}
-use Rattle.kalah_jobs.specs.Writing.Shown.{AreSmall, HaveColumns, Rise, value_cell, value_columns}
+use Rattle.kalah_jobs.specs.Writing.Shown.{AreSmall, AscendFrom, value_cell, value_columns}
 
 abbrev IsSmallValue : MoveValue → Type 0
 IsSmallValue v = IsSmallMargin v.value × (v.house ≤ most_houses)
@@ -24,6 +24,11 @@ IsSmallValue v = IsSmallMargin v.value × (v.house ≤ most_houses)
 small_mag : (z : ℤ) → IsSmallMargin z → mag z < 2 ^ 63
 small_mag (pos n) small = omega (arith, ints, small.high)
 small_mag (negsuc n) small = omega (arith, ints, small.low)
+
+-- each value has a column of its own
+pub record HaveColumns (values : List MoveValue) : Type 0 where
+  pub ascend : AscendFrom 1 values
+  pub small : AreSmall values
 
 -- a value of a game has at most four bytes
 pub value_length : (v : ℤ) → IsSmallMargin v → length (signed_decimal v) ≤ 4
@@ -43,65 +48,65 @@ values_from values i v is =
     drop_more values i v (slice_get_within values i v is) ∙ ap (λ w. w ∷ drop (i + 1) values) (get_or_from_slice_get values i v v is)
 
 -- the column of a value before those after it
-pub column_before : (behind : ℕ) (v : MoveValue) (vs : List MoveValue) (old row cell after : List ℕ) →
+pub column_before : (filled : ℕ) (v : MoveValue) (vs : List MoveValue) (old row cell after : List ℕ) →
     row ≡ value_columns (v.house + 1) vs ++ old
-    → cell ≡ value_cell v.value ++ row → after ≡ empty_columns (v.house - behind) ++ cell →
-    after ≡ value_columns behind (v ∷ vs) ++ old
-column_before behind v vs old row cell after is next e =
+    → cell ≡ value_cell v.value ++ row → after ≡ empty_columns (v.house - filled) ++ cell →
+    after ≡ value_columns filled (v ∷ vs) ++ old
+column_before filled v vs old row cell after is next e =
     let below = value_columns (v.house + 1) vs in
-    e ∙ ap (λ ws. empty_columns (v.house - behind) ++ ws)
+    e ∙ ap (λ ws. empty_columns (v.house - filled) ++ ws)
     (next ∙ ap (λ ws. value_cell v.value ++ ws) is ∙ sym (append_assoc (value_cell v.value) below old))
-    ∙ sym (append_assoc (empty_columns (v.house - behind)) (value_cell v.value ++ below) old)
+    ∙ sym (append_assoc (empty_columns (v.house - filled)) (value_cell v.value ++ below) old)
 
 -- what is known of the value at place i, and of those after it
-pub record IsNext (behind : ℕ) (values : List MoveValue) (i : ℕ) (v : MoveValue) : Type 0 where
+pub record IsNext (filled : ℕ) (values : List MoveValue) (i : ℕ) (v : MoveValue) : Type 0 where
   pub within : i < length values
-  pub after : behind ≤ v.house
+  pub after : filled ≤ v.house
   pub value : IsSmallMargin v.value
   pub house : v.house ≤ most_houses
-  pub rise : Rise (v.house + 1) (drop (i + 1) values)
+  pub ascend : AscendFrom (v.house + 1) (drop (i + 1) values)
   pub small : AreSmall (drop (i + 1) values)
 
-pub next_value : (behind : ℕ) (values : List MoveValue) (i : ℕ) (v : MoveValue) → slice_get values i ≡ Some v →
-    Rise behind (drop i values)
-    → AreSmall (drop i values) → IsNext behind values i v
-next_value behind values i v is rise small =
+pub next_value : (filled : ℕ) (values : List MoveValue) (i : ℕ) (v : MoveValue) → slice_get values i ≡ Some v →
+    AscendFrom filled (drop i values)
+    → AreSmall (drop i values) → IsNext filled values i v
+next_value filled values i v is ascend small =
     let front = values_from values i v is in
-    let rising = subst (Rise behind) front rise in
+    let ascending = subst (AscendFrom filled) front ascend in
     let smaller = subst AreSmall front small in
     let here = All-head IsSmallValue v (drop (i + 1) values) smaller in
     record {
       within = slice_get_within values i v is;
-      after = rising.0;
+      after = ascending.0;
       value = here.0;
       house = here.1;
-      rise = rising.1;
+      ascend = ascending.1;
       small = All-tail IsSmallValue v (drop (i + 1) values) smaller;
     }
 
 -- ---- the values of a position have columns
 
-rise_later : (low high : ℕ) (vs : List MoveValue) → low ≤ high → Rise high vs → Rise low vs
-rise_later low high [] within rise = tt
-rise_later low high (v ∷ vs) within rise = (omega (arith, within, rise.0), rise.1)
+ascend_later : (low high : ℕ) (vs : List MoveValue) → low ≤ high → AscendFrom high vs → AscendFrom low vs
+ascend_later low high [] within ascend = tt
+ascend_later low high (v ∷ vs) within ascend = (omega (arith, within, ascend.0), ascend.1)
 
 -- a house more, if it is kept
-rise_more : (p : Position) (from : ℕ) (rest : List ℕ) (is_kept : Bool) → Rise (from + 1) (map (move_value p) rest)
-    → Rise from (map (move_value p) (cond is_kept (from ∷ rest) rest))
-rise_more p from rest true rise = (omega arith, rise)
-rise_more p from rest false rise = rise_later from (from + 1) (map (move_value p) rest) (omega arith) rise
+ascend_more : (p : Position) (from : ℕ) (rest : List ℕ) (is_kept : Bool) → AscendFrom (from + 1) (map (move_value p) rest)
+    → AscendFrom from (map (move_value p) (cond is_kept (from ∷ rest) rest))
+ascend_more p from rest true ascend = (omega arith, ascend)
+ascend_more p from rest false ascend = ascend_later from (from + 1) (map (move_value p) rest) (omega arith) ascend
 
-kept_rise : (f : ℕ → Bool) (p : Position) (from n : ℕ) → Rise from (map (move_value p) (filter f (range_with_len from n)))
-kept_rise f p from zero = tt
-kept_rise f p from (suc n) = rise_more p from (filter f (range_with_len (from + 1) n)) (f from) (kept_rise f p (from + 1) n)
+kept_ascend : (f : ℕ → Bool) (p : Position) (from n : ℕ) → AscendFrom from (map (move_value p) (filter f (range_with_len from n)))
+kept_ascend f p from zero = tt
+kept_ascend f p from (suc n) = ascend_more p from (filter f (range_with_len (from + 1) n)) (f from) (kept_ascend f p (from + 1) n)
 
-values_rise : (p : Position) → Rise 1 (values_of p)
-values_rise p = go (is_over p)
+values_ascend : (p : Position) → AscendFrom 1 (values_of p)
+values_ascend p = go (is_over p)
   where
     go : (b : Bool) →
-        Rise 1 (map (move_value p) (if b then [] else filter (λ i. nat_lt 0 (seeds p.own i)) (range_with_len 1 (side_length p))))
+        AscendFrom 1 (map (move_value p) (if b then [] else filter (λ i. nat_lt 0 (seeds p.own i)) (range_with_len 1 (side_length p))))
     go true = tt
-    go false = kept_rise (λ i. nat_lt 0 (seeds p.own i)) p 1 (side_length p)
+    go false = kept_ascend (λ i. nat_lt 0 (seeds p.own i)) p 1 (side_length p)
 
 small_moves : (p : Position) → IsWithinLimits p → AreSmall (values_of p)
 small_moves p limits = All-map IsSmallValue (move_value p) (legal_houses p)
@@ -111,11 +116,11 @@ small_moves p limits = All-map IsSmallValue (move_value p) (legal_houses p)
     (value_small p _ limits has, house_small p _ limits has)))
 
 pub have_columns : (p : Position) → IsWithinLimits p → HaveColumns (values_of p)
-have_columns p limits = record { rise = values_rise p; small = small_moves p limits }
+have_columns p limits = record { ascend = values_ascend p; small = small_moves p limits }
 
 -- after any column before the first house
-pub rise_from_none : (vs : List MoveValue) → Rise 1 vs → Rise 0 vs
-rise_from_none vs rise = rise_later 0 1 vs (omega arith) rise
+pub ascend_from_none : (vs : List MoveValue) → AscendFrom 1 vs → AscendFrom 0 vs
+ascend_from_none vs ascend = ascend_later 0 1 vs (omega arith) ascend
 
 -- what writing the columns of values needs
 pub ruleset columns_of_values = (column_before, values_from)

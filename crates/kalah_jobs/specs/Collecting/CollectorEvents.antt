@@ -14,7 +14,7 @@ use Rattle.kalah_jobs.specs.Collecting.Refusals.{IsWanted, IsRefusedFor}
 pub record Accepts (jobs : List (List Entry)) (files : List FileState) (o : Job) (ready : ℕ) (after : List FileState) : Type 0 where
   pub wanted : IsWanted jobs files o
   pub kept : after ≡ after_offer files o.file o.line (answer_of o.entry)
-  pub risen : front (state_of after o.file) ≡ front (state_of files o.file) + ready
+  pub more_ready : front (state_of after o.file) ≡ front (state_of files o.file) + ready
 
 -- an offer is refused: for the first refusal that holds, and nothing is changed
 pub record Refuses (jobs : List (List Entry)) (files : List FileState) (o : Job) (refusal : Refusal) (after : List FileState) : Type 0 where

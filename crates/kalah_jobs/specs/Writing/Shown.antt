@@ -13,10 +13,10 @@ use Rattle.kalah_jobs.specs.Writing.Picture.{column_width, empty_columns, pictur
 abbrev pub value_cell : ℤ → List ℕ
 value_cell value = replicate (column_width - length (signed_decimal value)) space ++ signed_decimal value
 
--- the values of moves, each in the column of its house, where `behind` columns are filled already. Nothing follows the last value
+-- the values of moves, each in the column of its house, where `filled` columns are filled already. Nothing follows the last value
 abbrev pub value_columns : ℕ → List MoveValue → List ℕ
-value_columns behind [] = []
-value_columns behind (v ∷ vs) = empty_columns (v.house - behind) ++ (value_cell v.value ++ value_columns (v.house + 1) vs)
+value_columns filled [] = []
+value_columns filled (v ∷ vs) = empty_columns (v.house - filled) ++ (value_cell v.value ++ value_columns (v.house + 1) vs)
 
 -- `over, margin M`
 abbrev pub over_words : ℤ → List ℕ
@@ -32,16 +32,11 @@ shown_of p = picture_of p ++ (values_line p ++ line_feed ∷ [])
 
 -- ---- values that have columns
 
--- the houses rise, from `low` on
-abbrev pub Rise : ℕ → List MoveValue → Type 0
-Rise low [] = ⊤
-Rise low (v ∷ vs) = (low ≤ v.house) × Rise (v.house + 1) vs
+-- the houses ascend, from `low` on
+abbrev pub AscendFrom : ℕ → List MoveValue → Type 0
+AscendFrom low [] = ⊤
+AscendFrom low (v ∷ vs) = (low ≤ v.house) × AscendFrom (v.house + 1) vs
 
 -- values and houses are ones that a game can have
 abbrev pub AreSmall : List MoveValue → Type 0
 AreSmall values = All (λ v. IsSmallMargin v.value × (v.house ≤ most_houses)) values
-
--- each value has a column of its own
-pub record HaveColumns (values : List MoveValue) : Type 0 where
-  pub rise : Rise 1 values
-  pub small : AreSmall values

@@ -7,13 +7,11 @@ use crate::asking::ask_fault::AskFault;
 use crate::asking::line_head::LineHead;
 use crate::asking::reading_ahead::{hand_on, next_byte};
 use crate::asking::told::{tell, tell_last};
+use crate::files::file_lines::LINE_FEED;
 use crate::files::question::Question;
 use crate::writing::sink::Sink;
 use kalah_solve::Solver;
 use std::io::{BufReader, Read};
-
-/// The byte that ends a line.
-const LINE_FEED: u8 = b'\n';
 
 // Answers the lines of a reader as `answer_lines` does, with the same result.
 #[tactic(auto, using(crate::proofs::AskingLemmas::Underway::answered_so_far))]

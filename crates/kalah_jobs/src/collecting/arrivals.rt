@@ -77,7 +77,7 @@ impl Arrivals {
         requires within { line < line_count self.old }
         requires first { came_for self.old line ≡ None }
         ensures kept { self.new ≡ with_answer self.old line answer }
-        ensures risen { front self.new ≡ front self.old + result }
+        ensures more_ready { front self.new ≡ front self.old + result }
     {
         self.slots[line as usize] = Some(answer);
         let before = self.ready;

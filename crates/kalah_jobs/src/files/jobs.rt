@@ -118,7 +118,7 @@ impl Jobs {
     pub fn total(&self) -> u32
         ensures lines { result ≡ job_count self.now }
         ensures jobs { result ≡ length (job_list self.now) }
-        ensures low { result ≤ most_lines }
+        ensures few { result ≤ most_lines }
     {
         self.entries.len() as u32
     }
@@ -126,7 +126,7 @@ impl Jobs {
     /// Returns the number of files, at most 256.
     pub fn files(&self) -> u32
         ensures is { result ≡ length self.now }
-        ensures low { result ≤ most_files }
+        ensures few { result ≤ most_files }
     {
         (self.offsets.len() - 1) as u32
     }
@@ -136,7 +136,7 @@ impl Jobs {
     pub fn lines(&self, f: u32) -> u32
         requires { f < length self.now }
         ensures is { result ≡ length (entries_of self.now f) }
-        ensures low { result ≤ most_lines }
+        ensures few { result ≤ most_lines }
     {
         self.offsets[f as usize + 1] - self.offsets[f as usize]
     }

@@ -16,7 +16,7 @@ pub(crate) const COLUMN: usize = 4;
 
 // Puts a number, right-aligned in a column, in front of the text.
 #[tactic(auto, using(crate::proofs::WritingLemmas::Lengths::byte_length))]
-fn put_cell(text: &mut StackText, number: u8)
+fn prepend_cell(text: &mut StackText, number: u8)
     requires { length text.old + 4 ≤ ROOM }
     ensures cell { text.new ≡ cell number ++ text.old }
     ensures longer { length text.new ≡ 4 + length text.old }
@@ -48,7 +48,7 @@ fn prepend_houses(text: &mut StackText, board: &Board, player: Player)
 {
     let mut column = board.m();
     while column > 0 {
-        put_cell(text, player.seeds(board, house_in(player, board, column)));
+        prepend_cell(text, player.seeds(board, house_in(player, board, column)));
         column -= 1;
     }
     text.prepend_blanks(COLUMN);
@@ -64,9 +64,9 @@ fn picture(board: &Board) -> StackText
     text.prepend("\n");
     prepend_houses(&mut text, board, Player::Mover);
     text.prepend("\n");
-    put_cell(&mut text, board.own_store());
+    prepend_cell(&mut text, board.own_store());
     text.prepend_blanks(COLUMN * m);
-    put_cell(&mut text, board.other_store());
+    prepend_cell(&mut text, board.other_store());
     text.prepend("\n");
     prepend_houses(&mut text, board, Player::Other);
     text

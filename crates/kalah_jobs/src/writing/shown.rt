@@ -6,7 +6,7 @@ ghost use Rattle.kalah_rules.specs.Position.{IsSmallMargin};
 ghost use Rattle.kalah_solve.specs.Solver.MoveValues.{values_of};
 ghost use Rattle.kalah_jobs.specs.Files.Lines.{line_feed};
 ghost use Rattle.kalah_jobs.specs.Writing.Given.{AppendsStart};
-ghost use Rattle.kalah_jobs.specs.Writing.Shown.{AreSmall, Rise, over_words, value_cell, value_columns, values_line};
+ghost use Rattle.kalah_jobs.specs.Writing.Shown.{AreSmall, AscendFrom, over_words, value_cell, value_columns, values_line};
 
 use crate::writing::picture::COLUMN;
 use crate::writing::sink::Sink;
@@ -17,7 +17,7 @@ use std::io;
 
 // Puts the value of a move, at the right of a column, in front of the text.
 #[tactic(auto, using(crate::proofs::WritingLemmas::Shown::value_room))]
-fn put_value_cell(text: &mut StackText, value: MoveValue)
+fn prepend_value_cell(text: &mut StackText, value: MoveValue)
     requires small { IsSmallMargin value.value }
     requires room { length text.old + 11 ≤ ROOM }
     ensures cell { text.new ≡ value_cell value.value ++ text.old }
@@ -28,24 +28,24 @@ fn put_value_cell(text: &mut StackText, value: MoveValue)
     text.prepend_blanks(end - text.len());
 }
 
-// Puts the values from place `i` on in front of the text, each in the column of its house. `behind` columns come before them.
+// Puts the values from place `i` on in front of the text, each in the column of its house. `filled` columns come before them.
 #[tactic(auto, using(crate::proofs::WritingLemmas::Shown::columns_of_values))]
-fn put_columns(text: &mut StackText, values: &MoveValues, i: u8, behind: u8)
+fn prepend_columns(text: &mut StackText, values: &MoveValues, i: u8, filled: u8)
     requires room { length text.old + 39 ≤ ROOM }
     requires within { i ≤ length values.now }
-    requires behind { behind ≤ most_houses + 1 }
-    requires rise { Rise behind (drop i values.now) }
+    requires filled { filled ≤ most_houses + 1 }
+    requires ascend { AscendFrom filled (drop i values.now) }
     requires small { AreSmall (drop i values.now) }
-    ensures row { text.new ≡ value_columns behind (drop i values.now) ++ text.old }
-    ensures short { length text.new ≤ length text.old + 4 * (most_houses + 1 - behind) }
+    ensures row { text.new ≡ value_columns filled (drop i values.now) ++ text.old }
+    ensures short { length text.new ≤ length text.old + 4 * (most_houses + 1 - filled) }
 {
     if i == values.len() {
         return;
     }
     let value = values.get(i);
-    put_columns(text, values, i + 1, value.house + 1);
-    put_value_cell(text, value);
-    text.prepend_blanks(COLUMN * usize::from(value.house - behind));
+    prepend_columns(text, values, i + 1, value.house + 1);
+    prepend_value_cell(text, value);
+    text.prepend_blanks(COLUMN * usize::from(value.house - filled));
 }
 
 // Returns the line below the picture of a board with these values.
@@ -59,7 +59,7 @@ fn line_below(board: &Board, values: &MoveValues) -> StackText
         text.prepend_margin(board.returns());
         text.prepend("over, margin ");
     } else {
-        put_columns(&mut text, values, 0, 0);
+        prepend_columns(&mut text, values, 0, 0);
     }
     text
 }

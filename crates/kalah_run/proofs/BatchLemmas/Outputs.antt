@@ -57,7 +57,7 @@ still_written files jobs past begun out later failed fails r keeps sound is = re
     holds = is.progress.holds;
     within = is.progress.within;
     before = is.progress.before;
-    behind = is.progress.behind;
+    later = is.progress.later;
     written = given_kept begun out later failed fails _ is.progress.written keeps sound;
   };
 }

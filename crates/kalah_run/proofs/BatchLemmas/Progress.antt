@@ -129,7 +129,7 @@ module _ (text : ℕ → Taken → List ℕ) (jobs : List (List Entry)) where
         holds = kept.offered;
         within = kept.within;
         before = λ g low. absurd (omega arith);
-        behind = λ g high. new_taken jobs g;
+        later = λ g high. new_taken jobs g;
         written = subst (λ (l : List ℕ). WasGiven begun begun failed l)
             (sym (ap (λ n. written_upto text jobs 0 n) (new_taken jobs 0) ∙ written_none)) (given_none begun failed);
       }
@@ -172,7 +172,7 @@ module _ {text : ℕ → Taken → List ℕ} {jobs : List (List Entry)} {past : 
             (cases_eq g f);
         before = λ g g_low. subst (λ (s : FileState). s.taken ≡ line_count s) (sym (other g (λ q. omega arith)))
             (progress.before g g_low);
-        behind = λ g g_high. ap (λ (s : FileState). s.taken) (other g (λ q. omega arith)) ∙ progress.behind g g_high;
+        later = λ g g_high. ap (λ (s : FileState). s.taken) (other g (λ q. omega arith)) ∙ progress.later g g_high;
         written = subst (λ (l : List ℕ). WasGiven begun more fails l) text_is (gives (written_upto text jobs f n) progress.written);
       } in
       subst (λ (s : List FileState). IsUnderWay text jobs past s f begun more fails) (sym step.kept) new
@@ -189,7 +189,7 @@ module _ {text : ℕ → Taken → List ℕ} {jobs : List (List Entry)} {past : 
       let whole : (state_of files f).taken ≡ line_count (state_of files f) = omega arith in
       let many : line_count (state_of files f) ≡ length (entries_of jobs f) = lines_are jobs files progress.holds.counts f in
       let jobs_low : f < length jobs = (let m = files_many jobs files progress.holds.counts in omega arith) in
-      let none : (state_of files (f + 1)).taken ≡ 0 = progress.behind (f + 1) (omega arith) in
+      let none : (state_of files (f + 1)).taken ≡ 0 = progress.later (f + 1) (omega arith) in
       let text_is : written_upto text jobs f (state_of files f).taken ≡ written_upto text jobs (f + 1) (state_of files (f + 1)).taken =
       ap (λ m. written_upto text jobs f m) (whole ∙ many)
       ∙ written_file text jobs f jobs_low
@@ -202,7 +202,7 @@ module _ {text : ℕ → Taken → List ℕ} {jobs : List (List Entry)} {past : 
             (λ (p : g ≡ f). subst (λ x. (state_of files x).taken ≡ line_count (state_of files x)) (sym p) whole)
             (λ (np : g ≡ f → ⊥). progress.before g (omega arith))
             (cases_eq g f);
-        behind = λ g g_high. progress.behind g (omega arith);
+        later = λ g g_high. progress.later g (omega arith);
         written = subst (λ (l : List ℕ). WasGiven begun out failed l) text_is progress.written;
       }
 
@@ -226,7 +226,7 @@ module _ {text : ℕ → Taken → List ℕ} {jobs : List (List Entry)} {past : 
             let a = lines_are jobs files progress.holds.counts g in
             let b = lines_are jobs now holds.counts g in
             taken g ∙ progress.before g g_low ∙ a ∙ sym b;
-        behind = λ g g_high. taken g ∙ progress.behind g g_high;
+        later = λ g g_high. taken g ∙ progress.later g g_high;
         written = subst (λ n. WasGiven begun out failed (written_upto text jobs f n)) (sym (taken f)) progress.written;
       }
 
@@ -237,7 +237,7 @@ module _ {text : ℕ → Taken → List ℕ} {jobs : List (List Entry)} {past : 
     holds = holds_refused jobs past files o r progress.holds refused;
     within = progress.within;
     before = progress.before;
-    behind = progress.behind;
+    later = progress.later;
     written = progress.written;
   }
 

@@ -84,7 +84,7 @@ module _ {S : Type 0} (plan : DeskPlan) (s : State S DeskView) (seat total numbe
       stands_below s.views seat total number (drawn_row numbers false) plan.total at kept.lawful in
       let below : All (λ x. x < n) numbers = subst (λ (c : ℕ). All (λ x. x < c) numbers) (sym found) low_all in
       let P : DrawnRow → Type 0 = λ r. AllPairs (λ x y. x < y) r.numbers in
-      let old : P (drawn_row numbers false) = All-head P (drawn_row numbers false) [] (all_at P s.views seat v at kept.lawful.rising) in
+      let old : P (drawn_row numbers false) = All-head P (drawn_row numbers false) [] (all_at P s.views seat v at kept.lawful.ascending) in
       let rises : P (drawn_row (numbers ++ n ∷ []) false) = all_pairs_push (λ x y. x < y) numbers n old below in (
         record {
           within = omega arith;
@@ -96,7 +96,7 @@ module _ {S : Type 0} (plan : DeskPlan) (s : State S DeskView) (seat total numbe
               ∙ ap (λ k. k + cond (n == x) 1 0) (sym (times_rows x (all_rows s.views)) ∙ kept.lawful.each_once x)
               ∙ one_more x (drawn_in (all_rows s.views)) n found
               ∙ ap (λ c. if nat_lt x c then 1 else 0) (sym drawn);
-          rising = all_set P s.views seat w kept.lawful.rising (All-cons P (drawn_row (numbers ++ n ∷ []) false) [] rises (All-nil P));
+          ascending = all_set P s.views seat w kept.lawful.ascending (All-cons P (drawn_row (numbers ++ n ∷ []) false) [] rises (All-nil P));
           spent = λ some_spent. absurd (omega arith);
         },
         omega arith,
@@ -122,7 +122,7 @@ module _ {S : Type 0} (plan : DeskPlan) (s : State S DeskView) (seat total numbe
       let spent : spent_in (all_rows (set s.views seat w)) ≡ spent_in (all_rows s.views) + 1 =
       omega (arith, rows_set (λ r. cond r.spent 1 0) s.views seat v w at) in
       let P : DrawnRow → Type 0 = λ r. AllPairs (λ x y. x < y) r.numbers in
-      let old : P (drawn_row numbers false) = All-head P (drawn_row numbers false) [] (all_at P s.views seat v at kept.lawful.rising) in (
+      let old : P (drawn_row numbers false) = All-head P (drawn_row numbers false) [] (all_at P s.views seat v at kept.lawful.ascending) in (
         record {
           within = omega arith;
           each_once = λ x.
@@ -133,7 +133,7 @@ module _ {S : Type 0} (plan : DeskPlan) (s : State S DeskView) (seat total numbe
               ∙ sym (times_rows x (all_rows s.views))
               ∙ kept.lawful.each_once x
               ∙ ap (λ c. if nat_lt x c then 1 else 0) (sym drawn);
-          rising = all_set P s.views seat w kept.lawful.rising (All-cons P (drawn_row numbers true) [] old (All-nil P));
+          ascending = all_set P s.views seat w kept.lawful.ascending (All-cons P (drawn_row numbers true) [] old (All-nil P));
           spent = λ some_spent. omega arith;
         },
         omega arith,

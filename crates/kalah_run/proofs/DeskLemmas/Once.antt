@@ -65,7 +65,7 @@ deals_each_once total rows lawful = record {
   count = refl;
   once = stands_once total rows lawful;
   no_other = stands_nowhere total rows lawful;
-  rising = lawful.rising;
+  ascending = lawful.ascending;
   spent = lawful.spent;
 }
 

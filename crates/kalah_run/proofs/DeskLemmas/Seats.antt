@@ -27,11 +27,11 @@ use Rattle.kalah_run.proofs.DeskLemmas.Sums.{times, times_rows, rows_set, rows_p
 lawful_alike : (total : ℕ) (rows others : List DrawnRow) → drawn_in others ≡ drawn_in rows
     → ((x : ℕ) → sum_by (times x) others ≡ sum_by (times x) rows) → spent_in others ≡ spent_in rows
     → All (λ r. AllPairs (λ x y. x < y) r.numbers) others → AreLawful total rows → AreLawful total others
-lawful_alike total rows others drawn same spent rising was = record {
+lawful_alike total rows others drawn same spent ascending was = record {
   within = omega (arith, was.within);
   each_once = λ x. times_rows x others ∙ same x ∙ sym (times_rows x rows) ∙ was.each_once x
       ∙ ap (λ c. if nat_lt x c then 1 else 0) (sym drawn);
-  rising = rising;
+  ascending = ascending;
   spent = λ some_spent. drawn ∙ was.spent (omega arith);
 }
 
@@ -45,7 +45,7 @@ begins plan total passes = record {
   lawful = record {
     within = omega arith;
     each_once = λ x. grind (arith, nat_tests);
-    rising = All-nil (λ r. AllPairs (λ x y. x < y) r.numbers);
+    ascending = All-nil (λ r. AllPairs (λ x y. x < y) r.numbers);
     spent = λ none. absurd (omega arith);
   };
   totals = λ seat v at. only seat v at;
@@ -76,7 +76,7 @@ hands_out {S} plan seat total handed_out left some_left s kept at =
       word = kept.word ∙ ap (λ m. m ∷ []) (omega arith);
       passes = omega (arith, passes_push now b, passes_set s.views seat v a at, kept.passes);
       lawful = lawful_alike plan.total (all_rows s.views) (all_rows (now ++ b ∷ [])) drawn same spent
-          (all_pushed P now b (all_set P s.views seat a kept.lawful.rising (All-nil P))
+          (all_pushed P now b (all_set P s.views seat a kept.lawful.ascending (All-nil P))
           (All-cons P (drawn_row [] false) [] (λ i j d under within. absurd (omega arith)) (All-nil P))) kept.lawful;
       totals = totals_push plan now b (totals_set plan s.views seat a kept.totals (kept.totals seat v at)) (kept.totals seat v at);
     }
@@ -120,7 +120,7 @@ starts_closing {S} plan slots s kept homes fits =
         passes = omega (arith, passes_push s.views w, kept.passes);
         lawful =
             lawful_alike plan.total (all_rows s.views) (all_rows (s.views ++ w ∷ [])) drawn same spent
-            (all_pushed P s.views w kept.lawful.rising (All-nil P)) kept.lawful;
+            (all_pushed P s.views w kept.lawful.ascending (All-nil P)) kept.lawful;
         totals = totals_push plan s.views w kept.totals tt;
       },
       refl,
@@ -137,8 +137,8 @@ reclaims {S} plan seat rows other total number r s kept at apart there =
     let between : List DeskView = set s.views seat w in
     let now : List DeskView = set between other Ended in
     let P : DrawnRow → Type 0 = λ q. AllPairs (λ x y. x < y) q.numbers in
-    let own : All P rows = all_at P s.views seat v at kept.lawful.rising in
-    let theirs : All P (r ∷ []) = all_at P s.views other u (was s.views seat other w u apart there) kept.lawful.rising in
+    let own : All P rows = all_at P s.views seat v at kept.lawful.ascending in
+    let theirs : All P (r ∷ []) = all_at P s.views other u (was s.views seat other w u apart there) kept.lawful.ascending in
     let same : (f : DrawnRow → ℕ) → sum_by f (all_rows now) ≡ sum_by f (all_rows s.views) =
     λ f. omega (arith, rows_set f s.views seat v w at, rows_set f between other u Ended there, sum_by-cons f r rows) in
     record {
@@ -147,7 +147,7 @@ reclaims {S} plan seat rows other total number r s kept at apart there =
       passes = omega (arith, passes_set s.views seat v w at, passes_set between other u Ended there, kept.passes);
       lawful = lawful_alike plan.total (all_rows s.views) (all_rows now) (same (λ q. length q.numbers)) (λ x. same (times x))
           (same (λ q. cond q.spent 1 0))
-          (all_set P between other Ended (all_set P s.views seat w kept.lawful.rising (All-append P (r ∷ []) rows theirs own))
+          (all_set P between other Ended (all_set P s.views seat w kept.lawful.ascending (All-append P (r ∷ []) rows theirs own))
           (All-nil P)) kept.lawful;
       totals = totals_set plan between other Ended (totals_set plan s.views seat w kept.totals tt) tt;
     }

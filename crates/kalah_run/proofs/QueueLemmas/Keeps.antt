@@ -50,10 +50,10 @@ fits_more : (pairs taken : List (ℕ × Job)) (closed passes place : ℕ) (x : �
     → closed ≤ x.0
     → (j : ℕ) (u : QueueView) → j ≢ place → Fits pairs taken closed passes j u
     → Fits (pairs ++ x ∷ []) taken closed passes j u
-fits_more pairs taken closed passes place x behind within running j (Putting number sent) other h =
-    let ne : x.0 ≢ number = (λ q. other (h.behind ∙ (ap suc (sym q) ∙ sym behind))) in
-    record { behind = h.behind; running = h.running; all_sent = h.all_sent ∙ sym (of_same number pairs x ne) }
-fits_more pairs taken closed passes place x behind within running j (Getting made got known) other h =
+fits_more pairs taken closed passes place x place_is within running j (Putting number sent) other h =
+    let ne : x.0 ≢ number = (λ q. other (h.place_is ∙ (ap suc (sym q) ∙ sym place_is))) in
+    record { place_is = h.place_is; running = h.running; all_sent = h.all_sent ∙ sym (of_same number pairs x ne) }
+fits_more pairs taken closed passes place x place_is within running j (Getting made got known) other h =
     let count : passes ≡ suc made = h.count in
     let ended : length known ≡ closed = h.ended_known in
     record {
@@ -63,7 +63,7 @@ fits_more pairs taken closed passes place x behind within running j (Getting mad
       ended_known = ended;
       accounts = accounts_pair made known pairs x (omega arith) (omega arith) h.accounts;
     }
-fits_more pairs taken closed passes place x behind within running j Ended other h = tt
+fits_more pairs taken closed passes place x place_is within running j Ended other h = tt
 
 puts_at : (n place : ℕ) (x : ℕ × Job) (sent : List Job) →
     Pushes IsLawful n place (Putting x.0 sent) x (λ w. w ≡ Putting x.0 (sent ++ x.1 ∷ []))
@@ -73,15 +73,15 @@ puts_at n place x sent items views room h at =
     let mine : FitsPut pairs h.closed place x.0 sent = h.fits place (Putting x.0 sent) at in
     let fits : FitsPut (pairs ++ x ∷ []) h.closed place x.0 (sent ++ x.1 ∷ []) =
     record {
-      behind = mine.behind;
+      place_is = mine.place_is;
       running = mine.running;
       all_sent = ap (λ (l : List Job). l ++ x.1 ∷ []) mine.all_sent ∙ sym (of_more x.0 pairs x refl);
     } in
     let within : place < length views = in_views views place (Putting x.0 sent) at in
     let all : Each (Fits (pairs ++ x ∷ []) h.taken h.closed (length views)) (set views place w) =
     each_set (Fits (pairs ++ x ∷ []) h.taken h.closed (length views)) views place w fits
-    (λ j u other e. fits_more pairs h.taken h.closed (length views) place x mine.behind within mine.running j u other (h.fits j u e)) in
-    let behind : place ≡ suc x.0 = mine.behind in
+    (λ j u other e. fits_more pairs h.taken h.closed (length views) place x mine.place_is within mine.running j u other (h.fits j u e)) in
+    let place_is : place ≡ suc x.0 = mine.place_is in
     let first = first_same views place _ w (omega arith) h.getter in (
       w,
       lawful (pairs ++ x ∷ []) (items ++ x ∷ []) h.taken h.closed (length views) h.made h.known (set views place w)
@@ -174,7 +174,7 @@ forks_at place made got items views h at =
     each_set F views place left fits
     (λ j u other e. fits_made pairs h.taken h.closed (length views) (made + 2) place mine.foremost j u other (h.fits j u e)) in
     let fresh : FitsPut pairs h.closed (length vs) made [] =
-    record { behind = omega arith; running = omega arith; all_sent = sym (of_none made made pairs mine.accounts.below (omega arith)) } in
+    record { place_is = omega arith; running = omega arith; all_sent = sym (of_none made made pairs mine.accounts.below (omega arith)) } in
     let longer : length (vs ++ Putting made [] ∷ []) ≡ length vs + 1 = length_push vs (Putting made []) in
     let got_now : left ≡ Getting (made + 1) h.taken [] = ap (λ (l : List (ℕ × Job)). Getting (made + 1) l []) mine.all_got in
     let first = first_longer vs _ (Putting made []) (first_set views place _ left mine.foremost h.getter ∙ ap some got_now) in
@@ -193,10 +193,10 @@ fits_ended : (pairs taken : List (ℕ × Job)) (closed passes place ended : ℕ)
     → (j : ℕ) (u : QueueView) → j ≢ place → j ≢ ended → Fits pairs taken closed passes j u
     → Fits pairs taken (closed + 1) passes j u
 fits_ended pairs taken closed passes place ended foremost is j (Putting number sent) other apart h =
-    let behind : j ≡ suc number = h.behind in
+    let place_is : j ≡ suc number = h.place_is in
     let running : closed ≤ number = h.running in
-    let ne : number ≢ closed = (λ q. apart (behind ∙ (ap suc q ∙ sym is))) in
-    record { behind = behind; running = omega arith; all_sent = h.all_sent }
+    let ne : number ≢ closed = (λ q. apart (place_is ∙ (ap suc q ∙ sym is))) in
+    record { place_is = place_is; running = omega arith; all_sent = h.all_sent }
 fits_ended pairs taken closed passes place ended foremost is j (Getting made got known) other apart h =
     absurd (other (h.foremost ∙ sym foremost))
 fits_ended pairs taken closed passes place ended foremost is j Ended other apart h = tt
@@ -216,7 +216,7 @@ merges_at place other made got known sent items views h at two at_other =
     (λ (x : (other ≢ place) × (get_elem? views other ≡ some theirs)). x.1)
     (at_set views place other both theirs at_other) in
     let their_fit : FitsPut pairs h.closed other (length known) sent = h.fits other theirs was in
-    let last : other ≡ suc h.closed = their_fit.behind ∙ ap suc ended in
+    let last : other ≡ suc h.closed = their_fit.place_is ∙ ap suc ended in
     let longer : length (known ++ sent ∷ []) ≡ length known + 1 = length_push known sent in
     let fits : FitsGet pairs h.taken (h.closed + 1) (length views) place made got (known ++ sent ∷ []) =
     record {

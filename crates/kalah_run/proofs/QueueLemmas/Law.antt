@@ -24,7 +24,7 @@ queue_is_lawful items views h =
       below = first.accounts.below;
       running = λ place worker sent at.
           let fits : FitsPut pairs h.closed place worker sent = h.fits place (Putting worker sent) at in
-          let behind : place ≡ suc worker = fits.behind in
+          let place_is : place ≡ suc worker = fits.place_is in
           let within : place < length views = in_views views place (Putting worker sent) at in
           (omega arith, sym fits.all_sent);
       reclaimed = first.accounts.whole;

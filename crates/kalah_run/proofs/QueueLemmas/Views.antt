@@ -46,9 +46,9 @@ first_set (x ∷ xs) (suc place) v w is e = absurd (omega arith)
 -- it stays if another is set
 pub first_same : (views : List QueueView) (place : ℕ) (v w : QueueView) → 0 < place → get_elem? views 0 ≡ some v
     → get_elem? (set views place w) 0 ≡ some v
-first_same [] place v w behind e = absurd (some-ne-none v (sym e))
-first_same (x ∷ xs) zero v w behind e = absurd (omega arith)
-first_same (x ∷ xs) (suc place) v w behind e = e
+first_same [] place v w place_is e = absurd (some-ne-none v (sym e))
+first_same (x ∷ xs) zero v w place_is e = absurd (omega arith)
+first_same (x ∷ xs) (suc place) v w place_is e = e
 
 -- and if there is one more
 pub first_longer : (views : List QueueView) (v w : QueueView) → get_elem? views 0 ≡ some v

@@ -36,5 +36,5 @@ pub record IsUnderWay (text : ℕ → Taken → List ℕ) (jobs : List (List Ent
   pub holds : HoldsOffered jobs past files
   pub within : (g : ℕ) → (state_of files g).taken ≤ front (state_of files g)
   pub before : (g : ℕ) → g < f → (state_of files g).taken ≡ line_count (state_of files g)
-  pub behind : (g : ℕ) → f < g → (state_of files g).taken ≡ 0
+  pub later : (g : ℕ) → f < g → (state_of files g).taken ≡ 0
   pub written : WasGiven begun out failed (written_upto text jobs f (state_of files f).taken)

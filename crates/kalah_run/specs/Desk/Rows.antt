@@ -23,7 +23,7 @@ spent_in rows = count_by (λ r. r.spent) rows
 pub record AreLawful (total : ℕ) (rows : List DrawnRow) : Type 0 where
   pub within : drawn_in rows ≤ total
   pub each_once : (x : ℕ) → times_in x (drawn_numbers rows) ≡ (if nat_lt x (drawn_in rows) then 1 else 0)
-  pub rising : All (λ r. AllPairs (λ x y. x < y) r.numbers) rows
+  pub ascending : All (λ r. AllPairs (λ x y. x < y) r.numbers) rows
   pub spent : 0 < spent_in rows → drawn_in rows ≡ total
 
 -- x stands in one row, there once, and in no other
@@ -45,5 +45,5 @@ pub record DealsEachOnce (total drawn : ℕ) (rows : List DrawnRow) : Type 0 whe
   pub count : drawn ≡ drawn_in rows
   pub once : (number : ℕ) → number < drawn → StandsOnce number rows
   pub no_other : (number : ℕ) → drawn ≤ number → StandsNowhere number rows
-  pub rising : All (λ row. AllPairs (λ x y. x < y) row.numbers) rows
+  pub ascending : All (λ row. AllPairs (λ x y. x < y) row.numbers) rows
   pub spent : 0 < spent_in rows → drawn ≡ total

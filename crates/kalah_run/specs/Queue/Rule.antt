@@ -11,7 +11,7 @@ use Rattle.kalah_run.specs.Queue.Lists.{Accounts}
 -- A pass to put stands after the one to get, at the place of its worker's number, and knows what that worker has sent. The first `closed`
 -- workers have ended.
 pub record FitsPut (pairs : List (ℕ × Job)) (closed place number : ℕ) (sent : List Job) : Type 0 where
-  pub behind : place ≡ suc number
+  pub place_is : place ≡ suc number
   pub running : closed ≤ number
   pub all_sent : sent ≡ of number pairs
 

@@ -4,7 +4,8 @@ ghost use Rattle.std.specs.Prelude.{◌≡◌, ℕ, Bool, true};
 /// A worker calls `before` when it has drawn a job and has not started it, and `after` once the outcome of that job is
 /// sent. Many workers may call at once.
 pub trait Gate: Sync {
-    /// Whether the gate knows that a worker has this job. Of no gate is more known than `before` says. By default there is nothing to know.
+    /// Whether the gate knows that a worker has this job. `before` ensures it, and the call that solves the job requires it. By default it
+    /// is true.
     ghost knows: { Self → ℕ → Bool } = { λ _ _. true };
 
     /// A worker has drawn job `job`, and has not started it.

@@ -10,7 +10,7 @@ use Rattle.kalah_rules.specs.HousesStep.{houses_step}
 use Rattle.kalah_rules.specs.declared.step.HousesStep.{HousesStep}
 use Rattle.kalah_rules.specs.declared.step.HousesStep.TheVariants.{Over, Again, Turn}
 use Rattle.kalah_solve.specs.Solver.Worth.{houses_worth, value_of_move}
-use Rattle.kalah_solve.specs.Solver.StepWorth.{worth_of_step, LeadsTo, LeadsOn}
+use Rattle.kalah_solve.proofs.BoundsLemmas.Steps.{worth_of_step, LeadsTo, LeadsOn}
 use Rattle.kalah_solve.specs.Bounds.Intervals.{least_margin, most_margin}
 use Rattle.kalah_solve.specs.Bounds.Won.{count, won, won_by_step}
 use Rattle.kalah_solve.proofs.BoundsLemmas.SeedBounds.{IsHalf}

@@ -63,9 +63,9 @@ best_moves_attain p h even going is =
 pub best_lowest : (p : Position) (h : ℕ) → is_over p ≡ false → Contains (legal_houses p) h → value_of_move p h ≡ worth p
     → best_house p ≤ h
 best_lowest p h going is_legal attains =
-    let rising : legal_houses p ≡ filter (λ i. nat_lt 0 (seeds p.own i)) (range_with_len 1 (side_length p)) =
+    let ascending : legal_houses p ≡ filter (λ i. nat_lt 0 (seeds p.own i)) (range_with_len 1 (side_length p)) =
     ap (λ (b : Bool). if b then [] else filter (λ i. nat_lt 0 (seeds p.own i)) (range_with_len 1 (side_length p))) going in
-    lowest_of (λ k. int_eq (value_of_move p k) (worth p)) (λ i. nat_lt 0 (seeds p.own i)) 1 (side_length p) h (legal_houses p) rising
+    lowest_of (λ k. int_eq (value_of_move p k) (worth p)) (λ i. nat_lt 0 (seeds p.own i)) 1 (side_length p) h (legal_houses p) ascending
     is_legal (eq_yes (value_of_move p h) (worth p) attains)
 
 -- the law on the best house

@@ -13,7 +13,7 @@ use Rattle.kalah_rules.specs.Play.{legal_houses}
 use Rattle.kalah_rules.proofs.Legal.{legal_holds}
 use Rattle.kalah_solve.specs.Solver.Worth.{greatest, worth, value_of_move, best_house}
 use Rattle.kalah_solve.specs.Solver.Verdict.{verdict_of, IsSmallBest}
-use Rattle.kalah_solve.specs.declared.solver.verdict.Verdict.TheVariants.{Best, Over}
+use Rattle.kalah_solve.specs.declared.solver.Verdict.TheVariants.{Best, Over}
 use Rattle.kalah_solve.proofs.SolverLemmas.Worths.{greatest_more, worth_of_going}
 
 -- the last house is found if no earlier one passes

@@ -16,7 +16,7 @@ use Rattle.kalah_solve.specs.Solver.BestPlay.{Strategy, IsStrategy, Way, follow,
 use Rattle.kalah_solve.specs.Solver.BestPlay.Game.{is_at_end, moves_on, passes_turn}
 use Rattle.kalah_solve.specs.Solver.MoveValues.{HoldsMoveTo, IsWorthOfMove, TellMoves, ValueIsWorthOfMove, WorthOfMoveIsOne, ValuesTellVerdict, move_value, values_of}
 use Rattle.kalah_solve.specs.declared.solver.move_values.MoveValue.{MoveValue}
-use Rattle.kalah_solve.specs.declared.solver.verdict.Verdict.TheVariants.{Best, Over}
+use Rattle.kalah_solve.specs.declared.solver.Verdict.TheVariants.{Best, Over}
 use Rattle.kalah_solve.proofs.SolverLemmas.Worths.{swapped_equal_sides, worth_of_going}
 use Rattle.kalah_solve.proofs.SolverLemmas.Finds.{find_is, found_or}
 use Rattle.kalah_solve.proofs.SolverLemmas.Values.{final_swapped, value_going_on, value_passing, best_found}

@@ -11,7 +11,8 @@ use Rattle.kalah_rules.proofs.Ends.{after_fewer, after_equal_sides, swap_fewer}
 use Rattle.kalah_rules.proofs.Legal.{legal_holds}
 use Rattle.kalah_rules.specs.HousesStep.{houses_step_to, houses_step}
 use Rattle.kalah_solve.specs.Solver.Worth.{worth, houses_worth, value_of_move}
-use Rattle.kalah_solve.specs.Solver.StepWorth.{worth_of_step, LeadsOn, GoesOn, moves_after}
+use Rattle.kalah_solve.specs.Solver.StepWorth.{GoesOn}
+use Rattle.kalah_solve.proofs.BoundsLemmas.Steps.{worth_of_step, LeadsOn, moves_after}
 use Rattle.kalah_rules.specs.declared.step.HousesStep.{HousesStep}
 use Rattle.kalah_rules.specs.declared.step.HousesStep.TheVariants.{Over, Again, Turn}
 use Rattle.kalah_rules.proofs.PackedMoves.{after_keeps}

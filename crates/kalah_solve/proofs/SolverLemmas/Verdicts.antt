@@ -6,8 +6,8 @@ use Rattle.kalah_solve.specs.Solver.Worth.{worth, best_house}
 use Rattle.kalah_solve.specs.Solver.BestPlay.{IsBestMove}
 use Rattle.kalah_solve.specs.Solver.Laws.{BestVerdictIsOne}
 use Rattle.kalah_solve.specs.Solver.Verdict.{verdict_of, TellsBestPlay}
-use Rattle.kalah_solve.specs.declared.solver.verdict.Verdict.{Verdict}
-use Rattle.kalah_solve.specs.declared.solver.verdict.Verdict.TheVariants.{Best, Over}
+use Rattle.kalah_solve.specs.declared.solver.Verdict.{Verdict}
+use Rattle.kalah_solve.specs.declared.solver.Verdict.TheVariants.{Best, Over}
 use Rattle.kalah_solve.proofs.SolverLemmas.Worths.{worth_of_over}
 use Rattle.kalah_solve.proofs.SolverLemmas.Bests.{verdict_of_over}
 use Rattle.kalah_solve.proofs.SolverLemmas.Secured.{worth_is_best, best_play_is_one}

@@ -6,7 +6,7 @@ use Rattle.kalah_rules.specs.Measure.{moves_left}
 use Rattle.kalah_solve.specs.Solver.Worth.{greatest, worth_within, worth, value_of_move, best_house, houses_worth}
 use Rattle.kalah_solve.specs.Solver.BestPlay.{Strategy, IsStrategy, follow, Game, Secures, HoldsTo, IsBestPlay, IsBestMove}
 use Rattle.kalah_solve.specs.Solver.Verdict.{TellsBestPlay}
-use Rattle.kalah_solve.specs.declared.solver.verdict.Verdict.{Verdict}
+use Rattle.kalah_solve.specs.declared.solver.Verdict.{Verdict}
 
 -- a game that is over is worth its final margin
 abbrev pub WorthOfOver : Type 0

@@ -7,8 +7,8 @@ use Rattle.kalah_solve.specs.Solver.Worth.{greatest, value_of_move}
 use Rattle.kalah_solve.specs.Solver.BestPlay.{Strategy, IsStrategy, follow, Game, Secures}
 use Rattle.kalah_solve.specs.Solver.Verdict.{verdict_of}
 use Rattle.kalah_solve.specs.declared.solver.move_values.MoveValue.{MoveValue}
-use Rattle.kalah_solve.specs.declared.solver.verdict.Verdict.{Verdict}
-use Rattle.kalah_solve.specs.declared.solver.verdict.Verdict.TheVariants.{Best}
+use Rattle.kalah_solve.specs.declared.solver.Verdict.{Verdict}
+use Rattle.kalah_solve.specs.declared.solver.Verdict.TheVariants.{Best}
 
 -- fills the cells past the last value
 abbrev pub no_value : MoveValue

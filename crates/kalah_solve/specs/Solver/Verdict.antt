@@ -4,8 +4,8 @@ use Rattle.kalah_rules.specs.Limits.{most_houses}
 use Rattle.kalah_rules.specs.Position.{Position, is_over, final_margin, IsSmallMargin}
 use Rattle.kalah_solve.specs.Solver.Worth.{worth, best_house}
 use Rattle.kalah_solve.specs.Solver.BestPlay.{IsBestPlay, IsBestMove}
-use Rattle.kalah_solve.specs.declared.solver.verdict.Verdict.{Verdict}
-use Rattle.kalah_solve.specs.declared.solver.verdict.Verdict.TheVariants.{Best, Over}
+use Rattle.kalah_solve.specs.declared.solver.Verdict.{Verdict}
+use Rattle.kalah_solve.specs.declared.solver.Verdict.TheVariants.{Best, Over}
 
 -- the final margin of a game that is over, otherwise the margin of best play with the lowest-numbered best house
 abbrev pub verdict_of : Position → Verdict

@@ -1,7 +1,7 @@
 //! The margin of best play by its definition: every game that the rules allow is played to its end, with no table and
 //! no window. It has no contract, so that it owes nothing to what the proofs say. It is slow, but simple enough that a faster
 //! search can be tested against it.
-use crate::solver::verdict::Verdict;
+use crate::solver::Verdict;
 use kalah_rules::{Board, Step};
 
 // More moves than a game has with as few seeds as in the tests.

@@ -6,7 +6,7 @@ use Rattle.kalah_rules.specs.Play.{step_of}
 use Rattle.kalah_rules.specs.Position.{IsWithinLimits, Position}
 use Rattle.kalah_rules.specs.declared.step.Step.{Step}
 use Rattle.kalah_solve.specs.Solver.Verdict.{TellsBestMove, verdict_of}
-use Rattle.kalah_solve.specs.declared.solver.verdict.Verdict.TheVariants.{Best}
+use Rattle.kalah_solve.specs.declared.solver.Verdict.TheVariants.{Best}
 use Rattle.kalah_solve.proofs.SolverLemmas.Worths.{board_equal_sides}
 use Rattle.kalah_jobs.proofs.WritingLemmas.Starts.{start_kept_all}
 use Rattle.kalah_cli.proofs.Begun.{none_failed}

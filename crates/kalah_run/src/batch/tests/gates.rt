@@ -1,5 +1,5 @@
 //! Batches in which workers wait for one another: jobs are solved in parallel, drawn by any free worker, and written
-//! while later ones are under way. The watch is told of an answer once it is written.
+//! while later ones are under way. The watch learns of an answer once it is written.
 use super::{ONE_AND_TWO, answers, file_of, lines_are_answered};
 use crate::{BatchSize, Gate, Rest, Tally, Watch, answer_batch};
 use kalah_jobs::{FileText, Question, Stream};
@@ -203,7 +203,7 @@ fn a_line_is_written_before_the_next_job_begins(rt: HostRuntime) {
         written: &written,
         accepted: 0,
     };
-    let told = answer_batch(
+    let answered = answer_batch(
         &rt,
         rt.alloc(),
         Question::BestMove,
@@ -214,7 +214,7 @@ fn a_line_is_written_before_the_next_job_begins(rt: HostRuntime) {
         &mut watch,
         &mut out,
     );
-    assert!(rt; told == Ok(tally) && watch.accepted == 2);
+    assert!(rt; answered == Ok(tally) && watch.accepted == 2);
     assert!(rt; out.into_inner().bytes.as_slice() == TWO.as_bytes());
     assert!(rt; written.came());
 }

@@ -17,7 +17,7 @@ returns-in-Some-clause-every c n rest ends begins =
 pub returns-in_default-clause-every : goal.returns-in_default-clause-every
 returns-in_default-clause-every c n rest ends begins =
     after_one begins c.in_ok-first.first.now c.in_ok-first.rest.now c.in_ok-first.ensures.cases.0
-    (λ ones behind is high digit. elim c.in_default.branch [
+    (λ ones following is high digit. elim c.in_default.branch [
       | in_default-via-in-Some+then-high-gt0+else-is_ascii_digit w ↦
           let same : ones ≡ w.in-Some.ones.now = cc (sym is ∙ w.in-Some.ensures.cases.0) in
           grind (arith, same, digit, w.if-is_ascii_digit.ensures.cases)

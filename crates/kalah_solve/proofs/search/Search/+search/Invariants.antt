@@ -2,7 +2,7 @@ use Rattle.kalah_rules.specs.Position.{bare}
 use Rattle.std.proofs.Common.{◌+◌, ◌*◌, ◌<◌, ◌≤◌, ◌≡◌, ℕ, get_or}
 use Rattle.std.specs.Prelude.{sum}
 use Rattle.kalah_rules.specs.Measure.{moves_left}
-use Rattle.kalah_solve.specs.Solver.StepWorth.{moves_after}
+use Rattle.kalah_solve.proofs.BoundsLemmas.Steps.{moves_after}
 use Rattle.kalah_solve.specs.RowMarks.{cell}
 use Rattle.kalah_solve.specs.Search.Tried.{EndsInStore}
 use Rattle.kalah_solve.proofs.SearchLemmas.Tries.{AreAgain, ArePlayed, AreUntried, MayMove, WaitsWith}

@@ -3,7 +3,7 @@ use Rattle.std.proofs.lemmas.Int.{ints, to_z-of_z}
 use Rattle.kalah_rules.specs.Play.{legal_houses}
 use Rattle.kalah_rules.specs.Position.{Rows, rows_of, bare, seeds_in_houses}
 use Rattle.kalah_solve.specs.Solver.Worth.{houses_worth, best_house}
-use Rattle.kalah_solve.specs.declared.solver.verdict.Verdict.TheVariants.{Best, Over}
+use Rattle.kalah_solve.specs.declared.solver.Verdict.TheVariants.{Best, Over}
 use Rattle.kalah_solve.proofs.SolverLemmas.Bests.{verdict_by, verdict_of_over, small_best}
 use Rattle.kalah_solve.proofs.SolverLemmas.Roots.{root_worth, stored, told_fits, told_small, told_worth}
 use Rattle.kalah_solve.proofs.SolverLemmas.Stores.{best_of_rows}

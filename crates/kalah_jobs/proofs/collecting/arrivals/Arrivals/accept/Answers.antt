@@ -12,6 +12,6 @@ invariant_of-self c =
     ] in
     (omega (arith, stops, c.loop-self.invariant.within), search rules, search rules)
 
-pub returns-clause-risen : goal.returns-clause-risen
-returns-clause-risen c =
+pub returns-clause-more_ready : goal.returns-clause-more_ready
+returns-clause-more_ready c =
     omega (arith, (invariant_of-self c).0, c.loop-self.invariant.low, c.self.invariant.0, ap front c.self.view_is)
