@@ -1,5 +1,5 @@
 -- What makes the program fail.
-use Rattle.std.specs.Prelude.{ℕ, List, Contains, ⊤}
+use Rattle.std.specs.Prelude.{◌≡◌, ℕ, List, Contains, ⊤}
 use Rattle.std.specs.Borrow.{Bor}
 use Rattle.kalah_run.specs.declared.batch.run_fault.RunFault.{RunFault}
 use Rattle.kalah_run.specs.declared.batch.run_fault.RunFault.TheVariants as fault
@@ -14,7 +14,12 @@ failure_of fault.OutOfMemory = OutOfMemory
 failure_of fault.NoWorker = NoWorker
 failure_of fault.Write = Write
 
--- a file that can't be read is one of those with these names
-abbrev pub IsOneOf : List (Bor (List ℕ)) → Failure → Type 0
-IsOneOf names (Unreadable name) = Contains names name
-IsOneOf names _ = ⊤
+-- the file of this name can't be read, or there is no memory for it
+abbrev pub FailsToRead : Bor (List ℕ) → Failure → Type 0
+FailsToRead name (Unreadable told) = told ≡ name
+FailsToRead name OutOfMemory = ⊤
+FailsToRead name _ = ⊥
+
+-- the same of one of these names
+abbrev pub FailsToReadOneOf : List (Bor (List ℕ)) → Failure → Type 0
+FailsToReadOneOf names failure = (name : Bor (List ℕ)) × (Contains names name × FailsToRead name failure)

@@ -1,8 +1,8 @@
 //! Whole files.
-ghost use Rattle.std.specs.Prelude.{◌≡◌, ◌≢◌, ◌<◌, ◌≤◌, All, IfErr, IfOk, IfSome, IsErrOf, OnOk, length, map};
+ghost use Rattle.std.specs.Prelude.{◌≡◌, ◌<◌, ◌≤◌, All, IfErr, IfOk, IfSome, IsErrOf, OnOk, length, map};
 ghost use Rattle.std.specs.Io.KnownBytes.{Consumes, IsAtEnd};
 ghost use Rattle.kalah_jobs.specs.Limits.{most_file_bytes};
-ghost use Rattle.kalah_cli.specs.Failure.{IsOneOf};
+ghost use Rattle.kalah_cli.specs.Failure.{FailsToRead, FailsToReadOneOf};
 
 use crate::failure::Failure;
 use kalah_jobs::{FileText, MOST_FILE_BYTES};
@@ -56,10 +56,24 @@ pub(crate) fn read_limited<F: Read>(
     Err(ReadFault::TooLong)
 }
 
-/// Returns the files of these names, in order, each read whole.
+/// Returns all bytes of the file of this name.
 ///
-/// Fails at the first that can't be read: with `OutOfMemory` if memory was refused, otherwise with `Unreadable`. A file of more than
-/// 67,108,864 bytes can't be read.
+/// Fails with `OutOfMemory` if memory was refused, otherwise with `Unreadable`. A file of more than 67,108,864 bytes can't be read.
+fn read_file<'a, R: Files>(rt: &R, alloc: Global, name: &'a str) -> Result<Vec<u8>, Failure<'a>>
+    ensures within { IfOk result (λ bytes. length bytes.items ≤ most_file_bytes) }
+    ensures failure { IfErr result (FailsToRead name.entry) }
+{
+    let Ok(mut file) = fs::open(rt, name) else {
+        return Err(Failure::Unreadable(name));
+    };
+    match read_limited(alloc, &mut file, MOST_FILE_BYTES) {
+        Ok(bytes) => Ok(bytes),
+        Err(ReadFault::OutOfMemory) => Err(Failure::OutOfMemory),
+        Err(_) => Err(Failure::Unreadable(name)),
+    }
+}
+
+/// Returns the files of these names, in order, each read whole. Fails at the first that can't be read, as `read_file` does.
 pub(crate) fn read_files<'a, R: Files>(
     rt: &R,
     alloc: Global,
@@ -68,19 +82,13 @@ pub(crate) fn read_files<'a, R: Files>(
     ensures named { IfOk result
         (λ files. map (λ file. file.name) files.items ≡ map (λ name. name.now) names.now) }
     ensures within { IfOk result (λ files. All (λ file. length file.bytes ≤ most_file_bytes) files.items) }
-    ensures not_written { IfErr result (λ failure. failure ≢ Failure.Write) }
-    ensures not_line_feed { IfErr result (λ failure. failure ≢ Failure.LineFeed) }
-    ensures one_of_them { IfErr result (IsOneOf names.now) }
+    ensures failure { IfErr result (FailsToReadOneOf names.now) }
 {
     let mut files = Vec::new(alloc);
     for name in names {
-        let Ok(mut file) = fs::open(rt, *name) else {
-            return Err(Failure::Unreadable(*name));
-        };
-        let bytes = match read_limited(alloc, &mut file, MOST_FILE_BYTES) {
+        let bytes = match read_file(rt, alloc, *name) {
             Ok(bytes) => bytes,
-            Err(ReadFault::OutOfMemory) => return Err(Failure::OutOfMemory),
-            Err(_) => return Err(Failure::Unreadable(*name)),
+            Err(failure) => return Err(failure),
         };
         let Ok(name) = String::from_str(alloc, *name) else {
             return Err(Failure::OutOfMemory);
