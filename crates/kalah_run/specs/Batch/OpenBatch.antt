@@ -10,6 +10,7 @@ use Rattle.kalah_solve.specs.Table.Entries.{empty_table}
 use Rattle.kalah_run.specs.Queue.States.{ArePassesFrom}
 use Rattle.kalah_run.specs.Batch.AtWork.{puts_of, AreAtWork}
 use Rattle.kalah_run.specs.declared.batch.size.BatchSize.{BatchSize}
+use Rattle.kalah_run.specs.declared.limits.TheConstants.{QUEUE_PLACES}
 use Rattle.kalah_run.specs.declared.batch.worker.Worker.{Worker}
 use Rattle.kalah_run.specs.declared.batch.size.Rest.{Rest}
 use Rattle.kalah_run.specs.declared.batch.open_batch.OpenBatch.{OpenBatch}
@@ -29,12 +30,13 @@ module _ {G : Type 0} where
     pub puts : length b.workers.items ≤ vec_capacity b.puts
 
   -- for these jobs, of this size: there are the workers asked for, but at most one for each job, and one for no job; each is at work
-  -- and has its place and its table, and nothing was got
+  -- and has its place and its table, the queue has its places, and nothing was got
   pub record IsReadyToRun (jobs : List (List Entry)) (size : BatchSize) (rest : Rest) (b : OpenBatch G) : Type 0 where
     pub workers : length b.workers.items ≡ max 1 (min size.workers (job_count jobs))
     pub tables : HaveTables size.table b.workers.items
     pub of_jobs : b.shared.jobs.now ≡ jobs
     pub of_rest : b.shared.rest ≡ rest
+    pub queue : b.shared.queue.capacity ≡ QUEUE_PLACES
     pub passes : length b.workers.items ≡ b.shared.desk.passes
     pub at_work : AreAtWork b.shared b.workers.items
     pub puts : ArePassesFrom b.shared.queue.id 0 (puts_of b.workers.items)
