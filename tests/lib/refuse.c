@@ -6,7 +6,7 @@
        REFUSE_THREADS=1-    the first thread and each later one
        REFUSE_WRITES=2-2    the second write to the standard output alone
        REFUSE_TOLD=FILE     a line for each call that failed, refused here or not: `memory`, `thread`, `file` and its path, or `write` and
-                            how many bytes the writes before it took
+                            how many bytes the writes before it took; and at the end one with the bytes of memory that were requested
 
    The functions behind malloc and its kin are called by the C library's own names, so that no look-up is needed; what starts
    a thread is looked up once, at the start. */
@@ -33,7 +33,7 @@ struct calls {
 };
 
 static struct calls requests, reads, threads, writes;
-static atomic_ulong taken;
+static atomic_ulong taken, requested;
 static int (*start)(pthread_t *, const pthread_attr_t *, void *(*)(void *), void *);
 static const char *told;
 
@@ -68,20 +68,30 @@ static void tell(const char *what, const char *path) {
     syscall(SYS_close, file);
 }
 
-static int refuses_memory(void) {
+/* The unchanged program ends by this call, in its first thread. */
+void _exit(int status) {
+    char bytes[32];
+    snprintf(bytes, sizeof bytes, "%lu", atomic_load(&requested));
+    tell("requested ", bytes);
+    syscall(SYS_exit_group, status);
+    __builtin_unreachable();
+}
+
+static int refuses_memory(size_t size) {
+    atomic_fetch_add(&requested, size);
     if (!refuses_next(&requests)) return 0;
     tell("memory", "");
     errno = ENOMEM;
     return 1;
 }
 
-void *malloc(size_t size) { return refuses_memory() ? NULL : __libc_malloc(size); }
+void *malloc(size_t size) { return refuses_memory(size) ? NULL : __libc_malloc(size); }
 
-void *calloc(size_t count, size_t size) { return refuses_memory() ? NULL : __libc_calloc(count, size); }
+void *calloc(size_t count, size_t size) { return refuses_memory(count * size) ? NULL : __libc_calloc(count, size); }
 
-void *realloc(void *old, size_t size) { return refuses_memory() ? NULL : __libc_realloc(old, size); }
+void *realloc(void *old, size_t size) { return refuses_memory(size) ? NULL : __libc_realloc(old, size); }
 
-void *memalign(size_t align, size_t size) { return refuses_memory() ? NULL : __libc_memalign(align, size); }
+void *memalign(size_t align, size_t size) { return refuses_memory(size) ? NULL : __libc_memalign(align, size); }
 
 void *aligned_alloc(size_t align, size_t size) { return memalign(align, size); }
 

@@ -70,3 +70,18 @@ fn hard_positions_take_few_nodes(rt: HostRuntime) {
 fn small_positions_take_few_nodes(rt: HostRuntime) {
     assert!(rt; places_after(&rt, &SMALL, 428) == 8_192);
 }
+
+#[test]
+fn places_are_laid_out_once(rt: HostRuntime) {
+    let table = Table::new(rt.alloc(), 65_536).expect(&rt, "no memory for a table");
+    let mut search = Search::new(table);
+    let (m, own, other, _) = SMALL[1];
+    let houses = Houses::new(m, own, other, Rule::Classic).expect(&rt, "beyond the limits");
+    assert!(rt; !houses.is_over());
+    search.table.grow();
+    // The mover takes 10 of the 12 seeds.
+    let _ = search.bound_by_search(houses, 10);
+    assert!(rt; search.known(&houses).least == 10);
+    search.table.grow();
+    assert!(rt; search.known(&houses).least == 10);
+}
