@@ -547,20 +547,12 @@ class Trials(AskTrials):
             raise Differs("the run has ended, though its last lines take long")
 
     def first_picture(self):
-        """The first position of a game is read while its first move is being found, and a picture while its values are."""
+        """The first position of a game is read before its first move is found, and a picture before its values are."""
         place, words = self.drawn.card("first pictures", FIRST_PICTURES)
         want = reference.picture(reference.read(LONG_GAME)).encode()
         self.put({})
-        reader, writer = two_ends(place)
-        with self.start([*words, "--table", "1", LONG_GAME], stdout=writer) as process:
-            got = read_soon(reader, len(want))
-            has_ended = process.poll() is not None
-            process.kill()
-        os.close(reader)
-        os.close(writer)
+        got = self.before_more([*words, "--table", "1", LONG_GAME], place, rows=want.count(b"\n"))
         self.compare(Run(want, b"", 0), Run(got, b"", 0))
-        if has_ended:
-            raise Differs("the run has ended, though its first move takes long")
 
     def first_move(self):
         """The first move of a game is read before the second is found."""
@@ -571,12 +563,12 @@ class Trials(AskTrials):
         if got not in rows:
             raise Differs(f"the first move came with the next ones: {got.decode()!r}")
 
-    def before_more(self, words, place, lines=b""):
-        """Returns what a run that is asked these lines writes at first. On a busy machine what was written separately may be read together:
-        then it is tried again."""
+    def before_more(self, words, place, lines=b"", rows=1):
+        """Returns what a run that is asked these lines writes at first, which should be so many rows. On a busy machine what was written
+        separately may be read together: then it is tried again."""
         for _ in range(3):
             got = self.first_piece(words, place, lines)
-            if got.count(b"\n") == 1:
+            if got.count(b"\n") == rows:
                 break
         return got
 
