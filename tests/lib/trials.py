@@ -564,8 +564,8 @@ class Trials(AskTrials):
             raise Differs(f"the first move came with the next ones: {got.decode()!r}")
 
     def before_more(self, words, place, lines=b"", rows=1):
-        """Returns what a run that is asked these lines writes at first, which should be so many rows. On a busy machine what was written
-        separately may be read together: then it is tried again."""
+        """Returns what a run that is asked these lines writes at first, which should have this number of rows. On a busy machine what was
+        written separately may be read together: then it is tried again."""
         for _ in range(3):
             got = self.first_piece(words, place, lines)
             if got.count(b"\n") == rows:
