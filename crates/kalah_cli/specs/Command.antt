@@ -1,13 +1,28 @@
 -- The command line of the program, as data that a parse reads.
-use Rattle.std.specs.Prelude.{◌≡◌, ℕ, false, true, [], ◌∷◌, Some, codes}
-use Rattle.clap.specs.Words.{App, Rule, Text, new_app, new_rule, rule_of, with_rule, with_subcommand}
+use Rattle.std.specs.Prelude.{◌≡◌, ℕ, false, true, [], ◌∷◌, IfOk, Result, Some, codes}
+use Rattle.std.specs.declared.alloc.AllocError.{AllocError}
+use Rattle.clap.specs.Words.{App, Rule, Text, app_of, new_app, new_rule, rule_of, with_rule, with_subcommand}
 use Rattle.clap.specs.Simple.{on_top}
 use Rattle.clap.specs.declared.builder.action.ArgAction.TheVariants.{Append, Set, SetTrue}
 use Rattle.clap.specs.declared.builder.arg.Arg.{Arg}
+use Rattle.clap.specs.declared.builder.command.Command.{Command}
 use Rattle.clap.specs.declared.builder.value_parser.ValueParser.TheVariants.{Unsigned}
 use Rattle.kalah_rules.specs.Limits.{most_depth, most_houses}
 use Rattle.kalah_solve.specs.Table.Entries.{most_entries}
 use Rattle.kalah_run.specs.Limits.{most_workers}
+
+-- if the command could be made, it is this one
+abbrev pub IsMadeAs : App → Result Command AllocError → Type 0
+IsMadeAs app made = IfOk made (λ command. app_of command ≡ app)
+
+-- an argument that is read by this rule is added to a command, if that could be made
+abbrev pub AddsRule : Rule → Result Command AllocError → Result Command AllocError → Type 0
+AddsRule rule before after = (app : App) → IsMadeAs app before → IsMadeAs (with_rule app rule) after
+
+-- a subcommand is added to a command, if both could be made
+abbrev pub AddsSubcommand : Result Command AllocError → Result Command AllocError → Result Command AllocError → Type 0
+AddsSubcommand subcommand before after = (app sub : App) → sub.top.is_plain ≡ true → IsMadeAs sub subcommand → IsMadeAs app before
+    → IsMadeAs (with_subcommand app sub.top) after
 
 -- the argument is read by this rule, and no subcommand inherits it
 abbrev pub IsReadBy : Rule → Arg → Type 0
@@ -21,9 +36,13 @@ value_rule name = record (new_rule name) { value_names = 1; action = Some Set }
 abbrev pub line_rule : Rule
 line_rule = record (value_rule (codes "line")) { required = true }
 
+-- a number in a range
+abbrev pub ranged_rule : Text → ℕ → ℕ → Rule
+ranged_rule name least most = record (value_rule name) { parser = Some (Unsigned least most) }
+
 -- `--NAME N`: a number from 1 to the most, or nothing
 abbrev pub limited_rule : Text → ℕ → Rule
-limited_rule name most = record (value_rule name) { long = Some name; parser = Some (Unsigned 1 most) }
+limited_rule name most = record (ranged_rule name 1 most) { long = Some name }
 
 -- `--NAME N`: a number from 1 to the most, and the default if it isn't given
 abbrev pub number_rule : Text → ℕ → Text → Rule
@@ -31,7 +50,7 @@ number_rule name most default = record (limited_rule name most) { defaults = def
 
 -- DEPTH: a number up to the most, which is required
 abbrev pub depth_rule : Rule
-depth_rule = record (value_rule (codes "depth")) { required = true; parser = Some (Unsigned 0 most_depth) }
+depth_rule = record (ranged_rule (codes "depth") 0 most_depth) { required = true }
 
 -- `--workers N`: 1 to the most workers, and 4 if it isn't given
 abbrev pub workers_rule : Rule

@@ -1,7 +1,7 @@
 //! The command line of the program.
-ghost use Rattle.std.specs.Prelude.{◌≡◌, IfOk, false, true};
-ghost use Rattle.clap.specs.Words.{app_of, new_app, rule_of, with_rule, with_subcommand};
-ghost use Rattle.kalah_cli.specs.Command.{IsReadBy, answers_app, ask_app, count_app, file_rule, flag_rule, kalah_app, limited_rule, line_rule, moves_app, number_rule, play_app, program_app, show_app, steps_app, table_rule, value_rule, workers_rule};
+ghost use Rattle.std.specs.Prelude.{◌≡◌, IfOk, Ok, false};
+ghost use Rattle.clap.specs.Words.{app_of, new_app, rule_of};
+ghost use Rattle.kalah_cli.specs.Command.{AddsRule, AddsSubcommand, IsMadeAs, IsReadBy, answers_app, ask_app, count_app, file_rule, first_rule, flag_rule, kalah_app, limited_rule, line_rule, moves_app, number_rule, play_app, program_app, ranged_rule, show_app, steps_app, table_rule, value_rule, workers_rule};
 
 use crate::help;
 use crate::version::VERSION_LINE;
@@ -26,22 +26,30 @@ const TABLE_OF_ONE: &str = "table entries of the search, 1 to 1048576";
 
 const TABLE_OF_WORKERS: &str = "table entries of each worker, 1 to 1048576";
 
+// A command, or the failure to make it. What is added to a failure is dropped.
+type MadeCommand<'a> = Result<Command<'a>, AllocError>;
+
 // Returns a subcommand of this name, without arguments. Its help ends in this text.
-fn subcommand<'a>(alloc: Global, name: &'a str, about: &'a str, long_help: &'a str) -> Command<'a>
-    ensures { app_of result ≡ new_app name.entry.now }
+fn subcommand<'a>(
+    alloc: Global,
+    name: &'a str,
+    about: &'a str,
+    long_help: &'a str,
+) -> MadeCommand<'a>
+    ensures { IsMadeAs (new_app name.entry.now) result }
 {
-    Command::new(alloc, name)
+    Ok(Command::new(alloc, name)
         .about(about)
         .after_help(help::SHORT_OF_SUBCOMMAND)
-        .after_long_help(long_help)
+        .after_long_help(long_help))
 }
 
 // Returns the command with one more argument, which no subcommand inherits.
-fn with_arg<'a>(command: Command<'a>, arg: Arg<'a>) -> Result<Command<'a>, AllocError>
+fn with_arg<'a>(command: MadeCommand<'a>, arg: Arg<'a>) -> MadeCommand<'a>
     requires { arg.global ≡ false }
-    ensures { IfOk result (λ c. app_of c ≡ with_rule (app_of command.entry) (rule_of arg.entry)) }
+    ensures { AddsRule (rule_of arg.entry) command.entry result }
 {
-    command.arg(arg)
+    command?.arg(arg)
 }
 
 // Returns the argument of this name, with one value.
@@ -54,32 +62,43 @@ fn value_arg<'a>(alloc: Global, name: &'a str, value_name: &'a str, help: &'a st
         .action(ArgAction::Set)
 }
 
-// Returns the argument LINE of `moves`, `play`, `show` and `count`.
-fn line_arg<'a>(alloc: Global) -> Arg<'a>
-    ensures { IsReadBy line_rule result }
+// Adds the argument LINE of `moves`, `play`, `show` and `count`.
+fn with_line<'a>(alloc: Global, command: MadeCommand<'a>) -> MadeCommand<'a>
+    ensures { AddsRule line_rule command.entry result }
 {
     let help = "a position in quotes, as '1,1/0 1,1/0'";
-    value_arg(alloc, "line", "LINE", help).required(true)
+    let line = value_arg(alloc, "line", "LINE", help).required(true);
+    with_arg(command, line)
 }
 
-// Returns the flag `--NAME`.
-fn flag_arg<'a>(alloc: Global, name: &'a str, help: &'a str) -> Arg<'a>
-    ensures { IsReadBy (flag_rule name.entry.now) result }
+// Adds the flag `--NAME`.
+fn with_flag<'a>(
+    alloc: Global,
+    command: MadeCommand<'a>,
+    name: &'a str,
+    help: &'a str,
+) -> MadeCommand<'a>
+    ensures { AddsRule (flag_rule name.entry.now) command.entry result }
 {
-    Arg::new(alloc, name)
+    let flag = Arg::new(alloc, name)
         .long(name)
         .help(help)
-        .action(ArgAction::SetTrue)
+        .action(ArgAction::SetTrue);
+    with_arg(command, flag)
 }
 
-// Returns `moves [--boards] LINE`.
-fn moves_command<'a>(alloc: Global) -> Result<Command<'a>, AllocError>
-    ensures { IfOk result (λ c. app_of c ≡ moves_app) }
+// Returns the argument of this name, a number in a range.
+fn ranged_arg<'a>(
+    alloc: Global,
+    name: &'a str,
+    value_name: &'a str,
+    help: &'a str,
+    least: u64,
+    most: u64,
+) -> Arg<'a>
+    ensures { IsReadBy (ranged_rule name.entry.now least most) result }
 {
-    let about = "Prints each legal move of a position, and the position after it";
-    let command = subcommand(alloc, "moves", about, help::LONG_OF_MOVES);
-    let command = with_arg(command, flag_arg(alloc, "boards", BOARDS))?;
-    with_arg(command, line_arg(alloc))
+    value_arg(alloc, name, value_name, help).value_parser(ValueParser::unsigned(least, most))
 }
 
 // Returns the option `--NAME N`, a number from 1 to the most. In the help N has this name.
@@ -92,61 +111,81 @@ fn limited_arg<'a>(
 ) -> Arg<'a>
     ensures { IsReadBy (limited_rule name.entry.now most) result }
 {
-    value_arg(alloc, name, value_name, help)
-        .long(name)
-        .value_parser(ValueParser::unsigned(1, most as u64))
+    ranged_arg(alloc, name, value_name, help, 1, most as u64).long(name)
 }
 
-// Returns the option `--NAME N`, a number from 1 to the most, with a default.
-fn number_arg<'a>(
+// Adds the option `--NAME N`, a number from 1 to the most, with a default.
+fn with_number<'a>(
     alloc: Global,
+    command: MadeCommand<'a>,
     name: &'a str,
     help: &'a str,
     most: u32,
     default: &'a str,
-) -> Arg<'a>
-    ensures { IsReadBy (number_rule name.entry.now most default.entry.now) result }
+) -> MadeCommand<'a>
+    ensures { AddsRule (number_rule name.entry.now most default.entry.now) command.entry result }
 {
-    limited_arg(alloc, name, "N", help, most).default_value(default)
+    let number = limited_arg(alloc, name, "N", help, most).default_value(default);
+    with_arg(command, number)
 }
 
-// Returns the option `--workers N`.
-fn workers_arg<'a>(alloc: Global) -> Arg<'a>
-    ensures { IsReadBy workers_rule result }
+// Adds the option `--workers N`.
+fn with_workers<'a>(alloc: Global, command: MadeCommand<'a>) -> MadeCommand<'a>
+    ensures { AddsRule workers_rule command.entry result }
 {
     let help = "solves up to N lines in parallel, 1 to 64";
-    number_arg(alloc, "workers", help, MOST_WORKERS, "4")
+    with_number(alloc, command, "workers", help, MOST_WORKERS, "4")
 }
 
-// Returns the option `--table N`, with this help.
-fn table_arg<'a>(alloc: Global, help: &'a str) -> Arg<'a>
-    ensures { IsReadBy table_rule result }
+// Adds the option `--table N`, with this help.
+fn with_table<'a>(alloc: Global, command: MadeCommand<'a>, help: &'a str) -> MadeCommand<'a>
+    ensures { AddsRule table_rule command.entry result }
 {
-    number_arg(alloc, "table", help, MOST_ENTRIES, "65536")
+    with_number(alloc, command, "table", help, MOST_ENTRIES, "65536")
+}
+
+// Adds the option `--first H`.
+fn with_first<'a>(alloc: Global, command: MadeCommand<'a>) -> MadeCommand<'a>
+    ensures { AddsRule first_rule command.entry result }
+{
+    let help = "begins with house H, 1 to 6, and goes on with best play";
+    with_arg(
+        command,
+        limited_arg(alloc, "first", "H", help, MOST_HOUSES as u32),
+    )
+}
+
+// Adds the argument FILE.. of `solve`, `values` and `steps`.
+fn with_files<'a>(alloc: Global, command: MadeCommand<'a>) -> MadeCommand<'a>
+    ensures { AddsRule file_rule command.entry result }
+{
+    let help = "files of positions, one a line; /dev/stdin for standard input";
+    let file = value_arg(alloc, "file", "FILE", help)
+        .action(ArgAction::Append)
+        .required(true);
+    with_arg(command, file)
+}
+
+// Returns `moves [--boards] LINE`.
+fn moves_command<'a>(alloc: Global) -> MadeCommand<'a>
+    ensures { IsMadeAs moves_app result }
+{
+    let about = "Prints each legal move of a position, and the position after it";
+    let command = subcommand(alloc, "moves", about, help::LONG_OF_MOVES);
+    let command = with_flag(alloc, command, "boards", BOARDS);
+    with_line(alloc, command)
 }
 
 // Returns `play [--table N] [--boards] [--first H] LINE`.
-fn play_command<'a>(alloc: Global) -> Result<Command<'a>, AllocError>
-    ensures { IfOk result (λ c. app_of c ≡ play_app) }
+fn play_command<'a>(alloc: Global) -> MadeCommand<'a>
+    ensures { IsMadeAs play_app result }
 {
     let about = "Prints the game that best play leads to from a position, move by move";
     let command = subcommand(alloc, "play", about, help::LONG_OF_PLAY);
-    let command = with_arg(command, table_arg(alloc, TABLE_OF_ONE))?;
-    let command = with_arg(command, flag_arg(alloc, "boards", BOARDS))?;
-    let help = "begins with house H, 1 to 6, and goes on with best play";
-    let first = limited_arg(alloc, "first", "H", help, MOST_HOUSES as u32);
-    let command = with_arg(command, first)?;
-    with_arg(command, line_arg(alloc))
-}
-
-// Returns the argument FILE.. of `solve`, `values` and `steps`.
-fn file_arg<'a>(alloc: Global) -> Arg<'a>
-    ensures { IsReadBy file_rule result }
-{
-    let help = "files of positions, one a line; /dev/stdin for standard input";
-    value_arg(alloc, "file", "FILE", help)
-        .action(ArgAction::Append)
-        .required(true)
+    let command = with_table(alloc, command, TABLE_OF_ONE);
+    let command = with_flag(alloc, command, "boards", BOARDS);
+    let command = with_first(alloc, command);
+    with_line(alloc, command)
 }
 
 // Returns `NAME [--workers N] [--table N] [--progress] FILE..`.
@@ -155,26 +194,26 @@ fn answers_command<'a>(
     name: &'a str,
     about: &'a str,
     long_help: &'a str,
-) -> Result<Command<'a>, AllocError>
-    ensures { IfOk result (λ c. app_of c ≡ answers_app name.entry.now) }
+) -> MadeCommand<'a>
+    ensures { IsMadeAs (answers_app name.entry.now) result }
 {
     let command = subcommand(alloc, name, about, long_help);
-    let command = with_arg(command, workers_arg(alloc))?;
-    let command = with_arg(command, table_arg(alloc, TABLE_OF_WORKERS))?;
-    let command = with_arg(command, flag_arg(alloc, "progress", PROGRESS))?;
-    with_arg(command, file_arg(alloc))
+    let command = with_workers(alloc, command);
+    let command = with_table(alloc, command, TABLE_OF_WORKERS);
+    let command = with_flag(alloc, command, "progress", PROGRESS);
+    with_files(alloc, command)
 }
 
 // Returns `ask [--values] [--steps] [--table N]`.
-fn ask_command<'a>(alloc: Global) -> Result<Command<'a>, AllocError>
-    ensures { IfOk result (λ c. app_of c ≡ ask_app) }
+fn ask_command<'a>(alloc: Global) -> MadeCommand<'a>
+    ensures { IsMadeAs ask_app result }
 {
     let about = "Answers each line of standard input before it reads the next";
     let command = subcommand(alloc, "ask", about, help::LONG_OF_ASK);
     let help = "prints what each move is worth, as `values`";
-    let command = with_arg(command, flag_arg(alloc, "values", help))?;
+    let command = with_flag(alloc, command, "values", help);
     let help = "prints each legal move, as `steps`, with `; ` between any two";
-    let command = with_arg(command, flag_arg(alloc, "steps", help))?;
+    let command = with_flag(alloc, command, "steps", help);
     let help = "table entries of the search, 1 to 1048576 [default: 65536]";
     with_arg(
         command,
@@ -183,64 +222,65 @@ fn ask_command<'a>(alloc: Global) -> Result<Command<'a>, AllocError>
 }
 
 // Returns `show [--plain] [--table N] LINE`.
-fn show_command<'a>(alloc: Global) -> Result<Command<'a>, AllocError>
-    ensures { IfOk result (λ c. app_of c ≡ show_app) }
+fn show_command<'a>(alloc: Global) -> MadeCommand<'a>
+    ensures { IsMadeAs show_app result }
 {
     let about = "Draws a position, and below each house what its move is worth";
     let command = subcommand(alloc, "show", about, help::LONG_OF_SHOW);
     let help = "draws the position alone, and searches nothing";
-    let command = with_arg(command, flag_arg(alloc, "plain", help))?;
-    let command = with_arg(command, table_arg(alloc, TABLE_OF_ONE))?;
-    with_arg(command, line_arg(alloc))
+    let command = with_flag(alloc, command, "plain", help);
+    let command = with_table(alloc, command, TABLE_OF_ONE);
+    with_line(alloc, command)
 }
 
 // Returns `count DEPTH LINE`.
-fn count_command<'a>(alloc: Global) -> Result<Command<'a>, AllocError>
-    ensures { IfOk result (λ c. app_of c ≡ count_app) }
+fn count_command<'a>(alloc: Global) -> MadeCommand<'a>
+    ensures { IsMadeAs count_app result }
 {
     let about = "Counts the ways to play on from a position, for each first move";
     let command = subcommand(alloc, "count", about, help::LONG_OF_COUNT);
     let help = "how many moves each way has, 0 to 20";
-    let depth = value_arg(alloc, "depth", "DEPTH", help)
-        .value_parser(ValueParser::unsigned(0, MOST_DEPTH as u64))
-        .required(true);
-    let command = with_arg(command, depth)?;
-    with_arg(command, line_arg(alloc))
+    let depth = ranged_arg(alloc, "depth", "DEPTH", help, 0, MOST_DEPTH as u64).required(true);
+    let command = with_arg(command, depth);
+    with_line(alloc, command)
 }
 
 // Returns `steps [--workers N] [--progress] FILE..`.
-fn steps_command<'a>(alloc: Global) -> Result<Command<'a>, AllocError>
-    ensures { IfOk result (λ c. app_of c ≡ steps_app) }
+fn steps_command<'a>(alloc: Global) -> MadeCommand<'a>
+    ensures { IsMadeAs steps_app result }
 {
     let command = subcommand(alloc, "steps", ABOUT_STEPS, help::LONG_OF_STEPS);
-    let command = with_arg(command, workers_arg(alloc))?;
-    let command = with_arg(command, flag_arg(alloc, "progress", PROGRESS))?;
-    with_arg(command, file_arg(alloc))
+    let command = with_workers(alloc, command);
+    let command = with_flag(alloc, command, "progress", PROGRESS);
+    with_files(alloc, command)
 }
 
 // Returns the program without a subcommand, which must be given one later. If the version is asked for, `refuse` writes it.
-fn program<'a>(alloc: Global) -> Command<'a>
-    ensures { app_of result ≡ program_app }
+fn program<'a>(alloc: Global) -> MadeCommand<'a>
+    ensures { IsMadeAs program_app result }
 {
     let about = "Solves small positions of Kalah: the best house and the margin of best play";
-    Command::new(alloc, "kalah")
+    Ok(Command::new(alloc, "kalah")
         .about(about)
         .version(VERSION_LINE)
         .after_help(help::SHORT)
         .after_long_help(help::LONG)
         .subcommand_required(true)
-        .disable_help_subcommand(true)
+        .disable_help_subcommand(true))
 }
 
-// Returns the command with one more subcommand.
-fn with_command<'a>(
-    command: Command<'a>,
-    subcommand: Command<'a>,
-) -> Result<Command<'a>, AllocError>
-    requires { (app_of subcommand).top.is_plain ≡ true }
-    ensures { IfOk result (λ c. app_of c ≡ with_subcommand (app_of command.entry) (app_of subcommand.entry).top) }
+// Adds a subcommand that was made.
+fn with_made<'a>(command: MadeCommand<'a>, subcommand: Command<'a>) -> MadeCommand<'a>
+    ensures { AddsSubcommand (Ok subcommand.entry) command.entry result }
 {
-    command.subcommand(subcommand)
+    command?.subcommand(subcommand)
+}
+
+// Adds a subcommand.
+fn with_command<'a>(command: MadeCommand<'a>, subcommand: MadeCommand<'a>) -> MadeCommand<'a>
+    ensures { AddsSubcommand subcommand.entry command.entry result }
+{
+    with_made(command, subcommand?)
 }
 
 /// Returns the command line of the program. It is complete: nothing is added to it before a parse.
@@ -259,14 +299,14 @@ fn with_command<'a>(
 pub fn command<'a>(alloc: Global) -> Result<Command<'a>, AllocError>
     ensures { IfOk result (λ c. app_of c ≡ kalah_app) }
 {
-    let command = with_command(program(alloc), moves_command(alloc)?)?;
-    let command = with_command(command, play_command(alloc)?)?;
-    let solve = answers_command(alloc, "solve", ABOUT_SOLVE, help::LONG_OF_SOLVE)?;
-    let command = with_command(command, solve)?;
-    let values = answers_command(alloc, "values", ABOUT_VALUES, help::LONG_OF_VALUES)?;
-    let command = with_command(command, values)?;
-    let command = with_command(command, ask_command(alloc)?)?;
-    let command = with_command(command, steps_command(alloc)?)?;
-    let command = with_command(command, show_command(alloc)?)?;
-    with_command(command, count_command(alloc)?)
+    let command = with_command(program(alloc), moves_command(alloc));
+    let command = with_command(command, play_command(alloc));
+    let solve = answers_command(alloc, "solve", ABOUT_SOLVE, help::LONG_OF_SOLVE);
+    let command = with_command(command, solve);
+    let values = answers_command(alloc, "values", ABOUT_VALUES, help::LONG_OF_VALUES);
+    let command = with_command(command, values);
+    let command = with_command(command, ask_command(alloc));
+    let command = with_command(command, steps_command(alloc));
+    let command = with_command(command, show_command(alloc));
+    with_command(command, count_command(alloc))
 }

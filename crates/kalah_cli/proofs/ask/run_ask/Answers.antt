@@ -1,5 +1,5 @@
 use Rattle.std.proofs.Common.{refl, rules}
-use Rattle.kalah_cli.proofs.Begun.{lines_answered, lines_begun, lines_cut_off}
+use Rattle.kalah_cli.proofs.Begun.{lines_answered, lines_begun, lines_cut_off, stops_before_lines}
 use Rattle.kalah_cli.proofs.ask.run_ask.Goals as goal
 
 pub returns-in-Ok-true-clause-asked : goal.returns-in-Ok-true-clause-asked
@@ -25,3 +25,9 @@ returns-clause-begins g c = lines_begun c.in-Ok-reading_ahead.ensures c.answer_l
 pub returns-in-Err-Read-clause-stopped : goal.returns-in-Err-Read-clause-stopped
 returns-in-Err-Read-clause-stopped g c = λ _ _. lines_cut_off c.in-Ok-reading_ahead.ensures
     (c.answer_lines.ensures.cut_off (search rules))
+
+pub returns-in_default-reading_ahead-clause-stopped : goal.returns-in_default-reading_ahead-clause-stopped
+returns-in_default-reading_ahead-clause-stopped g c = λ _ _. stops_before_lines _ _ _
+
+pub returns-in_default-clause-stopped : goal.returns-in_default-clause-stopped
+returns-in_default-clause-stopped g c = λ _ _. stops_before_lines _ _ _

@@ -1,9 +1,9 @@
-use Rattle.std.proofs.Common.{◌≡◌, map, rules, subst, sym}
+use Rattle.std.proofs.Common.{◌≡◌, ◌∷◌, false, map, rules, subst, sym}
 use Rattle.clap.specs.Words.{HasKind, fault_of, kind_of}
 use Rattle.clap.specs.declared.error.Error.{Error}
 use Rattle.clap.specs.declared.error.kind.ErrorKind.TheVariants.{OutOfMemory}
 use Rattle.kalah_cli.specs.Command.{kalah_app}
-use Rattle.kalah_cli.specs.Request.{Asked, IsTakenAs}
+use Rattle.kalah_cli.specs.Request.{Asked, IsTakenAs, answers, asked_for, moves, table_of}
 use Rattle.kalah_cli.proofs.Laws.{moves_taken, taken_at, taken_once}
 use Rattle.kalah_cli.proofs.Parsed.{asked_is, by_memory_alone, faulty, if_error, on_error, parsed}
 use Rattle.kalah_cli.proofs.ManyWords.{files_taken}
@@ -69,3 +69,21 @@ pub returns-in_err-matches-clause-files : goal.returns-in_err-matches-clause-fil
 returns-in_err-matches-clause-files g c = λ question name file files is plain.
     on_error _ _ _ _ c.from_residual-in_err-matches.ensures.1 (λ e same. refused g c e same _
     (taken_at is (files_taken question name file files plain)))
+
+pub returns-in_err-requested-clause-refused : goal.returns-in_err-requested-clause-refused
+returns-in_err-requested-clause-refused g c =
+    let words = map g.S.AsStr.text c.args.words.now in
+    if_error c.from_residual-in_err-requested.result (λ e. kind_of e ≡ OutOfMemory)
+    (λ e. (a : Asked) → IsTakenAs words a → kind_of e ≡ OutOfMemory) c.from_residual-in_err-requested.ensures.1
+    (λ e memory a taken. memory)
+
+pub returns-in_err-requested-clause-moves : goal.returns-in_err-requested-clause-moves
+returns-in_err-requested-clause-moves g c = λ name line is plain.
+    on_error c.from_residual-in_err-requested.result (λ r. asked_for r ≡ moves false line) (λ e. kind_of e ≡ OutOfMemory)
+    (λ e. kind_of e ≡ OutOfMemory) c.from_residual-in_err-requested.ensures.1 (λ e memory. memory)
+
+pub returns-in_err-requested-clause-files : goal.returns-in_err-requested-clause-files
+returns-in_err-requested-clause-files g c = λ question name file files is plain.
+    on_error c.from_residual-in_err-requested.result
+    (λ r. asked_for r ≡ answers question 4 (table_of question) false (file ∷ files)) (λ e. kind_of e ≡ OutOfMemory)
+    (λ e. kind_of e ≡ OutOfMemory) c.from_residual-in_err-requested.ensures.1 (λ e memory. memory)
