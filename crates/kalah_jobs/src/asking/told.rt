@@ -40,7 +40,6 @@ fn find<O: Sink>(entry: Entry, solver: &mut Solver, out: &O) -> Answer
 }
 
 // Writes the answer to a line, and a line feed, and returns whether the line was read.
-#[tactic(auto, using(crate::proofs::FilesLemmas::Faults::asked_fault))]
 pub(crate) fn tell<O: Sink>(
     line: &LineHead,
     question: Question,

@@ -72,7 +72,6 @@ impl Arrivals {
     }
 
     // Stores the answer of a line, and returns how many lines became ready.
-    #[tactic(auto, using(crate::proofs::Fronts::front_set, crate::proofs::Fronts::front_within, crate::proofs::Fronts::front_more))]
     pub(crate) fn accept(&mut self, line: u32, answer: Answer) -> u32
         requires within { line < line_count self.old }
         requires first { came_for self.old line ≡ None }
@@ -90,7 +89,6 @@ impl Arrivals {
     }
 
     // Returns the next line that is ready and was not taken.
-    #[tactic(auto, using(crate::proofs::Fronts::front_within, crate::proofs::Fronts::front_came))]
     pub(crate) fn take(&mut self) -> Option<Taken>
         ensures { MatchOption result (HasNoNext self.old × (self.new ≡ self.old))
             (λ taken. IsNext self.old taken × (self.new ≡ with_one_taken self.old)) }

@@ -34,7 +34,6 @@ impl Collector {
     /// Makes a collector for these jobs, to which nothing has come. It allocates all its memory here.
     ///
     /// Fails with `AllocError` only if memory was refused.
-    #[tactic(auto, using(crate::proofs::CollectingLemmas::CollectorRuns::new_counts))]
     pub fn new(alloc: Global, jobs: &Jobs) -> Result<Collector, AllocError>
         ensures empty { IfOk result (λ c. c ≡ new_files jobs.now) }
         ensures counts { IfOk result (λ c. HasLinesOf jobs.now c) }
@@ -51,7 +50,6 @@ impl Collector {
     ///
     /// Fails with the first `Refusal` that holds, and then changes nothing: `NoSuchFile`, `FileEnded`, `NoSuchLine`, `WrongPosition`,
     /// `Double`.
-    #[tactic(auto, using(crate::proofs::CollectingLemmas::CollectorSteps::counts))]
     pub fn offer(&mut self, jobs: &Jobs, outcome: Outcome) -> Result<u32, Refusal>
         requires { HasLinesOf jobs.now self.old }
         ensures offers { Offers jobs.now self.old outcome result self.new }
@@ -79,7 +77,6 @@ impl Collector {
 
     /// Takes the first line of a file that is ready and was not taken, with its answer. Returns `None`, with nothing changed, if there
     /// is no such line or no such file.
-    #[tactic(auto, using(crate::proofs::CollectingLemmas::CollectorSteps::counts))]
     pub fn take(&mut self, f: u32) -> Option<Taken>
         ensures takes { Takes self.old f result self.new }
         ensures counts { map line_count self.new ≡ map line_count self.old }

@@ -5,7 +5,6 @@ ghost use Rattle.kalah_jobs.specs.Line.Front.{BeginsWithNumber, EndsNumber};
 
 // Returns the number at the front of some bytes, and the bytes after it. It is `0`, or one or two digits that do not start with `0`.
 // Returns `None` if there is none.
-#[tactic(auto, using(crate::proofs::LineLemmas::Front::numbers_in_front))]
 #[inline(always)]
 pub(crate) fn take_number(bytes: &[u8]) -> Option<(u8, &[u8])>
     ensures is { IfSome result (λ found. BeginsWithNumber bytes.now found.0 found.1.now) }

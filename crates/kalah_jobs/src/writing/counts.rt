@@ -11,7 +11,6 @@ use std::io;
 
 /// Writes a house, which is at most 6, and the number of ways to play on after its move, as the line `1 42`. It allocates
 /// nothing. It fails exactly when the sink has failed afterwards; then a prefix of the line was written, and nothing else.
-#[tactic(auto, using(crate::proofs::WritingLemmas::Lengths::number_length, crate::proofs::WritingLemmas::Lengths::byte_length))]
 pub fn write_ways<W: Sink>(out: &mut W, house: u8, ways: u64) -> Result<(), io::Error>
     requires ready { W.has_failed out.old ≡ false }
     requires house { house ≤ most_houses }
@@ -29,7 +28,6 @@ pub fn write_ways<W: Sink>(out: &mut W, house: u8, ways: u64) -> Result<(), io::
 
 /// Writes the number of all ways to play on, as the line `total 42`. It allocates nothing. It fails exactly when the sink has
 /// failed afterwards; then a prefix of the line was written, and nothing else.
-#[tactic(auto, using(crate::proofs::WritingLemmas::Lengths::number_length))]
 pub fn write_total<W: Sink>(out: &mut W, ways: u64) -> Result<(), io::Error>
     requires { W.has_failed out.old ≡ false }
     ensures fails { IsErr result ↔ (W.has_failed out.new ≡ true) }

@@ -8,7 +8,6 @@ use crate::writing::stack_text::StackText;
 use std::io;
 
 // Writes the name and then the text, each by one call of the sink.
-#[tactic(auto, using(crate::proofs::WritingLemmas::Starts::starts))]
 #[cold]
 #[inline(never)]
 fn write_apart<W: Sink>(out: &mut W, name: &str, text: &StackText) -> Result<(), io::Error>

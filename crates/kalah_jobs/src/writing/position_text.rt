@@ -17,7 +17,6 @@ use std::alloc::{AllocError, Global};
 use std::io;
 
 // Puts a player's houses, a slash and the player's store in front of the text.
-#[tactic(auto, using(crate::proofs::WritingLemmas::Joined::joins, crate::proofs::WritingLemmas::Lengths::byte_length))]
 fn prepend_side(text: &mut StackText, board: &Board, player: Player)
     requires { length text.old + 27 ≤ ROOM }
     ensures side { text.new ≡ side_text (houses_of player board.now) (store_of player board.now) ++ text.old }

@@ -16,7 +16,6 @@ use kalah_solve::{MoveValue, MoveValues};
 use std::io;
 
 // Puts the value of a move, at the right of a column, in front of the text.
-#[tactic(auto, using(crate::proofs::WritingLemmas::Shown::value_room))]
 fn prepend_value_cell(text: &mut StackText, value: MoveValue)
     requires small { IsSmallMargin value.value }
     requires room { length text.old + 11 ≤ ROOM }

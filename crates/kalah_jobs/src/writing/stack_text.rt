@@ -101,7 +101,6 @@ impl StackText {
     }
 
     // Puts a margin in digits, with `-` before it if it is negative, in front of the text.
-    #[tactic(auto, using(crate::proofs::WritingLemmas::Lengths::margin_length))]
     #[inline]
     pub(crate) fn prepend_margin(&mut self, margin: i32)
         requires { length self.old + 11 ≤ ROOM }

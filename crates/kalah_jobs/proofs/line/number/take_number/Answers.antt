@@ -1,5 +1,5 @@
 use Rattle.std.proofs.Common.{◌≡◌, ◌∷◌, ap, ◌∙◌, arith, length, sym}
-use Rattle.kalah_jobs.proofs.LineLemmas.Front.{after_one, after_two, has_digit}
+use Rattle.kalah_jobs.proofs.LineLemmas.Front.{after_one, after_two, has_digit, has_bytes, one_digit, two_digits}
 use Rattle.kalah_jobs.proofs.line.number.take_number.Goals.{in_default-via-in-Some+then-high-gt0+else-is_ascii_digit, in_default-via-in-Some+else-high-gt0, in_default-via-in_default}
 use Rattle.kalah_jobs.proofs.line.number.take_number.Goals as goal
 
@@ -24,3 +24,12 @@ returns-in_default-clause-every c n rest ends begins =
       | in_default-via-in-Some+else-high-gt0 w ↦ high (omega (arith, w.if-high-gt0.false, c.if-not-is_ascii_digit.ensures.cases))
       | in_default-via-in_default w ↦ omega (arith, ap length is, w.in_default.ensures.cases)
     ])
+
+pub returns-in_err-first-clause-every : goal.returns-in_err-first-clause-every
+returns-in_err-first-clause-every c n rest ends begins = grind (arith, has_bytes begins)
+
+pub returns-in-Some-clause-is : goal.returns-in-Some-clause-is
+returns-in-Some-clause-is c = grind (arith, two_digits)
+
+pub returns-in_default-clause-is : goal.returns-in_default-clause-is
+returns-in_default-clause-is c = grind (arith, one_digit)

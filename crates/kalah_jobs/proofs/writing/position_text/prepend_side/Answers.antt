@@ -1,8 +1,9 @@
 use Rattle.std.proofs.Common.{◌-◌, ◌++◌, ◌∷◌, ℕ, List, ap, ap₂, ◌∙◌, arith, decimal, refl}
+use Rattle.std.proofs.lemmas.Grind.{common_steps}
 use Rattle.kalah_rules.specs.Position.{seeds}
 use Rattle.kalah_jobs.specs.Line.Line.{comma, slash}
 use Rattle.kalah_jobs.specs.Writing.Player.{houses_of, store_of}
-use Rattle.kalah_jobs.proofs.WritingLemmas.Joined.{before_those}
+use Rattle.kalah_jobs.proofs.WritingLemmas.Joined.{before_those, joins}
 use Rattle.kalah_jobs.proofs.WritingLemmas.Lengths.{byte_length}
 use Rattle.kalah_jobs.proofs.writing.position_text.prepend_side.Goals as goal
 
@@ -30,3 +31,21 @@ loop-i-preserved c =
         byte_length c.from-in-loop-i.result (omega (arith, c.from-in-loop-i.ensures, c.seeds-in-loop-i.type_inv)),
       );
     }
+
+pub prepend_number-requires : goal.prepend_number-requires
+prepend_number-requires c = grind (arith, byte_length)
+
+pub prepend-requires : goal.prepend-requires
+prepend-requires c = grind (arith, byte_length)
+
+pub prepend_number-requires-2 : goal.prepend_number-requires-2
+prepend_number-requires-2 c = grind (arith, byte_length)
+
+pub loop-i-init : goal.loop-i-init
+loop-i-init c = grind (arith, common_steps, joins, byte_length)
+
+pub prepend_number-requires-in-loop-i : goal.prepend_number-requires-in-loop-i
+prepend_number-requires-in-loop-i c = grind (arith, byte_length)
+
+pub returns-clause-side : goal.returns-clause-side
+returns-clause-side c = grind (arith, common_steps, joins)

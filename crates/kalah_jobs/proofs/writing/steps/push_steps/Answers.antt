@@ -1,5 +1,6 @@
 use Rattle.std.proofs.Common.{◌≡◌, ◌++◌, ◌<◌, ◌∙◌, ℕ, List, ap, ap₂, append_assoc, append-nil, take, arith, length, sym}
 use Rattle.std.specs.Prelude.{string_bytes}
+use Rattle.std.proofs.lemmas.Grind.{common_steps}
 use Rattle.kalah_rules.specs.Play.{step_of}
 use Rattle.kalah_jobs.specs.Line.Line.{step_text_of}
 use Rattle.kalah_jobs.proofs.WritingLemmas.StepLines.{joined_lines, line_more}
@@ -35,3 +36,6 @@ loop-i-preserved c =
           (ap₂ (λ b s. joined_lines place text (take c.loop-i.i moves) ++ (b ++ (place ++ s))) c.before_line.ensures step
           ∙ sym (line_more place text moves c.loop-i.i low));
     }
+
+pub returns : goal.returns
+returns c = grind (arith, common_steps)

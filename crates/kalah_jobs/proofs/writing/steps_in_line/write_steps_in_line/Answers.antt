@@ -1,5 +1,6 @@
 use Rattle.std.proofs.Common.{◌≡◌, ◌++◌, ◌∷◌, [], ◌+◌, ◌<◌, ◌∙◌, ℕ, List, add-one, ap, append_assoc, arith, length, subst, sym, take}
 use Rattle.std.specs.Io.KnownBytes.{Appends}
+use Rattle.std.proofs.lemmas.Grind.{common_steps}
 use Rattle.std.proofs.KnownBytes.{Appends-trans}
 use Rattle.std.proofs.lemmas.Bool.{false_from_ne_true, false≢true}
 use Rattle.std.proofs.lemmas.List.{take_all}
@@ -45,3 +46,6 @@ returns-clause-start g c =
     let all = take_all c.loop-i.i moves (omega (arith, c.loop-i-test.false, c.len-i-end.ensures)) ∙ c.loop-i.invariant.same in
     start_then _ _ _ _ (texts_in_line text (take c.loop-i.i moves)) (line_feed ∷ [])
     (ap (λ ms. texts_in_line text ms ++ line_feed ∷ []) (sym all)) c.loop-i.invariant.adds c.write_all.ensures.start
+
+pub returns-clause-adds : goal.returns-clause-adds
+returns-clause-adds g c = grind (arith, common_steps)

@@ -1,5 +1,6 @@
 use Rattle.std.proofs.Common.{◌≡◌, ℕ, ◌-◌, List, ◌++◌, Bor, arith, length, sym, subst, ap, ◌∙◌, append_assoc, take, drop}
 use Rattle.std.specs.Io.KnownBytes.{WriteAppends}
+use Rattle.std.proofs.lemmas.Grind.{common_steps}
 use Rattle.std.proofs.KnownBytes.{Appends-kept, Appends-trans}
 use Rattle.std.proofs.lemmas.List.{length-drop, take-append-drop, take_all}
 use Rattle.kalah_jobs.proofs.WritingLemmas.Starts.{start_kept_all, start_none, start_then}
@@ -49,3 +50,6 @@ pub returns-clause-start : goal.returns-clause-start
 returns-clause-start g c =
     let so_far = c.loop.invariant in
     start_then _ _ _ _ so_far.0 c.loop.rest.now so_far.1 so_far.2 (start_none _ _)
+
+pub returns-then-is_empty-clause-adds : goal.returns-then-is_empty-clause-adds
+returns-then-is_empty-clause-adds g c = grind (arith, common_steps)

@@ -1,6 +1,7 @@
 use Rattle.std.proofs.Common.{◌≤◌, ap, arith, rules}
+use Rattle.std.proofs.lemmas.Grind.{common_steps}
 use Rattle.kalah_jobs.specs.Collecting.CollectorState.{front, front_of}
-use Rattle.kalah_jobs.proofs.Fronts.{front_stops, front_within}
+use Rattle.kalah_jobs.proofs.Fronts.{front_stops, front_within, front_set, front_more}
 use Rattle.kalah_jobs.proofs.collecting.arrivals.Arrivals.accept.Goals.{then-loop-self-test+else-is_some, else-loop-self-test}
 use Rattle.kalah_jobs.proofs.collecting.arrivals.Arrivals.accept.Goals as goal
 
@@ -15,3 +16,12 @@ invariant_of-self c =
 pub returns-clause-more_ready : goal.returns-clause-more_ready
 returns-clause-more_ready c =
     omega (arith, (invariant_of-self c).0, c.loop-self.invariant.low, c.self.invariant.0, ap front c.self.view_is)
+
+pub loop-self-init : goal.loop-self-init
+loop-self-init c = grind (arith, front_set)
+
+pub overflow_cast-self-inside : goal.overflow_cast-self-inside
+overflow_cast-self-inside c = grind (arith, front_within)
+
+pub loop-self-preserved : goal.loop-self-preserved
+loop-self-preserved c = grind (arith, common_steps, front_more)

@@ -1,7 +1,8 @@
 use Rattle.std.proofs.Common.{◌≡◌, ◌<◌, ◌∙◌, length, List, ap, sym, arith}
+use Rattle.std.proofs.lemmas.Grind.{common_steps}
 use Rattle.std.proofs.lemmas.List.{get_or_default}
 use Rattle.kalah_jobs.specs.Collecting.CollectorState.{FileState, no_file, state_of, line_count}
-use Rattle.kalah_jobs.proofs.CollectingLemmas.CollectorSteps.{lines_are}
+use Rattle.kalah_jobs.proofs.CollectingLemmas.CollectorSteps.{lines_are, counts}
 use Rattle.kalah_jobs.proofs.collecting.collector.Collector.offer.Goals as goal
 
 pub entry-own-requires-clause-line : goal.entry-own-requires-clause-line
@@ -25,3 +26,36 @@ entry-own-requires-clause-line c =
     let line_1 = c.line.ensures in
     let line_2 = c.line-2.ensures in
     omega arith
+
+pub returns-then-ended-clause-offers : goal.returns-then-ended-clause-offers
+returns-then-ended-clause-offers c = grind (arith, common_steps)
+
+pub returns-then-ended-clause-counts : goal.returns-then-ended-clause-counts
+returns-then-ended-clause-counts c = grind (arith, counts)
+
+pub returns-then-not-has_line-clause-offers : goal.returns-then-not-has_line-clause-offers
+returns-then-not-has_line-clause-offers c = grind (arith, common_steps)
+
+pub returns-then-not-has_line-clause-counts : goal.returns-then-not-has_line-clause-counts
+returns-then-not-has_line-clause-counts c = grind (arith, counts)
+
+pub entry-own-requires-clause-file : goal.entry-own-requires-clause-file
+entry-own-requires-clause-file c = grind (arith, common_steps, counts)
+
+pub returns-then-not-is_same_entry-clause-offers : goal.returns-then-not-is_same_entry-clause-offers
+returns-then-not-is_same_entry-clause-offers c = grind (arith, common_steps)
+
+pub returns-then-not-is_same_entry-clause-counts : goal.returns-then-not-is_same_entry-clause-counts
+returns-then-not-is_same_entry-clause-counts c = grind (arith, counts)
+
+pub returns-then-has_come-clause-offers : goal.returns-then-has_come-clause-offers
+returns-then-has_come-clause-offers c = grind (arith, common_steps)
+
+pub returns-then-has_come-clause-counts : goal.returns-then-has_come-clause-counts
+returns-then-has_come-clause-counts c = grind (arith, counts)
+
+pub returns-clause-offers : goal.returns-clause-offers
+returns-clause-offers c = grind (arith, common_steps)
+
+pub returns-clause-counts : goal.returns-clause-counts
+returns-clause-counts c = grind (arith, counts)

@@ -1,4 +1,5 @@
 use Rattle.std.proofs.Common.{◌∙◌, ◌+◌, [], ◌∷◌, ◌++◌, take, rules, ap, sym, subst, length, arith}
+use Rattle.std.proofs.lemmas.Grind.{common_steps}
 use Rattle.std.proofs.lemmas.List.{take_all}
 use Rattle.std.proofs.lemmas.List.Sums.{count_by-le-length}
 use Rattle.kalah_jobs.specs.Files.NamedBytes.{NamedBytes}
@@ -69,3 +70,9 @@ invariant_of-result c =
     let counted = subst (λ jobs. AreCounted jobs c.loop-file.offsets.items c.loop-file.entries.items)
     (sym are) c.loop-file.invariant.counted in
     ((subst AreFew (sym (are ∙ all)) few, counted), c.loop-file.invariant.faults)
+
+pub overflow_add-faults : goal.overflow_add-faults
+overflow_add-faults c = grind (arith, common_steps)
+
+pub push_reserved-requires-in-loop-file : goal.push_reserved-requires-in-loop-file
+push_reserved-requires-in-loop-file c = grind (arith, common_steps)

@@ -1,4 +1,5 @@
 use Rattle.std.proofs.Common.{◌∷◌, ◌∙◌, length, refl, sym, subst, ap, arith}
+use Rattle.std.proofs.lemmas.Grind.{common_steps}
 use Rattle.kalah_rules.specs.Position.{Position}
 use Rattle.kalah_jobs.specs.Line.Line.{ending_of}
 use Rattle.kalah_jobs.specs.Line.Front.{BeginsWithSide}
@@ -63,3 +64,6 @@ returns-clause-is c =
         line_of_sides p own.1.1 mark rest,
       ),
     )
+
+pub take-requires-2 : goal.take-requires-2
+take-requires-2 c = grind (arith, common_steps)

@@ -1,4 +1,5 @@
 use Rattle.std.proofs.Common.{◌∷◌, ◌++◌, [], arith}
+use Rattle.std.proofs.lemmas.Grind.{common_steps}
 use Rattle.kalah_jobs.proofs.LineLemmas.Front.{has_bytes}
 use Rattle.kalah_jobs.proofs.LineLemmas.Sides.{begins_taking, house_follows, store_follows, takes_number}
 use Rattle.kalah_jobs.proofs.line.side.Side.take.Goals as goal
@@ -28,3 +29,6 @@ loop-seeds-preserved c =
     (takes_number c.in_ok-seeds.ensures.is c.in_ok-seeds.ensures.every c.push.ensures.houses c.push.ensures.one
     c.in_ok-mark.ensures.cases.0)
     c.if-mark-ne44.false
+
+pub loop-seeds-smaller : goal.loop-seeds-smaller
+loop-seeds-smaller c = grind (arith, common_steps)

@@ -10,3 +10,15 @@ invariant_of-self c = (
   piece_before _ c.args.piece.now (drop c.self.inside.start c.self.inside.bytes) (grind (arith, common_steps)) c.utf8.piece
       c.self.invariant.2,
 )
+
+pub overflow_sub-self : goal.overflow_sub-self
+overflow_sub-self c = grind (arith, common_steps)
+
+pub copy_from_slice-requires : goal.copy_from_slice-requires
+copy_from_slice-requires c = grind (arith, common_steps)
+
+pub returns-clause-piece : goal.returns-clause-piece
+returns-clause-piece c = grind (arith, common_steps)
+
+pub returns-clause-longer : goal.returns-clause-longer
+returns-clause-longer c = grind (arith, common_steps)

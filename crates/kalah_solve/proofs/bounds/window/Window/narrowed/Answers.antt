@@ -31,3 +31,18 @@ returns-else-hi-lo-clause-some c = λ z holds.
       holds.low,
       holds.high,
     )
+
+pub overflow_cast-known : goal.overflow_cast-known
+overflow_cast-known c = search rules
+
+pub overflow_cast-known-2 : goal.overflow_cast-known-2
+overflow_cast-known-2 c = search rules
+
+pub invariant_of-result : goal.invariant_of-result
+invariant_of-result c = search rules
+
+pub returns-else-hi-lo-clause-within_known : goal.returns-else-hi-lo-clause-within_known
+returns-else-hi-lo-clause-within_known c = search rules
+
+pub returns-else-hi-lo-clause-none : goal.returns-else-hi-lo-clause-none
+returns-else-hi-lo-clause-none c = search rules
