@@ -38,10 +38,12 @@ fn subcommand<'a>(
 ) -> MadeCommand<'a>
     ensures { IsMadeAs (new_app name.entry.now) result }
 {
-    Ok(Command::new(alloc, name)
-        .about(about)
-        .after_help(help::SHORT_OF_SUBCOMMAND)
-        .after_long_help(long_help))
+    Ok(
+        Command::new(alloc, name)
+            .about(about)
+            .after_help(help::SHORT_OF_SUBCOMMAND)
+            .after_long_help(long_help),
+    )
 }
 
 // Returns the command with one more argument, which no subcommand inherits.
@@ -260,13 +262,15 @@ fn program<'a>(alloc: Global) -> MadeCommand<'a>
     ensures { IsMadeAs program_app result }
 {
     let about = "Solves small positions of Kalah: the best house and the margin of best play";
-    Ok(Command::new(alloc, "kalah")
-        .about(about)
-        .version(VERSION_LINE)
-        .after_help(help::SHORT)
-        .after_long_help(help::LONG)
-        .subcommand_required(true)
-        .disable_help_subcommand(true))
+    Ok(
+        Command::new(alloc, "kalah")
+            .about(about)
+            .version(VERSION_LINE)
+            .after_help(help::SHORT)
+            .after_long_help(help::LONG)
+            .subcommand_required(true)
+            .disable_help_subcommand(true),
+    )
 }
 
 // Adds a subcommand that was made.
