@@ -10,16 +10,16 @@ JOBS ?= $(shell awk -v all="$$(nproc)" '/^MemTotal/ { some = int($$2 / 2000000);
 all: kalah
 
 kalah: FORCE
-	cd crates/kalah_cli && rt run --jobs $(JOBS) -- moves '1,1/0 1,1/0' > /dev/null
-	cp crates/kalah_cli/out/kalah_cli kalah
+	JOBS=$(JOBS) packaging/build
 
 FORCE:
 
-# Before the proofs: runs the program with the toolchain's run-time checks, on one position and on a file.
+# Before the proofs: compiles the program with the toolchain's run-time checks, and runs it on one position and on a file. `--steps 0`
+# leaves out a second run, on an interpreter, which takes as long again.
 try:
 	@echo "Nothing is proved yet: \`make\` does that. Each of these takes up to a minute."
-	cd crates/kalah_cli && rt try -- moves '1,1/0 1,1/0'
-	cd crates/kalah_cli && rt try --data examples/first.txt=../../examples/first.txt -- solve examples/first.txt
+	cd crates/kalah_cli && rt try --steps 0 -- moves '1,1/0 1,1/0'
+	cd crates/kalah_cli && rt try --steps 0 --data examples/first.txt=../../examples/first.txt -- solve examples/first.txt
 
 # While you work: proves and tests what has changed, over the results that earlier checks kept; with CRATES=.. up to these crates alone.
 check:
