@@ -25,11 +25,16 @@ def read_soon(reader, size):
     return got
 
 
+def piece_in(reader, wait=0.0):
+    """Reads what there is, or nothing if nothing comes within the seconds of `wait`."""
+    return os.read(reader, 1 << 16) if select.select([reader], [], [], wait)[0] else b""
+
+
 def read_piece(reader):
     """Reads what there is, once something has come, or nothing if nothing comes soon."""
     end = time.monotonic() + SOON
     while time.monotonic() < end:
-        if select.select([reader], [], [], 0.01)[0] and (piece := os.read(reader, 1 << 16)):
+        if piece := piece_in(reader, 0.01):
             return piece
         # The end of a file, so far.
         time.sleep(0.001)

@@ -19,7 +19,7 @@ from pathlib import Path
 
 from lib import reference
 from lib.asked import ASK_KINDS, AskTrials
-from lib.differing import SOON, Differs, read_piece, read_soon
+from lib.differing import SOON, Differs, piece_in, read_piece, read_soon
 from lib.drawn import BYTES, DEPTHS, FILES, LINES, LINES_OF_MOVES, LONG_GAME, NO_FILES, PLAIN, SEARCHING, SUBCOMMANDS, TABLES, Drawn
 from lib.reference import Run
 
@@ -128,6 +128,12 @@ FIRST_ANSWERS = list(product(["pipe", "terminal", "file"], [1, 64, 65, 1000]))
 
 # Runs whose output soon takes no more: after a first line, or at once.
 NO_READER_IS_LEFT = list(product(SEARCHING, ["1", "4"], ["pipe", "/dev/full"]))
+
+# The numbers of workers of a run whose reader leaves late.
+LEFT_AFTER_A_PAUSE = [64, 8]
+
+# A line that takes no time.
+EASY = b"1,1/0 1,1/0\n"
 
 # Where the first position of a game, or a picture, is read; its first move takes a second with a table of one entry.
 FIRST_PICTURES = list(product(["pipe", "terminal", "file"], [["play", "--boards"], ["show"]]))
@@ -249,6 +255,11 @@ def ticks_of(process):
             numbers = (thread / "stat").read_text().rpartition(")")[2].split()
             ticks[int(thread.name)] = int(numbers[11]) + int(numbers[12])
     return ticks
+
+
+def spent_by(process):
+    """Returns the processor time of the process's first thread, in nanoseconds."""
+    return int(Path(f"/proc/{process.pid}/schedstat").read_text().split()[0])
 
 
 def busy_threads(process):
@@ -497,19 +508,33 @@ class Trials(AskTrials):
         return self.run(["-c", f'ulimit -v {kilobytes}; exec "$@"', "sh", self.program, *words], executable="/bin/sh")
 
     def no_reader_is_left(self):
-        """A run whose output takes no more begins no further line. It takes at most a tenth of the processor time that all its lines
-        would take, by that of the first of them."""
+        """A run whose output takes no more begins no further line. It takes at most a fifth of the processor time that all its lines
+        would take, by that of some of them. The first lines are easy, as an early hard one holds back the first write."""
         subcommand, workers, place = self.drawn.card("no reader is left", NO_READER_IS_LEFT)
         words = [subcommand, "--workers", workers, "a"]
         lines = [self.drawn.full_position() + b"\n" for _ in range(2000)]
-        self.put({"a": b"".join(lines[:30])})
-        few, of_few = self.timed(lambda: self.run(words))
-        self.put({"a": b"".join(lines)})
-        first = few.out[: few.out.index(b"\n") + 1] if place == "pipe" else b""
+        self.put({"a": b"".join(lines[:60])})
+        _, of_some = self.timed(lambda: self.run(words))
+        self.put({"a": EASY * 64 + b"".join(lines)})
+        first = reference.answers(subcommand, [(b"a", EASY)]).out if place == "pipe" else b""
         got, spent = self.timed(lambda: self.run_into(place, words, len(first)))
         self.compare(Run(first, b"kalah: write failed\n", 2), got)
-        if spent > of_few / 30 * len(lines) / 10:
-            raise Differs(f"30 lines took {of_few:.2f} s of processor, and {len(lines)} that nobody reads {spent:.2f} s")
+        if spent > of_some / 60 * len(lines) / 5:
+            raise Differs(f"60 lines took {of_some:.2f} s of processor, and {len(lines)} that nobody reads {spent:.2f} s")
+
+    def left_after_a_pause(self):
+        """A run ends though its reader leaves only once the pipe and all that holds answers are full. There are more workers than
+        processors, so that many of them sleep."""
+        workers = self.drawn.card("left after a pause", LEFT_AFTER_A_PAUSE)
+        self.put({"a": EASY * 200_000})
+        reader, writer = os.pipe()
+        two = sorted(os.sched_getaffinity(0))[:2]
+        words = [self.subcommand(), "--workers", f"{workers}", "a"]
+        with self.start(words, stdout=writer, preexec_fn=lambda: os.sched_setaffinity(0, two)) as process:
+            os.close(writer)
+            time.sleep(1)
+            os.close(reader)
+            self.compare(Run(b"", b"kalah: write failed\n", 2), self.end_of(process)._replace(out=b""))
 
     def timed(self, run):
         """Returns the result of a run, and the processor time that it took, in seconds."""
@@ -564,23 +589,29 @@ class Trials(AskTrials):
             raise Differs(f"the first move came with the next ones: {got.decode()!r}")
 
     def before_more(self, words, place, lines=b"", rows=1):
-        """Returns what a run that is asked these lines writes at first, which should have this number of rows. On a busy machine what was
-        written separately may be read together: then it is tried again."""
+        """Returns what a run that is asked these lines writes at first, which should have this number of rows. What follows must take more
+        processor time than that took. On a busy machine a piece may be read late, or with the next one: then it is tried again."""
         for _ in range(3):
-            got = self.first_piece(words, place, lines)
-            if got.count(b"\n") == rows:
-                break
-        return got
+            got, is_early = self.first_piece(words, place, lines)
+            if got.count(b"\n") == rows and is_early:
+                return got
+        if is_early:
+            return got
+        raise Differs(f"what is written first came as late as what follows: {got.decode()!r}")
 
     def first_piece(self, words, place, lines):
+        """Returns what the run writes at first, and whether nothing follows until the run has spent as much processor time again."""
         reader, writer = two_ends(place)
         with self.start(words, stdin=subprocess.PIPE, stdout=writer, bufsize=0) as process:
             process.stdin.write(lines)
             got = read_piece(reader)
+            spent, end = spent_by(process), time.monotonic() + SOON
+            while not (follows := piece_in(reader)) and spent_by(process) < 2 * spent and time.monotonic() < end:
+                time.sleep(0.001)
             process.kill()
         os.close(reader)
         os.close(writer)
-        return got
+        return got, not follows
 
     def ends_at_a_failed_write(self):
         """A run that writes row by row ends at the first row that can't be written, and so takes a small part of its time."""
@@ -819,6 +850,7 @@ KINDS = {
     "version": len(VERSION),
     "streams": len(STREAMS_OF_RUNS),
     "no_reader_is_left": len(NO_READER_IS_LEFT),
+    "left_after_a_pause": 2 * len(LEFT_AFTER_A_PAUSE),
     "first_answers": len(FIRST_ANSWERS),
     "first_picture": len(FIRST_PICTURES),
     "first_move": len(FIRST_MOVES),
