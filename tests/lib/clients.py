@@ -282,12 +282,12 @@ def unasked(client, program, folder):
     compare(client, "unasked", [want[0], want[1] if client.name == "ask.js" else GONE, *want], got)
 
 
-class Interrupted(Exception):
-    """What a signal raises in the middle of a question."""
+class Interrupted(BaseException):
+    """What a signal raises in the middle of a question, as Ctrl-C does."""
 
 
 class SolverTrials:
-    """The trials of one solver of kalah.py that is interrupted, forked, shared by threads, or asked at length."""
+    """The trials of one solver of kalah.py that is interrupted, forked or shared by threads, and of programs of other versions."""
 
     def __init__(self, program, folder):
         self.client = Python(kalah.Best, "solve")
@@ -298,21 +298,24 @@ class SolverTrials:
         self.interrupted()
         self.forked()
         self.shared()
-        self.too_old()
+        self.versions()
+        self.no_house()
 
     def interrupted(self):
-        """An exception leaves a question whose answer is still to come: the next question doesn't get it."""
+        """An exception leaves a question whose answer is still to come: the next question doesn't get it, and its run is ended."""
 
         def interrupt(*_):
             raise Interrupted
 
         signal.signal(signal.SIGALRM, interrupt)
-        slow = f'while read -r line; do sleep 0.3; echo "$line" | "{self.program}" ask; done'
-        with kalah.Solver(kalah.Best, str(fake(self.folder, self.program, [slow]))) as solver:
-            signal.setitimer(signal.ITIMER_REAL, 0.15)
+        late = f'echo $$ > "$0.pid"; read -r line; kill -ALRM $PPID; sleep 0.3; echo "$line" | "{self.program}" ask; exec sleep 600'
+        with kalah.Solver(kalah.Best, str(fake(self.folder, self.program, [late]))) as solver:
             try:
                 raise Wrong(f"{outcome(solver, LINES[-1])} has come in spite of a signal")
             except Interrupted:
+                with suppress(ProcessLookupError):
+                    os.kill(int((self.folder / "fake.pid").read_text()), signal.SIGKILL)
+                    raise Wrong("kalah.py: an interrupted question leaves its run")
                 compare(self.client, "interrupted", self.want, [outcome(solver, line) for line in LINES])
 
     def forked(self):
@@ -335,10 +338,19 @@ class SolverTrials:
             lines = LINES * 200
             compare(self.client, "shared by threads", self.want * 200, pool.map(lambda line: outcome(solver, line), lines))
 
-    def too_old(self):
-        for version in ("kalah 1.1.9", "kalah 0.9.9", "kalah 1.2", "kalah 1.2.0 ", "kalah 1.2.0\\n", "calah 1.2.0", ""):
+    def versions(self):
+        """A program of this version or a newer one is asked, and no other."""
+        older = "kalah 1.1.9", "kalah 0.9.9", "kalah 1.2", "kalah 1.2.0 ", "kalah 1.2.0\\n", "calah 1.2.0", ""
+        newer = "kalah 1.10.0", "kalah 1.2.10", "kalah 2.0.0", "kalah 10.0.0"
+        for version, want in [*((version, GONE) for version in older), *((version, self.want[0]) for version in newer)]:
             program = self.folder / f"version {version}"
-            program.write_text(f"#!/bin/sh\nprintf '{version}\\n'\n")
+            program.write_text(f"#!/bin/sh\nif [ \"$1\" = --version ]; then printf '{version}\\n'; else exec '{self.program}' \"$@\"; fi\n")
             program.chmod(0o755)
-            compare(self.client, repr(version), [GONE], self.client.ask(program, LINES[:1]))
+            compare(self.client, repr(version), [want], self.client.ask(program, LINES[:1]))
         compare(self.client, "missing", [GONE], self.client.ask(self.folder / "no program", LINES[:1]))
+
+    def no_house(self):
+        """No game begins with a house that can't be moved."""
+        for house in (0, 3, 7):
+            with suppress(kalah.Gone):
+                raise Wrong(f"kalah.py: a game begins with house {house}: {kalah.play(LINES[0], house, str(self.program))}")

@@ -83,6 +83,9 @@ class CertificateTrials:
         most, least = f"{line} at most {margin}", lines[-1]
         half = lines[: lines.index(most) + 1]
         must(check.check(half) == f"{most}: all {len(half)} lines follow", f"check.py: half a certificate of {line}")
+        weaker = f"{line} at least {margin - 1}"
+        got = check.check([*lines[:-1], least.replace(f"{line} at least {margin}", weaker)])
+        must(got == f"{weaker}: all {len(lines)} lines follow", f"check.py: bounds of {line} that don't meet: {got}")
         for root, stronger in ((most, f"{line} at most {margin - 1}"), (least, least.replace(f"least {margin}", f"least {margin + 1}"))):
             self.refuse([stronger if one == root else one for one in lines], "no line proves")
         for bad in ("", least + " ", least.upper(), least.replace(" at least", ""), least.replace("/", ",0/", 1), f"0{least}", f"{least}0"):
@@ -192,17 +195,37 @@ def try_positions():
         must(len(got) == len(want) and {*got} == want, f"positions.py {m} {seeds}: {len(got)} in place of {len(want)}")
 
 
+def solution_of(position):
+    """What a booklet says of a position: the outcome of each move, the best first, and the game of best play."""
+    values = {house: reference.value(position, house) for house in reference.legal(position)}
+    words = {house: f"{'wins' if value > 0 else 'loses'} by {abs(value)}" if value else "draws" for house, value in values.items()}
+    outcomes = [f"house {house} {words[house]}" for house in sorted(values, key=lambda house: -values[house])]
+    turns, player, word, names = [], 0, "turn", ["South", "North"]
+    while word != "over":
+        _, house = reference.best_play(position)
+        if word == "turn":
+            turns.append(f"{names[player]} {house}")
+        else:
+            turns[-1] += f", {house}"
+        position, word = reference.after(position, house)
+        player ^= word == "turn"
+    south, north = (side.store for side in position[:2][:: -1 if player else 1])
+    won = f"{names[south < north]} wins" if south != north else "It is a draw"
+    return f"H{'; '.join(outcomes)[1:]}.<br>Best play: {'; '.join(turns)}. {won}, {max(south, north)} to {min(south, north)}."
+
+
 class ScriptTrials:
     """The scripts as they are run, in a folder of their own, on files whose names have spaces."""
 
-    def __init__(self, folder):
-        self.folder = folder
+    def __init__(self, folder, draw):
+        self.folder, self.draw = folder, draw
 
     def run(self):
         self.sample()
         self.puzzles()
         self.real_boards()
         self.booklet()
+        self.drawn_booklet()
         self.table()
         self.games()
 
@@ -231,8 +254,9 @@ class ScriptTrials:
             legal = [] if isinstance(position, str) else reference.legal(position)
             values = {house: reference.value(position, house) for house in legal}
             if len(values) > 1 and sum(value > 0 for value in values.values()) == 1:
-                want.add(f"{line} {' '.join(f'{house}:{value}' for house, value in values.items())}")
-        puzzles = [re.fullmatch("(more than )?([0-9]+) moves? ahead, by [0-9]+: (.*)", line) for line in out.splitlines()]
+                best, second = sorted(values.values(), reverse=True)[:2]
+                want.add(f"by {best - second}: {line} {' '.join(f'{house}:{value}' for house, value in values.items())}")
+        puzzles = [re.fullmatch("(more than )?([0-9]+) moves? ahead, (by .*)", line) for line in out.splitlines()]
         must(all(puzzles) and {puzzle[3] for puzzle in puzzles} == want, f"puzzles.py: {out}")
         far = [int(puzzle[2]) for puzzle in puzzles]
         must(far == sorted(far, reverse=True), f"puzzles.py: the hardest don't come first: {far}")
@@ -269,9 +293,18 @@ class ScriptTrials:
         want = "booklet.py: c.txt:1: the game is over\nbooklet.py: c.txt:3: fault shape\n"
         must(page.count("<svg") == 1 and err == want, f"booklet.py: {err}")
 
+    def drawn_booklet(self):
+        """Each solution has the outcome of every move, the best first, and the game of best play, with the players who move and the winner."""
+        lines = [drawn_line(self.draw, 4, 8).replace("/99", "/9") for _ in range(GAMES)]
+        (self.folder / "drawn.txt").write_text("\n".join(lines))
+        page, _ = self.script("booklet.py", "drawn.txt")
+        got = re.findall("<li>(.*)</li>", page)
+        for line, solution in zip(lines, got, strict=True):
+            must(solution == solution_of(reference.read(line.encode())), f"booklet.py, {line}: {solution}")
+
     def table(self):
         """It has a row for each position, as CSV and in a database, of the answers of kalah or of others."""
-        lines = ["1,1/0 1,1/0", "1,0/0 0,2/9 e\r", "0,0/3 1,2/4", "1/0", "0,0,1,2,0,3/7 1,0,0,0,0,2/0"]
+        lines = ["1,1/0 1,1/0", "1,0/0 0,2/9 e\r", "0,0/3 1,2/4", "1/0", "0,0,1,2,0,3/7 1,0,0,0,0,2/0", "3,3,3/0 3,3,3/0"]
         (self.folder / "a b.txt").write_bytes("\n".join(lines).encode())
         out, err = self.script("table.py", "a b.txt", status=1)
         rows = [*csv.reader(out.splitlines())]
@@ -280,10 +313,11 @@ class ScriptTrials:
             ["1,0/0 0,2/9 e", "-10", "1", "-10", "", "", "", "", ""],
             [lines[2], "-4", "", "", "", "", "", "", ""],
             [lines[4], "10", "4", "", "", "6", "10", "", "0"],
+            [lines[5], "2", "1", "2", "2", "-4", "", "", ""],
         ]
         columns = ["position", "margin", "best", *(f"house{house}" for house in range(1, 7))]
         must(rows == [columns, *want] and err == "table.py: a b.txt:4: fault shape\n", f"table.py: {out}{err}")
-        answers = ["x:1 1:-2 2:2", "y:2 1:-10", "x:3 -4 over", "x:4 too large: 20 seeds", "a b:5 3:6 4:10 6:0"]
+        answers = ["x:1 1:-2 2:2", "y:2 1:-10", "x:3 -4 over", "x:4 too large: 20 seeds", "a b:5 3:6 4:10 6:0", "x:6 1:2 2:2 3:-4"]
         (self.folder / "answers").write_text("\n".join(answers))
         for words in (["--name", "kalah"], ["--name", 'a "b', "--answers", "answers"], ["--name", "kalah"]):
             self.script("table.py", "--sqlite", "data.db", *words, "a b.txt", status=1)
@@ -292,9 +326,13 @@ class ScriptTrials:
             stored = sqlite3.connect(self.folder / "data.db").execute(f'SELECT {", ".join(columns)} FROM "{quoted}"')
             found = [["" if cell is None else str(cell) for cell in row] for row in stored]
             must(found == want, f"table.py, {name}: {found}")
-        for wrong in (answers[:4], [*answers, "x:6 0 over"], [answers[1], answers[0], *answers[2:]]):
+        for wrong in (answers[:5], [*answers, "x:7 0 over"], [answers[1], answers[0], *answers[2:]]):
             (self.folder / "answers").write_text("\n".join(wrong))
             must(self.script("table.py", "--answers", "answers", "a b.txt", status=2)[0] == "", f"table.py: {wrong}")
+        (self.folder / "a b.txt").write_text(f"{lines[5]}\n\n")
+        out, err = self.script("table.py", "a b.txt", status=1)
+        rows = [*csv.reader(out.splitlines())]
+        must(rows == [columns, want[4]] and err == "table.py: a b.txt:2: fault empty\n", f"table.py, an empty line at the end: {out}{err}")
 
     def games(self):
         (self.folder / "a b.txt").write_text("1,1/0 1,1/0 2 1\n\n1,1/0 1,1/0 1 2 2\n1/0 1 2\n")
@@ -325,4 +363,4 @@ def try_scripts(program, folder, seed):
     with kalah.Solver(kalah.Values) as solver, kalah.Solver(kalah.Best) as best:
         CertificateTrials(draw, solver, best).run()
         ReviewTrials(draw, solver, best).run()
-    ScriptTrials(folder).run()
+    ScriptTrials(folder, draw).run()
