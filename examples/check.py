@@ -1,8 +1,9 @@
 """Checks a certificate: lines that prove the margin of best play of a position, each by lines above it.
 
-    python3 examples/check.py FILE
+    python3 examples/check.py FILE [LINE MARGIN]
 
-It needs no other program or file. It prints what the lines prove of the last one's position, or which line doesn't follow, and why.
+It needs no other program or file. It prints what the lines prove of the last one's position, or which line doesn't follow, and why. With
+LINE and MARGIN it fails unless they prove that this position has this margin. So it refuses a certificate that is cut, or another one.
 docs/RULES.md has the rules, docs/CERTIFICATES.md the form of a line.
 """
 
@@ -73,8 +74,8 @@ def said(claim):
     return f"{own} {other}{' e' * takes_empty} at {'least' if is_first else 'most'} {margin if is_first else -margin}"
 
 
-def check(lines):
-    """Returns what the lines prove of the last one's position. Fails with the first line that doesn't follow."""
+def follow(lines):
+    """Returns all that the lines prove, the last one's claim, and how many there are. Fails with the first line that doesn't follow."""
     known, claim, number, numbered = {}, None, 0, enumerate(lines, 1)
     for number, line in numbered:
         claim, house = read(line)
@@ -90,18 +91,40 @@ def check(lines):
         known[claim[:2]] = max(claim[2], known.get(claim[:2], claim[2]))
     if not claim:
         raise ValueError("there is no line")
+    return known, claim, number
+
+
+def bounds(position, margin):
+    """Returns the two claims that a position has this margin, if they have the form of claims."""
+    claims = [read(f"{position} at {bound} {margin}")[0] for bound in ("most", "least")]
+    return claims if all(claims) else []
+
+
+def check(lines, position=None, margin=None):
+    """Returns what the lines prove of the last one's position. Fails with the first line that doesn't follow; and if a position is named,
+    unless they prove that it has this margin."""
+    known, claim, number = follow(lines)
     is_whole = known.get((claim[0], not claim[1])) == -claim[2]
     proved = re.sub("at (least|most)", "has the margin", said(claim)) if is_whole else said(claim)
+    if position is not None:
+        if lacking := [one for one in bounds(position, margin) if known.get(one[:2], one[2] - 1) < one[2]]:
+            raise ValueError(f"no line proves {said(lacking[0])}; the last one's position: {proved}")
+        proved = f"{position} has the margin {margin}"
     return f"{proved}: all {number} lines follow"
 
 
 def main():
     parser = argparse.ArgumentParser(description=__doc__, formatter_class=argparse.RawDescriptionHelpFormatter)
     parser.add_argument("file", metavar="FILE", help="a certificate")
+    parser.add_argument("line", nargs="?", metavar="LINE", help="the position that it must be of")
+    parser.add_argument("margin", nargs="?", metavar="MARGIN", help="the margin that it must prove")
+    asked = parser.parse_args()
+    if asked.line is not None and not bounds(asked.line, asked.margin):
+        parser.error("LINE is a position, and MARGIN a whole number")
     signal.signal(signal.SIGINT, signal.SIG_DFL)
     try:
-        with open(parser.parse_args().file, errors="replace") as lines:
-            print(check(lines), flush=True)
+        with open(asked.file, errors="replace") as lines:
+            print(check(lines, asked.line, asked.margin), flush=True)
     except (OSError, ValueError) as why:
         sys.exit(f"check.py: {why}")
 

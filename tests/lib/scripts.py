@@ -22,7 +22,7 @@ import duel
 import positions
 import review
 
-CERTIFICATES, GAMES = 100, 30
+CERTIFICATES, CUTS, GAMES = 100, 5, 30
 RULES = ["", " e"]
 HOSTILE = "</title><script>alert(1)</script>"
 # The most memory of a script, in kilobytes.
@@ -75,9 +75,11 @@ class CertificateTrials:
         for _ in range(CERTIFICATES):
             line = drawn_line(self.draw, 6, 13)
             margin, lines = self.best.ask(line).margin, list(certify.certificate(line, self.solver))
-            got = check.check(lines)
-            must(got == f"{line} has the margin {margin}: all {len(lines)} lines follow", f"certificate of {line}: {got}")
+            for asked in ([], [line, str(margin)]):
+                got = check.check(lines, *asked)
+                must(got == f"{line} has the margin {margin}: all {len(lines)} lines follow", f"certificate of {line}: {got}")
             self.change(line, margin, lines)
+            self.cut(line, str(margin), lines)
 
     def change(self, line, margin, lines):
         most, least = f"{line} at most {margin}", lines[-1]
@@ -94,6 +96,14 @@ class CertificateTrials:
         if inner:
             self.change_inner(lines, self.draw.choice(inner))
 
+    def cut(self, line, margin, lines):
+        """What is left of a certificate that is cut, with whole lines or not, proves no margin; nor does a whole one another margin."""
+        text = "".join(one + "\n" for one in lines)
+        for size in (*(self.draw.randrange(len(text) - 1) for _ in range(CUTS)), len(text) - len(lines[-1]) - 1):
+            self.refuse(text[:size].splitlines(), "", line, margin)
+        self.refuse(lines, "no line proves", line, str(int(margin) + self.draw.choice([-1, 1])))
+        self.refuse(lines, "no line proves", re.sub("/[0-9]+", "/100", line), margin)
+
     def change_inner(self, lines, number):
         """Another line needs this one, so it can't be missing, follow later, or claim less or something else."""
         above, one, below = lines[:number], lines[number], lines[number + 1 :]
@@ -109,9 +119,9 @@ class CertificateTrials:
             if is_first and values.get(other, -1000) < margin:
                 self.refuse([*above, one.replace(f"house {house}", f"house {other}"), *below], "" if other in values else "names no house")
 
-    def refuse(self, lines, why):
+    def refuse(self, lines, why, *asked):
         try:
-            said = check.check(lines)
+            said = check.check(lines, *asked)
         except ValueError as refusal:
             must(why in str(refusal), f"check.py: {refusal}, in place of {why}")
             return
