@@ -3,7 +3,7 @@
     python3 examples/table.py FILE > table.csv
     python3 examples/table.py --sqlite DATABASE [--name NAME] FILE
 
-The columns are position, margin, best, and house1 to house6; where there is nothing to say, they are empty. In the database the table
+The columns are position, seeds (in houses), margin, best, and house1 to house6; where there is nothing to say, they are empty. In the database the table
 NAME, or `kalah`, is made anew. With --answers ANSWERS the answers are read from there, in the form of `kalah values`, as another engine
 may have printed them. A line without values, such as one with a fault, has no row; standard error has it, and the status is 1.
 
@@ -20,7 +20,7 @@ from kalah import Gone, find
 from script import arguments, run
 
 HOUSES = range(1, 7)
-COLUMNS = ["position", "margin", "best", *(f"house{house}" for house in HOUSES)]
+COLUMNS = ["position", "seeds", "margin", "best", *(f"house{house}" for house in HOUSES)]
 
 
 def lines_of(data):
@@ -43,15 +43,20 @@ def read(name):
         return file.read()
 
 
+def seeds_of(position):
+    """How many seeds a position has in its houses."""
+    return sum(int(seeds) for houses in re.findall("([0-9,]+)/", position) for seeds in re.findall("[0-9]+", houses))
+
+
 def row(position, answer):
     """The row of a position; None if the answer has no values."""
     over = re.fullmatch("(-?[0-9]+) over", answer)
     if over:
-        return [position, int(over[1]), *[None] * (1 + len(HOUSES))]
+        return [position, seeds_of(position), int(over[1]), *[None] * (1 + len(HOUSES))]
     if not re.fullmatch("[1-6]:-?[0-9]+(?: [1-6]:-?[0-9]+)*", answer):
         return None
     values = {int(house): int(value) for house, value in (word.split(":") for word in answer.split(" "))}
-    return [position, max(values.values()), max(values, key=values.get), *map(values.get, HOUSES)]
+    return [position, seeds_of(position), max(values.values()), max(values, key=values.get), *map(values.get, HOUSES)]
 
 
 def rows(lines, answers):

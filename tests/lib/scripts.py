@@ -304,7 +304,7 @@ class ScriptTrials:
         must(page.count("<svg") == 1 and err == want, f"booklet.py: {err}")
 
     def drawn_booklet(self):
-        """Each solution has the outcome of every move, the best first, and the game of best play, with the players who move and the winner."""
+        """Each solution has the outcome of every move, the best first, and the game of best play: who moves, and who wins."""
         lines = [drawn_line(self.draw, 4, 8).replace("/99", "/9") for _ in range(GAMES)]
         (self.folder / "drawn.txt").write_text("\n".join(lines))
         page, _ = self.script("booklet.py", "drawn.txt")
@@ -319,13 +319,13 @@ class ScriptTrials:
         out, err = self.script("table.py", "a b.txt", status=1)
         rows = [*csv.reader(out.splitlines())]
         want = [
-            [lines[0], "2", "2", "-2", "2", "", "", "", ""],
-            ["1,0/0 0,2/9 e", "-10", "1", "-10", "", "", "", "", ""],
-            [lines[2], "-4", "", "", "", "", "", "", ""],
-            [lines[4], "10", "4", "", "", "6", "10", "", "0"],
-            [lines[5], "2", "1", "2", "2", "-4", "", "", ""],
+            [lines[0], "4", "2", "2", "-2", "2", "", "", "", ""],
+            ["1,0/0 0,2/9 e", "3", "-10", "1", "-10", "", "", "", "", ""],
+            [lines[2], "3", "-4", "", "", "", "", "", "", ""],
+            [lines[4], "9", "10", "4", "", "", "6", "10", "", "0"],
+            [lines[5], "18", "2", "1", "2", "2", "-4", "", "", ""],
         ]
-        columns = ["position", "margin", "best", *(f"house{house}" for house in range(1, 7))]
+        columns = ["position", "seeds", "margin", "best", *(f"house{house}" for house in range(1, 7))]
         must(rows == [columns, *want] and err == "table.py: a b.txt:4: fault shape\n", f"table.py: {out}{err}")
         answers = ["x:1 1:-2 2:2", "y:2 1:-10", "x:3 -4 over", "x:4 too large: 20 seeds", "a b:5 3:6 4:10 6:0", "x:6 1:2 2:2 3:-4"]
         (self.folder / "answers").write_text("\n".join(answers))
