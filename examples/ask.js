@@ -4,7 +4,7 @@
 //
 // Other programs use the class `Solver`. A question gets its own answer or fails: an answer is taken only if it is whole and has the form
 // that docs/FORMAT.md gives it. If not, the run is ended, and the next question starts another. It needs `kalah`: the program that the
-// environment variable KALAH names, or on the path, or at the top of this repository.
+// environment variable KALAH names, or else on the path, beside this folder, or where `make install` or a package puts it.
 
 const { spawn, spawnSync } = require("node:child_process");
 const path = require("node:path");
@@ -22,7 +22,8 @@ class Gone extends Error {}
 // Returns the program. Fails with `Gone` if there is none, or an older one.
 function find() {
   const named = process.env.KALAH;
-  for (const program of named ? [named] : ["kalah", path.join(__dirname, "..", "kalah")]) {
+  const places = ["../kalah", "../../../../bin/kalah"].map((place) => path.join(__dirname, place));
+  for (const program of named ? [named] : ["kalah", ...places]) {
     const said = spawnSync(program, ["--version"], { encoding: "utf8", timeout: 10_000 });
     if (said.error?.code === "ENOENT") continue;
     const version = /^kalah ([0-9]+)\.([0-9]+)\.([0-9]+)\n$/.exec(said.stdout ?? "")?.slice(1).map(Number);
@@ -30,7 +31,7 @@ function find() {
     if (version && (place === -1 || version[place] > OLDEST[place])) return program;
     throw new Gone(`${program} is not kalah ${OLDEST.join(".")} or newer`);
   }
-  throw new Gone(`there is no program ${named ?? "kalah"}; \`make\` builds it`);
+  throw new Gone(`there is no program ${named ?? "kalah"}: put it on the path, or name it in KALAH`);
 }
 
 // A run of `kalah ask --values`. A question fails with `Gone` if its answer takes more than `seconds`.

@@ -11,8 +11,8 @@ A solver is one run of `kalah ask`, which keeps what it learns. An answer is ret
 docs/FORMAT.md gives it. If not, the question fails with `Gone`, that run is ended, and the next question starts another. So no question
 gets the answer to another one, whatever interrupts it. Threads may share a solver; a forked process starts a run of its own.
 
-It needs Linux, Python 3.9 or newer, and `kalah`: the program that is named, or that the environment variable KALAH names, or on the
-path, or at the top of this repository.
+It needs Linux, Python 3.9 or newer, and `kalah`: the program that is named, or that the environment variable KALAH names, or else on the
+path, beside the folder of this file, or where `make install`, a package or pip puts it.
 """
 
 import functools
@@ -21,6 +21,7 @@ import re
 import select
 import shutil
 import subprocess
+import sysconfig
 import threading
 import time
 from dataclasses import dataclass
@@ -181,10 +182,11 @@ def output(words, program=None, timeout=60):
 @functools.lru_cache(maxsize=None)
 def find(program=None):
     """Returns the path of `kalah`. Fails with `Gone` if there is none, or an older one than this module needs."""
-    name, beside = program or os.environ.get("KALAH"), Path(__file__).resolve().parent.parent / "kalah"
-    path = shutil.which(name or "kalah") or (None if name else shutil.which(beside))
+    name, folder, scripts = program or os.environ.get("KALAH"), Path(__file__).resolve().parent, sysconfig.get_path("scripts")
+    places = [name] if name else ["kalah", folder / "../kalah", folder / "../../../../bin/kalah", Path(scripts, "kalah")]
+    path = next(filter(None, map(shutil.which, places)), None)
     if not path:
-        raise Gone(f"there is no program {name or 'kalah'}; `make` builds it")
+        raise Gone(f"there is no program {name or 'kalah'}: put it on the path, or name it in KALAH")
     said = printed([path, "--version"], 10)
     version = re.fullmatch(r"kalah ([0-9]+)\.([0-9]+)\.([0-9]+)\n", said)
     if not version or tuple(map(int, version.groups())) < OLDEST:
