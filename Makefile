@@ -4,12 +4,16 @@ PREFIX ?= /usr/local
 # How many processors a check may use: by default all of them, but at most one for each 2 GB of memory.
 JOBS ?= $(shell awk -v all="$$(nproc)" '/^MemTotal/ { some = int($$2 / 2000000); print some < 1 ? 1 : some < all ? some : all }' /proc/meminfo)
 
-.PHONY: all try check test exhaust test-page install uninstall dist deb bench clean
+.PHONY: all try check test exhaust test-page install uninstall dist deb wheel bench clean
+
+# Ends a recipe that needs the toolchain, if it is missing.
+NEEDS_RT = $(if $(shell command -v rt),,$(error `make $@` needs `rt`, the command of the Rattle toolchain (README.md, "Two commands")))
 
 # Proves the program and all that it depends on, and builds ./kalah.
 all: kalah
 
 kalah: FORCE
+	$(NEEDS_RT)
 	JOBS=$(JOBS) packaging/build
 
 FORCE:
@@ -17,17 +21,20 @@ FORCE:
 # Before the proofs: compiles the program with the toolchain's run-time checks, and runs it on one position and on a file. `--steps 0`
 # leaves out a second run, on an interpreter, which takes as long again.
 try:
+	$(NEEDS_RT)
 	@echo "Nothing is proved yet: \`make\` does that. Each of these takes up to a minute."
 	cd crates/kalah_cli && rt try --steps 0 -- moves '1,1/0 1,1/0'
 	cd crates/kalah_cli && rt try --steps 0 --data examples/first.txt=../../examples/first.txt -- solve examples/first.txt
 
 # While you work: proves and tests what has changed, over the results that earlier checks kept; with CRATES=.. up to these crates alone.
 check:
+	$(NEEDS_RT)
 	JOBS=$(JOBS) tests/check $(CRATES)
 
 # The test suite: every proof from nothing, the tests and the program's stored run; and, over what that has built, seeded mistakes that
 # the prover must refuse, refused memory, the steps by which threads wait, and random trials. At the end it prints the time of each stage.
 test:
+	$(NEEDS_RT)
 	tests/gate
 
 # Compares the program with the values of all 42 million positions of up to 15 seeds, in some 15 minutes of processor.
@@ -45,7 +52,7 @@ PAGES = share/doc/kalah
 
 # Installs the program as `make` built it, its manual page, the completions for bash, zsh and fish, and its pages. It needs no prover.
 install:
-	@test -x kalah || { echo "make install: there is no ./kalah yet; run \`make\` first" >&2; exit 1; }
+	@test -x kalah || { echo 'make install: there is no ./kalah yet: `make` builds it, with `rt` of the Rattle toolchain' >&2; exit 1; }
 	install -d $(addprefix $(DESTDIR)$(PREFIX)/,$(dir $(INSTALLED)) $(PAGES)/docs $(PAGES)/examples)
 	install -m 755 kalah $(DESTDIR)$(PREFIX)/bin/kalah
 	install -m 644 docs/kalah.1 $(DESTDIR)$(PREFIX)/share/man/man1/kalah.1
@@ -60,12 +67,16 @@ uninstall:
 	rm -f $(addprefix $(DESTDIR)$(PREFIX)/,$(INSTALLED))
 	rm -rf $(DESTDIR)$(PREFIX)/$(PAGES)
 
-# The program as `make` built it, packed for machines without the toolchain: dist/ gets an archive, or a package for Debian.
+# The program as `make` built it, packed for machines without the toolchain: dist/ gets an archive, a package for Debian, or a wheel
+# for Python, which has the module of examples/kalah.py, too.
 dist:
-	packaging/pack tar
+	@packaging/pack tar
 
 deb:
-	packaging/pack deb
+	@packaging/pack deb
+
+wheel:
+	@packaging/pack wheel
 
 # How long the program takes on the position files of bench/, and how many instructions.
 bench: kalah
