@@ -1,31 +1,50 @@
 # Completions of kalah for bash.
 
+# Offers the options of a subcommand that may still be given, each at most once.
+_kalah_options() {
+    local options=$1 given=" ${COMP_WORDS[*]:2:COMP_CWORD - 2} " option left=
+    case "${COMP_WORDS[1]}$given" in
+        *' '-h' '* | *' '--help' '*) options= ;;
+        ask*' '--steps' '*) options='-h --help' ;;
+        ask*' '--values' '* | ask*' '--table[\ =]*) options=${options/--steps/} ;;
+    esac
+    for option in $options; do
+        [[ $given == *" $option"[\ =]* ]] || left+=" $option"
+    done
+    COMPREPLY=($(compgen -W "$left" -- "${COMP_WORDS[COMP_CWORD]}"))
+}
+
 _kalah() {
-    local current=${COMP_WORDS[COMP_CWORD]} previous=${COMP_WORDS[COMP_CWORD - 1]} options
+    local current=${COMP_WORDS[COMP_CWORD]} previous=${COMP_WORDS[COMP_CWORD - 1]}
+    COMPREPLY=()
+    # Bash takes `--first=1` for three words.
+    [ "$current" = = ] && current=
+    [ "$previous" = = ] && previous=${COMP_WORDS[COMP_CWORD - 2]}
     if [ "$COMP_CWORD" -eq 1 ]; then
-        COMPREPLY=($(compgen -W 'moves play solve values ask steps show count -h --help -V --version' -- "$current"))
+        case $current in
+            -*) COMPREPLY=($(compgen -W '-h --help -V --version' -- "$current")) ;;
+            *) COMPREPLY=($(compgen -W 'moves play solve values ask steps show count' -- "$current")) ;;
+        esac
         return
     fi
-    case ${COMP_WORDS[1]} in
-        moves) options='--boards -h --help' ;;
-        play) options='--table --boards --first -h --help' ;;
-        solve | values) options='--workers --table --progress -h --help' ;;
-        steps) options='--workers --progress -h --help' ;;
-        ask) options='--values --steps --table -h --help' ;;
-        show) options='--plain --table -h --help' ;;
-        count) options='-h --help' ;;
+    case $previous in
+        --workers | --table) return ;;
+        --first)
+            COMPREPLY=($(compgen -W '1 2 3 4 5 6' -- "$current"))
+            return
+            ;;
     esac
-    case $current in
-        -*) COMPREPLY=($(compgen -W "$options" -- "$current")) ;;
-        *)
-            COMPREPLY=()
-            case ${COMP_WORDS[1]}:$previous in
-                *:--workers | *:--table | *:--first) ;;
-                solve:* | values:* | steps:*)
-                    compopt -o filenames 2> /dev/null
-                    mapfile -t COMPREPLY < <(compgen -f -- "$current")
-                    ;;
-            esac
+    case ${COMP_WORDS[1]}:$current in
+        moves:-*) _kalah_options '--boards -h --help' ;;
+        play:-*) _kalah_options '--table --boards --first -h --help' ;;
+        solve:-* | values:-*) _kalah_options '--workers --table --progress -h --help' ;;
+        steps:-*) _kalah_options '--workers --progress -h --help' ;;
+        ask:-*) _kalah_options '--values --steps --table -h --help' ;;
+        show:-*) _kalah_options '--plain --table -h --help' ;;
+        count:-*) _kalah_options '-h --help' ;;
+        solve:* | values:* | steps:*)
+            compopt -o filenames 2> /dev/null
+            mapfile -t COMPREPLY < <(compgen -f -- "$current")
             ;;
     esac
 }

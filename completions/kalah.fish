@@ -1,7 +1,7 @@
 # Completions of kalah for fish.
 
 complete -c kalah -f
-complete -c kalah -s h -l help -d 'Print help'
+complete -c kalah -n __fish_use_subcommand -s h -l help -d 'Print help'
 complete -c kalah -n __fish_use_subcommand -s V -l version -d 'Print the version'
 complete -c kalah -n __fish_use_subcommand -a moves -d 'Print each legal move of a position, and the position after it'
 complete -c kalah -n __fish_use_subcommand -a play -d 'Print the game that best play leads to from a position, move by move'
@@ -11,12 +11,26 @@ complete -c kalah -n __fish_use_subcommand -a ask -d 'Answer each line of standa
 complete -c kalah -n __fish_use_subcommand -a steps -d 'Print each legal move of each position, and what it leads to'
 complete -c kalah -n __fish_use_subcommand -a show -d 'Draw a position, and below each house what its move is worth'
 complete -c kalah -n __fish_use_subcommand -a count -d 'Count the ways to play on from a position, for each first move'
-complete -c kalah -n '__fish_seen_subcommand_from ask' -l values -d 'Print what each move is worth, as values does'
-complete -c kalah -n '__fish_seen_subcommand_from ask' -l steps -d 'Print each legal move, as steps does'
-complete -c kalah -n '__fish_seen_subcommand_from moves play' -l boards -d 'Draw each position below its line'
-complete -c kalah -n '__fish_seen_subcommand_from play solve values ask show' -l table -x -d 'Table entries of each worker, 1 to 1048576'
-complete -c kalah -n '__fish_seen_subcommand_from play' -l first -x -a '1 2 3 4 5 6' -d 'Begin with this house'
-complete -c kalah -n '__fish_seen_subcommand_from show' -l plain -d 'Draw the position alone'
-complete -c kalah -n '__fish_seen_subcommand_from solve values steps' -l workers -x -d 'How many workers solve in parallel, 1 to 64'
-complete -c kalah -n '__fish_seen_subcommand_from solve values steps' -l progress -d 'Show on standard error how many lines are answered'
+
+# Whether the subcommand is one of those before `--`, and none of the options after it was given. One whose value is typed doesn't count.
+function __kalah_may
+    set -l words (commandline -opc)[2..]
+    set -l at (contains -i -- -- $argv)
+    contains -- "$words[1]" $argv[1..(math $at - 1)]; or return
+    contains -- "$words[-1]" --workers --table --first; and set -e words[-1]
+    for word in (string replace -r '=.*' '' -- $words)
+        contains -- $word -h --help --$argv[(math $at + 1)..]; and return 1
+    end
+    true
+end
+
+complete -c kalah -n '__kalah_may moves play solve values ask steps show count -- help' -s h -l help -d 'Print help'
+complete -c kalah -n '__kalah_may ask -- values steps' -l values -d 'Print what each move is worth, as values does'
+complete -c kalah -n '__kalah_may ask -- values steps table' -l steps -d 'Print each legal move, as steps does'
+complete -c kalah -n '__kalah_may moves play -- boards' -l boards -d 'Draw each position below its line'
+complete -c kalah -n '__kalah_may play solve values ask show -- table steps' -l table -x -d 'Table entries of each worker, 1 to 1048576'
+complete -c kalah -n '__kalah_may play -- first' -l first -x -a '1 2 3 4 5 6' -d 'Begin with this house'
+complete -c kalah -n '__kalah_may show -- plain' -l plain -d 'Draw the position alone'
+complete -c kalah -n '__kalah_may solve values steps -- workers' -l workers -x -d 'How many workers solve in parallel, 1 to 64'
+complete -c kalah -n '__kalah_may solve values steps -- progress' -l progress -d 'Show on standard error how many lines are answered'
 complete -c kalah -n '__fish_seen_subcommand_from solve values steps' -F

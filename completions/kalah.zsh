@@ -26,13 +26,13 @@ _kalah() {
             local table='--table=[table entries of each worker, 1 to 1048576]:entries: '
             case $line[1] in
                 moves) _arguments $help $boards '1:position in quotes: ' ;;
-                play) _arguments $help $table $boards '--first=[begin with this house, 1 to 6]:house: ' '1:position in quotes: ' ;;
+                play) _arguments $help $table $boards '--first=[begin with this house, 1 to 6]:house:(1 2 3 4 5 6)' '1:position in quotes: ' ;;
                 show) _arguments $help '--plain[draw the position alone]' $table '1:position in quotes: ' ;;
                 count) _arguments $help '1:number of moves, 0 to 20: ' '2:position in quotes: ' ;;
                 ask)
                     local values='(--steps)--values[print what each move is worth, as values does]'
                     local steps='(--values --table)--steps[print each legal move, as steps does]'
-                    _arguments $help $values $steps "(--steps)$table"
+                    _arguments $help $values $steps "(--steps)$table" '*:no argument: '
                     ;;
                 solve | values) _arguments $help $workers $table $progress '*:file of positions:_files' ;;
                 steps) _arguments $help $workers $progress '*:file of positions:_files' ;;
