@@ -41,9 +41,9 @@ test:
 exhaust: kalah
 	tests/exhaust --program kalah
 
-# Plays on the page of examples/web.py in a browser. It needs Chromium, and says so if there is none.
+# Plays on the page of examples/web.py in a browser, and leaves pictures of it in out/. It needs Chromium, and says so if there is none.
 test-page: kalah
-	tests/page --program kalah
+	tests/page --program kalah --screenshots out
 
 # The files that are installed, and the folder of pages, examples and licences.
 INSTALLED = bin/kalah share/man/man1/kalah.1 share/bash-completion/completions/kalah share/zsh/site-functions/_kalah \

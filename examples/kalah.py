@@ -49,6 +49,10 @@ class Gone(Exception):
     """`kalah` is missing, too old, fails, ends, takes too long, or writes something other than an answer."""
 
 
+class Late(Gone):
+    """`kalah` takes more time than the question has."""
+
+
 @dataclass(frozen=True)
 class Over:
     """The game is over: the final margin."""
@@ -224,7 +228,7 @@ def exchange(run, question, timeout):
     while not answer.endswith(b"\n"):
         ready = poller.poll(None if timeout is None else max(0, 1000 * (last - time.monotonic())))
         if not ready:
-            raise Gone(f"kalah has not answered in {timeout} seconds")
+            raise Late(f"kalah has not answered in {timeout} seconds")
         if answers in dict(ready):
             piece = os.read(answers, LONGEST)
             answer += piece

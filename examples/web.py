@@ -1,31 +1,40 @@
 """A board to click, in a browser.
 
-    python3 examples/web.py [--port N] LINE
+    python3 examples/web.py [--port N] [--host ADDRESS] LINE
 
 It prints the address of a page that shows this position, and serves it to this machine alone until Ctrl-C. There one plays, alone or
-against the solver, takes moves back, and sees what each move is worth. The address has the line of the position after its `#`.
+against the solver, takes moves back, and sees what each move is worth. The address has the first position and the houses that were moved
+after its `#`, so a link opens the game.
+
+With --host it serves a class: all who reach this machine by ADDRESS. Then a position that takes more than a second is refused, and so
+are more than 120 questions a minute from one address.
 
 The page posts lines to /moves, /values and /best. Each of these gets one JSON object: an answer, or an `error` and a status that is not
 200. It needs `kalah`, as examples/kalah.py says.
 """
 
+import argparse
 import json
 import re
 import socket
 import sys
 import threading
+import time
+from collections import Counter
 from dataclasses import asdict
 from http import HTTPStatus
 from http.server import BaseHTTPRequestHandler, ThreadingHTTPServer
 from pathlib import Path
 from urllib.parse import quote
 
-from kalah import Best, Fault, Gone, Over, Solver, Steps, Values
+from kalah import Best, Fault, Gone, Late, Over, Solver, Steps, Values
 from script import arguments, run
 
 PAGE = Path(__file__).with_name("web.html")
-# Only this machine gets an answer, and of its pages only the one that is served here.
+# Only this machine gets an answer, if no other host is named, and of its pages only the one that is served here.
 NAMES = ["127.0.0.1", "localhost"]
+# What a class may ask: the seconds of a question, and the questions of a client in a minute.
+SECONDS, MOST_IN_A_MINUTE = 1, 120
 HEADERS = {
     "Content-Security-Policy": "default-src 'none'; script-src 'unsafe-inline'; style-src 'unsafe-inline'; img-src data:; "
     "connect-src 'self'; base-uri 'none'; form-action 'none'; frame-ancestors 'none'",
@@ -93,7 +102,7 @@ class Handler(BaseHTTPRequestHandler):
     def check_sender(self):
         """Another page may have this machine's address under a name of its own, or post to it."""
         hosts, origins = self.headers.get_all("Host", []), self.headers.get_all("Origin", [])
-        if len(hosts) != 1 or hosts[0] not in self.server.hosts:
+        if len(hosts) != 1 or hosts[0].lower() not in self.server.hosts:
             raise Refused(403, "this host is not served")
         if any(origin not in [f"http://{host}" for host in self.server.hosts] for origin in origins):
             raise Refused(403, "a page of another origin gets no answer")
@@ -107,12 +116,14 @@ class Handler(BaseHTTPRequestHandler):
         ask = self.server.ask.get(self.path)
         if not ask:
             raise Refused(404, "there is no such question")
+        if not self.server.quota.takes(self.client_address[0]):
+            raise Refused(429, f"too many questions from here: at most {self.server.quota.most} a minute")
         if not self.server.room.acquire(blocking=False):
             raise Refused(503, "too many questions at once")
         try:
             answer = ask(body.decode())
         except Gone as why:
-            raise Refused(503, str(why)) from None
+            raise Refused(503, f"too large here: {why}" if isinstance(why, Late) else str(why)) from None
         except UnicodeDecodeError:
             raise Refused(400, "a question is text in UTF-8") from None
         except ValueError as why:
@@ -140,18 +151,36 @@ class Handler(BaseHTTPRequestHandler):
         pass
 
 
+class Quota:
+    """How many questions each client has asked in this minute, of `most` that it may ask; None is any number."""
+
+    def __init__(self, most):
+        self.most, self.minute, self.asked, self.lock = most, None, Counter(), threading.Lock()
+
+    def takes(self, client):
+        """Returns whether a client may ask one more."""
+        with self.lock:
+            minute = time.monotonic() // 60
+            if minute != self.minute:
+                self.minute, self.asked = minute, Counter()
+            self.asked[client] += 1
+            return self.most is None or self.asked[client] <= self.most
+
+
 class Server(ThreadingHTTPServer):
-    """Serves the page, and answers its questions."""
+    """Serves the page, and answers its questions: those of this machine, or, if `host` is its address for others, those of a class."""
 
     request_queue_size = 128
 
-    def __init__(self, port, program=None, timeout=60):
+    def __init__(self, port, program=None, timeout=60, host=None):
+        timeout, self.quota = (SECONDS, Quota(MOST_IN_A_MINUTE)) if host else (timeout, Quota(None))
         self.page, self.solvers = PAGE.read_bytes(), {path: Solver(kind, program, timeout) for path, kind in KINDS.items()}
         self.ask = {path: solver.ask for path, solver in self.solvers.items()}
-        super().__init__((NAMES[0], port), Handler)
+        self.names = [host.lower()] if host else NAMES
+        super().__init__((self.names[0], port), Handler)
         self.room = threading.BoundedSemaphore(MOST_AT_ONCE)
         # A browser leaves out the port that is usual.
-        self.hosts = [name + port for name in NAMES for port in (f":{self.server_port}", "")[: 1 + (self.server_port == 80)]]
+        self.hosts = [name + port for name in self.names for port in (f":{self.server_port}", "")[: 1 + (self.server_port == 80)]]
 
     def server_close(self):
         super().server_close()
@@ -165,7 +194,7 @@ class Server(ThreadingHTTPServer):
         print(f"web.py: a client has gone away: {why}", file=sys.stderr, flush=True)
 
     def address(self, line):
-        return f"http://{NAMES[0]}:{self.server_port}/#{quote(line, safe=',/')}"
+        return f"http://{self.names[0]}:{self.server_port}/#{quote(line, safe=',/')}"
 
 
 def as_json(answer):
@@ -178,12 +207,20 @@ def port(text):
     return int(text)
 
 
+def host(text):
+    """An address of this machine that others can type: 0.0.0.0 and the like is none."""
+    if not text.strip("0.:[]"):
+        raise argparse.ArgumentTypeError("ADDRESS is the one by which the others reach this machine")
+    return text
+
+
 def main():
     parser = arguments(__doc__)
+    parser.add_argument("--host", type=host, metavar="ADDRESS", help="the address of this machine, or its name, for a class")
     parser.add_argument("--port", type=port, default=8000, metavar="N", help="the port of the address (8000); with 0 any that is free")
     parser.add_argument("line", metavar="LINE")
     asked = parser.parse_args()
-    with Server(asked.port) as server:
+    with Server(asked.port, host=asked.host) as server:
         server.ask["/moves"](asked.line)
         print(server.address(asked.line), flush=True)
         server.serve_forever()

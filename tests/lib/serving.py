@@ -19,18 +19,20 @@ from lib.scripts import drawn_line, must
 
 import web
 
-DRAWN, THREADS = 200, 40
+DRAWN, THREADS, MOST = 200, 40, 10
 SOON = 30
 LINE = "1,1/0 1,1/0"
+# Two more addresses of this machine.
+OTHER, CLIENT = "127.0.0.2", "127.0.0.3"
 PATHS = ["/best", "/values", "/moves"]
 # What reads a text as HTML.
 RISKY = ["innerHTML", "outerHTML", "insertAdjacentHTML", "document.write", "eval(", "new Function", "setTimeout("]
 
 
 @contextmanager
-def served(program, timeout=60):
+def served(program, timeout=60, host=None):
     """A server in this process, on a port that is free. It may say only that clients have gone away."""
-    with redirect_stderr(io.StringIO()) as said, web.Server(0, str(program), timeout) as server:
+    with redirect_stderr(io.StringIO()) as said, web.Server(0, str(program), timeout, host) as server:
         thread = threading.Thread(target=server.serve_forever)
         thread.start()
         try:
@@ -45,9 +47,9 @@ def look_at_errors(said):
     must(all(line.startswith("web.py: a client has gone away: ") for line in said.splitlines()), f"web.py prints {said}")
 
 
-def sent(port, data):
+def sent(port, data, to="127.0.0.1", source=""):
     """Sends these bytes, and returns the status of the reply, its headers and its body."""
-    with socket.create_connection(("127.0.0.1", port), SOON) as client:
+    with socket.create_connection((to, port), SOON, (source, 0)) as client:
         client.sendall(data)
         reply = b"".join(iter(lambda: client.recv(1 << 16), b""))
     head, _, body = reply.partition(b"\r\n\r\n")
@@ -133,6 +135,7 @@ class ServerTrials:
             self.many(server.server_port)
         self.misbehaving()
         self.too_many()
+        self.a_class()
         self.as_script()
 
     def page(self, port):
@@ -195,6 +198,34 @@ class ServerTrials:
             must(len(answered) < THREADS, f"web.py: all of {THREADS} at once wait")
             for line, one in answered:
                 compare("/best", line, one)
+
+    def a_class(self):
+        """By the address that is named, others ask. What takes long is refused, as are too many questions of one client."""
+        with served(fake(self.folder, self.program, ["read -r line; exec sleep 600"]), host=OTHER) as server:
+            port, server.quota.most = server.server_port, MOST
+
+            def asks(source="", host=f"{OTHER}:{port}"):
+                status, _, body = sent(port, request(port, LINE.encode(), host=host), OTHER, source)
+                return status, json.loads(body)
+
+            late = asks(CLIENT)
+            must(late == (503, {"error": "too large here: kalah has not answered in 1 seconds"}), f"web.py --host: {late}")
+            for host in (f"127.0.0.1:{port}", f"localhost:{port}", OTHER):
+                must(asks(CLIENT, host)[0] == 403, f"web.py --host serves {host}")
+            # A minute may end in between.
+            got = [asks() for _ in range(2 * MOST + 1)]
+            refused = 429, {"error": f"too many questions from here: at most {MOST} a minute"}
+            answered = [one for one in got if one != refused]
+            must(MOST <= len(answered) < len(got), f"web.py --host answers {len(answered)} of {len(got)} questions")
+            for one in [*answered, asks(CLIENT)]:
+                compare("/best", LINE, one)
+        script = self.start(self.program, "--port=0", f"--host={OTHER}", LINE)
+        address = script.stdout.readline()
+        must(re.fullmatch(rf"http://{OTHER}:[0-9]+/#1,1/0%201,1/0\n", address), f"web.py --host prints {address!r}")
+        self.ends(script)
+        for address in ("0.0.0.0", "::"):
+            _, err = self.start(self.program, f"--host={address}", LINE).communicate(timeout=SOON)
+            must("usage:" in err and "reach this machine" in err and "Traceback" not in err, f"web.py --host {address}: {err}")
 
     def as_script(self):
         """It says where the page is. If a client goes away it goes on; and it ends on Ctrl-C, also while a question is under way."""
