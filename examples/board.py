@@ -3,18 +3,13 @@
     python3 examples/board.py LINE > board.svg
 
 Each house is a circle with its number of seeds, and a store stands at each end. The small numbers at the edges are those of the houses, as
-their owner counts them. Other programs call `read` and `svg`. It needs `kalah`, as examples/kalah.py says, which checks the line.
+their owner counts them. There may be any number of seeds, up to 99 in a house. Other programs call `read` and `svg`. It needs no `kalah`.
 """
 
 import html
-import re
-from collections import namedtuple
 
-from kalah import moves
+import rules
 from script import arguments, run
-
-# What a board holds: the seeds in the houses of a player, and in the store.
-Side = namedtuple("Side", "houses store")
 
 CELL, STORE, MARGIN, EDGE = 60, 54, 10, 16
 # How far the middles of the two rows of houses are from the upper edge.
@@ -24,10 +19,7 @@ FONT = 'font-family="sans-serif" text-anchor="middle" dominant-baseline="central
 
 def read(line):
     """The two sides of a position: that of the player to move, and that of the other player."""
-    form = re.fullmatch("([0-9,]+)/([0-9]+) ([0-9,]+)/([0-9]+)(?: e)?", line)
-    if not form:
-        raise ValueError(f"{line!r} is not a position")
-    return [Side(tuple(map(int, form[houses].split(","))), int(form[houses + 1])) for houses in (1, 3)]
+    return rules.read(line)[:2]
 
 
 def text(x, y, words, size=20, color="#222"):
@@ -68,8 +60,7 @@ def svg(below, above, marked=None, title="A position of Kalah"):
 def main():
     parser = arguments(__doc__)
     parser.add_argument("line", metavar="LINE")
-    line = parser.parse_args().line
-    moves(line)
+    line = rules.start(parser.parse_args().line)
     print(svg(*read(line), title=f"Kalah, the player below moves: {line}"))
 
 

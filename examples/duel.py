@@ -3,14 +3,15 @@
     python3 examples/duel.py [--second] LINE
 
 You sit below and begin, or the solver does with --second. Type the number of a house, counted from your left. At the end of the
-input, or with q, the game ends. One run of `kalah ask` answers for the solver, and another one has the rules. It needs `kalah`, as
-examples/kalah.py says.
+input, or with q, the game ends. There may be any number of seeds, up to 99 in a house. Above 31 in houses the solver has no values: it
+looks a few moves ahead, and says so. It needs `kalah`, as examples/kalah.py says.
 """
 
 import sys
 
 from board import read
-from kalah import Best, Over, Solver, Steps
+from kalah import Best, Over, Solver, find
+from rules import LOOKED_AHEAD, TooMany, ask, guess, start, steps
 from script import arguments, run
 
 
@@ -34,17 +35,25 @@ def typed(possible):
         print("that house can't be moved")
 
 
-def duel(solver, rules, position, is_person):
+def answered(solver, position):
+    """The house that the solver moves, and what it says of that."""
+    try:
+        return str(ask(solver, position).house), ""
+    except TooMany as why:
+        return str(guess(position)), f" ({why}; it looks {LOOKED_AHEAD} moves ahead)"
+
+
+def duel(solver, position, is_person):
     """Plays to the end, and says who won."""
     word = ""
-    while word != "over" and not isinstance(steps := rules.ask(position), Over):
-        possible = {str(move.house): move for move in steps.moves}
+    while word != "over" and not isinstance(possible := steps(position), Over):
+        possible = {str(move.house): move for move in possible.moves}
         if is_person:
             print(picture(position), end="")
-        house = typed(possible) if is_person else str(solver.ask(position).house)
+        house, said = (typed(possible), "") if is_person else answered(solver, position)
         if house is None:
             return
-        print(f"{'you' if is_person else 'the solver'}: house {house}")
+        print(f"{'you' if is_person else 'the solver'}: house {house}{said}")
         position, word = possible[house].position, possible[house].word
         is_person ^= word == "turn"
     own, other = (sum(side.houses) + side.store for side in read(position))
@@ -57,8 +66,9 @@ def main():
     parser.add_argument("--second", action="store_true", help="the solver begins")
     parser.add_argument("line", metavar="LINE")
     asked = parser.parse_args()
-    with Solver(Best) as solver, Solver(Steps) as rules:
-        duel(solver, rules, asked.line, not asked.second)
+    find()
+    with Solver(Best) as solver:
+        duel(solver, start(asked.line), not asked.second)
 
 
 if __name__ == "__main__":

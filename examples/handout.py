@@ -4,17 +4,19 @@
 
 South, who moves first, always sits below. Below each board stands the move that leads to the next one, with its value: the margin
 that the move gets in best play, for the player who makes it. The house that is moved is marked. With --first H the game begins with
-house H, to see what that move leads to. It needs `kalah`, as examples/kalah.py says.
+house H, to see what that move leads to. There may be any number of seeds, up to 99 in a house. Above 31 in houses a move has no value:
+then each player looks a few moves ahead, and the page says so. It needs `kalah`, as examples/kalah.py says.
 """
 
 import html
-import re
 
 from board import read, svg
-from kalah import Solver, Values, play
+from kalah import Over, Solver, Values, find
+from rules import LOOKED_AHEAD, MOST_SEEDS, TooMany, ask, guess, start, steps, too_many
 from script import arguments, run
 
 PLAYERS = ["South", "North"]
+UNPROVED = f"With more than {MOST_SEEDS} seeds in houses nothing is proved, and no move has a value."
 PAGE = """<!DOCTYPE html>
 <html lang="en">
 <head>
@@ -41,21 +43,29 @@ GAME = """<p>{intro}</p>
 </ol>"""
 
 
-def game_of(line, first):
-    """The positions of the game, each with the player who moves there, and the moves between them."""
-    positions, moves, player = [(line, 0)], play(line, first), 0
-    for move in moves:
-        player ^= move.word == "turn"
-        positions.append((move.position, player))
-    return positions, moves
+def game_of(solver, position, first):
+    """Yields each position of the game, with the player who moves there, the move and the values of all moves; at the end without these."""
+    player, house, word = 0, first, ""
+    while word != "over" and not isinstance(possible := steps(position), Over):
+        values, possible = values_of(solver, position), {move.house: move for move in possible.moves}
+        if house is None:
+            house = max(values, key=values.get) if values else guess(position)
+        if house not in possible:
+            raise ValueError(f"house {house} can't be moved")
+        yield position, player, possible[house], values
+        position, word = possible[house].position, possible[house].word
+        player, house = player ^ (word == "turn"), None
+    if house is not None:
+        raise ValueError(f"house {house} can't be moved: the game is over")
+    yield position, player, None, None
 
 
 def values_of(solver, position):
-    """What the moves of a position are worth, by their houses. A store may have more seeds than a line that is asked for, so stores are
-    counted here."""
-    own, other = read(position)
-    values = solver.ask(re.sub("/[0-9]+", "/0", position)).by_house
-    return {house: value + own.store - other.store for house, value in values.items()}
+    """What the moves of a position are worth, by their houses; None if there are too many seeds."""
+    try:
+        return ask(solver, position).by_house
+    except TooMany:
+        return None
 
 
 def board(position, player, marked=None):
@@ -65,11 +75,12 @@ def board(position, player, marked=None):
     return svg(*(sides if player == 0 else sides[::-1]), marked and (rows[player], marked), position)
 
 
-def caption(number, player, move, values):
+def caption(number, position, player, move, values):
     """What is said of a move."""
-    said = f"<b>{number}. {PLAYERS[player]}</b> moves house {move.house}, worth {values[move.house]:+d}"
-    best = max(values, key=values.get)
-    if values[move.house] < values[best]:
+    said = f"<b>{number}. {PLAYERS[player]}</b> moves house {move.house}"
+    said += f", worth {values[move.house]:+d}" if values else f" ({too_many(position)})"
+    best = max(values, key=values.get) if values else move.house
+    if values and values[move.house] < values[best]:
         lost = values[best] - values[move.house]
         said += f', <span class="loss">which loses {lost} (house {best} is worth {values[best]:+d})</span>'
     return said + {"again": ", and moves again.", "turn": ".", "over": ", and the game is over."}[move.word]
@@ -89,15 +100,16 @@ def result(position, player):
 
 
 def page(line, first):
-    positions, moves = game_of(line, first)
-    steps = []
+    drawn = []
     with Solver(Values) as solver:
-        for number, ((position, player), move) in enumerate(zip(positions, moves), 1):
-            said = caption(number, player, move, values_of(solver, position))
-            steps.append(step(position, player, said, move.house))
-    steps.append(step(*positions[-1], f"<b>{result(*positions[-1])}</b>"))
+        for number, (position, player, move, values) in enumerate(game_of(solver, line, first), 1):
+            said = caption(number, position, player, move, values) if move else f"<b>{result(position, player)}</b>"
+            drawn.append(step(position, player, said, move and move.house))
     begins = "Both" if first is None else f"South begins with house {first}; then both"
-    game = GAME.format(intro=f"South sits below and moves first. {begins} always make a best move.", steps="\n".join(steps))
+    intro = f"South sits below and moves first. {begins} always make a best move."
+    if too_many(line):
+        intro += f" {UNPROVED} There each move is the best one that a search of {LOOKED_AHEAD} moves sees."
+    game = GAME.format(intro=intro, steps="\n".join(drawn))
     return PAGE.format(title=f"Kalah: {html.escape(line)}", games=game)
 
 
@@ -106,7 +118,8 @@ def main():
     parser.add_argument("--first", type=int, metavar="H", help="the house that South moves first")
     parser.add_argument("line", metavar="LINE")
     asked = parser.parse_args()
-    print(page(asked.line, asked.first))
+    find()
+    print(page(start(asked.line), asked.first))
 
 
 if __name__ == "__main__":

@@ -3,25 +3,32 @@
     python3 examples/review.py [--html] LINE H H H ..
     python3 examples/review.py [--html] --games FILE
 
-LINE is the position at the start, in which South moves, and each H is the house that was moved next. FILE has a game in each line, in the
-same form. With --html the games are a page to print, in which the worst move of each player is marked. If a move is illegal, or a line has
-a fault, the review ends there, standard error has the reason, and the status is 1. It needs `kalah`, as examples/kalah.py says.
+LINE is the position at the start, in which South moves, and each H is the house that was moved next: its number, or a letter from A to F or
+a to f. An `e` right after LINE names the rule, so a first move there is `E` or 5. Commas, and the numbers of moves, `1.` or beside letters
+also `1`, are passed over. FILE has a game in each line, in the same form. With --html the games are a page to print. It marks the worst move
+of each player, and a curve shows the value through the game. There may be any number of seeds, up to 99 in a house. Above 31 in houses a move
+has no value, and the review says so. If a move is illegal, or a line has a fault, the review ends there, standard error has the reason, and
+the status is 1. It needs `kalah`, as examples/kalah.py says.
 """
 
 import html
 import re
 import sys
-from dataclasses import dataclass, replace
+from dataclasses import dataclass
 
 from board import read
-from handout import GAME, PAGE, PLAYERS, caption, result, step, values_of
-from kalah import Move, Solver, Values, moves
+from handout import GAME, PAGE, PLAYERS, UNPROVED, caption, result, step, values_of
+from kalah import Move, Over, Solver, Values, find
+from rules import start, steps, too_many
 from script import arguments, run
+
+# The curve: how wide a move is and how high the whole, and the room around it.
+WIDE, HIGH, LEFT, EDGE = 24, 160, 44, 24
 
 
 @dataclass(frozen=True)
 class Played:
-    """A move of a game: the position and the player before it, and the values of all moves there."""
+    """A move of a game: the position and the player before it, and the values of all moves there; None if there are too many seeds."""
 
     position: str
     player: int
@@ -30,15 +37,19 @@ class Played:
 
     @property
     def lost(self):
-        return max(self.values.values()) - self.values[self.move.house]
+        return max(self.values.values()) - self.values[self.move.house] if self.values else 0
 
 
-def moves_from(position):
-    """The moves from a position, by their houses. A store may have more seeds than in a line that is read, so stores are added here."""
-    own, other = (side.store for side in read(position))
-    for move in moves(re.sub("/[0-9]+", "/0", position)):
-        stores = iter([other, own] if move.word == "turn" else [own, other])
-        yield move.house, replace(move, position=re.sub("/([0-9]+)", lambda store: f"/{int(store[1]) + next(stores)}", move.position))
+def houses_in(text):
+    """The words that name houses where a game is written down."""
+    words = re.sub(r"\b[0-9]+[.)]+|,", " ", text).split()
+    has_letters = any(re.fullmatch("[A-Fa-f]", word) for word in words)
+    return [word for word in words if not (has_letters and word.isdigit())]
+
+
+def number_of(word):
+    """The number of a house that is written as a number or as a letter."""
+    return str("ABCDEF".index(word.upper()) + 1) if re.fullmatch("[A-Fa-f]", word) else word
 
 
 class Game:
@@ -48,11 +59,11 @@ class Game:
         words = text.split()
         count = 3 if words[2:3] == ["e"] else 2
         self.line = self.position = " ".join(words[:count])
-        self.played, self.player, self.flaw = [], 0, None
+        self.played, self.player, self.flaw, self.is_over = [], 0, None, False
         try:
             # A line with a fault fails here.
-            self.is_over = not moves(self.line)
-            for word in words[count:]:
+            self.is_over = isinstance(steps(start(self.line)), Over)
+            for word in houses_in(" ".join(words[count:])):
                 self._play(word, solver)
         except ValueError as why:
             self.flaw = str(why)
@@ -61,7 +72,7 @@ class Game:
         number = len(self.played) + 1
         if self.is_over:
             raise ValueError(f"move {number}, house {word}: the game is over")
-        move = {str(house): move for house, move in moves_from(self.position)}.get(word)
+        move = {str(move.house): move for move in steps(self.position).moves}.get(number_of(word))
         if not move:
             raise ValueError(f"move {number}: {PLAYERS[self.player]} can't move house {word}")
         self.played.append(Played(self.position, self.player, move, values_of(solver, self.position)))
@@ -69,7 +80,7 @@ class Game:
         self.player ^= move.word == "turn"
 
     def captions(self):
-        return [caption(number, played.player, played.move, played.values) for number, played in enumerate(self.played, 1)]
+        return [caption(number, played.position, played.player, played.move, played.values) for number, played in enumerate(self.played, 1)]
 
     def end(self):
         """What is said of the position after the last move."""
@@ -83,8 +94,20 @@ class Game:
     def totals(self):
         """What is said of each player, once there is a move."""
         for player, name in enumerate(PLAYERS if self.played else []):
-            lost = [played.lost for played in self.of(player) if played.lost]
-            yield f"{name}: moves {len(self.of(player))}, mistakes {len(lost)}, lost {sum(lost)}."
+            moves, lost = self.of(player), [played.lost for played in self.of(player) if played.lost]
+            valued = sum(played.values is not None for played in moves)
+            yield f"{name}: moves {len(moves)}{f', with values {valued}' * (valued < len(moves))}, mistakes {len(lost)}, lost {sum(lost)}."
+
+    def course(self):
+        """Yields South's margin of best play before each move that has values, and at the end of a game that is over, each with the number of
+        moves before it and what the next one loses."""
+        for number, played in enumerate(self.played):
+            if played.values:
+                value = max(played.values.values())
+                yield number, -value if played.player else value, played.lost
+        if self.is_over:
+            own, other = (sum(side.houses) + side.store for side in read(self.position)[:: -1 if self.player else 1])
+            yield len(self.played), own - other, 0
 
     def text(self):
         lines = [re.sub("<[^>]*>", "", line) for line in self.captions()]
@@ -99,7 +122,33 @@ class Game:
             steps.append(step(played.position, played.player, said, played.move.house, "worst" if is_worst else ""))
         if self.played or not self.flaw:
             steps.append(step(self.position, self.player, f"<b>{html.escape(self.end())}</b>"))
-        return GAME.format(intro=" ".join(["South sits below and moves first.", *self.totals()]), steps="\n".join(steps))
+        unproved = [UNPROVED] if self.played and too_many(self.line) else []
+        intro = " ".join(["South sits below and moves first.", *unproved, *self.totals()])
+        return (curve([*self.course()], len(self.played)) if self.played else "") + GAME.format(intro=intro, steps="\n".join(steps))
+
+
+def curve(course, moves):
+    """The value through a game, in SVG: above the line in the middle South wins. A red point is a position whose move loses something."""
+    most = max([1, *(abs(value) for _, value, _ in course)])
+    width, middle, unit = LEFT + WIDE * moves + EDGE, EDGE + HIGH / 2, HIGH / 2 / most
+    placed = [(LEFT + WIDE * number, middle - unit * value, number, value, lost) for number, value, lost in course]
+    parts = [
+        f'<svg class="curve" xmlns="http://www.w3.org/2000/svg" viewBox="0 0 {width} {HIGH + 2 * EDGE}" width="{width}" role="img">',
+        "<title>South's margin in best play, before each move and at the end</title>",
+        f'<path d="M{LEFT} {middle}H{width - EDGE}" stroke="#999"/>',
+        *(label(LEFT - 8, middle - unit * value, f"{value:+d}" if value else "0", "end") for value in (most, 0, -most)),
+        *(label(LEFT + WIDE * number, HIGH + 2 * EDGE - 6, number, "middle") for number in range(0, moves + 1, 5)),
+        f'<polyline points="{" ".join(f"{x:g},{y:g}" for x, y, *_ in placed)}" fill="none" stroke="#7a5230" stroke-width="2"/>',
+    ]
+    for x, y, number, value, lost in placed:
+        said = f"after {number} moves {value:+d}" + f"; the next one loses {lost}" * (lost > 0)
+        color = "#b00020" if lost else "#7a5230"
+        parts.append(f'<circle cx="{x:g}" cy="{y:g}" r="{5 if lost else 3}" fill="{color}"><title>{said}</title></circle>')
+    return "\n".join([*parts, "</svg>\n"])
+
+
+def label(x, y, text, anchor):
+    return f'<text x="{x:g}" y="{y:g}" font-family="sans-serif" font-size="12" text-anchor="{anchor}" dominant-baseline="central">{text}</text>'
 
 
 def main():
@@ -115,6 +164,7 @@ def main():
         with open(asked.games) as file:
             texts = {f"{asked.games}:{number}": text for number, text in enumerate(file, 1) if text.strip()}
     games = []
+    find()
     with Solver(Values) as solver:
         for name, text in texts.items():
             game = Game(text, solver)

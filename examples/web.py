@@ -10,7 +10,8 @@ With --host it serves a class: all who reach this machine by ADDRESS. Then a pos
 are more than 120 questions a minute from one address.
 
 The page posts lines to /moves, /values and /best. Each of these gets one JSON object: an answer, or an `error` and a status that is not
-200. It needs `kalah`, as examples/kalah.py says.
+200. There may be any number of seeds, up to 99 in a house at the start; with more than 31 in houses the last two are refused. It needs
+`kalah`, as examples/kalah.py says.
 """
 
 import argparse
@@ -22,12 +23,14 @@ import threading
 import time
 from collections import Counter
 from dataclasses import asdict
+from functools import partial
 from http import HTTPStatus
 from http.server import BaseHTTPRequestHandler, ThreadingHTTPServer
 from pathlib import Path
 from urllib.parse import quote
 
-from kalah import Best, Fault, Gone, Late, Over, Solver, Steps, Values
+import rules
+from kalah import Best, Fault, Gone, Late, Over, Solver, Values, find
 from script import arguments, run
 
 PAGE = Path(__file__).with_name("web.html")
@@ -42,8 +45,8 @@ HEADERS = {
     "Referrer-Policy": "no-referrer",
     "Cache-Control": "no-store",
 }
-# The answers to the questions of the page. Each kind has a run of `kalah` of its own.
-KINDS = {"/moves": Steps, "/values": Values, "/best": Best}
+# The answers to the questions of the page. Each of these kinds has a run of `kalah` of its own; examples/rules.py answers /moves.
+KINDS = {"/values": Values, "/best": Best}
 # The most bytes of a question, and of one that is too long the most that are read before it is refused.
 LONGEST, MOST_READ = 200, 1 << 20
 # The most questions that are answered or wait at a time.
@@ -127,7 +130,7 @@ class Handler(BaseHTTPRequestHandler):
         except UnicodeDecodeError:
             raise Refused(400, "a question is text in UTF-8") from None
         except ValueError as why:
-            raise Refused(422 if isinstance(why, Fault) else 400, str(why)) from None
+            raise Refused(422 if isinstance(why, (Fault, rules.TooMany)) else 400, str(why)) from None
         finally:
             self.server.room.release()
         return "application/json", as_json({"is_over": isinstance(answer, Over), **asdict(answer)})
@@ -175,7 +178,7 @@ class Server(ThreadingHTTPServer):
     def __init__(self, port, program=None, timeout=60, host=None):
         timeout, self.quota = (SECONDS, Quota(MOST_IN_A_MINUTE)) if host else (timeout, Quota(None))
         self.page, self.solvers = PAGE.read_bytes(), {path: Solver(kind, program, timeout) for path, kind in KINDS.items()}
-        self.ask = {path: solver.ask for path, solver in self.solvers.items()}
+        self.ask = {"/moves": rules.steps, **{path: partial(rules.ask, solver) for path, solver in self.solvers.items()}}
         self.names = [host.lower()] if host else NAMES
         super().__init__((self.names[0], port), Handler)
         self.room = threading.BoundedSemaphore(MOST_AT_ONCE)
@@ -220,9 +223,10 @@ def main():
     parser.add_argument("--port", type=port, default=8000, metavar="N", help="the port of the address (8000); with 0 any that is free")
     parser.add_argument("line", metavar="LINE")
     asked = parser.parse_args()
+    line = rules.start(asked.line)
+    find()
     with Server(asked.port, host=asked.host) as server:
-        server.ask["/moves"](asked.line)
-        print(server.address(asked.line), flush=True)
+        print(server.address(line), flush=True)
         server.serve_forever()
 
 

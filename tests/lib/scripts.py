@@ -355,8 +355,8 @@ class ScriptTrials:
         want = "review.py: a b.txt:3: move 3: North can't move house 2\nreview.py: a b.txt:4: fault shape\n"
         must(err == want, f"review.py: {err}")
         page, _ = self.script("review.py", "--html", "--games", "a b.txt", status=1)
-        counts = [page.count(part) for part in ("<h2>", "<svg", "worst move", "which loses 4")]
-        must(counts == [3, 6, 1, 1], f"review.py --html: {counts}")
+        counts = [page.count(part) for part in ("<h2>", "<svg xmlns", '<svg class="curve"', "worst move", "which loses 4")]
+        must(counts == [3, 6, 2, 1, 1], f"review.py --html: {counts}")
         page, _ = self.script("review.py", "--html", HOSTILE, status=1)
         must("<script" not in page, f"review.py --html: {page}")
 

@@ -239,9 +239,7 @@ class ServerTrials:
             _, err = self.start(self.program, f"--port={word}", LINE).communicate(timeout=SOON)
             must("usage:" in err and "Traceback" not in err, f"web.py --port {word}: {err}")
         self.ends(script, int(port[1]))
-        # Its first run answers what the script asks before it serves.
-        hangs = [f'exec "{self.program}" "$@"', ': > "$0.begun"; exec sleep 600']
-        script = self.start(fake(self.folder, self.program, hangs), "--port=0", LINE)
+        script = self.start(fake(self.folder, self.program, [': > "$0.begun"; exec sleep 600']), "--port=0", LINE)
         port = int(re.search(":([0-9]+)/", script.stdout.readline())[1])
         with socket.create_connection(("127.0.0.1", port)) as client:
             client.sendall(request(port, LINE.encode()))

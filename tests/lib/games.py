@@ -1,0 +1,254 @@
+"""The trials of examples/rules.py and of what uses its rules, for tests/examples: games from boards of any number of seeds.
+
+The rules are compared with `kalah steps`, and above its limit with tests/lib/reference.py, where each cell gets its seeds by a formula.
+To have games whose values the reference finds, some trials lower the limit.
+"""
+
+import re
+import subprocess
+import sys
+from contextlib import contextmanager
+from xml.dom import minidom
+
+from lib import reference
+from lib.clients import EXAMPLES, kalah
+from lib.drawn import FAULTS, Drawn
+from lib.scripts import HOSTILE, drawn_game, drawn_line, must
+from lib.serving import asked, served
+
+import handout
+import review
+import rules
+
+# The positions that are compared with the program's moves, those above its limit, and the lines that may have a fault.
+BELOW, ABOVE, READ = 20_000, 2_000, 1_000
+GAMES = 20
+USUAL = "4,4,4,4,4,4/0 4,4,4,4,4,4/0"
+# The limit of the trials that lower it.
+LOW = 4
+
+
+@contextmanager
+def lower_limit():
+    """The scripts take `LOW` for the number of seeds that `kalah` solves."""
+    usual, rules.MOST_SEEDS = rules.MOST_SEEDS, LOW
+    try:
+        yield
+    finally:
+        rules.MOST_SEEDS = usual
+
+
+def try_rules(program, folder, drawn):
+    """The moves of drawn positions of both rules are those of `kalah steps`."""
+    lines = [drawn.position(31).decode() for _ in range(BELOW)]
+    (folder / "drawn").write_text("\n".join(lines))
+    out = subprocess.run([program, "steps", "drawn"], cwd=folder, capture_output=True, text=True, check=True).stdout
+    want = [[] for _ in lines]
+    for row in out.splitlines():
+        number, _, words = row.removeprefix("drawn:").partition(" ")
+        want[int(number) - 1].append(words)
+    for line, words in zip(lines, want):
+        answer = rules.steps(line)
+        over = isinstance(answer, kalah.Over)
+        got = [f"{answer.margin} over"] if over else [f"{move.house} {move.position} {move.word}" for move in answer.moves]
+        must(got == words, f"rules.py, {line}: {got} in place of {words}")
+
+
+def position_above(draw):
+    """A position with more seeds than `kalah` solves, up to 99 in a house."""
+    while True:
+        m, most = draw.randint(1, 6), draw.choice([6, 20, 99])
+        sides = [reference.Side(tuple(draw.randint(0, most) for _ in range(m)), draw.choice([0, 9, 99])) for _ in range(2)]
+        if sum(sum(side.houses) for side in sides) > reference.MOST_SEEDS:
+            return reference.Position(*sides, draw.random() < 0.5)
+
+
+def try_rules_above(draw):
+    """Above the limit each cell gets what the formula of the reference gives it, and a line is read as what it writes."""
+    for _ in range(ABOVE):
+        position = position_above(draw)
+        line = reference.text(position)
+        must(rules.start(line) == line and rules.read(line) == position, f"rules.py, {line}: {rules.read(line)}")
+        for house in reference.legal(position):
+            got, want = rules.after(rules.read(line), house), reference.after(position, house)
+            must(got == want, f"rules.py, {line}, house {house}: {got} in place of {want}")
+            must(rules.read(rules.text(got[0])) == want[0], f"rules.py, {line}, house {house}: {rules.text(got[0])} is not read again")
+
+
+def try_faults(drawn):
+    """A line has the fault that it has for `kalah`, but for the number of seeds."""
+    lines = [drawn.faulty(drawn.card("faults", FAULTS)) for _ in range(READ)]
+    for line in [*lines, b"100,1/0 1,1/0", b"1,1/100 1,1/0", b"1" * 81, b"", b"1/0 1/0 E", b"01/0 1/0", b"1/0 1/0 "]:
+        want = reference.read(line)
+        try:
+            rules.start(line.decode(errors="surrogateescape"))
+            got = None
+        except kalah.Fault as fault:
+            got = fault.word
+        except ValueError:
+            got = "no question"
+        is_right = got is None if want == "seeds" or not isinstance(want, str) else got in (want, "no question" if b"\xff" in line else want)
+        must(is_right, f"rules.py, {line}: {got} in place of {want}")
+
+
+def seen(position, depth):
+    """The margin that a plain search sees over the rules of the reference."""
+    if reference.is_over(position):
+        return reference.best_play(position)[0]
+    return max(seen_of(position, depth).values()) if depth else position.own.store - position.other.store
+
+
+def seen_of(position, depth):
+    reached = {house: reference.after(position, house) for house in reference.legal(position)}
+    return {house: seen(to, depth - 1) * (-1 if word == "turn" else 1) for house, (to, word) in reached.items()}
+
+
+def try_values(draw, solver):
+    """Values are those of best play if there are few enough seeds, also with large stores; else there are none, and a guess is what a plain
+    search sees."""
+    for _ in range(GAMES):
+        line = drawn_line(draw, 4, 8)
+        position = reference.read(line.encode())
+        values = {house: reference.value(position, house) for house in reference.legal(position)}
+        must(handout.values_of(solver, line) == values, f"rules.py, {line}: {handout.values_of(solver, line)} in place of {values}")
+        large = re.sub("/[0-9]+", "/900", line, 1)
+        lead = 900 - position.own.store
+        got = rules.ask(solver, large).by_house
+        must(got == {house: value + lead for house, value in values.items()}, f"rules.py, {large}: {got}")
+        found = seen_of(position, rules.LOOKED_AHEAD)
+        must(rules.guess(line) == max(found, key=found.get), f"rules.py, {line}: it guesses {rules.guess(line)} of {found}")
+    for line, seeds in ((USUAL, 48), ("16,0/3 0,16/0 e", 32)):
+        must(handout.values_of(solver, line) is None, f"rules.py, {line}: it has values")
+        must(rules.too_many(line) == f"{seeds} seeds in houses: values from 31 on", f"rules.py, {line}: {rules.too_many(line)}")
+    must(rules.too_many("16,0/3 0,15/0") == "", "rules.py: 31 seeds are too many")
+    must(rules.ask(solver, "0,0/3 40,0/1") == kalah.Over(-38), "rules.py: the end of a game needs values")
+
+
+class GameTrials:
+    """What the scripts say of games, above the limit and below it."""
+
+    def __init__(self, draw, solver):
+        self.draw, self.solver = draw, solver
+
+    def run(self):
+        with lower_limit():
+            for _ in range(GAMES):
+                line = drawn_line(self.draw, 4, 9)
+                self.review(line)
+                self.handout(line)
+        for _ in range(GAMES):
+            self.written()
+
+    def review(self, line):
+        """Moves have values as soon as the seeds fit, and the curve has each of these, as South sees it."""
+        moved, margin = drawn_game(self.draw, line)
+        game = review.Game(" ".join([line, *(str(house) for _, house, _ in moved)]), self.solver)
+        must(len(game.played) == len(moved) and game.is_over, f"review.py: {line} {moved}: {game.flaw}")
+        course = []
+        for number, (played, said, (player, house, values)) in enumerate(zip(game.played, game.captions(), moved)):
+            seeds = rules.seeds_in(rules.read(played.position))
+            fits = seeds <= LOW
+            must(played.values == (values if fits else None), f"review.py, {played.position}: {played.values}")
+            must((f"worth {values[house]:+d}" if fits else f" ({seeds} seeds in houses: values from {LOW} on)") in said, f"review.py: {said}")
+            if fits:
+                best = max(values.values())
+                course.append((number, -best if player else best, best - values[house]))
+        course.append((len(moved), margin, 0))
+        must([*game.course()] == course, f"review.py, {line} {moved}: {[*game.course()]} in place of {course}")
+        self.curve(game, course)
+        must(("nothing is proved" in game.html()) == bool(rules.too_many(line)), f"review.py --html: {line}")
+
+    def curve(self, game, course):
+        """The points of the curve rise with their values, and stand in the order of the moves."""
+        drawn = minidom.parseString(re.search('<svg class="curve".*?</svg>', game.html(), re.DOTALL)[0])
+        points = drawn.getElementsByTagName("circle")
+        said = [point.getElementsByTagName("title")[0].firstChild.data for point in points]
+        want = [f"after {number} moves {value:+d}" + f"; the next one loses {lost}" * (lost > 0) for number, value, lost in course]
+        must(said == want, f"review.py: the curve says {said} in place of {want}")
+        placed = [(float(point.getAttribute("cx")), float(point.getAttribute("cy"))) for point in points]
+        line = drawn.getElementsByTagName("polyline")[0].getAttribute("points")
+        must([tuple(map(float, point.split(","))) for point in line.split()] == placed, f"review.py: the curve goes through {line}")
+        for one, (left, above) in zip(course, placed):
+            for other, (right, below) in zip(course, placed):
+                holds = (one[0] < other[0]) == (left < right) and (one[1] > other[1]) == (above < below)
+                must(holds, f"review.py: the curve of {course} is at {placed}")
+
+    def handout(self, line):
+        """Above the limit the moves are those that seem best, and below it best ones."""
+        game = [*handout.game_of(self.solver, line, None)]
+        for (position, player, move, values), (reached, mover, *_) in zip(game, game[1:]):
+            at = rules.read(position)
+            best = reference.best_play(at)[1] if rules.seeds_in(at) <= LOW else rules.guess(position)
+            after, word = reference.after(at, best)
+            is_right = move.house == best and reached == reference.text(after) and mover == player ^ (word == "turn")
+            must(is_right and bool(values) == (rules.seeds_in(at) <= LOW), f"handout.py, {position}: house {move.house}, {values}")
+        must(reference.is_over(rules.read(game[-1][0])), f"handout.py, {line}: the game ends at {game[-1][0]}")
+
+    def written(self):
+        """A game is the same, however it is written down."""
+        line = drawn_line(self.draw, 4, 8).replace("/99", "/9")
+        moved, _ = drawn_game(self.draw, line)
+        houses = [house for _, house, _ in moved]
+        letters = [self.draw.choice(["ABCDEF", "abcdef"])[house - 1] for house in houses]
+        letters[0] = letters[0].upper()
+        forms = [
+            " ".join(map(str, houses)),
+            ", ".join(map(str, houses)),
+            " ".join(letters),
+            " ".join(f"{number}. {house}" for number, house in enumerate(houses, 1)),
+            " ".join(f"{number}.{letter}" for number, letter in enumerate(letters, 1)),
+            " ".join(f"{number} {letter}," for number, letter in enumerate(letters, 1)),
+            " ".join(f"{number}) {letter}" for number, letter in enumerate(letters, 1)),
+        ]
+        games = [review.Game(f"{line} {form}", self.solver) for form in forms]
+        for form, game in zip(forms, games):
+            got = [played.move.house for played in game.played]
+            must(got == houses and game.is_over and not game.flaw, f"review.py, {line} {form}: {got}, {game.flaw}")
+        must(len({game.text() for game in games}) == 1, f"review.py, {line}: {forms} are not one game")
+
+
+def output(folder, name, *words, text="", status=0):
+    """Returns what a script prints, on both outputs."""
+    script = [sys.executable, "-B", EXAMPLES / name, *map(str, words)]
+    done = subprocess.run(script, cwd=folder, input=text, capture_output=True, text=True)
+    must(done.returncode == status and "Traceback" not in done.stderr, f"{name} {words}: status {done.returncode}\n{done.stdout}{done.stderr}")
+    return done.stdout, done.stderr
+
+
+def try_usual_board(program, folder):
+    """The scripts take the board of 48 seeds, and say where there are no values yet."""
+    must(">99<" in output(folder, "board.py", "99,4/0 4,4/0")[0], "board.py: 99 seeds in a house are not drawn")
+    _, err = output(folder, "board.py", "100,4/0 4,4/0", status=1)
+    must(err == "board.py: fault shape\n", f"board.py: {err}")
+    out, _ = output(folder, "duel.py", "--second", USUAL, text="6\n")
+    said = f"the solver: house {rules.guess(USUAL)} (48 seeds in houses: values from 31 on; it looks 4 moves ahead)\n"
+    must(out.startswith(said) and "your house, " in out, f"duel.py: {out}")
+    page, _ = output(folder, "handout.py", "--first", 1, "9,9/0 9,9/0")
+    must("house 1 (36 seeds in houses: values from 31 on)" in page and "nothing is proved" in page and ", worth " in page, f"handout.py: {page}")
+    for first, line in ((2, "1,0/0 1,1/0"), (0, "1,1/0 1,1/0"), (1, "0,0/1 1,1/0")):
+        out, err = output(folder, "handout.py", "--first", first, line, status=2)
+        must(out == "" and err.startswith(f"handout.py: house {first} can't be moved"), f"handout.py --first {first} {line}: {err}")
+    out, _ = output(folder, "review.py", USUAL, "3", "6")
+    must(out.startswith("1. South moves house 3 (48 seeds in houses: values from 31 on), and moves again.\n"), f"review.py: {out}")
+    must(out.endswith("South: moves 2, with values 0, mistakes 0, lost 0.\nNorth: moves 0, mistakes 0, lost 0.\n"), f"review.py: {out}")
+    page, _ = output(folder, "review.py", "--html", USUAL, "3", HOSTILE, status=1)
+    must("<script" not in page and "can&#x27;t move house &lt;/title&gt;" in page, f"review.py --html: {page}")
+    with served(program) as server:
+        reached = asked(server.server_port, "/moves", USUAL)[1]["moves"][2]
+        must(reached == {"house": 3, "position": "4,4,0,5,5,5/1 4,4,4,4,4,4/0", "word": "again"}, f"web.py: {reached}")
+        for path in ("/best", "/values"):
+            status, answer = asked(server.server_port, path, USUAL)
+            must((status, answer) == (422, {"error": "48 seeds in houses: values from 31 on"}), f"web.py, {path}: {status} {answer}")
+        must(asked(server.server_port, "/best", "1,1/200 1,1/0") == (200, {"is_over": False, "margin": 202, "house": 2}), "web.py: large stores")
+
+
+def try_games(program, folder, seed):
+    """Makes all trials."""
+    drawn = Drawn(seed)
+    try_rules(program, folder, drawn)
+    try_rules_above(drawn.chance)
+    try_faults(drawn)
+    with kalah.Solver(kalah.Values) as solver:
+        try_values(drawn.chance, solver)
+        GameTrials(drawn.chance, solver).run()
+    try_usual_board(program, folder)
