@@ -116,6 +116,8 @@ class Solver:
     """A run of `kalah ask`. `kind` is the class of its answers, `Best`, `Values` or `Steps`. A question fails if the answer takes more than
     `timeout` seconds; if that is None, it never does."""
 
+    name = "kalah"
+
     def __init__(self, kind=Best, program=None, timeout=60):
         self.kind, self.program, self.timeout = kind, program, timeout
         self._lock = threading.Lock()
@@ -136,7 +138,7 @@ class Solver:
             # It is kept only with its answer, so that an interrupted question leaves no run whose answer is still to come.
             run = self._take() or self._start()
             try:
-                answer = self._read(exchange(run, question, self.timeout))
+                answer = self._read(exchange(run, question, self.timeout, self.name))
             except BaseException:
                 end(run)
                 raise
@@ -146,13 +148,16 @@ class Solver:
         return answer
 
     def _start(self):
-        self._owner, words = os.getpid(), [find(self.program), "ask", *self.kind.OPTIONS]
+        self._owner, words = os.getpid(), self._words()
         try:
             run = subprocess.Popen(words, stdin=subprocess.PIPE, stdout=subprocess.PIPE, bufsize=0)
         except OSError as why:
             raise Gone(str(why)) from None
         os.set_blocking(run.stdin.fileno(), False)
         return run
+
+    def _words(self):
+        return [find(self.program), "ask", *self.kind.OPTIONS]
 
     def _take(self):
         """Returns the run, which is kept no longer, if this process has started it."""
@@ -219,8 +224,8 @@ def one_line(line):
     return line
 
 
-def exchange(run, question, timeout):
-    """Writes a question to a run and returns the line that answers it."""
+def exchange(run, question, timeout, name):
+    """Writes a question to a run and returns the line that answers it. An error names the program."""
     answers, poller, rest, answer = run.stdout.fileno(), select.poll(), memoryview(question), b""
     last = time.monotonic() + (timeout or 0)
     poller.register(answers, select.POLLIN)
@@ -228,17 +233,17 @@ def exchange(run, question, timeout):
     while not answer.endswith(b"\n"):
         ready = poller.poll(None if timeout is None else max(0, 1000 * (last - time.monotonic())))
         if not ready:
-            raise Late(f"kalah has not answered in {timeout} seconds")
+            raise Late(f"{name} has not answered in {timeout} seconds")
         if answers in dict(ready):
             piece = os.read(answers, LONGEST)
             answer += piece
             if rest or not piece or len(answer) > LONGEST:
-                raise Gone(f"kalah has ended, or has written what isn't an answer: {answer!r}")
+                raise Gone(f"{name} has ended, or has written what isn't an answer: {answer!r}")
             continue
         try:
             rest = rest[os.write(run.stdin.fileno(), rest) :]
         except BrokenPipeError:
-            raise Gone("kalah has ended") from None
+            raise Gone(f"{name} has ended") from None
         if not rest:
             poller.unregister(run.stdin)
     return answer[:-1].decode(errors="backslashreplace")

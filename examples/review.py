@@ -5,10 +5,10 @@
 
 LINE is the position at the start, in which South moves, and each H is the house that was moved next: its number, or a letter from A to F or
 a to f. An `e` right after LINE names the rule, so a first move there is `E` or 5. Commas, and the numbers of moves, `1.` or beside letters
-also `1`, are passed over. FILE has a game in each line, in the same form. With --html the games are a page to print. It marks the worst move
-of each player, and a curve shows the value through the game. There may be any number of seeds, up to 99 in a house. Above 31 in houses a move
-has no value, and the review says so. If a move is illegal, or a line has a fault, the review ends there, standard error has the reason, and
-the status is 1. It needs `kalah`, as examples/kalah.py says.
+also `1`, are passed over. FILE has a game in each line, in the same form. With --html the games are a page to print. It marks the worst
+move of each player, and a curve shows the value through the game. There may be any number of seeds, up to 99 in a house. Above 31 in
+houses a move has no value, and the review says so. If a move is illegal, or a line has a fault, the review ends there, standard error has
+the reason, and the status is 1. It needs `kalah`, as examples/kalah.py says.
 """
 
 import html
@@ -24,6 +24,7 @@ from script import arguments, run
 
 # The curve: how wide a move is and how high the whole, and the room around it.
 WIDE, HIGH, LEFT, EDGE = 24, 160, 44, 24
+CURVE = "The curve shows South's margin in best play; a red point is a position whose move loses something."
 
 
 @dataclass(frozen=True)
@@ -99,8 +100,8 @@ class Game:
             yield f"{name}: moves {len(moves)}{f', with values {valued}' * (valued < len(moves))}, mistakes {len(lost)}, lost {sum(lost)}."
 
     def course(self):
-        """Yields South's margin of best play before each move that has values, and at the end of a game that is over, each with the number of
-        moves before it and what the next one loses."""
+        """Yields South's margin of best play before each move that has values, and at the end of a game that is over, each with the number
+        of moves before it and what the next one loses."""
         for number, played in enumerate(self.played):
             if played.values:
                 value = max(played.values.values())
@@ -123,7 +124,7 @@ class Game:
         if self.played or not self.flaw:
             steps.append(step(self.position, self.player, f"<b>{html.escape(self.end())}</b>"))
         unproved = [UNPROVED] if self.played and too_many(self.line) else []
-        intro = " ".join(["South sits below and moves first.", *unproved, *self.totals()])
+        intro = " ".join(["South sits below and moves first.", *[CURVE] * bool(self.played), *unproved, *self.totals()])
         return (curve([*self.course()], len(self.played)) if self.played else "") + GAME.format(intro=intro, steps="\n".join(steps))
 
 
@@ -148,7 +149,8 @@ def curve(course, moves):
 
 
 def label(x, y, text, anchor):
-    return f'<text x="{x:g}" y="{y:g}" font-family="sans-serif" font-size="12" text-anchor="{anchor}" dominant-baseline="central">{text}</text>'
+    font = f'font-family="sans-serif" font-size="12" text-anchor="{anchor}" dominant-baseline="central"'
+    return f'<text x="{x:g}" y="{y:g}" {font}>{text}</text>'
 
 
 def main():

@@ -117,8 +117,8 @@ def steps(line):
 
 
 def ask(solver, line):
-    """Returns the answer of a solver of `Best` or `Values`, which is asked with empty stores: their difference is added. Fails as `read` and
-    the solver do, and with `TooMany` if there are too many seeds."""
+    """Returns the answer of a solver of `Best` or `Values`, which is asked with empty stores: their difference is added. Fails as `read`
+    and the solver do, and with `TooMany` if there are too many seeds."""
     position = read(line)
     own, other = position.own, position.other
     if is_over(position):

@@ -36,6 +36,11 @@ def end_by(number):
     signal.raise_signal(number)
 
 
+def say(why):
+    """Says on standard error what has failed. On a terminal that ends what is shown of the lines that are done."""
+    print("\r\033[K" * sys.stderr.isatty() + f"{os.path.basename(sys.argv[0])}: {why}", file=sys.stderr, flush=True)
+
+
 def of_lines(name, make):
     """Returns what `make` returns for each line of a file, without None, and whether some line failed, which standard error then names.
     If that is a terminal, it shows how many lines are done."""
@@ -47,7 +52,7 @@ def of_lines(name, make):
             made.append(make(line))
         except ValueError as why:
             has_failed = True
-            print(f"{os.path.basename(sys.argv[0])}: {name}:{number}: {why}", file=sys.stderr)
+            say(f"{name}:{number}: {why}")
         if is_shown:
             print(f"\r{number} of {len(lines)}" if number < len(lines) else "\r\033[K", end="", file=sys.stderr, flush=True)
     return [one for one in made if one is not None], has_failed

@@ -1,0 +1,77 @@
+"""Engines of Kalah as players: commands that are started once, get a position a line, and answer each with a line that has a house.
+
+    from player import player
+
+    with player("./engine --depth 6", timeout=10) as engine:
+        engine.house("1,1/0 1,1/0")     # 2
+
+Positions are lines of docs/FORMAT.md, seen by the player to move, whose houses count from 1. An engine flushes each answer, and writes
+nothing else to its standard output. The word `kalah` in place of a command is the solver itself.
+"""
+
+import re
+import shlex
+from argparse import ArgumentTypeError
+from shutil import which
+
+import rules
+from kalah import Best, Gone, Solver, find
+
+
+class NoMove(ValueError):
+    """An engine has named no house that can be moved, or has not answered in time."""
+
+
+class Engine(Solver):
+    """A run of an engine. After an answer that is none it is ended, and the next question starts another."""
+
+    def __init__(self, command, timeout):
+        super().__init__(timeout=timeout)
+        self.name, self.words = command, shlex.split(command)
+        if not self.words or not which(self.words[0]):
+            raise Gone(f"there is no program {command!r}")
+
+    def _words(self):
+        return self.words
+
+    def _read(self, text):
+        return text.strip()
+
+    def house(self, line):
+        """Returns the house that the engine moves. Fails with `NoMove`."""
+        try:
+            answer = self.ask(line)
+        except Gone as why:
+            raise NoMove(str(why)) from None
+        possible = {str(house): house for house in rules.legal(rules.read(line))}
+        if answer not in possible:
+            self.__exit__()
+            raise NoMove(f"{self.name} answers {answer[:40]!r}, not one of {' '.join(possible)}")
+        return possible[answer]
+
+
+class Kalah(Solver):
+    """The solver as a player: it moves the lowest-numbered best house."""
+
+    def __init__(self, timeout):
+        super().__init__(Best, timeout=timeout)
+        find()
+
+    def house(self, line):
+        """Returns the house that it moves. Fails with `NoMove`, and with `TooMany` if there are too many seeds."""
+        try:
+            return rules.ask(self, line).house
+        except Gone as why:
+            raise NoMove(str(why)) from None
+
+
+def player(command, timeout):
+    """Returns the player of this name: `kalah`, or the command of an engine."""
+    return Kalah(timeout) if command == "kalah" else Engine(command, timeout)
+
+
+def seconds(text):
+    """Returns the seconds that an engine may take for an answer."""
+    if not re.fullmatch(r"[0-9]{1,6}(\.[0-9]+)?", text) or not float(text):
+        raise ArgumentTypeError(f"{text!r} is not a number of seconds above 0")
+    return float(text)
