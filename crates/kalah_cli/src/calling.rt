@@ -1,7 +1,7 @@
 //! The crates, called as docs/CALLING.md shows it.
 #![tactic(auto)]
 
-ghost use Rattle.std.specs.Prelude.{◌≡◌, ◌↔◌, ◌++◌, ◌∷◌, [], IfOk, IfSome, IsErr, OnOk, codes, false, true};
+ghost use Rattle.std.specs.Prelude.{◌≡◌, ◌↔◌, ◌++◌, ◌∷◌, [], IfOk, IfSome, IsErr, OnOk, codes, count_by, false, int_lt, pos, true};
 ghost use Rattle.std.specs.Io.KnownBytes.{Appends};
 ghost use Rattle.kalah_rules.specs.Play.{step_of};
 ghost use Rattle.kalah_rules.specs.Position.{is_over};
@@ -14,7 +14,7 @@ ghost use Rattle.kalah_solve.specs.Solver.Worth.{worth};
 use kalah_jobs::{Entry, FileText, Outcome, Sink, Stream, Taken, read_line, write_answer};
 use kalah_rules::{Board, Rule, Step};
 use kalah_run::{OpenGate, RunFault, Tally, solve_batch};
-use kalah_solve::{Solver, Table, Verdict};
+use kalah_solve::{MoveValues, Solver, Table, Verdict};
 use std::alloc::{AllocError, Global};
 use std::io;
 use std::process::ExitCode;
@@ -58,11 +58,25 @@ fn margin(solver: &mut Solver, board: &Board) -> i32
     }
 }
 
+// Returns how many moves lose: those with a margin below 0.
+fn losing_moves(values: &MoveValues) -> u8
+    ensures { result ≡ count_by (λ v. int_lt v.value (pos 0)) values.now }
+{
+    let mut count = 0;
+    for i in 0..values.len() {
+        if values.get(i).value < 0 {
+            count += 1;
+        }
+    }
+    count
+}
+
 #[test]
 fn a_caller_solves(rt: HostRuntime) -> Result<(), Fail> {
     let board = two_houses().ok_or("beyond the limits")?;
     let mut solver = Solver::new(Table::new(rt.alloc(), 4096)?);
     assert!(rt; !board.is_over() && margin(&mut solver, &board) == 2);
+    assert!(rt; losing_moves(&solver.values(&board)) == 1);
     Ok(())
 }
 
