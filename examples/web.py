@@ -34,6 +34,8 @@ from kalah import Best, Fault, Gone, Late, Over, Solver, Values, find
 from script import arguments, run
 
 PAGE = Path(__file__).with_name("web.html")
+# What the page shows if its address has no position, as it stands there.
+USUAL = b'"4,4,4/0 4,4,4/0"'
 # Only this machine gets an answer, if no other host is named, and of its pages only the one that is served here.
 NAMES = ["127.0.0.1", "localhost"]
 # What a class may ask: the seconds of a question, and the questions of a client in a minute.
@@ -226,6 +228,7 @@ def main():
     line = rules.start(asked.line)
     find()
     with Server(asked.port, host=asked.host) as server:
+        server.page = server.page.replace(USUAL, as_json(line))
         print(server.address(line), flush=True)
         server.serve_forever()
 

@@ -233,6 +233,8 @@ class ServerTrials:
         address = script.stdout.readline()
         port = re.fullmatch(r"http://127\.0\.0\.1:([0-9]+)/#1,1/0%201,1/0\n", address)
         must(port, f"web.py prints {address!r}")
+        usual, (_, _, page) = web.PAGE.read_bytes(), sent(int(port[1]), request(int(port[1]), b"", "/", "GET"))
+        must(page == usual.replace(web.USUAL, f'"{LINE}"'.encode()) != usual, "web.py: the page does not begin with the position")
         _, err = self.start(self.program, f"--port={port[1]}", LINE).communicate(timeout=SOON)
         must(err.startswith("web.py: ") and err.count("\n") == 1, f"web.py, with a port that is taken: {err}")
         for word in ("65536", "-1", "x"):
