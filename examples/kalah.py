@@ -191,8 +191,10 @@ def output(words, program=None, timeout=60):
 @functools.lru_cache(maxsize=None)
 def find(program=None):
     """Returns the path of `kalah`. Fails with `Gone` if there is none, or an older one than this module needs."""
-    name, folder, scripts = program or os.environ.get("KALAH"), Path(__file__).resolve().parent, sysconfig.get_path("scripts")
-    places = [name] if name else ["kalah", folder / "../kalah", folder / "../../../../bin/kalah", Path(scripts, "kalah")]
+    name, folder = program or os.environ.get("KALAH"), Path(__file__).resolve().parent
+    # pip puts this module elsewhere than an installation puts the examples.
+    scripts = folder / "../../../../bin" if folder.name == "examples" else Path(sysconfig.get_path("scripts"))
+    places = [name] if name else ["kalah", folder / "../kalah", scripts / "kalah"]
     path = next(filter(None, map(shutil.which, places)), None)
     if not path:
         raise Gone(f"there is no program {name or 'kalah'}: put it on the path, or name it in KALAH")
