@@ -1,4 +1,5 @@
-"""Makes a booklet of puzzles to print: one HTML file with two drawn boards a page, and the solutions at the end.
+"""Makes a booklet of puzzles to print: one HTML file with the rules on its first page, then two drawn boards a page, and the solutions
+at the end.
 
     python3 examples/booklet.py [--title TITLE] FILE > booklet.html
 
@@ -26,13 +27,14 @@ PAGE = """<!DOCTYPE html>
 body {{ font-family: sans-serif; margin: 2em auto; max-width: 46em; }}
 section {{ break-inside: avoid; margin: 2em 0 4em; }}
 svg {{ width: 100%; height: auto; max-height: 60mm; }}
-h2, section:nth-of-type(2n + 3) {{ break-before: page; }}
+h2, section:nth-of-type(2n + 1) {{ break-before: page; }}
 li {{ break-inside: avoid; margin-bottom: 0.8em; }}
 </style>
 </head>
 <body>
 <h1>{title}</h1>
 <p>South sits below and moves. Each player's houses have numbers, as that player counts them.</p>
+{rules}
 {puzzles}
 <h2>Solutions</h2>
 <ol>
@@ -40,6 +42,18 @@ li {{ break-inside: avoid; margin-bottom: 0.8em; }}
 </ol>
 </body>
 </html>"""
+
+RULES = """<h3>The rules of Kalah</h3>
+<p>Each player has the houses of one row, and the store at its right end, as that player sees it. Who has more seeds at the end wins.</p>
+<p><b>A move</b> lifts all seeds of one of the player's own houses. They are sown one by one, against the clock: into the houses after it,
+the player's own store, the other player's houses, and so on round the board. The other player's store is passed over.</p>
+<p><b>Another move.</b> If the last seed falls into the player's own store, the same player moves again.</p>
+<p><b>Capture.</b> If the last seed falls into one of the player's own houses that was empty, and the house across has seeds, then that
+seed and those across go to the player's own store. The house whose seeds were lifted counts as empty.</p>
+<p><b>The end.</b> The game is over as soon as all houses of one player are empty. The seeds that are left go to the store of the player in
+whose houses they are.</p>"""
+EMPTY = """
+<p>Where <b>the empty-capture rule</b> holds, the last seed goes to the player's own store also if the house across is empty.</p>"""
 
 
 def outcome(house, value):
@@ -79,7 +93,8 @@ def main():
         made, has_failed = of_lines(asked.file, lambda line: puzzle(line, solver))
     puzzles = [f"<section><p><b>{number}.</b> {question}</p>\n{board}</section>" for number, (question, board, _) in enumerate(made, 1)]
     solutions = [f"<li>{solution}</li>" for _, _, solution in made]
-    print(PAGE.format(title=html.escape(asked.title), puzzles="\n".join(puzzles), solutions="\n".join(solutions)))
+    rules = RULES + EMPTY * any("empty-capture" in question for question, _, _ in made)
+    print(PAGE.format(title=html.escape(asked.title), rules=rules, puzzles="\n".join(puzzles), solutions="\n".join(solutions)))
     return has_failed
 
 

@@ -7,7 +7,9 @@ To have games whose values the reference finds, some trials lower the limit.
 import re
 import subprocess
 import sys
+from collections import Counter
 from contextlib import contextmanager
+from itertools import product
 from xml.dom import minidom
 
 from lib import reference
@@ -17,6 +19,7 @@ from lib.scripts import HOSTILE, drawn_game, drawn_line, must
 from lib.serving import asked, served
 
 import handout
+import positions
 import review
 import rules
 
@@ -117,6 +120,7 @@ def try_values(draw, solver):
         got = rules.ask(solver, large).by_house
         must(got == {house: value + lead for house, value in values.items()}, f"rules.py, {large}: {got}")
         found = seen_of(position, rules.LOOKED_AHEAD)
+        must(rules.seen_of_moves(rules.read(line), rules.LOOKED_AHEAD) == found, f"rules.py, {line}: it sees something other than {found}")
         must(rules.guess(line) == max(found, key=found.get), f"rules.py, {line}: it guesses {rules.guess(line)} of {found}")
     for line, seeds in ((USUAL, 48), ("16,0/3 0,16/0 e", 32)):
         must(handout.values_of(solver, line) is None, f"rules.py, {line}: it has values")
@@ -247,6 +251,63 @@ def try_usual_board(program, folder):
         must(answer == {"is_over": False, "margin": 202, "house": 2}, f"web.py, with large stores: {status} {answer}")
 
 
+def reachable(line):
+    """All positions that games reach from one, with that one."""
+    known, new = set(), {reference.read(line.encode())}
+    while new:
+        known |= new
+        new = {reference.after(position, house)[0] for position in new for house in reference.legal(position)} - known
+    return {reference.text(position) for position in known}
+
+
+def try_drawn_positions(folder, draw):
+    """Positions of a range, of games and of a small margin are what they are said to be."""
+    lines = output(folder, "positions.py", 3, "4-6", "--sample", 90, "--seed", draw.randrange(1000))[0].splitlines()
+    counts = Counter(rules.seeds_in(rules.read(line)) for line in lines)
+    must(len({*lines}) == 90 and [*sorted(counts)] == [4, 5, 6] and min(counts.values()) >= 10, f"positions.py 3 4-6: {counts}")
+    for rule, kind in product(["", " e"], ["random", "good"]):
+        line = "2,2/0 2,2/0" + rule
+        words = 2, "3-6", "--games", kind, "--start", line, "--sample", 8, "--seed", draw.randrange(1000)
+        lines = output(folder, "positions.py", *words)[0].splitlines()
+        sizes = {rules.seeds_in(rules.read(line)) for line in lines}
+        is_right = len({*lines}) == 8 and sizes <= {3, 4, 5, 6} and {*lines} <= reachable(line)
+        must(is_right and not any(reference.is_over(reference.read(one.encode())) for one in lines), f"positions.py {words}: {lines}")
+    start = rules.read(USUAL)
+    for often, least, most in ((0, 8, 30), (1, 1, 1)):
+        games = positions.of_games(draw, start, [40], often)
+        found = {next(games) for _ in range(30)}
+        must(least <= len(found) <= most, f"positions.py: games with {often} of best moves reach {found}")
+    every = [*positions.Positions(2, 5)]
+    margins = {line: reference.best_play(reference.read(line.encode()))[0] for line in every}
+    want = [line for line in every if abs(margins[line]) <= 1]
+    must(output(folder, "positions.py", 2, 5, "--balanced", 1)[0].splitlines() == want, "positions.py --balanced")
+    lines = output(folder, "positions.py", 2, "4-7", "--games", "--balanced", 2, "--sample", 10, "--seed", 1)[0].splitlines()
+    must(all(abs(reference.best_play(reference.read(line.encode()))[0]) <= 2 for line in lines), f"positions.py: {lines} are not balanced")
+    for words, why in (
+        ((2, "x"), "'x' is not a number from 2 to 31"),
+        ((2, "9-8"), "'9-8' is not a number from 2 to 31"),
+        ((2, "1-4"), "'1-4' is not a number"),
+        ((2, "30-32"), "'30-32' is not a number"),
+        ((2, 4, "--games"), "--games needs --sample"),
+        ((2, 4, "--sample", 3, "--start", USUAL), "--start needs --games"),
+        ((2, 4, "--sample", 3, "--games", "--start", USUAL), "no game starts there with 2 houses a side and 4 seeds or more"),
+        ((2, 4, "--balanced", "-1"), "'-1' is not a number from 0 on"),
+        ((1, 31, "--sample", 3, "--games", "random"), "only 0 positions are found"),
+    ):
+        out, err = output(folder, "positions.py", *words, status=2)
+        must(out == "" and why in err, f"positions.py {words}: {err}")
+
+
+def try_booklet(folder):
+    """The rules stand before the first puzzle; that of the empty capture only where a puzzle has it."""
+    for rule in ("", " e"):
+        (folder / "puzzles").write_text(f"1,3/0 1,1/0{rule}\n")
+        page, _ = output(folder, "booklet.py", "puzzles")
+        first, _, rest = page.partition("<section>")
+        must("<h3>The rules of Kalah</h3>" in first and "<b>Capture.</b>" in first and "<svg" in rest, f"booklet.py: {page}")
+        must(("empty-capture" in first) == bool(rule), f"booklet.py: {page}")
+
+
 def try_games(program, folder, seed):
     """Makes all trials."""
     drawn = Drawn(seed)
@@ -257,3 +318,5 @@ def try_games(program, folder, seed):
         try_values(drawn.chance, solver)
         GameTrials(drawn.chance, solver).run()
     try_usual_board(program, folder)
+    try_drawn_positions(folder, drawn.chance)
+    try_booklet(folder)

@@ -256,9 +256,9 @@ class ScriptTrials:
         """Each puzzle has exactly one move that wins, and others; no other position has; and faults are named."""
         lines = [*positions.Positions(2, 6), "1,1,1/0 3,0,0/0 e", "2,1/0 3,0/0 e", "1,1/0", "0,0/3 1,2/4"]
         (self.folder / "a b.txt").write_text("".join(line + "\n" for line in lines))
-        out, err = self.script("puzzles.py", "a b.txt", status=1)
+        out, err = self.script("puzzles.py", "--again", "a b.txt", status=1)
         must(err == f"puzzles.py: a b.txt:{len(lines) - 1}: fault shape\n", f"puzzles.py: {err}")
-        want = set()
+        want, plain = set(), set()
         for line in lines:
             position = reference.read(line.encode())
             legal = [] if isinstance(position, str) else reference.legal(position)
@@ -266,10 +266,15 @@ class ScriptTrials:
             if len(values) > 1 and sum(value > 0 for value in values.values()) == 1:
                 best, second = sorted(values.values(), reverse=True)[:2]
                 want.add(f"by {best - second}: {line} {' '.join(f'{house}:{value}' for house, value in values.items())}")
+                if reference.after(position, max(values, key=values.get))[1] != "again":
+                    plain.add(line)
         puzzles = [re.fullmatch("(more than )?([0-9]+) moves? ahead, (by .*)", line) for line in out.splitlines()]
         must(all(puzzles) and {puzzle[3] for puzzle in puzzles} == want, f"puzzles.py: {out}")
         far = [int(puzzle[2]) for puzzle in puzzles]
         must(far == sorted(far, reverse=True), f"puzzles.py: the hardest don't come first: {far}")
+        rows, _ = self.script("puzzles.py", "a b.txt", status=1)
+        kept = [row for row in out.splitlines() if re.search(": ([^:]*?) [1-6]:", row)[1] in plain]
+        must(rows.splitlines() == kept and 0 < len(kept) < len(want), f"puzzles.py, without --again: {rows} in place of {kept}")
 
     def real_boards(self):
         """Puzzles and certificates of six houses take little time and memory."""
