@@ -51,8 +51,16 @@ class GradeTrials:
         (self.folder / "told.py").write_text(TOLD)
         lines = [*{drawn_line(self.draw, 5, 8) for _ in range(GRADED)}]
         words = [str(self.draw.choice([*values_of(line)])) for line in lines]
-        for word in WRONG:
-            words[self.draw.randrange(len(words))] = word
+        for place, word in zip(self.draw.sample(range(len(words)), len(WRONG)), WRONG):
+            words[place] = word
+        # A house without seeds.
+        place, house = self.draw.choice([
+            (place, house)
+            for place, line in enumerate(lines)
+            for house, seeds in enumerate(rules.read(line).own.houses, 1)
+            if seeds == 0 and words[place] not in WRONG
+        ])
+        words[place] = str(house)
         # What is not graded, and whether the engine is asked for it.
         for line in ("0,0/3 1,2/4", "1/0", USUAL):
             place = self.draw.randrange(len(lines))
@@ -70,9 +78,11 @@ class GradeTrials:
         said = err.splitlines()
         for number, (line, word) in enumerate(zip(lines, words), 1):
             is_none = {"1/0": "fault shape", USUAL: "48 seeds in houses: values from 31 on"}.get(line)
+            if word and word not in WRONG and int(word) not in values_of(line):
+                is_none = f"{command} answers '{word}', not one of "
             if why := is_none or (word in WRONG and f"{command} {WRONG[word]}"):
                 must(any(one.startswith(f"grade.py: a b.txt:{number}: {why}") for one in said), f"grade.py: line {number}, {word}, {err}")
-        wrong = sum(word in WRONG for word in words)
+        wrong = len(WRONG) + 1
         must(len(said) == wrong + 2, f"grade.py says {err}")
         starts = len((self.folder / "starts").read_text().split())
         must(starts <= wrong + 1, f"grade.py: the engine was started {starts} times")
@@ -94,7 +104,8 @@ class GradeTrials:
         for number, (line, word) in enumerate(zip(lines, words), 1):
             if not word:
                 continue
-            values, house = values_of(line), int(word) if word.isdigit() and word != "9" else None
+            values = values_of(line)
+            house = int(word) if word.isdigit() and int(word) in values else None
             margin, seeds = max(values.values()), rules.seeds_in(rules.read(line))
             lost = "" if house is None else margin - values[house]
             best = max(values, key=values.get)
