@@ -139,7 +139,9 @@ EASY = b"1,1/0 1,1/0\n"
 FIRST_PICTURES = list(product(["pipe", "terminal", "file"], [["play", "--boards"], ["show"]]))
 
 # Where the first move of a game is read: one that is found, and one that is given, after which the long game is played.
-FIRST_MOVES = list(product(["pipe", "terminal", "file"], [["play", LONG_GAME], ["play", "--first=2", b"1,2,0,2,4,5/0 3,2,1,4,4,3/0"]]))
+# Of the first, the second move takes half as long to find as the first one, and the third no time.
+FIRST_MOVES = [["play", b"1,2,0,1,4,5/0 3,4,1,3,0,5/0"], ["play", "--first=2", b"1,2,0,2,4,5/0 3,2,1,4,4,3/0"]]
+FIRST_MOVES = list(product(["pipe", "terminal", "file"], FIRST_MOVES))
 
 # Runs whose first rows take a small part of their time.
 ROW_BY_ROW = [["count", "12", LONG_GAME], ["play", "--table", "1", "--first=2", b"1,2,0,2,4,5/0 3,2,1,4,4,3/0"]]
@@ -589,8 +591,8 @@ class Trials(AskTrials):
             raise Differs(f"the first move came with the next ones: {got.decode()!r}")
 
     def before_more(self, words, place, lines=b"", rows=1):
-        """Returns what a run that is asked these lines writes at first, which should have this number of rows. What follows must take more
-        processor time than that took. On a busy machine a piece may be read late, or with the next one: then it is tried again."""
+        """Returns what a run that is asked these lines writes at first, which should have this number of rows. What follows must take a
+        quarter more processor time. On a busy machine a piece may be read late, or with the next one: then it is tried again."""
         for _ in range(3):
             got, is_early = self.first_piece(words, place, lines)
             if got.count(b"\n") == rows and is_early:
@@ -600,13 +602,13 @@ class Trials(AskTrials):
         raise Differs(f"what is written first came as late as what follows: {got.decode()!r}")
 
     def first_piece(self, words, place, lines):
-        """Returns what the run writes at first, and whether nothing follows until the run has spent as much processor time again."""
+        """Returns what the run writes at first, and whether nothing follows until the run has spent a quarter more processor time."""
         reader, writer = two_ends(place)
         with self.start(words, stdin=subprocess.PIPE, stdout=writer, bufsize=0) as process:
             process.stdin.write(lines)
             got = read_piece(reader)
             spent, end = spent_by(process), time.monotonic() + SOON
-            while not (follows := piece_in(reader)) and spent_by(process) < 2 * spent and time.monotonic() < end:
+            while not (follows := piece_in(reader)) and spent_by(process) < 1.25 * spent and time.monotonic() < end:
                 time.sleep(0.001)
             process.kill()
         os.close(reader)
