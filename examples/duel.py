@@ -11,7 +11,7 @@ import sys
 
 from board import read
 from kalah import Best, Over, Solver, find
-from rules import LOOKED_AHEAD, TooMany, ask, guess, start, steps
+from rules import TooMany, ask, guess, guessed, start, steps
 from script import arguments, run
 
 
@@ -40,7 +40,7 @@ def answered(solver, position):
     try:
         return str(ask(solver, position).house), ""
     except TooMany as why:
-        return str(guess(position)), f" ({why}; it looks {LOOKED_AHEAD} moves ahead)"
+        return str(guess(position)), f" ({guessed(why)})"
 
 
 def duel(solver, position, is_person):

@@ -159,3 +159,8 @@ def guess(line):
     """Returns the house that seems best to a search of `LOOKED_AHEAD` moves, the lowest-numbered one of those."""
     found = seen_of_moves(read(line), LOOKED_AHEAD)
     return max(found, key=found.get)
+
+
+def guessed(why):
+    """Returns what is said of a guess, and why there are no values."""
+    return f"{why}; it looks {LOOKED_AHEAD} moves ahead"

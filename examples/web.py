@@ -10,8 +10,8 @@ With --host it serves a class: all who reach this machine by ADDRESS. Then a pos
 are more than 120 questions a minute from one address.
 
 The page posts lines to /moves, /values and /best. Each of these gets one JSON object: an answer, or an `error` and a status that is not
-200. There may be any number of seeds, up to 99 in a house at the start; with more than 31 in houses the last two are refused. It needs
-`kalah`, as examples/kalah.py says.
+200. There may be any number of seeds, up to 99 in a house at the start. With more than 31 in houses /values is refused, and /best names the
+house that seems best to a search of a few moves, and says so. It needs `kalah`, as examples/kalah.py says.
 """
 
 import argparse
@@ -22,7 +22,7 @@ import sys
 import threading
 import time
 from collections import Counter
-from dataclasses import asdict
+from dataclasses import asdict, dataclass
 from functools import partial
 from http import HTTPStatus
 from http.server import BaseHTTPRequestHandler, ThreadingHTTPServer
@@ -53,6 +53,14 @@ KINDS = {"/values": Values, "/best": Best}
 LONGEST, MOST_READ = 200, 1 << 20
 # The most questions that are answered or wait at a time.
 MOST_AT_ONCE = 16
+
+
+@dataclass(frozen=True)
+class Guess:
+    """The house that seems best where there are too many seeds, and what is said of that."""
+
+    house: int
+    guessed: str
 
 
 class Refused(Exception):
@@ -180,7 +188,11 @@ class Server(ThreadingHTTPServer):
     def __init__(self, port, program=None, timeout=60, host=None):
         timeout, self.quota = (SECONDS, Quota(MOST_IN_A_MINUTE)) if host else (timeout, Quota(None))
         self.page, self.solvers = PAGE.read_bytes(), {path: Solver(kind, program, timeout) for path, kind in KINDS.items()}
-        self.ask = {"/moves": rules.steps, **{path: partial(rules.ask, solver) for path, solver in self.solvers.items()}}
+        self.ask = {
+            "/moves": rules.steps,
+            "/values": partial(rules.ask, self.solvers["/values"]),
+            "/best": partial(best, self.solvers["/best"]),
+        }
         self.names = [host.lower()] if host else NAMES
         super().__init__((self.names[0], port), Handler)
         self.room = threading.BoundedSemaphore(MOST_AT_ONCE)
@@ -200,6 +212,14 @@ class Server(ThreadingHTTPServer):
 
     def address(self, line):
         return f"http://{self.names[0]}:{self.server_port}/#{quote(line, safe=',/')}"
+
+
+def best(solver, line):
+    """Returns the best house, or a guess if there are too many seeds."""
+    try:
+        return rules.ask(solver, line)
+    except rules.TooMany as why:
+        return Guess(rules.guess(line), rules.guessed(why))
 
 
 def as_json(answer):

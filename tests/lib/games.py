@@ -247,9 +247,11 @@ def try_usual_board(program, folder):
     with served(program) as server:
         reached = asked(server.server_port, "/moves", USUAL)[1]["moves"][2]
         must(reached == {"house": 3, "position": "4,4,0,5,5,5/1 4,4,4,4,4,4/0", "word": "again"}, f"web.py: {reached}")
-        for path in ("/best", "/values"):
-            status, answer = asked(server.server_port, path, USUAL)
-            must((status, answer) == (422, {"error": "48 seeds in houses: values from 31 on"}), f"web.py, {path}: {status} {answer}")
+        status, answer = asked(server.server_port, "/values", USUAL)
+        must((status, answer) == (422, {"error": "48 seeds in houses: values from 31 on"}), f"web.py, /values: {status} {answer}")
+        status, answer = asked(server.server_port, "/best", USUAL)
+        want = {"is_over": False, "house": rules.guess(USUAL), "guessed": "48 seeds in houses: values from 31 on; it looks 4 moves ahead"}
+        must((status, answer) == (200, want), f"web.py, /best: {status} {answer} in place of {want}")
         status, answer = asked(server.server_port, "/best", "1,1/200 1,1/0")
         must(answer == {"is_over": False, "margin": 202, "house": 2}, f"web.py, with large stores: {status} {answer}")
 
