@@ -86,25 +86,3 @@ pub lowest_of : (t g : ℕ → Bool) (a n h : ℕ) (xs : List ℕ) → xs ≡ fi
     → t h ≡ true →
     unwrap_or (find t xs) 0 ≤ h
 lowest_of t g a n h xs is has passes = rw is (find_lowest t g a n h (rw is at has) passes)
-
--- what a search finds, or else its default, has what both have
-pub found_or : (P : ℕ → Type 0) (t : ℕ → Bool) (xs : List ℕ) (d : ℕ) → P d →
-    ((k : ℕ) → Contains xs k → t k ≡ true → P k) → P (unwrap_or (find t xs) d)
-found_or P t [] d default passes = default
-found_or P t (x ∷ xs) d default passes = elim (cases_Bool (t x)) [
-  | inl here ↦ rw here (passes x (contains_first x xs) here)
-  | inr later ↦ rw later (found_or P t xs d default (λ k has. passes k (contains_later x xs k has)))
-]
-
--- if only one number passes, that one is found
-pub find_is : (t : ℕ → Bool) (xs : List ℕ) (k d : ℕ) → Contains xs k → t k ≡ true →
-    ((j : ℕ) → t j ≡ true → j ≡ k) →
-    unwrap_or (find t xs) d ≡ k
-find_is t [] k d has passes only = absurd (omega (arith, has.1))
-find_is t (x ∷ xs) k d has passes only = elim (cases_Bool (t x)) [
-  | inl here ↦ rw here (only x here)
-  | inr later ↦ elim (contains_cases x k xs has.0 has.1 has.2) [
-    | inl same ↦ absurd (let fails : t k ≡ false = rw same at later in cc)
-    | inr rest ↦ rw later (find_is t xs k d rest passes only)
-  ]
-]

@@ -25,7 +25,7 @@ pub verdict_tells : (p : Position) (v : Verdict) → HasEqualSides p → v ≡ v
 verdict_tells p v even is =
     let tells = tells_either p (is_over p)
     (λ over. record { over = over; final = refl; best_play = rw (worth_of_over p over) at (worth_is_best p even) })
-    (λ going. record { going = going; best = best_move p even; lowest = λ h is. best_house_lowest p h even going is }) in
+    (λ going. record { going = going; best = best_move p even going; lowest = λ h is. best_house_lowest p h going is }) in
     subst (λ u. TellsBestPlay p u) (sym is) tells
 
 -- and each that states it is the verdict
@@ -33,8 +33,8 @@ verdict_told : (p : Position) (v : Verdict) → HasEqualSides p → TellsBestPla
 verdict_told p (Best margin house) even tells =
     let margin_is : margin ≡ worth p = best_play_is_one p margin (worth p) even tells.best.best_play (worth_is_best p even) in
     let moves : IsBestMove p house (worth p) = rw margin_is at tells.best in
-    let low : best_house p ≤ house = best_house_lowest p house even tells.going moves in
-    let high : house ≤ best_house p = tells.lowest (best_house p) (rw margin_is (best_move p even)) in
+    let low : best_house p ≤ house = best_house_lowest p house tells.going moves in
+    let high : house ≤ best_house p = tells.lowest (best_house p) (rw margin_is (best_move p even tells.going)) in
     let house_is : house ≡ best_house p = omega arith in
     cc (margin_is, house_is) ∙ ap (λ (b : Bool). if b then Over (final_margin p) else Best (worth p) (best_house p)) (sym tells.going)
 verdict_told p (Over margin) even tells = verdict_of_over p margin tells.over tells.final

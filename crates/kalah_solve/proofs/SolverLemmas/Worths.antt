@@ -1,12 +1,10 @@
 -- Best play does not depend on the count of moves, once it is high enough.
-use Rattle.std.proofs.Common.{rules, IsTrue, zero, suc, ◌≡◌, ℕ, ◌+◌, ◌-◌, ◌*◌, ◌<◌, ◌≤◌, inl, inr, List, [], ◌∷◌, length, get_or, arith, ap, sym, ◌∙◌, refl, take, add-one}
-use Rattle.std.specs.Prelude.{Bool, int_lt, true, false, cond, if◌then◌else◌, Contains, map, sum, ℤ, neg_ℤ, replicate, fold, All}
-use Rattle.std.specs.Int.{int_max}
+use Rattle.std.proofs.Common.{rules, IsTrue, zero, suc, ◌≡◌, ℕ, ◌+◌, ◌-◌, ◌*◌, ◌<◌, ◌≤◌, inl, inr, List, [], ◌∷◌, length, get_or, arith, ap, sym, ◌∙◌, refl}
+use Rattle.std.specs.Prelude.{Bool, true, false, if◌then◌else◌, Contains, map, sum, ℤ, neg_ℤ, replicate, All}
 use Rattle.std.proofs.lemmas.Bool.{cases_Bool, cases_lt}
-use Rattle.std.proofs.lemmas.List.{take_more, map_push}
-use Rattle.std.proofs.lemmas.List.Sums.{fold_push, sum_by-le}
+use Rattle.std.proofs.lemmas.List.Sums.{sum_by-le}
 use Rattle.std.proofs.lemmas.List.Elements.{Contains-append_right, Contains-append_left, Contains-push, All-from_get_or}
-use Rattle.kalah_rules.specs.Position.{Position, HasEqualSides, IsWithinLimits, side_length, seeds_in_houses, is_over, final_margin, swapped, swept, IsSmallMargin}
+use Rattle.kalah_rules.specs.Position.{Position, HasEqualSides, IsWithinLimits, side_length, seeds_in_houses, is_over, final_margin, swapped, swept}
 use Rattle.kalah_rules.specs.Sowing.{after, is_again}
 use Rattle.kalah_rules.specs.Play.{legal_houses, step_of}
 use Rattle.kalah_rules.specs.Measure.{moves_left, distance_to_stores}
@@ -195,32 +193,3 @@ legal_some p going = elim (cases_lt 0 (length (legal_houses p))) [
       let empty = row_empty p going none in
       absurd (let over : is_over p ≡ true = rw empty refl in cc)
 ]
-
--- one more number
-pub greatest_more : (f : ℕ → ℤ) (xs : List ℕ) (i : ℕ) → 1 ≤ i → i < length xs →
-    greatest (map f (take (i + 1) xs)) ≡ int_max (greatest (map f (take i xs))) (f (get_or xs i 0))
-greatest_more f [] i low high = absurd (omega arith)
-greatest_more f (x ∷ xs) zero low high = absurd (omega arith)
-greatest_more f (x ∷ xs) (suc i) low high =
-    let within : i < length xs = omega arith in
-    rw (add-one (suc i))
-    (ap (fold int_max (f x)) (ap (map f) (rw (add-one i) at (take_more xs i 0 within)) ∙ map_push f (take i xs) (get_or xs i 0))
-    ∙ fold_push int_max (f x) (map f (take i xs)) (f (get_or xs i 0)))
-
--- the greatest of one number
-pub greatest_first : (f : ℕ → ℤ) (xs : List ℕ) → 0 < length xs → greatest (map f (take 1 xs)) ≡ f (get_or xs 0 0)
-greatest_first f [] some = absurd (omega arith)
-greatest_first f (x ∷ xs) some = refl
-
--- one of two small margins is small
-small_cond : (b : Bool) (x y : ℤ) → IsSmallMargin x → IsSmallMargin y → IsSmallMargin (cond b x y)
-small_cond true x y x_small y_small = x_small
-small_cond false x y x_small y_small = y_small
-
--- so is the greater
-pub small_max : (x y : ℤ) → IsSmallMargin x → IsSmallMargin y → IsSmallMargin (int_max x y)
-small_max x y = small_cond (int_lt y x) x y
-
--- the greater of equal numbers
-pub int_max_same : {a b c d : ℤ} → a ≡ c → b ≡ d → int_max a b ≡ int_max c d
-int_max_same {a} {b} {c} {d} one other = rw (one, other) refl

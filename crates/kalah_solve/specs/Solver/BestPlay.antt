@@ -1,5 +1,5 @@
 -- What best play is: strategies, the games that are played, and the margin that each side can secure.
-use Rattle.std.specs.Prelude.{◌≡◌, ℕ, true, false, List, [], ◌∷◌, Contains, ℤ, ◌≤ℤ◌}
+use Rattle.std.specs.Prelude.{◌≡◌, ℕ, true, false, List, [], ◌∷◌, Contains, ℤ, neg_ℤ, ◌≤ℤ◌}
 use Rattle.kalah_rules.specs.Position.{Position, HasEqualSides, is_over, final_margin, swapped}
 use Rattle.kalah_rules.specs.Sowing.{after, is_again}
 use Rattle.kalah_rules.specs.Play.{legal_houses}
@@ -45,7 +45,14 @@ pub record IsBestPlay (p : Position) (v : ℤ) : Type 0 where
   pub secured : (mine : Strategy) × IsStrategy mine × Secures mine p v
   pub held : (theirs : Strategy) × IsStrategy theirs × HoldsTo theirs p v
 
--- house h is a best move: a strategy that begins with it secures the margin of best play
+-- v is what the move of house h gets in best play, and no more: the margin of best play of the position after it, seen by the player
+-- who moved. That of a game that is over is its final margin
+pub record IsWorthOfMove (p : Position) (h : ℕ) (v : ℤ) : Type 0 where
+  pub again : is_again p h ≡ true → IsBestPlay (after p h) v
+  pub turn : is_again p h ≡ false → IsBestPlay (swapped (after p h)) (neg_ℤ v)
+
+-- house h is a best move: it may be moved, and gets the margin of best play
 pub record IsBestMove (p : Position) (h : ℕ) (v : ℤ) : Type 0 where
   pub best_play : IsBestPlay p v
-  pub begins : (mine : Strategy) × IsStrategy mine × (mine p ≡ h) × Secures mine p v
+  pub legal : Contains (legal_houses p) h
+  pub worth : IsWorthOfMove p h v

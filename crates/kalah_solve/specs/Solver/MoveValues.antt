@@ -1,10 +1,10 @@
 -- What each move of a position is worth, in its numbers and by the strategies of best play.
-use Rattle.std.specs.Prelude.{◌≡◌, ℕ, false, List, ◌∷◌, All, Contains, map, find, option_map, unwrap_or, ℤ, pos, ◌≤ℤ◌}
+use Rattle.std.specs.Prelude.{◌≡◌, ℕ, false, List, All, Contains, map, find, option_map, unwrap_or, ℤ, pos}
 use Rattle.std.specs.Ordering.{int_eq}
-use Rattle.kalah_rules.specs.Position.{Position, HasEqualSides, is_over, final_margin}
+use Rattle.kalah_rules.specs.Position.{Position, HasEqualSides, is_over}
 use Rattle.kalah_rules.specs.Play.{legal_houses}
 use Rattle.kalah_solve.specs.Solver.Worth.{greatest, value_of_move}
-use Rattle.kalah_solve.specs.Solver.BestPlay.{Strategy, IsStrategy, follow, Game, Secures}
+use Rattle.kalah_solve.specs.Solver.BestPlay.{IsWorthOfMove}
 use Rattle.kalah_solve.specs.Solver.Verdict.{verdict_of}
 use Rattle.kalah_solve.specs.declared.solver.move_values.MoveValue.{MoveValue}
 use Rattle.kalah_solve.specs.declared.solver.Verdict.{Verdict}
@@ -22,18 +22,7 @@ move_value p h = record { house = h; value = value_of_move p h }
 abbrev pub values_of : Position → List MoveValue
 values_of p = map (move_value p) (legal_houses p)
 
--- each game that begins with house h and in which the opponent follows `theirs` ends with at most v for the player to move
-abbrev pub HoldsMoveTo : Strategy → Position → ℕ → ℤ → Type 0
-HoldsMoveTo theirs p h v = (houses : List ℕ) (final : Position) → Game legal_houses (follow theirs) p (h ∷ houses) final
-    → final_margin final ≤ℤ v
-
--- v is what the move of house h secures, and no more: a strategy that begins with it secures v, and the opponent has one that
--- allows no more after it
-pub record IsWorthOfMove (p : Position) (h : ℕ) (v : ℤ) : Type 0 where
-  pub secured : (mine : Strategy) × IsStrategy mine × (mine p ≡ h) × Secures mine p v
-  pub held : (theirs : Strategy) × IsStrategy theirs × HoldsMoveTo theirs p h v
-
--- the houses are the legal ones, in ascending order, each with what its move secures and no more
+-- the houses are the legal ones, in ascending order, each with what its move gets in best play
 pub record TellMoves (p : Position) (values : List MoveValue) : Type 0 where
   pub houses : map (λ v. v.house) values ≡ legal_houses p
   pub worth : All (λ v. IsWorthOfMove p v.house v.value) values
@@ -46,7 +35,7 @@ best_of values =
 
 -- ---- laws
 
--- the value of a move is what it secures, and no more
+-- the value of a move is what it gets in best play
 abbrev pub ValueIsWorthOfMove : Type 0
 ValueIsWorthOfMove = (p : Position) (h : ℕ) → HasEqualSides p → is_over p ≡ false → Contains (legal_houses p) h →
     IsWorthOfMove p h (value_of_move p h)

@@ -52,8 +52,7 @@ pub fn best_verdict_is_one()
     ensures { BestVerdictIsOne }
 {}
 
-/// The value of a move is what it secures, and no more. The player to move has a strategy that begins with it and gets at least as much.
-/// The other player has one that allows no more after it. No other margin is both.
+/// The value of a move is the margin of best play of the position after it, seen by the player who moved. No other margin is.
 pub fn value_is_worth_of_move()
     ensures worth { ValueIsWorthOfMove }
     ensures one { WorthOfMoveIsOne }
