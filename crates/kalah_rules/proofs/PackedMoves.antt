@@ -1,7 +1,8 @@
 -- A move on the numbers of two rows.
-use Rattle.std.proofs.Common.{◌≡◌, ◌≢◌, ℕ, ◌+◌, ◌-◌, ◌*◌, ◌/◌, ◌%◌, ◌^◌, ◌<◌, ◌≤◌, inl, inr, length, arith, ap, sym, ◌∙◌, refl, subst, eq-eqb}
-use Rattle.std.specs.Prelude.{true, false, sum, ◌==◌, ◌&&◌, Option, Some, None, MatchBool}
-use Rattle.std.proofs.lemmas.Nat.{mod_below, mul-le, mod-mul-add, div-add-mod'}
+use Rattle.std.proofs.Common.{◌≡◌, ◌≢◌, ℕ, zero, suc, mul_comm, ◌+◌, ◌-◌, ◌*◌, ◌/◌, ◌%◌, ◌^◌, ◌<◌, ◌≤◌, inl, inr, length, arith, ap, sym, ◌∙◌, refl, subst, eq-eqb}
+use Rattle.std.specs.Prelude.{Bool, true, false, sum, ◌==◌, ◌&&◌, Option, Some, None, MatchBool}
+use Rattle.std.proofs.lemmas.Nat.{mod_below, mul-le, mod-mul-add, div-add-mod', and_block, and_mask, and_le_r, pow_pos}
+use Rattle.std.specs.Int.Bits.{bit_and}
 use Rattle.std.proofs.Math.Nat.{div-eq_of_lt, mod-eq_of_lt, div-div-eq-div-mul}
 use Rattle.std.proofs.lemmas.Bool.{cases_Bool, cases_eq, cases_lt, eqb-true, eqb-false}
 use Rattle.std.proofs.lemmas.Bool.Decides.{nat_tests}
@@ -16,9 +17,11 @@ use Rattle.kalah_rules.proofs.Legal.{last_house_own, last_house_store, last_hous
 use Rattle.kalah_rules.specs.Key.{number_of}
 use Rattle.kalah_rules.specs.Packed.{Shows, ones}
 use Rattle.kalah_rules.specs.declared.houses.play.RowNumbers.{RowNumbers}
-use Rattle.kalah_rules.specs.Sowings.{own_gained, other_gained, store_gained, last_place}
+use Rattle.kalah_rules.specs.declared.rule.Rule.{Rule}
+use Rattle.kalah_rules.specs.declared.houses.sowings.Sowing.{Sowing}
+use Rattle.kalah_rules.specs.Sowings.{own_gained, other_gained, store_gained, last_place, IsLastHouse, IsSowing}
 use Rattle.kalah_rules.proofs.Keys.{number_of-small}
-use Rattle.kalah_rules.proofs.Packing.{pow_five, pow_other, low_cell, moved_small, moved_far, number_of-set, number_of-all, number_of-up_to, read_seeds, own_sown, other_sown, own_gain, other_gain}
+use Rattle.kalah_rules.proofs.Packing.{pow_five, pow_other, low_cell, moved_far, number_of-set, number_of-all, number_of-up_to, read_seeds, own_sown, other_sown, own_gain, other_gain}
 
 -- what a sowing keeps
 pub record KeepsSeeds (p q : Position) : Type 0 where
@@ -46,6 +49,57 @@ taken_off : (rows x y own other own_new other_new : ℕ) → rows % 2 ^ 30 ≡ o
     own_new + x ≡ own → other_new + y ≡ other →
     ((rows - x - 2 ^ 30 * y) % 2 ^ 30 ≡ own_new) × ((rows - x - 2 ^ 30 * y) / 2 ^ 30 ≡ other_new)
 taken_off rows x y own other own_new other_new own_is other_is less other_less = (omega arith, omega arith)
+
+-- what is caught of rows: the last seed, if it is alone in its house, and the seeds across, as the rule says
+abbrev pub Caught : Rule → RowNumbers → ℕ → ℕ → ℕ → ℕ → ℕ → Type 0
+Caught rule r house seed across last taken =
+    MatchBool ((bit_and r.rows house == seed) && captures rule (r.rows / 2 ^ across % 32))
+    ((last ≡ 1) × (taken ≡ r.rows / 2 ^ across % 32)) ((last ≡ 0) × (taken ≡ 0))
+
+-- the rows that are left show this position
+pub record LeavesRows (r : RowNumbers) (seed bit last taken : ℕ) (p : Position) : Type 0 where
+  pub here : last * seed ≤ r.rows
+  pub across : taken * 2 ^ bit % 2 ^ 64 ≤ r.rows - last * seed
+  pub shows : Shows (record { rows = r.rows - last * seed - taken * 2 ^ bit % 2 ^ 64; store = r.store + last + taken }) p
+
+-- so little is caught of them
+caught_few : (here across : ℕ) (captures : Bool) (last taken : ℕ) →
+    MatchBool ((here == 1) && captures) ((last ≡ 1) × (taken ≡ across)) ((last ≡ 0) × (taken ≡ 0)) →
+    (last ≤ here) × (taken ≤ across)
+caught_few here across captures last taken told = elim (cases_Bool (here == 1)) [
+  | inr more ↦ let none : (last ≡ 0) × (taken ≡ 0) = rw more at told in (omega (arith, none.0), omega (arith, none.1))
+  | inl one ↦ elim (cases_Bool captures) [
+    | inr kept ↦ let none : (last ≡ 0) × (taken ≡ 0) = rw (one, kept) at told in
+        (omega (arith, none.0), omega (arith, none.1))
+    | inl some ↦ let both : (last ≡ 1) × (taken ≡ across) = rw (one, some) at told in
+        (omega (arith, both.0, eqb-true here 1 one), omega (arith, both.1))
+  ]
+]
+
+-- the five bits of a house
+house_bits : (rows k : ℕ) → bit_and rows (31 * 32 ^ k) ≡ rows / 32 ^ k % 32 * 32 ^ k
+house_bits rows k =
+    let p = 2 ^ (5 * k) in
+    let low = mod_below rows p (pow_pos (5 * k)) in
+    let whole : rows / p * p + rows % p ≡ rows = div-add-mod' rows p in
+    let none : bit_and (rows % p) 0 ≡ 0 = omega (arith, and_le_r (rows % p) 0) in
+    let both = and_block (5 * k) (rows / p) 31 (rows % p) 0 low (pow_pos (5 * k)) in
+    let mask : 31 * p + 0 ≡ 31 * p = omega arith in
+    let all : bit_and rows (31 * p) ≡ rows / p % 32 * p =
+    rw (whole, mask, none, and_mask (rows / p) 5) at both ∙ omega arith in
+    rw (pow_five k) at all
+
+-- are one if the house has one seed
+one_of : (x p : ℕ) → 0 < p → (x * p == p) ≡ (x == 1)
+one_of zero p some = grind (arith, nat_tests, some)
+one_of (suc zero) p some = grind (arith, nat_tests, some)
+one_of (suc (suc x)) p some = grind (arith, nat_tests, some)
+
+one_seed_at : (rows k : ℕ) → (bit_and rows (31 * 32 ^ k) == 32 ^ k) ≡ (rows / 32 ^ k % 32 == 1)
+one_seed_at rows k =
+    let bits = house_bits rows k in
+    let some : 0 < 32 ^ k = rw (← pow_five k) (pow_pos (5 * k)) in
+    rw bits (one_of (rows / 32 ^ k % 32) (32 ^ k) some)
 
 -- the rule lets the last seed capture
 captured_some : (p : Position) (i : ℕ) → seeds p.own i ≡ 1 → captures p.rule (seeds p.other (opposite p i)) ≡ true →
@@ -142,6 +196,16 @@ module _ (a : Rows) (h : ℕ) (w : IsWithinHouses a) (holds : HoldsSeeds (bare a
       gains ≡ own_gained (length a.own) h (seeds a.own h) + 2 ^ 30 * other_gained (length a.own) h (seeds a.own h) →
       rows - house + gains ≡ number_of q.own + 2 ^ 30 * number_of q.other
   sown_rows rows house gains rows_are house_is gains_are = omega (arith, rows_are, house_is, gains_are, own_is, other_is, lifted_is)
+
+  -- so they are what a key without its rule has, less what it loses
+  pub sown_less : (rest loses : ℕ) → rest ≡ number_of a.own + 2 ^ 30 * number_of a.other + 2 ^ 60 * length a.own →
+      loses + (own_gained (length a.own) h (seeds a.own h) + 2 ^ 30 * other_gained (length a.own) h (seeds a.own h))
+      ≡ 2 ^ 60 * length a.own + 32 ^ (h - 1) * seeds a.own h →
+      (loses ≤ rest) × (rest - loses ≡ number_of q.own + 2 ^ 30 * number_of q.other)
+  sown_less rest loses rest_is loses_is = (
+    omega (arith, rest_is, loses_is, own_is, other_is),
+    omega (arith, rest_is, loses_is, own_is, other_is),
+  )
 
   -- show the position after the sowing
   pub rows_show : (rows store : ℕ) → rows ≡ number_of q.own + 2 ^ 30 * number_of q.other →
@@ -263,30 +327,29 @@ module _ (a : Rows) (h : ℕ) (w : IsWithinHouses a) (holds : HoldsSeeds (bare a
       )
 
   -- all that a capture does to the rows, read and written by bits
-  pub capture_shows : (r : RowNumbers) (i bit across last taken : ℕ) → Shows r q → 1 ≤ i → i ≤ length a.own
-      → bit ≡ 5 * (i - 1) →
-      across ≡ 25 + 5 * length a.own - bit →
-      MatchBool ((r.rows / 2 ^ bit % 32 == 1) && captures a.rule (r.rows / 2 ^ across % 32))
-      ((last ≡ 1) × (taken ≡ r.rows / 2 ^ across % 32)) ((last ≡ 0) × (taken ≡ 0)) →
-      last ≤ r.rows / 2 ^ bit % 32 → taken ≤ r.rows / 2 ^ across % 32 →
-      (taken * 2 ^ across % 2 ^ 64 ≤ r.rows - last * 2 ^ bit % 2 ^ 64)
-      × Shows (record { rows = r.rows - last * 2 ^ bit % 2 ^ 64 - taken * 2 ^ across % 2 ^ 64; store = r.store + last + taken })
-      (captured q (Some i))
-  capture_shows r i bit across last taken shows low high bit_is across_is told last_few taken_few =
+  capture_shows : (r : RowNumbers) (i house seed across last taken : ℕ) → Shows r q → 1 ≤ i → i ≤ length a.own →
+      IsLastHouse (length a.own) i house seed across → Caught a.rule r house seed across last taken →
+      LeavesRows r seed across last taken (captured q (Some i))
+  capture_shows r i house seed across last taken shows low high at told =
       let side = sown_keeps.side in
       let near : i - 1 ≤ 5 = omega (arith, high, w.at_most_six) in
       let far : opposite q i - 1 ≤ 5 = omega (arith, side, w.at_most_six, low) in
-      let opposite_is : across ≡ 30 + 5 * (opposite q i - 1) = omega (arith, across_is, bit_is, side, low, high) in
-      let here = read_own r i bit shows low high bit_is in
+      let opposite_is : across ≡ 30 + 5 * (opposite q i - 1) = omega (arith, at.across, side, low, high) in
+      let here = read_own r i (5 * (i - 1)) shows low high refl in
       let there = read_across r i across shows low high opposite_is in
-      let x : last * 2 ^ bit % 2 ^ 64 ≡ 32 ^ (i - 1) * last =
-      rw (bit_is, pow_five (i - 1)) (moved_small (i - 1) last near (omega (arith, last_few))) in
+      let alone : (bit_and r.rows house == seed) ≡ (seeds q.own i == 1) =
+      rw (at.house, at.seed, ← here, pow_five (i - 1)) (one_seed_at r.rows (i - 1)) in
+      let caught = rw alone at told in
+      let few = caught_few (seeds q.own i) _ _ last taken caught in
+      let x : last * seed ≡ 32 ^ (i - 1) * last = rw at.seed (mul_comm last (32 ^ (i - 1))) in
       let y : taken * 2 ^ across % 2 ^ 64 ≡ 2 ^ 30 * (32 ^ (opposite q i - 1) * taken) =
-      rw (opposite_is, pow_other (opposite q i - 1)) (moved_far (opposite q i - 1) taken far (omega (arith, taken_few))) in
-      let within = caught_within r i last taken shows low high (omega (arith, last_few, here)) (omega (arith, taken_few, there)) in (
-        rw (x, y) (omega (arith, within.0, within.1)),
-        rw (x, y) (shows_caught r i _ _ last taken _ _ shows low high here there told refl refl),
-      )
+      rw (opposite_is, pow_other (opposite q i - 1)) (moved_far (opposite q i - 1) taken far (omega (arith, few.1))) in
+      let within = caught_within r i last taken shows low high few.0 (omega (arith, few.1, there)) in
+      record {
+        here = omega (arith, x, within.0);
+        across = omega (arith, x, y, within.0, within.1);
+        shows = rw (x, y) (shows_caught r i (seeds q.own i) _ last taken _ _ shows low high refl there caught refl refl);
+      }
 
 -- ---- the whole move
 -- a capture loses no seed
@@ -428,3 +491,46 @@ module _ (p : Position) (h : ℕ) (holds : HoldsSeeds p h) where
         elsewhere (place_near (omega (arith, far, holds.last)) ∙ omega (arith, far, holds.last)) in
         grind (arith, nat_tests, apart, elsewhere)
   ]
+
+-- where no house has one seed, nothing is caught
+none_caught : (rule : Rule) (r : RowNumbers) (last taken : ℕ) {p : Position} → Caught rule r 0 1 0 last taken → Shows r p →
+    LeavesRows r 1 0 last taken p
+none_caught rule r last taken told shows =
+    let bits : bit_and r.rows 0 ≡ 0 = omega (arith, and_le_r r.rows 0) in
+    let none : (last ≡ 0) × (taken ≡ 0) = rw bits at told in
+    record {
+      here = omega (arith, none.0);
+      across = omega (arith, none.0, none.1);
+      shows =
+          let same : r.rows - last * 1 - taken * 2 ^ 0 % 2 ^ 64 ≡ r.rows = omega (arith, none.0, none.1) in
+          record { own = rw same shows.own; other = rw same shows.other; store = omega (arith, none.0, none.1, shows.store) };
+    }
+
+-- the bit across lies within a key
+pub across_within : (m h c : ℕ) (s : Sowing) → IsSowing m h c s → m ≤ 6 → s.across < 64
+across_within m h c s sowing few = elim (cases_lt m (last_place m h c)) [
+  | inl past ↦ omega (arith, (sowing.elsewhere past).across)
+  | inr own ↦ omega (arith, (sowing.own own).across, few)
+]
+
+-- the rows after the move are those of the sowing, less what is caught
+pub move_leaves : {a : Rows} {h : ℕ} {s : Sowing} {r : RowNumbers} {rule : Rule} {last taken : ℕ} → IsWithinHouses a →
+    HoldsSeeds (bare a) h → IsSowing (length a.own) h (seeds a.own h) s → Shows r (sown (bare a) h) → rule ≡ a.rule →
+    Caught rule r s.last_house s.last_seed s.across last taken → LeavesRows r s.last_seed s.across last taken (after (bare a) h)
+move_leaves {a} {h} {s} {r} {rule} {last} {taken} w holds sowing shows same caught =
+    let place = last_place (length a.own) h (seeds a.own h) in
+    let told : Caught a.rule r s.last_house s.last_seed s.across last taken = rw same at caught in
+    elim (cases_lt (length a.own) place) [
+      | inl past ↦
+          let no = sowing.elsewhere past in
+          let nothing : Caught a.rule r 0 1 0 last taken = rw (no.house, no.seed, no.across) at told in
+          rw (no.seed, no.across) (none_caught a.rule r last taken nothing (after_past (bare a) h holds r past shows))
+      | inr own ↦
+          let leaves = capture_shows a h w holds r place s.last_house s.last_seed s.across last taken shows (omega arith) own
+          (sowing.own own) told in
+          record {
+            here = leaves.here;
+            across = leaves.across;
+            shows = after_own (bare a) h holds _ own leaves.shows;
+          }
+    ]

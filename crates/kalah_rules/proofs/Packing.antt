@@ -223,6 +223,11 @@ pub moved_far : (k x : ℕ) → k ≤ 5 → x < 32 → x * (2 ^ 30 * 32 ^ k) % 2
 moved_far k x h few = up_to_five (λ k. x * (2 ^ 30 * 32 ^ k) % 2 ^ 64 ≡ 2 ^ 30 * (32 ^ k * x)) k h
     (omega arith) (omega arith) (omega arith) (omega arith) (omega arith) (omega arith)
 
+-- the seeds of a house are few bits of its row
+pub placed_small : (k x : ℕ) → k ≤ 5 → x < 32 → 32 ^ k * x < 2 ^ 30
+placed_small k x h few = up_to_five (λ k. 32 ^ k * x < 2 ^ 30) k h
+    (omega arith) (omega arith) (omega arith) (omega arith) (omega arith) (omega arith)
+
 -- so do a few times as many seeds
 pub product_small : (x y : ℕ) → x ≤ 10 → y ≤ 34636833 → x * y ≤ 346368330
 product_small x y h k = omega (arith, mul-le x y 10 34636833 h k)

@@ -1,5 +1,5 @@
--- A sowing as one addition to a key.
-use Rattle.std.specs.Prelude.{◌≡◌, ℕ, ◌+◌, ◌-◌, ◌*◌, ◌%◌, ◌^◌, ◌<◌, ◌≤◌, List, slice_index_or}
+-- A sowing as one subtraction from a key.
+use Rattle.std.specs.Prelude.{◌≡◌, ℕ, ◌+◌, ◌-◌, ◌*◌, ◌%◌, ◌^◌, ◌==◌, ◌<◌, ◌≤◌, List, slice_index_or}
 use Rattle.kalah_rules.specs.Key.{number_of}
 use Rattle.kalah_rules.specs.Sowing.{lap_length, row_of, gain, own_distance, store_distance, other_distance}
 use Rattle.kalah_rules.specs.declared.houses.sowings.Sowing.{Sowing}
@@ -20,12 +20,26 @@ store_gained m h c = gain (lap_length m) c (store_distance m h)
 abbrev pub last_place : ℕ → ℕ → ℕ → ℕ
 last_place m h c = (h - 1 + c) % lap_length m + 1
 
--- how c seeds of house h are sown, once they are taken out of it: what both rows of a key gain, and the store; the last one falls into
--- the cell of its place, with five bits for each place
+-- the five bits of own house i of m, the lowest of them, and the bit of a key at which the house across begins
+pub record IsLastHouse (m i bits lowest begin : ℕ) : Type 0 where
+  pub house : bits ≡ 31 * 32 ^ (i - 1)
+  pub seed : lowest ≡ 32 ^ (i - 1)
+  pub across : begin ≡ 30 + 5 * (m - i)
+
+-- no house, in which no row has one seed
+pub record IsNoHouse (bits lowest begin : ℕ) : Type 0 where
+  pub house : bits ≡ 0
+  pub seed : lowest ≡ 1
+  pub across : begin ≡ 0
+
+-- how c seeds of house h are sown: what a key without its rule loses if its houses a side go too, what the store gains, and where the last
+-- seed falls
 pub record IsSowing (m h c : ℕ) (s : Sowing) : Type 0 where
-  pub gains : s.gains ≡ own_gained m h c + 2 ^ 30 * other_gained m h c
+  pub loses : s.loses + (own_gained m h c + 2 ^ 30 * other_gained m h c) ≡ 2 ^ 60 * m + 32 ^ (h - 1) * c
   pub store : s.store ≡ store_gained m h c
-  pub end : s.end ≡ 5 * (last_place m h c - 1)
+  pub again : s.again ≡ (last_place m h c == m + 1)
+  pub own : last_place m h c ≤ m → IsLastHouse m (last_place m h c) s.last_house s.last_seed s.across
+  pub elsewhere : m < last_place m h c → IsNoHouse s.last_house s.last_seed s.across
 
 -- the cell of c seeds of house h, on sides of m houses
 pub record IsSowingCell (m h c k : ℕ) : Type 0 where

@@ -138,7 +138,7 @@ pub(super) fn own_gains(m: u8, h: u8, laps: u8, reach: u8) -> u64
     requires few { laps ≤ 10 }
     requires past { h ≤ reach }
     ensures value { result + ones h ≡ laps * ones m + ones_up_to m reach + ones_up_to m (reach - (2 * m + 1)) }
-    ensures small { result < 2 ^ 32 }
+    ensures small { result < 2 ^ 30 }
 {
     let past = one_each_up_to(m, reach) - one_each(h);
     the_same_each(m, laps) + past + one_each_up_to(m, reach.saturating_sub(2 * m + 1))
@@ -149,7 +149,7 @@ pub(super) fn other_gains(m: u8, laps: u8, reach: u8) -> u64
     requires side { m ≤ 6 }
     requires few { laps ≤ 10 }
     ensures value { result ≡ laps * ones m + ones_up_to m (reach - (m + 1)) }
-    ensures small { result < 2 ^ 32 }
+    ensures small { result < 2 ^ 30 }
 {
     the_same_each(m, laps) + one_each_up_to(m, reach.saturating_sub(m + 1))
 }

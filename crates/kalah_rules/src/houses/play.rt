@@ -1,14 +1,14 @@
 //! The one sowing: moves on houses, by whole rows.
-ghost use Rattle.std.specs.Prelude.{◌≡◌, ◌+◌, ◌-◌, ◌*◌, ◌<◌, ◌≤◌, ◌==◌, ◌&&◌, length, Some, Contains, MatchBool};
+ghost use Rattle.std.specs.Prelude.{◌≡◌, ◌+◌, ◌-◌, ◌*◌, ◌<◌, ◌≤◌, ◌==◌, ◌&&◌, length, Contains, MatchBool};
 ghost use Rattle.kalah_rules.specs.Position.{bare, seeds, IsWithinHouses};
 ghost use Rattle.kalah_rules.specs.Lap.{HoldsSeeds};
 ghost use Rattle.kalah_rules.specs.Play.{legal_houses};
-ghost use Rattle.kalah_rules.specs.Sowing.{sown, captures, captured, after, is_again};
-ghost use Rattle.kalah_rules.specs.Sowings.{IsSowing, last_place};
+ghost use Rattle.kalah_rules.specs.Sowing.{sown, captures, after, is_again};
+ghost use Rattle.kalah_rules.specs.Sowings.{IsSowing};
 
 use crate::houses::Houses;
 use crate::houses::house::House;
-use crate::houses::numbers::{OTHER_ROW, SIDE, alone, one_each, one_each_to, seeds_at};
+use crate::houses::numbers::{OTHER_ROW, RULE, SIDE, alone, one_each, one_each_to, seeds_at};
 use crate::houses::sowings::{Sowing, Sowings};
 use crate::rule::Rule;
 use crate::step::HousesStep;
@@ -20,17 +20,16 @@ pub(super) struct RowNumbers {
     store: u64,
 }
 
-// Returns what is captured: the last seed and the seeds across, or nothing. With the last seed its house has `here` seeds, and the
-// house across has `across`. Which of the two is hard to predict, so both are numbers, and a row changes by them without a branch.
-fn caught(rule: Rule, here: u64, across: u64) -> (u64, u64)
+// Returns what is captured: the last seed and the seeds across, or nothing. The last seed may be alone in an own house, and the house
+// across has `across` seeds. Which of the two is hard to predict, so both are numbers, and a row changes by them without a branch.
+fn caught(rule: Rule, alone: bool, across: u64) -> (u64, u64)
     requires { across < 32 }
-    ensures caught { MatchBool ((here == 1) && captures rule across)
+    ensures caught { MatchBool (alone && captures rule across)
         ((result.0 ≡ 1) × (result.1 ≡ across)) ((result.0 ≡ 0) × (result.1 ≡ 0)) }
-    ensures here { result.0 ≤ here }
-    ensures across { result.1 ≤ across }
+    ensures few { result.0 + result.1 ≤ 32 }
 {
     let captures = rule.captures(across as u8);
-    if here == 1 && captures {
+    if alone & captures {
         (1, across)
     } else {
         (0, 0)
@@ -46,45 +45,30 @@ impl Houses {
     fn sow(&self, house: House, sowing: Sowing) -> RowNumbers
         requires holds { HoldsSeeds (bare self.now) house }
         requires sowing { IsSowing (length self.now.own) house (seeds self.now.own house) sowing }
-        ensures { Shows result (sown (bare self.now) house) }
+        ensures shows { Shows result (sown (bare self.now) house) }
+        ensures few { result.store ≤ 31 }
+        ensures limits { IsWithinHouses self.now }
     {
-        let lifted = self.key % SIDE - alone(house, seeds_at(self.own_row(), house));
         RowNumbers {
-            rows: lifted + sowing.gains,
+            rows: self.key % RULE - sowing.loses,
             store: sowing.store as u64,
         }
     }
 
-    // Returns the rows after the capture that the last seed makes in its house, which begins at bit `end`, if it makes one.
-    #[inline(always)]
-    fn capture(&self, house: House, rows: RowNumbers, end: u8) -> RowNumbers
-        requires holds { HoldsSeeds (bare self.now) house }
-        requires shows { Shows rows (sown (bare self.now) house) }
-        requires end { end ≡ 5 * (last_place (length self.now.own) house (seeds self.now.own house) - 1) }
-        requires own { last_place (length self.now.own) house (seeds self.now.own house) ≤ length self.now.own }
-        ensures { Shows result (captured (sown (bare self.now) house) (Some (last_place (length self.now.own) house (seeds self.now.own house)))) }
-    {
-        let across = 25 + 5 * self.m() - end;
-        let here = (rows.rows >> end) % 32;
-        let (last, taken) = caught(self.rule(), here, (rows.rows >> across) % 32);
-        RowNumbers {
-            rows: rows.rows - (last << end) - (taken << across),
-            store: rows.store + last + taken,
-        }
-    }
-
-    // Returns the rows after the move of this house.
+    // Returns the rows after the move of this house: those of its sowing, less what the last seed captures.
     #[inline(always)]
     fn after(&self, house: House, sowing: Sowing) -> RowNumbers
         requires holds { HoldsSeeds (bare self.now) house }
         requires sowing { IsSowing (length self.now.own) house (seeds self.now.own house) sowing }
         ensures { Shows result (after (bare self.now) house) }
     {
-        let rows = self.sow(house, sowing);
-        if sowing.end < 5 * self.m() {
-            self.capture(house, rows, sowing.end)
-        } else {
-            rows
+        let sown = self.sow(house, sowing);
+        let alone = sown.rows & sowing.last_house == sowing.last_seed;
+        let across = (sown.rows >> sowing.across) % 32;
+        let (last, taken) = caught(self.rule(), alone, across);
+        RowNumbers {
+            rows: sown.rows - last * sowing.last_seed - (taken << sowing.across),
+            store: sown.store + last + taken,
         }
     }
 
@@ -114,11 +98,10 @@ impl Houses {
         requires legal { Contains (legal_houses (bare self.now)) house }
         requires rows { Shows rows (after (bare self.now) house) }
         requires again { again ≡ is_again (bare self.now) house }
-        requires limits { IsWithinHouses self.now }
         ensures { result ≡ houses_step self.now house }
     {
-        let gained = rows.store as u8;
         let seeds = self.seeds - rows.store;
+        let gained = rows.store as u8;
         let own = rows.rows % OTHER_ROW;
         let other = rows.rows / OTHER_ROW;
         if own == 0 {
@@ -150,8 +133,7 @@ impl Houses {
         requires sowing { IsSowing (length self.now.own) house (seeds self.now.own house) sowing }
         ensures { result ≡ houses_step self.now house }
     {
-        let again = sowing.end == 5 * self.m();
-        self.step(house, self.after(house, sowing), again)
+        self.step(house, self.after(house, sowing), sowing.again)
     }
 
     /// Plays the mover's house `h`, which must be legal.

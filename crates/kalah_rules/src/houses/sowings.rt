@@ -1,10 +1,10 @@
-//! How each house is sown, for each number of its seeds. Once its seeds are taken out of it, a sowing is one addition to a key.
+//! How each house is sown, for each number of its seeds. A sowing is one subtraction from a key.
 ghost use Rattle.std.specs.Prelude.{◌<◌, ◌≤◌, ℕ};
-ghost use Rattle.kalah_rules.specs.Sowings.{IsSowing, IsSowingCell};
+ghost use Rattle.kalah_rules.specs.Sowings.{IsLastHouse, IsNoHouse, IsSowing, IsSowingCell};
 ghost use Rattle.kalah_rules.specs.declared.houses.sowings.TheConstants.{CELLS};
 
 use crate::houses::house::House;
-use crate::houses::numbers::{OTHER_ROW, other_gains, own_gains};
+use crate::houses::numbers::{OTHER_ROW, SIDE, alone, other_gains, own_gains};
 use std::marker::Model;
 
 // The number of cells of the table. A house that begins at bit b has its 32 cells at row b + m - 1 on sides of m houses. Sides of 1 to 5
@@ -14,13 +14,33 @@ const CELLS: usize = 31 * 32;
 /// How the seeds of one house are sown.
 #[derive(Clone, Copy)]
 pub(super) struct Sowing {
-    // What both rows of a key gain.
-    pub(super) gains: u64,
+    // What a key without its rule loses: the houses a side, and the seeds that are lifted, less what both rows gain.
+    pub(super) loses: u64,
+    // If the last seed falls into an own house, the five bits of that house, and the lowest of them. Otherwise 0 and 1, so that no row
+    // has one seed there.
+    pub(super) last_house: u64,
+    pub(super) last_seed: u64,
+    // The bit at which the house across from it begins in a key.
+    pub(super) across: u8,
     // What the store gains.
     pub(super) store: u8,
-    // The bit at which the cell of the last seed begins. Own houses begin where they do in a key. The store and then the other
-    // player's houses follow.
-    pub(super) end: u8,
+    // Whether the last seed falls into the store.
+    pub(super) again: bool,
+}
+
+// Returns the five bits of the own house with this place, the lowest of them, and the bit at which the house across begins in a key. For
+// the place of any other cell it returns 0, 1 and 0.
+fn last_cell(m: u8, place: u8) -> (u64, u64, u8)
+    requires side { m ≤ 6 }
+    requires first { 1 ≤ place }
+    ensures own { place ≤ m → IsLastHouse m place result.0 result.1 result.2 }
+    ensures elsewhere { m < place → IsNoHouse result.0 result.1 result.2 }
+{
+    if place > m {
+        return (0, 1, 0);
+    }
+    let last_seed = alone(House::new(place), 1);
+    (31 * last_seed, last_seed, 30 + 5 * (m - place))
 }
 
 impl Sowing {
@@ -35,10 +55,16 @@ impl Sowing {
         let lap = 2 * m + 1;
         let laps = count / lap;
         let reach = h + count % lap;
+        let gains = own_gains(m, h, laps, reach) + OTHER_ROW * other_gains(m, laps, reach);
+        let place = (h - 1 + count) % lap + 1;
+        let (last_house, last_seed, across) = last_cell(m, place);
         Sowing {
-            gains: own_gains(m, h, laps, reach) + OTHER_ROW * other_gains(m, laps, reach),
+            loses: SIDE * m as u64 + alone(House::new(h), count as u64) - gains,
+            last_house,
+            last_seed,
+            across,
             store: laps + if reach > m { 1 } else { 0 },
-            end: 5 * ((h - 1 + count) % lap),
+            again: place == m + 1,
         }
     }
 }
@@ -62,9 +88,12 @@ impl Model for Sowings {
 
 // Fills the cells of no house.
 const NO_SOWING: Sowing = Sowing {
-    gains: 0,
+    loses: 0,
+    last_house: 0,
+    last_seed: 1,
+    across: 0,
     store: 0,
-    end: 0,
+    again: false,
 };
 
 // Returns the sowing of cell `i`, or `NO_SOWING` if the cell is no house's.

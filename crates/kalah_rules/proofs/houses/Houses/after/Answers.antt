@@ -1,17 +1,15 @@
 use Rattle.std.proofs.Common.{arith}
-use Rattle.kalah_rules.specs.Position.{bare}
-use Rattle.kalah_rules.proofs.PackedMoves.{after_own, after_past}
+use Rattle.kalah_rules.proofs.PackedMoves.{move_leaves, across_within}
 use Rattle.kalah_rules.proofs.houses.Houses.after.Goals as goal
 
-pub capture-requires-clause-own : goal.capture-requires-clause-own
-capture-requires-clause-own c = omega (arith, c.requires.sowing.end, c.if-sowing-m.true, c.m.ensures.side)
+pub overflow_shr-across : goal.overflow_shr-across
+overflow_shr-across c =
+    across_within _ c.args.house _ c.args.sowing c.requires.sowing (omega (arith, c.sow-sown.ensures.limits.at_most_six))
 
-pub returns-then-sowing-m : goal.returns-then-sowing-m
-returns-then-sowing-m c =
-    after_own (bare c.args.self.now) c.args.house c.requires.holds c.capture.result
-    (omega (arith, c.requires.sowing.end, c.if-sowing-m.true, c.m.ensures.side)) c.capture.ensures
+pub overflow_sub-result-2 : goal.overflow_sub-result-2
+overflow_sub-result-2 c = (move_leaves c.sow-sown.ensures.limits c.requires.holds c.requires.sowing c.sow-sown.ensures.shows
+    c.rule.ensures c.caught-last.ensures.caught).across
 
-pub returns-else-sowing-m : goal.returns-else-sowing-m
-returns-else-sowing-m c =
-    after_past (bare c.args.self.now) c.args.house c.requires.holds c.sow-rows.result
-    (omega (arith, c.requires.sowing.end, c.if-sowing-m.false, c.m.ensures.side)) c.sow-rows.ensures
+pub returns : goal.returns
+returns c = (move_leaves c.sow-sown.ensures.limits c.requires.holds c.requires.sowing c.sow-sown.ensures.shows c.rule.ensures
+    c.caught-last.ensures.caught).shows

@@ -1,5 +1,4 @@
-use Rattle.std.proofs.Common.{arith}
-use Rattle.std.proofs.lemmas.Bool.Decides.{nat_tests}
+use Rattle.std.proofs.Common.{◌∙◌, sym}
 use Rattle.kalah_rules.specs.Position.{bare}
 use Rattle.kalah_rules.proofs.Legal.{legal_holds}
 use Rattle.kalah_rules.proofs.PackedMoves.{again_at}
@@ -11,7 +10,4 @@ after-requires-clause-holds c = legal_holds (bare c.args.self.now) c.args.house 
 pub step-requires-clause-again : goal.step-requires-clause-again
 step-requires-clause-again c =
     let p = bare c.args.self.now in
-    let at = again_at p c.args.house (legal_holds p c.args.house c.requires.legal) in
-    let end = c.requires.sowing.end in
-    let side = c.m.ensures.side in
-    grind (arith, nat_tests, at, end, side)
+    c.requires.sowing.again ∙ sym (again_at p c.args.house (legal_holds p c.args.house c.requires.legal))

@@ -9,7 +9,7 @@ pub overflow_sub-seeds : goal.overflow_sub-seeds
 overflow_sub-seeds c = store_within c.self.invariant c.self.view_is c.requires.legal c.requires.rows
 
 pub overflow_cast-gained : goal.overflow_cast-gained
-overflow_cast-gained c = omega (arith, store_small c.requires.limits c.requires.legal c.requires.rows)
+overflow_cast-gained c = omega (arith, store_small (pack_of c.self.invariant c.self.view_is).limits c.requires.legal c.requires.rows)
 
 pub returns-then-own-eq0 : goal.returns-then-own-eq0
 returns-then-own-eq0 c = over_own c.self.invariant c.self.view_is c.requires.legal c.requires.rows c.if-own-eq0.true

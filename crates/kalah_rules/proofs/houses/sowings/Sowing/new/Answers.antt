@@ -1,10 +1,18 @@
-use Rattle.std.proofs.Common.{arith, refl, lt-ltb, ◌≡◌, ◌+◌, ◌*◌, ◌%◌, nat_lt}
+use Rattle.std.proofs.Common.{arith, refl, lt-ltb, ◌≡◌, ◌+◌, ◌-◌, ◌*◌, ◌^◌, ◌%◌, nat_lt}
 use Rattle.std.specs.Prelude.{if◌then◌else◌}
 use Rattle.std.proofs.lemmas.Bool.{le-ltb}
 use Rattle.kalah_rules.specs.Sowings.{own_gained, other_gained}
-use Rattle.kalah_rules.proofs.Packing.{own_gain, other_gain, store_gain}
+use Rattle.kalah_rules.proofs.Packing.{own_gain, other_gain, store_gain, placed_small}
 use Rattle.kalah_rules.proofs.houses.sowings.Sowing.new.Goals as goal
 use Rattle.kalah_rules.proofs.houses.sowings.Sowing.new.Goals.{then-reach-m, else-reach-m}
+
+pub overflow_add-result : goal.overflow_add-result
+overflow_add-result c = omega (
+  arith,
+  rw c.new.ensures at c.alone.ensures,
+  c.requires.side,
+  placed_small (c.args.h - 1) c.args.count (omega (arith, c.requires.last, c.requires.side)) c.requires.few,
+)
 
 pub returns : goal.returns
 returns c =
@@ -20,8 +28,11 @@ returns c =
       | then-reach-m w ↦ rw (w.result-is, lt-ltb _ _ w.if-reach-m.true) refl
       | else-reach-m w ↦ rw (w.result-is, le-ltb _ _ w.if-reach-m.false) refl
     ] in
+    let lifted : c.alone.result ≡ 32 ^ (h - 1) * count = rw c.new.ensures at c.alone.ensures in
     record {
-      gains = omega (arith, own, other);
+      loses = omega (arith, own, other, c.own_gains.ensures.small, c.other_gains.ensures.small, lifted, first, last);
       store = omega (arith, tested, store_gain m h count first last);
-      end = omega arith;
+      again = refl;
+      own = c.last_cell-last_house.ensures.own;
+      elsewhere = c.last_cell-last_house.ensures.elsewhere;
     }
