@@ -58,12 +58,12 @@ fn places_after(
 
 #[test]
 fn games_as_they_begin_take_few_nodes(rt: HostRuntime) {
-    places_after(&rt, &GAMES, 54_538);
+    places_after(&rt, &GAMES, 58_977);
 }
 
 #[test]
 fn hard_positions_take_few_nodes(rt: HostRuntime) {
-    assert!(rt; places_after(&rt, &HARD, 203_469) == 65_536);
+    assert!(rt; places_after(&rt, &HARD, 214_767) == 65_536);
 }
 
 #[test]

@@ -5,12 +5,15 @@ ghost use Rattle.kalah_solve.specs.Table.EndgameTable.{most_ending_seeds};
 use crate::table::endgame_table::MOST_ENDING_SEEDS;
 use kalah_rules::Houses;
 
-// The nodes of a game from which on all places pay, and endings of 8 seeds, not only those of up to 7. To find an ending costs as much as
-// a node.
+// The nodes of a game from which on all places pay.
 const SOME_NODES: u64 = 8_000;
 
-// The nodes of a game from which on all endings pay, once houses with `MANY_SEEDS` seeds were searched.
-const MANY_NODES: u64 = 46_000;
+// The nodes of a game from which on endings of 8 seeds pay, not only those of up to 7. To find an ending costs as much as a node, and
+// with six houses a side there are 75,582 of 8 seeds.
+const MORE_NODES: u64 = 42_000;
+
+// The nodes of a game from which on all endings pay, once houses with `MANY_SEEDS` seeds were searched. There are 167,960 of 9 seeds.
+const MANY_NODES: u64 = 120_000;
 
 const MANY_SEEDS: u8 = 17;
 
@@ -64,7 +67,7 @@ impl Work {
     /// Returns the limit of endings that pays now.
     pub(super) fn ending_limit(&self) -> EndingLimit {
         EndingLimit {
-            seeds: if self.nodes < SOME_NODES {
+            seeds: if self.nodes < MORE_NODES {
                 7
             } else if self.nodes < MANY_NODES || !self.seen_many_seeds {
                 8
@@ -83,7 +86,7 @@ impl Work {
     #[inline(always)]
     pub(super) fn count_node(&mut self) -> bool {
         self.nodes = self.nodes.saturating_add(1);
-        self.nodes == SOME_NODES || self.nodes == MANY_NODES
+        self.nodes == SOME_NODES || self.nodes == MORE_NODES || self.nodes == MANY_NODES
     }
 
     /// Returns how many nodes of all games there were.
