@@ -70,16 +70,17 @@ impl<A: Allocator + Clone> Search<A> {
     // Counts one more node, and returns how many of the game there were before.
     pub(super) fn count_node(&mut self) -> u64 {
         let before = self.work.nodes();
-        if self.work.count_node() {
+        if !self.work.count_node() {
             self.grow();
         }
         before
     }
 
-    // Uses more endings, and all places.
+    // Counts a node, and uses more endings, and all places.
     #[cold]
     #[inline(never)]
     fn grow(&mut self) {
+        self.work.count_event();
         self.grow_endings();
         self.table.grow();
     }

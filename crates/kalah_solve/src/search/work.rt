@@ -40,6 +40,8 @@ pub(super) struct Work {
     // How many nodes of it there were, and of each game before it was searched last.
     nodes: u64,
     nodes_before: [u64; 16],
+    // The number of its nodes from which on more may pay: up to it, a node is only counted.
+    next_event: u64,
     // Whether houses with many seeds were asked about.
     seen_many_seeds: bool,
     ghost is_game: { game < 16 },
@@ -52,6 +54,7 @@ impl Work {
             game: 0,
             nodes: 0,
             nodes_before: [0; 16],
+            next_event: SOME_NODES,
             seen_many_seeds: false,
         }
     }
@@ -61,6 +64,7 @@ impl Work {
         self.nodes_before[self.game] = self.nodes;
         self.game = (houses.key() >> 60) as usize;
         self.nodes = self.nodes_before[self.game];
+        self.set_next_event();
         self.seen_many_seeds |= houses.seeds() >= MANY_SEEDS;
     }
 
@@ -82,11 +86,33 @@ impl Work {
         self.nodes
     }
 
-    /// Counts one more node. Returns whether more endings or places may pay from this one on.
+    // Sets the number of nodes from which on more may pay.
+    fn set_next_event(&mut self) {
+        self.next_event = if self.nodes < SOME_NODES {
+            SOME_NODES
+        } else if self.nodes < MORE_NODES {
+            MORE_NODES
+        } else if self.nodes < MANY_NODES {
+            MANY_NODES
+        } else {
+            u64::MAX
+        };
+    }
+
+    /// Counts one more node, and returns true. If more endings or places may pay by now, it counts none and returns false.
     #[inline(always)]
     pub(super) fn count_node(&mut self) -> bool {
+        if self.nodes >= self.next_event {
+            return false;
+        }
+        self.nodes += 1;
+        true
+    }
+
+    /// Counts the node that `count_node` did not count.
+    pub(super) fn count_event(&mut self) {
+        self.set_next_event();
         self.nodes = self.nodes.saturating_add(1);
-        self.nodes == SOME_NODES || self.nodes == MORE_NODES || self.nodes == MANY_NODES
     }
 
     /// Returns how many nodes of all games there were.
