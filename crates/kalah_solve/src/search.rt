@@ -286,7 +286,7 @@ impl<A: Allocator + Clone> Search<A> {
             left = rest;
             match self.look(houses, house, bar) {
                 Look::Waits(priority, next) => {
-                    let at = house.number() as usize - 1;
+                    let at = (priority % 8) as usize;
                     priorities[at] = priority;
                     turns[at] = next;
                 }
@@ -312,9 +312,7 @@ impl<A: Allocator + Clone> Search<A> {
         match step {
             HousesStep::Turn(gained, next) => {
                 if gained < bar && next.seeds() > self.ending_limit.seeds {
-                    let priority = self
-                        .order
-                        .priority(houses.m(), house.number(), gained, &next);
+                    let priority = self.order.priority(houses.m(), house, gained, &next);
                     return Look::Waits(priority, next);
                 }
                 Look::Bounded(self.bound_turn(gained, next, bar))

@@ -57,9 +57,9 @@ impl House {
         self.bit / 5 + 1
     }
 
-    // Returns the bit at which the house begins.
+    /// Returns the bit at which the house begins in a row's number.
     #[inline(always)]
-    pub(super) fn bit(self) -> u8
+    pub fn bit(self) -> u8
         ensures is { result ≡ 5 * (self - 1) }
         ensures first { 1 ≤ self }
         ensures last { self ≤ 6 }

@@ -3,8 +3,8 @@ ghost use Rattle.std.specs.Prelude.{◌≡◌, ◌+◌, ◌%◌, ◌≤◌, ◌<
 
 mod weights;
 
-use crate::search::move_order::weights::{GAIN, HOUSES, PLACES};
-use kalah_rules::Houses;
+use crate::search::move_order::weights::{GAIN, HOUSES, TURNS};
+use kalah_rules::{House, Houses};
 
 /// What orders the turns: the weights of the houses, two neighbours at a time.
 #[derive(Drop)]
@@ -45,25 +45,34 @@ impl MoveOrder {
         weight
     }
 
-    /// Returns the priority of a turn of house `h` of `m` that brought `gained` seeds to the store and leaves these houses to the other
-    /// player. It is an estimate times 8, plus `h - 1`, which names the house. So two turns of a position are never equal, and of equal
-    /// estimates the house nearest the store comes first.
+    /// Returns the priority of a turn of this house of `m` that brought `gained` seeds to the store and leaves these houses to the other
+    /// player. It is an estimate times 8, plus the house's number less 1, which names it. So two turns of a position are never equal, and
+    /// of equal estimates the house nearest the store comes first.
     ///
     /// The estimate counts what came to the store, the place of the house, and each house that is left, by its place and its seeds.
     #[inline(always)]
-    pub(crate) fn priority(&self, m: u8, h: u8, gained: u8, next: &Houses) -> u16
+    pub(crate) fn priority(&self, m: u8, house: House, gained: u8, next: &Houses) -> u16
         requires side { m ≤ 6 }
-        requires first { 1 ≤ h }
-        requires last { h ≤ 6 }
+        requires last { house ≤ m }
         ensures some { 0 < result }
-        ensures house { result % 8 + 1 ≡ h }
+        ensures house { result % 8 + 1 ≡ house }
     {
-        let place = PLACES[(6 - m + h) as usize] as u32;
         // A turn gains at most 31 seeds.
         let gain = GAIN * (gained as u32 % 32);
-        let estimate = 1 + gain + place + self.weight(m, next);
-        (8 * estimate + (h as u32 - 1)) as u16
+        let estimate = 1 + gain + self.weight(m, next);
+        (8 * estimate + turn_of(m, house) as u32) as u16
     }
+}
+
+// Returns what this house of `m` adds to the priority of its turn.
+#[inline(always)]
+fn turn_of(m: u8, house: House) -> u16
+    requires side { m ≤ 6 }
+    requires last { house ≤ m }
+    ensures house { result % 8 + 1 ≡ house }
+    ensures small { result ≤ 413 }
+{
+    TURNS[(m + house.bit() - 1) as usize]
 }
 
 /// As many priorities as the processor compares at once, house 1 first: those past the last house are 0.

@@ -3,8 +3,12 @@
 /// What a seed counts that a turn brings to the store.
 pub(super) const GAIN: u32 = 64;
 
-/// What the house of a turn counts: cell 6 is the house next to the store, and cell 1 the farthest of six. There is none past it.
-pub(super) static PLACES: [u8; 13] = [0, 0, 25, 26, 36, 43, 51, 0, 0, 0, 0, 0, 0];
+/// What the house of a turn adds to its priority: 8 times what its place counts, and its number less 1. Places count 51, 43, 36, 26, 25 and
+/// 0, from the store on. House `h` of `m` has cell `m + 5 * (h - 1) - 1`, and the other cells are no house's.
+pub(super) static TURNS: [u16; 31] = [
+    408, 344, 288, 208, 200, 0, 409, 345, 289, 209, 201, 2, 410, 346, 290, 210, 3, 3, 411, 347,
+    291, 4, 4, 4, 412, 348, 5, 5, 5, 5, 413,
+];
 
 /// What a house counts after a turn, by the number of its seeds modulo 16, as hardly any holds more. First come the houses of the player
 /// who is to move, then those of the mover. Each row begins with the house farthest from its store.

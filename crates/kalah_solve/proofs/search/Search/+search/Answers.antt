@@ -1,6 +1,8 @@
 use Rattle.std.proofs.Common.{arith, rules, refl, sym, ◌∙◌, ◌≡◌, ◌+◌, ◌-◌, ◌%◌, subst, length}
 use Rattle.std.specs.Prelude.{max}
 use Rattle.std.proofs.lemmas.List.Sums.{sum_by-set}
+use Rattle.kalah_rules.specs.Position.{bare}
+use Rattle.kalah_rules.proofs.Legal.{legal_holds}
 use Rattle.kalah_rules.specs.declared.step.HousesStep.TheVariants.{Turn}
 use Rattle.kalah_solve.specs.Solver.StepWorth.{GoesOn, GoesOnAt}
 use Rattle.kalah_solve.specs.Bounds.Won.{won}
@@ -116,12 +118,16 @@ explore-returns g t c =
           is.untried is.highest (omega (arith, c.loop-priority-test.false));
     }
 
+pub look-priority-priority-requires-clause-last : goal.look-priority-priority-requires-clause-last
+look-priority-priority-requires-clause-last g t c =
+    omega (arith, (legal_holds (bare c.args.houses.now) c.args.house c.requires.legal).last, c.m.ensures.side)
+
 pub look-returns-then-seeds-self : goal.look-returns-then-seeds-self
 look-returns-then-seeds-self g t c =
     let priority = c.priority-priority in (
       priority.ensures.some,
       turn_of c.args.houses.now c.args.house priority.result c.in-Turn.gained c.in-Turn.next c.seeds-seeds.ensures.limits c.requires.legal
-          (sym c.in-Turn.is ∙ c.play_by-step.ensures) (priority.ensures.house ∙ c.number.ensures.is),
+          (sym c.in-Turn.is ∙ c.play_by-step.ensures) priority.ensures.house,
     )
 
 pub bound_again-loop-left-init : goal.bound_again-loop-left-init
@@ -250,7 +256,8 @@ others_waiting-loop-left-preserved-in-Waits g t c =
     let h = c.split_last-house.result.0 in
     let last = c.split_last-house.ensures.last in
     let before = c.loop-left.invariant in
-    rw (c.split_last-house.ensures.rest, c.number.ensures.is) (record {
+    let place : c.in-Waits.priority % 8 ≡ h - 1 = omega (arith, c.in-Waits.ensures.1.house) in
+    rw (c.split_last-house.ensures.rest, place) (record {
       low = before.low;
       may = moves_fewer before.may last;
       played = played_more a c.loop-left.most marks h c.loop-left.priorities c.loop-left.turns before.played last c.in-Waits.priority
