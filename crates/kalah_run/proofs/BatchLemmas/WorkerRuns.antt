@@ -22,7 +22,7 @@ use Rattle.kalah_run.specs.Batch.AtWork.{drawn_jobs, passes_of, puts_of, AreAtWo
 use Rattle.kalah_run.specs.declared.batch.shared_work.SharedWork.{SharedWork}
 use Rattle.kalah_run.specs.declared.batch.worker.Worker.{Worker}
 use Rattle.kalah_run.proofs.BatchLemmas.Sendings.{drawn_jobs-none}
-use Rattle.kalah_run.proofs.DeskLemmas.Once.{dealt_once, length-drawn_numbers}
+use Rattle.kalah_run.proofs.DeskLemmas.Once.{length-drawn_numbers}
 
 -- each pass to put is of the queue
 put_queue : (id : TableId) (n : ℕ) (puts : List PutState) (k : ℕ) (d : PutState) → ArePassesFrom id n puts → k < length puts
@@ -102,7 +102,7 @@ each_job_got shared workers count drawn got rest at_work as_many deals accounts 
     length-map (puts_of workers) (λ (p : PutState). p.sent) ∙ length-map workers (λ (w : Worker). w.put) in
     let row_workers : count ≡ length rows = sym as_many ∙ sym row_count in
     let are_shared : AreShared drawn (job jobs) rows (got ++ rest) = record {
-      each_once = dealt_once _ drawn (drawn_rows (passes_of workers)) deals;
+      each_once = deals.each_once;
       workers = subst (λ n. All (λ (t : ℕ × Job). t.0 < n) (got ++ rest)) row_workers accounts.below;
       whole = λ w within.
           let low : w < length workers = omega arith in

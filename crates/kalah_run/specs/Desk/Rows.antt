@@ -1,5 +1,5 @@
 -- The rows of a desk: for each pass the numbers that it has drawn, and whether it is spent.
-use Rattle.std.specs.Prelude.{◌≡◌, ◌≢◌, ℕ, ◌+◌, ◌<◌, ◌≤◌, ◌==◌, List, length, map, Bool, nat_lt, if◌then◌else◌, sum_by, count_by, All, AllPairs, slice_index_or}
+use Rattle.std.specs.Prelude.{◌≡◌, ℕ, ◌<◌, ◌≤◌, List, length, map, Bool, nat_lt, if◌then◌else◌, sum_by, count_by, All, AllPairs}
 use Rattle.kalah_jobs.specs.Collecting.Shares.{times_in}
 use Rattle.kalah_run.specs.declared.desk.rule.DrawnRow.{DrawnRow}
 
@@ -26,24 +26,11 @@ pub record AreLawful (total : ℕ) (rows : List DrawnRow) : Type 0 where
   pub ascending : All (λ r. AllPairs (λ x y. x < y) r.numbers) rows
   pub spent : 0 < spent_in rows → drawn_in rows ≡ total
 
--- x stands in one row, there once, and in no other
-pub record StandsOnce (x : ℕ) (rows : List DrawnRow) : Type 0 where
-  pub place : ℕ
-  pub within : place < length rows
-  pub once : (d : DrawnRow) → count_by (λ y. y == x) (slice_index_or rows place d).numbers ≡ 1
-  pub nowhere_else : (k : ℕ) (d : DrawnRow) → k < length rows → k ≢ place
-      → count_by (λ y. y == x) (slice_index_or rows k d).numbers ≡ 0
-
--- x stands in no row
-abbrev pub StandsNowhere : ℕ → List DrawnRow → Type 0
-StandsNowhere x rows = All (λ r. count_by (λ y. y == x) r.numbers ≡ 0) rows
-
--- The rows hold the first `drawn` of the numbers below the total: each number below `drawn` stands in one row, and there once; no other
--- stands in any; and each row ascends. A pass is spent only if all numbers are drawn.
+-- The rows hold the first `drawn` of the numbers below the total: each number below `drawn` stands once in all rows together, and no
+-- other in any; and each row ascends. A pass is spent only if all numbers are drawn.
 pub record DealsEachOnce (total drawn : ℕ) (rows : List DrawnRow) : Type 0 where
   pub within : drawn ≤ total
   pub count : drawn ≡ drawn_in rows
-  pub once : (number : ℕ) → number < drawn → StandsOnce number rows
-  pub no_other : (number : ℕ) → drawn ≤ number → StandsNowhere number rows
+  pub each_once : (number : ℕ) → times_in number (drawn_numbers rows) ≡ (if nat_lt number drawn then 1 else 0)
   pub ascending : All (λ row. AllPairs (λ x y. x < y) row.numbers) rows
   pub spent : 0 < spent_in rows → drawn ≡ total
