@@ -1,9 +1,9 @@
 -- Each step keeps the rule of the results queue.
 use Rattle.std.proofs.Common.{◌≡◌, ◌≢◌, ℕ, suc, ◌+◌, ◌<◌, ◌≤◌, List, [], ◌∷◌, ◌++◌, length, set, sym, refl, ap, ◌∙◌, subst, ⊎_elim, append_assoc, arith}
-use Rattle.std.proofs.lemmas.List.{length-set, length_push}
+use Rattle.std.proofs.lemmas.List.{append-nil, length-set, length_push}
 use mathlib.Core.Option.{some}
 use lib.ListN.{get_elem?}
-use Rattle.crossbeam_queue.specs.Fifo.{Pushes, Pops, Forks, Merges, Learns}
+use Rattle.crossbeam_queue.specs.Fifo.{Pushes, Pops, Forks, Held, Merges, Learns}
 use Rattle.crossbeam_queue.proofs.Lists.{at_set}
 use Rattle.kalah_jobs.specs.declared.files.job.Job.{Job}
 use Rattle.kalah_run.specs.declared.queue.rule.QueueView.{QueueView}
@@ -258,3 +258,21 @@ accounts_at place made got known items views h at =
 pub tells : (place : ℕ) (v : QueueView) (made : ℕ) (got : List (ℕ × Job)) (known : List (List Job)) → v ≡ Getting made got known
     → Learns IsLawful place v (Tells v)
 tells place v made got known e = subst (λ (u : QueueView). Learns IsLawful place u (Tells u)) (sym e) (accounts_at place made got known)
+
+-- the pass to get has reclaimed one pass more
+pub reclaimed : (v u after : QueueView) (made : ℕ) (got : List (ℕ × Job)) (known : List (List Job)) (number : ℕ) (sent : List Job)
+    → v ≡ Getting made got known → u ≡ Putting number sent → after ≡ after_reclaiming_sent v u → after ≡ Getting made got (known ++ sent ∷ [])
+reclaimed v u after made got known number sent getting putting is = is ∙ λ i. after_reclaiming_sent (getting i) (putting i)
+
+-- once it has reclaimed all, it learns what all workers have sent
+pub whole_when_reclaimed : (v : QueueView) (made left : ℕ) (got : List (ℕ × Job)) (known rest all : List (List Job))
+    → v ≡ Getting made got known → length rest ≡ 0 → known ++ rest ≡ all → Held left (Tells v)
+    → Held left (λ items. Accounts made all (got ++ items))
+whole_when_reclaimed v made left got known (x ∷ xs) all getting none whole held = absurd (omega arith)
+whole_when_reclaimed v made left got known [] all getting none whole held =
+    let accounts : Accounts made known (got ++ held.0) = subst (λ (u : QueueView). Tells u held.0) getting held.2 in (
+      held.0,
+      held.1,
+      subst (λ (sent : List (List Job)). Accounts made sent (got ++ held.0))
+          (sym (append-nil known) ∙ whole) accounts,
+    )

@@ -1,5 +1,8 @@
-use Rattle.std.proofs.Common.{rules, ap, arith}
-use Rattle.kalah_run.proofs.DeskLemmas.Seats.{begins, hands_out_as}
+use Rattle.std.proofs.Common.{◌∙◌, ◌+◌, List, [], rules, ap, arith, subst, sym}
+use Rattle.kalah_run.proofs.DeskLemmas.Seats.{begins, hands_out_as, one_pass_more}
+use Rattle.kalah_run.specs.Desk.Steps.{after_handing_out, pass_handed_out}
+use Rattle.kalah_run.specs.Desk.States.{DeskState, PassState, AreNewPasses, number_in, row_in, total_in}
+use Rattle.kalah_run.specs.declared.desk.rule.DeskView.TheVariants.{Opening}
 use Rattle.kalah_run.proofs.desk.Desk.open.Goals as goal
 
 pub of_words-requires : goal.of_words-requires
@@ -7,3 +10,28 @@ of_words-requires c = begins _ (search rules) (search rules)
 
 pub split_seat-seat-requires : goal.split_seat-seat-requires
 split_seat-seat-requires c = (search rules, search rules, hands_out_as _ _ _ _ _ _ (ap (λ m. m.0) c.loop.invariant.opener) (omega arith))
+
+pub loop-preserved : goal.loop-preserved
+loop-preserved c =
+    let so_far = c.loop.invariant in
+    let seats = c.split_seat-seat.ensures in
+    let desk : DeskState = record {
+      id = c.in_ok-table.table.shared.table_id;
+      total = c.in_ok-table.table.shared.key.total;
+      passes = c.args.passes;
+    } in
+    let id = seats.3 ∙ so_far.table in
+    let me = seats.4 ∙ ap (λ m. (pass_handed_out m.0, [])) so_far.opener in
+    record {
+      table = seats.0 ∙ so_far.table;
+      opener = seats.2 ∙ ap (λ m. (after_handing_out m.0, m.1)) so_far.opener
+          ∙ ap (λ n. (Opening c.in_ok-table.table.shared.key.total (c.loop.counter + 1) n, [])) (omega arith);
+      room = search rules;
+      handed_out = subst (λ (l : List PassState). AreNewPasses desk (c.loop.counter + 1) l) (sym c.push_reserved.ensures.items)
+          (one_pass_more desk _ _ _ so_far.handed_out (λ i. let v = (me i).0 in record {
+            desk = id i;
+            total = total_in v;
+            number = number_in v;
+            row = row_in v;
+          }));
+    }

@@ -1,6 +1,11 @@
-use Rattle.std.proofs.Common.{◌≡◌, ◌∷◌, ◌∙◌, ap}
-use Rattle.std.specs.Vec.Iter.{into_iter_items}
-use Rattle.kalah_run.proofs.QueueLemmas.Keeps.{merges, tells}
+use Rattle.std.proofs.Common.{◌≡◌, ◌∷◌, ◌++◌, [], ◌∙◌, ap, append_assoc, arith, length, subst, sym}
+use Rattle.std.proofs.lemmas.List.{length-map, length_push}
+use Rattle.std.specs.Vec.Iter.{into_iter_deque, into_iter_items}
+use Rattle.crossbeam_queue.specs.Passes.{view}
+use Rattle.kalah_run.specs.declared.queue.rule.QueueView.TheVariants.{Getting, Putting}
+use Rattle.kalah_run.specs.Queue.States.{ArePassesFrom, PutState, sent_by}
+use Rattle.kalah_run.proofs.QueueLemmas.Keeps.{merges, tells, reclaimed, whole_when_reclaimed}
+use Rattle.kalah_run.proofs.QueueLemmas.Views.{known_in}
 use Rattle.kalah_run.proofs.queue.ResultsQueue.close.Goals as goal
 
 pub absorb-requires-clause-rule : goal.absorb-requires-clause-rule
@@ -11,3 +16,32 @@ absorb-requires-clause-rule g c =
 
 pub len_as-left-requires-clause-rule : goal.len_as-left-requires-clause-rule
 len_as-left-requires-clause-rule g c = tells _ _ _ _ _ c.loop-put.invariant.getting
+
+pub returns-clause-whole : goal.returns-clause-whole
+returns-clause-whole g c =
+    let so_far = c.loop-put.invariant in
+    let rest = c.loop-put.put-iterator in
+    whole_when_reclaimed _ _ _ _ _ (sent_by (into_iter_items rest)) _ so_far.getting
+    (omega (arith, c.in-None.ensures.steps.0, (into_iter_deque rest).ok.0, length-map (into_iter_items rest) (λ (p : PutState). p.sent)))
+    so_far.known c.len_as-left.ensures.rule.1
+
+pub loop-put-preserved : goal.loop-put-preserved
+loop-put-preserved g c =
+    let so_far = c.loop-put.invariant in
+    let same = c.absorb.ensures.queue in
+    let known = known_in (view c.loop-put.ruled) in
+    let put = c.in-Some.put in
+    let rest = into_iter_items c.next.new.self in
+    let step : into_iter_items c.loop-put.put-iterator ≡ put ∷ rest = c.in-Some.ensures.steps.0 in
+    let passes = rw step at so_far.passes in
+    let now = reclaimed _ _ _ _ _ _ _ put.sent so_far.getting
+    (c.put.invariant.1 ∙ ap (λ p. Putting p.number p.sent) c.put.view_is) c.absorb.ensures.rule in
+    let more = ap known_in now in
+    record {
+      place = (same.0 ∙ so_far.place.0, same.2 ∙ so_far.place.1);
+      getting = now ∙ ap (λ l. Getting c.args.pass.workers c.args.pass.got l) (sym more);
+      passes = subst (λ n. ArePassesFrom c.self.inside.pairs.table.shared.table_id n rest)
+          (omega (arith, ap (λ l. length l) more, length_push known put.sent)) passes.2;
+      known = ap (λ l. l ++ sent_by rest) more ∙ append_assoc known (put.sent ∷ []) (sent_by rest)
+          ∙ ap (λ l. known ++ sent_by l) (sym step) ∙ so_far.known;
+    }
