@@ -28,11 +28,12 @@ use crate::batch::running::run_and_write;
 use crate::batch::shared_work::SharedWork;
 use crate::batch::size::{BatchSize, Rest};
 use crate::batch::watch::{NoWatch, Watch};
-use crate::batch::worker::Crew;
+use crate::batch::worker::{Crew, Ended};
 use kalah_jobs::{FileText, Jobs, Question, Sink};
 use std::alloc::Global;
 use std::marker::Model;
 use std::sync::Wait;
+use std::sync::atomic::AtomicIn;
 use std::thread::Threads;
 
 /// How many lines a batch has answered.
@@ -86,9 +87,11 @@ fn answer_jobs<'a, R: Threads + Wait + Sync, G: Gate, V: Watch, W: Sink>(
         passes,
         puts,
     } = OpenBatch::open(alloc, jobs, size, rest, gate)?;
+    let ended = AtomicIn::<Ended>::new(0);
     let crew = Crew {
         shared: &shared,
         workers,
+        ended: &ended,
     };
     let (workers, get, _) = run_and_write(rt, crew, get, ordered, watch, out)?;
     let (passes, puts) = take_apart(workers, passes, puts);

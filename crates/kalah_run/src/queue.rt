@@ -1,5 +1,5 @@
 //! The results queue: outcomes on their way from many workers to one collector.
-ghost use Rattle.std.specs.Prelude.{◌≡◌, ◌≤◌, ◌<◌, ℕ, List, [], ◌∷◌, ◌++◌, length, All, IfOk, MatchOption, vec_len};
+ghost use Rattle.std.specs.Prelude.{◌≡◌, ◌≤◌, ◌<◌, ℕ, List, [], ◌∷◌, ◌++◌, length, All, IfNone, IfOk, MatchOption, vec_len};
 ghost use Rattle.crossbeam_queue.specs.Passes.{view, IsPassOf};
 ghost use Rattle.kalah_jobs.specs.declared.files.job.Job.{Job};
 ghost use Rattle.kalah_run.specs.Limits.{AreQueuePlaces, AreWorkers};
@@ -23,8 +23,8 @@ use kalah_jobs::Outcome;
 use std::alloc::{AllocError, Global};
 use std::marker::Model;
 use std::sync::Wait;
-use std::sync::atomic::AtomicBool;
 use std::sync::atomic::Ordering::SeqCst;
+use std::sync::atomic::{AtomicIn, Rule};
 
 #[cfg(test)]
 mod tests;
@@ -37,8 +37,6 @@ pub struct ResultsQueue {
     // The threads that wait for an outcome, and those that wait for room. Threads change these all the time, and read what is next to them.
     getters: CachePadded<Waiters>,
     putters: CachePadded<Waiters>,
-    // Whether the workers have ended.
-    is_ended: AtomicBool,
 }
 
 impl Model for ResultsQueue {
@@ -83,7 +81,6 @@ impl ResultsQueue {
             pairs,
             getters: CachePadded::new(Waiters::new()),
             putters: CachePadded::new(Waiters::new()),
-            is_ended: AtomicBool::new(false),
         };
         Ok((queue, puts, GetPass { ruled, workers }))
     }
@@ -146,26 +143,35 @@ impl ResultsQueue {
         unreachable!()
     }
 
-    // Says that the workers have ended, so that the collector waits for no further outcome.
-    pub(crate) fn end(&self) {
-        self.is_ended.store(true, SeqCst);
+    // Says that the workers have ended, so that the collector waits for no further outcome. The word is 1 from then on, and its rule has
+    // what is known of them then.
+    pub(crate) fn end<E: Rule>(&self, ended: &AtomicIn<E>)
+        requires { E.invariant 1 }
+    {
+        ended.store(1, SeqCst);
         self.getters.call_one();
     }
 
     // Like `get`, but returns `None`, with nothing got, once the workers have ended and no outcome is left.
-    pub(crate) fn get_to_end<R: Wait>(&self, rt: &R, pass: &mut GetPass) -> Option<Outcome>
+    pub(crate) fn get_to_end<R: Wait, E: Rule>(
+        &self,
+        rt: &R,
+        pass: &mut GetPass,
+        ended: &AtomicIn<E>,
+    ) -> Option<Outcome>
         requires { pass.old.queue ≡ self.now.id }
-        ensures { MatchOption result (pass.new ≡ pass.old) (λ outcome. HasGot pass.old outcome pass.new) }
+        ensures got { MatchOption result (pass.new ≡ pass.old) (λ outcome. HasGot pass.old outcome pass.new) }
+        ensures ended { IfNone result (E.invariant 1) }
     {
         let mut waiting = Waiting::new(&self.getters);
         for _ in rt.forever() {
-            let is_ended = self.is_ended.load(SeqCst);
+            let has_ended = ended.load(SeqCst);
             if let Some(pair) = self.pairs.try_pop_as::<Gets>(&mut pass.ruled) {
                 drop(waiting);
                 self.putters.call_one();
                 return Some(pair.outcome);
             }
-            if is_ended {
+            if has_ended == 1 {
                 return None;
             }
             waiting.pause(rt);
@@ -209,7 +215,6 @@ impl ResultsQueue {
             pairs,
             getters: _,
             putters: _,
-            is_ended: _,
         } = self;
         let GetPass {
             mut ruled,

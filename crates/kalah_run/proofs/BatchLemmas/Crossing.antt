@@ -5,6 +5,7 @@ use denote.Ref.{NamedLft}
 use denote.Struct.Owning as owning
 use denote.Struct.Struct.{Struct}
 use Rattle.std.specs.contracts.alloc.Global as Heap
+use Rattle.std.specs.declared.sync.atomic.Rule as rule
 use Rattle.std.proofs.Crossing.{crosses, frees}
 use Rattle.atomic_table.specs.contracts.shared.Seat as Seat
 use Rattle.atomic_table.specs.contracts.shared.Shared as Shared
@@ -71,5 +72,5 @@ pub worker_send : IsSend Worker.the_row
 worker_send = search (sendable, crosses, seat_send, tagged_send, Solver-send) depth 60
 
 -- and all of them with what they share
-pub crew_send : (κ κ' : NamedLft) (G : RattleType) → IsSync G → IsSend (Crew.the_row κ κ' G)
-crew_send κ κ' G s = search (sendable, crosses, shared_work_sync, worker_send) depth 60
+pub crew_send : (κ κ' : NamedLft) (G E : RattleType) (g : rule.Ghosts E.Denot) → IsSync G → IsSend (Crew.the_row κ κ' G E g)
+crew_send κ κ' G E g s = search (sendable, crosses, shared_work_sync, worker_send) depth 60

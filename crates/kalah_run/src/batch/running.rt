@@ -4,7 +4,7 @@ ghost use Rattle.std.specs.Io.KnownBytes.{Keeps};
 ghost use Rattle.std.specs.Thread.{IsSync};
 ghost use Rattle.kalah_jobs.specs.Files.Jobs.{job_count};
 ghost use Rattle.kalah_jobs.specs.Writing.Given.{IsReady};
-ghost use Rattle.kalah_run.specs.Batch.AtWork.{AreAtWork, HaveRun};
+ghost use Rattle.kalah_run.specs.Batch.AtWork.{AreAtWork, HaveRun, OnceRun};
 ghost use Rattle.kalah_run.specs.Batch.OrderedOutput.{AcceptsAll, outcomes_in};
 ghost use Rattle.kalah_run.specs.Batch.Running.{CanRun, HasEnded};
 ghost use Rattle.kalah_run.specs.Batch.UnderWay.{IsLeft};
@@ -22,28 +22,31 @@ use crate::queue::passes::GetPass;
 use kalah_jobs::{Outcome, Sink};
 use std::snapshot::Snapshot;
 use std::sync::Wait;
+use std::sync::atomic::{AtomicIn, Rule};
 use std::thread;
 use std::thread::{Promise, Threads};
 
 // The thread returns the list of workers that it was given, and each has run.
 #[derive(Drop)]
-struct AllHaveRun<'a, 'b, G>(Snapshot<Crew<'a, 'b, G>>);
+struct AllHaveRun<'a, 'b, G, E: Rule>(Snapshot<Crew<'a, 'b, G, E>>);
 
-impl<'a, 'b, G> Promise<Vec<Worker>> for AllHaveRun<'a, 'b, G> {
+impl<'a, 'b, G, E: Rule> Promise<Vec<Worker>> for AllHaveRun<'a, 'b, G, E> {
     ghost use Rattle.kalah_run.specs.Batch.AtWork.{HaveRun};
 
     ghost kept_by = { λ p r. HaveRun p.0.value.shared.now p.0.value.workers.items r.items };
 }
 
 // Gets an outcome that may come late.
-fn get_later<R: Wait, V: Watch, W: Sink>(
+fn get_later<R: Wait, G: Gate, V: Watch, W: Sink>(
     rt: &R,
-    queue: &ResultsQueue,
+    shared: &SharedWork<'_, G>,
     get: &mut GetPass,
     watch: &V,
     out: &W,
 ) -> Outcome
-    requires queue { get.old.queue ≡ queue.now.id }
+    requires queue { get.old.queue ≡ shared.now.queue.id }
+    // The workers go on, so an outcome comes.
+    requires goes_on { IsLeft shared.now.rest (W.has_failed out.now) → ⊥ }
     requires known { V.is_waiting watch.now ≡ true }
     // The sink has flushed all that was written, unless it may keep bytes in its buffer while its caller waits.
     requires ready { IsReady (W.has_failed out.now) (W.may_hold_back out.now) (W.is_handed_on out.now) }
@@ -51,38 +54,42 @@ fn get_later<R: Wait, V: Watch, W: Sink>(
 {
     let _ = watch;
     let _ = out;
-    queue.get(rt, get)
+    shared.queue.get(rt, get)
 }
 
 // Gets an outcome of a job that was under way when the workers were stopped. Returns `None` once they have ended, and no outcome is left.
-fn get_last<R: Wait, W: Sink>(
+fn get_last<R: Wait, W: Sink, E: Rule>(
     rt: &R,
     queue: &ResultsQueue,
     get: &mut GetPass,
     out: &W,
+    ended: &AtomicIn<E>,
 ) -> Option<Outcome>
     requires queue { get.old.queue ≡ queue.now.id }
     requires ready { IsReady (W.has_failed out.now) (W.may_hold_back out.now) (W.is_handed_on out.now) }
-    ensures { MatchOption result (get.new ≡ get.old) (λ outcome. HasGot get.old outcome get.new) }
+    ensures got { MatchOption result (get.new ≡ get.old) (λ outcome. HasGot get.old outcome get.new) }
+    ensures ended { IfNone result (E.invariant 1) }
 {
     let _ = out;
-    queue.get_to_end(rt, get)
+    queue.get_to_end(rt, get, ended)
 }
 
 // Gets an outcome that did not come soon. The output flushes what it buffers before the wait. Returns `None` once the workers were stopped
 // and have ended.
 #[cold]
 #[inline(never)]
-fn flush_and_get<R: Wait, G: Gate, V: Watch, W: Sink>(
+fn flush_and_get<R: Wait, G: Gate, V: Watch, W: Sink, E: Rule>(
     rt: &R,
     shared: &SharedWork<'_, G>,
     get: &mut GetPass,
     watch: &mut V,
     out: &mut W,
+    ended: &AtomicIn<E>,
 ) -> Option<Outcome>
     requires queue { get.old.queue ≡ shared.now.queue.id }
     ensures got { MatchOption result (get.new ≡ get.old) (λ outcome. HasGot get.old outcome get.new) }
     ensures left { IfNone result (IsLeft shared.now.rest (W.has_failed out.new)) }
+    ensures ended { IfNone result (E.invariant 1) }
     ensures keeps { Keeps (W.written out.old) (W.written out.new) }
     ensures sound { W.has_failed out.new ≡ false → W.has_failed out.old ≡ false }
 {
@@ -90,27 +97,29 @@ fn flush_and_get<R: Wait, G: Gate, V: Watch, W: Sink>(
         out.before_waiting();
     }
     if shared.stop_after(out.failed()) {
-        return get_last(rt, &shared.queue, get, out);
+        return get_last(rt, &shared.queue, get, out, ended);
     }
     watch.waits();
-    Some(get_later(rt, &shared.queue, get, watch, out))
+    Some(get_later(rt, shared, get, watch, out))
 }
 
 // Accepts the outcome of each job, and writes each line once it is ready and all earlier ones are written; then it flushes the output.
 // If the output fails and the rest is left, it stops the workers, and accepts what they still send. It accepts until they have ended, since
 // a worker may sleep until another outcome is got.
-fn collect<R: Wait, G: Gate, V: Watch, W: Sink>(
+fn collect<R: Wait, G: Gate, V: Watch, W: Sink, E: Rule>(
     rt: &R,
     shared: &SharedWork<'_, G>,
     get: &mut GetPass,
     ordered: &mut OrderedOutput<'_>,
     watch: &mut V,
     out: &mut W,
+    ended: &AtomicIn<E>,
 )
     requires queue { get.old.queue ≡ shared.now.queue.id }
     requires first { get.old.got ≡ [] }
     ensures same { (get.new.queue ≡ get.old.queue) × (get.new.workers ≡ get.old.workers) }
     ensures all { (length get.new.got ≡ job_count ordered.old.jobs.now) ⊎ IsLeft shared.now.rest (W.has_failed out.new) }
+    ensures ended { (length get.new.got ≡ job_count ordered.old.jobs.now) ⊎ E.invariant 1 }
     ensures progress { AcceptsAll (outcomes_in get.new.got) ordered.old (W.written out.old) (W.has_failed out.old)
         ordered.new (W.written out.new) (W.has_failed out.new) }
     // The thread may wait for the workers to end.
@@ -125,7 +134,7 @@ fn collect<R: Wait, G: Gate, V: Watch, W: Sink>(
         shared.stop_after(out.failed());
         let outcome = match shared.queue.get_soon(get, &mut tries) {
             Some(outcome) => outcome,
-            None => match flush_and_get(rt, shared, get, watch, out) {
+            None => match flush_and_get(rt, shared, get, watch, out, ended) {
                 Some(outcome) => outcome,
                 None => return,
             },
@@ -141,15 +150,22 @@ fn collect<R: Wait, G: Gate, V: Watch, W: Sink>(
 
 /// Runs the crew on further threads, and meanwhile accepts the outcome of each job and writes what is ready. Returns the workers, the pass
 /// and the output. Fails with `NoWorker` if no thread could be started; then nothing is written.
-pub(crate) fn run_and_write<'a, R: Threads + Wait + Sync, G: Gate, V: Watch, W: Sink>(
+pub(crate) fn run_and_write<
+    'a,
+    R: Threads + Wait + Sync,
+    G: Gate,
+    V: Watch,
+    W: Sink,
+    E: Rule + Sync,
+>(
     rt: &R,
-    crew: Crew<'_, '_, G>,
+    crew: Crew<'_, '_, G, E>,
     get: GetPass,
     ordered: OrderedOutput<'a>,
     watch: &mut V,
     out: &mut W,
 ) -> Result<(Vec<Worker>, GetPass, OrderedOutput<'a>), RunFault>
-    requires { CanRun crew.shared.now crew.workers.items get ordered }
+    requires { CanRun crew.shared.now crew.workers.items get ordered × OnceRun crew.shared.now crew.workers.items (E.invariant 1) }
     ensures ended { IfOk result (λ r. HasEnded W.written W.has_failed crew.entry.shared.now crew.entry.workers.items
         get ordered.entry out.old out.new r.0.items r.1 r.2) }
     ensures fault { IfErr result (λ e. e ≡ RunFault.NoWorker) }
@@ -163,18 +179,20 @@ pub(crate) fn run_and_write<'a, R: Threads + Wait + Sync, G: Gate, V: Watch, W: 
             &mut V,
             &mut W,
         )
-            requires { IsSync R.row × IsSync G.row × CanRun crew.shared.now crew.workers.items get ordered }
+            requires { IsSync R.row × IsSync G.row × CanRun crew.shared.now crew.workers.items get ordered
+                × OnceRun crew.shared.now crew.workers.items (E.invariant 1) }
             ensures names { (result.1.ghost_name ≡ watch.entry.ghost_name) × (result.2.ghost_name ≡ out.entry.ghost_name) }
             ensures ended { IfOk result.0 (λ r. HasEnded W.written W.has_failed crew.entry.shared.now crew.entry.workers.items
                 get ordered.entry out.entry.now result.2.now r.0.items r.1 r.2) }
             ensures fault { IfErr result.0 (λ e. e ≡ RunFault.NoWorker) }
             ensures untouched { OnErr result.0 (result.2.now ≡ out.entry.now) }
         {
-            let shared = crew.shared;
+            let (shared, ended) = (crew.shared, crew.ended);
             let started = scope.spawn_with(
                 AllHaveRun(Snapshot::of(&crew)),
                 move || -> Vec<Worker>
-                    requires { IsSync R.row × IsSync G.row × AreAtWork crew.shared.now crew.workers.items }
+                    requires { IsSync R.row × IsSync G.row × AreAtWork crew.shared.now crew.workers.items
+                        × OnceRun crew.shared.now crew.workers.items (E.invariant 1) }
                     ensures { HaveRun crew.entry.shared.now crew.entry.workers.items result.items }
                 { crew.run(rt) },
             );
@@ -182,7 +200,7 @@ pub(crate) fn run_and_write<'a, R: Threads + Wait + Sync, G: Gate, V: Watch, W: 
                 return (Err(RunFault::NoWorker), watch, out);
             };
             let (mut get, mut ordered) = (get, ordered);
-            collect(rt, shared, &mut get, &mut ordered, watch, out);
+            collect(rt, shared, &mut get, &mut ordered, watch, out, ended);
             let workers = child.join(rt);
             (Ok((workers, get, ordered)), watch, out)
         },

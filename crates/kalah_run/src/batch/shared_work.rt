@@ -24,7 +24,7 @@ pub(crate) struct SharedWork<'a, G> {
 }
 
 impl<'a, G: Gate> SharedWork<'a, G> {
-    ghost use Rattle.std.specs.Prelude.{◌≡◌, true};
+    ghost use Rattle.std.specs.Prelude.{◌≡◌, ◌↔◌, true};
     ghost use Rattle.kalah_run.specs.Batch.UnderWay.{IsLeft};
     ghost use Rattle.kalah_run.specs.declared.batch.size.Rest.TheVariants.{Solve};
 
@@ -42,7 +42,7 @@ impl<'a, G: Gate> SharedWork<'a, G> {
     /// outcome at most, that of the job under way.
     #[inline(always)]
     pub(crate) fn stop_after(&self, has_failed: bool) -> bool
-        ensures { result ≡ true → IsLeft self.now.rest has_failed }
+        ensures { (result ≡ true) ↔ IsLeft self.now.rest has_failed }
     {
         match self.rest {
             Rest::Leave if has_failed => {

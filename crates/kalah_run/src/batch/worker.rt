@@ -13,6 +13,7 @@ use crossbeam_utils::CachePadded;
 use kalah_jobs::{Jobs, Outcome};
 use kalah_solve::Solver;
 use std::sync::Wait;
+use std::sync::atomic::{AtomicIn, Rule};
 use std::thread;
 use std::thread::Threads;
 
@@ -54,25 +55,36 @@ impl Worker {
     }
 }
 
-/// The workers of a batch and what they share, handed over to be run.
-#[derive(Drop)]
-pub(crate) struct Crew<'a, 'b, G> {
-    pub(crate) shared: &'a SharedWork<'b, G>,
-    pub(crate) workers: Vec<Worker>,
+/// What is known of the workers once they have ended. What is generic over it learns that they have from them alone.
+pub(crate) struct Ended;
+
+impl Rule for Ended {
+    ghost invariant = { λ _. Unit {0} };
 }
 
-impl<'a, 'b, G: Gate> Crew<'a, 'b, G> {
-    ghost use Rattle.kalah_run.specs.Batch.AtWork.{IsAtWork, AreAtWork, HasRun, HaveRun};
+/// The workers of a batch and what they share, handed over to be run. The word is 1 once they have ended.
+#[derive(Drop)]
+pub(crate) struct Crew<'a, 'b, G, E: Rule> {
+    pub(crate) shared: &'a SharedWork<'b, G>,
+    pub(crate) workers: Vec<Worker>,
+    pub(crate) ended: &'a AtomicIn<E>,
+}
+
+impl<'a, 'b, G: Gate, E: Rule> Crew<'a, 'b, G, E> {
+    ghost use Rattle.kalah_run.specs.Batch.AtWork.{IsAtWork, AreAtWork, HasRun, HaveRun, OnceRun};
 
     /// Runs each worker in a thread of its own, as far as threads can be started, and returns the workers. The collector learns that they
     /// have ended.
     pub(crate) fn run<R: Threads + Wait + Sync>(self, rt: &R) -> Vec<Worker>
-        requires { AreAtWork self.shared.now self.workers.items }
+        requires at_work { AreAtWork self.shared.now self.workers.items }
+        // That they have ended is known only once each has run.
+        requires ends { OnceRun self.shared.now self.workers.items (E.invariant 1) }
         ensures { HaveRun self.entry.shared.now self.entry.workers.items result.items }
     {
         let Crew {
             shared,
             mut workers,
+            ended,
         } = self;
         thread::for_each_mut(
             rt,
@@ -83,7 +95,7 @@ impl<'a, 'b, G: Gate> Crew<'a, 'b, G> {
                 ensures { HasRun shared.entry.now worker.old worker.new }
             { worker.run(rt, shared) },
         );
-        shared.queue.end();
+        shared.queue.end(ended);
         workers
     }
 }

@@ -23,12 +23,14 @@ returns-then-total-eq0-clause-given g c =
 
 pub run_and_write-requires-after_bounds : goal.run_and_write-requires-after_bounds
 run_and_write-requires-after_bounds g c κs within =
-    let ready = c.in_ok-shared.ensures in
-    record {
-      at_work = ready.at_work;
-      queue = ap (λ (p : GetState). p.queue) ready.get;
-      nothing_got = ap (λ (p : GetState). p.got) ready.get;
-    }
+    let ready = c.in_ok-shared.ensures in (
+      record {
+        at_work = ready.at_work;
+        queue = ap (λ (p : GetState). p.queue) ready.get;
+        nothing_got = ap (λ (p : GetState). p.got) ready.get;
+      },
+      λ after run. tt,
+    )
 
 -- ---- the passes come back
 
