@@ -107,13 +107,26 @@ fn a_job_is_solved_between_the_calls_for_it(rt: HostRuntime) {
 }
 
 // The number of outcomes that are got, or wait in the queue, while the first line is written.
-const ROOM: u32 = QUEUE_PLACES + 1;
+pub(super) const ROOM: u32 = QUEUE_PLACES + 1;
 
 // How often the writer tests what it waits for.
 const TURNS: u32 = 10_000_000;
 
 // How many turns the test waits for a job to be sent though there is no room.
 const A_WHILE: u32 = 1_000_000;
+
+// Waits until this many jobs have begun, and a while longer.
+pub(super) fn wait_for_begun(gate: &Counting, jobs: u32) {
+    for _ in 0..TURNS {
+        if gate.begun.load(SeqCst) >= jobs {
+            break;
+        }
+        thread::yield_now();
+    }
+    for _ in 0..A_WHILE {
+        hint::spin_loop();
+    }
+}
 
 /// Takes its first bytes only once a job has begun whose outcome finds no room, and a while later. It stores how many jobs were
 /// sent by then.
@@ -126,15 +139,7 @@ struct Slow<'a> {
 impl Write for Slow<'_> {
     fn write(&mut self, buf: &[u8]) -> io::Result<usize> {
         if self.sent.is_none() {
-            for _ in 0..TURNS {
-                if self.gate.begun.load(SeqCst) > ROOM {
-                    break;
-                }
-                thread::yield_now();
-            }
-            for _ in 0..A_WHILE {
-                hint::spin_loop();
-            }
+            wait_for_begun(self.gate, ROOM + 1);
             self.sent = Some(self.gate.sent.load(SeqCst));
         }
         Ok(buf.len())

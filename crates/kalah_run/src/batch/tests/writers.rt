@@ -1,4 +1,5 @@
 //! Batches whose writer fails.
+use super::told::{ROOM, wait_for_begun};
 use super::{ANSWERS, Counting, SEVEN_LINES, four_files, same_lines};
 use crate::limits::QUEUE_PLACES;
 use crate::{BatchSize, NoWatch, Rest, RunFault, Tally, answer_batch};
@@ -132,4 +133,52 @@ fn no_job_begins_once_the_rest_is_left(rt: HostRuntime) {
     assert!(rt; (run.tally, run.writer.calls) == (Err(RunFault::Write), 1));
     let begun = run.gate.begun.load(SeqCst);
     assert!(rt; begun <= MOST_BEGUN && run.gate.sent.load(SeqCst) == begun);
+}
+
+/// Fails at its first call, once each of `workers` workers has an outcome without room.
+#[derive(Drop)]
+struct FailingFull<'a> {
+    gate: &'a Counting,
+    workers: u32,
+}
+
+impl Write for FailingFull<'_> {
+    fn write(&mut self, _buf: &[u8]) -> io::Result<usize> {
+        wait_for_begun(self.gate, ROOM.saturating_add(self.workers));
+        Err(io::Error::from(ErrorKind::BrokenPipe))
+    }
+
+    fn flush(&mut self) -> io::Result<()> {
+        Ok(())
+    }
+}
+
+// The rest is left while all workers wait for room. They are woken, and each sends the outcome that it has.
+#[test]
+fn a_batch_ends_though_its_workers_wait_for_room(rt: HostRuntime) {
+    for workers in [1, 8] {
+        let files = same_lines(&rt, rt.alloc(), 3000);
+        let gate = Counting::new();
+        let mut out = Stream::new(FailingFull {
+            gate: &gate,
+            workers,
+        });
+        let tally = answer_batch(
+            &rt,
+            rt.alloc(),
+            Question::BestMove,
+            &files,
+            BatchSize { workers, table: 16 },
+            Rest::Leave,
+            &gate,
+            &mut NoWatch,
+            &mut out,
+        );
+        assert!(rt; tally == Err(RunFault::Write));
+        let (begun, sent) = (gate.begun.load(SeqCst), gate.sent.load(SeqCst));
+        assert!(rt;
+            (begun, sent) == (ROOM + workers, ROOM + workers),
+            "{workers}"
+        );
+    }
 }
