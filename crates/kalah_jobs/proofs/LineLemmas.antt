@@ -1,11 +1,7 @@
-pub mod Cuts
 pub mod Numbers
-pub mod Front
 pub mod Sides
-pub mod Houses
 pub mod Forms
 pub mod Readings
 pub mod LineEnds
 pub mod Texts
-pub mod ParsedLines
 pub mod PlainLines

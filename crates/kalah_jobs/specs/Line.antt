@@ -1,5 +1,4 @@
 pub mod Line
-pub mod Front
 pub mod Side
 pub mod LineFault
 pub mod Reading

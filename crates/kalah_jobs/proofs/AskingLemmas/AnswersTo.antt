@@ -1,5 +1,5 @@
 -- What is answered, line by line.
-use Rattle.std.proofs.Common.{◌≡◌, ◌≢◌, ◌∙◌, ℕ, zero, suc, ◌+◌, ◌<◌, ◌≤◌, Bool, true, false, List, [], ◌∷◌, ◌++◌, length, take, inl, inr, refl, sym, ap, ap₂, arith, append-nil, append_assoc, map, Err, not, ◌||◌, ◌&&◌}
+use Rattle.std.proofs.Common.{◌≡◌, ◌≢◌, ◌∙◌, ℕ, zero, suc, ◌+◌, ◌≤◌, Bool, true, false, List, [], ◌∷◌, ◌++◌, length, take, inl, inr, refl, sym, ap, ap₂, arith, append-nil, append_assoc, map, Err, not, ◌||◌, ◌&&◌}
 use Rattle.std.specs.Prelude.{Result, Ok, if◌then◌else◌}
 use Rattle.std.specs.List.{flat_map, enumerate_from, join_with_byte, list_any}
 use Rattle.std.proofs.lemmas.Bool.{cases_lt}
@@ -18,7 +18,6 @@ use Rattle.kalah_jobs.specs.Files.Entry.{entry_of, entry_of_reading}
 use Rattle.kalah_jobs.specs.declared.files.entry.Entry.TheVariants.{Bad}
 use Rattle.kalah_jobs.specs.Files.Lines.{line_feed, lines_of, HasNoLineFeed}
 use Rattle.kalah_jobs.specs.Files.Question.{entry_asked, entry_to}
-use Rattle.kalah_jobs.specs.Limits.{most_bytes}
 use Rattle.kalah_jobs.specs.Line.Line.{without_cr}
 use Rattle.kalah_jobs.specs.Line.Reading.{reading_of}
 use Rattle.kalah_jobs.specs.declared.line.line_fault.LineFault.TheVariants.{Long}
@@ -101,14 +100,10 @@ cr_is_one [] = omega arith
 cr_is_one (byte ∷ []) = omega arith
 cr_is_one (byte ∷ more ∷ line) = omega (arith, cr_is_one (more ∷ line))
 
-long_reading : (line : List ℕ) → most_bytes < length (without_cr line) → reading_of line ≡ Err Long
-unfolding reading_of
-long_reading line long = long_is_read (without_cr line) long
-
 -- a line of `kept_bytes` bytes is too long
 too_long : (line : List ℕ) → kept_bytes ≤ length line → entry_of line ≡ Bad Long
 unfolding entry_of
-too_long line long = ap entry_of_reading (long_reading line (omega (arith, cr_is_one line, long)))
+too_long line long = ap entry_of_reading (long_is_read line (omega (arith, cr_is_one line, long)))
 
 -- so the bytes that are kept determine the entry of the line
 pub kept_says : (line : List ℕ) → entry_of (take kept_bytes line) ≡ entry_of line

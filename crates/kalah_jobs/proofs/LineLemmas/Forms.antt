@@ -1,110 +1,109 @@
 -- What writes a position, and what it is read as.
-use Rattle.std.proofs.Common.{◌≡◌, ℕ, ◌==◌, eqb-true, List, [], ◌∷◌, ◌++◌, Option, Some, refl, sym, ap, ◌∙◌, append_assoc, append-nil, lit<}
-use Rattle.std.specs.Prelude.{codes}
+use Rattle.std.proofs.Common.{◌≡◌, ℕ, ◌==◌, eqb-true, List, [], ◌∷◌, ◌++◌, Option, Some, None, refl, sym, ap, subst, ◌∙◌, append_assoc, arith}
+use Rattle.std.specs.Prelude.{◌&&◌}
+use Rattle.std.proofs.lemmas.Bool.{and_parts}
 use Rattle.std.proofs.lemmas.Option.{cond_some}
 use Rattle.kalah_rules.specs.Position.{Position}
 use Rattle.kalah_rules.specs.declared.rule.Rule.{Rule}
 use Rattle.kalah_rules.specs.declared.rule.Rule.TheVariants.{Classic, EmptyCapture}
-use Rattle.kalah_jobs.specs.Line.Line.{space, ending_of, IsLineOf}
-use Rattle.kalah_jobs.specs.Line.Reading.{◌>>=◌, parts_at, side_of, rule_of, position_from, written_of}
-use Rattle.kalah_jobs.proofs.LineLemmas.Cuts.{Lacks, parts_of_one, parts_of_more, text_of_two, text_of_three}
-use Rattle.kalah_jobs.proofs.LineLemmas.Houses.{bind_some, side_of_is_side, side_is_read, side_lacks}
+use Rattle.kalah_jobs.specs.Line.Line.{space, ending_of, IsSide, IsLineOf}
+use Rattle.kalah_jobs.specs.Line.Reading.{◌>>=◌, Found, side_at, rule_of, position_from, written_of}
+use Rattle.kalah_jobs.proofs.LineLemmas.Numbers.{EndsNumber}
+use Rattle.kalah_jobs.proofs.LineLemmas.Sides.{bind_some, test_some, side_is_read, side_is_written}
 
 -- ---- endings
 
--- the parts that an ending adds
-abbrev ending_parts : Rule → List (List ℕ)
-ending_parts Classic = []
-ending_parts EmptyCapture = codes "e" ∷ []
+pub ending_is_read : (rule : Rule) → rule_of (ending_of rule) ≡ Some rule
+ending_is_read Classic = refl
+ending_is_read EmptyCapture = refl
 
-rule_of_ending : (rule : Rule) → rule_of (ending_parts rule) ≡ Some rule
-rule_of_ending Classic = refl
-rule_of_ending EmptyCapture = refl
+ending_is_written : (bytes : List ℕ) (rule : Rule) → rule_of bytes ≡ Some rule → bytes ≡ ending_of rule
+ending_is_written [] rule e = let is : Classic ≡ rule = cc e in ap ending_of is
+ending_is_written (mark ∷ []) rule e = absurd cc
+ending_is_written (mark ∷ byte ∷ []) rule e =
+    let read = cond_some (mark == space && byte == 101) EmptyCapture rule e in
+    let tests = and_parts (mark == space) (byte == 101) read.0 in
+    let first : mark ≡ space = eqb-true mark space tests.0 in
+    let second : byte ≡ 101 = eqb-true byte 101 tests.1 in
+    rw (first, second) (ap ending_of read.1)
+ending_is_written (a ∷ b ∷ c ∷ rest) rule e = absurd cc
 
-parts_of_line : (own other : List ℕ) (rule : Rule) → Lacks space own → Lacks space other →
-    parts_at space (own ++ space ∷ other ++ ending_of rule) ≡ own ∷ other ∷ ending_parts rule
-parts_of_line own other Classic own_lacks other_lacks =
-    ap (parts_at space) (append-nil (own ++ space ∷ other)) ∙ parts_of_more space own other own_lacks
-    ∙ ap (λ (more : List (List ℕ)). own ∷ more) (parts_of_one space other other_lacks)
-parts_of_line own other EmptyCapture own_lacks other_lacks =
-    ap (parts_at space) (append_assoc own (space ∷ other) (ending_of EmptyCapture))
-    ∙ parts_of_more space own (other ++ ending_of EmptyCapture) own_lacks
-    ∙ ap (λ (more : List (List ℕ)). own ∷ more) (parts_of_more space other (codes "e") other_lacks)
+-- bytes that are no ending name no rule
+pub no_rule : (bytes : List ℕ) → ((rule : Rule) → bytes ≡ ending_of rule → ⊥) → rule_of bytes ≡ None
+no_rule bytes none =
+    (elim (rule_of bytes) as (λ (r : Option Rule). rule_of bytes ≡ r → r ≡ None) [
+      | None ↦ λ e. refl
+      | Some rule ↦ λ e. absurd (none rule (ending_is_written bytes rule e))
+    ]) refl
 
--- the parts after the sides, if they name a rule, are its ending
-line_of_parts : (text own other : List ℕ) (ending : List (List ℕ)) (rule : Rule) → rule_of ending ≡ Some rule →
-    parts_at space text ≡ own ∷ other ∷ ending →
-    text ≡ own ++ space ∷ other ++ ending_of rule
-line_of_parts text own other [] rule e parts =
-    let is : Classic ≡ rule = cc in
-    text_of_two space text own other parts ∙ sym (append-nil (own ++ space ∷ other))
-    ∙ ap (λ (r : Rule). own ++ space ∷ other ++ ending_of r) is
-line_of_parts text own other ([] ∷ more) rule e parts = absurd cc
-line_of_parts text own other ((byte ∷ []) ∷ []) rule e parts =
-    let read = cond_some (byte == 101) EmptyCapture rule e in
-    let is : byte ≡ 101 = eqb-true byte 101 read.0 in
-    text_of_three space text own other (byte ∷ []) parts
-    ∙ ap (λ (b : ℕ). own ++ space ∷ (other ++ space ∷ b ∷ [])) is
-    ∙ sym (append_assoc own (space ∷ other) (ending_of EmptyCapture))
-    ∙ ap (λ (r : Rule). own ++ space ∷ other ++ ending_of r) read.1
-line_of_parts text own other ((byte ∷ []) ∷ more ∷ rest) rule e parts = absurd cc
-line_of_parts text own other ((byte ∷ more ∷ rest) ∷ others) rule e parts = absurd cc
+ending_ends : (rule : Rule) → EndsNumber (ending_of rule)
+ending_ends Classic = tt
+ending_ends EmptyCapture = λ digit. omega (arith, digit)
 
 -- ---- positions
 
-abbrev made : Rule → List ℕ × ℕ → List ℕ × ℕ → Position
-made rule mine yours = record { own = mine.0; own_store = mine.1; other = yours.0; other_store = yours.1; rule = rule }
+abbrev pub made : Found → Found → Rule → Position
+made own other rule = record { own = own.0; own_store = own.1; other = other.0; other_store = other.1; rule = rule }
 
--- the parts of a position that is read
-record IsMadeOf (parts : List (List ℕ)) (p : Position) : Type 0 where
-  own : List ℕ
-  other : List ℕ
-  ending : List (List ℕ)
-  cut : parts ≡ own ∷ other ∷ ending
-  rule_read : rule_of ending ≡ Some p.rule
-  own_read : side_of own ≡ Some (p.own, p.own_store)
-  other_read : side_of other ≡ Some (p.other, p.other_store)
-
-is_made_of : (parts : List (List ℕ)) (p : Position) → position_from parts ≡ Some p → IsMadeOf parts p
-is_made_of [] p e = absurd cc
-is_made_of (a ∷ []) p e = absurd cc
-is_made_of (a ∷ b ∷ ending) p e =
-    let rule = bind_some (rule_of ending) (λ rule. side_of a >>= λ mine. side_of b >>= λ yours. Some (made rule mine yours)) p e in
-    let mine = bind_some (side_of a) (λ mine. side_of b >>= λ yours. Some (made rule.0 mine yours)) p rule.1.1 in
-    let yours = bind_some (side_of b) (λ yours. Some (made rule.0 mine.0 yours)) p mine.1.1 in
-    let is : made rule.0 mine.0 yours.0 ≡ p = cc in
+-- a side, a space, a side and an ending write a line
+line_of_sides : {text rest : List ℕ} {own other : Found} {rule : Rule} → side_at text ≡ Some own → own.2 ≡ space ∷ rest →
+    side_at rest ≡ Some other → rule_of other.2 ≡ Some rule → IsLineOf text (made own other rule)
+line_of_sides {text} {rest} {own} {other} {rule} own_read mark other_read rule_read =
+    let first = side_is_written text own own_read in
+    let second = side_is_written rest other other_read in
     record {
-      own = a;
-      other = b;
-      ending = ending;
-      cut = refl;
-      rule_read = rule.1.0 ∙ ap (λ (q : Position). Some q.rule) is;
-      own_read = mine.1.0 ∙ ap (λ (q : Position). Some (q.own, q.own_store)) is;
-      other_read = yours.1.0 ∙ ap (λ (q : Position). Some (q.other, q.other_store)) is;
+      own_text = first.text;
+      other_text = second.text;
+      parts =
+          first.parts ∙ ap (λ (t : List ℕ). first.text ++ t) mark ∙ ap (λ (t : List ℕ). first.text ++ space ∷ t) second.parts
+          ∙ ap (λ (t : List ℕ). first.text ++ space ∷ (second.text ++ t)) (ending_is_written other.2 rule rule_read)
+          ∙ sym (append_assoc first.text (space ∷ second.text) (ending_of rule));
+      own_side = subst (λ (houses : List ℕ). IsSide first.text houses own.1) (sym first.all) first.side;
+      other_side = subst (λ (houses : List ℕ). IsSide second.text houses other.1) (sym second.all) second.side;
     }
+
+pub sides_are_written : (text rest : List ℕ) {own other : Found} {mark : ℕ} {rule : Rule} → side_at text ≡ Some own →
+    own.2 ≡ mark ∷ rest → mark ≡ space → side_at rest ≡ Some other → rule_of other.2 ≡ Some rule →
+    written_of text ≡ Some (made own other rule)
+unfolding written_of
+sides_are_written text rest own_read mark is other_read rule_read = rw (own_read, mark, is, other_read, rule_read) refl
+
+rest_is_written : (text : List ℕ) (houses : List ℕ) (store : ℕ) (rest : List ℕ) (p : Position) →
+    side_at text ≡ Some (houses, store, rest) → position_from houses store rest ≡ Some p → IsLineOf text p
+rest_is_written text houses store [] p own e = absurd cc
+rest_is_written text houses store (mark ∷ rest) p own e =
+    let with_rule = λ (other : Found). rule_of other.2 >>= λ rule. Some (made (houses, store, mark ∷ rest) other rule) in
+    let read = test_some (mark == space) (side_at rest >>= with_rule) p e in
+    let other = bind_some (side_at rest) with_rule p read.1 in
+    let rule = bind_some (rule_of other.0.2) (λ rule. Some (made (houses, store, mark ∷ rest) other.0 rule)) p other.1.1 in
+    let is : made (houses, store, mark ∷ rest) other.0 rule.0 ≡ p = cc rule.1.1 in
+    subst (IsLineOf text) is
+    (line_of_sides own (ap (λ (b : ℕ). b ∷ rest) (eqb-true mark space read.0)) other.1.0 rule.1.0)
 
 -- what is read is written
 pub written_is_line : (text : List ℕ) (p : Position) → written_of text ≡ Some p → IsLineOf text p
+unfolding written_of
 written_is_line text p e =
-    let of = is_made_of (parts_at space text) p e in
-    record {
-      own_text = of.own;
-      other_text = of.other;
-      parts = line_of_parts text of.own of.other of.ending p.rule of.rule_read of.cut;
-      own_side = side_of_is_side of.own (p.own, p.own_store) of.own_read;
-      other_side = side_of_is_side of.other (p.other, p.other_store) of.other_read;
-    }
+    let own = bind_some (side_at text) (λ (own : Found). position_from own.0 own.1 own.2) p e in
+    rest_is_written text own.0.0 own.0.1 own.0.2 p own.1.0 own.1.1
 
 -- what is written is read
 pub line_is_written : (text : List ℕ) (p : Position) → IsLineOf text p → written_of text ≡ Some p
+unfolding written_of
 line_is_written text p line =
-    let own_lacks = side_lacks space line.own_text p.own p.own_store (lit< tt) (λ e. cc) (λ e. cc) line.own_side in
-    let other_lacks = side_lacks space line.other_text p.other p.other_store (lit< tt) (λ e. cc) (λ e. cc) line.other_side in
-    let cut : parts_at space text ≡ line.own_text ∷ line.other_text ∷ ending_parts p.rule =
-    ap (parts_at space) line.parts ∙ parts_of_line line.own_text line.other_text p.rule own_lacks other_lacks in
-    let mine = side_is_read line.own_text p.own p.own_store line.own_side in
-    let yours = side_is_read line.other_text p.other p.other_store line.other_side in
-    rw (cut, rule_of_ending p.rule, mine, yours) refl
+    let rest = line.other_text ++ ending_of p.rule in
+    let parts : text ≡ line.own_text ++ space ∷ rest =
+    line.parts ∙ append_assoc line.own_text (space ∷ line.other_text) (ending_of p.rule) in
+    rw (
+      parts,
+      side_is_read line.own_text p.own p.own_store (space ∷ rest) line.own_side (λ digit. omega (arith, digit)),
+      side_is_read line.other_text p.other p.other_store (ending_of p.rule) line.other_side (ending_ends p.rule),
+      ending_is_read p.rule,
+    ) refl
+
+pub empty_is_no_line : (p : Position) → ¬ IsLineOf [] p
+unfolding written_of side_at
+empty_is_no_line p line = absurd (cc (line_is_written [] p line))
 
 -- a text writes one position
 pub one_position : (text : List ℕ) (p q : Position) → IsLineOf text p → IsLineOf text q → p ≡ q

@@ -1,16 +1,14 @@
 -- What writes a number, what it is read as, and its text.
-use Rattle.std.proofs.Common.{◌≡◌, ◌≢◌, ℕ, ◌+◌, ◌-◌, ◌*◌, ◌/◌, ◌%◌, ◌<◌, ◌≤◌, inl, inr, Bool, true, false, ◌==◌, List, [], ◌∷◌, ◌++◌, Some, sym, ap, ap₂, ◌∙◌, arith}
-use Rattle.std.specs.Prelude.{decimal, ◌&&◌, not}
+use Rattle.std.proofs.Common.{◌≡◌, ℕ, ◌+◌, ◌-◌, ◌/◌, ◌%◌, ◌<◌, ◌≤◌, inl, inr, true, false, List, [], ◌∷◌, ◌++◌, length, Some, refl, sym, ap, ap₂, subst, ◌∙◌, length-append, arith}
+use Rattle.std.specs.Prelude.{decimal, ◌&&◌, nat_lt, ⊤}
 use Rattle.std.specs.Char.{is_ascii_digit, IsAsciiDigit}
 use Rattle.std.specs.Cmp.Derive.{both_true}
-use Rattle.std.proofs.lemmas.Bool.{cases_lt, ne_eqb, cond-true, and_parts}
+use Rattle.std.proofs.lemmas.Bool.{cases_lt, cases_Bool, and_parts, and_right, lt-ltb}
 use Rattle.std.proofs.lemmas.Bool.Decides.{nat_tests}
 use Rattle.std.proofs.lemmas.Option.{cond_some}
 use Rattle.std.proofs.lemmas.Fmt.{decimal_digit, decimal_step}
-use Rattle.std.proofs.lemmas.List.Elements.{All-nil, All-cons}
 use Rattle.kalah_jobs.specs.Line.Line.{IsNumber}
-use Rattle.kalah_jobs.specs.Line.Reading.{number_read}
-use Rattle.kalah_jobs.proofs.LineLemmas.Cuts.{Lacks}
+use Rattle.kalah_jobs.specs.Line.Reading.{number_from, number_at}
 
 -- ---- digits
 
@@ -20,39 +18,71 @@ is_digit byte passes = grind (arith, nat_tests)
 passes_as_digit : (byte : ℕ) → IsAsciiDigit byte → is_ascii_digit byte ≡ true
 passes_as_digit byte digit = grind (arith, nat_tests)
 
-is_not_zero : (byte : ℕ) → not (byte == 48) ≡ true → byte ≢ 48
-is_not_zero byte passes = grind (arith, nat_tests)
+fails_as_digit : (byte : ℕ) → ¬ IsAsciiDigit byte → is_ascii_digit byte ≡ false
+fails_as_digit byte other = grind (arith, nat_tests)
 
-passes_as_not_zero : (byte : ℕ) → byte ≢ 48 → not (byte == 48) ≡ true
-passes_as_not_zero byte other = grind (arith, nat_tests)
-
--- the tests of two digits
-abbrev two_digits : ℕ → ℕ → Bool
-two_digits tens ones = is_ascii_digit tens && not (tens == 48) && is_ascii_digit ones
+is_some : (n : ℕ) → nat_lt 0 n ≡ true → 0 < n
+is_some n passes = grind (arith, nat_tests)
 
 -- ---- reading
 
+-- the bytes are a text of the number, and what follows it
+pub record WritesNumber (bytes : List ℕ) (n : ℕ) (rest : List ℕ) : Type 0 where
+  pub text : List ℕ
+  pub parts : bytes ≡ text ++ rest
+  pub number : IsNumber text n
+
+digits_written : (first : ℕ) (rest : List ℕ) → IsAsciiDigit first →
+    WritesNumber (first ∷ rest) (number_from (first - 48) rest).0 (number_from (first - 48) rest).1
+digits_written first [] digit = record { text = first ∷ []; parts = refl; number = (digit, refl) }
+digits_written first (byte ∷ rest) digit = elim (cases_Bool (nat_lt 0 (first - 48) && is_ascii_digit byte)) [
+  | inl both ↦
+      let tests = and_parts (nat_lt 0 (first - 48)) (is_ascii_digit byte) both in
+      let high = is_some (first - 48) tests.0 in
+      rw both (record {
+        text = first ∷ byte ∷ [];
+        parts = refl;
+        number = (digit, (λ zero. omega (arith, high, zero)), is_digit byte tests.1, refl);
+      })
+  | inr one ↦ rw one (record { text = first ∷ []; parts = refl; number = (digit, refl) })
+]
+
 -- what is read is written
-pub number_of_is_number : (text : List ℕ) (n : ℕ) → number_read text ≡ Some n → IsNumber text n
-number_of_is_number [] n e = absurd cc
-number_of_is_number (ones ∷ []) n e =
-    let read = cond_some (is_ascii_digit ones) (ones - 48) n e in
-    (is_digit ones read.0, sym read.1)
-number_of_is_number (tens ∷ ones ∷ []) n e =
-    let read = cond_some (two_digits tens ones) (10 * (tens - 48) + (ones - 48)) n e in
-    let both = and_parts (is_ascii_digit tens && not (tens == 48)) (is_ascii_digit ones) read.0 in
-    let first = and_parts (is_ascii_digit tens) (not (tens == 48)) both.0 in
-    (is_digit tens first.0, is_not_zero tens first.1, is_digit ones both.1, sym read.1)
-number_of_is_number (a ∷ b ∷ c ∷ rest) n e = absurd cc
+pub number_is_written : (bytes : List ℕ) (found : ℕ × List ℕ) → number_at bytes ≡ Some found →
+    WritesNumber bytes found.0 found.1
+number_is_written [] found e = absurd cc
+number_is_written (first ∷ rest) found e =
+    let read = cond_some (is_ascii_digit first) (number_from (first - 48) rest) found e in
+    subst (λ (f : ℕ × List ℕ). WritesNumber (first ∷ rest) f.0 f.1) read.1 (digits_written first rest (is_digit first read.0))
+
+-- no digit follows a number that ends before these bytes
+abbrev pub EndsNumber : List ℕ → Type 0
+EndsNumber [] = ⊤
+EndsNumber (byte ∷ rest) = ¬ IsAsciiDigit byte
 
 -- what is written is read
-pub number_is_read : (text : List ℕ) (n : ℕ) → IsNumber text n → number_read text ≡ Some n
-number_is_read [] n h = absurd h
-number_is_read (ones ∷ []) n h = cond-true _ _ _ (passes_as_digit ones h.0) ∙ ap (λ (m : ℕ). Some m) (sym h.1)
-number_is_read (tens ∷ ones ∷ []) n h =
-    cond-true _ _ _ (both_true (both_true (passes_as_digit tens h.0) (passes_as_not_zero tens h.1)) (passes_as_digit ones h.2))
-    ∙ ap (λ (m : ℕ). Some m) (sym h.3)
-number_is_read (a ∷ b ∷ c ∷ rest) n h = absurd h
+pub number_is_read : (text : List ℕ) (n : ℕ) (rest : List ℕ) → IsNumber text n → EndsNumber rest →
+    number_at (text ++ rest) ≡ Some (n, rest)
+number_is_read [] n rest h ends = absurd h
+number_is_read (ones ∷ []) n [] h ends = rw (passes_as_digit ones h.0) (ap (λ (m : ℕ). Some (m, [])) (sym h.1))
+number_is_read (ones ∷ []) n (byte ∷ rest) h ends =
+    rw (passes_as_digit ones h.0, and_right (nat_lt 0 (ones - 48)) (is_ascii_digit byte) (fails_as_digit byte ends))
+    (ap (λ (m : ℕ). Some (m, byte ∷ rest)) (sym h.1))
+number_is_read (tens ∷ ones ∷ []) n rest h ends =
+    let some : 0 < tens - 48 = omega (arith, h.0, h.1) in
+    rw (passes_as_digit tens h.0, both_true (lt-ltb 0 (tens - 48) some) (passes_as_digit ones h.2))
+    (ap (λ (m : ℕ). Some (m, rest)) (sym h.3))
+number_is_read (a ∷ b ∷ c ∷ text) n rest h ends = absurd h
+
+pub number_has_bytes : (text : List ℕ) (n : ℕ) → IsNumber text n → 0 < length text
+number_has_bytes [] n h = absurd h
+number_has_bytes (byte ∷ text) n h = omega arith
+
+-- the bytes after a number are fewer
+pub number_shorter : (bytes : List ℕ) (found : ℕ × List ℕ) → number_at bytes ≡ Some found → length found.1 < length bytes
+number_shorter bytes found e =
+    let is = number_is_written bytes found e in
+    omega (arith, ap length is.parts, length-append is.text found.1, number_has_bytes is.text found.0 is.number)
 
 -- ---- the text of a number
 
@@ -87,18 +117,3 @@ decimal_is_number n low = elim (cases_lt n 10) [
       rw (decimal_step n le (omega arith), decimal_digit (n / 10) high)
       ((omega arith, omega arith), (λ z. omega arith), (omega arith, omega arith), omega arith)
 ]
-
--- ---- the bytes of a number
-
-other_byte : (byte c : ℕ) → byte < 48 → IsAsciiDigit c → (c == byte) ≡ false
-other_byte byte c low digit = ne_eqb c byte (λ e. omega (arith, digit))
-
--- no byte below the digits stands in a number
-pub number_lacks : (byte : ℕ) (text : List ℕ) (n : ℕ) → byte < 48 → IsNumber text n → Lacks byte text
-number_lacks byte [] n low h = absurd h
-number_lacks byte (ones ∷ []) n low h = All-cons (λ b. (b == byte) ≡ false) ones [] (other_byte byte ones low h.0)
-    (All-nil (λ b. (b == byte) ≡ false))
-number_lacks byte (tens ∷ ones ∷ []) n low h =
-    All-cons (λ b. (b == byte) ≡ false) tens (ones ∷ []) (other_byte byte tens low h.0)
-    (All-cons (λ b. (b == byte) ≡ false) ones [] (other_byte byte ones low h.2) (All-nil (λ b. (b == byte) ≡ false)))
-number_lacks byte (a ∷ b ∷ c ∷ rest) n low h = absurd h

@@ -1,181 +1,234 @@
--- A side, as it is taken from the front of some bytes.
-use Rattle.std.proofs.Common.{◌≡◌, ℕ, ◌+◌, ◌≤◌, ◌⊎◌, inl, inr, List, [], ◌∷◌, ◌++◌, length, map, All, refl, sym, ap, ap₂, subst, ◌∙◌, append_assoc, length-append, arith}
-use Rattle.std.specs.Prelude.{decimal}
-use Rattle.std.specs.List.{join_with_byte}
-use Rattle.std.proofs.lemmas.List.{length_push}
-use Rattle.std.proofs.lemmas.List.Elements.{All-nil, All-cons, All-append, All-head, All-tail}
-use Rattle.kalah_jobs.specs.Line.Line.{comma, slash, side_text}
-use Rattle.kalah_jobs.specs.Line.Front.{BeginsWithNumber, BeginsWithSide, EndsNumber}
+-- What writes a side, and how it is read, house by house.
+use Rattle.std.proofs.Common.{◌≡◌, ℕ, zero, suc, pred, ◌+◌, ◌<◌, ◌≤◌, ◌==◌, inl, inr, Bool, true, false, cond, List, [], ◌∷◌, ◌++◌, length, Option, Some, None, refl, sym, ap, subst, ◌∙◌, append_assoc, length-append, eqb-true, arith}
+use Rattle.std.proofs.lemmas.List.{nil_from_length}
+use Rattle.std.proofs.lemmas.Bool.{cases_Bool, cond-true, cond-false}
+use Rattle.kalah_jobs.specs.Line.Line.{comma, slash, AreHouses, IsNumber, IsSide}
+use Rattle.kalah_jobs.specs.Line.Reading.{◌>>=◌, Found, number_at, store_at, house_followed, side_from, side_at}
 use Rattle.kalah_jobs.specs.Line.Side.{AreKept}
 use Rattle.kalah_jobs.specs.declared.line.side.Side.{Side}
+use Rattle.kalah_jobs.proofs.LineLemmas.Numbers.{EndsNumber, number_is_read, number_is_written, number_has_bytes, number_shorter, WritesNumber}
 
--- ---- the front of a side
+-- ---- steps of a reading
 
--- the first number of a side, and what follows it: the store, or else further houses
-pub record SideFront (bytes : List ℕ) (store : ℕ) (following : List ℕ) : Type 0 where
-  pub n : ℕ
-  pub after : List ℕ
-  pub number : BeginsWithNumber bytes n after
-  pub ends : EndsNumber after
-  pub way : (after ≡ slash ∷ (decimal store ++ following))
-      ⊎ ((next : List ℕ) × ((after ≡ comma ∷ next) × ((houses : List ℕ) × BeginsWithSide next houses store following)))
+-- the value of a step that succeeded
+pub bind_some : {A B : Type 0} (r : Option A) (f : A → Option B) (y : B) → (r >>= f) ≡ Some y → (x : A)
+    × ((r ≡ Some x) × (f x ≡ Some y))
+bind_some None f y e = absurd cc
+bind_some (Some x) f y e = (x, (refl, e))
 
-side_front : (bytes houses : List ℕ) (store : ℕ) (following : List ℕ) → BeginsWithSide bytes houses store following →
-    SideFront bytes store following
-side_front bytes [] store following begins = absurd (omega (arith, begins.some_house))
-side_front bytes (n ∷ []) store following begins = record {
-  n = n;
-  after = slash ∷ (decimal store ++ following);
-  number = record {
-    text = begins.text ∙ append_assoc (decimal n) (slash ∷ decimal store) following;
-    low = All-head (λ (x : ℕ). x ≤ 99) n [] begins.houses_low;
-  };
-  ends = λ digit. omega (arith, digit);
-  way = inl refl;
-}
-side_front bytes (n ∷ m ∷ houses) store following begins =
-    let row = join_with_byte comma (map decimal (m ∷ houses)) in
-    let next = side_text (m ∷ houses) store ++ following in
-    record {
-      n = n;
-      after = comma ∷ next;
-      number = record {
-        text =
-            begins.text ∙ ap (λ (t : List ℕ). t ++ following) (append_assoc (decimal n) (comma ∷ row) (slash ∷ decimal store))
-            ∙ append_assoc (decimal n) (comma ∷ side_text (m ∷ houses) store) following;
-        low = All-head (λ (x : ℕ). x ≤ 99) n (m ∷ houses) begins.houses_low;
-      };
-      ends = λ digit. omega (arith, digit);
-      way = inr (
-        next,
-        (
-          refl,
-          (
-            m ∷ houses,
-            record {
-              text = refl;
-              some_house = omega arith;
-              houses_low = All-tail (λ (x : ℕ). x ≤ 99) n (m ∷ houses) begins.houses_low;
-              store_low = begins.store_low;
-            },
-          ),
-        ),
-      );
-    }
+-- a test that passed
+pub test_some : {A : Type 0} (b : Bool) (r : Option A) (y : A) → cond b r None ≡ Some y → (b ≡ true) × (r ≡ Some y)
+test_some true r y e = (refl, e)
+test_some false r y e = absurd cc
+
+-- ---- what is read is written
+
+-- the bytes go on with more houses of the side that was found, its store, and what follows it
+pub record WritesSide (houses bytes : List ℕ) (found : Found) : Type 0 where
+  pub text : List ℕ
+  pub more : List ℕ
+  pub parts : bytes ≡ text ++ found.2
+  pub all : found.0 ≡ houses ++ more
+  pub side : IsSide text more found.1
+
+-- a house before others
+are_more : (text first rest : List ℕ) (n : ℕ) (more : List ℕ) → text ≡ first ++ comma ∷ rest → IsNumber first n →
+    AreHouses rest more → AreHouses text (n ∷ more)
+are_more text first rest n [] parts number others = absurd others
+are_more text first rest n (m ∷ more) parts number others = (first, (rest, (parts, number, others)))
+
+module _ {houses bytes : List ℕ} {n : ℕ} where
+  -- a store after a house
+  store_written : {rest : List ℕ} {found : Found} → WritesNumber bytes n (slash ∷ rest) →
+      store_at (houses ++ n ∷ []) rest ≡ Some found → WritesSide houses bytes found
+  store_written {rest} {found} house e =
+      let read = bind_some (number_at rest) (λ store. Some (houses ++ n ∷ [], store.0, store.1)) found e in
+      let is : (houses ++ n ∷ [], read.0.0, read.0.1) ≡ found = cc read.1.1 in
+      let store = number_is_written rest read.0 read.1.0 in
+      subst (WritesSide houses bytes) is (record {
+        text = house.text ++ slash ∷ store.text;
+        more = n ∷ [];
+        parts =
+            house.parts ∙ ap (λ (t : List ℕ). house.text ++ slash ∷ t) store.parts
+            ∙ sym (append_assoc house.text (slash ∷ store.text) read.0.1);
+        all = refl;
+        side = record {
+          houses_text = house.text;
+          store_text = store.text;
+          parts = refl;
+          houses_written = house.number;
+          store_written = store.number;
+        };
+      })
+
+  -- more houses after a house
+  others_written : {rest : List ℕ} {found : Found} → WritesNumber bytes n (comma ∷ rest) →
+      WritesSide (houses ++ n ∷ []) rest found → WritesSide houses bytes found
+  others_written {rest} {found} house others = record {
+    text = house.text ++ comma ∷ others.text;
+    more = n ∷ others.more;
+    parts =
+        house.parts ∙ ap (λ (t : List ℕ). house.text ++ comma ∷ t) others.parts
+        ∙ sym (append_assoc house.text (comma ∷ others.text) found.2);
+    all = others.all ∙ append_assoc houses (n ∷ []) others.more;
+    side = record {
+      houses_text = house.text ++ comma ∷ others.side.houses_text;
+      store_text = others.side.store_text;
+      parts =
+          ap (λ (t : List ℕ). house.text ++ comma ∷ t) others.side.parts
+          ∙ sym (append_assoc house.text (comma ∷ others.side.houses_text) (slash ∷ others.side.store_text));
+      houses_written = are_more _ house.text others.side.houses_text n others.more refl house.number others.side.houses_written;
+      store_written = others.side.store_written;
+    };
+  }
+
+  house_written : (i : ℕ) (rest : List ℕ) (found : Found) → WritesNumber bytes n rest →
+      ((next : List ℕ) → side_from i (houses ++ n ∷ []) next ≡ Some found → WritesSide (houses ++ n ∷ []) next found) →
+      house_followed (store_at (houses ++ n ∷ [])) (side_from i (houses ++ n ∷ [])) rest ≡ Some found →
+      WritesSide houses bytes found
+  house_written i [] found house further e = absurd cc
+  house_written i (mark ∷ rest) found house further e = elim (cases_Bool (mark == slash)) [
+    | inl stored ↦
+        let is : mark ≡ slash = eqb-true mark slash stored in
+        store_written (subst (λ (m : ℕ). WritesNumber bytes n (m ∷ rest)) is house) (sym (cond-true (mark == slash) _ _ stored) ∙ e)
+    | inr other ↦
+        let read = test_some (mark == comma) (side_from i (houses ++ n ∷ []) rest) found
+        (sym (cond-false (mark == slash) _ _ other) ∙ e) in
+        let is : mark ≡ comma = eqb-true mark comma read.0 in
+        others_written (subst (λ (m : ℕ). WritesNumber bytes n (m ∷ rest)) is house) (further rest read.1)
+  ]
+
+side_from_written : (i : ℕ) (houses bytes : List ℕ) (found : Found) → side_from i houses bytes ≡ Some found →
+    WritesSide houses bytes found
+side_from_written zero houses bytes found e = absurd cc
+side_from_written (suc i) houses bytes found e =
+    let after = λ (house : ℕ × List ℕ).
+    house_followed (store_at (houses ++ house.0 ∷ [])) (side_from i (houses ++ house.0 ∷ [])) house.1 in
+    let read = bind_some (number_at bytes) after found e in
+    house_written i read.0.1 found (number_is_written bytes read.0 read.1.0)
+    (λ next. side_from_written i (houses ++ read.0.0 ∷ []) next found) read.1.1
+
+pub side_is_written : (bytes : List ℕ) (found : Found) → side_at bytes ≡ Some found → WritesSide [] bytes found
+unfolding side_at
+side_is_written bytes found e = side_from_written (length bytes) [] bytes found e
+
+-- ---- what is written is read
+
+module _ (store_text : List ℕ) (store : ℕ) (following : List ℕ) (stored : IsNumber store_text store) (ends : EndsNumber following)
+  where
+    houses_are_read : (text more : List ℕ) → AreHouses text more → (i : ℕ) (houses : List ℕ) → length text ≤ i →
+        side_from i houses (text ++ slash ∷ (store_text ++ following)) ≡ Some (houses ++ more, store, following)
+    houses_are_read text [] h i houses few = absurd h
+    houses_are_read text (n ∷ more) h zero houses few = absurd (omega (arith, few, some_bytes text n more h))
+      where
+        some_bytes : (t : List ℕ) (m : ℕ) (others : List ℕ) → AreHouses t (m ∷ others) → 0 < length t
+        some_bytes t m [] written = number_has_bytes t m written
+        some_bytes t m (k ∷ others) written =
+            omega (arith, ap length written.1.1.0, length-append written.0 (comma ∷ written.1.0))
+    houses_are_read text (n ∷ []) h (suc i) houses few =
+        rw (
+          number_is_read text n (slash ∷ (store_text ++ following)) h (λ digit. omega (arith, digit)),
+          number_is_read store_text store following stored ends,
+        ) refl
+    houses_are_read text (n ∷ m ∷ more) h (suc i) houses few =
+        let rest = h.1.0 ++ slash ∷ (store_text ++ following) in
+        let cut : text ++ slash ∷ (store_text ++ following) ≡ h.0 ++ comma ∷ rest =
+        ap (λ (t : List ℕ). t ++ slash ∷ (store_text ++ following)) h.1.1.0
+        ∙ append_assoc h.0 (comma ∷ h.1.0) (slash ∷ (store_text ++ following)) in
+        let short : length h.1.0 ≤ i = omega (arith, few, ap length h.1.1.0, length-append h.0 (comma ∷ h.1.0)) in
+        rw (cut, number_is_read h.0 n (comma ∷ rest) h.1.1.1 (λ digit. omega (arith, digit)))
+        (houses_are_read h.1.0 (m ∷ more) h.1.1.2 i (houses ++ n ∷ []) short
+        ∙ ap (λ (all : List ℕ). Some (all, store, following)) (append_assoc houses (n ∷ []) (m ∷ more)))
+
+pub side_is_read : (text houses : List ℕ) (store : ℕ) (following : List ℕ) → IsSide text houses store → EndsNumber following →
+    side_at (text ++ following) ≡ Some (houses, store, following)
+unfolding side_at
+side_is_read text houses store following side ends =
+    let parts : text ++ following ≡ side.houses_text ++ slash ∷ (side.store_text ++ following) =
+    ap (λ (t : List ℕ). t ++ following) side.parts ∙ append_assoc side.houses_text (slash ∷ side.store_text) following in
+    rw parts (houses_are_read side.store_text store following side.store_written ends side.houses_text houses side.houses_written
+    _ [] (omega (arith, length-append side.houses_text (slash ∷ (side.store_text ++ following)))))
+
+-- the bytes after a side are fewer
+pub side_shorter : (bytes : List ℕ) {found : Found} → side_at bytes ≡ Some found → length found.2 ≤ length bytes
+side_shorter bytes {found} e =
+    let side = side_is_written bytes found e in
+    omega (arith, ap length side.parts, length-append side.text found.2)
+
+-- there is a house
+pub houses_are_some : (text houses : List ℕ) → AreHouses text houses → 1 ≤ length houses
+houses_are_some text [] h = absurd h
+houses_are_some text (n ∷ houses) h = omega arith
 
 -- ---- house by house
 
--- houses with a comma after each
-abbrev pub with_commas : List ℕ → List ℕ
-with_commas [] = []
-with_commas (n ∷ houses) = decimal n ++ comma ∷ with_commas houses
-
-with_commas-push : (houses : List ℕ) (n : ℕ) → with_commas (houses ++ n ∷ []) ≡ with_commas houses ++ (decimal n ++ comma ∷ [])
-with_commas-push [] n = refl
-with_commas-push (m ∷ houses) n =
-    ap (λ (t : List ℕ). decimal m ++ comma ∷ t) (with_commas-push houses n)
-    ∙ sym (append_assoc (decimal m) (comma ∷ with_commas houses) (decimal n ++ comma ∷ []))
-
--- the last house has no comma after it
-with_commas-last : (houses : List ℕ) (n : ℕ) →
-    join_with_byte comma (map decimal (houses ++ n ∷ [])) ≡ with_commas houses ++ decimal n
-with_commas-last [] n = refl
-with_commas-last (m ∷ []) n = sym (append_assoc (decimal m) (comma ∷ []) (decimal n))
-with_commas-last (m ∷ k ∷ houses) n =
-    ap (λ (t : List ℕ). decimal m ++ comma ∷ t) (with_commas-last (k ∷ houses) n)
-    ∙ sym (append_assoc (decimal m) (comma ∷ with_commas (k ∷ houses)) (decimal n))
-
--- the bytes begin with the houses of the side, a comma after each, and every side at the front of the bytes goes on in the rest
+-- the houses so far are kept in the side, and the side at the front of the bytes goes on in the rest
 pub record IsTaking (bytes : List ℕ) (side : Side) (rest : List ℕ) : Type 0 where
   pub houses : List ℕ
+  pub steps : ℕ
   pub room : side.left_out + length rest ≤ length bytes
+  pub enough : length rest ≤ steps
   pub has : AreKept houses side.row side.left_out
-  pub low : All (λ n. n ≤ 99) houses
-  pub text : bytes ≡ with_commas houses ++ rest
-  pub every : (others : List ℕ) (store : ℕ) (following : List ℕ) → BeginsWithSide bytes others store following →
-      SideFront rest store following
+  pub goes_on : side_at bytes ≡ side_from steps houses rest
 
 pub begins_taking : (bytes : List ℕ) (side : Side) → AreKept [] side.row side.left_out → side.left_out ≡ 0 →
     IsTaking bytes side bytes
+unfolding side_at
 begins_taking bytes side has none = record {
   houses = [];
+  steps = length bytes;
   room = omega (arith, none);
+  enough = omega arith;
   has = has;
-  low = All-nil (λ (n : ℕ). n ≤ 99);
-  text = refl;
-  every = side_front bytes;
+  goes_on = refl;
 }
 
--- a number more, and what is known of the side then
-pub record TakesNumber (side : Side) (rest : List ℕ) (new : Side) (n mark : ℕ) (more : List ℕ) : Type 0 where
-  pub number : BeginsWithNumber rest n (mark ∷ more)
-  pub has : (houses : List ℕ) → AreKept houses side.row side.left_out → AreKept (houses ++ n ∷ []) new.row new.left_out
-  pub left_out : new.left_out ≤ side.left_out + 1
-  pub only : (m : ℕ) (after : List ℕ) → EndsNumber after → BeginsWithNumber rest m after → mark ∷ more ≡ after
+-- no number follows
+pub no_house : {bytes : List ℕ} {side : Side} {rest : List ℕ} → IsTaking bytes side rest → number_at rest ≡ None →
+    side_at bytes ≡ None
+no_house {bytes} {side} {rest} so_far none = so_far.goes_on ∙ go so_far.steps
+  where
+    go : (i : ℕ) → side_from i so_far.houses rest ≡ None
+    go zero = refl
+    go (suc i) = rw none refl
 
-pub takes_number : {side new : Side} {rest after : List ℕ} {n mark : ℕ} {more : List ℕ} → BeginsWithNumber rest n after →
-    ((m : ℕ) (following : List ℕ) → EndsNumber following → BeginsWithNumber rest m following → after ≡ following) →
-    ((houses : List ℕ) → AreKept houses side.row side.left_out → AreKept (houses ++ n ∷ []) new.row new.left_out) →
-    new.left_out ≤ side.left_out + 1 →
-    after ≡ mark ∷ more → TakesNumber side rest new n mark more
-takes_number {side} {new} {rest} {after} {n} {mark} {more} number every has one marks = record {
-  number = subst (BeginsWithNumber rest n) marks number;
-  has = has;
-  left_out = one;
-  only = λ m following ends begins. sym marks ∙ every m following ends begins;
-}
+-- a number follows
+module _ {bytes : List ℕ} {side : Side} {rest : List ℕ} {n : ℕ} {after : List ℕ} (so_far : IsTaking bytes side rest)
+    (house : number_at rest ≡ Some (n, after)) where
+  abbrev houses : List ℕ
+  houses = so_far.houses ++ n ∷ []
 
-module _ {bytes : List ℕ} {side new : Side} {rest : List ℕ} {n mark : ℕ} {more : List ℕ} (so_far : IsTaking bytes side rest)
-    (takes : TakesNumber side rest new n mark more) where
-  bytes_are : bytes ≡ with_commas so_far.houses ++ (decimal n ++ mark ∷ more)
-  bytes_are = so_far.text ∙ ap (λ (t : List ℕ). with_commas so_far.houses ++ t) takes.number.text
+  pub goes_on_after : side_at bytes ≡ house_followed (store_at houses) (side_from (pred so_far.steps) houses) after
+  goes_on_after = so_far.goes_on ∙ go rest so_far.steps so_far.enough house
+    where
+      go : (r : List ℕ) (i : ℕ) → length r ≤ i → number_at r ≡ Some (n, after) →
+          side_from i so_far.houses r ≡ house_followed (store_at houses) (side_from (pred i) houses) after
+      go [] zero enough read = absurd cc
+      go (byte ∷ r) zero enough read = absurd (omega (arith, enough))
+      go r (suc i) enough read = rw read refl
 
-  all_low : All (λ (x : ℕ). x ≤ 99) (so_far.houses ++ n ∷ [])
-  all_low = All-append (λ (x : ℕ). x ≤ 99) so_far.houses (n ∷ []) so_far.low
-      (All-cons (λ (x : ℕ). x ≤ 99) n [] takes.number.low (All-nil (λ (x : ℕ). x ≤ 99)))
+  pub nothing_follows : length after ≡ 0 → side_at bytes ≡ None
+  nothing_follows none =
+      goes_on_after ∙ ap (house_followed (store_at houses) (side_from (pred so_far.steps) houses)) (nil_from_length after none)
 
-  -- the byte after the number is the one that every side has there
-  pub marked : (others : List ℕ) (store : ℕ) (following : List ℕ) → BeginsWithSide bytes others store following →
-      (mark ∷ more ≡ slash ∷ (decimal store ++ following))
-      ⊎ ((next : List ℕ) × ((mark ∷ more ≡ comma ∷ next) × ((houses : List ℕ) × BeginsWithSide next houses store following)))
-  marked others store following begins =
-      let front = so_far.every others store following begins in
-      let is = takes.only front.n front.after front.ends front.number in
-      elim front.way [
-        | inl stored ↦ inl (is ∙ stored)
-        | inr others ↦ inr (others.0, (is ∙ others.1.0, others.1.1))
-      ]
+  pub store_follows : {mark : ℕ} {more following : List ℕ} {store : ℕ} → after ≡ mark ∷ more → mark ≡ slash →
+      number_at more ≡ Some (store, following) → side_at bytes ≡ Some (houses, store, following)
+  store_follows is slash_is stored = goes_on_after ∙ rw (is, slash_is, stored) refl
 
-  -- another house follows
-  pub house_follows : mark ≡ comma → IsTaking bytes new more
-  house_follows is = record {
-    houses = so_far.houses ++ n ∷ [];
-    room = omega (arith, so_far.room, takes.left_out, ap length takes.number.text, length-append (decimal n) (mark ∷ more));
-    has = takes.has so_far.houses so_far.has;
-    low = all_low;
-    text =
-        bytes_are ∙ ap (λ (b : ℕ). with_commas so_far.houses ++ (decimal n ++ b ∷ more)) is
-        ∙ sym (ap (λ (t : List ℕ). t ++ more) (with_commas-push so_far.houses n)
-        ∙ append_assoc (with_commas so_far.houses) (decimal n ++ comma ∷ []) more
-        ∙ ap (λ (t : List ℕ). with_commas so_far.houses ++ t) (append_assoc (decimal n) (comma ∷ []) more));
-    every = λ others store following begins. elim (marked others store following begins) [
-      | inl stored ↦ absurd (let other : comma ≡ slash = sym is ∙ cc stored in omega (arith, other))
-      | inr further ↦
-          let same : further.0 ≡ more = cc (sym further.1.0) in
-          subst (λ (t : List ℕ). SideFront t store following) same (side_front further.0 further.1.1.0 store following further.1.1.1)
-    ];
+  pub house_follows : {new : Side} {mark : ℕ} {more : List ℕ} → after ≡ mark ∷ more → mark ≡ comma →
+      AreKept houses new.row new.left_out → new.left_out ≤ side.left_out + 1 → IsTaking bytes new more
+  house_follows {new} {mark} {more} is comma_is has one = record {
+    houses = houses;
+    steps = pred so_far.steps;
+    room = omega (arith, so_far.room, one, shorter, ap length is);
+    enough = go so_far.steps so_far.enough;
+    has = has;
+    goes_on = goes_on_after ∙ rw (is, comma_is) refl;
   }
+    where
+      shorter : length after < length rest
+      shorter = number_shorter rest (n, after) house
 
-  -- the store follows, and ends the side
-  pub store_follows : (store : ℕ) (following : List ℕ) → mark ≡ slash → BeginsWithNumber more store following →
-      BeginsWithSide bytes (so_far.houses ++ n ∷ []) store following
-  store_follows store following is stored = record {
-    text =
-        bytes_are ∙ ap₂ (λ (b : ℕ) (t : List ℕ). with_commas so_far.houses ++ (decimal n ++ b ∷ t)) is stored.text
-        ∙ sym (append_assoc (join_with_byte comma (map decimal (so_far.houses ++ n ∷ []))) (slash ∷ decimal store) following
-        ∙ ap (λ (t : List ℕ). t ++ slash ∷ (decimal store ++ following)) (with_commas-last so_far.houses n)
-        ∙ append_assoc (with_commas so_far.houses) (decimal n) (slash ∷ (decimal store ++ following)));
-    some_house = omega (arith, length_push so_far.houses n);
-    houses_low = all_low;
-    store_low = stored.low;
-  }
+      go : (i : ℕ) → length rest ≤ i → length more ≤ pred i
+      go zero enough = omega (arith, enough, shorter)
+      go (suc i) enough = omega (arith, enough, shorter, ap length is)

@@ -1,6 +1,6 @@
 -- The text of a position is the line that writes it.
 use Rattle.std.proofs.Common.{◌≡◌, ℕ, ◌*◌, ◌≤◌, List, [], ◌∷◌, ◌++◌, length, map, All, Result, Ok, Err, refl, sym, ap, ap₂, subst, ◌∙◌, append-nil, length-append, arith, lit<}
-use Rattle.std.specs.Prelude.{codes, decimal, sum, IfOk}
+use Rattle.std.specs.Prelude.{codes, decimal, sum, IfOk, IfErr}
 use Rattle.std.specs.List.{join_with_byte}
 use Rattle.std.proofs.lemmas.Fmt.{length-decimal-le}
 use Rattle.std.proofs.lemmas.List.Elements.{All-head, All-tail, All-from_get_or}
@@ -10,12 +10,11 @@ use Rattle.kalah_rules.specs.Position.{Position, IsWithinLimits}
 use Rattle.kalah_rules.specs.declared.rule.Rule.{Rule}
 use Rattle.kalah_rules.specs.declared.rule.Rule.TheVariants.{Classic, EmptyCapture}
 use Rattle.kalah_jobs.specs.Limits.{most_bytes}
-use Rattle.kalah_jobs.specs.Line.Line.{comma, slash, space, without_cr, ending_of, AreHouses, IsSide, IsLineOf, Reads, side_text, line_text_of}
-use Rattle.kalah_jobs.specs.Line.Reading.{reading_of}
+use Rattle.kalah_jobs.specs.Line.Line.{comma, slash, space, without_cr, ending_of, AreHouses, IsSide, IsLineOf, Reads, HasFault, side_text, line_text_of}
 use Rattle.kalah_jobs.specs.declared.line.line_fault.LineFault.{LineFault}
 use Rattle.kalah_jobs.proofs.LineLemmas.Numbers.{number_text, number_low, decimal_is_number}
+use Rattle.kalah_jobs.proofs.LineLemmas.Readings.{IsReading}
 use Rattle.kalah_jobs.proofs.LineLemmas.LineEnds.{without_cr-append, number_ends_without_cr}
-use Rattle.kalah_jobs.proofs.LineLemmas.Readings.{reading_reads}
 
 -- ---- what writes a position is its text
 
@@ -37,20 +36,26 @@ is_line_text text p line =
     let other = is_side_text line.other_text p.other p.other_store line.other_side in
     line.parts ∙ ap₂ (λ (a b : List ℕ). a ++ space ∷ b ++ ending_of p.rule) own other
 
-pub text_if_ok : (line : List ℕ) (r : Result Position LineFault) → r ≡ reading_of line →
-    IfOk r (λ p. without_cr line ≡ line_text_of p)
-text_if_ok line (Ok p) e = is_line_text (without_cr line) p (reading_reads line p (sym e)).form
-text_if_ok line (Err fault) e = tt
+-- what holds of the result of a reading
+pub record IsResult (line : List ℕ) (r : Result Position LineFault) : Type 0 where
+  pub reads : IfOk r (λ p. Reads line p)
+  pub text : IfOk r (λ p. without_cr line ≡ line_text_of p)
+  pub stores : IfOk r (λ p. (p.own_store ≤ most_in_store) × (p.other_store ≤ most_in_store))
+  pub fault : IfErr r (λ fault. HasFault line fault)
 
--- stores that are written have at most two digits
-pub stores_if_ok : (line : List ℕ) (r : Result Position LineFault) → r ≡ reading_of line →
-    IfOk r (λ p. (p.own_store ≤ most_in_store) × (p.other_store ≤ most_in_store))
-stores_if_ok line (Ok p) e =
-    let form = (reading_reads line p (sym e)).form in (
-      number_low form.own_side.store_text p.own_store form.own_side.store_written,
-      number_low form.other_side.store_text p.other_store form.other_side.store_written,
-    )
-stores_if_ok line (Err fault) e = tt
+pub result_of_reading : (line : List ℕ) (r : Result Position LineFault) → IsReading line r → IsResult line r
+result_of_reading line (Ok p) is =
+    let form = is.form in
+    record {
+      reads = is;
+      text = is_line_text (without_cr line) p form;
+      stores = (
+        number_low form.own_side.store_text p.own_store form.own_side.store_written,
+        number_low form.other_side.store_text p.other_store form.other_side.store_written,
+      );
+      fault = tt;
+    }
+result_of_reading line (Err fault) is = record { reads = tt; text = tt; stores = tt; fault = is }
 
 -- ---- the text of a position writes it
 

@@ -1,7 +1,6 @@
--- How a line is read: it is cut at its spaces, each side at its slash, and the houses at their commas.
-use Rattle.std.specs.Prelude.{ℕ, ◌+◌, ◌-◌, ◌*◌, ◌==◌, ◌&&◌, not, nat_lt, if◌then◌else◌, List, [], ◌∷◌, length, Option, Some, None, Result, Ok, Err}
+-- How a line is read, from its first byte to its last.
+use Rattle.std.specs.Prelude.{ℕ, zero, suc, ◌+◌, ◌-◌, ◌*◌, ◌==◌, ◌&&◌, not, nat_lt, if◌then◌else◌, List, [], ◌∷◌, ◌++◌, length, Option, Some, None, Result, Ok, Err}
 use Rattle.std.specs.Char.{is_ascii_digit}
-use Rattle.std.specs.List.{slice_split}
 use Rattle.kalah_rules.specs.Limits.{most_houses, most_seeds}
 use Rattle.kalah_rules.specs.Position.{Position, side_length, seeds_in_houses}
 use Rattle.kalah_rules.specs.declared.rule.Rule.{Rule}
@@ -16,56 +15,64 @@ abbrev pub ◌>>=◌ : {A B : Type 0} → Option A → (A → Option B) → Opti
 None >>= f = None
 (Some x) >>= f = f x
 
--- the parts of a text between the bytes
-abbrev pub parts_at : ℕ → List ℕ → List (List ℕ)
-parts_at byte text = slice_split (λ b. b == byte) text
+-- a number whose first digit was read, and the bytes after it
+abbrev pub number_from : ℕ → List ℕ → ℕ × List ℕ
+number_from high [] = (high, [])
+number_from high (byte ∷ rest) =
+    if nat_lt 0 high && is_ascii_digit byte then (10 * high + (byte - zero_digit), rest) else (high, byte ∷ rest)
 
--- the number that the text writes, if it writes one
-abbrev pub number_read : List ℕ → Option ℕ
-number_read [] = None
-number_read (ones ∷ []) = if is_ascii_digit ones then Some (ones - zero_digit) else None
-number_read (tens ∷ ones ∷ []) =
-    if is_ascii_digit tens && not (tens == zero_digit) && is_ascii_digit ones
-    then Some (10 * (tens - zero_digit) + (ones - zero_digit)) else None
-number_read (_ ∷ _ ∷ _ ∷ _) = None
+-- the number at the front of the bytes, and the bytes after it
+abbrev pub number_at : List ℕ → Option (ℕ × List ℕ)
+number_at [] = None
+number_at (byte ∷ rest) = if is_ascii_digit byte then Some (number_from (byte - zero_digit) rest) else None
 
--- the numbers of all the texts
-abbrev pub numbers_read : List (List ℕ) → Option (List ℕ)
-numbers_read [] = Some []
-numbers_read (text ∷ texts) = do
-  n ← number_read text
-  more ← numbers_read texts
-  Some (n ∷ more)
+-- what a side is read as: its houses, its store and the bytes after it
+abbrev pub Found : Type 0
+Found = List ℕ × ℕ × List ℕ
 
--- a side of two parts: its houses and its store
-abbrev pub side_from : List (List ℕ) → Option (List ℕ × ℕ)
-side_from (houses ∷ store ∷ []) = do
-  n ← number_read store
-  row ← numbers_read (parts_at comma houses)
-  Some (row, n)
-side_from _ = None
+-- the side of these houses whose store stands at the front of the bytes
+abbrev pub store_at : List ℕ → List ℕ → Option Found
+store_at houses bytes = do
+  store ← number_at bytes
+  Some (houses, store.0, store.1)
 
-abbrev pub side_of : List ℕ → Option (List ℕ × ℕ)
-side_of text = side_from (parts_at slash text)
+-- what follows a house: the store after a slash, or more houses after a comma
+abbrev pub house_followed : (List ℕ → Option Found) → (List ℕ → Option Found) → List ℕ → Option Found
+house_followed store more [] = None
+house_followed store more (mark ∷ rest) =
+    if mark == slash then store rest else (if mark == comma then more rest else None)
 
--- the rule that the parts after the second side name: none of them is Classic, and the one part `e` is EmptyCapture
-abbrev pub rule_of : List (List ℕ) → Option Rule
+-- the side that begins with these houses and goes on, by at most `n` houses, at the front of the bytes
+abbrev pub side_from : ℕ → List ℕ → List ℕ → Option Found
+side_from zero houses bytes = None
+side_from (suc n) houses bytes = do
+  house ← number_at bytes
+  house_followed (store_at (houses ++ house.0 ∷ [])) (side_from n (houses ++ house.0 ∷ [])) house.1
+
+-- the side at the front of the bytes
+unfoldable pub side_at : List ℕ → Option Found
+side_at bytes = side_from (length bytes) [] bytes
+
+-- the rule that what stands after the second side names
+abbrev pub rule_of : List ℕ → Option Rule
 rule_of [] = Some Classic
-rule_of ((byte ∷ []) ∷ []) = if byte == 101 then Some EmptyCapture else None
-rule_of _ = None
+rule_of (mark ∷ []) = None
+rule_of (mark ∷ byte ∷ []) = if mark == space && byte == 101 then Some EmptyCapture else None
+rule_of (_ ∷ _ ∷ _ ∷ _) = None
 
--- a position of two parts and those that name the rule
-abbrev pub position_from : List (List ℕ) → Option Position
-position_from (own ∷ other ∷ ending) = do
-  rule ← rule_of ending
-  mine ← side_of own
-  yours ← side_of other
-  Some (record { own = mine.0; own_store = mine.1; other = yours.0; other_store = yours.1; rule = rule })
-position_from _ = None
+-- the position whose first side was read
+abbrev pub position_from : List ℕ → ℕ → List ℕ → Option Position
+position_from houses store [] = None
+position_from houses store (mark ∷ rest) = if mark == space then (do
+  other ← side_at rest
+  rule ← rule_of other.2
+  Some (record { own = houses; own_store = store; other = other.0; other_store = other.1; rule = rule })) else None
 
 -- the position that the text writes, of any number of houses and seeds
-abbrev pub written_of : List ℕ → Option Position
-written_of text = position_from (parts_at space text)
+unfoldable pub written_of : List ℕ → Option Position
+written_of text = do
+  own ← side_at text
+  position_from own.0 own.1 own.2
 
 -- a position that is written, if it is within the limits
 abbrev pub admitted : Position → Result Position LineFault
@@ -74,15 +81,14 @@ admitted p =
     else (if nat_lt most_houses (side_length p) then Err Houses
     else (if nat_lt most_seeds (seeds_in_houses p) then Err Seeds else Ok p))
 
-abbrev pub admitted_if_written : Option Position → Result Position LineFault
-admitted_if_written None = Err Shape
-admitted_if_written (Some p) = admitted p
+abbrev pub admitted_if_written : Option Position → List ℕ → Result Position LineFault
+admitted_if_written (Some p) text = admitted p
+admitted_if_written None [] = Err Empty
+admitted_if_written None (_ ∷ _) = Err Shape
 
 -- the position that the line is read as, or its first fault
 abbrev pub reading_of_text : List ℕ → Result Position LineFault
-reading_of_text text =
-    if nat_lt most_bytes (length text) then Err Long
-    else (if length text == 0 then Err Empty else admitted_if_written (written_of text))
+reading_of_text text = if nat_lt most_bytes (length text) then Err Long else admitted_if_written (written_of text) text
 
 unfoldable pub reading_of : List ℕ → Result Position LineFault
 reading_of line = reading_of_text (without_cr line)

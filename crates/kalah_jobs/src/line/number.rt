@@ -1,16 +1,13 @@
 //! Numbers of at most two digits.
-ghost use Rattle.std.specs.Prelude.{◌≡◌, ℕ, List, IfSome};
-ghost use Rattle.std.specs.Option.{IsSomeAnd};
-ghost use Rattle.kalah_jobs.specs.Line.Front.{BeginsWithNumber, EndsNumber};
+ghost use Rattle.std.specs.Prelude.{◌≡◌, IfSome, IfNone, Some, None};
+ghost use Rattle.kalah_jobs.specs.Line.Reading.{number_at};
 
 // Returns the number at the front of some bytes, and the bytes after it. It is `0`, or one or two digits that do not start with `0`.
 // Returns `None` if there is none.
 #[inline(always)]
 pub(crate) fn take_number(bytes: &[u8]) -> Option<(u8, &[u8])>
-    ensures is { IfSome result (λ found. BeginsWithNumber bytes.now found.0 found.1.now) }
-    // A number that no digit follows is found.
-    ensures every { (n : ℕ) (rest : List ℕ) → EndsNumber rest → BeginsWithNumber bytes.now n rest
-        → IsSomeAnd result (λ found. found.1.now ≡ rest) }
+    ensures is { IfSome result (λ found. number_at bytes.now ≡ Some (found.0, found.1.now)) }
+    ensures none { IfNone result (number_at bytes.now ≡ None) }
 {
     let (first, rest) = bytes.split_first()?;
     if !first.is_ascii_digit() {

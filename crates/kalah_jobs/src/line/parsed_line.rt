@@ -1,5 +1,5 @@
 //! The form of a position line, before its limits are tested.
-ghost use Rattle.std.specs.Prelude.{◌≡◌, ◌≤◌, length, IfSome, IfNone, Some};
+ghost use Rattle.std.specs.Prelude.{◌≡◌, ◌≤◌, length, IfSome, IfNone, Some, None};
 ghost use Rattle.kalah_rules.specs.declared.rule.Rule.{Rule as AnyRule};
 ghost use Rattle.kalah_jobs.specs.Line.Line.{ending_of};
 
@@ -30,16 +30,16 @@ fn read_rule(ending: &[u8]) -> Option<Rule>
 impl ParsedLine {
     ghost use Rattle.kalah_rules.specs.Position.{Position};
     ghost use Rattle.kalah_jobs.specs.Limits.{most_bytes};
-    ghost use Rattle.kalah_jobs.specs.Line.Line.{IsLineOf};
     ghost use Rattle.kalah_jobs.specs.Line.ParsedLine.{Shows};
-    ghost use Rattle.kalah_jobs.specs.Line.Reading.{admitted};
+    ghost use Rattle.kalah_jobs.specs.Line.Reading.{written_of, admitted};
 
     // Reads the two sides of a text, with one space between them, and the rule that its ending names.
+    #[tactic(auto, unfolding(crate::specs::Line::Reading::written_of))]
     #[inline(always)]
     pub(crate) fn read(text: &[u8]) -> Option<ParsedLine>
         requires { length text.now ≤ most_bytes }
-        ensures is { IfSome result (λ line. (p : Position) × (Shows line p × IsLineOf text.now p)) }
-        ensures none { IfNone result ((p : Position) → ¬ IsLineOf text.now p) }
+        ensures is { IfSome result (λ line. (p : Position) × (Shows line p × (written_of text.now ≡ Some p))) }
+        ensures none { IfNone result (written_of text.now ≡ None) }
     {
         let (own, rest) = Side::take(text)?;
         let (mark, rest) = rest.split_first()?;

@@ -26,7 +26,6 @@ fn drop_cr(line: &[u8]) -> &[u8]
 }
 
 // Returns the position of a line whose CR is dropped, or its first fault.
-#[tactic(auto, using(crate::proofs::LineLemmas::Readings::readings))]
 #[inline(always)]
 fn read_text(text: &[u8]) -> Result<Board, LineFault>
     ensures { result ≡ reading_of_text text.now }

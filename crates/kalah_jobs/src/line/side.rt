@@ -16,10 +16,9 @@ pub(crate) struct Side {
 }
 
 impl Side {
-    ghost use Rattle.std.specs.Prelude.{◌≡◌, ◌≤◌, ◌<◌, ◌+◌, ◌∷◌, [], ◌++◌, ℕ, List, length, IfSome};
-    ghost use Rattle.std.specs.Option.{IsSomeAnd};
+    ghost use Rattle.std.specs.Prelude.{◌≡◌, ◌≤◌, ◌<◌, ◌+◌, ◌∷◌, [], ◌++◌, ℕ, List, length, IfSome, IfNone, Some, None};
     ghost use Rattle.kalah_jobs.specs.Limits.{most_bytes};
-    ghost use Rattle.kalah_jobs.specs.Line.Front.{BeginsWithSide, EndsNumber};
+    ghost use Rattle.kalah_jobs.specs.Line.Reading.{side_at};
     ghost use Rattle.kalah_jobs.specs.Line.Side.{AreKept};
 
     // Makes a side without houses.
@@ -52,10 +51,9 @@ impl Side {
     pub(crate) fn take(bytes: &[u8]) -> Option<(Side, &[u8])>
         requires { length bytes.now ≤ most_bytes }
         ensures is { IfSome result (λ found. (houses : List ℕ)
-            × (AreKept houses found.0.row found.0.left_out × BeginsWithSide bytes.now houses found.0.store found.1.now)) }
-        // A side that no digit follows is found.
-        ensures every { (houses : List ℕ) (store : ℕ) (rest : List ℕ) → EndsNumber rest
-            → BeginsWithSide bytes.now houses store rest → IsSomeAnd result (λ found. found.1.now ≡ rest) }
+            × (AreKept houses found.0.row found.0.left_out
+            × (side_at bytes.now ≡ Some (houses, found.0.store, found.1.now)))) }
+        ensures none { IfNone result (side_at bytes.now ≡ None) }
     {
         let mut side = Side::new();
         let mut rest = bytes;
