@@ -1,6 +1,901 @@
-pub mod RefusalLaw
-pub mod CollectorSteps
-pub mod CollectorRuns
-pub mod SharedOnce
-pub mod SameJob
-pub mod JobOrders
+-- The collector: how far each file has come, and what any list of offers and takes makes of it.
+use Rattle.std.proofs.Common.{◌≡◌, ℕ, zero, suc, ◌+◌, ◌<◌, ◌≤◌, List, [], ◌∷◌, length, set, get_or, replicate, true, false, refl, arith, ⊎_elim, Bool, ◌&&◌, ◌==◌, ap, ap₂, eq-eqb, ◌≢◌, inl, inr, if◌then◌else◌, cond, ◌++◌, map, slice_index_or, ◌∙◌, sym, ne_eqb, subst, length-set, get_or-set_other, get_or-set_same, take}
+use Rattle.std.specs.Prelude.{Option, Some, None, is_some, sum_by, count_by, nat_lt, IsSome, Contains, Result, Ok, Err, IsSomeAnd, slice_get, IsOk}
+use Rattle.std.proofs.lemmas.Bool.{cases_lt, and_parts, and_from, eqb-true, false≢true, lt-ltb, le-ltb, cases_eq, cases_Bool}
+use Rattle.kalah_jobs.specs.declared.writing.answer.Answer.{Answer}
+use Rattle.kalah_jobs.specs.Collecting.CollectorState.{front_of, FileState, no_file, state_of, line_count, came_for, HasLinesOf, with_answer, with_one_taken, after_offer, after_take, new_files, front, IsNext, HasEnded}
+use Rattle.std.specs.Coded.{Coded, codes}
+use base.Stored.{Gv, gnil, gnum, gcons}
+use Rattle.kalah_jobs.specs.declared.files.job.Job.{Job}
+use Rattle.std.specs.List.{All, flat_map, enumerate_from}
+use Rattle.std.proofs.lemmas.List.Sums.{sum_by-cons, sum_by-append, get_or-le-sum_by}
+use Rattle.std.proofs.lemmas.List.Elements.{All-nil, All-cons, All-head, All-tail, Contains-append_left, Contains-push, Contains-push_cases, Contains-append_right}
+use Rattle.std.proofs.lemmas.List.{length-map, length-append, nil_from_length, get_or_default, length-replicate, append-nil, append_assoc, take_all, take_more, get_or-map}
+use Rattle.kalah_jobs.specs.Collecting.Shares.{times_in, of, AreShared}
+use Rattle.kalah_jobs.proofs.FilesLemmas.{count_map, slice_get-job_list}
+use Rattle.std.proofs.lemmas.Option.{slice_get_within, get_or_from_slice_get, slice_get-get_or}
+use Rattle.kalah_jobs.specs.declared.files.entry.Entry.{Entry}
+use Rattle.kalah_jobs.specs.declared.collecting.refusal.Refusal.{Refusal}
+use Rattle.kalah_jobs.specs.declared.collecting.refusal.Refusal.TheVariants.{NoSuchFile, FileEnded, NoSuchLine, WrongPosition, Double}
+use Rattle.kalah_jobs.specs.Writing.Answer.{answer_of}
+use Rattle.kalah_jobs.specs.Files.JobList.{entries_of, entry_at, line_job, file_jobs, jobs_from, job_list}
+use Rattle.kalah_jobs.specs.Collecting.Refusals.{IsWanted, IsRefusedFor, RefusalsLaw}
+use Rattle.kalah_jobs.specs.Collecting.Held.{IsAnswered, HoldsOffered}
+use Rattle.std.proofs.lemmas.List.FromFn.{length-enumerate_from, get_or-enumerate_from}
+use Rattle.kalah_jobs.specs.declared.writing.answer.Taken.{Taken}
+use Rattle.kalah_jobs.specs.Collecting.CollectorEvents.{Event, Offered, Took, Offers, Gives, offers, takes, with_taken, Came, answered_line, answered_lines}
+use Rattle.kalah_jobs.specs.Collecting.CollectorLaw.{Runs, CollectorLaw}
+use Rattle.kalah_jobs.specs.declared.files.entry.Entry.TheVariants.{Bad}
+use Rattle.kalah_jobs.specs.declared.line.line_fault.LineFault.TheVariants.{Empty}
+use Rattle.kalah_jobs.specs.Files.Jobs.{job_count}
+use Rattle.kalah_jobs.specs.Collecting.Batch.{job, AreJobsInSomeOrder, SharesLaw, OffersLaw, FrontsLaw}
+
+-- ==== How many of the first lines of a file have come without a gap
+
+-- the front is within the lines
+pub front_within : (xs : List (Option Answer)) → front_of xs ≤ length xs
+front_within [] = omega arith
+front_within (None ∷ xs) = omega arith
+front_within (Some a ∷ xs) = omega (arith, front_within xs)
+
+-- each line below the front has come
+pub front_came : (xs : List (Option Answer)) (k : ℕ) (d : Option Answer) → k < front_of xs → is_some (get_or xs k d) ≡ true
+front_came (Some a ∷ xs) zero d low = refl
+front_came (Some a ∷ xs) (suc k) d low = front_came xs k d (omega arith)
+front_came xs k d low = absurd (omega arith)
+
+-- the front does not pass a gap
+pub front_stops : (xs : List (Option Answer)) (k : ℕ) → is_some (get_or xs k None) ≡ false → front_of xs ≤ k
+front_stops [] k gap = omega arith
+front_stops (None ∷ xs) k gap = omega arith
+front_stops (Some a ∷ xs) zero gap = cc
+front_stops (Some a ∷ xs) (suc k) gap = omega (arith, front_stops xs k gap)
+
+-- a line that has come at the front moves it on
+pub front_more : (xs : List (Option Answer)) (k : ℕ) → k ≤ front_of xs → is_some (get_or xs k None) ≡ true
+    → k + 1 ≤ front_of xs
+front_more [] k low here = cc
+front_more (None ∷ xs) zero low here = cc
+front_more (None ∷ xs) (suc k) low here = absurd (omega arith)
+front_more (Some a ∷ xs) zero low here = omega arith
+front_more (Some a ∷ xs) (suc k) low here = omega (arith, front_more xs k (omega arith) here)
+
+-- an answer more does not move the front back
+pub front_set : (xs : List (Option Answer)) (k : ℕ) (a : Answer) → front_of xs ≤ front_of (set xs k (Some a))
+front_set [] k a = omega arith
+front_set (None ∷ xs) k a = omega arith
+front_set (Some b ∷ xs) zero a = omega arith
+front_set (Some b ∷ xs) (suc k) a = omega (arith, front_set xs k a)
+
+-- if nothing came, the front is at the first line
+pub front_none : (n : ℕ) → front_of (replicate n None) ≡ 0
+front_none zero = refl
+front_none (suc n) = refl
+
+-- if all lines came the front is at the end
+pub front_full : (xs : List (Option Answer)) → ((k : ℕ) → k < length xs → is_some (get_or xs k None) ≡ true)
+    → front_of xs ≡ length xs
+front_full [] all = refl
+front_full (None ∷ xs) all = let h = all 0 (omega arith) in cc
+front_full (Some a ∷ xs) all = omega (arith, front_full xs (λ k low. all (suc k) (omega arith)))
+
+-- if the first m lines have come, the front has come so far
+pub front_least : (xs : List (Option Answer)) (m : ℕ) → ((k : ℕ) → k < m → is_some (get_or xs k None) ≡ true)
+    → m ≤ front_of xs
+front_least xs m all =
+    ⊎_elim
+    (λ (short : front_of xs < m). let more : front_of xs + 1 ≤ front_of xs = front_more xs (front_of xs) (omega arith)
+    (all (front_of xs) short) in
+    absurd (omega arith))
+    (λ (long : m ≤ front_of xs). long)
+    (cases_lt (front_of xs) m)
+
+-- ==== A test by which one offer is found in a list: it holds only of that offer
+
+-- jobs distinguished by a code
+coded_job : Coded Job
+coded_job = hlevel codes
+
+-- the same code
+same_code : Gv → Gv → Bool
+same_code gnil gnil = true
+same_code (gnum m) (gnum n) = m == n
+same_code (gcons a b) (gcons c d) = same_code a c && same_code b d
+same_code x y = false
+
+-- which are then equal
+same_code_means : (x y : Gv) → same_code x y ≡ true → x ≡ y
+unfolding same_code
+same_code_means gnil gnil h = refl
+same_code_means (gnum m) (gnum n) h = ap gnum (eqb-true m n h)
+same_code_means (gcons a b) (gcons c d) h =
+    let parts = and_parts (same_code a c) (same_code b d) h in
+    ap₂ gcons (same_code_means a c parts.0) (same_code_means b d parts.1)
+same_code_means x y h = absurd (false≢true h)
+
+-- a code is the same as itself
+same_code_itself : (x : Gv) → same_code x x ≡ true
+unfolding same_code
+same_code_itself gnil = refl
+same_code_itself (gnum n) = eq-eqb n n refl
+same_code_itself (gcons a b) = and_from (same_code a a) (same_code b b) (same_code_itself a) (same_code_itself b)
+
+-- the test
+pub same_job : Job → Job → Bool
+same_job a b = same_code (coded_job.code b) (coded_job.code a)
+
+-- an offer passes its own test
+pub same_itself : (o : Job) → same_job o o ≡ true
+unfolding same_job
+same_itself o = same_code_itself (coded_job.code o)
+
+-- and no other does
+pub same_means : (a b : Job) → same_job a b ≡ true → b ≡ a
+unfolding same_job
+same_means a b h = coded_job.inj b a (same_code_means (coded_job.code b) (coded_job.code a) h)
+
+-- ==== What is got of jobs that were shared out: each job's result, once
+
+-- ---- sums
+
+-- f of each number below n, added up
+abbrev pub total : ℕ → (ℕ → ℕ) → ℕ
+total zero f = 0
+total (suc n) f = f 0 + total n (λ w. f (suc w))
+
+-- the same terms
+total_same : (n : ℕ) (f g : ℕ → ℕ) → ((w : ℕ) → w < n → f w ≡ g w) → total n f ≡ total n g
+total_same zero f g same = refl
+total_same (suc n) f g same =
+    omega (arith, same 0 (omega arith), total_same n (λ w. f (suc w)) (λ w. g (suc w)) (λ w low. same (suc w) (omega arith)))
+
+-- one term is greater by d
+total_one : (n : ℕ) (f g : ℕ → ℕ) (k d : ℕ) → k < n → f k ≡ g k + d → ((w : ℕ) → w ≢ k → f w ≡ g w) →
+    total n f ≡ total n g + d
+total_one zero f g k d low more others = absurd (omega arith)
+total_one (suc n) f g zero d low more others =
+    omega (arith, total_same n (λ w. f (suc w)) (λ w. g (suc w)) (λ w _. others (suc w) (λ e. omega arith)))
+total_one (suc n) f g (suc k) d low more others =
+    let first = others 0 (λ e. omega arith) in
+    omega (
+      arith,
+      first,
+      total_one n (λ w. f (suc w)) (λ w. g (suc w)) k d (omega arith) more
+          (λ w apart. others (suc w) (λ e. apart (omega arith))),
+    )
+
+-- no terms but zeros
+total_zero : (n : ℕ) → total n (λ w. 0) ≡ 0
+total_zero zero = refl
+total_zero (suc n) = omega (arith, total_zero n)
+
+-- a sum over a list, by place
+pub total_rows : {X : Type 0} (g : X → ℕ) (d : X) (rows : List X)
+    → total (length rows) (λ w. g (slice_index_or rows w d)) ≡ sum_by g rows
+total_rows g d [] = refl
+total_rows g d (r ∷ rs) = omega (arith, total_rows g d rs, sum_by-cons g r rs)
+
+-- ---- what was received, worker by worker
+
+counted : {X : Type 0} (p : X → Bool) (n : ℕ) (pairs : List (ℕ × X)) → All (λ t. t.0 < n) pairs
+    → count_by p (map (λ t. t.1) pairs) ≡ total n (λ w. count_by p (of w pairs))
+counted p n [] below = sym (total_zero n)
+counted {X} p n (t ∷ ts) below =
+    let P : ℕ × X → Type 0 = λ u. u.0 < n in
+    let f : ℕ → ℕ = λ w. count_by p (of w (t ∷ ts)) in
+    let g : ℕ → ℕ = λ w. count_by p (of w ts) in
+    let one : f t.0 ≡ g t.0 + cond (p t.1) 1 0 =
+    rw (eq-eqb t.0 t.0 refl) (omega (arith, sum_by-cons (λ (x : X). cond (p x) 1 0) t.1 (of t.0 ts))) in
+    let other : (w : ℕ) → w ≢ t.0 → f w ≡ g w = λ w apart. rw (ne_eqb t.0 w (λ e. apart (sym e))) refl in
+    omega (
+      arith,
+      total_one n f g t.0 (cond (p t.1) 1 0) (All-head P t ts below) one other,
+      counted p n ts (All-tail P t ts below),
+      sum_by-cons (λ (x : X). cond (p x) 1 0) t.1 (map (λ (u : ℕ × X). u.1) ts),
+    )
+
+-- ---- what was drawn, number by number
+
+-- how often x stands in a list, with one number more
+times_more : (x z : ℕ) (zs : List ℕ) → count_by (λ y. y == x) (z ∷ zs) ≡ cond (z == x) 1 0 + count_by (λ y. y == x) zs
+times_more x z zs = sum_by-cons (λ y. cond (y == x) 1 0) z zs
+
+-- once more if it is that number
+times_same : (z : ℕ) (zs : List ℕ) → count_by (λ y. y == z) (z ∷ zs) ≡ 1 + count_by (λ y. y == z) zs
+times_same z zs = times_more z z zs ∙ ap (λ b. cond b 1 0 + count_by (λ y. y == z) zs) (eq-eqb z z refl)
+
+-- c, if the test is passed
+chosen : Bool → ℕ → ℕ
+chosen b c = cond b c 0
+
+-- as many pass as there are numbers that pass, each as often as it stands in the list
+count_split : (q : ℕ → Bool) (m : ℕ) (xs : List ℕ) → All (λ x. x < m) xs →
+    count_by q xs ≡ total m (λ x. chosen (q x) (count_by (λ y. y == x) xs))
+unfolding chosen
+count_split q m [] below = sym (total_same m (λ x. chosen (q x) 0) (λ x. 0)
+    (λ x low. elim (q x) as (λ (b : Bool). chosen b 0 ≡ 0) [ true ↦ refl | false ↦ refl ]) ∙ total_zero m)
+count_split q m (z ∷ zs) below =
+    let P : ℕ → Type 0 = λ x. x < m in
+    let f : ℕ → ℕ = λ x. chosen (q x) (count_by (λ y. y == x) (z ∷ zs)) in
+    let g : ℕ → ℕ = λ x. chosen (q x) (count_by (λ y. y == x) zs) in
+    let one : f z ≡ g z + cond (q z) 1 0 = ap (chosen (q z)) (times_same z zs) ∙ more (q z) (count_by (λ y. y == z) zs) in
+    let other : (x : ℕ) → x ≢ z → f x ≡ g x =
+    λ x apart. ap (chosen (q x)) (times_more x z zs
+    ∙ ap (λ b. cond b 1 0 + count_by (λ y. y == x) zs) (ne_eqb z x (λ e. apart (sym e))) ∙ omega arith) in
+    omega (
+      arith,
+      total_one m f g z (cond (q z) 1 0) (All-head P z zs below) one other,
+      count_split q m zs (All-tail P z zs below),
+      sum_by-cons (λ y. cond (q y) 1 0) z zs,
+    )
+  where
+    more : (b : Bool) (c : ℕ) → chosen b (1 + c) ≡ chosen b c + cond b 1 0
+    more true c = omega arith
+    more false c = refl
+
+-- if no number from n on stands in the list, all are below n
+all_below : (n : ℕ) (xs : List ℕ) → ((x : ℕ) → n ≤ x → count_by (λ y. y == x) xs ≡ 0) → All (λ x. x < n) xs
+all_below n [] none = All-nil (λ x. x < n)
+all_below n (z ∷ zs) none =
+    let low : z < n = elim (cases_lt z n) [ inl low ↦ low | inr high ↦ absurd (omega (arith, none z high, times_same z zs)) ] in
+    All-cons (λ x. x < n) z zs low (all_below n zs (λ x high. omega (arith, none x high, times_more x z zs)))
+
+-- rows counted in one list
+count_flat : (q : ℕ → Bool) (rows : List (List ℕ)) → count_by q (flat_map (λ r. r) rows) ≡ sum_by (λ r. count_by q r) rows
+count_flat q [] = refl
+count_flat q (r ∷ rs) = omega (
+  arith,
+  count_flat q rs,
+  sum_by-cons (λ r. count_by q r) r rs,
+  sum_by-append (λ x. cond (q x) 1 0) r (flat_map (λ r. r) rs),
+)
+
+-- in lawful rows, as many numbers pass a test as among all numbers below n
+rows_count : (n : ℕ) (rows : List (List ℕ)) (q : ℕ → Bool) → ((x : ℕ) → times_in x rows ≡ (if nat_lt x n then 1 else 0)) →
+    sum_by (λ r. count_by q r) rows ≡ total n (λ x. cond (q x) 1 0)
+unfolding chosen
+rows_count n rows q once =
+    let flat : List ℕ = flat_map (λ r. r) rows in
+    let times : (x : ℕ) → count_by (λ y. y == x) flat ≡ (if nat_lt x n then 1 else 0) = λ x. count_flat (λ y. y == x) rows
+    ∙ once x in
+    let low : All (λ x. x < n) flat = all_below n flat (λ x high. times x ∙ rw (le-ltb x n high) refl) in
+    sym (count_flat q rows) ∙ count_split q n flat low
+    ∙ total_same n (λ x. chosen (q x) (count_by (λ y. y == x) flat)) (λ x. cond (q x) 1 0)
+    (λ x low. ap (chosen (q x)) (times x ∙ rw (lt-ltb x n low) refl))
+
+-- ---- what was received, of all numbers
+
+-- for each test, the number of received results that pass it equals that of the results of all numbers
+pub got_all_once : {X : Type 0} (p : X → Bool) (n : ℕ) (f : ℕ → X) (rows : List (List ℕ)) (got : List (ℕ × X))
+    → AreShared n f rows got → count_by p (map (λ t. t.1) got) ≡ total n (λ x. cond (p (f x)) 1 0)
+got_all_once {X} p n f rows got s =
+    let q : ℕ → Bool = λ x. p (f x) in
+    counted p (length rows) got s.workers
+    ∙ total_same (length rows) (λ w. count_by p (of w got)) (λ w. count_by q (slice_index_or rows w []))
+    (λ w low. ap (λ (xs : List X). count_by p xs) (s.whole w low) ∙ count_map p f (slice_index_or rows w []))
+    ∙ total_rows (λ r. count_by q r) [] rows
+    ∙ rows_count n rows q s.each_once
+
+-- each passes a test that all pass
+count_true : {X : Type 0} (xs : List X) → count_by (λ (x : X). true) xs ≡ length xs
+count_true [] = refl
+count_true {X} (x ∷ xs) = omega (arith, count_true xs, sum_by-cons (λ (y : X). cond true 1 0) x xs)
+
+total_ones : (n : ℕ) → total n (λ x. 1) ≡ n
+total_ones zero = refl
+total_ones (suc n) = omega (arith, total_ones n)
+
+-- as many were received as there are numbers
+pub as_many_as_numbers : {X : Type 0} (n : ℕ) (f : ℕ → X) (rows : List (List ℕ)) (got : List (ℕ × X)) → AreShared n f rows got
+    → length got ≡ n
+as_many_as_numbers {X} n f rows got s =
+    sym (length-map got (λ (t : ℕ × X). t.1))
+    ∙ sym (count_true (map (λ (t : ℕ × X). t.1) got))
+    ∙ got_all_once (λ (x : X). true) n f rows got s
+    ∙ total_ones n
+
+-- if as many were got as there are, nothing is left
+pub nothing_left : {X : Type 0} (n : ℕ) (f : ℕ → X) (rows : List (List ℕ)) (got rest : List (ℕ × X)) →
+    AreShared n f rows (got ++ rest) → length got ≡ n → rest ≡ []
+nothing_left n f rows got rest s whole =
+    nil_from_length rest (omega (arith, as_many_as_numbers n f rows (got ++ rest) s, length-append got rest, whole))
+
+-- ==== Each offer and each take keeps the state that the offers determine
+
+-- ---- one file is changed
+
+-- a file of a list after a change of one
+pub state_same : (files : List FileState) (f : ℕ) (s : FileState) → f < length files → state_of (set files f s) f ≡ s
+state_same files f s low = get_or-set_same files f s no_file low
+
+-- and any other file is as it was
+pub state_other : (files : List FileState) (f g : ℕ) (s : FileState) → g ≢ f → state_of (set files f s) g ≡ state_of files g
+state_other files f g s ne = get_or-set_other files f g s no_file ne
+
+-- so what holds of the changed file, and of each other as it was, holds of each
+pub each_file : (files : List FileState) (f : ℕ) (s : FileState) → f < length files → (P : ℕ → FileState → Type 0) → P f s →
+    ((g : ℕ) → g ≢ f → P g (state_of files g)) → (g : ℕ) → P g (state_of (set files f s) g)
+each_file files f s low P here others g = elim (cases_eq g f) [
+  | inl same ↦ subst (λ h. P h (state_of (set files f s) h)) (sym same) (subst (P f) (sym (state_same files f s low)) here)
+  | inr other ↦ subst (P g) (sym (state_other files f g s other)) (others g other)
+]
+
+-- after an answer for one line, what holds of that line, and of each other as it was, holds of each
+each_line : (files : List FileState) (o : Job) (a : Answer) → o.file < length files → o.line < line_count (state_of files o.file) →
+    (P : ℕ → ℕ → Option Answer → Type 0) → P o.file o.line (Some a) →
+    ((f k : ℕ) → ((f ≡ o.file) × (k ≡ o.line) → ⊥) → P f k (came_for (state_of files f) k)) → (f k : ℕ)
+    → P f k (came_for (state_of (after_offer files o.file o.line a) f) k)
+each_line files o a file_low line_low P here others =
+    let s : FileState = state_of files o.file in
+    each_file files o.file (with_answer s o.line a) file_low (λ f new. (k : ℕ) → P f k (came_for new k))
+    (λ k. elim (cases_eq k o.line) [
+      | inl same ↦
+          subst (λ j. P o.file j (came_for (with_answer s o.line a) j)) (sym same)
+          (subst (P o.file o.line) (sym (get_or-set_same s.arrived o.line (Some a) None line_low)) here)
+      | inr other ↦
+          subst (P o.file k) (sym (get_or-set_other s.arrived o.line k (Some a) None other)) (others o.file k (λ h. other h.1))
+    ])
+    (λ f ne k. others f k (λ h. ne h.0))
+
+-- ---- counts of lines
+
+-- the counts of lines, file by file
+pub files_many : (jobs : List (List Entry)) (files : List FileState) → HasLinesOf jobs files → length files ≡ length jobs
+files_many jobs files h = sym (length-map files line_count) ∙ ap (λ (l : List ℕ). length l) h
+    ∙ length-map jobs (λ (entries : List Entry). length entries)
+
+-- each file has as many lines as its jobs, also if there is no such file
+pub lines_are : (jobs : List (List Entry)) (files : List FileState) → HasLinesOf jobs files → (f : ℕ) →
+    line_count (state_of files f) ≡ length (entries_of jobs f)
+lines_are [] [] h f = refl
+lines_are (entries ∷ jobs) (s ∷ files) h (suc f) = lines_are jobs files (cc) f
+lines_are jobs files h f = cc
+
+-- a change that keeps a file's number of lines keeps all counts
+pub counts_set : (files : List FileState) (f : ℕ) (s : FileState) → line_count s ≡ line_count (state_of files f) →
+    map line_count (set files f s) ≡ map line_count files
+counts_set [] f s same = refl
+counts_set (x ∷ files) zero s same = ap (λ n. n ∷ map line_count files) same
+counts_set (x ∷ files) (suc f) s same = ap (λ l. line_count x ∷ l) (counts_set files f s same)
+
+-- ---- what came
+
+-- the value of what is Some
+pub some_value : {X : Type 0} (x : Option X) → IsSome x → (a : X) × (x ≡ Some a)
+some_value None h = absurd (false≢true h)
+some_value (Some a) h = (a, refl)
+
+-- what is equal to a Some is Some
+pub is_some_of : {X : Type 0} (x : Option X) (a : X) → x ≡ Some a → IsSome x
+is_some_of {X} x a e = ap (λ (o : Option X). is_some o) e
+
+-- a line has one entry
+pub one_entry : (o : Option Entry) (x y : Entry) → o ≡ Some x → o ≡ Some y → x ≡ y
+one_entry o x y p q = cc
+
+-- the file of an accepted offer is there
+pub wanted_file : (jobs : List (List Entry)) (files : List FileState) (o : Job) → IsWanted jobs files o → o.file < length files
+wanted_file jobs files o w = w.0.0.0.0
+
+-- what was answered by some offers is answered by one more
+still_answered : {jobs : List (List Entry)} {past : List Job} {f k : ℕ} {a : Answer} (o : Job) → IsAnswered jobs past f k a →
+    IsAnswered jobs (past ++ o ∷ []) f k a
+still_answered {jobs} {past} {f} {k} o old = record {
+  entry = old.entry;
+  at = old.at;
+  is = old.is;
+  offered = Contains-append_left past (o ∷ []) (line_job f k old.entry) old.offered;
+}
+
+-- an accepted offer keeps what holds
+pub holds_accepted : (jobs : List (List Entry)) (past : List Job) (files : List FileState) (o : Job) → HoldsOffered jobs past files →
+    IsWanted jobs files o
+    → HoldsOffered jobs (past ++ o ∷ []) (after_offer files o.file o.line (answer_of o.entry))
+holds_accepted jobs past files o holds wanted =
+    let a : Answer = answer_of o.entry in
+    let entry_is : entry_at jobs o.file o.line ≡ Some o.entry = wanted.0.1 in
+    record {
+      counts = counts_set files o.file (with_answer (state_of files o.file) o.line a)
+          (length-set (state_of files o.file).arrived o.line (Some a)) ∙ holds.counts;
+      came = each_line files o a (wanted_file jobs files o wanted) wanted.0.0.1
+          (λ f k now. (e : Entry) → entry_at jobs f k ≡ Some e → Contains (past ++ o ∷ []) (line_job f k e)
+          → now ≡ Some (answer_of e))
+          (λ e is has. ap (λ x. Some (answer_of x)) (one_entry (entry_at jobs o.file o.line) o.entry e entry_is is))
+          (λ f k apart e is has. elim (Contains-push_cases past o (line_job f k e) has) [
+            | inl old ↦ holds.came f k e is old
+            | inr new ↦ absurd (apart (sym (ap (λ (u : Job). u.file) new), sym (ap (λ (u : Job). u.line) new)))
+          ]);
+      only = each_line files o a (wanted_file jobs files o wanted) wanted.0.0.1
+          (λ f k now. (b : Answer) → now ≡ Some b → IsAnswered jobs (past ++ o ∷ []) f k b)
+          (λ b same. record { entry = o.entry; at = entry_is; is = (cc); offered = Contains-push past o })
+          (λ f k apart b is. still_answered o (holds.only f k b is));
+    }
+
+-- a line of the jobs is a line of the files
+line_there : (jobs : List (List Entry)) (files : List FileState) (f k : ℕ) (e : Entry) → HasLinesOf jobs files →
+    entry_at jobs f k ≡ Some e → k < line_count (state_of files f)
+line_there jobs files f k e h is = omega (arith, lines_are jobs files h f, slice_get_within (entries_of jobs f) k e is)
+
+-- a file with a line is there
+file_there : (files : List FileState) (f k : ℕ) → k < line_count (state_of files f) → f < length files
+file_there [] f k low = absurd (omega arith)
+file_there (s ∷ files) zero k low = omega arith
+file_there (s ∷ files) (suc f) k low = omega (arith, file_there files f k low)
+
+-- if a line is offered with its entry and refused, it had come before
+pub refused_came : (jobs : List (List Entry)) (files : List FileState) (f k : ℕ) (e : Entry) (r : Refusal) → HasLinesOf jobs files →
+    entry_at jobs f k ≡ Some e
+    → IsRefusedFor jobs files (line_job f k e) r → IsSome (came_for (state_of files f) k)
+refused_came jobs files f k e NoSuchFile h is refused =
+    absurd (omega (arith, file_there files f k (line_there jobs files f k e h is)))
+refused_came jobs files f k e FileEnded h is refused =
+    front_came (state_of files f).arrived k None (omega (arith, line_there jobs files f k e h is))
+refused_came jobs files f k e NoSuchLine h is refused = absurd (omega (arith, line_there jobs files f k e h is))
+refused_came jobs files f k e WrongPosition h is refused = absurd (refused.1 is)
+refused_came jobs files f k e Double h is refused = refused.1
+
+-- a refused offer changes nothing, and what holds stays true with one more offer
+pub holds_refused : (jobs : List (List Entry)) (past : List Job) (files : List FileState) (o : Job) (r : Refusal) →
+    HoldsOffered jobs past files →
+    IsRefusedFor jobs files o r
+    → HoldsOffered jobs (past ++ o ∷ []) files
+holds_refused jobs past files o r holds refused = record {
+  counts = holds.counts;
+  came = λ f k e is has. elim (Contains-push_cases past o (line_job f k e) has) [
+    | inl old ↦ holds.came f k e is old
+    | inr new ↦
+        let full = refused_came jobs files f k e r holds.counts is (subst (λ (u : Job). IsRefusedFor jobs files u r) new refused) in
+        let v = some_value (came_for (state_of files f) k) full in
+        let w = holds.only f k v.0 v.1 in
+        let e_is : w.entry ≡ e = one_entry (entry_at jobs f k) w.entry e w.at is in
+        v.1 ∙ ap (λ x. Some x) (w.is ∙ ap answer_of e_is)
+  ];
+  only = λ f k a is. still_answered o (holds.only f k a is);
+}
+
+-- so does a take, which changes nothing of what came
+pub holds_take : (jobs : List (List Entry)) (past : List Job) (files : List FileState) (f : ℕ) → f < length files →
+    HoldsOffered jobs past files → HoldsOffered jobs past (after_take files f)
+holds_take jobs past files f low holds =
+    let taken : FileState = with_one_taken (state_of files f) in
+    record {
+      counts = counts_set files f taken refl ∙ holds.counts;
+      came = each_file files f taken low
+          (λ g new. (k : ℕ) (e : Entry) → entry_at jobs g k ≡ Some e → Contains past (line_job g k e)
+          → came_for new k ≡ Some (answer_of e))
+          (holds.came f) (λ g other. holds.came g);
+      only = each_file files f taken low (λ g new. (k : ℕ) (a : Answer) → came_for new k ≡ Some a → IsAnswered jobs past g k a)
+          (holds.only f) (λ g other. holds.only g);
+    }
+
+-- what keeps the counts of lines
+pub ruleset counts = (counts_set, get_or_default, length-set, lines_are)
+
+-- ==== An offer is accepted or meets one refusal, and never both
+
+-- an offer that is wanted meets no refusal
+wanted_or_refused : (jobs : List (List Entry)) (files : List FileState) (o : Job) (r : Refusal) → IsWanted jobs files o →
+    IsRefusedFor jobs files o r → ⊥
+wanted_or_refused jobs files o WrongPosition wanted refused = refused.1 wanted.0.1
+wanted_or_refused jobs files o Double wanted refused = false≢true (rw wanted.1 at refused.1)
+wanted_or_refused jobs files o r wanted refused = omega arith
+
+-- and no offer meets two
+refused_for_one : (jobs : List (List Entry)) (files : List FileState) (o : Job) (q r : Refusal) → IsRefusedFor jobs files o q →
+    IsRefusedFor jobs files o r → q ≡ r
+refused_for_one jobs files o NoSuchFile NoSuchFile a b = refl
+refused_for_one jobs files o FileEnded FileEnded a b = refl
+refused_for_one jobs files o NoSuchLine NoSuchLine a b = refl
+refused_for_one jobs files o WrongPosition WrongPosition a b = refl
+refused_for_one jobs files o Double Double a b = refl
+refused_for_one jobs files o WrongPosition Double a b = absurd (a.1 b.0.1)
+refused_for_one jobs files o Double WrongPosition a b = absurd (b.1 a.0.1)
+refused_for_one jobs files o q r a b = absurd (omega arith)
+
+pub refusals_law : RefusalsLaw
+refusals_law = record { wanted = wanted_or_refused; one = refused_for_one }
+
+-- ==== After any list of offers and takes a collector has the state that the list determines
+
+-- ---- an offer is accepted
+
+-- it leaves what was taken
+pub taken_after_offer : (files : List FileState) (o : Job) (a : Answer) → o.file < length files → (f : ℕ) →
+    (state_of (after_offer files o.file o.line a) f).taken ≡ (state_of files f).taken
+taken_after_offer files o a low =
+    each_file files o.file (with_answer (state_of files o.file) o.line a) low (λ f new. new.taken ≡ (state_of files f).taken)
+    refl (λ f other. refl)
+
+-- and moves no front back
+pub front_after_offer : (files : List FileState) (o : Job) (a : Answer) → o.file < length files → (f : ℕ) →
+    front (state_of files f) ≤ front (state_of (after_offer files o.file o.line a) f)
+front_after_offer files o a low =
+    each_file files o.file (with_answer (state_of files o.file) o.line a) low (λ f new. front (state_of files f) ≤ front new)
+    (front_set (state_of files o.file).arrived o.line a) (λ f other. omega arith)
+
+-- ---- a line is taken
+
+-- a line that was taken, by its parts
+pub taken_is : (t : Taken) (k : ℕ) (e : Entry) → t.line ≡ k → t.answer ≡ answer_of e → t ≡ answered_line (k, e)
+taken_is t k e p q = ap (λ x. let r : Taken = record { line = x; answer = t.answer } in r) p
+    ∙ ap (λ y. let r : Taken = record { line = k; answer = y } in r) q
+
+-- a numbered list has each element with its number
+pub numbered_at : {X : Type 0} (xs : List X) (n : ℕ) (d : X) → n < length xs →
+    get_or (enumerate_from 0 xs) n (0, d) ≡ (n, get_or xs n d)
+numbered_at {X} xs n d low =
+    let from_none : 0 + n ≡ n = omega arith in
+    get_or-enumerate_from 0 xs n (0, d) low ∙ ap {B = ℕ × X} (λ m. (m, get_or xs n d)) from_none
+
+-- and so the element that is at a place
+pub numbered_is : {X : Type 0} (xs : List X) (n : ℕ) (x : X) → slice_get xs n ≡ Some x →
+    get_or (enumerate_from 0 xs) n (0, x) ≡ (n, x)
+numbered_is {X} xs n x is =
+    numbered_at xs n x (slice_get_within xs n x is) ∙ ap {B = ℕ × X} (λ y. (n, y)) (get_or_from_slice_get xs n x x is)
+
+-- the lines of file f, each with its answer
+abbrev lines_of : List (List Entry) → ℕ → List Taken
+lines_of jobs f = answered_lines (entries_of jobs f)
+
+-- the list of the first lines grows by the line that is taken
+first_lines_more : (jobs : List (List Entry)) (past : List Job) (files : List FileState) (f : ℕ) (t : Taken) →
+    HoldsOffered jobs past files → IsNext (state_of files f) t
+    → take (state_of files f).taken (lines_of jobs f) ++ t ∷ [] ≡ take ((state_of files f).taken + 1) (lines_of jobs f)
+first_lines_more jobs past files f t holds is_next =
+    let n : ℕ = (state_of files f).taken in
+    let xs : List (ℕ × Entry) = enumerate_from 0 (entries_of jobs f) in
+    let w = holds.only f t.line t.answer is_next.came in
+    let at : entry_at jobs f n ≡ Some w.entry = ap (λ k. entry_at jobs f k) (sym is_next.first) ∙ w.at in
+    let low : n < length xs =
+    omega (arith, slice_get_within (entries_of jobs f) n w.entry at, length-enumerate_from 0 (entries_of jobs f)) in
+    let here : get_or (lines_of jobs f) n t ≡ t =
+    get_or-map answered_line xs n (0, w.entry) t low ∙ ap answered_line (numbered_is (entries_of jobs f) n w.entry at)
+    ∙ sym (taken_is t n w.entry is_next.first w.is) in
+    ap (λ x. take n (lines_of jobs f) ++ x ∷ []) (sym here)
+    ∙ sym (take_more (lines_of jobs f) n t (omega (arith, length-map xs answered_line)))
+
+-- ---- any list of events
+
+-- What was offered has come, and no more was taken than is ready.
+pub record Kept (jobs : List (List Entry)) (past : List Job) (files : List FileState) : Type 0 where
+  pub offered : HoldsOffered jobs past files
+  pub within : (f : ℕ) → (state_of files f).taken ≤ front (state_of files f)
+
+-- from one state to the other, these were taken of each file: its next lines
+abbrev WereTaken : List (List Entry) → List FileState → (ℕ → List Taken) → List FileState → Type 0
+WereTaken jobs files took after = (f : ℕ) →
+    take (state_of files f).taken (lines_of jobs f) ++ took f ≡ take (state_of after f).taken (lines_of jobs f)
+
+-- the state is kept by each event
+module _ {jobs : List (List Entry)} {past : List Job} {files after : List FileState} (kept : Kept jobs past files) where
+  -- by an offer, accepted or refused, which takes nothing
+  kept_by_offer : (o : Job) (gave : Result ℕ Refusal) → Offers jobs files o gave after
+      → Kept jobs (past ++ o ∷ []) after × ((f : ℕ) → (state_of after f).taken ≡ (state_of files f).taken)
+  kept_by_offer o (Ok ready) step =
+      let low = wanted_file jobs files o step.wanted in
+      let taken = taken_after_offer files o (answer_of o.entry) low in
+      rw step.kept (
+        record {
+          offered = holds_accepted jobs past files o kept.offered step.wanted;
+          within = λ f. omega (arith, taken f, front_after_offer files o (answer_of o.entry) low f, kept.within f);
+        },
+        taken,
+      )
+  kept_by_offer o (Err r) step =
+      rw step.unchanged
+      (record { offered = holds_refused jobs past files o r kept.offered step.cause; within = kept.within }, λ f. refl)
+
+  -- by a take of a line
+  kept_by_take : (g : ℕ) (t : Taken) → Gives files g t after → Kept jobs past after
+  kept_by_take g t step =
+      let taken : FileState = with_one_taken (state_of files g) in
+      rw step.kept (record {
+        offered = holds_take jobs past files g step.file_there kept.offered;
+        within = each_file files g taken step.file_there (λ f new. new.taken ≤ front new) (omega (arith, step.next_line.ready))
+            (λ f other. kept.within f);
+      })
+
+  -- which is the next of its file
+  taken_next : (g : ℕ) (t : Taken) → Gives files g t after → WereTaken jobs files (λ f. with_taken f g (Some t) []) after
+  taken_next g t step =
+      rw step.kept (each_file files g (with_one_taken (state_of files g)) step.file_there
+      (λ f new. take (state_of files f).taken (lines_of jobs f) ++ with_taken f g (Some t) [] ≡ take new.taken (lines_of jobs f))
+      (rw (eq-eqb g g refl) (first_lines_more jobs past files g t kept.offered step.next_line))
+      (λ f other. rw (ne_eqb g f (λ same. other (sym same))) (append-nil (take (state_of files f).taken (lines_of jobs f)))))
+
+-- what is taken at first stands before what is taken later
+taken_first : (f g : ℕ) (t : Taken) (rest : List Taken) → with_taken f g (Some t) [] ++ rest ≡ with_taken f g (Some t) rest
+taken_first f g t rest = go (g == f)
+  where
+    go : (b : Bool) → (if b then t ∷ [] else []) ++ rest ≡ (if b then t ∷ rest else rest)
+    go true = refl
+    go false = refl
+
+-- any list of events
+runs : (jobs : List (List Entry)) (past : List Job) (events : List Event) (files after : List FileState)
+    → Runs jobs files events after → Kept jobs past files →
+    Kept jobs (past ++ offers events) after × WereTaken jobs files (λ f. takes f events) after
+runs jobs past [] files after run kept =
+    rw (← run, append-nil) (kept, λ f. append-nil (take (state_of files f).taken (lines_of jobs f)))
+runs jobs past (Offered o gave ∷ events) files after run kept =
+    let now = kept_by_offer kept o gave run.1 in
+    let rest = runs jobs (past ++ o ∷ []) events run.0 after run.2 now.0 in (
+      subst (λ (l : List Job). Kept jobs l after) (append_assoc past (o ∷ []) (offers events)) rest.0,
+      λ f. ap (λ n. take n (lines_of jobs f) ++ takes f events) (sym (now.1 f)) ∙ rest.1 f,
+    )
+runs jobs past (Took g None ∷ events) files after run kept =
+    let step = run.1 in
+    runs jobs past events files after (subst (λ (s : List FileState). Runs jobs s events after) step.unchanged run.2) kept
+runs jobs past (Took g (Some t) ∷ events) files after run kept =
+    let rest = runs jobs past events run.0 after run.2 (kept_by_take kept g t run.1) in (
+      rest.0,
+      λ f.
+          let before : List Taken = take (state_of files f).taken (lines_of jobs f) in
+          ap (λ l. before ++ l) (sym (taken_first f g t (takes f events)))
+          ∙ sym (append_assoc before (with_taken f g (Some t) []) (takes f events))
+          ∙ ap (λ l. l ++ takes f events) (taken_next kept g t run.1 f) ∙ rest.1 f,
+    )
+
+-- ---- new files
+
+-- no answer has come for new files
+new_none : (jobs : List (List Entry)) (f k : ℕ) → came_for (state_of (new_files jobs) f) k ≡ None
+new_none [] f k = refl
+new_none (entries ∷ jobs) zero k = none_of (length entries) k
+  where
+    none_of : (n k : ℕ) → get_or (replicate n (let x : Option Answer = None in x)) k None ≡ None
+    none_of zero k = refl
+    none_of (suc n) zero = refl
+    none_of (suc n) (suc k) = none_of n k
+new_none (entries ∷ jobs) (suc f) k = new_none jobs f k
+
+-- new files have the jobs' lines
+pub new_lines : (jobs : List (List Entry)) → HasLinesOf jobs (new_files jobs)
+new_lines [] = refl
+new_lines (entries ∷ jobs) =
+    let nothing : Option Answer = None in
+    ap (λ n. n ∷ map line_count (new_files jobs)) (length-replicate (length entries) nothing)
+    ∙ ap (λ l. length entries ∷ l) (new_lines jobs)
+
+-- nothing was taken of new files
+pub new_taken : (jobs : List (List Entry)) (f : ℕ) → (state_of (new_files jobs) f).taken ≡ 0
+new_taken [] f = refl
+new_taken (entries ∷ jobs) zero = refl
+new_taken (entries ∷ jobs) (suc f) = new_taken jobs f
+
+-- to new files nothing was offered, and nothing was taken of them
+pub start : (jobs : List (List Entry)) → Kept jobs [] (new_files jobs)
+start jobs = record {
+  offered = record {
+    counts = new_lines jobs;
+    came = λ f k e is has. absurd (let h = has.1 in omega arith);
+    only = λ f k a is. absurd (let bad : None ≡ Some a = sym (new_none jobs f k) ∙ is in cc);
+  };
+  within = λ f. let h = new_taken jobs f in omega arith;
+}
+
+-- ---- the law
+
+-- after these events the offers have come
+pub offers_held : (jobs : List (List Entry)) (events : List Event) (files : List FileState) → Runs jobs (new_files jobs) events files
+    → HoldsOffered jobs (offers events) files
+offers_held jobs events files run = (runs jobs [] events (new_files jobs) files run (start jobs)).0.offered
+
+-- a fact of the value, if there is one
+some_and : {X : Type 0} (o : Option X) (P : X → Type 0) (x : X) → o ≡ Some x → P x → IsSomeAnd o P
+some_and {X} o P x e p = subst (λ (y : Option X). IsSomeAnd y P) (sym e) p
+
+-- the value, and the fact of it
+parts_of_some : {X : Type 0} (o : Option X) (P : X → Type 0) → IsSomeAnd o P → (x : X) × (o ≡ Some x) × P x
+parts_of_some None P h = absurd h
+parts_of_some (Some x) P h = (x, refl, h)
+
+pub law_holds : CollectorLaw
+law_holds jobs events files run =
+    let all = runs jobs [] events (new_files jobs) files run (start jobs) in
+    let holds = all.0.offered in
+    let came : (f k : ℕ) → Came jobs events f k → IsSome (came_for (state_of files f) k) =
+    λ f k c. let v = parts_of_some (entry_at jobs f k) (λ e. Contains (offers events) (line_job f k e)) c in
+    is_some_of (came_for (state_of files f) k) (answer_of v.0) (holds.came f k v.0 v.1 v.2) in
+    let only : (f k : ℕ) → IsSome (came_for (state_of files f) k) → Came jobs events f k =
+    λ f k here. let v = some_value (came_for (state_of files f) k) here in let w = holds.only f k v.0 v.1 in
+    some_and (entry_at jobs f k) (λ e. Contains (offers events) (line_job f k e)) w.entry w.at w.offered in
+    record {
+      counts = holds.counts;
+      came = λ f k. (only f k, came f k);
+      furthest = λ f. record {
+        within = omega (arith, front_within (state_of files f).arrived, lines_are jobs files holds.counts f);
+        below = λ k low. only f k (front_came (state_of files f).arrived k None low);
+        greatest = λ m low all. front_least (state_of files f).arrived m (λ k k_low. came f k (all k k_low));
+      };
+      taken = λ f. ap (λ n. take n (lines_of jobs f) ++ takes f events) (sym (new_taken jobs f)) ∙ all.1 f;
+      taken_within = all.0.within;
+    }
+
+-- the counts of lines of new files
+pub ruleset new_counts = (new_lines, take_all)
+
+-- ==== Offers of each job once, in any order
+
+-- ---- how often an offer stands in a list
+
+times : Job → List Job → ℕ
+times o xs = count_by (λ x. same_job o x) xs
+
+-- never in the empty list
+times_nil : (o : Job) → times o [] ≡ 0
+unfolding times
+times_nil o = refl
+
+-- with one offer more
+times_cons : (o x : Job) (xs : List Job) → times o (x ∷ xs) ≡ cond (same_job o x) 1 0 + times o xs
+unfolding times
+times_cons o x xs = sum_by-cons (λ x. cond (same_job o x) 1 0) x xs
+
+-- in two lists
+times_append : (o : Job) (xs ys : List Job) → times o (xs ++ ys) ≡ times o xs + times o ys
+unfolding times
+times_append o xs ys = sum_by-append (λ x. cond (same_job o x) 1 0) xs ys
+
+-- as often as among the jobs, if the list has each of them once
+same_times : (jobs : List (List Entry)) (got : List Job) → AreJobsInSomeOrder jobs got → (o : Job) →
+    times o got ≡ times o (job_list jobs)
+unfolding times
+same_times jobs got h o = h.same_counts (λ x. same_job o x)
+
+-- what stands in a list is found in it
+contains_from_times : (o : Job) (xs : List Job) → 0 < times o xs → Contains xs o
+contains_from_times o [] some = absurd (omega (arith, times_nil o))
+contains_from_times o (x ∷ xs) some = elim (cases_Bool (same_job o x)) [
+  | inl same ↦ (0, omega arith, same_means o x same)
+  | inr other ↦
+      let later = rw other at (times_cons o x xs) in
+      Contains-append_right (x ∷ []) xs o (contains_from_times o xs (omega arith))
+]
+
+-- and the other way round
+times_from_contains : (o : Job) (xs : List Job) → Contains xs o → 0 < times o xs
+unfolding times
+times_from_contains o xs has =
+    let least = get_or-le-sum_by (λ x. cond (same_job o x) 1 0) xs has.0 o has.1 in
+    subst (λ b. cond b 1 0 ≤ times o xs) (ap (same_job o) has.2 ∙ same_itself o) least
+
+-- ---- no job stands twice
+
+-- an offer stands in a list at most once, and if it does, this holds of it
+record IsOnce (o : Job) (xs : List Job) (Means : Type 0) : Type 0 where
+  once : times o xs ≤ 1
+  means : 0 < times o xs → Means
+
+-- an offer among a file's lines is that of a line, with its entry
+record IsLineFrom (f k : ℕ) (entries : List Entry) (o : Job) : Type 0 where
+  place : ℕ
+  file_is : o.file ≡ f
+  line_is : o.line ≡ k + place
+  entry_is : slice_get entries place ≡ Some o.entry
+
+line_once : (o : Job) (f k : ℕ) (entries : List Entry) → IsOnce o (file_jobs f k entries) (IsLineFrom f k entries o)
+line_once o f k [] = record { once = omega (arith, times_nil o); means = λ some. absurd (omega (arith, times_nil o)) }
+line_once o f k (e ∷ entries) =
+    let later = line_once o f (suc k) entries in
+    let beyond : 0 < times o (file_jobs f (suc k) entries) → k < o.line = λ some. omega (arith, (later.means some).line_is) in
+    let all = times_cons o (line_job f k e) (file_jobs f (suc k) entries) in
+    elim (cases_Bool (same_job o (line_job f k e))) [
+      | inl same ↦
+          let is : line_job f k e ≡ o = same_means o (line_job f k e) same in
+          let here : k ≡ o.line = ap (λ (u : Job). u.line) is in
+          let one = rw same at all in
+          record {
+            once = grind (arith, beyond);
+            means = λ some. record {
+              place = 0;
+              file_is = sym (ap (λ (u : Job). u.file) is);
+              line_is = omega arith;
+              entry_is = ap (λ (u : Job). Some u.entry) is;
+            };
+          }
+      | inr other ↦
+          let none = rw other at all in
+          record {
+            once = omega (arith, later.once);
+            means = λ some.
+                let h = later.means (omega arith) in
+                record { place = suc h.place; file_is = h.file_is; line_is = omega (arith, h.line_is); entry_is = h.entry_is };
+          }
+    ]
+
+-- an offer among the files from f on is that of a line, with its entry
+record IsJobFrom (f : ℕ) (jobs : List (List Entry)) (o : Job) : Type 0 where
+  place : ℕ
+  file_is : o.file ≡ f + place
+  entry_is : entry_at jobs place o.line ≡ Some o.entry
+
+job_once : (o : Job) (f : ℕ) (jobs : List (List Entry)) → IsOnce o (jobs_from f jobs) (IsJobFrom f jobs o)
+job_once o f [] = record { once = omega (arith, times_nil o); means = λ some. absurd (omega (arith, times_nil o)) }
+job_once o f (entries ∷ jobs) =
+    let own = line_once o f 0 entries in
+    let later = job_once o (suc f) jobs in
+    let all = times_append o (file_jobs f 0 entries) (jobs_from (suc f) jobs) in
+    let here : 0 < times o (file_jobs f 0 entries) → o.file ≡ f = λ some. (own.means some).file_is in
+    let beyond : 0 < times o (jobs_from (suc f) jobs) → f < o.file = λ some. omega (arith, (later.means some).file_is) in
+    record {
+      once = grind (arith, own.once, later.once, here, beyond);
+      means = λ some. elim (cases_lt 0 (times o (file_jobs f 0 entries))) [
+        | inl found ↦
+            let h = own.means found in
+            let at : h.place ≡ o.line = omega (arith, h.line_is) in
+            record { place = 0; file_is = omega (arith, h.file_is); entry_is = ap (λ j. slice_get entries j) (sym at) ∙ h.entry_is }
+        | inr none ↦
+            let h = later.means (omega arith) in
+            record { place = suc h.place; file_is = omega (arith, h.file_is); entry_is = h.entry_is }
+      ];
+    }
+
+-- ---- each job once, in any order
+
+-- each line was offered with its entry
+pub each_came : (jobs : List (List Entry)) (got : List Job) → AreJobsInSomeOrder jobs got → (f k : ℕ) (e : Entry) →
+    entry_at jobs f k ≡ Some e → Contains got (line_job f k e)
+each_came jobs got h f k e is =
+    let o : Job = line_job f k e in
+    let n : ℕ = job_count (take f jobs) + k in
+    let at = slice_get-job_list jobs f k n e refl is in
+    let among = times_from_contains o (job_list jobs)
+    (n, slice_get_within (job_list jobs) n o at, get_or_from_slice_get (job_list jobs) n o o at) in
+    contains_from_times o got (omega (arith, among, same_times jobs got h o))
+
+-- an offer among the jobs that was not offered before
+module _ {jobs : List (List Entry)} {past : List Job} {files : List FileState} (o : Job) (rest : List Job)
+    (h : AreJobsInSomeOrder jobs (past ++ o ∷ rest)) (holds : HoldsOffered jobs past files) where
+  -- it is refused for nothing
+  not_refused : (r : Refusal) → IsRefusedFor jobs files o r → ⊥
+  not_refused r refused =
+      let all = times_append o past (o ∷ rest) in
+      let here = rw (same_itself o) at (times_cons o o rest) in
+      let same = same_times jobs (past ++ o ∷ rest) h o in
+      let among = job_once o 0 jobs in
+      let means = among.means (omega arith) in
+      let at : means.place ≡ o.file = omega (arith, means.file_is) in
+      let entry_is : entry_at jobs o.file o.line ≡ Some o.entry = ap (λ g. entry_at jobs g o.line) (sym at) ∙ means.entry_is in
+      let full = refused_came jobs files o.file o.line o.entry r holds.counts entry_is refused in
+      let v = some_value (came_for (state_of files o.file) o.line) full in
+      let w = holds.only o.file o.line v.0 v.1 in
+      let e_is : w.entry ≡ o.entry = one_entry (entry_at jobs o.file o.line) w.entry o.entry w.at entry_is in
+      let has : Contains past o = subst (λ x. Contains past (line_job o.file o.line x)) e_is w.offered in
+      omega (arith, among.once, times_from_contains o past has)
+
+  -- so it is accepted
+  each_accepted : (after : List FileState) (gave : Result ℕ Refusal) → Offers jobs files o gave after → IsOk gave
+  each_accepted after (Ok ready) step = refl
+  each_accepted after (Err r) step = absurd (not_refused r step.cause)
+
+-- if each job was offered, each file has ended
+pub fronts_full : (jobs : List (List Entry)) (past : List Job) (files : List FileState) → AreJobsInSomeOrder jobs past
+    → HoldsOffered jobs past files → (f : ℕ) → HasEnded (state_of files f)
+fronts_full jobs past files h holds f =
+    front_full (state_of files f).arrived (λ k low.
+    let e : Entry = get_or (entries_of jobs f) k (Bad Empty) in
+    let is : entry_at jobs f k ≡ Some e =
+    slice_get-get_or (entries_of jobs f) k (Bad Empty) (omega (arith, lines_are jobs files holds.counts f)) in
+    is_some_of (came_for (state_of files f) k) _ (holds.came f k e is (each_came jobs past h f k e is)))
+
+-- ---- the three laws
+
+pub shares_law : SharesLaw
+shares_law jobs rows got rest shared whole =
+    let n : ℕ = length (job_list jobs) in
+    let none : rest ≡ [] = nothing_left n (job jobs) rows got rest shared whole in
+    let mine : AreShared n (job jobs) rows got =
+    subst (AreShared n (job jobs) rows) (ap (λ (l : List (ℕ × Job)). got ++ l) none ∙ append-nil got) shared in
+    record {
+      same_counts = λ p.
+          got_all_once p n (job jobs) rows got mine
+          ∙ total_rows (λ (o : Job). cond (p o) 1 0) (line_job 0 0 (Bad Empty)) (job_list jobs);
+    }
+
+pub offers_law : OffersLaw
+offers_law jobs past o rest files after gave h run step =
+    each_accepted o rest h (offers_held jobs past files run) after gave step
+
+pub fronts_law : FrontsLaw
+fronts_law jobs events files h run = fronts_full jobs (offers events) files h (offers_held jobs events files run)

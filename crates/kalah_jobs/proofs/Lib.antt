@@ -1,6 +1,5 @@
 pub mod AskingLemmas
 pub mod CollectingLemmas
 pub mod FilesLemmas
-pub mod Fronts
 pub mod LineLemmas
 pub mod WritingLemmas

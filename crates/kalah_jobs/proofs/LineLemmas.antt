@@ -1,7 +1,848 @@
-pub mod Numbers
-pub mod Sides
-pub mod Forms
-pub mod Readings
-pub mod LineEnds
-pub mod Texts
-pub mod PlainLines
+-- The text of a line: its grammar, how it is read, and how it is written.
+use Rattle.std.proofs.Common.{◌≡◌, ℕ, ◌+◌, ◌-◌, ◌/◌, ◌%◌, ◌<◌, ◌≤◌, inl, inr, true, false, List, [], ◌∷◌, ◌++◌, length, Some, refl, sym, ap, ap₂, subst, ◌∙◌, length-append, arith, zero, suc, pred, ◌==◌, Bool, cond, Option, None, append_assoc, eqb-true, Result, Ok, Err, ◌≢◌, ◌*◌, map, All, append-nil, lit<, ◌↔◌}
+use Rattle.std.specs.Prelude.{decimal, ◌&&◌, nat_lt, ⊤, codes, sum, IfOk, IfErr}
+use Rattle.std.specs.Char.{is_ascii_digit, IsAsciiDigit}
+use Rattle.std.specs.Cmp.Derive.{both_true}
+use Rattle.std.proofs.lemmas.Bool.{cases_lt, cases_Bool, and_parts, and_right, lt-ltb, cond-true, cond-false, le-ltb, ne_eqb}
+use Rattle.std.proofs.lemmas.Bool.Decides.{nat_tests, eqb_tells}
+use Rattle.std.proofs.lemmas.Option.{cond_some}
+use Rattle.std.proofs.lemmas.Fmt.{decimal_digit, decimal_step, length-decimal-le}
+use Rattle.kalah_jobs.specs.Line.Line.{IsNumber, comma, slash, AreHouses, IsSide, space, ending_of, IsLineOf, without_cr, HasSidesInLimits, Reads, Holds, HasFault, side_text, line_text_of}
+use Rattle.kalah_jobs.specs.Line.Reading.{number_from, number_at, ◌>>=◌, Found, store_at, house_followed, side_from, side_at, rule_of, position_from, written_of, admitted, admitted_if_written, reading_of}
+use Rattle.std.proofs.lemmas.List.{nil_from_length}
+use Rattle.kalah_jobs.specs.Line.Side.{AreKept}
+use Rattle.kalah_jobs.specs.declared.line.side.Side.{Side}
+use Rattle.kalah_rules.specs.Position.{Position, side_length, seeds_in_houses, IsWithinLimits}
+use Rattle.kalah_rules.specs.declared.rule.Rule.{Rule}
+use Rattle.kalah_rules.specs.declared.rule.Rule.TheVariants.{Classic, EmptyCapture}
+use Rattle.kalah_rules.specs.Limits.{most_houses, most_seeds, most_in_store}
+use Rattle.kalah_jobs.specs.Line.LineFault.{order_of}
+use Rattle.kalah_jobs.specs.Limits.{most_bytes}
+use Rattle.kalah_jobs.specs.declared.line.line_fault.LineFault.{LineFault}
+use Rattle.kalah_jobs.specs.declared.line.line_fault.LineFault.TheVariants.{Long, Empty, Shape, Houses, Seeds}
+use Rattle.std.specs.List.{join_with_byte}
+use Rattle.std.proofs.lemmas.List.Elements.{All-head, All-tail, All-from_get_or}
+use Rattle.std.proofs.lemmas.List.Sums.{get_or-le-sum_by}
+use Rattle.kalah_jobs.specs.Line.LineLaws.{ReadsPlainly}
+
+-- ==== What writes a number, what it is read as, and its text
+
+-- ---- digits
+
+is_digit : (byte : ℕ) → is_ascii_digit byte ≡ true → IsAsciiDigit byte
+is_digit byte passes = grind (arith, nat_tests)
+
+passes_as_digit : (byte : ℕ) → IsAsciiDigit byte → is_ascii_digit byte ≡ true
+passes_as_digit byte digit = grind (arith, nat_tests)
+
+fails_as_digit : (byte : ℕ) → ¬ IsAsciiDigit byte → is_ascii_digit byte ≡ false
+fails_as_digit byte other = grind (arith, nat_tests)
+
+is_some : (n : ℕ) → nat_lt 0 n ≡ true → 0 < n
+is_some n passes = grind (arith, nat_tests)
+
+-- ---- reading
+
+-- the bytes are a text of the number, and what follows it
+pub record WritesNumber (bytes : List ℕ) (n : ℕ) (rest : List ℕ) : Type 0 where
+  pub text : List ℕ
+  pub parts : bytes ≡ text ++ rest
+  pub number : IsNumber text n
+
+digits_written : (first : ℕ) (rest : List ℕ) → IsAsciiDigit first →
+    WritesNumber (first ∷ rest) (number_from (first - 48) rest).0 (number_from (first - 48) rest).1
+digits_written first [] digit = record { text = first ∷ []; parts = refl; number = (digit, refl) }
+digits_written first (byte ∷ rest) digit = elim (cases_Bool (nat_lt 0 (first - 48) && is_ascii_digit byte)) [
+  | inl both ↦
+      let tests = and_parts (nat_lt 0 (first - 48)) (is_ascii_digit byte) both in
+      let high = is_some (first - 48) tests.0 in
+      rw both (record {
+        text = first ∷ byte ∷ [];
+        parts = refl;
+        number = (digit, (λ zero. omega (arith, high, zero)), is_digit byte tests.1, refl);
+      })
+  | inr one ↦ rw one (record { text = first ∷ []; parts = refl; number = (digit, refl) })
+]
+
+-- what is read is written
+pub number_is_written : (bytes : List ℕ) (found : ℕ × List ℕ) → number_at bytes ≡ Some found →
+    WritesNumber bytes found.0 found.1
+number_is_written [] found e = absurd cc
+number_is_written (first ∷ rest) found e =
+    let read = cond_some (is_ascii_digit first) (number_from (first - 48) rest) found e in
+    subst (λ (f : ℕ × List ℕ). WritesNumber (first ∷ rest) f.0 f.1) read.1 (digits_written first rest (is_digit first read.0))
+
+-- no digit follows a number that ends before these bytes
+abbrev pub EndsNumber : List ℕ → Type 0
+EndsNumber [] = ⊤
+EndsNumber (byte ∷ rest) = ¬ IsAsciiDigit byte
+
+-- what is written is read
+pub number_is_read : (text : List ℕ) (n : ℕ) (rest : List ℕ) → IsNumber text n → EndsNumber rest →
+    number_at (text ++ rest) ≡ Some (n, rest)
+number_is_read [] n rest h ends = absurd h
+number_is_read (ones ∷ []) n [] h ends = rw (passes_as_digit ones h.0) (ap (λ (m : ℕ). Some (m, [])) (sym h.1))
+number_is_read (ones ∷ []) n (byte ∷ rest) h ends =
+    rw (passes_as_digit ones h.0, and_right (nat_lt 0 (ones - 48)) (is_ascii_digit byte) (fails_as_digit byte ends))
+    (ap (λ (m : ℕ). Some (m, byte ∷ rest)) (sym h.1))
+number_is_read (tens ∷ ones ∷ []) n rest h ends =
+    let some : 0 < tens - 48 = omega (arith, h.0, h.1) in
+    rw (passes_as_digit tens h.0, both_true (lt-ltb 0 (tens - 48) some) (passes_as_digit ones h.2))
+    (ap (λ (m : ℕ). Some (m, rest)) (sym h.3))
+number_is_read (a ∷ b ∷ c ∷ text) n rest h ends = absurd h
+
+pub number_has_bytes : (text : List ℕ) (n : ℕ) → IsNumber text n → 0 < length text
+number_has_bytes [] n h = absurd h
+number_has_bytes (byte ∷ text) n h = omega arith
+
+-- the bytes after a number are fewer
+pub number_shorter : (bytes : List ℕ) (found : ℕ × List ℕ) → number_at bytes ≡ Some found → length found.1 < length bytes
+number_shorter bytes found e =
+    let is = number_is_written bytes found e in
+    omega (arith, ap length is.parts, length-append is.text found.1, number_has_bytes is.text found.0 is.number)
+
+-- ---- the text of a number
+
+-- a number is written in its decimal digits
+pub number_text : (text : List ℕ) (n : ℕ) → IsNumber text n → text ≡ decimal n
+number_text [] n h = absurd h
+number_text (ones ∷ []) n h =
+    let digit : ones ≡ 48 + n = omega (arith, h.0, h.1) in
+    ap (λ d. d ∷ []) digit ∙ sym (decimal_digit n (omega (arith, h.0, h.1)))
+number_text (tens ∷ ones ∷ []) n h =
+    let high : n / 10 ≡ tens - 48 = omega (arith, h.0, h.1, h.2, h.3) in
+    let first : tens ≡ 48 + n / 10 = omega (arith, h.0, high) in
+    let second : ones ≡ 48 + n % 10 = omega (arith, h.0, h.1, h.2, h.3) in
+    let front : decimal (n / 10) ≡ (48 + n / 10) ∷ [] = decimal_digit (n / 10) (omega (arith, h.0, high)) in
+    let step : decimal n ≡ decimal (n / 10) ++ ((48 + n % 10) ∷ []) =
+    decimal_step n (omega (arith, h.0, h.1, h.3)) (omega (arith, h.0, h.2, h.3)) in
+    ap₂ (λ (a b : ℕ). a ∷ b ∷ []) first second ∙ sym (step ∙ ap (λ (t : List ℕ). t ++ ((48 + n % 10) ∷ [])) front)
+number_text (a ∷ b ∷ c ∷ rest) n h = absurd h
+
+pub number_low : (text : List ℕ) (n : ℕ) → IsNumber text n → n ≤ 99
+number_low [] n h = absurd h
+number_low (ones ∷ []) n h = omega (arith, h.0, h.1)
+number_low (tens ∷ ones ∷ []) n h = omega (arith, h.0, h.2, h.3)
+number_low (a ∷ b ∷ c ∷ rest) n h = absurd h
+
+-- the decimal digits of a number of at most two write it
+pub decimal_is_number : (n : ℕ) → n ≤ 99 → IsNumber (decimal n) n
+decimal_is_number n low = elim (cases_lt n 10) [
+  | inl lt ↦ rw (decimal_digit n lt) ((omega arith, omega arith), omega arith)
+  | inr le ↦
+      let high : n / 10 < 10 = omega arith in
+      rw (decimal_step n le (omega arith), decimal_digit (n / 10) high)
+      ((omega arith, omega arith), (λ z. omega arith), (omega arith, omega arith), omega arith)
+]
+
+-- ==== What writes a side, and how it is read, house by house
+
+-- ---- steps of a reading
+
+-- the value of a step that succeeded
+pub bind_some : {A B : Type 0} (r : Option A) (f : A → Option B) (y : B) → (r >>= f) ≡ Some y → (x : A)
+    × ((r ≡ Some x) × (f x ≡ Some y))
+bind_some None f y e = absurd cc
+bind_some (Some x) f y e = (x, (refl, e))
+
+-- a test that passed
+pub test_some : {A : Type 0} (b : Bool) (r : Option A) (y : A) → cond b r None ≡ Some y → (b ≡ true) × (r ≡ Some y)
+test_some true r y e = (refl, e)
+test_some false r y e = absurd cc
+
+-- ---- what is read is written
+
+-- the bytes go on with more houses of the side that was found, its store, and what follows it
+pub record WritesSide (houses bytes : List ℕ) (found : Found) : Type 0 where
+  pub text : List ℕ
+  pub more : List ℕ
+  pub parts : bytes ≡ text ++ found.2
+  pub all : found.0 ≡ houses ++ more
+  pub side : IsSide text more found.1
+
+-- a house before others
+are_more : (text first rest : List ℕ) (n : ℕ) (more : List ℕ) → text ≡ first ++ comma ∷ rest → IsNumber first n →
+    AreHouses rest more → AreHouses text (n ∷ more)
+are_more text first rest n [] parts number others = absurd others
+are_more text first rest n (m ∷ more) parts number others = (first, (rest, (parts, number, others)))
+
+module _ {houses bytes : List ℕ} {n : ℕ} where
+  -- a store after a house
+  store_written : {rest : List ℕ} {found : Found} → WritesNumber bytes n (slash ∷ rest) →
+      store_at (houses ++ n ∷ []) rest ≡ Some found → WritesSide houses bytes found
+  store_written {rest} {found} house e =
+      let read = bind_some (number_at rest) (λ store. Some (houses ++ n ∷ [], store.0, store.1)) found e in
+      let is : (houses ++ n ∷ [], read.0.0, read.0.1) ≡ found = cc read.1.1 in
+      let store = number_is_written rest read.0 read.1.0 in
+      subst (WritesSide houses bytes) is (record {
+        text = house.text ++ slash ∷ store.text;
+        more = n ∷ [];
+        parts =
+            house.parts ∙ ap (λ (t : List ℕ). house.text ++ slash ∷ t) store.parts
+            ∙ sym (append_assoc house.text (slash ∷ store.text) read.0.1);
+        all = refl;
+        side = record {
+          houses_text = house.text;
+          store_text = store.text;
+          parts = refl;
+          houses_written = house.number;
+          store_written = store.number;
+        };
+      })
+
+  -- more houses after a house
+  others_written : {rest : List ℕ} {found : Found} → WritesNumber bytes n (comma ∷ rest) →
+      WritesSide (houses ++ n ∷ []) rest found → WritesSide houses bytes found
+  others_written {rest} {found} house others = record {
+    text = house.text ++ comma ∷ others.text;
+    more = n ∷ others.more;
+    parts =
+        house.parts ∙ ap (λ (t : List ℕ). house.text ++ comma ∷ t) others.parts
+        ∙ sym (append_assoc house.text (comma ∷ others.text) found.2);
+    all = others.all ∙ append_assoc houses (n ∷ []) others.more;
+    side = record {
+      houses_text = house.text ++ comma ∷ others.side.houses_text;
+      store_text = others.side.store_text;
+      parts =
+          ap (λ (t : List ℕ). house.text ++ comma ∷ t) others.side.parts
+          ∙ sym (append_assoc house.text (comma ∷ others.side.houses_text) (slash ∷ others.side.store_text));
+      houses_written = are_more _ house.text others.side.houses_text n others.more refl house.number others.side.houses_written;
+      store_written = others.side.store_written;
+    };
+  }
+
+  house_written : (i : ℕ) (rest : List ℕ) (found : Found) → WritesNumber bytes n rest →
+      ((next : List ℕ) → side_from i (houses ++ n ∷ []) next ≡ Some found → WritesSide (houses ++ n ∷ []) next found) →
+      house_followed (store_at (houses ++ n ∷ [])) (side_from i (houses ++ n ∷ [])) rest ≡ Some found →
+      WritesSide houses bytes found
+  house_written i [] found house further e = absurd cc
+  house_written i (mark ∷ rest) found house further e = elim (cases_Bool (mark == slash)) [
+    | inl stored ↦
+        let is : mark ≡ slash = eqb-true mark slash stored in
+        store_written (subst (λ (m : ℕ). WritesNumber bytes n (m ∷ rest)) is house) (sym (cond-true (mark == slash) _ _ stored) ∙ e)
+    | inr other ↦
+        let read = test_some (mark == comma) (side_from i (houses ++ n ∷ []) rest) found
+        (sym (cond-false (mark == slash) _ _ other) ∙ e) in
+        let is : mark ≡ comma = eqb-true mark comma read.0 in
+        others_written (subst (λ (m : ℕ). WritesNumber bytes n (m ∷ rest)) is house) (further rest read.1)
+  ]
+
+side_from_written : (i : ℕ) (houses bytes : List ℕ) (found : Found) → side_from i houses bytes ≡ Some found →
+    WritesSide houses bytes found
+side_from_written zero houses bytes found e = absurd cc
+side_from_written (suc i) houses bytes found e =
+    let after = λ (house : ℕ × List ℕ).
+    house_followed (store_at (houses ++ house.0 ∷ [])) (side_from i (houses ++ house.0 ∷ [])) house.1 in
+    let read = bind_some (number_at bytes) after found e in
+    house_written i read.0.1 found (number_is_written bytes read.0 read.1.0)
+    (λ next. side_from_written i (houses ++ read.0.0 ∷ []) next found) read.1.1
+
+pub side_is_written : (bytes : List ℕ) (found : Found) → side_at bytes ≡ Some found → WritesSide [] bytes found
+unfolding side_at
+side_is_written bytes found e = side_from_written (length bytes) [] bytes found e
+
+-- ---- what is written is read
+
+module _ (store_text : List ℕ) (store : ℕ) (following : List ℕ) (stored : IsNumber store_text store) (ends : EndsNumber following)
+  where
+    houses_are_read : (text more : List ℕ) → AreHouses text more → (i : ℕ) (houses : List ℕ) → length text ≤ i →
+        side_from i houses (text ++ slash ∷ (store_text ++ following)) ≡ Some (houses ++ more, store, following)
+    houses_are_read text [] h i houses few = absurd h
+    houses_are_read text (n ∷ more) h zero houses few = absurd (omega (arith, few, some_bytes text n more h))
+      where
+        some_bytes : (t : List ℕ) (m : ℕ) (others : List ℕ) → AreHouses t (m ∷ others) → 0 < length t
+        some_bytes t m [] written = number_has_bytes t m written
+        some_bytes t m (k ∷ others) written =
+            omega (arith, ap length written.1.1.0, length-append written.0 (comma ∷ written.1.0))
+    houses_are_read text (n ∷ []) h (suc i) houses few =
+        rw (
+          number_is_read text n (slash ∷ (store_text ++ following)) h (λ digit. omega (arith, digit)),
+          number_is_read store_text store following stored ends,
+        ) refl
+    houses_are_read text (n ∷ m ∷ more) h (suc i) houses few =
+        let rest = h.1.0 ++ slash ∷ (store_text ++ following) in
+        let cut : text ++ slash ∷ (store_text ++ following) ≡ h.0 ++ comma ∷ rest =
+        ap (λ (t : List ℕ). t ++ slash ∷ (store_text ++ following)) h.1.1.0
+        ∙ append_assoc h.0 (comma ∷ h.1.0) (slash ∷ (store_text ++ following)) in
+        let short : length h.1.0 ≤ i = omega (arith, few, ap length h.1.1.0, length-append h.0 (comma ∷ h.1.0)) in
+        rw (cut, number_is_read h.0 n (comma ∷ rest) h.1.1.1 (λ digit. omega (arith, digit)))
+        (houses_are_read h.1.0 (m ∷ more) h.1.1.2 i (houses ++ n ∷ []) short
+        ∙ ap (λ (all : List ℕ). Some (all, store, following)) (append_assoc houses (n ∷ []) (m ∷ more)))
+
+pub side_is_read : (text houses : List ℕ) (store : ℕ) (following : List ℕ) → IsSide text houses store → EndsNumber following →
+    side_at (text ++ following) ≡ Some (houses, store, following)
+unfolding side_at
+side_is_read text houses store following side ends =
+    let parts : text ++ following ≡ side.houses_text ++ slash ∷ (side.store_text ++ following) =
+    ap (λ (t : List ℕ). t ++ following) side.parts ∙ append_assoc side.houses_text (slash ∷ side.store_text) following in
+    rw parts (houses_are_read side.store_text store following side.store_written ends side.houses_text houses side.houses_written
+    _ [] (omega (arith, length-append side.houses_text (slash ∷ (side.store_text ++ following)))))
+
+-- the bytes after a side are fewer
+pub side_shorter : (bytes : List ℕ) {found : Found} → side_at bytes ≡ Some found → length found.2 ≤ length bytes
+side_shorter bytes {found} e =
+    let side = side_is_written bytes found e in
+    omega (arith, ap length side.parts, length-append side.text found.2)
+
+-- there is a house
+pub houses_are_some : (text houses : List ℕ) → AreHouses text houses → 1 ≤ length houses
+houses_are_some text [] h = absurd h
+houses_are_some text (n ∷ houses) h = omega arith
+
+-- ---- house by house
+
+-- the houses so far are kept in the side, and the side at the front of the bytes goes on in the rest
+pub record IsTaking (bytes : List ℕ) (side : Side) (rest : List ℕ) : Type 0 where
+  pub houses : List ℕ
+  pub steps : ℕ
+  pub room : side.left_out + length rest ≤ length bytes
+  pub enough : length rest ≤ steps
+  pub has : AreKept houses side.row side.left_out
+  pub goes_on : side_at bytes ≡ side_from steps houses rest
+
+pub begins_taking : (bytes : List ℕ) (side : Side) → AreKept [] side.row side.left_out → side.left_out ≡ 0 →
+    IsTaking bytes side bytes
+unfolding side_at
+begins_taking bytes side has none = record {
+  houses = [];
+  steps = length bytes;
+  room = omega (arith, none);
+  enough = omega arith;
+  has = has;
+  goes_on = refl;
+}
+
+-- no number follows
+pub no_house : {bytes : List ℕ} {side : Side} {rest : List ℕ} → IsTaking bytes side rest → number_at rest ≡ None →
+    side_at bytes ≡ None
+no_house {bytes} {side} {rest} so_far none = so_far.goes_on ∙ go so_far.steps
+  where
+    go : (i : ℕ) → side_from i so_far.houses rest ≡ None
+    go zero = refl
+    go (suc i) = rw none refl
+
+-- a number follows
+module _ {bytes : List ℕ} {side : Side} {rest : List ℕ} {n : ℕ} {after : List ℕ} (so_far : IsTaking bytes side rest)
+    (house : number_at rest ≡ Some (n, after)) where
+  abbrev houses : List ℕ
+  houses = so_far.houses ++ n ∷ []
+
+  pub goes_on_after : side_at bytes ≡ house_followed (store_at houses) (side_from (pred so_far.steps) houses) after
+  goes_on_after = so_far.goes_on ∙ go rest so_far.steps so_far.enough house
+    where
+      go : (r : List ℕ) (i : ℕ) → length r ≤ i → number_at r ≡ Some (n, after) →
+          side_from i so_far.houses r ≡ house_followed (store_at houses) (side_from (pred i) houses) after
+      go [] zero enough read = absurd cc
+      go (byte ∷ r) zero enough read = absurd (omega (arith, enough))
+      go r (suc i) enough read = rw read refl
+
+  pub nothing_follows : length after ≡ 0 → side_at bytes ≡ None
+  nothing_follows none =
+      goes_on_after ∙ ap (house_followed (store_at houses) (side_from (pred so_far.steps) houses)) (nil_from_length after none)
+
+  pub store_follows : {mark : ℕ} {more following : List ℕ} {store : ℕ} → after ≡ mark ∷ more → mark ≡ slash →
+      number_at more ≡ Some (store, following) → side_at bytes ≡ Some (houses, store, following)
+  store_follows is slash_is stored = goes_on_after ∙ rw (is, slash_is, stored) refl
+
+  pub house_follows : {new : Side} {mark : ℕ} {more : List ℕ} → after ≡ mark ∷ more → mark ≡ comma →
+      AreKept houses new.row new.left_out → new.left_out ≤ side.left_out + 1 → IsTaking bytes new more
+  house_follows {new} {mark} {more} is comma_is has one = record {
+    houses = houses;
+    steps = pred so_far.steps;
+    room = omega (arith, so_far.room, one, shorter, ap length is);
+    enough = go so_far.steps so_far.enough;
+    has = has;
+    goes_on = goes_on_after ∙ rw (is, comma_is) refl;
+  }
+    where
+      shorter : length after < length rest
+      shorter = number_shorter rest (n, after) house
+
+      go : (i : ℕ) → length rest ≤ i → length more ≤ pred i
+      go zero enough = omega (arith, enough, shorter)
+      go (suc i) enough = omega (arith, enough, shorter, ap length is)
+
+-- ==== What writes a position, and what it is read as
+
+-- ---- endings
+
+pub ending_is_read : (rule : Rule) → rule_of (ending_of rule) ≡ Some rule
+ending_is_read Classic = refl
+ending_is_read EmptyCapture = refl
+
+ending_is_written : (bytes : List ℕ) (rule : Rule) → rule_of bytes ≡ Some rule → bytes ≡ ending_of rule
+ending_is_written [] rule e = let is : Classic ≡ rule = cc e in ap ending_of is
+ending_is_written (mark ∷ []) rule e = absurd cc
+ending_is_written (mark ∷ byte ∷ []) rule e =
+    let read = cond_some (mark == space && byte == 101) EmptyCapture rule e in
+    let tests = and_parts (mark == space) (byte == 101) read.0 in
+    let first : mark ≡ space = eqb-true mark space tests.0 in
+    let second : byte ≡ 101 = eqb-true byte 101 tests.1 in
+    rw (first, second) (ap ending_of read.1)
+ending_is_written (a ∷ b ∷ c ∷ rest) rule e = absurd cc
+
+-- bytes that are no ending name no rule
+pub no_rule : (bytes : List ℕ) → ((rule : Rule) → bytes ≡ ending_of rule → ⊥) → rule_of bytes ≡ None
+no_rule bytes none =
+    (elim (rule_of bytes) as (λ (r : Option Rule). rule_of bytes ≡ r → r ≡ None) [
+      | None ↦ λ e. refl
+      | Some rule ↦ λ e. absurd (none rule (ending_is_written bytes rule e))
+    ]) refl
+
+ending_ends : (rule : Rule) → EndsNumber (ending_of rule)
+ending_ends Classic = tt
+ending_ends EmptyCapture = λ digit. omega (arith, digit)
+
+-- ---- positions
+
+abbrev pub made : Found → Found → Rule → Position
+made own other rule = record { own = own.0; own_store = own.1; other = other.0; other_store = other.1; rule = rule }
+
+-- a side, a space, a side and an ending write a line
+line_of_sides : {text rest : List ℕ} {own other : Found} {rule : Rule} → side_at text ≡ Some own → own.2 ≡ space ∷ rest →
+    side_at rest ≡ Some other → rule_of other.2 ≡ Some rule → IsLineOf text (made own other rule)
+line_of_sides {text} {rest} {own} {other} {rule} own_read mark other_read rule_read =
+    let first = side_is_written text own own_read in
+    let second = side_is_written rest other other_read in
+    record {
+      own_text = first.text;
+      other_text = second.text;
+      parts =
+          first.parts ∙ ap (λ (t : List ℕ). first.text ++ t) mark ∙ ap (λ (t : List ℕ). first.text ++ space ∷ t) second.parts
+          ∙ ap (λ (t : List ℕ). first.text ++ space ∷ (second.text ++ t)) (ending_is_written other.2 rule rule_read)
+          ∙ sym (append_assoc first.text (space ∷ second.text) (ending_of rule));
+      own_side = subst (λ (houses : List ℕ). IsSide first.text houses own.1) (sym first.all) first.side;
+      other_side = subst (λ (houses : List ℕ). IsSide second.text houses other.1) (sym second.all) second.side;
+    }
+
+pub sides_are_written : (text rest : List ℕ) {own other : Found} {mark : ℕ} {rule : Rule} → side_at text ≡ Some own →
+    own.2 ≡ mark ∷ rest → mark ≡ space → side_at rest ≡ Some other → rule_of other.2 ≡ Some rule →
+    written_of text ≡ Some (made own other rule)
+unfolding written_of
+sides_are_written text rest own_read mark is other_read rule_read = rw (own_read, mark, is, other_read, rule_read) refl
+
+rest_is_written : (text : List ℕ) (houses : List ℕ) (store : ℕ) (rest : List ℕ) (p : Position) →
+    side_at text ≡ Some (houses, store, rest) → position_from houses store rest ≡ Some p → IsLineOf text p
+rest_is_written text houses store [] p own e = absurd cc
+rest_is_written text houses store (mark ∷ rest) p own e =
+    let with_rule = λ (other : Found). rule_of other.2 >>= λ rule. Some (made (houses, store, mark ∷ rest) other rule) in
+    let read = test_some (mark == space) (side_at rest >>= with_rule) p e in
+    let other = bind_some (side_at rest) with_rule p read.1 in
+    let rule = bind_some (rule_of other.0.2) (λ rule. Some (made (houses, store, mark ∷ rest) other.0 rule)) p other.1.1 in
+    let is : made (houses, store, mark ∷ rest) other.0 rule.0 ≡ p = cc rule.1.1 in
+    subst (IsLineOf text) is
+    (line_of_sides own (ap (λ (b : ℕ). b ∷ rest) (eqb-true mark space read.0)) other.1.0 rule.1.0)
+
+-- what is read is written
+pub written_is_line : (text : List ℕ) (p : Position) → written_of text ≡ Some p → IsLineOf text p
+unfolding written_of
+written_is_line text p e =
+    let own = bind_some (side_at text) (λ (own : Found). position_from own.0 own.1 own.2) p e in
+    rest_is_written text own.0.0 own.0.1 own.0.2 p own.1.0 own.1.1
+
+-- what is written is read
+pub line_is_written : (text : List ℕ) (p : Position) → IsLineOf text p → written_of text ≡ Some p
+unfolding written_of
+line_is_written text p line =
+    let rest = line.other_text ++ ending_of p.rule in
+    let parts : text ≡ line.own_text ++ space ∷ rest =
+    line.parts ∙ append_assoc line.own_text (space ∷ line.other_text) (ending_of p.rule) in
+    rw (
+      parts,
+      side_is_read line.own_text p.own p.own_store (space ∷ rest) line.own_side (λ digit. omega (arith, digit)),
+      side_is_read line.other_text p.other p.other_store (ending_of p.rule) line.other_side (ending_ends p.rule),
+      ending_is_read p.rule,
+    ) refl
+
+pub empty_is_no_line : (p : Position) → ¬ IsLineOf [] p
+unfolding written_of side_at
+empty_is_no_line p line = absurd (cc (line_is_written [] p line))
+
+-- a text writes one position
+pub one_position : (text : List ℕ) (p q : Position) → IsLineOf text p → IsLineOf text q → p ≡ q
+one_position text p q first second =
+    let same : ◌≡◌ {A = Option Position} (Some p) (Some q) = sym (line_is_written text p first) ∙ line_is_written text q second in
+    cc
+
+-- ==== A line is read as a position, or it has its first fault
+
+-- what holds of a line that is read so
+abbrev pub IsReading : List ℕ → Result Position LineFault → Type 0
+IsReading line (Ok p) = Reads line p
+IsReading line (Err fault) = HasFault line fault
+
+-- ---- every line is read, or has a fault
+
+same_order : (a b : LineFault) → order_of a ≡ order_of b → a ≡ b
+same_order Long Long same = refl
+same_order Empty Empty same = refl
+same_order Shape Shape same = refl
+same_order Houses Houses same = refl
+same_order Seeds Seeds same = refl
+same_order a b same = absurd (omega arith)
+
+-- none of the faults before this place holds
+abbrev NoneBefore : List ℕ → ℕ → Type 0
+NoneBefore text n = (earlier : LineFault) → order_of earlier < n → ¬ Holds earlier text
+
+none_at_first : (text : List ℕ) → NoneBefore text 1
+none_at_first text Long low = absurd (omega arith)
+none_at_first text earlier low = absurd (omega arith)
+
+-- nor does the one at it
+nor_this : {text : List ℕ} (fault : LineFault) → NoneBefore text (order_of fault) → ¬ Holds fault text →
+    NoneBefore text (order_of fault + 1)
+nor_this {text} fault before not earlier low holds = elim (cases_lt (order_of earlier) (order_of fault)) [
+  | inl less ↦ before earlier less holds
+  | inr more ↦ not (subst (λ f. Holds f text) (same_order earlier fault (omega arith)) holds)
+]
+
+-- a line of few bytes that writes the position
+position_is_read : (line : List ℕ) (p : Position) → length (without_cr line) ≤ most_bytes → NoneBefore (without_cr line) 4 →
+    IsLineOf (without_cr line) p → IsReading line (admitted p)
+position_is_read line p few none form = elim (eqb_tells (length p.other) (side_length p)) [
+  | inl same ↦ elim (cases_lt most_houses (side_length p)) [
+    | inl many ↦
+        rw (same.0, lt-ltb _ _ many) (record { holds = (p, (form, λ sides. omega (arith, many, sides.at_most_six))); first = none })
+    | inr six ↦
+        let sides : HasSidesInLimits p = record { same_side = same.1; at_most_six = six } in
+        elim (cases_lt most_seeds (seeds_in_houses p)) [
+          | inl many ↦
+              let fit : ¬ Holds Houses (without_cr line) =
+              λ h. h.1.1 (subst HasSidesInLimits (one_position (without_cr line) p h.0 form h.1.0) sides) in
+              rw (same.0, le-ltb _ _ six, lt-ltb _ _ many) (record { holds = (p, (form, many)); first = nor_this Houses none fit })
+          | inr few_seeds ↦
+              rw (same.0, le-ltb _ _ six, le-ltb _ _ few_seeds)
+              (record { few_bytes = few; form = form; sides = sides; few_seeds = few_seeds })
+        ]
+  ]
+  | inr other ↦ rw other.0 (record { holds = (p, (form, λ sides. other.1 sides.same_side)); first = none })
+]
+
+-- a line of few bytes that writes no position
+nothing_is_read : (line text : List ℕ) → without_cr line ≡ text → NoneBefore (without_cr line) 2 → written_of text ≡ None →
+    IsReading line (admitted_if_written None text)
+nothing_is_read line [] is none e = record { holds = is; first = none }
+nothing_is_read line (byte ∷ text) is none e =
+    let some : ¬ Holds Empty (without_cr line) = λ empty. absurd (cc (sym is ∙ empty)) in
+    record {
+      holds = λ p form.
+          let read : ◌≡◌ {A = Option Position} None (Some p) =
+          sym e ∙ ap written_of (sym is) ∙ line_is_written (without_cr line) p form in
+          cc;
+      first = nor_this Empty none some;
+    }
+
+-- a line of few bytes
+few_are_read : (line : List ℕ) → length (without_cr line) ≤ most_bytes → (r : Option Position) →
+    written_of (without_cr line) ≡ r → IsReading line (admitted_if_written r (without_cr line))
+few_are_read line few r e =
+    let text : List ℕ = without_cr line in
+    let none = nor_this {text = text} Long (none_at_first text) (λ long. omega (arith, few, long)) in
+    (elim r as (λ (r : Option Position). written_of text ≡ r → IsReading line (admitted_if_written r text)) [
+      | None ↦ λ e. nothing_is_read line text refl none e
+      | Some p ↦ λ e.
+          let form = written_is_line text p e in
+          let some : ¬ Holds Empty text = λ empty. empty_is_no_line p (subst (λ t. IsLineOf t p) empty form) in
+          position_is_read line p few (nor_this Shape (nor_this Empty none some) (λ shape. shape p form)) form
+    ]) e
+
+pub long_is_read : (line : List ℕ) → most_bytes < length (without_cr line) → reading_of line ≡ Err Long
+unfolding reading_of
+long_is_read line long = rw (lt-ltb _ _ long) refl
+
+pub is_reading : (line : List ℕ) → IsReading line (reading_of line)
+unfolding reading_of
+is_reading line = elim (cases_lt most_bytes (length (without_cr line))) [
+  | inl long ↦ rw (lt-ltb _ _ long) (record { holds = long; first = none_at_first (without_cr line) })
+  | inr few ↦ rw (le-ltb _ _ few) (few_are_read line few (written_of (without_cr line)) refl)
+]
+
+-- ---- in one way only
+
+-- no line is read as two positions
+pub reads_once : (line : List ℕ) (p q : Position) → Reads line p → Reads line q → p ≡ q
+reads_once line p q first second = one_position (without_cr line) p q first.form second.form
+
+no_fault : (line : List ℕ) (p : Position) → Reads line p → (fault : LineFault) → ¬ Holds fault (without_cr line)
+no_fault line p reads Long long = omega (arith, reads.few_bytes, long)
+no_fault line p reads Empty empty = empty_is_no_line p (subst (λ t. IsLineOf t p) empty reads.form)
+no_fault line p reads Shape none = none p reads.form
+no_fault line p reads Houses other =
+    other.1.1 (subst HasSidesInLimits (one_position (without_cr line) p other.0 reads.form other.1.0) reads.sides)
+no_fault line p reads Seeds many =
+    let same = one_position (without_cr line) many.0 p many.1.0 reads.form in
+    omega (arith, ap seeds_in_houses same, many.1.1, reads.few_seeds)
+
+one_fault : (line : List ℕ) (a b : LineFault) → HasFault line a → HasFault line b → a ≡ b
+one_fault line a b first second = elim (cases_lt (order_of a) (order_of b)) [
+  | inl less ↦ absurd (second.first a less first.holds)
+  | inr more ↦ elim (cases_lt (order_of b) (order_of a)) [
+    | inl less ↦ absurd (first.first b less second.holds)
+    | inr same ↦ same_order a b (omega arith)
+  ]
+]
+
+one_reading : (line : List ℕ) (r s : Result Position LineFault) → IsReading line r → IsReading line s → r ≡ s
+one_reading line (Ok p) (Ok q) first second = ap (λ (p : Position). Ok p) (reads_once line p q first second)
+one_reading line (Ok p) (Err fault) first second = absurd (no_fault line p first fault second.holds)
+one_reading line (Err fault) (Ok p) first second = absurd (no_fault line p second fault first.holds)
+one_reading line (Err a) (Err b) first second = ap (λ (f : LineFault). Err f) (one_fault line a b first second)
+
+pub only_reading : (line : List ℕ) (r : Result Position LineFault) → IsReading line r → reading_of line ≡ r
+only_reading line r is = one_reading line (reading_of line) r (is_reading line) is
+
+-- ==== What stands at the end of a line
+
+-- one CR at the end is dropped
+pub without_cr-cr : (text : List ℕ) → without_cr (text ++ 13 ∷ []) ≡ text
+without_cr-cr [] = refl
+without_cr-cr (byte ∷ []) = refl
+without_cr-cr (byte ∷ more ∷ text) = ap (λ (t : List ℕ). byte ∷ t) (without_cr-cr (more ∷ text))
+
+-- any other byte at the end stays
+pub without_cr-other : (text : List ℕ) (last : ℕ) → last ≢ 13 → without_cr (text ++ last ∷ []) ≡ text ++ last ∷ []
+without_cr-other [] last other = rw (ne_eqb last 13 other) refl
+without_cr-other (byte ∷ []) last other = ap (λ (t : List ℕ). byte ∷ t) (without_cr-other [] last other)
+without_cr-other (byte ∷ more ∷ text) last other = ap (λ (t : List ℕ). byte ∷ t) (without_cr-other (more ∷ text) last other)
+
+-- what dropping a CR needs
+pub ruleset ends_of_lines = (without_cr-cr, without_cr-other)
+
+-- only the end of a line is looked at
+pub without_cr-append : (text : List ℕ) (byte : ℕ) (rest : List ℕ) →
+    without_cr (text ++ byte ∷ rest) ≡ text ++ without_cr (byte ∷ rest)
+without_cr-append [] byte rest = refl
+without_cr-append (first ∷ []) byte rest = refl
+without_cr-append (first ∷ second ∷ text) byte rest =
+    ap (λ (t : List ℕ). first ∷ t) (without_cr-append (second ∷ text) byte rest)
+
+-- a number does not end in a CR
+pub number_ends_without_cr : (byte : ℕ) (text : List ℕ) (n : ℕ) → IsNumber text n → without_cr (byte ∷ text) ≡ byte ∷ text
+number_ends_without_cr byte [] n h = absurd h
+number_ends_without_cr byte (ones ∷ []) n h = rw (ne_eqb ones 13 (λ e. omega (arith, h.0))) refl
+number_ends_without_cr byte (tens ∷ ones ∷ []) n h = rw (ne_eqb ones 13 (λ e. omega (arith, h.2))) refl
+number_ends_without_cr byte (a ∷ b ∷ c ∷ rest) n h = absurd h
+
+-- ==== The text of a position is the line that writes it
+
+-- ---- what writes a position is its text
+
+houses_text : (text houses : List ℕ) → AreHouses text houses → text ≡ join_with_byte comma (map decimal houses)
+houses_text text [] h = absurd h
+houses_text text (n ∷ []) h = number_text text n h
+houses_text text (n ∷ m ∷ houses) h =
+    h.1.1.0 ∙ ap₂ (λ (a b : List ℕ). a ++ comma ∷ b) (number_text h.0 n h.1.1.1) (houses_text h.1.0 (m ∷ houses) h.1.1.2)
+
+pub is_side_text : (text houses : List ℕ) (store : ℕ) → IsSide text houses store → text ≡ side_text houses store
+is_side_text text houses store side =
+    side.parts ∙ ap₂ (λ (a b : List ℕ). a ++ slash ∷ b) (houses_text side.houses_text houses side.houses_written)
+    (number_text side.store_text store side.store_written)
+
+pub is_line_text : (text : List ℕ) (p : Position) → IsLineOf text p → text ≡ line_text_of p
+unfolding line_text_of
+is_line_text text p line =
+    let own = is_side_text line.own_text p.own p.own_store line.own_side in
+    let other = is_side_text line.other_text p.other p.other_store line.other_side in
+    line.parts ∙ ap₂ (λ (a b : List ℕ). a ++ space ∷ b ++ ending_of p.rule) own other
+
+-- what holds of the result of a reading
+pub record IsResult (line : List ℕ) (r : Result Position LineFault) : Type 0 where
+  pub reads : IfOk r (λ p. Reads line p)
+  pub text : IfOk r (λ p. without_cr line ≡ line_text_of p)
+  pub stores : IfOk r (λ p. (p.own_store ≤ most_in_store) × (p.other_store ≤ most_in_store))
+  pub fault : IfErr r (λ fault. HasFault line fault)
+
+pub result_of_reading : (line : List ℕ) (r : Result Position LineFault) → IsReading line r → IsResult line r
+result_of_reading line (Ok p) is =
+    let form = is.form in
+    record {
+      reads = is;
+      text = is_line_text (without_cr line) p form;
+      stores = (
+        number_low form.own_side.store_text p.own_store form.own_side.store_written,
+        number_low form.other_side.store_text p.other_store form.other_side.store_written,
+      );
+      fault = tt;
+    }
+result_of_reading line (Err fault) is = record { reads = tt; text = tt; stores = tt; fault = is }
+
+-- ---- the text of a position writes it
+
+-- every number has at most two digits
+abbrev pub AllShort : List ℕ → Type 0
+AllShort houses = All (λ n. n ≤ 99) houses
+
+first_short : (n : ℕ) (houses : List ℕ) → AllShort (n ∷ houses) → n ≤ 99
+first_short n houses short = All-head (λ (x : ℕ). x ≤ 99) n houses short
+
+others_short : (n : ℕ) (houses : List ℕ) → AllShort (n ∷ houses) → AllShort houses
+others_short n houses short = All-tail (λ (x : ℕ). x ≤ 99) n houses short
+
+short_from_sum : (houses : List ℕ) → sum houses ≤ 99 → AllShort houses
+short_from_sum houses few =
+    All-from_get_or (λ (n : ℕ). n ≤ 99) houses 0
+    (λ i within. omega (arith, few, get_or-le-sum_by (λ (n : ℕ). n) houses i 0 within))
+
+text_are_houses : (houses : List ℕ) → 1 ≤ length houses → AllShort houses →
+    AreHouses (join_with_byte comma (map decimal houses)) houses
+text_are_houses [] some short = absurd (omega (arith, some))
+text_are_houses (n ∷ []) some short = decimal_is_number n (first_short n [] short)
+text_are_houses (n ∷ m ∷ houses) some short =
+    let rest = text_are_houses (m ∷ houses) (omega arith) (others_short n (m ∷ houses) short) in
+    (decimal n, (join_with_byte comma (map decimal (m ∷ houses)), (refl, decimal_is_number n (first_short n (m ∷ houses) short), rest)))
+
+pub text_is_side : (houses : List ℕ) (store : ℕ) → 1 ≤ length houses → AllShort houses → store ≤ 99 →
+    IsSide (side_text houses store) houses store
+text_is_side houses store some short low = record {
+  houses_text = join_with_byte comma (map decimal houses);
+  store_text = decimal store;
+  parts = refl;
+  houses_written = text_are_houses houses some short;
+  store_written = decimal_is_number store low;
+}
+
+pub text_is_line : (p : Position) → IsWithinLimits p → p.own_store ≤ 99 → p.other_store ≤ 99 → IsLineOf (line_text_of p) p
+unfolding line_text_of
+text_is_line p limits own_low other_low = record {
+  own_text = side_text p.own p.own_store;
+  other_text = side_text p.other p.other_store;
+  parts = refl;
+  own_side = text_is_side p.own p.own_store limits.some_house (short_from_sum p.own (omega (arith, limits.few_seeds))) own_low;
+  other_side = text_is_side p.other p.other_store (omega (arith, limits.some_house, limits.same_side))
+      (short_from_sum p.other (omega (arith, limits.few_seeds))) other_low;
+}
+
+-- ---- how long a text is
+
+houses_text_length : (houses : List ℕ) → AllShort houses → length (join_with_byte comma (map decimal houses)) ≤ 3 * length houses
+houses_text_length [] short = omega arith
+houses_text_length (n ∷ []) short =
+    let low = first_short n [] short in
+    omega (arith, length-decimal-le 2 n (lit< tt) (omega (arith, low)) (omega (arith, low)))
+houses_text_length (n ∷ m ∷ houses) short =
+    let low = first_short n (m ∷ houses) short in
+    let first = length-decimal-le 2 n (lit< tt) (omega (arith, low)) (omega (arith, low)) in
+    let rest = houses_text_length (m ∷ houses) (others_short n (m ∷ houses) short) in
+    omega (arith, first, rest, length-append (decimal n) (comma ∷ join_with_byte comma (map decimal (m ∷ houses))))
+
+side_text_length : (houses : List ℕ) (store : ℕ) → length houses ≤ 6 → AllShort houses → store ≤ 99 →
+    length (side_text houses store) ≤ 21
+side_text_length houses store few short low =
+    let own = houses_text_length houses short in
+    let last = length-decimal-le 2 store (lit< tt) (omega (arith, low)) (omega (arith, low)) in
+    omega (arith, few, own, last, length-append (join_with_byte comma (map decimal houses)) (slash ∷ decimal store))
+
+ending_length : (rule : Rule) → length (ending_of rule) ≤ 2
+ending_length Classic = omega arith
+ending_length EmptyCapture = omega arith
+
+-- ---- the text of a position is read back
+
+text_has_few_bytes : (p : Position) → IsWithinLimits p → p.own_store ≤ 99 → p.other_store ≤ 99 →
+    length (line_text_of p) ≤ most_bytes
+unfolding line_text_of
+text_has_few_bytes p limits own_low other_low =
+    let own = side_text p.own p.own_store in
+    let other = side_text p.other p.other_store in
+    omega (
+      arith,
+      side_text_length p.own p.own_store limits.at_most_six (short_from_sum p.own (omega (arith, limits.few_seeds))) own_low,
+      side_text_length p.other p.other_store (omega (arith, limits.at_most_six, limits.same_side))
+          (short_from_sum p.other (omega (arith, limits.few_seeds))) other_low,
+      ending_length p.rule,
+      length-append (own ++ space ∷ other) (ending_of p.rule),
+      length-append own (space ∷ other),
+    )
+
+-- it does not end in a CR
+text_without_cr : (front houses : List ℕ) (store : ℕ) (rule : Rule) → store ≤ 99 →
+    without_cr (front ++ space ∷ side_text houses store ++ ending_of rule) ≡ front ++ space ∷ side_text houses store ++ ending_of rule
+text_without_cr front houses store Classic low =
+    let row = join_with_byte comma (map decimal houses) in
+    let last = number_ends_without_cr slash (decimal store) store (decimal_is_number store low) in
+    ap without_cr (append-nil (front ++ space ∷ side_text houses store))
+    ∙ without_cr-append front space (side_text houses store)
+    ∙ ap (λ (t : List ℕ). front ++ t)
+    (without_cr-append (space ∷ row) slash (decimal store) ∙ ap (λ (t : List ℕ). (space ∷ row) ++ t) last)
+    ∙ sym (append-nil (front ++ space ∷ side_text houses store))
+text_without_cr front houses store EmptyCapture low = without_cr-append (front ++ space ∷ side_text houses store) space (codes "e")
+
+pub text_is_read_back : (p : Position) → IsWithinLimits p → p.own_store ≤ 99 → p.other_store ≤ 99 → Reads (line_text_of p) p
+unfolding line_text_of
+text_is_read_back p limits own_low other_low =
+    let same : without_cr (line_text_of p) ≡ line_text_of p =
+    text_without_cr (side_text p.own p.own_store) p.other p.other_store p.rule other_low in
+    record {
+      few_bytes = rw same (text_has_few_bytes p limits own_low other_low);
+      form = subst (λ (t : List ℕ). IsLineOf t p) (sym same) (text_is_line p limits own_low other_low);
+      sides = record { same_side = limits.same_side; at_most_six = limits.at_most_six };
+      few_seeds = limits.few_seeds;
+    }
+
+-- ==== What a line without an ending means, and that only the ending names the rule
+
+-- what is read without an ending, of fewer seeds, is read
+pub reads_plainly : (seeds : ℕ) (line : List ℕ) (p : Position) → seeds ≤ most_seeds → ReadsPlainly seeds line p → Reads line p
+reads_plainly seeds line p few reads = record {
+  few_bytes = reads.few_bytes;
+  form = record {
+    own_text = reads.own_text;
+    other_text = reads.other_text;
+    parts =
+        reads.parts ∙ sym (append-nil (reads.own_text ++ space ∷ reads.other_text))
+        ∙ ap (λ (rule : Rule). reads.own_text ++ space ∷ reads.other_text ++ ending_of rule) (sym reads.classic);
+    own_side = reads.own_side;
+    other_side = reads.other_side;
+  };
+  sides = reads.sides;
+  few_seeds = omega (arith, reads.few_seeds, few);
+}
+
+-- ---- the last byte
+
+abbrev last_or : ℕ → List ℕ → ℕ
+last_or byte [] = byte
+last_or byte (first ∷ rest) = last_or first rest
+
+last_or-append : (byte : ℕ) (front : List ℕ) (first : ℕ) (rest : List ℕ)
+    → last_or byte (front ++ first ∷ rest) ≡ last_or first rest
+last_or-append byte [] first rest = refl
+last_or-append byte (other ∷ front) first rest = last_or-append other front first rest
+
+-- a number ends in a digit
+number_ends_in_digit : (byte : ℕ) (text : List ℕ) (n : ℕ) → IsNumber text n → last_or byte text ≤ 57
+number_ends_in_digit byte [] n h = absurd h
+number_ends_in_digit byte (ones ∷ []) n h = omega (arith, h.0)
+number_ends_in_digit byte (tens ∷ ones ∷ []) n h = omega (arith, h.2)
+number_ends_in_digit byte (a ∷ b ∷ c ∷ rest) n h = absurd h
+
+-- so does a side
+side_ends_in_digit : (byte : ℕ) (text houses : List ℕ) (store : ℕ) → IsSide text houses store → last_or byte text ≤ 57
+side_ends_in_digit byte text houses store side =
+    let last : last_or byte text ≡ last_or slash side.store_text =
+    ap (last_or byte) side.parts ∙ last_or-append byte side.houses_text slash side.store_text in
+    omega (arith, last, number_ends_in_digit slash side.store_text store side.store_written)
+
+-- a line that ends in ` e` is under the empty-capture rule
+rule_of_end : (rule : Rule) (text own other front : List ℕ) → text ≡ own ++ space ∷ other ++ ending_of rule
+    → last_or space other ≤ 57 → text ≡ front ++ codes " e" → rule ≡ EmptyCapture
+rule_of_end EmptyCapture text own other front parts digit ends = refl
+rule_of_end Classic text own other front parts digit ends =
+    let last : 101 ≡ last_or space other =
+    sym (last_or-append 0 front 32 (101 ∷ [])) ∙ ap (last_or 0) (sym ends ∙ parts ∙ append-nil (own ++ space ∷ other))
+    ∙ last_or-append 0 own space other in
+    absurd (omega (arith, last, digit))
+
+pub ending_names_rule : (line : List ℕ) (p : Position) → Reads line p →
+    ((p.rule ≡ EmptyCapture) ↔ ((front : List ℕ) × (without_cr line ≡ front ++ codes " e")))
+ending_names_rule line p reads =
+    let form = reads.form in (
+      λ is. (
+        form.own_text ++ space ∷ form.other_text,
+        form.parts
+            ∙ ap (λ (rule : Rule). form.own_text ++ space ∷ form.other_text ++ ending_of rule) is,
+      ),
+      λ ends. rule_of_end p.rule (without_cr line) form.own_text form.other_text ends.0 form.parts
+          (side_ends_in_digit space form.other_text p.other p.other_store form.other_side) ends.1,
+    )

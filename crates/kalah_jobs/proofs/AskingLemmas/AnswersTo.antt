@@ -24,8 +24,8 @@ use Rattle.kalah_jobs.specs.declared.line.line_fault.LineFault.TheVariants.{Long
 use Rattle.kalah_jobs.specs.Writing.Answer.{answer_of, answer_texts, answer_words, is_fault, place_words, IsOfOneLine}
 use Rattle.kalah_jobs.specs.Writing.Output.{is_faulty, line_output}
 use Rattle.kalah_jobs.specs.Writing.Splitting.{EndsWithItsLine}
-use Rattle.kalah_jobs.proofs.FilesLemmas.SplitLines.{lines_of-ended, lines_of-open}
-use Rattle.kalah_jobs.proofs.LineLemmas.Readings.{long_is_read}
+use Rattle.kalah_jobs.proofs.FilesLemmas.{lines_of-ended, lines_of-open}
+use Rattle.kalah_jobs.proofs.LineLemmas.{long_is_read}
 use Rattle.kalah_jobs.proofs.WritingLemmas.SplitFiles.{files_split_between_lines}
 
 -- ---- the lines of a piece

@@ -10,7 +10,7 @@ use Rattle.kalah_jobs.specs.Files.Lines.{line_feed, HasNoLineFeed}
 use Rattle.kalah_jobs.specs.Writing.Given.{AppendsStart}
 use Rattle.kalah_jobs.specs.Writing.Output.{is_faulty}
 use Rattle.kalah_jobs.specs.Writing.Splitting.{EndsWithItsLine}
-use Rattle.kalah_jobs.proofs.FilesLemmas.SplitLines.{IsNoFeed}
+use Rattle.kalah_jobs.proofs.FilesLemmas.{IsNoFeed}
 use Rattle.kalah_jobs.proofs.AskingLemmas.AnswersTo.{all_read_more, answers_to_more, answers_to_one, kept_faulty, kept_more, kept_told, last_read, last_told, lines_of_ended, no_answers, none_unread, one_line, answers_split}
 
 -- Lines were read, and a part of the next one, whose first bytes are kept. The lines were answered.

@@ -13,8 +13,7 @@ use Rattle.kalah_jobs.specs.Writing.Answer.{answer_of, answer_line, is_faulty_en
 use Rattle.kalah_jobs.specs.Files.JobList.{job_list}
 use Rattle.kalah_jobs.specs.Files.Jobs.{entries_to, jobs_to}
 use Rattle.kalah_jobs.specs.Writing.Output.{line_output, file_output, output_to, is_faulty, tally_of, text_of_line, text_of_file, answer_text_of, output_of_jobs, names_of, is_faulty_job, FilesAreTheirJobs}
-use Rattle.kalah_jobs.proofs.FilesLemmas.Faults.{asked_fault, faulty_jobs}
-use Rattle.kalah_jobs.proofs.FilesLemmas.JobCounts.{all_entries, count_map, length-job_list, job_count-jobs_to}
+use Rattle.kalah_jobs.proofs.FilesLemmas.{asked_fault, faulty_jobs, all_entries, count_map, length-job_list, job_count-jobs_to}
 
 -- the text of what is taken of file n is the answer line under this name
 abbrev IsUnder : (ℕ → Taken → List ℕ) → ℕ → List ℕ → Type 0

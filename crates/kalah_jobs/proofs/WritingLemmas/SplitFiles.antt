@@ -11,7 +11,7 @@ use Rattle.kalah_jobs.specs.Files.Lines.{line_feed, lines_of}
 use Rattle.kalah_jobs.specs.Files.NamedBytes.{NamedBytes}
 use Rattle.kalah_jobs.specs.Writing.Output.{line_output, file_output, output_to, is_faulty, LineCounts, tally_of}
 use Rattle.kalah_jobs.specs.Writing.Splitting.{counted_together, OutputSplitsByFiles, EndsWithItsLine, output_from, tally_in, FilesSplitBetweenLines}
-use Rattle.kalah_jobs.proofs.FilesLemmas.SplitLines.{lines_of-feed, lines_of-byte, length-lines_of}
+use Rattle.kalah_jobs.proofs.FilesLemmas.{lines_of-feed, lines_of-byte, length-lines_of}
 
 zero-add : (n : ℕ) → 0 + n ≡ n
 zero-add n = omega arith

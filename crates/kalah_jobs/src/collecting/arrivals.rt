@@ -29,7 +29,7 @@ impl Model for Arrivals {
 
 impl Arrivals {
     // Makes the state of a file of `lines` lines with no answer yet.
-    #[tactic(auto, using(crate::proofs::Fronts::front_none))]
+    #[tactic(auto, using(crate::proofs::CollectingLemmas::front_none))]
     pub(crate) fn new(alloc: Global, lines: u32) -> Result<Arrivals, AllocError>
         requires { lines ≤ most_lines }
         ensures { IfOk result (λ a. a ≡ new_file lines) }

@@ -4,7 +4,7 @@ ghost use Rattle.kalah_jobs.specs.Collecting.CollectorLaw.{CollectorLaw};
 ghost use Rattle.kalah_jobs.specs.Collecting.Batch.{SharesLaw, OffersLaw, FrontsLaw};
 
 /// No offer that is wanted meets a refusal, and none meets two: so each is answered in one way only.
-#[tactic(auto, using(crate::proofs::CollectingLemmas::RefusalLaw::refusals_law))]
+#[tactic(auto, using(crate::proofs::CollectingLemmas::refusals_law))]
 pub fn answers_in_one_way()
     ensures { RefusalsLaw }
 {}

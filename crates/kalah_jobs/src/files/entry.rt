@@ -49,7 +49,7 @@ impl Entry {
     }
 
     // Returns whether the line is not read, so that it is answered by its fault.
-    #[tactic(auto, using(crate::proofs::FilesLemmas::Faults::bad_is_fault))]
+    #[tactic(auto, using(crate::proofs::FilesLemmas::bad_is_fault))]
     pub(crate) fn is_bad(&self) -> bool
         ensures { result ≡ is_faulty_entry self.now }
     {

@@ -114,7 +114,7 @@ impl Jobs {
     }
 
     /// Returns the number of jobs, at most 1,000,000: the lines of all files.
-    #[tactic(auto, using(crate::proofs::FilesLemmas::JobCounts::counts_of_jobs))]
+    #[tactic(auto, using(crate::proofs::FilesLemmas::counts_of_jobs))]
     pub fn total(&self) -> u32
         ensures lines { result ≡ job_count self.now }
         ensures jobs { result ≡ length (job_list self.now) }
@@ -132,7 +132,7 @@ impl Jobs {
     }
 
     /// Returns the number of lines of file `f`, at most 1,000,000. The file must be below `files`.
-    #[tactic(auto, using(crate::proofs::FilesLemmas::JobCounts::counts_of_jobs))]
+    #[tactic(auto, using(crate::proofs::FilesLemmas::counts_of_jobs))]
     pub fn lines(&self, f: u32) -> u32
         requires { f < length self.now }
         ensures is { result ≡ length (entries_of self.now f) }
@@ -142,7 +142,7 @@ impl Jobs {
     }
 
     // Returns the entry of a line of a file, in its place.
-    #[tactic(auto, using(crate::proofs::FilesLemmas::JobCounts::counts_of_jobs))]
+    #[tactic(auto, using(crate::proofs::FilesLemmas::counts_of_jobs))]
     pub(crate) fn entry(&self, f: u32, line: u32) -> &Entry
         requires file { f < length self.now }
         requires line { line < length (entries_of self.now f) }
@@ -177,7 +177,7 @@ impl Jobs {
     }
 
     /// Returns the number of jobs that are answered by a fault, at most `total`.
-    #[tactic(auto, using(crate::proofs::FilesLemmas::Faults::faulty_jobs))]
+    #[tactic(auto, using(crate::proofs::FilesLemmas::faulty_jobs))]
     pub fn faults(&self) -> u32
         ensures { result ≡ count_by is_faulty_job (job_list self.now) }
     {
@@ -202,7 +202,7 @@ fn few_lines(files: &[FileText]) -> Option<usize>
 }
 
 // Appends the entries of the lines of some bytes, with this question. Returns how many of these lines are answered by a fault.
-#[tactic(auto, using(crate::proofs::FilesLemmas::SplitLines::no_line), unfolding(crate::specs::Files::Jobs::entries_to))]
+#[tactic(auto, using(crate::proofs::FilesLemmas::no_line), unfolding(crate::specs::Files::Jobs::entries_to))]
 fn read_entries(
     question: Question,
     bytes: &[u8],

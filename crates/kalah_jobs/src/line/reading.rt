@@ -15,7 +15,7 @@ use kalah_rules::Board;
 
 // Returns the line without one CR at its end, if it has one.
 #[inline(always)]
-#[tactic(auto, using(crate::proofs::LineLemmas::LineEnds::ends_of_lines))]
+#[tactic(auto, using(crate::proofs::LineLemmas::ends_of_lines))]
 fn drop_cr(line: &[u8]) -> &[u8]
     ensures { result.now ≡ without_cr line.now }
 {

@@ -9,7 +9,7 @@ use Rattle.kalah_jobs.specs.Limits.{most_files, most_lines}
 use Rattle.kalah_jobs.specs.Files.Jobs.{jobs_to, lines_in_all}
 use Rattle.kalah_jobs.specs.Files.NamedBytes.{NamedBytes}
 use Rattle.kalah_jobs.specs.Writing.Output.{LineCounts, answer_text_of, names_of, output_to, tally_of}
-use Rattle.kalah_jobs.proofs.FilesLemmas.JobCounts.{job_count-jobs_to, length-job_list}
+use Rattle.kalah_jobs.proofs.FilesLemmas.{job_count-jobs_to, length-job_list}
 use Rattle.kalah_jobs.proofs.WritingLemmas.JobOutput.{files_are_their_jobs}
 use Rattle.kalah_run.specs.Batch.NoLine.{AnswersNothing}
 use Rattle.kalah_run.specs.declared.batch.run_fault.RunFault.{RunFault}

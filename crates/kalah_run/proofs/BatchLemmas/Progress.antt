@@ -19,9 +19,7 @@ use Rattle.kalah_jobs.specs.Collecting.CollectorEvents.{Offers, Takes, answered_
 use Rattle.kalah_jobs.specs.Collecting.Batch.{AreJobsInSomeOrder}
 use Rattle.kalah_jobs.specs.Writing.Output.{text_of_line, text_of_file, text_of_jobs}
 use Rattle.kalah_run.specs.Batch.UnderWay.{WasGiven, written_upto, IsUnderWay}
-use Rattle.kalah_jobs.proofs.CollectingLemmas.CollectorSteps.{state_same, state_other, files_many, lines_are, wanted_file, holds_accepted, holds_refused, holds_take}
-use Rattle.kalah_jobs.proofs.CollectingLemmas.CollectorRuns.{numbered_at, numbered_is, start, taken_is, taken_after_offer, front_after_offer, new_taken}
-use Rattle.kalah_jobs.proofs.CollectingLemmas.JobOrders.{fronts_full}
+use Rattle.kalah_jobs.proofs.CollectingLemmas.{state_same, state_other, files_many, lines_are, wanted_file, holds_accepted, holds_refused, holds_take, numbered_at, numbered_is, start, taken_is, taken_after_offer, front_after_offer, new_taken, fronts_full}
 use Rattle.kalah_run.proofs.BatchLemmas.Giving.{given_none, given_off}
 
 -- what is written, line by line and file by file

@@ -8,11 +8,10 @@ use Rattle.kalah_jobs.specs.declared.files.entry.Entry.{Entry}
 use Rattle.kalah_jobs.specs.declared.files.job.Job.{Job}
 use Rattle.kalah_jobs.specs.Files.JobList.{job_list}
 use Rattle.kalah_jobs.specs.Files.Jobs.{job_count}
-use Rattle.kalah_jobs.proofs.FilesLemmas.JobCounts.{length-job_list}
+use Rattle.kalah_jobs.proofs.FilesLemmas.{length-job_list}
 use Rattle.kalah_jobs.specs.Collecting.Shares.{AreShared}
 use Rattle.kalah_jobs.specs.Collecting.Batch.{job, AreJobsInSomeOrder}
-use Rattle.kalah_jobs.proofs.CollectingLemmas.JobOrders.{shares_law}
-use Rattle.kalah_jobs.proofs.CollectingLemmas.SharedOnce.{as_many_as_numbers}
+use Rattle.kalah_jobs.proofs.CollectingLemmas.{shares_law, as_many_as_numbers}
 use Rattle.kalah_run.specs.Desk.Rows.{drawn_numbers, DealsEachOnce}
 use Rattle.kalah_run.specs.Desk.States.{PassState, IsPassAt, AreNewPasses, new_pass, drawn_rows}
 use Rattle.kalah_run.specs.Queue.States.{PutState, ArePassesFrom, sent_by}

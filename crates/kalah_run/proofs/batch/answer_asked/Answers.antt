@@ -4,7 +4,7 @@ use Rattle.std.specs.Io.KnownBytes.{Keeps}
 use Rattle.kalah_jobs.specs.Files.Jobs.{job_count}
 use Rattle.kalah_jobs.specs.Files.JobList.{job_list}
 use Rattle.kalah_jobs.specs.Writing.Output.{is_faulty_job}
-use Rattle.kalah_jobs.proofs.FilesLemmas.JobCounts.{job_count-jobs_to}
+use Rattle.kalah_jobs.proofs.FilesLemmas.{job_count-jobs_to}
 use Rattle.kalah_jobs.proofs.WritingLemmas.Starts.{start_kept}
 use Rattle.kalah_run.proofs.BatchLemmas.Ends.{appended_kept, given_output, counted_tally}
 use Rattle.kalah_run.proofs.batch.answer_batch.Given.{Over}

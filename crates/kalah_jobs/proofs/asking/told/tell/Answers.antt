@@ -1,5 +1,5 @@
 use Rattle.std.proofs.Common.{arith}
-use Rattle.kalah_jobs.proofs.FilesLemmas.Faults.{asked_fault}
+use Rattle.kalah_jobs.proofs.FilesLemmas.{asked_fault}
 use Rattle.kalah_jobs.proofs.asking.told.tell.Goals as goal
 
 pub returns-in-Ok-clause-read : goal.returns-in-Ok-clause-read

@@ -1,4 +1,4 @@
-use Rattle.kalah_jobs.proofs.CollectingLemmas.JobOrders.{shares_law}
+use Rattle.kalah_jobs.proofs.CollectingLemmas.{shares_law}
 use Rattle.kalah_jobs.proofs.collecting.laws.gets_each_job_once.Goals as goal
 
 pub returns : goal.returns

@@ -1,6 +1,6 @@
 use Rattle.std.proofs.Common.{refl, rules}
 use Rattle.kalah_jobs.specs.declared.files.entry.Entry.TheVariants.{Position, ValuesOf, StepsOf}
-use Rattle.kalah_jobs.proofs.FilesLemmas.SameBoard.{same_entries}
+use Rattle.kalah_jobs.proofs.FilesLemmas.{same_entries}
 use Rattle.kalah_jobs.proofs.files.entry.is_same_entry.Goals.{in-Position-Position, in-Position-Position-2, in-Position-Position-3}
 use Rattle.kalah_jobs.proofs.files.entry.is_same_entry.Goals as goal
 

@@ -1,5 +1,5 @@
 use Rattle.kalah_jobs.specs.Line.Line.{without_cr}
-use Rattle.kalah_jobs.proofs.LineLemmas.Texts.{is_line_text}
+use Rattle.kalah_jobs.proofs.LineLemmas.{is_line_text}
 use Rattle.kalah_jobs.proofs.line.laws.every_line_is_its_text.Goals as goal
 
 pub returns : goal.returns

@@ -1,4 +1,4 @@
-use Rattle.kalah_jobs.proofs.LineLemmas.PlainLines.{ending_names_rule}
+use Rattle.kalah_jobs.proofs.LineLemmas.{ending_names_rule}
 use Rattle.kalah_jobs.proofs.line.laws.only_the_ending_names_the_rule.Goals as goal
 
 pub returns : goal.returns

@@ -3,7 +3,7 @@ use Rattle.std.specs.Prelude.{Option, is_some}
 use Rattle.std.proofs.lemmas.Grind.{common_steps}
 use Rattle.std.proofs.lemmas.Bool.{false≢true}
 use Rattle.kalah_jobs.specs.declared.writing.answer.Answer.{Answer}
-use Rattle.kalah_jobs.proofs.Fronts.{front_came, front_within}
+use Rattle.kalah_jobs.proofs.CollectingLemmas.{front_came, front_within}
 use Rattle.kalah_jobs.proofs.collecting.arrivals.Arrivals.take.Goals as goal
 
 pub unreachable-requires : goal.unreachable-requires

@@ -1,6 +1,6 @@
 use Rattle.std.proofs.Common.{arith}
 use Rattle.std.proofs.lemmas.Grind.{common_steps}
-use Rattle.kalah_jobs.proofs.CollectingLemmas.CollectorRuns.{new_counts}
+use Rattle.kalah_jobs.proofs.CollectingLemmas.{new_counts}
 use Rattle.kalah_jobs.proofs.collecting.collector.Collector.new.Goals as goal
 
 pub loop-f-preserved : goal.loop-f-preserved

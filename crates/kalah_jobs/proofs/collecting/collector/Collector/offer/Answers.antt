@@ -2,7 +2,7 @@ use Rattle.std.proofs.Common.{◌≡◌, ◌<◌, ◌∙◌, length, List, ap, s
 use Rattle.std.proofs.lemmas.Grind.{common_steps}
 use Rattle.std.proofs.lemmas.List.{get_or_default}
 use Rattle.kalah_jobs.specs.Collecting.CollectorState.{FileState, no_file, state_of, line_count}
-use Rattle.kalah_jobs.proofs.CollectingLemmas.CollectorSteps.{lines_are, counts}
+use Rattle.kalah_jobs.proofs.CollectingLemmas.{lines_are, counts}
 use Rattle.kalah_jobs.proofs.collecting.collector.Collector.offer.Goals as goal
 
 pub entry-own-requires-clause-line : goal.entry-own-requires-clause-line

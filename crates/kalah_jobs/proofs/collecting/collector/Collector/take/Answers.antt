@@ -1,6 +1,6 @@
 use Rattle.std.proofs.Common.{arith}
 use Rattle.std.proofs.lemmas.Grind.{common_steps}
-use Rattle.kalah_jobs.proofs.CollectingLemmas.CollectorSteps.{counts}
+use Rattle.kalah_jobs.proofs.CollectingLemmas.{counts}
 use Rattle.kalah_jobs.proofs.collecting.collector.Collector.take.Goals as goal
 
 pub returns-then-f-len-clause-takes : goal.returns-then-f-len-clause-takes

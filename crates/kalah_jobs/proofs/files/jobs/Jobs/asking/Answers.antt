@@ -5,7 +5,7 @@ use Rattle.std.proofs.lemmas.List.Sums.{count_by-le-length}
 use Rattle.kalah_jobs.specs.Files.NamedBytes.{NamedBytes}
 use Rattle.kalah_jobs.specs.Files.Jobs.{AreCounted, AreFew, entries_to, jobs_to}
 use Rattle.kalah_jobs.specs.Writing.Answer.{is_faulty_entry}
-use Rattle.kalah_jobs.proofs.FilesLemmas.JobCounts.{all_counted, by_file_is, counted_low, counted_none, few_jobs, read_more}
+use Rattle.kalah_jobs.proofs.FilesLemmas.{all_counted, by_file_is, counted_low, counted_none, few_jobs, read_more}
 use Rattle.kalah_jobs.proofs.files.jobs.Jobs.asking.Goals as goal
 use Rattle.kalah_jobs.proofs.files.jobs.Jobs.asking.Goals.{After-len}
 

@@ -3,7 +3,7 @@ use Rattle.std.specs.List.Sorted.{IsNonDecreasing}
 use Rattle.std.proofs.Math.Dec.{leb}
 use Rattle.std.proofs.lemmas.List.Sorted.{IsPartitionedBy-leb, IsPartitionPoint-from_clause}
 use Rattle.kalah_jobs.specs.Files.Jobs.{AreCounted, job_count}
-use Rattle.kalah_jobs.proofs.FilesLemmas.JobCounts.{AreStarted, HasJob, all_counted, entry_there, has_job, offset_is, offsets_rise, slice_get-job_list}
+use Rattle.kalah_jobs.proofs.FilesLemmas.{AreStarted, HasJob, all_counted, entry_there, has_job, offset_is, offsets_rise, slice_get-job_list}
 use Rattle.kalah_jobs.proofs.files.jobs.Jobs.find.Goals.{After-partition_point-file}
 use Rattle.kalah_jobs.proofs.files.jobs.Jobs.find.Goals as goal
 

@@ -1,7 +1,5 @@
 use Rattle.std.proofs.Common.{◌∙◌, length, refl, ap, arith}
-use Rattle.kalah_jobs.proofs.LineLemmas.Forms.{made, no_rule, ending_is_read, sides_are_written, written_is_line}
-use Rattle.kalah_jobs.proofs.LineLemmas.Numbers.{number_low}
-use Rattle.kalah_jobs.proofs.LineLemmas.Sides.{houses_are_some, side_shorter}
+use Rattle.kalah_jobs.proofs.LineLemmas.{made, no_rule, ending_is_read, sides_are_written, written_is_line, number_low, houses_are_some, side_shorter}
 use Rattle.kalah_jobs.specs.Line.Reading.{rule_of, written_of}
 use Rattle.kalah_jobs.proofs.line.parsed_line.ParsedLine.read.Goals as goal
 

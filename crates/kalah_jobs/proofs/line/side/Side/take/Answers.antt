@@ -1,5 +1,5 @@
 use Rattle.std.proofs.Common.{◌∷◌, ◌++◌, []}
-use Rattle.kalah_jobs.proofs.LineLemmas.Sides.{begins_taking, house_follows, no_house, nothing_follows, store_follows}
+use Rattle.kalah_jobs.proofs.LineLemmas.{begins_taking, house_follows, no_house, nothing_follows, store_follows}
 use Rattle.kalah_jobs.proofs.line.side.Side.take.Goals as goal
 
 pub loop-seeds-init : goal.loop-seeds-init

@@ -1,5 +1,5 @@
 use Rattle.std.proofs.Common.{length}
-use Rattle.kalah_jobs.proofs.LineLemmas.Sides.{IsTaking}
+use Rattle.kalah_jobs.proofs.LineLemmas.{IsTaking}
 use Rattle.kalah_jobs.proofs.line.side.Side.take.Given as goal
 
 abbrev pub invariant-loop-seeds : goal.invariant-loop-seeds

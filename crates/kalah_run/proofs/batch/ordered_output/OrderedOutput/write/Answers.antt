@@ -1,7 +1,7 @@
 use Rattle.std.proofs.Common.{arith, refl, rules, List, ℕ, ◌<◌, ◌≤◌, ap, length, subst, sym, ◌++◌, ◌∙◌}
 use Rattle.kalah_jobs.specs.Collecting.CollectorState.{FileState, front, state_of}
 use Rattle.kalah_jobs.specs.Files.NamedBytes.{NamedBytes}
-use Rattle.kalah_jobs.proofs.CollectingLemmas.CollectorSteps.{files_many}
+use Rattle.kalah_jobs.proofs.CollectingLemmas.{files_many}
 use Rattle.kalah_run.specs.Batch.UnderWay.{WasGiven}
 use Rattle.kalah_run.proofs.BatchLemmas.Progress.{wrote_file, wrote_line, wrote_nothing}
 use Rattle.kalah_run.proofs.BatchLemmas.Giving.{given_off, given_on}
