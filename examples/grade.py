@@ -14,6 +14,7 @@ examples/kalah.py says.
 
 import csv
 from collections import namedtuple
+from contextlib import nullcontext
 from itertools import groupby
 
 import rules
@@ -102,15 +103,14 @@ def summary(name, graded, over):
         )
 
 
-def write(path, graded):
+def write(file, graded):
     """Writes a row for each position that isn't over."""
-    with open(path, "w", newline="") as file:
-        table = csv.writer(file)
-        table.writerow(COLUMNS)
-        for one in graded:
-            best = max(one.values, key=one.values.get)
-            answer = [one.house, one.values.get(one.house), best, margin(one), lost(one)]
-            table.writerow([one.number, one.line, one.seeds, len(one.values), *answer])
+    table = csv.writer(file)
+    table.writerow(COLUMNS)
+    for one in graded:
+        best = max(one.values, key=one.values.get)
+        answer = [one.house, one.values.get(one.house), best, margin(one), lost(one)]
+        table.writerow([one.number, one.line, one.seeds, len(one.values), *answer])
 
 
 def main():
@@ -127,14 +127,14 @@ def main():
             named = Named(file.read().splitlines())
     else:
         named = player(asked.engine, asked.timeout)
-    with named, Solver(Values) as solver:
+    with named, Solver(Values) as solver, open(asked.csv, "w", newline="") if asked.csv else nullcontext() as table:
         grader = Grader(solver, named)
         _, has_failed = of_lines(asked.file, grader.grade)
+        if table:
+            write(table, grader.graded)
     if asked.houses and len(named.words) > grader.number:
         raise ValueError(f"{asked.houses} has {len(named.words)} lines for {grader.number} positions")
     print(*summary(asked.file, grader.graded, grader.over), sep="\n")
-    if asked.csv:
-        write(asked.csv, grader.graded)
     return has_failed
 
 

@@ -27,7 +27,10 @@ class Engine(Solver):
 
     def __init__(self, command, timeout):
         super().__init__(timeout=timeout)
-        self.name, self.words = command, shlex.split(command)
+        try:
+            self.name, self.words = command, shlex.split(command)
+        except ValueError:
+            raise Gone(f"the quotes of {command!r} don't close") from None
         if not self.words or not which(self.words[0]):
             raise Gone(f"there is no program {command!r}")
 
