@@ -130,6 +130,21 @@ def try_values(draw, solver):
     must(rules.ask(solver, "0,0/3 40,0/1") == kalah.Over(-38), "rules.py: the end of a game needs values")
 
 
+def try_plain(draw, folder):
+    """The plain engine names the house that a search sees as best."""
+    lines = [drawn_line(draw, 4, 8) for _ in range(GAMES)]
+    seen_best = []
+    for line in lines:
+        found = seen_of(reference.read(line.encode()), 3)
+        seen_best.append(str(max(found, key=found.get)))
+    text = "\n".join([*lines, USUAL, "0,0/3 1,2/4", ""])
+    out = output(folder, "plain.py", 3, text=text)[0].splitlines()
+    must(out[:-2] == seen_best and out[-2] in "123456" and out[-1] == "none", f"plain.py: {out} in place of {seen_best}")
+    (folder / "a b.txt").write_text(text + "1/0\n")
+    again, err = output(folder, "plain.py", 3, "a b.txt", status=1)
+    must(again.splitlines() == out and err == "plain.py: fault shape\n", f"plain.py: {again}{err}")
+
+
 class GameTrials:
     """What the scripts say of games, above the limit and below it."""
 
@@ -322,6 +337,7 @@ def try_games(program, folder, seed):
     with kalah.Solver(kalah.Values) as solver:
         try_values(drawn.chance, solver)
         GameTrials(drawn.chance, solver).run()
+    try_plain(drawn.chance, folder)
     try_usual_board(program, folder)
     try_drawn_positions(folder, drawn.chance)
     try_booklet(folder)
