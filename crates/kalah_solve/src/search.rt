@@ -164,8 +164,8 @@ impl<A: Allocator + Clone> Search<A> {
     }
 
     // Returns a fail-soft bound of how many seeds the mover takes. From `bar` on it is a lower bound, and below `bar` an upper one.
-    #[cycle(search)]
     #[inline(always)]
+    #[cycle(search)]
     fn bound(&mut self, houses: Houses, bar: u8) -> u8
         requires going { is_over (bare houses) ≡ false }
         ensures { IsSoftBound bar (won houses) result }
@@ -209,6 +209,7 @@ impl<A: Allocator + Clone> Search<A> {
     }
 
     // The same, by trying the moves.
+    #[inline(always)]
     #[cycle(search)]
     fn explore(&mut self, houses: &Houses, bar: u8) -> u8
         requires going { is_over (bare houses.now) ≡ false }
@@ -243,6 +244,7 @@ impl<A: Allocator + Clone> Search<A> {
     }
 
     // Tries the moves that end in the store, the nearest to it first. Returns the most that they take, or a bound that is enough.
+    #[inline(always)]
     #[cycle(search)]
     fn bound_again(&mut self, houses: &Houses, bar: u8) -> u8
         requires going { is_over (bare houses.now) ≡ false }
@@ -267,6 +269,7 @@ impl<A: Allocator + Clone> Search<A> {
 
     // Plays each of the other moves once. Returns the most that they take, or a bound that is enough. The turns that wait are written
     // down, each with its priority, which is 0 for the others.
+    #[inline(always)]
     #[cycle(search)]
     fn others_waiting(
         &mut self,
@@ -302,6 +305,7 @@ impl<A: Allocator + Clone> Search<A> {
     }
 
     // Plays this house. It waits if it is a turn that must be searched.
+    #[inline(always)]
     #[cycle(search)]
     fn look(&mut self, houses: &Houses, house: House, bar: u8) -> Look
         requires legal { Contains (legal_houses (bare houses.now)) house }
@@ -322,6 +326,7 @@ impl<A: Allocator + Clone> Search<A> {
     }
 
     // Returns a fail-soft bound of what a step takes.
+    #[inline(always)]
     #[cycle(search)]
     fn bound_step(&mut self, step: HousesStep, bar: u8) -> u8
         requires on { GoesOn step }
@@ -341,6 +346,7 @@ impl<A: Allocator + Clone> Search<A> {
     }
 
     // Returns a fail-soft bound of what a turn takes: the `gained` seeds that it brought to the store, and what the other player leaves.
+    #[inline(always)]
     #[cycle(search)]
     fn bound_turn(&mut self, gained: u8, next: Houses, bar: u8) -> u8
         requires on { GoesOnAt gained next }
