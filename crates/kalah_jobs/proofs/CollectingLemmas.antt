@@ -12,7 +12,7 @@ use Rattle.std.proofs.lemmas.List.Sums.{sum_by-cons, sum_by-append, get_or-le-su
 use Rattle.std.proofs.lemmas.List.Elements.{All-nil, All-cons, All-head, All-tail, Contains-append_left, Contains-push, Contains-push_cases, Contains-append_right}
 use Rattle.std.proofs.lemmas.List.{length-map, length-append, nil_from_length, get_or_default, length-replicate, append-nil, append_assoc, take_all, take_more, get_or-map}
 use Rattle.kalah_jobs.specs.Collecting.Shares.{times_in, of, AreShared}
-use Rattle.kalah_jobs.proofs.FilesLemmas.{count_map, slice_get-job_list}
+use Rattle.kalah_jobs.proofs.FilesLemmas.{count_map, slice_get-job_list, count_flat}
 use Rattle.std.proofs.lemmas.Option.{slice_get_within, get_or_from_slice_get, slice_get-get_or}
 use Rattle.kalah_jobs.specs.declared.files.entry.Entry.{Entry}
 use Rattle.kalah_jobs.specs.declared.collecting.refusal.Refusal.{Refusal}
@@ -239,16 +239,6 @@ all_below n [] none = All-nil (λ x. x < n)
 all_below n (z ∷ zs) none =
     let low : z < n = elim (cases_lt z n) [ inl low ↦ low | inr high ↦ absurd (omega (arith, none z high, times_same z zs)) ] in
     All-cons (λ x. x < n) z zs low (all_below n zs (λ x high. omega (arith, none x high, times_more x z zs)))
-
--- rows counted in one list
-count_flat : (q : ℕ → Bool) (rows : List (List ℕ)) → count_by q (flat_map (λ r. r) rows) ≡ sum_by (λ r. count_by q r) rows
-count_flat q [] = refl
-count_flat q (r ∷ rs) = omega (
-  arith,
-  count_flat q rs,
-  sum_by-cons (λ r. count_by q r) r rs,
-  sum_by-append (λ x. cond (q x) 1 0) r (flat_map (λ r. r) rs),
-)
 
 -- in lawful rows, as many numbers pass a test as among all numbers below n
 rows_count : (n : ℕ) (rows : List (List ℕ)) (q : ℕ → Bool) → ((x : ℕ) → times_in x rows ≡ (if nat_lt x n then 1 else 0)) →

@@ -5,27 +5,25 @@ use Rattle.kalah_rules.specs.contracts.board.BoardPartialEq.TheImpl as board_eq
 use Rattle.std.proofs.Common.{◌≡◌, ◌≢◌, ℕ, ◌+◌, ◌<◌, ◌≤◌, List, [], ◌∷◌, ◌++◌, length, get_or, take, drop, take-append-drop, refl, ap, sym, ◌∙◌, arith, length-drop, ◌⊎◌, inl, inr, ⊎_elim, subst, append_assoc, Result, Ok, Err, zero, suc, ◌-◌, Bool, true, false, cond, map, ap₂, length-append, ◌&&◌, ◌==◌}
 use Rattle.std.specs.Prelude.{if◌then◌else◌, All, Some, slice_get, slice_index_or, sum_by, count_by, ◌↔◌}
 use Rattle.std.specs.List.{onto_first, flat_map}
-use Rattle.std.proofs.lemmas.List.{take_all, drop_all, drop_more, append-nil, take_more, take-take, take-append-le, get_or_append_left, get_or_default, length-map, map-append}
+use Rattle.std.proofs.lemmas.List.{take_all, drop_all, drop_more, append-nil, take_more, take-take, take-append-le, get_or_append_left, get_or_default, length-map, map-append, get_or-map}
 use Rattle.std.proofs.lemmas.List.Elements.{All-head, All-tail, All-nil, All-cons}
-use Rattle.std.proofs.Math.Seq.{take-nil, drop-append_seam, get_or-append_seam}
-use Rattle.std.proofs.lemmas.List.Sums.{sum_by-cons, sum_by_push, sum_by-take-le}
+use Rattle.std.proofs.Math.Seq.{take-nil, get_or-append_seam}
+use Rattle.std.proofs.lemmas.List.Sums.{sum_by-cons, sum_by-append, sum_by_push, sum_by-take-le, get_or-le-sum_by, count_by-le-length}
 use Rattle.kalah_jobs.specs.Files.Lines.{line_feed, lines_of, HasNoLineFeed, with_line_feeds, EndsInOpenLine, AreLines, LinesAreOne}
-use Rattle.std.proofs.lemmas.Bool.{cases_eq, cases_lt, leb-true, leb-false, and_parts, eqb-true}
+use Rattle.std.proofs.lemmas.Bool.{cases_eq, cases_lt, and_parts, eqb-true}
 use Rattle.kalah_jobs.specs.Line.Reading.{reading_of}
 use Rattle.kalah_jobs.specs.declared.line.line_fault.LineFault.{LineFault}
 use Rattle.kalah_jobs.specs.declared.files.entry.Entry.{Entry}
 use Rattle.kalah_jobs.specs.declared.files.entry.Entry.TheVariants.{Position, ValuesOf, StepsOf, Bad}
 use Rattle.kalah_jobs.specs.Files.Entry.{Says, entry_of_reading, entry_of, EntriesAreOne}
 use Rattle.kalah_jobs.proofs.LineLemmas.{IsReading, is_reading, only_reading}
-use Rattle.std.specs.List.Sorted.{IsNonDecreasing, IsPartitionPoint}
-use Rattle.std.proofs.Math.Dec.{leb}
-use Rattle.std.proofs.lemmas.Option.{slice_get-get_or, slice_get-map, slice_get_within}
-use Rattle.std.proofs.lemmas.List.Concat.{flat_map-append}
+use Rattle.std.proofs.lemmas.Option.{slice_get_within}
+use Rattle.std.proofs.lemmas.List.Concat.{length-flat_map}
 use Rattle.kalah_jobs.specs.declared.files.job.Job.{Job}
 use Rattle.kalah_jobs.specs.Files.NamedBytes.{NamedBytes}
-use Rattle.kalah_jobs.specs.Files.JobList.{entries_of, line_job, file_jobs, jobs_from, job_list, by_file}
-use Rattle.kalah_jobs.specs.Limits.{most_files, most_lines}
-use Rattle.kalah_jobs.specs.Files.Jobs.{lines_in_all, lines_in, entries_to, jobs_to, job_count, AreCounted, AreFew}
+use Rattle.kalah_jobs.specs.Files.JobList.{entries_of, line_job, file_jobs, jobs_from, job_list}
+use Rattle.kalah_jobs.specs.Limits.{most_lines}
+use Rattle.kalah_jobs.specs.Files.Jobs.{lines_in_all, lines_in, entries_to, jobs_to, job_count, AreStarts}
 use Rattle.kalah_jobs.specs.Files.Question.{entry_to, entry_asked}
 use Rattle.kalah_jobs.specs.declared.files.question.Question.{Question}
 use Rattle.kalah_rules.specs.Position.{is_over, final_margin, IsWithinLimits, rows_of, seeds_in_houses}
@@ -279,11 +277,6 @@ entries_are_one = record { some = says; one = says_once }
 job_count-cons : (entries : List Entry) (jobs : List (List Entry)) → job_count (entries ∷ jobs) ≡ length entries + job_count jobs
 job_count-cons entries jobs = sum_by-cons length entries jobs
 
--- fewer files have fewer jobs
-pub job_count-take : (jobs : List (List Entry)) (f g : ℕ) → f ≤ g → job_count (take f jobs) ≤ job_count (take g jobs)
-job_count-take jobs f g low =
-    subst (λ first. job_count first ≤ job_count (take g jobs)) (take-take f g jobs low) (sum_by-take-le length (take g jobs) f)
-
 -- of the results of f as many pass a test as there are elements whose result does
 pub count_map : {A X : Type 0} (p : X → Bool) (f : A → X) (xs : List A) → count_by p (map f xs) ≡ count_by (λ x. p (f x)) xs
 count_map p f [] = refl
@@ -294,13 +287,23 @@ count_map {A} {X} p f (x ∷ xs) = omega (
   sum_by-cons (λ (y : A). cond (p (f y)) 1 0) x xs,
 )
 
+-- rows counted in one list
+pub count_flat : {X : Type 0} (q : X → Bool) (rows : List (List X)) →
+    count_by q (flat_map (λ r. r) rows) ≡ sum_by (λ r. count_by q r) rows
+count_flat q [] = refl
+count_flat {X} q (r ∷ rs) = omega (
+  arith,
+  count_flat q rs,
+  sum_by-cons (λ (r : List X). count_by q r) r rs,
+  sum_by-append (λ (x : X). cond (q x) 1 0) r (flat_map (λ (r : List X). r) rs),
+)
+
 -- the entries of all files
 abbrev pub all_entries : List (List Entry) → List Entry
 all_entries jobs = flat_map (λ own. own) jobs
 
 pub length-all_entries : (jobs : List (List Entry)) → length (all_entries jobs) ≡ job_count jobs
-length-all_entries [] = refl
-length-all_entries (own ∷ jobs) = omega (arith, length-append own (all_entries jobs), length-all_entries jobs, job_count-cons own jobs)
+length-all_entries jobs = length-flat_map (λ (own : List Entry). own) jobs
 
 entries_of_file : (f k : ℕ) (own : List Entry) → map (λ (o : Job). o.entry) (file_jobs f k own) ≡ own
 entries_of_file f k [] = refl
@@ -370,128 +373,16 @@ pub slice_get-job_list : (jobs : List (List Entry)) (f k n : ℕ) (e : Entry) �
     → slice_get (job_list jobs) n ≡ Some (line_job f k e)
 slice_get-job_list jobs f k n e number is = slice_get-jobs_from 0 f f k n jobs e (omega arith) number is
 
--- so its entry comes after the entries of those files
-slice_get-all_entries : (jobs : List (List Entry)) (f k n : ℕ) (e : Entry) → n ≡ job_count (take f jobs) + k →
-    slice_get (entries_of jobs f) k ≡ Some e → slice_get (all_entries jobs) n ≡ Some e
-slice_get-all_entries jobs f k n e number is =
-    rw (← entries_of_jobs jobs, slice_get-map, slice_get-job_list jobs f k n e number is) refl
+-- ---- the place of a job among the files
 
--- ---- the entries of all files in one list
-
--- the entries between two offsets
-between : {X : Type 0} (past own rest : List X) (start end : ℕ) → start ≡ length past → end ≡ length past + length own
-    → take (end - start) (drop start (past ++ (own ++ rest))) ≡ own
-between past own rest start end start_is end_is =
-    let many : end - start ≡ length own = omega arith in
-    rw (many, start_is, drop-append_seam past (own ++ rest), take-append-le (length own) own rest (omega arith))
-    (take_all (length own) own (omega arith))
-
--- cut at its offsets, the list is that of the files again
-by_file_beyond : (past : List Entry) (jobs : List (List Entry)) (offsets : List ℕ) → length offsets ≡ suc (length jobs)
-    → ((f : ℕ) → f ≤ length jobs → get_or offsets f 0 ≡ length past + job_count (take f jobs))
-    → by_file offsets (past ++ all_entries jobs) ≡ jobs
-by_file_beyond past jobs [] as_many before = absurd (omega arith)
-by_file_beyond past [] (start ∷ []) as_many before = refl
-by_file_beyond past [] (start ∷ end ∷ offsets) as_many before = absurd (omega arith)
-by_file_beyond past (own ∷ jobs) (start ∷ []) as_many before = absurd (omega arith)
-by_file_beyond past (own ∷ jobs) (start ∷ end ∷ offsets) as_many before =
-    let start_is : start ≡ length past = omega (arith, before 0 (omega arith)) in
-    let end_is : end ≡ length past + length own = omega (arith, before 1 (omega arith), job_count-cons own (take 0 jobs)) in
-    let beyond = by_file_beyond (past ++ own) jobs (end ∷ offsets) (omega arith) (λ f low.
-    omega (arith, before (suc f) (omega arith), job_count-cons own (take f jobs), length-append past own)) in
-    ap (λ first. first ∷ by_file (end ∷ offsets) (past ++ (own ++ all_entries jobs)))
-    (between past own (all_entries jobs) start end start_is end_is)
-    ∙ ap (λ entries. own ∷ by_file (end ∷ offsets) entries) (sym (append_assoc past own (all_entries jobs)))
-    ∙ ap (λ others. own ∷ others) beyond
-
--- between two offsets are the lines of a file
+-- after the jobs of some files come those of the next one
 pub lines_between : (jobs : List (List Entry)) (f : ℕ) → f < length jobs
     → job_count (take (f + 1) jobs) ≡ job_count (take f jobs) + length (entries_of jobs f)
 lines_between jobs f within = ap job_count (take_more jobs f [] within) ∙ sum_by_push length (take f jobs) (entries_of jobs f)
 
--- p is how many offsets are at most n
-abbrev pub AreStarted : List ℕ → ℕ → ℕ → Type 0
-AreStarted offsets n p = IsPartitionPoint (λ y. leb y n ≡ true) (λ y. leb y n ≡ false) offsets p
-
--- the file before that point has the job
-pub record HasJob (jobs : List (List Entry)) (n p : ℕ) : Type 0 where
-  pub some : 1 ≤ p
-  pub within : p - 1 < length jobs
-  pub low : job_count (take (p - 1) jobs) ≤ n
-  pub line : n - job_count (take (p - 1) jobs) < length (entries_of jobs (p - 1))
-
--- jobs are stored by their offsets and entries
-module _ {jobs : List (List Entry)} {offsets : List ℕ} {entries : List Entry} (counted : AreCounted jobs offsets entries) where
-  pub by_file_is : by_file offsets entries ≡ jobs
-  by_file_is =
-      ap (by_file offsets) counted.entries_are
-      ∙ by_file_beyond [] jobs offsets counted.as_many (λ f low. omega (arith, counted.before f low))
-
-  -- there are as many entries as jobs
-  pub all_counted : length entries ≡ job_count jobs
-  all_counted = ap length counted.entries_are ∙ length-all_entries jobs
-
-  -- an offset, read for any default
-  pub offset_is : (f d : ℕ) → f ≤ length jobs → get_or offsets f d ≡ job_count (take f jobs)
-  offset_is f d low = get_or_default offsets f d 0 (omega (arith, counted.as_many)) ∙ counted.before f low
-
-  -- the offsets ascend
-  pub offsets_rise : IsNonDecreasing offsets
-  offsets_rise i j d low high =
-      let within : j ≤ length jobs = omega (arith, counted.as_many) in
-      omega (arith, offset_is i d (omega arith), offset_is j d within, job_count-take jobs i j low)
-
-  -- none is greater than the next
-  pub offset_low : (f d e : ℕ) → f < length jobs → get_or offsets f d ≤ get_or offsets (f + 1) e
-  offset_low f d e low =
-      omega (arith, offset_is f d (omega arith), offset_is (f + 1) e (omega arith), job_count-take jobs f (f + 1) (omega arith))
-
-  -- line k of file f is among the entries
-  pub line_within : (f k : ℕ) → f < length jobs → k < length (entries_of jobs f) → job_count (take f jobs) + k < length entries
-  line_within f k within low =
-      omega (
-        arith,
-        lines_between jobs f within,
-        job_count-take jobs (f + 1) (length jobs) (omega arith),
-        ap job_count (take_all (length jobs) jobs (omega arith)),
-        all_counted,
-      )
-
-  -- the entry that stands there is that of the line
-  pub entry_there : (f k n : ℕ) (e : Entry) → f < length jobs → k < length (entries_of jobs f) →
-      n ≡ job_count (take f jobs) + k → e ≡ get_or entries n e → slice_get (entries_of jobs f) k ≡ Some e
-  entry_there f k n e within low number is =
-      let own = slice_get-get_or (entries_of jobs f) k e low in
-      own ∙ sym (slice_get-all_entries jobs f k n _ number own)
-      ∙ ap (λ all. slice_get all n) (sym counted.entries_are)
-      ∙ slice_get-get_or entries n e (omega (arith, number, line_within f k within low)) ∙ ap Some (sym is)
-
-  pub has_job : (n p : ℕ) → n < job_count jobs → AreStarted offsets n p → p ≤ length offsets → HasJob jobs n p
-  has_job n p few started bound =
-      let last = ap job_count (take_all (length jobs) jobs (omega arith)) in
-      let some : 1 ≤ p = elim (cases_lt p 1) [
-        | inl none ↦
-            let past = leb-false (get_or offsets 0 0) n (started.1 0 0 (omega arith) (omega (arith, counted.as_many))) in
-            absurd (omega (arith, past, counted.before 0 (omega arith)))
-        | inr some ↦ some
-      ] in
-      let within : p ≤ length jobs = elim (cases_lt (length jobs) p) [
-        | inl all ↦
-            let past = leb-true (get_or offsets (length jobs) 0) n (started.0 (length jobs) 0 (omega arith) all) in
-            absurd (omega (arith, past, counted.before (length jobs) (omega arith), last))
-        | inr within ↦ within
-      ] in
-      let first = leb-true (get_or offsets (p - 1) 0) n (started.0 (p - 1) 0 (omega arith) (omega (arith, some))) in
-      let past = leb-false (get_or offsets p 0) n (started.1 p 0 (omega arith) (omega (arith, within, counted.as_many))) in
-      let low : job_count (take (p - 1) jobs) ≤ n = omega (arith, first, counted.before (p - 1) (omega (arith, within))) in
-      let same : p - 1 + 1 ≡ p = omega (arith, some) in
-      let own = rw same at (lines_between jobs (p - 1) (omega (arith, some, within))) in
-      record {
-        some = some;
-        within = omega (arith, some, within);
-        low = low;
-        line = omega (arith, low, past, counted.before p within, own);
-      }
+-- a file has no more lines than all together
+file_low : (jobs : List (List Entry)) (f : ℕ) → f < length jobs → length (entries_of jobs f) ≤ job_count jobs
+file_low jobs f within = get_or-le-sum_by length jobs f [] within
 
 -- ---- while the files are read
 
@@ -511,77 +402,68 @@ job_count-jobs_to question (file ∷ files) =
       job_count-jobs_to question files,
     )
 
--- no file is read
-pub counted_none : AreCounted [] (0 ∷ []) []
-counted_none = record {
-  entries_are = refl;
-  as_many = refl;
-  before = λ f low. ap (λ g. get_or (0 ∷ []) g 0) (let none : f ≡ 0 = omega arith in none)
-      ∙ sym (ap job_count (take_all f [] (omega arith)));
-}
-
--- one file more is counted
-counted_more : {jobs : List (List Entry)} {offsets : List ℕ} {entries : List Entry} {all : ℕ} (own : List Entry) →
-    AreCounted jobs offsets entries
-    → all ≡ length (entries ++ own) → AreCounted (jobs ++ own ∷ []) (offsets ++ all ∷ []) (entries ++ own)
-counted_more {jobs} {offsets} {entries} {all} own counted all_is =
-    let many = length-append jobs (own ∷ []) in
-    let more : all_entries (jobs ++ own ∷ []) ≡ entries ++ own =
-    flat_map-append (λ (others : List Entry). others) jobs (own ∷ [])
-    ∙ ap (λ others. all_entries jobs ++ others) (append-nil own)
-    ∙ ap (λ others. others ++ own) (sym counted.entries_are) in
-    record {
-      entries_are = sym more;
-      as_many = omega (arith, counted.as_many, length-append offsets (all ∷ []), many);
-      before = λ f low. elim (cases_lt (length jobs) f) [
-        | inl new ↦
-            let at : f ≡ length offsets = omega (arith, counted.as_many, many) in
-            ap (λ n. get_or (offsets ++ all ∷ []) n 0) at
-            ∙ get_or-append_seam offsets all [] 0
-            ∙ all_is
-            ∙ ap length (sym more)
-            ∙ length-all_entries (jobs ++ own ∷ [])
-            ∙ ap job_count (sym (take_all f (jobs ++ own ∷ []) (omega (arith, at, counted.as_many, many))))
-        | inr old ↦
-            get_or_append_left offsets (all ∷ []) 0 f (omega (arith, counted.as_many))
-            ∙ counted.before f old
-            ∙ ap job_count (sym (take-append-le f jobs (own ∷ []) old))
-      ];
-    }
-
--- one file more is read
-pub read_more : (question : Question) (files : List NamedBytes) {i : ℕ} {offsets : List ℕ} {entries own : List Entry}
-    {file : NamedBytes} {all : ℕ}
-    → AreCounted (jobs_to question (take i files)) offsets entries → i < length files → file ≡ get_or files i file
-    → own ≡ entries_to question file.bytes → all ≡ length (entries ++ own)
-    → AreCounted (jobs_to question (take (i + 1) files)) (offsets ++ all ∷ []) (entries ++ own)
-read_more question files {i} {offsets} {entries} {own} {file} {all} counted low is read all_is =
-    let more : take (i + 1) files ≡ take i files ++ file ∷ [] = take_more files i file low
-    ∙ ap (λ x. take i files ++ x ∷ []) (sym is) in
-    let jobs_are : jobs_to question (take (i + 1) files) ≡ jobs_to question (take i files) ++ own ∷ [] =
-    ap (jobs_to question) more
-    ∙ map-append (λ (f : NamedBytes). entries_to question f.bytes) (take i files) (file ∷ [])
-    ∙ ap (λ r. jobs_to question (take i files) ++ r ∷ []) (sym read) in
-    subst (λ jobs. AreCounted jobs (offsets ++ all ∷ []) (entries ++ own)) (sym jobs_are)
-    (counted_more own counted all_is)
-
--- the entries so far are no more than the lines of all files
+-- the jobs so far are no more than the lines of all files
 pub counted_low : (question : Question) (files : List NamedBytes) (i : ℕ) →
     job_count (jobs_to question (take i files)) ≤ lines_in_all files
 counted_low question files i =
     let all : job_count (jobs_to question (take i files)) ≡ sum_by lines_in (take i files) = job_count-jobs_to question (take i files) in
     omega (arith, all, sum_by-take-le lines_in files i)
 
--- of as many files and lines as a batch may have
-pub few_jobs : (question : Question) (files : List NamedBytes) → length files ≤ most_files → lines_in_all files ≤ most_lines
-    → AreFew (jobs_to question files)
-few_jobs question files few_files few_lines = record {
-  few_files = omega (arith, few_files, length-map files (λ (f : NamedBytes). entries_to question f.bytes));
-  few_lines = omega (arith, few_lines, job_count-jobs_to question files);
+-- nor are those of them that pass a test
+passing_low : (p : Entry → Bool) (jobs : List (List Entry)) → sum_by (count_by p) jobs ≤ job_count jobs
+passing_low p [] = omega arith
+passing_low p (own ∷ jobs) =
+    omega (arith, passing_low p jobs, count_by-le-length p own, sum_by-cons (count_by p) own jobs, job_count-cons own jobs)
+
+-- nor are those among the files so far
+pub passing_so_far : (p : Entry → Bool) (question : Question) (files : List NamedBytes) (i : ℕ) {jobs : List (List Entry)} {n : ℕ}
+    → jobs ≡ jobs_to question (take i files) → n ≡ sum_by (count_by p) jobs → n ≤ lines_in_all files
+passing_so_far p question files i {jobs} {n} are is =
+    omega (arith, is, passing_low p jobs, ap job_count are, counted_low question files i)
+
+-- the entries of a file, as they are stored
+pub stored_lines : {V : Type 0} (items : V → List Entry) (files : List V) {jobs : List (List Entry)} (f : ℕ) (own : V) →
+    map items files ≡ jobs → own ≡ get_or files f own → f < length jobs → entries_of jobs f ≡ items own
+stored_lines items files f own is at within =
+    ap (λ jobs. entries_of jobs f) (sym is)
+    ∙ get_or-map items files f own [] (omega (arith, within, ap length is, length-map files items)) ∙ ap items (sym at)
+
+-- nothing starts before the first file
+pub starts_none : AreStarts [] []
+starts_none = record { as_many = refl; before = λ f low. absurd (omega (arith, low)) }
+
+-- one file more starts after all jobs so far
+pub starts_more : {jobs : List (List Entry)} {starts : List ℕ} {start : ℕ} (own : List Entry) → AreStarts jobs starts →
+    start ≡ job_count jobs → AreStarts (jobs ++ own ∷ []) (starts ++ start ∷ [])
+starts_more {jobs} {starts} {start} own so_far is = record {
+  as_many = omega (arith, so_far.as_many, length-append starts (start ∷ []), length-append jobs (own ∷ []));
+  before = λ f low.
+      let end : f ≤ length jobs = omega (arith, low, length-append jobs (own ∷ [])) in
+      let first = ap job_count (take-append-le f jobs (own ∷ []) end) in
+      elim (cases_lt f (length jobs)) [
+        | inl old ↦
+            get_or_append_left starts (start ∷ []) 0 f (omega (arith, so_far.as_many, old)) ∙ so_far.before f old ∙ sym first
+        | inr new ↦
+            ap (λ n. get_or (starts ++ start ∷ []) n 0) (let at : f ≡ length starts = omega (arith, so_far.as_many, end, new) in at)
+            ∙ get_or-append_seam starts start [] 0 ∙ is ∙ sym (first ∙ ap job_count (take_all f jobs new))
+      ];
 }
 
+-- a start, read for any default
+pub start_is : {jobs : List (List Entry)} {starts : List ℕ} → AreStarts jobs starts → (f x : ℕ) → f < length jobs →
+    x ≡ get_or starts f x → x ≡ job_count (take f jobs)
+start_is {jobs} {starts} of f x low is =
+    is ∙ get_or_default starts f x 0 (omega (arith, of.as_many, low)) ∙ of.before f low
+
+-- they are no more than all lines of a batch
+pub stored_few : {V : Type 0} (items : V → List Entry) (files : List V) {jobs : List (List Entry)} (f : ℕ) (own : V) →
+    map items files ≡ jobs → own ≡ get_or files f own → f < length jobs → job_count (map items files) ≤ most_lines →
+    length (items own) ≤ most_lines
+stored_few items files {jobs} f own is at within few =
+    omega (arith, ap length (stored_lines items files f own is at within), file_low jobs f within, ap job_count is, few)
+
 -- what the functions of jobs need of what is counted
-pub ruleset counts_of_jobs = (all_counted, length-job_list, lines_between, offset_is, offset_low, job_count-take, line_within, entry_there)
+pub ruleset counts_of_jobs = (get_or-map, length-map, length-job_list, lines_between)
 
 -- ==== The lines that are answered by a fault are those that are not read
 
@@ -617,6 +499,10 @@ asked_fault question entry = bad_is_fault (entry_asked question entry) ∙ bad_i
 pub faulty_jobs : (jobs : List (List Entry)) → count_by is_faulty_job (job_list jobs) ≡ count_by is_faulty_entry (all_entries jobs)
 faulty_jobs jobs =
     sym (count_map is_faulty_entry (λ (o : Job). o.entry) (job_list jobs)) ∙ ap (count_by is_faulty_entry) (entries_of_jobs jobs)
+
+-- counted file by file
+pub faults_by_file : (jobs : List (List Entry)) → count_by is_faulty_job (job_list jobs) ≡ sum_by (count_by is_faulty_entry) jobs
+faults_by_file jobs = faulty_jobs jobs ∙ count_flat is_faulty_entry jobs
 
 -- ==== Two boards are equal by `==` exactly when they show the same position
 

@@ -23,7 +23,6 @@ use Rattle.kalah_jobs.specs.declared.line.line_fault.LineFault.TheVariants.{Long
 use Rattle.std.specs.List.{join_with_byte}
 use Rattle.std.proofs.lemmas.List.Elements.{All-head, All-tail, All-from_get_or}
 use Rattle.std.proofs.lemmas.List.Sums.{get_or-le-sum_by}
-use Rattle.kalah_jobs.specs.Line.LineLaws.{ReadsPlainly}
 
 -- ==== What writes a number, what it is read as, and its text
 
@@ -780,26 +779,7 @@ text_is_read_back p limits own_low other_low =
       few_seeds = limits.few_seeds;
     }
 
--- ==== What a line without an ending means, and that only the ending names the rule
-
--- what is read without an ending, of fewer seeds, is read
-pub reads_plainly : (seeds : ℕ) (line : List ℕ) (p : Position) → seeds ≤ most_seeds → ReadsPlainly seeds line p → Reads line p
-reads_plainly seeds line p few reads = record {
-  few_bytes = reads.few_bytes;
-  form = record {
-    own_text = reads.own_text;
-    other_text = reads.other_text;
-    parts =
-        reads.parts ∙ sym (append-nil (reads.own_text ++ space ∷ reads.other_text))
-        ∙ ap (λ (rule : Rule). reads.own_text ++ space ∷ reads.other_text ++ ending_of rule) (sym reads.classic);
-    own_side = reads.own_side;
-    other_side = reads.other_side;
-  };
-  sides = reads.sides;
-  few_seeds = omega (arith, reads.few_seeds, few);
-}
-
--- ---- the last byte
+-- ==== Only the ending of a line names the rule
 
 abbrev last_or : ℕ → List ℕ → ℕ
 last_or byte [] = byte

@@ -1,5 +1,5 @@
 -- The jobs of a batch: of each file the entries of its lines, and all of them in one list.
-use Rattle.std.specs.Prelude.{ℕ, suc, ◌-◌, List, [], ◌∷◌, ◌++◌, take, drop, Option, slice_get, slice_index_or}
+use Rattle.std.specs.Prelude.{ℕ, suc, List, [], ◌∷◌, ◌++◌, Option, slice_get, slice_index_or}
 use Rattle.kalah_jobs.specs.declared.files.entry.Entry.{Entry}
 use Rattle.kalah_jobs.specs.declared.files.job.Job.{Job}
 
@@ -28,9 +28,3 @@ jobs_from f (entries ∷ jobs) = file_jobs f 0 entries ++ jobs_from (suc f) jobs
 -- all jobs in order: files in order, in each its lines in order
 abbrev pub job_list : List (List Entry) → List Job
 job_list jobs = jobs_from 0 jobs
-
--- the entries of the files, if all stand in one list: those of a file are from its offset to the next one
-abbrev pub by_file : List ℕ → List Entry → List (List Entry)
-by_file [] entries = []
-by_file (start ∷ []) entries = []
-by_file (start ∷ end ∷ offsets) entries = take (end - start) (drop start entries) ∷ by_file (end ∷ offsets) entries

@@ -1,10 +1,10 @@
 -- The jobs of a batch, from its files.
-use Rattle.std.specs.Prelude.{◌≡◌, ◌≤◌, ℕ, suc, List, length, map, take, sum_by, slice_index}
-use Rattle.std.specs.List.{flat_map}
+use Rattle.std.specs.Prelude.{◌≡◌, ◌<◌, ◌≤◌, ℕ, List, length, map, take, sum_by, count_by, slice_index}
 use Rattle.kalah_jobs.specs.declared.files.entry.Entry.{Entry}
 use Rattle.kalah_jobs.specs.Files.NamedBytes.{NamedBytes}
 use Rattle.kalah_jobs.specs.Files.Lines.{lines_of}
 use Rattle.kalah_jobs.specs.Files.Question.{entry_to}
+use Rattle.kalah_jobs.specs.Writing.Answer.{is_faulty_entry}
 use Rattle.kalah_jobs.specs.Limits.{most_files, most_lines}
 use Rattle.kalah_jobs.specs.declared.files.question.Question.{Question}
 use Rattle.kalah_jobs.specs.declared.files.question.Question.TheVariants.{BestMove}
@@ -33,14 +33,14 @@ jobs_of files = jobs_to BestMove files
 abbrev pub job_count : List (List Entry) → ℕ
 job_count jobs = sum_by length jobs
 
--- the jobs are within the limits
-pub record AreFew (jobs : List (List Entry)) : Type 0 where
+-- the jobs are within the limits, and these are the numbers of all and of those that are answered by a fault
+pub record AreCounted (jobs : List (List Entry)) (total faults : ℕ) : Type 0 where
   pub few_files : length jobs ≤ most_files
   pub few_lines : job_count jobs ≤ most_lines
+  pub all : total ≡ job_count jobs
+  pub faulty : faults ≡ sum_by (count_by is_faulty_entry) jobs
 
--- The entries of the jobs stand in one list, and `offsets` has for each file the number of jobs of the files before it, and then the
--- number of all jobs.
-pub record AreCounted (jobs : List (List Entry)) (offsets : List ℕ) (entries : List Entry) : Type 0 where
-  pub entries_are : entries ≡ flat_map (λ own. own) jobs
-  pub as_many : length offsets ≡ suc (length jobs)
-  pub before : (f : ℕ) → f ≤ length jobs → slice_index offsets f ≡ job_count (take f jobs)
+-- for each file the number of jobs of the files before it
+pub record AreStarts (jobs : List (List Entry)) (starts : List ℕ) : Type 0 where
+  pub as_many : length starts ≡ length jobs
+  pub before : (f : ℕ) → f < length jobs → slice_index starts f ≡ job_count (take f jobs)

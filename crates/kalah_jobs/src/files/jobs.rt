@@ -1,6 +1,5 @@
 //! The jobs of a batch: the lines of its files.
 ghost use Rattle.std.specs.Prelude.{◌≡◌, ◌<◌, ◌≤◌, ◌↔◌, ◌++◌, ◌+◌, length, count_by, IfNone, IfOk, IfSome, OnOk, slice_get, slice_index, ℕ, Some, Err};
-ghost use Rattle.std.specs.List.Sorted.{IsNonDecreasing};
 ghost use Rattle.kalah_jobs.specs.Files.JobList.{entries_of, line_job, job_list};
 ghost use Rattle.kalah_jobs.specs.Files.Lines.{lines_of};
 ghost use Rattle.kalah_jobs.specs.Limits.{most_files, most_lines};
@@ -46,29 +45,27 @@ impl From<AllocError> for JobsFault {
 /// are numbered file by file, and line by line in each. There are at most 256 files and 1,000,000 lines.
 #[derive(Drop)]
 pub struct Jobs {
-    // The entry of each job.
-    entries: Vec<Entry>,
-    // For each file the number of its first job, and then the number of all jobs.
-    offsets: Vec<u32>,
-    // How many jobs are answered by a fault.
+    // For each file the entries of its lines.
+    files: Vec<Vec<Entry>>,
+    // For each file the number of its first job.
+    starts: Vec<u32>,
+    // The number of jobs.
+    total: u32,
+    // How many of them are answered by a fault.
     faults: u32,
 }
 
 impl Model for Jobs {
-    ghost use Rattle.std.specs.Prelude.{◌≡◌, List, count_by};
+    ghost use Rattle.std.specs.Prelude.{◌≡◌, List, map};
     ghost use Rattle.kalah_jobs.specs.declared.files.entry.Entry.{Entry};
+    ghost use Rattle.kalah_jobs.specs.Files.Jobs.{AreCounted, AreStarts};
 
     ghost Value = { List (List Entry) };
 
-    ghost use Rattle.kalah_jobs.specs.Files.JobList.{by_file};
-    ghost use Rattle.kalah_jobs.specs.Files.Jobs.{AreCounted, AreFew};
-    ghost use Rattle.kalah_jobs.specs.Writing.Answer.{is_faulty_entry};
+    ghost view = { λ j. map (λ own. own.items) j.files.items };
 
-    ghost view = { λ j. by_file j.offsets.items j.entries.items };
-
-    ghost invariant = { λ j. (AreFew (by_file j.offsets.items j.entries.items)
-        × AreCounted (by_file j.offsets.items j.entries.items) j.offsets.items j.entries.items)
-        × (j.faults ≡ count_by is_faulty_entry j.entries.items) };
+    ghost invariant = { λ j. AreCounted (map (λ own. own.items) j.files.items) j.total j.faults
+        × AreStarts (map (λ own. own.items) j.files.items) j.starts.items };
 }
 
 impl Jobs {
@@ -95,20 +92,24 @@ impl Jobs {
         if files.len() > MOST_FILES {
             return Err(JobsFault::TooManyFiles);
         }
-        let Some(lines) = few_lines(files) else {
+        let Some(total) = few_lines(files) else {
             return Err(JobsFault::TooManyLines);
         };
-        let mut entries = Vec::with_capacity(alloc, lines)?;
-        let mut offsets = Vec::with_capacity(alloc, files.len() + 1)?;
-        offsets.push_reserved(0);
+        let mut read = Vec::with_capacity(alloc, files.len())?;
+        let mut starts = Vec::with_capacity(alloc, files.len())?;
+        let mut before = 0;
         let mut faults = 0;
         for file in files {
+            let mut entries = Vec::with_capacity(alloc, file.lines())?;
             faults += read_entries(question, &file.bytes, &mut entries)?;
-            offsets.push_reserved(entries.len() as u32);
+            starts.push_reserved(before as u32);
+            before += entries.len();
+            read.push_reserved(entries);
         }
         Ok(Jobs {
-            entries,
-            offsets,
+            files: read,
+            starts,
+            total: total as u32,
             faults: faults as u32,
         })
     }
@@ -120,7 +121,7 @@ impl Jobs {
         ensures jobs { result ≡ length (job_list self.now) }
         ensures few { result ≤ most_lines }
     {
-        self.entries.len() as u32
+        self.total
     }
 
     /// Returns the number of files, at most 256.
@@ -128,7 +129,7 @@ impl Jobs {
         ensures is { result ≡ length self.now }
         ensures few { result ≤ most_files }
     {
-        (self.offsets.len() - 1) as u32
+        self.files.len() as u32
     }
 
     /// Returns the number of lines of file `f`, at most 1,000,000. The file must be below `files`.
@@ -138,7 +139,7 @@ impl Jobs {
         ensures is { result ≡ length (entries_of self.now f) }
         ensures few { result ≤ most_lines }
     {
-        self.offsets[f as usize + 1] - self.offsets[f as usize]
+        self.files[f as usize].len() as u32
     }
 
     // Returns the entry of a line of a file, in its place.
@@ -148,7 +149,7 @@ impl Jobs {
         requires line { line < length (entries_of self.now f) }
         ensures { slice_get (entries_of self.now f) line ≡ Some result.now }
     {
-        &self.entries[(self.offsets[f as usize] + line) as usize]
+        &self.files[f as usize][line as usize]
     }
 
     // Returns the file and the line of job `n`, and the entry in its place.
@@ -157,10 +158,19 @@ impl Jobs {
         requires { n < job_count self.now }
         ensures { slice_get (job_list self.now) n ≡ Some (line_job result.0 result.1 result.2.now) }
     {
-        // The last file that starts with job `n` or before it.
-        let file = self.offsets.partition_point(|offset| *offset <= n) - 1;
-        let line = n - self.offsets[file];
-        (file as u32, line, &self.entries[n as usize])
+        // The job is in a file from `file` on that is before `past`.
+        let mut file = 0;
+        let mut past = self.files.len();
+        while past - file > 1 {
+            let middle = file + (past - file) / 2;
+            if self.starts[middle] <= n {
+                file = middle;
+            } else {
+                past = middle;
+            }
+        }
+        let line = n - self.starts[file];
+        (file as u32, line, &self.files[file][line as usize])
     }
 
     /// Returns job `n`, which must be below `total`.
@@ -177,7 +187,7 @@ impl Jobs {
     }
 
     /// Returns the number of jobs that are answered by a fault, at most `total`.
-    #[tactic(auto, using(crate::proofs::FilesLemmas::faulty_jobs))]
+    #[tactic(auto, using(crate::proofs::FilesLemmas::faults_by_file))]
     pub fn faults(&self) -> u32
         ensures { result ≡ count_by is_faulty_job (job_list self.now) }
     {

@@ -1,58 +1,46 @@
-use Rattle.std.proofs.Common.{◌≡◌, ℕ, ◌∙◌, ◌+◌, ◌-◌, get_or, take, subst, sym, rules, ap, length, arith}
-use Rattle.std.specs.List.Sorted.{IsNonDecreasing}
-use Rattle.std.proofs.Math.Dec.{leb}
-use Rattle.std.proofs.lemmas.List.Sorted.{IsPartitionedBy-leb, IsPartitionPoint-from_clause}
-use Rattle.kalah_jobs.specs.Files.Jobs.{AreCounted, job_count}
-use Rattle.kalah_jobs.proofs.FilesLemmas.{AreStarted, HasJob, all_counted, entry_there, has_job, offset_is, offsets_rise, slice_get-job_list}
-use Rattle.kalah_jobs.proofs.files.jobs.Jobs.find.Goals.{After-partition_point-file}
+use Rattle.std.proofs.Common.{◌≡◌, ◌∙◌, ◌+◌, ◌-◌, ◌<◌, Some, ap, sym, take, length, arith}
+use Rattle.std.specs.Prelude.{slice_get}
+use Rattle.std.proofs.lemmas.Option.{slice_get-get_or}
+use Rattle.kalah_jobs.specs.Files.JobList.{entries_of}
+use Rattle.kalah_jobs.specs.Files.Jobs.{job_count}
+use Rattle.kalah_jobs.proofs.FilesLemmas.{lines_between, slice_get-job_list, start_is, stored_lines}
 use Rattle.kalah_jobs.proofs.files.jobs.Jobs.find.Goals as goal
+use Rattle.kalah_jobs.proofs.files.jobs.Jobs.find.Goals.{After-index-3}
 
-counted : (c : After-partition_point-file) → AreCounted c.args.self.now c.self.inside.offsets.items c.self.inside.entries.items
-counted c = (rw c.self.view_is at c.self.invariant.0).1
+within : (c : After-index-3) → c.loop-past.file < length c.args.self.now
+within c = omega (arith, c.loop-past.invariant.some, c.loop-past.invariant.within)
 
--- the offsets before the point are at most n, and the others are not
-parted : (c : After-partition_point-file) → AreStarted c.self.inside.offsets.items c.args.n c.partition_point-file.result
-parted c =
-    subst (λ offsets. AreStarted offsets c.args.n c.partition_point-file.result) c.deref.ensures.value
-    (IsPartitionPoint-from_clause (λ y. leb y c.args.n) c.deref.result.now c.partition_point-file.result
-    c.partition_point-file.ensures.partitioned
-    (IsPartitionedBy-leb (λ x. x) c.deref.result.now c.args.n
-    (subst (λ offsets. IsNonDecreasing offsets) (sym c.deref.ensures.value) (offsets_rise (counted c))))
-    (λ a r f' k. search rules))
+start : (c : After-index-3) → c.index-2.result.now ≡ job_count (take c.loop-past.file c.args.self.now)
+start c = start_is (rw c.self.view_is at c.self.invariant.1) c.loop-past.file c.index-2.result.now (within c) c.index-2.ensures
 
-has : (c : After-partition_point-file) → HasJob c.args.self.now c.args.n c.partition_point-file.result
-has c =
-    has_job (counted c) c.args.n c.partition_point-file.result c.requires (parted c)
-    (omega (arith, c.partition_point-file.ensures.bound, ap length c.deref.ensures.value))
+own : (c : After-index-3) → entries_of c.args.self.now c.loop-past.file ≡ c.index-3.result.now.items
+own c =
+    stored_lines (λ own. own.items) c.self.inside.files.items c.loop-past.file c.index-3.result.now c.self.view_is c.index-3.ensures
+    (within c)
 
-pub overflow_sub-file : goal.overflow_sub-file
-overflow_sub-file c = (has c).some
+line_low : (c : After-index-3) → c.args.n - c.index-2.result.now < length c.index-3.result.now.items
+line_low c =
+    let found = c.loop-past.invariant in
+    let next : c.loop-past.past ≡ c.loop-past.file + 1 = omega (arith, found.some, c.loop-past-test.false) in
+    omega (
+      arith,
+      start c,
+      found.from,
+      found.before,
+      ap (λ past. job_count (take past c.args.self.now)) next,
+      lines_between c.args.self.now c.loop-past.file (within c),
+      ap length (own c),
+    )
 
--- the offset of the file, however it is read
-offset : (c : After-partition_point-file) (read : ℕ) → read ≡ get_or c.self.inside.offsets.items
-    (c.partition_point-file.result - 1) read
-    → read ≡ job_count (take (c.partition_point-file.result - 1) c.args.self.now)
-offset c read is =
-    is ∙ offset_is (counted c) (c.partition_point-file.result - 1) read
-    (let within = (has c).within in omega (arith, within))
-
-pub overflow_sub-line : goal.overflow_sub-line
-overflow_sub-line c =
-    let at = (goal.at.overflow_sub-line c).After-partition_point-file in
-    omega (arith, offset at c.index.result.now c.index.ensures, (has at).low)
-
-pub index-requires-2 : goal.index-requires-2
-index-requires-2 c =
-    omega (arith, c.requires, all_counted (counted (goal.at.index-requires-2 c).After-partition_point-file))
+pub index-requires-4 : goal.index-requires-4
+index-requires-4 c = omega (arith, line_low (goal.at.index-requires-4 c).After-index-3)
 
 pub returns : goal.returns
 returns c =
-    let at = (goal.at.returns c).After-partition_point-file in
-    let start = offset at c.index.result.now c.index.ensures in
-    let job = has at in
-    let number : c.args.n ≡ job_count (take (c.partition_point-file.result - 1) c.args.self.now) + (c.args.n - c.index.result.now) =
-    omega (arith, start, job.low) in
-    slice_get-job_list c.args.self.now (c.partition_point-file.result - 1) (c.args.n - c.index.result.now) c.args.n
-    c.index-2.result.now number
-    (entry_there (counted at) (c.partition_point-file.result - 1) (c.args.n - c.index.result.now) c.args.n c.index-2.result.now
-    job.within (omega (arith, start, job.line)) number c.index-2.ensures)
+    let at = (goal.at.returns c).After-index-3 in
+    let line = c.args.n - c.index-2.result.now in
+    slice_get-job_list c.args.self.now c.loop-past.file line c.args.n c.index-4.result.now
+    (omega (arith, start at, c.loop-past.invariant.from))
+    (ap (λ entries. slice_get entries line) (own at)
+    ∙ slice_get-get_or c.index-3.result.now.items line c.index-4.result.now (line_low at)
+    ∙ ap (λ e. Some e) (sym c.index-4.ensures))
