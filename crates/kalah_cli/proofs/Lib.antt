@@ -1,6 +1,5 @@
 pub mod Items
 pub mod Laws
-pub mod ManyWords
 pub mod ClapLemmas
 pub mod Subcommands
 pub mod Getters
@@ -8,5 +7,7 @@ pub mod Parsed
 pub mod Plain
 pub mod Taken
 pub mod Played
-pub mod Begun
+pub mod Ended
+pub mod Asked
+pub mod Filed
 pub mod Counted

@@ -1,8 +1,6 @@
--- The game of best play, move by move, and what is written of it.
-use Rattle.std.proofs.Common.{◌⊎◌, ◌<◌, ◌≡◌, ℕ, List, [], ◌∷◌, ◌++◌, Bool, true, false, Option, Some, None, inl, inr, refl, sym, subst, take, ap, ◌∙◌, arith}
-use Rattle.std.specs.Prelude.{Contains, Err, Ok, OnOk, Result, ℤ, if◌then◌else◌}
-use Rattle.std.specs.Io.KnownBytes.{Appends, Keeps}
-use Rattle.std.proofs.KnownBytes.{Appends-kept, Appends-nil, Appends-trans}
+-- The game of best play, move by move.
+use Rattle.std.proofs.Common.{◌⊎◌, ◌<◌, ◌≤◌, ◌-◌, ◌≡◌, ℕ, zero, suc, List, [], ◌∷◌, ◌++◌, Bool, true, false, inl, inr, refl, sym, subst, ap, ◌∙◌, arith}
+use Rattle.std.specs.Prelude.{Contains, ℤ, if◌then◌else◌}
 use Rattle.std.proofs.lemmas.Bool.{cases_Bool}
 use Rattle.std.proofs.lemmas.Int.{ints}
 use Rattle.kalah_rules.specs.Position.{Position, HasEqualSides, final_margin, is_over, swapped, swept}
@@ -18,14 +16,12 @@ use Rattle.kalah_solve.specs.Solver.Verdict.{verdict_of}
 use Rattle.kalah_solve.specs.Solver.Worth.{best_house, worth}
 use Rattle.kalah_solve.specs.declared.solver.Verdict.TheVariants.{Best, Over}
 use Rattle.kalah_solve.proofs.SolverLemmas.Finds.{contains_first}
-use Rattle.kalah_solve.proofs.SolverLemmas.Games.{followed, game_ends, strategy_keeps}
+use Rattle.kalah_solve.proofs.SolverLemmas.Games.{strategy_keeps}
 use Rattle.kalah_solve.proofs.SolverLemmas.Secured.{best_is_strategy, best_plays, bounds}
 use Rattle.kalah_solve.proofs.SolverLemmas.Values.{over_swapped}
-use Rattle.kalah_solve.proofs.SolverLemmas.Worths.{again_fewer, again_step, over_step, swapped_equal_sides, turn_fewer, turn_step}
-use Rattle.kalah_jobs.specs.Writing.Given.{AppendsStart}
-use Rattle.kalah_jobs.proofs.WritingLemmas.Starts.{start_longer, start_then}
-use Rattle.kalah_cli.specs.Moves.{board_lines, move_lines}
-use Rattle.kalah_cli.specs.Play.{BeginsToPlay, IsBestGame, MayBegin, OfBestGame, OfGame, game_lines}
+use Rattle.kalah_solve.proofs.SolverLemmas.Worths.{again_fewer, again_step, over_at_end, over_ends, over_step, swapped_equal_sides, turn_fewer, turn_step}
+use Rattle.kalah_cli.specs.Moves.{move_lines}
+use Rattle.kalah_cli.specs.Play.{PlaysBestGames, best_game, best_moves, game_lines}
 
 -- both players always move the lowest best house
 abbrev pub BestGame : Position → List ℕ → Position → Type 0
@@ -57,6 +53,10 @@ pub after_step : (s : Step) (p : Position) → (s ≡ step.Again p) ⊎ ((s ≡ 
 after_step s p (inl again) = sym (ap position_after again)
 after_step s p (inr (inl turn)) = sym (ap position_after turn)
 after_step s p (inr (inr over)) = sym (ap position_after over)
+
+pub after_going : (s : Step) (p : Position) → (s ≡ step.Again p) ⊎ (s ≡ step.Turn p) → p ≡ position_after s
+after_going s p (inl again) = sym (ap position_after again)
+after_going s p (inr turn) = sym (ap position_after turn)
 
 -- the position after any move has as many houses on each side
 even_after : (p : Position) (h : ℕ) → HasEqualSides (position_after (step_of p h))
@@ -105,149 +105,126 @@ over_game p e h s first over =
       | inr turn ↦ (swapped (swapped (after p h)), passes_turn first.going moved turn (is_at_end (over_swapped (after p h) moved_to.0)))
     ]
 
--- it begins with the best house
-first_move : (h : ℕ) {p : Position} {houses : List ℕ} {final : Position} → BestGame p houses final → is_over p ≡ false
-    → h ≡ best_house p →
-    (rest : List ℕ) × (houses ≡ h ∷ rest)
-first_move h (is_at_end over) going best = absurd (let both : true ≡ false = sym over ∙ going in cc)
-first_move h {p = p} (moves_on {h = k} {houses = rest} _ has again game) going best =
-    (rest, ap (λ j. j ∷ rest) (sym (followed best_house p k has) ∙ sym best))
-first_move h {p = p} (passes_turn {h = k} {houses = rest} _ has turn game) going best =
-    (rest, ap (λ j. j ∷ rest) (sym (followed best_house p k has) ∙ sym best))
+-- ---- the moves of the game
 
--- ---- what holds of the lines of its moves
+-- a game that is over has none
+none_left : (n : ℕ) (p : Position) → is_over p ≡ true → best_moves n p ≡ []
+unfolding best_moves
+none_left zero p over = refl
+none_left (suc n) p over =
+    ap (λ b. if b then [] else best_house p ∷ best_moves n (position_after (step_of p (best_house p)))) over
 
-module _ {boards : Bool} {p : Position} {Holds : List ℕ → Type 0} where
-  -- the game ends with the margin of best play, so what holds of the lines of its moves holds of it
-  of_game : (houses : List ℕ) (final : Position) → HasEqualSides p → BestGame p houses final → Holds (game_lines boards p houses)
-      → OfBestGame boards p Holds
-  of_game houses final even game holds =
-      let keeps = strategy_keeps best_house best_is_strategy in
-      let bounded = bounds keeps keeps even game in
-      let best : IsBestGame p houses final =
-      record { game = game; margin = omega (ints, arith, bounded.low best_plays, bounded.high best_plays) } in
-      record { houses = houses; final = final; is_best = best; holds = holds }
+-- one that goes on has one, and those after it
+one_left : (n : ℕ) (p : Position) → is_over p ≡ false
+    → best_moves (suc n) p ≡ best_house p ∷ best_moves n (position_after (step_of p (best_house p)))
+unfolding best_moves
+one_left n p going = ap (λ b. if b then [] else best_house p ∷ best_moves n (position_after (step_of p (best_house p)))) going
 
-  -- what holds of any lines
-  pub of_any : HasEqualSides p → ((lines : List ℕ) → Holds lines) → OfBestGame boards p Holds
-  of_any even all =
-      let game = game_ends best_house best_house best_is_strategy best_is_strategy p even in
-      of_game game.0 game.1 even game.2 (all (game_lines boards p game.0))
+-- after the best move of a game that goes on
+module _ (p : Position) (even : HasEqualSides p) (going : is_over p ≡ false) where
+  first_step : (s : Step) → s ≡ step_of p (best_house p) → IsFirst p (best_house p) s
+  first_step s is = record { even = even; going = going; best = refl; step = is }
 
-  -- what holds of the line of the first move, followed by any lines
-  pub of_first : {h : ℕ} {s : Step} → IsFirst p h s → ((lines : List ℕ) → Holds (move_lines boards h s ++ lines))
-      → OfBestGame boards p Holds
-  of_first {h} {s} first all =
-      let game = game_ends best_house best_house best_is_strategy best_is_strategy p first.even in
-      let begun = first_move h game.2 first.going first.best in
-      let lines = game_lines boards (position_after (step_of p h)) begun.0 in
-      of_game game.0 game.1 first.even game.2
-      (subst (λ hs. Holds (game_lines boards p hs)) (sym begun.1)
-      (subst (λ x. Holds (move_lines boards h x ++ lines)) first.step (all lines)))
+  even_next : (s : Step) → s ≡ step_of p (best_house p) → HasEqualSides (position_after s)
+  even_next s is = subst (λ x. HasEqualSides (position_after x)) (sym is) (even_after p (best_house p))
 
-  -- what holds of them after that line, if the rest is of the game from there on
-  of_more : (q : Position) (h : ℕ) (s : Step) (houses : List ℕ) (final : Position) (Rest : List ℕ → Type 0) → IsFirst p h s
-      → BestGame p (h ∷ houses) final → q ≡ position_after s → Rest (game_lines boards q houses)
-      → ((lines : List ℕ) → Rest lines → Holds (move_lines boards h s ++ lines)) → OfBestGame boards p Holds
-  of_more q h s houses final Rest first game next rest more =
-      of_game (h ∷ houses) final first.even game
-      (subst (λ x. Holds (move_lines boards h x ++ game_lines boards (position_after x) houses)) first.step
-      (more (game_lines boards (position_after s) houses) (subst (λ r. Rest (game_lines boards r houses)) next rest)))
+  -- what holds of all positions with fewer moves left, and of those that are over, holds of the next one
+  next_holds : (Holds : Position → Type 0) (s : Step) → s ≡ step_of p (best_house p)
+      → ((q : Position) → HasEqualSides q → moves_left q < moves_left p → Holds q)
+      → ((q : Position) → is_over q ≡ true → Holds q) → Holds (position_after s)
+  next_holds Holds (step.Again q) is fewer over =
+      fewer q (even_next (step.Again q) is) (fewer_left p q (best_house p) (step.Again q) (first_step (step.Again q) is) (inl refl))
+  next_holds Holds (step.Turn q) is fewer over =
+      fewer q (even_next (step.Turn q) is) (fewer_left p q (best_house p) (step.Turn q) (first_step (step.Turn q) is) (inr refl))
+  next_holds Holds (step.Over q) is fewer over = over q (over_ends p (best_house p) q is)
 
-  pub of_next : {q : Position} {h : ℕ} {s : Step} {Rest : List ℕ → Type 0} → IsFirst p h s
-      → (s ≡ step.Again q) ⊎ (s ≡ step.Turn q)
-      → ((lines : List ℕ) → Rest lines → Holds (move_lines boards h s ++ lines)) → OfBestGame boards q Rest
-      → OfBestGame boards p Holds
-  of_next {q} {h} {s} {Rest} first is more rest =
-      let game = next_game p q h s rest.houses rest.final first is rest.is_best.game in
-      let next : q ≡ position_after s =
-      elim is [ inl again ↦ sym (ap position_after again) | inr turn ↦ sym (ap position_after turn) ] in
-      of_more q h s rest.houses game.0 Rest first game.1 next rest.holds more
+-- more moves than are left make no difference
+same_moves : (n m : ℕ) (p : Position) → HasEqualSides p → moves_left p ≤ n → moves_left p ≤ m → best_moves n p ≡ best_moves m p
+same_moves zero m p even low high =
+    let over = over_at_end p (omega (arith, low)) in
+    none_left zero p over ∙ sym (none_left m p over)
+same_moves (suc n) zero p even low high =
+    let over = over_at_end p (omega (arith, high)) in
+    none_left (suc n) p over ∙ sym (none_left zero p over)
+same_moves (suc n) (suc m) p even low high = elim (cases_Bool (is_over p)) [
+  | inl over ↦ none_left (suc n) p over ∙ sym (none_left (suc m) p over)
+  | inr going ↦
+      let next = next_holds p even going (λ q. best_moves n q ≡ best_moves m q) (step_of p (best_house p)) refl
+      (λ q even_q fewer. same_moves n m q even_q (omega (arith, low, fewer)) (omega (arith, high, fewer)))
+      (λ q over. none_left n q over ∙ sym (none_left m q over)) in
+      one_left n p going ∙ ap (λ moves. best_house p ∷ moves) next ∙ sym (one_left m p going)
+]
 
-  -- the last move
-  pub of_last : {e : Position} {h : ℕ} {s : Step} → IsFirst p h s → s ≡ step.Over e → Holds (move_lines boards h s ++ [])
-      → OfBestGame boards p Holds
-  of_last {e} {h} {s} first is holds =
-      let game = over_game p e h s first is in
-      of_more e h s [] game.0 (λ lines. lines ≡ []) first game.1 (sym (ap position_after is)) refl
-      (λ lines none. subst (λ l. Holds (move_lines boards h s ++ l)) (sym none) holds)
+-- the moves of a game are its first one, and those from the position after it
+game_goes_on : (p : Position) → HasEqualSides p → is_over p ≡ false
+    → best_game p ≡ best_house p ∷ best_game (position_after (step_of p (best_house p)))
+game_goes_on p even going =
+    let some : 0 < moves_left p = elim (moves_or_none (moves_left p)) [
+      | inl none ↦ absurd (let both : true ≡ false = sym (over_at_end p none) ∙ going in cc)
+      | inr some ↦ some
+    ] in
+    let n = moves_left p - 1 in
+    let more : moves_left p ≡ suc n = omega (arith, some) in
+    let next = next_holds p even going (λ q. best_moves n q ≡ best_game q) (step_of p (best_house p)) refl
+    (λ q even_q fewer. same_moves n (moves_left q) q even_q (omega (arith, fewer)) (omega arith))
+    (λ q over. none_left n q over ∙ sym (none_left (moves_left q) q over)) in
+    ap (λ k. best_moves k p) more ∙ one_left n p going ∙ ap (λ moves. best_house p ∷ moves) next
+  where
+    moves_or_none : (n : ℕ) → (n ≡ 0) ⊎ (0 < n)
+    moves_or_none zero = inl refl
+    moves_or_none (suc n) = inr (omega arith)
 
-  -- of a game that is over there are none
-  pub of_end : HasEqualSides p → is_over p ≡ true → Holds [] → OfBestGame boards p Holds
-  of_end even over holds = of_game [] p even (is_at_end over) holds
+-- and so are their lines
+pub lines_go_on : (boards : Bool) {p : Position} {h : ℕ} {s : Step} → IsFirst p h s → game_lines boards p (best_game p)
+    ≡ move_lines boards h s ++ game_lines boards (position_after s) (best_game (position_after s))
+lines_go_on boards {p} {h} {s} first =
+    ap (game_lines boards p) (game_goes_on p first.even first.going)
+    ∙ ap (λ k. lines_from k (step_of p k)) (sym first.best) ∙ ap (lines_from h) (sym first.step)
+  where
+    lines_from : ℕ → Step → List ℕ
+    lines_from k x = move_lines boards k x ++ game_lines boards (position_after x) (best_game (position_after x))
 
--- ---- what is written of them
+pub no_lines : (boards : Bool) (p : Position) → is_over p ≡ true → game_lines boards p (best_game p) ≡ []
+no_lines boards p over = ap (game_lines boards p) (none_left (moves_left p) p over)
 
--- nothing was, and then these bytes
-pub kept_appends : (a b c : Option (List ℕ)) (bytes : List ℕ) → Keeps a b → Appends b c bytes → Appends a c bytes
-kept_appends a b c bytes keeps rest = Appends-trans a b c [] bytes (Appends-kept a a b [] (Appends-nil a) keeps) rest
+-- ---- the law on it
 
--- a prefix of the line of a move was written, after nothing was
-pub begins_move : (old ready new : Option (List ℕ)) (move lines : List ℕ) → Keeps old ready → AppendsStart ready new move →
-    AppendsStart old new (move ++ lines)
-begins_move old ready new move lines keeps start = start_longer old new move lines
-    (start.0, kept_appends old ready new (take start.0 move) keeps start.1)
+-- they are the moves of a game
+is_game : (n : ℕ) (p : Position) → HasEqualSides p → moves_left p ≤ n → (final : Position) × BestGame p (best_moves n p) final
+is_game zero p even low = (
+  p,
+  subst (λ houses. BestGame p houses p) (sym (none_left zero p (over_at_end p (omega (arith, low)))))
+      (is_at_end (over_at_end p (omega (arith, low)))),
+)
+is_game (suc n) p even low = elim (cases_Bool (is_over p)) [
+  | inl over ↦ (p, subst (λ houses. BestGame p houses p) (sym (none_left (suc n) p over)) (is_at_end over))
+  | inr going ↦
+      let next = begins_game p n even going (step_of p (best_house p)) refl
+      (λ q even_q fewer. is_game n q even_q (omega (arith, low, fewer))) in
+      (next.0, subst (λ houses. BestGame p houses next.0) (sym (one_left n p going)) next.1)
+]
+  where
+    begins_game : (p : Position) (n : ℕ) (even : HasEqualSides p) (going : is_over p ≡ false) (s : Step) → s ≡ step_of p (best_house p)
+        → ((q : Position) → HasEqualSides q → moves_left q < moves_left p → (final : Position) × BestGame q (best_moves n q) final)
+        → (final : Position) × BestGame p (best_house p ∷ best_moves n (position_after s)) final
+    begins_game p n even going (step.Again q) is rest =
+        let first = first_step p even going (step.Again q) is in
+        let game = rest q (even_next p even going (step.Again q) is) (fewer_left p q (best_house p) (step.Again q) first (inl refl)) in
+        next_game p q (best_house p) (step.Again q) (best_moves n q) game.0 first (inl refl) game.1
+    begins_game p n even going (step.Turn q) is rest =
+        let first = first_step p even going (step.Turn q) is in
+        let game = rest q (even_next p even going (step.Turn q) is) (fewer_left p q (best_house p) (step.Turn q) first (inr refl)) in
+        next_game p q (best_house p) (step.Turn q) (best_moves n q) game.0 first (inr refl) game.1
+    begins_game p n even going (step.Over q) is rest =
+        let game = over_game p q (best_house p) (step.Over q) (first_step p even going (step.Over q) is) refl in (
+          game.0,
+          subst (λ houses. BestGame p (best_house p ∷ houses) game.0) (sym (none_left n q (over_ends p (best_house p) q is))) game.1,
+        )
 
--- all of it, and then a prefix of more lines
-pub begins_on : (old ready moved new : Option (List ℕ)) (move lines : List ℕ) → Keeps old ready → Appends ready moved move →
-    AppendsStart moved new lines
-    → AppendsStart old new (move ++ lines)
-begins_on old ready moved new move lines keeps all rest =
-    start_then old moved new (move ++ lines) move lines refl (kept_appends old ready moved move keeps all) rest
-
--- all of both
-pub goes_on : (old ready moved new : Option (List ℕ)) (move lines : List ℕ) → Keeps old ready → Appends ready moved move
-    → Appends moved new lines
-    → Appends old new (move ++ lines)
-goes_on old ready moved new move lines keeps all rest = kept_appends old ready new (move ++ lines) keeps
-    (Appends-trans ready moved new move lines all rest)
-
--- what holds if a call succeeds
-pub on_ok_always : {A E P : Type 0} (r : Result A E) → P → OnOk r P
-on_ok_always (Ok x) p = p
-on_ok_always (Err e) p = tt
-
--- ---- the game of `play`, with a first house or without
-
--- what holds of any lines after the first picture holds of it
-pub of_any_game : (first : Option ℕ) (boards : Bool) (p : Position) (Holds : List ℕ → Type 0) → HasEqualSides p →
-    ((lines : List ℕ) → Holds (board_lines boards p ++ lines)) → OfGame first boards p Holds
-of_any_game None boards p Holds even all = of_any even all
-of_any_game (Some h) boards p Holds even all = of_any (even_after p h) (λ lines. all (move_lines boards h (step_of p h) ++ lines))
-
--- and so does what holds of any lines after the move that is asked for
-pub of_first_house : (first : Option ℕ) (boards : Bool) (p : Position) (h : ℕ) (s : Step) (Holds : List ℕ → Type 0)
-    → first ≡ Some h →
-    s ≡ step_of p h → ((lines : List ℕ) → Holds (board_lines boards p ++ (move_lines boards h s ++ lines)))
-    → OfGame first boards p Holds
-of_first_house first boards p h s Holds asked same all = subst (λ f. OfGame f boards p Holds) (sym asked)
-    (of_any (even_after p h)
-    (λ lines. subst (λ x. Holds (board_lines boards p ++ (move_lines boards h x ++ lines))) same (all lines)))
-
--- what holds of the lines of a game, and what follows from it
-more_of_game : {boards : Bool} {p : Position} {Lines Holds : List ℕ → Type 0} → ((lines : List ℕ) → Lines lines → Holds lines)
-    → OfBestGame boards p Lines → OfBestGame boards p Holds
-more_of_game more game = record { houses = game.houses; final = game.final; is_best = game.is_best; holds = more _ game.holds }
-
--- so what follows from it after the first picture
-pub of_best : (first : Option ℕ) (boards : Bool) (p : Position) (Lines Holds : List ℕ → Type 0) → first ≡ None →
-    ((lines : List ℕ) → Lines lines → Holds (board_lines boards p ++ lines)) → OfBestGame boards p Lines
-    → OfGame first boards p Holds
-of_best first boards p Lines Holds none more game = subst (λ f. OfGame f boards p Holds) (sym none) (more_of_game more game)
-
--- and after the first picture and the move that is asked for, where the game goes on from the position after it
-pub behind_move : (first : Option ℕ) (boards : Bool) (p next : Position) (h : ℕ) (s : Step) (Lines Holds : List ℕ → Type 0)
-    → first ≡ Some h →
-    s ≡ step_of p h → next ≡ position_after s →
-    ((lines : List ℕ) → Lines lines → Holds (board_lines boards p ++ (move_lines boards h s ++ lines)))
-    → OfBestGame boards next Lines →
-    OfGame first boards p Holds
-behind_move first boards p next h s Lines Holds asked same is more game = subst (λ f. OfGame f boards p Holds) (sym asked)
-    (more_of_game
-    (λ lines rest. subst (λ x. Holds (board_lines boards p ++ (move_lines boards h x ++ lines))) same (more lines rest))
-    (subst (λ q. OfBestGame boards q Lines) (is ∙ ap position_after same) game))
-
--- the house may be moved, so a prefix of the game is all that is owed
-pub begins_play : {first : Option ℕ} {boards : Bool} {p : Position} {old new : Option (List ℕ)} → MayBegin first p →
-    OfGame first boards p (λ text. AppendsStart old new text) → BeginsToPlay first boards p old new
-begins_play may game = record { moved = λ _. game; unmoved = λ not. absurd (not may) }
+-- of one that ends with the margin of best play
+pub plays_best : PlaysBestGames
+plays_best p even =
+    let game = is_game (moves_left p) p even (omega arith) in
+    let keeps = strategy_keeps best_house best_is_strategy in
+    let bounded = bounds keeps keeps even game.1 in
+    (game.0, record { game = game.1; margin = omega (ints, arith, bounded.low best_plays, bounded.high best_plays) })

@@ -1,57 +1,68 @@
 -- What arguments are accepted as, and what is done for them.
-use Rattle.std.proofs.Common.{codes, ◌≡◌, ◌≢◌, ◌∙◌, ◌⊎◌, inl, inr, ℕ, false, List, [], ◌∷◌, Option, ap, refl, subst, sym}
-use Rattle.std.specs.List.{All}
+use Rattle.std.proofs.Common.{◌≡◌, ◌≢◌, ◌∙◌, inl, inr, ℕ, Bool, false, true, List, Option, subst, sym}
+use Rattle.std.proofs.lemmas.Bool.{false_from_ne_true}
 use Rattle.clap.specs.Words.{HasKind, IsAmong, Text, fault_of, kind_of}
 use Rattle.clap.specs.declared.error.Error.{Error}
 use Rattle.clap.specs.declared.error.kind.ErrorKind.{ErrorKind}
-use Rattle.clap.specs.declared.error.kind.ErrorKind.TheVariants.{DisplayHelp, DisplayVersion, MissingRequiredArgument, OutOfMemory}
-use Rattle.kalah_rules.specs.Position.{Position}
-use Rattle.kalah_cli.specs.Command.{default_entries, kalah_app}
-use Rattle.kalah_jobs.specs.declared.files.question.Question.TheVariants.{BestMove}
-use Rattle.kalah_cli.specs.Request.{Asked, AsksNot, IsPlainWord, IsTakenAs, answers, ask, conflict, moves}
-use Rattle.kalah_cli.specs.Runs.{Does, DoesByItsWords, DoesWhatIsAsked, Prints, RefusesTheRest}
+use Rattle.clap.specs.declared.error.kind.ErrorKind.TheVariants.{OutOfMemory}
+use Rattle.kalah_cli.specs.Command.{kalah_app}
+use Rattle.kalah_cli.specs.Ends.{Ends, FailsQuietly}
+use Rattle.kalah_cli.specs.Request.{Asked, answers, ask, conflict, count, moves, play, show}
+use Rattle.kalah_cli.specs.Runs.{Does, DoesByItsWords, DoesWhatIsAsked, IsOfNoInput}
 use Rattle.kalah_cli.specs.declared.status.ExitStatus.{ExitStatus}
-use Rattle.kalah_cli.specs.declared.status.ExitStatus.TheVariants.{Clean, Failed}
+use Rattle.kalah_cli.specs.declared.status.ExitStatus.TheVariants.{Clean, Failed, LineFaults}
+use Rattle.kalah_cli.proofs.Ended.{ends_unchanged}
 use Rattle.kalah_cli.proofs.Laws.{moves_taken, taken_at}
 use Rattle.kalah_cli.proofs.Plain.{read_is_plain}
-use Rattle.kalah_cli.proofs.ManyWords.{files_taken, no_file_is_missed}
 
--- `solve` and plain words are accepted as asking for the best moves of files, or a file is missing
-files_or_none : (words : List Text) (name : Text) (files : List Text) → words ≡ name ∷ codes "solve" ∷ files
-    → All IsPlainWord files → IsTakenAs words (answers BestMove 4 default_entries false files)
-    ⊎ (fault_of kalah_app words ≡ MissingRequiredArgument ∷ [])
-files_or_none words name [] is plain = inr (ap (fault_of kalah_app) is ∙ no_file_is_missed name)
-files_or_none words name (file ∷ files) is plain = inl (taken_at is (files_taken BestMove name file files plain))
+module _ {O : Type 0} (written : O → Option (List ℕ)) (has_failed is_handed_on : O → Bool) {old new : O} {status : ExitStatus}
+    (sound : has_failed old ≡ false) where
+  -- a run that fails quietly ends as any
+  pub ends_quietly : FailsQuietly old new status → Ends written has_failed is_handed_on old new status
+  ends_quietly quiet = subst (λ o. Ends written has_failed is_handed_on old o status) (sym quiet.1)
+      (ends_unchanged written has_failed is_handed_on sound)
 
--- if the program failed nothing is owed
-failed_prints : (line : Text) (printed : Position → Type 0) (status : ExitStatus) → status ≡ Failed → Prints line printed status
-failed_prints line printed status failed p reads = (λ e. cc, λ e. absurd (let bad : Failed ≡ Clean = sym failed ∙ e in cc))
+  -- how a run ends that does what is asked, unless lines of the standard input are to be answered
+  pub run_ends : (a : Asked) → IsOfNoInput a → Does written has_failed is_handed_on old new status a
+      → Ends written has_failed is_handed_on old new status
+  run_ends (moves boards line) _ does = does.ends
+  run_ends (play first table boards line) _ does = does.0.ends
+  run_ends (answers question workers table progress names) _ does = does.ends
+  run_ends (ask question table) none does = absurd none
+  run_ends (show plain table line) _ does = does.ends
+  run_ends (count depth line) _ does = does.ends
+  run_ends conflict _ does = ends_quietly does
 
-pub failed_does : (a : Asked) (old new : Option (List ℕ)) (status : ExitStatus) → status ≡ Failed → Does a old new status
-failed_does (answers question workers table progress names) old new status failed = λ went. absurd (went failed)
-failed_does (ask question table) old new status failed = λ went. absurd (went failed)
-failed_does conflict old new status failed = failed
-failed_does a old new status failed = failed_prints _ _ status failed
+  pub run_fails : (a : Asked) → Does written has_failed is_handed_on old new status a → has_failed new ≡ true → status ≡ Failed
+  run_fails (ask question table) does = does.failed
+  run_fails a does = (run_ends a tt does).failed
 
--- arguments with a missing file ask for nothing else
-asks_not : (words : List Text) (k : ErrorKind) → k ≢ MissingRequiredArgument
-    → fault_of kalah_app words ≡ MissingRequiredArgument ∷ [] → AsksNot k words
-asks_not words k other missed among = elim (subst (IsAmong k) missed among) [ inl same ↦ other same | inr bad ↦ bad ]
+  pub run_hands_on : (a : Asked) → Does written has_failed is_handed_on old new status a → status ≢ Failed → is_handed_on old ≡ true
+      → is_handed_on new ≡ true
+  run_hands_on (ask question table) does = λ went.
+      does.handed_on (false_from_ne_true (has_failed new) (λ failed. went (does.failed failed)))
+  run_hands_on a does = (run_ends a tt does).handed_on
 
--- so what is promised of arguments that are accepted, and of those that are refused, covers those of `moves` and `solve`
-module _ {O : Type 0} (written : O → Option (List ℕ)) (words : List Text) (old new : O) (status : ExitStatus)
-    (accepted : DoesWhatIsAsked written words old new status) (refused : RefusesTheRest written words old new status) where
-  pub by_words : DoesByItsWords written words old new status
-  by_words = record {
-    moves = λ name line is p reads. accepted.does (moves false line) (taken_at is (moves_taken name line (read_is_plain line p reads))) p
-        reads;
-    unread = λ name line is plain none. accepted.unread_line (moves false line) line (taken_at is (moves_taken name line plain)) refl none;
-    solved = λ name files is plain went. elim (files_or_none words name files is plain) [
-      | inl taken ↦ accepted.does (answers BestMove 4 default_entries false files) taken went
-      | inr missed ↦ absurd (went (refused.usage (λ none. let bad : MissingRequiredArgument ∷ [] ≡ [] = sym missed ∙ none in cc)
-          (asks_not words DisplayHelp (λ e. cc) missed) (asks_not words DisplayVersion (λ e. cc) missed)).0)
-    ];
-  }
+-- so what is promised of arguments that are accepted covers those of `moves`
+pub by_words : {O : Type 0} (written : O → Option (List ℕ)) (has_failed is_handed_on : O → Bool) (words : List Text) (old new : O)
+    (status : ExitStatus) → DoesWhatIsAsked written has_failed is_handed_on old new status words
+    → DoesByItsWords written words old new status
+by_words written has_failed is_handed_on words old new status accepted = record {
+  moves = λ name line is p reads.
+      elim (accepted (moves false line) (taken_at is (moves_taken name line (read_is_plain line p reads)))) [
+        | inl does ↦
+            let printed = does.read p reads in
+            (printed.0, λ clean. printed.1.whole (λ failed. let both : Failed ≡ Clean = sym failed ∙ clean in cc))
+        | inr quiet ↦ (
+          λ fault. let both : Failed ≡ LineFaults = sym quiet.0 ∙ fault in cc,
+          λ clean. absurd (let both : Failed ≡ Clean = sym quiet.0 ∙ clean in cc),
+        )
+      ];
+  unread = λ name line is plain none. elim (accepted (moves false line) (taken_at is (moves_taken name line plain))) [
+    | inl does ↦ (λ clean. let both : LineFaults ≡ Clean = sym (does.unread none).0 ∙ clean in cc, (does.unread none).1)
+    | inr quiet ↦ (λ clean. let both : Failed ≡ Clean = sym quiet.0 ∙ clean in cc, quiet.1)
+  ];
+}
 
 -- an error of arguments that ask for no help, or for no version, is no such request
 pub no_request : (k : ErrorKind) (words : List Text) (e : Error) → OutOfMemory ≢ k → HasKind (fault_of kalah_app words) e

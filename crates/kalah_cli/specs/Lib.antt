@@ -2,6 +2,7 @@ pub mod Command
 pub mod Request
 pub mod Status
 pub mod Failure
+pub mod Ends
 pub mod Moves
 pub mod Play
 pub mod Show

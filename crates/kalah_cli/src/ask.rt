@@ -1,8 +1,8 @@
 //! `kalah ask`.
-ghost use Rattle.std.specs.Prelude.{◌≡◌, ◌≢◌, IfOk, false, true};
+ghost use Rattle.std.specs.Prelude.{◌≡◌, IfOk, false};
 ghost use Rattle.std.specs.Io.Buffered.{reader_remaining};
 ghost use Rattle.kalah_run.specs.Limits.{IsTableSize};
-ghost use Rattle.kalah_cli.specs.Ask.{AnswersLines, BeginsLines, StopsBetweenLines};
+ghost use Rattle.kalah_cli.specs.Ask.{AnswersInput};
 
 use crate::failure::Failure;
 use crate::solver::new_solver;
@@ -16,7 +16,7 @@ use std::io::{BufReader, Read, Write};
 const HINT: &str = "kalah: waits for positions, one a line, as 1,1/0 1,1/0; Ctrl-D ends\n";
 
 // Returns a reader that reads ahead, with all that the reader has left.
-#[tactic(auto, using(crate::proofs::Begun::all_unread))]
+#[tactic(auto, using(crate::proofs::Asked::all_unread))]
 fn reading_ahead<I: Read + Drop>(alloc: Global, input: I) -> io::Result<BufReader<I>>
     ensures { IfOk result (λ r. I.remaining input ≡ reader_remaining I.remaining r) }
 {
@@ -29,7 +29,6 @@ fn reading_ahead<I: Read + Drop>(alloc: Global, input: I) -> io::Result<BufReade
 ///
 /// Returns `Clean` if each line was read, and `LineFaults` if one was not. Returns `Failed`, and reports it on `err`, if memory was
 /// refused, or a read or a write failed.
-#[tactic(auto, using(crate::proofs::Begun::stops_before_lines))]
 pub(crate) fn run_ask<I: Read + Drop, O: Sink, E: Write>(
     alloc: Global,
     input: I,
@@ -41,13 +40,7 @@ pub(crate) fn run_ask<I: Read + Drop, O: Sink, E: Write>(
 ) -> ExitStatus
     requires table { IsTableSize table }
     requires sink { O.has_failed out.old ≡ false }
-    ensures asked { result ≢ ExitStatus.Failed
-        → AnswersLines question (I.remaining input) (O.written out.old) (O.written out.new) result }
-    ensures begins { BeginsLines question (I.remaining input) (O.written out.old) (O.written out.new) }
-    ensures failed { O.has_failed out.new ≡ true → result ≡ ExitStatus.Failed }
-    ensures stopped { result ≡ ExitStatus.Failed → O.has_failed out.new ≡ false
-        → StopsBetweenLines question (I.remaining input) (O.written out.old) (O.written out.new) }
-    ensures handed_on { O.has_failed out.new ≡ false → O.is_handed_on out.old ≡ true → O.is_handed_on out.new ≡ true }
+    ensures { AnswersInput O.written O.has_failed O.is_handed_on out.old out.new result question (I.remaining input) }
 {
     let Ok(mut solver) = new_solver(alloc, table) else {
         return Failure::OutOfMemory.report(err);

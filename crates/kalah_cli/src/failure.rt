@@ -1,9 +1,9 @@
 //! The failures of the program, and their messages.
-ghost use Rattle.std.specs.Prelude.{◌≡◌};
+ghost use Rattle.std.specs.Prelude.{◌≡◌, ◌≢◌, ◌↔◌, true};
 ghost use Rattle.kalah_cli.specs.Failure.{failure_of};
 
 use crate::status::ExitStatus;
-use kalah_jobs::{LineFault, read_line};
+use kalah_jobs::{LineFault, Sink, read_line};
 use kalah_run::RunFault;
 use std::fmt;
 use std::io::Write;
@@ -52,6 +52,17 @@ pub(crate) fn report_fault<E: Write>(fault: LineFault, err: &mut E) -> ExitStatu
 {
     let _ = writeln!(err, "fault {}", fault.word());
     ExitStatus::LineFaults
+}
+
+/// Returns `Clean` if the output has not failed. Otherwise reports on `err` that a write failed, and returns `Failed`.
+pub(crate) fn status_of<O: Sink, E: Write>(out: &O, err: &mut E) -> ExitStatus
+    ensures failed { O.has_failed out.now ≡ true ↔ result ≡ ExitStatus.Failed }
+    ensures no_line { result ≢ ExitStatus.LineFaults }
+{
+    if out.failed() {
+        return Failure::Write.report(err);
+    }
+    ExitStatus::Clean
 }
 
 impl From<RunFault> for Failure<'_> {

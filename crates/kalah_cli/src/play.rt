@@ -1,21 +1,21 @@
 //! `kalah play LINE`.
-ghost use Rattle.std.specs.Prelude.{◌≡◌, ◌≢◌, ◌↔◌, IfNone, IfSome, IsErr, OnOk, false, true};
+ghost use Rattle.std.specs.Prelude.{◌≡◌, IfNone, IfSome, false, true};
 ghost use Rattle.kalah_rules.specs.Position.{Position};
 ghost use Rattle.kalah_solve.specs.Solver.Verdict.{TellsBestPlay, verdict_of};
 ghost use Rattle.kalah_jobs.specs.Line.Line.{Reads};
+ghost use Rattle.kalah_jobs.specs.Writing.Given.{WasGiven};
 ghost use Rattle.kalah_run.specs.Limits.{IsTableSize};
-ghost use Rattle.kalah_cli.specs.Play.{BeginsGame, BeginsToPlay, MayBegin, Plays, WritesGame};
-ghost use Rattle.kalah_cli.specs.Runs.{IsUnread, Prints};
+ghost use Rattle.kalah_cli.specs.Ends.{AnswersLine, FailsQuietly};
+ghost use Rattle.kalah_cli.specs.Play.{MayBegin, best_game, game_lines, play_output};
 
-use crate::failure::{Failure, report_fault};
+use crate::failure::{Failure, report_fault, status_of};
 use crate::moves::{write_board, write_move};
 use crate::solver::new_solver;
 use crate::status::ExitStatus;
-use kalah_jobs::{Sink, read_line};
+use kalah_jobs::{Sink, flush_unless_failed, read_line};
 use kalah_rules::{Board, Step};
 use kalah_solve::{Solver, Verdict};
 use std::alloc::Global;
-use std::io;
 use std::io::Write;
 
 // Finds the best move of a board. All earlier moves are shown.
@@ -28,59 +28,45 @@ fn solve_flushed<O: Sink>(solver: &mut Solver, board: &Board, out: &O) -> Verdic
     solver.solve(board)
 }
 
-// Writes the moves of the game of best play from a board on, each as soon as it is found.
+// Writes the moves of the game of best play from a board on, each as soon as it is found. If the output has failed, none is sought.
 #[cycle(game)]
-fn write_game<O: Sink>(
-    solver: &mut Solver,
-    board: &Board,
-    boards: bool,
-    out: &mut O,
-) -> Result<(), io::Error>
-    requires { O.has_failed out.old ≡ false }
-    ensures fails { IsErr result ↔ (O.has_failed out.new ≡ true) }
-    ensures game { OnOk result (WritesGame boards board.now (O.written out.old) (O.written out.new)) }
-    ensures begins { BeginsGame boards board.now (O.written out.old) (O.written out.new) }
-    ensures handed_on { OnOk result (O.is_handed_on out.new ≡ true) }
+fn write_game<O: Sink>(solver: &mut Solver, board: &Board, boards: bool, out: &mut O)
+    ensures given { WasGiven O.written O.has_failed out.old out.new (game_lines boards board.now (best_game board.now)) }
+    ensures handed_on { O.has_failed out.new ≡ false → O.is_handed_on out.new ≡ true }
 {
     let _side = board.m();
-    out.flush()?;
+    flush_unless_failed(out);
+    if out.failed() {
+        return;
+    }
     let house = match solve_flushed(solver, board, out) {
-        Verdict::Over { .. } => return Ok(()),
+        Verdict::Over { .. } => return,
         Verdict::Best { house, .. } => house,
     };
     let step = board.apply(house);
-    write_move(house, &step, boards, out)?;
+    write_move(house, &step, boards, out);
     match step {
         Step::Again(next) | Step::Turn(next) => write_game(solver, &next, boards, out),
-        Step::Over(_) => out.flush(),
+        Step::Over(_) => flush_unless_failed(out),
     }
 }
 
 // Writes the game of best play from a board on, or after the move of the first house, below the board if boards are drawn.
-fn play<O: Sink>(
-    solver: &mut Solver,
-    board: &Board,
-    first: Option<u8>,
-    boards: bool,
-    out: &mut O,
-) -> Result<(), io::Error>
-    requires house { MayBegin first board.now }
-    requires sink { O.has_failed out.old ≡ false }
-    ensures fails { IsErr result ↔ (O.has_failed out.new ≡ true) }
-    ensures game { OnOk result (Plays first boards board.now (O.written out.old) (O.written out.new)) }
-    ensures begins { BeginsToPlay first boards board.now (O.written out.old) (O.written out.new) }
-    ensures handed_on { OnOk result (O.is_handed_on out.new ≡ true) }
+fn play<O: Sink>(solver: &mut Solver, board: &Board, first: Option<u8>, boards: bool, out: &mut O)
+    requires { MayBegin first board.now }
+    ensures given { WasGiven O.written O.has_failed out.old out.new (play_output first boards board.now) }
+    ensures handed_on { O.has_failed out.new ≡ false → O.is_handed_on out.new ≡ true }
 {
     let _side = board.m();
-    write_board(board, boards, out)?;
+    write_board(board, boards, out);
     let Some(h) = first else {
         return write_game(solver, board, boards, out);
     };
     let step = board.apply(h);
-    write_move(h, &step, boards, out)?;
+    write_move(h, &step, boards, out);
     match step {
         Step::Again(next) | Step::Turn(next) | Step::Over(next) => {
-            write_game(solver, &next, boards, out)
+            write_game(solver, &next, boards, out);
         }
     }
 }
@@ -102,7 +88,6 @@ fn unmoved_house(board: &Board, first: Option<u8>) -> Option<u8>
 /// table.
 ///
 /// Returns `Clean`, `LineFaults` for a line that can't be read, or `Failed` for such a house, if memory was refused or a write failed.
-#[tactic(auto, using(crate::proofs::Begun::begins_no_play, crate::proofs::Begun::even_read))]
 pub(crate) fn run_play<O: Sink, E: Write>(
     alloc: Global,
     line: &str,
@@ -114,14 +99,8 @@ pub(crate) fn run_play<O: Sink, E: Write>(
 ) -> ExitStatus
     requires table { IsTableSize table }
     requires sink { O.has_failed out.old ≡ false }
-    ensures read { Prints line.now (λ p. Plays first boards p (O.written out.old) (O.written out.new)) result }
-    ensures begins { (p : Position) → Reads line.now p → BeginsToPlay first boards p (O.written out.old) (O.written out.new) }
-    ensures unmoved { (p : Position) → Reads line.now p → (MayBegin first p → ⊥) → (result ≡ ExitStatus.Failed) × (out.new ≡ out.old) }
-    ensures unread { IsUnread line.now → (result ≡ ExitStatus.LineFaults) × (out.new ≡ out.old) }
-    ensures failed { O.has_failed out.new ≡ true → result ≡ ExitStatus.Failed }
-    ensures unchanged { result ≡ ExitStatus.Failed → O.has_failed out.new ≡ false
-        → out.new ≡ out.old }
-    ensures handed_on { result ≢ ExitStatus.Failed → O.is_handed_on out.old ≡ true → O.is_handed_on out.new ≡ true }
+    ensures line { AnswersLine O.written O.has_failed O.is_handed_on out.old out.new result line.now (play_output first boards) }
+    ensures unmoved { (p : Position) → Reads line.now p → (MayBegin first p → ⊥) → FailsQuietly out.old out.new result }
 {
     let board = match read_line(line.as_bytes()) {
         Ok(board) => board,
@@ -133,8 +112,6 @@ pub(crate) fn run_play<O: Sink, E: Write>(
     let Ok(mut solver) = new_solver(alloc, table) else {
         return Failure::OutOfMemory.report(err);
     };
-    match play(&mut solver, &board, first, boards, out) {
-        Ok(()) => ExitStatus::Clean,
-        Err(_) => Failure::Write.report(err),
-    }
+    play(&mut solver, &board, first, boards, out);
+    status_of(out, err)
 }

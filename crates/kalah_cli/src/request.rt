@@ -1,11 +1,11 @@
 //! The requests that a command line can make.
-ghost use Rattle.std.specs.Prelude.{◌≡◌, ℕ, All, List, [], ◌∷◌, IfErr, IfOk, IfSome, MatchResult, Some, codes, false, is_some, map, option_and_then, true};
+ghost use Rattle.std.specs.Prelude.{◌≡◌, ℕ, List, [], ◌∷◌, IfErr, IfOk, IfSome, MatchResult, Some, codes, false, is_some, map, option_and_then, true};
 ghost use Rattle.clap.specs.Words.{FailsBy, fault_of, first_of, found_of, kind_of, rows_of, subcommand_rows_of};
 ghost use Rattle.clap.specs.declared.error.kind.ErrorKind.TheVariants.{OutOfMemory};
 ghost use Rattle.kalah_solve.specs.Table.Entries.{most_entries};
 ghost use Rattle.kalah_run.specs.Limits.{IsTableSize};
 ghost use Rattle.kalah_cli.specs.Command.{kalah_app};
-ghost use Rattle.kalah_cli.specs.Request.{AreMatches, Asked, HasNumber, IsInRange, IsPlainWord, IsTakenAs, MayHaveNumber, answers, ask_for, asked_by, asked_for, command_of, files_asked, is_set, moves, number_given, table_of};
+ghost use Rattle.kalah_cli.specs.Request.{AreMatches, Asked, HasNumber, IsInRange, IsPlainWord, IsTakenAs, MayHaveNumber, ask_for, asked_by, asked_for, command_of, files_asked, is_set, moves, number_given};
 
 use crate::command::command;
 use clap::{ArgMatches, Error};
@@ -205,10 +205,6 @@ pub(crate) fn parse<'a, S: AsStr>(alloc: Global, words: &'a [S]) -> Result<Reque
     ensures moves { (name line : List ℕ)
         → map S.text words.entry.now ≡ name ∷ codes "moves" ∷ line ∷ [] → IsPlainWord line
         → MatchResult result (λ r. asked_for r ≡ moves false line) (λ e. kind_of e ≡ OutOfMemory) }
-    // `solve`, `values` or `steps` and files, one at least, that are no flags are always taken, as asking this of them.
-    ensures files { (question : Question) (name file : List ℕ) (files : List (List ℕ))
-        → map S.text words.entry.now ≡ name ∷ command_of question ∷ file ∷ files → All IsPlainWord (file ∷ files)
-        → MatchResult result (λ r. asked_for r ≡ answers question 4 (table_of question) false (file ∷ files)) (λ e. kind_of e ≡ OutOfMemory) }
 {
     let matches = command(alloc)?.try_get_matches_from(words)?;
     let (name, found) = matches.subcommand().unwrap();

@@ -1,16 +1,17 @@
 //! The program, run on its arguments.
-ghost use Rattle.std.specs.Prelude.{◌≡◌, ◌≢◌, ◌<◌, ℕ, List, None, false, true, vec_len};
+ghost use Rattle.std.specs.Prelude.{◌≡◌, ◌≢◌, ◌<◌, ℕ, None, false, true, vec_len};
 ghost use Rattle.std.specs.Io.KnownBytes.{Appends};
 ghost use Rattle.clap.specs.Values.{kind_of};
 ghost use Rattle.clap.specs.declared.error.kind.ErrorKind.TheVariants.{DisplayHelp, DisplayVersion};
 ghost use Rattle.kalah_jobs.specs.declared.files.question.Question.{Question};
 ghost use Rattle.kalah_cli.specs.Ask.{StopsBetweenLines};
-ghost use Rattle.kalah_cli.specs.Request.{Asked, IsInRange, IsTakenAs, ask, asked_for, conflict, texts_of};
-ghost use Rattle.kalah_cli.specs.Runs.{Begins, Does, DoesByItsWords, DoesWhatIsAsked, IsOfLine, IsOfNoInput, IsUnmoved, IsUnread, RefusesTheRest, version_line};
+ghost use Rattle.kalah_cli.specs.Play.{PlaysBestGames};
+ghost use Rattle.kalah_cli.specs.Request.{Asked, IsInRange, IsTakenAs, ask, asked_for, texts_of};
+ghost use Rattle.kalah_cli.specs.Runs.{Does, DoesByItsWords, DoesWhatIsAsked, IsOfNoInput, RefusesTheRest, version_line};
 
 use crate::ask::run_ask;
 use crate::count::run_count;
-use crate::failure::Failure;
+use crate::failure::{Failure, status_of};
 use crate::help;
 use crate::moves::run_moves;
 use crate::play::run_play;
@@ -22,7 +23,7 @@ use crate::terminal::Terminal;
 use crate::version::VERSION_LINE;
 use clap::Error;
 use clap::error::ErrorKind;
-use kalah_jobs::Sink;
+use kalah_jobs::{Sink, flush_unless_failed, write_unless_failed};
 use std::alloc::Global;
 use std::io::{Input, Write};
 use std::rt::{Clock, Files};
@@ -39,10 +40,9 @@ fn print_text<O: Sink, E: Write>(text: &str, out: &mut O, err: &mut E) -> ExitSt
         → Appends (O.written out.old) (O.written out.new) text.now }
     ensures handed_on { result ≢ ExitStatus.Failed → O.is_handed_on out.new ≡ true }
 {
-    if out.write_all(text.as_bytes()).is_err() || out.flush().is_err() {
-        return Failure::Write.report(err);
-    }
-    ExitStatus::Clean
+    write_unless_failed(out, text.as_bytes());
+    flush_unless_failed(out);
+    status_of(out, err)
 }
 
 // Returns whether these arguments seem to give `moves`, `play`, `show` or `count` a position without quotes: two adjacent ones each have
@@ -103,18 +103,7 @@ fn run_request<R: Files + Input + Clock + Terminal + Threads + Wait + Sync, O: S
 ) -> ExitStatus
     requires range { IsInRange request.now }
     requires sink { O.has_failed out.old ≡ false }
-    ensures does { Does (asked_for request.now) (O.written out.old) (O.written out.new) result }
-    ensures begins { Begins (asked_for request.now) (O.written out.old) (O.written out.new) }
-    ensures unread { (line : List ℕ) → IsOfLine (asked_for request.now) line → IsUnread line
-        → (result ≡ ExitStatus.LineFaults) × (out.new ≡ out.old) }
-    ensures unmoved { IsUnmoved (asked_for request.now) → (result ≡ ExitStatus.Failed) × (out.new ≡ out.old) }
-    ensures conflicts { asked_for request.now ≡ conflict → (result ≡ ExitStatus.Failed) × (out.new ≡ out.old) }
-    ensures failed { O.has_failed out.new ≡ true → result ≡ ExitStatus.Failed }
-    ensures unchanged { IsOfNoInput (asked_for request.now) → result ≡ ExitStatus.Failed → O.has_failed out.new ≡ false
-        → out.new ≡ out.old }
-    ensures stopped { (question : Question) (table : ℕ) → asked_for request.now ≡ ask question table → result ≡ ExitStatus.Failed
-        → O.has_failed out.new ≡ false → StopsBetweenLines question None (O.written out.old) (O.written out.new) }
-    ensures handed_on { result ≢ ExitStatus.Failed → O.is_handed_on out.old ≡ true → O.is_handed_on out.new ≡ true }
+    ensures { Does O.written O.has_failed O.is_handed_on out.old out.new result (asked_for request.now) }
 {
     match request {
         Request::Moves { line, boards } => run_moves(line, *boards, out, err),
@@ -167,8 +156,10 @@ pub fn run_words<R: Files + Input + Clock + Terminal + Threads + Wait + Sync, O:
     requires sink { O.has_failed out.old ≡ false }
     requires named { 0 < vec_len words }
     // Accepted arguments, in general, and by their words.
-    ensures accepted { DoesWhatIsAsked O.written (texts_of words.items) out.old out.new result }
+    ensures accepted { DoesWhatIsAsked O.written O.has_failed O.is_handed_on out.old out.new result (texts_of words.items) }
     ensures by_words { DoesByItsWords O.written (texts_of words.items) out.old out.new result }
+    // The game of `play` is one of best play.
+    ensures best_play { PlaysBestGames }
     // Arguments that are refused, as those that ask for help or for the version.
     ensures refused { RefusesTheRest O.written (texts_of words.items) out.old out.new result }
     // If a write failed, the program failed. If it failed for another cause, nothing was written, except for answers of `ask`.

@@ -1,8 +1,10 @@
 //! `kalah solve FILE..`, `kalah values FILE..` and `kalah steps FILE..`.
-ghost use Rattle.std.specs.Prelude.{◌≡◌, ◌≢◌, ◌↔◌, Err, IfErr, IfOk, IsErrOf, OnOk, false, map, true};
+ghost use Rattle.std.specs.Prelude.{◌≡◌, ◌↔◌, IfOk, IsErrOf, false, map, true};
 ghost use Rattle.std.specs.List.{list_any};
+ghost use Rattle.kalah_jobs.specs.Writing.Output.{output_to};
+ghost use Rattle.kalah_run.specs.Batch.Answering.{AnswersBatch};
 ghost use Rattle.kalah_cli.specs.Request.{IsInLimits};
-ghost use Rattle.kalah_cli.specs.SolveFiles.{AnswersTo, BeginsTo, has_line_feed};
+ghost use Rattle.kalah_cli.specs.SolveFiles.{AnswersFiles, has_line_feed};
 
 use crate::failure::Failure;
 use crate::files::read_files;
@@ -10,8 +12,8 @@ use crate::progress::Progress;
 use crate::request::FilesRequest;
 use crate::status::ExitStatus;
 use crate::terminal::Terminal;
-use kalah_jobs::Sink;
-use kalah_run::{BatchSize, OpenGate, Rest, answer_batch};
+use kalah_jobs::{FileText, Sink};
+use kalah_run::{BatchSize, OpenGate, Rest, RunFault, Tally, answer_batch};
 use std::alloc::Global;
 use std::io::Write;
 use std::rt::{Clock, Files};
@@ -25,35 +27,37 @@ fn any_has_line_feed(names: &[&str]) -> bool
     names.iter().any(|name| name.as_bytes().contains(&b'\n'))
 }
 
-// Reads the named files and writes the answer to what is asked of each line of them. Returns `Clean` or `LineFaults`.
-#[tactic(auto, using(crate::proofs::Begun::texts_have_line_feed, crate::proofs::Begun::begins_nothing))]
-fn answer_files<'a, R: Files + Clock + Terminal + Threads + Wait + Sync, O: Sink, E: Write>(
+// Returns the files of these names, each read whole. Fails with `LineFeed` exactly if one of the names has a line feed in it.
+#[tactic(auto, using(crate::proofs::Filed::texts_have_line_feed))]
+fn read_named<'a, R: Files>(
     rt: &R,
     alloc: Global,
-    request: &FilesRequest<'a>,
-    out: &mut O,
-    err: &mut E,
-) -> Result<ExitStatus, Failure<'a>>
-    requires limits { IsInLimits request.now }
-    requires sink { O.has_failed out.old ≡ false }
-    ensures solved { IfOk result (λ status. AnswersTo request.now.question (map (λ name. name.now) request.now.files.items)
-        (O.written out.old) (O.written out.new) status) }
-    ensures no_failure { IfOk result (λ status. status ≢ ExitStatus.Failed) }
-    ensures begins { BeginsTo request.now.question (map (λ name. name.now) request.now.files.items)
-        (O.written out.old) (O.written out.new) }
-    ensures line_feed { IsErrOf result Failure.LineFeed
-        ↔ list_any has_line_feed (map (λ name. name.now) request.now.files.items) ≡ true }
-    ensures handed_on { OnOk result (O.is_handed_on out.new ≡ true) }
-    ensures failed { O.has_failed out.new ≡ true ↔ IsErrOf result Failure.Write }
-    ensures unchanged { IfErr result
-        (λ failure. failure ≢ Failure.Write → out.new ≡ out.old) }
+    names: &[&'a str],
+) -> Result<Vec<FileText>, Failure<'a>>
+    ensures named { IfOk result
+        (λ files. map (λ file. file.name) files.items ≡ map (λ name. name.now) names.now) }
+    ensures line_feed { IsErrOf result Failure.LineFeed ↔ list_any has_line_feed (map (λ name. name.now) names.now) ≡ true }
 {
-    let names = request.files.as_slice();
     if any_has_line_feed(names) {
         return Err(Failure::LineFeed);
     }
-    let files = read_files(rt, alloc, names)?;
-    let files = files.as_slice();
+    read_files(rt, alloc, names)
+}
+
+// Writes the answer to what is asked of each line of the files, and shows progress on `err` if that is asked for.
+fn answer_files<R: Clock + Terminal + Threads + Wait + Sync, O: Sink, E: Write>(
+    rt: &R,
+    alloc: Global,
+    request: &FilesRequest<'_>,
+    files: &[FileText],
+    out: &mut O,
+    err: &mut E,
+) -> Result<Tally, RunFault>
+    requires limits { IsInLimits request.now }
+    requires sink { O.has_failed out.old ≡ false }
+    ensures { AnswersBatch O.written O.has_failed O.is_handed_on (output_to request.now.question files.now) files.now out.old out.new
+        result }
+{
     let size = BatchSize {
         workers: request.workers,
         table: request.table,
@@ -73,11 +77,7 @@ fn answer_files<'a, R: Files + Clock + Terminal + Threads + Wait + Sync, O: Sink
         out,
     );
     progress.end();
-    match answered {
-        Ok(tally) if tally.faults == 0 => Ok(ExitStatus::Clean),
-        Ok(_) => Ok(ExitStatus::LineFaults),
-        Err(fault) => Err(Failure::from(fault)),
-    }
+    answered
 }
 
 /// Answers what is asked of each line of the named files.
@@ -92,18 +92,16 @@ pub(crate) fn run_files<R: Files + Clock + Terminal + Threads + Wait + Sync, O: 
 ) -> ExitStatus
     requires limits { IsInLimits request.now }
     requires sink { O.has_failed out.old ≡ false }
-    ensures solved { result ≢ ExitStatus.Failed
-        → AnswersTo request.now.question (map (λ name. name.now) request.now.files.items)
-        (O.written out.old) (O.written out.new) result }
-    ensures begins { BeginsTo request.now.question (map (λ name. name.now) request.now.files.items)
-        (O.written out.old) (O.written out.new) }
-    ensures failed { O.has_failed out.new ≡ true → result ≡ ExitStatus.Failed }
-    ensures unchanged { result ≡ ExitStatus.Failed → O.has_failed out.new ≡ false
-        → out.new ≡ out.old }
-    ensures handed_on { result ≢ ExitStatus.Failed → O.is_handed_on out.new ≡ true }
+    ensures { AnswersFiles O.written O.has_failed O.is_handed_on out.old out.new result request.now.question
+        (map (λ name. name.now) request.now.files.items) }
 {
-    match answer_files(rt, alloc, request, out, err) {
-        Ok(status) => status,
-        Err(failure) => failure.report(err),
+    let files = match read_named(rt, alloc, request.files.as_slice()) {
+        Ok(files) => files,
+        Err(failure) => return failure.report(err),
+    };
+    match answer_files(rt, alloc, request, files.as_slice(), out, err) {
+        Ok(tally) if tally.faults == 0 => ExitStatus::Clean,
+        Ok(_) => ExitStatus::LineFaults,
+        Err(fault) => Failure::from(fault).report(err),
     }
 }

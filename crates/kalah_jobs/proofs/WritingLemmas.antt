@@ -3,6 +3,7 @@ pub mod Lengths
 pub mod Utf8Texts
 pub mod JobOutput
 pub mod Starts
+pub mod Givings
 pub mod StepLines
 pub mod InOneLine
 pub mod Joined

@@ -39,5 +39,5 @@ pub use writing::laws::{files_split_between_lines, output_splits_by_files};
 pub use writing::picture::write_picture;
 pub use writing::position_text::{line_text, step_text, write_step};
 pub use writing::shown::write_values;
-pub use writing::sink::Sink;
+pub use writing::sink::{Sink, flush_unless_failed, write_unless_failed};
 pub use writing::stream::{Stream, write_pieces};

@@ -58,10 +58,11 @@ pub(crate) fn tell<O: Sink>(
         hand_on(out)?;
     }
     let answer = find(entry, solver, out);
-    match write_words(out, &answer) {
-        Ok(()) => Ok(!entry.is_bad()),
-        Err(_) => Err(AskFault::Write),
+    write_words(out, &answer);
+    if out.failed() {
+        return Err(AskFault::Write);
     }
+    Ok(!entry.is_bad())
 }
 
 // Writes the answer to what stands after the last line feed, if anything does, and flushes. Returns whether the line was

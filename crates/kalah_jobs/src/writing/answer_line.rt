@@ -3,14 +3,14 @@ ghost use Rattle.std.specs.Prelude.{◌≡◌, ◌+◌, ◌≤◌, ◌↔◌, �
 ghost use Rattle.std.specs.Io.KnownBytes.{Appends};
 ghost use Rattle.kalah_jobs.specs.Files.Lines.{line_feed};
 ghost use Rattle.kalah_jobs.specs.Writing.Answer.{answer_line, answer_words, value_words, values_words, IsOfOneLine};
-ghost use Rattle.kalah_jobs.specs.Writing.Given.{AppendsStart};
+ghost use Rattle.kalah_jobs.specs.Writing.Given.{AppendsStart, WasGiven};
 
 #[cfg(test)]
 mod tests;
 
 use crate::writing::answer::{Answer, Taken};
 use crate::writing::named_text::write_named;
-use crate::writing::sink::Sink;
+use crate::writing::sink::{Sink, write_unless_failed};
 use crate::writing::stack_text::{ROOM, StackText};
 use crate::writing::steps::{push_steps, write_steps};
 use crate::writing::steps_in_line::write_steps_in_line;
@@ -112,10 +112,31 @@ pub fn answer_text(alloc: Global, name: &str, taken: &Taken) -> Result<String, A
     Ok(text)
 }
 
+// Writes the answer line of a line of the file `name`, and a line feed; of steps the line of each.
+#[tactic(auto, using(crate::proofs::WritingLemmas::AnswerTexts::one_line_parts))]
+#[inline(always)]
+fn write_texts<W: Sink>(out: &mut W, name: &str, taken: &Taken)
+    ensures { WasGiven W.written W.has_failed out.old out.new (answer_line name.now taken.now ++ line_feed ∷ []) }
+{
+    let mut text = StackText::new();
+    match &taken.answer {
+        Answer::Steps(board) => {
+            prepend_place(&mut text, taken.line);
+            write_steps(out, name, text.as_str(), board);
+        }
+        _ => {
+            text.prepend("\n");
+            prepend_words(&mut text, &taken.answer);
+            prepend_place(&mut text, taken.line);
+            write_named(out, name, &mut text);
+        }
+    }
+}
+
 /// Writes the answer line of a line of the file `name`, as `answer_text` returns it, and a line feed; of steps the line of each.
 ///
-/// It allocates nothing. It fails exactly when the sink has failed afterwards; then a prefix of this was written, and nothing else.
-#[tactic(auto, using(crate::proofs::WritingLemmas::AnswerTexts::one_line_parts))]
+/// It allocates nothing. Fails with an error of kind `Other` exactly when the sink has failed afterwards; then a prefix of this was
+/// written, and nothing else.
 #[inline(always)]
 pub fn write_answer<W: Sink>(out: &mut W, name: &str, taken: &Taken) -> Result<(), io::Error>
     requires { W.has_failed out.old ≡ false }
@@ -124,29 +145,16 @@ pub fn write_answer<W: Sink>(out: &mut W, name: &str, taken: &Taken) -> Result<(
         (Appends (W.written out.old) (W.written out.new) (answer_line name.now taken.now ++ line_feed ∷ [])) }
     ensures start { AppendsStart (W.written out.old) (W.written out.new) (answer_line name.now taken.now ++ line_feed ∷ []) }
 {
-    let mut text = StackText::new();
-    match &taken.answer {
-        Answer::Steps(board) => {
-            prepend_place(&mut text, taken.line);
-            write_steps(out, name, text.as_str(), board)?;
-        }
-        _ => {
-            text.prepend("\n");
-            prepend_words(&mut text, &taken.answer);
-            prepend_place(&mut text, taken.line);
-            write_named(out, name, &mut text)?;
-        }
+    write_texts(out, name, taken);
+    if out.failed() {
+        return Err(io::Error::from(io::ErrorKind::Other));
     }
     Ok(())
 }
 
 // Writes an answer in words, and a line feed.
-pub(crate) fn write_words<W: Sink>(out: &mut W, answer: &Answer) -> Result<(), io::Error>
-    requires { W.has_failed out.old ≡ false }
-    ensures fails { IsErr result ↔ (W.has_failed out.new ≡ true) }
-    ensures adds { OnOk result
-        (Appends (W.written out.old) (W.written out.new) (answer_words answer.now ++ line_feed ∷ [])) }
-    ensures start { AppendsStart (W.written out.old) (W.written out.new) (answer_words answer.now ++ line_feed ∷ []) }
+pub(crate) fn write_words<W: Sink>(out: &mut W, answer: &Answer)
+    ensures { WasGiven W.written W.has_failed out.old out.new (answer_words answer.now ++ line_feed ∷ []) }
 {
     match answer {
         Answer::Steps(board) => write_steps_in_line(out, board),
@@ -154,7 +162,7 @@ pub(crate) fn write_words<W: Sink>(out: &mut W, answer: &Answer) -> Result<(), i
             let mut text = StackText::new();
             text.prepend("\n");
             prepend_words(&mut text, answer);
-            out.write_all(text.bytes())
+            write_unless_failed(out, text.bytes());
         }
     }
 }

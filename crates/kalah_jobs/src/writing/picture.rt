@@ -1,15 +1,13 @@
 //! Positions drawn as boards.
-ghost use Rattle.std.specs.Prelude.{◌≡◌, ◌↔◌, ◌≤◌, ◌+◌, ◌*◌, ◌++◌, true, false, IsErr, OnOk, length};
-ghost use Rattle.std.specs.Io.KnownBytes.{Appends};
-ghost use Rattle.kalah_jobs.specs.Writing.Given.{AppendsStart};
+ghost use Rattle.std.specs.Prelude.{◌≡◌, ◌≤◌, ◌+◌, ◌*◌, ◌++◌, length};
+ghost use Rattle.kalah_jobs.specs.Writing.Given.{WasGiven};
 ghost use Rattle.kalah_rules.specs.Position.{side_length};
 ghost use Rattle.kalah_jobs.specs.Writing.Picture.{cell, house_in, houses_line, picture_of};
 
 use crate::writing::player::Player;
-use crate::writing::sink::Sink;
+use crate::writing::sink::{Sink, write_unless_failed};
 use crate::writing::stack_text::{ROOM, StackText};
 use kalah_rules::Board;
-use std::io;
 
 /// The bytes of a column.
 pub(crate) const COLUMN: usize = 4;
@@ -74,13 +72,10 @@ fn picture(board: &Board) -> StackText
 
 /// Draws a board in three lines. The first has the houses of the other player, from the last to the first. The second has the stores,
 /// with the mover's at the right. The third has the houses of the mover, from the first to the last. Each number is right-aligned in
-/// a column of four bytes. It allocates nothing. It fails exactly when the sink has failed afterwards; then a
-/// prefix of the picture was written, and nothing else.
-pub fn write_picture<W: Sink>(out: &mut W, board: &Board) -> Result<(), io::Error>
-    requires { W.has_failed out.old ≡ false }
-    ensures fails { IsErr result ↔ (W.has_failed out.new ≡ true) }
-    ensures adds { OnOk result (Appends (W.written out.old) (W.written out.new) (picture_of board.now)) }
-    ensures start { AppendsStart (W.written out.old) (W.written out.new) (picture_of board.now) }
+/// a column of four bytes. It allocates nothing. If the sink has failed it is not called. If it fails, a prefix of the picture was
+/// written, and nothing else.
+pub fn write_picture<W: Sink>(out: &mut W, board: &Board)
+    ensures { WasGiven W.written W.has_failed out.old out.new (picture_of board.now) }
 {
-    out.write_all(picture(board).bytes())
+    write_unless_failed(out, picture(board).bytes());
 }

@@ -1,7 +1,6 @@
 //! Positions and steps as text.
-ghost use Rattle.std.specs.Prelude.{◌≡◌, ◌≤◌, ◌+◌, ◌∷◌, [], ◌++◌, ◌↔◌, true, false, IfOk, IsErr, OnOk, length, string_bytes};
-ghost use Rattle.std.specs.Io.KnownBytes.{Appends};
-ghost use Rattle.kalah_jobs.specs.Writing.Given.{AppendsStart};
+ghost use Rattle.std.specs.Prelude.{◌≡◌, ◌≤◌, ◌+◌, ◌∷◌, [], ◌++◌, IfOk, length, string_bytes};
+ghost use Rattle.kalah_jobs.specs.Writing.Given.{WasGiven};
 ghost use Rattle.kalah_rules.specs.Limits.{most_in_store};
 ghost use Rattle.kalah_rules.specs.Play.{position_after};
 ghost use Rattle.kalah_rules.specs.Position.{IsWithinLimits};
@@ -10,11 +9,10 @@ ghost use Rattle.kalah_jobs.specs.Line.Line.{Reads, ending_of, side_text, line_t
 ghost use Rattle.kalah_jobs.specs.Writing.Player.{houses_of, store_of};
 
 use crate::writing::player::Player;
-use crate::writing::sink::Sink;
+use crate::writing::sink::{Sink, write_unless_failed};
 use crate::writing::stack_text::{ROOM, StackText};
 use kalah_rules::{Board, Rule, Step};
 use std::alloc::{AllocError, Global};
-use std::io;
 
 // Puts a player's houses, a slash and the player's store in front of the text.
 fn prepend_side(text: &mut StackText, board: &Board, player: Player)
@@ -124,14 +122,10 @@ pub fn step_text(alloc: Global, h: u8, step: &Step) -> Result<String, AllocError
     String::from_str(alloc, text_of_step(h, step, "").as_str())
 }
 
-/// Writes the text of a move, as `step_text` returns it, and a line feed. It allocates nothing. It fails exactly when the
-/// sink has failed afterwards; then a prefix of the line was written, and nothing else.
-pub fn write_step<W: Sink>(out: &mut W, h: u8, step: &Step) -> Result<(), io::Error>
-    requires { W.has_failed out.old ≡ false }
-    ensures fails { IsErr result ↔ (W.has_failed out.new ≡ true) }
-    ensures adds { OnOk result
-        (Appends (W.written out.old) (W.written out.new) (step_text_of h step.now ++ line_feed ∷ [])) }
-    ensures start { AppendsStart (W.written out.old) (W.written out.new) (step_text_of h step.now ++ line_feed ∷ []) }
+/// Writes the text of a move, as `step_text` returns it, and a line feed. It allocates nothing. If the sink has failed it is not called.
+/// If it fails, a prefix of the line was written, and nothing else.
+pub fn write_step<W: Sink>(out: &mut W, h: u8, step: &Step)
+    ensures { WasGiven W.written W.has_failed out.old out.new (step_text_of h step.now ++ line_feed ∷ []) }
 {
-    out.write_all(text_of_step(h, step, "\n").bytes())
+    write_unless_failed(out, text_of_step(h, step, "\n").bytes());
 }

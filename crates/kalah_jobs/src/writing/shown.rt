@@ -1,19 +1,17 @@
 //! What each move is worth, below the picture of a board.
-ghost use Rattle.std.specs.Prelude.{◌≡◌, ◌↔◌, ◌≤◌, ◌+◌, ◌-◌, ◌*◌, ◌∷◌, [], ◌++◌, drop, true, false, IsErr, OnOk, length};
-ghost use Rattle.std.specs.Io.KnownBytes.{Appends};
+ghost use Rattle.std.specs.Prelude.{◌≡◌, ◌≤◌, ◌+◌, ◌-◌, ◌*◌, ◌∷◌, [], ◌++◌, drop, length};
 ghost use Rattle.kalah_rules.specs.Limits.{most_houses};
 ghost use Rattle.kalah_rules.specs.Position.{IsSmallMargin};
 ghost use Rattle.kalah_solve.specs.Solver.MoveValues.{values_of};
 ghost use Rattle.kalah_jobs.specs.Files.Lines.{line_feed};
-ghost use Rattle.kalah_jobs.specs.Writing.Given.{AppendsStart};
+ghost use Rattle.kalah_jobs.specs.Writing.Given.{WasGiven};
 ghost use Rattle.kalah_jobs.specs.Writing.Shown.{AreSmall, AscendFrom, over_words, value_cell, value_columns, values_line};
 
 use crate::writing::picture::COLUMN;
-use crate::writing::sink::Sink;
+use crate::writing::sink::{Sink, write_unless_failed};
 use crate::writing::stack_text::{ROOM, StackText};
 use kalah_rules::Board;
 use kalah_solve::{MoveValue, MoveValues};
-use std::io;
 
 // Puts the value of a move, at the right of a column, in front of the text.
 fn prepend_value_cell(text: &mut StackText, value: MoveValue)
@@ -67,19 +65,10 @@ fn line_below(board: &Board, values: &MoveValues) -> StackText
 /// house. Nothing stands below a house that may not be moved, or after the last value. If the game is over, the line is
 /// `over, margin M`.
 ///
-/// It allocates nothing. It fails exactly when the sink has failed afterwards; then a prefix of the line was written, and nothing
-/// else.
-pub fn write_values<W: Sink>(
-    out: &mut W,
-    board: &Board,
-    values: &MoveValues,
-) -> Result<(), io::Error>
-    requires sink { W.has_failed out.old ≡ false }
-    requires values { values.now ≡ values_of board.now }
-    ensures fails { IsErr result ↔ (W.has_failed out.new ≡ true) }
-    ensures adds { OnOk result
-        (Appends (W.written out.old) (W.written out.new) (values_line board.now ++ line_feed ∷ [])) }
-    ensures start { AppendsStart (W.written out.old) (W.written out.new) (values_line board.now ++ line_feed ∷ []) }
+/// It allocates nothing. If the sink has failed it is not called. If it fails, a prefix of the line was written, and nothing else.
+pub fn write_values<W: Sink>(out: &mut W, board: &Board, values: &MoveValues)
+    requires { values.now ≡ values_of board.now }
+    ensures { WasGiven W.written W.has_failed out.old out.new (values_line board.now ++ line_feed ∷ []) }
 {
-    out.write_all(line_below(board, values).bytes())
+    write_unless_failed(out, line_below(board, values).bytes());
 }

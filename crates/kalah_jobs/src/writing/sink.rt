@@ -1,7 +1,7 @@
 //! The sinks that answers are written to: bytes go out in order until a call fails, and none after that.
-ghost use Rattle.std.specs.Prelude.{◌≡◌, ◌↔◌, ℕ, List, Bool, true, false, Option, OnOk, IsErr};
+ghost use Rattle.std.specs.Prelude.{◌≡◌, ◌↔◌, ℕ, List, [], Bool, true, false, Option, OnOk, IsErr};
 ghost use Rattle.std.specs.Io.KnownBytes.{Appends, Keeps};
-ghost use Rattle.kalah_jobs.specs.Writing.Given.{AppendsStart, IsReady};
+ghost use Rattle.kalah_jobs.specs.Writing.Given.{AppendsStart, IsReady, WasGiven};
 
 use std::io;
 
@@ -48,4 +48,26 @@ pub trait Sink {
     /// Returns whether a call has failed.
     fn failed(&self) -> bool
         ensures { result ≡ has_failed self.now };
+}
+
+/// Writes the bytes. If the sink has failed it is not called, and the bytes are dropped.
+#[tactic(auto, using(crate::proofs::WritingLemmas::Givings::given_once, crate::proofs::WritingLemmas::Givings::given_off))]
+#[inline(always)]
+pub fn write_unless_failed<O: Sink>(out: &mut O, bytes: &[u8])
+    ensures { WasGiven O.written O.has_failed out.old out.new bytes.now }
+{
+    if !out.failed() {
+        let _ = out.write_all(bytes);
+    }
+}
+
+/// Flushes the sink. If it has failed it is not called.
+#[tactic(auto, using(crate::proofs::WritingLemmas::Givings::given_flush, crate::proofs::WritingLemmas::Givings::given_off))]
+pub fn flush_unless_failed<O: Sink>(out: &mut O)
+    ensures given { WasGiven O.written O.has_failed out.old out.new [] }
+    ensures handed_on { O.has_failed out.new ≡ false → O.is_handed_on out.new ≡ true }
+{
+    if !out.failed() {
+        let _ = out.flush();
+    }
 }

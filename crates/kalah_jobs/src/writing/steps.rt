@@ -1,65 +1,43 @@
 //! The steps of a position, a line each.
-ghost use Rattle.std.specs.Prelude.{◌≡◌, ◌≤◌, ◌∷◌, [], ◌++◌, ◌↔◌, if◌then◌else◌, true, false, IsErr, OnOk, length, map, string_bytes};
+ghost use Rattle.std.specs.Prelude.{◌≡◌, ◌≤◌, ◌∷◌, [], ◌++◌, if◌then◌else◌, true, OnOk, length, map, string_bytes};
 ghost use Rattle.std.specs.List.{join_with_byte};
-ghost use Rattle.std.specs.Io.KnownBytes.{Appends};
 ghost use Rattle.kalah_jobs.specs.Files.Lines.{line_feed};
 ghost use Rattle.kalah_jobs.specs.Line.Line.{step_text_of};
 ghost use Rattle.kalah_jobs.specs.Writing.Answer.{steps_texts};
-ghost use Rattle.kalah_jobs.specs.Writing.Given.{AppendsStart};
+ghost use Rattle.kalah_jobs.specs.Writing.Given.{WasGiven};
 
 use crate::writing::named_text::write_named;
 use crate::writing::position_text::text_of_step;
-use crate::writing::sink::Sink;
+use crate::writing::sink::{Sink, write_unless_failed};
 use kalah_rules::{Board, Step};
 use std::alloc::AllocError;
-use std::io;
 
 // Writes the line of a move: the name, the place, the text of the move and a line feed.
-fn write_step_line<W: Sink>(
-    out: &mut W,
-    name: &str,
-    place: &str,
-    h: u8,
-    step: &Step,
-) -> Result<(), io::Error>
-    requires whole { W.has_failed out.old ≡ false }
-    requires place { length place.now ≤ 22 }
-    ensures fails { IsErr result ↔ (W.has_failed out.new ≡ true) }
-    ensures adds { OnOk result (Appends (W.written out.old) (W.written out.new)
-        (((name.now ++ place.now) ++ step_text_of h step.now) ++ line_feed ∷ [])) }
-    ensures start { AppendsStart (W.written out.old) (W.written out.new)
+fn write_step_line<W: Sink>(out: &mut W, name: &str, place: &str, h: u8, step: &Step)
+    requires { length place.now ≤ 22 }
+    ensures { WasGiven W.written W.has_failed out.old out.new
         (((name.now ++ place.now) ++ step_text_of h step.now) ++ line_feed ∷ []) }
 {
     let mut text = text_of_step(h, step, "\n");
     text.prepend(place);
-    write_named(out, name, &mut text)
+    write_named(out, name, &mut text);
 }
 
 /// Writes a line for each legal house of a board, in ascending order: the name, the place and the text of its move. If there is none,
 /// it writes an empty line.
-pub(crate) fn write_steps<W: Sink>(
-    out: &mut W,
-    name: &str,
-    place: &str,
-    board: &Board,
-) -> Result<(), io::Error>
-    requires whole { W.has_failed out.old ≡ false }
-    requires place { length place.now ≤ 22 }
-    ensures fails { IsErr result ↔ (W.has_failed out.new ≡ true) }
-    ensures adds { OnOk result (Appends (W.written out.old) (W.written out.new)
-        (join_with_byte line_feed (map (λ text. (name.now ++ place.now) ++ text) (steps_texts board.now)) ++ line_feed ∷ [])) }
-    ensures start { AppendsStart (W.written out.old) (W.written out.new)
+pub(crate) fn write_steps<W: Sink>(out: &mut W, name: &str, place: &str, board: &Board)
+    requires { length place.now ≤ 22 }
+    ensures { WasGiven W.written W.has_failed out.old out.new
         (join_with_byte line_feed (map (λ text. (name.now ++ place.now) ++ text) (steps_texts board.now)) ++ line_feed ∷ []) }
 {
     let moves = board.legal();
     if moves.len() == 0 {
-        return out.write_all(b"\n");
+        return write_unless_failed(out, b"\n");
     }
     for i in 0..moves.len() {
         let h = moves.get(i);
-        write_step_line(out, name, place, h, &board.apply(h))?;
+        write_step_line(out, name, place, h, &board.apply(h));
     }
-    Ok(())
 }
 
 // Returns what stands before a line: nothing before the first.

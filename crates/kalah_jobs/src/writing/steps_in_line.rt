@@ -1,45 +1,35 @@
 //! The steps of a position in one line.
-ghost use Rattle.std.specs.Prelude.{◌≡◌, ◌∷◌, [], ◌++◌, ◌↔◌, if◌then◌else◌, true, false, Contains, IsErr, OnOk, codes};
-ghost use Rattle.std.specs.Io.KnownBytes.{Appends};
+ghost use Rattle.std.specs.Prelude.{◌∷◌, [], ◌++◌, if◌then◌else◌, Contains, codes};
 ghost use Rattle.kalah_rules.specs.Play.{legal_houses, step_of};
 ghost use Rattle.kalah_jobs.specs.Files.Lines.{line_feed};
 ghost use Rattle.kalah_jobs.specs.Line.Line.{step_text_of};
 ghost use Rattle.kalah_jobs.specs.Writing.Answer.{in_one_line, steps_texts};
-ghost use Rattle.kalah_jobs.specs.Writing.Given.{AppendsStart};
+ghost use Rattle.kalah_jobs.specs.Writing.Given.{WasGiven};
 
 use crate::writing::position_text::text_of_step;
-use crate::writing::sink::Sink;
+use crate::writing::sink::{Sink, write_unless_failed};
 use kalah_rules::Board;
-use std::io;
 
 // Writes the text of a move, and before it `; ` if it isn't the first.
-fn write_next<W: Sink>(out: &mut W, is_first: bool, board: &Board, h: u8) -> Result<(), io::Error>
-    requires whole { W.has_failed out.old ≡ false }
-    requires legal { Contains (legal_houses board.now) h }
-    ensures fails { IsErr result ↔ (W.has_failed out.new ≡ true) }
-    ensures adds { OnOk result (Appends (W.written out.old) (W.written out.new)
-        ((if is_first then [] else codes "; ") ++ step_text_of h (step_of board.now h))) }
-    ensures start { AppendsStart (W.written out.old) (W.written out.new)
+fn write_next<W: Sink>(out: &mut W, is_first: bool, board: &Board, h: u8)
+    requires { Contains (legal_houses board.now) h }
+    ensures { WasGiven W.written W.has_failed out.old out.new
         ((if is_first then [] else codes "; ") ++ step_text_of h (step_of board.now h)) }
 {
     let mut text = text_of_step(h, &board.apply(h), "");
     if !is_first {
         text.prepend("; ");
     }
-    out.write_all(text.bytes())
+    write_unless_failed(out, text.bytes());
 }
 
 /// Writes the text of the move of each legal house of a board, in ascending order, with `; ` between any two, and a line feed.
-pub(crate) fn write_steps_in_line<W: Sink>(out: &mut W, board: &Board) -> Result<(), io::Error>
-    requires { W.has_failed out.old ≡ false }
-    ensures fails { IsErr result ↔ (W.has_failed out.new ≡ true) }
-    ensures adds { OnOk result
-        (Appends (W.written out.old) (W.written out.new) (in_one_line (steps_texts board.now) ++ line_feed ∷ [])) }
-    ensures start { AppendsStart (W.written out.old) (W.written out.new) (in_one_line (steps_texts board.now) ++ line_feed ∷ []) }
+pub(crate) fn write_steps_in_line<W: Sink>(out: &mut W, board: &Board)
+    ensures { WasGiven W.written W.has_failed out.old out.new (in_one_line (steps_texts board.now) ++ line_feed ∷ []) }
 {
     let moves = board.legal();
     for i in 0..moves.len() {
-        write_next(out, i == 0, board, moves.get(i))?;
+        write_next(out, i == 0, board, moves.get(i));
     }
-    out.write_all(b"\n")
+    write_unless_failed(out, b"\n");
 }

@@ -1,15 +1,8 @@
-use Rattle.std.proofs.Common.{refl, subst}
+use Rattle.std.proofs.Common.{ap}
 use Rattle.kalah_jobs.specs.Writing.Counts.{total_line}
-use Rattle.kalah_jobs.specs.Writing.Given.{AppendsStart}
-use Rattle.kalah_jobs.proofs.WritingLemmas.Starts.{start_longer, start_then}
-use Rattle.kalah_cli.specs.Count.{ways_lines}
+use Rattle.kalah_jobs.proofs.WritingLemmas.Givings.{given_on}
 use Rattle.kalah_cli.proofs.count.write_count.Goals as goal
 
-pub returns-in_err-total-clause-start : goal.returns-in_err-total-clause-start
-returns-in_err-total-clause-start g c = start_longer _ _ (ways_lines c.args.depth c.args.board.now) _ c.write_houses.ensures.start
-
-pub returns-clause-start : goal.returns-clause-start
-returns-clause-start g c =
-    start_then _ _ _ _ (ways_lines c.args.depth c.args.board.now) _ refl c.in_ok-total.ensures.adds
-    (subst (λ n. AppendsStart (g.O.Sink.written c.write_houses.new.out) (g.O.Sink.written c.write_sum-2.new.out) (total_line n))
-    c.in_ok-total.ensures.total c.write_sum-2.ensures.start)
+pub returns-clause-given : goal.returns-clause-given
+returns-clause-given g c = given_on _ _ _ _ _ _ _ _ c.write_houses-total.ensures.given
+    (λ sound. ap total_line (c.write_houses-total.ensures.total sound)) c.write_sum-2.ensures.given

@@ -1,13 +1,12 @@
-use Rattle.std.proofs.Common.{◌≡◌, false, flat_map, take}
-use Rattle.std.specs.Io.KnownBytes.{Appends}
+use Rattle.std.proofs.Common.{◌≡◌, flat_map, take}
 use Rattle.kalah_rules.specs.Play.{legal_houses, step_of}
+use Rattle.kalah_jobs.specs.Writing.Given.{WasGiven}
 use Rattle.kalah_cli.specs.Moves.{move_lines}
 use Rattle.kalah_cli.proofs.moves.write_moves.Given as goal
 
 abbrev pub invariant-loop-i : goal.invariant-loop-i
 invariant-loop-i g l = record {
   same : l.moves ≡ legal_houses l.board;
-  whole : g.O.Sink.has_failed l.out ≡ false;
-  adds : Appends (g.O.Sink.written l.initial.out) (g.O.Sink.written l.out)
+  given : WasGiven g.O.Sink.written g.O.Sink.has_failed l.initial.out l.out
       (flat_map (λ h. move_lines l.fn.boards h (step_of l.board h)) (take l.i l.moves));
 }

@@ -1,16 +1,16 @@
-use Rattle.std.proofs.Common.{◌≡◌, [], ℕ, arith}
+use Rattle.std.proofs.Common.{◌≡◌, ◌∙◌, [], ◌++◌, ℕ, true, ap, arith, subst, sym}
 use Rattle.std.specs.Prelude.{ℤ}
-use Rattle.std.proofs.KnownBytes.{Appends-nil}
-use Rattle.std.proofs.lemmas.Result.{on_ok_weaker}
-use Rattle.kalah_rules.specs.Play.{step_of}
-use Rattle.kalah_rules.specs.Position.{IsWithinLimits, Position}
+use Rattle.kalah_rules.specs.Play.{position_after, step_of}
+use Rattle.kalah_rules.specs.Position.{IsWithinLimits, Position, is_over}
 use Rattle.kalah_rules.specs.declared.step.Step.{Step}
 use Rattle.kalah_solve.specs.Solver.Verdict.{TellsBestMove, verdict_of}
 use Rattle.kalah_solve.specs.declared.solver.Verdict.TheVariants.{Best}
-use Rattle.kalah_solve.proofs.SolverLemmas.Worths.{board_equal_sides}
-use Rattle.kalah_jobs.proofs.WritingLemmas.Starts.{start_kept_all}
-use Rattle.kalah_cli.proofs.Begun.{none_failed}
-use Rattle.kalah_cli.proofs.Played.{IsFirst, begins_move, begins_on, best_is_legal, best_told, fewer_left, goes_on, kept_appends, of_any, of_end, of_first, of_last, of_next, on_ok_always}
+use Rattle.kalah_solve.proofs.SolverLemmas.Worths.{board_equal_sides, over_ends}
+use Rattle.kalah_jobs.specs.Writing.Given.{WasGiven}
+use Rattle.kalah_jobs.proofs.WritingLemmas.Givings.{given_after, given_cut_off, given_then}
+use Rattle.kalah_cli.specs.Moves.{move_lines}
+use Rattle.kalah_cli.specs.Play.{best_game, game_lines}
+use Rattle.kalah_cli.proofs.Played.{IsFirst, after_going, best_is_legal, best_told, fewer_left, lines_go_on, no_lines}
 use Rattle.kalah_cli.proofs.play.+game.Goals as goal
 
 -- the solver's best move is the first move of the game
@@ -20,18 +20,14 @@ first_of : {p : Position} {margin : ℤ} {h : ℕ} {s : Step} → IsWithinLimits
 first_of {p} {margin} {h} {s} limits told verdict step =
     record { even = board_equal_sides p limits; going = told.going; best = best_told p margin h told.going verdict; step = step }
 
-pub returns-in_err-flush-clause-begins : goal.returns-in_err-flush-clause-begins
-returns-in_err-flush-clause-begins g t c =
-    of_any (board_equal_sides c.args.board.now c.m-side.ensures.limits) (λ lines. start_kept_all _ _ lines c.flush.ensures.keeps)
+pub returns-then-failed-clause-given : goal.returns-then-failed-clause-given
+returns-then-failed-clause-given g t c =
+    given_cut_off _ _ _ _ [] _ c.flush_unless_failed.ensures.given (sym c.failed.ensures ∙ c.if-failed.true)
 
-pub returns-in-Over-clause-game : goal.returns-in-Over-clause-game
-returns-in-Over-clause-game g t c =
-    of_end (board_equal_sides c.args.board.now c.m-side.ensures.limits) c.in-Over.ensures.best_play.over
-    (kept_appends _ _ _ [] c.flush.ensures.keeps (Appends-nil _))
-
-pub returns-in-Over-clause-begins : goal.returns-in-Over-clause-begins
-returns-in-Over-clause-begins g t c =
-    of_any (board_equal_sides c.args.board.now c.m-side.ensures.limits) (λ lines. start_kept_all _ _ lines c.flush.ensures.keeps)
+pub returns-in-Over-clause-given : goal.returns-in-Over-clause-given
+returns-in-Over-clause-given g t c =
+    subst (WasGiven g.O.Sink.written g.O.Sink.has_failed c.args.out.now c.flush_unless_failed.new.out)
+    (sym (no_lines c.args.boards c.args.board.now c.in-Over.ensures.best_play.over)) c.flush_unless_failed.ensures.given
 
 pub apply-step-requires : goal.apply-step-requires
 apply-step-requires g t c =
@@ -39,42 +35,31 @@ apply-step-requires g t c =
     best_is_legal c.args.board.now c.in-Best.house (board_equal_sides c.args.board.now c.m-side.ensures.limits) told.going
     (best_told c.args.board.now c.in-Best.margin c.in-Best.house told.going c.in-Best.ensures.verdict)
 
-pub returns-in_err-write_move-clause-begins : goal.returns-in_err-write_move-clause-begins
-returns-in_err-write_move-clause-begins g t c =
-    let first = first_of c.m-side.ensures.limits c.in-Best.ensures.best_play c.in-Best.ensures.verdict c.apply-step.ensures.step in
-    of_first first (λ lines. begins_move _ _ _ _ lines c.flush.ensures.keeps c.write_move.ensures.start)
-
 pub write_game-requires : goal.write_game-requires
 write_game-requires g t c κs within =
     let first = first_of c.m-side.ensures.limits c.in-Best.ensures.best_play c.in-Best.ensures.verdict c.apply-step.ensures.step in (
       omega (arith, fewer_left c.args.board.now c.in-Again.next c.in-Best.house c.apply-step.result first c.in-Again.is),
-      (within, none_failed c.in_ok-write_move.ensures.fails),
+      within,
     )
 
-pub returns-in-Again-clause-game : goal.returns-in-Again-clause-game
-returns-in-Again-clause-game g t c =
+pub returns-in-Again-clause-given : goal.returns-in-Again-clause-given
+returns-in-Again-clause-given g t c =
     let first = first_of c.m-side.ensures.limits c.in-Best.ensures.best_play c.in-Best.ensures.verdict c.apply-step.ensures.step in
-    on_ok_weaker c.write_game.result
-    (of_next first c.in-Again.is (λ lines rest. goes_on _ _ _ _ _ lines c.flush.ensures.keeps c.in_ok-write_move.ensures.adds rest))
-    c.write_game.ensures.game
+    let lines = move_lines c.args.boards c.in-Best.house c.apply-step.result in
+    let next = after_going c.apply-step.result c.in-Again.next c.in-Again.is in
+    subst (WasGiven g.O.Sink.written g.O.Sink.has_failed c.args.out.now c.write_game.new.out)
+    (ap (λ q. lines ++ game_lines c.args.boards q (best_game q)) next ∙ sym (lines_go_on c.args.boards first))
+    (given_after _ _ _ _ _ _ c.flush_unless_failed.ensures.given
+    (given_then _ _ _ _ _ lines _ c.write_move.ensures c.write_game.ensures.given))
 
-pub returns-in-Again-clause-begins : goal.returns-in-Again-clause-begins
-returns-in-Again-clause-begins g t c =
+pub returns-in-Over-step-clause-given : goal.returns-in-Over-step-clause-given
+returns-in-Over-step-clause-given g t c =
     let first = first_of c.m-side.ensures.limits c.in-Best.ensures.best_play c.in-Best.ensures.verdict c.apply-step.ensures.step in
-    of_next first c.in-Again.is (λ lines rest. begins_on _ _ _ _ _ lines c.flush.ensures.keeps c.in_ok-write_move.ensures.adds rest)
-    c.write_game.ensures.begins
-
-pub returns-in-Over-step-clause-game : goal.returns-in-Over-step-clause-game
-returns-in-Over-step-clause-game g t c =
-    let first = first_of c.m-side.ensures.limits c.in-Best.ensures.best_play c.in-Best.ensures.verdict c.apply-step.ensures.step in
-    on_ok_always c.flush-in-Over-step.result
-    (of_last first c.in-Over-step.is
-    (goes_on _ _ _ _ _ [] c.flush.ensures.keeps c.in_ok-write_move.ensures.adds
-    (kept_appends _ _ _ [] c.flush-in-Over-step.ensures.keeps (Appends-nil _))))
-
-pub returns-in-Over-step-clause-begins : goal.returns-in-Over-step-clause-begins
-returns-in-Over-step-clause-begins g t c =
-    let first = first_of c.m-side.ensures.limits c.in-Best.ensures.best_play c.in-Best.ensures.verdict c.apply-step.ensures.step in
-    of_first first
-    (λ lines. begins_on _ _ _ _ _ lines c.flush.ensures.keeps c.in_ok-write_move.ensures.adds
-    (start_kept_all _ _ lines c.flush-in-Over-step.ensures.keeps))
+    let lines = move_lines c.args.boards c.in-Best.house c.apply-step.result in
+    let end = position_after c.apply-step.result in
+    let over = subst (λ q. is_over q ≡ true) (sym (ap position_after c.in-Over-step.is))
+    (over_ends c.args.board.now c.in-Best.house _ (sym c.in-Over-step.is ∙ c.apply-step.ensures.step)) in
+    subst (WasGiven g.O.Sink.written g.O.Sink.has_failed c.args.out.now c.flush_unless_failed-in-Over-step.new.out)
+    (ap (λ rest. lines ++ rest) (sym (no_lines c.args.boards end over)) ∙ sym (lines_go_on c.args.boards first))
+    (given_after _ _ _ _ _ _ c.flush_unless_failed.ensures.given
+    (given_then _ _ _ _ _ lines [] c.write_move.ensures c.flush_unless_failed-in-Over-step.ensures.given))

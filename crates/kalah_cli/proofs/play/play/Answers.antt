@@ -1,56 +1,27 @@
-use Rattle.std.proofs.Common.{◌++◌, refl}
-use Rattle.std.proofs.KnownBytes.{Appends-trans}
-use Rattle.std.proofs.lemmas.Result.{on_ok_weaker}
-use Rattle.kalah_jobs.proofs.WritingLemmas.Starts.{start_longer, start_then}
-use Rattle.kalah_solve.proofs.SolverLemmas.Worths.{board_equal_sides}
+use Rattle.std.proofs.Common.{◌++◌, ◌∙◌, ap, subst, sym}
+use Rattle.kalah_rules.specs.Play.{position_after}
+use Rattle.kalah_jobs.specs.Writing.Given.{WasGiven}
+use Rattle.kalah_jobs.proofs.WritingLemmas.Givings.{given_then}
 use Rattle.kalah_cli.specs.Moves.{board_lines, move_lines}
-use Rattle.kalah_cli.proofs.Played.{after_step, begins_play, behind_move, of_any_game, of_best, of_first_house}
+use Rattle.kalah_cli.specs.Play.{best_game, game_lines, play_output}
+use Rattle.kalah_cli.proofs.Played.{after_step}
 use Rattle.kalah_cli.proofs.play.play.Goals as goal
 
-pub returns-in_err-write_board-clause-begins : goal.returns-in_err-write_board-clause-begins
-returns-in_err-write_board-clause-begins g c = begins_play c.requires.house
-    (of_any_game c.args.first c.args.boards c.args.board.now _ (board_equal_sides c.args.board.now c.m-side.ensures.limits)
-    (λ lines. start_longer _ _ (board_lines c.args.boards c.args.board.now) lines c.write_board.ensures.start))
+pub returns-in_default-clause-given : goal.returns-in_default-clause-given
+returns-in_default-clause-given g c =
+    subst (λ first. WasGiven g.O.Sink.written g.O.Sink.has_failed c.args.out.now c.write_game.new.out
+    (play_output first c.args.boards c.args.board.now)) (sym c.in_default.is)
+    (given_then _ _ _ _ _ _ _ c.write_board.ensures c.write_game.ensures.given)
 
-pub returns-in_default-clause-game : goal.returns-in_default-clause-game
-returns-in_default-clause-game g c = on_ok_weaker c.write_game.result
-    (λ game. (
-      c.requires.house,
-      of_best _ _ _ _ _ c.in_default.is
-          (λ lines rest. Appends-trans _ _ _ (board_lines c.args.boards c.args.board.now) lines c.in_ok-write_board.ensures.adds rest)
-          game,
-    ))
-    c.write_game.ensures.game
-
-pub returns-in_default-clause-begins : goal.returns-in_default-clause-begins
-returns-in_default-clause-begins g c = begins_play c.requires.house
-    (of_best _ _ _ _ _ c.in_default.is
-    (λ lines rest. start_then _ _ _ _ (board_lines c.args.boards c.args.board.now) lines refl c.in_ok-write_board.ensures.adds rest)
-    c.write_game.ensures.begins)
-
-pub returns-in_err-write_move-clause-begins : goal.returns-in_err-write_move-clause-begins
-returns-in_err-write_move-clause-begins g c = begins_play c.requires.house
-    (of_first_house _ c.args.boards c.args.board.now _ _ _ c.in-Some.is c.apply-step.ensures.step
-    (λ lines. start_then _ _ _ _ (board_lines c.args.boards c.args.board.now) _ refl c.in_ok-write_board.ensures.adds
-    (start_longer _ _ _ lines c.write_move.ensures.start)))
-
-pub returns-clause-game : goal.returns-clause-game
-returns-clause-game g c = on_ok_weaker c.write_game-in-Again.result
-    (λ game. (
-      c.requires.house,
-      behind_move _ _ c.args.board.now _ _ _ _ _ c.in-Some.is
-          c.apply-step.ensures.step (after_step c.apply-step.result c.in-Again.next c.in-Again.is)
-          (λ lines rest. Appends-trans _ _ _ (board_lines c.args.boards c.args.board.now)
-          (move_lines c.args.boards c.in-Some.h c.apply-step.result ++ lines) c.in_ok-write_board.ensures.adds
-          (Appends-trans _ _ _ (move_lines c.args.boards c.in-Some.h c.apply-step.result) lines c.in_ok-write_move.ensures.adds rest)) game,
-    ))
-    c.write_game-in-Again.ensures.game
-
-pub returns-clause-begins : goal.returns-clause-begins
-returns-clause-begins g c = begins_play c.requires.house
-    (behind_move _ _ c.args.board.now _ _ _ _ _ c.in-Some.is
-    c.apply-step.ensures.step (after_step c.apply-step.result c.in-Again.next c.in-Again.is)
-    (λ lines rest. start_then _ _ _ _ (board_lines c.args.boards c.args.board.now)
-    (move_lines c.args.boards c.in-Some.h c.apply-step.result ++ lines) refl c.in_ok-write_board.ensures.adds
-    (start_then _ _ _ _ (move_lines c.args.boards c.in-Some.h c.apply-step.result) lines refl c.in_ok-write_move.ensures.adds rest))
-    c.write_game-in-Again.ensures.begins)
+pub returns-clause-given : goal.returns-clause-given
+returns-clause-given g c =
+    let boards = c.args.boards in
+    let next = after_step c.apply-step.result c.in-Again.next c.in-Again.is in
+    let game = ap (λ q. move_lines boards c.in-Some.h c.apply-step.result ++ game_lines boards q (best_game q)) next
+    ∙ ap (λ s. move_lines boards c.in-Some.h s ++ game_lines boards (position_after s) (best_game (position_after s)))
+    c.apply-step.ensures.step in
+    subst (λ first. WasGiven g.O.Sink.written g.O.Sink.has_failed c.args.out.now c.write_game-in-Again.new.out
+    (play_output first boards c.args.board.now)) (sym c.in-Some.is)
+    (subst (λ lines. WasGiven g.O.Sink.written g.O.Sink.has_failed c.args.out.now c.write_game-in-Again.new.out
+    (board_lines boards c.args.board.now ++ lines)) game
+    (given_then _ _ _ _ _ _ _ c.write_board.ensures (given_then _ _ _ _ _ _ _ c.write_move.ensures c.write_game-in-Again.ensures.given)))

@@ -1,8 +1,14 @@
-use Rattle.kalah_cli.proofs.Begun.{begins_no_play, even_read}
+use Rattle.std.proofs.Common.{subst}
+use Rattle.kalah_jobs.specs.Line.Line.{Reads}
+use Rattle.kalah_cli.proofs.Ended.{line_answered, line_refused}
 use Rattle.kalah_cli.proofs.play.run_play.Goals as goal
 
-pub returns-in-Some-clause-begins : goal.returns-in-Some-clause-begins
-returns-in-Some-clause-begins g c = λ p reads. begins_no_play _ _ p _ (even_read _ p reads)
+pub returns-in-Some-clause-line : goal.returns-in-Some-clause-line
+returns-in-Some-clause-line g c =
+    line_refused _ _ _ c.in-Ok.board (subst (λ bytes. Reads bytes c.in-Ok.board) c.as_bytes.ensures.value c.in-Ok.ensures.reads)
+    c.report.ensures c.requires.sink
 
-pub returns-in_default-new_solver-clause-begins : goal.returns-in_default-new_solver-clause-begins
-returns-in_default-new_solver-clause-begins g c = λ p reads. begins_no_play _ _ p _ (even_read _ p reads)
+pub returns-clause-line : goal.returns-clause-line
+returns-clause-line g c =
+    line_answered _ _ _ c.in-Ok.board (subst (λ bytes. Reads bytes c.in-Ok.board) c.as_bytes.ensures.value c.in-Ok.ensures.reads)
+    c.play.ensures.given c.play.ensures.handed_on c.status_of.ensures.failed c.status_of.ensures.no_line

@@ -1,12 +1,11 @@
-use Rattle.std.proofs.Common.{◌≡◌, ◌∷◌, false, map, rules, subst, sym}
+use Rattle.std.proofs.Common.{◌≡◌, false, map, rules, subst, sym}
 use Rattle.clap.specs.Words.{HasKind, fault_of, kind_of}
 use Rattle.clap.specs.declared.error.Error.{Error}
 use Rattle.clap.specs.declared.error.kind.ErrorKind.TheVariants.{OutOfMemory}
 use Rattle.kalah_cli.specs.Command.{kalah_app}
-use Rattle.kalah_cli.specs.Request.{Asked, IsTakenAs, answers, asked_for, moves, table_of}
+use Rattle.kalah_cli.specs.Request.{Asked, IsTakenAs, asked_for, moves}
 use Rattle.kalah_cli.proofs.Laws.{moves_taken, taken_at, taken_once}
 use Rattle.kalah_cli.proofs.Parsed.{asked_is, by_memory_alone, faulty, if_error, on_error, parsed}
-use Rattle.kalah_cli.proofs.ManyWords.{files_taken}
 use Rattle.kalah_cli.proofs.request.parse.Given.{Over}
 use Rattle.kalah_cli.proofs.request.parse.Goals as goal
 
@@ -38,11 +37,6 @@ pub returns-clause-moves : goal.returns-clause-moves
 returns-clause-moves g c = λ name line is plain.
     taken_once (map g.S.AsStr.text c.args.words.now) _ _ (returns-clause-taken g c) (taken_at is (moves_taken name line plain))
 
-pub returns-clause-files : goal.returns-clause-files
-returns-clause-files g c = λ question name file files is plain.
-    taken_once (map g.S.AsStr.text c.args.words.now) _ _ (returns-clause-taken g c)
-    (taken_at is (files_taken question name file files plain))
-
 -- the error of a parse has a kind of the arguments' fault, so it is out of memory if they are accepted
 has_kind : (g : Over) (c : goal.After-from_residual-in_err-matches g) (e : Error) → e ≡ c.in_err-matches.field-0.0
     → HasKind (fault_of kalah_app (map g.S.AsStr.text c.args.words.now)) e
@@ -65,11 +59,6 @@ pub returns-in_err-matches-clause-moves : goal.returns-in_err-matches-clause-mov
 returns-in_err-matches-clause-moves g c = λ name line is plain.
     on_error _ _ _ _ c.from_residual-in_err-matches.ensures.1 (λ e same. refused g c e same _ (taken_at is (moves_taken name line plain)))
 
-pub returns-in_err-matches-clause-files : goal.returns-in_err-matches-clause-files
-returns-in_err-matches-clause-files g c = λ question name file files is plain.
-    on_error _ _ _ _ c.from_residual-in_err-matches.ensures.1 (λ e same. refused g c e same _
-    (taken_at is (files_taken question name file files plain)))
-
 pub returns-in_err-requested-clause-refused : goal.returns-in_err-requested-clause-refused
 returns-in_err-requested-clause-refused g c =
     let words = map g.S.AsStr.text c.args.words.now in
@@ -80,10 +69,4 @@ returns-in_err-requested-clause-refused g c =
 pub returns-in_err-requested-clause-moves : goal.returns-in_err-requested-clause-moves
 returns-in_err-requested-clause-moves g c = λ name line is plain.
     on_error c.from_residual-in_err-requested.result (λ r. asked_for r ≡ moves false line) (λ e. kind_of e ≡ OutOfMemory)
-    (λ e. kind_of e ≡ OutOfMemory) c.from_residual-in_err-requested.ensures.1 (λ e memory. memory)
-
-pub returns-in_err-requested-clause-files : goal.returns-in_err-requested-clause-files
-returns-in_err-requested-clause-files g c = λ question name file files is plain.
-    on_error c.from_residual-in_err-requested.result
-    (λ r. asked_for r ≡ answers question 4 (table_of question) false (file ∷ files)) (λ e. kind_of e ≡ OutOfMemory)
     (λ e. kind_of e ≡ OutOfMemory) c.from_residual-in_err-requested.ensures.1 (λ e memory. memory)

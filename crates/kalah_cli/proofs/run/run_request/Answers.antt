@@ -1,25 +1,22 @@
-use Rattle.kalah_cli.proofs.Begun.{asked_of_any, begun_of_any}
+use Rattle.kalah_cli.proofs.Asked.{input_of_any}
 use Rattle.kalah_cli.proofs.run.run_request.Goals as goal
 
 -- Answers are written for what a seeded mistake breaks: a wrong answer fails at once, and a search only at its limits.
 
-pub returns-in-Play-clause-does : goal.returns-in-Play-clause-does
-returns-in-Play-clause-does g c = rw c.in-Play.is c.run_play.ensures.read
+pub returns-in-Moves : goal.returns-in-Moves
+returns-in-Moves g c = rw c.in-Moves.is c.run_moves.ensures.line
 
-pub returns-in-Play-clause-begins : goal.returns-in-Play-clause-begins
-returns-in-Play-clause-begins g c = rw c.in-Play.is c.run_play.ensures.begins
+pub returns-in-Play : goal.returns-in-Play
+returns-in-Play g c = rw c.in-Play.is (c.run_play.ensures.line, c.run_play.ensures.unmoved)
 
-pub returns-in-Play-clause-unmoved : goal.returns-in-Play-clause-unmoved
-returns-in-Play-clause-unmoved g c = rw c.in-Play.is (λ asked. c.run_play.ensures.unmoved asked.0 asked.1 asked.2)
+pub returns-in-Files : goal.returns-in-Files
+returns-in-Files g c = rw c.in-Files.is c.run_files.ensures
 
-pub returns-in-Count-clause-does : goal.returns-in-Count-clause-does
-returns-in-Count-clause-does g c = rw c.in-Count.is c.run_count.ensures.read
+pub returns-in-Ask : goal.returns-in-Ask
+returns-in-Ask g c = rw c.in-Ask.is (input_of_any _ _ _ c.run_ask.ensures)
 
-pub returns-in-Count-clause-begins : goal.returns-in-Count-clause-begins
-returns-in-Count-clause-begins g c = rw c.in-Count.is c.run_count.ensures.begins
+pub returns-in-Show : goal.returns-in-Show
+returns-in-Show g c = rw c.in-Show.is c.run_show.ensures.line
 
-pub returns-in-Ask-clause-does : goal.returns-in-Ask-clause-does
-returns-in-Ask-clause-does g c = rw c.in-Ask.is (λ went. asked_of_any (c.run_ask.ensures.asked went))
-
-pub returns-in-Ask-clause-begins : goal.returns-in-Ask-clause-begins
-returns-in-Ask-clause-begins g c = rw c.in-Ask.is (begun_of_any c.run_ask.ensures.begins)
+pub returns-in-Count : goal.returns-in-Count
+returns-in-Count g c = rw c.in-Count.is c.run_count.ensures.line

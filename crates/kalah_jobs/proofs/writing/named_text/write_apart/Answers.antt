@@ -1,15 +1,10 @@
-use Rattle.std.proofs.Common.{◌++◌, List, ℕ, ap₂, sym, arith}
-use Rattle.std.proofs.lemmas.Grind.{common_steps}
-use Rattle.kalah_jobs.proofs.WritingLemmas.Starts.{start_then, starts}
+use Rattle.std.proofs.Common.{◌++◌, List, ℕ, ap₂, subst}
+use Rattle.kalah_jobs.specs.Writing.Given.{WasGiven}
+use Rattle.kalah_jobs.proofs.WritingLemmas.Givings.{given_then}
 use Rattle.kalah_jobs.proofs.writing.named_text.write_apart.Goals as goal
 
-pub returns-clause-start : goal.returns-clause-start
-returns-clause-start g c =
-    let both = ap₂ (λ (name text : List ℕ). name ++ text) c.as_bytes.ensures.value c.bytes.ensures.bytes in
-    start_then _ _ _ _ c.as_bytes.result.now c.bytes.result.now (sym both) c.in_ok-write_all.ensures.adds c.write_all-2.ensures.start
-
-pub returns-in_err-write_all-clause-start : goal.returns-in_err-write_all-clause-start
-returns-in_err-write_all-clause-start g c = grind (arith, starts)
-
-pub returns-clause-adds : goal.returns-clause-adds
-returns-clause-adds g c = grind (arith, common_steps)
+pub returns : goal.returns
+returns g c =
+    subst (WasGiven g.W.Sink.written g.W.Sink.has_failed c.args.out.now c.write_unless_failed-2.new.out)
+    (ap₂ (λ (name text : List ℕ). name ++ text) c.as_bytes.ensures.value c.bytes.ensures.bytes)
+    (given_then _ _ _ _ _ _ _ c.write_unless_failed.ensures c.write_unless_failed-2.ensures)
