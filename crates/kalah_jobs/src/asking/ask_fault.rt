@@ -11,3 +11,6 @@ pub enum AskFault {
     #[error("write failed")]
     Write,
 }
+
+#[cfg(test)]
+mod tests;

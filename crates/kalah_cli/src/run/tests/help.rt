@@ -12,6 +12,8 @@ const REFUSED: &[(&[&str], bool)] = &[
     (&["show", "1,1/0", "1,1/0"], true),
     (&["count", "2", "1,1/0", "1,1/0"], true),
     (&["moves", "1,1/0 1,1/0", "1"], false),
+    (&["moves", "-1/0 1/0"], false),
+    (&["count", "1/0 1/0"], false),
     (&["play", "--board", "1,1/0 1,1/0"], false),
     (&["solve", "a/b", "c/d", "--board"], false),
     (&["moves"], false),
