@@ -648,7 +648,7 @@ class Trials(AskTrials):
         with self.start([self.searching(), "--table", "1", "--workers", "64", "a"]) as process:
             end = time.monotonic() + SOON
             while busy_threads(process) < lines and time.monotonic() < end:
-                time.sleep(0.05)
+                time.sleep(0.01)
             busy, threads = busy_threads(process), len(os.listdir(f"/proc/{process.pid}/task"))
             process.kill()
         if busy < lines or threads > lines + 2:
