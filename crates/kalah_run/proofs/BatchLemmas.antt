@@ -4,6 +4,7 @@ pub mod Progress
 pub mod Outputs
 pub mod PutTogether
 pub mod WorkerRuns
+pub mod Known
 pub mod Ends
 pub mod NoLine
 pub mod Crossing

@@ -1,11 +1,12 @@
 //! A batch: the lines of position files, solved by many workers and answered in order.
-ghost use Rattle.std.specs.Prelude.{◌≡◌, ◌↔◌, ◌<◌, ◌≤◌, ◌⊎◌, true, false, Err, length, IfOk, IfErr, OnOk, OnErr, IsErr};
+ghost use Rattle.std.specs.Prelude.{◌≡◌, ◌↔◌, ◌<◌, ◌≤◌, ◌⊎◌, ℕ, true, false, Err, length, IfOk, IfErr, OnOk, OnErr, IsErr};
 ghost use Rattle.kalah_run.specs.Limits.{AreWorkers, IsTableSize};
 ghost use Rattle.kalah_run.specs.Batch.UnderWay.{WasGiven};
 ghost use Rattle.kalah_jobs.specs.Files.Jobs.{job_count};
 ghost use Rattle.kalah_jobs.specs.Writing.Output.{names_of, output_of, output_to, output_of_jobs};
-ghost use Rattle.kalah_run.specs.Batch.Answering.{AnswersBatch};
+ghost use Rattle.kalah_run.specs.Batch.Answering.{AnswersBatch, SolvesAll};
 ghost use Rattle.kalah_run.specs.declared.batch.run_fault.RunFault.TheVariants.{OutOfMemory, NoWorker, Write};
+ghost use Rattle.kalah_run.specs.declared.batch.size.Rest.TheVariants.{Solve};
 
 pub(crate) mod gate;
 pub(crate) mod laws;
@@ -75,6 +76,7 @@ fn answer_jobs<'a, R: Threads + Wait + Sync, G: Gate, V: Watch, W: Sink>(
     ensures fault { IfErr result (λ e. (e ≡ RunFault.OutOfMemory) ⊎ (e ≡ RunFault.NoWorker)) }
     ensures some { OnErr result (0 < job_count jobs.now) }
     ensures untouched { OnErr result (out.new ≡ out.old) }
+    ensures solved { rest ≡ Solve → OnOk result ((job : ℕ) → job < job_count jobs.now → G.knows gate.now job ≡ true) }
 {
     if jobs.total() == 0 {
         return Ok(());
@@ -99,6 +101,33 @@ fn answer_jobs<'a, R: Threads + Wait + Sync, G: Gate, V: Watch, W: Sink>(
     desk.close(passes);
     queue.close(rt, puts, get);
     Ok(())
+}
+
+// Answers what is asked of every line of the files, as `answer_batch` does. Each is solved, if the rest is to be solved.
+fn answer_asked<R: Threads + Wait + Sync, G: Gate, V: Watch, W: Sink>(
+    rt: &R,
+    alloc: Global,
+    question: Question,
+    files: &[FileText],
+    size: BatchSize,
+    rest: Rest,
+    gate: &G,
+    watch: &mut V,
+    out: &mut W,
+) -> Result<Tally, RunFault>
+    requires fresh { W.has_failed out.old ≡ false }
+    ensures answers { AnswersBatch W.written W.has_failed W.is_handed_on (output_to question files.now) files.now out.old out.new result }
+    ensures solved { rest ≡ Solve → SolvesAll (G.knows gate.now) files.now result }
+{
+    let jobs = Jobs::asking(alloc, question, files)?;
+    answer_jobs(rt, alloc, files, &jobs, size, rest, gate, watch, out)?;
+    if out.failed() || out.flush().is_err() {
+        return Err(RunFault::Write);
+    }
+    Ok(Tally {
+        lines: jobs.total(),
+        faults: jobs.faults(),
+    })
 }
 
 /// Answers what is asked of every line of the files, with workers and tables of the given size. It writes the answer to each, in the
@@ -132,15 +161,7 @@ pub fn answer_batch<R: Threads + Wait + Sync, G: Gate, V: Watch, W: Sink>(
     // What Ok means, what was written in any case, and when each fault comes: a field for each.
     ensures { AnswersBatch W.written W.has_failed W.is_handed_on (output_to question files.now) files.now out.old out.new result }
 {
-    let jobs = Jobs::asking(alloc, question, files)?;
-    answer_jobs(rt, alloc, files, &jobs, size, rest, gate, watch, out)?;
-    if out.failed() || out.flush().is_err() {
-        return Err(RunFault::Write);
-    }
-    Ok(Tally {
-        lines: jobs.total(),
-        faults: jobs.faults(),
-    })
+    answer_asked(rt, alloc, question, files, size, rest, gate, watch, out)
 }
 
 /// Solves every line of the files: `answer_batch` with the best move asked, by `workers` workers, 1 to 64. Each has a table of `table`
@@ -160,10 +181,11 @@ pub fn solve_batch<R: Threads + Wait + Sync, G: Gate, W: Sink>(
     requires fresh { W.has_failed out.old ≡ false }
 
     // As in `answer_batch`.
-    ensures { AnswersBatch W.written W.has_failed W.is_handed_on (output_of files.now) files.now out.old out.new result }
+    ensures answers { AnswersBatch W.written W.has_failed W.is_handed_on (output_of files.now) files.now out.old out.new result }
+    ensures solved { SolvesAll (G.knows gate.now) files.now result }
 {
     let size = BatchSize { workers, table };
     let question = Question::BestMove;
     let (rest, watch) = (Rest::Solve, &mut NoWatch);
-    answer_batch(rt, alloc, question, files, size, rest, gate, watch, out)
+    answer_asked(rt, alloc, question, files, size, rest, gate, watch, out)
 }

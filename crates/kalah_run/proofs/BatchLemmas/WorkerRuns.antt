@@ -1,6 +1,6 @@
 -- The workers of a batch, from their passes to what was got of them.
 use Rattle.std.proofs.Common.{◌≡◌, ℕ, zero, suc, ◌<◌, List, [], ◌∷◌, ◌++◌, length, map, get_or, refl, sym, ap, ◌∙◌, subst, arith}
-use Rattle.std.specs.Prelude.{All}
+use Rattle.std.specs.Prelude.{All, Bool, true}
 use Rattle.std.proofs.lemmas.List.{length-append, length-map, get_or-map}
 use Rattle.std.proofs.lemmas.List.Elements.{All-map}
 use Rattle.atomic_table.specs.Seated.{TableId}
@@ -31,11 +31,11 @@ put_queue id n (p ∷ ps) zero d from within = from.0
 put_queue id n (p ∷ ps) (suc k) d from within = put_queue id (suc n) ps k d from.2 (omega arith)
 
 -- workers of new passes are at work
-pub new_at_work : {G : Type 0} (shared : SharedWork G) (workers : List Worker) (count : ℕ)
+pub new_at_work : {G : Type 0} {knows : G → ℕ → Bool} (shared : SharedWork G) (workers : List Worker) (count : ℕ)
     → AreNewPasses shared.desk count (passes_of workers)
     → ArePassesFrom shared.queue.id 0 (puts_of workers)
-    → All (λ p. p.sent ≡ []) (puts_of workers) → AreAtWork shared workers
-new_at_work shared workers count new from unsent = λ k d within.
+    → All (λ p. p.sent ≡ []) (puts_of workers) → AreAtWork knows shared workers
+new_at_work {knows = knows} shared workers count new from unsent = λ k d within.
     let w = get_or workers k d in
     let low : k < count = omega (arith, new.0, length-map workers (λ (x : Worker). x.pass)) in
     let put_low : k < length (puts_of workers) = omega (arith, length-map workers (λ (x : Worker). x.put)) in
@@ -44,35 +44,40 @@ new_at_work shared workers count new from unsent = λ k d within.
     let put : get_or (puts_of workers) k w.put ≡ w.put = get_or-map (λ (x : Worker). x.put) workers k d w.put within in
     record {
       draws = (ap (λ (p : PassState). p.desk) pass, ap (λ (p : PassState). p.total) pass);
+      known = subst (λ (l : List ℕ). All (λ n. knows shared.gate.now n ≡ true) l) (sym (ap (λ (p : PassState). p.row.numbers) pass))
+          (λ j e low. absurd (omega arith));
       sends = ap (λ (p : PutState). p.queue) (sym put) ∙ put_queue shared.queue.id 0 (puts_of workers) k w.put from put_low;
       sent = drawn_jobs-none shared.jobs.now w.pass.row.numbers w.put.sent (ap (λ (p : PassState). p.row.numbers) pass)
           (ap (λ (p : PutState). p.sent) (sym put) ∙ unsent k w.put put_low);
     }
 
 -- after the run each pass to put is still of the queue, and in its place
-pub puts_after : {G : Type 0} (shared : SharedWork G) (before after : List Worker) (n : ℕ) → HaveRun shared before after
+pub puts_after : {G : Type 0} {knows : G → ℕ → Bool} (shared : SharedWork G) (before after : List Worker) (n : ℕ)
+    → HaveRun knows shared before after
     → ArePassesFrom shared.queue.id n (puts_of before) → ArePassesFrom shared.queue.id n (puts_of after)
 puts_after shared [] [] n run from = tt
 puts_after shared [] (a ∷ others) n run from = absurd (let many = run.as_many in omega arith)
 puts_after shared (b ∷ bs) [] n run from = absurd (let many = run.as_many in omega arith)
-puts_after shared (b ∷ bs) (a ∷ others) n run from =
+puts_after {knows = knows} shared (b ∷ bs) (a ∷ others) n run from =
     let first = run.each 0 a (omega arith) in
-    let rest : HaveRun shared bs others = record {
+    let rest : HaveRun knows shared bs others = record {
       as_many = (let many = run.as_many in omega arith);
       each = λ k d within. run.each (suc k) d (omega arith);
     } in
     (first.at_work.sends, first.number ∙ from.1, puts_after shared bs others (suc n) rest from.2)
 
 -- each worker that has run
-module _ {G : Type 0} (shared : SharedWork G) (before after : List Worker) (run : HaveRun shared before after) where
-  pub run_at_work : AreAtWork shared after
+module _ {G : Type 0} {knows : G → ℕ → Bool} (shared : SharedWork G) (before after : List Worker)
+    (run : HaveRun knows shared before after) where
+  pub run_at_work : AreAtWork knows shared after
   run_at_work = λ k d within. (run.each k d (let many = run.as_many in omega arith)).at_work
 
   pub run_passes : All (IsPassAt shared.desk) (passes_of after)
   run_passes = All-map (IsPassAt shared.desk) (λ (w : Worker). w.pass) after (λ k d within. (run_at_work k d within).draws)
 
 -- what worker w sent are the outcomes of its row
-sent_in_order : {G : Type 0} (shared : SharedWork G) (workers : List Worker) (w : ℕ) → AreAtWork shared workers
+sent_in_order : {G : Type 0} {knows : G → ℕ → Bool} (shared : SharedWork G) (workers : List Worker) (w : ℕ)
+    → AreAtWork knows shared workers
     → w < length workers →
     get_or (sent_by (puts_of workers)) w [] ≡ drawn_jobs shared.jobs.now (get_or (drawn_numbers (drawn_rows (passes_of workers))) w [])
 sent_in_order shared [] w at_work within = absurd (omega arith)
@@ -87,8 +92,8 @@ drawn_jobs_are jobs numbers = refl
 -- Each number below the count of those drawn stands in the rows once, and the pairs that were got and those left inside account for what
 -- was
 -- sent; as many were got as there are jobs: so each job was got once.
-pub each_job_got : {G : Type 0} (shared : SharedWork G) (workers : List Worker) (count drawn : ℕ) (got rest : List (ℕ × Job))
-    → AreAtWork shared workers
+pub each_job_got : {G : Type 0} {knows : G → ℕ → Bool} (shared : SharedWork G) (workers : List Worker) (count drawn : ℕ) (got rest : List (ℕ × Job))
+    → AreAtWork knows shared workers
     → length workers ≡ count → DealsEachOnce (job_count shared.jobs.now) drawn (drawn_rows (passes_of workers))
     → Accounts count (sent_by (puts_of workers)) (got ++ rest) → length got ≡ job_count shared.jobs.now
     → AreJobsInSomeOrder shared.jobs.now (outcomes_in got)

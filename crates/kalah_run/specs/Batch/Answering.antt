@@ -9,6 +9,10 @@ use Rattle.kalah_jobs.specs.Writing.Output.{LineCounts, tally_of}
 use Rattle.kalah_run.specs.declared.batch.run_fault.RunFault.{RunFault}
 use Rattle.kalah_run.specs.declared.batch.run_fault.RunFault.TheVariants.{TooManyFiles, TooManyLines, NoWorker, Write}
 
+-- Each line is solved, as the gate knows its job, unless the batch failed before a worker began.
+abbrev pub SolvesAll : (ℕ → Bool) → List NamedBytes → Result LineCounts RunFault → Type 0
+SolvesAll knows files result = IfErr result (λ e. e ≡ Write) → (job : ℕ) → job < lines_in_all files → knows job ≡ true
+
 -- The lines of these files have this output, and a sink was `old` before they were answered and is `new` afterwards; `bytes` is
 -- what was written to a sink, if that is known.
 pub record AnswersBatch {W : Type 0} (bytes : W → Option (List ℕ)) (has_failed is_handed_on : W → Bool) (output : List ℕ)

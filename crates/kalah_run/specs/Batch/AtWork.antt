@@ -1,5 +1,5 @@
 -- What is known of workers, before and after they have run.
-use Rattle.std.specs.Prelude.{◌≡◌, ℕ, ◌<◌, true, List, length, map, slice_index_or}
+use Rattle.std.specs.Prelude.{◌≡◌, ℕ, ◌<◌, Bool, true, List, length, map, slice_index_or}
 use Rattle.std.specs.List.{All}
 use Rattle.kalah_jobs.specs.declared.files.entry.Entry.{Entry}
 use Rattle.kalah_jobs.specs.declared.files.job.Job.{Job}
@@ -21,11 +21,13 @@ passes_of workers = map (λ w. w.pass) workers
 abbrev pub puts_of : List Worker → List PutState
 puts_of workers = map (λ w. w.put) workers
 
-module _ {G : Type 0} where
-  -- the worker draws at the desk and sends through the queue, and it has sent the outcomes of the jobs of its row, in order
+-- with what a gate knows
+module _ {G : Type 0} (knows : G → ℕ → Bool) where
+  -- the worker draws at the desk and sends through the queue; the gate knows the jobs of its row, and it has sent their outcomes, in order
   pub record IsAtWork (shared : SharedWork G) (w : Worker) : Type 0 where
     pub draws : IsPassAt shared.desk w.pass
     pub sends : w.put.queue ≡ shared.queue.id
+    pub known : All (λ n. knows shared.gate.now n ≡ true) w.pass.row.numbers
     pub sent : w.put.sent ≡ drawn_jobs shared.jobs.now w.pass.row.numbers
 
   abbrev pub AreAtWork : SharedWork G → List Worker → Type 0

@@ -1,5 +1,5 @@
 -- What is known of a batch that is open, before its workers run.
-use Rattle.std.specs.Prelude.{◌≡◌, ℕ, ◌≤◌, max, min, List, [], length, vec_capacity}
+use Rattle.std.specs.Prelude.{◌≡◌, ℕ, ◌≤◌, Bool, max, min, List, [], length, vec_capacity}
 use Rattle.std.specs.List.{All}
 use Rattle.std.specs.declared.alloc.Global.{Global}
 use Rattle.crossbeam_utils.specs.Padded.{padded_value}
@@ -31,14 +31,16 @@ module _ {G : Type 0} where
 
   -- for these jobs, of this size: there are the workers asked for, but at most one for each job, and one for no job; each is at work
   -- and has its place and its table, the queue has its places, and nothing was got
-  pub record IsReadyToRun (jobs : List (List Entry)) (size : BatchSize) (rest : Rest) (b : OpenBatch G) : Type 0 where
+  pub record IsReadyToRun (knows : G → ℕ → Bool) (jobs : List (List Entry)) (size : BatchSize) (rest : Rest) (gate : G)
+      (b : OpenBatch G) : Type 0 where
     pub workers : length b.workers.items ≡ max 1 (min size.workers (job_count jobs))
     pub tables : HaveTables size.table b.workers.items
     pub of_jobs : b.shared.jobs.now ≡ jobs
     pub of_rest : b.shared.rest ≡ rest
+    pub of_gate : b.shared.gate.now ≡ gate
     pub queue : b.shared.queue.capacity ≡ QUEUE_PLACES
     pub passes : length b.workers.items ≡ b.shared.desk.passes
-    pub at_work : AreAtWork b.shared b.workers.items
+    pub at_work : AreAtWork knows b.shared b.workers.items
     pub puts : ArePassesFrom b.shared.queue.id 0 (puts_of b.workers.items)
     pub get : b.get ≡ record { queue = b.shared.queue.id; workers = length b.workers.items; got = [] }
     pub room : HasRoom b

@@ -9,10 +9,10 @@ use Rattle.kalah_run.specs.declared.batch.ordered_output.OrderedOutput.{OrderedO
 use Rattle.kalah_run.specs.declared.batch.shared_work.SharedWork.{SharedWork}
 use Rattle.kalah_run.specs.declared.batch.worker.Worker.{Worker}
 
-module _ {G : Type 0} where
+module _ {G : Type 0} (knows : G → ℕ → Bool) where
   -- the workers are at work, and nothing was got of what they send
   pub record CanRun (shared : SharedWork G) (workers : List Worker) (get : GetState) (ordered : OrderedOutput) : Type 0 where
-    pub at_work : AreAtWork shared workers
+    pub at_work : AreAtWork knows shared workers
     pub queue : get.queue ≡ shared.queue.id
     pub nothing_got : get.got ≡ []
 
@@ -21,7 +21,7 @@ module _ {G : Type 0} where
   pub record HasEnded {W : Type 0} (bytes : W → Option (List ℕ)) (has_failed : W → Bool) (shared : SharedWork G)
       (workers : List Worker) (get : GetState) (ordered : OrderedOutput) (old new : W)
       (workers' : List Worker) (get' : GetState) (ordered' : OrderedOutput) : Type 0 where
-    pub all_ran : HaveRun shared workers workers'
+    pub all_ran : HaveRun knows shared workers workers'
     pub queue : get'.queue ≡ get.queue
     pub as_many : get'.workers ≡ get.workers
     pub all_got : (length get'.got ≡ job_count ordered.jobs.now) ⊎ IsLeft shared.rest (has_failed new)

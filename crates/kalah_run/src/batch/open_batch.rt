@@ -95,7 +95,7 @@ impl<'a, G: Gate> OpenBatch<'a, G> {
         rest: Rest,
         gate: &'a G,
     ) -> Result<OpenBatch<'a, G>, AllocError>
-        ensures { IfOk result (IsReadyToRun jobs.now size rest) }
+        ensures { IfOk result (IsReadyToRun G.knows jobs.now size rest gate.now) }
     {
         let total = jobs.total();
         let count = size.workers.min(total).max(1);

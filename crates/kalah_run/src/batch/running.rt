@@ -30,10 +30,10 @@ use std::thread::{Promise, Threads};
 #[derive(Drop)]
 struct AllHaveRun<'a, 'b, G, E: Rule>(Snapshot<Crew<'a, 'b, G, E>>);
 
-impl<'a, 'b, G, E: Rule> Promise<Vec<Worker>> for AllHaveRun<'a, 'b, G, E> {
+impl<'a, 'b, G: Gate, E: Rule> Promise<Vec<Worker>> for AllHaveRun<'a, 'b, G, E> {
     ghost use Rattle.kalah_run.specs.Batch.AtWork.{HaveRun};
 
-    ghost kept_by = { λ p r. HaveRun p.0.value.shared.now p.0.value.workers.items r.items };
+    ghost kept_by = { λ p r. HaveRun G.knows p.0.value.shared.now p.0.value.workers.items r.items };
 }
 
 // Gets an outcome that may come late.
@@ -165,8 +165,9 @@ pub(crate) fn run_and_write<
     watch: &mut V,
     out: &mut W,
 ) -> Result<(Vec<Worker>, GetPass, OrderedOutput<'a>), RunFault>
-    requires { CanRun crew.shared.now crew.workers.items get ordered × OnceRun crew.shared.now crew.workers.items (E.invariant 1) }
-    ensures ended { IfOk result (λ r. HasEnded W.written W.has_failed crew.entry.shared.now crew.entry.workers.items
+    requires { CanRun G.knows crew.shared.now crew.workers.items get ordered
+        × OnceRun G.knows crew.shared.now crew.workers.items (E.invariant 1) }
+    ensures ended { IfOk result (λ r. HasEnded G.knows W.written W.has_failed crew.entry.shared.now crew.entry.workers.items
         get ordered.entry out.old out.new r.0.items r.1 r.2) }
     ensures fault { IfErr result (λ e. e ≡ RunFault.NoWorker) }
     ensures untouched { OnErr result (out.new ≡ out.old) }
@@ -179,10 +180,10 @@ pub(crate) fn run_and_write<
             &mut V,
             &mut W,
         )
-            requires { IsSync R.row × IsSync G.row × CanRun crew.shared.now crew.workers.items get ordered
-                × OnceRun crew.shared.now crew.workers.items (E.invariant 1) }
+            requires { IsSync R.row × IsSync G.row × CanRun G.knows crew.shared.now crew.workers.items get ordered
+                × OnceRun G.knows crew.shared.now crew.workers.items (E.invariant 1) }
             ensures names { (result.1.ghost_name ≡ watch.entry.ghost_name) × (result.2.ghost_name ≡ out.entry.ghost_name) }
-            ensures ended { IfOk result.0 (λ r. HasEnded W.written W.has_failed crew.entry.shared.now crew.entry.workers.items
+            ensures ended { IfOk result.0 (λ r. HasEnded G.knows W.written W.has_failed crew.entry.shared.now crew.entry.workers.items
                 get ordered.entry out.entry.now result.2.now r.0.items r.1 r.2) }
             ensures fault { IfErr result.0 (λ e. e ≡ RunFault.NoWorker) }
             ensures untouched { OnErr result.0 (result.2.now ≡ out.entry.now) }
@@ -191,9 +192,9 @@ pub(crate) fn run_and_write<
             let started = scope.spawn_with(
                 AllHaveRun(Snapshot::of(&crew)),
                 move || -> Vec<Worker>
-                    requires { IsSync R.row × IsSync G.row × AreAtWork crew.shared.now crew.workers.items
-                        × OnceRun crew.shared.now crew.workers.items (E.invariant 1) }
-                    ensures { HaveRun crew.entry.shared.now crew.entry.workers.items result.items }
+                    requires { IsSync R.row × IsSync G.row × AreAtWork G.knows crew.shared.now crew.workers.items
+                        × OnceRun G.knows crew.shared.now crew.workers.items (E.invariant 1) }
+                    ensures { HaveRun G.knows crew.entry.shared.now crew.entry.workers.items result.items }
                 { crew.run(rt) },
             );
             let Ok(child) = started else {

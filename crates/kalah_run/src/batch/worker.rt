@@ -40,8 +40,8 @@ pub(crate) struct Worker {
 impl Worker {
     // Draws jobs, solves each and sends its outcome, until there is nothing left to draw or the workers are to stop.
     fn run<R: Wait, G: Gate>(&mut self, rt: &R, shared: &SharedWork<'_, G>)
-        requires { IsAtWork shared.now self.old }
-        ensures { HasRun shared.now self.old self.new }
+        requires { IsAtWork G.knows shared.now self.old }
+        ensures { HasRun G.knows shared.now self.old self.new }
     {
         while shared.goes_on() {
             let Some(drawn) = shared.desk.draw(&mut self.pass) else {
@@ -76,10 +76,10 @@ impl<'a, 'b, G: Gate, E: Rule> Crew<'a, 'b, G, E> {
     /// Runs each worker in a thread of its own, as far as threads can be started, and returns the workers. The collector learns that they
     /// have ended.
     pub(crate) fn run<R: Threads + Wait + Sync>(self, rt: &R) -> Vec<Worker>
-        requires at_work { AreAtWork self.shared.now self.workers.items }
+        requires at_work { AreAtWork G.knows self.shared.now self.workers.items }
         // That they have ended is known only once each has run.
-        requires ends { OnceRun self.shared.now self.workers.items (E.invariant 1) }
-        ensures { HaveRun self.entry.shared.now self.entry.workers.items result.items }
+        requires ends { OnceRun G.knows self.shared.now self.workers.items (E.invariant 1) }
+        ensures { HaveRun G.knows self.entry.shared.now self.entry.workers.items result.items }
     {
         let Crew {
             shared,
@@ -91,8 +91,8 @@ impl<'a, 'b, G: Gate, E: Rule> Crew<'a, 'b, G, E> {
             workers.as_mut_slice(),
             MOST_WORKERS as usize,
             &|_, worker: &mut Worker|
-                requires { IsAtWork shared.now worker.old }
-                ensures { HasRun shared.entry.now worker.old worker.new }
+                requires { IsAtWork G.knows shared.now worker.old }
+                ensures { HasRun G.knows shared.entry.now worker.old worker.new }
             { worker.run(rt, shared) },
         );
         shared.queue.end(ended);

@@ -7,12 +7,12 @@ use Rattle.kalah_jobs.specs.Writing.Output.{is_faulty_job}
 use Rattle.kalah_jobs.proofs.FilesLemmas.{job_count-jobs_to}
 use Rattle.kalah_jobs.proofs.WritingLemmas.Starts.{start_kept}
 use Rattle.kalah_run.proofs.BatchLemmas.Ends.{appended_kept, given_output, counted_tally}
-use Rattle.kalah_run.proofs.batch.answer_batch.Given.{Over}
-use Rattle.kalah_run.proofs.batch.answer_batch.Goals.{then-failed-via-then-failed, then-failed-via-else-failed+then-is_err}
-use Rattle.kalah_run.proofs.batch.answer_batch.Goals as goal
+use Rattle.kalah_run.proofs.batch.answer_asked.Given.{Over}
+use Rattle.kalah_run.proofs.batch.answer_asked.Goals.{then-failed-via-then-failed, then-failed-via-else-failed+then-is_err}
+use Rattle.kalah_run.proofs.batch.answer_asked.Goals as goal
 
-pub returns-in_err-answer_jobs : goal.returns-in_err-answer_jobs
-returns-in_err-answer_jobs g c = record {
+pub returns-in_err-answer_jobs-clause-answers : goal.returns-in_err-answer_jobs-clause-answers
+returns-in_err-answer_jobs-clause-answers g c = record {
   written = search rules;
   tally = search rules;
   handed_on = search rules;
@@ -45,8 +45,8 @@ has_failed g c = elim c.then-failed.branch [
   | then-failed-via-else-failed+then-is_err w ↦ search rules
 ]
 
-pub returns-then-failed : goal.returns-then-failed
-returns-then-failed g c =
+pub returns-then-failed-clause-answers : goal.returns-then-failed-clause-answers
+returns-then-failed-clause-answers g c =
     let given = given_output c.args.question c.args.files.now c.in_ok-jobs.jobs _ _ _ c.in_ok-jobs.ensures.value
     c.in_ok-answer_jobs.ensures.given in
     let failed = has_failed g c in
@@ -62,8 +62,8 @@ returns-then-failed g c =
       untouched = search rules;
     }
 
-pub returns : goal.returns
-returns g c =
+pub returns-clause-answers : goal.returns-clause-answers
+returns-clause-answers g c =
     let given = given_output c.args.question c.args.files.now c.in_ok-jobs.jobs _ _ _ c.in_ok-jobs.ensures.value
     c.in_ok-answer_jobs.ensures.given in
     let tally = counted_tally c.args.question c.args.files.now _ c.faults.result
@@ -80,3 +80,13 @@ returns g c =
       write = search rules;
       untouched = search rules;
     }
+
+pub returns-then-failed-clause-solved : goal.returns-then-failed-clause-solved
+returns-then-failed-clause-solved g c = λ solve write job low.
+    c.in_ok-answer_jobs.ensures.solved solve job
+    (omega (arith, low, ap job_count c.in_ok-jobs.ensures.value, job_count-jobs_to c.args.question c.args.files.now))
+
+pub returns-clause-solved : goal.returns-clause-solved
+returns-clause-solved g c = λ solve ok job low.
+    c.in_ok-answer_jobs.ensures.solved solve job
+    (omega (arith, low, ap job_count c.in_ok-jobs.ensures.value, job_count-jobs_to c.args.question c.args.files.now))

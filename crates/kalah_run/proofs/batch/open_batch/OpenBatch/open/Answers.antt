@@ -22,6 +22,7 @@ returns g c =
       tables = are.tables;
       of_jobs = refl;
       of_rest = refl;
+      of_gate = refl;
       queue = c.in_ok-queue.ensures.queue;
       passes = count ∙ sym desk.desk.1;
       at_work = new_at_work _ workers c.max-count.result

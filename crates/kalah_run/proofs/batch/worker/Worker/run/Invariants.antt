@@ -5,7 +5,7 @@ use Rattle.kalah_run.proofs.batch.worker.Worker.run.Given as goal
 
 abbrev pub invariant-loop-self : goal.invariant-loop-self
 invariant-loop-self g l = record {
-  at_work : IsAtWork l.shared l.self;
+  at_work : IsAtWork g.G.Gate.knows l.shared l.self;
   number : l.self.put.number ≡ l.fn.self.put.number;
 }
 

@@ -1,4 +1,5 @@
 use denote.Param.Send.{sendable}
+use Rattle.std.proofs.Common.{refl, rules}
 use Rattle.std.proofs.Crossing.{crosses}
 use Rattle.kalah_run.proofs.BatchLemmas.Crossing.{crew_send, worker_send}
 use Rattle.kalah_run.proofs.batch.running.fn.run_and_write.scope.Goals as goal
@@ -8,3 +9,17 @@ spawn_with-started-requires-send-F g c κs within = search (sendable, crosses, c
 
 pub spawn_with-started-requires-send-T : goal.spawn_with-started-requires-send-T
 spawn_with-started-requires-send-T g c κs within = search (sendable, crosses, worker_send) depth 60
+
+pub returns : goal.returns
+returns g c = record {
+  names = (refl, refl);
+  ended = record {
+    all_ran = search rules;
+    queue = c.collect.ensures.same.0;
+    as_many = c.collect.ensures.same.1;
+    all_got = c.collect.ensures.all;
+    progress = c.collect.ensures.progress;
+  };
+  fault = tt;
+  untouched = tt;
+}
