@@ -33,7 +33,12 @@ for number, line in enumerate(sys.stdin):
     print(houses[which] if number < most else "?", flush=True)
 """
 # What is said of an answer that is none.
-WRONG = {"late": "has not answered in 10.0 seconds", "gone": "has ended", "twice": "", **{word: f"answers '{word}', not one of " for word in "9?"}}
+WRONG = {
+    "late": "has not answered in 10.0 seconds",
+    "gone": "has ended",
+    "twice": "",
+    **{word: f"answers '{word}', not one of " for word in "9?"},
+}
 
 
 def values_of(line):
