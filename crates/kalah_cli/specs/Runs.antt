@@ -23,7 +23,7 @@ IsOfNoInput _ = ⊤
 
 -- what is written if the version is asked for: the program's name, its version and a line feed (10)
 abbrev pub version_line : Text
-version_line = codes "kalah 1.2.0" ++ 10 ∷ []
+version_line = codes "kalah 1.3.0" ++ 10 ∷ []
 
 module _ {O : Type 0} (written : O → Option (List ℕ)) (has_failed is_handed_on : O → Bool) (old new : O) (status : ExitStatus) where
   -- what the program does for each request. A game that is asked to begin with a house that may not be moved fails quietly, and so do

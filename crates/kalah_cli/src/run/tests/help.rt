@@ -42,6 +42,6 @@ const OF_THE_VERSION: &[&[&str]] = &[
 #[test]
 fn the_version_is_one_line(rt: HostRuntime) {
     for words in OF_THE_VERSION {
-        assert_answers(&rt, *words, Clean, ("kalah 1.2.0\n", ""));
+        assert_answers(&rt, *words, Clean, ("kalah 1.3.0\n", ""));
     }
 }
