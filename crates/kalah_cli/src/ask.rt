@@ -24,8 +24,8 @@ fn reading_ahead<I: Read + Drop>(alloc: Global, input: I) -> io::Result<BufReade
 }
 
 /// Answers what is asked of each line of a reader, all with one solver. It reads more only after the answers to all that was read are
-/// written. Memory is requested before the first read, except for the entries of the table. If the reader is a terminal, it first says
-/// on `err` what it waits for.
+/// written. Memory is requested before the first read, except for what the table takes as it grows. If the reader is a terminal,
+/// it first says on `err` what it waits for.
 ///
 /// Returns `Clean` if each line was read, and `LineFaults` if one was not. Returns `Failed`, and reports it on `err`, if memory was
 /// refused, or a read or a write failed.

@@ -84,8 +84,8 @@ fn unmoved_house(board: &Board, first: Option<u8>) -> Option<u8>
 
 /// Prints the game that best play leads to from the position that the line writes, each move as soon as it is found. If `first` is a
 /// house, its move comes first, and then the game of best play after it. A line that can't be read is answered by its fault, and a house
-/// that may not be moved by its number, on `err` only. Memory is requested before anything is written, except for the entries of the
-/// table.
+/// that may not be moved by its number, on `err` only. Memory is requested before anything is written, except for what the table
+/// takes as it grows.
 ///
 /// Returns `Clean`, `LineFaults` for a line that can't be read, or `Failed` for such a house, if memory was refused or a write failed.
 pub(crate) fn run_play<O: Sink, E: Write>(

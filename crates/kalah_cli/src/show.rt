@@ -42,7 +42,7 @@ fn write_shown<O: Sink>(solver: &mut Solver, board: &Board, out: &mut O)
 
 /// Draws the position that the line writes and, unless `plain`, writes below it what each move is worth. A line that can't be read is
 /// answered by its fault, on `err` only. A plain picture allocates nothing. Otherwise memory is requested before anything is written,
-/// except for the entries of the table.
+/// except for what the table takes as it grows.
 ///
 /// Returns `Clean`, `LineFaults` for a line that can't be read, or `Failed` if memory was refused or a write failed.
 pub(crate) fn run_show<O: Sink, E: Write>(

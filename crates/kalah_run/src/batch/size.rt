@@ -15,6 +15,6 @@ pub struct BatchSize {
 pub enum Rest {
     /// They are solved, and the gate is called for each.
     Solve,
-    /// No worker begins a further job. Jobs under way are finished.
+    /// A worker begins at most one further job. Jobs under way are finished.
     Leave,
 }
