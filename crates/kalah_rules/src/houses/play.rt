@@ -20,16 +20,17 @@ pub(super) struct RowNumbers {
     store: u64,
 }
 
-// Returns what is captured: the last seed and the seeds across, or nothing. The last seed may be alone in an own house, and the house
-// across has `across` seeds. Which of the two is hard to predict, so both are numbers, and a row changes by them without a branch.
-fn caught(rule: Rule, alone: bool, across: u64) -> (u64, u64)
+// Returns what is captured: the last seed and the seeds across, or nothing. `single` is whether the last seed is alone in an own house,
+// and the house across has `across` seeds. Which of the two is hard to predict, so both are numbers, and a row changes by them without a
+// branch.
+fn caught(rule: Rule, single: bool, across: u64) -> (u64, u64)
     requires { across < 32 }
-    ensures caught { MatchBool (alone && captures rule across)
+    ensures caught { MatchBool (single && captures rule across)
         ((result.0 ≡ 1) × (result.1 ≡ across)) ((result.0 ≡ 0) × (result.1 ≡ 0)) }
     ensures few { result.0 + result.1 ≤ 32 }
 {
     let captures = rule.captures(across as u8);
-    if alone & captures {
+    if single & captures {
         (1, across)
     } else {
         (0, 0)
@@ -63,9 +64,9 @@ impl Houses {
         ensures { Shows result (after (bare self.now) house) }
     {
         let sown = self.sow(house, sowing);
-        let alone = sown.rows & sowing.last_house == sowing.last_seed;
+        let single = sown.rows & sowing.last_house == sowing.last_seed;
         let across = (sown.rows >> sowing.across) % 32;
-        let (last, taken) = caught(self.rule(), alone, across);
+        let (last, taken) = caught(self.rule(), single, across);
         RowNumbers {
             rows: sown.rows - last * sowing.last_seed - (taken << sowing.across),
             store: sown.store + last + taken,
