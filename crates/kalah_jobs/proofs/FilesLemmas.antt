@@ -5,7 +5,7 @@ use Rattle.kalah_rules.specs.contracts.board.BoardPartialEq.TheImpl as board_eq
 use Rattle.std.proofs.Common.{◌≡◌, ◌≢◌, ℕ, ◌+◌, ◌<◌, ◌≤◌, List, [], ◌∷◌, ◌++◌, length, get_or, take, drop, take-append-drop, refl, ap, sym, ◌∙◌, arith, length-drop, ◌⊎◌, inl, inr, ⊎_elim, subst, append_assoc, Result, Ok, Err, zero, suc, ◌-◌, Bool, true, false, cond, map, ap₂, length-append, ◌&&◌, ◌==◌}
 use Rattle.std.specs.Prelude.{if◌then◌else◌, All, Some, slice_get, slice_index_or, sum_by, count_by, ◌↔◌}
 use Rattle.std.specs.List.{onto_first, flat_map}
-use Rattle.std.proofs.lemmas.List.{take_all, drop_all, drop_more, append-nil, take_more, take-take, take-append-le, get_or_append_left, get_or_default, length-map, map-append, get_or-map}
+use Rattle.std.proofs.lemmas.List.{take_all, drop_all, drop_more, append-nil, take_more, take-take, take-append-le, get_or_append_left, get_or_default, length-map, map-append, get_or-map, length-take-le}
 use Rattle.std.proofs.lemmas.List.Elements.{All-head, All-tail, All-nil, All-cons}
 use Rattle.std.proofs.Math.Seq.{take-nil, get_or-append_seam}
 use Rattle.std.proofs.lemmas.List.Sums.{sum_by-cons, sum_by-append, sum_by_push, sum_by-take-le, get_or-le-sum_by, count_by-le-length}
@@ -420,6 +420,23 @@ pub passing_so_far : (p : Entry → Bool) (question : Question) (files : List Na
     → jobs ≡ jobs_to question (take i files) → n ≡ sum_by (count_by p) jobs → n ≤ lines_in_all files
 passing_so_far p question files i {jobs} {n} are is =
     omega (arith, is, passing_low p jobs, ap job_count are, counted_low question files i)
+
+-- there is room for one file more
+pub room_for_more : (question : Question) (files : List NamedBytes) (i : ℕ) {jobs : List (List Entry)} →
+    jobs ≡ jobs_to question (take i files) → i < length files → length jobs < length files
+room_for_more question files i is low =
+    omega (
+      arith,
+      low,
+      ap length is,
+      length-map (take i files) (λ (file : NamedBytes). entries_to question file.bytes),
+      length-take-le i files (omega (arith, low)),
+    )
+
+-- after the last file all are read
+pub all_read : (question : Question) (files : List NamedBytes) (i : ℕ) {jobs : List (List Entry)} →
+    jobs ≡ jobs_to question (take i files) → length files ≤ i → jobs ≡ jobs_to question files
+all_read question files i is past = is ∙ ap (jobs_to question) (take_all i files past)
 
 -- the entries of a file, as they are stored
 pub stored_lines : {V : Type 0} (items : V → List Entry) (files : List V) {jobs : List (List Entry)} (f : ℕ) (own : V) →

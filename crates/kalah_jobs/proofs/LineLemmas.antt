@@ -343,6 +343,9 @@ module _ {bytes : List ℕ} {side : Side} {rest : List ℕ} {n : ℕ} {after : L
       number_at more ≡ Some (store, following) → side_at bytes ≡ Some (houses, store, following)
   store_follows is slash_is stored = goes_on_after ∙ rw (is, slash_is, stored) refl
 
+  pub no_store : {mark : ℕ} {more : List ℕ} → after ≡ mark ∷ more → mark ≡ slash → number_at more ≡ None → side_at bytes ≡ None
+  no_store is slash_is none = goes_on_after ∙ rw (is, slash_is, none) refl
+
   pub house_follows : {new : Side} {mark : ℕ} {more : List ℕ} → after ≡ mark ∷ more → mark ≡ comma →
       AreKept houses new.row new.left_out → new.left_out ≤ side.left_out + 1 → IsTaking bytes new more
   house_follows {new} {mark} {more} is comma_is has one = record {
@@ -419,6 +422,12 @@ pub sides_are_written : (text rest : List ℕ) {own other : Found} {mark : ℕ} 
     written_of text ≡ Some (made own other rule)
 unfolding written_of
 sides_are_written text rest own_read mark is other_read rule_read = rw (own_read, mark, is, other_read, rule_read) refl
+
+-- and without an ending they don't
+pub sides_are_no_line : (text rest : List ℕ) {own other : Found} {mark : ℕ} → side_at text ≡ Some own → own.2 ≡ mark ∷ rest →
+    mark ≡ space → side_at rest ≡ Some other → rule_of other.2 ≡ None → written_of text ≡ None
+unfolding written_of
+sides_are_no_line text rest own_read mark is other_read none = rw (own_read, mark, is, other_read, none) refl
 
 rest_is_written : (text : List ℕ) (houses : List ℕ) (store : ℕ) (rest : List ℕ) (p : Position) →
     side_at text ≡ Some (houses, store, rest) → position_from houses store rest ≡ Some p → IsLineOf text p

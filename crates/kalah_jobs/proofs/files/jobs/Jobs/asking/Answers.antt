@@ -1,10 +1,10 @@
-use Rattle.std.proofs.Common.{◌∙◌, ap, length, arith}
+use Rattle.std.proofs.Common.{◌∷◌, [], ◌∙◌, ap, length, rules, arith}
 use Rattle.std.proofs.lemmas.Grind.{common_steps}
-use Rattle.std.proofs.lemmas.List.{length-map, take_all}
+use Rattle.std.proofs.lemmas.List.{length-map, map-append}
 use Rattle.kalah_jobs.specs.Files.NamedBytes.{NamedBytes}
-use Rattle.kalah_jobs.specs.Files.Jobs.{entries_to, job_count, jobs_to}
+use Rattle.kalah_jobs.specs.Files.Jobs.{entries_to, job_count}
 use Rattle.kalah_jobs.specs.Writing.Answer.{is_faulty_entry}
-use Rattle.kalah_jobs.proofs.FilesLemmas.{counted_low, job_count-jobs_to, passing_so_far}
+use Rattle.kalah_jobs.proofs.FilesLemmas.{all_read, counted_low, job_count-jobs_to, passing_so_far, room_for_more, starts_more}
 use Rattle.kalah_jobs.proofs.files.jobs.Jobs.asking.Goals as goal
 
 pub overflow_add-faults : goal.overflow_add-faults
@@ -34,8 +34,7 @@ overflow_cast-result-2 c =
 pub invariant_of-result : goal.invariant_of-result
 invariant_of-result c =
     let files = c.args.files.now in
-    let all = c.loop-file.invariant.read
-    ∙ ap (jobs_to c.args.question) (take_all c.loop-file.file-index files (omega (arith, c.loop-file-test.false))) in
+    let all = all_read c.args.question files c.loop-file.file-index c.loop-file.invariant.read (omega (arith, c.loop-file-test.false)) in
     let many = ap job_count all ∙ job_count-jobs_to c.args.question files in (
       record {
         few_files =
@@ -51,3 +50,34 @@ invariant_of-result c =
       },
       c.loop-file.invariant.starts,
     )
+
+pub returns-clause-value : goal.returns-clause-value
+returns-clause-value c =
+    all_read c.args.question c.args.files.now c.loop-file.file-index c.loop-file.invariant.read (omega (arith, c.loop-file-test.false))
+
+pub push_reserved-requires : goal.push_reserved-requires
+push_reserved-requires c =
+    let so_far = c.loop-file.invariant in
+    let more = room_for_more c.args.question c.args.files.now c.loop-file.file-index so_far.read c.loop-file-test.true in
+    omega (arith, more, so_far.starts.as_many, so_far.starts_room)
+
+pub push_reserved-requires-in-loop-file : goal.push_reserved-requires-in-loop-file
+push_reserved-requires-in-loop-file c =
+    let so_far = c.loop-file.invariant in
+    let more = room_for_more c.args.question c.args.files.now c.loop-file.file-index so_far.read c.loop-file-test.true in
+    omega (arith, more, length-map c.loop-file.read.items (λ own. own.items), so_far.room)
+
+pub loop-file-preserved : goal.loop-file-preserved
+loop-file-preserved c =
+    let so_far = c.loop-file.invariant in
+    let more = map-append (λ own. own.items) c.loop-file.read.items (c.read_entries.new.entries ∷ []) in
+    record {
+      read = grind (arith, common_steps);
+      starts =
+          rw (c.push_reserved.ensures.items, c.push_reserved-in-loop-file.ensures.items, more)
+          (starts_more c.read_entries.new.entries.items so_far.starts so_far.before);
+      before = grind (arith, common_steps);
+      faults = grind (arith, common_steps);
+      room = search rules;
+      starts_room = search rules;
+    }

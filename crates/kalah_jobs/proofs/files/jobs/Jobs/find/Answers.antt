@@ -32,6 +32,11 @@ line_low c =
       ap length (own c),
     )
 
+pub overflow_cast-result : goal.overflow_cast-result
+overflow_cast-result c =
+    let found = c.loop-past.invariant in
+    omega (arith, found.some, found.within, ap length c.self.view_is, c.self.invariant.0.few_files)
+
 pub index-requires-4 : goal.index-requires-4
 index-requires-4 c = omega (arith, line_low (goal.at.index-requires-4 c).After-index-3)
 

@@ -1,6 +1,6 @@
 use Rattle.std.proofs.Common.{◌∙◌, length, refl, ap, arith}
-use Rattle.kalah_jobs.proofs.LineLemmas.{made, no_rule, ending_is_read, sides_are_written, written_is_line, number_low, houses_are_some, side_shorter}
-use Rattle.kalah_jobs.specs.Line.Reading.{rule_of, written_of}
+use Rattle.kalah_jobs.proofs.LineLemmas.{made, no_rule, ending_is_read, sides_are_no_line, sides_are_written, written_is_line, number_low, houses_are_some, side_shorter}
+use Rattle.kalah_jobs.specs.Line.Reading.{rule_of}
 use Rattle.kalah_jobs.proofs.line.parsed_line.ParsedLine.read.Goals as goal
 
 pub take-requires-2 : goal.take-requires-2
@@ -8,11 +8,11 @@ take-requires-2 c =
     omega (arith, c.requires, side_shorter c.args.text.now c.in_ok-own.ensures.is.1.1, ap length c.in_ok-mark.ensures.cases.0)
 
 pub returns-in_err-rule-clause-none : goal.returns-in_err-rule-clause-none
-unfolding written_of
 returns-in_err-rule-clause-none c =
     let none = no_rule c.in_ok-other.rest.now (λ rule is. absurd (cc (c.in_err-rule.ensures.every rule is))) in
     rw c.from_residual-in_err-rule.ensures
-    (rw (c.in_ok-own.ensures.is.1.1, c.in_ok-mark.ensures.cases.0, c.if-mark-ne32.false, c.in_ok-other.ensures.is.1.1, none) refl)
+    (sides_are_no_line c.args.text.now c.in_ok-mark.rest.now c.in_ok-own.ensures.is.1.1 c.in_ok-mark.ensures.cases.0
+    c.if-mark-ne32.false c.in_ok-other.ensures.is.1.1 none)
 
 pub returns-clause-is : goal.returns-clause-is
 returns-clause-is c =

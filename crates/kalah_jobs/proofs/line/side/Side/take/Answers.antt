@@ -1,5 +1,5 @@
 use Rattle.std.proofs.Common.{◌∷◌, ◌++◌, []}
-use Rattle.kalah_jobs.proofs.LineLemmas.{begins_taking, house_follows, no_house, nothing_follows, store_follows}
+use Rattle.kalah_jobs.proofs.LineLemmas.{begins_taking, house_follows, no_house, no_store, nothing_follows, store_follows}
 use Rattle.kalah_jobs.proofs.line.side.Side.take.Goals as goal
 
 pub loop-seeds-init : goal.loop-seeds-init
@@ -12,6 +12,12 @@ pub returns-in_err-mark-clause-none : goal.returns-in_err-mark-clause-none
 returns-in_err-mark-clause-none c =
     rw c.from_residual-in_err-mark.ensures
     (nothing_follows c.loop-seeds.invariant c.in_ok-seeds.ensures.is c.in_err-mark.ensures.cases)
+
+pub returns-in_err-store-clause-none : goal.returns-in_err-store-clause-none
+returns-in_err-store-clause-none c =
+    rw c.from_residual-in_err-store.ensures
+    (no_store c.loop-seeds.invariant c.in_ok-seeds.ensures.is c.in_ok-mark.ensures.cases.0 c.if-mark-eq47.true
+    c.in_err-store.ensures.none)
 
 pub returns-then-mark-eq47-clause-is : goal.returns-then-mark-eq47-clause-is
 returns-then-mark-eq47-clause-is c =
