@@ -1,6 +1,7 @@
-use Rattle.std.proofs.Common.{◌≡◌, ◌∙◌, [], ap, inl, inr, subst, sym, None}
+use Rattle.std.proofs.Common.{◌≡◌, ◌≢◌, ◌∙◌, [], ap, inl, inr, subst, sym, None}
 use Rattle.clap.specs.Words.{HasKind, fault_of}
-use Rattle.clap.specs.declared.error.kind.ErrorKind.TheVariants.{DisplayHelp, DisplayVersion}
+use Rattle.clap.specs.declared.error.kind.ErrorKind.TheVariants.{DisplayHelp, DisplayVersion, OutOfMemory}
+use Rattle.clap.specs.declared.error.kind.ErrorKind.{ErrorKind}
 use Rattle.kalah_cli.specs.Ask.{StopsBetweenLines}
 use Rattle.kalah_cli.specs.Command.{kalah_app}
 use Rattle.kalah_cli.specs.Ends.{FailsQuietly}
@@ -72,12 +73,19 @@ has_kind : (g : Over) (c : After-drop-words-2 g) → HasKind (fault_of kalah_app
 has_kind g c = subst (λ words. HasKind (fault_of kalah_app (texts_of words)) c.in-Err.error) c.as_slice.ensures.value
     c.in-Err.ensures.kinds
 
+-- out of memory is no request for help or the version
+is_no_help : {k : ErrorKind} → k ≡ OutOfMemory → k ≢ DisplayHelp
+is_no_help memory help = let both : OutOfMemory ≡ DisplayHelp = sym memory ∙ help in cc
+
+is_no_version : {k : ErrorKind} → k ≡ OutOfMemory → k ≢ DisplayVersion
+is_no_version memory version = let both : OutOfMemory ≡ DisplayVersion = sym memory ∙ version in cc
+
 -- if the arguments are accepted, but memory was refused
 failed : (g : Over) (c : After-drop-words-2 g) (a : Asked) → IsTakenAs (texts_of c.args.words.items) a
     → FailsQuietly c.args.out.now c.refuse.new.out c.refuse.result
 failed g c a taken =
     let memory = c.in-Err.ensures.refused a (taken_at (ap texts_of c.as_slice.ensures.value) taken) in
-    c.refuse.ensures.mistake (λ help. cc) (λ version. cc)
+    c.refuse.ensures.mistake (is_no_help memory) (is_no_version memory)
 
 pub returns-clause-accepted : goal.returns-clause-accepted
 returns-clause-accepted g c = λ a taken. inr (failed g c a taken)
