@@ -5,7 +5,7 @@ use Rattle.std.proofs.lemmas.Bool.{false_from_ne_true}
 use Rattle.kalah_rules.specs.Position.{Position}
 use Rattle.kalah_jobs.specs.Line.Line.{Reads}
 use Rattle.kalah_jobs.specs.Writing.Given.{WasGiven}
-use Rattle.kalah_jobs.proofs.LineLemmas.Readings.{reads_once}
+use Rattle.kalah_jobs.proofs.LineLemmas.{reads_once}
 use Rattle.kalah_jobs.proofs.WritingLemmas.Starts.{start_none}
 use Rattle.kalah_cli.specs.Ends.{AnswersLine, Ends, IsUnread, Prints}
 use Rattle.kalah_cli.specs.declared.status.ExitStatus.{ExitStatus}
