@@ -23,7 +23,7 @@ _kalah() {
     if [ "$COMP_CWORD" -eq 1 ]; then
         case $current in
             -*) COMPREPLY=($(compgen -W '-h --help -V --version' -- "$current")) ;;
-            *) COMPREPLY=($(compgen -W 'moves play solve values ask steps show count' -- "$current")) ;;
+            *) COMPREPLY=($(compgen -W 'solve values show play moves ask steps count' -- "$current")) ;;
         esac
         return
     fi
@@ -35,12 +35,12 @@ _kalah() {
             ;;
     esac
     case ${COMP_WORDS[1]}:$current in
-        moves:-*) _kalah_options '--boards -h --help' ;;
-        play:-*) _kalah_options '--table --boards --first -h --help' ;;
         solve:-* | values:-*) _kalah_options '--workers --table --progress -h --help' ;;
-        steps:-*) _kalah_options '--workers --progress -h --help' ;;
-        ask:-*) _kalah_options '--values --steps --table -h --help' ;;
         show:-*) _kalah_options '--plain --table -h --help' ;;
+        play:-*) _kalah_options '--table --boards --first -h --help' ;;
+        moves:-*) _kalah_options '--boards -h --help' ;;
+        ask:-*) _kalah_options '--values --steps --table -h --help' ;;
+        steps:-*) _kalah_options '--workers --progress -h --help' ;;
         count:-*) _kalah_options '-h --help' ;;
         solve:* | values:* | steps:*)
             compopt -o filenames 2> /dev/null

@@ -119,13 +119,14 @@ abbrev pub program_app : App
 program_app = on_top (λ s. record s { has_version = true; subcommand_required = true; disable_help_subcommand = true })
     (new_app (codes "kalah"))
 
--- the program with the subcommands that search
-abbrev solvers_app : App
-solvers_app =
+-- the program with its first four subcommands
+abbrev first_app : App
+first_app =
     with_subcommand
-    (with_subcommand (with_subcommand (with_subcommand (with_subcommand program_app moves_app.top) play_app.top) solve_app.top)
-    values_app.top) ask_app.top
+    (with_subcommand (with_subcommand (with_subcommand program_app solve_app.top) values_app.top) show_app.top) play_app.top
 
 -- the program, which is always given one of its subcommands
 abbrev pub kalah_app : App
-kalah_app = with_subcommand (with_subcommand (with_subcommand solvers_app steps_app.top) show_app.top) count_app.top
+kalah_app =
+    with_subcommand
+    (with_subcommand (with_subcommand (with_subcommand first_app moves_app.top) ask_app.top) steps_app.top) count_app.top

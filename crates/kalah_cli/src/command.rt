@@ -1,7 +1,8 @@
 //! The command line of the program.
-ghost use Rattle.std.specs.Prelude.{◌≡◌, IfOk, Ok, false};
+ghost use Rattle.std.specs.Prelude.{◌≡◌, IfOk, Ok, codes, false};
 ghost use Rattle.clap.specs.Words.{app_of, new_app, rule_of};
-ghost use Rattle.kalah_cli.specs.Command.{AddsRule, AddsSubcommand, IsMadeAs, IsReadBy, answers_app, ask_app, count_app, file_rule, first_rule, flag_rule, kalah_app, limited_rule, line_rule, moves_app, number_rule, play_app, program_app, ranged_rule, show_app, steps_app, table_rule, value_rule, workers_rule};
+ghost use Rattle.kalah_solve.specs.Table.Entries.{most_entries};
+ghost use Rattle.kalah_cli.specs.Command.{AddsRule, AddsSubcommand, IsMadeAs, IsReadBy, answers_app, ask_app, count_app, file_rule, first_rule, flag_rule, kalah_app, limited_rule, line_rule, moves_app, play_app, program_app, ranged_rule, show_app, steps_app, table_rule, value_rule, workers_rule};
 
 use crate::help;
 use crate::version::VERSION_LINE;
@@ -12,19 +13,18 @@ use kalah_run::MOST_WORKERS;
 use kalah_solve::MOST_ENTRIES;
 use std::alloc::{AllocError, Global};
 
-const ABOUT_SOLVE: &str = "Prints the best house and the margin of best play of each position";
+const ABOUT_SOLVE: &str = "Print the best house and the margin of best play of each position";
 
-const ABOUT_VALUES: &str = "Prints what each move of each position is worth";
+const ABOUT_VALUES: &str = "Print what each move of each position is worth";
 
-const ABOUT_STEPS: &str = "Prints each legal move of each position, and what it leads to";
+const ABOUT_STEPS: &str = "Print each legal move of each position, and what it leads to";
 
-const BOARDS: &str = "draws each position below its line";
+const BOARDS: &str = "Draw each position below its line";
 
-const PROGRESS: &str = "shows on standard error how many lines are answered";
+const PROGRESS: &str = "Show on standard error how many lines are answered";
 
-const TABLE_OF_ONE: &str = "table entries of the search, 1 to 1048576";
-
-const TABLE_OF_WORKERS: &str = "table entries of each worker, 1 to 1048576";
+const TABLE: &str =
+    "Use tables of N entries, 1 to 1048576.\nLeave it at 65536 unless memory is short";
 
 // A command, or the failure to make it. What is added to a failure is dropped.
 type MadeCommand<'a> = Result<Command<'a>, AllocError>;
@@ -68,7 +68,7 @@ fn value_arg<'a>(alloc: Global, name: &'a str, value_name: &'a str, help: &'a st
 fn with_line<'a>(alloc: Global, command: MadeCommand<'a>) -> MadeCommand<'a>
     ensures { AddsRule line_rule command.entry result }
 {
-    let help = "a position in quotes, as '1,1/0 1,1/0'";
+    let help = "Position in quotes, such as '1,1/0 1,1/0'";
     let line = value_arg(alloc, "line", "LINE", help).required(true);
     with_arg(command, line)
 }
@@ -116,41 +116,35 @@ fn limited_arg<'a>(
     ranged_arg(alloc, name, value_name, help, 1, most as u64).long(name)
 }
 
-// Adds the option `--NAME N`, a number from 1 to the most, with a default.
-fn with_number<'a>(
-    alloc: Global,
-    command: MadeCommand<'a>,
-    name: &'a str,
-    help: &'a str,
-    most: u32,
-    default: &'a str,
-) -> MadeCommand<'a>
-    ensures { AddsRule (number_rule name.entry.now most default.entry.now) command.entry result }
-{
-    let number = limited_arg(alloc, name, "N", help, most).default_value(default);
-    with_arg(command, number)
-}
-
 // Adds the option `--workers N`.
 fn with_workers<'a>(alloc: Global, command: MadeCommand<'a>) -> MadeCommand<'a>
     ensures { AddsRule workers_rule command.entry result }
 {
-    let help = "solves up to N lines in parallel, 1 to 64";
-    with_number(alloc, command, "workers", help, MOST_WORKERS, "4")
+    let help = "Solve up to N lines in parallel, 1 to 64";
+    let workers = limited_arg(alloc, "workers", "N", help, MOST_WORKERS).default_value("4");
+    with_arg(command, workers)
 }
 
-// Adds the option `--table N`, with this help.
-fn with_table<'a>(alloc: Global, command: MadeCommand<'a>, help: &'a str) -> MadeCommand<'a>
+// Returns the option `--table N`, with this short help.
+fn table_arg<'a>(alloc: Global, help: &'a str) -> Arg<'a>
+    ensures { IsReadBy (limited_rule (codes "table") most_entries) result }
+{
+    limited_arg(alloc, "table", "N", help, MOST_ENTRIES).long_help(TABLE)
+}
+
+// Adds the option `--table N` with its default.
+fn with_table<'a>(alloc: Global, command: MadeCommand<'a>) -> MadeCommand<'a>
     ensures { AddsRule table_rule command.entry result }
 {
-    with_number(alloc, command, "table", help, MOST_ENTRIES, "65536")
+    let table = table_arg(alloc, "Use tables of N entries, 1 to 1048576");
+    with_arg(command, table.default_value("65536"))
 }
 
 // Adds the option `--first H`.
 fn with_first<'a>(alloc: Global, command: MadeCommand<'a>) -> MadeCommand<'a>
     ensures { AddsRule first_rule command.entry result }
 {
-    let help = "begins with house H, 1 to 6, and goes on with best play";
+    let help = "Begin with house H, 1 to 6, and go on with best play";
     with_arg(
         command,
         limited_arg(alloc, "first", "H", help, MOST_HOUSES as u32),
@@ -161,7 +155,7 @@ fn with_first<'a>(alloc: Global, command: MadeCommand<'a>) -> MadeCommand<'a>
 fn with_files<'a>(alloc: Global, command: MadeCommand<'a>) -> MadeCommand<'a>
     ensures { AddsRule file_rule command.entry result }
 {
-    let help = "files of positions, one a line; /dev/stdin for standard input";
+    let help = "Files of positions, one a line; /dev/stdin for standard input";
     let file = value_arg(alloc, "file", "FILE", help)
         .action(ArgAction::Append)
         .required(true);
@@ -172,7 +166,7 @@ fn with_files<'a>(alloc: Global, command: MadeCommand<'a>) -> MadeCommand<'a>
 fn moves_command<'a>(alloc: Global) -> MadeCommand<'a>
     ensures { IsMadeAs moves_app result }
 {
-    let about = "Prints each legal move of a position, and the position after it";
+    let about = "Print each legal move of a position, and the position after it";
     let command = subcommand(alloc, "moves", about, help::LONG_OF_MOVES);
     let command = with_flag(alloc, command, "boards", BOARDS);
     with_line(alloc, command)
@@ -182,9 +176,9 @@ fn moves_command<'a>(alloc: Global) -> MadeCommand<'a>
 fn play_command<'a>(alloc: Global) -> MadeCommand<'a>
     ensures { IsMadeAs play_app result }
 {
-    let about = "Prints the game that best play leads to from a position, move by move";
+    let about = "Print the game that best play leads to from a position, move by move";
     let command = subcommand(alloc, "play", about, help::LONG_OF_PLAY);
-    let command = with_table(alloc, command, TABLE_OF_ONE);
+    let command = with_table(alloc, command);
     let command = with_flag(alloc, command, "boards", BOARDS);
     let command = with_first(alloc, command);
     with_line(alloc, command)
@@ -201,7 +195,7 @@ fn answers_command<'a>(
 {
     let command = subcommand(alloc, name, about, long_help);
     let command = with_workers(alloc, command);
-    let command = with_table(alloc, command, TABLE_OF_WORKERS);
+    let command = with_table(alloc, command);
     let command = with_flag(alloc, command, "progress", PROGRESS);
     with_files(alloc, command)
 }
@@ -210,28 +204,25 @@ fn answers_command<'a>(
 fn ask_command<'a>(alloc: Global) -> MadeCommand<'a>
     ensures { IsMadeAs ask_app result }
 {
-    let about = "Answers each line of standard input before it reads the next";
+    let about = "Answer each line of standard input before reading the next";
     let command = subcommand(alloc, "ask", about, help::LONG_OF_ASK);
-    let help = "prints what each move is worth, as `values`";
+    let help = "Print what each move is worth, as `values`";
     let command = with_flag(alloc, command, "values", help);
-    let help = "prints each legal move, as `steps`, with `; ` between any two";
+    let help = "Print each legal move, as `steps`, with `; ` between any two";
     let command = with_flag(alloc, command, "steps", help);
-    let help = "table entries of the search, 1 to 1048576 [default: 65536]";
-    with_arg(
-        command,
-        limited_arg(alloc, "table", "N", help, MOST_ENTRIES),
-    )
+    let help = "Use tables of N entries, 1 to 1048576 [default: 65536]";
+    with_arg(command, table_arg(alloc, help))
 }
 
 // Returns `show [--plain] [--table N] LINE`.
 fn show_command<'a>(alloc: Global) -> MadeCommand<'a>
     ensures { IsMadeAs show_app result }
 {
-    let about = "Draws a position, and below each house what its move is worth";
+    let about = "Draw a position, and below each house what its move is worth";
     let command = subcommand(alloc, "show", about, help::LONG_OF_SHOW);
-    let help = "draws the position alone, and searches nothing";
+    let help = "Draw the position alone, and search nothing";
     let command = with_flag(alloc, command, "plain", help);
-    let command = with_table(alloc, command, TABLE_OF_ONE);
+    let command = with_table(alloc, command);
     with_line(alloc, command)
 }
 
@@ -239,9 +230,9 @@ fn show_command<'a>(alloc: Global) -> MadeCommand<'a>
 fn count_command<'a>(alloc: Global) -> MadeCommand<'a>
     ensures { IsMadeAs count_app result }
 {
-    let about = "Counts the ways to play on from a position, for each first move";
+    let about = "Count the ways to play on from a position, for each first move";
     let command = subcommand(alloc, "count", about, help::LONG_OF_COUNT);
-    let help = "how many moves each way has, 0 to 20";
+    let help = "How many moves each way has, 0 to 20";
     let depth = ranged_arg(alloc, "depth", "DEPTH", help, 0, MOST_DEPTH as u64).required(true);
     let command = with_arg(command, depth);
     with_line(alloc, command)
@@ -261,10 +252,11 @@ fn steps_command<'a>(alloc: Global) -> MadeCommand<'a>
 fn program<'a>(alloc: Global) -> MadeCommand<'a>
     ensures { IsMadeAs program_app result }
 {
-    let about = "Solves small positions of Kalah: the best house and the margin of best play";
+    let about = "Solve small positions of Kalah: the best house and the margin of best play";
     Ok(
         Command::new(alloc, "kalah")
             .about(about)
+            .long_about(help::ABOUT)
             .version(VERSION_LINE)
             .after_help(help::SHORT)
             .after_long_help(help::LONG)
@@ -290,12 +282,12 @@ fn with_command<'a>(command: MadeCommand<'a>, subcommand: MadeCommand<'a>) -> Ma
 /// Returns the command line of the program. It is complete: nothing is added to it before a parse.
 ///
 /// It asks for one of eight subcommands, or for help or the version:
-/// - `moves [--boards] LINE`
-/// - `play [--table N] [--boards] [--first H] LINE`
 /// - `solve [--workers N] [--table N] [--progress] FILE..`, and `values` with the same arguments
+/// - `show [--plain] [--table N] LINE`
+/// - `play [--table N] [--boards] [--first H] LINE`
+/// - `moves [--boards] LINE`
 /// - `ask [--values] [--steps] [--table N]`
 /// - `steps [--workers N] [--progress] FILE..`
-/// - `show [--plain] [--table N] LINE`
 /// - `count DEPTH LINE`
 ///
 /// There are 1 to 64 workers, 4 by default. A table has 1 to 1,048,576 entries, 65,536 by default. H is a house from 1 to 6, and DEPTH a
@@ -303,14 +295,14 @@ fn with_command<'a>(command: MadeCommand<'a>, subcommand: MadeCommand<'a>) -> Ma
 pub fn command<'a>(alloc: Global) -> Result<Command<'a>, AllocError>
     ensures { IfOk result (λ c. app_of c ≡ kalah_app) }
 {
-    let command = with_command(program(alloc), moves_command(alloc));
-    let command = with_command(command, play_command(alloc));
     let solve = answers_command(alloc, "solve", ABOUT_SOLVE, help::LONG_OF_SOLVE);
-    let command = with_command(command, solve);
+    let command = with_command(program(alloc), solve);
     let values = answers_command(alloc, "values", ABOUT_VALUES, help::LONG_OF_VALUES);
     let command = with_command(command, values);
+    let command = with_command(command, show_command(alloc));
+    let command = with_command(command, play_command(alloc));
+    let command = with_command(command, moves_command(alloc));
     let command = with_command(command, ask_command(alloc));
     let command = with_command(command, steps_command(alloc));
-    let command = with_command(command, show_command(alloc));
     with_command(command, count_command(alloc))
 }

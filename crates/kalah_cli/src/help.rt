@@ -21,14 +21,16 @@ move has its house, the position after it, and again, turn or over:
     };
 }
 
-// What files may be, before and after more about a subcommand of this name.
+// What an answer line of this subcommand is, and then what its files may be, and which form of `ask` answers the same.
 macro_rules! of_files {
-    ($name:literal, $more:literal) => {
+    ($name:literal, $asked:literal, $answers:literal) => {
         concat!("\
-A FILE has one position a line, such as 1,1/0 1,1/0. It may be a pipe, or
-/dev/stdin for standard input:
+A FILE has one position a line, such as 1,1/0 1,1/0. Each line of each file gets
+", $answers, "\
+A FILE may be a pipe, or /dev/stdin for standard input:
     kalah ", $name, " /dev/stdin < positions.txt
-", $more, "`kalah --help` has the form of positions, the rules, and the words of faults.")
+If that is a socket or belongs to another user, use `kalah ", $asked, "`.
+`kalah --help` has the form of positions, the rules, and the words of faults.")
     };
 }
 
@@ -40,16 +42,26 @@ pub(crate) const SHORT: &str =
 pub(crate) const SHORT_OF_SUBCOMMAND: &str =
     "`--help` has more; `kalah --help` has the rules and the form of positions.";
 
+/// What the long help of the program begins with.
+pub(crate) const ABOUT: &str = "\
+Solve small positions of Kalah: the best house and the margin of best play
+
+Examples:
+  kalah show '3,3,3/0 3,3,3/0'  Draw this board, and what each move is worth
+  kalah play '3,3,3/0 3,3,3/0'  Print the game that best play leads to from it
+  kalah solve positions.txt     Solve each position of a file, one a line";
+
 /// What follows the long help of the program: all that a newcomer has to know.
 pub(crate) const LONG: &str = "\
 A position is one line, seen by the player to move: the seeds in that player's
 houses, a slash, the seeds in that player's store, a space, and the same for the
-other player:
-    1,1/0 1,1/0
-On a command line it needs quotes: kalah moves '1,1/0 1,1/0'
+other player. On a command line it needs quotes. 1,2,3/4 5,6,7/8 is this board,
+with the player to move at the bottom:
+       7   6   5
+   8               4
+       1   2   3
 Houses count from 1, and the last one lies next to its owner's store. A side has
-1 to 6 houses. All houses together hold at most 31 seeds, and a store at most
-99.
+1 to 6 houses. All houses together hold at most 31 seeds, a store at most 99.
 
 The rules: on your turn, choose one of your houses with seeds in it. Take them
 all out and sow them, one into each cell: your houses after it, your store, your
@@ -63,61 +75,34 @@ A line that ends in ` e`, such as 1,1/0 1,1/0 e, is played under the
 empty-capture rule: you capture a last seed in an empty house of yours even if
 the house across is empty.
 
-`kalah moves LINE` prints a line for each house H that may be moved, with the
-position after the move:
-    H POSITION again  the same player moves again
-    H POSITION turn   the other player is to move, and the position is seen by
-                      that player
-    H POSITION over   the game is over
-`kalah play LINE` prints the game in which each player always moves the
-lowest-numbered best house, a line for each move as `moves` prints it. With
---boards, each position is drawn below its line, with the player to move at the
-bottom and houses from left to right. This is 1,2,3/4 5,6,7/8:
-       7   6   5
-   8               4
-       1   2   3
-With --first H the game begins with house H, and goes on with best play.
-`kalah show LINE` draws a position, and below each house what its move is worth;
-with --plain the picture alone. This is 3,3,3/0 3,3,3/0:
-       3   3   3
-   0               0
-       3   3   3
-       2   2  -4
-`kalah count DEPTH LINE` counts the ways to play on from a position by exactly
-DEPTH moves, 0 to 20. A game that is over has no further move:
-    H N      the number of ways that begin with the move of house H
-    total N  the number of all ways
-`kalah solve FILE..` prints a line for each line of each file, in order:
-    FILE:LINE MARGIN house H  the margin of best play, and the lowest-numbered
-                              best house
-    FILE:LINE MARGIN over     the game is over, with this margin
-    FILE:LINE fault WORD      not a position
-`kalah values FILE..` prints for each of these lines what each move is worth:
-    FILE:LINE H:V H:V ..      each house H that may be moved, and the margin V
-                              that its move gets in best play
-    FILE:LINE MARGIN over     as `solve`
-    FILE:LINE fault WORD      as `solve`
-`kalah steps FILE..` prints for each of these lines a line for each house H that
-may be moved:
-    FILE:LINE H POSITION again  as `moves` prints it, or with turn or over
-    FILE:LINE MARGIN over       as `solve`
-    FILE:LINE fault WORD        as `solve`
-`kalah ask` prints for each line of standard input, before it reads on, what
-`solve` prints after FILE:LINE, or with --values what `values` prints there, or
-with --steps what `steps` prints there, in one line with `; ` between moves.
+Answers. `solve`, `values` and `steps` print FILE:LINE before each of them, and
+`ask` prints the same alone:
+  MARGIN house H    `solve`: the margin of best play, and the lowest-numbered
+                    best house
+  H:V H:V ..        `values`: each house H that may be moved, and the margin V
+                    that its move gets in best play
+  H POSITION again  `steps`, `moves`, `play`: the move of house H, and the
+                    position after it; the same player moves again
+  H POSITION turn   the other player is to move, and the position is seen by
+                    that player
+  H POSITION over   the game is over after the move
+  H N, total N      `count`: the ways that begin with house H, and all ways
+  MARGIN over       the game is over, with this margin
+  fault WORD        not a position
 A margin is what the player to move ends with, less what the other player ends
-with.
+with. `kalah COMMAND --help` has more about each command.
 
 The WORD of a line that is not a position is the first of these that holds:
-    long      it has more than 80 bytes
-    empty     it has no bytes
-    shape     it does not have the form of a position
-    houses    the sides have different numbers of houses, or more than 6
-    seeds     the houses hold more than 31 seeds together
+  long    it has more than 80 bytes
+  empty   it has no bytes
+  shape   it does not have the form of a position
+  houses  the sides have different numbers of houses, or more than 6
+  seeds   the houses hold more than 31 seeds together
 
 Exit status: 0 if every line was read or help was printed; 1 if some line was
 not read; 2 if the arguments, a file, standard input, memory, a worker or the
-output failed, and standard error says which.";
+output failed, and standard error says which.
+More: `man kalah`, and README.md, which lists the pages (in share/doc/kalah).";
 
 /// What follows the long help of `moves`.
 pub(crate) const LONG_OF_MOVES: &str = of_a_move!("");
@@ -166,22 +151,24 @@ a space, and the same for the other player.
 /// What follows the long help of `solve`.
 pub(crate) const LONG_OF_SOLVE: &str = of_files!(
     "solve",
+    "ask",
     "\
-If standard input is a socket or belongs to another user, use `kalah ask`.
-Each line of each file gets an answer line, in order:
+an answer line, in order:
     first.txt:1 2 house 2      the margin of best play, and the lowest-numbered
                                best house
     first.txt:5 -4 over        the game is over, with this margin
     first.txt:9 fault shape    not a position
+An early hard line holds back all later answers. That a reader has left is
+noticed only at the next write.
 "
 );
 
 /// What follows the long help of `values`.
 pub(crate) const LONG_OF_VALUES: &str = of_files!(
     "values",
+    "ask --values",
     "\
-If standard input is a socket or belongs to another user, use `kalah ask`.
-Each line of each file gets an answer line, in order:
+an answer line, in order:
     first.txt:1 1:-2 2:2       each house that may be moved, and its margin
     first.txt:5 -4 over        the game is over, with this margin
     first.txt:9 fault shape    not a position
@@ -205,9 +192,9 @@ by one:
 /// What follows the long help of `steps`.
 pub(crate) const LONG_OF_STEPS: &str = of_files!(
     "steps",
+    "ask --steps",
     "\
-Each line of each file gets a line for each house that may be moved, or one
-line, in order:
+a line for each house that may be moved, or one line, in order:
     first.txt:1 1 1,1/0 0,2/0 turn  the house, the position after its move, and
                                     again, turn or over
     first.txt:5 -4 over             the game is over, with this margin

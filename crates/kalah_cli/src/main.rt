@@ -1,5 +1,5 @@
-//! Solves small positions of Kalah: `kalah moves LINE`, `kalah play LINE`, `kalah solve FILE..`, `kalah values FILE..`,
-//! `kalah steps FILE..`, `kalah ask`, `kalah show LINE` and `kalah count DEPTH LINE`.
+//! Solves small positions of Kalah: `kalah solve FILE..`, `kalah values FILE..`, `kalah show LINE`, `kalah play LINE`,
+//! `kalah moves LINE`, `kalah ask`, `kalah steps FILE..` and `kalah count DEPTH LINE`.
 #![tactic(auto)]
 
 mod ask;
