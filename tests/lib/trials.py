@@ -642,9 +642,10 @@ class Trials(AskTrials):
             raise Differs(f"{workers} workers take {kilobytes} kB")
 
     def few_lines(self):
-        """A run with fewer lines than workers starts one thread, which starts at most one for each line."""
+        """A run with fewer lines than workers starts one thread, which starts at most one for each line. Each line takes so long that all
+        threads are seen at work."""
         lines = self.drawn.card("few lines", FEW_LINES)
-        self.put({"a": b"".join(HARD.splitlines(keepends=True)[:lines])})
+        self.put({"a": (LONG_GAME + b"\n") * lines})
         with self.start([self.searching(), "--table", "1", "--workers", "64", "a"]) as process:
             end = time.monotonic() + SOON
             while busy_threads(process) < lines and time.monotonic() < end:
