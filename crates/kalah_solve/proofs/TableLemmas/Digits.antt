@@ -49,14 +49,14 @@ same_elsewhere j k n d other none small = elim (cases_lt j k) [
   | inr after ↦ ap (λ m. m % 16) (same_past k j n d (omega (arith, other, after)) none small)
 ]
 
--- one of the eight lowest digits takes no more than those
-pub digit_small : (k d : ℕ) → k ≤ 7 → d ≤ 15 → d * 2 ^ (4 * k) < 2 ^ 32
+-- a digit of a word is no more than a word
+pub digit_small : (k d : ℕ) → k < 16 → d < 16 → d * 2 ^ (4 * k) < 2 ^ 64
 digit_small k d place small =
-    let power : 2 ^ (4 * k) ≤ 2 ^ 28 = pow_mono {j = 28} (omega (arith, place)) in
-    omega (arith, mul-le d (2 ^ (4 * k)) 15 (2 ^ 28) small power)
+    let power : 2 ^ (4 * k) ≤ 2 ^ 60 = pow_mono {j = 60} (omega (arith, place)) in
+    omega (arith, mul-le d (2 ^ (4 * k)) 15 (2 ^ 60) (omega (arith, small)) power)
 
 -- and with it a word stays a word
-pub put_fits : (k n d : ℕ) → k ≤ 7 → n / 2 ^ (4 * k) % 16 ≡ 0 → d < 16 → n < 2 ^ 64 → n + d * 2 ^ (4 * k) < 2 ^ 64
+pub put_fits : (k n d : ℕ) → k < 16 → n / 2 ^ (4 * k) % 16 ≡ 0 → d < 16 → n < 2 ^ 64 → n + d * 2 ^ (4 * k) < 2 ^ 64
 put_fits k n d place none small fits =
-    let past : (n + d * 2 ^ (4 * k)) / 2 ^ 64 ≡ n / 2 ^ 64 = same_past k 16 n d (omega (arith, place)) none small in
+    let past : (n + d * 2 ^ (4 * k)) / 2 ^ 64 ≡ n / 2 ^ 64 = same_past k 16 n d place none small in
     omega (arith, past, fits)

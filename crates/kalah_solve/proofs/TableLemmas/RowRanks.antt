@@ -29,7 +29,7 @@ choose_more n (suc d) k =
     let next : n + suc d ≡ suc (n + d) = omega arith in
     rw next (omega (arith, choose_more n d k, choose_up (n + d) k))
 
-choose_rises : (n m k : ℕ) → n ≤ m → choose n k ≤ choose m k
+pub choose_rises : (n m k : ℕ) → n ≤ m → choose n k ≤ choose m k
 choose_rises n m k few = let all : n + (m - n) ≡ m = omega arith in rw all at (choose_more n (m - n) k)
 
 -- there are no more ways than ways to take any
@@ -61,7 +61,7 @@ unfolding choose
 choose_next n k = refl
 
 -- the ways to choose a row's cells among its seeds and cells come after its rank
-rank_below : (xs : List ℕ) → row_rank xs < choose (sum xs + length xs) (length xs)
+pub rank_below : (xs : List ℕ) → row_rank xs < choose (sum xs + length xs) (length xs)
 unfolding choose
 rank_below [] = omega arith
 rank_below (x ∷ xs) =

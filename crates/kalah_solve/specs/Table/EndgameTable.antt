@@ -1,7 +1,9 @@
 -- What the words of endings store.
-use Rattle.std.specs.Prelude.{◌≡◌, ℕ, ◌+◌, ◌*◌, ◌/◌, ◌%◌, ◌^◌, ◌<◌, ◌≤◌, ◌≢◌, suc, List, slice_index}
+use Rattle.std.specs.Prelude.{◌≡◌, ℕ, ◌+◌, ◌*◌, ◌/◌, ◌%◌, ◌^◌, ◌<◌, ◌≤◌, ◌≢◌, suc, List, length, slice_index}
 use Rattle.kalah_rules.specs.Position.{Rows, bare, seeds_in_houses, IsWithinHouses}
-use Rattle.kalah_solve.specs.Table.RowRank.{choose, game_of, rank_of_houses}
+use Rattle.kalah_rules.specs.Key.{rule_bit}
+use Rattle.kalah_solve.specs.Table.RowRank.{choose, rank_of_houses}
+use Rattle.kalah_solve.specs.declared.table.endgame_table.words.TheConstants.{FIRST_WORDS, RULE_WORDS}
 use Rattle.kalah_solve.specs.Bounds.Won.{won}
 
 -- the most seeds of an ending
@@ -29,19 +31,20 @@ pair_at k = choose (k % 32 + 2 * (k / 320) + 1) (2 * (k / 320) + 2) + choose (k 
 abbrev pub ArePairs : ℕ → List ℕ → Type 0
 ArePairs n pairs = (k : ℕ) → k < n → k % 32 < 10 → slice_index pairs k ≡ pair_at k
 
--- the houses that a word of endings covers: those of this game with this eighth of their rank
-abbrev pub label_of : Rows → ℕ
-label_of a = game_of a + 16 * (rank_of_houses a / 8)
+-- the index of the word of an ending: first come the games of the classic rule, each of these by its houses a side, and then by rank, of
+-- which sixteen share a word
+abbrev pub word_of : Rows → ℕ
+word_of a = slice_index FIRST_WORDS (length a.own) + RULE_WORDS * rule_bit a.rule + rank_of_houses a / 16
 
--- the word stores that label in its upper half
-abbrev pub stored_label : ℕ → ℕ
-stored_label word = word / 2 ^ 32
-
--- and in four bits of its lower half, for each of those houses, nothing or one more than the mover takes
+-- a word stores in four bits, for each ending of it, nothing or one more than the mover takes
 abbrev pub stored_at : ℕ → ℕ → ℕ
 stored_at word at = word / 2 ^ (4 * at) % 16
 
--- what it states is what the mover takes
-unfoldable pub StoresWon : ℕ → Type 0
-StoresWon word = (a : Rows) → IsWithinHouses a → stored_label word ≡ label_of a → stored_at word (rank_of_houses a % 8) ≢ 0 →
-    stored_at word (rank_of_houses a % 8) ≡ suc (won a)
+-- what word i states is what the mover takes
+unfoldable pub StoresWon : ℕ → ℕ → Type 0
+StoresWon i word = (a : Rows) → IsWithinHouses a → IsEnding a → word_of a ≡ i → stored_at word (rank_of_houses a % 16) ≢ 0 →
+    stored_at word (rank_of_houses a % 16) ≡ suc (won a)
+
+-- and so does each
+abbrev pub AreTrueWords : List ℕ → Type 0
+AreTrueWords words = (i : ℕ) → StoresWon i (slice_index words i)

@@ -13,13 +13,11 @@ mod tests;
 mod words;
 
 use crate::table::endgame_table::words::{
-    FIRST_WORDS, TrueWord, begun, empty_words, game_of, label_of, stored_at, with_stored,
+    EndingWords, Reads, WORDS, Writes, empty_words, stored_at, with_stored, word_of,
 };
 use kalah_rules::{Houses, Sowings};
 use std::alloc::{AllocError, Allocator, Global};
 use std::marker::Model;
-use std::sync::atomic::AtomicIn;
-use std::sync::atomic::Ordering::SeqCst;
 
 /// The most seeds of an ending.
 pub(crate) const MOST_ENDING_SEEDS: u8 = 9;
@@ -40,24 +38,25 @@ const PAIRS: usize = 6 * PAIR;
 // The inverse of 31 modulo 2^64: a multiple of 31 is divided by 31 if it is multiplied by this.
 const INVERSE_OF_31: u64 = 0xEF7B_DEF7_BDEF_7BDF;
 
-/// The known endings: one word for each eight of them with consecutive ranks. Threads may share
-/// it, since what a word states is true, whichever thread wrote it.
+/// The known endings: one word for each sixteen of them with consecutive ranks. Threads may share it.
 #[derive(Drop)]
 pub(crate) struct EndgameTable<A: Allocator = Global> {
-    words: Vec<AtomicIn<TrueWord>, A>,
+    words: EndingWords<A>,
     pairs: [u32; PAIRS],
     pub(crate) sowings: Sowings,
 }
 
 impl<A: Allocator> Model for EndgameTable<A> {
     ghost use Rattle.kalah_solve.specs.Table.EndgameTable.{ArePairs};
+    ghost use Rattle.std.specs.Prelude.{◌≡◌};
     ghost use Rattle.kalah_solve.specs.declared.table.endgame_table.TheConstants.{PAIRS};
+    ghost use Rattle.kalah_solve.specs.declared.table.endgame_table.words.TheConstants.{WORDS};
 
     ghost Value = { Unit {0} };
 
     ghost view = { λ _. tt };
 
-    ghost invariant = { λ e. ArePairs PAIRS e.pairs };
+    ghost invariant = { λ e. ArePairs PAIRS e.pairs × (e.words.shared.table_id.words ≡ WORDS) };
 }
 
 // Returns cell `i` of the choices, from the cells before it.
@@ -131,13 +130,13 @@ fn sums_of(houses: &Houses) -> u64
     seeds + (joined_rows(houses) - seeds).wrapping_mul(INVERSE_OF_31) * 32
 }
 
-impl<A: Allocator> EndgameTable<A> {
+impl<A: Allocator + Clone> EndgameTable<A> {
     /// Makes a table with nothing known and room for all words.
     ///
     /// Fails with `AllocError` only if memory was refused.
     pub(crate) fn new(alloc: A) -> Result<EndgameTable<A>, AllocError> {
         Ok(EndgameTable {
-            words: empty_words(alloc)?,
+            words: empty_words(alloc, WORDS)?,
             pairs: pairs(),
             sowings: Sowings::new(),
         })
@@ -173,22 +172,15 @@ impl<A: Allocator> EndgameTable<A> {
         rank
     }
 
-    // Returns the word of the houses of this rank in their game.
-    fn word(&self, houses: &Houses, rank: u32) -> Option<&AtomicIn<TrueWord>> {
-        let first = FIRST_WORDS[game_of(houses) as usize] as usize;
-        self.words.get(first + rank as usize / 8)
-    }
-
     // Returns how many seeds the mover takes, if it is known.
     fn get(&self, houses: &Houses, rank: u32) -> Option<u8>
-        requires { rank ≡ rank_of_houses houses.now }
+        requires rank { rank ≡ rank_of_houses houses.now }
+        requires few { IsEnding houses.now }
         ensures { IfSome result (λ t. t ≡ won houses.now) }
     {
-        let word = self.word(houses, rank)?.load(SeqCst);
-        if word >> 32 != label_of(houses, rank) {
-            return None;
-        }
-        let stored = stored_at(word, rank % 8);
+        let words = &self.words.shared;
+        let (word, _) = words.load_new_seat::<Reads>(word_of(houses, rank));
+        let stored = stored_at(word, rank % 16);
         if stored == 0 {
             return None;
         }
@@ -198,16 +190,15 @@ impl<A: Allocator> EndgameTable<A> {
     // Stores how many seeds the mover takes.
     fn keep(&self, houses: &Houses, rank: u32, known: u8)
         requires rank { rank ≡ rank_of_houses houses.now }
-        requires small { rank < 2 ^ 21 }
         requires known { known ≡ won houses.now }
         requires few { IsEnding houses.now }
     {
-        let label = label_of(houses, rank);
-        if let Some(cell) = self.word(houses, rank) {
-            let word = begun(label, cell.load(SeqCst));
-            if stored_at(word, rank % 8) == 0 {
-                cell.store(with_stored(word, rank % 8, known as u64 + 1), SeqCst);
-            }
+        let words = &self.words.shared;
+        let at = word_of(houses, rank);
+        let (word, _) = words.load_new_seat::<Reads>(at);
+        if stored_at(word, rank % 16) == 0 {
+            let word = with_stored(word, rank % 16, known as u64 + 1);
+            words.swap_new_seat::<Writes>(at, word);
         }
     }
 }

@@ -12,7 +12,7 @@ use crate::table::endgame_table::EndgameTable;
 use kalah_rules::{House, Houses, HousesStep};
 use std::alloc::Allocator;
 
-impl<A: Allocator> EndgameTable<A> {
+impl<A: Allocator + Clone> EndgameTable<A> {
     /// Returns how many of the seeds in the houses the mover takes in best play.
     #[cycle(exact)]
     #[inline(always)]

@@ -1,5 +1,5 @@
-use Rattle.kalah_solve.proofs.TableLemmas.KeptEndings.{tells_nothing}
+use Rattle.kalah_solve.proofs.TableLemmas.KeptEndings.{begins}
 use Rattle.kalah_solve.proofs.table.endgame_table.words.empty_words.Goals as goal
 
-pub new-requires : goal.new-requires
-new-requires g c = tells_nothing 0
+pub of_words-requires : goal.of_words-requires
+of_words-requires g c = rw (c.deref.ensures.value, c.in_ok-empty.ensures.items_if_clones_equal (λ y same. same)) (begins c.args.count)

@@ -3,11 +3,11 @@ use Rattle.kalah_solve.proofs.TableLemmas.Digits.{digit_small, put_fits}
 use Rattle.kalah_solve.proofs.table.endgame_table.words.with_stored.Goals as goal
 
 whole : (c : goal.Start) → c.args.stored * 2 ^ (4 * c.args.at) % 2 ^ 64 ≡ c.args.stored * 2 ^ (4 * c.args.at)
-whole c = omega (arith, digit_small c.args.at c.args.stored (omega (arith, c.requires.place)) (omega (arith, c.requires.small)))
+whole c = omega (arith, digit_small c.args.at c.args.stored c.requires.place c.requires.small)
 
 pub overflow_add-result : goal.overflow_add-result
 overflow_add-result c =
-    let fits = put_fits c.args.at c.args.word c.args.stored (omega (arith, c.requires.place)) c.requires.nothing c.requires.small
+    let fits = put_fits c.args.at c.args.word c.args.stored c.requires.place c.requires.nothing c.requires.small
     (omega (arith, c.ranges.word)) in
     omega (arith, whole c, fits)
 
