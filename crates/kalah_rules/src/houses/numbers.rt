@@ -107,7 +107,7 @@ pub(super) fn one_each_to(house: House) -> u64
     ensures value { result ≡ ones house }
     ensures small { result ≤ 34636833 }
 {
-    ONE_EACH % (32 << house.bit())
+    ONE_EACH & ((32 << house.bit()) - 1)
 }
 
 // Returns a row of `m` houses with one seed in each house up to `x`.

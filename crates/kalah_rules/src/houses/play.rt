@@ -20,9 +20,13 @@ pub(super) struct RowNumbers {
     store: u64,
 }
 
+// One if a condition holds. Read from a table, it stays a number: a compiler makes no branch of it.
+static ONE_IF: [u64; 2] = [0, 1];
+
 // Returns what is captured: the last seed and the seeds across, or nothing. `single` is whether the last seed is alone in an own house,
 // and the house across has `across` seeds. Which of the two is hard to predict, so both are numbers, and a row changes by them without a
 // branch.
+#[inline(always)]
 fn caught(rule: Rule, single: bool, across: u64) -> (u64, u64)
     requires { across < 32 }
     ensures caught { MatchBool (single && captures rule across)
@@ -30,11 +34,8 @@ fn caught(rule: Rule, single: bool, across: u64) -> (u64, u64)
     ensures few { result.0 + result.1 ≤ 32 }
 {
     let captures = rule.captures(across as u8);
-    if single & captures {
-        (1, across)
-    } else {
-        (0, 0)
-    }
+    let last = ONE_IF[usize::from(single & captures)];
+    (last, last * across)
 }
 
 impl Houses {

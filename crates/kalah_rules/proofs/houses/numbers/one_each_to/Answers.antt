@@ -1,4 +1,5 @@
 use Rattle.std.proofs.Common.{arith, ◌≡◌, ◌-◌, ◌*◌, ◌%◌, ◌^◌, ◌∙◌, ap, suc}
+use Rattle.std.proofs.lemmas.Nat.{and_le_l}
 use Rattle.kalah_rules.specs.Packed.{ones}
 use Rattle.kalah_rules.proofs.Packing.{pow_five, moved_small, ones_below}
 use Rattle.kalah_rules.proofs.houses.numbers.one_each_to.Goals as goal
@@ -12,3 +13,6 @@ returns-clause-value c =
     let moved : 32 * 2 ^ c.bit.result % 2 ^ 64 ≡ 32 ^ k * 32 =
     rw (c.bit.ensures.is, pow_five k) (moved_small k 32 (omega (arith, last)) (omega arith)) in
     rw moved (ones_below k (omega (arith, last)) ∙ ap ones at)
+
+pub returns-clause-small : goal.returns-clause-small
+returns-clause-small c = and_le_l 34636833 (32 * 2 ^ c.bit.result % 2 ^ 64 - 1)
