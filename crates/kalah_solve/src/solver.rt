@@ -2,7 +2,7 @@
 ghost use Rattle.std.specs.Prelude.{◌≡◌, ◌≤◌, IfOk, false};
 ghost use Rattle.kalah_rules.specs.Position.{is_over, bare};
 ghost use Rattle.kalah_rules.specs.Play.{legal_houses};
-ghost use Rattle.kalah_solve.specs.Solver.Worth.{best_house};
+ghost use Rattle.kalah_solve.specs.Solver.Worth.{best_house, houses_worth};
 ghost use Rattle.kalah_solve.specs.Table.Entries.{most_entries, empty_table};
 ghost use Rattle.kalah_solve.specs.Bounds.Won.{won};
 ghost use Rattle.kalah_solve.specs.Solver.Verdict.{verdict_of, TellsBestPlay, IsSmallVerdict};
@@ -72,11 +72,20 @@ impl<A: Allocator + Clone> Solver<A> {
             };
         }
         let houses = board.houses();
-        let best = self.search.search(&houses, Window::whole());
+        let best = self.worth(&houses);
         let bar = half(best + houses.seeds() as i32);
         let house = self.first_house(&houses, &board.legal(), bar);
         let margin = best + (board.own_store() as i32 - board.other_store() as i32);
         Verdict::Best { margin, house }
+    }
+
+    // Returns what houses are worth to the player to move, by a search in the whole window.
+    fn worth(&mut self, houses: &Houses) -> i32
+        requires { is_over (bare houses.now) ≡ false }
+        ensures { result ≡ houses_worth houses.now }
+    {
+        let _seeds = houses.seeds();
+        self.search.search(houses, Window::whole())
     }
 
     // Returns the lowest-numbered house that takes as many seeds as best play. If all but the last fall short, it is the last.

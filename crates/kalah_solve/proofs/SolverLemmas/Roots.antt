@@ -1,6 +1,6 @@
 -- The first house that attains the margin of best play, and the margin with the stores.
 use Rattle.std.proofs.Common.{zero, suc, inl, inr, List, [], ◌∷◌, refl, ◌≡◌, ℕ, ◌+◌, ◌<◌, ◌≤◌, length, get_or, arith, ap, sym, ◌∙◌, w32, to_z, of_z, FitsSigned}
-use Rattle.std.specs.Prelude.{Bool, true, false, Contains, unwrap_or, find, Some, ℤ, pos, ◌+ℤ◌, ◌-ℤ◌, ◌≤ℤ◌, ◌<ℤ◌}
+use Rattle.std.specs.Prelude.{Bool, true, false, Contains, unwrap_or, find, Some, ℤ, pos, ◌+ℤ◌, ◌-ℤ◌, ◌<ℤ◌}
 use Rattle.std.proofs.lemmas.Int.{ints, clamps}
 use Rattle.std.specs.Ordering.{int_eq}
 use Rattle.std.proofs.lemmas.Bool.{cases_eq}
@@ -37,17 +37,9 @@ rows_within p limits = record {
 }
 
 -- in the whole window the answer is the worth
-whole_window : (found lo hi z : ℤ) → lo ≡ least_margin → hi ≡ most_margin → least_margin ≤ℤ z → z ≤ℤ most_margin →
-    found ≡ within lo hi z → found ≡ z
-whole_window found lo hi z lo_is hi_is low high e = omega (arith, ints, clamps, e, lo_is, hi_is, low, high)
-
-pub root_worth : (p : Position) (a : Rows) (found lo hi : ℤ) → IsWithinLimits p → a ≡ rows_of p → lo ≡ least_margin
-    → hi ≡ most_margin →
-    found ≡ within lo hi (houses_worth a) → found ≡ houses_worth (rows_of p)
-root_worth p a found lo hi limits is lo_is hi_is e =
-    let rows = rows_within p limits in
-    whole_window found lo hi _ lo_is hi_is (worth_low (rows_of p) rows) (worth_high (rows_of p) rows)
-    (e ∙ ap (λ b. within lo hi (houses_worth b)) is)
+pub whole_window : (a : Rows) (found lo hi : ℤ) → IsWithinHouses a → lo ≡ least_margin → hi ≡ most_margin →
+    found ≡ within lo hi (houses_worth a) → found ≡ houses_worth a
+whole_window a found lo hi limits lo_is hi_is e = omega (arith, ints, clamps, e, lo_is, hi_is, worth_low a limits, worth_high a limits)
 
 -- the first i houses are worth less than the margin of best play
 abbrev pub FallShort : Rows → ℕ → Type 0

@@ -6,7 +6,6 @@ ghost use Rattle.kalah_solve.specs.Solver.Worth.{worth, value_of_move};
 ghost use Rattle.kalah_solve.specs.Solver.MoveValues.{move_value, values_of, TellMoves};
 
 use super::Solver;
-use crate::bounds::window::Window;
 use crate::solver::move_values::{MoveValue, MoveValues};
 use kalah_rules::{Board, Step};
 use std::alloc::Allocator;
@@ -60,7 +59,7 @@ impl<A: Allocator + Clone> Solver<A> {
         if board.is_over() {
             return board.returns();
         }
-        let best = self.search.search(&board.houses(), Window::whole());
+        let best = self.worth(&board.houses());
         best + (board.own_store() as i32 - board.other_store() as i32)
     }
 }

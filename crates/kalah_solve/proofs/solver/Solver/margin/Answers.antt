@@ -1,8 +1,8 @@
-use Rattle.std.proofs.Common.{rules, sym, ◌∙◌, ◌≡◌, w32, SFits}
+use Rattle.std.proofs.Common.{rules, sym, ap, ◌∙◌, ◌≡◌, w32, SFits}
 use Rattle.std.proofs.lemmas.Int.{to_z-of_z}
 use Rattle.kalah_rules.specs.Position.{rows_of}
 use Rattle.kalah_solve.specs.Solver.Worth.{houses_worth}
-use Rattle.kalah_solve.proofs.SolverLemmas.Roots.{root_worth, told_fits, told_small, told_worth}
+use Rattle.kalah_solve.proofs.SolverLemmas.Roots.{told_fits, told_small, told_worth}
 use Rattle.kalah_solve.proofs.SolverLemmas.Worths.{worth_of_over}
 use Rattle.kalah_solve.proofs.solver.Solver.margin.Given.{Over}
 use Rattle.kalah_solve.proofs.solver.Solver.margin.Goals as goal
@@ -13,23 +13,20 @@ returns-then-is_over-clause-worth g c =
     simp to_z-of_z (c.returns.ensures.margin ∙ sym (worth_of_over c.args.board.now (sym c.if-is_over.ensures.over)))
 
 -- what the search finds is the worth of the houses
-found : (g : Over) (c : goal.After-other_store g) → c.search-best.result ≡ houses_worth (rows_of c.args.board.now)
-found g c =
-    root_worth c.args.board.now c.houses.result c.search-best.result c.whole.result.lo c.whole.result.hi c.is_over.ensures.limits
-    c.houses.ensures
-    c.whole.ensures.lo c.whole.ensures.hi c.search-best.ensures
+found : (g : Over) (c : goal.After-other_store g) → c.worth-best.result ≡ houses_worth (rows_of c.args.board.now)
+found g c = c.worth-best.ensures ∙ ap houses_worth c.houses.ensures
 
 pub overflow_add-result : goal.overflow_add-result
 overflow_add-result g c =
-    told_fits c.args.board.now c.search-best.result c.own_store.result c.other_store.result c.is_over.ensures.limits
+    told_fits c.args.board.now c.worth-best.result c.own_store.result c.other_store.result c.is_over.ensures.limits
     (found g c) c.own_store.ensures c.other_store.ensures
 
 pub returns-clause-worth : goal.returns-clause-worth
 returns-clause-worth g c =
-    told_worth c.args.board.now c.search-best.result c.own_store.result c.other_store.result c.is_over.ensures.limits
+    told_worth c.args.board.now c.worth-best.result c.own_store.result c.other_store.result c.is_over.ensures.limits
     (found g c) c.own_store.ensures c.other_store.ensures
 
 pub returns-clause-small : goal.returns-clause-small
 returns-clause-small g c =
-    told_small c.args.board.now c.search-best.result c.own_store.result c.other_store.result c.is_over.ensures.limits
+    told_small c.args.board.now c.worth-best.result c.own_store.result c.other_store.result c.is_over.ensures.limits
     (found g c) c.own_store.ensures c.other_store.ensures

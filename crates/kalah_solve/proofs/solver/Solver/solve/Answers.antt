@@ -5,7 +5,7 @@ use Rattle.kalah_rules.specs.Position.{Rows, rows_of, bare, seeds_in_houses}
 use Rattle.kalah_solve.specs.Solver.Worth.{houses_worth, best_house}
 use Rattle.kalah_solve.specs.declared.solver.Verdict.TheVariants.{Best, Over}
 use Rattle.kalah_solve.proofs.SolverLemmas.Bests.{verdict_by, verdict_of_over, small_best}
-use Rattle.kalah_solve.proofs.SolverLemmas.Roots.{root_worth, stored, told_fits, told_small, told_worth}
+use Rattle.kalah_solve.proofs.SolverLemmas.Roots.{stored, told_fits, told_small, told_worth}
 use Rattle.kalah_solve.proofs.SolverLemmas.Stores.{best_of_rows}
 use Rattle.kalah_solve.proofs.BoundsLemmas.Winnings.{worth_low, worth_high, half_is}
 use Rattle.kalah_solve.proofs.SolverLemmas.Values.{best_found}
@@ -24,30 +24,36 @@ returns-then-is_over-clause-best_play g c =
 pub first_house-house-requires-clause-moves : goal.first_house-house-requires-clause-moves
 first_house-house-requires-clause-moves g c = c.legal.ensures ∙ sym (ap (λ (a : Rows). legal_houses (bare a)) c.houses-houses.ensures)
 
+pub overflow_add-best : goal.overflow_add-best
+overflow_add-best g c =
+    let a = c.houses-houses.result in
+    let limits = c.seeds.ensures.limits in
+    omega (arith, ints, c.worth-best.ensures, c.seeds.ensures.seeds, limits.few_seeds, worth_low a limits, worth_high a limits)
+
+pub half-bar-requires : goal.half-bar-requires
+half-bar-requires g c =
+    let a = c.houses-houses.result in
+    let limits = c.seeds.ensures.limits in
+    omega (arith, ints, c.worth-best.ensures, c.seeds.ensures.seeds, limits.few_seeds, worth_low a limits, worth_high a limits)
+
 pub first_house-house-requires-clause-best : goal.first_house-house-requires-clause-best
 first_house-house-requires-clause-best g c =
     let a = c.houses-houses.result in
     let limits = c.seeds.ensures.limits in
-    let found = root_worth c.args.board.now a c.search-best.result c.whole.result.lo c.whole.result.hi c.is_over.ensures.limits
-    c.houses-houses.ensures
-    c.whole.ensures.lo c.whole.ensures.hi c.search-best.ensures in
-    let best : c.search-best.result ≡ houses_worth a = found ∙ sym (ap houses_worth c.houses-houses.ensures) in
-    let sum : to_z w32 (of_z w32 (to_z w32 (of_z w32 c.search-best.result) +ℤ to_z w32 c.seeds.result))
+    let best = c.worth-best.ensures in
+    let sum : to_z w32 (of_z w32 (to_z w32 (of_z w32 c.worth-best.result) +ℤ to_z w32 c.seeds.result))
     ≡ houses_worth a +ℤ pos (seeds_in_houses (bare a)) =
     omega (arith, ints, best, c.seeds.ensures.seeds, limits.few_seeds, worth_low a limits, worth_high a limits) in
     half_is a (houses_worth a) c.half-bar.result limits refl
     (record { low = rw sum at c.half-bar.ensures.low; high = rw sum at c.half-bar.ensures.high })
 
 -- what the search finds is the worth of the houses
-found : (g : given.Over) (c : goal.After-other_store g) → c.search-best.result ≡ houses_worth (rows_of c.args.board.now)
-found g c =
-    root_worth c.args.board.now c.houses-houses.result c.search-best.result c.whole.result.lo c.whole.result.hi c.is_over.ensures.limits
-    c.houses-houses.ensures
-    c.whole.ensures.lo c.whole.ensures.hi c.search-best.ensures
+found : (g : given.Over) (c : goal.After-other_store g) → c.worth-best.result ≡ houses_worth (rows_of c.args.board.now)
+found g c = c.worth-best.ensures ∙ ap houses_worth c.houses-houses.ensures
 
 pub overflow_add-margin : goal.overflow_add-margin
 overflow_add-margin g c =
-    told_fits c.args.board.now c.search-best.result c.own_store.result c.other_store.result c.is_over.ensures.limits
+    told_fits c.args.board.now c.worth-best.result c.own_store.result c.other_store.result c.is_over.ensures.limits
     (found g c) c.own_store.ensures c.other_store.ensures
 
 -- the reported house
@@ -58,20 +64,20 @@ house_is g c = c.first_house-house.ensures ∙ ap (λ (a : Rows). best_house (ba
 pub returns-clause-verdict : goal.returns-clause-verdict
 returns-clause-verdict g c =
     let p = c.args.board.now in
-    verdict_by p (stored c.search-best.result c.own_store.result c.other_store.result) c.first_house-house.result
+    verdict_by p (stored c.worth-best.result c.own_store.result c.other_store.result) c.first_house-house.result
     (sym c.if-is_over.ensures.over)
-    (told_worth p c.search-best.result c.own_store.result c.other_store.result c.is_over.ensures.limits
+    (told_worth p c.worth-best.result c.own_store.result c.other_store.result c.is_over.ensures.limits
     (found g c) c.own_store.ensures c.other_store.ensures) (house_is g c)
 
 pub returns-clause-best_play : goal.returns-clause-best_play
 returns-clause-best_play g c =
-    verdict_tells c.args.board.now (Best (stored c.search-best.result c.own_store.result c.other_store.result) c.first_house-house.result)
+    verdict_tells c.args.board.now (Best (stored c.worth-best.result c.own_store.result c.other_store.result) c.first_house-house.result)
     (board_equal_sides c.args.board.now c.is_over.ensures.limits) (returns-clause-verdict g c)
 
 pub returns-clause-small : goal.returns-clause-small
 returns-clause-small g c =
     let p = c.args.board.now in
     let limits = c.is_over.ensures.limits in
-    small_best p (stored c.search-best.result c.own_store.result c.other_store.result) c.first_house-house.result limits
+    small_best p (stored c.worth-best.result c.own_store.result c.other_store.result) c.first_house-house.result limits
     (rw (house_is g c) (best_found p (board_equal_sides p limits) (sym c.if-is_over.ensures.over)).0)
-    (told_small p c.search-best.result c.own_store.result c.other_store.result limits (found g c) c.own_store.ensures c.other_store.ensures)
+    (told_small p c.worth-best.result c.own_store.result c.other_store.result limits (found g c) c.own_store.ensures c.other_store.ensures)
