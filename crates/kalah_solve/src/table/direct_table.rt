@@ -89,8 +89,10 @@ fn mixed_key(houses: &Houses) -> u64
 
 // Returns the place of a mixed key among `count` places.
 fn place_of(mixed: u64, count: usize) -> usize
-    requires { count ≤ 2 ^ 32 }
-    ensures { result ≡ place_among count mixed }
+    requires few { count ≤ 2 ^ 32 }
+    requires some { 0 < count }
+    ensures place { result ≡ place_among count mixed }
+    ensures inside { result < count }
 {
     ((mixed >> 32) * count as u64 >> 32) as usize
 }
@@ -132,9 +134,11 @@ impl<A: Allocator> DirectTable<A> {
         ensures { IsWithinBounds result (won houses.now) }
     {
         let mixed = mixed_key(houses);
-        match self.places.get(place_of(mixed, self.places.len())) {
-            Some(place) if place.rest() == rest_of(mixed) => place.bounds(),
-            _ => SeedBounds::unknown(houses),
+        let place = self.places[place_of(mixed, self.places.len())];
+        if place.rest() == rest_of(mixed) {
+            place.bounds()
+        } else {
+            SeedBounds::unknown(houses)
         }
     }
 
@@ -146,8 +150,6 @@ impl<A: Allocator> DirectTable<A> {
         let mixed = mixed_key(houses);
         let stored = Place::of(rest_of(mixed), bounds);
         let at = place_of(mixed, self.places.len());
-        if let Some(place) = self.places.get_mut(at) {
-            *place = stored;
-        }
+        self.places[at] = stored;
     }
 }

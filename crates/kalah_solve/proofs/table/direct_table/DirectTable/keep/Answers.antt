@@ -6,7 +6,6 @@ use Rattle.kalah_solve.specs.Bounds.Won.{won}
 use Rattle.kalah_solve.proofs.TableLemmas.PlacedKeys.{shares_more}
 use Rattle.kalah_solve.proofs.BoundsLemmas.Winnings.{taken_share}
 use Rattle.kalah_solve.proofs.table.direct_table.DirectTable.keep.Goals as goal
-use Rattle.kalah_solve.proofs.table.direct_table.DirectTable.keep.Goals.{in-Some, in_default}
 
 pub of-stored-requires-clause-least : goal.of-stored-requires-clause-least
 of-stored-requires-clause-least g c =
@@ -14,23 +13,18 @@ of-stored-requires-clause-least g c =
     omega (arith, c.requires.least, (taken_share c.args.houses.now limits).few, limits.few_seeds)
 
 pub invariant_of-self : goal.invariant_of-self
-invariant_of-self g c = elim c.match-get_mut.branch [
-  | in-Some w ↦
-      let places = c.self.inside.places.items in
-      let at = c.place_of-at.result in
-      let mixed = c.mixed_key-mixed in
-      let length_is : c.len.result ≡ length places = omega (arith, c.len.ensures) in
-      let limits = mixed.ensures.limits in
-      let count : length (slice_set places at c.of-stored.result) ≡ length places = length-set places at c.of-stored.result in
-      let known : IsWithinPlace c.of-stored.result (won c.args.houses.now) = record {
-        least = rw c.of-stored.ensures.least c.requires.least;
-        most = rw c.of-stored.ensures.most c.requires.most;
-      } in
-      rw w.self-inside-is (
-        rw count c.self.invariant.0,
-        shares_more places c.args.houses.now mixed.result at c.of-stored.result c.self.invariant.0 c.self.invariant.1 limits
-            mixed.ensures.mixed
-            (rw length_is at c.place_of-at.ensures) w.in-Some.ensures.item.3.0 (c.of-stored.ensures.rest ∙ c.rest_of.ensures.rest) known,
-      )
-  | in_default w ↦ rw w.self-inside-is c.self.invariant
-]
+invariant_of-self g c =
+    let places = c.self.inside.places.items in
+    let at = c.place_of-at in
+    let mixed = c.mixed_key-mixed in
+    let length_is : c.len.result ≡ length places = omega (arith, c.len.ensures) in
+    let count : length (slice_set places at.result c.of-stored.result) ≡ length places = length-set places at.result c.of-stored.result in
+    let known : IsWithinPlace c.of-stored.result (won c.args.houses.now) = record {
+      least = rw c.of-stored.ensures.least c.requires.least;
+      most = rw c.of-stored.ensures.most c.requires.most;
+    } in (
+      rw count c.self.invariant.0,
+      shares_more places c.args.houses.now mixed.result at.result c.of-stored.result c.self.invariant.0 c.self.invariant.1
+          mixed.ensures.limits mixed.ensures.mixed (rw length_is at at.ensures.place) (omega (arith, at.ensures.inside, length_is))
+          (c.of-stored.ensures.rest ∙ c.rest_of.ensures.rest) known,
+    )
