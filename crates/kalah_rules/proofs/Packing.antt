@@ -1,6 +1,6 @@
 -- Rows as numbers: houses read and written, and rows of seeds added.
 use Rattle.std.proofs.Common.{zero, suc, ◌≡◌, ℕ, ◌+◌, ◌-◌, ◌*◌, ◌/◌, ◌%◌, ◌^◌, ◌<◌, ◌≤◌, inl, inr, List, [], ◌∷◌, ◌++◌, length, get_or, arith, ap, sym, ◌∙◌, refl, add-one, subst}
-use Rattle.std.specs.Prelude.{slice_set, sum, map, nat_lt, if◌then◌else◌, ◌==◌}
+use Rattle.std.specs.Prelude.{slice_set, sum, map, nat_lt, if◌then◌else◌, ◌==◌, bit_and}
 use Rattle.std.specs.List.{range_with_len}
 use Rattle.std.proofs.lemmas.Nat.{pow-add, mod_below, mul-le}
 use Rattle.std.proofs.Math.Nat.{pow-succ', mul_assoc, div-div-eq-div-mul}
@@ -209,9 +209,9 @@ ones_le a (suc b) h = elim (cases_eq a (suc b)) [
   | inr less ↦ let on = ones_le a b (omega arith) in omega (arith, number_of-suc b (λ i. 1))
 ]
 
--- the ones of the first houses are what six leave below the next house
-pub ones_below : (k : ℕ) → k ≤ 5 → 34636833 % (32 ^ k * 32) ≡ ones (suc k)
-ones_below k h = up_to_five (λ k. 34636833 % (32 ^ k * 32) ≡ ones (suc k)) k h refl refl refl refl refl refl
+-- the ones of the first houses are those of six that stand below the next house
+pub ones_below : (k : ℕ) → k ≤ 5 → bit_and 34636833 (32 ^ k * 32 - 1) ≡ ones (suc k)
+ones_below k h = up_to_five (λ k. bit_and 34636833 (32 ^ k * 32 - 1) ≡ ones (suc k)) k h refl refl refl refl refl refl
 
 -- a row moved up by a few houses fits sixty-four bits
 pub moved_small : (k x : ℕ) → k ≤ 5 → x < 2 ^ 30 → x * 32 ^ k % 2 ^ 64 ≡ 32 ^ k * x

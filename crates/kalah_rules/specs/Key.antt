@@ -24,6 +24,10 @@ rule_bit EmptyCapture = 1
 abbrev pub key_of : Rows → ℕ
 key_of a = number_of a.own + 2 ^ 30 * number_of a.other + 2 ^ 60 * length a.own + 2 ^ 63 * rule_bit a.rule
 
+-- the game of houses: how many there are per side, and 8 more for the empty-capture rule
+abbrev pub game_of : Rows → ℕ
+game_of a = length a.own + 8 * rule_bit a.rule
+
 -- the houses per side that a key names
 abbrev pub side_at : ℕ → ℕ
 side_at k = k / 2 ^ 60 % 8

@@ -2,7 +2,7 @@
 ghost use Rattle.std.specs.Prelude.{◌≡◌, ◌<◌, ◌≤◌, ◌^◌, ◌↔◌, length, sum, IsSome, IfSome, IsTrue, Some};
 ghost use Rattle.kalah_rules.specs.Position.{Rows, seeds, seeds_in_houses, is_over, bare, without_seeds, IsWithinHouses};
 ghost use Rattle.kalah_rules.specs.Cells.{CanBeHouses, rows_from};
-ghost use Rattle.kalah_rules.specs.Key.{number_of, key_of, IsKey};
+ghost use Rattle.kalah_rules.specs.Key.{number_of, key_of, game_of, IsKey};
 
 pub(crate) mod house;
 pub(crate) mod house_row;
@@ -139,6 +139,27 @@ impl Houses {
         ensures { result ≡ self.now.rule }
     {
         rule_of(self.key / RULE)
+    }
+
+    /// Returns the game of the houses, the upper four bits of their key: the number of houses a side, and 8 more for the empty-capture
+    /// rule.
+    pub fn game(&self) -> u8
+        ensures game { result ≡ game_of self.now }
+        ensures limits { IsWithinHouses self.now }
+    {
+        (self.key / SIDE) as u8
+    }
+
+    /// Returns these houses, which must be of this game. If it is a constant, what is computed of the result is compiled for this game.
+    #[inline(always)]
+    pub fn known_game(self, game: u8) -> Houses
+        requires { game_of self ≡ game }
+        ensures { result ≡ self }
+    {
+        Houses {
+            key: self.key % SIDE + SIDE * game as u64,
+            seeds: self.seeds,
+        }
     }
 
     /// Returns the mover's houses as a number with five bits for each, house 1 lowest: the lowest 30 bits of the key.

@@ -3,6 +3,7 @@
 ghost use Rattle.std.specs.Prelude.{◌≡◌, ◌↔◌, ℕ, ◌+◌, ◌-◌, ◌≤◌, ◌<◌, false, IsTrue, max, min, IfOk, Contains, slice_index};
 ghost use Rattle.kalah_rules.specs.Position.{is_over, bare, seeds_in_houses};
 ghost use Rattle.kalah_rules.specs.Play.{legal_houses};
+ghost use Rattle.kalah_rules.specs.Key.{game_of};
 ghost use Rattle.kalah_rules.specs.HousesStep.{houses_step};
 ghost use Rattle.kalah_solve.specs.Solver.Worth.{houses_worth};
 ghost use Rattle.kalah_solve.specs.Solver.StepWorth.{GoesOn, GoesOnAt};
@@ -24,7 +25,7 @@ use crate::marks::{again_houses, other_houses, split_last};
 use crate::search::move_order::{MoveOrder, Priorities, highest};
 use crate::search::work::{EndingLimit, Work};
 use crate::table::Table;
-use kalah_rules::{House, Houses, HousesStep};
+use kalah_rules::{House, Houses, HousesStep, Rule};
 use std::alloc::{AllocError, Allocator, Global};
 
 /// What is known of houses with at most this many seeds is kept in their place, and of others among the entries.
@@ -32,6 +33,26 @@ const MOST_PLACED: u8 = 20;
 
 /// An answer that took fewer nodes than this is not worth an entry.
 const LEAST_WORK: u64 = 60;
+
+// Calls a method that has the number of the game of some houses as its constant parameter. It is compiled for each game.
+macro_rules! in_its_game {
+    ($self:ident.$method:ident($houses:ident, $($more:expr),*)) => {
+        match ($houses.rule(), $houses.m()) {
+            (Rule::Classic, 1) => $self.$method::<1>($houses, $($more),*),
+            (Rule::Classic, 2) => $self.$method::<2>($houses, $($more),*),
+            (Rule::Classic, 3) => $self.$method::<3>($houses, $($more),*),
+            (Rule::Classic, 4) => $self.$method::<4>($houses, $($more),*),
+            (Rule::Classic, 5) => $self.$method::<5>($houses, $($more),*),
+            (Rule::Classic, _) => $self.$method::<6>($houses, $($more),*),
+            (Rule::EmptyCapture, 1) => $self.$method::<9>($houses, $($more),*),
+            (Rule::EmptyCapture, 2) => $self.$method::<10>($houses, $($more),*),
+            (Rule::EmptyCapture, 3) => $self.$method::<11>($houses, $($more),*),
+            (Rule::EmptyCapture, 4) => $self.$method::<12>($houses, $($more),*),
+            (Rule::EmptyCapture, 5) => $self.$method::<13>($houses, $($more),*),
+            (Rule::EmptyCapture, _) => $self.$method::<14>($houses, $($more),*),
+        }
+    };
+}
 
 /// A search with its table. Its results depend on none of its limits.
 #[derive(Drop)]
@@ -107,11 +128,20 @@ impl<A: Allocator + Clone> Search<A> {
         requires going { is_over (bare houses.now) ≡ false }
         ensures { result ≡ within window.lo window.hi (houses_worth houses.now) }
     {
+        in_its_game!(self.search_game(houses, window))
+    }
+
+    // The same, in a game that is known.
+    fn search_game<const GAME: u8>(&mut self, houses: &Houses, window: Window) -> i32
+        requires going { is_over (bare houses.now) ≡ false }
+        requires game { game_of houses.now ≡ GAME }
+        ensures { result ≡ within window.lo window.hi (houses_worth houses.now) }
+    {
         let seeds = houses.seeds();
         self.work.turn_to(houses);
         self.grow_endings();
         if seeds <= self.ending_limit.seeds {
-            let won = self.table.won(*houses);
+            let won = self.table.won::<GAME>(*houses);
             return window.clamp(2 * won as i32 - seeds as i32);
         }
         let known = self.known_margins(houses);
@@ -119,7 +149,7 @@ impl<A: Allocator + Clone> Search<A> {
             return window.clamp(known.lo as i32);
         };
         let before = self.work.nodes();
-        let won = self.won_within(houses, SeedBounds::of_window(narrow, seeds));
+        let won = self.won_within::<GAME>(houses, SeedBounds::of_window(narrow, seeds));
         let answer = narrow.clamp(2 * won as i32 - seeds as i32);
         let work = self.work.nodes().saturating_sub(before);
         self.learn_margins(
@@ -132,17 +162,19 @@ impl<A: Allocator + Clone> Search<A> {
 
     // Returns how many seeds the mover takes, raised to the least that is asked and lowered to the most. Tests close in on it, the first a
     // little above half of all.
-    fn won_within(&mut self, houses: &Houses, asked: SeedBounds) -> u8
+    fn won_within<const GAME: u8>(&mut self, houses: &Houses, asked: SeedBounds) -> u8
         requires going { is_over (bare houses.now) ≡ false }
+        requires game { game_of houses.now ≡ GAME }
         requires ordered { asked.least ≤ asked.most }
         ensures { result ≡ max asked.least (min asked.most (won houses.now)) }
     {
+        let houses = houses.known_game(GAME);
         let mut low = asked.least;
         let mut high = asked.most;
         let mut bar = houses.seeds() / 2 + 1;
         while low < high {
             let asked_bar = bar.clamp(low + 1, high);
-            let bound = self.explore(houses, asked_bar);
+            let bound = self.explore::<GAME>(&houses, asked_bar);
             if asked_bar <= bound {
                 low = bound.min(high);
                 bar = low + 1;
@@ -159,30 +191,42 @@ impl<A: Allocator + Clone> Search<A> {
         requires legal { Contains (legal_houses (bare houses.now)) h }
         ensures { IsTrue result ↔ bar ≤ won_by_step (houses_step houses.now h) }
     {
+        in_its_game!(self.move_reaches_game(houses, h, bar))
+    }
+
+    // The same, in a game that is known.
+    fn move_reaches_game<const GAME: u8>(&mut self, houses: &Houses, h: u8, bar: u8) -> bool
+        requires legal { Contains (legal_houses (bare houses.now)) h }
+        requires game { game_of houses.now ≡ GAME }
+        ensures { IsTrue result ↔ bar ≤ won_by_step (houses_step houses.now h) }
+    {
         let _seeds = houses.seeds();
-        bar <= self.bound_step(houses.play(h), bar)
+        bar <= self.bound_step::<GAME>(houses.play(h), bar)
     }
 
     // Returns a fail-soft bound of how many seeds the mover takes. From `bar` on it is a lower bound, and below `bar` an upper one.
     #[inline(always)]
     #[cycle(search)]
-    fn bound(&mut self, houses: Houses, bar: u8) -> u8
+    fn bound<const GAME: u8>(&mut self, houses: Houses, bar: u8) -> u8
         requires going { is_over (bare houses) ≡ false }
+        requires game { game_of houses ≡ GAME }
         ensures { IsSoftBound bar (won houses) result }
     {
         if houses.seeds() <= self.ending_limit.seeds {
-            return self.table.won(houses);
+            return self.table.won::<GAME>(houses);
         }
-        self.bound_by_search(houses, bar)
+        self.bound_by_search::<GAME>(houses, bar)
     }
 
     // The same, if the houses are no ending in use.
     #[cycle(search)]
     #[inline(never)]
-    fn bound_by_search(&mut self, houses: Houses, bar: u8) -> u8
+    fn bound_by_search<const GAME: u8>(&mut self, houses: Houses, bar: u8) -> u8
         requires going { is_over (bare houses) ≡ false }
+        requires game { game_of houses ≡ GAME }
         ensures { IsSoftBound bar (won houses) result }
     {
+        let houses = houses.known_game(GAME);
         let known = self.known(&houses);
         if bar <= known.least {
             return known.least;
@@ -191,7 +235,7 @@ impl<A: Allocator + Clone> Search<A> {
             return known.most;
         }
         let before = self.count_node();
-        let bound = self.explore(&houses, bar);
+        let bound = self.explore::<GAME>(&houses, bar);
         let work = self.work.nodes().saturating_sub(before);
         let learned = if bar <= bound {
             SeedBounds {
@@ -211,19 +255,20 @@ impl<A: Allocator + Clone> Search<A> {
     // The same, by trying the moves.
     #[inline(always)]
     #[cycle(search)]
-    fn explore(&mut self, houses: &Houses, bar: u8) -> u8
+    fn explore<const GAME: u8>(&mut self, houses: &Houses, bar: u8) -> u8
         requires going { is_over (bare houses.now) ≡ false }
+        requires game { game_of houses.now ≡ GAME }
         ensures { IsSoftBound bar (won houses.now) result }
     {
         let houses = *houses;
         let seeds = houses.seeds();
-        let again = self.bound_again(&houses, bar);
+        let again = self.bound_again::<GAME>(&houses, bar);
         if bar <= again {
             return again;
         }
         let mut priorities = [0u16; 8];
         let mut turns = [houses; 6];
-        let others = self.others_waiting(&houses, bar, &mut priorities, &mut turns);
+        let others = self.others_waiting::<GAME>(&houses, bar, &mut priorities, &mut turns);
         if bar <= others {
             return others;
         }
@@ -233,7 +278,7 @@ impl<A: Allocator + Clone> Search<A> {
             let at = (priority % 8) as usize;
             priorities[at] = 0;
             let next = turns[at];
-            let bound = self.bound_turn(seeds - next.seeds(), next, bar);
+            let bound = self.bound_turn::<GAME>(seeds - next.seeds(), next, bar);
             if bar <= bound {
                 return bound;
             }
@@ -246,8 +291,9 @@ impl<A: Allocator + Clone> Search<A> {
     // Tries the moves that end in the store, the nearest to it first. Returns the most that they take, or a bound that is enough.
     #[inline(always)]
     #[cycle(search)]
-    fn bound_again(&mut self, houses: &Houses, bar: u8) -> u8
+    fn bound_again<const GAME: u8>(&mut self, houses: &Houses, bar: u8) -> u8
         requires going { is_over (bare houses.now) ≡ false }
+        requires game { game_of houses.now ≡ GAME }
         ensures lower { bar ≤ result → result ≤ won houses.now }
         ensures upper { result < bar → (h : ℕ) → Contains (legal_houses (bare houses.now)) h → EndsInStore houses.now h →
             WinsAtMost houses.now result h }
@@ -258,7 +304,7 @@ impl<A: Allocator + Clone> Search<A> {
         while left > 0 {
             let (house, rest) = split_last(left);
             left = rest;
-            let bound = self.bound_step(houses.play_into_store(house), bar);
+            let bound = self.bound_step::<GAME>(houses.play_into_store(house), bar);
             if bar <= bound {
                 return bound;
             }
@@ -271,7 +317,7 @@ impl<A: Allocator + Clone> Search<A> {
     // down, each with its priority, which is 0 for the others.
     #[inline(always)]
     #[cycle(search)]
-    fn others_waiting(
+    fn others_waiting<const GAME: u8>(
         &mut self,
         houses: &Houses,
         bar: u8,
@@ -279,6 +325,7 @@ impl<A: Allocator + Clone> Search<A> {
         turns: &mut [Houses; 6],
     ) -> u8
         requires going { is_over (bare houses.now) ≡ false }
+        requires game { game_of houses.now ≡ GAME }
         requires none { (k : ℕ) → slice_index priorities.old k ≡ 0 }
         ensures { AreWaiting houses.now bar result priorities.new turns.new }
     {
@@ -287,7 +334,7 @@ impl<A: Allocator + Clone> Search<A> {
         while left > 0 {
             let (house, rest) = split_last(left);
             left = rest;
-            match self.look(houses, house, bar) {
+            match self.look::<GAME>(houses, house, bar) {
                 Look::Waits(priority, next) => {
                     let at = (priority % 8) as usize;
                     priorities[at] = priority;
@@ -307,8 +354,9 @@ impl<A: Allocator + Clone> Search<A> {
     // Plays this house. It waits if it is a turn that must be searched.
     #[inline(always)]
     #[cycle(search)]
-    fn look(&mut self, houses: &Houses, house: House, bar: u8) -> Look
+    fn look<const GAME: u8>(&mut self, houses: &Houses, house: House, bar: u8) -> Look
         requires legal { Contains (legal_houses (bare houses.now)) house }
+        requires game { game_of houses.now ≡ GAME }
         ensures { IsLook houses.now bar house result }
     {
         let _seeds = houses.seeds();
@@ -319,17 +367,17 @@ impl<A: Allocator + Clone> Search<A> {
                     let priority = self.order.priority(houses.m(), house, gained, &next);
                     return Look::Waits(priority, next);
                 }
-                Look::Bounded(self.bound_turn(gained, next, bar))
+                Look::Bounded(self.bound_turn::<GAME>(gained, next, bar))
             }
-            _ => Look::Bounded(self.bound_step(step, bar)),
+            _ => Look::Bounded(self.bound_step::<GAME>(step, bar)),
         }
     }
 
     // Returns a fail-soft bound of what a step takes.
     #[inline(always)]
     #[cycle(search)]
-    fn bound_step(&mut self, step: HousesStep, bar: u8) -> u8
-        requires on { GoesOn step }
+    fn bound_step<const GAME: u8>(&mut self, step: HousesStep, bar: u8) -> u8
+        requires on { GoesOn GAME step }
         ensures { IsSoftBound bar (won_by_step step) result }
     {
         match step {
@@ -338,18 +386,18 @@ impl<A: Allocator + Clone> Search<A> {
                 if bar <= gained {
                     gained
                 } else {
-                    gained + self.bound(next, bar - gained)
+                    gained + self.bound::<GAME>(next, bar - gained)
                 }
             }
-            HousesStep::Turn(gained, next) => self.bound_turn(gained, next, bar),
+            HousesStep::Turn(gained, next) => self.bound_turn::<GAME>(gained, next, bar),
         }
     }
 
     // Returns a fail-soft bound of what a turn takes: the `gained` seeds that it brought to the store, and what the other player leaves.
     #[inline(always)]
     #[cycle(search)]
-    fn bound_turn(&mut self, gained: u8, next: Houses, bar: u8) -> u8
-        requires on { GoesOnAt gained next }
+    fn bound_turn<const GAME: u8>(&mut self, gained: u8, next: Houses, bar: u8) -> u8
+        requires on { GoesOnAt GAME gained next }
         ensures { IsSoftBound bar (gained + (seeds_in_houses (bare next) - won next)) result }
     {
         let all = gained + next.seeds();
@@ -358,7 +406,7 @@ impl<A: Allocator + Clone> Search<A> {
         } else if all < bar {
             all
         } else {
-            all - self.bound(next, all - bar + 1)
+            all - self.bound::<GAME>(next, all - bar + 1)
         }
     }
 }

@@ -1,7 +1,7 @@
 //! A bounded table of what is known of houses.
 ghost use Rattle.std.specs.Prelude.{◌≡◌, ◌≤◌, ◌⊎◌, length, min, nat_eq, IfOk, IfSome, IsSome, Some, false};
 ghost use Rattle.std.specs.Map.{lookup};
-ghost use Rattle.kalah_rules.specs.Key.{key_of};
+ghost use Rattle.kalah_rules.specs.Key.{key_of, game_of};
 ghost use Rattle.kalah_rules.specs.Position.{bare, is_over};
 ghost use Rattle.kalah_solve.specs.Table.Entries.{most_entries, empty_table};
 ghost use Rattle.kalah_solve.specs.Table.DirectTable.{places_for};
@@ -128,12 +128,13 @@ impl<A: Allocator + Clone> Table<A> {
     // Returns how many seeds the mover takes from houses with few seeds. It stands apart from the search, whose own functions are
     // small enough to be inlined then.
     #[inline(never)]
-    pub(crate) fn won(&self, houses: Houses) -> u8
+    pub(crate) fn won<const GAME: u8>(&self, houses: Houses) -> u8
         requires going { is_over (bare houses) ≡ false }
+        requires game { game_of houses ≡ GAME }
         requires few { IsEnding houses }
         ensures { result ≡ won houses }
     {
-        self.endings.won(houses)
+        self.endings.won::<GAME>(houses)
     }
 
     // Returns the interval known for the houses, which become the most recently used.

@@ -1,6 +1,7 @@
 -- What a step is worth, and where it leads.
 use Rattle.std.specs.Prelude.{ℕ, ◌≡◌, ◌+◌, ◌<◌, false, ℤ, pos, ◌+ℤ◌, ◌-ℤ◌}
 use Rattle.kalah_rules.specs.Position.{Rows, IsWithinHouses, bare, seeds_in_houses, is_over}
+use Rattle.kalah_rules.specs.Key.{game_of}
 use Rattle.kalah_rules.specs.Measure.{moves_left}
 use Rattle.kalah_rules.specs.declared.step.HousesStep.{HousesStep}
 use Rattle.kalah_rules.specs.declared.step.HousesStep.TheVariants.{Over, Again, Turn}
@@ -18,6 +19,7 @@ pub record LeadsTo (a : Rows) (gained : ℕ) (b : Rows) : Type 0 where
   pub fewer : moves_left (bare b) < moves_left (bare a)
   pub going : is_over (bare b) ≡ false
   pub limits : IsWithinHouses b
+  pub same : game_of b ≡ game_of a
 
 -- the houses to which a step leads go on from a, and at the end of the game no seed is lost
 abbrev pub LeadsOn : Rows → HousesStep → Type 0

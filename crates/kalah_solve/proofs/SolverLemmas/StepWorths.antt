@@ -4,6 +4,7 @@ use Rattle.std.specs.Prelude.{Bool, Contains, if◌then◌else◌, pos, neg_ℤ,
 use Rattle.std.proofs.lemmas.Int.{ints}
 use Rattle.std.proofs.lemmas.Bool.{cases_Bool}
 use Rattle.kalah_rules.specs.Position.{Position, Rows, HasEqualSides, IsWithinHouses, is_over, final_margin, swapped, rows_of, bare}
+use Rattle.kalah_rules.specs.Key.{rule_bit, game_of}
 use Rattle.kalah_rules.specs.Measure.{moves_left}
 use Rattle.kalah_rules.specs.Play.{legal_houses}
 use Rattle.kalah_rules.specs.Sowing.{after, is_again}
@@ -11,8 +12,8 @@ use Rattle.kalah_rules.proofs.Ends.{after_fewer, after_equal_sides, swap_fewer}
 use Rattle.kalah_rules.proofs.Legal.{legal_holds}
 use Rattle.kalah_rules.specs.HousesStep.{houses_step_to, houses_step}
 use Rattle.kalah_solve.specs.Solver.Worth.{worth, houses_worth, value_of_move}
-use Rattle.kalah_solve.specs.Solver.StepWorth.{GoesOn}
-use Rattle.kalah_solve.proofs.BoundsLemmas.Steps.{worth_of_step, LeadsOn, moves_after}
+use Rattle.kalah_solve.specs.Solver.StepWorth.{GoesOn, GoesOnAt}
+use Rattle.kalah_solve.proofs.BoundsLemmas.Steps.{worth_of_step, LeadsOn, LeadsTo, moves_after}
 use Rattle.kalah_rules.specs.declared.step.HousesStep.{HousesStep}
 use Rattle.kalah_rules.specs.declared.step.HousesStep.TheVariants.{Over, Again, Turn}
 use Rattle.kalah_rules.proofs.PackedMoves.{after_keeps}
@@ -57,13 +58,21 @@ leads_on a h w has =
     let play = keeps.play in
     let none = keeps.other_store in
     let within = after_within a h w holds in
+    let rule = ap rule_bit keeps.rule in
     on_cond (LeadsOn a) (is_over q) _ _ (λ over. omega arith) (λ going. on_cond (LeadsOn a) (is_again (bare a) h) _ _
-    (λ again. record { kept = omega arith; fewer = fewer; going = going; limits = within })
+    (λ again. record {
+      kept = omega arith;
+      fewer = fewer;
+      going = going;
+      limits = within;
+      same = omega (arith, keeps.side, rule);
+    })
     (λ turn. record {
       kept = omega arith;
       fewer = omega (arith, swap_fewer q (after_equal_sides (bare a) h));
       going = over_swapped q going;
       limits = swapped_within q within;
+      same = omega (arith, keeps.other_side, w.same_side, rule);
     }))
 
 -- a step that was played leads there
@@ -72,15 +81,19 @@ pub leads_by : (a : Rows) (h : ℕ) (s : HousesStep) → IsWithinHouses a → Co
 leads_by a h s w has e = subst (LeadsOn a) (sym e) (leads_on a h w has)
 
 -- ---- what the search needs of a step
-goes_on_of : (a : Rows) (s : HousesStep) → IsWithinHouses a → LeadsOn a s → GoesOn s
-goes_on_of a (Over own other) w leads = omega (arith, leads, w.few_seeds)
-goes_on_of a (Again gained b) w leads = record { few = omega (arith, leads.kept, w.few_seeds); going = leads.going; limits = leads.limits }
-goes_on_of a (Turn gained b) w leads = record { few = omega (arith, leads.kept, w.few_seeds); going = leads.going; limits = leads.limits }
+goes_on_to : {a b : Rows} {game gained : ℕ} → IsWithinHouses a → game_of a ≡ game → LeadsTo a gained b → GoesOnAt game gained b
+goes_on_to w is leads =
+    record { same = leads.same ∙ is; few = omega (arith, leads.kept, w.few_seeds); going = leads.going; limits = leads.limits }
+
+goes_on_of : (a : Rows) (game : ℕ) (s : HousesStep) → IsWithinHouses a → game_of a ≡ game → LeadsOn a s → GoesOn game s
+goes_on_of a game (Over own other) w is leads = omega (arith, leads, w.few_seeds)
+goes_on_of a game (Again gained b) w is leads = goes_on_to w is leads
+goes_on_of a game (Turn gained b) w is leads = goes_on_to w is leads
 
 -- a step goes on in the game
-pub goes_on : (a : Rows) (h : ℕ) (s : HousesStep) → IsWithinHouses a → Contains (legal_houses (bare a)) h → s ≡ houses_step a h
-    → GoesOn s
-goes_on a h s w has e = goes_on_of a s w (leads_by a h s w has e)
+pub goes_on : (a : Rows) (game h : ℕ) (s : HousesStep) → game_of a ≡ game → IsWithinHouses a → Contains (legal_houses (bare a)) h
+    → s ≡ houses_step a h → GoesOn game s
+goes_on a game h s is w has e = goes_on_of a game s w is (leads_by a h s w has e)
 
 -- each step leaves fewer moves
 falls_of : (a : Rows) (s : HousesStep) → 0 < moves_left (bare a) → LeadsOn a s → moves_after s < moves_left (bare a)

@@ -12,10 +12,10 @@ use Rattle.std.proofs.Math.Seq.{take-append_seam}
 use Rattle.std.proofs.Math.ListN.{take}
 use Rattle.std.proofs.lemmas.List.Sums.{sum_by-cons, sum_by-take-drop}
 use Rattle.kalah_rules.specs.Position.{Rows, IsWithinHouses}
-use Rattle.kalah_rules.specs.Key.{number_of}
-use Rattle.kalah_rules.proofs.Keys.{same_key, rule_bit-small}
+use Rattle.kalah_rules.specs.Key.{number_of, game_of}
+use Rattle.kalah_rules.proofs.Keys.{same_key}
 use Rattle.kalah_rules.proofs.Packing.{number_of-append, pow_five}
-use Rattle.kalah_solve.specs.Table.RowRank.{choose, row_rank, sums_number, rank_of_houses, game_of}
+use Rattle.kalah_solve.specs.Table.RowRank.{choose, row_rank, sums_number, rank_of_houses}
 
 -- out of more things there are no fewer ways to choose
 choose_up : (n k : ℕ) → choose n k ≤ choose (suc n) k
@@ -111,10 +111,6 @@ rank_same (x ∷ xs) (y ∷ ys) long same =
     let rest = rank_same xs ys cells (omega (arith, same, first)) in
     let here : x ≡ y = omega (arith, ap sum rest) in
     rw (here, rest) refl
-
--- a game's number fits four bits
-pub game_small : (a : Rows) → IsWithinHouses a → game_of a ≤ 15
-game_small a ha = omega (arith, ha.at_most_six, rule_bit-small a.rule)
 
 -- houses of one game with one rank are the same
 pub same_houses : (a b : Rows) → IsWithinHouses a → IsWithinHouses b → game_of a ≡ game_of b

@@ -1,17 +1,19 @@
 -- Steps after which the game goes on within its limits.
 use Rattle.std.specs.Prelude.{ℕ, ◌≡◌, ◌+◌, ◌≤◌, false}
 use Rattle.kalah_rules.specs.Position.{Rows, IsWithinHouses, bare, seeds_in_houses, is_over}
+use Rattle.kalah_rules.specs.Key.{game_of}
 use Rattle.kalah_rules.specs.Limits.{most_seeds}
 use Rattle.kalah_rules.specs.declared.step.HousesStep.{HousesStep}
 use Rattle.kalah_rules.specs.declared.step.HousesStep.TheVariants.{Over, Again, Turn}
 
--- the houses to which a step leads are houses of the game, and it goes on there
-pub record GoesOnAt (gained : ℕ) (b : Rows) : Type 0 where
+-- the houses to which a step leads are houses of this game, and it goes on there
+pub record GoesOnAt (game gained : ℕ) (b : Rows) : Type 0 where
+  pub same : game_of b ≡ game
   pub few : gained + seeds_in_houses (bare b) ≤ most_seeds
   pub going : is_over (bare b) ≡ false
   pub limits : IsWithinHouses b
 
-abbrev pub GoesOn : HousesStep → Type 0
-GoesOn (Over own other) = own + other ≤ most_seeds
-GoesOn (Again gained b) = GoesOnAt gained b
-GoesOn (Turn gained b) = GoesOnAt gained b
+abbrev pub GoesOn : ℕ → HousesStep → Type 0
+GoesOn game (Over own other) = own + other ≤ most_seeds
+GoesOn game (Again gained b) = GoesOnAt game gained b
+GoesOn game (Turn gained b) = GoesOnAt game gained b

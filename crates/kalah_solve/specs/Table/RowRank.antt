@@ -1,7 +1,6 @@
 -- A number for each row of cells with few seeds, so that a short list has room for all such rows.
 use Rattle.std.specs.Prelude.{ℕ, zero, suc, ◌+◌, ◌*◌, List, [], ◌∷◌, ◌++◌, length, sum}
 use Rattle.kalah_rules.specs.Position.{Rows}
-use Rattle.kalah_rules.specs.Key.{rule_bit}
 
 -- the number of ways to choose k of n things
 unfoldable pub choose : ℕ → ℕ → ℕ
@@ -23,7 +22,3 @@ sums_number (x ∷ xs) = x + sum xs + 32 * sums_number xs
 -- the rank of the houses of both players in one row
 abbrev pub rank_of_houses : Rows → ℕ
 rank_of_houses a = row_rank (a.own ++ a.other)
-
--- the game that houses belong to: how many there are per side, and 8 more for the empty-capture rule
-abbrev pub game_of : Rows → ℕ
-game_of a = length a.own + 8 * rule_bit a.rule

@@ -1,5 +1,6 @@
 //! The order of turns: an estimate of how good each is, before its outcome is known. It states nothing about their worth.
 ghost use Rattle.std.specs.Prelude.{◌≡◌, ◌+◌, ◌%◌, ◌≤◌, ◌<◌, ℕ, Contains, slice_index};
+ghost use Rattle.kalah_rules.specs.Limits.{most_seeds};
 
 mod weights;
 
@@ -54,12 +55,11 @@ impl MoveOrder {
     pub(crate) fn priority(&self, m: u8, house: House, gained: u8, next: &Houses) -> u16
         requires side { m ≤ 6 }
         requires last { house ≤ m }
+        requires few { gained ≤ most_seeds }
         ensures some { 0 < result }
         ensures house { result % 8 + 1 ≡ house }
     {
-        // A turn gains at most 31 seeds.
-        let gain = GAIN * (gained as u32 % 32);
-        let estimate = 1 + gain + self.weight(m, next);
+        let estimate = 1 + GAIN * gained as u32 + self.weight(m, next);
         (8 * estimate + turn_of(m, house) as u32) as u16
     }
 }

@@ -80,7 +80,7 @@ fn places_are_laid_out_once(rt: HostRuntime) {
     assert!(rt; !houses.is_over());
     search.table.grow();
     // The mover takes 10 of the 12 seeds.
-    let _ = search.bound_by_search(houses, 10);
+    let _ = search.bound_by_search::<6>(houses, 10);
     assert!(rt; search.known(&houses).least == 10);
     search.table.grow();
     assert!(rt; search.known(&houses).least == 10);

@@ -62,7 +62,7 @@ impl Work {
     /// Goes on with the game of these houses, which are asked about.
     pub(super) fn turn_to(&mut self, houses: &Houses) {
         self.nodes_before[self.game] = self.nodes;
-        self.game = (houses.key() >> 60) as usize;
+        self.game = houses.game() as usize;
         self.nodes = self.nodes_before[self.game];
         self.set_next_event();
         self.seen_many_seeds |= houses.seeds() >= MANY_SEEDS;

@@ -2,6 +2,7 @@
 ghost use Rattle.std.specs.Prelude.{◌≡◌, ◌<◌, ◌^◌, false, Contains};
 ghost use Rattle.kalah_rules.specs.Position.{bare, is_over};
 ghost use Rattle.kalah_rules.specs.Play.{legal_houses};
+ghost use Rattle.kalah_rules.specs.Key.{game_of};
 ghost use Rattle.kalah_rules.specs.HousesStep.{houses_step};
 ghost use Rattle.kalah_solve.specs.Table.EndgameTable.{IsEnding};
 ghost use Rattle.kalah_solve.specs.Table.RowRank.{rank_of_houses};
@@ -16,37 +17,41 @@ impl<A: Allocator + Clone> EndgameTable<A> {
     /// Returns how many of the seeds in the houses the mover takes in best play.
     #[cycle(exact)]
     #[inline(always)]
-    pub(crate) fn won(&self, houses: Houses) -> u8
+    pub(crate) fn won<const GAME: u8>(&self, houses: Houses) -> u8
         requires going { is_over (bare houses) ≡ false }
+        requires game { game_of houses ≡ GAME }
         requires few { IsEnding houses }
         ensures { result ≡ won houses }
     {
+        let houses = houses.known_game(GAME);
         let rank = self.rank(&houses);
         if let Some(won) = self.get(&houses, rank) {
             return won;
         }
-        self.learn(houses, rank)
+        self.learn::<GAME>(houses, rank)
     }
 
     // The same, by trying the moves. What it finds is kept.
     #[cycle(exact)]
     #[inline(never)]
-    fn learn(&self, houses: Houses, rank: u32) -> u8
+    fn learn<const GAME: u8>(&self, houses: Houses, rank: u32) -> u8
         requires going { is_over (bare houses) ≡ false }
+        requires game { game_of houses ≡ GAME }
         requires few { IsEnding houses }
         requires rank { rank ≡ rank_of_houses houses }
-        requires small { rank < 2 ^ 21 }
         ensures { result ≡ won houses }
     {
-        let won = self.most_won(&houses);
+        let houses = houses.known_game(GAME);
+        let won = self.most_won::<GAME>(&houses);
         self.keep(&houses, rank, won);
         won
     }
 
     // Tries the moves from the one nearest the store on, until one takes all.
     #[cycle(exact)]
-    fn most_won(&self, houses: &Houses) -> u8
+    fn most_won<const GAME: u8>(&self, houses: &Houses) -> u8
         requires going { is_over (bare houses.now) ≡ false }
+        requires game { game_of houses.now ≡ GAME }
         requires few { IsEnding houses.now }
         ensures { result ≡ won houses.now }
     {
@@ -56,7 +61,7 @@ impl<A: Allocator + Clone> EndgameTable<A> {
         while left > 0 {
             let (house, rest) = split_last(left);
             left = rest;
-            most = most.max(self.move_wins(houses, house));
+            most = most.max(self.move_wins::<GAME>(houses, house));
             if most >= seeds {
                 return most;
             }
@@ -66,16 +71,17 @@ impl<A: Allocator + Clone> EndgameTable<A> {
 
     // Returns how many seeds the move of this house takes.
     #[cycle(exact)]
-    fn move_wins(&self, houses: &Houses, house: House) -> u8
+    fn move_wins<const GAME: u8>(&self, houses: &Houses, house: House) -> u8
         requires legal { Contains (legal_houses (bare houses.now)) house }
+        requires game { game_of houses.now ≡ GAME }
         requires few { IsEnding houses.now }
         ensures { result ≡ won_by_step (houses_step houses.now house) }
     {
         let _seeds = houses.seeds();
         match houses.play_by(&self.sowings, house) {
             HousesStep::Over { own, .. } => own,
-            HousesStep::Again(gained, next) => gained + self.won(next),
-            HousesStep::Turn(gained, next) => gained + (next.seeds() - self.won(next)),
+            HousesStep::Again(gained, next) => gained + self.won::<GAME>(next),
+            HousesStep::Turn(gained, next) => gained + (next.seeds() - self.won::<GAME>(next)),
         }
     }
 }

@@ -10,6 +10,6 @@ fn an_ending_is_known_once_it_was_asked_for(rt: HostRuntime) {
     let endings = EndgameTable::new(rt.alloc()).expect(&rt, "no memory");
     let rank = endings.rank(&houses);
     assert!(rt; endings.get(&houses, rank) == None);
-    assert!(rt; endings.won(houses) == 6);
+    assert!(rt; endings.won::<1>(houses) == 6);
     assert!(rt; endings.get(&houses, rank) == Some(6));
 }

@@ -8,7 +8,7 @@ use Rattle.kalah_solve.specs.Solver.StepWorth.{GoesOn, GoesOnAt}
 use Rattle.kalah_solve.specs.Bounds.Won.{won}
 use Rattle.kalah_solve.specs.Search.Tried.{EndsInStore, WinsAtMost}
 use Rattle.kalah_solve.proofs.RowMarks.{cell_none, marks_fall}
-use Rattle.kalah_solve.proofs.SolverLemmas.StepWorths.{goes_on, step_falls}
+use Rattle.kalah_solve.proofs.SolverLemmas.StepWorths.{goes_on, leads_by, step_falls}
 use Rattle.kalah_solve.proofs.BoundsLemmas.Winnings.{taken_share}
 use Rattle.kalah_solve.proofs.SearchLemmas.Tries.{move_enough, turn_enough, turn_at_most, turn_of, turn_keeps, turn_at, bound_up_to, bound_left, low_more, played_none, played_more, played_bound, ending_legal, marked_legal, moves_fewer, last_legal, each_fewer, each_last, again_none, again_fewer, untried_first, untried_fewer, none_untried}
 use Rattle.kalah_solve.proofs.search.Search.+search.Goals as goal
@@ -17,7 +17,14 @@ pub look-bound_step-requires : goal.look-bound_step-requires
 look-bound_step-requires g t c κs within =
     let limits = c.seeds-seeds.ensures.limits in (
       omega (arith, step_falls c.args.houses.now c.args.house c.play_by-step.result limits c.requires.legal c.play_by-step.ensures),
-      (within, goes_on c.args.houses.now c.args.house c.play_by-step.result limits c.requires.legal c.play_by-step.ensures),
+      (
+        within,
+        (
+          search rules,
+          goes_on c.args.houses.now _ c.args.house c.play_by-step.result c.requires.game limits c.requires.legal
+              c.play_by-step.ensures,
+        ),
+      ),
     )
 
 pub look-bound_turn-requires : goal.look-bound_turn-requires
@@ -25,12 +32,19 @@ look-bound_turn-requires g t c κs within =
     let limits = c.seeds-seeds.ensures.limits in
     let is = sym c.in-Turn.is ∙ c.play_by-step.ensures in (
       omega (arith, step_falls c.args.houses.now c.args.house (Turn c.in-Turn.gained c.in-Turn.next) limits c.requires.legal is),
-      (within, goes_on c.args.houses.now c.args.house (Turn c.in-Turn.gained c.in-Turn.next) limits c.requires.legal is),
+      (
+        within,
+        (
+          search rules,
+          goes_on c.args.houses.now _ c.args.house (Turn c.in-Turn.gained c.in-Turn.next) c.requires.game limits
+              c.requires.legal is,
+        ),
+      ),
     )
 
 pub bound_step-overflow_add-result : goal.bound_step-overflow_add-result
 bound_step-overflow_add-result g t c =
-    let on : GoesOnAt c.in-Again.gained c.in-Again.next = subst GoesOn c.in-Again.is c.requires.on in
+    let on : GoesOnAt _ c.in-Again.gained c.in-Again.next = subst (GoesOn _) c.in-Again.is c.requires.on in
     omega (arith, on.few, (taken_share c.in-Again.next on.limits).few, c.if-bar-gained.false, bound_up_to _ _ _ c.bound.ensures)
 
 pub bound_turn-overflow_sub-result : goal.bound_turn-overflow_sub-result
@@ -71,8 +85,11 @@ explore-bound_turn-bound-requires g t c κs within =
       omega (arith, step_falls a (c.loop-priority.priority % 8 + 1) _ limits turn.legal (sym turn.step)),
       (
         within,
-        rw (c.seeds-seeds.ensures.seeds, c.seeds.ensures.seeds)
-            (goes_on a (c.loop-priority.priority % 8 + 1) _ limits turn.legal (sym turn.step)),
+        (
+          search rules,
+          rw (c.seeds-seeds.ensures.seeds, c.seeds.ensures.seeds)
+              (goes_on a _ (c.loop-priority.priority % 8 + 1) _ c.requires.game limits turn.legal (sym turn.step)),
+        ),
       ),
     )
 
@@ -122,6 +139,13 @@ pub look-priority-priority-requires-clause-last : goal.look-priority-priority-re
 look-priority-priority-requires-clause-last g t c =
     omega (arith, (legal_holds (bare c.args.houses.now) c.args.house c.requires.legal).last, c.m.ensures.side)
 
+pub look-priority-priority-requires-clause-few : goal.look-priority-priority-requires-clause-few
+look-priority-priority-requires-clause-few g t c =
+    let limits = c.seeds-seeds.ensures.limits in
+    let leads = leads_by c.args.houses.now c.args.house (Turn c.in-Turn.gained c.in-Turn.next) limits c.requires.legal
+    (sym c.in-Turn.is ∙ c.play_by-step.ensures) in
+    omega (arith, leads.kept, limits.few_seeds)
+
 pub look-returns-then-seeds-self : goal.look-returns-then-seeds-self
 look-returns-then-seeds-self g t c =
     let priority = c.priority-priority in (
@@ -159,7 +183,7 @@ bound_again-bound_step-bound-requires g t c κs within =
     let limits = c.seeds-seeds.ensures.limits in
     let has = last_legal c.loop-left.invariant.may c.split_last-house.ensures.last in (
       omega (arith, step_falls a h c.play_into_store.result limits has c.play_into_store.ensures),
-      (within, goes_on a h c.play_into_store.result limits has c.play_into_store.ensures),
+      (within, (search rules, goes_on a _ h c.play_into_store.result c.requires.game limits has c.play_into_store.ensures)),
     )
 
 pub bound_again-returns-then-bar-bound-clause-lower : goal.bound_again-returns-then-bar-bound-clause-lower
@@ -207,7 +231,7 @@ others_waiting-loop-left-init g t c =
 
 pub others_waiting-look-requires : goal.others_waiting-look-requires
 others_waiting-look-requires g t c κs within =
-    (omega arith, (within, last_legal c.loop-left.invariant.may c.split_last-house.ensures.last))
+    (omega arith, (within, (search rules, (last_legal c.loop-left.invariant.may c.split_last-house.ensures.last, c.requires.game))))
 
 pub others_waiting-returns-then-bar-bound : goal.others_waiting-returns-then-bar-bound
 others_waiting-returns-then-bar-bound g t c =

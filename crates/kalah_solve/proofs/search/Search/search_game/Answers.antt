@@ -3,8 +3,8 @@ use Rattle.std.proofs.lemmas.Int.{ints, clamps, to_z-of_z}
 use Rattle.kalah_solve.specs.Bounds.Intervals.{within}
 use Rattle.kalah_solve.specs.Solver.Worth.{houses_worth}
 use Rattle.kalah_solve.proofs.BoundsLemmas.Windows.{won_by_bounds, told_by_taken}
-use Rattle.kalah_solve.proofs.search.Search.search.Given.{Over}
-use Rattle.kalah_solve.proofs.search.Search.search.Goals as goal
+use Rattle.kalah_solve.proofs.search.Search.search_game.Given.{Over}
+use Rattle.kalah_solve.proofs.search.Search.search_game.Goals as goal
 
 pub interval_of-requires-clause-least : goal.interval_of-requires-clause-least
 interval_of-requires-clause-least g c = omega (arith, ints, clamps, c.in-Some.narrow.ordered, c.clamp-answer.ensures)
