@@ -68,7 +68,7 @@ NAMES = {"zsh": (r"--(\w+)", r"^ +'(\w+):"), "fish": (r"^complete .* -l (\w+)", 
 
 
 def lines_of(of_subcommands, of_program):
-    """Yields the words after `kalah`, of which the last is being typed, with what must be offered."""
+    """Yields the words after `kalah`, and what must be offered for the last, which is being typed."""
     yield [""], set(of_subcommands)
     yield ["-"], {word for word in of_program if word.startswith("-")}
     for subcommand, options in of_subcommands.items():

@@ -47,7 +47,7 @@ def values_of(line):
 
 
 class GradeTrials:
-    """An engine is graded by the values of the reference, whatever it does besides."""
+    """An engine is graded by the values of the reference, and by nothing else."""
 
     def __init__(self, draw, folder):
         self.draw, self.folder = draw, folder

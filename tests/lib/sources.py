@@ -1,6 +1,6 @@
 """What pages say of the sources: docs/INTERFACE.md lists all that the crates export; tests/data/interface.txt has the signatures
 that are kept; docs/PROOFS.md names the clauses and laws that carry each promise; CONTRIBUTING.md quotes lines of files; and all pages
-name files. The functions that compare these return how they differ, or None."""
+name files, lemmas, types and calls. The functions that compare these return how they differ, or None."""
 
 import re
 
@@ -8,6 +8,9 @@ from lib.crates import TOP, crates
 
 INTERFACE, SIGNATURES = "docs/INTERFACE.md", "tests/data/interface.txt"
 PROMISES, EXCERPTS = "docs/PROOFS.md", "CONTRIBUTING.md"
+# Pages that also name what is not there: what has gone, and what a caller or a trial has added.
+CHANGES = "CHANGELOG.md"
+ADDED = {"docs/CALLING.md": {"may_wait", "tests_may"}, "docs/CHANGE_A_RULE.md": {"NoCapture"}, "docs/DECISIONS.md": {"join_mut"}}
 # Where an implementation or a trait begins, and where a function begins.
 ROOT = re.compile(r"(?:impl(?:<[^{]*?>)? (?:\w+(?:<.*?>)? for )?&?|pub trait )(\w+)")
 FUNCTION = re.compile(r"( *)(pub )?(?:const )?fn (\w+)")
@@ -109,4 +112,20 @@ def files_differ():
         for name in set(re.findall(r"`([\w/.]+\.(?:rt|antt|py|c|js|txt|md|edit))`", page.read_text())):
             if not (TOP / name).exists() and not any(path.endswith(f"/{name}") for path in paths):
                 return f"{page.relative_to(TOP)}: there is no file {name}"
+    return None
+
+
+def names_differ():
+    """Each name that a page has in backticks, and that has the form of a lemma, a type or a call, occurs in the sources. Blocks of code
+    don't count, nor does the page of changes."""
+    kinds = ("*.rt", "*.antt", "*.py", "*.c", "*.js")
+    files = [path for top in ("crates", "tests", "examples", "bench") for kind in kinds for path in (TOP / top).rglob(kind)]
+    files += [path for path in (TOP / "tests").iterdir() if path.is_file()]
+    words = set(re.findall(r"\w+", "\n".join(path.read_text() for path in files if "/out/" not in f"{path}")))
+    for page in [*TOP.glob("*.md"), *(TOP / "docs").glob("*.md")]:
+        name_of_page = f"{page.relative_to(TOP)}"
+        prose = re.sub(r"^```(?s:.*?)^```|^    .*$", "", page.read_text(), flags=re.MULTILINE)
+        for name in re.findall(r"`([A-Za-z][\w:]*)(?:\(\))?`", prose) if page.name != CHANGES else ():
+            if re.search(r"_|::|[a-z][A-Z]", name) and not set(name.split("::")) <= words | ADDED.get(name_of_page, set()):
+                return f"{name_of_page}: there is no {name}"
     return None
