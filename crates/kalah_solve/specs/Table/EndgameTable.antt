@@ -3,6 +3,7 @@ use Rattle.std.specs.Prelude.{◌≡◌, ℕ, ◌+◌, ◌*◌, ◌/◌, ◌%◌
 use Rattle.kalah_rules.specs.Position.{Rows, bare, seeds_in_houses, IsWithinHouses}
 use Rattle.kalah_rules.specs.Key.{rule_bit}
 use Rattle.kalah_solve.specs.Table.RowRank.{choose, rank_of_houses}
+use Rattle.kalah_solve.specs.declared.table.endgame_table.TheConstants.{COUNTS, PAIR}
 use Rattle.kalah_solve.specs.declared.table.endgame_table.words.TheConstants.{FIRST_WORDS, RULE_WORDS}
 use Rattle.kalah_solve.specs.Bounds.Won.{won}
 
@@ -14,22 +15,22 @@ most_ending_seeds = 9
 abbrev pub IsEnding : Rows → Type 0
 IsEnding a = seeds_in_houses (bare a) ≤ most_ending_seeds
 
--- cell k of the choices: the number of ways to choose j + 1 of s + j things, where k is 10 * j + s
+-- cell k of the choices: the number of ways to choose j + 1 of s + j things, where k is COUNTS * j + s
 abbrev pub choice_at : ℕ → ℕ
-choice_at k = choose (k % 10 + k / 10) (suc (k / 10))
+choice_at k = choose (k % COUNTS + k / COUNTS) (suc (k / COUNTS))
 
 -- the first n cells hold that
 abbrev pub AreChoices : ℕ → List ℕ → Type 0
 AreChoices n choices = (k : ℕ) → k < n → slice_index choices k ≡ choice_at k
 
 -- cell k of the pairs: what two cells of a row add to its rank, with `past` pairs past them and given numbers of seeds from
--- either on, where k is 320 * past + 32 * from the second on + from the first on
+-- either on, where k is PAIR * past + 32 * from the second on + from the first on
 abbrev pub pair_at : ℕ → ℕ
-pair_at k = choose (k % 32 + 2 * (k / 320) + 1) (2 * (k / 320) + 2) + choose (k / 32 % 10 + 2 * (k / 320)) (2 * (k / 320) + 1)
+pair_at k = choose (k % 32 + 2 * (k / PAIR) + 1) (2 * (k / PAIR) + 2) + choose (k / 32 % COUNTS + 2 * (k / PAIR)) (2 * (k / PAIR) + 1)
 
 -- the first n cells hold that, if there are few seeds
 abbrev pub ArePairs : ℕ → List ℕ → Type 0
-ArePairs n pairs = (k : ℕ) → k < n → k % 32 < 10 → slice_index pairs k ≡ pair_at k
+ArePairs n pairs = (k : ℕ) → k < n → k % 32 < COUNTS → slice_index pairs k ≡ pair_at k
 
 -- the index of the word of an ending: first come the games of the classic rule, each of these by its houses a side, and then by rank, of
 -- which sixteen share a word
