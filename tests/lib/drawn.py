@@ -36,6 +36,8 @@ NAMES = [
 # Names that can't be opened as a file, or not be read, if there is only a file `a` and a folder `folder`.
 NO_FILES = ["b", "", "a ", "A", "a/", "a/b", "folder", ".", "/", "/proc/self/mem", "no/a", "n" * 256, "n" * 5000, "./" * 2048 + "a"]
 NO_FILES += ["1,1/0 1,1/0", "1/99 1/0 e", "1/0", "1/0 1,1/0", "16/0 16/0"]
+# Names with spaces that are no positions.
+NO_FILES += ["a b", " b", "no such file", "1/0 1/0 x", "1/0  1/0", "1 1"]
 
 # Lines just within the limits and just past them, and lines that are almost of the form.
 LINES_AT_LIMITS = [

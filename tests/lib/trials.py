@@ -1,5 +1,6 @@
 """The trials of tests/agree: runs of the program, and their required results."""
 
+import ctypes
 import fcntl
 import os
 import pty
@@ -79,6 +80,70 @@ USAGES = [
         "error: unexpected argument '--board' found\n\n  tip: a similar argument exists: '--boards'\n\n"
         f"Usage: kalah play --boards <LINE>{FOR_MORE}",
     ),
+]
+
+
+def mistake(what, usage=None):
+    """Returns what is said of a mistake in the arguments, with the usage if that is shown."""
+    return f"error: {what}" + (f"\n\nUsage: kalah {usage}" if usage else "") + FOR_MORE
+
+
+# Words that are refused, what is said of them, and the tip that follows on a terminal, if there is one.
+POSITION = "1,1/0 1,1/0"
+FORM = "the form is `1,1/0 1,1/0`; numbers are 0 to 99, without a zero before them"
+QUOTES = "\n  tip: a position is one argument, so put it in quotes: '1,1/0 1,1/0'\n"
+MISSING = "the following required arguments were not provided:\n"
+AS_VALUE = "unexpected argument '--{0}' found\n\n  tip: to pass '--{0}' as a value, use '-- --{0}'"
+TIPS = [
+    *((["solve", name], f"kalah: cannot read {name}\n", "there is no such file") for name in ("b", "", "a/b", "a b", "1/0")),
+    (["values", "a", "folder"], "kalah: cannot read folder\n", "it is a folder; name the files in it"),
+    (["steps", "locked"], "kalah: cannot read locked\n", "you have no permission to read it"),
+    (["solve", "large"], "kalah: cannot read large\n", "it has more than 67108864 bytes; use `kalah ask < FILE`, or split it (docs/LARGE.md)"),
+    *((["steps", name], f"kalah: cannot read {name}\n", "it can't be opened, or a read failed") for name in ("/proc/self/mem", "n" * 256)),
+    (["values", "-"], "kalah: cannot read -\n", "for standard input, use /dev/stdin"),
+    (["solve", POSITION], reference.unread(POSITION.encode()).err.decode(), None),
+    (["solve", *["a"] * 257], "kalah: too many files\n", "at most 256 files a run; give them to several runs (docs/LARGE.md)"),
+    (["values", "lines"], "kalah: too many lines\n", "at most 1000000 lines a run; use `kalah ask < FILE`, or split the files (docs/LARGE.md)"),
+    (["steps", "a\n"], "kalah: line feed in a file name\n", None),
+    (["play", "--first=3", POSITION], "kalah: house 3 can't be moved\n", None),
+    (["moves", "4,4,4,4,4,4/0 4,4,4,4,4,4/0"], "fault seeds\n", "48 seeds in houses; at most 31 are solved"),
+    (["play", "--first=1", "99,99/98 0,10/97 e"], "fault seeds\n", "208 seeds in houses; at most 31 are solved"),
+    *((["show", line], "fault shape\n", "one space between the sides, as in `1,1/0 1,1/0`") for line in ("1,1/0,1,1/0", "x")),
+    *((["count", "0", line], "fault shape\n", FORM) for line in ("1 1", "01/0 1/0", "1/0  1/0", "1/0 1/0 x")),
+    (["show", "--plain", ""], "fault empty\n", FORM),
+    (["play", "--boards", "1/0 1,1/0"], "fault houses\n", "each side has the same number of houses, 1 to 6"),
+    (["moves", "--boards", "x" * 81], "fault long\n", "a line has at most 80 bytes"),
+    *(
+        ([name], mistake(f"{MISSING}  <FILE>...", f"{name} <FILE>..."), "for standard input, use /dev/stdin, as in `kalah solve /dev/stdin`")
+        for name in SUBCOMMANDS
+    ),
+    (["moves"], mistake(f"{MISSING}  <LINE>", "moves <LINE>"), None),
+    ([POSITION], mistake(f"unrecognized subcommand '{POSITION}'", "<COMMAND>"), f"for a position, use `kalah show '{POSITION}'`, or `kalah ask`"),
+    (["help", "solve"], mistake("unrecognized subcommand 'help'", "<COMMAND>"), "use `kalah --help`"),
+    (["best"], mistake("unrecognized subcommand 'best'", "<COMMAND>"), None),
+    (
+        ["ask", "--steps", POSITION],
+        mistake(f"unexpected argument '{POSITION}' found", "ask [OPTIONS]"),
+        f"`kalah ask` reads standard input; for one position, use `kalah show '{POSITION}'`",
+    ),
+    (["ask", "a"], mistake("unexpected argument 'a' found", "ask [OPTIONS]"), None),
+    (["ask", "--values", "--steps"], CONFLICT + FOR_MORE, None),
+    (
+        ["count", POSITION, "3"],
+        mistake(f"invalid value '{POSITION}' for '<DEPTH>': invalid digit found in string"),
+        "DEPTH comes first, as in `kalah count 3 '1,1/0 1,1/0'`",
+    ),
+    (["count", "21", POSITION], mistake("invalid value '21' for '<DEPTH>': 21 is not in 0..=20"), None),
+    (
+        ["solve", "--values", "a"],
+        mistake("unexpected argument '--values' found\n\n  tip: a similar argument exists: '--table'", "solve --table <N> <FILE>..."),
+        "use `kalah values FILE`",
+    ),
+    (["steps", "--values", "a"], mistake(AS_VALUE.format("values"), "steps [OPTIONS] <FILE>..."), "use `kalah values FILE`"),
+    *(([name, "--steps", "a"], mistake(AS_VALUE.format("steps"), f"{name} [OPTIONS] <FILE>..."), "use `kalah steps FILE`") for name in SEARCHING),
+    (["show", "--boards", POSITION], mistake(AS_VALUE.format("boards"), "show [OPTIONS] <LINE>"), None),
+    (["moves", "1,1/0", "1,1/0"], mistake("unexpected argument '1,1/0' found", "moves [OPTIONS] <LINE>") + QUOTES, None),
+    (["count", "1,1/0", "1,1/0", "3"], mistake("invalid value '1,1/0' for '<DEPTH>': invalid digit found in string") + QUOTES, None),
 ]
 
 PROGRAM_NAMES = ["kalah", "./kalah", "/bin/kalah", "k l", "é", "-", "--help"]
@@ -287,6 +352,12 @@ def has_open(process, path):
             with suppress(FileNotFoundError):
                 opened.add(os.readlink(descriptor))
     return str(path) in opened
+
+
+def give_up_reading():
+    """From the next program on, root reads no more than its files permit: it lacks the capabilities to override that."""
+    for capability in (1, 2):
+        ctypes.CDLL(None).prctl(24, capability, 0, 0, 0)
 
 
 def soon(holds):
@@ -741,6 +812,30 @@ class Trials(AskTrials):
         self.put({"a": b"1/0 1/0"})
         self.compare(Run(b"", said.encode(), 2), self.run(words))
 
+    def tips(self):
+        """A tip follows a refusal if standard error is a terminal, and only then; standard output has nothing."""
+        words, said, tip = self.drawn.card("tips", TIPS)
+        self.put({"a": b"1/0 1/0", "locked": b"", "lines": b"\n" * 1_000_001, "large": b""})
+        (self.files / "locked").chmod(0)
+        os.truncate(self.files / "large", reference.MOST_BYTES_OF_A_FILE + 1)
+        status = 1 if said.startswith("fault") else 2
+        self.compare(Run(b"", said.encode(), status), self.run_on_terminal(words, "stdout", "stderr"))
+        if tip:
+            said += "\n" * said.startswith("error") + f"  tip: {tip}\n"
+        self.compare(Run(b"", said.encode(), status), self.run_on_terminal(words, "stderr", "stdout"))
+
+    def run_on_terminal(self, words, stream, other):
+        """Returns the result of a run in which this standard stream is a terminal, and the other one a pipe."""
+        (screen, terminal), (reader, pipe) = two_ends("terminal"), two_ends("pipe")
+        with self.start(words, **{stream: terminal, other: pipe}, preexec_fn=give_up_reading) as process:
+            os.close(terminal)
+            os.close(pipe)
+            got = {stream: read_all(screen), other: read_all(reader)}
+            status = process.wait(PATIENCE)
+        os.close(screen)
+        os.close(reader)
+        return Run(got["stdout"], got["stderr"], status)
+
     def many_large_tables(self):
         """As many workers as there may be, each with as large a table as there may be. A table takes memory as it is used."""
         data = self.drawn.file(200)
@@ -866,6 +961,7 @@ KINDS = {
     "one_pipe_twice": 2,
     "a_named_pipe_twice": 2,
     "usage": len(USAGES),
+    "tips": len(TIPS),
     "many_large_tables": len(SEARCHING),
     "tables_as_asked": len(ONE_SEARCH),
     "few_lines_in_little_space": len(SUBCOMMANDS),

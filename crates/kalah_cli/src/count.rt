@@ -9,9 +9,9 @@ ghost use Rattle.kalah_cli.specs.Count.{count_output, ways_lines};
 
 use crate::failure::{report_fault, status_of};
 use crate::status::ExitStatus;
+use crate::tips::Messages;
 use kalah_jobs::{Sink, flush_unless_failed, read_line, write_total, write_ways};
 use kalah_rules::Board;
-use std::io::Write;
 
 // Writes the line of a house, which is flushed before the next one is counted.
 fn write_house<O: Sink>(house: u8, ways: u64, out: &mut O)
@@ -71,7 +71,7 @@ fn write_count<O: Sink>(board: &Board, depth: u8, out: &mut O)
 /// can't be read is answered by its fault, on `err` only. It allocates nothing.
 ///
 /// Returns `Clean`, `LineFaults` for a line that can't be read, or `Failed` if a write failed.
-pub(crate) fn run_count<O: Sink, E: Write>(
+pub(crate) fn run_count<O: Sink, E: Messages>(
     depth: u8,
     line: &str,
     out: &mut O,
@@ -87,6 +87,6 @@ pub(crate) fn run_count<O: Sink, E: Write>(
             write_count(&board, depth, out);
             status_of(out, err)
         }
-        Err(fault) => report_fault(fault, err),
+        Err(fault) => report_fault(fault, line, err),
     }
 }

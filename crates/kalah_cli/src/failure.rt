@@ -2,7 +2,9 @@
 ghost use Rattle.std.specs.Prelude.{◌≡◌, ◌≢◌, ◌↔◌, true};
 ghost use Rattle.kalah_cli.specs.Failure.{failure_of};
 
+use crate::files::ReadFault;
 use crate::status::ExitStatus;
+use crate::tips::{Messages, Tip, of_failure, of_line, write_tip};
 use kalah_jobs::{LineFault, Sink, read_line};
 use kalah_run::RunFault;
 use std::fmt;
@@ -13,8 +15,8 @@ use std::io::Write;
 pub(crate) enum Failure<'a> {
     /// The name of a file has a line feed in it.
     LineFeed,
-    /// The file of this name can't be opened or read, or is too long.
-    Unreadable(&'a str),
+    /// The file of this name can't be read, for this cause.
+    Unreadable(&'a str, ReadFault),
     TooManyFiles,
     TooManyLines,
     OutOfMemory,
@@ -34,23 +36,30 @@ impl Failure<'_> {
         ensures { result ≡ ExitStatus.Failed }
     {
         let _ = writeln!(err, "kalah: {self}");
-        if let Failure::Unreadable(name) = self {
+        if let Failure::Unreadable(name, _) = self {
             if read_line(name.as_bytes()).is_ok() {
-                let _ = writeln!(
-                    err,
-                    "  tip: for a position, use `kalah show '{name}'`, or `kalah ask`"
-                );
+                let _ = writeln!(err, "  tip: {}", Tip::Position(name));
             }
         }
         ExitStatus::Failed
     }
 }
 
-/// Reports on `err` why a line can't be read, and returns the exit status. If the report can't be written, it is dropped.
-pub(crate) fn report_fault<E: Write>(fault: LineFault, err: &mut E) -> ExitStatus
+/// Reports the failure on `err` with its tip, and returns the exit status.
+pub(crate) fn report_with_tip<E: Messages>(failure: Failure<'_>, err: &mut E) -> ExitStatus
+    ensures { result ≡ ExitStatus.Failed }
+{
+    let _ = failure.report(err);
+    write_tip("", of_failure(failure), err);
+    ExitStatus::Failed
+}
+
+/// Reports on `err` why a line can't be read, with a tip, and returns the exit status. If the report can't be written, it is dropped.
+pub(crate) fn report_fault<E: Messages>(fault: LineFault, line: &str, err: &mut E) -> ExitStatus
     ensures { result ≡ ExitStatus.LineFaults }
 {
     let _ = writeln!(err, "fault {}", fault.word());
+    write_tip("", Some(of_line(line, fault)), err);
     ExitStatus::LineFaults
 }
 
@@ -83,7 +92,7 @@ impl fmt::Display for Failure<'_> {
     fn fmt<W: fmt::Write>(&self, f: &mut fmt::Formatter<W>) -> fmt::Result {
         match self {
             Failure::LineFeed => f.write_str("line feed in a file name"),
-            Failure::Unreadable(name) => write!(f, "cannot read {name}"),
+            Failure::Unreadable(name, _) => write!(f, "cannot read {name}"),
             Failure::TooManyFiles => f.write_str("too many files"),
             Failure::TooManyLines => f.write_str("too many lines"),
             Failure::OutOfMemory => f.write_str("out of memory"),

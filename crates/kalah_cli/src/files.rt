@@ -1,5 +1,5 @@
 //! Whole files.
-ghost use Rattle.std.specs.Prelude.{◌≡◌, ◌<◌, ◌≤◌, All, IfErr, IfOk, IfSome, IsErrOf, OnOk, length, map};
+ghost use Rattle.std.specs.Prelude.{◌≡◌, ◌≢◌, ◌<◌, ◌≤◌, All, IfErr, IfOk, IfSome, IsErrOf, OnOk, length, map};
 ghost use Rattle.std.specs.Io.KnownBytes.{Consumes, IsAtEnd};
 ghost use Rattle.kalah_jobs.specs.Limits.{most_file_bytes};
 ghost use Rattle.kalah_cli.specs.Failure.{FailsToRead, FailsToReadOneOf};
@@ -7,9 +7,9 @@ ghost use Rattle.kalah_cli.specs.Failure.{FailsToRead, FailsToReadOneOf};
 use crate::failure::Failure;
 use kalah_jobs::{FileText, MOST_FILE_BYTES};
 use std::alloc::Global;
-use std::fs;
-use std::io::Read;
+use std::io::{ErrorKind, Read};
 use std::rt::Files;
+use std::{fs, io};
 
 /// The most bytes that one read asks for.
 const CHUNK: usize = 4096;
@@ -17,12 +17,30 @@ const CHUNK: usize = 4096;
 /// Why a file was not read.
 #[derive(Clone, Copy)]
 pub(crate) enum ReadFault {
-    /// It can't be opened, or a read returned an error of any kind.
+    /// There is no file of this name.
+    Missing,
+    /// It is a folder.
+    Folder,
+    /// The system doesn't permit it.
+    Forbidden,
+    /// It can't be opened, or a read returned an error, of another kind.
     Unreadable,
     /// It has more bytes than the limit.
     TooLong,
     /// Memory ran out.
     OutOfMemory,
+}
+
+// Returns the fault that an error of the system is. Memory that the system lacks is none of the program's.
+fn fault_of(error: &io::Error) -> ReadFault
+    ensures { result ≢ ReadFault.TooLong }
+{
+    match error.kind() {
+        ErrorKind::NotFound | ErrorKind::NotADirectory => ReadFault::Missing,
+        ErrorKind::IsADirectory => ReadFault::Folder,
+        ErrorKind::PermissionDenied => ReadFault::Forbidden,
+        _ => ReadFault::Unreadable,
+    }
 }
 
 /// Returns all that the reader has left, if that is at most `limit` bytes. The reader is read until
@@ -50,7 +68,7 @@ pub(crate) fn read_limited<F: Read>(
                     return Err(ReadFault::OutOfMemory);
                 }
             }
-            Err(_) => return Err(ReadFault::Unreadable),
+            Err(error) => return Err(fault_of(&error)),
         }
     }
     Err(ReadFault::TooLong)
@@ -63,13 +81,14 @@ fn read_file<'a, R: Files>(rt: &R, alloc: Global, name: &'a str) -> Result<Vec<u
     ensures within { IfOk result (λ bytes. length bytes.items ≤ most_file_bytes) }
     ensures failure { IfErr result (FailsToRead name.entry) }
 {
-    let Ok(mut file) = fs::open(rt, name) else {
-        return Err(Failure::Unreadable(name));
+    let mut file = match fs::open(rt, name) {
+        Ok(file) => file,
+        Err(error) => return Err(Failure::Unreadable(name, fault_of(&error))),
     };
     match read_limited(alloc, &mut file, MOST_FILE_BYTES) {
         Ok(bytes) => Ok(bytes),
         Err(ReadFault::OutOfMemory) => Err(Failure::OutOfMemory),
-        Err(_) => Err(Failure::Unreadable(name)),
+        Err(fault) => Err(Failure::Unreadable(name, fault)),
     }
 }
 

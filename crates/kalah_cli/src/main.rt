@@ -22,6 +22,7 @@ mod solve_files;
 mod solver;
 mod status;
 mod terminal;
+mod tips;
 mod version;
 
 use failure::Failure;

@@ -6,9 +6,9 @@ ghost use Rattle.kalah_cli.specs.Moves.{board_lines, move_lines, moves_output};
 
 use crate::failure::{report_fault, status_of};
 use crate::status::ExitStatus;
+use crate::tips::Messages;
 use kalah_jobs::{Sink, flush_unless_failed, read_line, write_picture, write_step};
 use kalah_rules::{Board, Step};
-use std::io::Write;
 
 // Draws the board, if boards are drawn.
 #[tactic(auto, using(kalah_jobs::proofs::WritingLemmas::Givings::given_none))]
@@ -49,7 +49,7 @@ fn write_moves<O: Sink>(board: &Board, boards: bool, out: &mut O)
 /// can't be read is answered by its fault, on `err` only. It allocates nothing.
 ///
 /// Returns `Clean`, `LineFaults` for a line that can't be read, or `Failed` if a write failed.
-pub(crate) fn run_moves<O: Sink, E: Write>(
+pub(crate) fn run_moves<O: Sink, E: Messages>(
     line: &str,
     boards: bool,
     out: &mut O,
@@ -64,6 +64,6 @@ pub(crate) fn run_moves<O: Sink, E: Write>(
             write_moves(&board, boards, out);
             status_of(out, err)
         }
-        Err(fault) => report_fault(fault, err),
+        Err(fault) => report_fault(fault, line, err),
     }
 }

@@ -12,11 +12,11 @@ use crate::failure::{Failure, report_fault, status_of};
 use crate::moves::{write_board, write_move};
 use crate::solver::new_solver;
 use crate::status::ExitStatus;
+use crate::tips::Messages;
 use kalah_jobs::{Sink, flush_unless_failed, read_line};
 use kalah_rules::{Board, Step};
 use kalah_solve::{Solver, Verdict};
 use std::alloc::Global;
-use std::io::Write;
 
 // Finds the best move of a board. All earlier moves are shown.
 fn solve_flushed<O: Sink>(solver: &mut Solver, board: &Board, out: &O) -> Verdict
@@ -88,7 +88,7 @@ fn unmoved_house(board: &Board, first: Option<u8>) -> Option<u8>
 /// takes as it grows.
 ///
 /// Returns `Clean`, `LineFaults` for a line that can't be read, or `Failed` for such a house, if memory was refused or a write failed.
-pub(crate) fn run_play<O: Sink, E: Write>(
+pub(crate) fn run_play<O: Sink, E: Messages>(
     alloc: Global,
     line: &str,
     table: u32,
@@ -104,7 +104,7 @@ pub(crate) fn run_play<O: Sink, E: Write>(
 {
     let board = match read_line(line.as_bytes()) {
         Ok(board) => board,
-        Err(fault) => return report_fault(fault, err),
+        Err(fault) => return report_fault(fault, line, err),
     };
     if let Some(h) = unmoved_house(&board, first) {
         return Failure::Unmoved(h).report(err);

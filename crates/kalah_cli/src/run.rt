@@ -20,6 +20,7 @@ use crate::show::run_show;
 use crate::solve_files::run_files;
 use crate::status::ExitStatus;
 use crate::terminal::Terminal;
+use crate::tips::{Messages, StandardError, of_arguments, write_tip};
 use crate::version::VERSION_LINE;
 use clap::Error;
 use clap::error::ErrorKind;
@@ -57,8 +58,17 @@ fn lacks_quotes(words: &[String]) -> bool {
             .any(|pair| pair.iter().all(|word| word.contains('/')))
 }
 
+// Writes on `err`, after arguments that are refused with this text, that a position needs quotes if they lack them, or else a tip.
+fn advise<E: Messages>(words: &[String], text: &str, err: &mut E) {
+    if lacks_quotes(words) {
+        let _ = err.write_all(help::QUOTES.as_bytes());
+    } else {
+        write_tip("\n", of_arguments(words, text), err);
+    }
+}
+
 // Reports a parse that made no request: help or the version on `out`, a mistake in the arguments on `err`.
-fn refuse<O: Sink, E: Write>(
+fn refuse<O: Sink, E: Messages>(
     alloc: Global,
     words: &[String],
     error: &Error,
@@ -85,16 +95,14 @@ fn refuse<O: Sink, E: Write>(
         ErrorKind::OutOfMemory => Failure::OutOfMemory.report(err),
         _ => {
             let _ = err.write_all(text.as_bytes());
-            if lacks_quotes(words) {
-                let _ = err.write_all(help::QUOTES.as_bytes());
-            }
+            advise(words, text.as_str(), err);
             ExitStatus::Failed
         }
     }
 }
 
 // Carries out the request.
-fn run_request<R: Files + Input + Clock + Terminal + Threads + Wait + Sync, O: Sink, E: Write>(
+fn run_request<R: Files + Input + Clock + Terminal + Threads + Wait + Sync, O: Sink, E: Messages>(
     rt: &R,
     alloc: Global,
     request: &Request<'_>,
@@ -171,9 +179,13 @@ pub fn run_words<R: Files + Input + Clock + Terminal + Threads + Wait + Sync, O:
     // If it did not, all that was written is flushed.
     ensures handed_on { result ≢ ExitStatus.Failed → O.is_handed_on out.old ≡ true → O.is_handed_on out.new ≡ true }
 {
+    let mut err = StandardError {
+        writer: err,
+        is_terminal: rt.shows_errors(),
+    };
     match parse(alloc, words.as_slice()) {
-        Ok(request) => run_request(rt, alloc, &request, out, err),
-        Err(error) => refuse(alloc, words.as_slice(), &error, out, err),
+        Ok(request) => run_request(rt, alloc, &request, out, &mut err),
+        Err(error) => refuse(alloc, words.as_slice(), &error, out, &mut err),
     }
 }
 

@@ -10,11 +10,11 @@ ghost use Rattle.kalah_cli.specs.Show.{show_output};
 use crate::failure::{Failure, report_fault, status_of};
 use crate::solver::new_solver;
 use crate::status::ExitStatus;
+use crate::tips::Messages;
 use kalah_jobs::{Sink, flush_unless_failed, read_line, write_picture, write_values};
 use kalah_rules::Board;
 use kalah_solve::Solver;
 use std::alloc::Global;
-use std::io::Write;
 
 // Draws a board, and flushes.
 fn write_plain<O: Sink>(board: &Board, out: &mut O)
@@ -45,7 +45,7 @@ fn write_shown<O: Sink>(solver: &mut Solver, board: &Board, out: &mut O)
 /// except for what the table takes as it grows.
 ///
 /// Returns `Clean`, `LineFaults` for a line that can't be read, or `Failed` if memory was refused or a write failed.
-pub(crate) fn run_show<O: Sink, E: Write>(
+pub(crate) fn run_show<O: Sink, E: Messages>(
     alloc: Global,
     line: &str,
     table: u32,
@@ -61,7 +61,7 @@ pub(crate) fn run_show<O: Sink, E: Write>(
 {
     let board = match read_line(line.as_bytes()) {
         Ok(board) => board,
-        Err(fault) => return report_fault(fault, err),
+        Err(fault) => return report_fault(fault, line, err),
     };
     if plain {
         write_plain(&board, out);

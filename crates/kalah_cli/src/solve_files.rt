@@ -6,12 +6,13 @@ ghost use Rattle.kalah_run.specs.Batch.Answering.{AnswersBatch};
 ghost use Rattle.kalah_cli.specs.Request.{IsInLimits};
 ghost use Rattle.kalah_cli.specs.SolveFiles.{AnswersFiles, has_line_feed};
 
-use crate::failure::Failure;
+use crate::failure::{Failure, report_with_tip};
 use crate::files::read_files;
 use crate::progress::Progress;
 use crate::request::FilesRequest;
 use crate::status::ExitStatus;
 use crate::terminal::Terminal;
+use crate::tips::Messages;
 use kalah_jobs::{FileText, Sink};
 use kalah_run::{BatchSize, OpenGate, Rest, RunFault, Tally, answer_batch};
 use std::alloc::Global;
@@ -83,7 +84,7 @@ fn answer_files<R: Clock + Terminal + Threads + Wait + Sync, O: Sink, E: Write>(
 /// Answers what is asked of each line of the named files.
 ///
 /// Returns `Clean` if each line was read, and `LineFaults` if one was not. Otherwise returns `Failed`, and reports the failure on `err`.
-pub(crate) fn run_files<R: Files + Clock + Terminal + Threads + Wait + Sync, O: Sink, E: Write>(
+pub(crate) fn run_files<R: Files + Clock + Terminal + Threads + Wait + Sync, O: Sink, E: Messages>(
     rt: &R,
     alloc: Global,
     request: &FilesRequest<'_>,
@@ -97,11 +98,11 @@ pub(crate) fn run_files<R: Files + Clock + Terminal + Threads + Wait + Sync, O: 
 {
     let files = match read_named(rt, alloc, request.files.as_slice()) {
         Ok(files) => files,
-        Err(failure) => return failure.report(err),
+        Err(failure) => return report_with_tip(failure, err),
     };
     match answer_files(rt, alloc, request, files.as_slice(), out, err) {
         Ok(tally) if tally.faults == 0 => ExitStatus::Clean,
         Ok(_) => ExitStatus::LineFaults,
-        Err(fault) => Failure::from(fault).report(err),
+        Err(fault) => report_with_tip(Failure::from(fault), err),
     }
 }

@@ -1,14 +1,21 @@
 use super::Failure;
+use crate::files::ReadFault;
 use crate::status::ExitStatus;
 
 #[test]
 fn each_failure_is_said_in_its_words(rt: HostRuntime) {
     for (failure, text) in [
         (Failure::LineFeed, "line feed in a file name"),
-        (Failure::Unreadable("a.txt"), "cannot read a.txt"),
-        (Failure::Unreadable("1/0"), "cannot read 1/0"),
         (
-            Failure::Unreadable("1/0 1/0 e"),
+            Failure::Unreadable("a.txt", ReadFault::Missing),
+            "cannot read a.txt",
+        ),
+        (
+            Failure::Unreadable("1/0", ReadFault::Folder),
+            "cannot read 1/0",
+        ),
+        (
+            Failure::Unreadable("1/0 1/0 e", ReadFault::Missing),
             "cannot read 1/0 1/0 e\n  tip: for a position, use `kalah show '1/0 1/0 e'`, or `kalah ask`",
         ),
         (Failure::TooManyFiles, "too many files"),
