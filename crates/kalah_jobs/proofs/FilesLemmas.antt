@@ -34,8 +34,8 @@ use Rattle.kalah_jobs.specs.declared.files.question.Question.TheVariants.{BestMo
 use Rattle.kalah_jobs.specs.Writing.Answer.{answer_of, is_fault, is_faulty_entry}
 use Rattle.kalah_jobs.specs.Writing.Output.{is_faulty_job}
 use Rattle.kalah_rules.specs.Key.{key_of}
-use Rattle.kalah_rules.proofs.Keys.{same_key}
-use Rattle.kalah_rules.proofs.HousesSteps.{rows_within}
+use Rattle.kalah_rules.proofs.KeyLemmas.{same_key}
+use Rattle.kalah_rules.proofs.PackedLemmas.{rows_within}
 use Rattle.kalah_rules.specs.contracts.board.BoardEq.TheImpl.Laws.{laws-law}
 
 -- ==== Where the first line of some bytes ends

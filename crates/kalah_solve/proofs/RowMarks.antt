@@ -9,7 +9,7 @@ use Rattle.std.specs.Int.Count.{count_leading_zeros}
 use Rattle.std.proofs.Math.Pow.{pow_mono}
 use Rattle.kalah_rules.specs.Key.{number_of}
 use Rattle.kalah_rules.specs.Packed.{BeginsHouse}
-use Rattle.kalah_rules.proofs.Packing.{pow_five}
+use Rattle.kalah_rules.proofs.KeyLemmas.{pow_five}
 use Rattle.kalah_solve.specs.RowMarks.{cell, each, distances, AreMarks, IsLastMark}
 
 -- no row, no cell

@@ -8,7 +8,7 @@ use Rattle.kalah_rules.specs.Position.{Rows, IsWithinHouses, seeds, seeds_in_hou
 use Rattle.kalah_rules.specs.Play.{legal_houses}
 use Rattle.kalah_rules.specs.HousesStep.{houses_step}
 use Rattle.kalah_rules.specs.declared.step.HousesStep.TheVariants.{Turn}
-use Rattle.kalah_rules.proofs.Legal.{holds_legal, legal_holds}
+use Rattle.kalah_rules.proofs.PlayLemmas.{holds_legal, legal_holds}
 use Rattle.kalah_solve.specs.Bounds.Won.{won, won_by_step}
 use Rattle.kalah_solve.specs.Search.Tried.{IsSoftBound, WinsAtMost, EndsInStore, IsTurnOf, AreWaiting}
 use Rattle.kalah_solve.specs.RowMarks.{cell, AreMarks, IsLastMark}

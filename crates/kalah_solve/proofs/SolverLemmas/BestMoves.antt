@@ -8,7 +8,7 @@ use Rattle.std.proofs.lemmas.Int.{ints}
 use Rattle.kalah_rules.specs.Position.{Position, HasEqualSides, side_length, seeds, is_over, swapped}
 use Rattle.kalah_rules.specs.Sowing.{after, is_again}
 use Rattle.kalah_rules.specs.Play.{legal_houses}
-use Rattle.kalah_rules.proofs.Ends.{after_equal_sides}
+use Rattle.kalah_rules.proofs.PlayLemmas.{after_equal_sides}
 use Rattle.kalah_solve.specs.Solver.Worth.{worth, value_of_move, best_house}
 use Rattle.kalah_solve.specs.Solver.BestPlay.{IsBestPlay, IsBestMove, IsWorthOfMove}
 use Rattle.kalah_solve.specs.Solver.Laws.{BestHouseIsLowest, BestMovesAttain}

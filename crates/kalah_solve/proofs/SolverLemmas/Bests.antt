@@ -8,7 +8,7 @@ use Rattle.std.proofs.lemmas.Bool.Decides.{Decides-int_eq}
 use Rattle.std.proofs.lemmas.List.{length-map, get_or-map}
 use Rattle.kalah_rules.specs.Position.{Position, IsWithinLimits, IsSmallMargin, is_over, final_margin}
 use Rattle.kalah_rules.specs.Play.{legal_houses}
-use Rattle.kalah_rules.proofs.Legal.{legal_holds}
+use Rattle.kalah_rules.proofs.PlayLemmas.{legal_holds}
 use Rattle.kalah_solve.specs.Solver.Worth.{greatest, worth, best_house}
 use Rattle.kalah_solve.specs.Solver.Verdict.{verdict_of, IsSmallBest}
 use Rattle.kalah_solve.specs.declared.solver.Verdict.TheVariants.{Best, Over}

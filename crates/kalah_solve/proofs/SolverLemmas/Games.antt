@@ -6,8 +6,7 @@ use Rattle.kalah_rules.specs.Position.{Position, HasEqualSides, is_over, swapped
 use Rattle.kalah_rules.specs.Sowing.{after, is_again}
 use Rattle.kalah_rules.specs.Play.{legal_houses}
 use Rattle.kalah_rules.specs.Measure.{moves_left}
-use Rattle.kalah_rules.proofs.Legal.{legal_holds}
-use Rattle.kalah_rules.proofs.Ends.{after_equal_sides, after_fewer, swap_fewer}
+use Rattle.kalah_rules.proofs.PlayLemmas.{legal_holds, after_equal_sides, after_fewer, swap_fewer}
 use Rattle.kalah_solve.specs.Solver.BestPlay.{Strategy, IsStrategy, Way, follow, Game}
 use Rattle.kalah_solve.specs.Solver.BestPlay.Game.{is_at_end, moves_on, passes_turn}
 use Rattle.kalah_solve.specs.Solver.Laws.{EndsInTime, StrategiesPlayAGame, StrategiesPlayOneGame, GamesEnd}

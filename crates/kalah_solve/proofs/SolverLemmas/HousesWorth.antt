@@ -6,7 +6,7 @@ use Rattle.std.proofs.lemmas.List.Elements.{All-contains}
 use Rattle.lru.proofs.Splits.{Contains-head, Contains-tail, Contains-cons, Contains-nil}
 use Rattle.kalah_rules.specs.Position.{Rows, HasEqualSides, IsWithinHouses, is_over, bare}
 use Rattle.kalah_rules.specs.Play.{legal_houses}
-use Rattle.kalah_rules.proofs.Legal.{legal_going}
+use Rattle.kalah_rules.proofs.PlayLemmas.{legal_going}
 use Rattle.kalah_solve.specs.Solver.Worth.{greatest, houses_worth, value_of_move}
 use Rattle.kalah_solve.proofs.SolverLemmas.Finds.{greatest_is_one}
 use Rattle.kalah_solve.proofs.SolverLemmas.Worths.{worth_of_going, legal_some}

@@ -4,7 +4,7 @@ use Rattle.std.specs.Prelude.{false, Contains, ℤ, ◌≤ℤ◌}
 use Rattle.std.proofs.lemmas.Int.{ints}
 use Rattle.kalah_rules.specs.Position.{Position, HasEqualSides, is_over, final_margin, swapped}
 use Rattle.kalah_rules.specs.Sowing.{after}
-use Rattle.kalah_rules.proofs.Ends.{after_equal_sides}
+use Rattle.kalah_rules.proofs.PlayLemmas.{after_equal_sides}
 use Rattle.kalah_solve.specs.Solver.Worth.{worth, value_of_move, best_house}
 use Rattle.kalah_solve.specs.Solver.BestPlay.{Strategy, IsStrategy, Way, follow, Game, Secures, HoldsTo, IsBestPlay}
 use Rattle.kalah_solve.specs.Solver.BestPlay.Game.{is_at_end, moves_on, passes_turn}

@@ -5,7 +5,7 @@ use Rattle.std.proofs.lemmas.Int.{ints}
 use Rattle.kalah_rules.specs.Limits.{most_houses}
 use Rattle.kalah_rules.specs.Position.{Position, IsWithinLimits, IsSmallMargin, rows_of}
 use Rattle.kalah_rules.specs.Play.{legal_houses}
-use Rattle.kalah_rules.proofs.Legal.{legal_holds}
+use Rattle.kalah_rules.proofs.PlayLemmas.{legal_holds}
 use Rattle.kalah_solve.specs.Solver.Worth.{value_of_move}
 use Rattle.kalah_solve.proofs.SolverLemmas.Stores.{value_of_rows}
 use Rattle.kalah_solve.proofs.BoundsLemmas.Winnings.{taken_by_move}

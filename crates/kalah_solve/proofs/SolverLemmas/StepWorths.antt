@@ -8,16 +8,14 @@ use Rattle.kalah_rules.specs.Key.{rule_bit, game_of}
 use Rattle.kalah_rules.specs.Measure.{moves_left}
 use Rattle.kalah_rules.specs.Play.{legal_houses}
 use Rattle.kalah_rules.specs.Sowing.{after, is_again}
-use Rattle.kalah_rules.proofs.Ends.{after_fewer, after_equal_sides, swap_fewer}
-use Rattle.kalah_rules.proofs.Legal.{legal_holds}
+use Rattle.kalah_rules.proofs.PlayLemmas.{after_fewer, after_equal_sides, swap_fewer, legal_holds}
 use Rattle.kalah_rules.specs.HousesStep.{houses_step_to, houses_step}
 use Rattle.kalah_solve.specs.Solver.Worth.{worth, houses_worth, value_of_move}
 use Rattle.kalah_solve.specs.Solver.StepWorth.{GoesOn, GoesOnAt}
 use Rattle.kalah_solve.proofs.BoundsLemmas.Steps.{worth_of_step, LeadsOn, LeadsTo, moves_after}
 use Rattle.kalah_rules.specs.declared.step.HousesStep.{HousesStep}
 use Rattle.kalah_rules.specs.declared.step.HousesStep.TheVariants.{Over, Again, Turn}
-use Rattle.kalah_rules.proofs.PackedMoves.{after_keeps}
-use Rattle.kalah_rules.proofs.HousesSteps.{on_cond, over_swapped, after_within, swapped_within}
+use Rattle.kalah_rules.proofs.PackedLemmas.{after_keeps, on_cond, over_swapped, after_within, swapped_within}
 use Rattle.kalah_solve.proofs.SolverLemmas.Stores.{worth_of_rows}
 
 -- ---- what a move is worth

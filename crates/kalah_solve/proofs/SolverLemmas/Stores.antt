@@ -8,7 +8,7 @@ use Rattle.kalah_rules.specs.Position.{Position, rows_of, is_over, final_margin,
 use Rattle.kalah_rules.specs.Sowing.{after, is_again}
 use Rattle.kalah_rules.specs.Play.{legal_houses}
 use Rattle.kalah_rules.specs.Measure.{moves_left}
-use Rattle.kalah_rules.proofs.Stores.{with_more, after_with_more, is_with_more}
+use Rattle.kalah_rules.proofs.PlayLemmas.{with_more, after_with_more, is_with_more}
 use Rattle.std.specs.Ordering.{int_eq}
 use Rattle.kalah_solve.proofs.SolverLemmas.Worths.{worth_over, worth_more, legal_some}
 use Rattle.kalah_solve.specs.Solver.Worth.{best_house, value_by, greatest, worth_within, worth, value_of_move, houses_worth}

@@ -10,9 +10,7 @@ use Rattle.kalah_rules.specs.Play.{legal_houses, step_of}
 use Rattle.kalah_rules.specs.Measure.{moves_left, distance_to_stores}
 use Rattle.kalah_rules.specs.declared.step.Step.{Step}
 use Rattle.kalah_rules.specs.declared.step.Step.TheVariants.{Again, Turn, Over}
-use Rattle.kalah_rules.proofs.Legal.{legal_holds, holds_legal}
-use Rattle.kalah_rules.proofs.Boards.{sum-zeros}
-use Rattle.kalah_rules.proofs.Ends.{after_equal_sides, after_fewer, swap_fewer}
+use Rattle.kalah_rules.proofs.PlayLemmas.{legal_holds, holds_legal, sum-zeros, after_equal_sides, after_fewer, swap_fewer}
 use Rattle.kalah_solve.specs.Solver.Laws.{CountPlaysNoPart}
 use Rattle.kalah_solve.specs.Solver.Worth.{value_by, greatest, worth_within, worth, value_of_move}
 

@@ -10,7 +10,7 @@ use Rattle.kalah_rules.specs.Key.{key_of}
 use Rattle.kalah_solve.specs.Solver.Worth.{houses_worth}
 use Rattle.kalah_solve.specs.Bounds.Intervals.{Encloses}
 use Rattle.kalah_solve.specs.Table.Entries.{TableState, IsTrueEntry, AreTrue}
-use Rattle.kalah_rules.proofs.Keys.{same_key}
+use Rattle.kalah_rules.proofs.KeyLemmas.{same_key}
 
 -- equal numbers
 same_number : (m n : ℕ) → nat_eq m n ≡ true → m ≡ n

@@ -9,7 +9,7 @@ use Rattle.std.proofs.Math.Nat.{zero-div}
 use Rattle.atomic_table.specs.Table.{State, Enters, Arrives, keeps}
 use Rattle.kalah_rules.specs.Position.{Rows, IsWithinHouses}
 use Rattle.kalah_rules.specs.Key.{rule_bit}
-use Rattle.kalah_rules.proofs.Keys.{rule_bit-small}
+use Rattle.kalah_rules.proofs.KeyLemmas.{rule_bit-small}
 use Rattle.kalah_solve.specs.Table.RowRank.{choose, rank_of_houses}
 use Rattle.kalah_solve.specs.Table.EndgameTable.{IsEnding, StoresWon, AreTrueWords, word_of, stored_at}
 use Rattle.kalah_solve.specs.declared.table.endgame_table.words.TheConstants.{FIRST_WORDS}

@@ -9,7 +9,7 @@ use Rattle.std.proofs.Math.ListN.{length-set}
 use Rattle.kalah_rules.specs.Limits.{most_seeds}
 use Rattle.kalah_rules.specs.Position.{Rows, IsWithinHouses, bare, seeds_in_houses}
 use Rattle.kalah_rules.specs.Key.{key_of}
-use Rattle.kalah_rules.proofs.Keys.{packed_as, packed_fits, same_key}
+use Rattle.kalah_rules.proofs.KeyLemmas.{packed_as, packed_fits, same_key}
 use Rattle.kalah_solve.specs.Table.DirectTable.{mixed, place_among, left_open, stored_rest, stored_least, stored_most, IsWithinPlace, StoreBounds, AreEnough}
 use Rattle.kalah_solve.specs.Bounds.Won.{won}
 use Rattle.kalah_solve.proofs.BoundsLemmas.Winnings.{taken_share}

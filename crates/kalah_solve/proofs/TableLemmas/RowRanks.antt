@@ -13,8 +13,7 @@ use Rattle.std.proofs.Math.ListN.{take}
 use Rattle.std.proofs.lemmas.List.Sums.{sum_by-cons, sum_by-take-drop}
 use Rattle.kalah_rules.specs.Position.{Rows, IsWithinHouses}
 use Rattle.kalah_rules.specs.Key.{number_of, game_of}
-use Rattle.kalah_rules.proofs.Keys.{same_key}
-use Rattle.kalah_rules.proofs.Packing.{number_of-append, pow_five}
+use Rattle.kalah_rules.proofs.KeyLemmas.{same_key, number_of-append, pow_five}
 use Rattle.kalah_solve.specs.Table.RowRank.{choose, row_rank, sums_number, rank_of_houses}
 
 -- out of more things there are no fewer ways to choose

@@ -1,5 +1,4 @@
-use Rattle.kalah_rules.proofs.Legal.{legal_holds}
-use Rattle.kalah_rules.proofs.Ends.{after_nearer}
+use Rattle.kalah_rules.proofs.PlayLemmas.{legal_holds, after_nearer}
 use Rattle.kalah_rules.proofs.laws.every_move_nears_end.Goals as goal
 
 pub returns : goal.returns

@@ -1,4 +1,4 @@
-use Rattle.kalah_rules.proofs.Sown.{sow_none, sow_more}
+use Rattle.kalah_rules.proofs.PlayLemmas.{sow_none, sow_more}
 use Rattle.kalah_rules.proofs.laws.sowing_is_seed_by_seed.Goals as goal
 
 pub returns : goal.returns

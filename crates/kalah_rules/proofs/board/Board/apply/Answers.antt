@@ -1,5 +1,5 @@
 use Rattle.std.proofs.Common.{arith}
-use Rattle.kalah_rules.proofs.HousesSteps.{board_step}
+use Rattle.kalah_rules.proofs.PackedLemmas.{board_step}
 use Rattle.kalah_rules.proofs.board.Board.apply.Goals as goal
 
 pub overflow_add-result : goal.overflow_add-result

@@ -2,7 +2,7 @@ use Rattle.std.proofs.Common.{◌≡◌, ◌+◌, ◌-◌, sym, arith, refl, lt-
 use Rattle.std.specs.Prelude.{nat_lt, true, false}
 use Rattle.kalah_rules.specs.Position.{seeds}
 use Rattle.std.proofs.lemmas.Bool.{le-ltb}
-use Rattle.kalah_rules.proofs.Legal.{filter_range_more, length-filter_range}
+use Rattle.kalah_rules.proofs.PlayLemmas.{filter_range_more, length-filter_range}
 use Rattle.kalah_rules.proofs.board.Board.legal.Goals as goal
 use Rattle.kalah_rules.proofs.board.Board.legal.Goals.{then-own-gt0, else-own-gt0}
 

@@ -1,5 +1,5 @@
 use Rattle.std.proofs.Common.{arith}
-use Rattle.kalah_rules.proofs.PackedMoves.{move_leaves, across_within}
+use Rattle.kalah_rules.proofs.PackedLemmas.{move_leaves, across_within}
 use Rattle.kalah_rules.proofs.houses.Houses.after.Goals as goal
 
 pub overflow_shr-across : goal.overflow_shr-across

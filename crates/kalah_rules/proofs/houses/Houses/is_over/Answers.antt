@@ -1,6 +1,6 @@
 use Rattle.std.proofs.Common.{arith}
 use Rattle.std.proofs.lemmas.Bool.Decides.{nat_tests}
-use Rattle.kalah_rules.proofs.Keys.{no_seeds}
+use Rattle.kalah_rules.proofs.KeyLemmas.{no_seeds}
 use Rattle.kalah_rules.proofs.houses.Houses.is_over.Goals as goal
 
 pub returns-then-own_row-eq0 : goal.returns-then-own_row-eq0

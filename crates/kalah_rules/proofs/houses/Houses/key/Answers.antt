@@ -1,5 +1,5 @@
 use Rattle.std.proofs.Common.{sym}
-use Rattle.kalah_rules.proofs.Keys.{pack_of}
+use Rattle.kalah_rules.proofs.KeyLemmas.{pack_of}
 use Rattle.kalah_rules.proofs.houses.Houses.key.Goals as goal
 
 pub returns-clause-key : goal.returns-clause-key

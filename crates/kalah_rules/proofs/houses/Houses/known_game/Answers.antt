@@ -2,7 +2,7 @@ use Rattle.std.proofs.Common.{◌≡◌, ◌+◌, ◌*◌, ◌%◌, ◌^◌, ℕ
 use Rattle.kalah_rules.specs.Position.{Rows}
 use Rattle.kalah_rules.specs.Key.{rows_at, game_of}
 use Rattle.kalah_rules.specs.Packed.{IsPacked}
-use Rattle.kalah_rules.proofs.Keys.{pack_of, above_cells}
+use Rattle.kalah_rules.proofs.KeyLemmas.{pack_of, above_cells}
 use Rattle.kalah_rules.proofs.houses.Houses.known_game.Goals as goal
 
 same : {a : Rows} {key seeds game : ℕ} → IsPacked key seeds → rows_at key ≡ a → game_of a ≡ game → key % 2 ^ 60 + 2 ^ 60 * game ≡ key

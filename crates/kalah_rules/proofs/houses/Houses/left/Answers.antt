@@ -1,7 +1,7 @@
 use Rattle.std.proofs.Common.{◌≡◌, ◌≢◌, ◌∙◌, sym, arith}
 use Rattle.std.specs.Prelude.{sum}
 use Rattle.std.proofs.lemmas.Bool.Decides.{nat_tests}
-use Rattle.kalah_rules.proofs.Keys.{sum-zero, number_of-zero}
+use Rattle.kalah_rules.proofs.KeyLemmas.{sum-zero, number_of-zero}
 use Rattle.kalah_rules.proofs.houses.Houses.left.Goals as goal
 
 pub returns-then-own_row-eq0 : goal.returns-then-own_row-eq0

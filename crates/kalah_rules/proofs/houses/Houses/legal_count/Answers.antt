@@ -1,7 +1,7 @@
 use Rattle.std.proofs.Common.{arith, ap, ◌∙◌, ◌∷◌, [], length, sym}
 use Rattle.std.proofs.lemmas.List.{length-append}
 use Rattle.kalah_rules.specs.Position.{bare}
-use Rattle.kalah_rules.proofs.WaySums.{seeded_before, seeded_few, seeded_legal, seeded_more, seeded_same}
+use Rattle.kalah_rules.proofs.PlayLemmas.{seeded_before, seeded_few, seeded_legal, seeded_more, seeded_same}
 use Rattle.kalah_rules.proofs.houses.Houses.legal_count.Goals as goal
 use Rattle.kalah_rules.proofs.houses.Houses.legal_count.Goals.{then-own-gt0, else-own-gt0}
 

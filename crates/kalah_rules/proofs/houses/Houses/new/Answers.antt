@@ -2,7 +2,7 @@ use Rattle.std.proofs.Common.{◌≡◌, ◌+◌, ◌*◌, ◌^◌, ℕ, arith, 
 use Rattle.kalah_rules.specs.Cells.{rows_from}
 use Rattle.kalah_rules.specs.Key.{rows_at}
 use Rattle.kalah_rules.specs.Packed.{IsPacked}
-use Rattle.kalah_rules.proofs.Boards.{packed_new}
+use Rattle.kalah_rules.proofs.KeyLemmas.{packed_new}
 use Rattle.kalah_rules.proofs.houses.Houses.new.Goals.{After-rule_number}
 use Rattle.kalah_rules.proofs.houses.Houses.new.Goals as goal
 

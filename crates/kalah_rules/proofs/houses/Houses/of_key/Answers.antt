@@ -1,5 +1,5 @@
 use Rattle.std.proofs.Common.{rules}
-use Rattle.kalah_rules.proofs.Keys.{unpacks_same, unpacks_found}
+use Rattle.kalah_rules.proofs.KeyLemmas.{unpacks_same, unpacks_found}
 use Rattle.kalah_rules.proofs.houses.Houses.of_key.Goals as goal
 
 pub returns-clause-same : goal.returns-clause-same

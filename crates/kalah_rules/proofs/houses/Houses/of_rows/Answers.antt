@@ -1,5 +1,5 @@
 use Rattle.std.proofs.Common.{arith, ◌+◌}
-use Rattle.kalah_rules.proofs.HouseRows.{packed_rows}
+use Rattle.kalah_rules.proofs.KeyLemmas.{packed_rows}
 use Rattle.kalah_rules.proofs.houses.Houses.of_rows.Goals as goal
 
 pub invariant_of-result : goal.invariant_of-result

@@ -1,5 +1,5 @@
 use Rattle.std.proofs.Common.{arith, ◌∙◌, ◌-◌, ◌/◌, ◌%◌, ◌^◌, ap}
-use Rattle.kalah_rules.proofs.Packing.{read_seeds}
+use Rattle.kalah_rules.proofs.KeyLemmas.{read_seeds}
 use Rattle.kalah_rules.proofs.houses.Houses.other.Goals as goal
 
 pub returns-clause-value : goal.returns-clause-value

@@ -1,5 +1,5 @@
 use Rattle.std.proofs.Common.{sym}
-use Rattle.kalah_rules.proofs.Keys.{pack_of, own_number_at}
+use Rattle.kalah_rules.proofs.KeyLemmas.{pack_of, own_number_at}
 use Rattle.kalah_rules.proofs.houses.Houses.own_row.Goals as goal
 
 pub returns-clause-value : goal.returns-clause-value

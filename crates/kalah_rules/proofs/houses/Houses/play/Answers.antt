@@ -1,6 +1,6 @@
 use Rattle.std.proofs.Common.{arith}
 use Rattle.kalah_rules.specs.Position.{bare}
-use Rattle.kalah_rules.proofs.Legal.{legal_holds}
+use Rattle.kalah_rules.proofs.PlayLemmas.{legal_holds}
 use Rattle.kalah_rules.proofs.houses.Houses.play.Goals as goal
 
 pub own-requires-clause-low : goal.own-requires-clause-low

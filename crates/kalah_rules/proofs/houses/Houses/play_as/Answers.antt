@@ -1,7 +1,7 @@
 use Rattle.std.proofs.Common.{◌∙◌, sym}
 use Rattle.kalah_rules.specs.Position.{bare}
-use Rattle.kalah_rules.proofs.Legal.{legal_holds}
-use Rattle.kalah_rules.proofs.PackedMoves.{again_at}
+use Rattle.kalah_rules.proofs.PlayLemmas.{legal_holds}
+use Rattle.kalah_rules.proofs.PackedLemmas.{again_at}
 use Rattle.kalah_rules.proofs.houses.Houses.play_as.Goals as goal
 
 pub after-requires-clause-holds : goal.after-requires-clause-holds

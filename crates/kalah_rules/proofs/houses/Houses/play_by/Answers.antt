@@ -1,6 +1,6 @@
 use Rattle.std.proofs.Common.{arith}
 use Rattle.kalah_rules.specs.Position.{bare}
-use Rattle.kalah_rules.proofs.Legal.{legal_holds}
+use Rattle.kalah_rules.proofs.PlayLemmas.{legal_holds}
 use Rattle.kalah_rules.proofs.houses.Houses.play_by.Goals as goal
 
 pub own_in-requires : goal.own_in-requires

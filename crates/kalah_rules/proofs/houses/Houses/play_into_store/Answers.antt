@@ -1,9 +1,8 @@
 use Rattle.std.proofs.Common.{arith, ap, ◌∙◌, ◌≡◌, ◌-◌, ◌*◌, ◌^◌, ◌≤◌, length}
 use Rattle.kalah_rules.specs.Position.{bare, seeds}
-use Rattle.kalah_rules.proofs.Legal.{legal_holds}
-use Rattle.kalah_rules.proofs.Packing.{ones_le}
-use Rattle.kalah_rules.proofs.PackedMoves.{house_read}
-use Rattle.kalah_rules.proofs.StoreMoves.{MovesIntoStore, moves_into_store}
+use Rattle.kalah_rules.proofs.PlayLemmas.{legal_holds}
+use Rattle.kalah_rules.proofs.KeyLemmas.{ones_le}
+use Rattle.kalah_rules.proofs.PackedLemmas.{house_read, MovesIntoStore, moves_into_store}
 use Rattle.kalah_rules.proofs.houses.Houses.play_into_store.Goals as goal
 use Rattle.kalah_rules.proofs.houses.Houses.play_into_store.Goals.{After-one_each_to}
 

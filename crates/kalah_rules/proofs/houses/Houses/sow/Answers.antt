@@ -5,8 +5,8 @@ use Rattle.kalah_rules.specs.Sowing.{sown}
 use Rattle.kalah_rules.specs.Sowings.{IsSowing}
 use Rattle.kalah_rules.specs.Key.{number_of, key_of}
 use Rattle.kalah_rules.specs.declared.houses.sowings.Sowing.{Sowing}
-use Rattle.kalah_rules.proofs.Keys.{pack_of, key_says, rows_number_at}
-use Rattle.kalah_rules.proofs.PackedMoves.{sown_less, rows_show, store_is, store_few}
+use Rattle.kalah_rules.proofs.KeyLemmas.{pack_of, key_says, rows_number_at}
+use Rattle.kalah_rules.proofs.PackedLemmas.{sown_less, rows_show, store_is, store_few}
 use Rattle.kalah_rules.proofs.houses.Houses.sow.Goals as goal
 
 -- the key without its rule, less what it loses

@@ -1,7 +1,7 @@
 use Rattle.std.proofs.Common.{arith, sym, ◌∙◌, ◌+◌, ◌-◌, ◌*◌, ◌/◌, ◌%◌, ◌^◌}
 use Rattle.kalah_rules.specs.declared.step.HousesStep.TheVariants.{Again, Turn}
-use Rattle.kalah_rules.proofs.Keys.{pack_of, packed_fits}
-use Rattle.kalah_rules.proofs.HousesSteps.{IsStepTo, store_within, store_small, over_own, over_other, again_packed, turn_packed}
+use Rattle.kalah_rules.proofs.KeyLemmas.{pack_of, packed_fits}
+use Rattle.kalah_rules.proofs.PackedLemmas.{IsStepTo, store_within, store_small, over_own, over_other, again_packed, turn_packed}
 use Rattle.kalah_rules.proofs.houses.Houses.step.Goals as goal
 use Rattle.kalah_rules.proofs.houses.Houses.step.Goals.{Then-again, Else-again}
 

@@ -1,4 +1,4 @@
-use Rattle.kalah_rules.proofs.Keys.{pack_of, without_seeds_packed}
+use Rattle.kalah_rules.proofs.KeyLemmas.{pack_of, without_seeds_packed}
 use Rattle.kalah_rules.proofs.houses.Houses.without_seeds.Goals as goal
 
 pub invariant_of-result : goal.invariant_of-result

@@ -1,5 +1,5 @@
 use Rattle.std.proofs.Common.{arith, ◌-◌}
-use Rattle.kalah_rules.proofs.Packing.{pow_five, moved_small}
+use Rattle.kalah_rules.proofs.KeyLemmas.{pow_five, moved_small}
 use Rattle.kalah_rules.proofs.houses.numbers.alone.Goals as goal
 
 pub returns : goal.returns

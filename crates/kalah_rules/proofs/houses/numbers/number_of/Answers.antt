@@ -1,6 +1,6 @@
 use Rattle.std.proofs.Common.{arith, rules, ap, get_or, ◌≡◌, ◌-◌}
 use Rattle.std.specs.Prelude.{slice_index}
-use Rattle.kalah_rules.proofs.Keys.{read_more}
+use Rattle.kalah_rules.proofs.KeyLemmas.{read_more}
 use Rattle.kalah_rules.proofs.houses.numbers.number_of.Goals as goal
 
 pub loop-passed-preserved : goal.loop-passed-preserved

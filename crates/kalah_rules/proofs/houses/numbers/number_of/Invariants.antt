@@ -1,5 +1,5 @@
 use Rattle.std.proofs.Common.{◌-◌}
-use Rattle.kalah_rules.proofs.Keys.{IsRead}
+use Rattle.kalah_rules.proofs.KeyLemmas.{IsRead}
 use Rattle.kalah_rules.proofs.houses.numbers.number_of.Given as goal
 
 abbrev pub invariant-loop-passed : goal.invariant-loop-passed

@@ -1,6 +1,6 @@
 use Rattle.std.proofs.Common.{arith, ◌∙◌, ap, sym}
 use Rattle.kalah_rules.specs.Packed.{ones}
-use Rattle.kalah_rules.proofs.Packing.{number_of-all, number_of-up_to}
+use Rattle.kalah_rules.proofs.KeyLemmas.{number_of-all, number_of-up_to}
 use Rattle.kalah_rules.proofs.houses.numbers.one_each_up_to.Goals as goal
 use Rattle.kalah_rules.proofs.houses.numbers.one_each_up_to.Goals.{then-x-m, else-x-m}
 

@@ -2,7 +2,7 @@ use Rattle.std.proofs.Common.{arith, ap, ℕ}
 use Rattle.kalah_rules.specs.Sowing.{row_of}
 use Rattle.kalah_rules.specs.Key.{number_of}
 use Rattle.kalah_rules.specs.Packed.{up_to}
-use Rattle.kalah_rules.proofs.Packing.{up_to_past}
+use Rattle.kalah_rules.proofs.KeyLemmas.{up_to_past}
 use Rattle.kalah_rules.proofs.houses.numbers.own_gains.Goals as goal
 
 pub overflow_sub-past : goal.overflow_sub-past

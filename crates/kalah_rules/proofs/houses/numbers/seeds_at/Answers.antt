@@ -1,5 +1,5 @@
 use Rattle.std.proofs.Common.{◌-◌, refl}
-use Rattle.kalah_rules.proofs.Packing.{pow_five}
+use Rattle.kalah_rules.proofs.KeyLemmas.{pow_five}
 use Rattle.kalah_rules.proofs.houses.numbers.seeds_at.Goals as goal
 
 pub returns : goal.returns

@@ -1,5 +1,5 @@
 use Rattle.std.proofs.Common.{arith, ap, ◌*◌}
-use Rattle.kalah_rules.proofs.Packing.{product_small}
+use Rattle.kalah_rules.proofs.KeyLemmas.{product_small}
 use Rattle.kalah_rules.proofs.houses.numbers.the_same_each.Goals as goal
 
 pub overflow_mul-result : goal.overflow_mul-result

@@ -1,5 +1,5 @@
 use Rattle.std.proofs.Common.{arith, ◌≡◌, ◌-◌, ◌*◌, ◌^◌}
-use Rattle.kalah_rules.proofs.Packing.{placed_small}
+use Rattle.kalah_rules.proofs.KeyLemmas.{placed_small}
 use Rattle.kalah_rules.proofs.houses.sowings.last_cell.Goals as goal
 
 pub overflow_mul-result : goal.overflow_mul-result

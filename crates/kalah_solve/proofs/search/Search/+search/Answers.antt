@@ -2,7 +2,7 @@ use Rattle.std.proofs.Common.{arith, rules, refl, sym, ◌∙◌, ◌≡◌, ◌
 use Rattle.std.specs.Prelude.{max}
 use Rattle.std.proofs.lemmas.List.Sums.{sum_by-set}
 use Rattle.kalah_rules.specs.Position.{bare}
-use Rattle.kalah_rules.proofs.Legal.{legal_holds}
+use Rattle.kalah_rules.proofs.PlayLemmas.{legal_holds}
 use Rattle.kalah_rules.specs.declared.step.HousesStep.TheVariants.{Turn}
 use Rattle.kalah_solve.specs.Solver.StepWorth.{GoesOn, GoesOnAt}
 use Rattle.kalah_solve.specs.Bounds.Won.{won}

@@ -1,5 +1,5 @@
 use Rattle.std.proofs.Common.{sym, ap, ◌∙◌, length}
-use Rattle.kalah_rules.proofs.Keys.{length-cells}
+use Rattle.kalah_rules.proofs.KeyLemmas.{length-cells}
 use Rattle.kalah_rules.proofs.houses.house_row.HouseRow.len.Goals as goal
 
 pub returns-clause-is : goal.returns-clause-is

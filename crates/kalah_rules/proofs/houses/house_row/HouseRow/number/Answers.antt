@@ -1,4 +1,4 @@
-use Rattle.kalah_rules.proofs.HouseRows.{row_is_small}
+use Rattle.kalah_rules.proofs.KeyLemmas.{row_is_small}
 use Rattle.kalah_rules.proofs.houses.house_row.HouseRow.number.Goals as goal
 
 pub returns-clause-small : goal.returns-clause-small

@@ -1,7 +1,6 @@
 use Rattle.std.proofs.Common.{◌≡◌, ◌-◌, ◌∷◌, [], ◌++◌, ap, refl, sym, ◌∙◌, length, arith}
 use Rattle.std.specs.Prelude.{sum}
-use Rattle.kalah_rules.proofs.Keys.{length-cells}
-use Rattle.kalah_rules.proofs.HouseRows.{row_is_small, houses_pushed, row_pushed}
+use Rattle.kalah_rules.proofs.KeyLemmas.{length-cells, row_is_small, houses_pushed, row_pushed}
 use Rattle.kalah_rules.proofs.houses.house_row.HouseRow.push.Goals as goal
 
 pub overflow_add-self : goal.overflow_add-self

@@ -2,7 +2,7 @@ use Rattle.std.proofs.Common.{arith, refl, lt-ltb, ◌≡◌, ◌+◌, ◌-◌, 
 use Rattle.std.specs.Prelude.{if◌then◌else◌}
 use Rattle.std.proofs.lemmas.Bool.{le-ltb}
 use Rattle.kalah_rules.specs.Sowings.{own_gained, other_gained}
-use Rattle.kalah_rules.proofs.Packing.{own_gain, other_gain, store_gain, placed_small}
+use Rattle.kalah_rules.proofs.KeyLemmas.{own_gain, other_gain, store_gain, placed_small}
 use Rattle.kalah_rules.proofs.houses.sowings.Sowing.new.Goals as goal
 use Rattle.kalah_rules.proofs.houses.sowings.Sowing.new.Goals.{then-reach-m, else-reach-m}
 

@@ -1,6 +1,6 @@
 use Rattle.std.proofs.Common.{arith, rules, ◌∙◌}
 use Rattle.std.proofs.Math.ListN.{length-set}
-use Rattle.kalah_rules.proofs.SowingTable.{sowings_more}
+use Rattle.kalah_rules.proofs.PackedLemmas.{sowings_more}
 use Rattle.kalah_rules.proofs.houses.sowings.Sowings.new.Goals as goal
 
 pub loop-i-init : goal.loop-i-init

@@ -1,27 +1,35 @@
--- A move on the numbers of two rows.
-use Rattle.std.proofs.Common.{◌≡◌, ◌≢◌, ℕ, zero, suc, mul_comm, ◌+◌, ◌-◌, ◌*◌, ◌/◌, ◌%◌, ◌^◌, ◌<◌, ◌≤◌, inl, inr, length, arith, ap, sym, ◌∙◌, refl, subst, eq-eqb}
-use Rattle.std.specs.Prelude.{Bool, true, false, sum, ◌==◌, ◌&&◌, Option, Some, None, MatchBool}
+-- Moves on the numbers of two rows.
+use Rattle.kalah_rules.specs.declared.step.Step.TheVariants as step
+use Rattle.kalah_rules.specs.Position as position
+use Rattle.std.proofs.Common.{◌≡◌, ◌≢◌, ℕ, zero, suc, mul_comm, ◌+◌, ◌-◌, ◌*◌, ◌/◌, ◌%◌, ◌^◌, ◌<◌, ◌≤◌, inl, inr, length, arith, ap, sym, ◌∙◌, refl, subst, eq-eqb, List}
+use Rattle.std.specs.Prelude.{Bool, true, false, sum, ◌==◌, ◌&&◌, Option, Some, None, MatchBool, cond, Contains, slice_set}
 use Rattle.std.proofs.lemmas.Nat.{mod_below, mul-le, mod-mul-add, div-add-mod', and_block, and_mask, and_le_r, pow_pos}
 use Rattle.std.specs.Int.Bits.{bit_and}
 use Rattle.std.proofs.Math.Nat.{div-eq_of_lt, mod-eq_of_lt, div-div-eq-div-mul}
 use Rattle.std.proofs.lemmas.Bool.{cases_Bool, cases_eq, cases_lt, eqb-true, eqb-false}
 use Rattle.std.proofs.lemmas.Bool.Decides.{nat_tests}
-use Rattle.kalah_rules.specs.Position.{Position, Rows, IsWithinHouses, side_length, seeds, opposite, seeds_in_houses, bare}
+use Rattle.kalah_rules.specs.Position.{Position, Rows, IsWithinHouses, side_length, seeds, opposite, seeds_in_houses, bare, IsWithinLimits, is_over, swapped, rows_of, with_stores, without_seeds}
 use Rattle.kalah_rules.specs.Lap.{HoldsSeeds, lifted}
 use Rattle.kalah_rules.specs.Sowing.{lap_length, own_distance, other_distance, store_distance, sow, sown, last_distance, last_house, is_again, captures, can_capture, capture, captured, after}
-use Rattle.kalah_rules.proofs.Numbers.{set_less}
+use Rattle.kalah_rules.proofs.PlayLemmas.{set_less, sow_side, sow_keeps, sow_other_store, own_distance_past, own_distance_back, last_house_own, last_house_store, last_house_other, after_at, same_position, legal_holds, after_nearer, sum-zeros, with_more, after_of_rows, legal_going}
 use Rattle.std.proofs.Math.ListN.{length-set}
-use Rattle.kalah_rules.proofs.Sown.{sow_side, sow_keeps, sow_other_store}
-use Rattle.kalah_rules.proofs.Laps.{own_distance_past, own_distance_back}
-use Rattle.kalah_rules.proofs.Legal.{last_house_own, last_house_store, last_house_other, after_at}
-use Rattle.kalah_rules.specs.Key.{number_of}
-use Rattle.kalah_rules.specs.Packed.{Shows, ones}
+use Rattle.kalah_rules.specs.Key.{number_of, rows_at, rule_bit}
+use Rattle.kalah_rules.specs.Packed.{Shows, ones, IsPacked}
 use Rattle.kalah_rules.specs.declared.houses.play.RowNumbers.{RowNumbers}
 use Rattle.kalah_rules.specs.declared.rule.Rule.{Rule}
 use Rattle.kalah_rules.specs.declared.houses.sowings.Sowing.{Sowing}
-use Rattle.kalah_rules.specs.Sowings.{own_gained, other_gained, store_gained, last_place, IsLastHouse, IsSowing}
-use Rattle.kalah_rules.proofs.Keys.{number_of-small}
-use Rattle.kalah_rules.proofs.Packing.{pow_five, pow_other, low_cell, moved_far, number_of-set, number_of-all, number_of-up_to, read_seeds, own_sown, other_sown, own_gain, other_gain}
+use Rattle.kalah_rules.specs.Sowings.{own_gained, other_gained, store_gained, last_place, IsLastHouse, IsSowing, IsSowingCell, AreSowings}
+use Rattle.kalah_rules.proofs.KeyLemmas.{number_of-small, pow_five, pow_other, low_cell, moved_far, number_of-set, number_of-all, number_of-up_to, read_seeds, own_sown, other_sown, own_gain, other_gain, IsPackOf, pack_of, packed_as, above_cells, sum-zero, number_of-zero, rows_number_at}
+use Rattle.std.proofs.lemmas.List.{length-replicate, get_or-set_same, get_or-set_other}
+use Rattle.kalah_rules.specs.Limits.{most_in_play}
+use Rattle.kalah_rules.specs.Play.{legal_houses, step_to, step_of}
+use Rattle.kalah_rules.specs.Measure.{IsNearerEnd}
+use Rattle.kalah_rules.specs.HousesStep.{houses_step_to, houses_step}
+use Rattle.kalah_rules.specs.declared.step.Step.{Step}
+use Rattle.kalah_rules.specs.declared.step.HousesStep.{HousesStep}
+use Rattle.kalah_rules.specs.declared.step.HousesStep.TheVariants.{Over, Again, Turn}
+
+-- ==== A move on the numbers of two rows
 
 -- what a sowing keeps
 pub record KeepsSeeds (p q : Position) : Type 0 where
@@ -534,3 +542,303 @@ move_leaves {a} {h} {s} {r} {rule} {last} {taken} w holds sowing shows same caug
             shows = after_own (bare a) h holds _ own leaves.shows;
           }
     ]
+
+-- ==== The result of a move on houses, as a board reports it
+
+-- ---- the parts of a step
+pub step_over : (q : Position) (again : Bool) → is_over q ≡ true
+    → houses_step_to q again ≡ Over (q.own_store + sum q.own) (q.other_store + sum q.other)
+step_over q again over = rw over refl
+
+-- a game that goes on with the mover
+pub step_again : (q : Position) (again : Bool) → is_over q ≡ false → again ≡ true
+    → houses_step_to q again ≡ Again q.own_store (rows_of q)
+step_again q again going more = rw (going, more) refl
+
+-- and with the other player
+pub step_turn : (q : Position) (again : Bool) → is_over q ≡ false → again ≡ false
+    → houses_step_to q again ≡ Turn q.own_store (rows_of (swapped q))
+step_turn q again going more = rw (going, more) refl
+
+-- what holds of both
+pub on_cond : {X : Type 0} (P : X → Type 0) (b : Bool) (s t : X) → (b ≡ true → P s) → (b ≡ false → P t) → P (cond b s t)
+on_cond P true s t h k = h refl
+on_cond P false s t h k = k refl
+
+-- a game that goes on also goes on for the other player
+pub over_swapped : (q : Position) → is_over q ≡ false → is_over (swapped q) ≡ false
+over_swapped q going = grind (arith, nat_tests)
+
+-- the houses of a board are within their limits
+pub rows_within : (p : Position) → IsWithinLimits p → IsWithinHouses (rows_of p)
+rows_within p l = record { some_house = l.some_house; at_most_six = l.at_most_six; same_side = l.same_side; few_seeds = l.few_seeds }
+
+-- and with them a board, if each store leaves room for their seeds
+limits_with : {a : Rows} {own other : ℕ} → IsWithinHouses a → own + seeds_in_houses (bare a) ≤ most_in_play →
+    other + seeds_in_houses (bare a) ≤ most_in_play → IsWithinLimits (with_stores a own other)
+limits_with w own other = record {
+  some_house = w.some_house;
+  at_most_six = w.at_most_six;
+  same_side = w.same_side;
+  few_seeds = w.few_seeds;
+  own_store_low = own;
+  other_store_low = other;
+}
+
+-- a move keeps the houses within the limits
+pub after_within : (a : Rows) (h : ℕ) → IsWithinHouses a → HoldsSeeds (bare a) h → IsWithinHouses (rows_of (after (bare a) h))
+after_within a h w holds =
+    let keeps = after_keeps a h w holds in
+    record {
+      some_house = omega (arith, keeps.side, w.some_house);
+      at_most_six = omega (arith, keeps.side, w.at_most_six);
+      same_side = keeps.other_side ∙ w.same_side ∙ sym keeps.side;
+      few_seeds = omega (arith, keeps.play, w.few_seeds);
+    }
+
+-- also as the other player sees them
+pub swapped_within : (q : Position) → IsWithinHouses (rows_of q) → IsWithinHouses (rows_of (swapped q))
+swapped_within q w = record {
+  some_house = omega (arith, w.same_side, w.some_house);
+  at_most_six = omega (arith, w.same_side, w.at_most_six);
+  same_side = sym w.same_side;
+  few_seeds = omega (arith, w.few_seeds);
+}
+
+-- ---- what `play` computes
+-- the move of house h leads to this step with the houses of a key, which are packed
+pub record IsStepTo (a : Rows) (h key seeds : ℕ) (step : Rows → HousesStep) : Type 0 where
+  pub packed : IsPacked key seeds
+  pub is : step (rows_at key) ≡ houses_step a h
+
+pub store_small : {a : Rows} {h : ℕ} {r : RowNumbers} → IsWithinHouses a → Contains (legal_houses (bare a)) h
+    → Shows r (after (bare a) h) →
+    r.store ≤ 31
+store_small {a} {h} {r} w has shows =
+    let keeps = after_keeps a h w (legal_holds (bare a) h has) in
+    omega (arith, shows.store, keeps.play, w.few_seeds)
+
+module _ {a : Rows} {h key seeds : ℕ} {r : RowNumbers} (packed : IsPacked key seeds) (view : rows_at key ≡ a)
+    (has : Contains (legal_houses (bare a)) h) (shows : Shows r (after (bare a) h)) where
+  -- the meaning of the fields
+  is : IsPackOf a key seeds
+  is = pack_of packed view
+
+  -- the position after the move
+  abbrev moved : Position
+  moved = after (bare a) h
+
+  -- which lost no seed
+  keeps : KeepsSeeds (bare a) moved
+  keeps = after_keeps a h is.limits (legal_holds (bare a) h has)
+
+  -- and keeps the limits
+  within : IsWithinHouses (rows_of moved)
+  within = after_within a h is.limits (legal_holds (bare a) h has)
+
+  -- what came is among the seeds
+  pub store_within : r.store ≤ seeds
+  store_within = omega (arith, shows.store, keeps.play, is.seeds_are)
+
+  -- the mover has no seeds left
+  pub over_own : r.rows % 2 ^ 30 ≡ 0 → Over r.store (seeds - r.store) ≡ houses_step a h
+  over_own none =
+      let empty : sum moved.own ≡ 0 = sum-zero moved.own (sym shows.own ∙ none) in
+      let over : is_over moved ≡ true = rw empty refl in
+      let mine : r.store ≡ moved.own_store + sum moved.own = omega (arith, shows.store, empty) in
+      let theirs : seeds - r.store ≡ moved.other_store + sum moved.other =
+      omega (arith, shows.store, keeps.play, keeps.other_store, is.seeds_are, empty) in
+      ap (λ x. Over x (seeds - r.store)) mine ∙ ap (λ x. Over (moved.own_store + sum moved.own) x) theirs
+      ∙ sym (step_over moved (is_again (bare a) h) over)
+
+  -- or the other player has none
+  pub over_other : r.rows / 2 ^ 30 ≡ 0 → Over seeds 0 ≡ houses_step a h
+  over_other none =
+      let empty : sum moved.other ≡ 0 = sum-zero moved.other (sym shows.other ∙ none) in
+      let over : is_over moved ≡ true = grind (arith, nat_tests, empty) in
+      let mine : seeds ≡ moved.own_store + sum moved.own = omega (arith, keeps.play, is.seeds_are, empty) in
+      let theirs : 0 ≡ moved.other_store + sum moved.other = omega (arith, keeps.other_store, empty) in
+      ap (λ x. Over x 0) mine ∙ ap (λ x. Over (moved.own_store + sum moved.own) x) theirs ∙ sym (step_over moved (is_again (bare a) h) over)
+
+  module _ (own_some : r.rows % 2 ^ 30 ≢ 0) (other_some : r.rows / 2 ^ 30 ≢ 0) where
+    -- or the game goes on
+    going : is_over moved ≡ false
+    going =
+        let own : sum moved.own ≢ 0 = λ e. own_some (shows.own ∙ number_of-zero moved.own e) in
+        let other : sum moved.other ≢ 0 = λ e. other_some (shows.other ∙ number_of-zero moved.other e) in
+        grind (arith, nat_tests, own, other)
+
+    -- with the mover
+    pub again_packed : is_again (bare a) h ≡ true → IsStepTo a h (r.rows + key / 2 ^ 60 * 2 ^ 60) (seeds - r.store) (Again r.store)
+    again_packed more =
+        let above = above_cells a key is.limits is.key_is in
+        let rule : rule_bit moved.rule ≡ rule_bit a.rule = ap rule_bit keeps.rule in
+        let there = packed_as (rows_of moved) (r.rows + key / 2 ^ 60 * 2 ^ 60) (seeds - r.store) within
+        (omega (arith, shows.own, shows.other, keeps.side)) (omega (arith, shows.store, keeps.play, is.seeds_are)) in
+        record { packed = there.0; is = rw (shows.store, there.1) (sym (step_again moved (is_again (bare a) h) going more)) }
+
+    -- or with the other player
+    pub turn_packed : is_again (bare a) h ≡ false →
+        IsStepTo a h (r.rows / 2 ^ 30 + 2 ^ 30 * (r.rows % 2 ^ 30) + key / 2 ^ 60 * 2 ^ 60) (seeds - r.store) (Turn r.store)
+    turn_packed passed =
+        let above = above_cells a key is.limits is.key_is in
+        let rule : rule_bit moved.rule ≡ rule_bit a.rule = ap rule_bit keeps.rule in
+        let there = packed_as (rows_of (swapped moved)) (r.rows / 2 ^ 30 + 2 ^ 30 * (r.rows % 2 ^ 30) + key / 2 ^ 60 * 2 ^ 60) (seeds - r.store)
+        (swapped_within moved within)
+        (omega (arith, shows.own, shows.other, keeps.other_side, is.limits.same_side))
+        (omega (arith, shows.store, keeps.play, is.seeds_are)) in
+        record { packed = there.0; is = rw (shows.store, there.1) (sym (step_turn moved (is_again (bare a) h) going passed)) }
+
+-- ---- a step on houses, applied to a position
+-- the step of a position whose houses make this one
+abbrev pub step_with : Position → HousesStep → Step
+step_with p (Over own other) = step.Over (with_stores (without_seeds (rows_of p)) (p.own_store + own) (p.other_store + other))
+step_with p (Again gained b) = step.Again (with_stores b (p.own_store + gained) p.other_store)
+step_with p (Turn gained b) = step.Turn (with_stores b p.other_store (p.own_store + gained))
+
+-- which keeps the limits
+abbrev pub IsStepWithin : Position → HousesStep → Type 0
+IsStepWithin p (Over own other) = IsWithinLimits (with_stores (without_seeds (rows_of p)) (p.own_store + own) (p.other_store + other))
+IsStepWithin p (Again gained b) = IsWithinLimits (with_stores b (p.own_store + gained) p.other_store)
+IsStepWithin p (Turn gained b) = IsWithinLimits (with_stores b p.other_store (p.own_store + gained))
+
+step_with_to : (p q : Position) (over again : Bool) → side_length q ≡ side_length p → q.rule ≡ p.rule → q.other_store ≡ 0
+    → is_over q ≡ over →
+    step_with p (houses_step_to q again) ≡ step_to (with_more p.own_store p.other_store q) again
+step_with_to p q true again side rule none is =
+    rw (is, side) (ap step.Over (same_position refl (omega arith) refl (omega arith) (sym rule)))
+step_with_to p q false true side rule none is =
+    rw is (ap step.Again (same_position refl (omega arith) refl (omega arith) refl))
+step_with_to p q false false side rule none is =
+    rw is (ap step.Turn (same_position refl (omega arith) refl (omega arith) refl))
+
+-- the step of a board is that of its houses
+pub step_is : (p : Position) (h : ℕ) → IsWithinHouses (rows_of p) → HoldsSeeds (bare (rows_of p)) h →
+    step_with p (houses_step (rows_of p) h) ≡ step_of p h
+step_is p h w holds =
+    let q = after (bare (rows_of p)) h in
+    let keeps = after_keeps (rows_of p) h w holds in
+    step_with_to p q (is_over q) (is_again p h) keeps.side keeps.rule keeps.other_store refl
+    ∙ ap (λ x. step_to x (is_again p h)) (sym (after_of_rows p h))
+
+-- and within the limits
+pub step_within : (p : Position) (h : ℕ) → IsWithinLimits p → HoldsSeeds (bare (rows_of p)) h
+    → IsStepWithin p (houses_step (rows_of p) h)
+step_within p h l holds =
+    let a = rows_of p in
+    let q = after (bare a) h in
+    let w = rows_within p l in
+    let keeps = after_keeps a h w holds in
+    let on = after_within a h w holds in
+    on_cond (IsStepWithin p) (is_over q) _ _
+    (λ over.
+    let side = length-replicate {A = ℕ} (side_length p) 0 in
+    let none = sum-zeros (side_length p) in
+    record {
+      some_house = omega (arith, side, l.some_house);
+      at_most_six = omega (arith, side, l.at_most_six);
+      same_side = refl;
+      few_seeds = omega (arith, none);
+      own_store_low = omega (arith, none, keeps.play, l.own_store_low);
+      other_store_low = omega (arith, none, keeps.play, keeps.other_store, l.other_store_low);
+    })
+    (λ going. on_cond (IsStepWithin p) (is_again (bare a) h) _ _
+    (λ again. limits_with on (omega (arith, keeps.play, l.own_store_low)) (omega (arith, keeps.play, l.other_store_low)))
+    (λ turn. limits_with (swapped_within q on) (omega (arith, keeps.play, l.other_store_low))
+    (omega (arith, keeps.play, l.own_store_low))))
+
+-- all that a board needs of a step of its houses
+pub record IsStepOf (p : Position) (h : ℕ) (s : HousesStep) : Type 0 where
+  pub same : step_with p s ≡ step_of p h
+  pub within : IsStepWithin p s
+  pub nearer : IsNearerEnd (after p h) p
+
+pub board_step : {b : Rows} {own_store other_store h : ℕ} {p : Position} {s t : HousesStep}
+    → IsWithinLimits (with_stores b own_store other_store) →
+    with_stores b own_store other_store ≡ p → Contains (legal_houses p) h → t ≡ s → t ≡ houses_step b h →
+    IsStepOf (with_stores b own_store other_store) h s
+board_step {b} {own_store} {other_store} {h} l view has to is =
+    let p = with_stores b own_store other_store in
+    let legal = subst (λ (x : Position). Contains (legal_houses x) h) (sym view) has in
+    let holds = legal_holds (bare b) h legal in
+    let w = rows_within p l in
+    record {
+      same = ap (step_with p) (sym to ∙ is) ∙ step_is p h w holds;
+      within = subst (IsStepWithin p) (sym is ∙ to) (step_within p h l holds);
+      nearer = after_nearer p h (legal_holds p h legal) (record { same = l.same_side });
+    }
+
+-- ==== Moves whose last seed falls into the store without a lap
+
+module _ {a : Rows} {h key seeds : ℕ} {r : RowNumbers} (packed : IsPacked key seeds) (view : rows_at key ≡ a)
+    (has : Contains (legal_houses (bare a)) h)
+    (ends : position.seeds a.own h + h ≡ length a.own + 1) (shows : Shows r (sown (bare a) h)) where
+  w : IsWithinHouses a
+  w = (pack_of packed view).limits
+
+  holds : HoldsSeeds (bare a) h
+  holds = legal_holds (bare a) h has
+
+  -- the last seed falls as far as the house has seeds
+  distance : last_distance (bare a) h ≡ position.seeds a.own h
+  distance = short_distance (bare a) h holds (omega (arith, ends, holds.first, w.some_house))
+
+  -- the mover moves again
+  again : is_again (bare a) h ≡ true
+  again = eq-eqb _ _ (omega (arith, distance, ends))
+
+  -- its place is that of the store
+  place : last_place (length a.own) h (position.seeds a.own h) ≡ length a.own + 1
+  place = eqb-true _ _ (sym (again_at (bare a) h holds) ∙ again)
+
+  -- nothing is captured
+  pub store_shows : Shows r (after (bare a) h)
+  store_shows = after_past (bare a) h holds r (omega (arith, place)) shows
+
+  -- and the other player has seeds as before
+  other_some : r.rows / 2 ^ 30 ≢ 0
+  other_some none =
+      let going = legal_going (bare a) h has in
+      let empty : sum a.other ≡ 0 = sum-zero a.other (omega (arith, other_is a h w holds, shows.other, none)) in
+      absurd (grind (arith, nat_tests, going, empty))
+
+  -- so the game goes on with the mover, if the mover has seeds left
+  pub store_packed : 0 < r.rows % 2 ^ 30 → IsStepTo a h (r.rows + key / 2 ^ 60 * 2 ^ 60) (seeds - r.store) (Again r.store)
+  store_packed some = again_packed packed view has store_shows (λ none. absurd (omega (arith, none, some))) other_some again
+
+-- what a move does to the key whose last seed falls into the store without a lap: `house` are the seeds of the
+-- house where they stand in the row, `own_more` is one seed in each house after it
+pub record MovesIntoStore (a : Rows) (h key seeds house own_more : ℕ) : Type 0 where
+  pub fits : house ≤ key
+  pub goes_on : 0 < (key - house + own_more) % 2 ^ 30 → IsStepTo a h (key - house + own_more) (seeds - 1) (Again 1)
+  pub over : (key - house + own_more) % 2 ^ 30 ≡ 0 → Over 1 (seeds - 1) ≡ houses_step a h
+
+pub moves_into_store : {a : Rows} {h key seeds house own_more : ℕ} → IsPacked key seeds → rows_at key ≡ a
+    → Contains (legal_houses (bare a)) h →
+    position.seeds a.own h + h ≡ length a.own + 1 → house ≡ 32 ^ (h - 1) * position.seeds a.own h
+    → own_more + ones h ≡ ones (length a.own) →
+    MovesIntoStore a h key seeds house own_more
+moves_into_store {a} {h} {key} {seeds} {house} {own_more} packed view has ends house_is own_more_is =
+    let pack = pack_of packed view in
+    let w = pack.limits in
+    let holds = legal_holds (bare a) h has in
+    let rows = rows_number_at a key w pack.key_is in
+    let shows = into_store a h w holds (key % 2 ^ 60) house own_more ends rows house_is own_more_is in
+    let lies : house ≤ key % 2 ^ 60 = omega (arith, rows, house_is, lifted_is a h w holds) in
+    let now : key - house + own_more ≡ (key % 2 ^ 60 - house + own_more) + key / 2 ^ 60 * 2 ^ 60 = omega (arith, lies) in
+    let own : (key - house + own_more) % 2 ^ 30 ≡ (key % 2 ^ 60 - house + own_more) % 2 ^ 30 = omega (arith, now) in
+    record {
+      fits = omega (arith, lies);
+      goes_on = λ some. rw now (store_packed packed view has ends shows (omega (arith, own, some)));
+      over = λ none. over_own packed view has (store_shows packed view has ends shows) (sym own ∙ none);
+    }
+
+-- ==== The cells of the table of sowings
+
+-- one cell more
+pub sowings_more : (cells : List Sowing) (i : ℕ) (s : Sowing) → i < length cells → AreSowings i cells →
+    ((m h c : ℕ) → IsSowingCell m h c i → IsSowing m h c s) → AreSowings (i + 1) (slice_set cells i s)
+sowings_more cells i s inside before is m h c k d cell below = elim (cases_eq k i) [
+  | inl same ↦ rw (same, get_or-set_same cells i s d inside) (is m h c (rw same at cell))
+  | inr other ↦ rw (get_or-set_other cells i k s d other) (before m h c k d cell (omega (arith, below, other)))
+]
