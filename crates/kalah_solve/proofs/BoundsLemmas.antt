@@ -1,4 +1,169 @@
-pub mod Steps
-pub mod SeedBounds
-pub mod Winnings
-pub mod Windows
+-- Shares of seeds, and the margins and windows that they make.
+use Rattle.std.proofs.Common.{◌≡◌, ℕ, ◌+◌, ◌*◌, ◌≤◌, arith, zero, suc, ◌-◌, ◌/◌, ◌<◌, inl, inr, ◌∙◌, ◌*ℤ◌, ap, w32, to_z, of_z}
+use Rattle.std.specs.Prelude.{max, min, ℤ, pos, ◌+ℤ◌, ◌-ℤ◌, ◌≤ℤ◌, false, sum, Contains, ◌<ℤ◌}
+use Rattle.std.specs.Int.{int_max, int_min}
+use Rattle.std.proofs.lemmas.Int.{ints, clamps}
+use Rattle.kalah_rules.specs.Limits.{most_seeds}
+use Rattle.kalah_solve.specs.declared.bounds.window.Window.{Window}
+use Rattle.kalah_solve.specs.Bounds.Intervals.{within, least_margin, most_margin, Encloses}
+use Rattle.std.proofs.lemmas.Bool.{cases_Bool}
+use Rattle.kalah_rules.specs.Position.{Rows, IsWithinHouses, seeds_in_houses, is_over, bare}
+use Rattle.kalah_rules.specs.Measure.{moves_left}
+use Rattle.kalah_rules.specs.Play.{legal_houses}
+use Rattle.kalah_rules.specs.HousesStep.{houses_step}
+use Rattle.kalah_rules.specs.declared.step.HousesStep.{HousesStep}
+use Rattle.kalah_rules.specs.declared.step.HousesStep.TheVariants.{Over, Again, Turn}
+use Rattle.kalah_solve.specs.Solver.Worth.{houses_worth, value_of_move}
+use Rattle.kalah_solve.proofs.WorthLemmas.{worth_of_step, LeadsTo, LeadsOn, worth_of_over, value_is, leads_on, worth_reached, value_le_worth}
+use Rattle.kalah_solve.specs.Bounds.Won.{count, won, won_by_step}
+use Rattle.kalah_solve.specs.declared.bounds.interval.Interval.{Interval}
+use Rattle.kalah_solve.specs.declared.bounds.seed_bounds.SeedBounds.{SeedBounds}
+
+-- ==== Shares of seeds and the margins that they make
+
+-- half of a number, rounded down, and 0 for one below 0
+pub record IsHalf (z : ℤ) (half : ℕ) : Type 0 where
+  pub low : pos (half + half) ≤ℤ int_max (pos 0) z
+  pub high : z ≤ℤ pos (half + half + 1)
+
+module _ (window : Window) (n low high : ℕ) (is_low : IsHalf (window.lo +ℤ pos n) low)
+    (is_high : IsHalf (window.hi +ℤ pos n +ℤ pos 1) high) where
+  -- the shares of a window's ends are in order
+  pub shares_ordered : low ≤ high
+  shares_ordered = omega (arith, ints, clamps, window.ordered, is_low.low, is_high.high)
+
+  -- and no more than all
+  pub shares_high : n ≤ most_seeds → high ≤ most_seeds
+  shares_high few = omega (arith, ints, clamps, is_high.low, window.high)
+
+  -- a share that is raised and lowered to them makes the same margin in the window
+  pub shares_apart : (t : ℕ) → t ≤ n → within window.lo window.hi (pos (2 * max low (min high t)) -ℤ pos n)
+      ≡ within window.lo window.hi (pos (2 * t) -ℤ pos n)
+  shares_apart t few = omega (arith, ints, clamps, window.ordered, is_low.low, is_low.high, is_high.low, is_high.high)
+
+-- ==== How many seeds a player takes: by houses, by a step, and by the best move
+
+-- a margin is that of a player who takes t of n seeds
+pub record IsShare (n : ℕ) (z : ℤ) (t : ℕ) : Type 0 where
+  pub few : t ≤ n
+  pub is : z +ℤ pos n ≡ pos (t + t)
+
+-- the share of a step, by those of the houses that it leads to
+step_share : (a : Rows) (s : HousesStep) → LeadsOn a s →
+    ((b : Rows) (gained : ℕ) → LeadsTo a gained b → (t : ℕ) × IsShare (seeds_in_houses (bare b)) (houses_worth b) t) →
+    (t : ℕ) × IsShare (seeds_in_houses (bare a)) (worth_of_step s) t
+step_share a (Over own other) leads each = (own, record { few = omega (arith, leads); is = omega (arith, ints, leads) })
+step_share a (Again gained b) leads each =
+    let on = each b gained leads in
+    (gained + on.0, record { few = omega (arith, leads.kept, on.1.few); is = omega (arith, ints, leads.kept, on.1.is) })
+step_share a (Turn gained b) leads each =
+    let on = each b gained leads in
+    let left = seeds_in_houses (bare b) - on.0 in
+    (gained + left, record { few = omega (arith, leads.kept); is = omega (arith, ints, leads.kept, on.1.few, on.1.is) })
+
+-- what houses are worth is the margin of some share of their seeds, by the moves left
+share_by : (n : ℕ) (a : Rows) → IsWithinHouses a → moves_left (bare a) < n → (t : ℕ)
+    × IsShare (seeds_in_houses (bare a)) (houses_worth a) t
+share_by zero a w few = absurd (omega arith)
+share_by (suc n) a w few = elim (cases_Bool (is_over (bare a))) [
+  | inl over ↦ (sum a.own, rw (worth_of_over (bare a) over) (record { few = omega arith; is = omega (arith, ints) }))
+  | inr going ↦
+      let at = worth_reached a w going in
+      rw (at.2, value_is a at.0 w at.1) (step_share a (houses_step a at.0) (leads_on a at.0 w at.1)
+      (λ b gained on. share_by n b on.limits (omega (arith, on.fewer))))
+]
+
+-- and the share is the one that the definition names
+share_is : (n : ℕ) (z : ℤ) (t : ℕ) → IsShare n z t → count (z +ℤ pos n) / 2 ≡ t
+share_is n z t bounds = rw bounds.is (omega arith)
+
+pub taken_share : (a : Rows) → IsWithinHouses a → IsShare (seeds_in_houses (bare a)) (houses_worth a) (won a)
+unfolding won
+taken_share a w =
+    let bounds = share_by (suc (moves_left (bare a))) a w (omega arith) in
+    rw (share_is (seeds_in_houses (bare a)) (houses_worth a) bounds.0 bounds.1) bounds.1
+
+-- so houses are worth what the mover takes less the others
+pub worth_of_taken : (a : Rows) → IsWithinHouses a → houses_worth a ≡ pos (won a + won a) -ℤ pos (seeds_in_houses (bare a))
+worth_of_taken a w = omega (arith, ints, (taken_share a w).is)
+
+-- and so no more than their seeds
+pub record IsUpTo (n : ℕ) (z : ℤ) : Type 0 where
+  pub low : (pos 0 -ℤ pos n) ≤ℤ z
+  pub high : z ≤ℤ pos n
+
+pub worth_up_to : (a : Rows) → IsWithinHouses a → IsUpTo (seeds_in_houses (bare a)) (houses_worth a)
+worth_up_to a w =
+    let bounds = taken_share a w in
+    record { low = omega (arith, ints, bounds.is, bounds.few); high = omega (arith, ints, bounds.is, bounds.few) }
+
+-- which lies in the widest window
+pub worth_low : (a : Rows) → IsWithinHouses a → least_margin ≤ℤ houses_worth a
+worth_low a w = omega (arith, ints, (worth_up_to a w).low, w.few_seeds)
+
+pub worth_high : (a : Rows) → IsWithinHouses a → houses_worth a ≤ℤ most_margin
+worth_high a w = omega (arith, ints, (worth_up_to a w).high, w.few_seeds)
+
+-- and the mover takes half of what they are worth and hold together
+pub half_is : (a : Rows) (worth : ℤ) (half : ℕ) → IsWithinHouses a → worth ≡ houses_worth a →
+    IsHalf (worth +ℤ pos (seeds_in_houses (bare a))) half → half ≡ won a
+half_is a worth half w e is = omega (arith, ints, clamps, e, (taken_share a w).is, is.low, is.high)
+
+-- the share of a move
+taken_of : (a : Rows) (s : HousesStep) → LeadsOn a s → IsShare (seeds_in_houses (bare a)) (worth_of_step s) (won_by_step s)
+taken_of a (Over own other) leads = record { few = omega (arith, leads); is = omega (arith, ints, leads) }
+taken_of a (Again gained b) leads =
+    let on = taken_share b leads.limits in
+    record { few = omega (arith, leads.kept, on.few); is = omega (arith, ints, leads.kept, on.is) }
+taken_of a (Turn gained b) leads =
+    let on = taken_share b leads.limits in
+    record { few = omega (arith, leads.kept); is = omega (arith, ints, leads.kept, on.few, on.is) }
+
+module _ (a : Rows) (w : IsWithinHouses a) where
+  -- the share of the move of house h
+  pub taken_by_move : (h : ℕ) → Contains (legal_houses (bare a)) h →
+      IsShare (seeds_in_houses (bare a)) (value_of_move (bare a) h) (won_by_step (houses_step a h))
+  taken_by_move h has = rw (value_is a h w has) (taken_of a (houses_step a h) (leads_on a h w has))
+
+  -- no move takes more than best play
+  pub taken_most : (h : ℕ) → Contains (legal_houses (bare a)) h → won_by_step (houses_step a h) ≤ won a
+  taken_most h has = omega (arith, ints, (taken_by_move h has).is, (taken_share a w).is, value_le_worth a h w has)
+
+  -- and some move takes as many
+  pub taken_reached : is_over (bare a) ≡ false → (h : ℕ) × Contains (legal_houses (bare a)) h
+      × (won_by_step (houses_step a h) ≡ won a)
+  taken_reached going =
+      let at = worth_reached a w going in
+      (at.0, at.1, omega (arith, ints, (taken_by_move at.0 at.1).is, (taken_share a w).is, at.2))
+
+-- ==== The answer of the search in a window
+
+-- an interval that leaves nothing of it open answers
+pub known_answers : (lo hi z : ℤ) (k : Interval) → lo <ℤ hi → Encloses k z → int_min hi k.hi ≤ℤ int_max lo k.lo →
+    within lo hi k.lo ≡ within lo hi z
+known_answers lo hi z k ordered holds none = omega (arith, ints, clamps, ordered, holds.low, holds.high, none)
+
+-- what the mover takes, raised and lowered to the shares that a window distinguishes, makes the worth in the window
+pub won_by_bounds : (a : Rows) (lo hi : ℤ) (n t : ℕ) (asked : SeedBounds) → IsWithinHouses a → n ≡ seeds_in_houses (bare a) →
+    asked.least ≤ asked.most →
+    ((u : ℕ) → u ≤ n → within lo hi (pos (2 * max asked.least (min asked.most u)) -ℤ pos n) ≡ within lo hi
+    (pos (2 * u) -ℤ pos n)) →
+    t ≡ max asked.least (min asked.most (won a)) → {answer : ℤ} →
+    answer ≡ within lo hi (to_z w32 (of_z w32 (to_z w32 (of_z w32 (pos 2 *ℤ to_z w32 t)) -ℤ to_z w32 n))) →
+    answer ≡ within lo hi (houses_worth a)
+won_by_bounds a lo hi n t asked w all ordered apart is e =
+    let margin : to_z w32 (of_z w32 (to_z w32 (of_z w32 (pos 2 *ℤ to_z w32 t)) -ℤ to_z w32 n)) ≡ pos (2 * t) -ℤ pos n =
+    omega (arith, ints, is, ordered, asked.few, all, w.few_seeds) in
+    let worth_is : pos (2 * won a) -ℤ pos n ≡ houses_worth a = omega (arith, ints, worth_of_taken a w, all) in
+    e ∙ ap (within lo hi) margin ∙ ap (λ s. within lo hi (pos (2 * s) -ℤ pos n)) is
+    ∙ apart (won a) (omega (arith, (taken_share a w).few, all)) ∙ ap (within lo hi) worth_is
+
+-- so does what the mover takes of an ending
+pub told_by_taken : (a : Rows) (lo hi : ℤ) (n t : ℕ) → IsWithinHouses a → n ≡ seeds_in_houses (bare a) → t ≡ won a →
+    {answer : ℤ} → answer ≡ within lo hi (to_z w32 (of_z w32 (to_z w32 (of_z w32 (pos 2 *ℤ to_z w32 t)) -ℤ to_z w32 n))) →
+    answer ≡ within lo hi (houses_worth a)
+told_by_taken a lo hi n t w all is e =
+    let few = (taken_share a w).few in
+    let margin : to_z w32 (of_z w32 (to_z w32 (of_z w32 (pos 2 *ℤ to_z w32 t)) -ℤ to_z w32 n)) ≡ houses_worth a =
+    omega (arith, ints, is, all, few, w.few_seeds, worth_of_taken a w) in
+    e ∙ ap (within lo hi) margin

@@ -1,6 +1,6 @@
-pub mod SolverLemmas
+pub mod WorthLemmas
 pub mod BoundsLemmas
-pub mod TableLemmas
-mod RowMarks
-mod HouseMarks
 pub mod SearchLemmas
+pub mod TableLemmas
+pub mod Crossing
+pub mod SolverLemmas

@@ -1,1 +1,706 @@
-pub mod Tries
+-- Marks of houses, and the moves that were tried.
+use Rattle.std.proofs.Common.{◌≡◌, ◌≢◌, ℕ, zero, suc, ◌+◌, ◌*◌, ◌/◌, ◌%◌, ◌^◌, ◌-◌, ◌<◌, ◌≤◌, inl, inr, List, [], ◌∷◌, get_or, arith, sym, refl, ap, ◌∙◌, length, subst}
+use Rattle.std.specs.Prelude.{min, sum, ◌↔◌, slice_index, Bool, true, false, IsTrue, Contains, max, slice_set}
+use Rattle.std.specs.Int.Bits.{bit_and, bit_or, bit_xor, xor_add_and, xor_self, xor_zero_r}
+use Rattle.std.proofs.lemmas.Nat.{leading_top, xor_lt, and_block, or_block, and_mask, and_le_l, and_le_r, or_lt, le_or_l, le_or_r, xor_mod, xor_shr}
+use Rattle.std.proofs.lemmas.List.Sums.{sum_by-cons}
+use Rattle.std.proofs.lemmas.Bool.{cases_lt, cases_eq}
+use Rattle.std.specs.Int.Count.{count_leading_zeros}
+use Rattle.std.proofs.Math.Pow.{pow_mono}
+use Rattle.kalah_rules.specs.Key.{number_of}
+use Rattle.kalah_rules.specs.Packed.{BeginsHouse}
+use Rattle.kalah_rules.proofs.KeyLemmas.{pow_five}
+use Rattle.kalah_solve.specs.RowMarks.{cell, each, distances, AreMarks, IsLastMark}
+use Rattle.std.proofs.lemmas.List.{get_or_past, get_or-set_same, get_or-set_other, get_or_default}
+use Rattle.kalah_rules.specs.Position.{Rows, IsWithinHouses, seeds, seeds_in_houses, is_over, bare}
+use Rattle.kalah_solve.specs.Search.Tried.{EndsInStore, IsSoftBound, WinsAtMost, IsTurnOf, AreWaiting}
+use Rattle.std.proofs.Math.ListN.{length-set}
+use Rattle.kalah_rules.specs.Play.{legal_houses}
+use Rattle.kalah_rules.specs.HousesStep.{houses_step}
+use Rattle.kalah_rules.specs.declared.step.HousesStep.TheVariants.{Turn}
+use Rattle.kalah_rules.proofs.PlayLemmas.{holds_legal, legal_holds}
+use Rattle.kalah_solve.specs.Bounds.Won.{won, won_by_step}
+use Rattle.kalah_solve.proofs.WorthLemmas.{leads_by}
+use Rattle.kalah_solve.proofs.BoundsLemmas.{taken_most, taken_reached}
+
+-- ==== Cells of a row, all at once
+
+-- no row, no cell
+pub cell_none : (i : ℕ) → cell 0 i ≡ 0
+cell_none zero = refl
+cell_none (suc i) = cell_none i
+
+-- ---- the last mark
+-- five bits more
+next_power : (q : ℕ) → 32 ^ suc q ≡ 32 * 32 ^ q
+next_power q = omega arith
+
+-- the highest cell with something
+pub top_cell : (q n : ℕ) → 32 ^ q ≤ n → n < 32 ^ suc q → 0 < cell n q
+top_cell zero n low high = omega (arith, low, high)
+top_cell (suc q) n low high = top_cell q (n / 32) (omega (arith, next_power q, low)) (omega (arith, next_power (suc q), high))
+
+-- one less there leaves the others
+pub others_stay : (q i n : ℕ) → 32 ^ q ≤ n → n < 32 ^ suc q → i ≢ q → cell (n - 32 ^ q) i ≡ cell n i
+others_stay zero zero n low high other = absurd (other refl)
+others_stay zero (suc i) n low high other = let same : (n - 1) / 32 ≡ n / 32 = omega (arith, low, high) in ap (λ k. cell k i) same
+others_stay (suc q) zero n low high other = omega (arith, next_power q, low)
+others_stay (suc q) (suc i) n low high other =
+    let rest : (n - 32 ^ suc q) / 32 ≡ n / 32 - 32 ^ q = omega (arith, next_power q, low) in
+    ap (λ k. cell k i) rest ∙ others_stay q i (n / 32) (omega (arith, next_power q, low)) (omega (arith, next_power (suc q), high))
+    (λ same. other (ap suc same))
+
+-- and no more of it
+top_less : (q n : ℕ) → 32 ^ q ≤ n → n < 32 ^ suc q → cell (n - 32 ^ q) q ≤ cell n q
+top_less zero n low high = omega (arith, low, high)
+top_less (suc q) n low high =
+    let rest : (n - 32 ^ suc q) / 32 ≡ n / 32 - 32 ^ q = omega (arith, next_power q, low) in
+    rw rest (top_less q (n / 32) (omega (arith, next_power q, low)) (omega (arith, next_power (suc q), high)))
+
+-- the highest cell with one bounds the number
+top_single : (q n : ℕ) → n < 32 ^ suc q → cell n q ≤ 1 → n < 2 * 32 ^ q
+top_single zero n high single = omega (arith, high, single)
+top_single (suc q) n high single =
+    let rest = top_single q (n / 32) (omega (arith, next_power (suc q), high)) single in
+    omega (arith, next_power q, rest)
+
+-- so what is left of some marks without the last was there before, and each that is missing was that one or was not marked
+module _ (marks h : ℕ) (is : IsLastMark marks h) where
+  pub last_marked : 0 < cell marks (h - 1)
+  last_marked = top_cell (h - 1) marks is.low is.high
+
+  pub left_before : (i : ℕ) → 0 < cell (marks - 32 ^ (h - 1)) i → 0 < cell marks i
+  left_before i some = elim (cases_eq i (h - 1)) [
+    | inl same ↦ rw same last_marked
+    | inr other ↦ omega (arith, some, others_stay (h - 1) i marks is.low is.high other)
+  ]
+
+  pub gone_before : (i : ℕ) → i ≢ h - 1 → cell (marks - 32 ^ (h - 1)) i ≡ 0 → cell marks i ≡ 0
+  gone_before i other none = sym (others_stay (h - 1) i marks is.low is.high other) ∙ none
+
+-- and there are fewer
+power_some : (q : ℕ) → 0 < 32 ^ q
+power_some zero = omega arith
+power_some (suc q) = omega (arith, next_power q, power_some q)
+
+pub marks_fall : (marks h : ℕ) → IsLastMark marks h → marks - 32 ^ (h - 1) < marks
+marks_fall marks h is = omega (arith, is.low, power_some (h - 1))
+
+-- the last mark is found by the leading zeros
+pub last_by_zeros : (marks zeros : ℕ) → 0 < marks → marks < 2 ^ 30 → zeros ≡ count_leading_zeros 64 marks
+    → IsLastMark marks ((63 - zeros) / 5 + 1)
+last_by_zeros marks zeros some small is =
+    let top = leading_top 64 marks some (omega (arith, small)) in
+    let q = (63 - zeros) / 5 in
+    let at : q + 1 - 1 ≡ q = omega arith in
+    let place : 63 - zeros ≡ top.0 = omega (arith, is, top.1) in
+    let low : 32 ^ q ≤ marks = let power : 2 ^ (5 * q) ≤ 2 ^ top.0 = pow_mono {i = 5 * q} (omega (arith, place)) in
+    omega (arith, power, pow_five q, top.2) in
+    let high : marks < 32 ^ suc q = let power : 2 ^ suc top.0 ≤ 2 ^ (5 * suc q) = pow_mono {i = suc top.0} (omega (arith, place)) in
+    omega (arith, power, pow_five (suc q), top.3) in
+    record {
+      first = omega arith;
+      last = elim (cases_lt q 6) [
+        | inl less ↦ omega (arith, less)
+        | inr many ↦ absurd (let power : 2 ^ 30 ≤ 2 ^ (5 * q) = pow_mono {i = 30} (omega (arith, many)) in omega
+            (arith, power, pow_five q, low, small))
+      ];
+      low = rw at low;
+      high = rw at high;
+    }
+
+-- they are where it begins
+pub last_begins : (marks zeros : ℕ) → 0 < marks → AreMarks marks → zeros ≡ count_leading_zeros 64 marks
+    → BeginsHouse (63 - zeros)
+last_begins marks zeros some are is =
+    let top = leading_top 64 marks some (omega (arith, are.small)) in
+    let q = (63 - zeros) / 5 in
+    let at : q + 1 - 1 ≡ q = omega arith in
+    let last = last_by_zeros marks zeros some are.small is in
+    let few = top_single q marks (rw at at last.high) (are.single q) in
+    let place : 63 - zeros ≡ top.0 = omega (arith, is, top.1) in
+    let whole : 5 * q ≡ 63 - zeros = elim (cases_lt (5 * q) (63 - zeros)) [
+      | inl less ↦ absurd (let power : 2 ^ suc (5 * q) ≤ 2 ^ top.0 = pow_mono {i = suc (5 * q)} (omega (arith, less, place)) in
+          omega (arith, power, pow_five q, top.2, few))
+      | inr same ↦ omega (arith, same)
+    ] in
+    record { whole = ap (λ n. 5 * n) at ∙ whole; last = omega (arith, whole, last.last) }
+
+-- and worth so much
+pub last_is_worth : (marks bit : ℕ) → marks < 2 ^ 30 → IsLastMark marks (bit / 5 + 1) → BeginsHouse bit →
+    1 * 2 ^ bit % 2 ^ 64 ≡ 32 ^ (bit / 5 + 1 - 1)
+last_is_worth marks bit small is begins =
+    let power = ap (λ n. 2 ^ n) begins.whole in
+    omega (arith, is.low, small, pow_five (bit / 5 + 1 - 1), power)
+
+-- the others are marks still
+pub marks_fewer : (marks h : ℕ) → AreMarks marks → IsLastMark marks h → AreMarks (marks - 32 ^ (h - 1))
+marks_fewer marks h are is = record {
+  small = omega (arith, are.small);
+  single = λ i. elim (cases_eq i (h - 1)) [
+    | inl same ↦ rw same (omega (arith, top_less (h - 1) marks is.low is.high, are.single (h - 1)))
+    | inr other ↦ rw (others_stay (h - 1) i marks is.low is.high other) (are.single i)
+  ];
+}
+
+-- cells past a small row are empty
+pub cell_past : (k i n : ℕ) → n < 32 ^ k → k ≤ i → cell n i ≡ 0
+cell_past zero i n small past = let none : n ≡ 0 = omega (arith, small) in ap (λ j. cell j i) none ∙ cell_none i
+cell_past (suc k) zero n small past = absurd (omega (arith, past))
+cell_past (suc k) (suc i) n small past = cell_past k i (n / 32) (omega (arith, next_power k, small)) (omega (arith, past))
+
+-- six cells with one at most are marks
+pub six_marks : (n : ℕ) → n < 2 ^ 30 → ((i : ℕ) → i < 6 → cell n i ≤ 1) → AreMarks n
+six_marks n small single = record {
+  small = small;
+  single = λ i. elim (cases_lt i 6) [ inl inside ↦ single i inside | inr past ↦ omega (arith, cell_past 6 i n small past) ];
+}
+
+-- ---- the cells of rows
+pub cell_of_row : (xs : List ℕ) (i : ℕ) → sum xs ≤ 31 → cell (number_of xs) i ≡ get_or xs i 0
+cell_of_row [] i few = cell_none i
+cell_of_row (x ∷ xs) zero few = let cons = sum_by-cons (λ (y : ℕ). y) x xs in omega (arith, cons, few)
+cell_of_row (x ∷ xs) (suc i) few =
+    let cons = sum_by-cons (λ (y : ℕ). y) x xs in
+    let rest : (x + 32 * number_of xs) / 32 ≡ number_of xs = omega (arith, cons, few) in
+    ap (λ k. cell k i) rest ∙ cell_of_row xs i (omega (arith, cons, few))
+
+-- a cell before others
+first_cell : (d r : ℕ) → d < 32 → (r * 32 + d) % 32 ≡ d
+first_cell d r small = omega (arith, small)
+
+later_cell : (d r i : ℕ) → d < 32 → cell (r * 32 + d) (suc i) ≡ cell r i
+later_cell d r i small = let rest : (r * 32 + d) / 32 ≡ r = omega (arith, small) in ap (λ j. cell j i) rest
+
+-- ---- cells that hold something
+-- of one cell: whether it holds something, by its top bit once fifteen were added
+one_filled : (x : ℕ) → x < 32 → bit_or (bit_and x 15 + 15) x / 16 ≡ min 1 x
+one_filled x small = elim (cases_eq x 0) [
+  | inl none ↦ rw none refl
+  | inr some ↦
+      let low : bit_and x 15 ≡ x % 16 = and_mask x 4 in
+      let most : bit_or (bit_and x 15 + 15) x < 32 = or_lt 5 (bit_and x 15 + 15) x (omega (arith, low)) small in
+      omega (arith, some, small, low, most, le_or_l (bit_and x 15 + 15) x, le_or_r (bit_and x 15 + 15) x)
+]
+
+-- of the first k cells
+abbrev pub filled_cells : ℕ → ℕ → ℕ
+filled_cells k n = bit_and (bit_or (bit_and n (each k 15) + each k 15) n / 16) (each k 1)
+
+-- one cell after another
+filled_step : (k x r : ℕ) → x < 32 → filled_cells (suc k) (r * 32 + x) ≡ filled_cells k r * 32 + min 1 x
+filled_step k x r small =
+    let fifteens = each k 15 in
+    let low = bit_and x 15 in
+    let high = bit_and r fifteens in
+    let low_is : low ≤ 15 = and_le_r x 15 in
+    let both : bit_and (r * 32 + x) (fifteens * 32 + 15) ≡ high * 32 + low = and_block 5 r fifteens x 15 small (omega arith) in
+    let added : high * 32 + low + (fifteens * 32 + 15) ≡ (high + fifteens) * 32 + (low + 15) = omega arith in
+    let d = bit_or (low + 15) x in
+    let rest = bit_or (high + fifteens) r in
+    let d_small : d < 32 = or_lt 5 (low + 15) x (omega (arith, low_is)) small in
+    let either : bit_or ((high + fifteens) * 32 + (low + 15)) (r * 32 + x) ≡ rest * 32 + d =
+    or_block 5 (high + fifteens) r (low + 15) x (omega (arith, low_is)) small in
+    let halved : (rest * 32 + d) / 16 ≡ rest / 16 * 32 + (rest % 16 * 2 + d / 16) = omega (arith, d_small) in
+    let marks : bit_and (rest / 16 * 32 + (rest % 16 * 2 + d / 16)) (each k 1 * 32 + 1)
+    ≡ bit_and (rest / 16) (each k 1) * 32 + bit_and (rest % 16 * 2 + d / 16) 1 =
+    and_block 5 (rest / 16) (each k 1) (rest % 16 * 2 + d / 16) 1 (omega (arith, d_small)) (omega arith) in
+    let parity : bit_and (rest % 16 * 2 + d / 16) 1 ≡ (rest % 16 * 2 + d / 16) % 2 = and_mask (rest % 16 * 2 + d / 16) 1 in
+    let one : d / 16 ≡ min 1 x = one_filled x small in
+    let last : (rest % 16 * 2 + d / 16) % 2 ≡ min 1 x = omega (arith, one) in
+    rw (both, added, either, halved, marks, parity, last) refl
+
+filled_next : (k n : ℕ) → filled_cells (suc k) n ≡ filled_cells k (n / 32) * 32 + min 1 (n % 32)
+filled_next k n =
+    let parts : n ≡ n / 32 * 32 + n % 32 = omega arith in
+    ap (λ j. filled_cells (suc k) j) parts ∙ filled_step k (n % 32) (n / 32) (omega arith)
+
+pub filled_cell : (k n i : ℕ) → i < k → cell (filled_cells k n) i ≡ min 1 (cell n i)
+filled_cell zero n i inside = absurd (omega (arith, inside))
+filled_cell (suc k) n zero inside =
+    ap (λ j. j % 32) (filled_next k n) ∙ first_cell (min 1 (n % 32)) (filled_cells k (n / 32)) (omega arith)
+filled_cell (suc k) n (suc i) inside =
+    ap (λ j. cell j (suc i)) (filled_next k n) ∙ later_cell (min 1 (n % 32)) (filled_cells k (n / 32)) i (omega arith)
+    ∙ filled_cell k (n / 32) i (omega (arith, inside))
+
+-- ---- cells that are compared
+pub cell_xor : (i a b : ℕ) → cell (bit_xor a b) i ≡ bit_xor (cell a i) (cell b i)
+cell_xor zero a b = xor_mod a b 5
+cell_xor (suc i) a b = ap (λ k. cell k i) (xor_shr a b 5) ∙ cell_xor i (a / 32) (b / 32)
+
+-- two numbers are apart by nothing only if they are equal
+xor_apart : (a b : ℕ) → bit_xor a b ≡ 0 → a ≡ b
+xor_apart a b none = omega (arith, none, xor_add_and a b, and_le_l a b, and_le_r a b)
+
+pub cell_of_each : (k i : ℕ) → i < k → cell (each k 1) i ≡ 1
+cell_of_each zero i inside = absurd (omega (arith, inside))
+cell_of_each (suc k) zero inside = omega arith
+cell_of_each (suc k) (suc i) inside = later_cell 1 (each k 1) i (omega arith) ∙ cell_of_each k i (omega (arith, inside))
+
+pub past_each : (k i : ℕ) → k ≤ i → cell (each k 1) i ≡ 0
+past_each zero i past = cell_none i
+past_each (suc k) zero past = absurd (omega (arith, past))
+past_each (suc k) (suc i) past = later_cell 1 (each k 1) i (omega arith) ∙ past_each k i (omega (arith, past))
+
+pub cell_of_distances : (m i : ℕ) → m ≤ 6 → cell (distances m) i ≡ m - i
+cell_of_distances zero i few = cell_none i ∙ omega arith
+cell_of_distances (suc m) zero few = omega (arith, few)
+cell_of_distances (suc m) (suc i) few = later_cell (suc m) (distances m) i (omega (arith, few))
+    ∙ cell_of_distances m i (omega (arith, few)) ∙ omega arith
+
+-- one mark, of a cell whose value equals its distance
+one_ending : (x d : ℕ) → (0 < bit_xor (min 1 (bit_xor x d)) 1) ↔ (x ≡ d)
+one_ending x d = elim (cases_eq x d) [
+  | inl same ↦
+      let none : bit_xor x d ≡ 0 = rw same (xor_self d) in
+      let marked : bit_xor (min 1 (bit_xor x d)) 1 ≡ 1 = rw none refl in
+      (λ some. same, λ is. omega (arith, marked))
+  | inr other ↦
+      let some : 0 < bit_xor x d = elim (cases_eq (bit_xor x d) 0)
+      [ inl none ↦ absurd (other (xor_apart x d none)) | inr more ↦ omega (arith, more) ] in
+      let full : min 1 (bit_xor x d) ≡ 1 = omega (arith, some) in
+      let none : bit_xor (min 1 (bit_xor x d)) 1 ≡ 0 = rw full refl in
+      (λ marked. absurd (omega (arith, none, marked)), λ is. absurd (other is))
+]
+
+-- the marks of a row of m cells, by what was found of all of them at once
+module _ (f d e m n i : ℕ) (few : m ≤ 6) (d_is : d ≡ distances m) (e_is : e ≡ each m 1)
+    (f_is : cell f i ≡ min 1 (cell (bit_xor n d) i)) where
+  ending_cell : cell (bit_xor f e) i ≡ bit_xor (min 1 (bit_xor (cell n i) (m - i))) (cell (each m 1) i)
+  ending_cell =
+      let compared : cell (bit_xor n d) i ≡ bit_xor (cell n i) (m - i) =
+      cell_xor i n d ∙ ap (λ j. bit_xor (cell n i) j) (ap (λ k. cell k i) d_is ∙ cell_of_distances m i few) in
+      cell_xor i f e ∙ ap (λ k. bit_xor (cell f i) (cell k i)) e_is
+      ∙ ap (λ j. bit_xor j (cell (each m 1) i)) (f_is ∙ ap (λ j. min 1 j) compared)
+
+  pub ending_marked : i < m → (0 < cell (bit_xor f e) i) ↔ (cell n i + i ≡ m)
+  ending_marked inside =
+      let is : cell (bit_xor f e) i ≡ bit_xor (min 1 (bit_xor (cell n i) (m - i))) 1 =
+      ending_cell ∙ ap (λ j. bit_xor (min 1 (bit_xor (cell n i) (m - i))) j) (cell_of_each m i inside) in
+      let one = one_ending (cell n i) (m - i) in (
+        λ some. omega (arith, inside, one.0 (omega (arith, is, some))),
+        λ ends. let same : cell n i ≡ m - i = omega (arith, ends) in
+            omega (arith, is, one.1 same),
+      )
+
+  pub ending_past : m ≤ i → cell n i ≡ 0 → cell (bit_xor f e) i ≡ 0
+  ending_past past none =
+      let at : m - i ≡ 0 = omega (arith, past) in
+      ending_cell ∙ rw (none, at, past_each m i past) refl
+
+  pub ending_single : cell (bit_xor f e) i ≤ 1
+  ending_single =
+      let one : cell (each m 1) i < 2 = elim
+      (cases_lt i m) [ inl inside ↦ omega (arith, cell_of_each m i inside) | inr past ↦ omega (arith, past_each m i past) ] in
+      omega (arith, ending_cell, xor_lt 1 (min 1 (bit_xor (cell n i) (m - i))) (cell (each m 1) i) (omega arith) one)
+
+-- one mark, of a cell that is filled and not among others that are
+pub one_other : (x f e : ℕ) → f ≡ min 1 x → e ≤ 1 → (0 < e → 0 < x) → (0 < bit_xor f e) ↔ ((0 < x) × ¬ (0 < e))
+one_other x f e f_is single within = elim (cases_eq e 0) [
+  | inl none ↦
+      let is : bit_xor f e ≡ f = ap (λ k. bit_xor f k) none ∙ xor_zero_r f in (
+        λ some. (omega (arith, is, some, f_is), λ marked. omega (arith, none, marked)),
+        λ both. let some = both.0 in omega (arith, is, some, f_is),
+      )
+  | inr some ↦
+      let full : f ≡ 1 = let has = within (omega (arith, some)) in omega (arith, f_is, has) in
+      let one : e ≡ 1 = omega (arith, some, single) in
+      let none : bit_xor f e ≡ 0 = rw (full, one) refl in
+      (λ marked. absurd (omega (arith, none, marked)), λ both. absurd (both.1 (omega (arith, some))))
+]
+
+-- ==== Marks of a player's houses, by the cells of their row
+
+module _ (a : Rows) (row : ℕ) (w : IsWithinHouses a) (row_is : row ≡ number_of a.own) where
+  -- the cells of the mover's row
+  own_cell : (i : ℕ) → cell row i ≡ slice_index a.own i
+  own_cell i = ap (λ n. cell n i) row_is ∙ cell_of_row a.own i (omega (arith, w.few_seeds))
+
+  -- past the last house there is none
+  own_past : (i : ℕ) → length a.own ≤ i → slice_index a.own i ≡ 0
+  own_past i past = get_or_past a.own i 0 past
+
+  -- the last seed of a house falls into the store if its number of seeds equals its distance
+  ends_at : (i : ℕ) → EndsInStore a (i + 1) ↔ (slice_index a.own i + i ≡ length a.own)
+  ends_at i =
+      let at : slice_index a.own (i + 1 - 1) ≡ slice_index a.own i = let place : i + 1 - 1 ≡ i = omega arith in
+      ap (λ j. slice_index a.own j) place in
+      (λ ends. omega (arith, at, ends), λ is. omega (arith, at, is))
+
+  -- what is marked has seeds
+  pub filled_marked : (n i : ℕ) → n < 2 ^ 30 → ((j : ℕ) → j < 6 → cell n j ≡ min 1 (cell row j)) →
+      (0 < cell n i) ↔ (0 < slice_index a.own i)
+  filled_marked n i small cells = elim (cases_lt i 6) [
+    | inl inside ↦
+        let is = cells i inside in
+        (λ some. omega (arith, is, own_cell i, some), λ some. omega (arith, is, own_cell i, some))
+    | inr past ↦
+        let none = cell_past 6 i n small past in
+        let nothing = own_past i (omega (arith, past, w.at_most_six)) in
+        (λ some. absurd (omega (arith, none, some)), λ some. absurd (omega (arith, nothing, some)))
+  ]
+
+  -- the marks of those that end in the store
+  module _ (m n : ℕ) (side : m ≡ length a.own) (small : n < 2 ^ 30)
+      (inside : (i : ℕ) → i < m → (0 < cell n i) ↔ (cell row i + i ≡ m))
+      (past : (i : ℕ) → i < 6 → m ≤ i → cell row i ≡ 0 → cell n i ≡ 0) where
+    pub again_marked : (i : ℕ) → (0 < cell n i) ↔ ((i < length a.own) × EndsInStore a (i + 1))
+    again_marked i = elim (cases_lt i m) [
+      | inl is_inside ↦
+          let marked = inside i is_inside in (
+            λ some. (omega (arith, is_inside, side), (ends_at i).1 (omega (arith, marked.0 some, own_cell i, side))),
+            λ both. marked.1 (omega (arith, (ends_at i).0 both.1, own_cell i, side)),
+          )
+      | inr is_past ↦
+          let none : cell n i ≡ 0 = elim (cases_lt i 6) [
+            | inl low ↦ past i low is_past (own_cell i ∙ own_past i (omega (arith, is_past, side)))
+            | inr high ↦ cell_past 6 i n small high
+          ] in
+          (λ some. absurd (omega (arith, none, some)), λ both. absurd (let low = both.0 in omega (arith, low, is_past, side)))
+    ]
+
+    -- and those of the others with seeds
+    pub other_marked : (f i : ℕ) → f < 2 ^ 30 → ((j : ℕ) → j < 6 → cell f j ≡ min 1 (cell row j)) →
+        ((j : ℕ) → j < 6 → cell n j ≤ 1) →
+        cell (bit_xor f n) i ≡ bit_xor (cell f i) (cell n i) →
+        (0 < cell (bit_xor f n) i) ↔ ((0 < slice_index a.own i) × ¬ EndsInStore a (i + 1))
+    other_marked f i few cells single apart = elim (cases_lt i 6) [
+      | inl low ↦
+          let again = again_marked i in
+          let within : 0 < cell n i → 0 < cell row i =
+          λ some. let both = again.0 some in let ends = (ends_at i).0 both.1 in let before = both.0 in
+          omega (arith, ends, own_cell i, before) in
+          let one = one_other (cell row i) (cell f i) (cell n i) (cells i low) (single i low) within in (
+            λ some. let both = one.0 (omega (arith, apart, some)) in
+                let filled : 0 < slice_index a.own i = let has = both.0 in omega (arith, has, own_cell i) in (
+                  filled,
+                  λ ends. both.1 (again.1 (
+                    elim (cases_lt i (length a.own)) [
+                      | inl before ↦ before
+                      | inr beyond ↦ absurd
+                          (omega (arith, filled, own_past i beyond))
+                    ],
+                    ends,
+                  )),
+                ),
+            λ both. let has = both.0 in
+                let marked = one.1 (omega (arith, has, own_cell i), λ some. both.1 (again.0 some).1) in
+                omega (arith, apart, marked),
+          )
+      | inr high ↦
+          let none = cell_past 6 i (bit_xor f n) (xor_lt 30 f n few small) high in
+          let nothing = own_past i (omega (arith, high, w.at_most_six)) in
+          (λ some. absurd (omega (arith, none, some)), λ both. absurd (let has = both.0 in omega (arith, nothing, has)))
+    ]
+
+-- ==== The moves that were tried, and those that wait with a priority
+
+-- the meaning of a passed test, and of a failed one
+pub enough_of : (r : Bool) (bar x : ℕ) → (IsTrue r ↔ bar ≤ x) → r ≡ true → bar ≤ x
+enough_of r bar x says here = says.0 here
+
+pub short_of : (r : Bool) (bar x : ℕ) → (IsTrue r ↔ bar ≤ x) → r ≡ false → x < bar
+short_of r bar x says fails = elim (cases_lt x bar) [
+  | inl less ↦ less
+  | inr enough ↦ absurd (let here = says.1 (omega (arith, enough)) in cc)
+]
+
+-- a bound is at most the greater of `bar` and the number
+pub bound_up_to : (bar number bound : ℕ) → IsSoftBound bar number bound → bound ≤ max bar number
+bound_up_to bar number bound is = elim (cases_lt bound bar) [
+  | inl less ↦ omega (arith, less)
+  | inr enough ↦ omega (arith, is.lower enough)
+]
+
+-- the most of some bounds that fall short falls short too, unless it is 0
+pub low_more : (bar most bound new : ℕ) → (bar ≤ most → most ≡ 0) → bound < bar → new ≡ max most bound → bar ≤ new
+    → new ≡ 0
+low_more bar most bound new low short is enough = elim (cases_lt most bar) [
+  | inl less ↦ absurd (omega (arith, is, short, less, enough))
+  | inr more ↦ absurd (omega (arith, short, more, low more))
+]
+
+-- what is left of all is bounded by what the bound leaves
+pub bound_left : (bar all seeds gained number bound : ℕ) → all ≡ gained + seeds → number ≤ seeds → gained < bar
+    → bar ≤ all →
+    IsSoftBound (all - bar + 1) number bound → IsSoftBound bar (gained + (seeds - number)) (all - bound)
+bound_left bar all seeds gained number bound is few low high b = elim (cases_lt bound (all - bar + 1)) [
+  | inl less ↦ let most = b.upper less in
+      record { lower = λ enough. omega (arith, is, few, most, less, high); upper = λ short. absurd (omega (arith, short, less, high)) }
+  | inr enough ↦ let least = b.lower (omega (arith, enough)) in
+      record {
+        lower = λ reached. absurd (omega (arith, reached, enough, low, is, least, few));
+        upper = λ short. omega (arith, is, few, least);
+      }
+]
+
+-- a house with seeds may be moved, if the game goes on
+pub filled_legal : (a : Rows) (h : ℕ) → is_over (bare a) ≡ false → 1 ≤ h → h ≤ length a.own → 0 < seeds a.own h →
+    Contains (legal_houses (bare a)) h
+filled_legal a h going first last some = holds_legal (bare a) h (record { first = first; last = last; some = some }) going
+
+-- a bound of a move that is enough is no more than best play takes
+pub move_enough : (a : Rows) (bar h bound : ℕ) → IsWithinHouses a → Contains (legal_houses (bare a)) h →
+    IsSoftBound bar (won_by_step (houses_step a h)) bound → bar ≤ bound → bound ≤ won a
+move_enough a bar h bound w has is enough = omega (arith, is.lower enough, taken_most a w h has)
+
+-- the same of a turn that was kept
+turn_bound : (a : Rows) (bar h priority bound : ℕ) (b : Rows) → IsTurnOf a h priority b →
+    IsSoftBound bar (seeds_in_houses (bare a) - seeds_in_houses (bare b) + (seeds_in_houses (bare b) - won b)) bound →
+    IsSoftBound bar (won_by_step (houses_step a h)) bound
+turn_bound a bar h priority bound b turn is = rw turn.step is
+
+pub turn_enough : (a : Rows) (bar h priority bound : ℕ) (b : Rows) → IsWithinHouses a → IsTurnOf a h priority b →
+    IsSoftBound bar (seeds_in_houses (bare a) - seeds_in_houses (bare b) + (seeds_in_houses (bare b) - won b)) bound → bar ≤ bound
+    → bound ≤ won a
+turn_enough a bar h priority bound b w turn is = move_enough a bar h bound w turn.legal (turn_bound a bar h priority bound b turn is)
+
+pub turn_at_most : (a : Rows) (bar h priority bound : ℕ) (b : Rows) → IsTurnOf a h priority b →
+    IsSoftBound bar (seeds_in_houses (bare a) - seeds_in_houses (bare b) + (seeds_in_houses (bare b) - won b)) bound → bound < bar
+    → WinsAtMost a bound h
+turn_at_most a bar h priority bound b turn is short = (turn_bound a bar h priority bound b turn is).upper short
+
+-- a turn that was played waits
+pub turn_of : (a : Rows) (h priority gained : ℕ) (b : Rows) → IsWithinHouses a → Contains (legal_houses (bare a)) h →
+    Turn gained b ≡ houses_step a h → priority % 8 + 1 ≡ h → IsTurnOf a h priority b
+turn_of a h priority gained b w has is house =
+    let on = leads_by a h (Turn gained b) w has is in
+    let brought : gained ≡ seeds_in_houses (bare a) - seeds_in_houses (bare b) = omega (arith, on.kept) in
+    record { legal = has; step = sym is ∙ ap (λ g. Turn g b) brought; house = house }
+
+-- the other player has no more seeds than there were
+pub turn_keeps : (a : Rows) (h priority : ℕ) (b : Rows) → IsWithinHouses a → IsTurnOf a h priority b →
+    seeds_in_houses (bare b) ≤ seeds_in_houses (bare a)
+turn_keeps a h priority b w turn =
+    let on = leads_by a h (Turn _ b) w turn.legal (sym turn.step) in
+    omega (arith, on.kept)
+
+-- best play takes no more than each legal move does
+pub all_at_most : (a : Rows) (most : ℕ) → IsWithinHouses a → is_over (bare a) ≡ false →
+    ((h : ℕ) → Contains (legal_houses (bare a)) h → WinsAtMost a most h) → won a ≤ most
+all_at_most a most w going each = let best = taken_reached a w going in omega (arith, best.2, each best.0 best.1)
+
+-- each house with a priority waits with its turn
+pub record AreTurns (a : Rows) (priorities : List ℕ) (turns : List Rows) : Type 0 where
+  pub cells : length priorities ≡ 8
+  pub each : (k : ℕ) → 0 < get_or priorities k 0 → (d : Rows) → IsTurnOf a (k + 1) (get_or priorities k 0) (get_or turns k d)
+
+-- one house more
+turns_more : (a : Rows) (h : ℕ) (priorities : List ℕ) (turns : List Rows) (v : ℕ) (b : Rows) → AreTurns a priorities turns →
+    length turns ≡ 6 → 1 ≤ h → h ≤ 6 → IsTurnOf a h v b →
+    AreTurns a (slice_set priorities (h - 1) v) (slice_set turns (h - 1) b)
+turns_more a h priorities turns v b are places low last is = let inside : h - 1 < length turns =
+    omega (arith, places, low, last) in record {
+      cells = length-set priorities (h - 1) v ∙ are.cells;
+      each = λ k high d. elim (cases_eq k (h - 1)) [
+        | inl same ↦
+            let at : h ≡ k + 1 = omega arith in
+            let place : h - 1 < length priorities = omega (arith, are.cells, low, last) in
+            rw (same, get_or-set_same priorities (h - 1) v 0 place, get_or-set_same turns (h - 1) b d inside)
+            (subst (λ i. IsTurnOf a i v b) (at ∙ ap (λ i. i + 1) same) is)
+        | inr other ↦
+            rw (get_or-set_other priorities (h - 1) k v 0 other, get_or-set_other turns (h - 1) k b d other)
+            (are.each k (rw (get_or-set_other priorities (h - 1) k v 0 other) at high) d)
+      ];
+    }
+
+-- one that waits no more
+turns_fewer : (a : Rows) (priorities : List ℕ) (turns : List Rows) (at : ℕ) → AreTurns a priorities turns → at < 6 →
+    AreTurns a (slice_set priorities at 0) turns
+turns_fewer a priorities turns at are place = let inside : at < length priorities = omega (arith, are.cells) in record {
+  cells = length-set priorities at 0 ∙ are.cells;
+  each = λ k high. elim (cases_eq k at) [
+    | inl same ↦
+        let none : get_or (slice_set priorities at 0) k 0 ≡ 0 = rw same (get_or-set_same priorities at 0 0 inside) in
+        absurd (omega (arith, none))
+    | inr other ↦ λ d. rw (get_or-set_other priorities at k 0 0 other)
+        (are.each k (rw (get_or-set_other priorities at k 0 0 other) at high) d)
+  ];
+}
+
+-- the house that a priority names waits with it
+pub record WaitsWith (a : Rows) (priorities : List ℕ) (turns : List Rows) (r : ℕ) : Type 0 where
+  pub place : r % 8 < 6
+  pub priority : get_or priorities (r % 8) 0 ≡ r
+  pub turn : (d : Rows) → IsTurnOf a (r % 8 + 1) r (get_or turns (r % 8) d)
+
+-- each house with a priority waits, and each other one that may be moved takes at most `most` seeds, or ends in the store, or is
+-- still marked
+pub record ArePlayed (a : Rows) (most marks : ℕ) (priorities : List ℕ) (turns : List Rows) : Type 0 where
+  pub waiting : AreTurns a priorities turns
+  pub places : length turns ≡ 6
+  pub others : (i : ℕ) → Contains (legal_houses (bare a)) i → cell marks (i - 1) ≡ 0 → get_or priorities (i - 1) 0 ≡ 0 →
+      ¬ EndsInStore a i → WinsAtMost a most i
+
+-- the last marked house was played
+module _ (a : Rows) (most marks h : ℕ) (priorities : List ℕ) (turns : List Rows) (is : ArePlayed a most marks priorities turns)
+    (last : IsLastMark marks h) where
+  -- and waits with a priority
+  pub played_more : (v : ℕ) (b : Rows) → 0 < v → IsTurnOf a h v b →
+      ArePlayed a most (marks - 32 ^ (h - 1)) (slice_set priorities (h - 1) v) (slice_set turns (h - 1) b)
+  played_more v b some turn = let inside : h - 1 < length priorities = omega (arith, is.waiting.cells, last.first, last.last) in record {
+    waiting = turns_more a h priorities turns v b is.waiting is.places last.first last.last turn;
+    places = length-set turns (h - 1) b ∙ is.places;
+    others = λ i may gone none apart. elim (cases_eq i h) [
+      | inl same ↦
+          let at : v ≡ 0 = sym (get_or-set_same priorities (h - 1) v 0 inside)
+          ∙ subst (λ j. get_or (slice_set priorities (h - 1) v) (j - 1) 0 ≡ 0) same none in
+          absurd (omega (arith, some, at))
+      | inr other ↦
+          let first = (legal_holds (bare a) i may).first in
+          let place : i - 1 ≢ h - 1 = omega (arith, first, last.first, other) in
+          is.others i may (gone_before marks h last (i - 1) place gone)
+          (rw (get_or-set_other priorities (h - 1) (i - 1) v 0 place) at none) apart
+    ];
+  }
+
+  -- or takes at most `bound`
+  pub played_bound : (bound new : ℕ) → WinsAtMost a bound h → new ≡ max most bound
+      → ArePlayed a new (marks - 32 ^ (h - 1)) priorities turns
+  played_bound bound new takes new_is = record {
+    waiting = is.waiting;
+    places = is.places;
+    others = λ i may gone none apart. elim (cases_eq i h) [
+      | inl same ↦ rw same (omega (arith, new_is, takes))
+      | inr other ↦
+          let first = (legal_holds (bare a) i may).first in
+          let place : i - 1 ≢ h - 1 = omega (arith, first, last.first, other) in
+          omega (arith, new_is, is.others i may (gone_before marks h last (i - 1) place gone) none apart)
+    ];
+  }
+
+-- before any was played
+pub played_none : (a : Rows) (most marks : ℕ) (priorities : List ℕ) (turns : List Rows) → length priorities ≡ 8
+    → length turns ≡ 6 →
+    ((k : ℕ) → get_or priorities k 0 ≡ 0) →
+    ((i : ℕ) → (0 < cell marks i) ↔ ((0 < get_or a.own i 0) × ¬ EndsInStore a (i + 1))) → ArePlayed a most marks priorities turns
+played_none a most marks priorities turns cells places empty marked = record {
+  waiting = record { cells = cells; each = λ k some. absurd (omega (arith, some, empty k)) };
+  places = places;
+  others = λ i may gone none apart. absurd (
+      let holds = legal_holds (bare a) i may in
+      let at : i - 1 + 1 ≡ i = omega (arith, holds.first) in
+      let some = (marked (i - 1)).1 (holds.some, λ ends. apart (subst (EndsInStore a) at ends)) in
+      omega (arith, gone, some));
+}
+
+-- each marked house with seeds may be moved
+pub marked_legal : (a : Rows) (i : ℕ) → IsWithinHouses a → is_over (bare a) ≡ false → 0 < get_or a.own i 0 →
+    Contains (legal_houses (bare a)) (i + 1)
+marked_legal a i w going some = elim (cases_lt i (length a.own)) [
+  | inl inside ↦
+      let at : i + 1 - 1 ≡ i = omega arith in
+      filled_legal a (i + 1) going (omega arith) (omega (arith, inside)) (rw at some)
+  | inr past ↦ absurd (omega (arith, some, get_or_past a.own i 0 past))
+]
+
+-- and so may each that ends in the store
+pub ending_legal : (a : Rows) (i : ℕ) → IsWithinHouses a → is_over (bare a) ≡ false → i < length a.own
+    → EndsInStore a (i + 1) →
+    Contains (legal_houses (bare a)) (i + 1)
+ending_legal a i w going inside ends = filled_legal a (i + 1) going (omega arith) (omega (arith, inside)) (omega (arith, inside, ends))
+
+-- what holds of each marked house holds of those that stay marked
+pub each_fewer : (P : ℕ → Type 0) (marks h : ℕ) → IsLastMark marks h → ((i : ℕ) → 0 < cell marks i → P (i + 1)) →
+    (i : ℕ) → 0 < cell (marks - 32 ^ (h - 1)) i → P (i + 1)
+each_fewer P marks h last each i some = each i (left_before marks h last i some)
+
+-- and of the last one
+pub each_last : (P : ℕ → Type 0) (marks h : ℕ) → IsLastMark marks h → ((i : ℕ) → 0 < cell marks i → P (i + 1)) → P h
+each_last P marks h last each =
+    let at : h - 1 + 1 ≡ h = omega (arith, last.first) in
+    subst P at (each (h - 1) (last_marked marks h last))
+
+-- marked houses that may all be moved
+pub record MayMove (a : Rows) (marks : ℕ) : Type 0 where
+  pub are : AreMarks marks
+  pub legal : (i : ℕ) → 0 < cell marks i → Contains (legal_houses (bare a)) (i + 1)
+
+-- the last of them
+pub last_legal : {a : Rows} {marks h : ℕ} → MayMove a marks → IsLastMark marks h → Contains (legal_houses (bare a)) h
+last_legal {a} {marks} {h} may last = each_last (Contains (legal_houses (bare a))) marks h last may.legal
+
+-- and those before it
+pub moves_fewer : {a : Rows} {marks h : ℕ} → MayMove a marks → IsLastMark marks h → MayMove a (marks - 32 ^ (h - 1))
+moves_fewer {a} {marks} {h} may last = record {
+  are = marks_fewer marks h may.are last;
+  legal = each_fewer (Contains (legal_houses (bare a))) marks h last may.legal;
+}
+
+-- each house that ends in the store is still marked, or takes at most `most` seeds
+abbrev pub AreAgain : Rows → ℕ → ℕ → Type 0
+AreAgain a most marks = (h : ℕ) → Contains (legal_houses (bare a)) h → EndsInStore a h → cell marks (h - 1) ≡ 0
+    → WinsAtMost a most h
+
+pub again_none : (a : Rows) (most marks : ℕ) → ((i : ℕ) → (0 < cell marks i) ↔ ((i < length a.own) × EndsInStore a (i + 1))) →
+    AreAgain a most marks
+again_none a most marks marked h may ends gone = absurd (
+    let holds = legal_holds (bare a) h may in
+    let at : h ≡ h - 1 + 1 = omega (arith, holds.first) in
+    let some = (marked (h - 1)).1 (omega (arith, holds.first, holds.last), subst (EndsInStore a) at ends) in
+    omega (arith, gone, some))
+
+pub again_fewer : (a : Rows) (most marks h bound new : ℕ) → AreAgain a most marks → IsLastMark marks h → WinsAtMost a bound h →
+    new ≡ max most bound →
+    AreAgain a new (marks - 32 ^ (h - 1))
+again_fewer a most marks h bound new are last takes new_is i may ends gone = elim (cases_eq i h) [
+  | inl same ↦ rw same (omega (arith, new_is, takes))
+  | inr other ↦
+      let first = (legal_holds (bare a) i may).first in
+      let place : i - 1 ≢ h - 1 = omega (arith, first, last.first, other) in
+      omega (arith, new_is, are i may ends (gone_before marks h last (i - 1) place gone))
+]
+
+-- the moves with a priority are still to be tried, and the others take at most `most` seeds
+pub record AreUntried (a : Rows) (most : ℕ) (priorities : List ℕ) (turns : List Rows) : Type 0 where
+  pub waiting : AreTurns a priorities turns
+  pub tried : (h : ℕ) → Contains (legal_houses (bare a)) h → get_or priorities (h - 1) 0 ≡ 0 → WinsAtMost a most h
+
+-- the move with a given priority waits with its turn
+pub turn_at : {a : Rows} {most : ℕ} {priorities : List ℕ} {turns : List Rows} {priority : ℕ} → IsWithinHouses a →
+    AreUntried a most priorities turns → Contains priorities priority → 0 < priority → WaitsWith a priorities turns priority
+turn_at {a} {most} {priorities} {turns} {priority} w untried found some =
+    let are = untried.waiting in
+    let k = found.0 in
+    let here : get_or priorities k 0 ≡ priority = get_or_default priorities k 0 priority found.1 ∙ found.2 in
+    let turn : (d : Rows) → IsTurnOf a (k + 1) priority (get_or turns k d) =
+    λ d. subst (λ r. IsTurnOf a (k + 1) r (get_or turns k d)) here (are.each k (omega (arith, here, some)) d) in
+    let same : priority % 8 ≡ k = omega (arith, (turn a).house) in
+    let holds = legal_holds (bare a) (k + 1) (turn a).legal in
+    record { place = omega (arith, same, holds.last, w.at_most_six); priority = rw same here; turn = rw same turn }
+
+-- before any was tried, but those that end in the store
+pub untried_first : (a : Rows) (bar again others : ℕ) (priorities : List ℕ) (turns : List Rows) (new : ℕ)
+    → length priorities ≡ 8 →
+    AreWaiting a bar others priorities turns → ((h : ℕ) → Contains (legal_houses (bare a)) h → EndsInStore a h
+    → WinsAtMost a again h) →
+    others < bar → new ≡ max again others → AreUntried a new priorities turns
+untried_first a bar again others priorities turns new cells are ends short new_is = record {
+  waiting = record { cells = cells; each = are.waiting };
+  tried = λ h has none. elim (cases_eq (seeds a.own h + h) (length a.own + 1)) [
+    | inl is ↦ omega (arith, new_is, ends h has is)
+    | inr apart ↦ omega (arith, new_is, are.others short h has none apart)
+  ];
+}
+
+-- one move more was tried
+pub untried_fewer : (a : Rows) (most : ℕ) (priorities : List ℕ) (turns : List Rows) (at bound new : ℕ)
+    → AreUntried a most priorities turns →
+    at < 6 → WinsAtMost a bound (at + 1) → new ≡ max most bound → AreUntried a new (slice_set priorities at 0) turns
+untried_fewer a most priorities turns at bound new is place takes new_is = record {
+  waiting = turns_fewer a priorities turns at is.waiting place;
+  tried = λ h has none. elim (cases_eq (h - 1) at) [
+    | inl same ↦
+        let first = (legal_holds (bare a) h has).first in
+        let house : at + 1 ≡ h = omega arith in
+        omega (arith, new_is, subst (WinsAtMost a bound) house takes)
+    | inr other ↦ omega (arith, new_is, is.tried h has (rw (get_or-set_other priorities at (h - 1) 0 0 other) at none))
+  ];
+}
+
+-- if no priority is left, best play takes at most as many
+pub none_untried : (a : Rows) (most : ℕ) (priorities : List ℕ) (turns : List Rows) (highest : ℕ) → IsWithinHouses a
+    → is_over (bare a) ≡ false →
+    AreUntried a most priorities turns → ((k : ℕ) → get_or priorities k 0 ≤ highest) → highest ≡ 0 → won a ≤ most
+none_untried a most priorities turns highest w going is above none =
+    all_at_most a most w going (λ h has. is.tried h has (let below = above (h - 1) in omega (arith, below, none)))

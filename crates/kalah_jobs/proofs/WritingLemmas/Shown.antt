@@ -14,7 +14,7 @@ use Rattle.kalah_rules.specs.Play.{legal_houses}
 use Rattle.kalah_rules.specs.Position.{Position, IsSmallMargin, IsWithinLimits, is_over, seeds, side_length}
 use Rattle.kalah_solve.specs.Solver.MoveValues.{move_value, values_of}
 use Rattle.kalah_solve.specs.declared.solver.move_values.MoveValue.{MoveValue}
-use Rattle.kalah_solve.proofs.SolverLemmas.SmallMargins.{value_small, house_small}
+use Rattle.kalah_solve.proofs.SolverLemmas.{value_small, house_small}
 use Rattle.kalah_jobs.specs.Writing.Picture.{empty_columns}
 use Rattle.kalah_jobs.specs.Writing.Shown.{AreSmall, AscendFrom, value_cell, value_columns}
 

@@ -13,7 +13,7 @@ use Rattle.atomic_table.specs.declared.shared.TableRule.{Ghosts}
 use Rattle.atomic_table.specs.contracts.send_lease.SendLease as Lease
 use Rattle.atomic_table.proofs.Rights.{right_send}
 use Rattle.atomic_table.proofs.Sent.{seat_keyless, shares_keyless}
-use Rattle.kalah_solve.proofs.TableLemmas.Crossing.{owned, Solver-send}
+use Rattle.kalah_solve.proofs.Crossing.{owned, Solver-send}
 use Rattle.kalah_jobs.specs.contracts.files.jobs.Jobs as Jobs
 use Rattle.kalah_run.specs.contracts.desk.Desk as Desk
 use Rattle.kalah_run.specs.contracts.queue.ResultsQueue as ResultsQueue

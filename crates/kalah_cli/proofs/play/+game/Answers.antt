@@ -5,7 +5,7 @@ use Rattle.kalah_rules.specs.Position.{IsWithinLimits, Position, is_over}
 use Rattle.kalah_rules.specs.declared.step.Step.{Step}
 use Rattle.kalah_solve.specs.Solver.Verdict.{TellsBestMove, verdict_of}
 use Rattle.kalah_solve.specs.declared.solver.Verdict.TheVariants.{Best}
-use Rattle.kalah_solve.proofs.SolverLemmas.Worths.{board_equal_sides, over_ends}
+use Rattle.kalah_solve.proofs.WorthLemmas.{board_equal_sides, over_ends}
 use Rattle.kalah_jobs.specs.Writing.Given.{WasGiven}
 use Rattle.kalah_jobs.proofs.WritingLemmas.Givings.{given_after, given_cut_off, given_then}
 use Rattle.kalah_cli.specs.Moves.{move_lines}

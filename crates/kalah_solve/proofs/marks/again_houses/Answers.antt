@@ -1,5 +1,4 @@
-use Rattle.kalah_solve.proofs.RowMarks.{six_marks}
-use Rattle.kalah_solve.proofs.HouseMarks.{again_marked}
+use Rattle.kalah_solve.proofs.SearchLemmas.{six_marks, again_marked}
 use Rattle.kalah_solve.proofs.marks.again_houses.Goals as goal
 
 pub returns-clause-marked : goal.returns-clause-marked

@@ -1,6 +1,6 @@
 use Rattle.std.proofs.Common.{arith}
 use Rattle.std.proofs.lemmas.Nat.{xor_lt}
-use Rattle.kalah_solve.proofs.RowMarks.{ending_marked, ending_past, ending_single}
+use Rattle.kalah_solve.proofs.SearchLemmas.{ending_marked, ending_past, ending_single}
 use Rattle.kalah_solve.proofs.marks.ending_in_store.Goals as goal
 
 pub returns-clause-inside : goal.returns-clause-inside

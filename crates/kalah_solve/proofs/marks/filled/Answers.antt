@@ -1,4 +1,4 @@
-use Rattle.kalah_solve.proofs.RowMarks.{filled_cell}
+use Rattle.kalah_solve.proofs.SearchLemmas.{filled_cell}
 use Rattle.kalah_solve.proofs.marks.filled.Goals as goal
 
 pub returns-clause-cells : goal.returns-clause-cells

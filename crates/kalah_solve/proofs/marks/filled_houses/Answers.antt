@@ -1,6 +1,5 @@
 use Rattle.std.proofs.Common.{arith}
-use Rattle.kalah_solve.proofs.RowMarks.{six_marks}
-use Rattle.kalah_solve.proofs.HouseMarks.{filled_marked}
+use Rattle.kalah_solve.proofs.SearchLemmas.{six_marks, filled_marked}
 use Rattle.kalah_solve.proofs.marks.filled_houses.Goals as goal
 
 pub returns-clause-marked : goal.returns-clause-marked

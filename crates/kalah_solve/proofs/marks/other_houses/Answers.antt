@@ -1,8 +1,7 @@
 use Rattle.std.proofs.Common.{arith}
 use Rattle.kalah_solve.specs.RowMarks.{cell}
 use Rattle.std.proofs.lemmas.Nat.{xor_lt}
-use Rattle.kalah_solve.proofs.RowMarks.{cell_xor, six_marks}
-use Rattle.kalah_solve.proofs.HouseMarks.{other_marked}
+use Rattle.kalah_solve.proofs.SearchLemmas.{cell_xor, six_marks, other_marked}
 use Rattle.kalah_solve.proofs.marks.other_houses.Goals as goal
 
 pub returns-clause-marked : goal.returns-clause-marked

@@ -2,10 +2,10 @@ use Rattle.kalah_rules.specs.Position.{bare}
 use Rattle.std.proofs.Common.{◌+◌, ◌*◌, ◌<◌, ◌≤◌, ◌≡◌, ℕ, get_or}
 use Rattle.std.specs.Prelude.{sum}
 use Rattle.kalah_rules.specs.Measure.{moves_left}
-use Rattle.kalah_solve.proofs.BoundsLemmas.Steps.{moves_after}
+use Rattle.kalah_solve.proofs.WorthLemmas.{moves_after}
 use Rattle.kalah_solve.specs.RowMarks.{cell}
 use Rattle.kalah_solve.specs.Search.Tried.{EndsInStore}
-use Rattle.kalah_solve.proofs.SearchLemmas.Tries.{AreAgain, ArePlayed, AreUntried, MayMove, WaitsWith}
+use Rattle.kalah_solve.proofs.SearchLemmas.{AreAgain, ArePlayed, AreUntried, MayMove, WaitsWith}
 use Rattle.kalah_solve.proofs.search.Search.+search.Given as goal
 
 abbrev pub decreases-bound : goal.decreases-bound

@@ -1,5 +1,5 @@
 use Rattle.std.proofs.Common.{arith}
-use Rattle.kalah_solve.proofs.BoundsLemmas.Winnings.{taken_share, worth_of_taken}
+use Rattle.kalah_solve.proofs.BoundsLemmas.{taken_share, worth_of_taken}
 use Rattle.kalah_solve.proofs.search.Search.known_by_entry.Goals as goal
 
 pub returns-in-Some : goal.returns-in-Some

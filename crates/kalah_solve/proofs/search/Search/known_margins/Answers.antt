@@ -1,4 +1,4 @@
-use Rattle.kalah_solve.proofs.BoundsLemmas.Winnings.{worth_low, worth_high}
+use Rattle.kalah_solve.proofs.BoundsLemmas.{worth_low, worth_high}
 use Rattle.kalah_solve.proofs.search.Search.known_margins.Goals as goal
 
 pub returns-in-Some-clause-least : goal.returns-in-Some-clause-least

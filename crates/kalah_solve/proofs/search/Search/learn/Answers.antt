@@ -1,5 +1,5 @@
 use Rattle.std.proofs.Common.{arith}
-use Rattle.kalah_solve.proofs.BoundsLemmas.Winnings.{taken_share, worth_of_taken}
+use Rattle.kalah_solve.proofs.BoundsLemmas.{taken_share, worth_of_taken}
 use Rattle.kalah_solve.proofs.search.Search.learn.Goals as goal
 
 pub learn_margins-requires : goal.learn_margins-requires

@@ -1,4 +1,4 @@
-use Rattle.kalah_solve.proofs.SolverLemmas.StepWorths.{goes_on}
+use Rattle.kalah_solve.proofs.WorthLemmas.{goes_on}
 use Rattle.kalah_solve.proofs.search.Search.move_reaches_game.Goals as goal
 
 pub bound_step-requires : goal.bound_step-requires

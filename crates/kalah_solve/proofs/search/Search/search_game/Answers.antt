@@ -2,7 +2,7 @@ use Rattle.std.proofs.Common.{arith, rules, ◌≡◌, ◌∙◌, w32, to_z, of_
 use Rattle.std.proofs.lemmas.Int.{ints, clamps, to_z-of_z}
 use Rattle.kalah_solve.specs.Bounds.Intervals.{within}
 use Rattle.kalah_solve.specs.Solver.Worth.{houses_worth}
-use Rattle.kalah_solve.proofs.BoundsLemmas.Windows.{won_by_bounds, told_by_taken}
+use Rattle.kalah_solve.proofs.BoundsLemmas.{won_by_bounds, told_by_taken}
 use Rattle.kalah_solve.proofs.search.Search.search_game.Given.{Over}
 use Rattle.kalah_solve.proofs.search.Search.search_game.Goals as goal
 

@@ -1,9 +1,9 @@
 use Rattle.std.proofs.Common.{arith, refl, ap, ◌∙◌, ◌≡◌, ◌<◌, ◌-◌, ℕ, List, length, get_or}
 use Rattle.kalah_rules.specs.Play.{legal_houses}
 use Rattle.kalah_rules.specs.Position.{bare}
-use Rattle.kalah_solve.proofs.SolverLemmas.Worths.{legal_some}
-use Rattle.kalah_solve.proofs.SolverLemmas.Roots.{root_found, root_short, root_last}
-use Rattle.kalah_solve.proofs.SearchLemmas.Tries.{enough_of, short_of}
+use Rattle.kalah_solve.proofs.WorthLemmas.{legal_some}
+use Rattle.kalah_solve.proofs.SolverLemmas.{root_found, root_short, root_last}
+use Rattle.kalah_solve.proofs.SearchLemmas.{enough_of, short_of}
 use Rattle.kalah_solve.proofs.solver.Solver.first_house.Goals as goal
 
 pub overflow_sub-last : goal.overflow_sub-last

@@ -1,4 +1,4 @@
-use Rattle.kalah_solve.proofs.SolverLemmas.Roots.{FallShort}
+use Rattle.kalah_solve.proofs.SolverLemmas.{FallShort}
 use Rattle.kalah_solve.proofs.solver.Solver.first_house.Given as goal
 
 abbrev pub invariant-loop-i : goal.invariant-loop-i

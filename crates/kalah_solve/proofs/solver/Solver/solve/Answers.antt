@@ -4,13 +4,9 @@ use Rattle.kalah_rules.specs.Play.{legal_houses}
 use Rattle.kalah_rules.specs.Position.{Rows, rows_of, bare, seeds_in_houses}
 use Rattle.kalah_solve.specs.Solver.Worth.{houses_worth, best_house}
 use Rattle.kalah_solve.specs.declared.solver.Verdict.TheVariants.{Best, Over}
-use Rattle.kalah_solve.proofs.SolverLemmas.Bests.{verdict_by, verdict_of_over, small_best}
-use Rattle.kalah_solve.proofs.SolverLemmas.Roots.{stored, told_fits, told_small, told_worth}
-use Rattle.kalah_solve.proofs.SolverLemmas.Stores.{best_of_rows}
-use Rattle.kalah_solve.proofs.BoundsLemmas.Winnings.{worth_low, worth_high, half_is}
-use Rattle.kalah_solve.proofs.SolverLemmas.Values.{best_found}
-use Rattle.kalah_solve.proofs.SolverLemmas.Verdicts.{verdict_tells}
-use Rattle.kalah_solve.proofs.SolverLemmas.Worths.{board_equal_sides}
+use Rattle.kalah_solve.proofs.SolverLemmas.{verdict_by, verdict_of_over, small_best, stored, told_fits, told_small, told_worth, verdict_tells}
+use Rattle.kalah_solve.proofs.WorthLemmas.{best_of_rows, best_found, board_equal_sides}
+use Rattle.kalah_solve.proofs.BoundsLemmas.{worth_low, worth_high, half_is}
 use Rattle.kalah_solve.proofs.solver.Solver.solve.Given as given
 use Rattle.kalah_solve.proofs.solver.Solver.solve.Goals as goal
 

@@ -1,6 +1,6 @@
 use Rattle.std.proofs.Common.{arith, rules, ◌∙◌, ap, ◌≡◌, to_z, of_z, pos, neg_ℤ, ◌-ℤ◌, w32, SFits}
 use Rattle.std.proofs.lemmas.Int.{ints, to_z-of_z}
-use Rattle.kalah_solve.proofs.SolverLemmas.Worths.{over_ends, value_of_over, value_of_turn}
+use Rattle.kalah_solve.proofs.WorthLemmas.{over_ends, value_of_over, value_of_turn}
 use Rattle.kalah_solve.proofs.solver.Solver.value_of_move.Goals as goal
 
 pub returns-requires : goal.returns-requires

@@ -3,8 +3,8 @@ use Rattle.std.specs.Prelude.{map}
 use Rattle.std.proofs.lemmas.Grind.{common_steps}
 use Rattle.std.proofs.lemmas.List.{take_all}
 use Rattle.kalah_solve.specs.Solver.MoveValues.{move_value, values_of, TellMoves}
-use Rattle.kalah_solve.proofs.SolverLemmas.MovesSecured.{values_tell}
-use Rattle.kalah_solve.proofs.SolverLemmas.Worths.{board_equal_sides}
+use Rattle.kalah_solve.proofs.SolverLemmas.{values_tell}
+use Rattle.kalah_solve.proofs.WorthLemmas.{board_equal_sides}
 use Rattle.kalah_solve.proofs.solver.Solver.values.Goals as goal
 
 pub returns-clause-best_play : goal.returns-clause-best_play

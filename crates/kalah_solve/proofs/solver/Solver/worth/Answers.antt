@@ -1,6 +1,6 @@
 use Rattle.std.proofs.Common.{rules, ◌∙◌, w32, SFits}
 use Rattle.std.proofs.lemmas.Int.{to_z-of_z}
-use Rattle.kalah_solve.proofs.SolverLemmas.Roots.{whole_window}
+use Rattle.kalah_solve.proofs.SolverLemmas.{whole_window}
 use Rattle.kalah_solve.proofs.solver.Solver.worth.Goals as goal
 
 pub returns : goal.returns

@@ -1,4 +1,4 @@
-use Rattle.kalah_solve.proofs.SolverLemmas.BestMoves.{best_is_lowest}
+use Rattle.kalah_solve.proofs.SolverLemmas.{best_is_lowest}
 use Rattle.kalah_solve.proofs.solver.laws.best_house_is_lowest.Goals as goal
 
 pub returns : goal.returns

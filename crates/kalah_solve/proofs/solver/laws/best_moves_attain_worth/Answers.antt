@@ -1,4 +1,4 @@
-use Rattle.kalah_solve.proofs.SolverLemmas.BestMoves.{best_moves}
+use Rattle.kalah_solve.proofs.SolverLemmas.{best_moves}
 use Rattle.kalah_solve.proofs.solver.laws.best_moves_attain_worth.Goals as goal
 
 pub returns : goal.returns

@@ -1,4 +1,4 @@
-use Rattle.kalah_solve.proofs.SolverLemmas.Verdicts.{verdict_is_one}
+use Rattle.kalah_solve.proofs.SolverLemmas.{verdict_is_one}
 use Rattle.kalah_solve.proofs.solver.laws.best_verdict_is_one.Goals as goal
 
 pub returns : goal.returns

@@ -1,4 +1,4 @@
-use Rattle.kalah_solve.proofs.SolverLemmas.Games.{game_ends, the_game_is_one, games_end}
+use Rattle.kalah_solve.proofs.SolverLemmas.{game_ends, the_game_is_one, games_end}
 use Rattle.kalah_solve.proofs.solver.laws.players_play_one_game.Goals as goal
 
 pub returns-clause-game : goal.returns-clause-game

@@ -1,4 +1,4 @@
-use Rattle.kalah_solve.proofs.SolverLemmas.Stores.{worth_by_stores, best_of_rows}
+use Rattle.kalah_solve.proofs.WorthLemmas.{worth_by_stores, best_of_rows}
 use Rattle.kalah_solve.proofs.solver.laws.stores_only_shift.Goals as goal
 
 pub returns-clause-worth : goal.returns-clause-worth

@@ -1,4 +1,4 @@
-use Rattle.kalah_solve.proofs.SolverLemmas.MovesSecured.{value_is_worth, worth_of_move_is_one}
+use Rattle.kalah_solve.proofs.SolverLemmas.{value_is_worth, worth_of_move_is_one}
 use Rattle.kalah_solve.proofs.solver.laws.value_is_worth_of_move.Goals as goal
 
 pub returns-clause-worth : goal.returns-clause-worth

@@ -1,4 +1,4 @@
-use Rattle.kalah_solve.proofs.SolverLemmas.Secured.{worth_is_best, best_play_is_one, best_house_is_best_play, best_against_strategies}
+use Rattle.kalah_solve.proofs.SolverLemmas.{worth_is_best, best_play_is_one, best_house_is_best_play, best_against_strategies}
 use Rattle.kalah_solve.proofs.solver.laws.worth_is_best_play.Goals as goal
 
 pub returns-clause-worth : goal.returns-clause-worth

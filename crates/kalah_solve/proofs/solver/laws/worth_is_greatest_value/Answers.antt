@@ -1,5 +1,4 @@
-use Rattle.kalah_solve.proofs.SolverLemmas.Worths.{worth_count, worth_of_over, worth_of_going, legal_some}
-use Rattle.kalah_solve.proofs.SolverLemmas.Values.{worth_is_most}
+use Rattle.kalah_solve.proofs.WorthLemmas.{worth_count, worth_of_over, worth_of_going, legal_some, worth_is_most}
 use Rattle.kalah_solve.proofs.solver.laws.worth_is_greatest_value.Goals as goal
 
 pub returns-clause-over : goal.returns-clause-over

@@ -1,5 +1,5 @@
 use Rattle.std.proofs.Common.{rules}
-use Rattle.kalah_solve.proofs.TableLemmas.Entries.{put_again, put_or_same, true_after}
+use Rattle.kalah_solve.proofs.TableLemmas.{put_again, put_or_same, true_after}
 use Rattle.kalah_solve.proofs.table.Table.keep.Goals as goal
 
 pub invariant_of-self : goal.invariant_of-self

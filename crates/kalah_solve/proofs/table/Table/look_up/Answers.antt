@@ -1,5 +1,5 @@
 use Rattle.std.proofs.Common.{◌∙◌, rules, sym}
-use Rattle.kalah_solve.proofs.TableLemmas.Entries.{found_holds, true_promoted}
+use Rattle.kalah_solve.proofs.TableLemmas.{found_holds, true_promoted}
 use Rattle.kalah_solve.proofs.table.Table.look_up.Goals as goal
 
 pub invariant_of-self : goal.invariant_of-self

@@ -1,5 +1,5 @@
 use Rattle.std.proofs.Common.{arith, sym, ◌-◌}
-use Rattle.kalah_solve.proofs.TableLemmas.Choices.{choice_first, choice_none, choice_next, choice_small}
+use Rattle.kalah_solve.proofs.TableLemmas.{choice_first, choice_none, choice_next, choice_small}
 use Rattle.kalah_solve.proofs.table.endgame_table.choice.Goals as goal
 
 pub returns-then-i-lt-COUNTS : goal.returns-then-i-lt-COUNTS

@@ -1,6 +1,6 @@
 use Rattle.std.proofs.Common.{arith, ◌∙◌}
 use Rattle.std.proofs.Math.ListN.{length-set}
-use Rattle.kalah_solve.proofs.TableLemmas.Choices.{choices_more}
+use Rattle.kalah_solve.proofs.TableLemmas.{choices_more}
 use Rattle.kalah_solve.proofs.table.endgame_table.choices.Goals as goal
 
 pub loop-i-preserved : goal.loop-i-preserved

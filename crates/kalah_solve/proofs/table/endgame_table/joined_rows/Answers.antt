@@ -1,4 +1,4 @@
-use Rattle.kalah_solve.proofs.TableLemmas.RowRanks.{both_rows}
+use Rattle.kalah_solve.proofs.TableLemmas.{both_rows}
 use Rattle.kalah_solve.proofs.table.endgame_table.joined_rows.Goals as goal
 
 pub returns-clause-row : goal.returns-clause-row

@@ -1,5 +1,5 @@
 use Rattle.std.proofs.Common.{arith, ◌+◌, ◌*◌, ◌/◌, ◌%◌, ◌<◌}
-use Rattle.kalah_solve.proofs.TableLemmas.Choices.{choice_small}
+use Rattle.kalah_solve.proofs.TableLemmas.{choice_small}
 use Rattle.kalah_solve.proofs.table.endgame_table.pair.Goals as goal
 
 pub overflow_add-result-4 : goal.overflow_add-result-4

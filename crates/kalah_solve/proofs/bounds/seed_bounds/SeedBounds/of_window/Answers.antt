@@ -1,7 +1,7 @@
 use Rattle.std.proofs.Common.{◌≡◌, arith, w32, to_z, of_z}
 use Rattle.std.specs.Prelude.{pos, ◌+ℤ◌}
 use Rattle.std.proofs.lemmas.Int.{ints}
-use Rattle.kalah_solve.proofs.BoundsLemmas.SeedBounds.{IsHalf, shares_ordered, shares_high, shares_apart}
+use Rattle.kalah_solve.proofs.BoundsLemmas.{IsHalf, shares_ordered, shares_high, shares_apart}
 use Rattle.kalah_solve.proofs.bounds.seed_bounds.SeedBounds.of_window.Goals as goal
 use Rattle.kalah_solve.proofs.bounds.seed_bounds.SeedBounds.of_window.Goals.{After-half-2}
 

@@ -1,5 +1,5 @@
 use Rattle.std.proofs.Common.{arith}
-use Rattle.kalah_solve.proofs.BoundsLemmas.Winnings.{taken_share}
+use Rattle.kalah_solve.proofs.BoundsLemmas.{taken_share}
 use Rattle.kalah_solve.proofs.bounds.seed_bounds.SeedBounds.unknown.Goals as goal
 
 pub returns-clause-held : goal.returns-clause-held

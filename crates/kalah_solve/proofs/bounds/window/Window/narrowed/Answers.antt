@@ -1,6 +1,6 @@
 use Rattle.std.proofs.Common.{arith, rules, w8, w32, SFits, ◌≤ℤ◌}
 use Rattle.std.proofs.lemmas.Int.{ints, clamps, to_z-of_z}
-use Rattle.kalah_solve.proofs.BoundsLemmas.Windows.{known_answers}
+use Rattle.kalah_solve.proofs.BoundsLemmas.{known_answers}
 use Rattle.kalah_solve.proofs.bounds.window.Window.narrowed.Goals as goal
 
 pub returns-then-hi-lo-clause-none : goal.returns-then-hi-lo-clause-none

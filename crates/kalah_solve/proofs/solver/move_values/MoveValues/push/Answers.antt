@@ -1,6 +1,6 @@
 use Rattle.std.proofs.Common.{arith, ap, length}
 use Rattle.kalah_rules.specs.Cells.{length_of_six}
-use Rattle.kalah_solve.proofs.SolverLemmas.SixValues.{six_more}
+use Rattle.kalah_solve.proofs.SolverLemmas.{six_more}
 use Rattle.kalah_solve.proofs.solver.move_values.MoveValues.push.Goals as goal
 
 pub invariant_of-self : goal.invariant_of-self

@@ -3,8 +3,8 @@ use Rattle.std.specs.Prelude.{slice_set}
 use Rattle.std.proofs.Math.ListN.{length-set}
 use Rattle.kalah_solve.specs.Table.DirectTable.{IsWithinPlace}
 use Rattle.kalah_solve.specs.Bounds.Won.{won}
-use Rattle.kalah_solve.proofs.TableLemmas.PlacedKeys.{shares_more}
-use Rattle.kalah_solve.proofs.BoundsLemmas.Winnings.{taken_share}
+use Rattle.kalah_solve.proofs.TableLemmas.{shares_more}
+use Rattle.kalah_solve.proofs.BoundsLemmas.{taken_share}
 use Rattle.kalah_solve.proofs.table.direct_table.DirectTable.keep.Goals as goal
 
 pub of-stored-requires-clause-least : goal.of-stored-requires-clause-least

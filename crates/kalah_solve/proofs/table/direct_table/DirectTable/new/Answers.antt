@@ -1,7 +1,7 @@
 use Rattle.std.proofs.Common.{arith, ◌≡◌}
 use Rattle.std.specs.Prelude.{replicate}
 use Rattle.std.proofs.lemmas.List.{length-replicate}
-use Rattle.kalah_solve.proofs.TableLemmas.PlacedKeys.{shares_unknown}
+use Rattle.kalah_solve.proofs.TableLemmas.{shares_unknown}
 use Rattle.kalah_solve.proofs.table.direct_table.DirectTable.new.Goals as goal
 
 pub invariant_of-result : goal.invariant_of-result

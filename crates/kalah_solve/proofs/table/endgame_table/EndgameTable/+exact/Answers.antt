@@ -1,10 +1,9 @@
 use Rattle.std.proofs.Common.{arith, rules, ◌-◌, ◌^◌, sym, ◌∙◌}
 use Rattle.kalah_rules.specs.declared.step.HousesStep.TheVariants.{Again, Turn}
-use Rattle.kalah_solve.proofs.BoundsLemmas.Winnings.{taken_share}
-use Rattle.kalah_solve.proofs.SolverLemmas.StepWorths.{leads_by}
-use Rattle.kalah_solve.proofs.RowMarks.{marks_fall}
-use Rattle.kalah_solve.proofs.SearchLemmas.Tries.{marked_legal, moves_fewer, last_legal}
-use Rattle.kalah_solve.proofs.TableLemmas.MostWon.{most_of_none, most_more, most_all, most_won}
+use Rattle.kalah_solve.proofs.BoundsLemmas.{taken_share}
+use Rattle.kalah_solve.proofs.WorthLemmas.{leads_by}
+use Rattle.kalah_solve.proofs.SearchLemmas.{marks_fall, marked_legal, moves_fewer, last_legal}
+use Rattle.kalah_solve.proofs.TableLemmas.{most_of_none, most_more, most_all, most_won}
 use Rattle.kalah_solve.proofs.table.endgame_table.EndgameTable.+exact.Goals as goal
 
 pub most_won-loop-left-init : goal.most_won-loop-left-init

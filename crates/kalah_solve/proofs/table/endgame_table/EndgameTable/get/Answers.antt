@@ -2,7 +2,7 @@ use Rattle.std.proofs.Common.{arith, ◌∙◌, ◌≡◌, ◌%◌, suc, subst}
 use Rattle.kalah_solve.specs.Table.RowRank.{rank_of_houses}
 use Rattle.kalah_solve.specs.Table.EndgameTable.{StoresWon, stored_at}
 use Rattle.kalah_solve.specs.Bounds.Won.{won}
-use Rattle.kalah_solve.proofs.TableLemmas.KeptEndings.{stored}
+use Rattle.kalah_solve.proofs.TableLemmas.{stored}
 use Rattle.kalah_solve.proofs.table.endgame_table.EndgameTable.get.Goals as goal
 
 pub returns : goal.returns

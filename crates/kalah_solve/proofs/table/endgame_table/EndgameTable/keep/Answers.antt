@@ -2,8 +2,8 @@ use Rattle.std.proofs.Common.{arith, rules, sym, ◌∙◌, ◌≡◌, ◌≤◌
 use Rattle.kalah_solve.specs.Table.RowRank.{rank_of_houses}
 use Rattle.kalah_solve.specs.Table.EndgameTable.{StoresWon, stored_at}
 use Rattle.kalah_solve.specs.Bounds.Won.{won}
-use Rattle.kalah_solve.proofs.TableLemmas.KeptEndings.{states_more, writes}
-use Rattle.kalah_solve.proofs.BoundsLemmas.Winnings.{taken_share}
+use Rattle.kalah_solve.proofs.TableLemmas.{states_more, writes}
+use Rattle.kalah_solve.proofs.BoundsLemmas.{taken_share}
 use Rattle.kalah_solve.proofs.table.endgame_table.EndgameTable.keep.Goals as goal
 
 pub with_stored-word-requires-clause-small : goal.with_stored-word-requires-clause-small

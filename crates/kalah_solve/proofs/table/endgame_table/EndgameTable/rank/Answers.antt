@@ -3,7 +3,7 @@ use Rattle.std.specs.Prelude.{sum}
 use Rattle.std.proofs.lemmas.List.Sums.{sum_by-append}
 use Rattle.kalah_rules.specs.Position.{Rows, IsWithinHouses, bare, seeds_in_houses}
 use Rattle.kalah_solve.specs.Table.RowRank.{choose}
-use Rattle.kalah_solve.proofs.TableLemmas.RowRanks.{IsRanked, two_few, rank_next, ranked_small, ranked_all}
+use Rattle.kalah_solve.proofs.TableLemmas.{IsRanked, two_few, rank_next, ranked_small, ranked_all}
 use Rattle.kalah_solve.proofs.table.endgame_table.EndgameTable.rank.Goals.{then-step-m-ge6, else-step-m-ge6}
 use Rattle.kalah_solve.proofs.table.endgame_table.EndgameTable.rank.Goals as goal
 

@@ -1,4 +1,4 @@
-use Rattle.kalah_solve.proofs.TableLemmas.KeptEndings.{begins}
+use Rattle.kalah_solve.proofs.TableLemmas.{begins}
 use Rattle.kalah_solve.proofs.table.endgame_table.words.empty_words.Goals as goal
 
 pub of_words-requires : goal.of_words-requires

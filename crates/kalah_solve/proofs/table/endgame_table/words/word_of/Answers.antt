@@ -2,7 +2,7 @@ use Rattle.std.proofs.Common.{arith, ap, sym, ◌∙◌}
 use Rattle.std.specs.Prelude.{slice_index}
 use Rattle.kalah_rules.specs.Key.{rule_bit}
 use Rattle.kalah_solve.specs.declared.table.endgame_table.words.TheConstants.{FIRST_WORDS}
-use Rattle.kalah_solve.proofs.TableLemmas.KeptEndings.{word_inside}
+use Rattle.kalah_solve.proofs.TableLemmas.{word_inside}
 use Rattle.kalah_solve.proofs.table.endgame_table.words.word_of.Goals.{in-Classic, in-EmptyCapture}
 use Rattle.kalah_solve.proofs.table.endgame_table.words.word_of.Goals as goal
 

@@ -1,21 +1,21 @@
 -- What of this crate may cross threads, if memory is the heap's.
-use denote.RattleType.{RattleType}
-use denote.Param.Send.{IsSend, IsSync, Frees, part_keyless, sendable}
 use denote.Struct.Owning as owning
-use denote.Struct.Struct.{Struct}
 use Rattle.std.specs.contracts.alloc.Global as Heap
-use Rattle.std.specs.declared.alloc.Allocator.{Ghosts}
 use Rattle.std.specs.declared.clone.Clone as clone
-use Rattle.std.proofs.Crossing.{crosses, frees}
 use Rattle.std.proofs.MapsCrossing as maps
 use Rattle.atomic_table.specs.contracts.shared.Shared as Shared
 use Rattle.atomic_table.specs.declared.shared.TableRule as rule
 use Rattle.atomic_table.specs.contracts.send_lease.SendLease as Lease
+use Rattle.kalah_solve.specs.contracts.table.endgame_table.EndgameTable as EndgameTable
+use Rattle.kalah_solve.specs.contracts.solver.Solver as Solver
+use denote.RattleType.{RattleType}
+use denote.Param.Send.{IsSend, IsSync, Frees, part_keyless, sendable}
+use denote.Struct.Struct.{Struct}
+use Rattle.std.specs.declared.alloc.Allocator.{Ghosts}
+use Rattle.std.proofs.Crossing.{crosses, frees}
 use Rattle.atomic_table.proofs.Rights.{right_send}
 use Rattle.atomic_table.proofs.Sent.{owns_keyless, shares_keyless}
 use Rattle.lru.proofs.Crosses.{KeyRef-send, List-send, Deed-send}
-use Rattle.kalah_solve.specs.contracts.table.endgame_table.EndgameTable as EndgameTable
-use Rattle.kalah_solve.specs.contracts.solver.Solver as Solver
 
 -- how an allocator's blocks are owned, if they may be freed anywhere
 abbrev pub owned : {D : Type 0} {g : Ghosts D} → Frees g g.dealloc_token → Ghosts D
