@@ -15,7 +15,7 @@ use Rattle.kalah_solve.specs.Solver.BestPlay.Game.{is_at_end, moves_on, passes_t
 use Rattle.kalah_solve.specs.Solver.Verdict.{verdict_of}
 use Rattle.kalah_solve.specs.Solver.Worth.{best_house, worth}
 use Rattle.kalah_solve.specs.declared.solver.Verdict.TheVariants.{Best, Over}
-use Rattle.lru.proofs.Splits.{Contains-head}
+use Rattle.std.proofs.lemmas.List.Elements.{Contains-push}
 use Rattle.kalah_solve.proofs.SolverLemmas.{strategy_keeps, best_is_strategy, best_plays, bounds}
 use Rattle.kalah_solve.proofs.WorthLemmas.{over_swapped, again_fewer, again_step, over_at_end, over_ends, over_step, swapped_equal_sides, turn_fewer, turn_step}
 use Rattle.kalah_cli.specs.Moves.{move_lines}
@@ -78,7 +78,7 @@ fewer_left p q h s first (inr turn) =
 
 -- a strategy's way has its house
 followed_best : (p : Position) (h : ℕ) → h ≡ best_house p → Contains (follow best_house p) h
-followed_best p h best = rw best (Contains-head (best_house p) [])
+followed_best p h best = rw best (Contains-push [] (best_house p))
 
 next_game : (p q : Position) (h : ℕ) (s : Step) (houses : List ℕ) (final : Position) → IsFirst p h s → (s ≡ step.Again q)
     ⊎ (s ≡ step.Turn q) →

@@ -84,13 +84,12 @@ number_of-more : (n : ℕ) (f : ℕ → ℕ) → number_of (row_of (n + 1) f) �
 number_of-more n f =
     let at : 1 + n ≡ n + 1 = omega arith in
     let one : number_of (f (n + 1) ∷ []) ≡ f (n + 1) = omega arith in
-    let row : row_of (n + 1) f ≡ row_of n f ++ f (n + 1) ∷ [] =
-    ap (map f) (range_more 1 n) ∙ map_push f (range_with_len 1 n) (1 + n) ∙ ap (λ i. row_of n f ++ f i ∷ []) at in
+    let row = ap (map f) (range_more 1 n) ∙ map_push f (range_with_len 1 n) (1 + n) ∙ ap (λ i. row_of n f ++ f i ∷ []) at in
     rw row (number_of-append (row_of n f) (f (n + 1) ∷ []) ∙ rw (length-row_of n f, one) refl)
 
 -- one house more at the end
 number_of-suc : (n : ℕ) (f : ℕ → ℕ) → number_of (row_of (suc n) f) ≡ number_of (row_of n f) + 32 ^ n * f (suc n)
-number_of-suc n f = let e : n + 1 ≡ suc n = add-one n in subst (λ k. number_of (row_of k f) ≡ number_of (row_of n f) + 32 ^ n * f k) e
+number_of-suc n f = let e = add-one n in subst (λ k. number_of (row_of k f) ≡ number_of (row_of n f) + 32 ^ n * f k) e
     (number_of-more n f)
 
 -- rows are added house by house
@@ -131,10 +130,10 @@ lifted_row xs h low high =
     sym (same_as_row (slice_set xs (h - 1) 0) (length xs) _ (length-set xs (h - 1) 0) (λ i i_low i_high. elim (cases_eq i h) [
       | inl here ↦
           let empty : seeds (slice_set xs (h - 1) 0) i ≡ 0 = rw here (seeds-set_same xs h 0 low high) in
-          grind (arith, nat_tests, empty)
+          grind (arith, nat_tests)
       | inr there ↦
-          let kept : seeds (slice_set xs (h - 1) 0) i ≡ seeds xs i = seeds-set_other xs h i 0 low i_low there in
-          grind (arith, nat_tests, kept)
+          let kept = seeds-set_other xs h i 0 low i_low there in
+          grind (arith, nat_tests)
     ]))
 
 -- the cells of the last lap, which begins past house h and has r seeds
@@ -164,7 +163,7 @@ pub other_sown : (ys : List ℕ) (h c : ℕ) →
     ≡ number_of ys + other_gained (length ys) h c
 other_sown ys h c =
     let plus = number_of-plus (length ys) (seeds ys) (λ j. gain (lap_length (length ys)) c (other_distance (length ys) h j)) in
-    let shown : row_of (length ys) (seeds ys) ≡ ys = sym (same_as_row ys (length ys) (seeds ys) refl (λ j j_low j_high. refl)) in
+    let shown = sym (same_as_row ys (length ys) (seeds ys) refl (λ j j_low j_high. refl)) in
     let kept = ap number_of shown in
     omega arith
 
@@ -179,10 +178,9 @@ module _ (m h c : ℕ) (low : 1 ≤ h) (high : h ≤ m) where
   own_gain =
       let q = c / lap_length m in
       let gains : ℕ → ℕ = λ i. gain (lap_length m) c (own_distance m h i) in
-      let past : ℕ → ℕ = up_to (h + c % lap_length m) in
-      let round : ℕ → ℕ = up_to (h + c % lap_length m - lap_length m) in
-      let each : row_of m (λ i. gains i + up_to h i) ≡ row_of m (λ i. q + past i + round i) =
-      row_of_same m (λ i. q + past i + round i) (λ i. gains i + up_to h i)
+      let past = up_to (h + c % lap_length m) in
+      let round = up_to (h + c % lap_length m - lap_length m) in
+      let each = row_of_same m (λ i. q + past i + round i) (λ i. gains i + up_to h i)
       (λ i i_low i_high. omega (arith, own_lap m h (c % lap_length m) i low high few i_low i_high)) in
       let left = number_of-plus m gains (up_to h) in
       let first = number_of-plus m (λ i. q) past in
@@ -197,9 +195,8 @@ module _ (m h c : ℕ) (low : 1 ≤ h) (high : h ≤ m) where
   other_gain =
       let q = c / lap_length m in
       let gains : ℕ → ℕ = λ j. gain (lap_length m) c (other_distance m h j) in
-      let past : ℕ → ℕ = up_to (h + c % lap_length m - (m + 1)) in
-      let each : row_of m gains ≡ row_of m (λ j. q + past j) =
-      row_of_same m (λ j. q + past j) gains (λ j j_low j_high. omega (arith, other_lap m h (c % lap_length m) j low high j_low)) in
+      let past = up_to (h + c % lap_length m - (m + 1)) in
+      let each = row_of_same m (λ j. q + past j) gains (λ j j_low j_high. omega (arith, other_lap m h (c % lap_length m) j low high j_low)) in
       let first = number_of-plus m (λ j. q) past in
       let whole = number_of-same m q in
       let rows = ap number_of each in
@@ -253,10 +250,9 @@ up_to_past m h x within past = elim (cases_lt x m) [
 pub padded_from_zeros : (m : ℕ) (cells : List ℕ) → length cells ≡ 6 → m ≤ 6 → All (λ x. x ≡ 0) (drop m cells) →
     padded (take m cells) ≡ cells
 padded_from_zeros m cells long high zeros =
-    let shown : length (take m cells) ≡ m = length-take-le m cells (omega arith) in
-    let past : drop m cells ≡ replicate (6 - m) 0 =
-    same_number_lists _ _ (length-drop m cells ∙ omega (arith, length-replicate {A = ℕ} (6 - m) 0))
-    (λ k h. let within : k < 6 - m = omega (arith, h, length-drop m cells) in
+    let shown = length-take-le m cells (omega arith) in
+    let past = same_number_lists _ _ (length-drop m cells ∙ omega (arith, length-replicate {A = ℕ} (6 - m) 0))
+    (λ k h. let within : k < 6 - m = omega (arith, length-drop m cells) in
     zeros k 0 h ∙ sym (get_or-replicate (6 - m) k 0 0 within)) in
     rw (shown, ← past) (take-append-drop m cells)
 
@@ -339,24 +335,24 @@ rule_bit-small EmptyCapture = omega arith
 -- the content of the key of houses
 pub key_says : (a : Rows) (k : ℕ) → IsWithinHouses a → key_of a ≡ k → KeySays a k
 key_says a k h e =
-    let other_long : length a.other ≤ 6 = omega (arith, h.at_most_six, h.same_side) in
-    let own_few : sum a.own ≤ 31 = omega (arith, h.few_seeds) in
-    let other_few : sum a.other ≤ 31 = omega (arith, h.few_seeds) in
-    let own_small : number_of a.own < 2 ^ 30 = number_of-small 6 a.own h.at_most_six own_few in
-    let other_small : number_of a.other < 2 ^ 30 = number_of-small 6 a.other other_long other_few in
+    let other_long : length a.other ≤ 6 = omega arith in
+    let own_few : sum a.own ≤ 31 = omega arith in
+    let other_few : sum a.other ≤ 31 = omega arith in
+    let own_small = number_of-small 6 a.own h.at_most_six own_few in
+    let other_small = number_of-small 6 a.other other_long other_few in
     let own_same = number_of-append_zeros a.own (6 - length a.own) in
     let other_same = number_of-append_zeros a.other (6 - length a.other) in
     let bit = rule_bit-small a.rule in
     let top = 2 ^ 30 * length a.own + 2 ^ 33 * rule_bit a.rule in
     let above = length a.own + 8 * rule_bit a.rule in
     let own_number : k ≡ number_of (padded a.own) + 32 ^ 6 * (number_of a.other + top) = omega arith in
-    let other_number : k / 2 ^ 30 ≡ number_of (padded a.other) + 32 ^ 6 * above = omega (arith, h.at_most_six) in
+    let other_number : k / 2 ^ 30 ≡ number_of (padded a.other) + 32 ^ 6 * above = omega arith in
     record {
       own_cells = rw own_number (cells-number_of 6 (padded a.own) _ (length-padded a.own h.at_most_six) (omega (arith, sum-padded a.own)));
       other_cells =
           rw other_number (cells-number_of 6 (padded a.other) above (length-padded a.other other_long) (omega (arith, sum-padded a.other)));
-      side = omega (arith, h.at_most_six);
-      rule = omega (arith, h.at_most_six);
+      side = omega arith;
+      rule = omega arith;
     }
 
 -- a value's key may hold
@@ -368,7 +364,7 @@ key_holds a k h e =
       at_most_six = h.at_most_six;
       own_past = drop-padded a.own;
       other_past = rw (sym h.same_side) (drop-padded a.other);
-      few_seeds = omega (arith, sum-padded a.own, sum-padded a.other, h.few_seeds);
+      few_seeds = omega (arith, sum-padded a.own, sum-padded a.other);
     })
 
 -- rules with one bit are one
@@ -413,7 +409,7 @@ key_of_rows k rule h bit =
     key_from_parts k (side_at k) (cells 6 k) (cells 6 (k / 2 ^ 30)) rule (number_of-cells k) (number_of-cells (k / 2 ^ 30))
     (padded_from_zeros (side_at k) (cells 6 k) own_long h.at_most_six h.own_past)
     (padded_from_zeros (side_at k) (cells 6 (k / 2 ^ 30)) other_long h.at_most_six h.other_past)
-    (length-take-le (side_at k) (cells 6 k) (omega (arith, own_long, h.at_most_six))) refl bit
+    (length-take-le (side_at k) (cells 6 k) (omega arith)) refl bit
 
 -- the rule that a key names has the key's bit
 rule_at-bit : (bit : ℕ) → bit ≤ 1 → rule_bit (if bit == 0 then Classic else EmptyCapture) ≡ bit
@@ -425,23 +421,23 @@ rule_at-bit (suc (suc n)) h = absurd (omega arith)
 pub rows_at_key : (a : Rows) → IsWithinHouses a → rows_at (key_of a) ≡ a
 rows_at_key a h =
     let says = key_says a (key_of a) h refl in
-    let bit : key_of a / 2 ^ 63 ≤ 1 = omega (arith, says.rule, rule_bit-small a.rule) in
+    let bit : key_of a / 2 ^ 63 ≤ 1 = omega (arith, rule_bit-small a.rule) in
     rows_of_key a (key_of a) (rule_at (key_of a)) h refl (rule_at-bit (key_of a / 2 ^ 63) bit)
 
 -- a key fits sixty-four bits
 key_of-small : (b : Rows) → IsWithinHouses b → key_of b < 2 ^ 64
 key_of-small b h =
-    let own_small : number_of b.own < 2 ^ 30 = number_of-small 6 b.own h.at_most_six (omega (arith, h.few_seeds)) in
-    let other_small : number_of b.other < 2 ^ 30 = number_of-small 6 b.other (omega (arith, h.at_most_six, h.same_side))
-    (omega (arith, h.few_seeds)) in
+    let own_small = number_of-small 6 b.own h.at_most_six (omega arith) in
+    let other_small = number_of-small 6 b.other (omega arith)
+    (omega arith) in
     let bit = rule_bit-small b.rule in
-    omega (arith, h.at_most_six)
+    omega arith
 
 -- the key of houses, with their number of seeds, is those houses packed
 pub packed_as : (b : Rows) (k s : ℕ) → IsWithinHouses b → k ≡ key_of b → s ≡ seeds_in_houses (bare b) → IsPacked k s
     × (rows_at k ≡ b)
 packed_as b k s h e seeds_are =
-    let rows : rows_at k ≡ b = ap rows_at e ∙ rows_at_key b h in (
+    let rows = ap rows_at e ∙ rows_at_key b h in (
       record {
         limits = rw rows h;
         key_is = ap key_of rows ∙ sym e;
@@ -452,7 +448,7 @@ packed_as b k s h e seeds_are =
 
 -- and fits sixty-four bits
 pub packed_fits : {k s : ℕ} → IsPacked k s → k < 2 ^ 64
-packed_fits {k} is = omega (arith, is.key_is, key_of-small (rows_at k) is.limits)
+packed_fits {k} is = omega (arith, key_of-small (rows_at k) is.limits)
 
 -- what the fields of packed houses determine of the houses
 pub record IsPackOf (a : Rows) (key seeds : ℕ) : Type 0 where
@@ -485,21 +481,21 @@ number_of-zero (x ∷ xs) e = let cons = sum_by-cons (λ (y : ℕ). y) x xs in l
 pub no_seeds : (xs : List ℕ) → nat_eq (number_of xs) 0 ≡ nat_eq (sum xs) 0
 no_seeds xs = elim (cases_eq (sum xs) 0) [
   | inl none ↦ rw (none, number_of-zero xs none) refl
-  | inr some ↦ let more : number_of xs ≢ 0 = λ e. some (sum-zero xs e) in grind (arith, nat_tests, more, some)
+  | inr some ↦ let more : number_of xs ≢ 0 = λ e. some (sum-zero xs e) in grind (arith, nat_tests)
 ]
 
 -- the rows of a key as numbers
 pub own_number_at : (a : Rows) (k : ℕ) → IsWithinHouses a → key_of a ≡ k → number_of a.own ≡ k % 2 ^ 30
 own_number_at a k h e =
-    let small = number_of-small 6 a.own h.at_most_six (omega (arith, h.few_seeds)) in
-    omega (arith, e)
+    let small = number_of-small 6 a.own h.at_most_six (omega arith) in
+    omega arith
 
 -- the other row
 pub other_number_at : (a : Rows) (k : ℕ) → IsWithinHouses a → key_of a ≡ k → number_of a.other ≡ k / 2 ^ 30 % 2 ^ 30
 other_number_at a k h e =
-    let own = number_of-small 6 a.own h.at_most_six (omega (arith, h.few_seeds)) in
-    let other = number_of-small 6 a.other (omega (arith, h.at_most_six, h.same_side)) (omega (arith, h.few_seeds)) in
-    omega (arith, e)
+    let own = number_of-small 6 a.own h.at_most_six (omega arith) in
+    let other = number_of-small 6 a.other (omega arith) (omega arith) in
+    omega arith
 
 -- both rows
 pub rows_number_at : (a : Rows) (k : ℕ) → IsWithinHouses a → key_of a ≡ k
@@ -524,7 +520,7 @@ read_more xs m passed number x few sum_few long more is at =
     let here : x ≡ get_or xs k 0 = rw at_k at at in
     record {
       value = omega arith;
-      small = omega (arith, number_of-small 6 (drop k xs) (omega (arith, length-drop k xs)) (omega (arith, fewer, sum_few)));
+      small = omega (arith, number_of-small 6 (drop k xs) (omega (arith, length-drop k xs)) (omega arith));
     }
 
 -- what `Houses::new` answers at the parts of a key
@@ -558,21 +554,21 @@ without_seeds_packed {a} {k} is =
     let none = sum-zeros (length a.own) in
     packed_as (without_seeds a) (k / 2 ^ 60 * 2 ^ 60) 0
     (record {
-      some_house = omega (arith, side, is.limits.some_house);
-      at_most_six = omega (arith, side, is.limits.at_most_six);
+      some_house = omega (arith, side);
+      at_most_six = omega (arith, side);
       same_side = refl;
-      few_seeds = omega (arith, none);
+      few_seeds = omega arith;
     })
     (omega (arith, side, above_cells a k is.limits is.key_is, number_of-zeros (length a.own)))
-    (omega (arith, none))
+    (omega arith)
 
 -- ==== The houses of one side in one number
 
 pub row_is_small : {count number seeds : ℕ} → IsPackedRow count number seeds → number < 32 ^ 6
 row_is_small {count} {number} {seeds} row =
-    let short : length (cells count number) ≤ 6 = omega (arith, length-cells count number, row.few_houses) in
-    let small = number_of-small 6 (cells count number) short (omega (arith, row.seeds_are, row.few_seeds)) in
-    omega (arith, small, row.number_is)
+    let short : length (cells count number) ≤ 6 = omega (arith, length-cells count number) in
+    let small = number_of-small 6 (cells count number) short (omega arith) in
+    omega (arith, small)
 
 -- ---- one house more
 
@@ -583,7 +579,7 @@ module _ {count number seeds : ℕ} (x : ℕ) (row : IsPackedRow count number se
   sum_more : sum (houses ++ x ∷ []) ≡ seeds + x
   sum_more =
       let one : sum (x ∷ []) ≡ x = omega (arith, sum_by-cons (λ (y : ℕ). y) x []) in
-      omega (arith, sum_by-append (λ (y : ℕ). y) houses (x ∷ []), one, row.seeds_are)
+      omega (arith, sum_by-append (λ (y : ℕ). y) houses (x ∷ []))
 
   number_more : number_of (houses ++ x ∷ []) ≡ number + 32 ^ count * x
   number_more =
@@ -600,7 +596,7 @@ module _ {count number seeds : ℕ} (x : ℕ) (row : IsPackedRow count number se
 
   pub row_pushed : count < 6 → IsPackedRow (count + 1) (number + 32 ^ count * x) (seeds + x)
   row_pushed room = record {
-    few_houses = omega (arith, room);
+    few_houses = omega arith;
     number_is = ap number_of houses_pushed ∙ number_more;
     seeds_are = ap sum houses_pushed ∙ sum_more;
     few_seeds = few;
@@ -616,7 +612,7 @@ pub packed_rows : (own other : List ℕ) (rule : Rule) (own_number other_number 
     IsPacked (own_number + 2 ^ 30 * other_number + 2 ^ 60 * (m + 8 * bit)) seeds
     × (rows_at (own_number + 2 ^ 30 * other_number + 2 ^ 60 * (m + 8 * bit)) ≡ record { own = own; other = other; rule = rule })
 packed_rows own other rule own_number other_number m bit seeds within own_is other_is m_is bit_is seeds_are =
-    packed_as (record { own = own; other = other; rule = rule }) _ seeds within (omega (arith, own_is, other_is, m_is, bit_is)) seeds_are
+    packed_as (record { own = own; other = other; rule = rule }) _ seeds within (omega arith) seeds_are
 
 -- ==== Houses from six cells a row
 
@@ -631,8 +627,8 @@ pub packed_new : (m : ℕ) (own other : List ℕ) (rule : Rule) (own_number othe
     IsPacked (own_number + 2 ^ 30 * other_number + 2 ^ 60 * (m + 8 * bit)) seeds
     × (rows_at (own_number + 2 ^ 30 * other_number + 2 ^ 60 * (m + 8 * bit)) ≡ rows_from m own other rule)
 packed_new m own other rule own_number other_number bit seeds own_long other_long can own_is other_is bit_is seeds_are =
-    let own_shown : length (take m own) ≡ m = length-take-le m own (omega (arith, can.at_most_six)) in
-    let other_shown : length (take m other) ≡ m = length-take-le m other (omega (arith, can.at_most_six)) in
+    let own_shown = length-take-le m own (omega arith) in
+    let other_shown = length-take-le m other (omega arith) in
     let own_padded = padded_from_zeros m own own_long can.at_most_six can.own_past in
     let other_padded = padded_from_zeros m other other_long can.at_most_six can.other_past in
     let own_sum = sum-shown m own own_padded in
@@ -640,10 +636,10 @@ packed_new m own other rule own_number other_number bit seeds own_long other_lon
     let own_same = number_of-shown m own own_padded in
     let other_same = number_of-shown m other other_padded in
     let limits : IsWithinHouses (rows_from m own other rule) = record {
-      some_house = omega (arith, own_shown, can.some_house);
-      at_most_six = omega (arith, own_shown, can.at_most_six);
+      some_house = omega arith;
+      at_most_six = omega arith;
       same_side = other_shown ∙ sym own_shown;
-      few_seeds = omega (arith, own_sum, other_sum, can.few_seeds);
+      few_seeds = omega arith;
     } in
-    packed_as (rows_from m own other rule) _ seeds limits (omega (arith, own_same, other_same, own_is, other_is, bit_is, own_shown))
-    (omega (arith, own_sum, other_sum, seeds_are))
+    packed_as (rows_from m own other rule) _ seeds limits (omega arith)
+    (omega (arith, seeds_are))

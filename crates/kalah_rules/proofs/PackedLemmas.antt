@@ -50,7 +50,7 @@ unchanged : (r : RowNumbers) (x y last taken k j : ℕ) {p : Position} → (last
     Shows (record { rows = r.rows - x - 2 ^ 30 * y; store = r.store + last + taken }) p
 unchanged r x y last taken k j none x_is y_is shows =
     let same : r.rows - x - 2 ^ 30 * y ≡ r.rows = omega (arith, rw none.0 at x_is, rw none.1 at y_is) in
-    record { own = rw same shows.own; other = rw same shows.other; store = omega (arith, none.0, none.1, shows.store) }
+    record { own = rw same shows.own; other = rw same shows.other; store = omega (arith, shows.store) }
 
 -- rows from which houses are taken
 taken_off : (rows x y own other own_new other_new : ℕ) → rows % 2 ^ 30 ≡ own → rows / 2 ^ 30 ≡ other →
@@ -75,12 +75,12 @@ caught_few : (here across : ℕ) (captures : Bool) (last taken : ℕ) →
     MatchBool ((here == 1) && captures) ((last ≡ 1) × (taken ≡ across)) ((last ≡ 0) × (taken ≡ 0)) →
     (last ≤ here) × (taken ≤ across)
 caught_few here across captures last taken told = elim (cases_Bool (here == 1)) [
-  | inr more ↦ let none : (last ≡ 0) × (taken ≡ 0) = rw more at told in (omega (arith, none.0), omega (arith, none.1))
+  | inr more ↦ let none : (last ≡ 0) × (taken ≡ 0) = rw more at told in (omega arith, omega arith)
   | inl one ↦ elim (cases_Bool captures) [
     | inr kept ↦ let none : (last ≡ 0) × (taken ≡ 0) = rw (one, kept) at told in
-        (omega (arith, none.0), omega (arith, none.1))
+        (omega arith, omega arith)
     | inl some ↦ let both : (last ≡ 1) × (taken ≡ across) = rw (one, some) at told in
-        (omega (arith, both.0, eqb-true here 1 one), omega (arith, both.1))
+        (omega (arith, eqb-true here 1 one), omega arith)
   ]
 ]
 
@@ -89,7 +89,7 @@ house_bits : (rows k : ℕ) → bit_and rows (31 * 32 ^ k) ≡ rows / 32 ^ k % 3
 house_bits rows k =
     let p = 2 ^ (5 * k) in
     let low = mod_below rows p (pow_pos (5 * k)) in
-    let whole : rows / p * p + rows % p ≡ rows = div-add-mod' rows p in
+    let whole = div-add-mod' rows p in
     let none : bit_and (rows % p) 0 ≡ 0 = omega (arith, and_le_r (rows % p) 0) in
     let both = and_block (5 * k) (rows / p) 31 (rows % p) 0 low (pow_pos (5 * k)) in
     let mask : 31 * p + 0 ≡ 31 * p = omega arith in
@@ -99,9 +99,9 @@ house_bits rows k =
 
 -- are one if the house has one seed
 one_of : (x p : ℕ) → 0 < p → (x * p == p) ≡ (x == 1)
-one_of zero p some = grind (arith, nat_tests, some)
-one_of (suc zero) p some = grind (arith, nat_tests, some)
-one_of (suc (suc x)) p some = grind (arith, nat_tests, some)
+one_of zero p some = grind (arith, nat_tests)
+one_of (suc zero) p some = grind (arith, nat_tests)
+one_of (suc (suc x)) p some = grind (arith, nat_tests)
 
 one_seed_at : (rows k : ℕ) → (bit_and rows (31 * 32 ^ k) == 32 ^ k) ≡ (rows / 32 ^ k % 32 == 1)
 one_seed_at rows k =
@@ -131,20 +131,20 @@ record GainsIntoStore (m h c : ℕ) : Type 0 where
 store_gains : (m h c : ℕ) → 1 ≤ h → h ≤ m → c + h ≡ m + 1 → GainsIntoStore m h c
 store_gains m h c low high ends =
     let small : c < lap_length m = omega arith in
-    let no_lap : c / lap_length m ≡ 0 = div-eq_of_lt small in
-    let rest : c % lap_length m ≡ c = mod-eq_of_lt small in
+    let no_lap = div-eq_of_lt small in
+    let rest = mod-eq_of_lt small in
     let none : c / lap_length m * ones m ≡ 0 * ones m = ap (λ q. q * ones m) no_lap in
-    let all = number_of-all m (h + c % lap_length m) (omega (arith, rest)) in
-    let no_round : h + c % lap_length m - lap_length m ≡ 0 = omega (arith, rest) in
-    let no_other : h + c % lap_length m - (m + 1) ≡ 0 = omega (arith, rest) in
-    let round = number_of-up_to m (h + c % lap_length m - lap_length m) (omega (arith, no_round)) in
-    let other = number_of-up_to m (h + c % lap_length m - (m + 1)) (omega (arith, no_other)) in
+    let all = number_of-all m (h + c % lap_length m) (omega arith) in
+    let no_round : h + c % lap_length m - lap_length m ≡ 0 = omega arith in
+    let no_other : h + c % lap_length m - (m + 1) ≡ 0 = omega arith in
+    let round = number_of-up_to m (h + c % lap_length m - lap_length m) (omega arith) in
+    let other = number_of-up_to m (h + c % lap_length m - (m + 1)) (omega arith) in
     let nothing = ap (λ k. ones k) no_round in
     let nothing' = ap (λ k. ones k) no_other in
     record {
-      own = omega (arith, own_gain m h c low high, none, all, round, nothing);
-      other = omega (arith, other_gain m h c low high, none, other, nothing');
-      store = grind (arith, nat_tests, rest, no_lap);
+      own = omega (arith, own_gain m h c low high);
+      other = omega (arith, other_gain m h c low high, other);
+      store = grind (arith, nat_tests);
     }
 
 module _ (a : Rows) (h : ℕ) (w : IsWithinHouses a) (holds : HoldsSeeds (bare a) h) where
@@ -203,7 +203,7 @@ module _ (a : Rows) (h : ℕ) (w : IsWithinHouses a) (holds : HoldsSeeds (bare a
       → house ≡ 32 ^ (h - 1) * seeds a.own h →
       gains ≡ own_gained (length a.own) h (seeds a.own h) + 2 ^ 30 * other_gained (length a.own) h (seeds a.own h) →
       rows - house + gains ≡ number_of q.own + 2 ^ 30 * number_of q.other
-  sown_rows rows house gains rows_are house_is gains_are = omega (arith, rows_are, house_is, gains_are, own_is, other_is, lifted_is)
+  sown_rows rows house gains rows_are house_is gains_are = omega (arith, own_is, other_is, lifted_is)
 
   -- so they are what a key without its rule has, less what it loses
   pub sown_less : (rest loses : ℕ) → rest ≡ number_of a.own + 2 ^ 30 * number_of a.other + 2 ^ 60 * length a.own →
@@ -211,26 +211,26 @@ module _ (a : Rows) (h : ℕ) (w : IsWithinHouses a) (holds : HoldsSeeds (bare a
       ≡ 2 ^ 60 * length a.own + 32 ^ (h - 1) * seeds a.own h →
       (loses ≤ rest) × (rest - loses ≡ number_of q.own + 2 ^ 30 * number_of q.other)
   sown_less rest loses rest_is loses_is = (
-    omega (arith, rest_is, loses_is, own_is, other_is),
-    omega (arith, rest_is, loses_is, own_is, other_is),
+    omega (arith, own_is, other_is),
+    omega (arith, own_is, other_is),
   )
 
   -- show the position after the sowing
   pub rows_show : (rows store : ℕ) → rows ≡ number_of q.own + 2 ^ 30 * number_of q.other →
       store ≡ store_gained (length a.own) h (seeds a.own h) → Shows (record { rows = rows; store = store }) q
   rows_show rows store rows_are store_is' = record {
-    own = omega (arith, rows_are, own_small);
-    other = omega (arith, rows_are, own_small);
+    own = omega (arith, own_small);
+    other = omega (arith, own_small);
     store = store_is' ∙ sym store_is;
   }
 
   -- and are numbers of 60 bits
   pub sown_small : number_of q.own + 2 ^ 30 * number_of q.other < 2 ^ 60
   sown_small =
-      let other_small : number_of q.other < 2 ^ 30 = number_of-small 6 q.other
+      let other_small = number_of-small 6 q.other
       (omega (arith, sown_keeps.other_side, w.same_side, w.at_most_six))
       (omega (arith, few)) in
-      omega (arith, own_small, other_small)
+      omega (arith, own_small)
 
   -- a house whose last seed falls into the store without a lap
   pub into_store : (rows house own_more : ℕ) → seeds a.own h + h ≡ length a.own + 1
@@ -239,7 +239,7 @@ module _ (a : Rows) (h : ℕ) (w : IsWithinHouses a) (holds : HoldsSeeds (bare a
       → Shows (record { rows = rows - house + own_more; store = 1 }) q
   into_store rows house own_more ends rows_are house_is own_more_is =
       let gains = store_gains (length a.own) h (seeds a.own h) holds.first holds.last ends in
-      rows_show _ 1 (sown_rows rows house own_more rows_are house_is (omega (arith, own_more_is, gains.own, gains.other))) (sym gains.store)
+      rows_show _ 1 (sown_rows rows house own_more rows_are house_is (omega arith)) (sym gains.store)
 
   -- and few in the store
   pub store_few : q.own_store ≤ 31
@@ -249,7 +249,7 @@ module _ (a : Rows) (h : ℕ) (w : IsWithinHouses a) (holds : HoldsSeeds (bare a
   pub read_own : (r : RowNumbers) (i bit : ℕ) → Shows r q → 1 ≤ i → i ≤ length a.own → bit ≡ 5 * (i - 1) →
       r.rows / 2 ^ bit % 32 ≡ seeds q.own i
   read_own r i bit shows low high at =
-      let near : i - 1 ≤ 5 = omega (arith, high, w.at_most_six) in
+      let near : i - 1 ≤ 5 = omega (arith, w.at_most_six) in
       rw (at, pow_five (i - 1)) (low_cell r.rows (i - 1) near ∙ ap (λ n. n / 32 ^ (i - 1) % 32) shows.own
       ∙ read_seeds q.own (i - 1) (omega (arith, sown_keeps.side)) (omega (arith, few)))
 
@@ -289,8 +289,8 @@ module _ (a : Rows) (h : ℕ) (w : IsWithinHouses a) (holds : HoldsSeeds (bare a
       let own_set = number_of-set q.own (i - 1) 0 (omega arith) in
       let other_set = number_of-set q.other (opposite q i - 1) 0 (omega arith) in
       let one_at : 32 ^ (i - 1) * seeds q.own i ≡ 32 ^ (i - 1) * 1 = ap (λ n. 32 ^ (i - 1) * n) one in
-      let off = taken_off r.rows x y _ _ _ _ shows.own shows.other (omega (arith, own_set, one_at, x_is))
-      (omega (arith, other_set, y_is)) in
+      let off = taken_off r.rows x y _ _ _ _ shows.own shows.other (omega arith)
+      (omega arith) in
       let store_shown = shows.store in
       rw (captured_some q i one (rw sown_keeps.rule some)) (record { own = off.0; other = off.1; store = omega arith })
 
@@ -325,13 +325,8 @@ module _ (a : Rows) (h : ℕ) (w : IsWithinHouses a) (holds : HoldsSeeds (bare a
       let same = w.same_side in
       let own_set = number_of-set q.own (i - 1) 0 (omega arith) in
       let other_set = number_of-set q.other (opposite q i - 1) 0 (omega arith) in (
-        omega (arith, own_set, shows.own, mul-le (32 ^ (i - 1)) last (32 ^ (i - 1)) (seeds q.own i) (omega arith) last_few),
-        omega (
-          arith,
-          other_set,
-          shows.other,
-          mul-le (32 ^ (opposite q i - 1)) taken (32 ^ (opposite q i - 1)) (seeds q.other (opposite q i)) (omega arith) taken_few,
-        ),
+        omega (arith, shows.own, mul-le (32 ^ (i - 1)) last (32 ^ (i - 1)) (seeds q.own i) (omega arith) last_few),
+        omega (arith, shows.other, mul-le (32 ^ (opposite q i - 1)) taken (32 ^ (opposite q i - 1)) (seeds q.other (opposite q i)) (omega arith) taken_few),
       )
 
   -- all that a capture does to the rows, read and written by bits
@@ -340,9 +335,9 @@ module _ (a : Rows) (h : ℕ) (w : IsWithinHouses a) (holds : HoldsSeeds (bare a
       LeavesRows r seed across last taken (captured q (Some i))
   capture_shows r i house seed across last taken shows low high at told =
       let side = sown_keeps.side in
-      let near : i - 1 ≤ 5 = omega (arith, high, w.at_most_six) in
-      let far : opposite q i - 1 ≤ 5 = omega (arith, side, w.at_most_six, low) in
-      let opposite_is : across ≡ 30 + 5 * (opposite q i - 1) = omega (arith, at.across, side, low, high) in
+      let near : i - 1 ≤ 5 = omega (arith, w.at_most_six) in
+      let far : opposite q i - 1 ≤ 5 = omega (arith, side, w.at_most_six) in
+      let opposite_is : across ≡ 30 + 5 * (opposite q i - 1) = omega (arith, side) in
       let here = read_own r i (5 * (i - 1)) shows low high refl in
       let there = read_across r i across shows low high opposite_is in
       let alone : (bit_and r.rows house == seed) ≡ (seeds q.own i == 1) =
@@ -352,10 +347,10 @@ module _ (a : Rows) (h : ℕ) (w : IsWithinHouses a) (holds : HoldsSeeds (bare a
       let x : last * seed ≡ 32 ^ (i - 1) * last = rw at.seed (mul_comm last (32 ^ (i - 1))) in
       let y : taken * 2 ^ across % 2 ^ 64 ≡ 2 ^ 30 * (32 ^ (opposite q i - 1) * taken) =
       rw (opposite_is, pow_other (opposite q i - 1)) (moved_far (opposite q i - 1) taken far (omega (arith, few.1))) in
-      let within = caught_within r i last taken shows low high few.0 (omega (arith, few.1, there)) in
+      let within = caught_within r i last taken shows low high few.0 (omega (arith, few.1)) in
       record {
-        here = omega (arith, x, within.0);
-        across = omega (arith, x, y, within.0, within.1);
+        here = omega (arith, within.0);
+        across = omega (arith, within.0, within.1);
         shows = rw (x, y) (shows_caught r i (seeds q.own i) _ last taken _ _ shows low high refl there caught refl refl);
       }
 
@@ -408,7 +403,7 @@ module _ (p : Position) (h : ℕ) (holds : HoldsSeeds p h) where
   pub short_distance : seeds p.own h ≤ lap_length (side_length p) → last_distance p h ≡ seeds p.own h
   short_distance few =
       let below : seeds p.own h - 1 < lap_length (side_length p) = omega (arith, few) in
-      let all : (seeds p.own h - 1) % lap_length (side_length p) ≡ seeds p.own h - 1 = mod-eq_of_lt below in
+      let all = mod-eq_of_lt below in
       let some = holds.some in
       omega arith
 
@@ -422,8 +417,8 @@ module _ (p : Position) (h : ℕ) (holds : HoldsSeeds p h) where
       last_place (side_length p) h (seeds p.own h) ≡ at
   place_after laps at whole low high =
       let n = lap_length (side_length p) in
-      let rest : h - 1 + seeds p.own h ≡ laps * n + (at - 1) = omega (arith, whole, low, holds.first) in
-      ap (λ x. x % n + 1) rest ∙ ap (λ x. x + 1) (mod-mul-add laps n (at - 1) (omega (arith, low, high))) ∙ omega (arith, low)
+      let rest : h - 1 + seeds p.own h ≡ laps * n + (at - 1) = omega (arith, holds.first) in
+      ap (λ x. x % n + 1) rest ∙ ap (λ x. x + 1) (mod-mul-add laps n (at - 1) (omega arith)) ∙ omega arith
 
   -- the place of a last seed that doesn't come round
   place_near : h + last_distance p h ≤ lap_length (side_length p)
@@ -438,7 +433,7 @@ module _ (p : Position) (h : ℕ) (holds : HoldsSeeds p h) where
       let n = lap_length (side_length p) in
       let laps = (seeds p.own h - 1) / n in
       let next : (laps + 1) * n ≡ laps * n + n = omega arith in
-      place_after (laps + 1) (h + last_distance p h - n) (omega (arith, laps_and_distance, next, round)) (omega (arith, round))
+      place_after (laps + 1) (h + last_distance p h - n) (omega (arith, laps_and_distance)) (omega arith)
       (omega (arith, last_high, holds.last))
 
   -- an own house where it falls is as far as it goes
@@ -447,10 +442,10 @@ module _ (p : Position) (h : ℕ) (holds : HoldsSeeds p h) where
   own_at own = elim (cases_lt (lap_length (side_length p)) (h + last_distance p h)) [
     | inl round ↦
         let at = place_round round in
-        own_distance_back (side_length p) h _ (omega (arith, at, last_high)) ∙ omega (arith, at, round)
+        own_distance_back (side_length p) h _ (omega (arith, last_high)) ∙ omega arith
     | inr near ↦
-        let at = place_near (omega (arith, near)) in
-        own_distance_past (side_length p) h _ (omega (arith, at, last_low)) ∙ omega (arith, at)
+        let at = place_near (omega arith) in
+        own_distance_past (side_length p) h _ (omega (arith, last_low)) ∙ omega arith
   ]
 
   -- it falls into an own house, and may capture
@@ -463,8 +458,8 @@ module _ (p : Position) (h : ℕ) (holds : HoldsSeeds p h) where
   place_past : side_length p < last_place (side_length p) h (seeds p.own h) →
       (last_place (side_length p) h (seeds p.own h) ≡ h + last_distance p h) × (h + last_distance p h ≤ lap_length (side_length p))
   place_past past = elim (cases_lt (lap_length (side_length p)) (h + last_distance p h)) [
-    | inl round ↦ absurd (omega (arith, past, place_round round, last_high, holds.last))
-    | inr near ↦ let inside : h + last_distance p h ≤ lap_length (side_length p) = omega (arith, near) in (place_near inside, inside)
+    | inl round ↦ absurd (omega (arith, place_round round, last_high, holds.last))
+    | inr near ↦ let inside : h + last_distance p h ≤ lap_length (side_length p) = omega arith in (place_near inside, inside)
   ]
 
   -- it falls into the store or beyond
@@ -479,9 +474,9 @@ module _ (p : Position) (h : ℕ) (holds : HoldsSeeds p h) where
             subst (λ z. Shows r z) (after_at p h None (last_house_store p h holds far)) shows
         | inr other ↦
             let j = h + last_distance p h - (side_length p + 1) in
-            let low : 1 ≤ j = omega (arith, at.0, past, other) in
-            let high : j ≤ side_length p = omega (arith, at.1) in
-            let far : other_distance (side_length p) h j ≡ last_distance p h = omega (arith, at.0, past, other) in
+            let low : 1 ≤ j = omega (arith, other) in
+            let high : j ≤ side_length p = omega arith in
+            let far : other_distance (side_length p) h j ≡ last_distance p h = omega (arith, other) in
             subst (λ z. Shows r z) (after_at p h None (last_house_other p h j holds low high far)) shows
       ]
 
@@ -491,13 +486,13 @@ module _ (p : Position) (h : ℕ) (holds : HoldsSeeds p h) where
     | inl store ↦
         let at = place_past (omega (arith, store)) in
         rw (
-          eq-eqb (last_distance p h) (store_distance (side_length p) h) (omega (arith, at.0, store)),
+          eq-eqb (last_distance p h) (store_distance (side_length p) h) (omega (arith, store)),
           eq-eqb (last_place (side_length p) h (seeds p.own h)) (side_length p + 1) store,
         ) refl
     | inr elsewhere ↦
         let apart : last_distance p h ≢ store_distance (side_length p) h = λ far.
-        elsewhere (place_near (omega (arith, far, holds.last)) ∙ omega (arith, far, holds.last)) in
-        grind (arith, nat_tests, apart, elsewhere)
+        elsewhere (place_near (omega (arith, holds.last)) ∙ omega (arith, holds.last)) in
+        grind (arith, nat_tests)
   ]
 
 -- where no house has one seed, nothing is caught
@@ -507,11 +502,11 @@ none_caught rule r last taken told shows =
     let bits : bit_and r.rows 0 ≡ 0 = omega (arith, and_le_r r.rows 0) in
     let none : (last ≡ 0) × (taken ≡ 0) = rw bits at told in
     record {
-      here = omega (arith, none.0);
-      across = omega (arith, none.0, none.1);
+      here = omega arith;
+      across = omega arith;
       shows =
-          let same : r.rows - last * 1 - taken * 2 ^ 0 % 2 ^ 64 ≡ r.rows = omega (arith, none.0, none.1) in
-          record { own = rw same shows.own; other = rw same shows.other; store = omega (arith, none.0, none.1, shows.store) };
+          let same : r.rows - last * 1 - taken * 2 ^ 0 % 2 ^ 64 ≡ r.rows = omega arith in
+          record { own = rw same shows.own; other = rw same shows.other; store = omega (arith, shows.store) };
     }
 
 -- the bit across lies within a key
@@ -643,21 +638,21 @@ module _ {a : Rows} {h key seeds : ℕ} {r : RowNumbers} (packed : IsPacked key 
   -- the mover has no seeds left
   pub over_own : r.rows % 2 ^ 30 ≡ 0 → Over r.store (seeds - r.store) ≡ houses_step a h
   over_own none =
-      let empty : sum moved.own ≡ 0 = sum-zero moved.own (sym shows.own ∙ none) in
+      let empty = sum-zero moved.own (sym shows.own ∙ none) in
       let over : is_over moved ≡ true = rw empty refl in
-      let mine : r.store ≡ moved.own_store + sum moved.own = omega (arith, shows.store, empty) in
+      let mine : r.store ≡ moved.own_store + sum moved.own = omega (arith, shows.store) in
       let theirs : seeds - r.store ≡ moved.other_store + sum moved.other =
-      omega (arith, shows.store, keeps.play, keeps.other_store, is.seeds_are, empty) in
+      omega (arith, shows.store, keeps.play, keeps.other_store, is.seeds_are) in
       ap (λ x. Over x (seeds - r.store)) mine ∙ ap (λ x. Over (moved.own_store + sum moved.own) x) theirs
       ∙ sym (step_over moved (is_again (bare a) h) over)
 
   -- or the other player has none
   pub over_other : r.rows / 2 ^ 30 ≡ 0 → Over seeds 0 ≡ houses_step a h
   over_other none =
-      let empty : sum moved.other ≡ 0 = sum-zero moved.other (sym shows.other ∙ none) in
-      let over : is_over moved ≡ true = grind (arith, nat_tests, empty) in
-      let mine : seeds ≡ moved.own_store + sum moved.own = omega (arith, keeps.play, is.seeds_are, empty) in
-      let theirs : 0 ≡ moved.other_store + sum moved.other = omega (arith, keeps.other_store, empty) in
+      let empty = sum-zero moved.other (sym shows.other ∙ none) in
+      let over : is_over moved ≡ true = grind (arith, nat_tests) in
+      let mine : seeds ≡ moved.own_store + sum moved.own = omega (arith, keeps.play, is.seeds_are) in
+      let theirs : 0 ≡ moved.other_store + sum moved.other = omega (arith, keeps.other_store) in
       ap (λ x. Over x 0) mine ∙ ap (λ x. Over (moved.own_store + sum moved.own) x) theirs ∙ sym (step_over moved (is_again (bare a) h) over)
 
   module _ (own_some : r.rows % 2 ^ 30 ≢ 0) (other_some : r.rows / 2 ^ 30 ≢ 0) where
@@ -672,7 +667,7 @@ module _ {a : Rows} {h key seeds : ℕ} {r : RowNumbers} (packed : IsPacked key 
     pub again_packed : is_again (bare a) h ≡ true → IsStepTo a h (r.rows + key / 2 ^ 60 * 2 ^ 60) (seeds - r.store) (Again r.store)
     again_packed more =
         let above = above_cells a key is.limits is.key_is in
-        let rule : rule_bit moved.rule ≡ rule_bit a.rule = ap rule_bit keeps.rule in
+        let rule = ap rule_bit keeps.rule in
         let there = packed_as (rows_of moved) (r.rows + key / 2 ^ 60 * 2 ^ 60) (seeds - r.store) within
         (omega (arith, shows.own, shows.other, keeps.side)) (omega (arith, shows.store, keeps.play, is.seeds_are)) in
         record { packed = there.0; is = rw (shows.store, there.1) (sym (step_again moved (is_again (bare a) h) going more)) }
@@ -682,7 +677,7 @@ module _ {a : Rows} {h key seeds : ℕ} {r : RowNumbers} (packed : IsPacked key 
         IsStepTo a h (r.rows / 2 ^ 30 + 2 ^ 30 * (r.rows % 2 ^ 30) + key / 2 ^ 60 * 2 ^ 60) (seeds - r.store) (Turn r.store)
     turn_packed passed =
         let above = above_cells a key is.limits is.key_is in
-        let rule : rule_bit moved.rule ≡ rule_bit a.rule = ap rule_bit keeps.rule in
+        let rule = ap rule_bit keeps.rule in
         let there = packed_as (rows_of (swapped moved)) (r.rows / 2 ^ 30 + 2 ^ 30 * (r.rows % 2 ^ 30) + key / 2 ^ 60 * 2 ^ 60) (seeds - r.store)
         (swapped_within moved within)
         (omega (arith, shows.own, shows.other, keeps.other_side, is.limits.same_side))
@@ -735,17 +730,17 @@ step_within p h l holds =
     let side = length-replicate {A = ℕ} (side_length p) 0 in
     let none = sum-zeros (side_length p) in
     record {
-      some_house = omega (arith, side, l.some_house);
-      at_most_six = omega (arith, side, l.at_most_six);
+      some_house = omega (arith, side);
+      at_most_six = omega (arith, side);
       same_side = refl;
-      few_seeds = omega (arith, none);
-      own_store_low = omega (arith, none, keeps.play, l.own_store_low);
-      other_store_low = omega (arith, none, keeps.play, keeps.other_store, l.other_store_low);
+      few_seeds = omega arith;
+      own_store_low = omega (arith, keeps.play);
+      other_store_low = omega (arith, keeps.play, keeps.other_store);
     })
     (λ going. on_cond (IsStepWithin p) (is_again (bare a) h) _ _
-    (λ again. limits_with on (omega (arith, keeps.play, l.own_store_low)) (omega (arith, keeps.play, l.other_store_low)))
-    (λ turn. limits_with (swapped_within q on) (omega (arith, keeps.play, l.other_store_low))
-    (omega (arith, keeps.play, l.own_store_low))))
+    (λ again. limits_with on (omega (arith, keeps.play)) (omega (arith, keeps.play)))
+    (λ turn. limits_with (swapped_within q on) (omega (arith, keeps.play))
+    (omega (arith, keeps.play))))
 
 -- all that a board needs of a step of its houses
 pub record IsStepOf (p : Position) (h : ℕ) (s : HousesStep) : Type 0 where
@@ -781,11 +776,11 @@ module _ {a : Rows} {h key seeds : ℕ} {r : RowNumbers} (packed : IsPacked key 
 
   -- the last seed falls as far as the house has seeds
   distance : last_distance (bare a) h ≡ position.seeds a.own h
-  distance = short_distance (bare a) h holds (omega (arith, ends, holds.first, w.some_house))
+  distance = short_distance (bare a) h holds (omega (arith, holds.first, w.some_house))
 
   -- the mover moves again
   again : is_again (bare a) h ≡ true
-  again = eq-eqb _ _ (omega (arith, distance, ends))
+  again = eq-eqb _ _ (omega (arith, distance))
 
   -- its place is that of the store
   place : last_place (length a.own) h (position.seeds a.own h) ≡ length a.own + 1
@@ -799,12 +794,12 @@ module _ {a : Rows} {h key seeds : ℕ} {r : RowNumbers} (packed : IsPacked key 
   other_some : r.rows / 2 ^ 30 ≢ 0
   other_some none =
       let going = legal_going (bare a) h has in
-      let empty : sum a.other ≡ 0 = sum-zero a.other (omega (arith, other_is a h w holds, shows.other, none)) in
-      absurd (grind (arith, nat_tests, going, empty))
+      let empty = sum-zero a.other (omega (arith, other_is a h w holds, shows.other)) in
+      absurd (grind (arith, nat_tests, going))
 
   -- so the game goes on with the mover, if the mover has seeds left
   pub store_packed : 0 < r.rows % 2 ^ 30 → IsStepTo a h (r.rows + key / 2 ^ 60 * 2 ^ 60) (seeds - r.store) (Again r.store)
-  store_packed some = again_packed packed view has store_shows (λ none. absurd (omega (arith, none, some))) other_some again
+  store_packed some = again_packed packed view has store_shows (λ none. absurd (omega arith)) other_some again
 
 -- what a move does to the key whose last seed falls into the store without a lap: `house` are the seeds of the
 -- house where they stand in the row, `own_more` is one seed in each house after it
@@ -824,12 +819,12 @@ moves_into_store {a} {h} {key} {seeds} {house} {own_more} packed view has ends h
     let holds = legal_holds (bare a) h has in
     let rows = rows_number_at a key w pack.key_is in
     let shows = into_store a h w holds (key % 2 ^ 60) house own_more ends rows house_is own_more_is in
-    let lies : house ≤ key % 2 ^ 60 = omega (arith, rows, house_is, lifted_is a h w holds) in
-    let now : key - house + own_more ≡ (key % 2 ^ 60 - house + own_more) + key / 2 ^ 60 * 2 ^ 60 = omega (arith, lies) in
-    let own : (key - house + own_more) % 2 ^ 30 ≡ (key % 2 ^ 60 - house + own_more) % 2 ^ 30 = omega (arith, now) in
+    let lies : house ≤ key % 2 ^ 60 = omega (arith, lifted_is a h w holds) in
+    let now : key - house + own_more ≡ (key % 2 ^ 60 - house + own_more) + key / 2 ^ 60 * 2 ^ 60 = omega arith in
+    let own : (key - house + own_more) % 2 ^ 30 ≡ (key % 2 ^ 60 - house + own_more) % 2 ^ 30 = omega arith in
     record {
-      fits = omega (arith, lies);
-      goes_on = λ some. rw now (store_packed packed view has ends shows (omega (arith, own, some)));
+      fits = omega arith;
+      goes_on = λ some. rw now (store_packed packed view has ends shows (omega (arith, own)));
       over = λ none. over_own packed view has (store_shows packed view has ends shows) (sym own ∙ none);
     }
 
@@ -840,5 +835,5 @@ pub sowings_more : (cells : List Sowing) (i : ℕ) (s : Sowing) → i < length c
     ((m h c : ℕ) → IsSowingCell m h c i → IsSowing m h c s) → AreSowings (i + 1) (slice_set cells i s)
 sowings_more cells i s inside before is m h c k d cell below = elim (cases_eq k i) [
   | inl same ↦ rw (same, get_or-set_same cells i s d inside) (is m h c (rw same at cell))
-  | inr other ↦ rw (get_or-set_other cells i k s d other) (before m h c k d cell (omega (arith, below, other)))
+  | inr other ↦ rw (get_or-set_other cells i k s d other) (before m h c k d cell (omega (arith, other)))
 ]

@@ -32,7 +32,7 @@ pub sum_range_same : (f g : ℕ → ℕ) (a n : ℕ) → ((j : ℕ) → a ≤ j 
 sum_range_same f g a zero same = refl
 sum_range_same f g a (suc n) same =
     let rest = sum_range_same f g (a + 1) n (λ j j_low. same j (omega arith)) in
-    omega (arith, sum_by-cons f a (range_with_len (a + 1) n), sum_by-cons g a (range_with_len (a + 1) n), same a (omega arith), rest)
+    omega (arith, sum_by-cons f a (range_with_len (a + 1) n), sum_by-cons g a (range_with_len (a + 1) n), same a (omega arith))
 
 -- a sum over a range whose term changes at one place
 pub sum_range_change : (f g : ℕ → ℕ) (a n i : ℕ) → a ≤ i → i < a + n →
@@ -45,17 +45,17 @@ sum_range_change f g a (suc n) i low high same =
     elim (cases_eq a i) [
       | inl e ↦
           let rest = sum_range_same f g (a + 1) n (λ j j_low. same j (omega arith) (omega arith)) in
-          rw (← e) (omega (arith, f_cons, g_cons, rest))
+          rw (← e) (omega arith)
       | inr ne ↦
           let here = same a (omega arith) ne in
           let rest = sum_range_change f g (a + 1) n i (omega arith) (omega arith) (λ j j_low. same j (omega arith)) in
-          omega (arith, f_cons, g_cons, here, rest)
+          omega arith
     ]
 
 pub fall_all : (w w0 c m h : ℕ) → h ≤ m → 0 < c → w + c * (m + 1 - h) ≤ w0 + c * (m - h) → w < w0
 fall_all w w0 c m h high some falls =
     let next : m + 1 - h ≡ m - h + 1 = omega arith in
-    omega (arith, rw next at falls, some)
+    omega (arith, rw next at falls)
 
 -- one seed more that comes no farther than d
 pub fall_step : (w w' a b k d e : ℕ) → w + a ≤ b + k * d → w' ≡ w + e → e ≤ d → w' + a ≤ b + (k + 1) * d
@@ -84,8 +84,7 @@ distance_range_le (x ∷ xs) a n w near =
     let g : ℕ → ℕ = λ i. slice_index xs (i - (a + 1)) * w i in
     let start : a - a ≡ 0 = omega arith in
     let first : f a ≤ x * n = rw start (mul-le x (w a) x n (omega arith) (near a (omega arith))) in
-    let rest : sum_by f (range_with_len (a + 1) (length xs)) ≡ sum_by g (range_with_len (a + 1) (length xs)) =
-    sum_range_same f g (a + 1) (length xs) (λ j j_low. ap (λ k. k * w j) (slice_index_more x xs a j j_low)) in
+    let rest = sum_range_same f g (a + 1) (length xs) (λ j j_low. ap (λ k. k * w j) (slice_index_more x xs a j j_low)) in
     let below : sum_by f (range_with_len (a + 1) (length xs)) ≤ n * sum xs =
     rw rest (distance_range_le xs (a + 1) n w (λ i low. near i (omega arith))) in
     distance_step _ (f a) _ n x (sum xs) _ (sum_by-cons f a (range_with_len (a + 1) (length xs))) first below (sum_by-cons (λ y. y) x xs)
@@ -101,7 +100,7 @@ pub lower_by_seeds : (m s s' w w' : ℕ) → s' < s → w' ≤ m * s' → s' * (
 lower_by_seeds m s s' w w' fewer short =
     let grow : m * (s' + 1) + 1 ≤ m * s + 1 = omega (arith, mul-le m (s' + 1) m s (omega arith) (omega arith)) in
     let whole = mul-le (s' + 1) (m * (s' + 1) + 1) s (m * s + 1) (omega arith) grow in
-    omega (arith, whole, short)
+    omega arith
 
 -- houses without seeds
 pub sum-zeros : (n : ℕ) → sum (replicate n 0) ≡ 0
@@ -114,10 +113,10 @@ pub div-mod-suc : (n k : ℕ) → 0 < n →
     ((k % n + 1 < n) × ((k + 1) % n ≡ k % n + 1) × ((k + 1) / n ≡ k / n))
     ⊎ ((k % n + 1 ≡ n) × ((k + 1) % n ≡ 0) × ((k + 1) / n ≡ k / n + 1))
 div-mod-suc n k pos =
-    let whole : k / n * n + k % n ≡ k = div-add-mod' k n in
+    let whole = div-add-mod' k n in
     elim (cases_lt (k % n + 1) n) [
       | inl small ↦
-          let e : k + 1 ≡ k / n * n + (k % n + 1) = omega (arith, whole) in
+          let e : k + 1 ≡ k / n * n + (k % n + 1) = omega arith in
           inl (
             small,
             ap (λ x. x % n) e ∙ mod-mul-add (k / n) n (k % n + 1) small,
@@ -125,8 +124,8 @@ div-mod-suc n k pos =
                 ∙ div-mul-add (k / n) n (k % n + 1) small,
           )
       | inr large ↦
-          let full : k % n + 1 ≡ n = omega (arith, large, mod_below k n pos) in
-          let e : k + 1 ≡ (k / n + 1) * n + 0 = omega (arith, whole, full) in
+          let full : k % n + 1 ≡ n = omega (arith, mod_below k n pos) in
+          let e : k + 1 ≡ (k / n + 1) * n + 0 = omega arith in
           inr (full, ap (λ x. x % n) e ∙ mod-mul-add (k / n + 1) n 0 pos, ap (λ x. x / n) e ∙ div-mul-add (k / n + 1) n 0 pos)
     ]
 
@@ -248,15 +247,14 @@ module _ (p : Position) (h : ℕ) (low : 1 ≤ h) (high : h ≤ side_length p) w
   unfolding sow
   sow_none same = same_position
       (sym (same_as_row (slice_set p.own (h - 1) 0) (side_length p) _ (length-set p.own (h - 1) 0) (λ i i_low i_high.
-      let none : gain (lap_length (side_length p)) 0 (own_distance (side_length p) h i) ≡ 0 =
-      gain_none _ _ lap_pos (own_distance_low (side_length p) h low high i i_low i_high) in
+      let none = gain_none _ _ lap_pos (own_distance_low (side_length p) h low high i i_low i_high) in
       elim (cases_eq i h) [
         | inl here ↦
             let empty : seeds (slice_set p.own (h - 1) 0) i ≡ 0 = rw here (seeds-set_same p.own h 0 low high) in
-            grind (arith, nat_tests, none, empty)
+            grind (arith, nat_tests)
         | inr there ↦
-            let kept : seeds (slice_set p.own (h - 1) 0) i ≡ seeds p.own i = seeds-set_other p.own h i 0 low i_low there in
-            grind (arith, nat_tests, none, kept)
+            let kept = seeds-set_other p.own h i 0 low i_low there in
+            grind (arith, nat_tests)
       ])))
       (omega (arith, gain_none (lap_length (side_length p)) (store_distance (side_length p) h) lap_pos store_low))
       (sym (same_as_row p.other (side_length p) _ same (λ j j_low j_high.
@@ -316,7 +314,7 @@ module _ (p : Position) (h : ℕ) (low : 1 ≤ h) (high : h ≤ side_length p) w
       (store_kept k _ next (omega arith))
       (row_of_more (side_length p) _ _ i is_cell.0 is_cell.1
       (omega (arith, gain_more _ k _ (other_low i) (other_high i is_cell.1) next))
-      (λ j j_low j_high ne. omega (arith, other_kept k _ next j j_high (λ e. ne (omega (arith, e))))))
+      (λ j j_low j_high ne. omega (arith, other_kept k _ next j j_high (λ e. ne (omega arith)))))
       refl refl
 
 -- some cell lies at each distance of a lap
@@ -357,12 +355,12 @@ pub with_seed_adds : (p : Position) (cell : Cell) → length p.other ≡ side_le
     → AddsOne p (with_seed p cell)
 with_seed_adds p (Own i) same is_cell =
     let e = sum-slice_set p.own i (seeds p.own i + 1) is_cell.0 is_cell.1 in
-    record { houses = omega (arith, e); play = omega (arith, e) }
+    record { houses = omega arith; play = omega arith }
 with_seed_adds p Store same is_cell = record { houses = omega arith; play = omega arith }
 with_seed_adds p (Other j) same is_cell =
-    let high : j ≤ length p.other = omega (arith, is_cell.1) in
+    let high : j ≤ length p.other = omega arith in
     let e = sum-slice_set p.other j (seeds p.other j + 1) is_cell.0 high in
-    record { houses = omega (arith, e); play = omega (arith, e) }
+    record { houses = omega arith; play = omega arith }
 
 -- after k of the c seeds of house h
 pub record HasSown (p : Position) (c k : ℕ) (q : Position) : Type 0 where
@@ -389,13 +387,13 @@ pub sow_keeps : (p : Position) (h : ℕ) → 1 ≤ h → h ≤ side_length p →
     HasSown p (seeds p.own h) k (sow p h k)
 sow_keeps p h low high same zero =
     let e = sum-slice_set p.own h 0 low high in
-    rw (sow_none p h low high same) (record { houses = omega (arith, e); play = omega (arith, e) })
+    rw (sow_none p h low high same) (record { houses = omega arith; play = omega arith })
 sow_keeps p h low high same (suc k) =
     let before = sow_keeps p h low high same k in
     let adds = sow_adds p h low high k (next_cell p h low high k) in
     let step : HasSown p (seeds p.own h) (k + 1) (sow p h (k + 1)) = record {
-      houses = omega (arith, before.houses, adds.houses);
-      play = omega (arith, before.play, adds.play);
+      houses = omega arith;
+      play = omega arith;
     } in
     rw add-one at step
 
@@ -415,7 +413,7 @@ find_in_range f a (suc n) i low high here before = elim (cases_eq a i) [
   | inl e ↦ rw (e, here) refl
   | inr ne ↦
       let at : a ≤ a = omega arith in
-      let first : f a ≡ false = before a at (omega arith) in
+      let first = before a at (omega arith) in
       rw first (find_in_range f (a + 1) n i (omega arith) (omega arith) here (λ j j_low j_high. before j (omega arith) j_high))
 ]
 
@@ -423,7 +421,7 @@ pub find_none : (f : ℕ → Bool) (a n : ℕ) → ((j : ℕ) → a ≤ j → j 
     → find f (range_with_len a n) ≡ None
 find_none f a zero fails = refl
 find_none f a (suc n) fails =
-    let first : f a ≡ false = fails a (omega arith) (omega arith) in
+    let first = fails a (omega arith) (omega arith) in
     rw first (find_none f (a + 1) n (λ j low high. fails j (omega arith) (omega arith)))
 
 -- the house in which the last seed falls
@@ -467,13 +465,13 @@ contains_range f a (suc n) i low high here = elim (cases_eq a i) [
 
 all_range : (a n : ℕ) → All (λ i. (a ≤ i) × (i < a + n)) (range_with_len a n)
 all_range a n = λ k d h.
-    let within : k < n = omega (arith, h, length-range_with_len a n) in
+    let within : k < n = omega (arith, length-range_with_len a n) in
     rw (get_or-range_with_len a n k d within) (omega arith, omega arith)
 
 -- the legal_houses houses hold seeds, and each house with seeds is legal_houses while the game goes on
 pub legal_going : (p : Position) (h : ℕ) → Contains (legal_houses p) h → is_over p ≡ false
 legal_going p h has = elim (cases_Bool (is_over p)) [
-  | inl over ↦ absurd (let none = rw over at has in omega (arith, none.1))
+  | inl over ↦ absurd (let none = rw over at has in omega arith)
   | inr going ↦ going
 ]
 
@@ -483,14 +481,14 @@ legal_holds p h has =
     let kept = rw going at has in
     let InSide : ℕ → Type 0 = λ i. (1 ≤ i) × (i < 1 + side_length p) in
     let seeded : ℕ → Bool = λ i. nat_lt 0 (seeds p.own i) in
-    let houses : List ℕ = range_with_len 1 (side_length p) in
+    let houses = range_with_len 1 (side_length p) in
     let range = All-contains InSide _ h (All-filter seeded InSide houses (all_range 1 (side_length p))) kept in
     let some = All-contains (λ i. seeded i ≡ true) _ h (filter_passes seeded houses) kept in
-    record { first = range.0; last = omega (arith, range.1); some = ltb-true 0 (seeds p.own h) some }
+    record { first = range.0; last = omega arith; some = ltb-true 0 (seeds p.own h) some }
 
 pub holds_legal : (p : Position) (h : ℕ) → HoldsSeeds p h → is_over p ≡ false → Contains (legal_houses p) h
 holds_legal p h holds going = rw going
-    (contains_range (λ i. nat_lt 0 (seeds p.own i)) 1 (side_length p) h holds.first (omega (arith, holds.last))
+    (contains_range (λ i. nat_lt 0 (seeds p.own i)) 1 (side_length p) h holds.first (omega arith)
     (lt-ltb 0 (seeds p.own h) holds.some))
 
 -- one house more
@@ -561,7 +559,7 @@ row_distance-set row i v low high =
 gain_some : (n c d : ℕ) → 0 < n → d ≤ c → 1 ≤ gain n c d
 gain_some n c d pos reach = elim (cases_lt c n) [
   | inl small ↦
-      let rest : c % n ≡ c = mod-eq_of_lt small in
+      let rest = mod-eq_of_lt small in
       rw (rest, le-leb d c reach) (omega arith)
   | inr large ↦ omega (arith, le-div 1 c n pos (omega arith))
 ]
@@ -619,10 +617,10 @@ module _ (p : Position) (h : ℕ) (holds : HoldsSeeds p h) (same : length p.othe
   houses_fall far =
       let keeps = sow_keeps p h holds.first holds.last same (seeds p.own h) in
       let some = gain_some (lap_length (side_length p)) (seeds p.own h) (store_distance (side_length p) h) (omega arith) (omega arith) in
-      omega (arith, keeps.play, store_gains p h, some)
+      omega (arith, store_gains p h)
 
 captures_fall : (q : Position) (i : ℕ) → seeds q.own i ≡ 1 → seeds_in_houses (capture q i) < seeds_in_houses q
-captures_fall q i one = omega (arith, one, set_less q.own (i - 1), set_less q.other (opposite q i - 1))
+captures_fall q i one = omega (arith, set_less q.own (i - 1), set_less q.other (opposite q i - 1))
 
 -- a capture leaves fewer seeds in houses
 captured_falls : (q : Position) (o : Option ℕ) → (seeds_in_houses (captured q o) < seeds_in_houses q) ⊎ (captured q o ≡ q)
@@ -640,7 +638,7 @@ sown_nearer p h holds same = elim (cases_lt (side_length p) (seeds p.own h + h))
   | inl far ↦ inl (houses_fall p h holds same far)
   | inr near ↦
       let keeps = sow_keeps p h holds.first holds.last same (seeds p.own h) in
-      let fewer : seeds_in_houses (sown p h) ≤ seeds_in_houses p = omega (arith, keeps.houses) in
+      let fewer : seeds_in_houses (sown p h) ≤ seeds_in_houses p = omega arith in
       elim (cases_lt (seeds_in_houses (sown p h)) (seeds_in_houses p)) [
         | inl less ↦ inl less
         | inr not_less ↦ inr (omega arith, way_falls_all p h holds same near)
@@ -649,7 +647,7 @@ sown_nearer p h holds same = elim (cases_lt (side_length p) (seeds p.own h + h))
 
 nearer_by : (p q r : Position) → IsNearerEnd q p → (seeds_in_houses r < seeds_in_houses q) ⊎ (r ≡ q) → IsNearerEnd r p
 nearer_by p q r (inl less) (inl falls) = inl (omega arith)
-nearer_by p q r (inr near) (inl falls) = inl (omega (arith, near.0))
+nearer_by p q r (inr near) (inl falls) = inl (omega arith)
 nearer_by p q r nearer (inr same) = rw same nearer
 
 -- every move
@@ -692,7 +690,7 @@ moves_left_falls p q even side (inl fewer) =
     rw side (lower_by_seeds (side_length p) (seeds_in_houses p) (seeds_in_houses q) (distance_to_stores p) (distance_to_stores q) fewer
     (rw side at (distance_below q even)))
 moves_left_falls p q even side (inr near) =
-    rw (side, near.0) (omega (arith, near.1))
+    rw (side, near.0) (omega arith)
 
 -- the next position has fewer moves left, with either player to move
 pub after_fewer : (p : Position) (h : ℕ) → HoldsSeeds p h → HasEqualSides p → moves_left (after p h) < moves_left p
@@ -857,15 +855,15 @@ pub before_more : (n : ℕ) (p : Position) (h total count : ℕ) → AreWaysBefo
 before_more n p h total count before low some is few =
     let sum = sum_by_push (ways_by n p) (seeded_before p.own h) h in
     record {
-      sum = rw (seeded_more p.own h low some) (omega (arith, sum, before.sum, is));
-      small = omega (arith, before.small, few, six_more n h low);
+      sum = rw (seeded_more p.own h low some) (omega (arith, sum));
+      small = omega (arith, six_more n h low);
     }
 
 pub before_same : (n : ℕ) (p : Position) (h total : ℕ) → AreWaysBefore n p h total → 1 ≤ h → seeds p.own h ≤ 0
     → AreWaysBefore n p (h + 1) total
 before_same n p h total before low none = record {
   sum = rw (seeded_same p.own h low none) before.sum;
-  small = omega (arith, before.small, six_more n h low);
+  small = omega (arith, six_more n h low);
 }
 
 -- after the last house they are all ways
@@ -881,7 +879,7 @@ before_small n p h total before few =
     let six : h - 1 ≤ 6 = omega arith in
     let times = mul-le-mul_right (most_houses ^ n) six in
     let power : most_houses ^ (n + 1) ≡ 6 * most_houses ^ n = rw (add-one n) (pow-succ' 6 n) in
-    omega (arith, before.small, times, power)
+    omega arith
 
 -- which fits into 64 bits, for less than 20 moves
 pub power_fits : (n : ℕ) → n < most_depth → most_houses ^ (n + 1) ≤ 6 ^ 20

@@ -30,16 +30,16 @@ module _ (window : Window) (n low high : ℕ) (is_low : IsHalf (window.lo +ℤ p
     (is_high : IsHalf (window.hi +ℤ pos n +ℤ pos 1) high) where
   -- the shares of a window's ends are in order
   pub shares_ordered : low ≤ high
-  shares_ordered = omega (arith, ints, clamps, window.ordered, is_low.low, is_high.high)
+  shares_ordered = omega (arith, ints, clamps)
 
   -- and no more than all
   pub shares_high : n ≤ most_seeds → high ≤ most_seeds
-  shares_high few = omega (arith, ints, clamps, is_high.low, window.high)
+  shares_high few = omega (arith, ints, clamps)
 
   -- a share that is raised and lowered to them makes the same margin in the window
   pub shares_apart : (t : ℕ) → t ≤ n → within window.lo window.hi (pos (2 * max low (min high t)) -ℤ pos n)
       ≡ within window.lo window.hi (pos (2 * t) -ℤ pos n)
-  shares_apart t few = omega (arith, ints, clamps, window.ordered, is_low.low, is_low.high, is_high.low, is_high.high)
+  shares_apart t few = omega (arith, ints, clamps)
 
 -- ==== How many seeds a player takes: by houses, by a step, and by the best move
 
@@ -52,14 +52,14 @@ pub record IsShare (n : ℕ) (z : ℤ) (t : ℕ) : Type 0 where
 step_share : (a : Rows) (s : HousesStep) → LeadsOn a s →
     ((b : Rows) (gained : ℕ) → LeadsTo a gained b → (t : ℕ) × IsShare (seeds_in_houses (bare b)) (houses_worth b) t) →
     (t : ℕ) × IsShare (seeds_in_houses (bare a)) (worth_of_step s) t
-step_share a (Over own other) leads each = (own, record { few = omega (arith, leads); is = omega (arith, ints, leads) })
+step_share a (Over own other) leads each = (own, record { few = omega arith; is = omega (arith, ints) })
 step_share a (Again gained b) leads each =
     let on = each b gained leads in
-    (gained + on.0, record { few = omega (arith, leads.kept, on.1.few); is = omega (arith, ints, leads.kept, on.1.is) })
+    (gained + on.0, record { few = omega arith; is = omega (arith, ints) })
 step_share a (Turn gained b) leads each =
     let on = each b gained leads in
     let left = seeds_in_houses (bare b) - on.0 in
-    (gained + left, record { few = omega (arith, leads.kept); is = omega (arith, ints, leads.kept, on.1.few, on.1.is) })
+    (gained + left, record { few = omega arith; is = omega (arith, ints) })
 
 -- what houses are worth is the margin of some share of their seeds, by the moves left
 share_by : (n : ℕ) (a : Rows) → IsWithinHouses a → moves_left (bare a) < n → (t : ℕ)
@@ -70,7 +70,7 @@ share_by (suc n) a w few = elim (cases_Bool (is_over (bare a))) [
   | inr going ↦
       let at = worth_reached a w going in
       rw (at.2, value_is a at.0 w at.1) (step_share a (houses_step a at.0) (leads_on a at.0 w at.1)
-      (λ b gained on. share_by n b on.limits (omega (arith, on.fewer))))
+      (λ b gained on. share_by n b on.limits (omega arith)))
 ]
 
 -- and the share is the one that the definition names
@@ -95,29 +95,29 @@ pub record IsUpTo (n : ℕ) (z : ℤ) : Type 0 where
 pub worth_up_to : (a : Rows) → IsWithinHouses a → IsUpTo (seeds_in_houses (bare a)) (houses_worth a)
 worth_up_to a w =
     let bounds = taken_share a w in
-    record { low = omega (arith, ints, bounds.is, bounds.few); high = omega (arith, ints, bounds.is, bounds.few) }
+    record { low = omega (arith, ints); high = omega (arith, ints) }
 
 -- which lies in the widest window
 pub worth_low : (a : Rows) → IsWithinHouses a → least_margin ≤ℤ houses_worth a
-worth_low a w = omega (arith, ints, (worth_up_to a w).low, w.few_seeds)
+worth_low a w = omega (arith, ints, (worth_up_to a w).low)
 
 pub worth_high : (a : Rows) → IsWithinHouses a → houses_worth a ≤ℤ most_margin
-worth_high a w = omega (arith, ints, (worth_up_to a w).high, w.few_seeds)
+worth_high a w = omega (arith, ints, (worth_up_to a w).high)
 
 -- and the mover takes half of what they are worth and hold together
 pub half_is : (a : Rows) (worth : ℤ) (half : ℕ) → IsWithinHouses a → worth ≡ houses_worth a →
     IsHalf (worth +ℤ pos (seeds_in_houses (bare a))) half → half ≡ won a
-half_is a worth half w e is = omega (arith, ints, clamps, e, (taken_share a w).is, is.low, is.high)
+half_is a worth half w e is = omega (arith, ints, clamps, (taken_share a w).is, is.low, is.high)
 
 -- the share of a move
 taken_of : (a : Rows) (s : HousesStep) → LeadsOn a s → IsShare (seeds_in_houses (bare a)) (worth_of_step s) (won_by_step s)
-taken_of a (Over own other) leads = record { few = omega (arith, leads); is = omega (arith, ints, leads) }
+taken_of a (Over own other) leads = record { few = omega arith; is = omega (arith, ints) }
 taken_of a (Again gained b) leads =
     let on = taken_share b leads.limits in
-    record { few = omega (arith, leads.kept, on.few); is = omega (arith, ints, leads.kept, on.is) }
+    record { few = omega arith; is = omega (arith, ints) }
 taken_of a (Turn gained b) leads =
     let on = taken_share b leads.limits in
-    record { few = omega (arith, leads.kept); is = omega (arith, ints, leads.kept, on.few, on.is) }
+    record { few = omega arith; is = omega (arith, ints) }
 
 module _ (a : Rows) (w : IsWithinHouses a) where
   -- the share of the move of house h
@@ -134,14 +134,14 @@ module _ (a : Rows) (w : IsWithinHouses a) where
       × (won_by_step (houses_step a h) ≡ won a)
   taken_reached going =
       let at = worth_reached a w going in
-      (at.0, at.1, omega (arith, ints, (taken_by_move at.0 at.1).is, (taken_share a w).is, at.2))
+      (at.0, at.1, omega (arith, ints, (taken_by_move at.0 at.1).is, (taken_share a w).is))
 
 -- ==== The answer of the search in a window
 
 -- an interval that leaves nothing of it open answers
 pub known_answers : (lo hi z : ℤ) (k : Interval) → lo <ℤ hi → Encloses k z → int_min hi k.hi ≤ℤ int_max lo k.lo →
     within lo hi k.lo ≡ within lo hi z
-known_answers lo hi z k ordered holds none = omega (arith, ints, clamps, ordered, holds.low, holds.high, none)
+known_answers lo hi z k ordered holds none = omega (arith, ints, clamps)
 
 -- what the mover takes, raised and lowered to the shares that a window distinguishes, makes the worth in the window
 pub won_by_bounds : (a : Rows) (lo hi : ℤ) (n t : ℕ) (asked : SeedBounds) → IsWithinHouses a → n ≡ seeds_in_houses (bare a) →
@@ -153,10 +153,10 @@ pub won_by_bounds : (a : Rows) (lo hi : ℤ) (n t : ℕ) (asked : SeedBounds) �
     answer ≡ within lo hi (houses_worth a)
 won_by_bounds a lo hi n t asked w all ordered apart is e =
     let margin : to_z w32 (of_z w32 (to_z w32 (of_z w32 (pos 2 *ℤ to_z w32 t)) -ℤ to_z w32 n)) ≡ pos (2 * t) -ℤ pos n =
-    omega (arith, ints, is, ordered, asked.few, all, w.few_seeds) in
-    let worth_is : pos (2 * won a) -ℤ pos n ≡ houses_worth a = omega (arith, ints, worth_of_taken a w, all) in
+    omega (arith, ints, is) in
+    let worth_is : pos (2 * won a) -ℤ pos n ≡ houses_worth a = omega (arith, ints, worth_of_taken a w) in
     e ∙ ap (within lo hi) margin ∙ ap (λ s. within lo hi (pos (2 * s) -ℤ pos n)) is
-    ∙ apart (won a) (omega (arith, (taken_share a w).few, all)) ∙ ap (within lo hi) worth_is
+    ∙ apart (won a) (omega (arith, (taken_share a w).few)) ∙ ap (within lo hi) worth_is
 
 -- so does what the mover takes of an ending
 pub told_by_taken : (a : Rows) (lo hi : ℤ) (n t : ℕ) → IsWithinHouses a → n ≡ seeds_in_houses (bare a) → t ≡ won a →
@@ -165,5 +165,5 @@ pub told_by_taken : (a : Rows) (lo hi : ℤ) (n t : ℕ) → IsWithinHouses a �
 told_by_taken a lo hi n t w all is e =
     let few = (taken_share a w).few in
     let margin : to_z w32 (of_z w32 (to_z w32 (of_z w32 (pos 2 *ℤ to_z w32 t)) -ℤ to_z w32 n)) ≡ houses_worth a =
-    omega (arith, ints, is, all, few, w.few_seeds, worth_of_taken a w) in
+    omega (arith, ints, is, few, worth_of_taken a w) in
     e ∙ ap (within lo hi) margin

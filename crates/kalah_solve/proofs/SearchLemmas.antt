@@ -37,32 +37,32 @@ next_power q = omega arith
 
 -- the highest cell with something
 pub top_cell : (q n : ℕ) → 32 ^ q ≤ n → n < 32 ^ suc q → 0 < cell n q
-top_cell zero n low high = omega (arith, low, high)
-top_cell (suc q) n low high = top_cell q (n / 32) (omega (arith, next_power q, low)) (omega (arith, next_power (suc q), high))
+top_cell zero n low high = omega arith
+top_cell (suc q) n low high = top_cell q (n / 32) (omega (arith, next_power q)) (omega (arith, next_power (suc q)))
 
 -- one less there leaves the others
 pub others_stay : (q i n : ℕ) → 32 ^ q ≤ n → n < 32 ^ suc q → i ≢ q → cell (n - 32 ^ q) i ≡ cell n i
 others_stay zero zero n low high other = absurd (other refl)
-others_stay zero (suc i) n low high other = let same : (n - 1) / 32 ≡ n / 32 = omega (arith, low, high) in ap (λ k. cell k i) same
-others_stay (suc q) zero n low high other = omega (arith, next_power q, low)
+others_stay zero (suc i) n low high other = let same : (n - 1) / 32 ≡ n / 32 = omega arith in ap (λ k. cell k i) same
+others_stay (suc q) zero n low high other = omega (arith, next_power q)
 others_stay (suc q) (suc i) n low high other =
-    let rest : (n - 32 ^ suc q) / 32 ≡ n / 32 - 32 ^ q = omega (arith, next_power q, low) in
-    ap (λ k. cell k i) rest ∙ others_stay q i (n / 32) (omega (arith, next_power q, low)) (omega (arith, next_power (suc q), high))
+    let rest : (n - 32 ^ suc q) / 32 ≡ n / 32 - 32 ^ q = omega (arith, next_power q) in
+    ap (λ k. cell k i) rest ∙ others_stay q i (n / 32) (omega (arith, next_power q)) (omega (arith, next_power (suc q)))
     (λ same. other (ap suc same))
 
 -- and no more of it
 top_less : (q n : ℕ) → 32 ^ q ≤ n → n < 32 ^ suc q → cell (n - 32 ^ q) q ≤ cell n q
-top_less zero n low high = omega (arith, low, high)
+top_less zero n low high = omega arith
 top_less (suc q) n low high =
-    let rest : (n - 32 ^ suc q) / 32 ≡ n / 32 - 32 ^ q = omega (arith, next_power q, low) in
-    rw rest (top_less q (n / 32) (omega (arith, next_power q, low)) (omega (arith, next_power (suc q), high)))
+    let rest : (n - 32 ^ suc q) / 32 ≡ n / 32 - 32 ^ q = omega (arith, next_power q) in
+    rw rest (top_less q (n / 32) (omega (arith, next_power q)) (omega (arith, next_power (suc q))))
 
 -- the highest cell with one bounds the number
 top_single : (q n : ℕ) → n < 32 ^ suc q → cell n q ≤ 1 → n < 2 * 32 ^ q
-top_single zero n high single = omega (arith, high, single)
+top_single zero n high single = omega arith
 top_single (suc q) n high single =
-    let rest = top_single q (n / 32) (omega (arith, next_power (suc q), high)) single in
-    omega (arith, next_power q, rest)
+    let rest = top_single q (n / 32) (omega (arith, next_power (suc q))) single in
+    omega (arith, next_power q)
 
 -- so what is left of some marks without the last was there before, and each that is missing was that one or was not marked
 module _ (marks h : ℕ) (is : IsLastMark marks h) where
@@ -72,7 +72,7 @@ module _ (marks h : ℕ) (is : IsLastMark marks h) where
   pub left_before : (i : ℕ) → 0 < cell (marks - 32 ^ (h - 1)) i → 0 < cell marks i
   left_before i some = elim (cases_eq i (h - 1)) [
     | inl same ↦ rw same last_marked
-    | inr other ↦ omega (arith, some, others_stay (h - 1) i marks is.low is.high other)
+    | inr other ↦ omega (arith, others_stay (h - 1) i marks is.low is.high other)
   ]
 
   pub gone_before : (i : ℕ) → i ≢ h - 1 → cell (marks - 32 ^ (h - 1)) i ≡ 0 → cell marks i ≡ 0
@@ -84,26 +84,25 @@ power_some zero = omega arith
 power_some (suc q) = omega (arith, next_power q, power_some q)
 
 pub marks_fall : (marks h : ℕ) → IsLastMark marks h → marks - 32 ^ (h - 1) < marks
-marks_fall marks h is = omega (arith, is.low, power_some (h - 1))
+marks_fall marks h is = omega (arith, power_some (h - 1))
 
 -- the last mark is found by the leading zeros
 pub last_by_zeros : (marks zeros : ℕ) → 0 < marks → marks < 2 ^ 30 → zeros ≡ count_leading_zeros 64 marks
     → IsLastMark marks ((63 - zeros) / 5 + 1)
 last_by_zeros marks zeros some small is =
-    let top = leading_top 64 marks some (omega (arith, small)) in
+    let top = leading_top 64 marks some (omega arith) in
     let q = (63 - zeros) / 5 in
     let at : q + 1 - 1 ≡ q = omega arith in
-    let place : 63 - zeros ≡ top.0 = omega (arith, is, top.1) in
+    let place : 63 - zeros ≡ top.0 = omega arith in
     let low : 32 ^ q ≤ marks = let power : 2 ^ (5 * q) ≤ 2 ^ top.0 = pow_mono {i = 5 * q} (omega (arith, place)) in
-    omega (arith, power, pow_five q, top.2) in
+    omega (arith, pow_five q) in
     let high : marks < 32 ^ suc q = let power : 2 ^ suc top.0 ≤ 2 ^ (5 * suc q) = pow_mono {i = suc top.0} (omega (arith, place)) in
-    omega (arith, power, pow_five (suc q), top.3) in
+    omega (arith, pow_five (suc q)) in
     record {
       first = omega arith;
       last = elim (cases_lt q 6) [
-        | inl less ↦ omega (arith, less)
-        | inr many ↦ absurd (let power : 2 ^ 30 ≤ 2 ^ (5 * q) = pow_mono {i = 30} (omega (arith, many)) in omega
-            (arith, power, pow_five q, low, small))
+        | inl less ↦ omega arith
+        | inr many ↦ absurd (let power : 2 ^ 30 ≤ 2 ^ (5 * q) = pow_mono {i = 30} (omega arith) in omega (arith, pow_five q))
       ];
       low = rw at low;
       high = rw at high;
@@ -118,20 +117,20 @@ last_begins marks zeros some are is =
     let at : q + 1 - 1 ≡ q = omega arith in
     let last = last_by_zeros marks zeros some are.small is in
     let few = top_single q marks (rw at at last.high) (are.single q) in
-    let place : 63 - zeros ≡ top.0 = omega (arith, is, top.1) in
+    let place : 63 - zeros ≡ top.0 = omega arith in
     let whole : 5 * q ≡ 63 - zeros = elim (cases_lt (5 * q) (63 - zeros)) [
-      | inl less ↦ absurd (let power : 2 ^ suc (5 * q) ≤ 2 ^ top.0 = pow_mono {i = suc (5 * q)} (omega (arith, less, place)) in
-          omega (arith, power, pow_five q, top.2, few))
-      | inr same ↦ omega (arith, same)
+      | inl less ↦ absurd (let power : 2 ^ suc (5 * q) ≤ 2 ^ top.0 = pow_mono {i = suc (5 * q)} (omega (arith, place)) in
+          omega (arith, pow_five q))
+      | inr same ↦ omega arith
     ] in
-    record { whole = ap (λ n. 5 * n) at ∙ whole; last = omega (arith, whole, last.last) }
+    record { whole = ap (λ n. 5 * n) at ∙ whole; last = omega arith }
 
 -- and worth so much
 pub last_is_worth : (marks bit : ℕ) → marks < 2 ^ 30 → IsLastMark marks (bit / 5 + 1) → BeginsHouse bit →
     1 * 2 ^ bit % 2 ^ 64 ≡ 32 ^ (bit / 5 + 1 - 1)
 last_is_worth marks bit small is begins =
     let power = ap (λ n. 2 ^ n) begins.whole in
-    omega (arith, is.low, small, pow_five (bit / 5 + 1 - 1), power)
+    omega (arith, pow_five (bit / 5 + 1 - 1))
 
 -- the others are marks still
 pub marks_fewer : (marks h : ℕ) → AreMarks marks → IsLastMark marks h → AreMarks (marks - 32 ^ (h - 1))
@@ -145,9 +144,9 @@ marks_fewer marks h are is = record {
 
 -- cells past a small row are empty
 pub cell_past : (k i n : ℕ) → n < 32 ^ k → k ≤ i → cell n i ≡ 0
-cell_past zero i n small past = let none : n ≡ 0 = omega (arith, small) in ap (λ j. cell j i) none ∙ cell_none i
-cell_past (suc k) zero n small past = absurd (omega (arith, past))
-cell_past (suc k) (suc i) n small past = cell_past k i (n / 32) (omega (arith, next_power k, small)) (omega (arith, past))
+cell_past zero i n small past = let none : n ≡ 0 = omega arith in ap (λ j. cell j i) none ∙ cell_none i
+cell_past (suc k) zero n small past = absurd (omega arith)
+cell_past (suc k) (suc i) n small past = cell_past k i (n / 32) (omega (arith, next_power k)) (omega arith)
 
 -- six cells with one at most are marks
 pub six_marks : (n : ℕ) → n < 2 ^ 30 → ((i : ℕ) → i < 6 → cell n i ≤ 1) → AreMarks n
@@ -159,18 +158,18 @@ six_marks n small single = record {
 -- ---- the cells of rows
 pub cell_of_row : (xs : List ℕ) (i : ℕ) → sum xs ≤ 31 → cell (number_of xs) i ≡ get_or xs i 0
 cell_of_row [] i few = cell_none i
-cell_of_row (x ∷ xs) zero few = let cons = sum_by-cons (λ (y : ℕ). y) x xs in omega (arith, cons, few)
+cell_of_row (x ∷ xs) zero few = let cons = sum_by-cons (λ (y : ℕ). y) x xs in omega arith
 cell_of_row (x ∷ xs) (suc i) few =
     let cons = sum_by-cons (λ (y : ℕ). y) x xs in
-    let rest : (x + 32 * number_of xs) / 32 ≡ number_of xs = omega (arith, cons, few) in
-    ap (λ k. cell k i) rest ∙ cell_of_row xs i (omega (arith, cons, few))
+    let rest : (x + 32 * number_of xs) / 32 ≡ number_of xs = omega arith in
+    ap (λ k. cell k i) rest ∙ cell_of_row xs i (omega arith)
 
 -- a cell before others
 first_cell : (d r : ℕ) → d < 32 → (r * 32 + d) % 32 ≡ d
-first_cell d r small = omega (arith, small)
+first_cell d r small = omega arith
 
 later_cell : (d r i : ℕ) → d < 32 → cell (r * 32 + d) (suc i) ≡ cell r i
-later_cell d r i small = let rest : (r * 32 + d) / 32 ≡ r = omega (arith, small) in ap (λ j. cell j i) rest
+later_cell d r i small = let rest : (r * 32 + d) / 32 ≡ r = omega arith in ap (λ j. cell j i) rest
 
 -- ---- cells that hold something
 -- of one cell: whether it holds something, by its top bit once fifteen were added
@@ -178,9 +177,9 @@ one_filled : (x : ℕ) → x < 32 → bit_or (bit_and x 15 + 15) x / 16 ≡ min 
 one_filled x small = elim (cases_eq x 0) [
   | inl none ↦ rw none refl
   | inr some ↦
-      let low : bit_and x 15 ≡ x % 16 = and_mask x 4 in
-      let most : bit_or (bit_and x 15 + 15) x < 32 = or_lt 5 (bit_and x 15 + 15) x (omega (arith, low)) small in
-      omega (arith, some, small, low, most, le_or_l (bit_and x 15 + 15) x, le_or_r (bit_and x 15 + 15) x)
+      let low = and_mask x 4 in
+      let most = or_lt 5 (bit_and x 15 + 15) x (omega arith) small in
+      omega (arith, le_or_l (bit_and x 15 + 15) x, le_or_r (bit_and x 15 + 15) x)
 ]
 
 -- of the first k cells
@@ -193,21 +192,18 @@ filled_step k x r small =
     let fifteens = each k 15 in
     let low = bit_and x 15 in
     let high = bit_and r fifteens in
-    let low_is : low ≤ 15 = and_le_r x 15 in
-    let both : bit_and (r * 32 + x) (fifteens * 32 + 15) ≡ high * 32 + low = and_block 5 r fifteens x 15 small (omega arith) in
+    let low_is = and_le_r x 15 in
+    let both = and_block 5 r fifteens x 15 small (omega arith) in
     let added : high * 32 + low + (fifteens * 32 + 15) ≡ (high + fifteens) * 32 + (low + 15) = omega arith in
     let d = bit_or (low + 15) x in
     let rest = bit_or (high + fifteens) r in
-    let d_small : d < 32 = or_lt 5 (low + 15) x (omega (arith, low_is)) small in
-    let either : bit_or ((high + fifteens) * 32 + (low + 15)) (r * 32 + x) ≡ rest * 32 + d =
-    or_block 5 (high + fifteens) r (low + 15) x (omega (arith, low_is)) small in
-    let halved : (rest * 32 + d) / 16 ≡ rest / 16 * 32 + (rest % 16 * 2 + d / 16) = omega (arith, d_small) in
-    let marks : bit_and (rest / 16 * 32 + (rest % 16 * 2 + d / 16)) (each k 1 * 32 + 1)
-    ≡ bit_and (rest / 16) (each k 1) * 32 + bit_and (rest % 16 * 2 + d / 16) 1 =
-    and_block 5 (rest / 16) (each k 1) (rest % 16 * 2 + d / 16) 1 (omega (arith, d_small)) (omega arith) in
-    let parity : bit_and (rest % 16 * 2 + d / 16) 1 ≡ (rest % 16 * 2 + d / 16) % 2 = and_mask (rest % 16 * 2 + d / 16) 1 in
-    let one : d / 16 ≡ min 1 x = one_filled x small in
-    let last : (rest % 16 * 2 + d / 16) % 2 ≡ min 1 x = omega (arith, one) in
+    let d_small = or_lt 5 (low + 15) x (omega arith) small in
+    let either = or_block 5 (high + fifteens) r (low + 15) x (omega arith) small in
+    let halved : (rest * 32 + d) / 16 ≡ rest / 16 * 32 + (rest % 16 * 2 + d / 16) = omega arith in
+    let marks = and_block 5 (rest / 16) (each k 1) (rest % 16 * 2 + d / 16) 1 (omega arith) (omega arith) in
+    let parity = and_mask (rest % 16 * 2 + d / 16) 1 in
+    let one = one_filled x small in
+    let last : (rest % 16 * 2 + d / 16) % 2 ≡ min 1 x = omega arith in
     rw (both, added, either, halved, marks, parity, last) refl
 
 filled_next : (k n : ℕ) → filled_cells (suc k) n ≡ filled_cells k (n / 32) * 32 + min 1 (n % 32)
@@ -216,12 +212,12 @@ filled_next k n =
     ap (λ j. filled_cells (suc k) j) parts ∙ filled_step k (n % 32) (n / 32) (omega arith)
 
 pub filled_cell : (k n i : ℕ) → i < k → cell (filled_cells k n) i ≡ min 1 (cell n i)
-filled_cell zero n i inside = absurd (omega (arith, inside))
+filled_cell zero n i inside = absurd (omega arith)
 filled_cell (suc k) n zero inside =
     ap (λ j. j % 32) (filled_next k n) ∙ first_cell (min 1 (n % 32)) (filled_cells k (n / 32)) (omega arith)
 filled_cell (suc k) n (suc i) inside =
     ap (λ j. cell j (suc i)) (filled_next k n) ∙ later_cell (min 1 (n % 32)) (filled_cells k (n / 32)) i (omega arith)
-    ∙ filled_cell k (n / 32) i (omega (arith, inside))
+    ∙ filled_cell k (n / 32) i (omega arith)
 
 -- ---- cells that are compared
 pub cell_xor : (i a b : ℕ) → cell (bit_xor a b) i ≡ bit_xor (cell a i) (cell b i)
@@ -230,23 +226,23 @@ cell_xor (suc i) a b = ap (λ k. cell k i) (xor_shr a b 5) ∙ cell_xor i (a / 3
 
 -- two numbers are apart by nothing only if they are equal
 xor_apart : (a b : ℕ) → bit_xor a b ≡ 0 → a ≡ b
-xor_apart a b none = omega (arith, none, xor_add_and a b, and_le_l a b, and_le_r a b)
+xor_apart a b none = omega (arith, xor_add_and a b, and_le_l a b, and_le_r a b)
 
 pub cell_of_each : (k i : ℕ) → i < k → cell (each k 1) i ≡ 1
-cell_of_each zero i inside = absurd (omega (arith, inside))
+cell_of_each zero i inside = absurd (omega arith)
 cell_of_each (suc k) zero inside = omega arith
-cell_of_each (suc k) (suc i) inside = later_cell 1 (each k 1) i (omega arith) ∙ cell_of_each k i (omega (arith, inside))
+cell_of_each (suc k) (suc i) inside = later_cell 1 (each k 1) i (omega arith) ∙ cell_of_each k i (omega arith)
 
 pub past_each : (k i : ℕ) → k ≤ i → cell (each k 1) i ≡ 0
 past_each zero i past = cell_none i
-past_each (suc k) zero past = absurd (omega (arith, past))
-past_each (suc k) (suc i) past = later_cell 1 (each k 1) i (omega arith) ∙ past_each k i (omega (arith, past))
+past_each (suc k) zero past = absurd (omega arith)
+past_each (suc k) (suc i) past = later_cell 1 (each k 1) i (omega arith) ∙ past_each k i (omega arith)
 
 pub cell_of_distances : (m i : ℕ) → m ≤ 6 → cell (distances m) i ≡ m - i
 cell_of_distances zero i few = cell_none i ∙ omega arith
-cell_of_distances (suc m) zero few = omega (arith, few)
-cell_of_distances (suc m) (suc i) few = later_cell (suc m) (distances m) i (omega (arith, few))
-    ∙ cell_of_distances m i (omega (arith, few)) ∙ omega arith
+cell_of_distances (suc m) zero few = omega arith
+cell_of_distances (suc m) (suc i) few = later_cell (suc m) (distances m) i (omega arith)
+    ∙ cell_of_distances m i (omega arith) ∙ omega arith
 
 -- one mark, of a cell whose value equals its distance
 one_ending : (x d : ℕ) → (0 < bit_xor (min 1 (bit_xor x d)) 1) ↔ (x ≡ d)
@@ -254,13 +250,13 @@ one_ending x d = elim (cases_eq x d) [
   | inl same ↦
       let none : bit_xor x d ≡ 0 = rw same (xor_self d) in
       let marked : bit_xor (min 1 (bit_xor x d)) 1 ≡ 1 = rw none refl in
-      (λ some. same, λ is. omega (arith, marked))
+      (λ some. same, λ is. omega arith)
   | inr other ↦
       let some : 0 < bit_xor x d = elim (cases_eq (bit_xor x d) 0)
-      [ inl none ↦ absurd (other (xor_apart x d none)) | inr more ↦ omega (arith, more) ] in
-      let full : min 1 (bit_xor x d) ≡ 1 = omega (arith, some) in
+      [ inl none ↦ absurd (other (xor_apart x d none)) | inr more ↦ omega arith ] in
+      let full : min 1 (bit_xor x d) ≡ 1 = omega arith in
       let none : bit_xor (min 1 (bit_xor x d)) 1 ≡ 0 = rw full refl in
-      (λ marked. absurd (omega (arith, none, marked)), λ is. absurd (other is))
+      (λ marked. absurd (omega arith), λ is. absurd (other is))
 ]
 
 -- the marks of a row of m cells, by what was found of all of them at once
@@ -268,24 +264,22 @@ module _ (f d e m n i : ℕ) (few : m ≤ 6) (d_is : d ≡ distances m) (e_is : 
     (f_is : cell f i ≡ min 1 (cell (bit_xor n d) i)) where
   ending_cell : cell (bit_xor f e) i ≡ bit_xor (min 1 (bit_xor (cell n i) (m - i))) (cell (each m 1) i)
   ending_cell =
-      let compared : cell (bit_xor n d) i ≡ bit_xor (cell n i) (m - i) =
-      cell_xor i n d ∙ ap (λ j. bit_xor (cell n i) j) (ap (λ k. cell k i) d_is ∙ cell_of_distances m i few) in
+      let compared = cell_xor i n d ∙ ap (λ j. bit_xor (cell n i) j) (ap (λ k. cell k i) d_is ∙ cell_of_distances m i few) in
       cell_xor i f e ∙ ap (λ k. bit_xor (cell f i) (cell k i)) e_is
       ∙ ap (λ j. bit_xor j (cell (each m 1) i)) (f_is ∙ ap (λ j. min 1 j) compared)
 
   pub ending_marked : i < m → (0 < cell (bit_xor f e) i) ↔ (cell n i + i ≡ m)
   ending_marked inside =
-      let is : cell (bit_xor f e) i ≡ bit_xor (min 1 (bit_xor (cell n i) (m - i))) 1 =
-      ending_cell ∙ ap (λ j. bit_xor (min 1 (bit_xor (cell n i) (m - i))) j) (cell_of_each m i inside) in
+      let is = ending_cell ∙ ap (λ j. bit_xor (min 1 (bit_xor (cell n i) (m - i))) j) (cell_of_each m i inside) in
       let one = one_ending (cell n i) (m - i) in (
-        λ some. omega (arith, inside, one.0 (omega (arith, is, some))),
-        λ ends. let same : cell n i ≡ m - i = omega (arith, ends) in
-            omega (arith, is, one.1 same),
+        λ some. omega (arith, one.0 (omega arith)),
+        λ ends. let same : cell n i ≡ m - i = omega arith in
+            omega (arith, one.1 same),
       )
 
   pub ending_past : m ≤ i → cell n i ≡ 0 → cell (bit_xor f e) i ≡ 0
   ending_past past none =
-      let at : m - i ≡ 0 = omega (arith, past) in
+      let at : m - i ≡ 0 = omega arith in
       ending_cell ∙ rw (none, at, past_each m i past) refl
 
   pub ending_single : cell (bit_xor f e) i ≤ 1
@@ -299,14 +293,14 @@ pub one_other : (x f e : ℕ) → f ≡ min 1 x → e ≤ 1 → (0 < e → 0 < x
 one_other x f e f_is single within = elim (cases_eq e 0) [
   | inl none ↦
       let is : bit_xor f e ≡ f = ap (λ k. bit_xor f k) none ∙ xor_zero_r f in (
-        λ some. (omega (arith, is, some, f_is), λ marked. omega (arith, none, marked)),
-        λ both. let some = both.0 in omega (arith, is, some, f_is),
+        λ some. (omega arith, λ marked. omega arith),
+        λ both. let some = both.0 in omega arith,
       )
   | inr some ↦
-      let full : f ≡ 1 = let has = within (omega (arith, some)) in omega (arith, f_is, has) in
-      let one : e ≡ 1 = omega (arith, some, single) in
+      let full : f ≡ 1 = let has = within (omega arith) in omega arith in
+      let one : e ≡ 1 = omega arith in
       let none : bit_xor f e ≡ 0 = rw (full, one) refl in
-      (λ marked. absurd (omega (arith, none, marked)), λ both. absurd (both.1 (omega (arith, some))))
+      (λ marked. absurd (omega arith), λ both. absurd (both.1 (omega arith)))
 ]
 
 -- ==== Marks of a player's houses, by the cells of their row
@@ -314,7 +308,7 @@ one_other x f e f_is single within = elim (cases_eq e 0) [
 module _ (a : Rows) (row : ℕ) (w : IsWithinHouses a) (row_is : row ≡ number_of a.own) where
   -- the cells of the mover's row
   own_cell : (i : ℕ) → cell row i ≡ slice_index a.own i
-  own_cell i = ap (λ n. cell n i) row_is ∙ cell_of_row a.own i (omega (arith, w.few_seeds))
+  own_cell i = ap (λ n. cell n i) row_is ∙ cell_of_row a.own i (omega arith)
 
   -- past the last house there is none
   own_past : (i : ℕ) → length a.own ≤ i → slice_index a.own i ≡ 0
@@ -325,7 +319,7 @@ module _ (a : Rows) (row : ℕ) (w : IsWithinHouses a) (row_is : row ≡ number_
   ends_at i =
       let at : slice_index a.own (i + 1 - 1) ≡ slice_index a.own i = let place : i + 1 - 1 ≡ i = omega arith in
       ap (λ j. slice_index a.own j) place in
-      (λ ends. omega (arith, at, ends), λ is. omega (arith, at, is))
+      (λ ends. omega arith, λ is. omega arith)
 
   -- what is marked has seeds
   pub filled_marked : (n i : ℕ) → n < 2 ^ 30 → ((j : ℕ) → j < 6 → cell n j ≡ min 1 (cell row j)) →
@@ -333,11 +327,11 @@ module _ (a : Rows) (row : ℕ) (w : IsWithinHouses a) (row_is : row ≡ number_
   filled_marked n i small cells = elim (cases_lt i 6) [
     | inl inside ↦
         let is = cells i inside in
-        (λ some. omega (arith, is, own_cell i, some), λ some. omega (arith, is, own_cell i, some))
+        (λ some. omega (arith, own_cell i), λ some. omega (arith, own_cell i))
     | inr past ↦
         let none = cell_past 6 i n small past in
-        let nothing = own_past i (omega (arith, past, w.at_most_six)) in
-        (λ some. absurd (omega (arith, none, some)), λ some. absurd (omega (arith, nothing, some)))
+        let nothing = own_past i (omega arith) in
+        (λ some. absurd (omega arith), λ some. absurd (omega arith))
   ]
 
   -- the marks of those that end in the store
@@ -348,15 +342,15 @@ module _ (a : Rows) (row : ℕ) (w : IsWithinHouses a) (row_is : row ≡ number_
     again_marked i = elim (cases_lt i m) [
       | inl is_inside ↦
           let marked = inside i is_inside in (
-            λ some. (omega (arith, is_inside, side), (ends_at i).1 (omega (arith, marked.0 some, own_cell i, side))),
-            λ both. marked.1 (omega (arith, (ends_at i).0 both.1, own_cell i, side)),
+            λ some. (omega arith, (ends_at i).1 (omega (arith, marked.0 some, own_cell i))),
+            λ both. marked.1 (omega (arith, (ends_at i).0 both.1, own_cell i)),
           )
       | inr is_past ↦
           let none : cell n i ≡ 0 = elim (cases_lt i 6) [
-            | inl low ↦ past i low is_past (own_cell i ∙ own_past i (omega (arith, is_past, side)))
+            | inl low ↦ past i low is_past (own_cell i ∙ own_past i (omega arith))
             | inr high ↦ cell_past 6 i n small high
           ] in
-          (λ some. absurd (omega (arith, none, some)), λ both. absurd (let low = both.0 in omega (arith, low, is_past, side)))
+          (λ some. absurd (omega arith), λ both. absurd (let low = both.0 in omega arith))
     ]
 
     -- and those of the others with seeds
@@ -369,28 +363,28 @@ module _ (a : Rows) (row : ℕ) (w : IsWithinHouses a) (row_is : row ≡ number_
           let again = again_marked i in
           let within : 0 < cell n i → 0 < cell row i =
           λ some. let both = again.0 some in let ends = (ends_at i).0 both.1 in let before = both.0 in
-          omega (arith, ends, own_cell i, before) in
+          omega (arith, own_cell i) in
           let one = one_other (cell row i) (cell f i) (cell n i) (cells i low) (single i low) within in (
-            λ some. let both = one.0 (omega (arith, apart, some)) in
-                let filled : 0 < slice_index a.own i = let has = both.0 in omega (arith, has, own_cell i) in (
+            λ some. let both = one.0 (omega arith) in
+                let filled : 0 < slice_index a.own i = let has = both.0 in omega (arith, own_cell i) in (
                   filled,
                   λ ends. both.1 (again.1 (
                     elim (cases_lt i (length a.own)) [
                       | inl before ↦ before
                       | inr beyond ↦ absurd
-                          (omega (arith, filled, own_past i beyond))
+                          (omega (arith, own_past i beyond))
                     ],
                     ends,
                   )),
                 ),
             λ both. let has = both.0 in
-                let marked = one.1 (omega (arith, has, own_cell i), λ some. both.1 (again.0 some).1) in
-                omega (arith, apart, marked),
+                let marked = one.1 (omega (arith, own_cell i), λ some. both.1 (again.0 some).1) in
+                omega arith,
           )
       | inr high ↦
           let none = cell_past 6 i (bit_xor f n) (xor_lt 30 f n few small) high in
-          let nothing = own_past i (omega (arith, high, w.at_most_six)) in
-          (λ some. absurd (omega (arith, none, some)), λ both. absurd (let has = both.0 in omega (arith, nothing, has)))
+          let nothing = own_past i (omega arith) in
+          (λ some. absurd (omega arith), λ both. absurd (let has = both.0 in omega arith))
     ]
 
 -- ==== The moves that were tried, and those that wait with a priority
@@ -402,13 +396,13 @@ enough_of r bar x says here = says.0 here
 pub short_of : (r : Bool) (bar x : ℕ) → (IsTrue r ↔ bar ≤ x) → r ≡ false → x < bar
 short_of r bar x says fails = elim (cases_lt x bar) [
   | inl less ↦ less
-  | inr enough ↦ absurd (let here = says.1 (omega (arith, enough)) in cc)
+  | inr enough ↦ absurd (let here = says.1 (omega arith) in cc)
 ]
 
 -- a bound is at most the greater of `bar` and the number
 pub bound_up_to : (bar number bound : ℕ) → IsSoftBound bar number bound → bound ≤ max bar number
 bound_up_to bar number bound is = elim (cases_lt bound bar) [
-  | inl less ↦ omega (arith, less)
+  | inl less ↦ omega arith
   | inr enough ↦ omega (arith, is.lower enough)
 ]
 
@@ -416,8 +410,8 @@ bound_up_to bar number bound is = elim (cases_lt bound bar) [
 pub low_more : (bar most bound new : ℕ) → (bar ≤ most → most ≡ 0) → bound < bar → new ≡ max most bound → bar ≤ new
     → new ≡ 0
 low_more bar most bound new low short is enough = elim (cases_lt most bar) [
-  | inl less ↦ absurd (omega (arith, is, short, less, enough))
-  | inr more ↦ absurd (omega (arith, short, more, low more))
+  | inl less ↦ absurd (omega arith)
+  | inr more ↦ absurd (omega (arith, low more))
 ]
 
 -- what is left of all is bounded by what the bound leaves
@@ -426,11 +420,11 @@ pub bound_left : (bar all seeds gained number bound : ℕ) → all ≡ gained + 
     IsSoftBound (all - bar + 1) number bound → IsSoftBound bar (gained + (seeds - number)) (all - bound)
 bound_left bar all seeds gained number bound is few low high b = elim (cases_lt bound (all - bar + 1)) [
   | inl less ↦ let most = b.upper less in
-      record { lower = λ enough. omega (arith, is, few, most, less, high); upper = λ short. absurd (omega (arith, short, less, high)) }
-  | inr enough ↦ let least = b.lower (omega (arith, enough)) in
+      record { lower = λ enough. omega arith; upper = λ short. absurd (omega arith) }
+  | inr enough ↦ let least = b.lower (omega arith) in
       record {
-        lower = λ reached. absurd (omega (arith, reached, enough, low, is, least, few));
-        upper = λ short. omega (arith, is, few, least);
+        lower = λ reached. absurd (omega arith);
+        upper = λ short. omega arith;
       }
 ]
 
@@ -465,7 +459,7 @@ pub turn_of : (a : Rows) (h priority gained : ℕ) (b : Rows) → IsWithinHouses
     Turn gained b ≡ houses_step a h → priority % 8 + 1 ≡ h → IsTurnOf a h priority b
 turn_of a h priority gained b w has is house =
     let on = leads_by a h (Turn gained b) w has is in
-    let brought : gained ≡ seeds_in_houses (bare a) - seeds_in_houses (bare b) = omega (arith, on.kept) in
+    let brought : gained ≡ seeds_in_houses (bare a) - seeds_in_houses (bare b) = omega arith in
     record { legal = has; step = sym is ∙ ap (λ g. Turn g b) brought; house = house }
 
 -- the other player has no more seeds than there were
@@ -473,12 +467,12 @@ pub turn_keeps : (a : Rows) (h priority : ℕ) (b : Rows) → IsWithinHouses a �
     seeds_in_houses (bare b) ≤ seeds_in_houses (bare a)
 turn_keeps a h priority b w turn =
     let on = leads_by a h (Turn _ b) w turn.legal (sym turn.step) in
-    omega (arith, on.kept)
+    omega arith
 
 -- best play takes no more than each legal move does
 pub all_at_most : (a : Rows) (most : ℕ) → IsWithinHouses a → is_over (bare a) ≡ false →
     ((h : ℕ) → Contains (legal_houses (bare a)) h → WinsAtMost a most h) → won a ≤ most
-all_at_most a most w going each = let best = taken_reached a w going in omega (arith, best.2, each best.0 best.1)
+all_at_most a most w going each = let best = taken_reached a w going in omega (arith, each best.0 best.1)
 
 -- each house with a priority waits with its turn
 pub record AreTurns (a : Rows) (priorities : List ℕ) (turns : List Rows) : Type 0 where
@@ -490,12 +484,12 @@ turns_more : (a : Rows) (h : ℕ) (priorities : List ℕ) (turns : List Rows) (v
     length turns ≡ 6 → 1 ≤ h → h ≤ 6 → IsTurnOf a h v b →
     AreTurns a (slice_set priorities (h - 1) v) (slice_set turns (h - 1) b)
 turns_more a h priorities turns v b are places low last is = let inside : h - 1 < length turns =
-    omega (arith, places, low, last) in record {
+    omega (arith, places) in record {
       cells = length-set priorities (h - 1) v ∙ are.cells;
       each = λ k high d. elim (cases_eq k (h - 1)) [
         | inl same ↦
             let at : h ≡ k + 1 = omega arith in
-            let place : h - 1 < length priorities = omega (arith, are.cells, low, last) in
+            let place : h - 1 < length priorities = omega (arith, are.cells) in
             rw (same, get_or-set_same priorities (h - 1) v 0 place, get_or-set_same turns (h - 1) b d inside)
             (subst (λ i. IsTurnOf a i v b) (at ∙ ap (λ i. i + 1) same) is)
         | inr other ↦
@@ -512,7 +506,7 @@ turns_fewer a priorities turns at are place = let inside : at < length prioritie
   each = λ k high. elim (cases_eq k at) [
     | inl same ↦
         let none : get_or (slice_set priorities at 0) k 0 ≡ 0 = rw same (get_or-set_same priorities at 0 0 inside) in
-        absurd (omega (arith, none))
+        absurd (omega arith)
     | inr other ↦ λ d. rw (get_or-set_other priorities at k 0 0 other)
         (are.each k (rw (get_or-set_other priorities at k 0 0 other) at high) d)
   ];
@@ -538,17 +532,17 @@ module _ (a : Rows) (most marks h : ℕ) (priorities : List ℕ) (turns : List R
   -- and waits with a priority
   pub played_more : (v : ℕ) (b : Rows) → 0 < v → IsTurnOf a h v b →
       ArePlayed a most (marks - 32 ^ (h - 1)) (slice_set priorities (h - 1) v) (slice_set turns (h - 1) b)
-  played_more v b some turn = let inside : h - 1 < length priorities = omega (arith, is.waiting.cells, last.first, last.last) in record {
+  played_more v b some turn = let inside : h - 1 < length priorities = omega arith in record {
     waiting = turns_more a h priorities turns v b is.waiting is.places last.first last.last turn;
     places = length-set turns (h - 1) b ∙ is.places;
     others = λ i may gone none apart. elim (cases_eq i h) [
       | inl same ↦
-          let at : v ≡ 0 = sym (get_or-set_same priorities (h - 1) v 0 inside)
+          let at = sym (get_or-set_same priorities (h - 1) v 0 inside)
           ∙ subst (λ j. get_or (slice_set priorities (h - 1) v) (j - 1) 0 ≡ 0) same none in
-          absurd (omega (arith, some, at))
+          absurd (omega arith)
       | inr other ↦
           let first = (legal_holds (bare a) i may).first in
-          let place : i - 1 ≢ h - 1 = omega (arith, first, last.first, other) in
+          let place : i - 1 ≢ h - 1 = omega arith in
           is.others i may (gone_before marks h last (i - 1) place gone)
           (rw (get_or-set_other priorities (h - 1) (i - 1) v 0 place) at none) apart
     ];
@@ -561,11 +555,11 @@ module _ (a : Rows) (most marks h : ℕ) (priorities : List ℕ) (turns : List R
     waiting = is.waiting;
     places = is.places;
     others = λ i may gone none apart. elim (cases_eq i h) [
-      | inl same ↦ rw same (omega (arith, new_is, takes))
+      | inl same ↦ rw same (omega arith)
       | inr other ↦
           let first = (legal_holds (bare a) i may).first in
-          let place : i - 1 ≢ h - 1 = omega (arith, first, last.first, other) in
-          omega (arith, new_is, is.others i may (gone_before marks h last (i - 1) place gone) none apart)
+          let place : i - 1 ≢ h - 1 = omega arith in
+          omega (arith, is.others i may (gone_before marks h last (i - 1) place gone) none apart)
     ];
   }
 
@@ -575,13 +569,13 @@ pub played_none : (a : Rows) (most marks : ℕ) (priorities : List ℕ) (turns :
     ((k : ℕ) → get_or priorities k 0 ≡ 0) →
     ((i : ℕ) → (0 < cell marks i) ↔ ((0 < get_or a.own i 0) × ¬ EndsInStore a (i + 1))) → ArePlayed a most marks priorities turns
 played_none a most marks priorities turns cells places empty marked = record {
-  waiting = record { cells = cells; each = λ k some. absurd (omega (arith, some, empty k)) };
+  waiting = record { cells = cells; each = λ k some. absurd (omega (arith, empty k)) };
   places = places;
   others = λ i may gone none apart. absurd (
       let holds = legal_holds (bare a) i may in
-      let at : i - 1 + 1 ≡ i = omega (arith, holds.first) in
+      let at : i - 1 + 1 ≡ i = omega arith in
       let some = (marked (i - 1)).1 (holds.some, λ ends. apart (subst (EndsInStore a) at ends)) in
-      omega (arith, gone, some));
+      omega arith);
 }
 
 -- each marked house with seeds may be moved
@@ -590,15 +584,15 @@ pub marked_legal : (a : Rows) (i : ℕ) → IsWithinHouses a → is_over (bare a
 marked_legal a i w going some = elim (cases_lt i (length a.own)) [
   | inl inside ↦
       let at : i + 1 - 1 ≡ i = omega arith in
-      filled_legal a (i + 1) going (omega arith) (omega (arith, inside)) (rw at some)
-  | inr past ↦ absurd (omega (arith, some, get_or_past a.own i 0 past))
+      filled_legal a (i + 1) going (omega arith) (omega arith) (rw at some)
+  | inr past ↦ absurd (omega (arith, get_or_past a.own i 0 past))
 ]
 
 -- and so may each that ends in the store
 pub ending_legal : (a : Rows) (i : ℕ) → IsWithinHouses a → is_over (bare a) ≡ false → i < length a.own
     → EndsInStore a (i + 1) →
     Contains (legal_houses (bare a)) (i + 1)
-ending_legal a i w going inside ends = filled_legal a (i + 1) going (omega arith) (omega (arith, inside)) (omega (arith, inside, ends))
+ending_legal a i w going inside ends = filled_legal a (i + 1) going (omega arith) (omega arith) (omega arith)
 
 -- what holds of each marked house holds of those that stay marked
 pub each_fewer : (P : ℕ → Type 0) (marks h : ℕ) → IsLastMark marks h → ((i : ℕ) → 0 < cell marks i → P (i + 1)) →
@@ -608,7 +602,7 @@ each_fewer P marks h last each i some = each i (left_before marks h last i some)
 -- and of the last one
 pub each_last : (P : ℕ → Type 0) (marks h : ℕ) → IsLastMark marks h → ((i : ℕ) → 0 < cell marks i → P (i + 1)) → P h
 each_last P marks h last each =
-    let at : h - 1 + 1 ≡ h = omega (arith, last.first) in
+    let at : h - 1 + 1 ≡ h = omega arith in
     subst P at (each (h - 1) (last_marked marks h last))
 
 -- marked houses that may all be moved
@@ -636,19 +630,19 @@ pub again_none : (a : Rows) (most marks : ℕ) → ((i : ℕ) → (0 < cell mark
     AreAgain a most marks
 again_none a most marks marked h may ends gone = absurd (
     let holds = legal_holds (bare a) h may in
-    let at : h ≡ h - 1 + 1 = omega (arith, holds.first) in
-    let some = (marked (h - 1)).1 (omega (arith, holds.first, holds.last), subst (EndsInStore a) at ends) in
-    omega (arith, gone, some))
+    let at : h ≡ h - 1 + 1 = omega arith in
+    let some = (marked (h - 1)).1 (omega arith, subst (EndsInStore a) at ends) in
+    omega arith)
 
 pub again_fewer : (a : Rows) (most marks h bound new : ℕ) → AreAgain a most marks → IsLastMark marks h → WinsAtMost a bound h →
     new ≡ max most bound →
     AreAgain a new (marks - 32 ^ (h - 1))
 again_fewer a most marks h bound new are last takes new_is i may ends gone = elim (cases_eq i h) [
-  | inl same ↦ rw same (omega (arith, new_is, takes))
+  | inl same ↦ rw same (omega arith)
   | inr other ↦
       let first = (legal_holds (bare a) i may).first in
-      let place : i - 1 ≢ h - 1 = omega (arith, first, last.first, other) in
-      omega (arith, new_is, are i may ends (gone_before marks h last (i - 1) place gone))
+      let place : i - 1 ≢ h - 1 = omega arith in
+      omega (arith, are i may ends (gone_before marks h last (i - 1) place gone))
 ]
 
 -- the moves with a priority are still to be tried, and the others take at most `most` seeds
@@ -662,12 +656,12 @@ pub turn_at : {a : Rows} {most : ℕ} {priorities : List ℕ} {turns : List Rows
 turn_at {a} {most} {priorities} {turns} {priority} w untried found some =
     let are = untried.waiting in
     let k = found.0 in
-    let here : get_or priorities k 0 ≡ priority = get_or_default priorities k 0 priority found.1 ∙ found.2 in
+    let here = get_or_default priorities k 0 priority found.1 ∙ found.2 in
     let turn : (d : Rows) → IsTurnOf a (k + 1) priority (get_or turns k d) =
-    λ d. subst (λ r. IsTurnOf a (k + 1) r (get_or turns k d)) here (are.each k (omega (arith, here, some)) d) in
+    λ d. subst (λ r. IsTurnOf a (k + 1) r (get_or turns k d)) here (are.each k (omega arith) d) in
     let same : priority % 8 ≡ k = omega (arith, (turn a).house) in
     let holds = legal_holds (bare a) (k + 1) (turn a).legal in
-    record { place = omega (arith, same, holds.last, w.at_most_six); priority = rw same here; turn = rw same turn }
+    record { place = omega arith; priority = rw same here; turn = rw same turn }
 
 -- before any was tried, but those that end in the store
 pub untried_first : (a : Rows) (bar again others : ℕ) (priorities : List ℕ) (turns : List Rows) (new : ℕ)
@@ -678,8 +672,8 @@ pub untried_first : (a : Rows) (bar again others : ℕ) (priorities : List ℕ) 
 untried_first a bar again others priorities turns new cells are ends short new_is = record {
   waiting = record { cells = cells; each = are.waiting };
   tried = λ h has none. elim (cases_eq (seeds a.own h + h) (length a.own + 1)) [
-    | inl is ↦ omega (arith, new_is, ends h has is)
-    | inr apart ↦ omega (arith, new_is, are.others short h has none apart)
+    | inl is ↦ omega (arith, ends h has is)
+    | inr apart ↦ omega (arith, are.others short h has none apart)
   ];
 }
 
@@ -693,8 +687,8 @@ untried_fewer a most priorities turns at bound new is place takes new_is = recor
     | inl same ↦
         let first = (legal_holds (bare a) h has).first in
         let house : at + 1 ≡ h = omega arith in
-        omega (arith, new_is, subst (WinsAtMost a bound) house takes)
-    | inr other ↦ omega (arith, new_is, is.tried h has (rw (get_or-set_other priorities at (h - 1) 0 0 other) at none))
+        omega (arith, subst (WinsAtMost a bound) house takes)
+    | inr other ↦ omega (arith, is.tried h has (rw (get_or-set_other priorities at (h - 1) 0 0 other) at none))
   ];
 }
 
@@ -703,4 +697,4 @@ pub none_untried : (a : Rows) (most : ℕ) (priorities : List ℕ) (turns : List
     → is_over (bare a) ≡ false →
     AreUntried a most priorities turns → ((k : ℕ) → get_or priorities k 0 ≤ highest) → highest ≡ 0 → won a ≤ most
 none_untried a most priorities turns highest w going is above none =
-    all_at_most a most w going (λ h has. is.tried h has (let below = above (h - 1) in omega (arith, below, none)))
+    all_at_most a most w going (λ h has. is.tried h has (let below = above (h - 1) in omega arith))

@@ -73,12 +73,12 @@ ends_in_time m t even (is_at_end over) = record { over = over; short = omega ari
 ends_in_time {mine} {theirs} {p} m t even (moves_on {h = h} going has again rest) =
     let fewer = after_fewer p h (legal_holds p h (m.legal_only p h even going has)) even in
     let inner = ends_in_time m t (after_equal_sides p h) rest in
-    record { over = inner.over; short = omega (arith, inner.short) }
+    record { over = inner.over; short = omega arith }
 ends_in_time {mine} {theirs} {p} m t even (passes_turn {h = h} {final = final} going has turn rest) =
     let fewer = after_fewer p h (legal_holds p h (m.legal_only p h even going has)) even in
     let turned = swap_fewer (after p h) (after_equal_sides p h) in
     let inner = ends_in_time t m (swapped_equal_sides (after p h) (after_equal_sides p h)) rest in
-    record { over = over_for_other final inner.over; short = omega (arith, inner.short) }
+    record { over = over_for_other final inner.over; short = omega arith }
 
 -- a player whom only the rules bind keeps to them
 pub legal_keeps : KeepsRules legal_houses
@@ -115,19 +115,19 @@ game_is_one m t (is_at_end over) (passes_turn going has turn rest) = cc
 game_is_one m t (moves_on going has again rest) (is_at_end over) = cc
 game_is_one {mine} {theirs} {p} m t (moves_on {h = h} going has again rest)
     (moves_on {h = k} {houses = houses} {final = final} going' has' again' rest') =
-    let e : k ≡ h = m.one p k h has' has in
+    let e = m.one p k h has' has in
     let same = game_is_one m t rest (subst (λ x. Game mine theirs (after p x) houses final) e rest') in
     (cc (same.0, e), same.1)
 game_is_one {mine} {theirs} {p} m t (moves_on {h = h} going has again rest) (passes_turn {h = k} going' has' turn rest') =
-    let e : k ≡ h = m.one p k h has' has in
+    let e = m.one p k h has' has in
     absurd (let differs = rw e at turn in cc)
 game_is_one m t (passes_turn going has turn rest) (is_at_end over) = cc
 game_is_one {mine} {theirs} {p} m t (passes_turn {h = h} going has turn rest) (moves_on {h = k} going' has' again rest') =
-    let e : k ≡ h = m.one p k h has' has in
+    let e = m.one p k h has' has in
     absurd (let differs = rw e at again in cc)
 game_is_one {mine} {theirs} {p} m t (passes_turn {h = h} going has turn rest)
     (passes_turn {h = k} {houses = houses} {final = final} going' has' turn' rest') =
-    let e : k ≡ h = m.one p k h has' has in
+    let e = m.one p k h has' has in
     let same = game_is_one t m rest (subst (λ x. Game theirs mine (swapped (after p x)) houses final) e rest') in
     (cc (same.0, e), ap swapped same.1)
 
@@ -186,16 +186,16 @@ bounds {p = p} {final = final} m t even (moves_on {h = h} going has again rest) 
     let value = value_going_on p h again in
     let most = value_most p h even going (m.legal_only p h even going has) in
     record {
-      low = λ best. omega (arith, ints, best.attains p h even going has, value, inner.low best);
-      high = λ best. omega (arith, ints, most, value, inner.high best);
+      low = λ best. omega (arith, ints, best.attains p h even going has, inner.low best);
+      high = λ best. omega (arith, ints, inner.high best);
     }
 bounds {p = p} m t even (passes_turn {h = h} {final = final} going has turn rest) =
     let inner = bounds t m (swapped_equal_sides (after p h) (after_equal_sides p h)) rest in
     let value = value_passing p h turn in
     let most = value_most p h even going (m.legal_only p h even going has) in
     rw (← final_swapped (swapped final)) (record {
-      low = λ best. omega (arith, ints, best.attains p h even going has, value, inner.high best);
-      high = λ best. omega (arith, ints, most, value, inner.low best);
+      low = λ best. omega (arith, ints, best.attains p h even going has, inner.high best);
+      high = λ best. omega (arith, ints, inner.low best);
     })
 
 -- always moving the lowest best house is best for either side
@@ -262,7 +262,7 @@ secured_at_most p v w even a b =
     let low = ends_at_least a.secured.0 b.held.0 a.secured.1 b.held.1 p even v a.secured.2 in
     let high = ends_at_most a.secured.0 b.held.0 a.secured.1 b.held.1 p even w b.held.2 in
     let same = ap final_margin (the_game_is_one a.secured.0 b.held.0 p low.0 high.0 low.1 high.1 low.2 high.2).1 in
-    omega (arith, ints, low.3, high.3, same)
+    omega (arith, ints, low.3, high.3)
 
 -- the law on one margin
 pub best_play_is_one : BestPlayIsOne
@@ -287,7 +287,7 @@ move_worth_is_one p h v w a b = elim (cases_Bool (is_again p h)) [
   | inr passed ↦
       let same = best_play_is_one (swapped (after p h)) (neg_ℤ v) (neg_ℤ w)
       (swapped_equal_sides (after p h) (after_equal_sides p h)) (a.turn passed) (b.turn passed) in
-      omega (arith, ints, same)
+      omega (arith, ints)
 ]
 
 -- a legal house that attains the worth is a best move
@@ -353,7 +353,7 @@ pub small_best : (p : Position) (margin : ℤ) (house : ℕ) → IsWithinLimits 
     IsSmallBest margin house
 small_best p margin house limits is_legal is_small =
     let holds = legal_holds p house is_legal in
-    record { small = is_small; first = holds.first; last = omega (arith, holds.last, limits.at_most_six) }
+    record { small = is_small; first = holds.first; last = omega arith }
 
 -- the two verdicts, by whether the game is over
 pub tells_either : (p : Position) (over : Bool) → (over ≡ true → TellsBestPlay p (Over (final_margin p))) →
@@ -373,10 +373,10 @@ verdict_tells p v even is =
 -- and each that states it is the verdict
 verdict_told : (p : Position) (v : Verdict) → HasEqualSides p → TellsBestPlay p v → v ≡ verdict_of p
 verdict_told p (Best margin house) even tells =
-    let margin_is : margin ≡ worth p = best_play_is_one p margin (worth p) even tells.best.best_play (worth_is_best p even) in
+    let margin_is = best_play_is_one p margin (worth p) even tells.best.best_play (worth_is_best p even) in
     let moves : IsBestMove p house (worth p) = rw margin_is at tells.best in
-    let low : best_house p ≤ house = best_house_lowest p house tells.going moves in
-    let high : house ≤ best_house p = tells.lowest (best_house p) (rw margin_is (best_move p even tells.going)) in
+    let low = best_house_lowest p house tells.going moves in
+    let high = tells.lowest (best_house p) (rw margin_is (best_move p even tells.going)) in
     let house_is : house ≡ best_house p = omega arith in
     cc (margin_is, house_is) ∙ ap (λ (b : Bool). if b then Over (final_margin p) else Best (worth p) (best_house p)) (sym tells.going)
 verdict_told p (Over margin) even tells = verdict_of_over p margin tells.over tells.final
@@ -436,7 +436,7 @@ first_with p m (x ∷ xs) = elim (cases_Bool (int_eq (value_of_move p x) m)) [
 -- the law on the verdict
 pub values_tell_verdict : ValuesTellVerdict
 values_tell_verdict p even going =
-    let most : greatest (map (λ v. v.value) (values_of p)) ≡ worth p = ap greatest (values_alone p (legal_houses p))
+    let most = ap greatest (values_alone p (legal_houses p))
     ∙ sym (worth_of_going p even going) in
     let first = first_with p (worth p) (legal_houses p) in
     ap (λ m. Best m (unwrap_or (option_map (λ v. v.house) (find (λ v. int_eq v.value m) (values_of p))) 0)) most
@@ -451,13 +451,13 @@ find_at : (p : ℕ → Bool) (xs : List ℕ) (i : ℕ) → i < length xs → ((k
 find_at p [] i within fails here = absurd (omega arith)
 find_at p (x ∷ xs) zero within fails here = rw here refl
 find_at p (x ∷ xs) (suc i) within fails here =
-    let first : p x ≡ false = fails 0 (omega arith) in
+    let first = fails 0 (omega arith) in
     rw first (find_at p xs i (omega arith) (λ k low. fails (suc k) (omega arith)) here)
 
 -- in the whole window the answer is the worth
 pub whole_window : (a : Rows) (found lo hi : ℤ) → IsWithinHouses a → lo ≡ least_margin → hi ≡ most_margin →
     found ≡ within lo hi (houses_worth a) → found ≡ houses_worth a
-whole_window a found lo hi limits lo_is hi_is e = omega (arith, ints, clamps, e, lo_is, hi_is, worth_low a limits, worth_high a limits)
+whole_window a found lo hi limits lo_is hi_is e = omega (arith, ints, clamps, worth_low a limits, worth_high a limits)
 
 -- the first i houses are worth less than the margin of best play
 abbrev pub FallShort : Rows → ℕ → Type 0
@@ -504,16 +504,15 @@ module _ (a : Rows) (w : IsWithinHouses a) where
   pub root_last : (n : ℕ) → is_over (bare a) ≡ false → length (legal_houses (bare a)) ≡ n + 1 → FallShort a n →
       get_or (legal_houses (bare a)) n 0 ≡ best_house (bare a)
   root_last n going many short =
-      let one = greatest_is_one (value_of_move (bare a)) (legal_houses (bare a)) (omega (arith, many)) in
+      let one = greatest_is_one (value_of_move (bare a)) (legal_houses (bare a)) (omega arith) in
       let worth_is = worth_of_going (bare a) (record { same = w.same_side }) going in
-      let inside : one.1.0 < length (legal_houses (bare a)) = one.1.1 in
-      let place : get_or (legal_houses (bare a)) one.1.0 0 ≡ one.0 = get_or_default (legal_houses (bare a)) one.1.0 0 one.0 inside
+      let inside = one.1.1 in
+      let place = get_or_default (legal_houses (bare a)) one.1.0 0 one.0 inside
       ∙ one.1.2 in
-      let is : value_of_move (bare a) (get_or (legal_houses (bare a)) one.1.0 0) ≡ houses_worth a =
-      ap (value_of_move (bare a)) place ∙ one.2 ∙ sym worth_is in
+      let is = ap (value_of_move (bare a)) place ∙ one.2 ∙ sym worth_is in
       elim (cases_eq one.1.0 n) [
-        | inl same ↦ root_is n (omega (arith, many)) short (rw same at is)
-        | inr other ↦ absurd (let here = eq_yes _ _ is in let there = short one.1.0 (omega (arith, many)) in cc)
+        | inl same ↦ root_is n (omega arith) short (rw same at is)
+        | inr other ↦ absurd (let here = eq_yes _ _ is in let there = short one.1.0 (omega arith) in cc)
       ]
 
 -- ---- with the stores
@@ -528,8 +527,8 @@ pub margin_small : (p : Position) (best margin : ℤ) → IsWithinLimits p → b
 margin_small p best margin limits best_is e =
     let bounds = worth_up_to (rows_of p) (rows_within p limits) in
     record {
-      low = omega (arith, ints, e, best_is, bounds.low, limits.other_store_low);
-      high = omega (arith, ints, e, best_is, bounds.high, limits.own_store_low);
+      low = omega (arith, ints, bounds.low);
+      high = omega (arith, ints, bounds.high);
     }
 
 -- the reported margin of the best of the houses: with the difference of the stores, in thirty-two bits
@@ -542,32 +541,12 @@ module _ (p : Position) (best : ℤ) (own other : ℕ) (limits : IsWithinLimits 
   pub told_fits : FitsSigned w32 (to_z w32 (of_z w32 best) +ℤ to_z w32 (of_z w32 (to_z w32 own -ℤ to_z w32 other)))
   told_fits =
       let rows = rows_within p limits in
-      omega (
-        arith,
-        ints,
-        best_is,
-        worth_low (rows_of p) rows,
-        worth_high (rows_of p) rows,
-        own_is,
-        other_is,
-        limits.own_store_low,
-        limits.other_store_low,
-      )
+      omega (arith, ints, worth_low (rows_of p) rows, worth_high (rows_of p) rows)
 
   told_is : stored best own other ≡ best +ℤ (pos p.own_store -ℤ pos p.other_store)
   told_is =
       let rows = rows_within p limits in
-      omega (
-        arith,
-        ints,
-        best_is,
-        worth_low (rows_of p) rows,
-        worth_high (rows_of p) rows,
-        own_is,
-        other_is,
-        limits.own_store_low,
-        limits.other_store_low,
-      )
+      omega (arith, ints, worth_low (rows_of p) rows, worth_high (rows_of p) rows)
 
   -- so it is the worth of the position
   pub told_worth : stored best own other ≡ worth p
@@ -584,13 +563,13 @@ pub value_small : (p : Position) (h : ℕ) → IsWithinLimits p → Contains (le
 value_small p h limits has =
     let bounds = taken_by_move (rows_of p) (rows_within p limits) h has in
     record {
-      low = omega (arith, ints, value_of_rows p h, bounds.few, bounds.is, limits.other_store_low);
-      high = omega (arith, ints, value_of_rows p h, bounds.few, bounds.is, limits.own_store_low);
+      low = omega (arith, ints, value_of_rows p h, bounds.few, bounds.is);
+      high = omega (arith, ints, value_of_rows p h, bounds.few, bounds.is);
     }
 
 -- a legal house
 pub house_small : (p : Position) (h : ℕ) → IsWithinLimits p → Contains (legal_houses p) h → h ≤ most_houses
-house_small p h limits has = omega (arith, (legal_holds p h has).last, limits.at_most_six)
+house_small p h limits has = omega (arith, (legal_holds p h has).last)
 
 -- ==== One value more in six cells
 
@@ -613,12 +592,11 @@ padded_more xs v few =
 pub six_more : (count : ℕ) (cells : List MoveValue) (v : MoveValue) → IsSixAtMost no_value count cells → count < 6 →
     IsSixAtMost no_value (count + 1) (slice_set cells count v)
 six_more count cells v six few =
-    let long : length (take count cells) ≡ count = length-take-le count cells (omega (arith, six.cells_are_six)) in
-    let more : take (count + 1) (slice_set cells count v) ≡ take count cells ++ v ∷ [] =
-    take_more_set cells count v (omega (arith, six.cells_are_six)) in
+    let long = length-take-le count cells (omega arith) in
+    let more = take_more_set cells count v (omega arith) in
     record {
       cells_are_six = length-set cells count v ∙ six.cells_are_six;
       few = omega arith;
-      rest_is_none = ap (padded_with no_value) more ∙ sym (padded_more (take count cells) v (omega (arith, long)))
+      rest_is_none = ap (padded_with no_value) more ∙ sym (padded_more (take count cells) v (omega arith))
           ∙ ap (λ n. slice_set (padded_with no_value (take count cells)) n v) long ∙ ap (λ cs. slice_set cs count v) six.rest_is_none;
     }

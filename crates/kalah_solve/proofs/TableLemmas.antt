@@ -48,26 +48,26 @@ higher n k = rw (next_place k) (sym (div-div-eq-div-mul n 16 (2 ^ (4 * k))))
 -- a digit put at an empty place leaves all from a later place on
 pub same_past : (k e n d : ℕ) → k < e → n / 2 ^ (4 * k) % 16 ≡ 0 → d < 16 →
     (n + d * 2 ^ (4 * k)) / 2 ^ (4 * e) ≡ n / 2 ^ (4 * e)
-same_past k zero n d later none small = absurd (omega (arith, later))
+same_past k zero n d later none small = absurd (omega arith)
 same_past zero (suc e) n d later none small =
-    let first : (n + d * 1) / 16 ≡ n / 16 = omega (arith, none, small) in
+    let first : (n + d * 1) / 16 ≡ n / 16 = omega (arith, small) in
     rw (higher (n + d * 1) e, higher n e, first) refl
 same_past (suc k) (suc e) n d later none small =
     let more : d * 2 ^ (4 * suc k) ≡ d * 2 ^ (4 * k) * 16 = rw (next_place k) (omega arith) in
     let digit : n / 16 / 2 ^ (4 * k) % 16 ≡ 0 = rw (higher n k) at none in
     let sixteenth : (n + d * 2 ^ (4 * k) * 16) / 16 ≡ n / 16 + d * 2 ^ (4 * k) = omega arith in
     rw (more, higher (n + d * 2 ^ (4 * k) * 16) e, higher n e, sixteenth)
-    (same_past k e (n / 16) d (omega (arith, later)) digit small)
+    (same_past k e (n / 16) d (omega arith) digit small)
 
 -- and is found there
 pub put_there : (k n d : ℕ) → n / 2 ^ (4 * k) % 16 ≡ 0 → d < 16 → (n + d * 2 ^ (4 * k)) / 2 ^ (4 * k) % 16 ≡ d
-put_there k n d none small = rw (add-mul-div_right n d (pow_pos (4 * k))) (omega (arith, none, small))
+put_there k n d none small = rw (add-mul-div_right n d (pow_pos (4 * k))) (omega (arith, small))
 
 -- what is put at a later place leaves all digits before it
 pub same_before : (j k n d : ℕ) → j < k → (n + d * 2 ^ (4 * k)) / 2 ^ (4 * j) % 16 ≡ n / 2 ^ (4 * j) % 16
 same_before j k n d before =
     let past = k - suc j in
-    let places : 4 * k ≡ 4 * suc past + 4 * j = omega (arith, before) in
+    let places : 4 * k ≡ 4 * suc past + 4 * j = omega arith in
     let worth : 2 ^ (4 * k) ≡ 16 * 2 ^ (4 * past) * 2 ^ (4 * j) = rw (places, pow-add 2 (4 * suc past) (4 * j), next_place past) refl in
     let all : d * 2 ^ (4 * k) ≡ d * (16 * 2 ^ (4 * past)) * 2 ^ (4 * j) =
     rw worth (sym (mul_assoc d (16 * 2 ^ (4 * past)) (2 ^ (4 * j)))) in
@@ -78,20 +78,20 @@ pub same_elsewhere : (j k n d : ℕ) → j ≢ k → n / 2 ^ (4 * k) % 16 ≡ 0 
     (n + d * 2 ^ (4 * k)) / 2 ^ (4 * j) % 16 ≡ n / 2 ^ (4 * j) % 16
 same_elsewhere j k n d other none small = elim (cases_lt j k) [
   | inl before ↦ same_before j k n d before
-  | inr after ↦ ap (λ m. m % 16) (same_past k j n d (omega (arith, other, after)) none small)
+  | inr after ↦ ap (λ m. m % 16) (same_past k j n d (omega arith) none small)
 ]
 
 -- a digit of a word is no more than a word
 pub digit_small : (k d : ℕ) → k < 16 → d < 16 → d * 2 ^ (4 * k) < 2 ^ 64
 digit_small k d place small =
-    let power : 2 ^ (4 * k) ≤ 2 ^ 60 = pow_mono {j = 60} (omega (arith, place)) in
+    let power : 2 ^ (4 * k) ≤ 2 ^ 60 = pow_mono {j = 60} (omega arith) in
     omega (arith, mul-le d (2 ^ (4 * k)) 15 (2 ^ 60) (omega (arith, small)) power)
 
 -- and with it a word stays a word
 pub put_fits : (k n d : ℕ) → k < 16 → n / 2 ^ (4 * k) % 16 ≡ 0 → d < 16 → n < 2 ^ 64 → n + d * 2 ^ (4 * k) < 2 ^ 64
 put_fits k n d place none small fits =
-    let past : (n + d * 2 ^ (4 * k)) / 2 ^ 64 ≡ n / 2 ^ 64 = same_past k 16 n d place none small in
-    omega (arith, past, fits)
+    let past = same_past k 16 n d place none small in
+    omega (arith, past)
 
 -- ==== The rank of a row determines the row
 
@@ -186,7 +186,7 @@ rank_same (x ∷ xs) (y ∷ ys) long same =
     let places : x + sum xs + length xs ≡ y + sum ys + length ys = omega arith in
     let first : choose (x + sum xs + length xs) (suc (length xs)) ≡ choose (y + sum ys + length ys) (suc (length ys)) =
     rw (places, cells) refl in
-    let rest = rank_same xs ys cells (omega (arith, same, first)) in
+    let rest = rank_same xs ys cells (omega (arith, first)) in
     let here : x ≡ y = omega (arith, ap sum rest) in
     rw (here, rest) refl
 
@@ -194,14 +194,14 @@ rank_same (x ∷ xs) (y ∷ ys) long same =
 pub same_houses : (a b : Rows) → IsWithinHouses a → IsWithinHouses b → game_of a ≡ game_of b
     → rank_of_houses a ≡ rank_of_houses b → a ≡ b
 same_houses a b ha hb game rank =
-    let side : length a.own ≡ length b.own = omega (arith, game, ha.at_most_six, hb.at_most_six) in
+    let side : length a.own ≡ length b.own = omega arith in
     let cells : length (a.own ++ a.other) ≡ length (b.own ++ b.other) =
-    omega (arith, length-append a.own a.other, length-append b.own b.other, ha.same_side, hb.same_side, side) in
+    omega (arith, length-append a.own a.other, length-append b.own b.other) in
     let row = rank_same (a.own ++ a.other) (b.own ++ b.other) cells rank in
     let own : a.own ≡ b.own = rw (take-append_seam a.own a.other, side, take-append_seam b.own b.other) at
     (ap (take (length a.own)) row) in
-    let other : a.other ≡ b.other = append_cancel_left a.own a.other b.other (rw (← own) at row) in
-    same_key a b ha hb (omega (arith, game, ap number_of own, ap number_of other))
+    let other = append_cancel_left a.own a.other b.other (rw (← own) at row) in
+    same_key a b ha hb (omega (arith, ap number_of own, ap number_of other))
 
 -- a row's number determines its sums
 sums_by_number : (xs : List ℕ) → 31 * sums_number xs + sum xs ≡ 32 * number_of xs
@@ -219,12 +219,12 @@ pub sums_are : (row : List ℕ) (number seeds : ℕ) → 1 ≤ length row → nu
     AreSums row number seeds
 sums_are [] number seeds some is all below = absurd (omega arith)
 sums_are (x ∷ xs) number seeds some is all below =
-    let whole : number ≡ seeds + 31 * sums_number xs = omega (arith, is, all, sums_by_number xs, sum_by-cons (λ (y : ℕ). y) x xs) in
-    let divided : (number - seeds) * 17256631552825064415 % 2 ^ 64 ≡ sums_number xs = omega (arith, whole, below) in
+    let whole : number ≡ seeds + 31 * sums_number xs = omega (arith, all, sums_by_number xs, sum_by-cons (λ (y : ℕ). y) x xs) in
+    let divided : (number - seeds) * 17256631552825064415 % 2 ^ 64 ≡ sums_number xs = omega arith in
     record {
-      few = omega (arith, whole);
-      small = omega (arith, whole, below, divided);
-      sums = omega (arith, divided, all, sum_by-cons (λ (y : ℕ). y) x xs);
+      few = omega arith;
+      small = omega arith;
+      sums = omega (arith, all, sum_by-cons (λ (y : ℕ). y) x xs);
     }
 
 -- both rows of houses in one number
@@ -233,12 +233,11 @@ pub both_rows : (a : Rows) (own other m : ℕ) → IsWithinHouses a → own ≡ 
     other < 2 ^ 30 → m ≡ length a.own →
     (own + other * 2 ^ (5 * m) % 2 ^ 64 ≡ number_of (a.own ++ a.other)) × (own + other * 2 ^ (5 * m) % 2 ^ 64 < 2 ^ 60)
 both_rows a own other m within own_is other_is own_small other_small side =
-    let power : 2 ^ (5 * m) ≤ 2 ^ 30 = pow_mono {i = 5 * m} {j = 30} (omega (arith, within.at_most_six, side)) in
-    let below : other * 2 ^ (5 * m) ≤ (2 ^ 30 - 1) * 2 ^ 30 =
-    mul-le other (2 ^ (5 * m)) (2 ^ 30 - 1) (2 ^ 30) (omega (arith, other_small)) power in
+    let power = pow_mono {i = 5 * m} {j = 30} (omega arith) in
+    let below = mul-le other (2 ^ (5 * m)) (2 ^ 30 - 1) (2 ^ 30) (omega arith) power in
     let shifted : other * 2 ^ (5 * m) ≡ 32 ^ length a.own * number_of a.other =
     rw (pow_five m, side, other_is) (mul_comm (number_of a.other) (32 ^ length a.own)) in
-    (omega (arith, own_is, shifted, below, number_of-append a.own a.other), omega (arith, below, own_small))
+    (omega (arith, number_of-append a.own a.other), omega arith)
 
 -- the sums of a row of few from its cell 2 * passed on, and what the cells before it add to its rank
 pub record IsRanked (row : List ℕ) (passed sums at : ℕ) : Type 0 where
@@ -255,7 +254,7 @@ two_sums : (x y : ℕ) (ys : List ℕ) → sum (x ∷ y ∷ ys) ≤ 9 → AreTwo
 two_sums x y ys few =
     let cons = sum_by-cons (λ (z : ℕ). z) x (y ∷ ys) in
     let cons' = sum_by-cons (λ (z : ℕ). z) y ys in
-    record { first = omega (arith, few, cons, cons'); second = omega (arith, few, cons, cons'); past = omega (arith, few, cons, cons') }
+    record { first = omega (arith, few); second = omega (arith, few); past = omega (arith, few) }
 
 -- two cells more of a row
 module _ (row : List ℕ) (few : sum row ≤ 9) (m passed sums at : ℕ) (long : length row ≡ 2 * m) (most : m ≤ 6) (more : passed < m)
@@ -272,7 +271,7 @@ module _ (row : List ℕ) (few : sum row ≤ 9) (m passed sums at : ℕ) (long :
   two_more : drop (2 * passed) row ≡ two_first ∷ two_second ∷ two_past
   two_more =
       let twice : 2 * passed + 1 + 1 ≡ 2 * (passed + 1) = omega arith in
-      rw (drop_more row (2 * passed) 0 (omega (arith, long, more)), drop_more row (2 * passed + 1) 0 (omega (arith, long, more)), twice)
+      rw (drop_more row (2 * passed) 0 (omega arith), drop_more row (2 * passed + 1) 0 (omega arith), twice)
       refl
 
   two_less : sum (two_first ∷ two_second ∷ two_past) ≤ 9
@@ -291,31 +290,31 @@ module _ (row : List ℕ) (few : sum row ≤ 9) (m passed sums at : ℕ) (long :
   rank_next c is_c =
       let past = m - passed - 1 in
       let rest = two_second ∷ two_past in
-      let cells : length two_past ≡ 2 * past = omega (arith, long, more, length-drop (2 * (passed + 1)) row) in
+      let cells : length two_past ≡ 2 * past = omega (arith, length-drop (2 * (passed + 1)) row) in
       let first : two_first + sum rest + length rest ≡ sums % 1024 % 32 + 2 * past + 1 =
-      omega (arith, two_are.first, sum_by-cons (λ (z : ℕ). z) two_second two_past, cells) in
-      let first_cells : suc (length rest) ≡ 2 * past + 2 = omega (arith, cells) in
-      let second : two_second + sum two_past + length two_past ≡ sums % 1024 / 32 + 2 * past = omega (arith, two_are.second, cells) in
-      let second_cells : suc (length two_past) ≡ 2 * past + 1 = omega (arith, cells) in
+      omega (arith, two_are.first, sum_by-cons (λ (z : ℕ). z) two_second two_past) in
+      let first_cells : suc (length rest) ≡ 2 * past + 2 = omega arith in
+      let second : two_second + sum two_past + length two_past ≡ sums % 1024 / 32 + 2 * past = omega (arith, two_are.second) in
+      let second_cells : suc (length two_past) ≡ 2 * past + 1 = omega arith in
       let ways : choose (two_first + sum rest + length rest) (suc (length rest)) ≡ choose (sums % 1024 % 32 + 2 * past + 1)
       (2 * past + 2) =
       rw (first, first_cells) refl in
       let ways' : choose (two_second + sum two_past + length two_past) (suc (length two_past))
       ≡ choose (sums % 1024 / 32 + 2 * past) (2 * past + 1) = rw (second, second_cells) refl in
-      let added : row_rank (drop (2 * passed) row) ≡ c + row_rank two_past = rw two_more (omega (arith, is_c, ways, ways')) in
-      record { left = two_are.past; rank = omega (arith, is.rank, added) }
+      let added : row_rank (drop (2 * passed) row) ≡ c + row_rank two_past = rw two_more (omega (arith, ways)) in
+      record { left = two_are.past; rank = omega arith }
 
   -- no more seeds are there than few
   pub two_few : (sums % 1024 % 32 < 10) × (sums % 1024 / 32 < 10)
   two_few =
       let cons = sum_by-cons (λ (z : ℕ). z) two_first (two_second ∷ two_past) in
       let cons' = sum_by-cons (λ (z : ℕ). z) two_second two_past in
-      (omega (arith, two_are.first, two_less, cons, cons'), omega (arith, two_are.second, two_less, cons, cons'))
+      (omega (arith, two_are.first, two_less), omega (arith, two_are.second, two_less))
 
 -- what is added so far is small
 pub ranked_small : (row : List ℕ) (passed sums at : ℕ) → sum row ≤ 9 → length row ≤ 12 → IsRanked row passed sums at
     → at < 2 ^ 21
-ranked_small row passed sums at few long is = omega (arith, is.rank, rank_small row (omega (arith, few, long)))
+ranked_small row passed sums at few long is = omega (arith, rank_small row (omega (arith, few)))
 
 rank_none : (xs : List ℕ) → length xs ≡ 0 → row_rank xs ≡ 0
 rank_none [] none = refl
@@ -325,7 +324,7 @@ rank_none (x ∷ xs) none = absurd (omega arith)
 pub ranked_all : (row : List ℕ) (passed sums at : ℕ) → length row ≤ 2 * passed → IsRanked row passed sums at
     → at ≡ row_rank row
 ranked_all row passed sums at all is =
-    omega (arith, is.rank, rank_none (drop (2 * passed) row) (omega (arith, all, length-drop (2 * passed) row)))
+    omega (arith, rank_none (drop (2 * passed) row) (omega (arith, all, length-drop (2 * passed) row)))
 
 -- ==== The choices, cell by cell
 
@@ -338,7 +337,7 @@ choice_first i few =
 
 -- those of no seeds
 pub choice_none : (i : ℕ) → i % 10 ≡ 0 → choice_at i ≡ 0
-choice_none i none = choose_none (i % 10 + i / 10) (suc (i / 10)) (omega (arith, none))
+choice_none i none = choose_none (i % 10 + i / 10) (suc (i / 10)) (omega arith)
 
 -- each other is the sum of two before it
 pub choice_next : (i : ℕ) → 10 ≤ i → i % 10 ≢ 0 → choice_at i ≡ choice_at (i - 10) + choice_at (i - 1)
@@ -347,8 +346,8 @@ choice_next i past some =
     let here : i % 10 + i / 10 ≡ suc n = omega (arith, past) in
     let left : (i - 10) % 10 + (i - 10) / 10 ≡ n = omega (arith, past) in
     let left_cells : suc ((i - 10) / 10) ≡ i / 10 = omega (arith, past) in
-    let up : (i - 1) % 10 + (i - 1) / 10 ≡ n = omega (arith, past, some) in
-    let up_cells : suc ((i - 1) / 10) ≡ suc (i / 10) = omega (arith, past, some) in
+    let up : (i - 1) % 10 + (i - 1) / 10 ≡ n = omega (arith, past) in
+    let up_cells : suc ((i - 1) / 10) ≡ suc (i / 10) = omega (arith, past) in
     rw (here, left, left_cells, up, up_cells) (choose_next n (i / 10))
 
 -- all are small
@@ -450,27 +449,27 @@ first_more : (m d : ℕ) → m + d ≤ 7 → first m ≤ first (m + d)
 first_more m zero most = let same : m + zero ≡ m = omega arith in rw same (omega arith)
 first_more m (suc d) most =
     let next : m + suc d ≡ suc (m + d) = omega arith in
-    rw next (omega (arith, first_more m d (omega (arith, most)), first_up (m + d) (omega (arith, most))))
+    rw next (omega (arith, first_more m d (omega arith), first_up (m + d) (omega arith)))
 
 first_rises : (m n : ℕ) → m ≤ n → n ≤ 7 → first m ≤ first n
 first_rises m n below most =
-    let all : m + (n - m) ≡ n = omega (arith, below) in rw all at (first_more m (n - m) (omega (arith, all, most)))
+    let all : m + (n - m) ≡ n = omega arith in rw all at (first_more m (n - m) (omega (arith, all)))
 
 -- so an ending's word is one of its game's
 pub its_game : (a : Rows) → IsWithinHouses a → IsEnding a → first (length a.own) + rank_of_houses a / 16 < first (suc (length a.own))
 its_game a within few =
     let m = length a.own in
     let row = a.own ++ a.other in
-    let cells : length row ≡ 2 * m = omega (arith, length-append a.own a.other, within.same_side) in
+    let cells : length row ≡ 2 * m = omega (arith, length-append a.own a.other) in
     let seeds : sum row ≤ 9 = omega (arith, few, sum_by-append (λ x. x) a.own a.other) in
     let all : rank_of_houses a < choose (9 + length row) (length row) =
-    omega (arith, rank_below row, choose_rises (sum row + length row) (9 + length row) (length row) (omega (arith, seeds))) in
+    omega (arith, rank_below row, choose_rises (sum row + length row) (9 + length row) (length row) (omega arith)) in
     let below : rank_of_houses a < choose (9 + 2 * m) (2 * m) = rw cells at all in
-    omega (arith, below, enough m within.some_house within.at_most_six)
+    omega (arith, enough m within.some_house within.at_most_six)
 
 pub word_inside : (a : Rows) → IsWithinHouses a → IsEnding a → word_of a < 52054
 word_inside a within few =
-    omega (arith, its_game a within few, first_rises (suc (length a.own)) 7 (omega (arith, within.at_most_six)) (lit≤ tt), rule_bit-small a.rule)
+    omega (arith, its_game a within few, first_rises (suc (length a.own)) 7 (omega arith) (lit≤ tt), rule_bit-small a.rule)
 
 -- endings of one word and one place in it are the same
 same_told : (a b : Rows) → IsWithinHouses a → IsWithinHouses b → IsEnding a → IsEnding b → word_of a ≡ word_of b →
@@ -480,19 +479,19 @@ same_told a b ha hb few few_b word place =
     let n = length b.own in
     let here = its_game a ha few in
     let there = its_game b hb few_b in
-    let end = first_rises (suc m) 7 (omega (arith, ha.at_most_six)) (lit≤ tt) in
-    let end_b = first_rises (suc n) 7 (omega (arith, hb.at_most_six)) (lit≤ tt) in
+    let end = first_rises (suc m) 7 (omega arith) (lit≤ tt) in
+    let end_b = first_rises (suc n) 7 (omega arith) (lit≤ tt) in
     let rule : rule_bit a.rule ≡ rule_bit b.rule =
-    omega (arith, word, here, there, end, end_b, rule_bit-small a.rule, rule_bit-small b.rule) in
+    omega (arith, rule_bit-small a.rule, rule_bit-small b.rule) in
     let side : m ≡ n = elim (cases_lt m n) [
-      | inl less ↦ absurd (omega (arith, word, rule, here, first_rises (suc m) n less (omega (arith, hb.at_most_six))))
+      | inl less ↦ absurd (omega (arith, first_rises (suc m) n less (omega arith)))
       | inr others ↦ elim (cases_lt n m) [
-        | inl more ↦ absurd (omega (arith, word, rule, there, first_rises (suc n) m more (omega (arith, ha.at_most_six))))
+        | inl more ↦ absurd (omega (arith, first_rises (suc n) m more (omega arith)))
         | inr equal ↦ omega arith
       ]
     ] in
-    let firsts : first m ≡ first n = ap first side in
-    same_houses a b ha hb (omega (arith, side, rule)) (omega (arith, word, rule, firsts, place))
+    let firsts = ap first side in
+    same_houses a b ha hb (omega arith) (omega arith)
 
 -- ---- what the words state
 
@@ -512,7 +511,7 @@ states_more word a before ha few none small b hb few_b one stored =
     let d = suc (won a) in
     elim (cases_eq (rank_of_houses b % 16) place) [
       | inl same ↦
-          let is : a ≡ b = same_told a b ha hb few few_b (sym one) (sym same) in
+          let is = same_told a b ha hb few few_b (sym one) (sym same) in
           rw same (put_there place word d none (omega (arith, small)) ∙ ap (λ c. suc (won c)) is)
       | inr other ↦
           let there = same_elsewhere (rank_of_houses b % 16) place word d other none (omega (arith, small)) in
@@ -565,7 +564,7 @@ pub record IsMost (a : Rows) (marks most : ℕ) : Type 0 where
 pub most_of_none : (a : Rows) (marks : ℕ) → ((i : ℕ) → (0 < cell marks i) ↔ (0 < get_or a.own i 0)) → IsMost a marks 0
 most_of_none a marks marked = record {
   reached = omega arith;
-  all = λ i has gone. absurd (let some = (marked (i - 1)).1 (legal_holds (bare a) i has).some in omega (arith, gone, some));
+  all = λ i has gone. absurd (let some = (marked (i - 1)).1 (legal_holds (bare a) i has).some in omega arith);
 }
 
 -- the last marked house, with what it takes
@@ -573,27 +572,27 @@ pub most_more : (a : Rows) (marks most h v new : ℕ) → IsWithinHouses a → I
     Contains (legal_houses (bare a)) h →
     v ≡ won_by_step (houses_step a h) → new ≡ max most v → IsMost a (marks - 32 ^ (h - 1)) new
 most_more a marks most h v new w is last has v_is new_is = record {
-  reached = omega (arith, new_is, v_is, is.reached, taken_most a w h has);
+  reached = omega (arith, taken_most a w h has);
   all = λ i may gone. elim (cases_eq i h) [
-    | inl same ↦ rw same (omega (arith, v_is, new_is))
+    | inl same ↦ rw same (omega arith)
     | inr other ↦
         let first = (legal_holds (bare a) i may).first in
-        let place : i - 1 ≢ h - 1 = omega (arith, first, last.first, other) in
-        omega (arith, new_is, is.all i may (gone_before marks h last (i - 1) place gone))
+        let place : i - 1 ≢ h - 1 = omega (arith, first) in
+        omega (arith, is.all i may (gone_before marks h last (i - 1) place gone))
   ];
 }
 
 -- if all seeds are taken, best play takes as many
 pub most_all : (a : Rows) (marks most : ℕ) → IsWithinHouses a → IsMost a marks most → seeds_in_houses (bare a) ≤ most
     → most ≡ won a
-most_all a marks most w is full = omega (arith, full, is.reached, (taken_share a w).few)
+most_all a marks most w is full = omega (arith, (taken_share a w).few)
 
 -- and so it does once no house is marked
 pub most_won : (a : Rows) (marks most : ℕ) → IsWithinHouses a → is_over (bare a) ≡ false → IsMost a marks most → marks ≡ 0
     → most ≡ won a
 most_won a marks most w going is none =
     let best = taken_reached a w going in
-    omega (arith, is.reached, best.2, is.all best.0 best.1 (rw none (cell_none (best.0 - 1))))
+    omega (arith, is.all best.0 best.1 (rw none (cell_none (best.0 - 1))))
 
 -- ==== What a table keeps, over the list of its entries
 
@@ -609,7 +608,7 @@ found_holds es a k entries within key None h = tt
 found_holds es a k entries within key (Some i) h =
     let at = Contains-lookup (nat_eq k) es i h in
     let entry = entries (at.0, i) at.1 in
-    let same : entry.0 ≡ a = same_key entry.0 a entry.1 within (entry.2 ∙ sym (same_number _ _ at.2) ∙ key) in
+    let same = same_key entry.0 a entry.1 within (entry.2 ∙ sym (same_number _ _ at.2) ∙ key) in
     subst (λ b. Encloses i (houses_worth b)) same entry.3
 
 -- a use changes only the order
@@ -671,17 +670,17 @@ same_unmixed k l hk hl same = sym (unmixed k hk) ∙ ap (λ x. (x * 174285126129
 -- of two numbers that leave the same open the greater has a later place
 place_later : (n x y : ℕ) → 1024 ≤ n → left_open x ≡ left_open y → x < y → place_among n x < place_among n y
 place_later n x y enough rest less =
-    let apart : x / 2 ^ 32 + 2 ^ 22 ≤ y / 2 ^ 32 = omega (arith, rest, less) in
-    let later : (x / 2 ^ 32 + 2 ^ 22) * n ≤ y / 2 ^ 32 * n = mul-le-mul_right n apart in
-    let sum : (x / 2 ^ 32 + 2 ^ 22) * n ≡ x / 2 ^ 32 * n + 2 ^ 22 * n = add-mul (x / 2 ^ 32) (2 ^ 22) n in
-    omega (arith, later, sum, enough)
+    let apart : x / 2 ^ 32 + 2 ^ 22 ≤ y / 2 ^ 32 = omega arith in
+    let later = mul-le-mul_right n apart in
+    let sum = add-mul (x / 2 ^ 32) (2 ^ 22) n in
+    omega (arith, sum, enough)
 
 -- so two with one place are one
 place_same : (n x y : ℕ) → 1024 ≤ n → left_open x ≡ left_open y → place_among n x ≡ place_among n y → x ≡ y
 place_same n x y enough rest same = elim (cases_lt x y) [
-  | inl less ↦ absurd (omega (arith, same, place_later n x y enough rest less))
+  | inl less ↦ absurd (omega (arith, place_later n x y enough rest less))
   | inr others ↦ elim (cases_lt y x) [
-    | inl more ↦ absurd (omega (arith, same, place_later n y x enough (sym rest) more))
+    | inl more ↦ absurd (omega (arith, place_later n y x enough (sym rest) more))
     | inr equal ↦ omega arith
   ]
 ]
@@ -702,7 +701,7 @@ pub shares_more : (places : List Place) (a : Rows) (number at : ℕ) (p : Place)
     → stored_rest p ≡ left_open number →
     IsWithinPlace p (won a) → StoreBounds (slice_set places at p)
 shares_more places a number at p enough before within is place inside rest known b number_b d within_b is_b inside_b rest_b =
-    let count : length (slice_set places at p) ≡ length places = length-set places at p in
+    let count = length-set places at p in
     let at_b = place_among (length places) number_b in
     let after_b : IsWithinPlace (get_or (slice_set places at p) at_b d) (won b) = elim (cases_eq at_b at) [
       | inl same ↦
@@ -712,7 +711,7 @@ shares_more places a number at p enough before within is place inside rest known
           (rw (← is, ← is_b) (sym place ∙ sym same)) in
           rw here (subst (λ c. IsWithinPlace p (won c)) houses known)
       | inr other ↦
-          let there : get_or (slice_set places at p) at_b d ≡ get_or places at_b d = get_or-set_other places at at_b p d other in
+          let there = get_or-set_other places at at_b p d other in
           rw there (before b number_b d within_b is_b (rw count at inside_b) (rw (count, there) at rest_b))
     ] in
     rw count after_b
@@ -722,5 +721,5 @@ pub shares_unknown : (count : ℕ) (p : Place) → stored_least p ≡ 0 → stor
 shares_unknown count p none all a number d within is inside rest =
     let at = place_among (length (replicate count p)) number in
     let few = (taken_share a within).few in
-    let here : get_or (replicate count p) at d ≡ p = get_or-replicate count at p d (omega (arith, inside, length-replicate count p)) in
-    rw here (record { least = omega (arith, none); most = omega (arith, all, few, within.few_seeds) })
+    let here = get_or-replicate count at p d (omega (arith, length-replicate count p)) in
+    rw here (record { least = omega arith; most = omega (arith, all, few) })

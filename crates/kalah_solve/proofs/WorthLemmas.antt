@@ -1,7 +1,7 @@
 -- What positions, moves and steps are worth.
 use Rattle.kalah_rules.specs.declared.step.Step.TheVariants as board
 use Rattle.std.proofs.Common.{zero, suc, ◌≡◌, ℕ, ◌+◌, ◌<◌, ◌≤◌, inl, inr, List, [], ◌∷◌, length, get_or, arith, sym, ◌∙◌, refl, ap, rules, IsTrue, ◌-◌, ◌*◌, subst}
-use Rattle.std.specs.Prelude.{Bool, true, false, Contains, map, filter, find, unwrap_or, ℤ, if◌then◌else◌, pos, ◌≤ℤ◌, ◌<ℤ◌, sum, neg_ℤ, replicate, All, ◌||◌, ◌==◌, ◌+ℤ◌, ◌-ℤ◌, fold}
+use Rattle.std.specs.Prelude.{Bool, true, false, Contains, map, filter, find, unwrap_or, ℤ, if◌then◌else◌, pos, ◌≤ℤ◌, ◌<ℤ◌, sum, neg_ℤ, replicate, ◌||◌, ◌==◌, ◌+ℤ◌, ◌-ℤ◌, fold}
 use Rattle.std.specs.List.{range_with_len}
 use Rattle.std.proofs.lemmas.Bool.{cases_Bool, cases_lt}
 use Rattle.std.proofs.lemmas.Int.{fold-int_max_reached, ints, fold-int_max_bounds}
@@ -35,7 +35,7 @@ greatest_is_one f [] some = absurd (omega arith)
 greatest_is_one f (x ∷ xs) some = elim (fold-int_max_reached (f x) (map f xs) _ refl) [
   | inl start ↦ (x, Contains-head x xs, sym start)
   | inr later ↦
-      let within : later.0 < length xs = omega (arith, later.1, length-map xs f) in (
+      let within : later.0 < length xs = omega (arith, length-map xs f) in (
         get_or xs later.0 0,
         Contains-tail x xs _ (Contains-get_or xs later.0 0 within),
         sym (get_or-map f xs later.0 0 _ within)
@@ -46,7 +46,7 @@ greatest_is_one f (x ∷ xs) some = elim (fold-int_max_reached (f x) (map f xs) 
 -- what a search finds is in the list, and passes
 pub find_passes : (t : ℕ → Bool) (xs : List ℕ) (k : ℕ) → Contains xs k → t k ≡ true →
     Contains xs (unwrap_or (find t xs) 0) × (t (unwrap_or (find t xs) 0) ≡ true)
-find_passes t [] k has passes = absurd (omega (arith, has.1))
+find_passes t [] k has passes = absurd (omega arith)
 find_passes t (x ∷ xs) k has passes = elim (cases_Bool (t x)) [
   | inl here ↦ rw here (Contains-head x xs, here)
   | inr later ↦ elim (Contains-cons x xs k has) [
@@ -59,7 +59,7 @@ find_passes t (x ∷ xs) k has passes = elim (cases_Bool (t x)) [
 
 -- what a search finds in ascending numbers is the lowest that passes
 pub filter_low : (g : ℕ → Bool) (a n h : ℕ) → Contains (filter g (range_with_len a n)) h → a ≤ h
-filter_low g a zero h has = absurd (omega (arith, has.1))
+filter_low g a zero h has = absurd (omega arith)
 filter_low g a (suc n) h has = elim (cases_Bool (g a)) [
   | inl kept ↦
       let has' = rw kept at has in
@@ -73,7 +73,7 @@ filter_low g a (suc n) h has = elim (cases_Bool (g a)) [
 -- so the first that is found is the lowest that passes
 pub find_lowest : (t g : ℕ → Bool) (a n h : ℕ) → Contains (filter g (range_with_len a n)) h → t h ≡ true →
     unwrap_or (find t (filter g (range_with_len a n))) 0 ≤ h
-find_lowest t g a zero h has passes = absurd (omega (arith, has.1))
+find_lowest t g a zero h has passes = absurd (omega arith)
 find_lowest t g a (suc n) h has passes = elim (cases_Bool (g a)) [
   | inl kept ↦
       let low = filter_low g a (suc n) h has in
@@ -124,7 +124,7 @@ none_left s m w none = omega arith
 -- a position with no moves left is over
 pub over_at_end : (p : Position) → moves_left p ≡ 0 → is_over p ≡ true
 over_at_end p none =
-    let no_seeds : seeds_in_houses p ≡ 0 = none_left (seeds_in_houses p) (side_length p) (distance_to_stores p) none in
+    let no_seeds = none_left (seeds_in_houses p) (side_length p) (distance_to_stores p) none in
     let empty : sum p.own ≡ 0 = omega arith in
     rw empty refl
 
@@ -215,8 +215,8 @@ worth_of_going p even going =
 final_margin-swept : (q : Position) → final_margin (swept q) ≡ final_margin q
 final_margin-swept q =
     let none = sum-zeros (side_length q) in
-    let own : sum (replicate (side_length q) 0) + (q.own_store + sum q.own) ≡ sum q.own + q.own_store = omega (arith, none) in
-    let other : sum (replicate (side_length q) 0) + (q.other_store + sum q.other) ≡ sum q.other + q.other_store = omega (arith, none) in
+    let own : sum (replicate (side_length q) 0) + (q.own_store + sum q.own) ≡ sum q.own + q.own_store = omega arith in
+    let other : sum (replicate (side_length q) 0) + (q.other_store + sum q.other) ≡ sum q.other + q.other_store = omega arith in
     rw (own, other) refl
 
 -- the step of a move
@@ -277,11 +277,11 @@ turn_fewer p h e even is_legal is =
 -- a game that goes on has a move
 row_empty : (p : Position) → is_over p ≡ false → length (legal_houses p) ≤ 0 → sum p.own ≡ 0
 row_empty p going none =
-    let each : All (λ x. x ≤ 0) p.own = All-from_get_or (λ x. x ≤ 0) p.own 0 (λ i within. elim (cases_lt 0 (get_or p.own i 0)) [
+    let each = All-from_get_or (λ x. x ≤ 0) p.own 0 (λ i within. elim (cases_lt 0 (get_or p.own i 0)) [
       | inl some ↦
           let at : i + 1 - 1 ≡ i = omega arith in
           let has = holds_legal p (i + 1) (record { first = omega arith; last = omega arith; some = rw at some }) going in
-          absurd (omega (arith, has.1))
+          absurd (omega arith)
       | inr empty ↦ empty
     ]) in
     omega (arith, sum_by-le (λ x. x) 0 p.own each)
@@ -332,7 +332,7 @@ pub best_found : (p : Position) → HasEqualSides p → is_over p ≡ false →
     Contains (legal_houses p) (best_house p) × (int_eq (value_of_move p (best_house p)) (worth p) ≡ true)
 best_found p even going =
     let best = greatest_is_one (value_of_move p) (legal_houses p) (legal_some p going) in
-    let attains : value_of_move p best.0 ≡ worth p = best.2 ∙ sym (worth_of_going p even going) in
+    let attains = best.2 ∙ sym (worth_of_going p even going) in
     find_passes (λ h. int_eq (value_of_move p h) (worth p)) (legal_houses p) best.0 best.1
     (eq_yes (value_of_move p best.0) (worth p) attains)
 
@@ -344,7 +344,7 @@ best_attains p even going = (Decides-int_eq (value_of_move p (best_house p)) (wo
 pub value_most : (p : Position) (h : ℕ) → HasEqualSides p → is_over p ≡ false → Contains (legal_houses p) h
     → value_of_move p h ≤ℤ worth p
 value_most p h even going has =
-    let at : get_or (legal_houses p) has.0 0 ≡ h = get_or_default (legal_houses p) has.0 0 h has.1 ∙ has.2 in
+    let at = get_or_default (legal_houses p) has.0 0 h has.1 ∙ has.2 in
     rw (worth_of_going p even going) (rw at at (value_le (value_of_move p) (legal_houses p) has.0 has.1))
 
 -- the law on the worth in plain words
@@ -389,7 +389,7 @@ shift_by_step : (over more : Bool) (f v u f' v' u' : ℤ) (a b : ℕ) → f ≡ 
     (pos a -ℤ pos b)
 shift_by_step true more f v u f' v' u' a b one two three = one
 shift_by_step false true f v u f' v' u' a b one two three = two
-shift_by_step false false f v u f' v' u' a b one two three = omega (arith, ints, three)
+shift_by_step false false f v u f' v' u' a b one two three = omega (arith, ints)
 
 -- a value by a worth that stores shift is shifted
 value_with_more : (v w : Position → ℤ) (a b : ℕ) (p : Position) (h : ℕ) →
@@ -527,7 +527,7 @@ leads_on a h w has =
     let q = after (bare a) h in
     let keeps = after_keeps a h w holds in
     let sides : HasEqualSides (bare a) = record { same = w.same_side } in
-    let fewer : moves_left q < moves_left (bare a) = after_fewer (bare a) h holds sides in
+    let fewer = after_fewer (bare a) h holds sides in
     let play = keeps.play in
     let none = keeps.other_store in
     let within = after_within a h w holds in
@@ -538,14 +538,14 @@ leads_on a h w has =
       fewer = fewer;
       going = going;
       limits = within;
-      same = omega (arith, keeps.side, rule);
+      same = omega arith;
     })
     (λ turn. record {
       kept = omega arith;
       fewer = omega (arith, swap_fewer q (after_equal_sides (bare a) h));
       going = over_swapped q going;
       limits = swapped_within q within;
-      same = omega (arith, keeps.other_side, w.same_side, rule);
+      same = omega arith;
     }))
 
 -- a step that was played leads there
@@ -556,10 +556,10 @@ leads_by a h s w has e = subst (LeadsOn a) (sym e) (leads_on a h w has)
 -- ---- what the search needs of a step
 goes_on_to : {a b : Rows} {game gained : ℕ} → IsWithinHouses a → game_of a ≡ game → LeadsTo a gained b → GoesOnAt game gained b
 goes_on_to w is leads =
-    record { same = leads.same ∙ is; few = omega (arith, leads.kept, w.few_seeds); going = leads.going; limits = leads.limits }
+    record { same = leads.same ∙ is; few = omega arith; going = leads.going; limits = leads.limits }
 
 goes_on_of : (a : Rows) (game : ℕ) (s : HousesStep) → IsWithinHouses a → game_of a ≡ game → LeadsOn a s → GoesOn game s
-goes_on_of a game (Over own other) w is leads = omega (arith, leads, w.few_seeds)
+goes_on_of a game (Over own other) w is leads = omega arith
 goes_on_of a game (Again gained b) w is leads = goes_on_to w is leads
 goes_on_of a game (Turn gained b) w is leads = goes_on_to w is leads
 

@@ -7,7 +7,7 @@ pub returns-clause-inside : goal.returns-clause-inside
 returns-clause-inside c = λ i inside.
     ending_marked c.filled.result c.all_end_in_store.result c.all_marked.result c.args.m c.args.row i c.requires c.all_end_in_store.ensures
     c.all_marked.ensures.value
-    (c.filled.ensures.cells i (omega (arith, inside, c.requires))) inside
+    (c.filled.ensures.cells i (omega arith)) inside
 
 pub returns-clause-past : goal.returns-clause-past
 returns-clause-past c = λ i inside past none.

@@ -10,8 +10,8 @@ returns-then-h-lt1 c = (
   λ has.
       let holds = legal_holds c.args.self.now c.args.h has in
       elim c.then-h-lt1.branch [
-        | then-h-lt1-via-then-h-lt1 w ↦ absurd (omega (arith, holds.first))
-        | then-h-lt1-via-else-h-lt1+then-h-m w ↦ absurd (omega (arith, holds.last))
+        | then-h-lt1-via-then-h-lt1 w ↦ absurd (omega arith)
+        | then-h-lt1-via-else-h-lt1+then-h-m w ↦ absurd (omega arith)
         | then-h-lt1-via-else-h-lt1+else-h-m+then-is_over w ↦
             sym (legal_going c.args.self.now c.args.h has) ∙ sym w.is_over.ensures.over ∙ w.if-is_over.true
       ],

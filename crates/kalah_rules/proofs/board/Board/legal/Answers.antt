@@ -9,7 +9,7 @@ use Rattle.kalah_rules.proofs.board.Board.legal.Goals.{then-own-gt0, else-own-gt
 pub push-requires : goal.push-requires
 push-requires c =
     let few = length-filter_range (λ i. nat_lt 0 (seeds c.args.self.now.own i)) 1 (c.loop-h.h - 1) in
-    rw c.loop-h.invariant (omega (arith, few, c.m-h-end.ensures.limits.at_most_six, c.m-h-end.ensures.side))
+    rw c.loop-h.invariant (omega arith)
 
 pub loop-h-preserved : goal.loop-h-preserved
 loop-h-preserved c =
@@ -18,10 +18,10 @@ loop-h-preserved c =
     elim c.if-own-gt0.branch [
       | then-own-gt0 w ↦
           let some : nat_lt 0 (seeds c.args.self.now.own c.loop-h.h) ≡ true =
-          lt-ltb _ _ (omega (arith, w.if-own-gt0.true, c.own.ensures)) in
+          lt-ltb _ _ (omega arith) in
           rw (w.moves-is, w.push.ensures, c.loop-h.invariant, at, more, some) refl
       | else-own-gt0 w ↦
           let none : nat_lt 0 (seeds c.args.self.now.own c.loop-h.h) ≡ false =
-          le-ltb _ _ (omega (arith, w.if-own-gt0.false, c.own.ensures)) in
+          le-ltb _ _ (omega arith) in
           rw (w.moves-is, c.loop-h.invariant, at, more, none) (sym (append-nil _))
     ]

@@ -9,22 +9,22 @@ use Rattle.kalah_rules.proofs.houses.Houses.+ways.Goals.{ways-then-own-gt0, ways
 
 pub ways-returns-then-depth-eq0-clause-ways : goal.ways-returns-then-depth-eq0-clause-ways
 ways-returns-then-depth-eq0-clause-ways t c =
-    let none : c.args.depth ≡ 0 = omega (arith, c.if-depth-eq0.true) in
+    let none : c.args.depth ≡ 0 = omega arith in
     rw none (sym (ways_none (bare c.args.self.now)))
 
 pub ways-returns-then-depth-eq1-clause-ways : goal.ways-returns-then-depth-eq1-clause-ways
 ways-returns-then-depth-eq1-clause-ways t c =
-    let one : c.args.depth ≡ 1 = omega (arith, c.if-depth-eq1.true) in
+    let one : c.args.depth ≡ 1 = omega arith in
     rw one (c.legal_count.ensures.count ∙ sym (ways_one (bare c.args.self.now)))
 
 pub ways-returns-then-depth-eq1-clause-small : goal.ways-returns-then-depth-eq1-clause-small
 ways-returns-then-depth-eq1-clause-small t c =
-    let one : c.args.depth ≡ 1 = omega (arith, c.if-depth-eq1.true) in
+    let one : c.args.depth ≡ 1 = omega arith in
     rw one c.legal_count.ensures.few
 
 pub ways-returns-then-is_over-clause-ways : goal.ways-returns-then-is_over-clause-ways
 ways-returns-then-is_over-clause-ways t c =
-    let more : c.args.depth - 1 + 1 ≡ c.args.depth = omega (arith, c.if-depth-eq0.false) in
+    let more : c.args.depth - 1 + 1 ≡ c.args.depth = omega arith in
     sym (rw more at (ways_over (c.args.depth - 1) (bare c.args.self.now) (sym c.is_over.ensures ∙ c.if-is_over.true)))
 
 pub ways-loop-h-init : goal.ways-loop-h-init
@@ -34,21 +34,21 @@ pub ways-ways_by-sum-requires : goal.ways-ways_by-sum-requires
 ways-ways_by-sum-requires t c =
     let holds : HoldsSeeds (bare c.args.self.now) c.loop-h.h = record {
       first = omega arith;
-      last = omega (arith, c.m-h-end.ensures.side);
-      some = omega (arith, c.if-own-gt0.true, c.own.ensures.value);
+      last = omega arith;
+      some = omega arith;
     } in
     let has = holds_legal (bare c.args.self.now) c.loop-h.h holds (sym c.is_over.ensures ∙ c.if-is_over.false) in
-    (omega (arith, c.if-depth-eq0.false), (has, omega (arith, c.if-depth-eq0.false, c.requires)))
+    (omega arith, (has, omega arith))
 
 pub ways-overflow_add-sum : goal.ways-overflow_add-sum
 ways-overflow_add-sum t c =
     let n = c.args.depth - 1 in
     let p = bare c.args.self.now in
     let after = before_more n p c.loop-h.h c.loop-h.sum c.ways_by-sum.result c.loop-h.invariant (omega arith)
-    (omega (arith, c.if-own-gt0.true, c.own.ensures.value)) c.ways_by-sum.ensures.ways c.ways_by-sum.ensures.small in
+    (omega arith) c.ways_by-sum.ensures.ways c.ways_by-sum.ensures.small in
     let small = before_small n p (c.loop-h.h + 1) (c.loop-h.sum + c.ways_by-sum.result) after
-    (omega (arith, c.m-h-end.ensures.side, c.m-h-end.ensures.limits.at_most_six)) in
-    omega (arith, small, power_fits n (omega (arith, c.if-depth-eq0.false, c.requires)))
+    (omega arith) in
+    omega (arith, power_fits n (omega arith))
 
 pub ways-loop-h-preserved : goal.ways-loop-h-preserved
 ways-loop-h-preserved t c =
@@ -57,30 +57,30 @@ ways-loop-h-preserved t c =
     elim c.if-own-gt0.branch [
       | ways-then-own-gt0 w ↦
           rw w.sum-is (before_more n p c.loop-h.h c.loop-h.sum w.ways_by-sum.result c.loop-h.invariant (omega arith)
-          (omega (arith, w.if-own-gt0.true, c.own.ensures.value)) w.ways_by-sum.ensures.ways w.ways_by-sum.ensures.small)
+          (omega arith) w.ways_by-sum.ensures.ways w.ways_by-sum.ensures.small)
       | ways-else-own-gt0 w ↦
           rw w.sum-is (before_same n p c.loop-h.h c.loop-h.sum c.loop-h.invariant (omega arith)
-          (omega (arith, w.if-own-gt0.false, c.own.ensures.value)))
+          (omega arith))
     ]
 
 pub ways-returns-clause-ways : goal.ways-returns-clause-ways
 ways-returns-clause-ways t c =
-    let more : c.args.depth - 1 + 1 ≡ c.args.depth = omega (arith, c.if-depth-eq0.false) in
+    let more : c.args.depth - 1 + 1 ≡ c.args.depth = omega arith in
     rw more at (before_all (c.args.depth - 1) (bare c.args.self.now) c.loop-h.h c.loop-h.sum c.loop-h.invariant
-    (sym c.is_over.ensures ∙ c.if-is_over.false) (omega (arith, c.m-h-end.ensures.side)))
+    (sym c.is_over.ensures ∙ c.if-is_over.false) (omega arith))
 
 pub ways-returns-clause-small : goal.ways-returns-clause-small
 ways-returns-clause-small t c =
-    let more : c.args.depth - 1 + 1 ≡ c.args.depth = omega (arith, c.if-depth-eq0.false) in
+    let more : c.args.depth - 1 + 1 ≡ c.args.depth = omega arith in
     rw more at (before_small (c.args.depth - 1) (bare c.args.self.now) c.loop-h.h c.loop-h.sum c.loop-h.invariant
-    (omega (arith, c.m-h-end.ensures.side, c.m-h-end.ensures.limits.at_most_six)))
+    (omega arith))
 
 pub ways_by-new-requires-clause-first : goal.ways_by-new-requires-clause-first
 ways_by-new-requires-clause-first t c = (legal_holds (bare c.args.self.now) c.args.h c.requires.legal).first
 
 pub ways_by-new-requires-clause-last : goal.ways_by-new-requires-clause-last
 ways_by-new-requires-clause-last t c =
-    omega (arith, (legal_holds (bare c.args.self.now) c.args.h c.requires.legal).last, c.m-side.ensures.limits.at_most_six)
+    omega (arith, (legal_holds (bare c.args.self.now) c.args.h c.requires.legal).last)
 
 pub ways_by-returns-in-Over-clause-ways : goal.ways_by-returns-in-Over-clause-ways
 ways_by-returns-in-Over-clause-ways t c =

@@ -4,15 +4,7 @@ use Rattle.kalah_rules.proofs.KeyLemmas.{no_seeds}
 use Rattle.kalah_rules.proofs.houses.Houses.is_over.Goals as goal
 
 pub returns-then-own_row-eq0 : goal.returns-then-own_row-eq0
-returns-then-own_row-eq0 c = grind (arith, nat_tests, no_seeds c.args.self.now.own, c.own_row.ensures.value, c.if-own_row-eq0.true)
+returns-then-own_row-eq0 c = grind (arith, nat_tests, no_seeds c.args.self.now.own)
 
 pub returns-else-own_row-eq0 : goal.returns-else-own_row-eq0
-returns-else-own_row-eq0 c = grind (
-  arith,
-  nat_tests,
-  no_seeds c.args.self.now.own,
-  no_seeds c.args.self.now.other,
-  c.own_row.ensures.value,
-  c.other_row.ensures.value,
-  c.if-own_row-eq0.false,
-)
+returns-else-own_row-eq0 c = grind (arith, nat_tests, no_seeds c.args.self.now.own, no_seeds c.args.self.now.other)

@@ -8,7 +8,7 @@ use Rattle.kalah_rules.proofs.houses.Houses.known_game.Goals as goal
 same : {a : Rows} {key seeds game : ℕ} → IsPacked key seeds → rows_at key ≡ a → game_of a ≡ game → key % 2 ^ 60 + 2 ^ 60 * game ≡ key
 same {a} {key} packed view is =
     let pack = pack_of packed view in
-    omega (arith, above_cells a key pack.limits pack.key_is, is)
+    omega (arith, above_cells a key pack.limits pack.key_is)
 
 pub invariant_of-result : goal.invariant_of-result
 invariant_of-result c = rw (same c.self.invariant c.self.view_is c.requires) c.self.invariant

@@ -7,23 +7,17 @@ use Rattle.kalah_rules.proofs.houses.Houses.legal_count.Goals.{then-own-gt0, els
 
 pub overflow_add-count : goal.overflow_add-count
 overflow_add-count c =
-    omega (
-      arith,
-      c.loop-h.invariant,
-      seeded_few c.args.self.now.own c.loop-h.h,
-      c.m-h-end.ensures.side,
-      c.m-h-end.ensures.limits.at_most_six,
-    )
+    omega (arith, seeded_few c.args.self.now.own c.loop-h.h)
 
 pub loop-h-preserved : goal.loop-h-preserved
 loop-h-preserved c =
     let row = c.args.self.now.own in
     elim c.if-own-gt0.branch [
       | then-own-gt0 w ↦
-          let more = seeded_more row c.loop-h.h (omega arith) (omega (arith, w.if-own-gt0.true, c.own.ensures.value)) in
-          rw (w.count-is, more) (omega (arith, c.loop-h.invariant, length-append (seeded_before row c.loop-h.h) (c.loop-h.h ∷ [])))
+          let more = seeded_more row c.loop-h.h (omega arith) (omega arith) in
+          rw (w.count-is, more) (omega (arith, length-append (seeded_before row c.loop-h.h) (c.loop-h.h ∷ [])))
       | else-own-gt0 w ↦
-          let same = seeded_same row c.loop-h.h (omega arith) (omega (arith, w.if-own-gt0.false, c.own.ensures.value)) in
+          let same = seeded_same row c.loop-h.h (omega arith) (omega arith) in
           rw (w.count-is, same) c.loop-h.invariant
     ]
 
@@ -31,14 +25,8 @@ pub returns-clause-count : goal.returns-clause-count
 returns-clause-count c =
     c.loop-h.invariant
     ∙ ap length (seeded_legal (bare c.args.self.now) c.loop-h.h (sym c.is_over.ensures ∙ c.if-is_over.false)
-    (omega (arith, c.m-h-end.ensures.side)))
+    (omega arith))
 
 pub returns-clause-few : goal.returns-clause-few
 returns-clause-few c =
-    omega (
-      arith,
-      c.loop-h.invariant,
-      seeded_few c.args.self.now.own c.loop-h.h,
-      c.m-h-end.ensures.side,
-      c.m-h-end.ensures.limits.at_most_six,
-    )
+    omega (arith, seeded_few c.args.self.now.own c.loop-h.h)

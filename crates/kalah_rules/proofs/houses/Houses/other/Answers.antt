@@ -6,5 +6,5 @@ pub returns-clause-value : goal.returns-clause-value
 returns-clause-value c =
     rw c.new.ensures at c.seeds_at.ensures ∙ ap (λ n. n / 32 ^ (c.args.i - 1) % 32) c.other_row.ensures.value
     ∙ read_seeds c.args.self.now.other (c.args.i - 1)
-    (omega (arith, c.requires.low, c.requires.high, c.other_row.ensures.limits.same_side))
-    (omega (arith, c.other_row.ensures.limits.few_seeds))
+    (omega arith)
+    (omega arith)

@@ -13,10 +13,10 @@ pub new-sowing-requires-clause-first : goal.new-sowing-requires-clause-first
 new-sowing-requires-clause-first c = (legal_holds (bare c.args.self.now) c.args.h c.requires).first
 
 pub new-sowing-requires-clause-last : goal.new-sowing-requires-clause-last
-new-sowing-requires-clause-last c = omega (arith, (legal_holds (bare c.args.self.now) c.args.h c.requires).last, c.m.ensures.side)
+new-sowing-requires-clause-last c = omega (arith, (legal_holds (bare c.args.self.now) c.args.h c.requires).last)
 
 pub new-requires-clause-first : goal.new-requires-clause-first
 new-requires-clause-first c = (legal_holds (bare c.args.self.now) c.args.h c.requires).first
 
 pub new-requires-clause-last : goal.new-requires-clause-last
-new-requires-clause-last c = omega (arith, (legal_holds (bare c.args.self.now) c.args.h c.requires).last, c.m.ensures.limits.at_most_six)
+new-requires-clause-last c = omega (arith, (legal_holds (bare c.args.self.now) c.args.h c.requires).last)

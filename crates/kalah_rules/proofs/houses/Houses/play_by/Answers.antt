@@ -7,4 +7,4 @@ pub own_in-requires : goal.own_in-requires
 own_in-requires c = (legal_holds (bare c.args.self.now) c.args.house c.requires).last
 
 pub get-requires-clause-last : goal.get-requires-clause-last
-get-requires-clause-last c = omega (arith, (legal_holds (bare c.args.self.now) c.args.house c.requires).last, c.m.ensures.side)
+get-requires-clause-last c = omega (arith, (legal_holds (bare c.args.self.now) c.args.house c.requires).last)

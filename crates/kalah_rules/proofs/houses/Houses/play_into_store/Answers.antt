@@ -1,4 +1,4 @@
-use Rattle.std.proofs.Common.{arith, ap, ◌∙◌, ◌≡◌, ◌-◌, ◌*◌, ◌^◌, ◌≤◌, length}
+use Rattle.std.proofs.Common.{arith, ap, ◌∙◌, ◌-◌, ◌*◌, ◌^◌, ◌≤◌, length}
 use Rattle.kalah_rules.specs.Position.{bare, seeds}
 use Rattle.kalah_rules.proofs.PlayLemmas.{legal_holds}
 use Rattle.kalah_rules.proofs.KeyLemmas.{ones_le}
@@ -12,7 +12,7 @@ module _ (c : After-one_each_to) where
   less =
       let a = c.args.self.now in
       let last = (legal_holds (bare a) c.args.house c.requires.legal).last in
-      omega (arith, ones_le c.args.house (length a.own) last, rw c.m.ensures.side at c.one_each.ensures.value, c.one_each_to.ensures.value)
+      omega (arith, ones_le c.args.house (length a.own) last, rw c.m.ensures.side at c.one_each.ensures.value)
 
   moved : MovesIntoStore c.args.self.now c.args.house c.self.inside.key c.self.inside.seeds c.alone.result
       (c.one_each.result - c.one_each_to.result)
@@ -21,11 +21,10 @@ module _ (c : After-one_each_to) where
       let holds = legal_holds (bare a) c.args.house c.requires.legal in
       let read = house_read a c.args.house c.own_row.ensures.limits holds c.own_row.result c.seeds_at.result c.own_row.ensures.value
       c.seeds_at.ensures in
-      let house : c.alone.result ≡ 32 ^ (c.args.house - 1) * seeds a.own c.args.house =
-      c.alone.ensures ∙ ap (λ n. 32 ^ (c.args.house - 1) * n) read in
+      let house = c.alone.ensures ∙ ap (λ n. 32 ^ (c.args.house - 1) * n) read in
       let all = rw c.m.ensures.side at c.one_each.ensures.value in
       moves_into_store c.self.invariant c.self.view_is c.requires.legal c.requires.ends house
-      (omega (arith, less, all, c.one_each_to.ensures.value))
+      (omega (arith, less))
 
 pub overflow_sub-key : goal.overflow_sub-key
 overflow_sub-key c = less c
@@ -37,4 +36,4 @@ pub returns-then-key-gt0 : goal.returns-then-key-gt0
 returns-then-key-gt0 c = ((moved c.before).goes_on c.if-key-gt0.true).is
 
 pub returns : goal.returns
-returns c = (moved c.before.before).over (omega (arith, c.if-key-gt0.false))
+returns c = (moved c.before.before).over (omega arith)

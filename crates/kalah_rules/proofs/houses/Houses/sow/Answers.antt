@@ -22,12 +22,11 @@ overflow_sub-result c =
     (less c.args.self.now c.args.house c.self.inside.key c.args.sowing pack.limits c.requires.holds pack.key_is c.requires.sowing).0
 
 pub returns-clause-few : goal.returns-clause-few
-returns-clause-few c = omega (
-  arith,
-  store_few c.args.self.now c.args.house (pack_of c.self.invariant c.self.view_is).limits c.requires.holds,
-  store_is c.args.self.now c.args.house (pack_of c.self.invariant c.self.view_is).limits c.requires.holds,
-  c.requires.sowing.store,
-)
+returns-clause-few c =
+    let limits = (pack_of c.self.invariant c.self.view_is).limits in
+    let few = store_few c.args.self.now c.args.house limits c.requires.holds in
+    let is = store_is c.args.self.now c.args.house limits c.requires.holds in
+    omega arith
 
 pub returns-clause-limits : goal.returns-clause-limits
 returns-clause-limits c = (pack_of c.self.invariant c.self.view_is).limits

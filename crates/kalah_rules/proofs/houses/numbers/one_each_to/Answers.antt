@@ -9,10 +9,10 @@ returns-clause-value c =
     let k = c.args.house - 1 in
     let last = c.bit.ensures.last in
     let first = c.bit.ensures.first in
-    let at : suc k ≡ c.args.house = omega (arith, first) in
+    let at : suc k ≡ c.args.house = omega arith in
     let moved : 32 * 2 ^ c.bit.result % 2 ^ 64 ≡ 32 ^ k * 32 =
-    rw (c.bit.ensures.is, pow_five k) (moved_small k 32 (omega (arith, last)) (omega arith)) in
-    rw moved (ones_below k (omega (arith, last)) ∙ ap ones at)
+    rw (c.bit.ensures.is, pow_five k) (moved_small k 32 (omega arith) (omega arith)) in
+    rw moved (ones_below k (omega arith) ∙ ap ones at)
 
 pub returns-clause-small : goal.returns-clause-small
 returns-clause-small c = and_le_l 34636833 (32 * 2 ^ c.bit.result % 2 ^ 64 - 1)

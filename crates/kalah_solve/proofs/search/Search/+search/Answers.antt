@@ -4,7 +4,7 @@ use Rattle.std.proofs.lemmas.List.Sums.{sum_by-set}
 use Rattle.kalah_rules.specs.Position.{bare}
 use Rattle.kalah_rules.proofs.PlayLemmas.{legal_holds}
 use Rattle.kalah_rules.specs.declared.step.HousesStep.TheVariants.{Turn}
-use Rattle.kalah_solve.specs.Solver.StepWorth.{GoesOn, GoesOnAt}
+use Rattle.kalah_solve.specs.Solver.StepWorth.{GoesOn}
 use Rattle.kalah_solve.specs.Bounds.Won.{won}
 use Rattle.kalah_solve.specs.Search.Tried.{EndsInStore, WinsAtMost}
 use Rattle.kalah_solve.proofs.SearchLemmas.{cell_none, marks_fall, move_enough, turn_enough, turn_at_most, turn_of, turn_keeps, turn_at, bound_up_to, bound_left, low_more, played_none, played_more, played_bound, ending_legal, marked_legal, moves_fewer, last_legal, each_fewer, each_last, again_none, again_fewer, untried_first, untried_fewer, none_untried}
@@ -43,19 +43,19 @@ look-bound_turn-requires g t c κs within =
 
 pub bound_step-overflow_add-result : goal.bound_step-overflow_add-result
 bound_step-overflow_add-result g t c =
-    let on : GoesOnAt _ c.in-Again.gained c.in-Again.next = subst (GoesOn _) c.in-Again.is c.requires.on in
-    omega (arith, on.few, (taken_share c.in-Again.next on.limits).few, c.if-bar-gained.false, bound_up_to _ _ _ c.bound.ensures)
+    let on = subst (GoesOn _) c.in-Again.is c.requires.on in
+    omega (arith, (taken_share c.in-Again.next on.limits).few, bound_up_to _ _ _ c.bound.ensures)
 
 pub bound_turn-overflow_sub-result : goal.bound_turn-overflow_sub-result
 bound_turn-overflow_sub-result g t c =
     let few = (taken_share c.args.next c.requires.on.limits).few in
-    omega (arith, few, c.seeds.ensures.seeds, c.if-bar-gained.false, c.if-all-bar.false, bound_up_to _ _ _ c.bound.ensures)
+    omega (arith, bound_up_to _ _ _ c.bound.ensures)
 
 pub bound_turn-returns-else-all-bar : goal.bound_turn-returns-else-all-bar
 bound_turn-returns-else-all-bar g t c =
     let few = (taken_share c.args.next c.requires.on.limits).few in
     bound_left c.args.bar (c.args.gained + c.seeds.result) _ c.args.gained (won c.args.next) c.bound.result
-    (omega (arith, c.seeds.ensures.seeds)) few
+    (omega arith) few
     c.if-bar-gained.false c.if-all-bar.false c.bound.ensures
 
 pub explore-bounds-priorities-at : goal.explore-bounds-priorities-at
@@ -64,7 +64,7 @@ explore-bounds-priorities-at g t c = omega (arith, (c.loop-priority.invariant.ne
 pub explore-listed : goal.explore-listed
 explore-listed g t c =
     let long : length c.others_waiting-others.new.turns ≡ 6 = search rules in
-    omega (arith, (c.loop-priority.invariant.next c.loop-priority-test.true).place, long)
+    omega (arith, (c.loop-priority.invariant.next c.loop-priority-test.true).place)
 
 pub explore-bounds-turns-at : goal.explore-bounds-turns-at
 explore-bounds-turns-at g t c = omega (arith, (c.loop-priority.invariant.next c.loop-priority-test.true).place)
@@ -99,7 +99,7 @@ explore-returns-then-bar-bound g t c =
     record {
       lower = turn_enough a c.args.bar _ _ _ _ c.seeds-seeds.ensures.limits (here.turn c.index-turns-at.result)
           (rw (c.seeds-seeds.ensures.seeds, c.seeds.ensures.seeds) at c.bound_turn-bound.ensures);
-      upper = λ short. absurd (omega (arith, short, c.if-bar-bound.true));
+      upper = λ short. absurd (omega arith);
     }
 
 pub explore-loop-priority-preserved : goal.explore-loop-priority-preserved
@@ -111,7 +111,7 @@ explore-loop-priority-preserved g t c =
     let untried = untried_fewer c.args.houses.now c.loop-priority.most c.loop-priority.priorities c.others_waiting-others.new.turns
     (c.loop-priority.priority % 8) c.bound_turn-bound.result _ before.untried here.place takes c.max-most-in-loop-priority.ensures in
     record {
-      low = omega (arith, c.max-most-in-loop-priority.ensures, before.low, c.if-bar-bound.false);
+      low = omega arith;
       highest = c.highest-priority-in-loop-priority.ensures.highest;
       untried = untried;
       next = turn_at c.seeds-seeds.ensures.limits untried c.highest-priority-in-loop-priority.ensures.found;
@@ -121,29 +121,29 @@ pub explore-loop-priority-smaller : goal.explore-loop-priority-smaller
 explore-loop-priority-smaller g t c =
     let here = c.loop-priority.invariant.next c.loop-priority-test.true in
     let cells = c.loop-priority.invariant.untried.waiting.cells in
-    let fewer = sum_by-set (λ x. x) c.loop-priority.priorities (c.loop-priority.priority % 8) 0 0 (omega (arith, here.place, cells)) in
-    omega (arith, here.priority, c.loop-priority-test.true, fewer)
+    let fewer = sum_by-set (λ x. x) c.loop-priority.priorities (c.loop-priority.priority % 8) 0 0 (omega arith) in
+    omega arith
 
 pub explore-returns : goal.explore-returns
 explore-returns g t c =
     let is = c.loop-priority.invariant in
     record {
-      lower = λ enough. absurd (omega (arith, enough, is.low));
+      lower = λ enough. absurd (omega arith);
       upper = λ short. none_untried c.args.houses.now c.loop-priority.most c.loop-priority.priorities c.others_waiting-others.new.turns
           c.loop-priority.priority c.seeds-seeds.ensures.limits c.requires.going
-          is.untried is.highest (omega (arith, c.loop-priority-test.false));
+          is.untried is.highest (omega arith);
     }
 
 pub look-priority-priority-requires-clause-last : goal.look-priority-priority-requires-clause-last
 look-priority-priority-requires-clause-last g t c =
-    omega (arith, (legal_holds (bare c.args.houses.now) c.args.house c.requires.legal).last, c.m.ensures.side)
+    omega (arith, (legal_holds (bare c.args.houses.now) c.args.house c.requires.legal).last)
 
 pub look-priority-priority-requires-clause-few : goal.look-priority-priority-requires-clause-few
 look-priority-priority-requires-clause-few g t c =
     let limits = c.seeds-seeds.ensures.limits in
     let leads = leads_by c.args.houses.now c.args.house (Turn c.in-Turn.gained c.in-Turn.next) limits c.requires.legal
     (sym c.in-Turn.is ∙ c.play_by-step.ensures) in
-    omega (arith, leads.kept, limits.few_seeds)
+    omega arith
 
 pub look-returns-then-seeds-self : goal.look-returns-then-seeds-self
 look-returns-then-seeds-self g t c =
@@ -215,7 +215,7 @@ bound_again-loop-left-smaller g t c =
 
 pub bound_again-returns-clause-upper : goal.bound_again-returns-clause-upper
 bound_again-returns-clause-upper g t c = λ short h has ends.
-    let none : c.loop-left.left ≡ 0 = omega (arith, c.loop-left-test.false) in
+    let none : c.loop-left.left ≡ 0 = omega arith in
     c.loop-left.invariant.tried h has ends (rw none (cell_none (h - 1)))
 
 pub others_waiting-loop-left-init : goal.others_waiting-loop-left-init
@@ -239,7 +239,7 @@ others_waiting-returns-then-bar-bound g t c =
       lower = move_enough c.args.houses.now c.args.bar c.split_last-house.result.0 _ c.other_houses-left.ensures.limits has
           c.in-Bounded.ensures;
       waiting = c.loop-left.invariant.played.waiting.each;
-      others = λ short. absurd (omega (arith, short, c.if-bar-bound.true));
+      others = λ short. absurd (omega arith);
     }
 
 pub others_waiting-loop-left-preserved : goal.others_waiting-loop-left-preserved
@@ -265,7 +265,7 @@ others_waiting-loop-left-smaller g t c =
 
 pub others_waiting-returns : goal.others_waiting-returns
 others_waiting-returns g t c =
-    let none : c.loop-left.left ≡ 0 = omega (arith, c.loop-left-test.false) in
+    let none : c.loop-left.left ≡ 0 = omega arith in
     record {
       lower = λ enough. omega (arith, c.loop-left.invariant.low enough);
       waiting = c.loop-left.invariant.played.waiting.each;
@@ -296,7 +296,7 @@ explore-loop-priority-init g t c =
     let untried = untried_first c.args.houses.now c.args.bar _ _ _ _ c.max-most.result (search rules) others
     (c.bound_again-again.ensures.upper c.if-bar-again.false) c.if-bar-others.false most_is in
     record {
-      low = omega (arith, most_is, c.if-bar-again.false, c.if-bar-others.false);
+      low = omega arith;
       highest = c.highest-priority.ensures.highest;
       untried = untried;
       next = turn_at c.seeds-seeds.ensures.limits untried c.highest-priority.ensures.found;

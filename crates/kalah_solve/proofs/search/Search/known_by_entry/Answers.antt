@@ -6,5 +6,5 @@ pub returns-in-Some : goal.returns-in-Some
 returns-in-Some g c =
     let seeds = c.seeds.ensures in
     let few = (taken_share c.args.houses seeds.limits).few in
-    c.of_margins.ensures.held _ (omega (arith, few, seeds.seeds))
+    c.of_margins.ensures.held _ (omega arith)
     (rw (seeds.seeds, ← worth_of_taken c.args.houses seeds.limits) (rw c.in-Some.is at c.look_up.ensures.holds))

@@ -7,4 +7,4 @@ learn_margins-requires g c =
     let seeds = c.seeds-seeds.ensures in
     let few = (taken_share c.args.houses.now seeds.limits).few in
     rw (worth_of_taken c.args.houses.now seeds.limits, ← seeds.seeds)
-    (c.margins.ensures.held _ (omega (arith, few, seeds.seeds)) c.requires)
+    (c.margins.ensures.held _ (omega arith) c.requires)

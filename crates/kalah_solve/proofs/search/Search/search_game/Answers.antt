@@ -7,10 +7,10 @@ use Rattle.kalah_solve.proofs.search.Search.search_game.Given.{Over}
 use Rattle.kalah_solve.proofs.search.Search.search_game.Goals as goal
 
 pub interval_of-requires-clause-least : goal.interval_of-requires-clause-least
-interval_of-requires-clause-least g c = omega (arith, ints, clamps, c.in-Some.narrow.ordered, c.clamp-answer.ensures)
+interval_of-requires-clause-least g c = omega (arith, ints, clamps)
 
 pub interval_of-requires-clause-most : goal.interval_of-requires-clause-most
-interval_of-requires-clause-most g c = omega (arith, ints, clamps, c.in-Some.narrow.ordered, c.clamp-answer.ensures)
+interval_of-requires-clause-most g c = omega (arith, ints, clamps)
 
 -- the answer is the worth in the window
 found : (g : Over) (c : goal.After-intersection g) →

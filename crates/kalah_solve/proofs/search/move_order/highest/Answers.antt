@@ -9,8 +9,8 @@ use Rattle.kalah_solve.proofs.search.move_order.highest.Goals as goal
 found_more : (xs : List ℕ) (most i new : ℕ) → Contains xs most → i < length xs → new ≡ max most (get_or xs i 0)
     → Contains xs new
 found_more xs most i new found inside is = elim (cases_lt most (get_or xs i 0)) [
-  | inl less ↦ let at : new ≡ get_or xs i 0 = omega (arith, is, less) in rw at (Contains-get_or xs i 0 inside)
-  | inr more ↦ let at : new ≡ most = omega (arith, is, more) in rw at found
+  | inl less ↦ let at : new ≡ get_or xs i 0 = omega arith in rw at (Contains-get_or xs i 0 inside)
+  | inr more ↦ let at : new ≡ most = omega arith in rw at found
 ]
 
 -- and no priority up to it is higher
@@ -18,20 +18,20 @@ highest_more : (xs : List ℕ) (most i new : ℕ) → ((k : ℕ) → k < i → g
     → new ≡ max most (get_or xs i 0) →
     (k : ℕ) → k < i + 1 → get_or xs k 0 ≤ new
 highest_more xs most i new highest is k below = elim (cases_eq k i) [
-  | inl same ↦ rw same (omega (arith, is))
-  | inr other ↦ omega (arith, is, highest k (omega (arith, below, other)))
+  | inl same ↦ rw same (omega arith)
+  | inr other ↦ omega (arith, highest k (omega arith))
 ]
 
 pub loop-i-init : goal.loop-i-init
 loop-i-init c = record {
-  found = Contains-get_or c.args.priorities.now 0 0 (omega (arith, c.told-priorities));
-  highest = λ k below. let first : k ≡ 0 = omega (arith, below) in rw first (omega arith);
+  found = Contains-get_or c.args.priorities.now 0 0 (omega arith);
+  highest = λ k below. let first : k ≡ 0 = omega arith in rw first (omega arith);
 }
 
 pub loop-i-preserved : goal.loop-i-preserved
 loop-i-preserved c = record {
   found = found_more c.args.priorities.now c.loop-i.most c.loop-i.i c.max-most.result c.loop-i.invariant.found
-      (omega (arith, c.told-priorities, c.loop-i-test.true)) c.max-most.ensures;
+      (omega arith) c.max-most.ensures;
   highest = highest_more c.args.priorities.now c.loop-i.most c.loop-i.i c.max-most.result c.loop-i.invariant.highest c.max-most.ensures;
 }
 
@@ -40,6 +40,6 @@ returns-clause-found c = c.loop-i.invariant.found
 
 pub returns-clause-highest : goal.returns-clause-highest
 returns-clause-highest c = λ k. elim (cases_lt k 8) [
-  | inl inside ↦ c.loop-i.invariant.highest k (omega (arith, inside, c.loop-i-test.false))
-  | inr past ↦ rw (get_or_past c.args.priorities.now k 0 (omega (arith, past, c.told-priorities))) (omega arith)
+  | inl inside ↦ c.loop-i.invariant.highest k (omega arith)
+  | inr past ↦ rw (get_or_past c.args.priorities.now k 0 (omega arith)) (omega arith)
 ]

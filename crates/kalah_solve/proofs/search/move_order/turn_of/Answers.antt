@@ -14,10 +14,10 @@ is_small k within = ltb-true _ _ (agree_below_at (λ k. nat_lt (get_or TURNS k 0
 
 pub returns-clause-house : goal.returns-clause-house
 returns-clause-house c =
-    let within : c.args.m + c.bit.result - 1 < 31 = omega (arith, c.requires.side, c.bit.ensures.is, c.bit.ensures.last) in
-    omega (arith, names_house (c.args.m + c.bit.result - 1) within, c.bit.ensures.is, c.bit.ensures.first, c.requires.last, c.requires.side)
+    let within : c.args.m + c.bit.result - 1 < 31 = omega arith in
+    omega (arith, names_house (c.args.m + c.bit.result - 1) within)
 
 pub returns-clause-small : goal.returns-clause-small
 returns-clause-small c =
-    let within : c.args.m + c.bit.result - 1 < 31 = omega (arith, c.requires.side, c.bit.ensures.is, c.bit.ensures.last) in
+    let within : c.args.m + c.bit.result - 1 < 31 = omega arith in
     omega (arith, is_small (c.args.m + c.bit.result - 1) within)

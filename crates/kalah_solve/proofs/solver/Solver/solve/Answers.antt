@@ -24,13 +24,13 @@ pub overflow_add-best : goal.overflow_add-best
 overflow_add-best g c =
     let a = c.houses-houses.result in
     let limits = c.seeds.ensures.limits in
-    omega (arith, ints, c.worth-best.ensures, c.seeds.ensures.seeds, limits.few_seeds, worth_low a limits, worth_high a limits)
+    omega (arith, ints, worth_low a limits, worth_high a limits)
 
 pub half-bar-requires : goal.half-bar-requires
 half-bar-requires g c =
     let a = c.houses-houses.result in
     let limits = c.seeds.ensures.limits in
-    omega (arith, ints, c.worth-best.ensures, c.seeds.ensures.seeds, limits.few_seeds, worth_low a limits, worth_high a limits)
+    omega (arith, ints, worth_low a limits, worth_high a limits)
 
 pub first_house-house-requires-clause-best : goal.first_house-house-requires-clause-best
 first_house-house-requires-clause-best g c =
@@ -39,7 +39,7 @@ first_house-house-requires-clause-best g c =
     let best = c.worth-best.ensures in
     let sum : to_z w32 (of_z w32 (to_z w32 (of_z w32 c.worth-best.result) +ℤ to_z w32 c.seeds.result))
     ≡ houses_worth a +ℤ pos (seeds_in_houses (bare a)) =
-    omega (arith, ints, best, c.seeds.ensures.seeds, limits.few_seeds, worth_low a limits, worth_high a limits) in
+    omega (arith, ints, worth_low a limits, worth_high a limits) in
     half_is a (houses_worth a) c.half-bar.result limits refl
     (record { low = rw sum at c.half-bar.ensures.low; high = rw sum at c.half-bar.ensures.high })
 

@@ -16,5 +16,5 @@ returns-in-Turn-clause-value g c =
     let fits : SFits w32 c.margin-in-Turn.result = search rules in
     let small = c.margin-in-Turn.ensures.small in
     let turned : to_z w32 (of_z w32 (pos 0 -ℤ to_z w32 (of_z w32 c.margin-in-Turn.result))) ≡ neg_ℤ c.margin-in-Turn.result =
-    omega (arith, ints, small.low, small.high) in
+    omega (arith, ints) in
     turned ∙ ap neg_ℤ c.margin-in-Turn.ensures.worth ∙ value_of_turn c.args.board.now c.args.h c.in-Turn.next c.in-Turn.ensures.step

@@ -1,8 +1,8 @@
-use Rattle.std.proofs.Common.{sym, ◌∙◌, ap, ◌≡◌, arith, subst}
+use Rattle.std.proofs.Common.{sym, ◌∙◌, ap, arith, subst}
 use Rattle.std.specs.Prelude.{map}
 use Rattle.std.proofs.lemmas.Grind.{common_steps}
 use Rattle.std.proofs.lemmas.List.{take_all}
-use Rattle.kalah_solve.specs.Solver.MoveValues.{move_value, values_of, TellMoves}
+use Rattle.kalah_solve.specs.Solver.MoveValues.{move_value, TellMoves}
 use Rattle.kalah_solve.proofs.SolverLemmas.{values_tell}
 use Rattle.kalah_solve.proofs.WorthLemmas.{board_equal_sides}
 use Rattle.kalah_solve.proofs.solver.Solver.values.Goals as goal
@@ -11,7 +11,7 @@ pub returns-clause-best_play : goal.returns-clause-best_play
 returns-clause-best_play g c =
     let p = c.args.board.now in
     let all = take_all c.loop-i.i c.legal-moves.result (omega arith) ∙ c.legal-moves.ensures in
-    let is : c.loop-i.values ≡ values_of p = c.loop-i.invariant ∙ ap (map (move_value p)) all in
+    let is = c.loop-i.invariant ∙ ap (map (move_value p)) all in
     subst (TellMoves p) (sym is) (values_tell p (board_equal_sides p c.m-side.ensures.limits))
 
 pub loop-i-preserved : goal.loop-i-preserved

@@ -6,8 +6,8 @@ pub overflow_add-result-4 : goal.overflow_add-result-4
 overflow_add-result-4 c =
     let first = 10 * (c.args.i / 320 * 2 + 1) + c.args.i % 32 in
     let second = 10 * (c.args.i / 320 * 2) + c.args.i / 32 % 10 in
-    let inside : 10 * (c.args.i / 320 * 2 + 1) + c.args.i % 32 < 120 = omega (arith, c.requires.inside, c.if-first-ge-COUNTS.false) in
-    let inside' : 10 * (c.args.i / 320 * 2) + c.args.i / 32 % 10 < 120 = omega (arith, c.requires.inside) in
+    let inside : 10 * (c.args.i / 320 * 2 + 1) + c.args.i % 32 < 120 = omega arith in
+    let inside' : 10 * (c.args.i / 320 * 2) + c.args.i / 32 % 10 < 120 = omega arith in
     omega (
       arith,
       c.requires.choices first inside,

@@ -8,8 +8,8 @@ are c =
     let a = c.args.houses.now in
     let seeds = c.seeds-seeds.ensures in
     sums_are (a.own ++ a.other) c.joined_rows.result c.seeds-seeds.result
-    (omega (arith, length-append a.own a.other, seeds.limits.some_house)) c.joined_rows.ensures.row
-    (omega (arith, seeds.seeds, sum_by-append (λ x. x) a.own a.other)) c.joined_rows.ensures.small
+    (omega (arith, length-append a.own a.other)) c.joined_rows.ensures.row
+    (omega (arith, sum_by-append (λ x. x) a.own a.other)) c.joined_rows.ensures.small
 
 pub overflow_sub-result : goal.overflow_sub-result
 overflow_sub-result c = (are c).few
@@ -21,4 +21,4 @@ pub overflow_mul-result : goal.overflow_mul-result
 overflow_mul-result c = omega (arith, (are c).small)
 
 pub overflow_add-result : goal.overflow_add-result
-overflow_add-result c = omega (arith, (are c).small, c.seeds-seeds.ensures.seeds, c.seeds-seeds.ensures.limits.few_seeds)
+overflow_add-result c = omega (arith, (are c).small)

@@ -7,12 +7,7 @@ use Rattle.kalah_rules.proofs.houses.sowings.Sowing.new.Goals as goal
 use Rattle.kalah_rules.proofs.houses.sowings.Sowing.new.Goals.{then-reach-m, else-reach-m}
 
 pub overflow_add-result : goal.overflow_add-result
-overflow_add-result c = omega (
-  arith,
-  rw c.new.ensures at c.alone.ensures,
-  c.requires.side,
-  placed_small (c.args.h - 1) c.args.count (omega (arith, c.requires.last, c.requires.side)) c.requires.few,
-)
+overflow_add-result c = omega (arith, rw c.new.ensures at c.alone.ensures, placed_small (c.args.h - 1) c.args.count (omega arith) c.requires.few)
 
 pub returns : goal.returns
 returns c =
@@ -21,17 +16,17 @@ returns c =
     let count = c.args.count in
     let first = c.requires.first in
     let last = c.requires.last in
-    let own : c.own_gains.result ≡ own_gained m h count = omega (arith, c.own_gains.ensures.value, own_gain m h count first last) in
+    let own : c.own_gains.result ≡ own_gained m h count = omega (arith, own_gain m h count first last) in
     let other : c.other_gains.result ≡ other_gained m h count =
-    omega (arith, c.other_gains.ensures.value, other_gain m h count first last) in
+    omega (arith, other_gain m h count first last) in
     let tested : c.if-reach-m.result ≡ (if nat_lt m (h + count % (2 * m + 1)) then 1 else 0) = elim c.if-reach-m.branch [
       | then-reach-m w ↦ rw (w.result-is, lt-ltb _ _ w.if-reach-m.true) refl
       | else-reach-m w ↦ rw (w.result-is, le-ltb _ _ w.if-reach-m.false) refl
     ] in
     let lifted : c.alone.result ≡ 32 ^ (h - 1) * count = rw c.new.ensures at c.alone.ensures in
     record {
-      loses = omega (arith, own, other, c.own_gains.ensures.small, c.other_gains.ensures.small, lifted, first, last);
-      store = omega (arith, tested, store_gain m h count first last);
+      loses = omega arith;
+      store = omega (arith, store_gain m h count first last);
       again = refl;
       own = c.last_cell-last_house.ensures.own;
       elsewhere = c.last_cell-last_house.ensures.elsewhere;

@@ -9,6 +9,6 @@ returns c =
       last = c.requires.last;
       side = c.requires.side;
       few = c.requires.few;
-      is = omega (arith, c.bit.ensures.is);
+      is = omega arith;
     } in
-    c.self.invariant _ _ _ _ _ cell (omega (arith, c.bit.ensures.is, c.bit.ensures.last, c.requires.side, c.requires.few))
+    c.self.invariant _ _ _ _ _ cell (omega arith)

@@ -6,7 +6,7 @@ use Rattle.kalah_rules.proofs.houses.sowings.Sowings.new.Goals as goal
 pub loop-i-init : goal.loop-i-init
 loop-i-init c = record {
   all = search rules;
-  right = λ m h c k d cell below. absurd (omega (arith, below));
+  right = λ m h c k d cell below. absurd (omega arith);
 }
 
 pub loop-i-preserved : goal.loop-i-preserved
@@ -15,10 +15,10 @@ loop-i-preserved c =
     let sowing = c.sowing_at.result in
     record {
       all = length-set c.loop-i.cells c.loop-i.i sowing ∙ before.all;
-      right = sowings_more c.loop-i.cells c.loop-i.i sowing (omega (arith, before.all, c.loop-i-test.true)) before.right
+      right = sowings_more c.loop-i.cells c.loop-i.i sowing (omega arith) before.right
           c.sowing_at.ensures;
     }
 
 pub invariant_of-result : goal.invariant_of-result
 invariant_of-result c = λ m h count k d cell below.
-    c.loop-i.invariant.right m h count k d cell (omega (arith, below, c.loop-i-test.false))
+    c.loop-i.invariant.right m h count k d cell (omega arith)

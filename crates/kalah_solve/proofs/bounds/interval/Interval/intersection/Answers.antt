@@ -4,12 +4,12 @@ use Rattle.kalah_solve.proofs.bounds.interval.Interval.intersection.Goals as goa
 
 pub returns-clause-held : goal.returns-clause-held
 returns-clause-held c = λ z h k. record {
-  low = omega (arith, ints, clamps, h.low, k.low);
-  high = omega (arith, ints, clamps, h.high, k.high);
+  low = omega (arith, ints, clamps);
+  high = omega (arith, ints, clamps);
 }
 
 pub returns-clause-no_more : goal.returns-clause-no_more
 returns-clause-no_more c = λ z h. (
-  record { low = omega (arith, ints, clamps, h.low); high = omega (arith, ints, clamps, h.high) },
-  record { low = omega (arith, ints, clamps, h.low); high = omega (arith, ints, clamps, h.high) },
+  record { low = omega (arith, ints, clamps); high = omega (arith, ints, clamps) },
+  record { low = omega (arith, ints, clamps); high = omega (arith, ints, clamps) },
 )

@@ -4,12 +4,12 @@ use Rattle.kalah_solve.proofs.bounds.seed_bounds.SeedBounds.margins.Goals as goa
 
 pub returns-clause-held : goal.returns-clause-held
 returns-clause-held c = λ t few h. record {
-  low = omega (arith, ints, clamps, c.clamp.ensures.value, h.least);
-  high = omega (arith, ints, clamps, c.clamp-2.ensures.value, h.most);
+  low = omega (arith, ints, clamps);
+  high = omega (arith, ints, clamps);
 }
 
 pub returns-clause-no_more : goal.returns-clause-no_more
 returns-clause-no_more c = λ low t few h. record {
-  least = omega (arith, ints, clamps, c.clamp.ensures.value, h.low);
-  most = omega (arith, ints, clamps, c.clamp-2.ensures.value, h.high);
+  least = omega (arith, ints, clamps);
+  most = omega (arith, ints, clamps);
 }

@@ -4,12 +4,12 @@ use Rattle.kalah_solve.proofs.bounds.seed_bounds.SeedBounds.of_margins.Goals as 
 
 pub returns-clause-held : goal.returns-clause-held
 returns-clause-held c = λ t few h. record {
-  least = omega (arith, ints, clamps, c.half.ensures.low, h.low);
-  most = omega (arith, ints, clamps, c.half-2.ensures.high, c.min.ensures, few, c.requires, h.high);
+  least = omega (arith, ints, clamps);
+  most = omega (arith, ints, clamps);
 }
 
 pub returns-clause-no_more : goal.returns-clause-no_more
 returns-clause-no_more c = λ some t few h. record {
-  low = omega (arith, ints, clamps, c.half.ensures.high, h.least);
-  high = omega (arith, ints, clamps, c.half-2.ensures.low, c.min.ensures, h.most);
+  low = omega (arith, ints, clamps);
+  high = omega (arith, ints, clamps);
 }

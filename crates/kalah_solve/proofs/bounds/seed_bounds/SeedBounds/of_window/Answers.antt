@@ -10,14 +10,14 @@ module _ (c : After-half-2) where
   low_half =
       let sum : to_z w32 (of_z w32 (to_z w32 (of_z w32 c.args.window.lo) +ℤ to_z w32 c.args.seeds)) ≡ c.args.window.lo +ℤ pos
       c.args.seeds =
-      omega (arith, ints, c.args.window.low, c.args.window.ordered, c.args.window.high, c.requires) in
+      omega (arith, ints) in
       record { low = rw sum at c.half.ensures.low; high = rw sum at c.half.ensures.high }
 
   high_half : IsHalf (c.args.window.hi +ℤ pos c.args.seeds +ℤ pos 1) c.half-2.result
   high_half =
       let sum : to_z w32 (of_z w32 (to_z w32 (of_z w32 (to_z w32 (of_z w32 c.args.window.hi) +ℤ to_z w32 c.args.seeds)) +ℤ pos 1))
       ≡ c.args.window.hi +ℤ pos c.args.seeds +ℤ pos 1 =
-      omega (arith, ints, c.args.window.low, c.args.window.ordered, c.args.window.high, c.requires) in
+      omega (arith, ints) in
       record { low = rw sum at c.half-2.ensures.low; high = rw sum at c.half-2.ensures.high }
 
 pub returns-clause-ordered : goal.returns-clause-ordered

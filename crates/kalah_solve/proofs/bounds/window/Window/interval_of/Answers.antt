@@ -1,5 +1,4 @@
-use Rattle.std.proofs.Common.{rules}
-use Rattle.std.proofs.Common.{arith}
+use Rattle.std.proofs.Common.{rules, arith}
 use Rattle.std.proofs.lemmas.Int.{ints, clamps}
 use Rattle.kalah_solve.proofs.bounds.window.Window.interval_of.Goals as goal
 

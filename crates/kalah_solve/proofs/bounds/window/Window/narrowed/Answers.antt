@@ -5,8 +5,8 @@ use Rattle.kalah_solve.proofs.bounds.window.Window.narrowed.Goals as goal
 
 pub returns-then-hi-lo-clause-none : goal.returns-then-hi-lo-clause-none
 returns-then-hi-lo-clause-none c = λ none z holds.
-    let self_lo : SFits w32 c.args.self.lo = omega (arith, ints, c.args.self.low, c.args.self.ordered, c.args.self.high) in
-    let self_hi : SFits w32 c.args.self.hi = omega (arith, ints, c.args.self.low, c.args.self.ordered, c.args.self.high) in
+    let self_lo : SFits w32 c.args.self.lo = omega (arith, ints) in
+    let self_hi : SFits w32 c.args.self.hi = omega (arith, ints) in
     let known_lo : SFits w8 c.args.known.lo = search rules in
     let known_hi : SFits w8 c.args.known.hi = search rules in
     let known_lo_wide : SFits w32 c.args.known.lo = search (rules, known_lo) in
@@ -20,17 +20,7 @@ returns-then-hi-lo-clause-none c = λ none z holds.
 
 pub returns-else-hi-lo-clause-some : goal.returns-else-hi-lo-clause-some
 returns-else-hi-lo-clause-some c = λ z holds.
-    omega (
-      arith,
-      ints,
-      clamps,
-      c.args.self.ordered,
-      c.if-hi-lo.false,
-      c.max-lo.ensures.value,
-      c.min-hi.ensures.value,
-      holds.low,
-      holds.high,
-    )
+    omega (arith, ints, clamps)
 
 pub overflow_cast-known : goal.overflow_cast-known
 overflow_cast-known c = search rules

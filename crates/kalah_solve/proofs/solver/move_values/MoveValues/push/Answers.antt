@@ -6,4 +6,4 @@ use Rattle.kalah_solve.proofs.solver.move_values.MoveValues.push.Goals as goal
 pub invariant_of-self : goal.invariant_of-self
 invariant_of-self c =
     six_more c.self.inside.count c.self.inside.values c.args.value c.self.invariant
-    (omega (arith, length_of_six c.self.invariant, ap length c.self.view_is, c.requires))
+    (omega (arith, length_of_six c.self.invariant, ap length c.self.view_is))

@@ -1,5 +1,4 @@
 use Rattle.std.proofs.Common.{arith, ◌∙◌, ◌≡◌, length}
-use Rattle.std.specs.Prelude.{slice_set}
 use Rattle.std.proofs.Math.ListN.{length-set}
 use Rattle.kalah_solve.specs.Table.DirectTable.{IsWithinPlace}
 use Rattle.kalah_solve.specs.Bounds.Won.{won}
@@ -10,21 +9,21 @@ use Rattle.kalah_solve.proofs.table.direct_table.DirectTable.keep.Goals as goal
 pub of-stored-requires-clause-least : goal.of-stored-requires-clause-least
 of-stored-requires-clause-least g c =
     let limits = c.mixed_key-mixed.ensures.limits in
-    omega (arith, c.requires.least, (taken_share c.args.houses.now limits).few, limits.few_seeds)
+    omega (arith, (taken_share c.args.houses.now limits).few)
 
 pub invariant_of-self : goal.invariant_of-self
 invariant_of-self g c =
     let places = c.self.inside.places.items in
     let at = c.place_of-at in
     let mixed = c.mixed_key-mixed in
-    let length_is : c.len.result ≡ length places = omega (arith, c.len.ensures) in
-    let count : length (slice_set places at.result c.of-stored.result) ≡ length places = length-set places at.result c.of-stored.result in
+    let length_is : c.len.result ≡ length places = omega arith in
+    let count = length-set places at.result c.of-stored.result in
     let known : IsWithinPlace c.of-stored.result (won c.args.houses.now) = record {
       least = rw c.of-stored.ensures.least c.requires.least;
       most = rw c.of-stored.ensures.most c.requires.most;
     } in (
       rw count c.self.invariant.0,
       shares_more places c.args.houses.now mixed.result at.result c.of-stored.result c.self.invariant.0 c.self.invariant.1
-          mixed.ensures.limits mixed.ensures.mixed (rw length_is at at.ensures.place) (omega (arith, at.ensures.inside, length_is))
+          mixed.ensures.limits mixed.ensures.mixed (rw length_is at at.ensures.place) (omega arith)
           (c.of-stored.ensures.rest ∙ c.rest_of.ensures.rest) known,
     )

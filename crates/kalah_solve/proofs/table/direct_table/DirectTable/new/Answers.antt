@@ -1,5 +1,4 @@
-use Rattle.std.proofs.Common.{arith, ◌≡◌}
-use Rattle.std.specs.Prelude.{replicate}
+use Rattle.std.proofs.Common.{arith}
 use Rattle.std.proofs.lemmas.List.{length-replicate}
 use Rattle.kalah_solve.proofs.TableLemmas.{shares_unknown}
 use Rattle.kalah_solve.proofs.table.direct_table.DirectTable.new.Goals as goal
@@ -9,11 +8,11 @@ invariant_of-result g c =
     let unknown = c.of.result in
     let count = c.max-count.result in
     let places = c.in_ok-places.places.items in
-    let all : places ≡ replicate count unknown = c.in_ok-places.ensures.items_if_clones_equal (λ y same. same) in
+    let all = c.in_ok-places.ensures.items_if_clones_equal (λ y same. same) in
     rw all (
       record {
-        least = omega (arith, length-replicate count unknown, c.max-count.ensures);
-        most = omega (arith, length-replicate count unknown, c.max-count.ensures, c.ranges.count.fits);
+        least = omega (arith, length-replicate count unknown);
+        most = omega (arith, length-replicate count unknown);
       },
       shares_unknown count unknown c.of.ensures.least c.of.ensures.most,
     )

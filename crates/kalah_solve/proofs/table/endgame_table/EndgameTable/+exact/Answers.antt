@@ -31,7 +31,7 @@ most_won-returns-then-most-seeds g t c =
     most_all c.args.houses.now (marks - 32 ^ (h - 1)) c.max-most.result limits
     (most_more c.args.houses.now marks c.loop-left.most h c.move_wins.result c.max-most.result limits before.is last has c.move_wins.ensures
     (search (rules, c.max-most.ensures)))
-    (omega (arith, c.if-most-seeds.true, c.seeds-seeds.ensures.seeds))
+    (omega arith)
 
 pub most_won-loop-left-preserved : goal.most_won-loop-left-preserved
 most_won-loop-left-preserved g t c =
@@ -56,36 +56,36 @@ most_won-loop-left-smaller g t c =
 pub most_won-returns : goal.most_won-returns
 most_won-returns g t c =
     most_won c.args.houses.now c.loop-left.left c.loop-left.most c.seeds-seeds.ensures.limits c.requires.going c.loop-left.invariant.is
-    (omega (arith, c.loop-left-test.false))
+    (omega arith)
 
 pub move_wins-won-requires : goal.move_wins-won-requires
 move_wins-won-requires g t c κs within =
     let next = leads_by c.args.houses.now c.args.house (Again c.in-Again.gained c.in-Again.next) c.seeds-seeds.ensures.limits
     c.requires.legal
     (sym c.in-Again.is ∙ c.play_by.ensures) in
-    (omega (arith, next.fewer), (within, (search rules, (next.going, (next.same ∙ c.requires.game, omega (arith, next.kept, c.requires.few))))))
+    (omega arith, (within, (search rules, (next.going, (next.same ∙ c.requires.game, omega arith)))))
 
 pub move_wins-overflow_add-result : goal.move_wins-overflow_add-result
 move_wins-overflow_add-result g t c =
     let next = leads_by c.args.houses.now c.args.house (Again c.in-Again.gained c.in-Again.next) c.seeds-seeds.ensures.limits
     c.requires.legal
     (sym c.in-Again.is ∙ c.play_by.ensures) in
-    omega (arith, next.kept, (taken_share c.in-Again.next next.limits).few, c.requires.few, c.won.ensures)
+    omega (arith, (taken_share c.in-Again.next next.limits).few)
 
 pub move_wins-won-requires-in-Turn : goal.move_wins-won-requires-in-Turn
 move_wins-won-requires-in-Turn g t c κs within =
     let next = leads_by c.args.houses.now c.args.house (Turn c.in-Turn.gained c.in-Turn.next) c.seeds-seeds.ensures.limits c.requires.legal
     (sym c.in-Turn.is ∙ c.play_by.ensures) in
-    (omega (arith, next.fewer), (within, (search rules, (next.going, (next.same ∙ c.requires.game, omega (arith, next.kept, c.requires.few))))))
+    (omega arith, (within, (search rules, (next.going, (next.same ∙ c.requires.game, omega arith)))))
 
 pub move_wins-overflow_sub-result : goal.move_wins-overflow_sub-result
 move_wins-overflow_sub-result g t c =
     let next = leads_by c.args.houses.now c.args.house (Turn c.in-Turn.gained c.in-Turn.next) c.seeds-seeds.ensures.limits c.requires.legal
     (sym c.in-Turn.is ∙ c.play_by.ensures) in
-    omega (arith, (taken_share c.in-Turn.next next.limits).few, c.seeds.ensures.seeds, c.won-in-Turn.ensures)
+    omega (arith, (taken_share c.in-Turn.next next.limits).few)
 
 pub move_wins-overflow_add-result-in-Turn : goal.move_wins-overflow_add-result-in-Turn
 move_wins-overflow_add-result-in-Turn g t c =
     let next = leads_by c.args.houses.now c.args.house (Turn c.in-Turn.gained c.in-Turn.next) c.seeds-seeds.ensures.limits c.requires.legal
     (sym c.in-Turn.is ∙ c.play_by.ensures) in
-    omega (arith, next.kept, c.requires.few, c.seeds.ensures.seeds)
+    omega arith

@@ -8,10 +8,10 @@ use Rattle.kalah_solve.proofs.table.endgame_table.EndgameTable.rank.Goals.{then-
 use Rattle.kalah_solve.proofs.table.endgame_table.EndgameTable.rank.Goals as goal
 
 few : (a : Rows) → seeds_in_houses (bare a) ≤ 9 → sum (a.own ++ a.other) ≤ 9
-few a less = omega (arith, less, sum_by-append (λ x. x) a.own a.other)
+few a less = omega (arith, sum_by-append (λ x. x) a.own a.other)
 
 long : (a : Rows) → IsWithinHouses a → length (a.own ++ a.other) ≡ 2 * length a.own
-long a within = omega (arith, length-append a.own a.other, within.same_side)
+long a within = omega (arith, length-append a.own a.other)
 
 -- a step from the first on that passes two cells
 module _ (a : Rows) (within : IsWithinHouses a) (less : seeds_in_houses (bare a) ≤ 9) (step sums rank : ℕ) (low : step < 6)
@@ -19,44 +19,44 @@ module _ (a : Rows) (within : IsWithinHouses a) (less : seeds_in_houses (bare a)
   few_here : (sums % 1024 % 32 < 10) × (sums % 1024 / 32 < 10)
   few_here =
       two_few (a.own ++ a.other) (few a less) (length a.own) (step + length a.own - 6) sums rank (long a within) within.at_most_six
-      (omega (arith, low, passes)) is
+      (omega arith) is
 
   ranked_here : (r : ℕ) →
       r ≡ choose (sums % 1024 % 32 + 2 * (5 - step) + 1) (2 * (5 - step) + 2) + choose (sums % 1024 / 32 + 2 * (5 - step))
       (2 * (5 - step) + 1) →
       IsRanked (a.own ++ a.other) (step + 1 + length a.own - 6) (sums / 1024) (rank + r)
   ranked_here r r_is =
-      let past : length a.own - (step + length a.own - 6) - 1 ≡ 5 - step = omega (arith, low, passes) in
-      let next : step + 1 + length a.own - 6 ≡ step + length a.own - 6 + 1 = omega (arith, passes) in
+      let past : length a.own - (step + length a.own - 6) - 1 ≡ 5 - step = omega arith in
+      let next : step + 1 + length a.own - 6 ≡ step + length a.own - 6 + 1 = omega arith in
       rw next (rank_next (a.own ++ a.other) (few a less) (length a.own) (step + length a.own - 6) sums rank
       (long a within) within.at_most_six
-      (omega (arith, low, passes)) is r (rw past r_is))
+      (omega arith) is r (rw past r_is))
 
 pub loop-step-init : goal.loop-step-init
 loop-step-init g c =
-    let none : 0 + length c.args.houses.now.own - 6 ≡ 0 = omega (arith, c.m-m.ensures.limits.at_most_six) in
+    let none : 0 + length c.args.houses.now.own - 6 ≡ 0 = omega arith in
     rw none (record { left = c.sums_of-sums.ensures.sums; rank = omega arith })
 
 pub pair-rank-requires-clause-first : goal.pair-rank-requires-clause-first
 pair-rank-requires-clause-first g c =
     (few_here c.args.houses.now c.m-m.ensures.limits c.requires c.loop-step.step c.loop-step.sums c.loop-step.rank c.loop-step-test.true
-    (omega (arith, c.if-step-m-ge6.true, c.m-m.ensures.side)) c.loop-step.invariant).0
+    (omega arith) c.loop-step.invariant).0
 
 pub pair-rank-requires-clause-second : goal.pair-rank-requires-clause-second
 pair-rank-requires-clause-second g c =
     (few_here c.args.houses.now c.m-m.ensures.limits c.requires c.loop-step.step c.loop-step.sums c.loop-step.rank c.loop-step-test.true
-    (omega (arith, c.if-step-m-ge6.true, c.m-m.ensures.side)) c.loop-step.invariant).1
+    (omega arith) c.loop-step.invariant).1
 
 pub loop-step-preserved : goal.loop-step-preserved
 loop-step-preserved g c = elim c.if-step-m-ge6.branch [
   | then-step-m-ge6 w ↦
       rw (w.sums-is, w.rank-is) (ranked_here c.args.houses.now c.m-m.ensures.limits c.requires c.loop-step.step c.loop-step.sums
       c.loop-step.rank
-      c.loop-step-test.true (omega (arith, w.if-step-m-ge6.true, c.m-m.ensures.side)) c.loop-step.invariant w.pair-rank.result
+      c.loop-step-test.true (omega arith) c.loop-step.invariant w.pair-rank.result
       w.pair-rank.ensures.value)
   | else-step-m-ge6 w ↦
       let same : c.loop-step.step + 1 + length c.args.houses.now.own - 6 ≡ c.loop-step.step + length c.args.houses.now.own - 6 =
-      omega (arith, w.if-step-m-ge6.false, c.m-m.ensures.side) in
+      omega arith in
       rw (same, w.sums-is, w.rank-is) c.loop-step.invariant
 ]
 
@@ -65,18 +65,18 @@ overflow_add-rank g c =
     let a = c.args.houses.now in
     let limits = c.m-m.ensures.limits in
     let next = ranked_here a limits c.requires c.loop-step.step c.loop-step.sums c.loop-step.rank c.loop-step-test.true
-    (omega (arith, c.if-step-m-ge6.true, c.m-m.ensures.side)) c.loop-step.invariant c.pair-rank.result c.pair-rank.ensures.value in
-    omega (arith, ranked_small _ _ _ _ (few a c.requires) (omega (arith, long a limits, limits.at_most_six)) next)
+    (omega arith) c.loop-step.invariant c.pair-rank.result c.pair-rank.ensures.value in
+    omega (arith, ranked_small _ _ _ _ (few a c.requires) (omega (arith, long a limits)) next)
 
 pub returns-clause-rank : goal.returns-clause-rank
 returns-clause-rank g c =
     let a = c.args.houses.now in
     ranked_all (a.own ++ a.other) (c.loop-step.step + length a.own - 6) c.loop-step.sums c.loop-step.rank
-    (omega (arith, long a c.m-m.ensures.limits, c.loop-step-test.false)) c.loop-step.invariant
+    (omega (arith, long a c.m-m.ensures.limits)) c.loop-step.invariant
 
 pub returns-clause-small : goal.returns-clause-small
 returns-clause-small g c =
     let a = c.args.houses.now in
     let limits = c.m-m.ensures.limits in
     ranked_small (a.own ++ a.other) (c.loop-step.step + length a.own - 6) c.loop-step.sums c.loop-step.rank (few a c.requires)
-    (omega (arith, long a limits, limits.at_most_six)) c.loop-step.invariant
+    (omega (arith, long a limits)) c.loop-step.invariant

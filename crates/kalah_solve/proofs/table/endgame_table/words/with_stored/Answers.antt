@@ -8,8 +8,8 @@ whole c = omega (arith, digit_small c.args.at c.args.stored c.requires.place c.r
 pub overflow_add-result : goal.overflow_add-result
 overflow_add-result c =
     let fits = put_fits c.args.at c.args.word c.args.stored c.requires.place c.requires.nothing c.requires.small
-    (omega (arith, c.ranges.word)) in
-    omega (arith, whole c, fits)
+    (omega arith) in
+    omega (arith, whole c)
 
 pub returns : goal.returns
 returns c = rw (whole c) refl

@@ -11,7 +11,7 @@ returns-clause-inside c =
     let inside = word_inside c.args.houses.now c.m.ensures.limits c.requires.few in
     let first = ap (λ m. slice_index FIRST_WORDS m) c.m.ensures.side in
     elim c.match-rule.branch [
-      | in-Classic w ↦ omega (arith, inside, first, ap rule_bit (sym c.rule.ensures ∙ w.in-Classic.is), w.of_rule-is, c.requires.rank)
+      | in-Classic w ↦ omega (arith, ap rule_bit (sym c.rule.ensures ∙ w.in-Classic.is))
       | in-EmptyCapture w ↦
-          omega (arith, inside, first, ap rule_bit (sym c.rule.ensures ∙ w.in-EmptyCapture.is), w.of_rule-is, c.requires.rank)
+          omega (arith, ap rule_bit (sym c.rule.ensures ∙ w.in-EmptyCapture.is))
     ]
