@@ -4,6 +4,7 @@ ghost use Rattle.kalah_solve.specs.Solver.MoveValues.{ValueIsWorthOfMove, WorthO
 
 /// The worth of a game that is over is its final margin. That of any other position is the greatest value of a legal move. Such a
 /// position has at least one legal move.
+#[tactic(auto, using(crate::proofs::WorthLemmas::worth_of_over, crate::proofs::WorthLemmas::worth_of_going, crate::proofs::WorthLemmas::legal_some, crate::proofs::WorthLemmas::worth_is_most, crate::proofs::WorthLemmas::worth_count))]
 pub fn worth_is_greatest_value()
     ensures over { WorthOfOver }
     ensures going { WorthIsGreatestValue }
@@ -19,6 +20,7 @@ pub fn best_house_is_lowest()
 
 /// Stores do not influence play. The worth of a position is the difference of the stores plus the worth of its houses with empty stores.
 /// The best house is the same for any stores.
+#[tactic(auto, using(crate::proofs::WorthLemmas::worth_by_stores, crate::proofs::WorthLemmas::best_of_rows))]
 pub fn stores_only_shift()
     ensures worth { StoresShiftWorth }
     ensures house { StoresKeepBestHouse }
@@ -26,6 +28,7 @@ pub fn stores_only_shift()
 
 /// Two players that follow strategies play a game to its end, and only one. No game by the rules has more moves than
 /// `moves_left`, and each ends in a position that is over.
+#[tactic(auto, using(crate::proofs::SolverLemmas::game_ends, crate::proofs::SolverLemmas::the_game_is_one, crate::proofs::SolverLemmas::games_end))]
 pub fn players_play_one_game()
     ensures game { StrategiesPlayAGame }
     ensures one { StrategiesPlayOneGame }
@@ -35,6 +38,7 @@ pub fn players_play_one_game()
 /// The worth of a position is the margin of best play. The player to move has a strategy that gets at least as much against any play of
 /// the other player, who has one that allows no more. No other margin is both. Always moving the lowest-numbered best house is such a
 /// strategy, for either player and in every position.
+#[tactic(auto, using(crate::proofs::SolverLemmas::worth_is_best, crate::proofs::SolverLemmas::best_house_is_best_play, crate::proofs::SolverLemmas::best_against_strategies))]
 pub fn worth_is_best_play()
     ensures worth { WorthIsBestPlay }
     ensures one { BestPlayIsOne }
@@ -48,17 +52,20 @@ pub fn best_moves_attain_worth()
 {}
 
 /// There is only one verdict of best play: any verdict that states it is the solver's.
+#[tactic(auto, using(crate::proofs::SolverLemmas::verdict_is_one))]
 pub fn best_verdict_is_one()
     ensures { BestVerdictIsOne }
 {}
 
 /// The value of a move is the margin of best play of the position after it, seen by the player who moved. No other margin is.
+#[tactic(auto, using(crate::proofs::SolverLemmas::value_is_worth, crate::proofs::SolverLemmas::worth_of_move_is_one))]
 pub fn value_is_worth_of_move()
     ensures worth { ValueIsWorthOfMove }
     ensures one { WorthOfMoveIsOne }
 {}
 
 /// In a game that goes on, the verdict is the greatest of the moves' values and the lowest-numbered house that has it.
+#[tactic(auto, using(crate::proofs::SolverLemmas::values_tell_verdict))]
 pub fn values_tell_verdict()
     ensures { ValuesTellVerdict }
 {}
