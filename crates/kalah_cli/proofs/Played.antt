@@ -17,7 +17,7 @@ use Rattle.kalah_solve.specs.Solver.Worth.{best_house, worth}
 use Rattle.kalah_solve.specs.declared.solver.Verdict.TheVariants.{Best, Over}
 use Rattle.std.proofs.lemmas.List.Elements.{Contains-push}
 use Rattle.kalah_solve.proofs.SolverLemmas.{strategy_keeps, best_is_strategy, best_plays, bounds}
-use Rattle.kalah_solve.proofs.WorthLemmas.{over_swapped, again_fewer, again_step, over_at_end, over_ends, over_step, swapped_equal_sides, turn_fewer, turn_step}
+use Rattle.kalah_solve.proofs.WorthLemmas.{over_for_other, again_fewer, again_step, over_at_end, over_ends, over_step, swapped_equal_sides, turn_fewer, turn_step}
 use Rattle.kalah_cli.specs.Moves.{move_lines}
 use Rattle.kalah_cli.specs.Play.{PlaysBestGames, best_game, best_moves, game_lines}
 
@@ -100,7 +100,7 @@ over_game p e h s first over =
     let moved = followed_best p h first.best in
     elim (cases_Bool (is_again p h)) [
       | inl again ↦ (after p h, moves_on first.going moved again (is_at_end moved_to.0))
-      | inr turn ↦ (swapped (swapped (after p h)), passes_turn first.going moved turn (is_at_end (over_swapped (after p h) moved_to.0)))
+      | inr turn ↦ (swapped (swapped (after p h)), passes_turn first.going moved turn (is_at_end (over_for_other (after p h) moved_to.0)))
     ]
 
 -- ---- the moves of the game

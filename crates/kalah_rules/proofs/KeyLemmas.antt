@@ -186,7 +186,7 @@ module _ (m h c : ℕ) (low : 1 ≤ h) (high : h ≤ m) where
       let first = number_of-plus m (λ i. q) past in
       let second = number_of-plus m (λ i. q + past i) round in
       let whole = number_of-same m q in
-      let until = number_of-up_to m h high in
+      let until = number_of-up_to _ _ high in
       let rows = ap number_of each in
       omega arith
 
@@ -292,7 +292,7 @@ cells-number_of (suc n) (x ∷ xs) rest long few =
     let power = times_power n rest in
     let low : (x + 32 * number_of xs + 32 ^ suc n * rest) % 32 ≡ x = rw power (omega arith) in
     let high : (x + 32 * number_of xs + 32 ^ suc n * rest) / 32 ≡ number_of xs + 32 ^ n * rest = rw power (omega arith) in
-    rw (low, high) (ap (λ ys. x ∷ ys) (cells-number_of n xs rest rest_long rest_few))
+    rw (low, high) (ap (λ ys. x ∷ ys) (cells-number_of _ _ _ rest_long rest_few))
 
 -- a padded row has six cells
 pub length-padded : (xs : List ℕ) → length xs ≤ 6 → length (padded xs) ≡ 6
@@ -333,13 +333,13 @@ rule_bit-small Classic = omega arith
 rule_bit-small EmptyCapture = omega arith
 
 -- the content of the key of houses
-pub key_says : (a : Rows) (k : ℕ) → IsWithinHouses a → key_of a ≡ k → KeySays a k
-key_says a k h e =
+pub key_says : {a : Rows} {k : ℕ} → IsWithinHouses a → key_of a ≡ k → KeySays a k
+key_says {a} {k} h e =
     let other_long : length a.other ≤ 6 = omega arith in
     let own_few : sum a.own ≤ 31 = omega arith in
     let other_few : sum a.other ≤ 31 = omega arith in
-    let own_small = number_of-small 6 a.own h.at_most_six own_few in
-    let other_small = number_of-small 6 a.other other_long other_few in
+    let own_small = number_of-small _ _ h.at_most_six own_few in
+    let other_small = number_of-small _ _ other_long other_few in
     let own_same = number_of-append_zeros a.own (6 - length a.own) in
     let other_same = number_of-append_zeros a.other (6 - length a.other) in
     let bit = rule_bit-small a.rule in
@@ -348,17 +348,17 @@ key_says a k h e =
     let own_number : k ≡ number_of (padded a.own) + 32 ^ 6 * (number_of a.other + top) = omega arith in
     let other_number : k / 2 ^ 30 ≡ number_of (padded a.other) + 32 ^ 6 * above = omega arith in
     record {
-      own_cells = rw own_number (cells-number_of 6 (padded a.own) _ (length-padded a.own h.at_most_six) (omega (arith, sum-padded a.own)));
+      own_cells = rw own_number (cells-number_of _ _ _ (length-padded _ h.at_most_six) (omega (arith, sum-padded a.own)));
       other_cells =
-          rw other_number (cells-number_of 6 (padded a.other) above (length-padded a.other other_long) (omega (arith, sum-padded a.other)));
+          rw other_number (cells-number_of _ _ _ (length-padded _ other_long) (omega (arith, sum-padded a.other)));
       side = omega arith;
       rule = omega arith;
     }
 
 -- a value's key may hold
-pub key_holds : (a : Rows) (k : ℕ) → IsWithinHouses a → key_of a ≡ k → IsKey k
-key_holds a k h e =
-    let says = key_says a k h e in
+pub key_holds : {a : Rows} {k : ℕ} → IsWithinHouses a → key_of a ≡ k → IsKey k
+key_holds {a} h e =
+    let says = key_says h e in
     rw (says.side, says.own_cells, says.other_cells) (record {
       some_house = h.some_house;
       at_most_six = h.at_most_six;
@@ -382,11 +382,11 @@ same_rows_of x y z = λ i. record { own = x i; other = y i; rule = z i }
 pub rows_of_key : (a : Rows) (k : ℕ) (rule : Rule) → IsWithinHouses a → key_of a ≡ k → rule_bit rule ≡ k / 2 ^ 63 →
     rows_from (side_at k) (cells 6 k) (cells 6 (k / 2 ^ 30)) rule ≡ a
 rows_of_key a k rule h e bit =
-    let says = key_says a k h e in
+    let says = key_says h e in
     let own_shown : take (side_at k) (cells 6 k) ≡ a.own = rw (says.side, says.own_cells) (take-padded a.own) in
     let other_shown : take (side_at k) (cells 6 (k / 2 ^ 30)) ≡ a.other =
     rw (says.side, says.other_cells, sym h.same_side) (take-padded a.other) in
-    same_rows_of own_shown other_shown (rule_bit-same rule a.rule (bit ∙ says.rule))
+    same_rows_of own_shown other_shown (rule_bit-same _ _ (bit ∙ says.rule))
 
 -- the parts of a key make the key
 key_from_parts : (k side : ℕ) (own other : List ℕ) (rule : Rule) → number_of own + 2 ^ 30 * (k / 2 ^ 30) ≡ k →
@@ -401,14 +401,14 @@ key_from_parts k side own other rule own_is other_is own_padded other_padded lon
     omega arith
 
 -- the key of the houses that a key holds
-pub key_of_rows : (k : ℕ) (rule : Rule) → IsKey k → rule_bit rule ≡ k / 2 ^ 63 →
+pub key_of_rows : {k : ℕ} (rule : Rule) → IsKey k → rule_bit rule ≡ k / 2 ^ 63 →
     key_of (rows_from (side_at k) (cells 6 k) (cells 6 (k / 2 ^ 30)) rule) ≡ k
-key_of_rows k rule h bit =
+key_of_rows {k} rule h bit =
     let own_long = length-cells 6 k in
     let other_long = length-cells 6 (k / 2 ^ 30) in
     key_from_parts k (side_at k) (cells 6 k) (cells 6 (k / 2 ^ 30)) rule (number_of-cells k) (number_of-cells (k / 2 ^ 30))
-    (padded_from_zeros (side_at k) (cells 6 k) own_long h.at_most_six h.own_past)
-    (padded_from_zeros (side_at k) (cells 6 (k / 2 ^ 30)) other_long h.at_most_six h.other_past)
+    (padded_from_zeros _ _ own_long h.at_most_six h.own_past)
+    (padded_from_zeros _ _ other_long h.at_most_six h.other_past)
     (length-take-le (side_at k) (cells 6 k) (omega arith)) refl bit
 
 -- the rule that a key names has the key's bit
@@ -418,11 +418,11 @@ rule_at-bit (suc zero) h = refl
 rule_at-bit (suc (suc n)) h = absurd (omega arith)
 
 -- the houses of a key are those whose key it is
-pub rows_at_key : (a : Rows) → IsWithinHouses a → rows_at (key_of a) ≡ a
-rows_at_key a h =
-    let says = key_says a (key_of a) h refl in
+pub rows_at_key : {a : Rows} → IsWithinHouses a → rows_at (key_of a) ≡ a
+rows_at_key {a} h =
+    let says = key_says h refl in
     let bit : key_of a / 2 ^ 63 ≤ 1 = omega (arith, rule_bit-small a.rule) in
-    rows_of_key a (key_of a) (rule_at (key_of a)) h refl (rule_at-bit (key_of a / 2 ^ 63) bit)
+    rows_of_key a (key_of a) (rule_at (key_of a)) h refl (rule_at-bit _ bit)
 
 -- a key fits sixty-four bits
 key_of-small : (b : Rows) → IsWithinHouses b → key_of b < 2 ^ 64
@@ -437,7 +437,7 @@ key_of-small b h =
 pub packed_as : (b : Rows) (k s : ℕ) → IsWithinHouses b → k ≡ key_of b → s ≡ seeds_in_houses (bare b) → IsPacked k s
     × (rows_at k ≡ b)
 packed_as b k s h e seeds_are =
-    let rows = ap rows_at e ∙ rows_at_key b h in (
+    let rows = ap rows_at e ∙ rows_at_key h in (
       record {
         limits = rw rows h;
         key_is = ap key_of rows ∙ sym e;
@@ -465,7 +465,7 @@ pack_of is e = record {
 
 -- what lies above the cells of a key
 pub above_cells : (b : Rows) (k : ℕ) → IsWithinHouses b → key_of b ≡ k → k / 2 ^ 60 ≡ length b.own + 8 * rule_bit b.rule
-above_cells b k h e = let says = key_says b k h e in let side = says.side in let bit = says.rule in omega arith
+above_cells b k h e = let says = key_says h e in let side = says.side in let bit = says.rule in omega arith
 
 -- a row is empty exactly when its number is 0
 pub sum-zero : (xs : List ℕ) → number_of xs ≡ 0 → sum xs ≡ 0
@@ -481,13 +481,13 @@ number_of-zero (x ∷ xs) e = let cons = sum_by-cons (λ (y : ℕ). y) x xs in l
 pub no_seeds : (xs : List ℕ) → nat_eq (number_of xs) 0 ≡ nat_eq (sum xs) 0
 no_seeds xs = elim (cases_eq (sum xs) 0) [
   | inl none ↦ rw (none, number_of-zero xs none) refl
-  | inr some ↦ let more : number_of xs ≢ 0 = λ e. some (sum-zero xs e) in grind (arith, nat_tests)
+  | inr some ↦ let more : number_of xs ≢ 0 = λ e. some (sum-zero _ e) in grind (arith, nat_tests)
 ]
 
 -- the rows of a key as numbers
 pub own_number_at : (a : Rows) (k : ℕ) → IsWithinHouses a → key_of a ≡ k → number_of a.own ≡ k % 2 ^ 30
 own_number_at a k h e =
-    let small = number_of-small 6 a.own h.at_most_six (omega arith) in
+    let small = number_of-small _ _ h.at_most_six (omega arith) in
     omega arith
 
 -- the other row
@@ -532,19 +532,19 @@ module _ (k : ℕ) (rule : Rule) (bit : rule_bit rule ≡ k / 2 ^ 63) where
   -- what is found has the key
   pub unpacks_same : (o : Option Rows) → (IsSome o ↔ IsKey k) → IfSome o (λ a. a ≡ parts) → IfSome o (λ a. key_of a ≡ k)
   unpacks_same None valid value = tt
-  unpacks_same (Some a) valid value = ap key_of value ∙ key_of_rows k rule (valid.0 (search rules)) bit
+  unpacks_same (Some a) valid value = ap key_of value ∙ key_of_rows _ (valid.0 (search rules)) bit
 
   -- and the houses of a key are found
   pub unpacks_found : (o : Option Rows) → (IsSome o ↔ IsKey k) → IfSome o (λ a. a ≡ parts) → (a : Rows) → IsWithinHouses a →
       key_of a ≡ k → o ≡ Some a
-  unpacks_found None valid value a h e = absurd (grind (arith, valid.1 (key_holds a k h e)))
-  unpacks_found (Some b) valid value a h e = ap Some (value ∙ rows_of_key a k rule h e bit)
+  unpacks_found None valid value a h e = absurd (grind (arith, valid.1 (key_holds h e)))
+  unpacks_found (Some b) valid value a h e = ap Some (value ∙ rows_of_key _ _ _ h e bit)
 
 -- two values of houses with one key are one
 pub same_key : (a b : Rows) → IsWithinHouses a → IsWithinHouses b → key_of a ≡ key_of b → a ≡ b
 same_key a b ha hb e =
-    let bit = sym (key_says a (key_of b) ha e).rule in
-    sym (rows_of_key a (key_of b) a.rule ha e bit) ∙ rows_of_key b (key_of b) a.rule hb refl bit
+    let bit = sym (key_says ha e).rule in
+    sym (rows_of_key _ _ _ ha e bit) ∙ rows_of_key _ _ _ hb refl bit
 
 -- the key without its cells is that of empty houses
 pub without_seeds_packed : {a : Rows} {k s : ℕ} → IsPackOf a k s →
@@ -567,7 +567,7 @@ without_seeds_packed {a} {k} is =
 pub row_is_small : {count number seeds : ℕ} → IsPackedRow count number seeds → number < 32 ^ 6
 row_is_small {count} {number} {seeds} row =
     let short : length (cells count number) ≤ 6 = omega (arith, length-cells count number) in
-    let small = number_of-small 6 (cells count number) short (omega arith) in
+    let small = number_of-small _ _ short (omega arith) in
     omega (arith, small)
 
 -- ---- one house more
@@ -590,7 +590,7 @@ module _ {count number seeds : ℕ} (x : ℕ) (row : IsPackedRow count number se
   pub houses_pushed : cells (count + 1) (number + 32 ^ count * x) ≡ houses ++ x ∷ []
   houses_pushed =
       let long : length (houses ++ x ∷ []) ≡ count + 1 = omega (arith, length-append houses (x ∷ []), length-cells count number) in
-      let all = cells-number_of (count + 1) (houses ++ x ∷ []) 0 long (omega (arith, sum_more, few)) in
+      let all = cells-number_of _ _ _ long (omega (arith, sum_more, few)) in
       let same : number_of (houses ++ x ∷ []) + 32 ^ (count + 1) * 0 ≡ number + 32 ^ count * x = omega (arith, number_more) in
       ap (cells (count + 1)) (sym same) ∙ all
 
@@ -621,12 +621,12 @@ sum-shown : (m : ℕ) (cells : List ℕ) → padded (take m cells) ≡ cells →
 sum-shown m cells same = sym (sum-padded (take m cells)) ∙ ap sum same
 
 -- the key that is made of the cells is that of their houses
-pub packed_new : (m : ℕ) (own other : List ℕ) (rule : Rule) (own_number other_number bit seeds : ℕ) → length own ≡ 6 →
+pub packed_new : {m : ℕ} {own other : List ℕ} (rule : Rule) (own_number other_number bit seeds : ℕ) → length own ≡ 6 →
     length other ≡ 6 → CanBeHouses m own other →
     own_number ≡ number_of own → other_number ≡ number_of other → bit ≡ rule_bit rule → seeds ≡ sum own + sum other →
     IsPacked (own_number + 2 ^ 30 * other_number + 2 ^ 60 * (m + 8 * bit)) seeds
     × (rows_at (own_number + 2 ^ 30 * other_number + 2 ^ 60 * (m + 8 * bit)) ≡ rows_from m own other rule)
-packed_new m own other rule own_number other_number bit seeds own_long other_long can own_is other_is bit_is seeds_are =
+packed_new {m} {own} {other} rule own_number other_number bit seeds own_long other_long can own_is other_is bit_is seeds_are =
     let own_shown = length-take-le m own (omega arith) in
     let other_shown = length-take-le m other (omega arith) in
     let own_padded = padded_from_zeros m own own_long can.at_most_six can.own_past in

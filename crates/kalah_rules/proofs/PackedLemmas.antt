@@ -6,7 +6,7 @@ use Rattle.std.specs.Prelude.{Bool, true, false, sum, ◌==◌, ◌&&◌, Option
 use Rattle.std.proofs.lemmas.Nat.{mod_below, mul-le, mod-mul-add, div-add-mod', and_block, and_mask, and_le_r, pow_pos}
 use Rattle.std.specs.Int.Bits.{bit_and}
 use Rattle.std.proofs.Math.Nat.{div-eq_of_lt, mod-eq_of_lt, div-div-eq-div-mul}
-use Rattle.std.proofs.lemmas.Bool.{cases_Bool, cases_eq, cases_lt, eqb-true, eqb-false}
+use Rattle.std.proofs.lemmas.Bool.{cases_Bool, cases_eq, cases_lt, and_parts, eqb-true, eqb-false}
 use Rattle.std.proofs.lemmas.Bool.Decides.{nat_tests}
 use Rattle.kalah_rules.specs.Position.{Position, Rows, IsWithinHouses, side_length, seeds, opposite, seeds_in_houses, bare, IsWithinLimits, is_over, swapped, rows_of, with_stores, without_seeds}
 use Rattle.kalah_rules.specs.Lap.{HoldsSeeds, lifted}
@@ -44,14 +44,6 @@ sow_rule : (p : Position) (h k : ℕ) → (sow p h k).rule ≡ p.rule
 unfolding sow
 sow_rule p h k = refl
 
--- where nothing is caught the rows stay
-unchanged : (r : RowNumbers) (x y last taken k j : ℕ) {p : Position} → (last ≡ 0) × (taken ≡ 0) →
-    x ≡ k * last → y ≡ j * taken → Shows r p →
-    Shows (record { rows = r.rows - x - 2 ^ 30 * y; store = r.store + last + taken }) p
-unchanged r x y last taken k j none x_is y_is shows =
-    let same : r.rows - x - 2 ^ 30 * y ≡ r.rows = omega (arith, rw none.0 at x_is, rw none.1 at y_is) in
-    record { own = rw same shows.own; other = rw same shows.other; store = omega (arith, shows.store) }
-
 -- rows from which houses are taken
 taken_off : (rows x y own other own_new other_new : ℕ) → rows % 2 ^ 30 ≡ own → rows / 2 ^ 30 ≡ other →
     own_new + x ≡ own → other_new + y ≡ other →
@@ -69,20 +61,6 @@ pub record LeavesRows (r : RowNumbers) (seed bit last taken : ℕ) (p : Position
   pub here : last * seed ≤ r.rows
   pub across : taken * 2 ^ bit % 2 ^ 64 ≤ r.rows - last * seed
   pub shows : Shows (record { rows = r.rows - last * seed - taken * 2 ^ bit % 2 ^ 64; store = r.store + last + taken }) p
-
--- so little is caught of them
-caught_few : (here across : ℕ) (captures : Bool) (last taken : ℕ) →
-    MatchBool ((here == 1) && captures) ((last ≡ 1) × (taken ≡ across)) ((last ≡ 0) × (taken ≡ 0)) →
-    (last ≤ here) × (taken ≤ across)
-caught_few here across captures last taken told = elim (cases_Bool (here == 1)) [
-  | inr more ↦ let none : (last ≡ 0) × (taken ≡ 0) = rw more at told in (omega arith, omega arith)
-  | inl one ↦ elim (cases_Bool captures) [
-    | inr kept ↦ let none : (last ≡ 0) × (taken ≡ 0) = rw (one, kept) at told in
-        (omega arith, omega arith)
-    | inl some ↦ let both : (last ≡ 1) × (taken ≡ across) = rw (one, some) at told in
-        (omega (arith, eqb-true here 1 one), omega arith)
-  ]
-]
 
 -- the five bits of a house
 house_bits : (rows k : ℕ) → bit_and rows (31 * 32 ^ k) ≡ rows / 32 ^ k % 32 * 32 ^ k
@@ -107,20 +85,7 @@ one_seed_at : (rows k : ℕ) → (bit_and rows (31 * 32 ^ k) == 32 ^ k) ≡ (row
 one_seed_at rows k =
     let bits = house_bits rows k in
     let some : 0 < 32 ^ k = rw (← pow_five k) (pow_pos (5 * k)) in
-    rw bits (one_of (rows / 32 ^ k % 32) (32 ^ k) some)
-
--- the rule lets the last seed capture
-captured_some : (p : Position) (i : ℕ) → seeds p.own i ≡ 1 → captures p.rule (seeds p.other (opposite p i)) ≡ true →
-    captured p (Some i) ≡ capture p i
-captured_some p i one some = rw (eq-eqb (seeds p.own i) 1 one, some)
-
--- if the rule lets it capture nothing, the rows stay
-kept_by : (q : Position) (i : ℕ) → captures q.rule (seeds q.other (opposite q i)) ≡ false → (r : RowNumbers) → Shows r q →
-    Shows r (captured q (Some i))
-kept_by q i none r shows = elim (cases_Bool (seeds q.own i == 1)) [
-  | inl one ↦ rw (one, none) shows
-  | inr more ↦ rw more shows
-]
+    rw bits (one_of _ _ some)
 
 -- what a sowing of c seeds of house h adds if it ends in the store without a lap
 record GainsIntoStore (m h c : ℕ) : Type 0 where
@@ -168,7 +133,7 @@ module _ (a : Rows) (h : ℕ) (w : IsWithinHouses a) (holds : HoldsSeeds (bare a
   -- the rows of the sowing
   pub own_is : number_of q.own + 32 ^ (h - 1) * seeds a.own h ≡ number_of a.own + own_gained (length a.own) h (seeds a.own h)
   unfolding sow
-  own_is = own_sown a.own h (seeds a.own h) holds.first holds.last
+  own_is = own_sown _ _ _ holds.first holds.last
 
   -- the other row
   pub other_is : number_of q.other ≡ number_of a.other + other_gained (length a.own) h (seeds a.own h)
@@ -183,7 +148,7 @@ module _ (a : Rows) (h : ℕ) (w : IsWithinHouses a) (holds : HoldsSeeds (bare a
   -- the seeds that are read off the row are those of the house
   pub house_read : (row n : ℕ) → row ≡ number_of a.own → n ≡ row / 32 ^ (h - 1) % 32 → n ≡ seeds a.own h
   house_read row n row_is read =
-      read ∙ ap (λ n. n / 32 ^ (h - 1) % 32) row_is ∙ read_seeds a.own (h - 1) (omega (arith, holds.first, holds.last))
+      read ∙ ap (λ n. n / 32 ^ (h - 1) % 32) row_is ∙ read_seeds _ _ (omega (arith, holds.first, holds.last))
       (omega (arith, w.few_seeds))
 
   -- the row without the house's seeds
@@ -238,7 +203,7 @@ module _ (a : Rows) (h : ℕ) (w : IsWithinHouses a) (holds : HoldsSeeds (bare a
       house ≡ 32 ^ (h - 1) * seeds a.own h → own_more + ones h ≡ ones (length a.own)
       → Shows (record { rows = rows - house + own_more; store = 1 }) q
   into_store rows house own_more ends rows_are house_is own_more_is =
-      let gains = store_gains (length a.own) h (seeds a.own h) holds.first holds.last ends in
+      let gains = store_gains _ _ _ holds.first holds.last ends in
       rows_show _ 1 (sown_rows rows house own_more rows_are house_is (omega arith)) (sym gains.store)
 
   -- and few in the store
@@ -250,8 +215,8 @@ module _ (a : Rows) (h : ℕ) (w : IsWithinHouses a) (holds : HoldsSeeds (bare a
       r.rows / 2 ^ bit % 32 ≡ seeds q.own i
   read_own r i bit shows low high at =
       let near : i - 1 ≤ 5 = omega (arith, w.at_most_six) in
-      rw (at, pow_five (i - 1)) (low_cell r.rows (i - 1) near ∙ ap (λ n. n / 32 ^ (i - 1) % 32) shows.own
-      ∙ read_seeds q.own (i - 1) (omega (arith, sown_keeps.side)) (omega (arith, few)))
+      rw (at, pow_five (i - 1)) (low_cell _ _ near ∙ ap (λ n. n / 32 ^ (i - 1) % 32) shows.own
+      ∙ read_seeds _ _ (omega (arith, sown_keeps.side)) (omega (arith, few)))
 
   -- the house across
   pub read_across : (r : RowNumbers) (i bit : ℕ) → Shows r q → 1 ≤ i → i ≤ length a.own
@@ -263,131 +228,68 @@ module _ (a : Rows) (h : ℕ) (w : IsWithinHouses a) (holds : HoldsSeeds (bare a
       let same = w.same_side in
       rw (at, pow_other (opposite q i - 1)) (ap (λ n. n % 32) (sym (div-div-eq-div-mul r.rows (2 ^ 30) (32 ^ (opposite q i - 1))))
       ∙ ap (λ n. n / 32 ^ (opposite q i - 1) % 32) shows.other
-      ∙ read_seeds q.other (opposite q i - 1) (omega arith) (omega (arith, few)))
-
-  -- the last seed captures nothing
-  shows_more : (r : RowNumbers) (i : ℕ) → Shows r q → seeds q.own i ≢ 1 → Shows r (captured q (Some i))
-  shows_more r i shows more = elim (cases_Bool (seeds q.own i == 1)) [
-    | inl one ↦ absurd (more (eqb-true (seeds q.own i) 1 one))
-    | inr other ↦ rw other shows
-  ]
-
-  -- or the rule does not let it
-  shows_none : (r : RowNumbers) (i : ℕ) → Shows r q → captures a.rule (seeds q.other (opposite q i)) ≡ false
-      → Shows r (captured q (Some i))
-  shows_none r i shows kept = kept_by q i (rw sown_keeps.rule kept) r shows
-
-  -- it captures
-  shows_capture : (r : RowNumbers) (i x y : ℕ) → Shows r q → 1 ≤ i → i ≤ length a.own → seeds q.own i ≡ 1 →
-      captures a.rule (seeds q.other (opposite q i)) ≡ true →
-      x ≡ 32 ^ (i - 1) * 1 → y ≡ 32 ^ (opposite q i - 1) * seeds q.other (opposite q i) →
-      Shows (record { rows = r.rows - x - 2 ^ 30 * y; store = r.store + 1 + seeds q.other (opposite q i) }) (captured q (Some i))
-  shows_capture r i x y shows low high one some x_is y_is =
-      let side = sown_keeps.side in
-      let other_side = sown_keeps.other_side in
-      let same = w.same_side in
-      let own_set = number_of-set q.own (i - 1) 0 (omega arith) in
-      let other_set = number_of-set q.other (opposite q i - 1) 0 (omega arith) in
-      let one_at : 32 ^ (i - 1) * seeds q.own i ≡ 32 ^ (i - 1) * 1 = ap (λ n. 32 ^ (i - 1) * n) one in
-      let off = taken_off r.rows x y _ _ _ _ shows.own shows.other (omega arith)
-      (omega arith) in
-      let store_shown = shows.store in
-      rw (captured_some q i one (rw sown_keeps.rule some)) (record { own = off.0; other = off.1; store = omega arith })
-
-  -- so what is caught is taken off both rows and goes to the store
-  pub shows_caught : (r : RowNumbers) (i here across last taken x y : ℕ) → Shows r q → 1 ≤ i → i ≤ length a.own →
-      here ≡ seeds q.own i → across ≡ seeds q.other (opposite q i) →
-      MatchBool ((here == 1) && captures a.rule across) ((last ≡ 1) × (taken ≡ across)) ((last ≡ 0) × (taken ≡ 0)) →
-      x ≡ 32 ^ (i - 1) * last → y ≡ 32 ^ (opposite q i - 1) * taken →
-      Shows (record { rows = r.rows - x - 2 ^ 30 * y; store = r.store + last + taken }) (captured q (Some i))
-  shows_caught r i here across last taken x y shows low high here_is across_is told x_is y_is = elim (cases_Bool (here == 1)) [
-    | inr more ↦
-        let none : (last ≡ 0) × (taken ≡ 0) = rw more at told in
-        unchanged r x y last taken _ _ none x_is y_is (shows_more r i shows (λ one. absurd (eqb-false here 1 more (here_is ∙ one))))
-    | inl one ↦ elim (cases_Bool (captures a.rule across)) [
-      | inr kept ↦
-          let none : (last ≡ 0) × (taken ≡ 0) = rw (one, kept) at told in
-          unchanged r x y last taken _ _ none x_is y_is (shows_none r i shows (rw across_is at kept))
-      | inl some ↦
-          let both : (last ≡ 1) × (taken ≡ across) = rw (one, some) at told in
-          rw (both.0, both.1, across_is) (shows_capture r i x y shows low high (sym here_is ∙ eqb-true here 1 one) (rw across_is at some)
-          (rw both.0 at x_is) (rw (both.1, across_is) at y_is))
-    ]
-  ]
-
-  -- and lies there
-  pub caught_within : (r : RowNumbers) (i last taken : ℕ) → Shows r q → 1 ≤ i → i ≤ length a.own → last ≤ seeds q.own i →
-      taken ≤ seeds q.other (opposite q i) → (32 ^ (i - 1) * last ≤ r.rows % 2 ^ 30)
-      × (32 ^ (opposite q i - 1) * taken ≤ r.rows / 2 ^ 30)
-  caught_within r i last taken shows low high last_few taken_few =
-      let side = sown_keeps.side in
-      let other_side = sown_keeps.other_side in
-      let same = w.same_side in
-      let own_set = number_of-set q.own (i - 1) 0 (omega arith) in
-      let other_set = number_of-set q.other (opposite q i - 1) 0 (omega arith) in (
-        omega (arith, shows.own, mul-le (32 ^ (i - 1)) last (32 ^ (i - 1)) (seeds q.own i) (omega arith) last_few),
-        omega (arith, shows.other, mul-le (32 ^ (opposite q i - 1)) taken (32 ^ (opposite q i - 1)) (seeds q.other (opposite q i)) (omega arith) taken_few),
-      )
+      ∙ read_seeds _ _ (omega arith) (omega (arith, few)))
 
   -- all that a capture does to the rows, read and written by bits
   capture_shows : (r : RowNumbers) (i house seed across last taken : ℕ) → Shows r q → 1 ≤ i → i ≤ length a.own →
       IsLastHouse (length a.own) i house seed across → Caught a.rule r house seed across last taken →
       LeavesRows r seed across last taken (captured q (Some i))
   capture_shows r i house seed across last taken shows low high at told =
+      let j = opposite q i in
       let side = sown_keeps.side in
-      let near : i - 1 ≤ 5 = omega (arith, w.at_most_six) in
-      let far : opposite q i - 1 ≤ 5 = omega (arith, side, w.at_most_six) in
-      let opposite_is : across ≡ 30 + 5 * (opposite q i - 1) = omega (arith, side) in
-      let here = read_own r i (5 * (i - 1)) shows low high refl in
+      let other_side = sown_keeps.other_side in
+      let far : j - 1 ≤ 5 = omega (arith, w.at_most_six) in
+      let opposite_is : across ≡ 30 + 5 * (j - 1) = omega arith in
       let there = read_across r i across shows low high opposite_is in
       let alone : (bit_and r.rows house == seed) ≡ (seeds q.own i == 1) =
-      rw (at.house, at.seed, ← here, pow_five (i - 1)) (one_seed_at r.rows (i - 1)) in
-      let caught = rw alone at told in
-      let few = caught_few (seeds q.own i) _ _ last taken caught in
-      let x : last * seed ≡ 32 ^ (i - 1) * last = rw at.seed (mul_comm last (32 ^ (i - 1))) in
-      let y : taken * 2 ^ across % 2 ^ 64 ≡ 2 ^ 30 * (32 ^ (opposite q i - 1) * taken) =
-      rw (opposite_is, pow_other (opposite q i - 1)) (moved_far (opposite q i - 1) taken far (omega (arith, few.1))) in
-      let within = caught_within r i last taken shows low high few.0 (omega (arith, few.1)) in
-      record {
-        here = omega (arith, within.0);
-        across = omega (arith, within.0, within.1);
-        shows = rw (x, y) (shows_caught r i (seeds q.own i) _ last taken _ _ shows low high refl there caught refl refl);
-      }
+      rw (at.house, at.seed, ← read_own r i (5 * (i - 1)) shows low high refl, pow_five (i - 1)) (one_seed_at r.rows (i - 1)) in
+      let caught : MatchBool (can_capture q i) ((last ≡ 1) × (taken ≡ seeds q.other j)) ((last ≡ 0) × (taken ≡ 0)) =
+      rw sown_keeps.rule (rw (alone, there) at told) in
+      elim (cases_Bool (can_capture q i)) [
+        | inr kept ↦
+            let none : (last ≡ 0) × (taken ≡ 0) = rw kept at caught in
+            let same : r.rows - last * seed - taken * 2 ^ across % 2 ^ 64 ≡ r.rows = rw (none.0, none.1) (omega arith) in
+            record {
+              here = rw none.0 (omega arith);
+              across = rw (none.0, none.1) (omega arith);
+              shows = rw kept (record { own = rw same shows.own; other = rw same shows.other; store = omega arith });
+            }
+        | inl some ↦
+            let both : (last ≡ 1) × (taken ≡ seeds q.other j) = rw some at caught in
+            let one : seeds q.own i ≡ 1 = eqb-true (seeds q.own i) 1 (and_parts _ _ some).0 in
+            let own_set = number_of-set q.own (i - 1) 0 (omega arith) in
+            let other_set = number_of-set q.other (j - 1) 0 (omega (arith, w.same_side)) in
+            let one_at : 32 ^ (i - 1) * seeds q.own i ≡ 32 ^ (i - 1) * 1 = ap (λ n. 32 ^ (i - 1) * n) one in
+            let x : last * seed ≡ 32 ^ (i - 1) = rw (both.0, at.seed) (omega arith) in
+            let y : taken * 2 ^ across % 2 ^ 64 ≡ 2 ^ 30 * (32 ^ (j - 1) * seeds q.other j) =
+            rw (both.1, opposite_is, pow_other (j - 1)) (moved_far _ _ far (omega arith)) in
+            let off = taken_off r.rows (32 ^ (i - 1)) (32 ^ (j - 1) * seeds q.other j) _ _ _ _ shows.own shows.other (omega arith) (omega arith) in
+            record {
+              here = omega arith;
+              across = omega arith;
+              shows = rw (x, y, some) (record { own = off.0; other = off.1; store = omega arith });
+            }
+      ]
 
 -- ---- the whole move
--- a capture loses no seed
-capture_keeps : (q : Position) (i : ℕ) → KeepsSeeds q (capture q i)
-capture_keeps q i = record {
-  play = omega (arith, set_less q.own (i - 1), set_less q.other (opposite q i - 1));
-  other_store = refl;
-  side = length-set q.own (i - 1) 0;
-  other_side = length-set q.other (opposite q i - 1) 0;
-  rule = refl;
-}
-
--- nor does the move that may make one
-captured_keeps : (q : Position) (o : Option ℕ) → KeepsSeeds q (captured q o)
-captured_keeps q None = record { play = refl; other_store = refl; side = refl; other_side = refl; rule = refl }
-captured_keeps q (Some i) = elim (cases_Bool (can_capture q i)) [
-  | inl taken ↦ rw taken (capture_keeps q i)
-  | inr kept ↦ rw kept (record { play = refl; other_store = refl; side = refl; other_side = refl; rule = refl })
+-- nor does a capture after it
+captured_keeps : {p q : Position} (o : Option ℕ) → KeepsSeeds p q → KeepsSeeds p (captured q o)
+captured_keeps None k = k
+captured_keeps {p} {q} (Some i) k = elim (cases_Bool (can_capture q i)) [
+  | inl taken ↦ rw taken (record {
+    play = omega (arith, k.play, set_less q.own (i - 1), set_less q.other (opposite q i - 1));
+    other_store = k.other_store;
+    side = length-set q.own (i - 1) 0 ∙ k.side;
+    other_side = length-set q.other (opposite q i - 1) 0 ∙ k.other_side;
+    rule = k.rule;
+  })
+  | inr kept ↦ rw kept k
 ]
-
--- two steps that lose no seed lose none together
-keeps_then : (p q r : Position) → KeepsSeeds p q → KeepsSeeds q r → KeepsSeeds p r
-keeps_then p q r h k = record {
-  play = k.play ∙ h.play;
-  other_store = k.other_store ∙ h.other_store;
-  side = k.side ∙ h.side;
-  other_side = k.other_side ∙ h.other_side;
-  rule = k.rule ∙ h.rule;
-}
 
 -- no seed is lost in a move
 pub after_keeps : (a : Rows) (h : ℕ) → IsWithinHouses a → HoldsSeeds (bare a) h → KeepsSeeds (bare a) (after (bare a) h)
 unfolding after
-after_keeps a h w holds = keeps_then (bare a) (sown (bare a) h) _ (sown_keeps a h w holds)
-    (captured_keeps (sown (bare a) h) (last_house (bare a) h))
+after_keeps a h w holds = captured_keeps (last_house (bare a) h) (sown_keeps a h w holds)
 
 -- where the last seed falls, by its place
 module _ (p : Position) (h : ℕ) (holds : HoldsSeeds p h) where
@@ -442,17 +344,17 @@ module _ (p : Position) (h : ℕ) (holds : HoldsSeeds p h) where
   own_at own = elim (cases_lt (lap_length (side_length p)) (h + last_distance p h)) [
     | inl round ↦
         let at = place_round round in
-        own_distance_back (side_length p) h _ (omega (arith, last_high)) ∙ omega arith
+        own_distance_back _ _ _ (omega (arith, last_high)) ∙ omega arith
     | inr near ↦
         let at = place_near (omega arith) in
-        own_distance_past (side_length p) h _ (omega (arith, last_low)) ∙ omega arith
+        own_distance_past _ _ _ (omega (arith, last_low)) ∙ omega arith
   ]
 
   -- it falls into an own house, and may capture
   pub after_own : (r : RowNumbers) → last_place (side_length p) h (seeds p.own h) ≤ side_length p →
       Shows r (captured (sown p h) (Some (last_place (side_length p) h (seeds p.own h)))) → Shows r (after p h)
   after_own r own shows = subst (λ z. Shows r z)
-      (after_at p h (Some _) (last_house_own p h _ holds (omega arith) own (own_at own))) shows
+      (after_at _ _ _ (last_house_own holds (omega arith) own (own_at own))) shows
 
   -- the place of any other cell is its distance past the house
   place_past : side_length p < last_place (side_length p) h (seeds p.own h) →
@@ -471,13 +373,13 @@ module _ (p : Position) (h : ℕ) (holds : HoldsSeeds p h) where
       elim (cases_eq (h + last_distance p h) (side_length p + 1)) [
         | inl store ↦
             let far : store_distance (side_length p) h ≡ last_distance p h = omega arith in
-            subst (λ z. Shows r z) (after_at p h None (last_house_store p h holds far)) shows
+            subst (λ z. Shows r z) (after_at _ _ _ (last_house_store holds far)) shows
         | inr other ↦
             let j = h + last_distance p h - (side_length p + 1) in
             let low : 1 ≤ j = omega (arith, other) in
             let high : j ≤ side_length p = omega arith in
             let far : other_distance (side_length p) h j ≡ last_distance p h = omega (arith, other) in
-            subst (λ z. Shows r z) (after_at p h None (last_house_other p h j holds low high far)) shows
+            subst (λ z. Shows r z) (after_at _ _ _ (last_house_other _ holds low high far)) shows
       ]
 
   -- the mover moves again if it falls into the store
@@ -510,8 +412,8 @@ none_caught rule r last taken told shows =
     }
 
 -- the bit across lies within a key
-pub across_within : (m h c : ℕ) (s : Sowing) → IsSowing m h c s → m ≤ 6 → s.across < 64
-across_within m h c s sowing few = elim (cases_lt m (last_place m h c)) [
+pub across_within : {m : ℕ} (h c : ℕ) (s : Sowing) → IsSowing m h c s → m ≤ 6 → s.across < 64
+across_within {m} h c s sowing few = elim (cases_lt m (last_place m h c)) [
   | inl past ↦ omega (arith, (sowing.elsewhere past).across)
   | inr own ↦ omega (arith, (sowing.own own).across, few)
 ]
@@ -583,7 +485,7 @@ limits_with w own other = record {
 -- a move keeps the houses within the limits
 pub after_within : (a : Rows) (h : ℕ) → IsWithinHouses a → HoldsSeeds (bare a) h → IsWithinHouses (rows_of (after (bare a) h))
 after_within a h w holds =
-    let keeps = after_keeps a h w holds in
+    let keeps = after_keeps _ _ w holds in
     record {
       some_house = omega (arith, keeps.side, w.some_house);
       at_most_six = omega (arith, keeps.side, w.at_most_six);
@@ -610,7 +512,7 @@ pub store_small : {a : Rows} {h : ℕ} {r : RowNumbers} → IsWithinHouses a →
     → Shows r (after (bare a) h) →
     r.store ≤ 31
 store_small {a} {h} {r} w has shows =
-    let keeps = after_keeps a h w (legal_holds (bare a) h has) in
+    let keeps = after_keeps _ _ w (legal_holds _ _ has) in
     omega (arith, shows.store, keeps.play, w.few_seeds)
 
 module _ {a : Rows} {h key seeds : ℕ} {r : RowNumbers} (packed : IsPacked key seeds) (view : rows_at key ≡ a)
@@ -625,11 +527,11 @@ module _ {a : Rows} {h key seeds : ℕ} {r : RowNumbers} (packed : IsPacked key 
 
   -- which lost no seed
   keeps : KeepsSeeds (bare a) moved
-  keeps = after_keeps a h is.limits (legal_holds (bare a) h has)
+  keeps = after_keeps _ _ is.limits (legal_holds _ _ has)
 
   -- and keeps the limits
   within : IsWithinHouses (rows_of moved)
-  within = after_within a h is.limits (legal_holds (bare a) h has)
+  within = after_within _ _ is.limits (legal_holds _ _ has)
 
   -- what came is among the seeds
   pub store_within : r.store ≤ seeds
@@ -659,18 +561,18 @@ module _ {a : Rows} {h key seeds : ℕ} {r : RowNumbers} (packed : IsPacked key 
     -- or the game goes on
     going : is_over moved ≡ false
     going =
-        let own : sum moved.own ≢ 0 = λ e. own_some (shows.own ∙ number_of-zero moved.own e) in
-        let other : sum moved.other ≢ 0 = λ e. other_some (shows.other ∙ number_of-zero moved.other e) in
+        let own : sum moved.own ≢ 0 = λ e. own_some (shows.own ∙ number_of-zero _ e) in
+        let other : sum moved.other ≢ 0 = λ e. other_some (shows.other ∙ number_of-zero _ e) in
         grind (arith, nat_tests, own, other)
 
     -- with the mover
     pub again_packed : is_again (bare a) h ≡ true → IsStepTo a h (r.rows + key / 2 ^ 60 * 2 ^ 60) (seeds - r.store) (Again r.store)
     again_packed more =
-        let above = above_cells a key is.limits is.key_is in
+        let above = above_cells _ _ is.limits is.key_is in
         let rule = ap rule_bit keeps.rule in
-        let there = packed_as (rows_of moved) (r.rows + key / 2 ^ 60 * 2 ^ 60) (seeds - r.store) within
+        let there = packed_as _ _ _ within
         (omega (arith, shows.own, shows.other, keeps.side)) (omega (arith, shows.store, keeps.play, is.seeds_are)) in
-        record { packed = there.0; is = rw (shows.store, there.1) (sym (step_again moved (is_again (bare a) h) going more)) }
+        record { packed = there.0; is = rw (shows.store, there.1) (sym (step_again _ _ going more)) }
 
     -- or with the other player
     pub turn_packed : is_again (bare a) h ≡ false →
@@ -712,14 +614,14 @@ pub step_is : (p : Position) (h : ℕ) → IsWithinHouses (rows_of p) → HoldsS
     step_with p (houses_step (rows_of p) h) ≡ step_of p h
 step_is p h w holds =
     let q = after (bare (rows_of p)) h in
-    let keeps = after_keeps (rows_of p) h w holds in
+    let keeps = after_keeps _ _ w holds in
     step_with_to p q (is_over q) (is_again p h) keeps.side keeps.rule keeps.other_store refl
     ∙ ap (λ x. step_to x (is_again p h)) (sym (after_of_rows p h))
 
 -- and within the limits
-pub step_within : (p : Position) (h : ℕ) → IsWithinLimits p → HoldsSeeds (bare (rows_of p)) h
+pub step_within : {p : Position} (h : ℕ) → IsWithinLimits p → HoldsSeeds (bare (rows_of p)) h
     → IsStepWithin p (houses_step (rows_of p) h)
-step_within p h l holds =
+step_within {p} h l holds =
     let a = rows_of p in
     let q = after (bare a) h in
     let w = rows_within p l in
@@ -755,12 +657,12 @@ pub board_step : {b : Rows} {own_store other_store h : ℕ} {p : Position} {s t 
 board_step {b} {own_store} {other_store} {h} l view has to is =
     let p = with_stores b own_store other_store in
     let legal = subst (λ (x : Position). Contains (legal_houses x) h) (sym view) has in
-    let holds = legal_holds (bare b) h legal in
-    let w = rows_within p l in
+    let holds = legal_holds _ _ legal in
+    let w = rows_within _ l in
     record {
-      same = ap (step_with p) (sym to ∙ is) ∙ step_is p h w holds;
-      within = subst (IsStepWithin p) (sym is ∙ to) (step_within p h l holds);
-      nearer = after_nearer p h (legal_holds p h legal) (record { same = l.same_side });
+      same = ap (step_with p) (sym to ∙ is) ∙ step_is _ _ w holds;
+      within = subst (IsStepWithin p) (sym is ∙ to) (step_within _ l holds);
+      nearer = after_nearer _ _ (legal_holds _ _ legal) (record { same = l.same_side });
     }
 
 -- ==== Moves whose last seed falls into the store without a lap
@@ -772,7 +674,7 @@ module _ {a : Rows} {h key seeds : ℕ} {r : RowNumbers} (packed : IsPacked key 
   w = (pack_of packed view).limits
 
   holds : HoldsSeeds (bare a) h
-  holds = legal_holds (bare a) h has
+  holds = legal_holds _ _ has
 
   -- the last seed falls as far as the house has seeds
   distance : last_distance (bare a) h ≡ position.seeds a.own h
@@ -816,8 +718,8 @@ pub moves_into_store : {a : Rows} {h key seeds house own_more : ℕ} → IsPacke
 moves_into_store {a} {h} {key} {seeds} {house} {own_more} packed view has ends house_is own_more_is =
     let pack = pack_of packed view in
     let w = pack.limits in
-    let holds = legal_holds (bare a) h has in
-    let rows = rows_number_at a key w pack.key_is in
+    let holds = legal_holds _ _ has in
+    let rows = rows_number_at _ _ w pack.key_is in
     let shows = into_store a h w holds (key % 2 ^ 60) house own_more ends rows house_is own_more_is in
     let lies : house ≤ key % 2 ^ 60 = omega (arith, lifted_is a h w holds) in
     let now : key - house + own_more ≡ (key % 2 ^ 60 - house + own_more) + key / 2 ^ 60 * 2 ^ 60 = omega arith in

@@ -84,7 +84,7 @@ distance_range_le (x ∷ xs) a n w near =
     let g : ℕ → ℕ = λ i. slice_index xs (i - (a + 1)) * w i in
     let start : a - a ≡ 0 = omega arith in
     let first : f a ≤ x * n = rw start (mul-le x (w a) x n (omega arith) (near a (omega arith))) in
-    let rest = sum_range_same f g (a + 1) (length xs) (λ j j_low. ap (λ k. k * w j) (slice_index_more x xs a j j_low)) in
+    let rest = sum_range_same f g (a + 1) (length xs) (λ j j_low. ap (λ k. k * w j) (slice_index_more _ _ _ _ j_low)) in
     let below : sum_by f (range_with_len (a + 1) (length xs)) ≤ n * sum xs =
     rw rest (distance_range_le xs (a + 1) n w (λ i low. near i (omega arith))) in
     distance_step _ (f a) _ n x (sum xs) _ (sum_by-cons f a (range_with_len (a + 1) (length xs))) first below (sum_by-cons (λ y. y) x xs)
@@ -174,7 +174,7 @@ same_rows xs ys long each = same_number_lists xs ys long (λ k h.
 pub same_as_row : (xs : List ℕ) (n : ℕ) (f : ℕ → ℕ) → length xs ≡ n →
     ((i : ℕ) → 1 ≤ i → i ≤ n → seeds xs i ≡ f i) →
     xs ≡ row_of n f
-same_as_row xs n f long each = same_rows xs (row_of n f) (long ∙ sym (length-row_of n f)) (λ i low high.
+same_as_row xs n f long each = same_rows _ _ (long ∙ sym (length-row_of n f)) (λ i low high.
     let high' : i ≤ n = omega arith in
     each i low high' ∙ sym (seeds-row_of n f i low high'))
 
@@ -199,9 +199,9 @@ row_of_more n f g i low high here others =
     sym (same_as_row (slice_set (row_of n f) (i - 1) (seeds (row_of n f) i + 1)) n g
     (length-set (row_of n f) (i - 1) (seeds (row_of n f) i + 1) ∙ length-row_of n f)
     (λ j j_low j_high. elim (cases_eq j i) [
-      | inl e ↦ rw e (seeds-set_same (row_of n f) i (seeds (row_of n f) i + 1) low long ∙ ap (λ x. x + 1) (seeds-row_of n f i low high)
+      | inl e ↦ rw e (seeds-set_same _ _ _ low long ∙ ap (λ x. x + 1) (seeds-row_of n f i low high)
           ∙ sym here)
-      | inr ne ↦ seeds-set_other (row_of n f) i j (seeds (row_of n f) i + 1) low j_low ne ∙ seeds-row_of n f j j_low j_high
+      | inr ne ↦ seeds-set_other _ _ _ _ low j_low ne ∙ seeds-row_of n f j j_low j_high
           ∙ sym (others j j_low j_high ne)
     ]))
 
@@ -267,20 +267,20 @@ module _ (p : Position) (h : ℕ) (low : 1 ≤ h) (high : h ≤ side_length p) w
       gain (lap_length (side_length p)) (k + 1) (own_distance (side_length p) h j) ≡ gain (lap_length (side_length p)) k
       (own_distance (side_length p) h j)
   own_kept k d next j j_low j_high ne =
-      gain_same _ k _ (own_distance_low (side_length p) h low high j j_low j_high)
+      gain_same _ _ _ (own_distance_low (side_length p) h low high j j_low j_high)
       (own_distance_high (side_length p) h low high j j_low j_high)
       (λ e. ne (e ∙ sym next))
 
   store_kept : (k d : ℕ) → d ≡ k % lap_length (side_length p) + 1 → store_distance (side_length p) h ≢ d →
       p.own_store + gain (lap_length (side_length p)) (k + 1) (store_distance (side_length p) h)
       ≡ p.own_store + gain (lap_length (side_length p)) k (store_distance (side_length p) h)
-  store_kept k d next ne = ap (λ x. p.own_store + x) (gain_same _ k _ store_low store_high (λ e. ne (e ∙ sym next)))
+  store_kept k d next ne = ap (λ x. p.own_store + x) (gain_same _ _ _ store_low store_high (λ e. ne (e ∙ sym next)))
 
   other_kept : (k d : ℕ) → d ≡ k % lap_length (side_length p) + 1 → (j : ℕ) → j ≤ side_length p
       → other_distance (side_length p) h j ≢ d →
       gain (lap_length (side_length p)) (k + 1) (other_distance (side_length p) h j)
       ≡ gain (lap_length (side_length p)) k (other_distance (side_length p) h j)
-  other_kept k d next j j_high ne = gain_same _ k _ (other_low j) (other_high j j_high) (λ e. ne (e ∙ sym next))
+  other_kept k d next j j_high ne = gain_same _ _ _ (other_low j) (other_high j j_high) (λ e. ne (e ∙ sym next))
 
   -- one seed more goes to the cell at the next distance
   pub sow_more : (k : ℕ) (cell : Cell) → IsCellOf (side_length p) cell
@@ -324,14 +324,14 @@ cell_at m h d low high d_low d_high =
     elim (cases_lt (m + 1 - h) d) [
       | inr near ↦ elim (cases_eq (m + 1 - h) d) [
         | inl store ↦ (Store, tt, store)
-        | inr before ↦ (Own (h + d), (omega arith, omega arith), own_distance_past m h (h + d) (omega arith) ∙ omega arith)
+        | inr before ↦ (Own (h + d), (omega arith, omega arith), own_distance_past _ _ _ (omega arith) ∙ omega arith)
       ]
       | inl past ↦ elim (cases_lt (2 * m + 1 - h) d) [
         | inr near ↦ (Other (d - (m + 1 - h)), (omega arith, omega arith), omega arith)
         | inl far ↦ (
           Own (d - (2 * m + 1 - h)),
           (omega arith, omega arith),
-          own_distance_back m h (d - (2 * m + 1 - h)) (omega arith)
+          own_distance_back _ _ _ (omega arith)
               ∙ omega arith,
         )
       ]
@@ -373,7 +373,7 @@ pub sow_adds : (p : Position) (h : ℕ) → 1 ≤ h → h ≤ side_length p → 
     AddsOne (sow p h k) (sow p h (k + 1))
 sow_adds p h low high k (cell, is_cell, next) =
     let side = sow_side p h k in
-    rw (sow_more p h low high k cell is_cell next) (with_seed_adds (sow p h k) cell (side.1 ∙ sym side.0) (rw side.0 is_cell))
+    rw (sow_more p h low high k cell is_cell next) (with_seed_adds _ _ (side.1 ∙ sym side.0) (rw side.0 is_cell))
 
 -- the cell of the next seed
 pub next_cell : (p : Position) (h : ℕ) → 1 ≤ h → h ≤ side_length p → (k : ℕ) →
@@ -425,24 +425,24 @@ find_none f a (suc n) fails =
     rw first (find_none f (a + 1) n (λ j low high. fails j (omega arith) (omega arith)))
 
 -- the house in which the last seed falls
-pub last_house_own : (p : Position) (h i : ℕ) → HoldsSeeds p h → 1 ≤ i → i ≤ side_length p →
+pub last_house_own : {p : Position} {h i : ℕ} → HoldsSeeds p h → 1 ≤ i → i ≤ side_length p →
     own_distance (side_length p) h i ≡ last_distance p h → last_house p h ≡ Some i
-last_house_own p h i holds low high at = find_in_range (λ j. own_distance (side_length p) h j == last_distance p h) 1 (side_length p) i low
+last_house_own {p} {h} {i} holds low high at = find_in_range (λ j. own_distance (side_length p) h j == last_distance p h) 1 (side_length p) i low
     (omega arith)
     (eq-eqb (own_distance (side_length p) h i) (last_distance p h) at)
     (λ j j_low j_high. ne_eqb (own_distance (side_length p) h j) (last_distance p h) (λ e.
     let ne : j ≢ i = λ same. omega arith in
     own_distance_apart (side_length p) h holds.first holds.last j i j_low (omega arith) low high ne (e ∙ sym at)))
 
-pub last_house_store : (p : Position) (h : ℕ) → HoldsSeeds p h → store_distance (side_length p) h ≡ last_distance p h
+pub last_house_store : {p : Position} {h : ℕ} → HoldsSeeds p h → store_distance (side_length p) h ≡ last_distance p h
     → last_house p h ≡ None
-last_house_store p h holds at = find_none (λ j. own_distance (side_length p) h j == last_distance p h) 1 (side_length p)
+last_house_store {p} {h} holds at = find_none (λ j. own_distance (side_length p) h j == last_distance p h) 1 (side_length p)
     (λ j j_low j_high. ne_eqb (own_distance (side_length p) h j) (last_distance p h) (λ e.
     own_from_store (side_length p) h holds.first holds.last j j_low (omega arith) (e ∙ sym at)))
 
-pub last_house_other : (p : Position) (h i : ℕ) → HoldsSeeds p h → 1 ≤ i → i ≤ side_length p →
+pub last_house_other : {p : Position} {h : ℕ} (i : ℕ) → HoldsSeeds p h → 1 ≤ i → i ≤ side_length p →
     other_distance (side_length p) h i ≡ last_distance p h → last_house p h ≡ None
-last_house_other p h i holds low high at = find_none (λ j. own_distance (side_length p) h j == last_distance p h) 1 (side_length p)
+last_house_other {p} {h} i holds low high at = find_none (λ j. own_distance (side_length p) h j == last_distance p h) 1 (side_length p)
     (λ j j_low j_high. ne_eqb (own_distance (side_length p) h j) (last_distance p h) (λ e.
     own_from_other (side_length p) h holds.first holds.last j i j_low (omega arith) low high (e ∙ sym at)))
 
@@ -460,7 +460,7 @@ contains_range : (f : ℕ → Bool) (a n i : ℕ) → a ≤ i → i < a + n → 
 contains_range f a zero i low high here = absurd (omega arith)
 contains_range f a (suc n) i low high here = elim (cases_eq a i) [
   | inl e ↦ rw (e, here) (Contains-append_left (i ∷ []) (filter f (range_with_len (i + 1) n)) i (Contains-push [] i))
-  | inr ne ↦ contains_kept (f a) a (filter f (range_with_len (a + 1) n)) i (contains_range f (a + 1) n i (omega arith) (omega arith) here)
+  | inr ne ↦ contains_kept _ _ _ _ (contains_range f (a + 1) n i (omega arith) (omega arith) here)
 ]
 
 all_range : (a n : ℕ) → All (λ i. (a ≤ i) × (i < a + n)) (range_with_len a n)
@@ -550,9 +550,9 @@ row_distance-set row i v low high =
     let new = slice_set row (i - 1) v in
     let change = sum_range_change (λ j. seeds new j * (length row + 1 - j)) (λ j. seeds row j * (length row + 1 - j)) 1 (length row) i low
     (omega arith)
-    (λ j j_low ne. ap (λ x. x * (length row + 1 - j)) (seeds-set_other row i j v low j_low ne)) in
+    (λ j j_low ne. ap (λ x. x * (length row + 1 - j)) (seeds-set_other _ _ _ _ low j_low ne)) in
     let at : seeds new i * (length row + 1 - i) ≡ v * (length row + 1 - i) =
-    ap (λ x. x * (length row + 1 - i)) (seeds-set_same row i v low high) in
+    ap (λ x. x * (length row + 1 - i)) (seeds-set_same _ _ _ low high) in
     rw (length-set row (i - 1) v) (change ∙ ap (λ x. row_distance row + x) at)
 
 -- a cell that c seeds reach gets one at least
@@ -575,7 +575,7 @@ row_distance-more row i low high = omega (arith, row_distance-set row i (seeds r
 
 way_with_seed : (q : Position) (i : ℕ) → 1 ≤ i → i ≤ length q.own →
     distance_to_stores (with_seed q (Own i)) ≡ distance_to_stores q + (length q.own + 1 - i)
-way_with_seed q i low high = ap (λ x. x + row_distance q.other) (row_distance-more q.own i low high)
+way_with_seed q i low high = ap (λ x. x + row_distance q.other) (row_distance-more _ _ low high)
     ∙ omega arith
 
 -- the cell of the next seed, while sowing has not reached the store
@@ -603,12 +603,12 @@ module _ (p : Position) (h : ℕ) (holds : HoldsSeeds p h) (same : length p.othe
   way_falls zero near =
       rw (sow_none p h holds.first holds.last same) (omega (arith, row_distance-set p.own h 0 holds.first holds.last))
   way_falls (suc k) near =
-      rw (← add-one k) (fall_step _ _ _ _ k (side_length p - h) (side_length p + 1 - (h + (k + 1))) (way_falls k (omega arith))
+      rw (← add-one k) (fall_step _ _ _ _ _ _ _ (way_falls k (omega arith))
       (way_more k (omega arith)) (omega arith))
 
   -- all seeds fall before the store
   pub way_falls_all : seeds p.own h + h ≤ side_length p → distance_to_stores (sown p h) < distance_to_stores p
-  way_falls_all near = fall_all (distance_to_stores (sown p h)) (distance_to_stores p) (seeds p.own h) (side_length p) h holds.last
+  way_falls_all near = fall_all _ _ _ _ _ holds.last
       (holds.some)
       (way_falls (seeds p.own h) near)
 
@@ -687,8 +687,8 @@ distance_below p even =
 pub moves_left_falls : (p q : Position) → HasEqualSides q → side_length q ≡ side_length p → IsNearerEnd q p
     → moves_left q < moves_left p
 moves_left_falls p q even side (inl fewer) =
-    rw side (lower_by_seeds (side_length p) (seeds_in_houses p) (seeds_in_houses q) (distance_to_stores p) (distance_to_stores q) fewer
-    (rw side at (distance_below q even)))
+    rw side (lower_by_seeds _ _ _ _ _ fewer
+    (rw side at (distance_below _ even)))
 moves_left_falls p q even side (inr near) =
     rw (side, near.0) (omega arith)
 
@@ -850,32 +850,32 @@ six_more n h low =
 pub before_none : (n : ℕ) (p : Position) → AreWaysBefore n p 1 0
 before_none n p = record { sum = refl; small = omega arith }
 
-pub before_more : (n : ℕ) (p : Position) (h total count : ℕ) → AreWaysBefore n p h total → 1 ≤ h → 0 < seeds p.own h →
+pub before_more : {n : ℕ} {p : Position} {h total : ℕ} (count : ℕ) → AreWaysBefore n p h total → 1 ≤ h → 0 < seeds p.own h →
     count ≡ ways_by n p h → count ≤ most_houses ^ n → AreWaysBefore n p (h + 1) (total + count)
-before_more n p h total count before low some is few =
+before_more {n} {p} {h} count before low some is few =
     let sum = sum_by_push (ways_by n p) (seeded_before p.own h) h in
     record {
       sum = rw (seeded_more p.own h low some) (omega (arith, sum));
       small = omega (arith, six_more n h low);
     }
 
-pub before_same : (n : ℕ) (p : Position) (h total : ℕ) → AreWaysBefore n p h total → 1 ≤ h → seeds p.own h ≤ 0
+pub before_same : {n : ℕ} {p : Position} {h total : ℕ} → AreWaysBefore n p h total → 1 ≤ h → seeds p.own h ≤ 0
     → AreWaysBefore n p (h + 1) total
-before_same n p h total before low none = record {
+before_same {n} {p} {h} before low none = record {
   sum = rw (seeded_same p.own h low none) before.sum;
   small = omega (arith, six_more n h low);
 }
 
 -- after the last house they are all ways
-pub before_all : (n : ℕ) (p : Position) (h total : ℕ) → AreWaysBefore n p h total → is_over p ≡ false
+pub before_all : {n : ℕ} {p : Position} {h total : ℕ} → AreWaysBefore n p h total → is_over p ≡ false
     → h ≡ side_length p + 1 →
     total ≡ ways (n + 1) p
-before_all n p h total before going end =
+before_all {n} {p} {h} before going end =
     before.sum ∙ ap (sum_by (ways_by n p)) (seeded_legal p h going end) ∙ sym (ways_more n p)
 
 -- a sum of at most six powers of six is at most the next one
-pub before_small : (n : ℕ) (p : Position) (h total : ℕ) → AreWaysBefore n p h total → h ≤ 7 → total ≤ most_houses ^ (n + 1)
-before_small n p h total before few =
+pub before_small : {n : ℕ} {p : Position} {h total : ℕ} → AreWaysBefore n p h total → h ≤ 7 → total ≤ most_houses ^ (n + 1)
+before_small {n} {p} {h} before few =
     let six : h - 1 ≤ 6 = omega arith in
     let times = mul-le-mul_right (most_houses ^ n) six in
     let power : most_houses ^ (n + 1) ≡ 6 * most_houses ^ n = rw (add-one n) (pow-succ' 6 n) in

@@ -77,46 +77,46 @@ share_by (suc n) a w few = elim (cases_Bool (is_over (bare a))) [
 share_is : (n : ℕ) (z : ℤ) (t : ℕ) → IsShare n z t → count (z +ℤ pos n) / 2 ≡ t
 share_is n z t bounds = rw bounds.is (omega arith)
 
-pub taken_share : (a : Rows) → IsWithinHouses a → IsShare (seeds_in_houses (bare a)) (houses_worth a) (won a)
+pub taken_share : {a : Rows} → IsWithinHouses a → IsShare (seeds_in_houses (bare a)) (houses_worth a) (won a)
 unfolding won
-taken_share a w =
+taken_share {a} w =
     let bounds = share_by (suc (moves_left (bare a))) a w (omega arith) in
     rw (share_is (seeds_in_houses (bare a)) (houses_worth a) bounds.0 bounds.1) bounds.1
 
 -- so houses are worth what the mover takes less the others
 pub worth_of_taken : (a : Rows) → IsWithinHouses a → houses_worth a ≡ pos (won a + won a) -ℤ pos (seeds_in_houses (bare a))
-worth_of_taken a w = omega (arith, ints, (taken_share a w).is)
+worth_of_taken a w = omega (arith, ints, (taken_share w).is)
 
 -- and so no more than their seeds
 pub record IsUpTo (n : ℕ) (z : ℤ) : Type 0 where
   pub low : (pos 0 -ℤ pos n) ≤ℤ z
   pub high : z ≤ℤ pos n
 
-pub worth_up_to : (a : Rows) → IsWithinHouses a → IsUpTo (seeds_in_houses (bare a)) (houses_worth a)
-worth_up_to a w =
-    let bounds = taken_share a w in
+pub worth_up_to : {a : Rows} → IsWithinHouses a → IsUpTo (seeds_in_houses (bare a)) (houses_worth a)
+worth_up_to w =
+    let bounds = taken_share w in
     record { low = omega (arith, ints); high = omega (arith, ints) }
 
 -- which lies in the widest window
 pub worth_low : (a : Rows) → IsWithinHouses a → least_margin ≤ℤ houses_worth a
-worth_low a w = omega (arith, ints, (worth_up_to a w).low)
+worth_low a w = omega (arith, ints, (worth_up_to w).low)
 
 pub worth_high : (a : Rows) → IsWithinHouses a → houses_worth a ≤ℤ most_margin
-worth_high a w = omega (arith, ints, (worth_up_to a w).high)
+worth_high a w = omega (arith, ints, (worth_up_to w).high)
 
 -- and the mover takes half of what they are worth and hold together
 pub half_is : (a : Rows) (worth : ℤ) (half : ℕ) → IsWithinHouses a → worth ≡ houses_worth a →
     IsHalf (worth +ℤ pos (seeds_in_houses (bare a))) half → half ≡ won a
-half_is a worth half w e is = omega (arith, ints, clamps, (taken_share a w).is, is.low, is.high)
+half_is a worth half w e is = omega (arith, ints, clamps, (taken_share w).is, is.low, is.high)
 
 -- the share of a move
 taken_of : (a : Rows) (s : HousesStep) → LeadsOn a s → IsShare (seeds_in_houses (bare a)) (worth_of_step s) (won_by_step s)
 taken_of a (Over own other) leads = record { few = omega arith; is = omega (arith, ints) }
 taken_of a (Again gained b) leads =
-    let on = taken_share b leads.limits in
+    let on = taken_share leads.limits in
     record { few = omega arith; is = omega (arith, ints) }
 taken_of a (Turn gained b) leads =
-    let on = taken_share b leads.limits in
+    let on = taken_share leads.limits in
     record { few = omega arith; is = omega (arith, ints) }
 
 module _ (a : Rows) (w : IsWithinHouses a) where
@@ -127,14 +127,14 @@ module _ (a : Rows) (w : IsWithinHouses a) where
 
   -- no move takes more than best play
   pub taken_most : (h : ℕ) → Contains (legal_houses (bare a)) h → won_by_step (houses_step a h) ≤ won a
-  taken_most h has = omega (arith, ints, (taken_by_move h has).is, (taken_share a w).is, value_le_worth a h w has)
+  taken_most h has = omega (arith, ints, (taken_by_move h has).is, (taken_share w).is, value_le_worth a h w has)
 
   -- and some move takes as many
   pub taken_reached : is_over (bare a) ≡ false → (h : ℕ) × Contains (legal_houses (bare a)) h
       × (won_by_step (houses_step a h) ≡ won a)
   taken_reached going =
-      let at = worth_reached a w going in
-      (at.0, at.1, omega (arith, ints, (taken_by_move at.0 at.1).is, (taken_share a w).is))
+      let at = worth_reached _ w going in
+      (at.0, at.1, omega (arith, ints, (taken_by_move at.0 at.1).is, (taken_share w).is))
 
 -- ==== The answer of the search in a window
 
@@ -156,14 +156,14 @@ won_by_bounds a lo hi n t asked w all ordered apart is e =
     omega (arith, ints, is) in
     let worth_is : pos (2 * won a) -ℤ pos n ≡ houses_worth a = omega (arith, ints, worth_of_taken a w) in
     e ∙ ap (within lo hi) margin ∙ ap (λ s. within lo hi (pos (2 * s) -ℤ pos n)) is
-    ∙ apart (won a) (omega (arith, (taken_share a w).few)) ∙ ap (within lo hi) worth_is
+    ∙ apart (won a) (omega (arith, (taken_share w).few)) ∙ ap (within lo hi) worth_is
 
 -- so does what the mover takes of an ending
-pub told_by_taken : (a : Rows) (lo hi : ℤ) (n t : ℕ) → IsWithinHouses a → n ≡ seeds_in_houses (bare a) → t ≡ won a →
+pub told_by_taken : {a : Rows} (lo hi : ℤ) (n t : ℕ) → IsWithinHouses a → n ≡ seeds_in_houses (bare a) → t ≡ won a →
     {answer : ℤ} → answer ≡ within lo hi (to_z w32 (of_z w32 (to_z w32 (of_z w32 (pos 2 *ℤ to_z w32 t)) -ℤ to_z w32 n))) →
     answer ≡ within lo hi (houses_worth a)
-told_by_taken a lo hi n t w all is e =
-    let few = (taken_share a w).few in
+told_by_taken {a} lo hi n t w all is e =
+    let few = (taken_share w).few in
     let margin : to_z w32 (of_z w32 (to_z w32 (of_z w32 (pos 2 *ℤ to_z w32 t)) -ℤ to_z w32 n)) ≡ houses_worth a =
     omega (arith, ints, is, few, worth_of_taken a w) in
     e ∙ ap (within lo hi) margin

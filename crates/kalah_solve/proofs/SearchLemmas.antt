@@ -67,7 +67,7 @@ top_single (suc q) n high single =
 -- so what is left of some marks without the last was there before, and each that is missing was that one or was not marked
 module _ (marks h : ℕ) (is : IsLastMark marks h) where
   pub last_marked : 0 < cell marks (h - 1)
-  last_marked = top_cell (h - 1) marks is.low is.high
+  last_marked = top_cell _ _ is.low is.high
 
   pub left_before : (i : ℕ) → 0 < cell (marks - 32 ^ (h - 1)) i → 0 < cell marks i
   left_before i some = elim (cases_eq i (h - 1)) [
@@ -76,20 +76,20 @@ module _ (marks h : ℕ) (is : IsLastMark marks h) where
   ]
 
   pub gone_before : (i : ℕ) → i ≢ h - 1 → cell (marks - 32 ^ (h - 1)) i ≡ 0 → cell marks i ≡ 0
-  gone_before i other none = sym (others_stay (h - 1) i marks is.low is.high other) ∙ none
+  gone_before i other none = sym (others_stay _ _ _ is.low is.high other) ∙ none
 
 -- and there are fewer
 power_some : (q : ℕ) → 0 < 32 ^ q
 power_some zero = omega arith
 power_some (suc q) = omega (arith, next_power q, power_some q)
 
-pub marks_fall : (marks h : ℕ) → IsLastMark marks h → marks - 32 ^ (h - 1) < marks
-marks_fall marks h is = omega (arith, power_some (h - 1))
+pub marks_fall : {marks h : ℕ} → IsLastMark marks h → marks - 32 ^ (h - 1) < marks
+marks_fall {marks} {h} is = omega (arith, power_some (h - 1))
 
 -- the last mark is found by the leading zeros
-pub last_by_zeros : (marks zeros : ℕ) → 0 < marks → marks < 2 ^ 30 → zeros ≡ count_leading_zeros 64 marks
+pub last_by_zeros : {marks : ℕ} (zeros : ℕ) → 0 < marks → marks < 2 ^ 30 → zeros ≡ count_leading_zeros 64 marks
     → IsLastMark marks ((63 - zeros) / 5 + 1)
-last_by_zeros marks zeros some small is =
+last_by_zeros {marks} zeros some small is =
     let top = leading_top 64 marks some (omega arith) in
     let q = (63 - zeros) / 5 in
     let at : q + 1 - 1 ≡ q = omega arith in
@@ -109,14 +109,14 @@ last_by_zeros marks zeros some small is =
     }
 
 -- they are where it begins
-pub last_begins : (marks zeros : ℕ) → 0 < marks → AreMarks marks → zeros ≡ count_leading_zeros 64 marks
+pub last_begins : {marks : ℕ} (zeros : ℕ) → 0 < marks → AreMarks marks → zeros ≡ count_leading_zeros 64 marks
     → BeginsHouse (63 - zeros)
-last_begins marks zeros some are is =
+last_begins {marks} zeros some are is =
     let top = leading_top 64 marks some (omega (arith, are.small)) in
     let q = (63 - zeros) / 5 in
     let at : q + 1 - 1 ≡ q = omega arith in
-    let last = last_by_zeros marks zeros some are.small is in
-    let few = top_single q marks (rw at at last.high) (are.single q) in
+    let last = last_by_zeros _ some are.small is in
+    let few = top_single _ _ (rw at at last.high) (are.single q) in
     let place : 63 - zeros ≡ top.0 = omega arith in
     let whole : 5 * q ≡ 63 - zeros = elim (cases_lt (5 * q) (63 - zeros)) [
       | inl less ↦ absurd (let power : 2 ^ suc (5 * q) ≤ 2 ^ top.0 = pow_mono {i = suc (5 * q)} (omega (arith, place)) in
@@ -126,15 +126,15 @@ last_begins marks zeros some are is =
     record { whole = ap (λ n. 5 * n) at ∙ whole; last = omega arith }
 
 -- and worth so much
-pub last_is_worth : (marks bit : ℕ) → marks < 2 ^ 30 → IsLastMark marks (bit / 5 + 1) → BeginsHouse bit →
+pub last_is_worth : {marks bit : ℕ} → marks < 2 ^ 30 → IsLastMark marks (bit / 5 + 1) → BeginsHouse bit →
     1 * 2 ^ bit % 2 ^ 64 ≡ 32 ^ (bit / 5 + 1 - 1)
-last_is_worth marks bit small is begins =
+last_is_worth {marks} {bit} small is begins =
     let power = ap (λ n. 2 ^ n) begins.whole in
     omega (arith, pow_five (bit / 5 + 1 - 1))
 
 -- the others are marks still
-pub marks_fewer : (marks h : ℕ) → AreMarks marks → IsLastMark marks h → AreMarks (marks - 32 ^ (h - 1))
-marks_fewer marks h are is = record {
+pub marks_fewer : {marks h : ℕ} → AreMarks marks → IsLastMark marks h → AreMarks (marks - 32 ^ (h - 1))
+marks_fewer {marks} {h} are is = record {
   small = omega (arith, are.small);
   single = λ i. elim (cases_eq i (h - 1)) [
     | inl same ↦ rw same (omega (arith, top_less (h - 1) marks is.low is.high, are.single (h - 1)))
@@ -149,8 +149,8 @@ cell_past (suc k) zero n small past = absurd (omega arith)
 cell_past (suc k) (suc i) n small past = cell_past k i (n / 32) (omega (arith, next_power k)) (omega arith)
 
 -- six cells with one at most are marks
-pub six_marks : (n : ℕ) → n < 2 ^ 30 → ((i : ℕ) → i < 6 → cell n i ≤ 1) → AreMarks n
-six_marks n small single = record {
+pub six_marks : {n : ℕ} → n < 2 ^ 30 → ((i : ℕ) → i < 6 → cell n i ≤ 1) → AreMarks n
+six_marks {n} small single = record {
   small = small;
   single = λ i. elim (cases_lt i 6) [ inl inside ↦ single i inside | inr past ↦ omega (arith, cell_past 6 i n small past) ];
 }
@@ -202,14 +202,14 @@ filled_step k x r small =
     let halved : (rest * 32 + d) / 16 ≡ rest / 16 * 32 + (rest % 16 * 2 + d / 16) = omega arith in
     let marks = and_block 5 (rest / 16) (each k 1) (rest % 16 * 2 + d / 16) 1 (omega arith) (omega arith) in
     let parity = and_mask (rest % 16 * 2 + d / 16) 1 in
-    let one = one_filled x small in
+    let one = one_filled _ small in
     let last : (rest % 16 * 2 + d / 16) % 2 ≡ min 1 x = omega arith in
     rw (both, added, either, halved, marks, parity, last) refl
 
 filled_next : (k n : ℕ) → filled_cells (suc k) n ≡ filled_cells k (n / 32) * 32 + min 1 (n % 32)
 filled_next k n =
     let parts : n ≡ n / 32 * 32 + n % 32 = omega arith in
-    ap (λ j. filled_cells (suc k) j) parts ∙ filled_step k (n % 32) (n / 32) (omega arith)
+    ap (λ j. filled_cells (suc k) j) parts ∙ filled_step _ _ _ (omega arith)
 
 pub filled_cell : (k n i : ℕ) → i < k → cell (filled_cells k n) i ≡ min 1 (cell n i)
 filled_cell zero n i inside = absurd (omega arith)
@@ -253,7 +253,7 @@ one_ending x d = elim (cases_eq x d) [
       (λ some. same, λ is. omega arith)
   | inr other ↦
       let some : 0 < bit_xor x d = elim (cases_eq (bit_xor x d) 0)
-      [ inl none ↦ absurd (other (xor_apart x d none)) | inr more ↦ omega arith ] in
+      [ inl none ↦ absurd (other (xor_apart _ _ none)) | inr more ↦ omega arith ] in
       let full : min 1 (bit_xor x d) ≡ 1 = omega arith in
       let none : bit_xor (min 1 (bit_xor x d)) 1 ≡ 0 = rw full refl in
       (λ marked. absurd (omega arith), λ is. absurd (other is))
@@ -264,13 +264,13 @@ module _ (f d e m n i : ℕ) (few : m ≤ 6) (d_is : d ≡ distances m) (e_is : 
     (f_is : cell f i ≡ min 1 (cell (bit_xor n d) i)) where
   ending_cell : cell (bit_xor f e) i ≡ bit_xor (min 1 (bit_xor (cell n i) (m - i))) (cell (each m 1) i)
   ending_cell =
-      let compared = cell_xor i n d ∙ ap (λ j. bit_xor (cell n i) j) (ap (λ k. cell k i) d_is ∙ cell_of_distances m i few) in
+      let compared = cell_xor i n d ∙ ap (λ j. bit_xor (cell n i) j) (ap (λ k. cell k i) d_is ∙ cell_of_distances _ _ few) in
       cell_xor i f e ∙ ap (λ k. bit_xor (cell f i) (cell k i)) e_is
       ∙ ap (λ j. bit_xor j (cell (each m 1) i)) (f_is ∙ ap (λ j. min 1 j) compared)
 
   pub ending_marked : i < m → (0 < cell (bit_xor f e) i) ↔ (cell n i + i ≡ m)
   ending_marked inside =
-      let is = ending_cell ∙ ap (λ j. bit_xor (min 1 (bit_xor (cell n i) (m - i))) j) (cell_of_each m i inside) in
+      let is = ending_cell ∙ ap (λ j. bit_xor (min 1 (bit_xor (cell n i) (m - i))) j) (cell_of_each _ _ inside) in
       let one = one_ending (cell n i) (m - i) in (
         λ some. omega (arith, one.0 (omega arith)),
         λ ends. let same : cell n i ≡ m - i = omega arith in
@@ -329,7 +329,7 @@ module _ (a : Rows) (row : ℕ) (w : IsWithinHouses a) (row_is : row ≡ number_
         let is = cells i inside in
         (λ some. omega (arith, own_cell i), λ some. omega (arith, own_cell i))
     | inr past ↦
-        let none = cell_past 6 i n small past in
+        let none = cell_past _ _ _ small past in
         let nothing = own_past i (omega arith) in
         (λ some. absurd (omega arith), λ some. absurd (omega arith))
   ]
@@ -348,7 +348,7 @@ module _ (a : Rows) (row : ℕ) (w : IsWithinHouses a) (row_is : row ≡ number_
       | inr is_past ↦
           let none : cell n i ≡ 0 = elim (cases_lt i 6) [
             | inl low ↦ past i low is_past (own_cell i ∙ own_past i (omega arith))
-            | inr high ↦ cell_past 6 i n small high
+            | inr high ↦ cell_past _ _ _ small high
           ] in
           (λ some. absurd (omega arith), λ both. absurd (let low = both.0 in omega arith))
     ]
@@ -364,7 +364,7 @@ module _ (a : Rows) (row : ℕ) (w : IsWithinHouses a) (row_is : row ≡ number_
           let within : 0 < cell n i → 0 < cell row i =
           λ some. let both = again.0 some in let ends = (ends_at i).0 both.1 in let before = both.0 in
           omega (arith, own_cell i) in
-          let one = one_other (cell row i) (cell f i) (cell n i) (cells i low) (single i low) within in (
+          let one = one_other _ _ _ (cells i low) (single i low) within in (
             λ some. let both = one.0 (omega arith) in
                 let filled : 0 < slice_index a.own i = let has = both.0 in omega (arith, own_cell i) in (
                   filled,
@@ -382,7 +382,7 @@ module _ (a : Rows) (row : ℕ) (w : IsWithinHouses a) (row_is : row ≡ number_
                 omega arith,
           )
       | inr high ↦
-          let none = cell_past 6 i (bit_xor f n) (xor_lt 30 f n few small) high in
+          let none = cell_past _ _ _ (xor_lt 30 f n few small) high in
           let nothing = own_past i (omega arith) in
           (λ some. absurd (omega arith), λ both. absurd (let has = both.0 in omega arith))
     ]
@@ -400,8 +400,8 @@ short_of r bar x says fails = elim (cases_lt x bar) [
 ]
 
 -- a bound is at most the greater of `bar` and the number
-pub bound_up_to : (bar number bound : ℕ) → IsSoftBound bar number bound → bound ≤ max bar number
-bound_up_to bar number bound is = elim (cases_lt bound bar) [
+pub bound_up_to : {bar number bound : ℕ} → IsSoftBound bar number bound → bound ≤ max bar number
+bound_up_to {bar} {number} {bound} is = elim (cases_lt bound bar) [
   | inl less ↦ omega arith
   | inr enough ↦ omega (arith, is.lower enough)
 ]
@@ -444,21 +444,21 @@ turn_bound : (a : Rows) (bar h priority bound : ℕ) (b : Rows) → IsTurnOf a h
     IsSoftBound bar (won_by_step (houses_step a h)) bound
 turn_bound a bar h priority bound b turn is = rw turn.step is
 
-pub turn_enough : (a : Rows) (bar h priority bound : ℕ) (b : Rows) → IsWithinHouses a → IsTurnOf a h priority b →
+pub turn_enough : {a : Rows} {bar h priority : ℕ} (bound : ℕ) (b : Rows) → IsWithinHouses a → IsTurnOf a h priority b →
     IsSoftBound bar (seeds_in_houses (bare a) - seeds_in_houses (bare b) + (seeds_in_houses (bare b) - won b)) bound → bar ≤ bound
     → bound ≤ won a
-turn_enough a bar h priority bound b w turn is = move_enough a bar h bound w turn.legal (turn_bound a bar h priority bound b turn is)
+turn_enough bound b w turn is = move_enough _ _ _ _ w turn.legal (turn_bound _ _ _ _ _ _ turn is)
 
-pub turn_at_most : (a : Rows) (bar h priority bound : ℕ) (b : Rows) → IsTurnOf a h priority b →
+pub turn_at_most : {a : Rows} {bar h priority : ℕ} (bound : ℕ) (b : Rows) → IsTurnOf a h priority b →
     IsSoftBound bar (seeds_in_houses (bare a) - seeds_in_houses (bare b) + (seeds_in_houses (bare b) - won b)) bound → bound < bar
     → WinsAtMost a bound h
-turn_at_most a bar h priority bound b turn is short = (turn_bound a bar h priority bound b turn is).upper short
+turn_at_most bound b turn is short = (turn_bound _ _ _ _ _ _ turn is).upper short
 
 -- a turn that was played waits
-pub turn_of : (a : Rows) (h priority gained : ℕ) (b : Rows) → IsWithinHouses a → Contains (legal_houses (bare a)) h →
+pub turn_of : {a : Rows} {h priority gained : ℕ} {b : Rows} → IsWithinHouses a → Contains (legal_houses (bare a)) h →
     Turn gained b ≡ houses_step a h → priority % 8 + 1 ≡ h → IsTurnOf a h priority b
-turn_of a h priority gained b w has is house =
-    let on = leads_by a h (Turn gained b) w has is in
+turn_of {a} {h} {priority} {gained} {b} w has is house =
+    let on = leads_by _ _ w has is in
     let brought : gained ≡ seeds_in_houses (bare a) - seeds_in_houses (bare b) = omega arith in
     record { legal = has; step = sym is ∙ ap (λ g. Turn g b) brought; house = house }
 
@@ -466,7 +466,7 @@ turn_of a h priority gained b w has is house =
 pub turn_keeps : (a : Rows) (h priority : ℕ) (b : Rows) → IsWithinHouses a → IsTurnOf a h priority b →
     seeds_in_houses (bare b) ≤ seeds_in_houses (bare a)
 turn_keeps a h priority b w turn =
-    let on = leads_by a h (Turn _ b) w turn.legal (sym turn.step) in
+    let on = leads_by _ _ w turn.legal (sym turn.step) in
     omega arith
 
 -- best play takes no more than each legal move does
@@ -533,7 +533,7 @@ module _ (a : Rows) (most marks h : ℕ) (priorities : List ℕ) (turns : List R
   pub played_more : (v : ℕ) (b : Rows) → 0 < v → IsTurnOf a h v b →
       ArePlayed a most (marks - 32 ^ (h - 1)) (slice_set priorities (h - 1) v) (slice_set turns (h - 1) b)
   played_more v b some turn = let inside : h - 1 < length priorities = omega arith in record {
-    waiting = turns_more a h priorities turns v b is.waiting is.places last.first last.last turn;
+    waiting = turns_more _ _ _ _ _ _ is.waiting is.places last.first last.last turn;
     places = length-set turns (h - 1) b ∙ is.places;
     others = λ i may gone none apart. elim (cases_eq i h) [
       | inl same ↦
@@ -564,11 +564,11 @@ module _ (a : Rows) (most marks h : ℕ) (priorities : List ℕ) (turns : List R
   }
 
 -- before any was played
-pub played_none : (a : Rows) (most marks : ℕ) (priorities : List ℕ) (turns : List Rows) → length priorities ≡ 8
+pub played_none : {a : Rows} {most marks : ℕ} {priorities : List ℕ} {turns : List Rows} → length priorities ≡ 8
     → length turns ≡ 6 →
     ((k : ℕ) → get_or priorities k 0 ≡ 0) →
     ((i : ℕ) → (0 < cell marks i) ↔ ((0 < get_or a.own i 0) × ¬ EndsInStore a (i + 1))) → ArePlayed a most marks priorities turns
-played_none a most marks priorities turns cells places empty marked = record {
+played_none {a} cells places empty marked = record {
   waiting = record { cells = cells; each = λ k some. absurd (omega (arith, empty k)) };
   places = places;
   others = λ i may gone none apart. absurd (
@@ -579,9 +579,9 @@ played_none a most marks priorities turns cells places empty marked = record {
 }
 
 -- each marked house with seeds may be moved
-pub marked_legal : (a : Rows) (i : ℕ) → IsWithinHouses a → is_over (bare a) ≡ false → 0 < get_or a.own i 0 →
+pub marked_legal : {a : Rows} (i : ℕ) → IsWithinHouses a → is_over (bare a) ≡ false → 0 < get_or a.own i 0 →
     Contains (legal_houses (bare a)) (i + 1)
-marked_legal a i w going some = elim (cases_lt i (length a.own)) [
+marked_legal {a} i w going some = elim (cases_lt i (length a.own)) [
   | inl inside ↦
       let at : i + 1 - 1 ≡ i = omega arith in
       filled_legal a (i + 1) going (omega arith) (omega arith) (rw at some)
@@ -589,10 +589,10 @@ marked_legal a i w going some = elim (cases_lt i (length a.own)) [
 ]
 
 -- and so may each that ends in the store
-pub ending_legal : (a : Rows) (i : ℕ) → IsWithinHouses a → is_over (bare a) ≡ false → i < length a.own
+pub ending_legal : {a : Rows} (i : ℕ) → IsWithinHouses a → is_over (bare a) ≡ false → i < length a.own
     → EndsInStore a (i + 1) →
     Contains (legal_houses (bare a)) (i + 1)
-ending_legal a i w going inside ends = filled_legal a (i + 1) going (omega arith) (omega arith) (omega arith)
+ending_legal {a} i w going inside ends = filled_legal a (i + 1) going (omega arith) (omega arith) (omega arith)
 
 -- what holds of each marked house holds of those that stay marked
 pub each_fewer : (P : ℕ → Type 0) (marks h : ℕ) → IsLastMark marks h → ((i : ℕ) → 0 < cell marks i → P (i + 1)) →
@@ -617,7 +617,7 @@ last_legal {a} {marks} {h} may last = each_last (Contains (legal_houses (bare a)
 -- and those before it
 pub moves_fewer : {a : Rows} {marks h : ℕ} → MayMove a marks → IsLastMark marks h → MayMove a (marks - 32 ^ (h - 1))
 moves_fewer {a} {marks} {h} may last = record {
-  are = marks_fewer marks h may.are last;
+  are = marks_fewer may.are last;
   legal = each_fewer (Contains (legal_houses (bare a))) marks h last may.legal;
 }
 
@@ -693,8 +693,8 @@ untried_fewer a most priorities turns at bound new is place takes new_is = recor
 }
 
 -- if no priority is left, best play takes at most as many
-pub none_untried : (a : Rows) (most : ℕ) (priorities : List ℕ) (turns : List Rows) (highest : ℕ) → IsWithinHouses a
+pub none_untried : {a : Rows} {most : ℕ} {priorities : List ℕ} {turns : List Rows} (highest : ℕ) → IsWithinHouses a
     → is_over (bare a) ≡ false →
     AreUntried a most priorities turns → ((k : ℕ) → get_or priorities k 0 ≤ highest) → highest ≡ 0 → won a ≤ most
-none_untried a most priorities turns highest w going is above none =
+none_untried {a} {most} highest w going is above none =
     all_at_most a most w going (λ h has. is.tried h has (let below = above (h - 1) in omega arith))

@@ -99,7 +99,7 @@ contains_only x h (suc i) within at = absurd (omega arith)
 
 -- who follows a strategy moves its house
 pub followed : (s : Strategy) (p : Position) (h : ℕ) → Contains (follow s p) h → s p ≡ h
-followed s p h has = contains_only (s p) h has.0 has.1 has.2
+followed s p h has = contains_only _ _ _ has.1 has.2
 
 -- so there is no choice
 pub follow_one : (s : Strategy) → HasNoChoice (follow s)
@@ -147,19 +147,19 @@ widened m t even (is_at_end over) = is_at_end over
 widened {mine} {theirs} {mine'} {theirs'} {p} m t even (moves_on {h = h} going has again rest) =
     moves_on going (m.widens p h even going has) again (widened m t (after_equal_sides p h) rest)
 widened {mine} {theirs} {mine'} {theirs'} {p} m t even (passes_turn {h = h} going has turn rest) =
-    passes_turn going (m.widens p h even going has) turn (widened t m (swapped_equal_sides (after p h) (after_equal_sides p h)) rest)
+    passes_turn going (m.widens p h even going has) turn (widened t m (swapped_equal_sides _ (after_equal_sides p h)) rest)
 
 -- a way is as wide as itself
 pub same_way : (way : Way) → IsWithin way way
 same_way way = record { widens = λ p h even going has. has }
 
 -- a strategy is within the rules
-pub strategy_within : (s : Strategy) → IsStrategy s → IsWithin (follow s) legal_houses
-strategy_within s ok = record { widens = λ p h even going has. rw (← followed s p h has) (ok.moves p even going) }
+pub strategy_within : {s : Strategy} → IsStrategy s → IsWithin (follow s) legal_houses
+strategy_within {s} ok = record { widens = λ p h even going has. rw (← followed s p h has) (ok.moves p even going) }
 
 -- so it keeps to them
 pub strategy_keeps : (s : Strategy) → IsStrategy s → KeepsRules (follow s)
-strategy_keeps s ok = record { legal_only = (strategy_within s ok).widens }
+strategy_keeps s ok = record { legal_only = (strategy_within ok).widens }
 
 -- ==== What players who play best secure
 
@@ -200,19 +200,19 @@ bounds {p = p} m t even (passes_turn {h = h} {final = final} going has turn rest
 
 -- always moving the lowest best house is best for either side
 pub best_is_strategy : IsStrategy best_house
-best_is_strategy = record { moves = λ p even going. (best_found p even going).0 }
+best_is_strategy = record { moves = λ p even going. (best_found _ even going).0 }
 
 -- the best house has the greatest value
 pub best_plays : PlaysBest (follow best_house)
-best_plays = record { attains = λ p h even going has. rw (← followed best_house p h has) (best_attains p even going) }
+best_plays = record { attains = λ p h even going has. rw (← followed best_house p h has) (best_attains even going) }
 
 -- it gets the mover at least the worth
 pub best_secures : (p : Position) → HasEqualSides p → Secures best_house p (worth p)
-best_secures p even = λ houses final game. (bounds (strategy_keeps best_house best_is_strategy) legal_keeps even game).low best_plays
+best_secures p even = λ houses final game. (bounds (strategy_keeps _ best_is_strategy) legal_keeps even game).low best_plays
 
 -- and holds the mover to it when the other player moves so
 pub best_holds : (p : Position) → HasEqualSides p → HoldsTo best_house p (worth p)
-best_holds p even = λ houses final game. (bounds legal_keeps (strategy_keeps best_house best_is_strategy) even game).high best_plays
+best_holds p even = λ houses final game. (bounds legal_keeps (strategy_keeps _ best_is_strategy) even game).high best_plays
 
 -- the law on the best house
 pub best_house_is_best_play : BestHouseIsBestPlay
@@ -221,8 +221,8 @@ best_house_is_best_play = record { is_strategy = best_is_strategy; secures = bes
 -- the law on the worth
 pub worth_is_best : WorthIsBestPlay
 worth_is_best p even = record {
-  secured = (best_house, best_is_strategy, best_secures p even);
-  held = (best_house, best_is_strategy, best_holds p even);
+  secured = (best_house, best_is_strategy, best_secures _ even);
+  held = (best_house, best_is_strategy, best_holds _ even);
 }
 
 -- a game of two strategies is one of either against any play
@@ -231,13 +231,13 @@ module _ (mine theirs : Strategy) (m : IsStrategy mine) (t : IsStrategy theirs) 
   pub ends_at_least : Secures mine p v → EndsWithAtLeast mine theirs p v
   ends_at_least secures =
       let game = game_ends mine theirs m t p even in
-      (game.0, game.1, game.2, secures game.0 game.1 (widened (same_way (follow mine)) (strategy_within theirs t) even game.2))
+      (game.0, game.1, game.2, secures game.0 game.1 (widened (same_way (follow mine)) (strategy_within t) even game.2))
 
   -- and what a strategy of the opponent allows is the most
   pub ends_at_most : HoldsTo theirs p v → EndsWithAtMost mine theirs p v
   ends_at_most holds =
       let game = game_ends mine theirs m t p even in
-      (game.0, game.1, game.2, holds game.0 game.1 (widened (strategy_within mine m) (same_way (follow theirs)) even game.2))
+      (game.0, game.1, game.2, holds game.0 game.1 (widened (strategy_within m) (same_way (follow theirs)) even game.2))
 
 -- the law on two strategies
 pub best_against_strategies : BestPlayAgainstStrategies
@@ -246,13 +246,13 @@ best_against_strategies = record {
     best_house,
     best_is_strategy,
     λ theirs t. ends_at_least best_house theirs best_is_strategy t p even (worth p)
-        (best_secures p even),
+        (best_secures _ even),
   );
   held = λ p even. (
     best_house,
     best_is_strategy,
     λ mine m. ends_at_most mine best_house m best_is_strategy p even (worth p)
-        (best_holds p even),
+        (best_holds _ even),
   );
 }
 
@@ -273,20 +273,20 @@ best_play_is_one p v w even a b = omega (arith, ints, secured_at_most p v w even
 -- the value of a move is the margin of best play after it
 pub move_worth : (p : Position) (h : ℕ) → IsWorthOfMove p h (value_of_move p h)
 move_worth p h = record {
-  again = λ more. subst (IsBestPlay (after p h)) (sym (value_going_on p h more)) (worth_is_best (after p h) (after_equal_sides p h));
+  again = λ more. subst (IsBestPlay (after p h)) (sym (value_going_on _ _ more)) (worth_is_best (after p h) (after_equal_sides p h));
   turn = λ passed.
       let other = swapped (after p h) in
       let same : worth other ≡ neg_ℤ (value_of_move p h) = omega (arith, ints, value_passing p h passed) in
-      subst (IsBestPlay other) same (worth_is_best other (swapped_equal_sides (after p h) (after_equal_sides p h)));
+      subst (IsBestPlay other) same (worth_is_best other (swapped_equal_sides _ (after_equal_sides p h)));
 }
 
 -- and no other number is
-pub move_worth_is_one : (p : Position) (h : ℕ) (v w : ℤ) → IsWorthOfMove p h v → IsWorthOfMove p h w → v ≡ w
-move_worth_is_one p h v w a b = elim (cases_Bool (is_again p h)) [
+pub move_worth_is_one : {p : Position} {h : ℕ} {v w : ℤ} → IsWorthOfMove p h v → IsWorthOfMove p h w → v ≡ w
+move_worth_is_one {p} {h} {v} {w} a b = elim (cases_Bool (is_again p h)) [
   | inl more ↦ best_play_is_one (after p h) v w (after_equal_sides p h) (a.again more) (b.again more)
   | inr passed ↦
       let same = best_play_is_one (swapped (after p h)) (neg_ℤ v) (neg_ℤ w)
-      (swapped_equal_sides (after p h) (after_equal_sides p h)) (a.turn passed) (b.turn passed) in
+      (swapped_equal_sides _ (after_equal_sides p h)) (a.turn passed) (b.turn passed) in
       omega (arith, ints)
 ]
 
@@ -301,11 +301,11 @@ attaining_is_best p h even has attains = record {
 
 -- and so each best move does
 attains_if_best : (p : Position) (h : ℕ) → IsBestMove p h (worth p) → value_of_move p h ≡ worth p
-attains_if_best p h is = move_worth_is_one p h (value_of_move p h) (worth p) (move_worth p h) is.worth
+attains_if_best p h is = move_worth_is_one (move_worth p h) is.worth
 
 -- the best house is a best move
 pub best_move : (p : Position) → HasEqualSides p → is_over p ≡ false → IsBestMove p (best_house p) (worth p)
-best_move p even going = attaining_is_best p (best_house p) even (best_found p even going).0 (best_attains p even going)
+best_move p even going = attaining_is_best _ _ even (best_found _ even going).0 (best_attains even going)
 
 -- the best house is the lowest legal house that attains the worth
 pub best_lowest : (p : Position) (h : ℕ) → is_over p ≡ false → Contains (legal_houses p) h → value_of_move p h ≡ worth p
@@ -314,23 +314,23 @@ best_lowest p h going is_legal attains =
     let ascending : legal_houses p ≡ filter (λ i. nat_lt 0 (seeds p.own i)) (range_with_len 1 (side_length p)) =
     ap (λ (b : Bool). if b then [] else filter (λ i. nat_lt 0 (seeds p.own i)) (range_with_len 1 (side_length p))) going in
     lowest_of (λ k. int_eq (value_of_move p k) (worth p)) (λ i. nat_lt 0 (seeds p.own i)) 1 (side_length p) h (legal_houses p) ascending
-    is_legal (eq_yes (value_of_move p h) (worth p) attains)
+    is_legal (eq_yes _ _ attains)
 
 -- the law on the best house
 pub best_is_lowest : BestHouseIsLowest
 best_is_lowest p even going = record {
-  is_legal = (best_found p even going).0;
-  attains = best_attains p even going;
-  lowest = λ h is_legal attains. best_lowest p h going is_legal attains;
+  is_legal = (best_found _ even going).0;
+  attains = best_attains even going;
+  lowest = λ h is_legal attains. best_lowest _ _ going is_legal attains;
 }
 
 -- and the lowest best move
 pub best_house_lowest : (p : Position) (h : ℕ) → is_over p ≡ false → IsBestMove p h (worth p) → best_house p ≤ h
-best_house_lowest p h going is = best_lowest p h going is.legal (attains_if_best p h is)
+best_house_lowest p h going is = best_lowest _ _ going is.legal (attains_if_best _ _ is)
 
 -- the law on best moves
 pub best_moves : BestMovesAttain
-best_moves p h even going = (λ is. (is.legal, attains_if_best p h is), λ is. attaining_is_best p h even is.0 is.1)
+best_moves p h even going = (λ is. (is.legal, attains_if_best _ _ is), λ is. attaining_is_best _ _ even is.0 is.1)
 
 -- ==== The verdict states best play, and no other does
 
@@ -383,7 +383,7 @@ verdict_told p (Over margin) even tells = verdict_of_over p margin tells.over te
 
 -- the law on one verdict
 pub verdict_is_one : BestVerdictIsOne
-verdict_is_one p v w even one other = verdict_told p v even one ∙ sym (verdict_told p w even other)
+verdict_is_one p v w even one other = verdict_told _ _ even one ∙ sym (verdict_told _ _ even other)
 
 -- ==== What a move secures, and that the values of the moves determine the verdict
 
@@ -393,7 +393,7 @@ value_is_worth p h even going is_legal = move_worth p h
 
 -- the law on one value
 pub worth_of_move_is_one : WorthOfMoveIsOne
-worth_of_move_is_one p h v w even going a b = move_worth_is_one p h v w a b
+worth_of_move_is_one p h v w even going a b = move_worth_is_one a b
 
 -- ---- the values of all moves
 
@@ -407,8 +407,8 @@ tell_none : (p : Position) → All (λ (v : MoveValue). IsWorthOfMove p v.house 
 tell_none p = All-from_get_or (λ (v : MoveValue). IsWorthOfMove p v.house v.value) [] (move_value p 0) (λ i within. absurd (omega arith))
 
 -- the values of the moves are what these secure; if the game is over there are none
-pub values_tell : (p : Position) → HasEqualSides p → TellMoves p (values_of p)
-values_tell p even = record {
+pub values_tell : {p : Position} → HasEqualSides p → TellMoves p (values_of p)
+values_tell {p} even = record {
   houses = houses_of p (legal_houses p);
   worth = elim (cases_Bool (is_over p)) [
     | inl over ↦ rw over (tell_none p)
@@ -437,7 +437,7 @@ first_with p m (x ∷ xs) = elim (cases_Bool (int_eq (value_of_move p x) m)) [
 pub values_tell_verdict : ValuesTellVerdict
 values_tell_verdict p even going =
     let most = ap greatest (values_alone p (legal_houses p))
-    ∙ sym (worth_of_going p even going) in
+    ∙ sym (worth_of_going _ even going) in
     let first = first_with p (worth p) (legal_houses p) in
     ap (λ m. Best m (unwrap_or (option_map (λ v. v.house) (find (λ v. int_eq v.value m) (values_of p))) 0)) most
     ∙ ap (λ o. Best (worth p) (unwrap_or o 0)) first
@@ -455,9 +455,9 @@ find_at p (x ∷ xs) (suc i) within fails here =
     rw first (find_at p xs i (omega arith) (λ k low. fails (suc k) (omega arith)) here)
 
 -- in the whole window the answer is the worth
-pub whole_window : (a : Rows) (found lo hi : ℤ) → IsWithinHouses a → lo ≡ least_margin → hi ≡ most_margin →
+pub whole_window : {a : Rows} (found lo hi : ℤ) → IsWithinHouses a → lo ≡ least_margin → hi ≡ most_margin →
     found ≡ within lo hi (houses_worth a) → found ≡ houses_worth a
-whole_window a found lo hi limits lo_is hi_is e = omega (arith, ints, clamps, worth_low a limits, worth_high a limits)
+whole_window {a} found lo hi limits lo_is hi_is e = omega (arith, ints, clamps, worth_low a limits, worth_high a limits)
 
 -- the first i houses are worth less than the margin of best play
 abbrev pub FallShort : Rows → ℕ → Type 0
@@ -469,12 +469,12 @@ module _ (a : Rows) (w : IsWithinHouses a) where
       → value_of_move (bare a) h ≡ houses_worth a
   enough_is h has enough =
       let most = taken_most a w h has in
-      omega (arith, ints, (taken_by_move a w h has).is, (taken_share a w).is)
+      omega (arith, ints, (taken_by_move a w h has).is, (taken_share w).is)
 
   -- and one that takes fewer is worth less
   short_is : (h : ℕ) → Contains (legal_houses (bare a)) h → won_by_step (houses_step a h) < won a
       → value_of_move (bare a) h <ℤ houses_worth a
-  short_is h has less = omega (arith, ints, (taken_by_move a w h has).is, (taken_share a w).is)
+  short_is h has less = omega (arith, ints, (taken_by_move a w h has).is, (taken_share w).is)
 
   -- the first house that is worth the margin is the one
   root_is : (i : ℕ) → i < length (legal_houses (bare a)) → FallShort a i →
@@ -505,7 +505,7 @@ module _ (a : Rows) (w : IsWithinHouses a) where
       get_or (legal_houses (bare a)) n 0 ≡ best_house (bare a)
   root_last n going many short =
       let one = greatest_is_one (value_of_move (bare a)) (legal_houses (bare a)) (omega arith) in
-      let worth_is = worth_of_going (bare a) (record { same = w.same_side }) going in
+      let worth_is = worth_of_going _ (record { same = w.same_side }) going in
       let inside = one.1.1 in
       let place = get_or_default (legal_houses (bare a)) one.1.0 0 one.0 inside
       ∙ one.1.2 in
@@ -525,7 +525,7 @@ pub margin_small : (p : Position) (best margin : ℤ) → IsWithinLimits p → b
     margin ≡ best +ℤ (pos p.own_store -ℤ pos p.other_store)
     → IsSmallMargin margin
 margin_small p best margin limits best_is e =
-    let bounds = worth_up_to (rows_of p) (rows_within p limits) in
+    let bounds = worth_up_to (rows_within p limits) in
     record {
       low = omega (arith, ints, bounds.low);
       high = omega (arith, ints, bounds.high);
@@ -597,6 +597,6 @@ six_more count cells v six few =
     record {
       cells_are_six = length-set cells count v ∙ six.cells_are_six;
       few = omega arith;
-      rest_is_none = ap (padded_with no_value) more ∙ sym (padded_more (take count cells) v (omega arith))
+      rest_is_none = ap (padded_with no_value) more ∙ sym (padded_more _ _ (omega arith))
           ∙ ap (λ n. slice_set (padded_with no_value (take count cells)) n v) long ∙ ap (λ cs. slice_set cs count v) six.rest_is_none;
     }

@@ -77,8 +77,8 @@ same_before j k n d before =
 pub same_elsewhere : (j k n d : ℕ) → j ≢ k → n / 2 ^ (4 * k) % 16 ≡ 0 → d < 16 →
     (n + d * 2 ^ (4 * k)) / 2 ^ (4 * j) % 16 ≡ n / 2 ^ (4 * j) % 16
 same_elsewhere j k n d other none small = elim (cases_lt j k) [
-  | inl before ↦ same_before j k n d before
-  | inr after ↦ ap (λ m. m % 16) (same_past k j n d (omega arith) none small)
+  | inl before ↦ same_before _ _ _ _ before
+  | inr after ↦ ap (λ m. m % 16) (same_past _ _ _ _ (omega arith) none small)
 ]
 
 -- a digit of a word is no more than a word
@@ -90,7 +90,7 @@ digit_small k d place small =
 -- and with it a word stays a word
 pub put_fits : (k n d : ℕ) → k < 16 → n / 2 ^ (4 * k) % 16 ≡ 0 → d < 16 → n < 2 ^ 64 → n + d * 2 ^ (4 * k) < 2 ^ 64
 put_fits k n d place none small fits =
-    let past = same_past k 16 n d place none small in
+    let past = same_past _ _ _ _ place none small in
     omega (arith, past)
 
 -- ==== The rank of a row determines the row
@@ -197,7 +197,7 @@ same_houses a b ha hb game rank =
     let side : length a.own ≡ length b.own = omega arith in
     let cells : length (a.own ++ a.other) ≡ length (b.own ++ b.other) =
     omega (arith, length-append a.own a.other, length-append b.own b.other) in
-    let row = rank_same (a.own ++ a.other) (b.own ++ b.other) cells rank in
+    let row = rank_same _ _ cells rank in
     let own : a.own ≡ b.own = rw (take-append_seam a.own a.other, side, take-append_seam b.own b.other) at
     (ap (take (length a.own)) row) in
     let other = append_cancel_left a.own a.other b.other (rw (← own) at row) in
@@ -228,11 +228,11 @@ sums_are (x ∷ xs) number seeds some is all below =
     }
 
 -- both rows of houses in one number
-pub both_rows : (a : Rows) (own other m : ℕ) → IsWithinHouses a → own ≡ number_of a.own → other ≡ number_of a.other
+pub both_rows : {a : Rows} (own other m : ℕ) → IsWithinHouses a → own ≡ number_of a.own → other ≡ number_of a.other
     → own < 2 ^ 30 →
     other < 2 ^ 30 → m ≡ length a.own →
     (own + other * 2 ^ (5 * m) % 2 ^ 64 ≡ number_of (a.own ++ a.other)) × (own + other * 2 ^ (5 * m) % 2 ^ 64 < 2 ^ 60)
-both_rows a own other m within own_is other_is own_small other_small side =
+both_rows {a} own other m within own_is other_is own_small other_small side =
     let power = pow_mono {i = 5 * m} {j = 30} (omega arith) in
     let below = mul-le other (2 ^ (5 * m)) (2 ^ 30 - 1) (2 ^ 30) (omega arith) power in
     let shifted : other * 2 ^ (5 * m) ≡ 32 ^ length a.own * number_of a.other =
@@ -281,7 +281,7 @@ module _ (row : List ℕ) (few : sum row ≤ 9) (m passed sums at : ℕ) (long :
 
   two_are : AreTwo sums two_first two_second two_past
   two_are =
-      rw (is.left, two_more) (two_sums two_first two_second two_past two_less)
+      rw (is.left, two_more) (two_sums _ _ _ two_less)
 
   -- and their rank
   pub rank_next : (c : ℕ) → c ≡ choose (sums % 1024 % 32 + 2 * (m - passed - 1) + 1) (2 * (m - passed - 1) + 2) + choose
@@ -337,7 +337,7 @@ choice_first i few =
 
 -- those of no seeds
 pub choice_none : (i : ℕ) → i % 10 ≡ 0 → choice_at i ≡ 0
-choice_none i none = choose_none (i % 10 + i / 10) (suc (i / 10)) (omega arith)
+choice_none i none = choose_none _ _ (omega arith)
 
 -- each other is the sum of two before it
 pub choice_next : (i : ℕ) → 10 ≤ i → i % 10 ≢ 0 → choice_at i ≡ choice_at (i - 10) + choice_at (i - 1)
@@ -467,8 +467,8 @@ its_game a within few =
     let below : rank_of_houses a < choose (9 + 2 * m) (2 * m) = rw cells at all in
     omega (arith, enough m within.some_house within.at_most_six)
 
-pub word_inside : (a : Rows) → IsWithinHouses a → IsEnding a → word_of a < 52054
-word_inside a within few =
+pub word_inside : {a : Rows} → IsWithinHouses a → IsEnding a → word_of a < 52054
+word_inside {a} within few =
     omega (arith, its_game a within few, first_rises (suc (length a.own)) 7 (omega arith) (lit≤ tt), rule_bit-small a.rule)
 
 -- endings of one word and one place in it are the same
@@ -561,17 +561,17 @@ pub record IsMost (a : Rows) (marks most : ℕ) : Type 0 where
   pub all : (i : ℕ) → Contains (legal_houses (bare a)) i → cell marks (i - 1) ≡ 0 → won_by_step (houses_step a i) ≤ most
 
 -- as long as all houses with seeds are marked
-pub most_of_none : (a : Rows) (marks : ℕ) → ((i : ℕ) → (0 < cell marks i) ↔ (0 < get_or a.own i 0)) → IsMost a marks 0
-most_of_none a marks marked = record {
+pub most_of_none : {a : Rows} {marks : ℕ} → ((i : ℕ) → (0 < cell marks i) ↔ (0 < get_or a.own i 0)) → IsMost a marks 0
+most_of_none {a} marked = record {
   reached = omega arith;
   all = λ i has gone. absurd (let some = (marked (i - 1)).1 (legal_holds (bare a) i has).some in omega arith);
 }
 
 -- the last marked house, with what it takes
-pub most_more : (a : Rows) (marks most h v new : ℕ) → IsWithinHouses a → IsMost a marks most → IsLastMark marks h →
+pub most_more : {a : Rows} {marks most h : ℕ} (v new : ℕ) → IsWithinHouses a → IsMost a marks most → IsLastMark marks h →
     Contains (legal_houses (bare a)) h →
     v ≡ won_by_step (houses_step a h) → new ≡ max most v → IsMost a (marks - 32 ^ (h - 1)) new
-most_more a marks most h v new w is last has v_is new_is = record {
+most_more {a} {marks} {most} {h} v new w is last has v_is new_is = record {
   reached = omega (arith, taken_most a w h has);
   all = λ i may gone. elim (cases_eq i h) [
     | inl same ↦ rw same (omega arith)
@@ -585,7 +585,7 @@ most_more a marks most h v new w is last has v_is new_is = record {
 -- if all seeds are taken, best play takes as many
 pub most_all : (a : Rows) (marks most : ℕ) → IsWithinHouses a → IsMost a marks most → seeds_in_houses (bare a) ≤ most
     → most ≡ won a
-most_all a marks most w is full = omega (arith, (taken_share a w).few)
+most_all a marks most w is full = omega (arith, (taken_share w).few)
 
 -- and so it does once no house is marked
 pub most_won : (a : Rows) (marks most : ℕ) → IsWithinHouses a → is_over (bare a) ≡ false → IsMost a marks most → marks ≡ 0
@@ -665,7 +665,7 @@ unfolding mixed
 unmixed k small = mul-mod_first (k * 11400714819323198485) 17428512612931826493 (2 ^ 64) ∙ omega (arith, small)
 
 same_unmixed : (k l : ℕ) → k < 2 ^ 64 → l < 2 ^ 64 → mixed k ≡ mixed l → k ≡ l
-same_unmixed k l hk hl same = sym (unmixed k hk) ∙ ap (λ x. (x * 17428512612931826493) % 2 ^ 64) same ∙ unmixed l hl
+same_unmixed k l hk hl same = sym (unmixed _ hk) ∙ ap (λ x. (x * 17428512612931826493) % 2 ^ 64) same ∙ unmixed _ hl
 
 -- of two numbers that leave the same open the greater has a later place
 place_later : (n x y : ℕ) → 1024 ≤ n → left_open x ≡ left_open y → x < y → place_among n x < place_among n y
@@ -720,6 +720,6 @@ shares_more places a number at p enough before within is place inside rest known
 pub shares_unknown : (count : ℕ) (p : Place) → stored_least p ≡ 0 → stored_most p ≡ most_seeds → StoreBounds (replicate count p)
 shares_unknown count p none all a number d within is inside rest =
     let at = place_among (length (replicate count p)) number in
-    let few = (taken_share a within).few in
+    let few = (taken_share within).few in
     let here = get_or-replicate count at p d (omega (arith, length-replicate count p)) in
     rw here (record { least = omega arith; most = omega (arith, all, few) })

@@ -124,7 +124,7 @@ none_left s m w none = omega arith
 -- a position with no moves left is over
 pub over_at_end : (p : Position) → moves_left p ≡ 0 → is_over p ≡ true
 over_at_end p none =
-    let no_seeds = none_left (seeds_in_houses p) (side_length p) (distance_to_stores p) none in
+    let no_seeds = none_left _ _ _ none in
     let empty : sum p.own ≡ 0 = omega arith in
     rw empty refl
 
@@ -187,12 +187,12 @@ worth_same (suc n) (suc k) p even n_high k_high = elim (cases_Bool (is_over p)) 
 -- the law on the count
 pub worth_count : CountPlaysNoPart
 unfolding worth
-worth_count p n even high = worth_same n (moves_left p) p even high (omega arith)
+worth_count p n even high = worth_same _ _ _ even high (omega arith)
 
 -- the margin of a position that is over
 pub worth_of_over : (p : Position) → is_over p ≡ true → worth p ≡ final_margin p
 unfolding worth
-worth_of_over p over = worth_over (moves_left p) p over
+worth_of_over p over = worth_over _ _ over
 
 -- the margin of any other is the greatest value over the legal houses
 pub worth_of_going : (p : Position) → HasEqualSides p → is_over p ≡ false
@@ -200,14 +200,14 @@ pub worth_of_going : (p : Position) → HasEqualSides p → is_over p ≡ false
 unfolding worth
 worth_of_going p even going =
     worth_same (moves_left p) (suc (moves_left p)) p even (omega arith) (omega arith)
-    ∙ worth_more (moves_left p) p going
+    ∙ worth_more _ _ going
     ∙ ap greatest (map_same (value_by (worth_within (moves_left p)) p) (value_of_move p) (legal_houses p) (λ h is_legal.
     let fewer = after_fewer p h (legal_holds p h is_legal) even in
     let next_even = after_equal_sides p h in
     let turned = swap_fewer (after p h) next_even in
     value_same (worth_within (moves_left p)) worth p h
-    (worth_same (moves_left p) (moves_left (after p h)) (after p h) next_even (omega arith) (omega arith))
-    (worth_same (moves_left p) (moves_left (swapped (after p h))) (swapped (after p h)) (swapped_equal_sides (after p h) next_even)
+    (worth_same _ _ _ next_even (omega arith) (omega arith))
+    (worth_same _ _ _ (swapped_equal_sides _ next_even)
     (omega arith)
     (omega arith))))
 
@@ -315,7 +315,7 @@ final_swapped q = omega (arith, ints)
 -- the value of a move is the worth of what follows, over or not
 pub value_going_on : (p : Position) (h : ℕ) → is_again p h ≡ true → value_of_move p h ≡ worth (after p h)
 value_going_on p h again = elim (cases_Bool (is_over (after p h))) [
-  | inl over ↦ rw over (sym (worth_of_over (after p h) over))
+  | inl over ↦ rw over (sym (worth_of_over _ over))
   | inr going ↦ rw (going, again) refl
 ]
 
@@ -337,8 +337,8 @@ best_found p even going =
     (eq_yes (value_of_move p best.0) (worth p) attains)
 
 -- so its value is the worth
-pub best_attains : (p : Position) → HasEqualSides p → is_over p ≡ false → value_of_move p (best_house p) ≡ worth p
-best_attains p even going = (Decides-int_eq (value_of_move p (best_house p)) (worth p)).0 (best_found p even going).1
+pub best_attains : {p : Position} → HasEqualSides p → is_over p ≡ false → value_of_move p (best_house p) ≡ worth p
+best_attains {p} even going = (Decides-int_eq (value_of_move p (best_house p)) (worth p)).0 (best_found _ even going).1
 
 -- and no legal house gets more
 pub value_most : (p : Position) (h : ℕ) → HasEqualSides p → is_over p ≡ false → Contains (legal_houses p) h
@@ -350,8 +350,8 @@ value_most p h even going has =
 -- the law on the worth in plain words
 pub worth_is_most : WorthIsMostOfMoves
 worth_is_most p even going = record {
-  reached = (best_house p, (best_found p even going).0, best_attains p even going);
-  most = λ h has. value_most p h even going has;
+  reached = (best_house p, (best_found _ even going).0, best_attains even going);
+  most = λ h has. value_most _ _ even going has;
 }
 
 -- ==== Stores do not influence play
@@ -509,8 +509,8 @@ worth_by_step : (q : Position) (again : Bool) → q.other_store ≡ 0 →
 worth_by_step q again none = elim (cases_Bool (is_over q)) [
   | inl over ↦ rw over (omega (arith, ints))
   | inr going ↦ elim (cases_Bool again) [
-    | inl more ↦ rw (going, more) (worth_again q none)
-    | inr passed ↦ rw (going, passed) (worth_turn q none)
+    | inl more ↦ rw (going, more) (worth_again _ none)
+    | inr passed ↦ rw (going, passed) (worth_turn _ none)
   ]
 ]
 
@@ -549,9 +549,9 @@ leads_on a h w has =
     }))
 
 -- a step that was played leads there
-pub leads_by : (a : Rows) (h : ℕ) (s : HousesStep) → IsWithinHouses a → Contains (legal_houses (bare a)) h → s ≡ houses_step a h
+pub leads_by : {a : Rows} (h : ℕ) (s : HousesStep) → IsWithinHouses a → Contains (legal_houses (bare a)) h → s ≡ houses_step a h
     → LeadsOn a s
-leads_by a h s w has e = subst (LeadsOn a) (sym e) (leads_on a h w has)
+leads_by {a} h s w has e = subst (LeadsOn a) (sym e) (leads_on _ _ w has)
 
 -- ---- what the search needs of a step
 goes_on_to : {a b : Rows} {game gained : ℕ} → IsWithinHouses a → game_of a ≡ game → LeadsTo a gained b → GoesOnAt game gained b
@@ -566,7 +566,7 @@ goes_on_of a game (Turn gained b) w is leads = goes_on_to w is leads
 -- a step goes on in the game
 pub goes_on : (a : Rows) (game h : ℕ) (s : HousesStep) → game_of a ≡ game → IsWithinHouses a → Contains (legal_houses (bare a)) h
     → s ≡ houses_step a h → GoesOn game s
-goes_on a game h s is w has e = goes_on_of a game s w is (leads_by a h s w has e)
+goes_on a game h s is w has e = goes_on_of _ _ _ w is (leads_by _ _ w has e)
 
 -- each step leaves fewer moves
 falls_of : (a : Rows) (s : HousesStep) → 0 < moves_left (bare a) → LeadsOn a s → moves_after s < moves_left (bare a)
@@ -580,18 +580,18 @@ pub step_falls : (a : Rows) (h : ℕ) (s : HousesStep) → IsWithinHouses a → 
     moves_after s < moves_left (bare a)
 step_falls a h s w has e =
     let fewer = after_fewer (bare a) h (legal_holds (bare a) h has) (record { same = w.same_side }) in
-    falls_of a s (omega (arith, fewer)) (leads_by a h s w has e)
+    falls_of a s (omega (arith, fewer)) (leads_by _ _ w has e)
 
 -- ==== What houses are worth
 
 -- no move is worth more
 pub value_le_worth : (a : Rows) (h : ℕ) → IsWithinHouses a → Contains (legal_houses (bare a)) h
     → value_of_move (bare a) h ≤ℤ houses_worth a
-value_le_worth a h w has = value_most (bare a) h (record { same = w.same_side }) (legal_going (bare a) h has) has
+value_le_worth a h w has = value_most _ _ (record { same = w.same_side }) (legal_going (bare a) h has) has
 
 -- and some move is worth as much
 pub worth_reached : (a : Rows) → IsWithinHouses a → is_over (bare a) ≡ false →
     (h : ℕ) × Contains (legal_houses (bare a)) h × (houses_worth a ≡ value_of_move (bare a) h)
 worth_reached a w going =
     let even : HasEqualSides (bare a) = record { same = w.same_side } in
-    (best_house (bare a), (best_found (bare a) even going).0, sym (best_attains (bare a) even going))
+    (best_house (bare a), (best_found _ even going).0, sym (best_attains even going))

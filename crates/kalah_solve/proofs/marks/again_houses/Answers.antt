@@ -8,4 +8,4 @@ returns-clause-marked c =
     c.ending_in_store.ensures.small c.ending_in_store.ensures.inside c.ending_in_store.ensures.past
 
 pub returns-clause-marks : goal.returns-clause-marks
-returns-clause-marks c = six_marks c.ending_in_store.result c.ending_in_store.ensures.small c.ending_in_store.ensures.single
+returns-clause-marks c = six_marks c.ending_in_store.ensures.small c.ending_in_store.ensures.single

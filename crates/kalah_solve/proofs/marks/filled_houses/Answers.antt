@@ -7,4 +7,4 @@ returns-clause-marked c = λ i. filled_marked c.args.houses.now c.own_row.result
     c.own_row.ensures.value c.filled.result i c.filled.ensures.small c.filled.ensures.cells
 
 pub returns-clause-marks : goal.returns-clause-marks
-returns-clause-marks c = six_marks c.filled.result c.filled.ensures.small (λ i inside. omega (arith, c.filled.ensures.cells i inside))
+returns-clause-marks c = six_marks c.filled.ensures.small (λ i inside. omega (arith, c.filled.ensures.cells i inside))

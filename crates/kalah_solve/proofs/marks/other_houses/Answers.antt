@@ -16,7 +16,7 @@ pub returns-clause-marks : goal.returns-clause-marks
 returns-clause-marks c =
     let filled = c.filled.result in
     let again = c.ending_in_store.result in
-    six_marks _ (xor_lt 30 filled again c.filled.ensures.small c.ending_in_store.ensures.small) (λ i inside.
+    six_marks (xor_lt 30 filled again c.filled.ensures.small c.ending_in_store.ensures.small) (λ i inside.
     omega (
       arith,
       cell_xor i filled again,

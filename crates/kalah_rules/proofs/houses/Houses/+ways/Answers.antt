@@ -37,16 +37,16 @@ ways-ways_by-sum-requires t c =
       last = omega arith;
       some = omega arith;
     } in
-    let has = holds_legal (bare c.args.self.now) c.loop-h.h holds (sym c.is_over.ensures ∙ c.if-is_over.false) in
+    let has = holds_legal _ _ holds (sym c.is_over.ensures ∙ c.if-is_over.false) in
     (omega arith, (has, omega arith))
 
 pub ways-overflow_add-sum : goal.ways-overflow_add-sum
 ways-overflow_add-sum t c =
     let n = c.args.depth - 1 in
     let p = bare c.args.self.now in
-    let after = before_more n p c.loop-h.h c.loop-h.sum c.ways_by-sum.result c.loop-h.invariant (omega arith)
+    let after = before_more _ c.loop-h.invariant (omega arith)
     (omega arith) c.ways_by-sum.ensures.ways c.ways_by-sum.ensures.small in
-    let small = before_small n p (c.loop-h.h + 1) (c.loop-h.sum + c.ways_by-sum.result) after
+    let small = before_small after
     (omega arith) in
     omega (arith, power_fits n (omega arith))
 
@@ -56,23 +56,23 @@ ways-loop-h-preserved t c =
     let p = bare c.args.self.now in
     elim c.if-own-gt0.branch [
       | ways-then-own-gt0 w ↦
-          rw w.sum-is (before_more n p c.loop-h.h c.loop-h.sum w.ways_by-sum.result c.loop-h.invariant (omega arith)
+          rw w.sum-is (before_more _ c.loop-h.invariant (omega arith)
           (omega arith) w.ways_by-sum.ensures.ways w.ways_by-sum.ensures.small)
       | ways-else-own-gt0 w ↦
-          rw w.sum-is (before_same n p c.loop-h.h c.loop-h.sum c.loop-h.invariant (omega arith)
+          rw w.sum-is (before_same c.loop-h.invariant (omega arith)
           (omega arith))
     ]
 
 pub ways-returns-clause-ways : goal.ways-returns-clause-ways
 ways-returns-clause-ways t c =
     let more : c.args.depth - 1 + 1 ≡ c.args.depth = omega arith in
-    rw more at (before_all (c.args.depth - 1) (bare c.args.self.now) c.loop-h.h c.loop-h.sum c.loop-h.invariant
+    rw more at (before_all c.loop-h.invariant
     (sym c.is_over.ensures ∙ c.if-is_over.false) (omega arith))
 
 pub ways-returns-clause-small : goal.ways-returns-clause-small
 ways-returns-clause-small t c =
     let more : c.args.depth - 1 + 1 ≡ c.args.depth = omega arith in
-    rw more at (before_small (c.args.depth - 1) (bare c.args.self.now) c.loop-h.h c.loop-h.sum c.loop-h.invariant
+    rw more at (before_small c.loop-h.invariant
     (omega arith))
 
 pub ways_by-new-requires-clause-first : goal.ways_by-new-requires-clause-first
@@ -86,12 +86,12 @@ pub ways_by-returns-in-Over-clause-ways : goal.ways_by-returns-in-Over-clause-wa
 ways_by-returns-in-Over-clause-ways t c =
     let step = rw c.new.ensures at c.play_by.ensures in
     c.from.ensures ∙ one_if (c.args.depth == 0)
-    ∙ ways_by_step c.args.depth c.args.self.now c.args.h (Over c.in-Over.own c.in-Over.other) c.play_by.result step c.in-Over.is
+    ∙ ways_by_step _ _ _ _ _ step c.in-Over.is
 
 pub ways_by-returns-in-Again-clause-ways : goal.ways_by-returns-in-Again-clause-ways
 ways_by-returns-in-Again-clause-ways t c =
     let step = rw c.new.ensures at c.play_by.ensures in
     c.ways.ensures.ways ∙ elim c.in-Again.is [
-      | inl again ↦ ways_by_step c.args.depth c.args.self.now c.args.h (Again again.0 c.in-Again.next) c.play_by.result step again.1
-      | inr turn ↦ ways_by_step c.args.depth c.args.self.now c.args.h (Turn turn.0 c.in-Again.next) c.play_by.result step turn.1
+      | inl again ↦ ways_by_step _ _ _ _ _ step again.1
+      | inr turn ↦ ways_by_step _ _ _ _ _ step turn.1
     ]

@@ -4,7 +4,7 @@ use Rattle.kalah_rules.proofs.houses.Houses.after.Goals as goal
 
 pub overflow_shr-across : goal.overflow_shr-across
 overflow_shr-across c =
-    across_within _ c.args.house _ c.args.sowing c.requires.sowing (omega arith)
+    across_within c.args.house _ c.args.sowing c.requires.sowing (omega arith)
 
 pub overflow_sub-result : goal.overflow_sub-result
 overflow_sub-result c = (move_leaves c.sow-sown.ensures.limits c.requires.holds c.requires.sowing c.sow-sown.ensures.shows c.rule.ensures

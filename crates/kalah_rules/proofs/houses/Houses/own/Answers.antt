@@ -5,5 +5,5 @@ use Rattle.kalah_rules.proofs.houses.Houses.own.Goals as goal
 pub returns-clause-value : goal.returns-clause-value
 returns-clause-value c =
     rw c.new.ensures at c.seeds_at.ensures ∙ ap (λ n. n / 32 ^ (c.args.i - 1) % 32) c.own_row.ensures.value
-    ∙ read_seeds c.args.self.now.own (c.args.i - 1) (omega arith)
+    ∙ read_seeds _ _ (omega arith)
     (omega arith)

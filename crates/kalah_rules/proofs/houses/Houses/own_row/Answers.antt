@@ -5,4 +5,4 @@ use Rattle.kalah_rules.proofs.houses.Houses.own_row.Goals as goal
 pub returns-clause-value : goal.returns-clause-value
 returns-clause-value c =
     let pack = pack_of c.self.invariant c.self.view_is in
-    sym (own_number_at c.args.self.now c.self.inside.key pack.limits pack.key_is)
+    sym (own_number_at _ _ pack.limits pack.key_is)

@@ -5,9 +5,9 @@ use Rattle.kalah_rules.proofs.PackedLemmas.{again_at}
 use Rattle.kalah_rules.proofs.houses.Houses.play_as.Goals as goal
 
 pub after-requires-clause-holds : goal.after-requires-clause-holds
-after-requires-clause-holds c = legal_holds (bare c.args.self.now) c.args.house c.requires.legal
+after-requires-clause-holds c = legal_holds _ _ c.requires.legal
 
 pub step-requires-clause-again : goal.step-requires-clause-again
 step-requires-clause-again c =
     let p = bare c.args.self.now in
-    c.requires.sowing.again ∙ sym (again_at p c.args.house (legal_holds p c.args.house c.requires.legal))
+    c.requires.sowing.again ∙ sym (again_at p c.args.house (legal_holds _ _ c.requires.legal))

@@ -18,7 +18,7 @@ module _ (c : After-one_each_to) where
       (c.one_each.result - c.one_each_to.result)
   moved =
       let a = c.args.self.now in
-      let holds = legal_holds (bare a) c.args.house c.requires.legal in
+      let holds = legal_holds _ _ c.requires.legal in
       let read = house_read a c.args.house c.own_row.ensures.limits holds c.own_row.result c.seeds_at.result c.own_row.ensures.value
       c.seeds_at.ensures in
       let house = c.alone.ensures ∙ ap (λ n. 32 ^ (c.args.house - 1) * n) read in

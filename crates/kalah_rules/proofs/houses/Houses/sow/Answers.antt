@@ -14,7 +14,7 @@ less : (a : Rows) (h key : ℕ) (s : Sowing) → IsWithinHouses a → HoldsSeeds
     IsSowing (length a.own) h (seeds a.own h) s →
     (s.loses ≤ key % 2 ^ 63) × (key % 2 ^ 63 - s.loses ≡ number_of (sown (bare a) h).own + 2 ^ 30 * number_of (sown (bare a) h).other)
 less a h key s w holds key_is sowing =
-    sown_less a h w holds (key % 2 ^ 63) s.loses (omega (arith, rows_number_at a key w key_is, (key_says a key w key_is).side)) sowing.loses
+    sown_less a h w holds (key % 2 ^ 63) s.loses (omega (arith, rows_number_at a key w key_is, (key_says w key_is).side)) sowing.loses
 
 pub overflow_sub-result : goal.overflow_sub-result
 overflow_sub-result c =

@@ -4,5 +4,5 @@ use Rattle.kalah_rules.proofs.houses.numbers.alone.Goals as goal
 
 pub returns : goal.returns
 returns c =
-    let small = moved_small (c.args.house - 1) c.args.seeds (omega arith) (omega arith) in
+    let small = moved_small _ _ (omega arith) (omega arith) in
     rw (c.bit.ensures.is, pow_five (c.args.house - 1)) small

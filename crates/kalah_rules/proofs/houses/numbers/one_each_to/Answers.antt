@@ -11,8 +11,8 @@ returns-clause-value c =
     let first = c.bit.ensures.first in
     let at : suc k ≡ c.args.house = omega arith in
     let moved : 32 * 2 ^ c.bit.result % 2 ^ 64 ≡ 32 ^ k * 32 =
-    rw (c.bit.ensures.is, pow_five k) (moved_small k 32 (omega arith) (omega arith)) in
-    rw moved (ones_below k (omega arith) ∙ ap ones at)
+    rw (c.bit.ensures.is, pow_five k) (moved_small _ _ (omega arith) (omega arith)) in
+    rw moved (ones_below _ (omega arith) ∙ ap ones at)
 
 pub returns-clause-small : goal.returns-clause-small
 returns-clause-small c = and_le_l 34636833 (32 * 2 ^ c.bit.result % 2 ^ 64 - 1)

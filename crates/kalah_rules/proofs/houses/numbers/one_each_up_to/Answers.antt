@@ -6,6 +6,6 @@ use Rattle.kalah_rules.proofs.houses.numbers.one_each_up_to.Goals.{then-x-m, els
 
 pub returns-clause-value : goal.returns-clause-value
 returns-clause-value c = c.one_each.ensures.value ∙ elim c.if-x-m.branch [
-  | then-x-m w ↦ ap (λ k. ones k) w.one_each-is ∙ sym (number_of-up_to c.args.m c.args.x (omega arith))
-  | else-x-m w ↦ ap (λ k. ones k) w.one_each-is ∙ sym (number_of-all c.args.m c.args.x (omega arith))
+  | then-x-m w ↦ ap (λ k. ones k) w.one_each-is ∙ sym (number_of-up_to _ _ (omega arith))
+  | else-x-m w ↦ ap (λ k. ones k) w.one_each-is ∙ sym (number_of-all _ _ (omega arith))
 ]

@@ -10,6 +10,6 @@ overflow_sub-past c = omega (arith, up_to_past c.args.m c.args.h c.args.reach c.
 
 pub returns-clause-value : goal.returns-clause-value
 returns-clause-value c =
-    let past = up_to_past c.args.m c.args.h c.args.reach c.requires.last c.requires.past in
+    let past = up_to_past _ _ _ c.requires.last c.requires.past in
     let round = ap (λ (k : ℕ). number_of (row_of c.args.m (up_to k))) c.saturating_sub.ensures in
     omega arith

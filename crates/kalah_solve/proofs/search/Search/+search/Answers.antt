@@ -20,7 +20,7 @@ look-bound_step-requires g t c κs within =
         within,
         (
           search rules,
-          goes_on c.args.houses.now _ c.args.house c.play_by-step.result c.requires.game limits c.requires.legal
+          goes_on _ _ _ _ c.requires.game limits c.requires.legal
               c.play_by-step.ensures,
         ),
       ),
@@ -35,7 +35,7 @@ look-bound_turn-requires g t c κs within =
         within,
         (
           search rules,
-          goes_on c.args.houses.now _ c.args.house (Turn c.in-Turn.gained c.in-Turn.next) c.requires.game limits
+          goes_on _ _ _ _ c.requires.game limits
               c.requires.legal is,
         ),
       ),
@@ -44,16 +44,16 @@ look-bound_turn-requires g t c κs within =
 pub bound_step-overflow_add-result : goal.bound_step-overflow_add-result
 bound_step-overflow_add-result g t c =
     let on = subst (GoesOn _) c.in-Again.is c.requires.on in
-    omega (arith, (taken_share c.in-Again.next on.limits).few, bound_up_to _ _ _ c.bound.ensures)
+    omega (arith, (taken_share on.limits).few, bound_up_to c.bound.ensures)
 
 pub bound_turn-overflow_sub-result : goal.bound_turn-overflow_sub-result
 bound_turn-overflow_sub-result g t c =
-    let few = (taken_share c.args.next c.requires.on.limits).few in
-    omega (arith, bound_up_to _ _ _ c.bound.ensures)
+    let few = (taken_share c.requires.on.limits).few in
+    omega (arith, bound_up_to c.bound.ensures)
 
 pub bound_turn-returns-else-all-bar : goal.bound_turn-returns-else-all-bar
 bound_turn-returns-else-all-bar g t c =
-    let few = (taken_share c.args.next c.requires.on.limits).few in
+    let few = (taken_share c.requires.on.limits).few in
     bound_left c.args.bar (c.args.gained + c.seeds.result) _ c.args.gained (won c.args.next) c.bound.result
     (omega arith) few
     c.if-bar-gained.false c.if-all-bar.false c.bound.ensures
@@ -87,7 +87,7 @@ explore-bound_turn-bound-requires g t c κs within =
         (
           search rules,
           rw (c.seeds-seeds.ensures.seeds, c.seeds.ensures.seeds)
-              (goes_on a _ (c.loop-priority.priority % 8 + 1) _ c.requires.game limits turn.legal (sym turn.step)),
+              (goes_on _ _ _ _ c.requires.game limits turn.legal (sym turn.step)),
         ),
       ),
     )
@@ -97,7 +97,7 @@ explore-returns-then-bar-bound g t c =
     let a = c.args.houses.now in
     let here = c.loop-priority.invariant.next c.loop-priority-test.true in
     record {
-      lower = turn_enough a c.args.bar _ _ _ _ c.seeds-seeds.ensures.limits (here.turn c.index-turns-at.result)
+      lower = turn_enough _ _ c.seeds-seeds.ensures.limits (here.turn c.index-turns-at.result)
           (rw (c.seeds-seeds.ensures.seeds, c.seeds.ensures.seeds) at c.bound_turn-bound.ensures);
       upper = λ short. absurd (omega arith);
     }
@@ -106,7 +106,7 @@ pub explore-loop-priority-preserved : goal.explore-loop-priority-preserved
 explore-loop-priority-preserved g t c =
     let before = c.loop-priority.invariant in
     let here = before.next c.loop-priority-test.true in
-    let takes = turn_at_most c.args.houses.now c.args.bar _ _ _ _ (here.turn c.index-turns-at.result)
+    let takes = turn_at_most _ _ (here.turn c.index-turns-at.result)
     (rw (c.seeds-seeds.ensures.seeds, c.seeds.ensures.seeds) at c.bound_turn-bound.ensures) c.if-bar-bound.false in
     let untried = untried_fewer c.args.houses.now c.loop-priority.most c.loop-priority.priorities c.others_waiting-others.new.turns
     (c.loop-priority.priority % 8) c.bound_turn-bound.result _ before.untried here.place takes c.max-most-in-loop-priority.ensures in
@@ -129,8 +129,8 @@ explore-returns g t c =
     let is = c.loop-priority.invariant in
     record {
       lower = λ enough. absurd (omega arith);
-      upper = λ short. none_untried c.args.houses.now c.loop-priority.most c.loop-priority.priorities c.others_waiting-others.new.turns
-          c.loop-priority.priority c.seeds-seeds.ensures.limits c.requires.going
+      upper = λ short. none_untried
+          _ c.seeds-seeds.ensures.limits c.requires.going
           is.untried is.highest (omega arith);
     }
 
@@ -141,7 +141,7 @@ look-priority-priority-requires-clause-last g t c =
 pub look-priority-priority-requires-clause-few : goal.look-priority-priority-requires-clause-few
 look-priority-priority-requires-clause-few g t c =
     let limits = c.seeds-seeds.ensures.limits in
-    let leads = leads_by c.args.houses.now c.args.house (Turn c.in-Turn.gained c.in-Turn.next) limits c.requires.legal
+    let leads = leads_by _ _ limits c.requires.legal
     (sym c.in-Turn.is ∙ c.play_by-step.ensures) in
     omega arith
 
@@ -149,7 +149,7 @@ pub look-returns-then-seeds-self : goal.look-returns-then-seeds-self
 look-returns-then-seeds-self g t c =
     let priority = c.priority-priority in (
       priority.ensures.some,
-      turn_of c.args.houses.now c.args.house priority.result c.in-Turn.gained c.in-Turn.next c.seeds-seeds.ensures.limits c.requires.legal
+      turn_of c.seeds-seeds.ensures.limits c.requires.legal
           (sym c.in-Turn.is ∙ c.play_by-step.ensures) priority.ensures.house,
     )
 
@@ -161,10 +161,10 @@ bound_again-loop-left-init g t c =
       low = λ enough. refl;
       may = record {
         are = marks.marks;
-        legal = λ i some. let both = (marks.marked i).0 some in ending_legal a i marks.limits c.requires.going both.0 both.1;
+        legal = λ i some. let both = (marks.marked i).0 some in ending_legal _ marks.limits c.requires.going both.0 both.1;
       };
       ends = λ i some. ((marks.marked i).0 some).1;
-      tried = again_none a 0 c.again_houses-left.result marks.marked;
+      tried = again_none _ _ _ marks.marked;
     }
 
 pub bound_again-play_into_store-requires-clause-legal : goal.bound_again-play_into_store-requires-clause-legal
@@ -182,7 +182,7 @@ bound_again-bound_step-bound-requires g t c κs within =
     let limits = c.seeds-seeds.ensures.limits in
     let has = last_legal c.loop-left.invariant.may c.split_last-house.ensures.last in (
       omega (arith, step_falls a h c.play_into_store.result limits has c.play_into_store.ensures),
-      (within, (search rules, goes_on a _ h c.play_into_store.result c.requires.game limits has c.play_into_store.ensures)),
+      (within, (search rules, goes_on _ _ _ _ c.requires.game limits has c.play_into_store.ensures)),
     )
 
 pub bound_again-returns-then-bar-bound-clause-lower : goal.bound_again-returns-then-bar-bound-clause-lower
@@ -202,16 +202,16 @@ bound_again-loop-left-preserved g t c =
     let takes : WinsAtMost a c.bound_step-bound.result h = rw c.play_into_store.ensures at
     (c.bound_step-bound.ensures.upper c.if-bar-bound.false) in
     rw c.split_last-house.ensures.rest (record {
-      low = low_more c.args.bar c.loop-left.most c.bound_step-bound.result c.max-most.result before.low c.if-bar-bound.false new_is;
+      low = low_more _ _ _ _ before.low c.if-bar-bound.false new_is;
       may = moves_fewer before.may last;
       ends = each_fewer (EndsInStore a) marks h last before.ends;
-      tried = again_fewer a c.loop-left.most marks h c.bound_step-bound.result c.max-most.result before.tried last takes new_is;
+      tried = again_fewer _ _ _ h c.bound_step-bound.result c.max-most.result before.tried last takes new_is;
     })
 
 pub bound_again-loop-left-smaller : goal.bound_again-loop-left-smaller
 bound_again-loop-left-smaller g t c =
     let split = c.split_last-house in
-    rw split.ensures.rest (marks_fall c.loop-left.left split.result.0 split.ensures.last)
+    rw split.ensures.rest (marks_fall split.ensures.last)
 
 pub bound_again-returns-clause-upper : goal.bound_again-returns-clause-upper
 bound_again-returns-clause-upper g t c = λ short h has ends.
@@ -224,8 +224,8 @@ others_waiting-loop-left-init g t c =
     let marks = c.other_houses-left.ensures in
     record {
       low = λ enough. refl;
-      may = record { are = marks.marks; legal = λ i some. marked_legal a i marks.limits c.requires.going ((marks.marked i).0 some).0 };
-      played = played_none a 0 c.other_houses-left.result _ _ (search rules) (search rules) c.requires.none marks.marked;
+      may = record { are = marks.marks; legal = λ i some. marked_legal _ marks.limits c.requires.going ((marks.marked i).0 some).0 };
+      played = played_none (search rules) (search rules) c.requires.none marks.marked;
     }
 
 pub others_waiting-look-requires : goal.others_waiting-look-requires
@@ -236,7 +236,7 @@ pub others_waiting-returns-then-bar-bound : goal.others_waiting-returns-then-bar
 others_waiting-returns-then-bar-bound g t c =
     let has = last_legal c.loop-left.invariant.may c.split_last-house.ensures.last in
     record {
-      lower = move_enough c.args.houses.now c.args.bar c.split_last-house.result.0 _ c.other_houses-left.ensures.limits has
+      lower = move_enough _ _ _ _ c.other_houses-left.ensures.limits has
           c.in-Bounded.ensures;
       waiting = c.loop-left.invariant.played.waiting.each;
       others = λ short. absurd (omega arith);
@@ -251,7 +251,7 @@ others_waiting-loop-left-preserved g t c =
     let before = c.loop-left.invariant in
     let new_is : c.max-most.result ≡ max c.loop-left.most c.in-Bounded.bound = search (rules, c.max-most.ensures) in
     rw c.split_last-house.ensures.rest (record {
-      low = low_more c.args.bar c.loop-left.most c.in-Bounded.bound c.max-most.result before.low c.if-bar-bound.false new_is;
+      low = low_more _ _ _ _ before.low c.if-bar-bound.false new_is;
       may = moves_fewer before.may last;
       played = played_bound a c.loop-left.most marks h c.loop-left.priorities c.loop-left.turns before.played last c.in-Bounded.bound
           c.max-most.result
@@ -261,7 +261,7 @@ others_waiting-loop-left-preserved g t c =
 pub others_waiting-loop-left-smaller : goal.others_waiting-loop-left-smaller
 others_waiting-loop-left-smaller g t c =
     let split = c.split_last-house in
-    rw split.ensures.rest (marks_fall c.loop-left.left split.result.0 split.ensures.last)
+    rw split.ensures.rest (marks_fall split.ensures.last)
 
 pub others_waiting-returns : goal.others_waiting-returns
 others_waiting-returns g t c =

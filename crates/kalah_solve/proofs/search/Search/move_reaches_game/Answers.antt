@@ -4,6 +4,6 @@ use Rattle.kalah_solve.proofs.search.Search.move_reaches_game.Goals as goal
 pub bound_step-requires : goal.bound_step-requires
 bound_step-requires g c =
     record {
-      on = goes_on c.args.houses.now _ c.args.h c.play.result c.requires.game c.seeds-seeds.ensures.limits c.requires.legal
+      on = goes_on _ _ _ _ c.requires.game c.seeds-seeds.ensures.limits c.requires.legal
           c.play.ensures;
     }

@@ -33,5 +33,5 @@ pub returns-then-seeds-self : goal.returns-then-seeds-self
 returns-then-seeds-self g c =
     let fits : SFits w32 c.clamp.result = search rules in
     let seeds = c.seeds-seeds.ensures in
-    to_z-of_z w32 _ fits ∙ told_by_taken c.args.houses.now _ _ _ c.won-won.result seeds.limits seeds.seeds c.won-won.ensures
+    to_z-of_z w32 _ fits ∙ told_by_taken _ _ _ _ seeds.limits seeds.seeds c.won-won.ensures
     c.clamp.ensures

@@ -19,14 +19,14 @@ looked_at moves legal i count house many before at are =
 
 pub returns-then-move_reaches : goal.returns-then-move_reaches
 returns-then-move_reaches g c =
-    let enough = enough_of _ c.args.bar _ c.if-move_reaches.ensures refl in
+    let enough = enough_of _ _ _ c.if-move_reaches.ensures refl in
     let at = looked_at _ _ _ _ _ c.len-last.ensures c.loop-i-test.true c.get-h.ensures c.requires.moves in
     at.1 ∙ root_found c.args.houses.now c.seeds-seeds.ensures.limits c.loop-i.i at.0 c.loop-i.invariant
     (rw (← at.1, ← c.requires.best) enough)
 
 pub loop-i-preserved : goal.loop-i-preserved
 loop-i-preserved g c =
-    let less = short_of _ c.args.bar _ c.if-move_reaches.ensures refl in
+    let less = short_of _ _ _ c.if-move_reaches.ensures refl in
     let at = looked_at _ _ _ _ _ c.len-last.ensures c.loop-i-test.true c.get-h.ensures c.requires.moves in
     root_short c.args.houses.now c.seeds-seeds.ensures.limits c.loop-i.i at.0 c.loop-i.invariant (rw (← at.1, ← c.requires.best) less)
 

@@ -10,7 +10,7 @@ use Rattle.kalah_solve.proofs.solver.Solver.margin.Goals as goal
 pub returns-then-is_over-clause-worth : goal.returns-then-is_over-clause-worth
 returns-then-is_over-clause-worth g c =
     let fits : SFits w32 c.returns.result = search rules in
-    simp to_z-of_z (c.returns.ensures.margin ∙ sym (worth_of_over c.args.board.now (sym c.if-is_over.ensures.over)))
+    simp to_z-of_z (c.returns.ensures.margin ∙ sym (worth_of_over _ (sym c.if-is_over.ensures.over)))
 
 -- what the search finds is the worth of the houses
 found : (g : Over) (c : goal.After-other_store g) → c.worth-best.result ≡ houses_worth (rows_of c.args.board.now)

@@ -4,12 +4,12 @@ use Rattle.kalah_solve.proofs.WorthLemmas.{over_ends, value_of_over, value_of_tu
 use Rattle.kalah_solve.proofs.solver.Solver.value_of_move.Goals as goal
 
 pub returns-requires : goal.returns-requires
-returns-requires g c = over_ends c.args.board.now c.args.h c.in-Over.end c.in-Over.ensures.step
+returns-requires g c = over_ends _ _ _ c.in-Over.ensures.step
 
 pub returns-in-Over-clause-value : goal.returns-in-Over-clause-value
 returns-in-Over-clause-value g c =
     let fits : SFits w32 c.returns.result = search rules in
-    simp to_z-of_z (c.returns.ensures.margin ∙ value_of_over c.args.board.now c.args.h c.in-Over.end c.in-Over.ensures.step)
+    simp to_z-of_z (c.returns.ensures.margin ∙ value_of_over _ _ _ c.in-Over.ensures.step)
 
 pub returns-in-Turn-clause-value : goal.returns-in-Turn-clause-value
 returns-in-Turn-clause-value g c =
@@ -17,4 +17,4 @@ returns-in-Turn-clause-value g c =
     let small = c.margin-in-Turn.ensures.small in
     let turned : to_z w32 (of_z w32 (pos 0 -ℤ to_z w32 (of_z w32 c.margin-in-Turn.result))) ≡ neg_ℤ c.margin-in-Turn.result =
     omega (arith, ints) in
-    turned ∙ ap neg_ℤ c.margin-in-Turn.ensures.worth ∙ value_of_turn c.args.board.now c.args.h c.in-Turn.next c.in-Turn.ensures.step
+    turned ∙ ap neg_ℤ c.margin-in-Turn.ensures.worth ∙ value_of_turn _ _ _ c.in-Turn.ensures.step

@@ -12,7 +12,7 @@ returns-clause-best_play g c =
     let p = c.args.board.now in
     let all = take_all c.loop-i.i c.legal-moves.result (omega arith) ∙ c.legal-moves.ensures in
     let is = c.loop-i.invariant ∙ ap (map (move_value p)) all in
-    subst (TellMoves p) (sym is) (values_tell p (board_equal_sides p c.m-side.ensures.limits))
+    subst (TellMoves p) (sym is) (values_tell (board_equal_sides _ c.m-side.ensures.limits))
 
 pub loop-i-preserved : goal.loop-i-preserved
 loop-i-preserved g c = grind (arith, common_steps)

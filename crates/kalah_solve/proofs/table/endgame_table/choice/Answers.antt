@@ -3,10 +3,10 @@ use Rattle.kalah_solve.proofs.TableLemmas.{choice_first, choice_none, choice_nex
 use Rattle.kalah_solve.proofs.table.endgame_table.choice.Goals as goal
 
 pub returns-then-i-lt-COUNTS : goal.returns-then-i-lt-COUNTS
-returns-then-i-lt-COUNTS c = sym (choice_first c.args.i c.if-i-lt-COUNTS.true)
+returns-then-i-lt-COUNTS c = sym (choice_first _ c.if-i-lt-COUNTS.true)
 
 pub returns-then-i-eq0 : goal.returns-then-i-eq0
-returns-then-i-eq0 c = sym (choice_none c.args.i c.if-i-eq0.true)
+returns-then-i-eq0 c = sym (choice_none _ c.if-i-eq0.true)
 
 pub overflow_add-result : goal.overflow_add-result
 overflow_add-result c =

@@ -8,6 +8,6 @@ loop-i-preserved c =
     let before = c.loop-i.invariant in
     record {
       cells = length-set c.loop-i.choices c.loop-i.i c.choice.result ∙ before.cells;
-      right = choices_more c.loop-i.choices c.loop-i.i c.choice.result (omega arith) before.right
+      right = choices_more _ _ _ (omega arith) before.right
           c.choice.ensures;
     }

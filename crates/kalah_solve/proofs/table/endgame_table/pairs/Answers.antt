@@ -8,6 +8,6 @@ loop-i-preserved c =
     let before = c.loop-i.invariant in
     record {
       cells = length-set c.loop-i.pairs c.loop-i.i c.pair.result ∙ before.cells;
-      right = pairs_more c.loop-i.pairs c.loop-i.i c.pair.result (omega arith) before.right
+      right = pairs_more _ _ _ (omega arith) before.right
           c.pair.ensures;
     }

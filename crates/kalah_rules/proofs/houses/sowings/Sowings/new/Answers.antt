@@ -15,7 +15,7 @@ loop-i-preserved c =
     let sowing = c.sowing_at.result in
     record {
       all = length-set c.loop-i.cells c.loop-i.i sowing ∙ before.all;
-      right = sowings_more c.loop-i.cells c.loop-i.i sowing (omega arith) before.right
+      right = sowings_more _ _ _ (omega arith) before.right
           c.sowing_at.ensures;
     }
 

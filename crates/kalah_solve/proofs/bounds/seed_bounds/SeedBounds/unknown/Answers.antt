@@ -5,5 +5,5 @@ use Rattle.kalah_solve.proofs.bounds.seed_bounds.SeedBounds.unknown.Goals as goa
 pub returns-clause-held : goal.returns-clause-held
 returns-clause-held c = record {
   least = omega arith;
-  most = omega (arith, (taken_share c.args.houses.now c.seeds.ensures.limits).few);
+  most = omega (arith, (taken_share c.seeds.ensures.limits).few);
 }

@@ -9,7 +9,7 @@ use Rattle.kalah_solve.proofs.table.direct_table.DirectTable.keep.Goals as goal
 pub of-stored-requires-clause-least : goal.of-stored-requires-clause-least
 of-stored-requires-clause-least g c =
     let limits = c.mixed_key-mixed.ensures.limits in
-    omega (arith, (taken_share c.args.houses.now limits).few)
+    omega (arith, (taken_share limits).few)
 
 pub invariant_of-self : goal.invariant_of-self
 invariant_of-self g c =
@@ -23,7 +23,7 @@ invariant_of-self g c =
       most = rw c.of-stored.ensures.most c.requires.most;
     } in (
       rw count c.self.invariant.0,
-      shares_more places c.args.houses.now mixed.result at.result c.of-stored.result c.self.invariant.0 c.self.invariant.1
+      shares_more _ _ _ _ _ c.self.invariant.0 c.self.invariant.1
           mixed.ensures.limits mixed.ensures.mixed (rw length_is at at.ensures.place) (omega arith)
           (c.of-stored.ensures.rest ∙ c.rest_of.ensures.rest) known,
     )

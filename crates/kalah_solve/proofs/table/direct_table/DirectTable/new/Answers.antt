@@ -14,5 +14,5 @@ invariant_of-result g c =
         least = omega (arith, length-replicate count unknown);
         most = omega (arith, length-replicate count unknown);
       },
-      shares_unknown count unknown c.of.ensures.least c.of.ensures.most,
+      shares_unknown _ _ c.of.ensures.least c.of.ensures.most,
     )

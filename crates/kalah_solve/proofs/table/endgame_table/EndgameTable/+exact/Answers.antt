@@ -11,8 +11,8 @@ most_won-loop-left-init g t c =
     let a = c.args.houses.now in
     let marks = c.filled_houses-left.ensures in
     record {
-      may = record { are = marks.marks; legal = λ i some. marked_legal a i marks.limits c.requires.going ((marks.marked i).0 some) };
-      is = most_of_none a c.filled_houses-left.result marks.marked;
+      may = record { are = marks.marks; legal = λ i some. marked_legal _ marks.limits c.requires.going ((marks.marked i).0 some) };
+      is = most_of_none marks.marked;
     }
 
 pub most_won-move_wins-requires : goal.most_won-move_wins-requires
@@ -29,7 +29,7 @@ most_won-returns-then-most-seeds g t c =
     let limits = c.seeds-seeds.ensures.limits in
     let has = last_legal before.may last in
     most_all c.args.houses.now (marks - 32 ^ (h - 1)) c.max-most.result limits
-    (most_more c.args.houses.now marks c.loop-left.most h c.move_wins.result c.max-most.result limits before.is last has c.move_wins.ensures
+    (most_more _ _ limits before.is last has c.move_wins.ensures
     (search (rules, c.max-most.ensures)))
     (omega arith)
 
@@ -42,7 +42,7 @@ most_won-loop-left-preserved g t c =
     let has = last_legal before.may last in
     rw c.split_last-house.ensures.rest (record {
       may = moves_fewer before.may last;
-      is = most_more c.args.houses.now marks c.loop-left.most h c.move_wins.result c.max-most.result c.seeds-seeds.ensures.limits
+      is = most_more _ _ c.seeds-seeds.ensures.limits
           before.is last has
           c.move_wins.ensures
           (search (rules, c.max-most.ensures));
@@ -51,7 +51,7 @@ most_won-loop-left-preserved g t c =
 pub most_won-loop-left-smaller : goal.most_won-loop-left-smaller
 most_won-loop-left-smaller g t c =
     let split = c.split_last-house in
-    rw split.ensures.rest (marks_fall c.loop-left.left split.result.0 split.ensures.last)
+    rw split.ensures.rest (marks_fall split.ensures.last)
 
 pub most_won-returns : goal.most_won-returns
 most_won-returns g t c =
@@ -60,32 +60,32 @@ most_won-returns g t c =
 
 pub move_wins-won-requires : goal.move_wins-won-requires
 move_wins-won-requires g t c κs within =
-    let next = leads_by c.args.houses.now c.args.house (Again c.in-Again.gained c.in-Again.next) c.seeds-seeds.ensures.limits
+    let next = leads_by _ _ c.seeds-seeds.ensures.limits
     c.requires.legal
     (sym c.in-Again.is ∙ c.play_by.ensures) in
     (omega arith, (within, (search rules, (next.going, (next.same ∙ c.requires.game, omega arith)))))
 
 pub move_wins-overflow_add-result : goal.move_wins-overflow_add-result
 move_wins-overflow_add-result g t c =
-    let next = leads_by c.args.houses.now c.args.house (Again c.in-Again.gained c.in-Again.next) c.seeds-seeds.ensures.limits
+    let next = leads_by _ _ c.seeds-seeds.ensures.limits
     c.requires.legal
     (sym c.in-Again.is ∙ c.play_by.ensures) in
-    omega (arith, (taken_share c.in-Again.next next.limits).few)
+    omega (arith, (taken_share next.limits).few)
 
 pub move_wins-won-requires-in-Turn : goal.move_wins-won-requires-in-Turn
 move_wins-won-requires-in-Turn g t c κs within =
-    let next = leads_by c.args.houses.now c.args.house (Turn c.in-Turn.gained c.in-Turn.next) c.seeds-seeds.ensures.limits c.requires.legal
+    let next = leads_by _ _ c.seeds-seeds.ensures.limits c.requires.legal
     (sym c.in-Turn.is ∙ c.play_by.ensures) in
     (omega arith, (within, (search rules, (next.going, (next.same ∙ c.requires.game, omega arith)))))
 
 pub move_wins-overflow_sub-result : goal.move_wins-overflow_sub-result
 move_wins-overflow_sub-result g t c =
-    let next = leads_by c.args.houses.now c.args.house (Turn c.in-Turn.gained c.in-Turn.next) c.seeds-seeds.ensures.limits c.requires.legal
+    let next = leads_by _ _ c.seeds-seeds.ensures.limits c.requires.legal
     (sym c.in-Turn.is ∙ c.play_by.ensures) in
-    omega (arith, (taken_share c.in-Turn.next next.limits).few)
+    omega (arith, (taken_share next.limits).few)
 
 pub move_wins-overflow_add-result-in-Turn : goal.move_wins-overflow_add-result-in-Turn
 move_wins-overflow_add-result-in-Turn g t c =
-    let next = leads_by c.args.houses.now c.args.house (Turn c.in-Turn.gained c.in-Turn.next) c.seeds-seeds.ensures.limits c.requires.legal
+    let next = leads_by _ _ c.seeds-seeds.ensures.limits c.requires.legal
     (sym c.in-Turn.is ∙ c.play_by.ensures) in
     omega arith

@@ -7,7 +7,7 @@ whole c = omega (arith, digit_small c.args.at c.args.stored c.requires.place c.r
 
 pub overflow_add-result : goal.overflow_add-result
 overflow_add-result c =
-    let fits = put_fits c.args.at c.args.word c.args.stored c.requires.place c.requires.nothing c.requires.small
+    let fits = put_fits _ _ _ c.requires.place c.requires.nothing c.requires.small
     (omega arith) in
     omega (arith, whole c)
 

@@ -8,7 +8,7 @@ use Rattle.kalah_solve.proofs.table.endgame_table.words.word_of.Goals as goal
 
 pub returns-clause-inside : goal.returns-clause-inside
 returns-clause-inside c =
-    let inside = word_inside c.args.houses.now c.m.ensures.limits c.requires.few in
+    let inside = word_inside c.m.ensures.limits c.requires.few in
     let first = ap (λ m. slice_index FIRST_WORDS m) c.m.ensures.side in
     elim c.match-rule.branch [
       | in-Classic w ↦ omega (arith, ap rule_bit (sym c.rule.ensures ∙ w.in-Classic.is))
