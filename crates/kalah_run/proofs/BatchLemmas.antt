@@ -1,10 +1,756 @@
-pub mod Sendings
-pub mod Giving
-pub mod Progress
-pub mod Outputs
-pub mod PutTogether
-pub mod WorkerRuns
-pub mod Known
-pub mod Ends
-pub mod NoLine
-pub mod Crossing
+-- A batch: what its workers send, what is written of it, and what is known when it has ended.
+use Rattle.std.proofs.Common.{◌≡◌, ◌≤◌, ◌<◌, ◌+◌, ◌-◌, ℕ, suc, List, [], ◌∷◌, ◌++◌, arith, sym, ap, ◌∙◌, Bool, true, false, refl, ⊎_elim, length, get_or, take, drop, append_assoc, subst, Global, zero, map, ◌≢◌, ◌==◌, if◌then◌else◌, ne_eqb, ◌⊎◌, inl, inr}
+use Rattle.std.proofs.lemmas.List.{map-append, append-nil, get_or_past, take-append-drop, take_all, take_more, flat_map_more, get_or-map, length-append, length-map}
+use Rattle.kalah_jobs.specs.declared.files.entry.Entry.{Entry}
+use Rattle.kalah_jobs.specs.declared.files.job.Job.{Job}
+use Rattle.std.specs.Prelude.{All, Some, fold, slice_get, Option, None, Result, Ok, Err, sum_by, IsErr, OnOk, count_by, ◌↔◌, IfOk}
+use Rattle.std.proofs.lemmas.List.Sums.{fold-append, sum_by-cons}
+use Rattle.std.proofs.lemmas.Option.{get_or_from_slice_get, slice_get_within}
+use Rattle.kalah_jobs.specs.Files.JobList.{job_list, line_job, entries_of, entry_at}
+use Rattle.kalah_jobs.specs.declared.files.entry.Entry.TheVariants.{Bad}
+use Rattle.kalah_jobs.specs.declared.line.line_fault.LineFault.TheVariants.{Empty}
+use Rattle.kalah_jobs.specs.Collecting.Batch.{job, AreJobsInSomeOrder}
+use Rattle.kalah_run.specs.declared.desk.rule.DrawnRow.{DrawnRow}
+use Rattle.kalah_run.specs.Batch.AtWork.{drawn_jobs, passes_of, puts_of, AreAtWork, HaveRun}
+use Rattle.std.specs.Io.KnownBytes.{Appends, Keeps}
+use Rattle.std.proofs.KnownBytes.{Appends-kept, Appends-nil, Appends-trans}
+use Rattle.kalah_jobs.specs.Writing.Given.{AppendsStart}
+use Rattle.kalah_jobs.proofs.WritingLemmas.Starts.{start_none, start_then, start_longer, start_kept}
+use Rattle.kalah_run.specs.Batch.UnderWay.{WasGiven, written_upto, IsUnderWay}
+use Rattle.std.specs.List.{flat_map, enumerate_from}
+use Rattle.std.proofs.lemmas.Bool.{cases_eq, cases_lt, lt-ltb}
+use Rattle.std.proofs.lemmas.Grind.{flat_map-append}
+use Rattle.std.proofs.lemmas.List.FromFn.{length-enumerate_from}
+use Rattle.kalah_jobs.specs.declared.writing.answer.Taken.{Taken}
+use Rattle.kalah_jobs.specs.declared.collecting.refusal.Refusal.{Refusal}
+use Rattle.kalah_jobs.specs.Writing.Answer.{answer_of, answer_line}
+use Rattle.kalah_jobs.specs.Collecting.CollectorState.{FileState, state_of, line_count, front, HasEnded, with_one_taken, new_files, after_offer, after_take}
+use Rattle.kalah_jobs.specs.Collecting.Refusals.{IsWanted, IsRefusedFor}
+use Rattle.kalah_jobs.specs.Collecting.CollectorEvents.{Offers, Takes, answered_line}
+use Rattle.kalah_jobs.specs.Writing.Output.{text_of_line, text_of_file, text_of_jobs, answer_text_of, output_to, output_of_jobs, names_of, tally_of, LineCounts, is_faulty_job}
+use Rattle.kalah_jobs.proofs.CollectingLemmas.{state_same, state_other, files_many, lines_are, wanted_file, holds_accepted, holds_refused, holds_take, numbered_at, numbered_is, start, taken_is, taken_after_offer, front_after_offer, new_taken, fronts_full, shares_law, as_many_as_numbers}
+use Rattle.kalah_jobs.specs.Files.Lines.{line_feed}
+use Rattle.kalah_jobs.specs.Files.NamedBytes.{NamedBytes}
+use Rattle.kalah_run.specs.declared.batch.ordered_output.OrderedOutput.{OrderedOutput}
+use Rattle.kalah_run.specs.Batch.OrderedOutput.{HasWritten, AcceptsAll, outcomes_in, Waits}
+use Rattle.kalah_run.specs.Batch.Texts.{text_of}
+use Rattle.std.proofs.lemmas.List.Elements.{All-push, All-map}
+use Rattle.crossbeam_utils.specs.Padded.{padded_value}
+use Rattle.kalah_solve.specs.Table.Entries.{empty_table}
+use Rattle.kalah_solve.specs.declared.solver.Solver.{Solver}
+use Rattle.kalah_run.specs.Queue.States.{PutState, ArePassesFrom, sent_by}
+use Rattle.kalah_run.specs.Desk.States.{PassState, IsPassAt, AreNewPasses, new_pass, drawn_rows}
+use Rattle.kalah_run.specs.declared.batch.worker.Worker.{Worker}
+use Rattle.kalah_run.specs.Batch.OpenBatch.{HasTable, HaveTables}
+use Rattle.atomic_table.specs.Seated.{TableId}
+use Rattle.kalah_jobs.specs.Files.Jobs.{job_count, jobs_to, lines_in_all}
+use Rattle.kalah_jobs.proofs.FilesLemmas.{length-job_list, job_count-jobs_to}
+use Rattle.kalah_jobs.specs.Collecting.Shares.{AreShared, times_in}
+use Rattle.kalah_run.specs.Desk.Rows.{drawn_numbers, DealsEachOnce, spent_in}
+use Rattle.kalah_run.specs.Queue.Lists.{Accounts}
+use Rattle.kalah_run.specs.declared.batch.shared_work.SharedWork.{SharedWork}
+use Rattle.kalah_run.proofs.DeskLemmas.{length-drawn_numbers}
+use Rattle.kalah_run.specs.declared.batch.size.Rest.TheVariants.{Solve}
+use Rattle.kalah_jobs.specs.declared.files.question.Question.{Question}
+use Rattle.kalah_jobs.proofs.WritingLemmas.JobOutput.{files_are_their_jobs}
+use Rattle.kalah_jobs.specs.Limits.{most_files, most_lines}
+use Rattle.kalah_run.specs.Batch.NoLine.{AnswersNothing}
+use Rattle.kalah_run.specs.declared.batch.run_fault.RunFault.{RunFault}
+use Rattle.kalah_run.specs.declared.batch.run_fault.RunFault.TheVariants.{TooManyFiles, TooManyLines, OutOfMemory, NoWorker, Write}
+
+-- ==== A worker with one job more: what it sends, and that less is left to draw
+
+-- job number n is what stands there in the list of jobs
+job_at : (jobs : List (List Entry)) (n : ℕ) (o : Job) → slice_get (job_list jobs) n ≡ Some o → job jobs n ≡ o
+job_at jobs n o at = get_or_from_slice_get (job_list jobs) n o (line_job 0 0 (Bad Empty)) at
+
+-- the outcome of the job that was drawn stands after those of the row so far
+pub drawn_jobs-more : (jobs : List (List Entry)) (row row' : DrawnRow) (n : ℕ) (o : Job) (sent sent' : List Job) →
+    sent ≡ drawn_jobs jobs row.numbers → row'.numbers ≡ row.numbers ++ n ∷ [] → slice_get (job_list jobs) n ≡ Some o
+    → sent' ≡ sent ++ o ∷ [] →
+    sent' ≡ drawn_jobs jobs row'.numbers
+unfolding drawn_jobs
+drawn_jobs-more jobs row row' n o sent sent' so_far drawn is more =
+    more
+    ∙ ap (λ x. x ++ o ∷ []) so_far
+    ∙ ap (λ x. drawn_jobs jobs row.numbers ++ x ∷ []) (sym (job_at jobs n o is))
+    ∙ sym (map-append (job jobs) row.numbers (n ∷ []))
+    ∙ ap (λ x. drawn_jobs jobs x) (sym drawn)
+
+-- nothing is drawn and nothing sent
+pub drawn_jobs-none : (jobs : List (List Entry)) (numbers : List ℕ) (sent : List Job) → numbers ≡ [] → sent ≡ []
+    → sent ≡ drawn_jobs jobs numbers
+unfolding drawn_jobs
+drawn_jobs-none jobs numbers sent none nothing = nothing ∙ sym (ap (λ x. drawn_jobs jobs x) none)
+
+-- one above the last number of a row, and 0 for an empty row: it grows with each draw, so the total bounds the draws of a loop
+abbrev pub least_above : List ℕ → ℕ
+least_above numbers = fold (λ above x. x + 1) 0 numbers
+
+-- a list of numbers below a limit has none above it
+none_above : (numbers : List ℕ) (first limit : ℕ) → first ≤ limit → All (λ x. x < limit) numbers
+    → fold (λ above x. x + 1) first numbers ≤ limit
+none_above [] first limit low below = low
+none_above (x ∷ xs) first limit low below = none_above xs (x + 1) limit (let least = below 0 x (omega arith) in omega arith)
+    (λ k d within. below (suc k) d (omega arith))
+
+-- with one number more there is less left to draw
+pub less_left : (numbers more : List ℕ) (number total : ℕ) → more ≡ numbers ++ number ∷ [] → All (λ x. x < number) numbers
+    → number < total
+    → total - least_above more < total - least_above numbers
+less_left numbers more number total is above below =
+    let last : least_above more ≡ number + 1 = ap least_above is ∙ fold-append (λ above x. x + 1) 0 numbers (number ∷ []) in
+    let before = none_above numbers 0 number (omega arith) above in
+    omega (arith, last, before, below)
+
+-- ==== A sink that is given bytes
+
+-- it was given none yet
+pub given_none : (begun : Option (List ℕ)) (failed : Bool) → WasGiven begun begun failed []
+given_none begun failed = record { start = start_none begun []; whole = λ sound. Appends-nil begun }
+
+-- it is given more, and takes a prefix of it, or all if it has not failed then
+pub given_on : (begun out more : Option (List ℕ)) (failed fails : Bool) (bs cs : List ℕ) → WasGiven begun out failed bs
+    → failed ≡ false
+    → AppendsStart out more cs → (fails ≡ false → Appends out more cs) → WasGiven begun more fails (bs ++ cs)
+given_on begun out more failed fails bs cs given sound start all = record {
+  start = start_then begun out more (bs ++ cs) bs cs refl (given.whole sound) start;
+  whole = λ still. Appends-trans begun out more bs cs (given.whole sound) (all still);
+}
+
+-- it has failed, and what more there is is not written
+pub given_off : (begun out : Option (List ℕ)) (failed : Bool) (bs cs : List ℕ) → WasGiven begun out failed bs → failed ≡ true
+    → WasGiven begun out failed (bs ++ cs)
+given_off begun out failed bs cs given broken = record {
+  start = start_longer begun out bs cs given.start;
+  whole = λ sound. absurd (let both : true ≡ false = sym broken ∙ sound in cc);
+}
+
+-- what it holds is flushed
+pub given_kept : (begun out more : Option (List ℕ)) (failed fails : Bool) (bs : List ℕ) → WasGiven begun out failed bs
+    → Keeps out more
+    → (fails ≡ false → failed ≡ false) → WasGiven begun more fails bs
+given_kept begun out more failed fails bs given keeps was_sound = record {
+  start = start_kept begun out more bs given.start keeps;
+  whole = λ sound. Appends-kept begun out more bs (given.whole (was_sound sound)) keeps;
+}
+
+-- ==== The loop that writes each line once it is ready and all before it were written
+
+-- what is written, line by line and file by file
+module _ (text : ℕ → Taken → List ℕ) (jobs : List (List Entry)) where
+  -- one line more
+  written_line : (f n : ℕ) (e : Entry) → entry_at jobs f n ≡ Some e
+      → written_upto text jobs f n ++ text f (answered_line (n, e)) ≡ written_upto text jobs f (n + 1)
+  unfolding written_upto
+  written_line f n e is =
+      let entries : List Entry = entries_of jobs f in
+      let low : n < length entries = slice_get_within entries n e is in
+      let xs : List (ℕ × Entry) = enumerate_from 0 entries in
+      let many : length xs ≡ length entries = length-enumerate_from 0 entries in
+      let here : ℕ × Entry = get_or xs n (0, e) in
+      let before : List ℕ = flat_map (text_of_file text) (take f (enumerate_from 0 jobs)) in
+      let t : text_of_line text f here ≡ text f (answered_line (n, e)) = ap (λ r. text_of_line text f r) (numbered_is entries n e is) in
+      let more : take (n + 1) xs ≡ take n xs ++ here ∷ [] = take_more xs n (0, e) (omega arith) in
+      ap (λ l. (before ++ flat_map (text_of_line text f) (take n xs)) ++ l) (sym t)
+      ∙ flat_map_more (text_of_line text f) before (take n xs) here
+      ∙ ap (λ l. before ++ flat_map (text_of_line text f) l) (sym more)
+
+  -- one file more
+  written_file : (f : ℕ) → f < length jobs → written_upto text jobs f (length (entries_of jobs f)) ≡ written_upto text
+      jobs (f + 1) 0
+  unfolding written_upto
+  written_file f low =
+      let js : List (ℕ × List Entry) = enumerate_from 0 jobs in
+      let here : ℕ × List Entry = get_or js f (0, []) in
+      let xs : List (ℕ × Entry) = enumerate_from 0 (entries_of jobs f) in
+      let many : length js ≡ length jobs = length-enumerate_from 0 jobs in
+      let lines : length xs ≡ length (entries_of jobs f) = length-enumerate_from 0 (entries_of jobs f) in
+      let all : take (length (entries_of jobs f)) xs ≡ xs = take_all (length (entries_of jobs f)) xs (omega arith) in
+      let more : take (f + 1) js ≡ take f js ++ here ∷ [] = take_more js f (0, []) (omega arith) in
+      let before : List ℕ = flat_map (text_of_file text) (take f js) in
+      let one : flat_map (text_of_file text) (take f js ++ here ∷ []) ≡ before ++ text_of_file text here =
+      sym (flat_map_more (text_of_file text) [] (take f js) here) in
+      ap (λ l. before ++ flat_map (text_of_line text f) l) all
+      ∙ ap (λ r. before ++ text_of_file text r) (sym (numbered_at jobs f [] low))
+      ∙ sym one
+      ∙ ap (λ l. flat_map (text_of_file text) l) (sym more)
+      ∙ sym (append-nil (flat_map (text_of_file text) (take (f + 1) js)))
+
+  -- all files
+  written_all : (f n : ℕ) → length jobs ≤ f → written_upto text jobs f n ≡ text_of_jobs text jobs
+  unfolding written_upto
+  written_all f n high =
+      let js : List (ℕ × List Entry) = enumerate_from 0 jobs in
+      let many : length js ≡ length jobs = length-enumerate_from 0 jobs in
+      let none : entries_of jobs f ≡ [] = get_or_past jobs f [] high in
+      let no_line : take n (enumerate_from 0 (entries_of jobs f)) ≡ [] =
+      ap (λ l. take n (enumerate_from 0 l)) none ∙ take_all n [] (omega arith) in
+      ap (λ l. flat_map (text_of_file text) l ++ flat_map (text_of_line text f) (take n (enumerate_from 0 (entries_of jobs f))))
+      (take_all f js (omega arith))
+      ∙ ap (λ l. text_of_jobs text jobs ++ flat_map (text_of_line text f) l) no_line
+      ∙ append-nil (text_of_jobs text jobs)
+
+  -- the first lines of a file, and then the others
+  written_line_rest : (f n : ℕ) → written_upto text jobs f n ++ flat_map (text_of_line text f)
+      (drop n (enumerate_from 0 (entries_of jobs f)))
+      ≡ written_upto text jobs f (length (entries_of jobs f))
+  unfolding written_upto
+  written_line_rest f n =
+      let T = text_of_line text f in
+      let before : List ℕ = flat_map (text_of_file text) (take f (enumerate_from 0 jobs)) in
+      let xs : List (ℕ × Entry) = enumerate_from 0 (entries_of jobs f) in
+      let many : length xs ≡ length (entries_of jobs f) = length-enumerate_from 0 (entries_of jobs f) in
+      append_assoc before (flat_map T (take n xs)) (flat_map T (drop n xs))
+      ∙ ap (λ l. before ++ l) (sym (flat_map-append T (take n xs) (drop n xs)) ∙ ap (flat_map T) (take-append-drop n xs)
+      ∙ ap (flat_map T) (sym (take_all (length (entries_of jobs f)) xs (omega arith))))
+
+  -- the first files, and then the others
+  written_file_rest : (f : ℕ) → written_upto text jobs f 0 ++ flat_map (text_of_file text) (drop f (enumerate_from 0 jobs)) ≡
+      text_of_jobs text jobs
+  unfolding written_upto
+  written_file_rest f =
+      let js : List (ℕ × List Entry) = enumerate_from 0 jobs in
+      ap (λ l. l ++ flat_map (text_of_file text) (drop f js)) (append-nil (flat_map (text_of_file text) (take f js)))
+      ∙ sym (flat_map-append (text_of_file text) (take f js) (drop f js)) ∙ ap (flat_map (text_of_file text)) (take-append-drop f js)
+
+  -- what is written is the first part of all
+  written_first : (f n : ℕ) → (rest : List ℕ) × (written_upto text jobs f n ++ rest ≡ text_of_jobs text jobs)
+  written_first f n =
+      ⊎_elim
+      (λ (low : f < length jobs).
+      let lines : List ℕ = flat_map (text_of_line text f) (drop n (enumerate_from 0 (entries_of jobs f))) in
+      let later : List ℕ = flat_map (text_of_file text) (drop (f + 1) (enumerate_from 0 jobs)) in (
+        lines ++ later,
+        sym (append_assoc (written_upto text jobs f n) lines later)
+            ∙ ap (λ l. l ++ later) (written_line_rest f n ∙ written_file f low)
+            ∙ written_file_rest (f + 1),
+      ))
+      (λ (high : length jobs ≤ f). ([], append-nil (written_upto text jobs f n) ∙ written_all f n high))
+      (cases_lt f (length jobs))
+
+  -- nothing yet
+  written_none : written_upto text jobs 0 0 ≡ []
+  unfolding written_upto
+  written_none = refl
+
+  -- nothing was offered and nothing taken
+  pub progress_start : (begun : Option (List ℕ)) (failed : Bool) → IsUnderWay text jobs [] (new_files jobs) 0 begun begun failed
+  progress_start begun failed =
+      let kept = start jobs in
+      record {
+        holds = kept.offered;
+        within = kept.within;
+        before = λ g low. absurd (omega arith);
+        later = λ g high. new_taken jobs g;
+        written = subst (λ (l : List ℕ). WasGiven begun begun failed l)
+            (sym (ap (λ n. written_upto text jobs 0 n) (new_taken jobs 0) ∙ written_none)) (given_none begun failed);
+      }
+
+-- a step of a batch that is under way
+module _ {text : ℕ → Taken → List ℕ} {jobs : List (List Entry)} {past : List Job} {files : List FileState} {f : ℕ}
+    {begun out : Option (List ℕ)}
+    {failed : Bool} (progress : IsUnderWay text jobs past files f begun out failed) where
+  -- A line is taken, and its text passed to the sink.
+  pub wrote_line : (after : List FileState) (t : Taken) (more : Option (List ℕ)) (fails : Bool) → Takes files f (Some t) after
+      → ((given : List ℕ) → WasGiven begun out failed given → WasGiven begun more fails (given ++ text f t))
+      → IsUnderWay text jobs past after f begun more fails
+  wrote_line after t more fails step gives =
+      let low : f < length files = step.file_there in
+      let n : ℕ = (state_of files f).taken in
+      let now : List FileState = after_take files f in
+      let here : state_of now f ≡ with_one_taken (state_of files f) = state_same files f (with_one_taken (state_of files f)) low in
+      let other : (g : ℕ) → (g ≡ f → ⊥) → state_of now g ≡ state_of files g =
+      λ g np. state_other files f g (with_one_taken (state_of files f)) np in
+      let w = progress.holds.only f t.line t.answer step.next_line.came in
+      let line : t.line ≡ n = step.next_line.first in
+      let at : entry_at jobs f n ≡ Some w.entry = ap (λ k. entry_at jobs f k) (sym line) ∙ w.at in
+      let is : t ≡ answered_line (n, w.entry) = taken_is t n w.entry line w.is in
+      let taken : (state_of now f).taken ≡ n + 1 = ap (λ (s : FileState). s.taken) here in
+      let text_is : written_upto text jobs f n ++ text f t ≡ written_upto text jobs f (state_of now f).taken =
+      ap (λ x. written_upto text jobs f n ++ text f x) is
+      ∙ written_line text jobs f n w.entry at
+      ∙ ap (λ m. written_upto text jobs f m) (sym taken) in
+      let new : IsUnderWay text jobs past now f begun more fails = record {
+        holds = holds_take jobs past files f low progress.holds;
+        within = λ g.
+            ⊎_elim
+            (λ (p : g ≡ f).
+            let a : (state_of now g).taken ≡ n + 1 = ap (λ x. (state_of now x).taken) p ∙ taken in
+            let b : front (state_of now g) ≡ front (state_of files f) = ap (λ x. front (state_of now x)) p
+            ∙ ap (λ (s : FileState). front s) here in
+            let c = step.next_line.ready in
+            omega arith)
+            (λ (np : g ≡ f → ⊥). subst (λ (s : FileState). s.taken ≤ front s) (sym (other g np)) (progress.within g))
+            (cases_eq g f);
+        before = λ g g_low. subst (λ (s : FileState). s.taken ≡ line_count s) (sym (other g (λ q. omega arith)))
+            (progress.before g g_low);
+        later = λ g g_high. ap (λ (s : FileState). s.taken) (other g (λ q. omega arith)) ∙ progress.later g g_high;
+        written = subst (λ (l : List ℕ). WasGiven begun more fails l) text_is (gives (written_upto text jobs f n) progress.written);
+      } in
+      subst (λ (s : List FileState). IsUnderWay text jobs past s f begun more fails) (sym step.kept) new
+
+  -- no line is taken
+  pub wrote_nothing : (after : List FileState) → Takes files f None after → IsUnderWay text jobs past after f begun out failed
+  wrote_nothing after step = subst (λ (s : List FileState). IsUnderWay text jobs past s f begun out failed) (sym step.unchanged) progress
+
+  -- a file is completely written, and the next becomes the current one
+  pub wrote_file : f < length files → HasEnded (state_of files f) → front (state_of files f) ≤ (state_of files f).taken
+      → IsUnderWay text jobs past files (f + 1) begun out failed
+  wrote_file low ended all =
+      let up : (state_of files f).taken ≤ front (state_of files f) = progress.within f in
+      let whole : (state_of files f).taken ≡ line_count (state_of files f) = omega arith in
+      let many : line_count (state_of files f) ≡ length (entries_of jobs f) = lines_are jobs files progress.holds.counts f in
+      let jobs_low : f < length jobs = (let m = files_many jobs files progress.holds.counts in omega arith) in
+      let none : (state_of files (f + 1)).taken ≡ 0 = progress.later (f + 1) (omega arith) in
+      let text_is : written_upto text jobs f (state_of files f).taken ≡ written_upto text jobs (f + 1) (state_of files (f + 1)).taken =
+      ap (λ m. written_upto text jobs f m) (whole ∙ many)
+      ∙ written_file text jobs f jobs_low
+      ∙ ap (λ m. written_upto text jobs (f + 1) m) (sym none) in
+      record {
+        holds = progress.holds;
+        within = progress.within;
+        before = λ g g_low.
+            ⊎_elim
+            (λ (p : g ≡ f). subst (λ x. (state_of files x).taken ≡ line_count (state_of files x)) (sym p) whole)
+            (λ (np : g ≡ f → ⊥). progress.before g (omega arith))
+            (cases_eq g f);
+        later = λ g g_high. progress.later g (omega arith);
+        written = subst (λ (l : List ℕ). WasGiven begun out failed l) text_is progress.written;
+      }
+
+  -- an accepted offer leaves what was written
+  progress_accepted : (o : Job) → IsWanted jobs files o
+      → IsUnderWay text jobs (past ++ o ∷ []) (after_offer files o.file o.line (answer_of o.entry)) f begun out failed
+  progress_accepted o wanted =
+      let low = wanted_file jobs files o wanted in
+      let now : List FileState = after_offer files o.file o.line (answer_of o.entry) in
+      let taken : (g : ℕ) → (state_of now g).taken ≡ (state_of files g).taken =
+      λ g. taken_after_offer files o (answer_of o.entry) low g in
+      let holds = holds_accepted jobs past files o progress.holds wanted in
+      record {
+        holds = holds;
+        within = λ g.
+            let a = taken g in
+            let b = front_after_offer files o (answer_of o.entry) low g in
+            let c = progress.within g in
+            omega arith;
+        before = λ g g_low.
+            let a = lines_are jobs files progress.holds.counts g in
+            let b = lines_are jobs now holds.counts g in
+            taken g ∙ progress.before g g_low ∙ a ∙ sym b;
+        later = λ g g_high. taken g ∙ progress.later g g_high;
+        written = subst (λ n. WasGiven begun out failed (written_upto text jobs f n)) (sym (taken f)) progress.written;
+      }
+
+  -- so does a refused one
+  progress_refused : (o : Job) (r : Refusal) → IsRefusedFor jobs files o r
+      → IsUnderWay text jobs (past ++ o ∷ []) files f begun out failed
+  progress_refused o r refused = record {
+    holds = holds_refused jobs past files o r progress.holds refused;
+    within = progress.within;
+    before = progress.before;
+    later = progress.later;
+    written = progress.written;
+  }
+
+  -- an outcome is offered, and accepted or refused
+  pub progress_offered : (o : Job) (after : List FileState) (gave : Result ℕ Refusal) → Offers jobs files o gave after
+      → IsUnderWay text jobs (past ++ o ∷ []) after f begun out failed
+  progress_offered o after (Ok ready) step =
+      subst (λ (s : List FileState). IsUnderWay text jobs (past ++ o ∷ []) s f begun out failed) (sym step.kept)
+      (progress_accepted o step.wanted)
+  progress_offered o after (Err r) step =
+      subst (λ (s : List FileState). IsUnderWay text jobs (past ++ o ∷ []) s f begun out failed) (sym step.unchanged)
+      (progress_refused o r step.cause)
+
+  -- a sink that has failed was given all, as far as it took it
+  pub progress_failed : failed ≡ true → WasGiven begun out failed (text_of_jobs text jobs)
+  progress_failed broken =
+      let all = written_first text jobs f (state_of files f).taken in
+      subst (λ (l : List ℕ). WasGiven begun out failed l) all.1 (given_off begun out failed _ all.0 progress.written broken)
+
+  -- Each job was offered once, and the current file, if there is one, has not ended.
+  module _ (each : AreJobsInSomeOrder jobs past) (waits : f < length files → HasEnded (state_of files f) → ⊥) where
+    -- so it is past the last
+    past_all : length files ≤ f
+    past_all =
+        ⊎_elim
+        (λ (low : f < length files). absurd (waits low (fronts_full jobs past files each progress.holds f)))
+        (λ (high : length files ≤ f). high)
+        (cases_lt f (length files))
+
+    -- the sink was given all
+    pub progress_end : WasGiven begun out failed (text_of_jobs text jobs)
+    progress_end =
+        let many : length files ≡ length jobs = files_many jobs files progress.holds.counts in
+        let high : length files ≤ f = past_all in
+        subst (λ (l : List ℕ). WasGiven begun out failed l) (written_all text jobs f (state_of files f).taken (omega arith))
+        progress.written
+
+-- ==== What an output writes, line by line
+
+-- the text of a line of file f begins with that file's name
+pub text_of_taken : (files : List NamedBytes) (f : ℕ) (file : NamedBytes) (name : List ℕ) (taken : Taken) → f < length files →
+    file ≡ get_or files f file → name ≡ file.name → text_of files f taken ≡ answer_line name taken ++ line_feed ∷ []
+unfolding text_of
+text_of_taken files f file name taken low at is =
+    ap (λ n. answer_line n taken ++ line_feed ∷ [])
+    (get_or-map (λ (x : NamedBytes). x.name) files f file [] low ∙ sym (ap (λ (x : NamedBytes). x.name) at) ∙ sym is)
+
+-- an output advances with the state of what is under way
+pub written_on : (files : List NamedBytes) (jobs : List (List Entry)) (past : List Job) (begun out more : Option (List ℕ))
+    (failed fails : Bool)
+    (r after : OrderedOutput) → after.files.now ≡ r.files.now → after.jobs.now ≡ r.jobs.now
+    → (IsUnderWay (text_of r.files.now) r.jobs.now past r.collector r.current begun out failed
+    → IsUnderWay (text_of r.files.now) r.jobs.now past after.collector after.current begun more fails)
+    → HasWritten files jobs past begun out failed r → HasWritten files jobs past begun more fails after
+written_on files jobs past begun out more failed fails r after same_files same_jobs on is =
+    let from : IsUnderWay (text_of r.files.now) r.jobs.now past r.collector r.current begun out failed =
+    subst (λ (fs : List NamedBytes). IsUnderWay (text_of fs) r.jobs.now past r.collector r.current begun out failed)
+    (sym is.of_files) is.progress in
+    record {
+      of_files = same_files ∙ is.of_files;
+      of_jobs = same_jobs ∙ is.of_jobs;
+      progress = subst (λ (js : List (List Entry)). IsUnderWay (text_of files) js past after.collector after.current begun more fails)
+          (sym same_jobs)
+          (subst (λ (fs : List NamedBytes). IsUnderWay (text_of fs) r.jobs.now past after.collector after.current begun more fails)
+          is.of_files
+          (on from));
+    }
+
+-- an output stays written if what was written is flushed
+pub still_written : (files : List NamedBytes) (jobs : List (List Entry)) (past : List Job) (begun out later : Option (List ℕ))
+    (failed fails : Bool) (r : OrderedOutput) → Keeps out later → (fails ≡ false → failed ≡ false)
+    → HasWritten files jobs past begun out failed r → HasWritten files jobs past begun later fails r
+still_written files jobs past begun out later failed fails r keeps sound is = record {
+  of_files = is.of_files;
+  of_jobs = is.of_jobs;
+  progress = record {
+    holds = is.progress.holds;
+    within = is.progress.within;
+    before = is.progress.before;
+    later = is.progress.later;
+    written = given_kept begun out later failed fails _ is.progress.written keeps sound;
+  };
+}
+
+-- so it has still accepted what it had
+pub still_accepted : (past : List Job) (before after : OrderedOutput) (old out later : Option (List ℕ)) (had failed fails : Bool)
+    → Keeps out later
+    → (fails ≡ false → failed ≡ false) → AcceptsAll past before old had after out failed
+    → AcceptsAll past before old had after later fails
+still_accepted past before after old out later had failed fails keeps sound accepts files jobs begun so_far =
+    let now = accepts files jobs begun so_far in
+    (still_written files jobs past begun out later failed fails after keeps sound now.0, now.1)
+
+-- what a call that wrote all, or failed, did if it has not failed
+pub whole_where_sound : {A E : Type 0} (all : Type 0) (r : Result A E) (failed : Bool) → (IsErr r → failed ≡ true) → OnOk r all
+    → failed ≡ false → all
+whole_where_sound all (Ok x) failed fails wrote sound = wrote
+whole_where_sound all (Err e) failed fails wrote sound = absurd (let both : true ≡ false = sym (fails refl) ∙ sound in cc)
+
+-- how many lines are ready and were not taken, of all files
+abbrev pub ready_lines : List FileState → ℕ
+ready_lines files = sum_by (λ (s : FileState). front s - s.taken) files
+
+-- ==== Workers put together from their passes, one after the other
+
+-- one worker more
+pub passes_more : (workers workers' : List Worker) (w : Worker) (yielded : List PassState) → workers' ≡ workers ++ w ∷ []
+    → passes_of workers ≡ yielded →
+    passes_of workers' ≡ yielded ++ w.pass ∷ []
+passes_more workers workers' w yielded is so_far =
+    ap (λ l. passes_of l) is ∙ map-append (λ (x : Worker). x.pass) workers (w ∷ []) ∙ ap (λ l. l ++ w.pass ∷ []) so_far
+
+pub puts_more : (workers workers' : List Worker) (w : Worker) (waiting waiting' all : List PutState) → workers' ≡ workers ++ w ∷ []
+    → waiting ≡ w.put ∷ waiting' →
+    puts_of workers ++ waiting ≡ all → puts_of workers' ++ waiting' ≡ all
+puts_more workers workers' w waiting waiting' all is took so_far =
+    ap (λ l. puts_of l ++ waiting') is
+    ∙ ap (λ l. l ++ waiting') (map-append (λ (x : Worker). x.put) workers (w ∷ []))
+    ∙ append_assoc (puts_of workers) (w.put ∷ []) waiting'
+    ∙ ap (λ l. puts_of workers ++ l) (sym took)
+    ∙ so_far
+
+pub tables_more : (workers workers' : List Worker) (w : Worker) (solver : Solver Global) (entries : ℕ)
+    → workers' ≡ workers ++ w ∷ []
+    → padded_value w.solver ≡ solver → solver.search.table ≡ empty_table entries →
+    HaveTables entries workers → HaveTables entries workers'
+tables_more workers workers' w solver entries is has_it empty so_far =
+    subst (λ l. HaveTables entries l) (sym is)
+    (All-push (HasTable entries) workers w so_far (ap (λ (s : Solver Global). s.search.table) has_it ∙ empty))
+
+-- ==== The workers of a batch, from their passes to what was got of them
+
+-- each pass to put is of the queue
+put_queue : (id : TableId) (n : ℕ) (puts : List PutState) (k : ℕ) (d : PutState) → ArePassesFrom id n puts → k < length puts
+    → (get_or puts k d).queue ≡ id
+put_queue id n [] k d from within = absurd (omega arith)
+put_queue id n (p ∷ ps) zero d from within = from.0
+put_queue id n (p ∷ ps) (suc k) d from within = put_queue id (suc n) ps k d from.2 (omega arith)
+
+-- workers of new passes are at work
+pub new_at_work : {G : Type 0} {knows : G → ℕ → Bool} (shared : SharedWork G) (workers : List Worker) (count : ℕ)
+    → AreNewPasses shared.desk count (passes_of workers)
+    → ArePassesFrom shared.queue.id 0 (puts_of workers)
+    → All (λ p. p.sent ≡ []) (puts_of workers) → AreAtWork knows shared workers
+new_at_work {knows = knows} shared workers count new from unsent = λ k d within.
+    let w = get_or workers k d in
+    let low : k < count = omega (arith, new.0, length-map workers (λ (x : Worker). x.pass)) in
+    let put_low : k < length (puts_of workers) = omega (arith, length-map workers (λ (x : Worker). x.put)) in
+    let pass : w.pass ≡ new_pass shared.desk k = sym (get_or-map (λ (x : Worker). x.pass) workers k d w.pass within)
+    ∙ new.1 k w.pass low in
+    let put : get_or (puts_of workers) k w.put ≡ w.put = get_or-map (λ (x : Worker). x.put) workers k d w.put within in
+    record {
+      draws = (ap (λ (p : PassState). p.desk) pass, ap (λ (p : PassState). p.total) pass);
+      known = subst (λ (l : List ℕ). All (λ n. knows shared.gate.now n ≡ true) l) (sym (ap (λ (p : PassState). p.row.numbers) pass))
+          (λ j e low. absurd (omega arith));
+      sends = ap (λ (p : PutState). p.queue) (sym put) ∙ put_queue shared.queue.id 0 (puts_of workers) k w.put from put_low;
+      sent = drawn_jobs-none shared.jobs.now w.pass.row.numbers w.put.sent (ap (λ (p : PassState). p.row.numbers) pass)
+          (ap (λ (p : PutState). p.sent) (sym put) ∙ unsent k w.put put_low);
+    }
+
+-- after the run each pass to put is still of the queue, and in its place
+pub puts_after : {G : Type 0} {knows : G → ℕ → Bool} (shared : SharedWork G) (before after : List Worker) (n : ℕ)
+    → HaveRun knows shared before after
+    → ArePassesFrom shared.queue.id n (puts_of before) → ArePassesFrom shared.queue.id n (puts_of after)
+puts_after shared [] [] n run from = tt
+puts_after shared [] (a ∷ others) n run from = absurd (let many = run.as_many in omega arith)
+puts_after shared (b ∷ bs) [] n run from = absurd (let many = run.as_many in omega arith)
+puts_after {knows = knows} shared (b ∷ bs) (a ∷ others) n run from =
+    let first = run.each 0 a (omega arith) in
+    let rest : HaveRun knows shared bs others = record {
+      as_many = (let many = run.as_many in omega arith);
+      each = λ k d within. run.each (suc k) d (omega arith);
+    } in
+    (first.at_work.sends, first.number ∙ from.1, puts_after shared bs others (suc n) rest from.2)
+
+-- each worker that has run
+module _ {G : Type 0} {knows : G → ℕ → Bool} (shared : SharedWork G) (before after : List Worker)
+    (run : HaveRun knows shared before after) where
+  pub run_at_work : AreAtWork knows shared after
+  run_at_work = λ k d within. (run.each k d (let many = run.as_many in omega arith)).at_work
+
+  pub run_passes : All (IsPassAt shared.desk) (passes_of after)
+  run_passes = All-map (IsPassAt shared.desk) (λ (w : Worker). w.pass) after (λ k d within. (run_at_work k d within).draws)
+
+-- what worker w sent are the outcomes of its row
+sent_in_order : {G : Type 0} {knows : G → ℕ → Bool} (shared : SharedWork G) (workers : List Worker) (w : ℕ)
+    → AreAtWork knows shared workers
+    → w < length workers →
+    get_or (sent_by (puts_of workers)) w [] ≡ drawn_jobs shared.jobs.now (get_or (drawn_numbers (drawn_rows (passes_of workers))) w [])
+sent_in_order shared [] w at_work within = absurd (omega arith)
+sent_in_order shared (x ∷ xs) zero at_work within = (at_work 0 x (omega arith)).sent
+sent_in_order shared (x ∷ xs) (suc w) at_work within = sent_in_order shared xs w (λ k d low. at_work (suc k) d (omega arith))
+    (omega arith)
+
+drawn_jobs_are : (jobs : List (List Entry)) (numbers : List ℕ) → drawn_jobs jobs numbers ≡ map (job jobs) numbers
+unfolding drawn_jobs
+drawn_jobs_are jobs numbers = refl
+
+-- Each number below the count of those drawn stands in the rows once, and the pairs that were got and those left inside account for what
+-- was
+-- sent; as many were got as there are jobs: so each job was got once.
+pub each_job_got : {G : Type 0} {knows : G → ℕ → Bool} (shared : SharedWork G) (workers : List Worker) (count drawn : ℕ) (got rest : List (ℕ × Job))
+    → AreAtWork knows shared workers
+    → length workers ≡ count → DealsEachOnce (job_count shared.jobs.now) drawn (drawn_rows (passes_of workers))
+    → Accounts count (sent_by (puts_of workers)) (got ++ rest) → length got ≡ job_count shared.jobs.now
+    → AreJobsInSomeOrder shared.jobs.now (outcomes_in got)
+each_job_got shared workers count drawn got rest at_work as_many deals accounts all =
+    let jobs = shared.jobs.now in
+    let rows = drawn_numbers (drawn_rows (passes_of workers)) in
+    let row_count : length rows ≡ length workers = length-drawn_numbers (passes_of workers)
+    ∙ length-map workers (λ (w : Worker). w.pass) in
+    let sent_count : length (sent_by (puts_of workers)) ≡ length workers =
+    length-map (puts_of workers) (λ (p : PutState). p.sent) ∙ length-map workers (λ (w : Worker). w.put) in
+    let row_workers : count ≡ length rows = sym as_many ∙ sym row_count in
+    let are_shared : AreShared drawn (job jobs) rows (got ++ rest) = record {
+      each_once = deals.each_once;
+      workers = subst (λ n. All (λ (t : ℕ × Job). t.0 < n) (got ++ rest)) row_workers accounts.below;
+      whole = λ w within.
+          let low : w < length workers = omega arith in
+          accounts.whole w (omega arith) ∙ sent_in_order shared workers w at_work low ∙ drawn_jobs_are jobs (get_or rows w []);
+    } in
+    let many : length (job_list jobs) ≡ job_count jobs = length-job_list jobs in
+    let whole : drawn ≡ length (job_list jobs) =
+    omega (arith, as_many_as_numbers drawn (job jobs) rows (got ++ rest) are_shared, length-append got rest, all, deals.within, many) in
+    shares_law jobs rows got rest (subst (λ n. AreShared n (job jobs) rows (got ++ rest)) whole are_shared) (all ∙ sym many)
+
+-- ==== The gate knows each job, if all are drawn
+
+-- a number that stands in a list has what all numbers there have
+has_of_list : (P : ℕ → Type 0) (x : ℕ) (xs : List ℕ) → 0 < count_by (λ y. y == x) xs → All P xs → P x
+has_of_list P x [] some all = absurd (omega arith)
+has_of_list P x (y ∷ ys) some all =
+    ⊎_elim
+    (λ (same : y ≡ x). subst P same (all 0 y (omega arith)))
+    (λ (other : y ≢ x). has_of_list P x ys
+    (let none = ap {B = ℕ} (λ (b : Bool). if b then 1 else 0) (ne_eqb y x other) in
+    omega (arith, some, none, sum_by-cons (λ z. if z == x then 1 else 0) y ys))
+    (λ k d low. all (suc k) d (omega arith)))
+    (cases_eq y x)
+
+-- so has one that stands in some row
+has_of_rows : (P : ℕ → Type 0) (x : ℕ) (rows : List DrawnRow) → 0 < times_in x (drawn_numbers rows)
+    → All (λ r. All P r.numbers) rows → P x
+has_of_rows P x [] some all = absurd (omega arith)
+has_of_rows P x (r ∷ rs) some all =
+    ⊎_elim
+    (λ (here : 0 < count_by (λ y. y == x) r.numbers). has_of_list P x r.numbers here (all 0 r (omega arith)))
+    (λ (none : count_by (λ y. y == x) r.numbers ≤ 0). has_of_rows P x rs
+    (omega (arith, some, none, sum_by-cons (λ (l : List ℕ). count_by (λ y. y == x) l) r.numbers (drawn_numbers rs)))
+    (λ k d low. all (suc k) d (omega arith)))
+    (cases_lt 0 (count_by (λ y. y == x) r.numbers))
+
+-- some pass is spent, if each is
+some_spent : (workers : List Worker) → 0 < length workers → All (λ (w : Worker). w.pass.row.spent ≡ true) workers
+    → 0 < spent_in (drawn_rows (passes_of workers))
+some_spent [] some spent = absurd (omega arith)
+some_spent (w ∷ ws) some spent =
+    omega (
+      arith,
+      sum_by-cons (λ (r : DrawnRow). if r.spent then 1 else 0) w.pass.row (drawn_rows (passes_of ws)),
+      ap {B = ℕ} (λ (b : Bool). if b then 1 else 0) (spent 0 w (omega arith)),
+    )
+
+-- Each worker has run, and the rest is solved: all jobs were drawn, and the gate knows them.
+pub each_job_known : {G : Type 0} {knows : G → ℕ → Bool} (shared : SharedWork G) (before after : List Worker) (drawn : ℕ)
+    → HaveRun knows shared before after → shared.rest ≡ Solve → 0 < length before
+    → DealsEachOnce (job_count shared.jobs.now) drawn (drawn_rows (passes_of after))
+    → (job : ℕ) → job < job_count shared.jobs.now → knows shared.gate.now job ≡ true
+each_job_known {knows = knows} shared before after drawn run solve some deals job low =
+    let Known : ℕ → Type 0 = λ n. knows shared.gate.now n ≡ true in
+    let spent = λ (k : ℕ) (w : Worker) (within : k < length after).
+    (run.each k w (let many = run.as_many in omega arith)).spent solve in
+    let all : drawn ≡ job_count shared.jobs.now = deals.spent (some_spent after (let many = run.as_many in omega arith) spent) in
+    let once = deals.each_once job ∙ ap {B = ℕ} (λ (b : Bool). if b then 1 else 0) (lt-ltb job drawn (omega arith)) in
+    has_of_rows Known job (drawn_rows (passes_of after)) (omega (arith, once))
+    (All-map (λ (r : DrawnRow). All Known r.numbers) (λ (p : PassState). p.row) (passes_of after)
+    (All-map (λ (p : PassState). All Known p.row.numbers) (λ (w : Worker). w.pass) after
+    (λ k w within. (run_at_work shared before after run k w within).known)))
+
+-- ==== What stands written when a batch has ended
+
+-- the texts of all jobs are their output
+texts_are_output : (files : List NamedBytes) (jobs : List (List Entry))
+    → text_of_jobs (text_of files) jobs ≡ output_of_jobs (names_of files) jobs
+unfolding text_of
+texts_are_output files jobs = refl
+
+-- what is known of an output, with the jobs of its files
+module _ (files : List NamedBytes) (jobs : List (List Entry)) (past : List Job) (begun out : Option (List ℕ)) (failed : Bool)
+    (r : OrderedOutput)
+    (so_far : HasWritten files jobs past begun out failed r) where
+  output_is : text_of_jobs (text_of files) r.jobs.now ≡ output_of_jobs (names_of files) jobs
+  output_is = ap (λ l. text_of_jobs (text_of files) l) so_far.of_jobs ∙ texts_are_output files jobs
+
+  -- each job was accepted once, and the output doesn't wait for a line: the sink was given all
+  pub all_given : AreJobsInSomeOrder jobs past → Waits r → WasGiven begun out failed (output_of_jobs (names_of files) jobs)
+  all_given each waits =
+      let once : AreJobsInSomeOrder r.jobs.now past = subst (λ l. AreJobsInSomeOrder l past) (sym so_far.of_jobs) each in
+      subst (λ l. WasGiven begun out failed l) output_is (progress_end so_far.progress once waits)
+
+  -- the sink has failed
+  pub failed_given : failed ≡ true → WasGiven begun out failed (output_of_jobs (names_of files) jobs)
+  failed_given broken = subst (λ l. WasGiven begun out failed l) output_is (progress_failed so_far.progress broken)
+
+-- the output of the jobs of the files is that of the files
+pub given_output : (question : Question) (files : List NamedBytes) (jobs : List (List Entry)) (begun out : Option (List ℕ))
+    (failed : Bool) → jobs ≡ jobs_to question files
+    → WasGiven begun out failed (output_of_jobs (names_of files) jobs) → WasGiven begun out failed (output_to question files)
+given_output question files jobs begun out failed are given =
+    subst (λ l. WasGiven begun out failed l) (ap (output_of_jobs (names_of files)) are
+    ∙ sym (files_are_their_jobs.output question files)) given
+
+-- a flush keeps what was appended
+pub appended_kept : (before between after : Option (List ℕ)) (bytes : List ℕ) → Appends before between bytes → Keeps between after
+    → Appends before after bytes
+appended_kept None between after bytes wrote kept = tt
+appended_kept (Some xs) None after bytes wrote kept = absurd wrote
+appended_kept (Some xs) (Some ys) None bytes wrote kept = absurd kept
+appended_kept (Some xs) (Some ys) (Some zs) bytes wrote kept = kept ∙ wrote
+
+-- an empty list of jobs has no text
+pub no_texts : (text : ℕ → Taken → List ℕ) (f : ℕ) (jobs : List (List Entry)) → job_count jobs ≡ 0
+    → flat_map (text_of_file text) (enumerate_from f jobs) ≡ []
+no_texts text f [] none = refl
+no_texts text f ([] ∷ jobs) none = no_texts text (f + 1) jobs
+    (let all = sum_by-cons (λ (es : List Entry). length es) [] jobs in omega (arith, all, none))
+no_texts text f ((e ∷ es) ∷ jobs) none =
+    absurd (let all = sum_by-cons (λ (es : List Entry). length es) (e ∷ es) jobs in omega (arith, all, none))
+
+-- with no job there is no output, and nothing was written
+pub given_no_output : (files : List NamedBytes) (jobs : List (List Entry)) (begun : Option (List ℕ)) (failed : Bool)
+    → job_count jobs ≡ 0
+    → WasGiven begun begun failed (output_of_jobs (names_of files) jobs)
+given_no_output files jobs begun failed none =
+    subst (λ l. WasGiven begun begun failed l) (sym (no_texts (answer_text_of (names_of files)) 0 jobs none)) (given_none begun failed)
+
+-- the lines and the faults that were counted are the tally of the files
+pub counted_tally : (question : Question) (files : List NamedBytes) (lines faults : ℕ)
+    → lines ≡ length (job_list (jobs_to question files))
+    → faults ≡ count_by is_faulty_job (job_list (jobs_to question files)) →
+    (let counts : LineCounts = record { lines = lines; faults = faults } in counts) ≡ tally_of files
+counted_tally question files lines faults all faulty =
+    λ i. record {
+      lines = (all ∙ sym (files_are_their_jobs.lines question files)) i;
+      faults = (faulty ∙ sym (files_are_their_jobs.faults question files)) i;
+    }
+
+no_faults_in : (jobs : List Job) → length jobs ≡ 0 → 0 ≡ count_by is_faulty_job jobs
+no_faults_in [] none = refl
+no_faults_in (j ∷ jobs) none = absurd (omega arith)
+
+-- with no job there is no fault
+pub no_faults : (jobs : List (List Entry)) → length (job_list jobs) ≡ 0 → 0 ≡ count_by is_faulty_job (job_list jobs)
+no_faults jobs none = no_faults_in (job_list jobs) none
+
+-- ==== The result of a batch whose files have no line follows from that of a batch of any files
+
+take_none : (n : ℕ) → take {A = ℕ} n [] ≡ []
+take_none zero = refl
+take_none (suc n) = refl
+
+appends_none : (old new : Option (List ℕ)) (bytes : List ℕ) → bytes ≡ [] → Appends old new bytes → Keeps old new
+appends_none None new bytes none appends = tt
+appends_none (Some xs) None bytes none appends = absurd appends
+appends_none (Some xs) (Some ys) bytes none appends = appends ∙ (ap (λ l. xs ++ l) none ∙ append-nil xs)
+
+-- a prefix of nothing is nothing
+starts_none : (old new : Option (List ℕ)) (bytes : List ℕ) → bytes ≡ [] → AppendsStart old new bytes → Keeps old new
+starts_none old new bytes none start = appends_none old new (take start.0 bytes) (ap (take start.0) none ∙ take_none start.0) start.1
+
+-- a fault that is neither of these two is one of the other three
+one_of_three : (e : RunFault) → e ≢ TooManyLines → e ≢ NoWorker → (e ≡ TooManyFiles) ⊎ (e ≡ OutOfMemory) ⊎ (e ≡ Write)
+one_of_three TooManyFiles few some = inl refl
+one_of_three TooManyLines few some = absurd (few refl)
+one_of_three OutOfMemory few some = inr (inl refl)
+one_of_three NoWorker few some = absurd (some refl)
+one_of_three Write few some = inr (inr refl)
+
+module _ (question : Question) (files : List NamedBytes) (none : lines_in_all files ≡ 0) where
+  no_output : output_to question files ≡ []
+  no_output =
+      files_are_their_jobs.output question files
+      ∙ no_texts (answer_text_of (names_of files)) 0 (jobs_to question files) (job_count-jobs_to question files ∙ none)
+
+  no_tally : tally_of files ≡ record { lines = 0; faults = 0 }
+  no_tally =
+      let empty : length (job_list (jobs_to question files)) ≡ 0 = length-job_list (jobs_to question files)
+      ∙ (job_count-jobs_to question files ∙ none) in
+      sym (counted_tally question files 0 0 (sym empty) (no_faults (jobs_to question files) empty))
+
+  pub nothing_answered : (old new : Option (List ℕ)) (result : Result LineCounts RunFault)
+      → AppendsStart old new (output_to question files)
+      → IfOk result (λ tally. tally ≡ tally_of files)
+      → ((result ≡ Err TooManyLines) ↔ ((length files ≤ most_files) × (most_lines < lines_in_all files)))
+      → (result ≡ Err NoWorker → 0 < lines_in_all files) → AnswersNothing old new result
+  nothing_answered old new (Ok tally) start counted many worker =
+      record { unwritten = starts_none old new _ no_output start; uncounted = counted ∙ no_tally; fault = tt }
+  nothing_answered old new (Err e) start counted many worker = record {
+    unwritten = starts_none old new _ no_output start;
+    uncounted = tt;
+    fault = one_of_three e (λ is. absurd (let both = many.0 (ap Err is) in let more = both.1 in omega arith))
+        (λ is. absurd (let some = worker (ap Err is) in omega arith));
+  }

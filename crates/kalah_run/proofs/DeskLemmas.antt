@@ -1,6 +1,621 @@
-pub mod Sums
-pub mod Draws
-pub mod Seats
-pub mod Ends
-pub mod Once
-pub mod Law
+-- The desk: what is kept of its word and its seats, and what the rows are at the end.
+use Rattle.std.proofs.Common.{◌≡◌, ◌≢◌, ⊎_elim, ℕ, zero, suc, ◌+◌, ◌≤◌, List, [], ◌∷◌, ◌++◌, length, set, refl, sym, ap, ◌∙◌, subst, arith, length-append, append-nil, ◌%◌, ◌^◌, ◌<◌, get_or, true, false, cond, ◌-◌}
+use Rattle.std.specs.Prelude.{◌==◌, sum_by, count_by, All, nat_lt, AllPairs, MatchBool, if◌then◌else◌, slice_index, min, IsTrue, ⊤}
+use Rattle.std.proofs.lemmas.List.Sums.{sum_by-cons, sum_by-append, sum_by_push, count_by-le-length, get_or-le-sum_by}
+use Rattle.std.proofs.lemmas.List.Elements.{All-append, All-nil, All-cons, All-head, All-tail}
+use mathlib.Core.Option.{some, some-injective, some-ne-none, none}
+use lib.ListN.{get_elem?}
+use Rattle.atomic_table.proofs.Lists.{at_set, at_snoc}
+use Rattle.kalah_run.specs.declared.desk.rule.DrawnRow.{DrawnRow}
+use Rattle.kalah_run.specs.declared.desk.rule.DeskPlan.{DeskPlan}
+use Rattle.kalah_run.specs.declared.desk.rule.DeskView.{DeskView}
+use Rattle.kalah_run.specs.declared.desk.rule.DeskView.TheVariants.{Opening, Drawing, Closing, Ended}
+use Rattle.kalah_jobs.specs.Collecting.Shares.{times_in}
+use Rattle.kalah_run.specs.Desk.Rows.{drawn_numbers, drawn_row, drawn_in, spent_in, AreLawful, DealsEachOnce}
+use Rattle.kalah_run.specs.Desk.Kept.{rows_in, all_rows, passes_in, HasTotal, IsKept, opening_view, ended_view}
+use Rattle.std.proofs.lemmas.List.Quantifiers.{all_pairs_push}
+use Rattle.std.proofs.lemmas.Bool.{lt-ltb, le-ltb, cases_lt}
+use Rattle.std.proofs.Math.Nat.{mod-eq_of_lt}
+use Rattle.std.proofs.lemmas.Bool.Decides.{nat_tests}
+use Rattle.atomic_table.specs.Table.{State, Me, step, keeps, Allows, opening, Splits, Joins, Enters, Seen, Final}
+use Rattle.kalah_jobs.specs.Limits.{most_lines}
+use Rattle.kalah_run.specs.Limits.{most_workers}
+use Rattle.kalah_run.specs.Desk.Steps.{DrawsFrom, Draws, StartsClosing, after_handing_out, pass_handed_out, after_reclaiming_row}
+use Rattle.kalah_run.specs.Desk.States.{as_pass_view, row_in, total_in, number_in, PassState, DeskState, new_pass, AreNewPasses, drawn_rows}
+use Rattle.std.proofs.lemmas.List.{get_or_push, get_or_append_left, length-map}
+use Rattle.kalah_run.specs.Desk.Law.{CountsWhatItDeals}
+
+-- ==== Sums over the rows of all seats, and facts of each row: after a change of one seat's view, and after a new seat
+
+-- how often x stands in a row
+abbrev pub times : ℕ → DrawnRow → ℕ
+times x r = count_by (λ y. y == x) r.numbers
+
+-- how often x stands in the rows, as a sum over the rows
+pub times_rows : (x : ℕ) (rows : List DrawnRow) → times_in x (drawn_numbers rows) ≡ sum_by (times x) rows
+times_rows x [] = refl
+times_rows x (r ∷ rs) =
+    omega (
+      arith,
+      times_rows x rs,
+      sum_by-cons (λ numbers. count_by (λ y. y == x) numbers) r.numbers (drawn_numbers rs),
+      sum_by-cons (times x) r rs,
+    )
+
+-- the sum over all rows, after a change of one view
+pub rows_set : (f : DrawnRow → ℕ) (views : List DeskView) (seat : ℕ) (v w : DeskView) → get_elem? views seat ≡ some v
+    → sum_by f (all_rows (set views seat w)) + sum_by f (rows_in v) ≡ sum_by f (all_rows views) + sum_by f (rows_in w)
+rows_set f [] seat v w at = absurd (some-ne-none v (sym at))
+rows_set f (x ∷ xs) zero v w at =
+    let same : sum_by f (rows_in x) ≡ sum_by f (rows_in v) = ap (λ u. sum_by f (rows_in u)) (some-injective x v at) in
+    omega (arith, sum_by-append f (rows_in x) (all_rows xs), sum_by-append f (rows_in w) (all_rows xs))
+rows_set f (x ∷ xs) (suc seat) v w at =
+    omega (
+      arith,
+      rows_set f xs seat v w at,
+      sum_by-append f (rows_in x) (all_rows xs),
+      sum_by-append f (rows_in x) (all_rows (set xs seat w)),
+    )
+
+-- the same with one seat more
+pub rows_push : (f : DrawnRow → ℕ) (views : List DeskView) (w : DeskView)
+    → sum_by f (all_rows (views ++ w ∷ [])) ≡ sum_by f (all_rows views) + sum_by f (rows_in w)
+rows_push f [] w = ap (sum_by f) (append-nil (rows_in w)) ∙ omega arith
+rows_push f (x ∷ xs) w = omega (
+  arith,
+  rows_push f xs w,
+  sum_by-append f (rows_in x) (all_rows xs),
+  sum_by-append f (rows_in x) (all_rows (xs ++ w ∷ [])),
+)
+
+-- the sum over one seat's rows is within that over all
+pub rows_at : (f : DrawnRow → ℕ) (views : List DeskView) (seat : ℕ) (v : DeskView) → get_elem? views seat ≡ some v
+    → sum_by f (rows_in v) ≤ sum_by f (all_rows views)
+rows_at f [] seat v at = absurd (some-ne-none v (sym at))
+rows_at f (x ∷ xs) zero v at =
+    let same : sum_by f (rows_in x) ≡ sum_by f (rows_in v) = ap (λ u. sum_by f (rows_in u)) (some-injective x v at) in
+    omega (arith, sum_by-append f (rows_in x) (all_rows xs))
+rows_at f (x ∷ xs) (suc seat) v at = omega (arith, rows_at f xs seat v at, sum_by-append f (rows_in x) (all_rows xs))
+
+-- the passes that all seats stand for, after a change of one view
+pub passes_set : (views : List DeskView) (seat : ℕ) (v w : DeskView) → get_elem? views seat ≡ some v
+    → sum_by passes_in (set views seat w) + passes_in v ≡ sum_by passes_in views + passes_in w
+passes_set [] seat v w at = absurd (some-ne-none v (sym at))
+passes_set (x ∷ xs) zero v w at =
+    let same : passes_in x ≡ passes_in v = ap passes_in (some-injective x v at) in
+    omega (arith, sum_by-cons passes_in x xs, sum_by-cons passes_in w xs)
+passes_set (x ∷ xs) (suc seat) v w at = omega (
+  arith,
+  passes_set xs seat v w at,
+  sum_by-cons passes_in x xs,
+  sum_by-cons passes_in x (set xs seat w),
+)
+
+-- a fact of each row in two lists is one of each row in the second
+all_back : (P : DrawnRow → Type 0) (xs ys : List DrawnRow) → All P (xs ++ ys) → All P ys
+all_back P [] ys h = h
+all_back P (x ∷ xs) ys h = all_back P xs ys (All-tail P x (xs ++ ys) h)
+
+-- and of each row in the first
+all_front : (P : DrawnRow → Type 0) (xs ys : List DrawnRow) → All P (xs ++ ys) → All P xs
+all_front P [] ys h = All-nil P
+all_front P (x ∷ xs) ys h = All-cons P x xs (All-head P x (xs ++ ys) h) (all_front P xs ys (All-tail P x (xs ++ ys) h))
+
+-- a fact of each row, after a change of one view
+pub all_set : (P : DrawnRow → Type 0) (views : List DeskView) (seat : ℕ) (w : DeskView) → All P (all_rows views) → All P (rows_in w)
+    → All P (all_rows (set views seat w))
+all_set P [] seat w all mine = all
+all_set P (x ∷ xs) zero w all mine = All-append P (rows_in w) (all_rows xs) mine (all_back P (rows_in x) (all_rows xs) all)
+all_set P (x ∷ xs) (suc seat) w all mine =
+    All-append P (rows_in x) (all_rows (set xs seat w)) (all_front P (rows_in x) (all_rows xs) all)
+    (all_set P xs seat w (all_back P (rows_in x) (all_rows xs) all) mine)
+
+-- the same with one seat more
+pub all_pushed : (P : DrawnRow → Type 0) (views : List DeskView) (w : DeskView) → All P (all_rows views) → All P (rows_in w)
+    → All P (all_rows (views ++ w ∷ []))
+all_pushed P [] w all mine = All-append P (rows_in w) [] mine (All-nil P)
+all_pushed P (x ∷ xs) w all mine =
+    All-append P (rows_in x) (all_rows (xs ++ w ∷ [])) (all_front P (rows_in x) (all_rows xs) all)
+    (all_pushed P xs w (all_back P (rows_in x) (all_rows xs) all) mine)
+
+-- a fact of the rows of one seat
+pub all_at : (P : DrawnRow → Type 0) (views : List DeskView) (seat : ℕ) (v : DeskView) → get_elem? views seat ≡ some v
+    → All P (all_rows views) → All P (rows_in v)
+all_at P [] seat v at all = absurd (some-ne-none v (sym at))
+all_at P (x ∷ xs) zero v at all = subst (λ u. All P (rows_in u)) (some-injective x v at) (all_front P (rows_in x) (all_rows xs) all)
+all_at P (x ∷ xs) (suc seat) v at all = all_at P xs seat v at (all_back P (rows_in x) (all_rows xs) all)
+
+-- the same with one seat more
+pub passes_push : (views : List DeskView) (w : DeskView) → sum_by passes_in (views ++ w ∷ []) ≡ sum_by passes_in views + passes_in w
+passes_push views w = sum_by_push passes_in views w
+
+-- a seat has no more rows than it stands for passes
+rows_within_one : (v : DeskView) → length (rows_in v) ≤ passes_in v
+rows_within_one (Opening total handed_out left) = omega arith
+rows_within_one (Drawing total number r) = omega arith
+rows_within_one (Closing rows) = omega arith
+rows_within_one Ended = omega arith
+
+-- there are no more rows than passes
+pub rows_within_passes : (views : List DeskView) → length (all_rows views) ≤ sum_by passes_in views
+rows_within_passes [] = omega arith
+rows_within_passes (x ∷ xs) = omega (
+  arith,
+  rows_within_passes xs,
+  rows_within_one x,
+  sum_by-cons passes_in x xs,
+  length-append (rows_in x) (all_rows xs),
+)
+
+-- if no seat stands for a pass there is no row
+no_passes_no_rows : (views : List DeskView) → sum_by passes_in views ≡ 0 → all_rows views ≡ []
+no_passes_no_rows views no_pass = empty (all_rows views) (omega (arith, rows_within_passes views))
+  where
+    empty : (rows : List DrawnRow) → length rows ≡ 0 → rows ≡ []
+    empty [] short = refl
+    empty (r ∷ rows) short = absurd (omega arith)
+
+-- a closing seat that took in all passes has all rows
+pub has_all : (views : List DeskView) (seat : ℕ) (rows : List DrawnRow) → get_elem? views seat ≡ some (Closing rows)
+    → length rows ≡ sum_by passes_in views → all_rows views ≡ rows
+has_all [] seat rows at whole = absurd (some-ne-none (Closing rows) (sym at))
+has_all (x ∷ xs) zero rows at whole =
+    let is : x ≡ Closing rows = some-injective x (Closing rows) at in
+    let part : passes_in x ≡ length rows = ap passes_in is in
+    let rest : all_rows xs ≡ [] = no_passes_no_rows xs (omega (arith, sum_by-cons passes_in x xs)) in
+    ap (λ u. rows_in u ++ all_rows xs) is ∙ ap (λ l. rows ++ l) rest ∙ append-nil rows
+has_all (x ∷ xs) (suc seat) rows at whole =
+    let mine : length rows ≤ sum_by passes_in xs = passes_below xs seat (Closing rows) at in
+    let no_pass : passes_in x ≡ 0 = omega (arith, sum_by-cons passes_in x xs) in
+    let short : rows_in x ≡ [] = no_rows (rows_in x) (omega (arith, rows_within_one x)) in
+    ap (λ l. l ++ all_rows xs) short ∙ has_all xs seat rows at (omega (arith, sum_by-cons passes_in x xs))
+  where
+    no_rows : (rs : List DrawnRow) → length rs ≡ 0 → rs ≡ []
+    no_rows [] h = refl
+    no_rows (r ∷ rs) h = absurd (omega arith)
+
+    passes_below : (views : List DeskView) (seat : ℕ) (v : DeskView) → get_elem? views seat ≡ some v
+        → passes_in v ≤ sum_by passes_in views
+    passes_below [] seat v at = absurd (some-ne-none v (sym at))
+    passes_below (x ∷ xs) zero v at =
+        let same : passes_in x ≡ passes_in v = ap passes_in (some-injective x v at) in
+        omega (arith, sum_by-cons passes_in x xs)
+    passes_below (x ∷ xs) (suc seat) v at = omega (arith, passes_below xs seat v at, sum_by-cons passes_in x xs)
+
+-- each seat that knows a total knows the plan's
+abbrev HaveTotal : DeskPlan → List DeskView → Type 0
+HaveTotal plan views = (by : ℕ) (v : DeskView) → get_elem? views by ≡ some v → HasTotal plan.total v
+
+-- and does after a change of one view
+pub totals_set : (plan : DeskPlan) (views : List DeskView) (seat : ℕ) (w : DeskView) → HaveTotal plan views → HasTotal plan.total w
+    → HaveTotal plan (set views seat w)
+totals_set plan views seat w others mine by v at =
+    ⊎_elim
+    (λ (t : (by ≡ seat) × (w ≡ v)). subst (HasTotal plan.total) t.1 mine)
+    (λ (t : (by ≢ seat) × (get_elem? views by ≡ some v)). others by v t.1)
+    (at_set views seat by w v at)
+
+-- the same with one seat more
+pub totals_push : (plan : DeskPlan) (views : List DeskView) (w : DeskView) → HaveTotal plan views → HasTotal plan.total w
+    → HaveTotal plan (views ++ w ∷ [])
+totals_push plan views w others mine by v at =
+    ⊎_elim (λ (old : get_elem? views by ≡ some v). others by v old) (λ (new : w ≡ v). subst (HasTotal plan.total) new mine)
+    (at_snoc views w v by at)
+
+-- ==== A draw keeps the rule, and returns what it must
+
+-- the view of a pass that is not spent
+abbrev unspent_view : ℕ → ℕ → List ℕ → DeskView
+unspent_view total number numbers = Drawing total number (drawn_row numbers false)
+
+-- its view after it was answered n
+abbrev drawn_view : ℕ → ℕ → List ℕ → ℕ → DeskView
+drawn_view total number numbers n = Drawing total number (drawn_row (numbers ++ n ∷ []) false)
+
+-- its view after it was answered None
+abbrev spent_view : ℕ → ℕ → List ℕ → DeskView
+spent_view total number numbers = Drawing total number (drawn_row numbers true)
+
+-- a number in a row is below the count of all numbers
+stands_below : (views : List DeskView) (seat total number : ℕ) (r : DrawnRow) (plan_total : ℕ)
+    → get_elem? views seat ≡ some (Drawing total number r) → AreLawful plan_total (all_rows views)
+    → All (λ x. x < drawn_in (all_rows views)) r.numbers
+stands_below views seat total number r plan_total at lawful k d within =
+    let x : ℕ = get_or r.numbers k d in
+    let here : cond (x == x) 1 0 ≤ count_by (λ y. y == x) r.numbers = get_or-le-sum_by (λ y. cond (y == x) 1 0) r.numbers k d within in
+    let mine : sum_by (times x) (r ∷ []) ≤ sum_by (times x) (all_rows views) =
+    rows_at (times x) views seat (Drawing total number r) at in
+    below x (drawn_in (all_rows views)) (count_by (λ y. y == x) r.numbers) here
+    (omega (arith, times_rows x (all_rows views), lawful.each_once x))
+  where
+    below : (x c n : ℕ) → cond (x == x) 1 0 ≤ n → n ≤ (if nat_lt x c then 1 else 0) → x < c
+    below x c n here few = grind (arith, nat_tests)
+
+-- what is to stand once, with one number more
+one_more : (x c n : ℕ) → n ≡ c → (if nat_lt x c then 1 else 0) + cond (n == x) 1 0 ≡ (if nat_lt x (c + 1) then 1 else 0)
+one_more x c n same = grind (arith, nat_tests)
+
+-- a draw that finds n, of a pass that is not spent
+module _ {S : Type 0} (plan : DeskPlan) (s : State S DeskView) (seat total number : ℕ) (numbers : List ℕ) (n : ℕ)
+    (kept : IsKept plan s)
+    (at : get_elem? s.views seat ≡ some (unspent_view total number numbers))
+    (is : n ≡ drawn_in (all_rows s.views) + spent_in (all_rows s.views)) where
+  -- n is below the total: the rows stay lawful with n at the end of the pass's row, if it is above all others, and the count is
+  -- one more
+  draws_some : n < total → AreLawful plan.total (all_rows (set s.views seat (drawn_view total number numbers n)))
+      × (drawn_in (all_rows (set s.views seat (drawn_view total number numbers n)))
+      + spent_in (all_rows (set s.views seat (drawn_view total number numbers n))) ≡ n + 1)
+      × All (λ x. x < n) numbers
+  draws_some low =
+      let v : DeskView = unspent_view total number numbers in
+      let w : DeskView = drawn_view total number numbers n in
+      let same : total ≡ plan.total = kept.totals seat v at in
+      let within : drawn_in (all_rows s.views) ≤ plan.total = kept.lawful.within in
+      let spent_only = kept.lawful.spent in
+      let none_spent : spent_in (all_rows s.views) ≡ 0 =
+      ⊎_elim
+      (λ (some_spent : 0 < spent_in (all_rows s.views)). absurd (let full = spent_only some_spent in omega arith))
+      (λ (few : spent_in (all_rows s.views) ≤ 0). omega arith)
+      (cases_lt 0 (spent_in (all_rows s.views))) in
+      let found : n ≡ drawn_in (all_rows s.views) = omega arith in
+      let drawn : drawn_in (all_rows (set s.views seat w)) ≡ drawn_in (all_rows s.views) + 1 =
+      omega (arith, rows_set (λ r. length r.numbers) s.views seat v w at, length-append numbers (n ∷ [])) in
+      let spent : spent_in (all_rows (set s.views seat w)) ≡ spent_in (all_rows s.views) =
+      omega (arith, rows_set (λ r. cond r.spent 1 0) s.views seat v w at) in
+      let low_all : All (λ x. x < drawn_in (all_rows s.views)) numbers =
+      stands_below s.views seat total number (drawn_row numbers false) plan.total at kept.lawful in
+      let below : All (λ x. x < n) numbers = subst (λ (c : ℕ). All (λ x. x < c) numbers) (sym found) low_all in
+      let P : DrawnRow → Type 0 = λ r. AllPairs (λ x y. x < y) r.numbers in
+      let old : P (drawn_row numbers false) = All-head P (drawn_row numbers false) [] (all_at P s.views seat v at kept.lawful.ascending) in
+      let rises : P (drawn_row (numbers ++ n ∷ []) false) = all_pairs_push (λ x y. x < y) numbers n old below in (
+        record {
+          within = omega arith;
+          each_once = λ x.
+              let t : sum_by (times x) (all_rows (set s.views seat w)) ≡ sum_by (times x) (all_rows s.views) + cond (n == x) 1 0 =
+              omega (arith, rows_set (times x) s.views seat v w at, sum_by_push (λ y. cond (y == x) 1 0) numbers n) in
+              times_rows x (all_rows (set s.views seat w))
+              ∙ t
+              ∙ ap (λ k. k + cond (n == x) 1 0) (sym (times_rows x (all_rows s.views)) ∙ kept.lawful.each_once x)
+              ∙ one_more x (drawn_in (all_rows s.views)) n found
+              ∙ ap (λ c. if nat_lt x c then 1 else 0) (sym drawn);
+          ascending = all_set P s.views seat w kept.lawful.ascending (All-cons P (drawn_row (numbers ++ n ∷ []) false) [] rises (All-nil P));
+          spent = λ some_spent. absurd (omega arith);
+        },
+        omega arith,
+        below,
+      )
+
+  -- it is not: the rows stay lawful, and one pass more is spent
+  draws_none : total ≤ n → AreLawful plan.total (all_rows (set s.views seat (spent_view total number numbers)))
+      × (drawn_in (all_rows (set s.views seat (spent_view total number numbers)))
+      + spent_in (all_rows (set s.views seat (spent_view total number numbers))) ≡ n + 1)
+  draws_none high =
+      let v : DeskView = unspent_view total number numbers in
+      let w : DeskView = spent_view total number numbers in
+      let same : total ≡ plan.total = kept.totals seat v at in
+      let within : drawn_in (all_rows s.views) ≤ plan.total = kept.lawful.within in
+      let full : drawn_in (all_rows s.views) ≡ plan.total =
+      ⊎_elim
+      (λ (some_spent : 0 < spent_in (all_rows s.views)). kept.lawful.spent some_spent)
+      (λ (few : spent_in (all_rows s.views) ≤ 0). omega arith)
+      (cases_lt 0 (spent_in (all_rows s.views))) in
+      let drawn : drawn_in (all_rows (set s.views seat w)) ≡ drawn_in (all_rows s.views) =
+      omega (arith, rows_set (λ r. length r.numbers) s.views seat v w at) in
+      let spent : spent_in (all_rows (set s.views seat w)) ≡ spent_in (all_rows s.views) + 1 =
+      omega (arith, rows_set (λ r. cond r.spent 1 0) s.views seat v w at) in
+      let P : DrawnRow → Type 0 = λ r. AllPairs (λ x y. x < y) r.numbers in
+      let old : P (drawn_row numbers false) = All-head P (drawn_row numbers false) [] (all_at P s.views seat v at kept.lawful.ascending) in (
+        record {
+          within = omega arith;
+          each_once = λ x.
+              let t : sum_by (times x) (all_rows (set s.views seat w)) ≡ sum_by (times x) (all_rows s.views) =
+              omega (arith, rows_set (times x) s.views seat v w at) in
+              times_rows x (all_rows (set s.views seat w))
+              ∙ t
+              ∙ sym (times_rows x (all_rows s.views))
+              ∙ kept.lawful.each_once x
+              ∙ ap (λ c. if nat_lt x c then 1 else 0) (sym drawn);
+          ascending = all_set P s.views seat w kept.lawful.ascending (All-cons P (drawn_row numbers true) [] old (All-nil P));
+          spent = λ some_spent. omega arith;
+        },
+        omega arith,
+      )
+
+-- no more passes are spent than there are
+few_spent : {S : Type 0} (plan : DeskPlan) (s : State S DeskView) → IsKept plan s → spent_in (all_rows s.views) ≤ plan.passes
+few_spent plan s kept = omega (
+  arith,
+  kept.passes,
+  count_by-le-length (λ (r : DrawnRow). r.spent) (all_rows s.views),
+  rows_within_passes s.views,
+)
+
+-- a draw of a pass that is not spent
+pub draws : {S : Type 0} (plan : DeskPlan) (slots seat total number : ℕ) (numbers : List ℕ)
+    → Allows {S = S} (IsKept plan) slots seat (unspent_view total number numbers, []) 0 (λ n. (n + 1) % 2 ^ 64)
+    (Draws (step slots 0 1 0 none) (unspent_view total number numbers, []))
+draws {S} plan slots seat total number numbers s kept homes at fits =
+    let n : ℕ = slice_index s.words 0 in
+    let is : n ≡ drawn_in (all_rows s.views) + spent_in (all_rows s.views) = ap (λ ws. slice_index ws 0) kept.word in
+    let small : drawn_in (all_rows s.views) ≤ most_lines = omega (arith, kept.lawful.within, kept.few.0) in
+    let few : spent_in (all_rows s.views) ≤ most_workers = omega (arith, few_spent plan s kept, kept.few.1) in
+    let next : (n + 1) % 2 ^ 64 ≡ n + 1 = mod-eq_of_lt (omega arith) in
+    let words : set s.words 0 ((n + 1) % 2 ^ 64) ≡ (n + 1) ∷ [] = ap (λ ws. set ws 0 ((n + 1) % 2 ^ 64)) kept.word
+    ∙ ap (λ m. m ∷ []) next in
+    let after : DeskView → State S DeskView =
+    λ w. record { words = set s.words 0 ((n + 1) % 2 ^ 64); homes = s.homes; views = set s.views seat w } in
+    let done : (w : DeskView) × IsKept {S = S} plan (after w) × DrawsFrom (unspent_view total number numbers) n w =
+    ⊎_elim
+    (λ (low : n < total).
+    let w : DeskView = drawn_view total number numbers n in
+    let some = draws_some plan s seat total number numbers n kept at is low in (
+      w,
+      record {
+        few = kept.few;
+        word = words ∙ ap (λ m. m ∷ []) (sym some.1);
+        passes = omega (arith, passes_set s.views seat (unspent_view total number numbers) w at, kept.passes);
+        lawful = some.0;
+        totals = totals_set plan s.views seat w kept.totals (kept.totals seat (unspent_view total number numbers) at);
+      },
+      subst (λ b. MatchBool b ((w ≡ drawn_view total number numbers n) × All (λ x. x < n) numbers)
+          (w ≡ spent_view total number numbers)) (sym (lt-ltb n total low)) (refl, some.2),
+    ))
+    (λ (high : total ≤ n).
+    let w : DeskView = spent_view total number numbers in
+    let no_more = draws_none plan s seat total number numbers n kept at is high in (
+      w,
+      record {
+        few = kept.few;
+        word = words ∙ ap (λ m. m ∷ []) (sym no_more.1);
+        passes = omega (arith, passes_set s.views seat (unspent_view total number numbers) w at, kept.passes);
+        lawful = no_more.0;
+        totals = totals_set plan s.views seat w kept.totals (kept.totals seat (unspent_view total number numbers) at);
+      },
+      subst (λ b. MatchBool b ((w ≡ drawn_view total number numbers n) × All (λ x. x < n) numbers)
+          (w ≡ spent_view total number numbers)) (sym (le-ltb n total high)) refl,
+    ))
+    (cases_lt n total)
+    in (done.0, keeps, tt, done.1, (refl, done.2))
+
+-- the same, of a pass whose view is known to be that of one that is not spent
+pub draws_as : {S : Type 0} (plan : DeskPlan) (slots seat : ℕ) (me : Me S DeskView) → me ≡ (as_pass_view me.0, []) →
+    (row_in me.0).spent ≡ false
+    → Allows {S = S} (IsKept plan) slots seat me 0 (λ n. (n + 1) % 2 ^ 64) (Draws (step slots 0 1 0 none) me)
+draws_as {S} plan slots seat me is unspent =
+    let v = me.0 in
+    let pass : (as_pass_view v, []) ≡ (Drawing (total_in v) (number_in v) (drawn_row (row_in v).numbers false), []) =
+    ap (λ b. (Drawing (total_in v) (number_in v) (drawn_row (row_in v).numbers b), [])) unspent in
+    subst (λ (m : Me S DeskView). Allows {S = S} (IsKept plan) slots seat m 0 (λ n. (n + 1) % 2 ^ 64) (Draws (step slots 0 1 0 none) m))
+    (sym (is ∙ pass)) (draws plan slots seat (total_in v) (number_in v) (row_in v).numbers)
+
+-- ==== The seats that come and go keep the rule: the first one, those of passes that are handed out, the closing one, and those of passes that are reclaimed
+
+-- rows with the same counts are as lawful
+lawful_alike : (total : ℕ) (rows others : List DrawnRow) → drawn_in others ≡ drawn_in rows
+    → ((x : ℕ) → sum_by (times x) others ≡ sum_by (times x) rows) → spent_in others ≡ spent_in rows
+    → All (λ r. AllPairs (λ x y. x < y) r.numbers) others → AreLawful total rows → AreLawful total others
+lawful_alike total rows others drawn same spent ascending was = record {
+  within = omega (arith, was.within);
+  each_once = λ x. times_rows x others ∙ same x ∙ sym (times_rows x rows) ∙ was.each_once x
+      ∙ ap (λ c. if nat_lt x c then 1 else 0) (sym drawn);
+  ascending = ascending;
+  spent = λ some_spent. drawn ∙ was.spent (omega arith);
+}
+
+-- the empty desk
+pub begins : {S : Type 0} (plan : DeskPlan) → plan.total ≤ most_lines → plan.passes ≤ most_workers
+    → IsKept {S = S} plan (opening (0 ∷ []) [] (opening_view plan))
+begins plan total passes = record {
+  few = (total, passes);
+  word = refl;
+  passes = sum_by-cons passes_in (opening_view plan) [] ∙ omega arith;
+  lawful = record {
+    within = omega arith;
+    each_once = λ x. grind (arith, nat_tests);
+    ascending = All-nil (λ r. AllPairs (λ x y. x < y) r.numbers);
+    spent = λ some_spent. absurd (omega arith);
+  };
+  totals = λ seat v at. only seat v at;
+}
+  where
+    only : (seat : ℕ) (v : DeskView) → get_elem? (opening_view plan ∷ []) seat ≡ some v → HasTotal plan.total v
+    only zero v at = subst (HasTotal plan.total) (some-injective _ _ at) refl
+    only (suc seat) v at = absurd (some-ne-none v (sym at))
+
+-- the next pass is handed out
+pub hands_out : {S : Type 0} (plan : DeskPlan) (seat total handed_out left : ℕ) → 0 < left
+    → Splits {S = S} (IsKept plan) seat (Opening total handed_out left) (after_handing_out (Opening total handed_out left))
+    (pass_handed_out (Opening total handed_out left))
+hands_out {S} plan seat total handed_out left some_left s kept at =
+    let v : DeskView = Opening total handed_out left in
+    let a : DeskView = Opening total (handed_out + 1) (left - 1) in
+    let b : DeskView = Drawing total handed_out (drawn_row [] false) in
+    let now : List DeskView = set s.views seat a in
+    let P : DrawnRow → Type 0 = λ r. AllPairs (λ x y. x < y) r.numbers in
+    let drawn : drawn_in (all_rows (now ++ b ∷ [])) ≡ drawn_in (all_rows s.views) =
+    omega (arith, rows_push (λ r. length r.numbers) now b, rows_set (λ r. length r.numbers) s.views seat v a at) in
+    let spent : spent_in (all_rows (now ++ b ∷ [])) ≡ spent_in (all_rows s.views) =
+    omega (arith, rows_push (λ r. cond r.spent 1 0) now b, rows_set (λ r. cond r.spent 1 0) s.views seat v a at) in
+    let same : (x : ℕ) → sum_by (times x) (all_rows (now ++ b ∷ [])) ≡ sum_by (times x) (all_rows s.views) =
+    λ x. omega (arith, rows_push (times x) now b, rows_set (times x) s.views seat v a at) in
+    record {
+      few = kept.few;
+      word = kept.word ∙ ap (λ m. m ∷ []) (omega arith);
+      passes = omega (arith, passes_push now b, passes_set s.views seat v a at, kept.passes);
+      lawful = lawful_alike plan.total (all_rows s.views) (all_rows (now ++ b ∷ [])) drawn same spent
+          (all_pushed P now b (all_set P s.views seat a kept.lawful.ascending (All-nil P))
+          (All-cons P (drawn_row [] false) [] (λ i j d under within. absurd (omega arith)) (All-nil P))) kept.lawful;
+      totals = totals_push plan now b (totals_set plan s.views seat a kept.totals (kept.totals seat v at)) (kept.totals seat v at);
+    }
+
+-- the next pass is handed out, at a view that is known
+pub hands_out_as : {S : Type 0} (plan : DeskPlan) (seat : ℕ) (v : DeskView) (total handed_out left : ℕ)
+    → v ≡ Opening total handed_out left → 0 < left
+    → Splits {S = S} (IsKept plan) seat v (after_handing_out v) (pass_handed_out v)
+hands_out_as {S} plan seat v total handed_out left is some_left =
+    subst (λ (u : DeskView). Splits {S = S} (IsKept plan) seat u (after_handing_out u) (pass_handed_out u)) (sym is)
+    (hands_out plan seat total handed_out left some_left)
+
+-- one pass more is handed out
+pub one_pass_more : (desk : DeskState) (count : ℕ) (passes : List PassState) (p : PassState) → AreNewPasses desk count passes
+    → p ≡ new_pass desk count → AreNewPasses desk (count + 1) (passes ++ p ∷ [])
+one_pass_more desk count passes p handed_out is = (
+  omega (arith, length-append passes (p ∷ []), handed_out.0),
+  λ k d within. ⊎_elim
+      (λ (old : k < count). get_or_append_left passes (p ∷ []) d k (omega (arith, handed_out.0)) ∙ handed_out.1 k d old)
+      (λ (new : count ≤ k). let same : k ≡ count = omega arith in get_or_push passes p d k (handed_out.0 ∙ sym same) ∙ is
+      ∙ ap (new_pass desk) (sym same))
+      (cases_lt k count),
+)
+
+-- a seat that is to reclaim the passes
+pub starts_closing : {S : Type 0} (plan : DeskPlan) (slots : ℕ)
+    → Enters {S = S} (IsKept plan) slots 0 (λ n w. StartsClosing {S = S} (step slots 0 0 0 none) (opening_view plan, []) n (w, []))
+starts_closing {S} plan slots s kept homes fits =
+    let w : DeskView = Closing [] in
+    let P : DrawnRow → Type 0 = λ r. AllPairs (λ x y. x < y) r.numbers in
+    let drawn : drawn_in (all_rows (s.views ++ w ∷ [])) ≡ drawn_in (all_rows s.views) =
+    omega (arith, rows_push (λ r. length r.numbers) s.views w) in
+    let spent : spent_in (all_rows (s.views ++ w ∷ [])) ≡ spent_in (all_rows s.views) =
+    omega (arith, rows_push (λ r. cond r.spent 1 0) s.views w) in
+    let same : (x : ℕ) → sum_by (times x) (all_rows (s.views ++ w ∷ [])) ≡ sum_by (times x) (all_rows s.views) =
+    λ x. omega (arith, rows_push (times x) s.views w) in (
+      w,
+      record {
+        few = kept.few;
+        word = kept.word ∙ ap (λ m. m ∷ []) (omega arith);
+        passes = omega (arith, passes_push s.views w, kept.passes);
+        lawful =
+            lawful_alike plan.total (all_rows s.views) (all_rows (s.views ++ w ∷ [])) drawn same spent
+            (all_pushed P s.views w kept.lawful.ascending (All-nil P)) kept.lawful;
+        totals = totals_push plan s.views w kept.totals tt;
+      },
+      refl,
+    )
+
+-- a pass is reclaimed
+pub reclaims : {S : Type 0} (plan : DeskPlan) (seat : ℕ) (rows : List DrawnRow) (other total number : ℕ) (r : DrawnRow)
+    → Joins {S = S} (IsKept plan) seat (Closing rows) other (Drawing total number r)
+    (after_reclaiming_row (Closing rows) (Drawing total number r)) ended_view
+reclaims {S} plan seat rows other total number r s kept at apart there =
+    let v : DeskView = Closing rows in
+    let u : DeskView = Drawing total number r in
+    let w : DeskView = Closing (r ∷ rows) in
+    let between : List DeskView = set s.views seat w in
+    let now : List DeskView = set between other Ended in
+    let P : DrawnRow → Type 0 = λ q. AllPairs (λ x y. x < y) q.numbers in
+    let own : All P rows = all_at P s.views seat v at kept.lawful.ascending in
+    let theirs : All P (r ∷ []) = all_at P s.views other u (was s.views seat other w u apart there) kept.lawful.ascending in
+    let same : (f : DrawnRow → ℕ) → sum_by f (all_rows now) ≡ sum_by f (all_rows s.views) =
+    λ f. omega (arith, rows_set f s.views seat v w at, rows_set f between other u Ended there, sum_by-cons f r rows) in
+    record {
+      few = kept.few;
+      word = kept.word ∙ ap (λ m. m ∷ []) (omega (arith, same (λ q. length q.numbers), same (λ q. cond q.spent 1 0)));
+      passes = omega (arith, passes_set s.views seat v w at, passes_set between other u Ended there, kept.passes);
+      lawful = lawful_alike plan.total (all_rows s.views) (all_rows now) (same (λ q. length q.numbers)) (λ x. same (times x))
+          (same (λ q. cond q.spent 1 0))
+          (all_set P between other Ended (all_set P s.views seat w kept.lawful.ascending (All-append P (r ∷ []) rows theirs own))
+          (All-nil P)) kept.lawful;
+      totals = totals_set plan between other Ended (totals_set plan s.views seat w kept.totals tt) tt;
+    }
+  where
+    was : (views : List DeskView) (seat other : ℕ) (w u : DeskView) → ¬ (other ≡ seat)
+        → get_elem? (set views seat w) other ≡ some u → get_elem? views other ≡ some u
+    was views seat other w u apart there =
+        ⊎_elim
+        (λ (t : (other ≡ seat) × (w ≡ u)). absurd (apart t.0))
+        (λ (t : (other ≢ seat) × (get_elem? views other ≡ some u)). t.1)
+        (at_set views seat other w u there)
+
+-- a pass is reclaimed, at views that are known
+pub reclaims_as : {S : Type 0} (plan : DeskPlan) (seat : ℕ) (v : DeskView) (other : ℕ) (w : DeskView)
+    → v ≡ Closing (rows_in v) → w ≡ as_pass_view w → Joins {S = S} (IsKept plan) seat v other w
+    (after_reclaiming_row v w) ended_view
+reclaims_as {S} plan seat v other w is pass =
+    subst (λ (u : DeskView). Joins {S = S} (IsKept plan) seat u other w (after_reclaiming_row u w) ended_view) (sym is)
+    (subst (λ (u : DeskView). Joins {S = S} (IsKept plan) seat (Closing (rows_in v)) other u
+    (after_reclaiming_row (Closing (rows_in v)) u) ended_view)
+    (sym pass) (reclaims plan seat (rows_in v) other (total_in w) (number_in w) (row_in w)))
+
+-- ==== What the last word and the closing seat determine of the rows
+
+-- if the closing seat has a row for each pass, these rows are lawful, and the word counts them
+settles : {S : Type 0} (plan : DeskPlan) (seat : ℕ) (rows : List DrawnRow) (s : State S DeskView)
+    → Seen {S = S} (IsKept plan) seat (Closing rows) s → length rows ≡ plan.passes
+    → (s.words ≡ (drawn_in rows + spent_in rows) ∷ []) × AreLawful plan.total rows
+settles {S} plan seat rows s seen whole =
+    let kept = seen.0 in
+    let all : all_rows s.views ≡ rows = has_all s.views seat rows seen.1 (whole ∙ sym kept.passes) in
+    subst (λ (rs : List DrawnRow). (s.words ≡ (drawn_in rs + spent_in rs) ∷ []) × AreLawful plan.total rs) all
+    (kept.word, kept.lawful)
+
+-- the same of the closed table's word
+pub ends : {S : Type 0} (plan : DeskPlan) (seat : ℕ) (v : DeskView) (rows : List DrawnRow) (ws : List ℕ) (xs : List S) (word : ℕ)
+    → v ≡ Closing rows → Final {S = S} (Seen (IsKept plan) seat v) ws xs → length rows ≡ plan.passes
+    → get_elem? ws 0 ≡ some word
+    → (word ≡ drawn_in rows + spent_in rows) × AreLawful plan.total rows
+ends {S} plan seat v rows ws xs word is last whole found =
+    let s = last.0 in
+    let seen : Seen {S = S} (IsKept plan) seat (Closing rows) s =
+    subst (λ (u : DeskView). Seen {S = S} (IsKept plan) seat u s) is last.1 in
+    let t = settles plan seat rows s seen whole in
+    let at : some word ≡ some (drawn_in rows + spent_in rows) =
+    sym found ∙ ap (λ (l : List ℕ). get_elem? l 0) (sym last.2 ∙ t.0) in
+    (some-injective _ _ at, t.1)
+
+-- the last word, cut to the total, is how many numbers were drawn
+pub drawn_at_end : (total word : ℕ) (rows : List DrawnRow) → word ≡ drawn_in rows + spent_in rows → AreLawful total rows
+    → min word total ≡ drawn_in rows
+drawn_at_end total word rows is lawful =
+    let within = lawful.within in
+    ⊎_elim (λ (some_spent : 0 < spent_in rows). let full = lawful.spent some_spent in omega arith)
+    (λ (few : spent_in rows ≤ 0). omega arith) (cases_lt 0 (spent_in rows))
+
+-- the last word is above the total exactly when some pass is spent
+pub spent_at_end : (total word : ℕ) (rows : List DrawnRow) → word ≡ drawn_in rows + spent_in rows → AreLawful total rows
+    → (IsTrue (nat_lt total word) → 0 < spent_in rows) × (0 < spent_in rows → IsTrue (nat_lt total word))
+spent_at_end total word rows is lawful =
+    let within = lawful.within in (
+      (λ high. ⊎_elim
+          (λ (some_spent : 0 < spent_in rows). some_spent)
+          (λ (few : spent_in rows ≤ 0). absurd (let low : word ≤ total = omega arith in grind (arith, nat_tests)))
+          (cases_lt 0 (spent_in rows))),
+      (λ some_spent. let full = lawful.spent some_spent in let high : total < word = omega arith in grind (arith, nat_tests)),
+    )
+
+-- ==== In lawful rows each number below the count stands in one row, there once, and no other number stands in any row
+
+-- if each number below the count stands in one row, and there once, the rows are lawful in these words
+pub deals_each_once : (total : ℕ) (rows : List DrawnRow) → AreLawful total rows → DealsEachOnce total (drawn_in rows) rows
+deals_each_once total rows lawful = record {
+  within = lawful.within;
+  count = refl;
+  each_once = lawful.each_once;
+  ascending = lawful.ascending;
+  spent = lawful.spent;
+}
+
+-- there are as many rows of numbers as passes
+pub length-drawn_numbers : (passes : List PassState) → length (drawn_numbers (drawn_rows passes)) ≡ length passes
+length-drawn_numbers passes = length-map (drawn_rows passes) (λ (r : DrawnRow). r.numbers)
+    ∙ length-map passes (λ (p : PassState). p.row)
+
+-- ==== The rule of the desk, in plain words
+
+pub desk_is_lawful : (plan : DeskPlan) (state : State ⊤ DeskView) → IsKept plan state
+    → CountsWhatItDeals plan.total state.words (all_rows state.views)
+desk_is_lawful plan state kept =
+    let rows : List DrawnRow = all_rows state.views in
+    record {
+      drawn = drawn_in rows;
+      deals = deals_each_once plan.total rows kept.lawful;
+      word = kept.word;
+      most = omega (
+        arith,
+        kept.lawful.within,
+        kept.few.1,
+        kept.passes,
+        rows_within_passes state.views,
+        count_by-le-length (λ r. r.spent) rows,
+      );
+    }

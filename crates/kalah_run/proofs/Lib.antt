@@ -1,3 +1,4 @@
 pub mod DeskLemmas
 pub mod QueueLemmas
 pub mod BatchLemmas
+pub mod Crossing

@@ -1,5 +1,476 @@
-pub mod Keeps
-pub mod Lists
-pub mod Pairs
-pub mod Views
-pub mod Law
+-- The results queue: its pairs, the views of its passes, and what each step keeps.
+use Rattle.std.proofs.Common.{◌≡◌, ◌≢◌, ℕ, zero, suc, ◌+◌, ◌<◌, ◌≤◌, ◌==◌, if◌then◌else◌, Bool, true, false, List, [], ◌∷◌, ◌++◌, length, All, slice_index_or, refl, sym, ap, ◌∙◌, eq-eqb, ne_eqb, arith, set, subst, ◌⊎◌, ⊎_elim, inl, inr, append_assoc}
+use Rattle.std.proofs.lemmas.List.{append-nil, length-set, length_push}
+use Rattle.std.proofs.lemmas.List.Elements.{All-append}
+use Rattle.kalah_jobs.specs.declared.files.job.Job.{Job}
+use Rattle.kalah_jobs.specs.Collecting.Shares.{of}
+use Rattle.kalah_run.specs.Queue.Lists.{Accounts}
+use mathlib.Core.Option.{some, some-injective, some-ne-none}
+use lib.ListN.{get_elem?}
+use Rattle.crossbeam_queue.proofs.Lists.{at_set}
+use Rattle.kalah_run.specs.declared.queue.rule.QueueView.{QueueView}
+use Rattle.kalah_run.specs.declared.queue.rule.QueueView.TheVariants.{Getting, Putting, Ended}
+use Rattle.atomic_table.specs.Seated.{TableId}
+use Rattle.kalah_run.specs.Queue.States.{PutState, ArePassesFrom}
+use Rattle.crossbeam_queue.specs.Fifo.{Pushes, Pops, Forks, Held, Merges, Learns}
+use Rattle.kalah_run.specs.Queue.Rule.{Fits, FitsPut, FitsGet, IsLawful}
+use Rattle.kalah_run.specs.Queue.Steps.{first_view, after_making_one, one_made, after_put, after_reclaiming_sent, IsGot, Tells}
+use Rattle.kalah_run.specs.Queue.Law.{IsWholeAndInOrder}
+
+-- ==== What the pairs determine of one worker, and of all
+
+joined : (b : Bool) (x : Job) (xs ys : List Job) → (if b then x ∷ (xs ++ ys) else (xs ++ ys)) ≡ (if b then x ∷ xs else xs) ++ ys
+joined true x xs ys = refl
+joined false x xs ys = refl
+
+-- lists of pairs are joined worker by worker
+pub of_append : (w : ℕ) (xs ys : List (ℕ × Job)) → of w (xs ++ ys) ≡ of w xs ++ of w ys
+of_append w [] ys = refl
+of_append w (t ∷ ts) ys =
+    ap (λ (l : List Job). if t.0 == w then t.1 ∷ l else l) (of_append w ts ys) ∙ joined (t.0 == w) t.1 (of w ts) (of w ys)
+
+own_pair : (w : ℕ) (t : ℕ × Job) → t.0 ≡ w → of w (t ∷ []) ≡ t.1 ∷ []
+own_pair w t e = ap (λ (b : Bool). if b then t.1 ∷ [] else []) (eq-eqb t.0 w e)
+
+other_pair : (w : ℕ) (t : ℕ × Job) (l : List Job) → t.0 ≢ w → (if t.0 == w then t.1 ∷ l else l) ≡ l
+other_pair w t l e = ap (λ (b : Bool). if b then t.1 ∷ l else l) (ne_eqb t.0 w e)
+
+-- the worker's own pair goes after what it sent
+pub of_more : (w : ℕ) (xs : List (ℕ × Job)) (t : ℕ × Job) → t.0 ≡ w → of w (xs ++ t ∷ []) ≡ of w xs ++ t.1 ∷ []
+of_more w xs t e = of_append w xs (t ∷ []) ∙ ap (λ (l : List Job). of w xs ++ l) (own_pair w t e)
+
+-- another worker's pair changes nothing
+pub of_same : (w : ℕ) (xs : List (ℕ × Job)) (t : ℕ × Job) → t.0 ≢ w → of w (xs ++ t ∷ []) ≡ of w xs
+of_same w xs t e = of_append w xs (t ∷ []) ∙ (ap (λ (l : List Job). of w xs ++ l) (other_pair w t [] e) ∙ append-nil (of w xs))
+
+-- a worker beyond all has no pair
+pub of_none : (workers w : ℕ) (xs : List (ℕ × Job)) → All (λ (t : ℕ × Job). t.0 < workers) xs → workers ≤ w
+    → of w xs ≡ []
+of_none workers w [] below le = refl
+of_none workers w (t ∷ ts) below le =
+    let h : t.0 < workers = below 0 t (omega arith) in
+    other_pair w t (of w ts) (λ e. omega arith) ∙ of_none workers w ts (λ k d lt. below (suc k) d (omega arith)) le
+
+-- of pairs that are all of workers, the one that comes next is
+pub next_below : (workers : ℕ) (taken : List (ℕ × Job)) (t : ℕ × Job) (rest : List (ℕ × Job))
+    → All (λ (u : ℕ × Job). u.0 < workers) (taken ++ t ∷ rest)
+    → t.0 < workers
+next_below workers [] t rest below = below 0 t (omega arith)
+next_below workers (x ∷ xs) t rest below = next_below workers xs t rest (λ k d lt. below (suc k) d (omega arith))
+
+one_below : (workers : ℕ) (t : ℕ × Job) → t.0 < workers → All (λ (u : ℕ × Job). u.0 < workers) (t ∷ [])
+one_below workers t h zero d lt = h
+one_below workers t h (suc k) d lt = absurd (omega arith)
+
+known_more : (known : List (List Job)) (s : List Job) (given : ℕ → List Job)
+    → ((k : ℕ) → k < length known → given k ≡ slice_index_or known k []) → given (length known) ≡ s
+    → (k : ℕ) → k < length (known ++ s ∷ []) → given k ≡ slice_index_or (known ++ s ∷ []) k []
+known_more [] s given h e zero lt = e
+known_more [] s given h e (suc k) lt = absurd (omega arith)
+known_more (x ∷ xs) s given h e zero lt = h 0 (omega arith)
+known_more (x ∷ xs) s given h e (suc k) lt = known_more xs s (λ j. given (suc j)) (λ j b. h (suc j) (omega arith)) e k (omega arith)
+
+-- ---- what the pairs account for
+
+-- nothing yet
+pub accounts_none : Accounts 0 [] []
+accounts_none = record { below = λ k d lt. absurd (omega arith); whole = λ w lt. absurd (omega arith) }
+
+-- a pair more, of a worker whose list isn't known yet
+pub accounts_pair : (workers : ℕ) (known : List (List Job)) (pairs : List (ℕ × Job)) (x : ℕ × Job) → x.0 < workers
+    → length known ≤ x.0
+    → Accounts workers known pairs → Accounts workers known (pairs ++ x ∷ [])
+accounts_pair workers known pairs x lt le h =
+    record {
+      below = All-append (λ (t : ℕ × Job). t.0 < workers) pairs (x ∷ []) h.below (one_below workers x lt);
+      whole = λ w b. let ne : x.0 ≢ w = (λ q. omega arith) in of_same w pairs x ne ∙ h.whole w b;
+    }
+
+-- a worker more
+pub accounts_worker : (workers : ℕ) (known : List (List Job)) (pairs : List (ℕ × Job)) → Accounts workers known pairs
+    → Accounts (workers + 1) known pairs
+accounts_worker workers known pairs h =
+    record {
+      below = λ k d lt. let b : (slice_index_or pairs k d).0 < workers = h.below k d lt in omega arith;
+      whole = h.whole;
+    }
+
+-- a list more that is known: what the worker with the number after those known has sent
+pub accounts_known : (workers : ℕ) (known : List (List Job)) (pairs : List (ℕ × Job)) (sent : List Job)
+    → sent ≡ of (length known) pairs
+    → Accounts workers known pairs → Accounts workers (known ++ sent ∷ []) pairs
+accounts_known workers known pairs sent e h = record { below = h.below; whole = known_more known sent (λ w. of w pairs) h.whole (sym e) }
+
+-- ==== The views of the passes of a queue, each at its place
+
+-- a fact of each view at its place
+abbrev pub Each : (ℕ → QueueView → Type 0) → List QueueView → Type 0
+Each F views = (place : ℕ) (v : QueueView) → get_elem? views place ≡ some v → F place v
+
+-- a place that has a view is below the number of views
+pub in_views : (views : List QueueView) (place : ℕ) (v : QueueView) → get_elem? views place ≡ some v → place < length views
+in_views [] place v e = absurd (some-ne-none v (sym e))
+in_views (x ∷ xs) zero v e = omega arith
+in_views (x ∷ xs) (suc place) v e = let h = in_views xs place v e in omega arith
+
+-- a view of a list with one more stood there before, or is the one more
+pub at_end : (views : List QueueView) (a b : QueueView) (place : ℕ) → get_elem? (views ++ a ∷ []) place ≡ some b
+    → (get_elem? views place ≡ some b) ⊎ ((place ≡ length views) × (a ≡ b))
+at_end [] a b zero e = inr (refl, some-injective a b e)
+at_end [] a b (suc place) e = absurd (some-ne-none b (sym e))
+at_end (x ∷ xs) a b zero e = inl e
+at_end (x ∷ xs) a b (suc place) e =
+    ⊎_elim (λ (h : get_elem? xs place ≡ some b). inl h) (λ (h : (place ≡ length xs) × (a ≡ b)). inr (ap suc h.0, h.1))
+    (at_end xs a b place e)
+
+-- if one view changes, its fact is shown anew and the others' may change with it
+pub each_set : (F : ℕ → QueueView → Type 0) (views : List QueueView) (place : ℕ) (w : QueueView) → F place w
+    → ((j : ℕ) (u : QueueView) → j ≢ place → get_elem? views j ≡ some u → F j u) → Each F (set views place w)
+each_set F views place w mine others j u e =
+    ⊎_elim (λ (x : (j ≡ place) × (w ≡ u)). subst (λ (y : ℕ × QueueView). F y.0 y.1) (λ i. (sym x.0 i, x.1 i)) mine)
+    (λ (x : (j ≢ place) × (get_elem? views j ≡ some u)). others j u x.0 x.1) (at_set views place j w u e)
+
+-- ---- the first view
+
+-- it changes if it is set
+pub first_set : (views : List QueueView) (place : ℕ) (v w : QueueView) → place ≡ 0 → get_elem? views 0 ≡ some v
+    → get_elem? (set views place w) 0 ≡ some w
+first_set [] place v w is e = absurd (some-ne-none v (sym e))
+first_set (x ∷ xs) zero v w is e = refl
+first_set (x ∷ xs) (suc place) v w is e = absurd (omega arith)
+
+-- it stays if another is set
+pub first_same : (views : List QueueView) (place : ℕ) (v w : QueueView) → 0 < place → get_elem? views 0 ≡ some v
+    → get_elem? (set views place w) 0 ≡ some v
+first_same [] place v w place_is e = absurd (some-ne-none v (sym e))
+first_same (x ∷ xs) zero v w place_is e = absurd (omega arith)
+first_same (x ∷ xs) (suc place) v w place_is e = e
+
+-- and if there is one more
+pub first_longer : (views : List QueueView) (v w : QueueView) → get_elem? views 0 ≡ some v
+    → get_elem? (views ++ w ∷ []) 0 ≡ some v
+first_longer [] v w e = absurd (some-ne-none v (sym e))
+first_longer (x ∷ xs) v w e = e
+
+-- a single view
+pub each_one : (F : ℕ → QueueView → Type 0) (v : QueueView) → F 0 v → Each F (v ∷ [])
+each_one F v p zero u e = subst (λ (y : QueueView). F 0 y) (some-injective v u e) p
+each_one F v p (suc place) u e = absurd (some-ne-none u (sym e))
+
+-- what the workers whose passes were reclaimed had sent
+abbrev pub known_in : QueueView → List (List Job)
+known_in (Getting made got known) = known
+known_in _ = []
+
+-- ==== Lists of passes to put
+
+-- the pass of the next worker goes last
+pub one_pass_more : (id : TableId) (n : ℕ) (ps : List PutState) (p : PutState) → ArePassesFrom id n ps → p.queue ≡ id
+    → p.number ≡ n + length ps
+    → ArePassesFrom id n (ps ++ p ∷ [])
+one_pass_more id n [] p h q is = (q, omega arith, tt)
+one_pass_more id n (x ∷ xs) p h q is = (h.0, h.1, one_pass_more id (suc n) xs p h.2 q (omega arith))
+
+all_of_one : {X : Type 0} (P : X → Type 0) (x : X) → P x → All P (x ∷ [])
+all_of_one P x p zero d lt = p
+all_of_one P x p (suc k) d lt = absurd (omega arith)
+
+-- what holds of all, and of one more
+pub all_and_one : {X : Type 0} (P : X → Type 0) (xs : List X) (x : X) → All P xs → P x → All P (xs ++ x ∷ [])
+all_and_one P xs x h p = All-append P xs (x ∷ []) h (all_of_one P x p)
+
+-- the passes to put to one queue are all of that queue
+pub all_are_of : (id : TableId) (n : ℕ) (ps : List PutState) → ArePassesFrom id n ps → All (λ p. p.queue ≡ id) ps
+all_are_of id n [] h k d lt = absurd (omega arith)
+all_are_of id n (x ∷ xs) h zero d lt = h.0
+all_are_of id n (x ∷ xs) h (suc k) d lt = all_are_of id (suc n) xs h.2 k d (omega arith)
+
+-- ==== Each step keeps the rule of the results queue
+
+-- the rule, from what each view fits, how many views there are, and which is the first
+lawful : (pairs items taken : List (ℕ × Job)) (closed passes made : ℕ) (known : List (List Job)) (views : List QueueView)
+    → taken ++ items ≡ pairs → length views ≡ passes
+    → get_elem? views 0 ≡ some (Getting made taken known) → Each (Fits pairs taken closed passes) views → IsLawful items views
+lawful pairs items taken closed passes made known views e size first h =
+    let sized : Each (Fits pairs taken closed (length views)) views =
+    subst (λ (n : ℕ). Each (Fits pairs taken closed n) views) (sym size) h in
+    record {
+      taken = taken;
+      closed = closed;
+      made = made;
+      known = known;
+      getter = first;
+      fits = subst (λ (l : List (ℕ × Job)). Each (Fits l taken closed (length views)) views) (sym e) sized;
+    }
+
+-- ---- a queue is made
+
+pub begins : IsLawful [] (first_view ∷ [])
+begins =
+    let fits : FitsGet [] [] 0 1 0 0 [] [] = record {
+      foremost = refl;
+      count = refl;
+      all_got = refl;
+      ended_known = refl;
+      accounts = accounts_none;
+    } in
+    record { taken = []; closed = 0; made = 0; known = []; getter = refl; fits = each_one (Fits [] [] 0 1) first_view fits }
+
+-- ---- a worker puts an outcome
+
+-- the views of the other passes fit the pairs with one more, of a worker that has not ended
+fits_more : (pairs taken : List (ℕ × Job)) (closed passes place : ℕ) (x : ℕ × Job) → place ≡ suc x.0 → place < passes
+    → closed ≤ x.0
+    → (j : ℕ) (u : QueueView) → j ≢ place → Fits pairs taken closed passes j u
+    → Fits (pairs ++ x ∷ []) taken closed passes j u
+fits_more pairs taken closed passes place x place_is within running j (Putting number sent) other h =
+    let ne : x.0 ≢ number = (λ q. other (h.place_is ∙ (ap suc (sym q) ∙ sym place_is))) in
+    record { place_is = h.place_is; running = h.running; all_sent = h.all_sent ∙ sym (of_same number pairs x ne) }
+fits_more pairs taken closed passes place x place_is within running j (Getting made got known) other h =
+    let count : passes ≡ suc made = h.count in
+    let ended : length known ≡ closed = h.ended_known in
+    record {
+      foremost = h.foremost;
+      count = count;
+      all_got = h.all_got;
+      ended_known = ended;
+      accounts = accounts_pair made known pairs x (omega arith) (omega arith) h.accounts;
+    }
+fits_more pairs taken closed passes place x place_is within running j Ended other h = tt
+
+puts_at : (n place : ℕ) (x : ℕ × Job) (sent : List Job) →
+    Pushes IsLawful n place (Putting x.0 sent) x (λ w. w ≡ Putting x.0 (sent ++ x.1 ∷ []))
+puts_at n place x sent items views room h at =
+    let pairs : List (ℕ × Job) = h.taken ++ items in
+    let w : QueueView = Putting x.0 (sent ++ x.1 ∷ []) in
+    let mine : FitsPut pairs h.closed place x.0 sent = h.fits place (Putting x.0 sent) at in
+    let fits : FitsPut (pairs ++ x ∷ []) h.closed place x.0 (sent ++ x.1 ∷ []) =
+    record {
+      place_is = mine.place_is;
+      running = mine.running;
+      all_sent = ap (λ (l : List Job). l ++ x.1 ∷ []) mine.all_sent ∙ sym (of_more x.0 pairs x refl);
+    } in
+    let within : place < length views = in_views views place (Putting x.0 sent) at in
+    let all : Each (Fits (pairs ++ x ∷ []) h.taken h.closed (length views)) (set views place w) =
+    each_set (Fits (pairs ++ x ∷ []) h.taken h.closed (length views)) views place w fits
+    (λ j u other e. fits_more pairs h.taken h.closed (length views) place x mine.place_is within mine.running j u other (h.fits j u e)) in
+    let place_is : place ≡ suc x.0 = mine.place_is in
+    let first = first_same views place _ w (omega arith) h.getter in (
+      w,
+      lawful (pairs ++ x ∷ []) (items ++ x ∷ []) h.taken h.closed (length views) h.made h.known (set views place w)
+          (sym (append_assoc h.taken items (x ∷ []))) (length-set views place w) first all,
+      refl,
+    )
+
+pub puts : (n place : ℕ) (v : QueueView) (x : ℕ × Job) (sent : List Job) → v ≡ Putting x.0 sent
+    → Pushes IsLawful n place v x (λ w. w ≡ after_put v x)
+puts n place v x sent e = subst (λ (u : QueueView). Pushes IsLawful n place u x (λ w. w ≡ after_put u x)) (sym e)
+    (puts_at n place x sent)
+
+-- ---- the oldest pair is got
+
+-- the view of another pass states nothing of what was taken out
+fits_taken : (pairs taken after : List (ℕ × Job)) (closed passes place : ℕ) → place ≡ 0
+    → (j : ℕ) (u : QueueView) → j ≢ place → Fits pairs taken closed passes j u → Fits pairs after closed passes j u
+fits_taken pairs taken after closed passes place foremost j (Putting number sent) other h = h
+fits_taken pairs taken after closed passes place foremost j (Getting made got known) other h = absurd (other (h.foremost ∙ sym foremost))
+fits_taken pairs taken after closed passes place foremost j Ended other h = tt
+
+gets_at : (place made : ℕ) (got : List (ℕ × Job)) (known : List (List Job))
+    → Pops IsLawful place (Getting made got known) (IsGot (Getting made got known))
+gets_at place made got known x items views h at =
+    let pairs : List (ℕ × Job) = h.taken ++ x ∷ items in
+    let after : List (ℕ × Job) = h.taken ++ x ∷ [] in
+    let w : QueueView = Getting made (got ++ x ∷ []) known in
+    let mine : FitsGet pairs h.taken h.closed (length views) place made got known = h.fits place (Getting made got known) at in
+    let fits : FitsGet pairs after h.closed (length views) place made (got ++ x ∷ []) known =
+    record {
+      foremost = mine.foremost;
+      count = mine.count;
+      all_got = ap (λ (l : List (ℕ × Job)). l ++ x ∷ []) mine.all_got;
+      ended_known = mine.ended_known;
+      accounts = mine.accounts;
+    } in
+    let all : Each (Fits pairs after h.closed (length views)) (set views place w) =
+    each_set (Fits pairs after h.closed (length views)) views place w fits
+    (λ j u other e. fits_taken pairs h.taken after h.closed (length views) place mine.foremost j u other (h.fits j u e)) in
+    let got_now : Getting made (got ++ x ∷ []) known ≡ Getting made after known =
+    ap (λ (l : List (ℕ × Job)). Getting made (l ++ x ∷ []) known) mine.all_got in
+    let first = first_set views place _ w mine.foremost h.getter ∙ ap some got_now in (
+      w,
+      lawful pairs items after h.closed (length views) made known (set views place w) (append_assoc h.taken (x ∷ []) items)
+          (length-set views place w) first all,
+      (refl, next_below made h.taken x items mine.accounts.below),
+    )
+
+pub gets : (place : ℕ) (v : QueueView) (made : ℕ) (got : List (ℕ × Job)) (known : List (List Job)) → v ≡ Getting made got known
+    → Pops IsLawful place v (IsGot v)
+gets place v made got known e = subst (λ (u : QueueView). Pops IsLawful place u (IsGot u)) (sym e) (gets_at place made got known)
+
+-- ---- a pass is made for the next worker
+
+-- the views of the other passes fit if there is a pass more
+fits_made : (pairs taken : List (ℕ × Job)) (closed passes after place : ℕ) → place ≡ 0
+    → (j : ℕ) (u : QueueView) → j ≢ place → Fits pairs taken closed passes j u → Fits pairs taken closed after j u
+fits_made pairs taken closed passes after place foremost j (Putting number sent) other h = h
+fits_made pairs taken closed passes after place foremost j (Getting made got known) other h = absurd (other (h.foremost ∙ sym foremost))
+fits_made pairs taken closed passes after place foremost j Ended other h = tt
+
+-- one view more, at the end
+each_more : (F : ℕ → QueueView → Type 0) (views : List QueueView) (w : QueueView) → Each F views → F (length views) w
+    → Each F (views ++ w ∷ [])
+each_more F views w h fits j u e =
+    ⊎_elim (λ (x : get_elem? views j ≡ some u). h j u x)
+    (λ (x : (j ≡ length views) × (w ≡ u)). subst (λ (y : ℕ × QueueView). F y.0 y.1) (λ i. (sym x.0 i, x.1 i)) fits)
+    (at_end views w u j e)
+
+forks_at : (place made : ℕ) (got : List (ℕ × Job)) → Forks IsLawful place (Getting made got []) (Getting (made + 1) got [])
+    (Putting made [])
+forks_at place made got items views h at =
+    let pairs : List (ℕ × Job) = h.taken ++ items in
+    let mine : FitsGet pairs h.taken h.closed (length views) place made got [] = h.fits place (Getting made got []) at in
+    let count : length views ≡ suc made = mine.count in
+    let ended : 0 ≡ h.closed = mine.ended_known in
+    let left : QueueView = Getting (made + 1) got [] in
+    let vs : List QueueView = set views place left in
+    let same : length vs ≡ length views = length-set views place left in
+    let F : ℕ → QueueView → Type 0 = Fits pairs h.taken h.closed (made + 2) in
+    let fits : FitsGet pairs h.taken h.closed (made + 2) place (made + 1) got [] =
+    record {
+      foremost = mine.foremost;
+      count = omega arith;
+      all_got = mine.all_got;
+      ended_known = ended;
+      accounts = accounts_worker made [] pairs mine.accounts;
+    } in
+    let old : Each F vs =
+    each_set F views place left fits
+    (λ j u other e. fits_made pairs h.taken h.closed (length views) (made + 2) place mine.foremost j u other (h.fits j u e)) in
+    let fresh : FitsPut pairs h.closed (length vs) made [] =
+    record { place_is = omega arith; running = omega arith; all_sent = sym (of_none made made pairs mine.accounts.below (omega arith)) } in
+    let longer : length (vs ++ Putting made [] ∷ []) ≡ length vs + 1 = length_push vs (Putting made []) in
+    let got_now : left ≡ Getting (made + 1) h.taken [] = ap (λ (l : List (ℕ × Job)). Getting (made + 1) l []) mine.all_got in
+    let first = first_longer vs _ (Putting made []) (first_set views place _ left mine.foremost h.getter ∙ ap some got_now) in
+    lawful pairs items h.taken h.closed (made + 2) (made + 1) [] (vs ++ Putting made [] ∷ []) refl (omega arith) first
+    (each_more F vs (Putting made []) old fresh)
+
+pub forks : (place : ℕ) (v : QueueView) (made : ℕ) (got : List (ℕ × Job)) → v ≡ Getting made got []
+    → Forks IsLawful place v (after_making_one v) (one_made v)
+forks place v made got e = subst (λ (u : QueueView). Forks IsLawful place u (after_making_one u) (one_made u)) (sym e)
+    (forks_at place made got)
+
+-- ---- a worker's pass is reclaimed
+
+-- the views of the other passes fit if one worker more has ended
+fits_ended : (pairs taken : List (ℕ × Job)) (closed passes place ended : ℕ) → place ≡ 0 → ended ≡ suc closed
+    → (j : ℕ) (u : QueueView) → j ≢ place → j ≢ ended → Fits pairs taken closed passes j u
+    → Fits pairs taken (closed + 1) passes j u
+fits_ended pairs taken closed passes place ended foremost is j (Putting number sent) other apart h =
+    let place_is : j ≡ suc number = h.place_is in
+    let running : closed ≤ number = h.running in
+    let ne : number ≢ closed = (λ q. apart (place_is ∙ (ap suc q ∙ sym is))) in
+    record { place_is = place_is; running = omega arith; all_sent = h.all_sent }
+fits_ended pairs taken closed passes place ended foremost is j (Getting made got known) other apart h =
+    absurd (other (h.foremost ∙ sym foremost))
+fits_ended pairs taken closed passes place ended foremost is j Ended other apart h = tt
+
+merges_at : (place other made : ℕ) (got : List (ℕ × Job)) (known : List (List Job)) (sent : List Job)
+    → Merges IsLawful place (Getting made got known) other (Putting (length known) sent) (Getting made got (known ++ sent ∷ [])) Ended
+merges_at place other made got known sent items views h at two at_other =
+    let both : QueueView = Getting made got (known ++ sent ∷ []) in
+    let theirs : QueueView = Putting (length known) sent in
+    let pairs : List (ℕ × Job) = h.taken ++ items in
+    let mine : FitsGet pairs h.taken h.closed (length views) place made got known = h.fits place (Getting made got known) at in
+    let ended : length known ≡ h.closed = mine.ended_known in
+    let vs : List QueueView = set views place both in
+    let was : get_elem? views other ≡ some theirs =
+    ⊎_elim
+    (λ (x : (other ≡ place) × (both ≡ theirs)). absurd (two x.0))
+    (λ (x : (other ≢ place) × (get_elem? views other ≡ some theirs)). x.1)
+    (at_set views place other both theirs at_other) in
+    let their_fit : FitsPut pairs h.closed other (length known) sent = h.fits other theirs was in
+    let last : other ≡ suc h.closed = their_fit.place_is ∙ ap suc ended in
+    let longer : length (known ++ sent ∷ []) ≡ length known + 1 = length_push known sent in
+    let fits : FitsGet pairs h.taken (h.closed + 1) (length views) place made got (known ++ sent ∷ []) =
+    record {
+      foremost = mine.foremost;
+      count = mine.count;
+      all_got = mine.all_got;
+      ended_known = omega arith;
+      accounts = accounts_known made known pairs sent their_fit.all_sent mine.accounts;
+    } in
+    let F : ℕ → QueueView → Type 0 = Fits pairs h.taken (h.closed + 1) (length views) in
+    let Apart : ℕ → QueueView → Type 0 = λ j u. j ≢ other → F j u in
+    let apart : Each Apart vs = each_set Apart views place both (λ _. fits)
+    (λ j u away e ne. fits_ended pairs h.taken h.closed (length views) place other mine.foremost last j u away ne (h.fits j u e)) in
+    let done : Each F (set vs other Ended) = each_set F vs other Ended tt (λ j u ne e. apart j u e ne) in
+    let got_now : both ≡ Getting made h.taken (known ++ sent ∷ []) =
+    ap (λ (l : List (ℕ × Job)). Getting made l (known ++ sent ∷ [])) mine.all_got in
+    let first = first_same vs other _ Ended (omega arith) (first_set views place _ both mine.foremost h.getter ∙ ap some got_now) in
+    lawful pairs items h.taken (h.closed + 1) (length views) made (known ++ sent ∷ []) (set vs other Ended) refl
+    (length-set vs other Ended ∙ length-set views place both) first done
+
+pub merges : (place : ℕ) (v : QueueView) (other : ℕ) (u : QueueView) (made : ℕ) (got : List (ℕ × Job)) (known : List (List Job))
+    (number : ℕ) (sent : List Job)
+    → v ≡ Getting made got known → u ≡ Putting number sent → number ≡ length known
+    → Merges IsLawful place v other u (after_reclaiming_sent v u) Ended
+merges place v other u made got known number sent e e' is =
+    let e'' : u ≡ Putting (length known) sent = e' ∙ ap (λ (n : ℕ). Putting n sent) is in
+    subst (λ (p : QueueView × QueueView). Merges IsLawful place p.0 other p.1 (after_reclaiming_sent p.0 p.1) Ended)
+    (λ i. (sym e i, sym e'' i))
+    (merges_at place other made got known sent)
+
+-- ---- what the pass to get learns of the queue
+
+accounts_at : (place made : ℕ) (got : List (ℕ × Job)) (known : List (List Job))
+    → Learns IsLawful place (Getting made got known) (λ items. Accounts made known (got ++ items))
+accounts_at place made got known items views h at =
+    let mine : FitsGet (h.taken ++ items) h.taken h.closed (length views) place made got known = h.fits place (Getting made got known) at in
+    subst (λ (g : List (ℕ × Job)). Accounts made known (g ++ items)) (sym mine.all_got) mine.accounts
+
+pub tells : (place : ℕ) (v : QueueView) (made : ℕ) (got : List (ℕ × Job)) (known : List (List Job)) → v ≡ Getting made got known
+    → Learns IsLawful place v (Tells v)
+tells place v made got known e = subst (λ (u : QueueView). Learns IsLawful place u (Tells u)) (sym e) (accounts_at place made got known)
+
+-- the pass to get has reclaimed one pass more
+pub reclaimed : (v u after : QueueView) (made : ℕ) (got : List (ℕ × Job)) (known : List (List Job)) (number : ℕ) (sent : List Job)
+    → v ≡ Getting made got known → u ≡ Putting number sent → after ≡ after_reclaiming_sent v u → after ≡ Getting made got (known ++ sent ∷ [])
+reclaimed v u after made got known number sent getting putting is = is ∙ λ i. after_reclaiming_sent (getting i) (putting i)
+
+-- once it has reclaimed all, it learns what all workers have sent
+pub whole_when_reclaimed : (v : QueueView) (made left : ℕ) (got : List (ℕ × Job)) (known rest all : List (List Job))
+    → v ≡ Getting made got known → length rest ≡ 0 → known ++ rest ≡ all → Held left (Tells v)
+    → Held left (λ items. Accounts made all (got ++ items))
+whole_when_reclaimed v made left got known (x ∷ xs) all getting none whole held = absurd (omega arith)
+whole_when_reclaimed v made left got known [] all getting none whole held =
+    let accounts : Accounts made known (got ++ held.0) = subst (λ (u : QueueView). Tells u held.0) getting held.2 in (
+      held.0,
+      held.1,
+      subst (λ (sent : List (List Job)). Accounts made sent (got ++ held.0))
+          (sym (append-nil known) ∙ whole) accounts,
+    )
+
+-- ==== The rule of the results queue, in plain words
+
+pub queue_is_lawful : (items : List (ℕ × Job)) (views : List QueueView) → IsLawful items views → IsWholeAndInOrder items views
+queue_is_lawful items views h =
+    let pairs : List (ℕ × Job) = h.taken ++ items in
+    let first : FitsGet pairs h.taken h.closed (length views) 0 h.made h.taken h.known =
+    h.fits 0 (Getting h.made h.taken h.known) h.getter in
+    let count : length views ≡ suc h.made = first.count in
+    record {
+      workers = h.made;
+      got = h.taken;
+      ended = h.known;
+      gets = h.getter;
+      no_other_gets = λ place others them lists at.
+          let fits : FitsGet pairs h.taken h.closed (length views) place others them lists = h.fits place (Getting others them lists) at in
+          fits.foremost;
+      below = first.accounts.below;
+      running = λ place worker sent at.
+          let fits : FitsPut pairs h.closed place worker sent = h.fits place (Putting worker sent) at in
+          let place_is : place ≡ suc worker = fits.place_is in
+          let within : place < length views = in_views views place (Putting worker sent) at in
+          (omega arith, sym fits.all_sent);
+      reclaimed = first.accounts.whole;
+    }

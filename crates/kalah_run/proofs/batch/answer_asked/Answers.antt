@@ -6,7 +6,7 @@ use Rattle.kalah_jobs.specs.Files.JobList.{job_list}
 use Rattle.kalah_jobs.specs.Writing.Output.{is_faulty_job}
 use Rattle.kalah_jobs.proofs.FilesLemmas.{job_count-jobs_to}
 use Rattle.kalah_jobs.proofs.WritingLemmas.Starts.{start_kept}
-use Rattle.kalah_run.proofs.BatchLemmas.Ends.{appended_kept, given_output, counted_tally}
+use Rattle.kalah_run.proofs.BatchLemmas.{appended_kept, given_output, counted_tally}
 use Rattle.kalah_run.proofs.batch.answer_asked.Given.{Over}
 use Rattle.kalah_run.proofs.batch.answer_asked.Goals.{then-failed-via-then-failed, then-failed-via-else-failed+then-is_err}
 use Rattle.kalah_run.proofs.batch.answer_asked.Goals as goal

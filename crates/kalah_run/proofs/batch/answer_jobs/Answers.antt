@@ -11,9 +11,7 @@ use Rattle.kalah_jobs.specs.declared.files.entry.Entry.{Entry}
 use Rattle.kalah_run.specs.Batch.AtWork.{passes_of}
 use Rattle.kalah_run.specs.Batch.OrderedOutput.{HasWritten, Waits, outcomes_in}
 use Rattle.kalah_run.specs.declared.batch.worker.Worker.{Worker}
-use Rattle.kalah_run.proofs.BatchLemmas.Ends.{all_given, failed_given, given_no_output}
-use Rattle.kalah_run.proofs.BatchLemmas.Known.{each_job_known}
-use Rattle.kalah_run.proofs.BatchLemmas.WorkerRuns.{each_job_got, puts_after, run_at_work, run_passes}
+use Rattle.kalah_run.proofs.BatchLemmas.{all_given, failed_given, given_no_output, each_job_known, each_job_got, puts_after, run_at_work, run_passes}
 use Rattle.kalah_run.proofs.batch.answer_jobs.Given.{Over}
 use Rattle.kalah_run.proofs.batch.answer_jobs.Goals as goal
 

@@ -1,7 +1,7 @@
 use Rattle.std.proofs.Common.{◌≡◌, ◌∷◌, ◌++◌, [], sym, ap, ◌∙◌, append_assoc, rules}
 use Rattle.std.specs.Vec.Iter.{into_iter_items}
 use Rattle.kalah_solve.specs.Table.Entries.{empty_table}
-use Rattle.kalah_run.proofs.BatchLemmas.PutTogether.{passes_more, puts_more, tables_more}
+use Rattle.kalah_run.proofs.BatchLemmas.{passes_more, puts_more, tables_more}
 use Rattle.kalah_run.proofs.batch.open_batch.put_together.Goals.{in-Some-last+in_ok-solver-in-Some-last, in-None-last+in_ok-new-in-None-last}
 use Rattle.kalah_run.proofs.batch.open_batch.put_together.Goals as goal
 

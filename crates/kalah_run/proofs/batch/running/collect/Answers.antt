@@ -4,8 +4,7 @@ use Rattle.std.proofs.lemmas.List.{map-append, length-append}
 use Rattle.kalah_jobs.specs.declared.files.job.Job.{Job}
 use Rattle.kalah_run.specs.Queue.States.{GetState, HasGot}
 use Rattle.kalah_run.specs.Batch.OrderedOutput.{AcceptsAll, HasWritten, Waits, outcomes_in}
-use Rattle.kalah_run.proofs.BatchLemmas.Outputs.{still_written, still_accepted}
-use Rattle.kalah_run.proofs.BatchLemmas.Progress.{progress_offered}
+use Rattle.kalah_run.proofs.BatchLemmas.{still_written, still_accepted, progress_offered}
 use Rattle.kalah_run.proofs.batch.running.collect.Given as given
 use Rattle.kalah_run.proofs.batch.running.collect.Goals as goal
 use Rattle.kalah_run.proofs.batch.running.collect.Goals.{in-Some, in-None+in-Some-flush_and_get}

@@ -4,9 +4,7 @@ use Rattle.kalah_run.specs.Desk.Rows.{drawn_in, spent_in, AreLawful, DealsEachOn
 use Rattle.kalah_run.specs.Desk.Kept.{rows_in}
 use Rattle.kalah_run.specs.Desk.States.{PassState, drawn_rows}
 use Rattle.kalah_run.specs.declared.desk.rule.DeskView.TheVariants.{Closing}
-use Rattle.kalah_run.proofs.DeskLemmas.Once.{deals_each_once}
-use Rattle.kalah_run.proofs.DeskLemmas.Seats.{reclaims_as, starts_closing}
-use Rattle.kalah_run.proofs.DeskLemmas.Ends.{ends, drawn_at_end, spent_at_end}
+use Rattle.kalah_run.proofs.DeskLemmas.{deals_each_once, reclaims_as, starts_closing, ends, drawn_at_end, spent_at_end}
 use Rattle.kalah_run.proofs.desk.Desk.close.Goals as goal
 
 pub load_new_seat-closer-requires : goal.load_new_seat-closer-requires

@@ -1,5 +1,5 @@
 use Rattle.std.proofs.Common.{rules}
-use Rattle.kalah_run.proofs.DeskLemmas.Draws.{draws_as}
+use Rattle.kalah_run.proofs.DeskLemmas.{draws_as}
 use Rattle.kalah_run.proofs.desk.Desk.draw.Goals as goal
 
 pub fetch_add-found-requires : goal.fetch_add-found-requires

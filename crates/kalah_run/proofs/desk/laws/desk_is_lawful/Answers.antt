@@ -1,4 +1,4 @@
-use Rattle.kalah_run.proofs.DeskLemmas.Law.{desk_is_lawful}
+use Rattle.kalah_run.proofs.DeskLemmas.{desk_is_lawful}
 use Rattle.kalah_run.proofs.desk.laws.desk_is_lawful.Goals as goal
 
 pub returns : goal.returns

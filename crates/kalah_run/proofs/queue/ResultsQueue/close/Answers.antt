@@ -4,8 +4,7 @@ use Rattle.std.specs.Vec.Iter.{into_iter_deque, into_iter_items}
 use Rattle.crossbeam_queue.specs.Passes.{view}
 use Rattle.kalah_run.specs.declared.queue.rule.QueueView.TheVariants.{Getting, Putting}
 use Rattle.kalah_run.specs.Queue.States.{ArePassesFrom, PutState, sent_by}
-use Rattle.kalah_run.proofs.QueueLemmas.Keeps.{merges, tells, reclaimed, whole_when_reclaimed}
-use Rattle.kalah_run.proofs.QueueLemmas.Views.{known_in}
+use Rattle.kalah_run.proofs.QueueLemmas.{merges, tells, reclaimed, whole_when_reclaimed, known_in}
 use Rattle.kalah_run.proofs.queue.ResultsQueue.close.Goals as goal
 
 pub absorb-requires-clause-rule : goal.absorb-requires-clause-rule

@@ -3,7 +3,7 @@ use Rattle.std.specs.Vec.Iter.{into_iter_items}
 use Rattle.crossbeam_queue.specs.Passes.{view, IsPassOf}
 use Rattle.kalah_run.specs.declared.queue.rule.QueueView.TheVariants.{Getting}
 use Rattle.kalah_run.specs.Queue.States.{ArePassesFrom, sent_by}
-use Rattle.kalah_run.proofs.QueueLemmas.Views.{known_in}
+use Rattle.kalah_run.proofs.QueueLemmas.{known_in}
 use Rattle.kalah_run.proofs.queue.ResultsQueue.close.Given as goal
 
 abbrev pub invariant-loop-put : goal.invariant-loop-put

@@ -1,4 +1,4 @@
-use Rattle.kalah_run.proofs.QueueLemmas.Keeps.{gets}
+use Rattle.kalah_run.proofs.QueueLemmas.{gets}
 use Rattle.kalah_run.proofs.queue.ResultsQueue.get_to_end.Goals as goal
 
 pub try_pop_as-requires-clause-rule : goal.try_pop_as-requires-clause-rule

@@ -1,7 +1,6 @@
 use Rattle.std.proofs.Common.{rules, arith, ◌≡◌, [], ap, ◌∙◌}
 use Rattle.kalah_run.specs.Queue.Steps.{sent_in, after_making_one, one_made}
-use Rattle.kalah_run.proofs.QueueLemmas.Keeps.{begins, forks}
-use Rattle.kalah_run.proofs.QueueLemmas.Lists.{one_pass_more, all_and_one}
+use Rattle.kalah_run.proofs.QueueLemmas.{begins, forks, one_pass_more, all_and_one}
 use Rattle.kalah_run.proofs.queue.ResultsQueue.open.Goals as goal
 
 pub ruled-requires-clause-rule : goal.ruled-requires-clause-rule

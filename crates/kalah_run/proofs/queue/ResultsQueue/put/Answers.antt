@@ -1,4 +1,4 @@
-use Rattle.kalah_run.proofs.QueueLemmas.Keeps.{puts}
+use Rattle.kalah_run.proofs.QueueLemmas.{puts}
 use Rattle.kalah_run.proofs.queue.ResultsQueue.put.Goals as goal
 
 pub try_push_as-requires-clause-rule : goal.try_push_as-requires-clause-rule

@@ -1,6 +1,6 @@
 use Rattle.std.proofs.Common.{◌∙◌, ap, sym}
 use Rattle.kalah_run.specs.declared.queue.rule.QueueView.TheVariants.{Putting}
-use Rattle.kalah_run.proofs.QueueLemmas.Keeps.{puts}
+use Rattle.kalah_run.proofs.QueueLemmas.{puts}
 use Rattle.kalah_run.proofs.queue.ResultsQueue.put_later.Goals as goal
 
 pub try_push_as-requires-clause-rule : goal.try_push_as-requires-clause-rule

@@ -1,4 +1,4 @@
-use Rattle.kalah_run.proofs.QueueLemmas.Law.{queue_is_lawful}
+use Rattle.kalah_run.proofs.QueueLemmas.{queue_is_lawful}
 use Rattle.kalah_run.proofs.queue.laws.queue_is_lawful.Goals as goal
 
 pub returns : goal.returns

@@ -4,7 +4,7 @@ use Rattle.std.proofs.lemmas.List.{length-map}
 use Rattle.kalah_run.specs.Desk.States.{PassState, AreNewPasses}
 use Rattle.kalah_run.specs.Queue.States.{GetState, PutState, ArePassesFrom}
 use Rattle.kalah_run.specs.declared.batch.worker.Worker.{Worker}
-use Rattle.kalah_run.proofs.BatchLemmas.WorkerRuns.{new_at_work}
+use Rattle.kalah_run.proofs.BatchLemmas.{new_at_work}
 use Rattle.kalah_run.proofs.batch.open_batch.OpenBatch.open.Goals as goal
 
 pub returns : goal.returns

@@ -1,7 +1,7 @@
 use Rattle.std.proofs.Common.{subst, sym, refl, List, []}
 use Rattle.kalah_jobs.specs.Collecting.CollectorState.{FileState}
 use Rattle.kalah_run.specs.Batch.UnderWay.{IsUnderWay}
-use Rattle.kalah_run.proofs.BatchLemmas.Progress.{progress_start}
+use Rattle.kalah_run.proofs.BatchLemmas.{progress_start}
 use Rattle.kalah_run.specs.Batch.Texts.{text_of}
 use Rattle.kalah_run.proofs.batch.ordered_output.OrderedOutput.new.Goals as goal
 

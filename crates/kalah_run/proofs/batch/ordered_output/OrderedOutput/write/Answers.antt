@@ -3,9 +3,7 @@ use Rattle.kalah_jobs.specs.Collecting.CollectorState.{FileState, front, state_o
 use Rattle.kalah_jobs.specs.Files.NamedBytes.{NamedBytes}
 use Rattle.kalah_jobs.proofs.CollectingLemmas.{files_many}
 use Rattle.kalah_run.specs.Batch.UnderWay.{WasGiven}
-use Rattle.kalah_run.proofs.BatchLemmas.Progress.{wrote_file, wrote_line, wrote_nothing}
-use Rattle.kalah_run.proofs.BatchLemmas.Giving.{given_off, given_on}
-use Rattle.kalah_run.proofs.BatchLemmas.Outputs.{written_on, text_of_file, whole_where_sound}
+use Rattle.kalah_run.proofs.BatchLemmas.{wrote_file, wrote_line, wrote_nothing, given_off, given_on, written_on, text_of_taken, whole_where_sound}
 use Rattle.kalah_run.proofs.batch.ordered_output.OrderedOutput.write.Goals as goal
 
 pub bounds-files-f : goal.bounds-files-f
@@ -17,7 +15,7 @@ loop-self-preserved-then-not-failed g c = record {
       let r = c.loop-self.self in
       let wrote = c.write_answer.ensures in
       let low : r.current < length r.files.now = omega (arith, c.loop-self-test.true, c.files.ensures.is, r.as_many) in
-      let text = text_of_file r.files.now r.current c.index-files-f.result c.as_str.result.now c.in-Some.taken low c.index-files-f.is
+      let text = text_of_taken r.files.now r.current c.index-files-f.result c.as_str.result.now c.in-Some.taken low c.index-files-f.is
       (c.as_str.ensures.value ∙ ap (λ (x : NamedBytes). x.name) c.file.view_is) in
       written_on files jobs past begun _ _ _ _ r _ refl refl
       (λ progress. wrote_line progress c.take.new.self c.in-Some.taken

@@ -1,6 +1,6 @@
 use denote.Param.Send.{sendable}
 use Rattle.std.proofs.Common.{rules}
-use Rattle.kalah_run.proofs.BatchLemmas.Crossing.{worker_send}
+use Rattle.kalah_run.proofs.Crossing.{worker_send}
 use Rattle.kalah_run.proofs.batch.worker.Crew.run.Goals as goal
 
 pub for_each_mut-requires-send-T : goal.for_each_mut-requires-send-T

@@ -2,8 +2,8 @@ use Rattle.std.proofs.Common.{◌≡◌, ℕ, true, rules, sym, ap, ◌∙◌, s
 use Rattle.std.specs.Prelude.{All}
 use Rattle.kalah_run.specs.declared.desk.rule.DrawnRow.{DrawnRow}
 use Rattle.kalah_run.specs.Queue.States.{PutState}
-use Rattle.kalah_run.proofs.QueueLemmas.Lists.{all_and_one}
-use Rattle.kalah_run.proofs.BatchLemmas.Sendings.{drawn_jobs-more, less_left}
+use Rattle.kalah_run.proofs.QueueLemmas.{all_and_one}
+use Rattle.kalah_run.proofs.BatchLemmas.{drawn_jobs-more, less_left}
 use Rattle.kalah_run.proofs.batch.worker.Worker.run.Goals as goal
 
 -- with no job in hand, all that was drawn is sent

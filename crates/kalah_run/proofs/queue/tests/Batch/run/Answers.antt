@@ -1,4 +1,4 @@
-use Rattle.kalah_run.proofs.QueueLemmas.Lists.{all_are_of}
+use Rattle.kalah_run.proofs.QueueLemmas.{all_are_of}
 use Rattle.kalah_run.proofs.queue.tests.Batch.run.Goals as goal
 
 -- src/queue/tests.rt:138:9

@@ -1,7 +1,7 @@
 use denote.Param.Send.{sendable}
 use Rattle.std.proofs.Common.{refl, rules}
 use Rattle.std.proofs.Crossing.{crosses}
-use Rattle.kalah_run.proofs.BatchLemmas.Crossing.{crew_send, worker_send}
+use Rattle.kalah_run.proofs.Crossing.{crew_send, worker_send}
 use Rattle.kalah_run.proofs.batch.running.fn.run_and_write.scope.Goals as goal
 
 pub spawn_with-started-requires-send-F : goal.spawn_with-started-requires-send-F
