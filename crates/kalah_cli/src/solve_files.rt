@@ -14,7 +14,7 @@ use crate::status::ExitStatus;
 use crate::terminal::Terminal;
 use crate::tips::Messages;
 use kalah_jobs::{FileText, Sink};
-use kalah_run::{BatchSize, OpenGate, Rest, RunFault, Tally, answer_batch};
+use kalah_run::{BatchRequest, OpenGate, Rest, RunFault, Tally, answer_batch};
 use std::alloc::Global;
 use std::io::Write;
 use std::rt::{Clock, Files};
@@ -59,24 +59,15 @@ fn answer_files<R: Clock + Terminal + Threads + Wait + Sync, O: Sink, E: Write>(
     ensures { AnswersBatch O.written O.has_failed O.is_handed_on (output_to request.now.question files.now) files.now out.old out.new
         result }
 {
-    let size = BatchSize {
+    let batch = BatchRequest {
+        question: request.question,
+        files,
         workers: request.workers,
         table: request.table,
+        rest: Rest::Leave,
     };
-    let (question, rest) = (request.question, Rest::Leave);
     let mut progress = Progress::begin(rt, err, files, request.progress);
-    let gate = &OpenGate;
-    let answered = answer_batch(
-        rt,
-        alloc,
-        question,
-        files,
-        size,
-        rest,
-        gate,
-        &mut progress,
-        out,
-    );
+    let answered = answer_batch(rt, alloc, &batch, &OpenGate, &mut progress, out);
     progress.end();
     answered
 }

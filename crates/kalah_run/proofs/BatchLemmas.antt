@@ -1,9 +1,9 @@
 -- A batch: what its workers send, what is written of it, and what is known when it has ended.
-use Rattle.std.proofs.Common.{◌≡◌, ◌≤◌, ◌<◌, ◌+◌, ◌-◌, ℕ, suc, List, [], ◌∷◌, ◌++◌, arith, sym, ap, ◌∙◌, Bool, true, false, refl, ⊎_elim, length, get_or, take, drop, append_assoc, subst, Global, zero, map, ◌≢◌, ◌==◌, if◌then◌else◌, ne_eqb, ◌⊎◌, inl, inr}
+use Rattle.std.proofs.Common.{◌≡◌, ◌≤◌, ◌<◌, ◌+◌, ◌-◌, ℕ, suc, List, [], ◌∷◌, ◌++◌, arith, sym, ap, ◌∙◌, Bool, true, false, refl, ⊎_elim, length, get_or, take, drop, append_assoc, subst, zero, map, ◌≢◌, ◌==◌, if◌then◌else◌, ne_eqb, ◌⊎◌, inl, inr}
 use Rattle.std.proofs.lemmas.List.{map-append, append-nil, get_or_past, take-append-drop, take_all, take_more, flat_map_more, get_or-map, length-append, length-map}
 use Rattle.kalah_jobs.specs.declared.files.entry.Entry.{Entry}
 use Rattle.kalah_jobs.specs.declared.files.job.Job.{Job}
-use Rattle.std.specs.Prelude.{All, Some, fold, slice_get, Option, None, Result, Ok, Err, sum_by, IsErr, OnOk, count_by, ◌↔◌, IfOk}
+use Rattle.std.specs.Prelude.{◌⊎◌, All, Some, fold, slice_get, Option, None, Result, Ok, Err, sum_by, IsErr, OnOk, count_by, ◌↔◌, IfOk}
 use Rattle.std.proofs.lemmas.List.Sums.{fold-append, sum_by-cons}
 use Rattle.std.proofs.lemmas.Option.{get_or_from_slice_get, slice_get_within}
 use Rattle.kalah_jobs.specs.Files.JobList.{job_list, line_job, entries_of, entry_at}
@@ -16,7 +16,7 @@ use Rattle.std.specs.Io.KnownBytes.{Appends, Keeps}
 use Rattle.std.proofs.KnownBytes.{Appends-kept, Appends-nil, Appends-trans}
 use Rattle.kalah_jobs.specs.Writing.Given.{AppendsStart}
 use Rattle.kalah_jobs.proofs.WritingLemmas.Starts.{start_none, start_then, start_longer, start_kept}
-use Rattle.kalah_run.specs.Batch.UnderWay.{WasGiven, written_upto, IsUnderWay}
+use Rattle.kalah_run.specs.Batch.UnderWay.{WasGiven, written_upto, IsUnderWay, IsLeft}
 use Rattle.std.specs.List.{flat_map, enumerate_from}
 use Rattle.std.proofs.lemmas.Bool.{cases_eq, cases_lt, lt-ltb}
 use Rattle.std.proofs.lemmas.Grind.{flat_map-append}
@@ -32,12 +32,9 @@ use Rattle.kalah_jobs.proofs.CollectingLemmas.{state_same, state_other, files_ma
 use Rattle.kalah_jobs.specs.Files.Lines.{line_feed}
 use Rattle.kalah_jobs.specs.Files.NamedBytes.{NamedBytes}
 use Rattle.kalah_run.specs.declared.batch.ordered_output.OrderedOutput.{OrderedOutput}
-use Rattle.kalah_run.specs.Batch.OrderedOutput.{HasWritten, AcceptsAll, outcomes_in, Waits}
+use Rattle.kalah_run.specs.Batch.OrderedOutput.{IsNew, HasWritten, whole_output, outcomes_in, Waits}
 use Rattle.kalah_run.specs.Batch.Texts.{text_of}
 use Rattle.std.proofs.lemmas.List.Elements.{All-push, All-map}
-use Rattle.crossbeam_utils.specs.Padded.{padded_value}
-use Rattle.kalah_solve.specs.Table.Entries.{empty_table}
-use Rattle.kalah_solve.specs.declared.solver.Solver.{Solver}
 use Rattle.kalah_run.specs.Queue.States.{PutState, ArePassesFrom, sent_by}
 use Rattle.kalah_run.specs.Desk.States.{PassState, IsPassAt, AreNewPasses, new_pass, drawn_rows}
 use Rattle.kalah_run.specs.declared.batch.worker.Worker.{Worker}
@@ -50,7 +47,8 @@ use Rattle.kalah_run.specs.Desk.Rows.{drawn_numbers, DealsEachOnce, spent_in}
 use Rattle.kalah_run.specs.Queue.Lists.{Accounts}
 use Rattle.kalah_run.specs.declared.batch.shared_work.SharedWork.{SharedWork}
 use Rattle.kalah_run.proofs.DeskLemmas.{length-drawn_numbers}
-use Rattle.kalah_run.specs.declared.batch.size.Rest.TheVariants.{Solve}
+use Rattle.kalah_run.specs.declared.batch.request.Rest.{Rest}
+use Rattle.kalah_run.specs.declared.batch.request.Rest.TheVariants.{Solve}
 use Rattle.kalah_jobs.specs.declared.files.question.Question.{Question}
 use Rattle.kalah_jobs.proofs.WritingLemmas.JobOutput.{files_are_their_jobs}
 use Rattle.kalah_jobs.specs.Limits.{most_files, most_lines}
@@ -435,14 +433,14 @@ still_written files jobs past begun out later failed fails r keeps sound is = re
   };
 }
 
--- so it has still accepted what it had
-pub still_accepted : (past : List Job) (before after : OrderedOutput) (old out later : Option (List ℕ)) (had failed fails : Bool)
-    → Keeps out later
-    → (fails ≡ false → failed ≡ false) → AcceptsAll past before old had after out failed
-    → AcceptsAll past before old had after later fails
-still_accepted past before after old out later had failed fails keeps sound accepts files jobs begun so_far =
-    let now = accepts files jobs begun so_far in
-    (still_written files jobs past begun out later failed fails after keeps sound now.0, now.1)
+-- a new output has written nothing
+pub new_written : (begun : Option (List ℕ)) (failed : Bool) (r : OrderedOutput) → IsNew r
+    → HasWritten r.files.now r.jobs.now [] begun begun failed r
+new_written begun failed r new = record {
+  of_files = refl;
+  of_jobs = refl;
+  progress = rw new.0 (rw new.1 (progress_start (text_of r.files.now) r.jobs.now begun failed));
+}
 
 -- what a call that wrote all, or failed, did if it has not failed
 pub whole_where_sound : {A E : Type 0} (all : Type 0) (r : Result A E) (failed : Bool) → (IsErr r → failed ≡ true) → OnOk r all
@@ -457,29 +455,25 @@ ready_lines files = sum_by (λ (s : FileState). front s - s.taken) files
 -- ==== Workers put together from their passes, one after the other
 
 -- one worker more
-pub passes_more : (workers workers' : List Worker) (w : Worker) (yielded : List PassState) → workers' ≡ workers ++ w ∷ []
-    → passes_of workers ≡ yielded →
-    passes_of workers' ≡ yielded ++ w.pass ∷ []
-passes_more workers workers' w yielded is so_far =
-    ap (λ l. passes_of l) is ∙ map-append (λ (x : Worker). x.pass) workers (w ∷ []) ∙ ap (λ l. l ++ w.pass ∷ []) so_far
+pub passes_more : (workers workers' : List Worker) (w : Worker) (pass : PassState) (yielded : List PassState)
+    → workers' ≡ workers ++ w ∷ [] → w.pass ≡ pass → passes_of workers ≡ yielded → passes_of workers' ≡ yielded ++ pass ∷ []
+passes_more workers workers' w pass yielded is its so_far =
+    ap (λ l. passes_of l) is ∙ map-append (λ (x : Worker). x.pass) workers (w ∷ []) ∙ λ i. so_far i ++ its i ∷ []
 
-pub puts_more : (workers workers' : List Worker) (w : Worker) (waiting waiting' all : List PutState) → workers' ≡ workers ++ w ∷ []
-    → waiting ≡ w.put ∷ waiting' →
-    puts_of workers ++ waiting ≡ all → puts_of workers' ++ waiting' ≡ all
-puts_more workers workers' w waiting waiting' all is took so_far =
+pub puts_more : (workers workers' : List Worker) (w : Worker) (put : PutState) (waiting waiting' all : List PutState)
+    → workers' ≡ workers ++ w ∷ [] → w.put ≡ put → waiting ≡ put ∷ waiting'
+    → puts_of workers ++ waiting ≡ all → puts_of workers' ++ waiting' ≡ all
+puts_more workers workers' w put waiting waiting' all is its took so_far =
     ap (λ l. puts_of l ++ waiting') is
     ∙ ap (λ l. l ++ waiting') (map-append (λ (x : Worker). x.put) workers (w ∷ []))
     ∙ append_assoc (puts_of workers) (w.put ∷ []) waiting'
-    ∙ ap (λ l. puts_of workers ++ l) (sym took)
+    ∙ ap (λ l. puts_of workers ++ l) (ap (λ p. p ∷ waiting') its ∙ sym took)
     ∙ so_far
 
-pub tables_more : (workers workers' : List Worker) (w : Worker) (solver : Solver Global) (entries : ℕ)
-    → workers' ≡ workers ++ w ∷ []
-    → padded_value w.solver ≡ solver → solver.search.table ≡ empty_table entries →
-    HaveTables entries workers → HaveTables entries workers'
-tables_more workers workers' w solver entries is has_it empty so_far =
-    subst (λ l. HaveTables entries l) (sym is)
-    (All-push (HasTable entries) workers w so_far (ap (λ (s : Solver Global). s.search.table) has_it ∙ empty))
+pub tables_more : (workers workers' : List Worker) (w : Worker) (entries : ℕ) → workers' ≡ workers ++ w ∷ [] → HasTable entries w
+    → HaveTables entries workers → HaveTables entries workers'
+tables_more workers workers' w entries is has so_far =
+    subst (λ l. HaveTables entries l) (sym is) (All-push (HasTable entries) workers w so_far has)
 
 -- ==== The workers of a batch, from their passes to what was got of them
 
@@ -489,6 +483,12 @@ put_queue : (id : TableId) (n : ℕ) (puts : List PutState) (k : ℕ) (d : PutSt
 put_queue id n [] k d from within = absurd (omega arith)
 put_queue id n (p ∷ ps) zero d from within = from.0
 put_queue id n (p ∷ ps) (suc k) d from within = put_queue id (suc n) ps k d from.2 (omega arith)
+
+-- there are as many workers as passes
+pub as_many_workers : (workers : List Worker) (passes : List PassState) (count : ℕ) → passes_of workers ≡ passes → length passes ≡ count
+    → length workers ≡ count
+as_many_workers workers passes count are many =
+    sym (length-map workers (λ (w : Worker). w.pass)) ∙ ap (λ (l : List PassState). length l) are ∙ many
 
 -- workers of new passes are at work
 pub new_at_work : {G : Type 0} {knows : G → ℕ → Bool} (shared : SharedWork G) (workers : List Worker) (count : ℕ)
@@ -638,38 +638,30 @@ texts_are_output : (files : List NamedBytes) (jobs : List (List Entry))
 unfolding text_of
 texts_are_output files jobs = refl
 
--- what is known of an output, with the jobs of its files
-module _ (files : List NamedBytes) (jobs : List (List Entry)) (past : List Job) (begun out : Option (List ℕ)) (failed : Bool)
-    (r : OrderedOutput)
-    (so_far : HasWritten files jobs past begun out failed r) where
-  output_is : text_of_jobs (text_of files) r.jobs.now ≡ output_of_jobs (names_of files) jobs
-  output_is = ap (λ l. text_of_jobs (text_of files) l) so_far.of_jobs ∙ texts_are_output files jobs
-
-  -- each job was accepted once, and the output doesn't wait for a line: the sink was given all
-  pub all_given : AreJobsInSomeOrder jobs past → Waits r → WasGiven begun out failed (output_of_jobs (names_of files) jobs)
-  all_given each waits =
-      let once : AreJobsInSomeOrder r.jobs.now past = subst (λ l. AreJobsInSomeOrder l past) (sym so_far.of_jobs) each in
-      subst (λ l. WasGiven begun out failed l) output_is (progress_end so_far.progress once waits)
-
-  -- the sink has failed
-  pub failed_given : failed ≡ true → WasGiven begun out failed (output_of_jobs (names_of files) jobs)
-  failed_given broken = subst (λ l. WasGiven begun out failed l) output_is (progress_failed so_far.progress broken)
+-- What an output has written in the end, once it is flushed: all that is to be written, if each job was accepted once or the rest is left.
+pub given_whole : (rest : Rest) (output r : OrderedOutput) (past : List Job) (begun out later : Option (List ℕ)) (failed fails : Bool)
+    → Keeps out later → (fails ≡ false → failed ≡ false)
+    → HasWritten output.files.now output.jobs.now past begun out failed r × Waits r
+    → AreJobsInSomeOrder output.jobs.now past ⊎ IsLeft rest fails → WasGiven begun later fails (whole_output output)
+given_whole rest output r past begun out later failed fails keeps sound written known =
+    let files = output.files.now in
+    let so_far = still_written files output.jobs.now past begun out later failed fails r keeps sound written.0 in
+    let is : text_of_jobs (text_of files) r.jobs.now ≡ whole_output output =
+    ap (λ l. text_of_jobs (text_of files) l) so_far.of_jobs ∙ texts_are_output files output.jobs.now in
+    subst (λ l. WasGiven begun later fails l) is
+    (⊎_elim
+    (λ (each : AreJobsInSomeOrder output.jobs.now past). progress_end so_far.progress
+    (subst (λ l. AreJobsInSomeOrder l past) (sym so_far.of_jobs) each) written.1)
+    (λ (left : IsLeft rest fails). progress_failed so_far.progress left.1)
+    known)
 
 -- the output of the jobs of the files is that of the files
-pub given_output : (question : Question) (files : List NamedBytes) (jobs : List (List Entry)) (begun out : Option (List ℕ))
-    (failed : Bool) → jobs ≡ jobs_to question files
-    → WasGiven begun out failed (output_of_jobs (names_of files) jobs) → WasGiven begun out failed (output_to question files)
-given_output question files jobs begun out failed are given =
-    subst (λ l. WasGiven begun out failed l) (ap (output_of_jobs (names_of files)) are
-    ∙ sym (files_are_their_jobs.output question files)) given
-
--- a flush keeps what was appended
-pub appended_kept : (before between after : Option (List ℕ)) (bytes : List ℕ) → Appends before between bytes → Keeps between after
-    → Appends before after bytes
-appended_kept None between after bytes wrote kept = tt
-appended_kept (Some xs) None after bytes wrote kept = absurd wrote
-appended_kept (Some xs) (Some ys) None bytes wrote kept = absurd kept
-appended_kept (Some xs) (Some ys) (Some zs) bytes wrote kept = kept ∙ wrote
+pub given_output : (question : Question) (files : List NamedBytes) (r : OrderedOutput) (begun out : Option (List ℕ)) (failed : Bool)
+    → r.files.now ≡ files → r.jobs.now ≡ jobs_to question files
+    → WasGiven begun out failed (whole_output r) → WasGiven begun out failed (output_to question files)
+given_output question files r begun out failed of_files of_jobs given =
+    subst (λ l. WasGiven begun out failed l)
+    ((λ i. output_of_jobs (names_of (of_files i)) (of_jobs i)) ∙ sym (files_are_their_jobs.output question files)) given
 
 -- an empty list of jobs has no text
 pub no_texts : (text : ℕ → Taken → List ℕ) (f : ℕ) (jobs : List (List Entry)) → job_count jobs ≡ 0
@@ -679,13 +671,6 @@ no_texts text f ([] ∷ jobs) none = no_texts text (f + 1) jobs
     (let all = sum_by-cons (λ (es : List Entry). length es) [] jobs in omega (arith, all, none))
 no_texts text f ((e ∷ es) ∷ jobs) none =
     absurd (let all = sum_by-cons (λ (es : List Entry). length es) (e ∷ es) jobs in omega (arith, all, none))
-
--- with no job there is no output, and nothing was written
-pub given_no_output : (files : List NamedBytes) (jobs : List (List Entry)) (begun : Option (List ℕ)) (failed : Bool)
-    → job_count jobs ≡ 0
-    → WasGiven begun begun failed (output_of_jobs (names_of files) jobs)
-given_no_output files jobs begun failed none =
-    subst (λ l. WasGiven begun begun failed l) (sym (no_texts (answer_text_of (names_of files)) 0 jobs none)) (given_none begun failed)
 
 -- the lines and the faults that were counted are the tally of the files
 pub counted_tally : (question : Question) (files : List NamedBytes) (lines faults : ℕ)
@@ -718,7 +703,7 @@ appends_none (Some xs) None bytes none appends = absurd appends
 appends_none (Some xs) (Some ys) bytes none appends = appends ∙ (ap (λ l. xs ++ l) none ∙ append-nil xs)
 
 -- a prefix of nothing is nothing
-starts_none : (old new : Option (List ℕ)) (bytes : List ℕ) → bytes ≡ [] → AppendsStart old new bytes → Keeps old new
+pub starts_none : (old new : Option (List ℕ)) (bytes : List ℕ) → bytes ≡ [] → AppendsStart old new bytes → Keeps old new
 starts_none old new bytes none start = appends_none old new (take start.0 bytes) (ap (take start.0) none ∙ take_none start.0) start.1
 
 -- a fault that is neither of these two is one of the other three
@@ -734,6 +719,10 @@ module _ (question : Question) (files : List NamedBytes) (none : lines_in_all fi
   no_output =
       files_are_their_jobs.output question files
       ∙ no_texts (answer_text_of (names_of files)) 0 (jobs_to question files) (job_count-jobs_to question files ∙ none)
+
+  -- and nothing was written
+  pub given_no_output : (begun : Option (List ℕ)) (failed : Bool) → WasGiven begun begun failed (output_to question files)
+  given_no_output begun failed = subst (λ l. WasGiven begun begun failed l) (sym no_output) (given_none begun failed)
 
   no_tally : tally_of files ≡ record { lines = 0; faults = 0 }
   no_tally =

@@ -19,7 +19,7 @@ use Rattle.kalah_run.specs.contracts.desk.Desk as Desk
 use Rattle.kalah_run.specs.contracts.queue.ResultsQueue as ResultsQueue
 use Rattle.kalah_run.specs.contracts.batch.shared_work.SharedWork as SharedWork
 use Rattle.kalah_run.specs.contracts.queue.rule.Tagged as Tagged
-use Rattle.kalah_run.specs.contracts.batch.worker.Crew as Crew
+use Rattle.kalah_run.specs.contracts.batch.crew.Crew as Crew
 use Rattle.kalah_run.specs.contracts.batch.worker.Worker as Worker
 
 -- a seat at a table may be handed over

@@ -10,8 +10,8 @@ mod tests;
 
 pub use batch::gate::{Gate, OpenGate};
 pub use batch::laws::no_line_is_answered;
+pub use batch::request::{BatchRequest, Rest};
 pub use batch::run_fault::RunFault;
-pub use batch::size::{BatchSize, Rest};
 pub use batch::watch::{NoWatch, Watch};
 pub use batch::{Tally, answer_batch, solve_batch};
 pub use desk::laws::desk_is_lawful;

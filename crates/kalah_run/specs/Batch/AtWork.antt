@@ -6,7 +6,7 @@ use Rattle.kalah_jobs.specs.declared.files.job.Job.{Job}
 use Rattle.kalah_jobs.specs.Collecting.Batch.{job}
 use Rattle.kalah_run.specs.Desk.States.{PassState, IsPassAt}
 use Rattle.kalah_run.specs.Queue.States.{PutState}
-use Rattle.kalah_run.specs.declared.batch.size.Rest.TheVariants.{Solve}
+use Rattle.kalah_run.specs.declared.batch.request.Rest.TheVariants.{Solve}
 use Rattle.kalah_run.specs.declared.batch.shared_work.SharedWork.{SharedWork}
 use Rattle.kalah_run.specs.declared.batch.worker.Worker.{Worker}
 

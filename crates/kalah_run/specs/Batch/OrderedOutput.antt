@@ -1,12 +1,21 @@
 -- What is known of the output of a batch.
-use Rattle.std.specs.Prelude.{◌≡◌, ℕ, ◌<◌, List, [], Option, Bool, length, map}
+use Rattle.std.specs.Prelude.{◌≡◌, ℕ, ◌<◌, List, Option, Bool, length, map}
 use Rattle.kalah_jobs.specs.declared.files.entry.Entry.{Entry}
 use Rattle.kalah_jobs.specs.declared.files.job.Job.{Job}
 use Rattle.kalah_jobs.specs.Files.NamedBytes.{NamedBytes}
-use Rattle.kalah_jobs.specs.Collecting.CollectorState.{state_of, HasEnded}
+use Rattle.kalah_jobs.specs.Collecting.CollectorState.{state_of, new_files, HasEnded}
+use Rattle.kalah_jobs.specs.Writing.Output.{names_of, output_of_jobs}
 use Rattle.kalah_run.specs.Batch.UnderWay.{IsUnderWay}
 use Rattle.kalah_run.specs.Batch.Texts.{text_of}
 use Rattle.kalah_run.specs.declared.batch.ordered_output.OrderedOutput.{OrderedOutput}
+
+-- nothing has come, and nothing is written
+abbrev pub IsNew : OrderedOutput → Type 0
+IsNew r = (r.collector ≡ new_files r.jobs.now) × (r.current ≡ 0)
+
+-- what is written of it in the end
+abbrev pub whole_output : OrderedOutput → List ℕ
+whole_output r = output_of_jobs (names_of r.files.now) r.jobs.now
 
 -- With these outcomes accepted, the output of these files and their jobs has written what is ready of them, in order, after what
 -- the sink had when it began.
@@ -31,9 +40,3 @@ abbrev pub WritesReady : OrderedOutput → Option (List ℕ) → Bool → Ordere
 WritesReady r out failed after more fails = (files : List NamedBytes) → (jobs : List (List Entry)) → (past : List Job) →
     (begun : Option (List ℕ))
     → HasWritten files jobs past begun out failed r → HasWritten files jobs past begun more fails after × Waits after
-
--- It accepts the first outcomes, and all of them.
-abbrev pub AcceptsAll : List Job → OrderedOutput → Option (List ℕ) → Bool → OrderedOutput → Option (List ℕ)
-    → Bool → Type 0
-AcceptsAll all r out failed after more fails = (files : List NamedBytes) → (jobs : List (List Entry)) → (begun : Option (List ℕ))
-    → HasWritten files jobs [] begun out failed r → HasWritten files jobs all begun more fails after × Waits after

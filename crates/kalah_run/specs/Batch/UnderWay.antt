@@ -10,8 +10,8 @@ use Rattle.kalah_jobs.specs.Collecting.CollectorState.{FileState, state_of, line
 use Rattle.kalah_jobs.specs.Collecting.Held.{HoldsOffered}
 use Rattle.kalah_jobs.specs.Writing.Output.{text_of_line, text_of_file}
 use Rattle.kalah_jobs.specs.Writing.Given.{AppendsStart}
-use Rattle.kalah_run.specs.declared.batch.size.Rest.{Rest}
-use Rattle.kalah_run.specs.declared.batch.size.Rest.TheVariants.{Leave}
+use Rattle.kalah_run.specs.declared.batch.request.Rest.{Rest}
+use Rattle.kalah_run.specs.declared.batch.request.Rest.TheVariants.{Leave}
 
 -- the rest is left, as the output has failed
 abbrev pub IsLeft : Rest → Bool → Type 0

@@ -1,35 +1,46 @@
-//! A batch as it is opened: its workers, with their desk and queue.
-ghost use Rattle.std.specs.Prelude.{◌≡◌, ◌≤◌, [], length, vec_len, vec_capacity, IfOk};
+//! A batch that is opened, run and closed.
+ghost use Rattle.std.specs.Prelude.{◌≡◌, ◌≤◌, ℕ, ◌<◌, [], length, vec_len, vec_capacity, true, IfErr, IfOk, OnErr, OnOk};
+ghost use Rattle.kalah_jobs.specs.Files.Jobs.{job_count};
+ghost use Rattle.kalah_run.specs.Limits.{IsTableSize};
 ghost use Rattle.kalah_run.specs.Batch.AtWork.{passes_of, puts_of};
-ghost use Rattle.kalah_run.specs.Batch.OpenBatch.{IsReadyToRun, HaveTables};
+ghost use Rattle.kalah_run.specs.Batch.OpenBatch.{IsAsAsked, IsReadyToRun, HaveTables};
+ghost use Rattle.kalah_run.specs.Batch.OrderedOutput.{whole_output};
+ghost use Rattle.kalah_run.specs.Batch.UnderWay.{WasGiven};
+ghost use Rattle.kalah_run.specs.declared.batch.request.Rest.TheVariants.{Solve};
 
+use crate::batch::crew::{Crew, Ended};
 use crate::batch::gate::Gate;
+use crate::batch::ordered_output::OrderedOutput;
+use crate::batch::receiver::Receiver;
+use crate::batch::request::BatchRequest;
+use crate::batch::run_fault::RunFault;
+use crate::batch::running::run_and_write;
 use crate::batch::shared_work::SharedWork;
-use crate::batch::size::{BatchSize, Rest};
+use crate::batch::watch::Watch;
 use crate::batch::worker::Worker;
 use crate::desk::Desk;
 use crate::desk::pass::Pass;
 use crate::limits::QUEUE_PLACES;
 use crate::queue::ResultsQueue;
 use crate::queue::passes::{GetPass, PutPass};
-use crossbeam_utils::CachePadded;
-use kalah_jobs::Jobs;
-use kalah_solve::{Solver, Table};
+use kalah_jobs::{Jobs, Sink};
 use std::alloc::{AllocError, Global};
-use std::sync::atomic::AtomicBool;
+use std::sync::Wait;
+use std::sync::atomic::{AtomicBool, AtomicIn};
+use std::thread::Threads;
 
-// Makes a worker for each pair of passes, in their order, each with a solver and a table of its own. All share what they learn of
-// endings.
+// Makes a worker for each pair of passes, in their order. All share what they learn of endings.
 fn put_together(
     alloc: Global,
     passes: Vec<Pass>,
     puts: Vec<PutPass>,
-    size: BatchSize,
+    entries: u32,
 ) -> Result<Vec<Worker>, AllocError>
     requires as_many { length passes.items ≡ length puts.items }
+    requires table { IsTableSize entries }
     ensures passes { IfOk result (λ workers. passes_of workers.items ≡ passes.items) }
     ensures puts { IfOk result (λ workers. puts_of workers.items ≡ puts.items) }
-    ensures tables { IfOk result (λ workers. HaveTables size.table workers.items) }
+    ensures tables { IfOk result (λ workers. HaveTables entries workers.items) }
 {
     let mut workers: Vec<Worker> = Vec::with_capacity(alloc, passes.len())?;
     let mut puts = puts.into_iter();
@@ -37,21 +48,14 @@ fn put_together(
         let Some(put) = puts.next() else {
             unreachable!()
         };
-        let solver = match workers.last() {
-            Some(worker) => worker.solver.sharing_endings(alloc, size.table)?,
-            None => Solver::new(Table::new(alloc, size.table)?),
-        };
-        workers.push(Worker {
-            pass,
-            put,
-            solver: CachePadded::new(solver),
-        })?;
+        let worker = Worker::new(alloc, pass, put, entries, workers.last())?;
+        workers.push(worker)?;
     }
     Ok(workers)
 }
 
-/// Moves the passes of the workers, in their order, into two lists that have room for them.
-pub(crate) fn take_apart(
+// Moves the passes of the workers, in their order, into two lists that have room for them.
+fn take_apart(
     workers: Vec<Worker>,
     mut passes: Vec<Pass>,
     mut puts: Vec<PutPass>,
@@ -63,26 +67,22 @@ pub(crate) fn take_apart(
     ensures puts { result.1.items ≡ puts_of workers.items }
 {
     for worker in workers {
-        let Worker {
-            pass,
-            put,
-            solver: _,
-        } = worker;
-        passes.push_reserved(pass);
-        puts.push_reserved(put);
+        passes.push_reserved(worker.pass);
+        puts.push_reserved(worker.put);
     }
     (passes, puts)
 }
 
-/// A batch that is open: what its workers share, the workers, and the pass to get what they send. Two lists have room for the return of
-/// their passes.
+/// A batch that is open: what its workers share, the workers, the pass to get what they send, and what is written of it. Two lists have
+/// room for the return of the workers' passes.
 #[derive(Drop)]
 pub(crate) struct OpenBatch<'a, G> {
-    pub(crate) shared: SharedWork<'a, G>,
-    pub(crate) workers: Vec<Worker>,
-    pub(crate) get: GetPass,
-    pub(crate) passes: Vec<Pass>,
-    pub(crate) puts: Vec<PutPass>,
+    shared: SharedWork<'a, G>,
+    workers: Vec<Worker>,
+    get: GetPass,
+    output: OrderedOutput<'a>,
+    passes: Vec<Pass>,
+    puts: Vec<PutPass>,
 }
 
 impl<'a, G: Gate> OpenBatch<'a, G> {
@@ -90,18 +90,20 @@ impl<'a, G: Gate> OpenBatch<'a, G> {
     /// allocated here. Fails with `AllocError` only if memory was refused.
     pub(crate) fn open(
         alloc: Global,
+        request: &BatchRequest<'a>,
         jobs: &'a Jobs,
-        size: BatchSize,
-        rest: Rest,
         gate: &'a G,
     ) -> Result<OpenBatch<'a, G>, AllocError>
-        ensures { IfOk result (IsReadyToRun G.knows jobs.now size rest gate.now) }
+        requires { length jobs.now ≡ length request.now.files.now }
+        ensures asked { IfOk result (IsAsAsked request.now jobs.now gate.now) }
+        ensures ready { IfOk result (IsReadyToRun G.knows) }
     {
+        let output = OrderedOutput::new(alloc, request.files, jobs)?;
         let total = jobs.total();
-        let count = size.workers.min(total).max(1);
+        let count = request.workers.min(total).max(1);
         let (desk, passes) = Desk::open(alloc, total, count)?;
         let (queue, puts, get) = ResultsQueue::open(alloc, QUEUE_PLACES, count)?;
-        let workers = put_together(alloc, passes, puts, size)?;
+        let workers = put_together(alloc, passes, puts, request.table)?;
         let passes = Vec::with_capacity(alloc, count as usize)?;
         let puts = Vec::with_capacity(alloc, count as usize)?;
         Ok(OpenBatch {
@@ -110,13 +112,53 @@ impl<'a, G: Gate> OpenBatch<'a, G> {
                 queue,
                 jobs,
                 gate,
-                rest,
+                rest: request.rest,
                 is_stopped: AtomicBool::new(false),
             },
             workers,
             get,
+            output,
             passes,
             puts,
         })
+    }
+
+    /// Answers the jobs: runs the workers, and writes each answer line once it is ready and all earlier ones are written. Then it closes
+    /// the batch. Fails with `NoWorker` if no thread could be started; then nothing is written.
+    pub(crate) fn run<R: Threads + Wait + Sync, V: Watch, W: Sink>(
+        self,
+        rt: &R,
+        watch: &mut V,
+        out: &mut W,
+    ) -> Result<(), RunFault>
+        requires { IsReadyToRun G.knows self }
+        ensures given { OnOk result (WasGiven (W.written out.old) (W.written out.new) (W.has_failed out.new)
+            (whole_output self.entry.output)) }
+        ensures fault { IfErr result (λ e. e ≡ RunFault.NoWorker) }
+        ensures untouched { OnErr result (out.new ≡ out.old) }
+        ensures solved { self.entry.shared.rest ≡ Solve → OnOk result ((job : ℕ) → job < job_count self.entry.shared.jobs.now
+            → G.knows self.entry.shared.gate.now job ≡ true) }
+    {
+        let OpenBatch {
+            shared,
+            workers,
+            get,
+            output,
+            passes,
+            puts,
+        } = self;
+        let ended = AtomicIn::<Ended>::new(0);
+        let crew = Crew {
+            shared: &shared,
+            workers,
+            ended: &ended,
+        };
+        let receiver = Receiver::new(get, &ended);
+        let (workers, get) = run_and_write(rt, crew, receiver, output, watch, out)?;
+        let (passes, puts) = take_apart(workers, passes, puts);
+        let SharedWork { desk, queue, .. } = shared;
+        desk.close(passes);
+        queue.close(rt, puts, get);
+        Ok(())
     }
 }

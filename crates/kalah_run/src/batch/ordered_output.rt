@@ -1,5 +1,5 @@
 //! The answers of a batch, written in the order of its lines.
-ghost use Rattle.std.specs.Prelude.{◌≡◌, [], ℕ, List, Option, Bool, length, IfOk};
+ghost use Rattle.std.specs.Prelude.{◌≡◌, length, IfOk};
 ghost use Rattle.kalah_jobs.specs.Collecting.CollectorState.{HasLinesOf};
 
 use kalah_jobs::{Collector, FileText, Jobs, Sink, write_answer};
@@ -18,7 +18,7 @@ pub(crate) struct OrderedOutput<'a> {
 }
 
 impl<'a> OrderedOutput<'a> {
-    ghost use Rattle.kalah_run.specs.Batch.OrderedOutput.{HasWritten, WritesReady};
+    ghost use Rattle.kalah_run.specs.Batch.OrderedOutput.{IsNew, WritesReady};
 
     /// Makes the output of these files, with no outcome yet. It allocates all its memory here.
     pub(crate) fn new(
@@ -27,7 +27,8 @@ impl<'a> OrderedOutput<'a> {
         jobs: &'a Jobs,
     ) -> Result<OrderedOutput<'a>, AllocError>
         requires { length jobs.now ≡ length files.now }
-        ensures { IfOk result (λ r. (begun : Option (List ℕ)) → (failed : Bool) → HasWritten files.now jobs.now [] begun begun failed r) }
+        ensures of { IfOk result (λ r. (r.files.now ≡ files.now) × (r.jobs.now ≡ jobs.now)) }
+        ensures new { IfOk result IsNew }
     {
         let collector = Collector::new(alloc, jobs)?;
         Ok(OrderedOutput {

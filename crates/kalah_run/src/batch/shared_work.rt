@@ -3,7 +3,7 @@ ghost use Rattle.std.specs.Prelude.{◌≡◌};
 ghost use Rattle.kalah_jobs.specs.Files.Jobs.{job_count};
 
 use crate::batch::gate::Gate;
-use crate::batch::size::Rest;
+use crate::batch::request::Rest;
 use crate::desk::Desk;
 use crate::queue::ResultsQueue;
 use kalah_jobs::Jobs;
@@ -26,7 +26,7 @@ pub(crate) struct SharedWork<'a, G> {
 impl<'a, G: Gate> SharedWork<'a, G> {
     ghost use Rattle.std.specs.Prelude.{◌≡◌, ◌↔◌, true};
     ghost use Rattle.kalah_run.specs.Batch.UnderWay.{IsLeft};
-    ghost use Rattle.kalah_run.specs.declared.batch.size.Rest.TheVariants.{Solve};
+    ghost use Rattle.kalah_run.specs.declared.batch.request.Rest.TheVariants.{Solve};
 
     /// Returns whether a worker may begin a further job.
     pub(crate) fn goes_on(&self) -> bool

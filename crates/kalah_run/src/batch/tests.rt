@@ -5,7 +5,7 @@ mod out_of_memory;
 mod told;
 mod writers;
 
-use crate::{BatchSize, Gate, NoWatch, OpenGate, Rest, RunFault, Tally, answer_batch, solve_batch};
+use crate::{Gate, OpenGate, RunFault, Tally, solve_batch};
 use kalah_jobs::{FileText, Question, Sink, Stream};
 use std::alloc::{AllocError, Global};
 use std::process::Abort;

@@ -1,7 +1,7 @@
 //! Batches in which workers wait for one another: jobs are solved in parallel, drawn by any free worker, and written
 //! while later ones are under way. The watch learns of an answer once it is written.
 use super::{ONE_AND_TWO, answers, file_of, lines_are_answered};
-use crate::{BatchSize, Gate, Rest, Tally, Watch, answer_batch};
+use crate::{BatchRequest, Gate, Rest, Tally, Watch, answer_batch};
 use kalah_jobs::{FileText, Question, Stream};
 use std::alloc::Global;
 use std::io::Write;
@@ -195,25 +195,18 @@ fn a_line_is_written_before_the_next_job_begins(rt: HostRuntime) {
         lines: 2,
         faults: 0,
     };
-    let size = BatchSize {
+    let request = BatchRequest {
+        question: Question::BestMove,
+        files: &files,
         workers: 1,
         table: 16,
+        rest: Rest::Solve,
     };
     let mut watch = Following {
         written: &written,
         accepted: 0,
     };
-    let answered = answer_batch(
-        &rt,
-        rt.alloc(),
-        Question::BestMove,
-        &files,
-        size,
-        Rest::Solve,
-        &gate,
-        &mut watch,
-        &mut out,
-    );
+    let answered = answer_batch(&rt, rt.alloc(), &request, &gate, &mut watch, &mut out);
     assert!(rt; answered == Ok(tally) && watch.accepted == 2);
     assert!(rt; out.into_inner().bytes.as_slice() == TWO.as_bytes());
     assert!(rt; written.came());

@@ -2,7 +2,7 @@
 use super::told::{ROOM, wait_for_begun};
 use super::{ANSWERS, Counting, SEVEN_LINES, four_files, same_lines};
 use crate::limits::QUEUE_PLACES;
-use crate::{BatchSize, NoWatch, Rest, RunFault, Tally, answer_batch};
+use crate::{BatchRequest, NoWatch, Rest, RunFault, Tally, answer_batch};
 use kalah_jobs::{FileText, Question, Stream};
 use std::alloc::Global;
 use std::io;
@@ -56,14 +56,14 @@ fn run_with<R: Threads + Wait + Sync>(
         calls: 0,
         most,
     });
-    let size = BatchSize {
+    let request = BatchRequest {
+        question,
+        files,
         workers: 2,
         table: 16,
+        rest,
     };
-    let watch = &mut NoWatch;
-    let tally = answer_batch(
-        rt, alloc, question, files, size, rest, &gate, watch, &mut out,
-    );
+    let tally = answer_batch(rt, alloc, &request, &gate, &mut NoWatch, &mut out);
     Run {
         tally,
         writer: out.into_inner(),
@@ -163,17 +163,14 @@ fn a_batch_ends_though_its_workers_wait_for_room(rt: HostRuntime) {
             gate: &gate,
             workers,
         });
-        let tally = answer_batch(
-            &rt,
-            rt.alloc(),
-            Question::BestMove,
-            &files,
-            BatchSize { workers, table: 16 },
-            Rest::Leave,
-            &gate,
-            &mut NoWatch,
-            &mut out,
-        );
+        let request = BatchRequest {
+            question: Question::BestMove,
+            files: &files,
+            workers,
+            table: 16,
+            rest: Rest::Leave,
+        };
+        let tally = answer_batch(&rt, rt.alloc(), &request, &gate, &mut NoWatch, &mut out);
         assert!(rt; tally == Err(RunFault::Write));
         let (begun, sent) = (gate.begun.load(SeqCst), gate.sent.load(SeqCst));
         assert!(rt;

@@ -9,5 +9,5 @@ invariant-loop-pass l = record {
   order : l.yielded ++ into_iter_items l.pass-iterator ≡ l.fn.passes.items;
   passes : passes_of l.workers.items ≡ l.yielded;
   puts : puts_of l.workers.items ++ into_iter_items l.puts ≡ l.fn.puts.items;
-  tables : HaveTables l.fn.size.table l.workers.items;
+  tables : HaveTables l.fn.entries l.workers.items;
 }

@@ -1,10 +1,10 @@
-use Rattle.std.proofs.Common.{◌≡◌, ◌∷◌, [], ℕ, List, length, false, refl, sym, ap, subst, ◌∙◌, arith, rules}
+use Rattle.std.proofs.Common.{◌≡◌, ◌∷◌, [], ℕ, List, inl, inr, length, false, refl, sym, ap, subst, ◌∙◌, arith, rules}
 use Rattle.std.specs.Io.KnownBytes.{Keeps}
 use Rattle.std.proofs.lemmas.List.{map-append, length-append}
 use Rattle.kalah_jobs.specs.declared.files.job.Job.{Job}
 use Rattle.kalah_run.specs.Queue.States.{GetState, HasGot}
-use Rattle.kalah_run.specs.Batch.OrderedOutput.{AcceptsAll, HasWritten, Waits, outcomes_in}
-use Rattle.kalah_run.proofs.BatchLemmas.{still_written, still_accepted, progress_offered}
+use Rattle.kalah_run.specs.Batch.OrderedOutput.{HasWritten, Waits, outcomes_in}
+use Rattle.kalah_run.proofs.BatchLemmas.{given_whole, new_written, progress_offered, still_written}
 use Rattle.kalah_run.proofs.batch.running.collect.Given as given
 use Rattle.kalah_run.proofs.batch.running.collect.Goals as goal
 use Rattle.kalah_run.proofs.batch.running.collect.Goals.{in-Some, in-None+in-Some-flush_and_get}
@@ -15,15 +15,11 @@ loop-init g c = record {
   workers = refl;
   all = ap (λ (l : List (ℕ × Job)). length l) c.requires.first;
   few_tries = omega arith;
-  progress = λ files jobs begun so_far.
-      subst (λ (l : List (ℕ × Job)). HasWritten files jobs (outcomes_in l) begun (g.W.Sink.written c.write.new.out)
-      (g.W.Sink.has_failed c.write.new.out)
-      c.write.new.self × Waits c.write.new.self)
-      (sym c.requires.first) (c.write.ensures files jobs [] begun so_far);
+  progress = rw c.requires.first (c.write.ensures _ _ [] _ (new_written _ _ _ c.requires.new));
 }
 
 -- an outcome was got
-got : (g : given.Over) (c : goal.After-accepts g) → HasGot c.loop.get c.match-get_soon.outcome c.match-get_soon.get
+got : (g : given.Over) (c : goal.After-accepts g) → HasGot c.loop.receiver.pass c.match-get_soon.outcome c.match-get_soon.receiver.pass
 got g c = elim c.match-get_soon.branch [
   | in-Some w ↦ search rules
   | in-None+in-Some-flush_and_get w ↦ search rules
@@ -53,31 +49,40 @@ loop-preserved g c =
     record {
       queue = ap (λ (p : GetState). p.queue) is ∙ c.loop.invariant.queue;
       workers = ap (λ (p : GetState). p.workers) is ∙ c.loop.invariant.workers;
-      all = ap (λ (l : List (ℕ × Job)). length l) more ∙ length-append c.loop.get.got ((worker, outcome) ∷ [])
+      all = ap (λ (l : List (ℕ × Job)). length l) more ∙ length-append c.loop.receiver.pass.got ((worker, outcome) ∷ [])
           ∙ omega (arith, c.loop.invariant.all);
       few_tries = search rules;
-      progress = λ files jobs begun so_far.
-          subst (λ (l : List Job). HasWritten files jobs l begun (g.W.Sink.written c.write-in-loop.new.out)
-          (g.W.Sink.has_failed c.write-in-loop.new.out) c.write-in-loop.new.self × Waits c.write-in-loop.new.self)
+      progress =
+          subst (λ (l : List Job). HasWritten c.args.output.files.now c.args.output.jobs.now l (g.W.Sink.written c.args.out.now)
+          (g.W.Sink.written c.write-in-loop.new.out) (g.W.Sink.has_failed c.write-in-loop.new.out) c.write-in-loop.new.self
+          × Waits c.write-in-loop.new.self)
           (sym (ap (λ (l : List (ℕ × Job)). outcomes_in l) more
-          ∙ map-append (λ (p : ℕ × Job). p.1) c.loop.get.got ((worker, outcome) ∷ [])))
-          (let so_far = still_written files jobs _ begun _ _ _ _ _ (keeps g c) (sound g c)
-          (c.loop.invariant.progress files jobs begun so_far).0 in
-          c.write-in-loop.ensures files jobs _ begun (record {
+          ∙ map-append (λ (p : ℕ × Job). p.1) c.loop.receiver.pass.got ((worker, outcome) ∷ [])))
+          (let so_far = still_written _ _ _ _ _ _ _ _ _ (keeps g c) (sound g c) c.loop.invariant.progress.0 in
+          c.write-in-loop.ensures _ _ _ _ (record {
             of_files = so_far.of_files;
             of_jobs = so_far.of_jobs;
             progress = progress_offered so_far.progress outcome c.offer.new.self c.offer.result c.offer.ensures.offers;
           }));
     }
 
-pub returns-in-None-flush_and_get-clause-progress : goal.returns-in-None-flush_and_get-clause-progress
-returns-in-None-flush_and_get-clause-progress g c =
-    subst (λ (p : GetState). AcceptsAll (outcomes_in p.got) c.args.ordered.now (g.W.Sink.written c.args.out.now)
-    (g.W.Sink.has_failed c.args.out.now)
-    c.loop.ordered (g.W.Sink.written c.flush_and_get.new.out) (g.W.Sink.has_failed c.flush_and_get.new.out))
-    (sym (c.in-None-flush_and_get.ensures.got ∙ c.in-None.ensures.pass))
-    (still_accepted _ _ _ _ _ _ _ _ _ c.flush_and_get.ensures.keeps c.flush_and_get.ensures.sound c.loop.invariant.progress)
+pub returns-in-None-flush_and_get-clause-collected : goal.returns-in-None-flush_and_get-clause-collected
+returns-in-None-flush_and_get-clause-collected g c =
+    let flushed = c.flush_and_get.ensures in
+    let left = c.in-None-flush_and_get.ensures in
+    rw (c.into_pass.ensures ∙ left.got ∙ c.in-None.ensures.got) (record {
+      queue = c.loop.invariant.queue;
+      workers = c.loop.invariant.workers;
+      all_got = inr left.left;
+      given = given_whole _ c.args.output _ _ _ _ _ _ _ flushed.keeps flushed.sound c.loop.invariant.progress;
+    })
 
-pub returns-then-not-failed-clause-progress : goal.returns-then-not-failed-clause-progress
-returns-then-not-failed-clause-progress g c =
-    still_accepted _ _ _ _ _ _ _ _ _ c.before_waiting.ensures.keeps (λ sound. search rules) c.loop.invariant.progress
+pub returns-clause-collected : goal.returns-clause-collected
+returns-clause-collected g c =
+    let flushed = c.flush_to_wait.ensures in
+    rw c.into_pass-2.ensures (record {
+      queue = c.loop.invariant.queue;
+      workers = c.loop.invariant.workers;
+      all_got = inl (omega (arith, c.loop.invariant.all, c.loop-test.false, c.total-total.ensures.lines));
+      given = given_whole _ c.args.output _ _ _ _ _ _ _ flushed.keeps flushed.sound c.loop.invariant.progress;
+    })

@@ -1,14 +1,14 @@
 use Rattle.std.proofs.Common.{◌≡◌, ◌≤◌, length}
 use Rattle.kalah_run.specs.declared.limits.TheConstants.{MOST_TRIES}
-use Rattle.kalah_run.specs.Batch.OrderedOutput.{AcceptsAll, outcomes_in}
+use Rattle.kalah_run.specs.Batch.OrderedOutput.{HasWritten, Waits, outcomes_in}
 use Rattle.kalah_run.proofs.batch.running.collect.Given as goal
 
 abbrev pub invariant-loop : goal.invariant-loop
 invariant-loop g l = record {
-  queue : l.get.queue ≡ l.fn.get.queue;
-  workers : l.get.workers ≡ l.fn.get.workers;
-  all : length l.get.got ≡ l.counter;
+  queue : l.receiver.pass.queue ≡ l.fn.receiver.pass.queue;
+  workers : l.receiver.pass.workers ≡ l.fn.receiver.pass.workers;
+  all : length l.receiver.pass.got ≡ l.counter;
   few_tries : l.tries ≤ MOST_TRIES;
-  progress : AcceptsAll (outcomes_in l.get.got) l.fn.ordered (g.W.Sink.written l.fn.out) (g.W.Sink.has_failed l.fn.out)
-      l.ordered (g.W.Sink.written l.out) (g.W.Sink.has_failed l.out);
+  progress : HasWritten l.fn.output.files.now l.fn.output.jobs.now (outcomes_in l.receiver.pass.got) (g.W.Sink.written l.fn.out)
+      (g.W.Sink.written l.out) (g.W.Sink.has_failed l.out) l.output × Waits l.output;
 }

@@ -1,29 +1,33 @@
-use Rattle.std.proofs.Common.{◌≡◌, ◌≤◌, List, [], length, refl, sym, ap, ◌∙◌, subst, arith}
+use Rattle.std.proofs.Common.{◌≡◌, ◌≤◌, List, [], refl, sym, ap, ◌∙◌, subst, arith}
 use Rattle.std.specs.Prelude.{All, vec_capacity}
-use Rattle.std.proofs.lemmas.List.{length-map}
 use Rattle.kalah_run.specs.Desk.States.{PassState, AreNewPasses}
 use Rattle.kalah_run.specs.Queue.States.{GetState, PutState, ArePassesFrom}
 use Rattle.kalah_run.specs.declared.batch.worker.Worker.{Worker}
-use Rattle.kalah_run.proofs.BatchLemmas.{new_at_work}
+use Rattle.kalah_run.proofs.BatchLemmas.{as_many_workers, new_at_work}
 use Rattle.kalah_run.proofs.batch.open_batch.OpenBatch.open.Goals as goal
 
-pub returns : goal.returns
-returns g c =
+pub returns-clause-asked : goal.returns-clause-asked
+returns-clause-asked g c = record {
+  workers = omega (arith, as_many_workers _ _ _ c.in_ok-workers.ensures.passes c.in_ok-desk.ensures.passes.0, c.max-count.ensures, c.min.ensures, c.total-total.ensures.lines);
+  tables = c.in_ok-workers.ensures.tables;
+  of_files = c.in_ok-output.ensures.of.0;
+  of_jobs = refl;
+  of_rest = refl;
+  of_gate = refl;
+  queue = c.in_ok-queue.ensures.queue;
+}
+
+pub returns-clause-ready : goal.returns-clause-ready
+returns-clause-ready g c =
     let workers : List Worker = c.in_ok-workers.workers.items in
     let are = c.in_ok-workers.ensures in
     let desk = c.in_ok-desk.ensures in
     let queue = c.in_ok-queue.queue.id in
     let opened = c.in_ok-queue.ensures.puts in
-    let count : length workers ≡ c.max-count.result =
-    sym (length-map workers (λ (w : Worker). w.pass)) ∙ ap (λ (l : List PassState). length l) are.passes ∙ desk.passes.0 in
+    let count = as_many_workers _ _ _ are.passes desk.passes.0 in
     let puts = subst (λ (l : List PutState). ArePassesFrom queue 0 l) (sym are.puts) opened.1 in
     record {
-      workers = omega (arith, count, c.max-count.ensures, c.min.ensures, c.total-total.ensures.lines);
-      tables = are.tables;
-      of_jobs = refl;
-      of_rest = refl;
-      of_gate = refl;
-      queue = c.in_ok-queue.ensures.queue;
+      some = omega (arith, count, c.max-count.ensures);
       passes = count ∙ sym desk.desk.1;
       at_work = new_at_work _ workers c.max-count.result
           (subst (λ (l : List PassState). AreNewPasses c.in_ok-desk.desk c.max-count.result l) (sym are.passes) desk.passes) puts
@@ -31,6 +35,8 @@ returns g c =
       puts = puts;
       get = c.in_ok-queue.ensures.get
           ∙ ap (λ n. let p : GetState = record { queue = queue; workers = n; got = [] } in p) (sym count);
+      output = c.in_ok-output.ensures.new;
+      jobs = c.in_ok-output.ensures.of.1;
       room = record {
         empty = (c.in_ok-passes.ensures.items, c.in_ok-puts.ensures.items);
         passes = subst (λ n. n ≤ vec_capacity c.in_ok-passes.passes) (sym count) c.in_ok-passes.ensures.capacity;

@@ -13,13 +13,7 @@ spawn_with-started-requires-send-T g c κs within = search (sendable, crosses, w
 pub returns : goal.returns
 returns g c = record {
   names = (refl, refl);
-  ended = record {
-    all_ran = search rules;
-    queue = c.collect.ensures.same.0;
-    as_many = c.collect.ensures.same.1;
-    all_got = c.collect.ensures.all;
-    progress = c.collect.ensures.progress;
-  };
+  ended = record { all_ran = search rules; collected = c.collect-get.ensures.collected };
   fault = tt;
   untouched = tt;
 }

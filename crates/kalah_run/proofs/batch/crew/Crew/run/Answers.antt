@@ -1,7 +1,7 @@
 use denote.Param.Send.{sendable}
 use Rattle.std.proofs.Common.{rules}
 use Rattle.kalah_run.proofs.Crossing.{worker_send}
-use Rattle.kalah_run.proofs.batch.worker.Crew.run.Goals as goal
+use Rattle.kalah_run.proofs.batch.crew.Crew.run.Goals as goal
 
 pub for_each_mut-requires-send-T : goal.for_each_mut-requires-send-T
 for_each_mut-requires-send-T g c κs within = search (sendable, worker_send)

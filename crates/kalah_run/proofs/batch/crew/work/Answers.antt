@@ -1,0 +1,35 @@
+use Rattle.std.proofs.Common.{◌≡◌, ℕ, ◌∷◌, ◌++◌, [], true, rules, sym, ap, ◌∙◌, subst}
+use Rattle.std.specs.Prelude.{All}
+use Rattle.kalah_run.specs.declared.desk.rule.DrawnRow.{DrawnRow}
+use Rattle.kalah_run.specs.Desk.States.{PassState}
+use Rattle.kalah_run.specs.Queue.States.{PutState}
+use Rattle.kalah_run.proofs.QueueLemmas.{all_and_one}
+use Rattle.kalah_run.proofs.BatchLemmas.{drawn_jobs-more, less_left}
+use Rattle.kalah_run.proofs.batch.crew.work.Goals as goal
+
+-- with no job in hand, all that was drawn is sent
+pub loop-worker-preserved : goal.loop-worker-preserved
+loop-worker-preserved g c =
+    let before = c.loop-worker.invariant.at_work in
+    let Known : ℕ → Type 0 = λ job. g.G.Gate.knows c.args.shared.now.gate.now job ≡ true in
+    let same = c.answer-outcome.ensures.same in
+    let drawn = ap (λ (p : PassState). p.row.numbers) same.0 ∙ ap (λ (r : DrawnRow). r.numbers) c.in-Some.ensures.drawn in
+    record {
+      at_work = record {
+        draws = rw same.0 c.draw.ensures.own;
+        sends = ap (λ (p : PutState). p.queue) (c.put.ensures) ∙ ap (λ (p : PutState). p.queue) same.1 ∙ before.sends;
+        known = subst (All Known) (sym drawn)
+            (all_and_one Known c.loop-worker.worker.pass.row.numbers c.in-Some.job before.known (search rules));
+        sent = drawn_jobs-more c.args.shared.now.jobs.now c.loop-worker.worker.pass.row c.answer-outcome.new.self.pass.row c.in-Some.job
+            c.answer-outcome.result
+            c.loop-worker.worker.put.sent c.put.new.pass.sent before.sent drawn c.answer-outcome.ensures.answer
+            (ap (λ (p : PutState). p.sent) c.put.ensures ∙ ap (λ (p : PutState). p.sent ++ c.answer-outcome.result ∷ []) same.1);
+      };
+      number = ap (λ (p : PutState). p.number) c.put.ensures ∙ ap (λ (p : PutState). p.number) same.1 ∙ c.loop-worker.invariant.number;
+    }
+
+pub loop-worker-smaller : goal.loop-worker-smaller
+loop-worker-smaller g c =
+    let same = c.answer-outcome.ensures.same in
+    less_left _ _ _ _ (ap (λ (p : PassState). p.row.numbers) same.0 ∙ ap (λ (r : DrawnRow). r.numbers) c.in-Some.ensures.drawn)
+    c.in-Some.ensures.above c.in-Some.ensures.below

@@ -1,0 +1,105 @@
+use Rattle.std.proofs.Common.{◌≡◌, ℕ, ⊎_elim, inl, inr, List, ◌++◌, length, sym, ap, ◌∙◌, subst, arith}
+use Rattle.std.specs.Prelude.{All}
+use Rattle.std.proofs.lemmas.List.{length-map}
+use Rattle.kalah_jobs.specs.Collecting.Batch.{AreJobsInSomeOrder}
+use Rattle.kalah_jobs.specs.Files.Jobs.{job_count}
+use Rattle.kalah_run.specs.Desk.Rows.{DealsEachOnce}
+use Rattle.kalah_run.specs.Desk.States.{PassState, IsPassAt, drawn_rows}
+use Rattle.kalah_run.specs.Queue.States.{GetState, PutState, ArePassesFrom, sent_by}
+use Rattle.kalah_run.specs.Queue.Lists.{Accounts}
+use Rattle.kalah_run.specs.Batch.AtWork.{passes_of}
+use Rattle.kalah_run.specs.Batch.OrderedOutput.{outcomes_in}
+use Rattle.kalah_run.specs.declared.batch.worker.Worker.{Worker}
+use Rattle.kalah_run.proofs.BatchLemmas.{each_job_known, each_job_got, puts_after, run_at_work, run_passes}
+use Rattle.kalah_run.proofs.batch.open_batch.OpenBatch.run.Given.{Over}
+use Rattle.kalah_run.proofs.batch.open_batch.OpenBatch.run.Goals as goal
+
+pub run_and_write-requires-after_bounds : goal.run_and_write-requires-after_bounds
+run_and_write-requires-after_bounds g c κs within =
+    let ready = c.requires in
+    let get = c.new-receiver.ensures ∙ ready.get in (
+      record {
+        at_work = ready.at_work;
+        queue = ap (λ (p : GetState). p.queue) get;
+        nothing_got = ap (λ (p : GetState). p.got) get;
+        nothing_written = ready.output;
+      },
+      λ after run. tt,
+    )
+
+-- ---- the passes come back
+
+pub take_apart-passes-requires-clause-passes_room : goal.take_apart-passes-requires-clause-passes_room
+take_apart-passes-requires-clause-passes_room g c =
+    omega (arith, c.in_ok-workers.workers.ok, c.in_ok-workers.ensures.ended.all_ran.as_many, c.requires.room.passes)
+
+pub take_apart-passes-requires-clause-puts_room : goal.take_apart-passes-requires-clause-puts_room
+take_apart-passes-requires-clause-puts_room g c =
+    omega (arith, c.in_ok-workers.workers.ok, c.in_ok-workers.ensures.ended.all_ran.as_many, c.requires.room.puts)
+
+pub close-requires-clause-all : goal.close-requires-clause-all
+close-requires-clause-all g c =
+    omega (
+      arith,
+      ap (λ (l : List PassState). length l) c.take_apart-passes.ensures.passes,
+      length-map c.in_ok-workers.workers.items (λ (w : Worker). w.pass),
+      c.in_ok-workers.ensures.ended.all_ran.as_many,
+      c.requires.passes,
+    )
+
+pub close-requires-clause-own : goal.close-requires-clause-own
+close-requires-clause-own g c =
+    subst (λ (l : List PassState). All (IsPassAt c.args.self.shared.desk) l) (sym c.take_apart-passes.ensures.passes)
+    (run_passes _ _ _ c.in_ok-workers.ensures.ended.all_ran)
+
+pub close-requires-2-clause-puts : goal.close-requires-2-clause-puts
+close-requires-2-clause-puts g c =
+    let run = c.in_ok-workers.ensures.ended in
+    let puts = c.take_apart-passes.ensures.puts in (
+      omega (
+        arith,
+        c.take_apart-passes.result.1.ok,
+        ap (λ (l : List PutState). length l) puts,
+        length-map c.in_ok-workers.workers.items (λ (w : Worker). w.put),
+        run.all_ran.as_many,
+        run.collected.workers,
+        ap (λ (p : GetState). p.workers) (c.new-receiver.ensures ∙ c.requires.get),
+      ),
+      subst (λ (l : List PutState). ArePassesFrom c.args.self.shared.queue.id 0 l) (sym puts)
+          (puts_after _ _ _ 0 run.all_ran c.requires.puts),
+    )
+
+-- ---- what has come is written
+
+-- each job was drawn once
+dealt : (g : Over) (c : goal.After-drop-shared-2 g) → DealsEachOnce (job_count c.args.self.shared.jobs.now)
+    c.close.result.drawn (drawn_rows (passes_of c.in_ok-workers.workers.items))
+dealt g c =
+    let shared = c.args.self.shared in
+    subst (λ (n : ℕ). DealsEachOnce n c.close.result.drawn (drawn_rows (passes_of c.in_ok-workers.workers.items))) shared.each_job
+    (subst (λ (l : List PassState). DealsEachOnce shared.desk.total c.close.result.drawn (drawn_rows l))
+    c.take_apart-passes.ensures.passes c.close.ensures.deals)
+
+-- each job's outcome was got once, if as many were got as there are jobs
+each_got : (g : Over) (c : goal.After-drop-shared-2 g) → length c.in_ok-workers.get.got ≡ job_count c.args.self.output.jobs.now
+    → AreJobsInSomeOrder c.args.self.output.jobs.now (outcomes_in c.in_ok-workers.get.got)
+each_got g c all =
+    let ready = c.requires in
+    let run = c.in_ok-workers.ensures.ended in
+    let get = c.in_ok-workers.get in
+    let as_many = run.all_ran.as_many ∙ sym (run.collected.workers ∙ ap (λ (p : GetState). p.workers) (c.new-receiver.ensures ∙ ready.get)) in
+    let rest = c.close-2.ensures.whole in
+    let accounts = subst (λ (l : List PutState). Accounts get.workers (sent_by l) (get.got ++ rest.0))
+    c.take_apart-passes.ensures.puts rest.2 in
+    rw ready.jobs (each_job_got c.args.self.shared c.in_ok-workers.workers.items get.workers c.close.result.drawn get.got rest.0
+    (run_at_work _ _ _ run.all_ran) as_many (dealt g c) accounts (all ∙ ap job_count ready.jobs))
+
+pub returns-clause-given : goal.returns-clause-given
+returns-clause-given g c =
+    let collected = c.in_ok-workers.ensures.ended.collected in
+    collected.given (⊎_elim (λ all. inl (each_got g c all)) (λ left. inr left) collected.all_got)
+
+pub returns-clause-solved : goal.returns-clause-solved
+returns-clause-solved g c = λ solve job low.
+    each_job_known c.args.self.shared c.args.self.workers.items c.in_ok-workers.workers.items c.close.result.drawn
+    c.in_ok-workers.ensures.ended.all_ran solve c.requires.some (dealt g c) job low

@@ -1,0 +1,72 @@
+//! How the workers of a batch are run.
+ghost use Rattle.kalah_run.specs.Batch.AtWork.{IsAtWork, HasRun};
+
+use crate::batch::gate::Gate;
+use crate::batch::shared_work::SharedWork;
+use crate::batch::worker::Worker;
+use crate::limits::MOST_WORKERS;
+use std::sync::Wait;
+use std::sync::atomic::{AtomicIn, Rule};
+use std::thread;
+use std::thread::Threads;
+
+// Draws jobs, solves each and sends its outcome, until there is nothing left to draw or the workers are to stop.
+fn work<R: Wait, G: Gate>(rt: &R, shared: &SharedWork<'_, G>, worker: &mut Worker)
+    requires { IsAtWork G.knows shared.now worker.old }
+    ensures { HasRun G.knows shared.now worker.old worker.new }
+{
+    while shared.goes_on() {
+        let Some(job) = shared.desk.draw(&mut worker.pass) else {
+            return;
+        };
+        shared.gate.before(job);
+        let outcome = worker.answer(shared.jobs, job, shared.gate);
+        shared.queue.put(rt, &mut worker.put, outcome);
+        shared.gate.after(job);
+    }
+}
+
+/// What is known of the workers once they have ended. What is generic over it learns that they have from them alone.
+pub(crate) struct Ended;
+
+impl Rule for Ended {
+    ghost invariant = { λ _. Unit {0} };
+}
+
+/// The workers of a batch and what they share, handed over to be run. The word is 1 once they have ended.
+#[derive(Drop)]
+pub(crate) struct Crew<'a, 'b, G, E: Rule> {
+    pub(crate) shared: &'a SharedWork<'b, G>,
+    pub(crate) workers: Vec<Worker>,
+    pub(crate) ended: &'a AtomicIn<E>,
+}
+
+impl<'a, 'b, G: Gate, E: Rule> Crew<'a, 'b, G, E> {
+    ghost use Rattle.kalah_run.specs.Batch.AtWork.{IsAtWork, AreAtWork, HasRun, HaveRun, OnceRun};
+
+    /// Runs each worker in a thread of its own, as far as threads can be started, and returns the workers. The receiver learns that they
+    /// have ended.
+    pub(crate) fn run<R: Threads + Wait + Sync>(self, rt: &R) -> Vec<Worker>
+        requires at_work { AreAtWork G.knows self.shared.now self.workers.items }
+        // That they have ended is known only once each has run.
+        requires ends { OnceRun G.knows self.shared.now self.workers.items (E.invariant 1) }
+        ensures { HaveRun G.knows self.entry.shared.now self.entry.workers.items result.items }
+    {
+        let Crew {
+            shared,
+            mut workers,
+            ended,
+        } = self;
+        thread::for_each_mut(
+            rt,
+            workers.as_mut_slice(),
+            MOST_WORKERS as usize,
+            &|_, worker: &mut Worker|
+                requires { IsAtWork G.knows shared.now worker.old }
+                ensures { HasRun G.knows shared.entry.now worker.old worker.new }
+            { work(rt, shared, worker) },
+        );
+        shared.queue.end(ended);
+        workers
+    }
+}

@@ -1,0 +1,30 @@
+//! What is asked of a batch: the question about its files, how it is run, and what a failed write leaves.
+ghost use Rattle.kalah_run.specs.Limits.{AreWorkers, IsTableSize};
+
+use kalah_jobs::{FileText, Question};
+
+/// What is asked of every line of some files, and how it is answered.
+#[derive(Clone, Copy)]
+pub struct BatchRequest<'a> {
+    /// What is asked of every line.
+    pub question: Question,
+    /// The files, in the order of their answers.
+    pub files: &'a [FileText],
+    /// The number of workers, 1 to 64.
+    pub workers: u32,
+    /// The number of entries of each worker's table, 1 to 1,048,576.
+    pub table: u32,
+    /// What a failed write leaves.
+    pub rest: Rest,
+    ghost few_workers: { AreWorkers workers },
+    ghost table_size: { IsTableSize table },
+}
+
+/// What happens to the jobs that are left when the output has failed.
+#[derive(Clone, Copy, Debug, PartialEq, Eq)]
+pub enum Rest {
+    /// They are solved, and the gate is called for each.
+    Solve,
+    /// A worker begins at most one further job. Jobs under way are finished.
+    Leave,
+}
