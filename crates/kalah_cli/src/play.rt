@@ -1,7 +1,6 @@
 //! `kalah play LINE`.
 ghost use Rattle.std.specs.Prelude.{◌≡◌, IfNone, IfSome, false, true};
 ghost use Rattle.kalah_rules.specs.Position.{Position};
-ghost use Rattle.kalah_solve.specs.Solver.Verdict.{TellsBestPlay, verdict_of};
 ghost use Rattle.kalah_jobs.specs.Line.Line.{Reads};
 ghost use Rattle.kalah_jobs.specs.Writing.Given.{WasGiven};
 ghost use Rattle.kalah_run.specs.Limits.{IsTableSize};
@@ -13,24 +12,14 @@ use crate::moves::{write_board, write_move};
 use crate::solver::new_solver;
 use crate::status::ExitStatus;
 use crate::tips::Messages;
-use kalah_jobs::{Sink, flush_unless_failed, read_line};
+use kalah_jobs::{PromptSolver, Sink, flush_unless_failed, read_line};
 use kalah_rules::{Board, Step};
-use kalah_solve::{Solver, Verdict};
+use kalah_solve::Verdict;
 use std::alloc::Global;
-
-// Finds the best move of a board. All earlier moves are shown.
-fn solve_flushed<O: Sink>(solver: &mut Solver, board: &Board, out: &O) -> Verdict
-    requires shown { O.is_handed_on out.now ≡ true }
-    ensures verdict { result ≡ verdict_of board.now }
-    ensures best_play { TellsBestPlay board.now result }
-{
-    let _ = out;
-    solver.solve(board)
-}
 
 // Writes the moves of the game of best play from a board on, each as soon as it is found. If the output has failed, none is sought.
 #[cycle(game)]
-fn write_game<O: Sink>(solver: &mut Solver, board: &Board, boards: bool, out: &mut O)
+fn write_game<O: Sink>(solver: &mut PromptSolver<'_>, board: &Board, boards: bool, out: &mut O)
     ensures given { WasGiven O.written O.has_failed out.old out.new (game_lines boards board.now (best_game board.now)) }
     ensures handed_on { O.has_failed out.new ≡ false → O.is_handed_on out.new ≡ true }
 {
@@ -39,7 +28,7 @@ fn write_game<O: Sink>(solver: &mut Solver, board: &Board, boards: bool, out: &m
     if out.failed() {
         return;
     }
-    let house = match solve_flushed(solver, board, out) {
+    let house = match solver.solve(board, out) {
         Verdict::Over { .. } => return,
         Verdict::Best { house, .. } => house,
     };
@@ -52,7 +41,13 @@ fn write_game<O: Sink>(solver: &mut Solver, board: &Board, boards: bool, out: &m
 }
 
 // Writes the game of best play from a board on, or after the move of the first house, below the board if boards are drawn.
-fn play<O: Sink>(solver: &mut Solver, board: &Board, first: Option<u8>, boards: bool, out: &mut O)
+fn play<O: Sink>(
+    solver: &mut PromptSolver<'_>,
+    board: &Board,
+    first: Option<u8>,
+    boards: bool,
+    out: &mut O,
+)
     requires { MayBegin first board.now }
     ensures given { WasGiven O.written O.has_failed out.old out.new (play_output first boards board.now) }
     ensures handed_on { O.has_failed out.new ≡ false → O.is_handed_on out.new ≡ true }
@@ -112,6 +107,12 @@ pub(crate) fn run_play<O: Sink, E: Messages>(
     let Ok(mut solver) = new_solver(alloc, table) else {
         return Failure::OutOfMemory.report(err);
     };
-    play(&mut solver, &board, first, boards, out);
+    play(
+        &mut PromptSolver::new(&mut solver),
+        &board,
+        first,
+        boards,
+        out,
+    );
     status_of(out, err)
 }

@@ -11,9 +11,8 @@ use crate::failure::{Failure, report_fault, status_of};
 use crate::solver::new_solver;
 use crate::status::ExitStatus;
 use crate::tips::Messages;
-use kalah_jobs::{Sink, flush_unless_failed, read_line, write_picture, write_values};
+use kalah_jobs::{PromptSolver, Sink, flush_unless_failed, read_line, write_picture, write_values};
 use kalah_rules::Board;
-use kalah_solve::Solver;
 use std::alloc::Global;
 
 // Draws a board, and flushes.
@@ -27,7 +26,7 @@ fn write_plain<O: Sink>(board: &Board, out: &mut O)
 
 // Draws a board, which is flushed before the search begins, and writes below it what each move is worth. If the output has failed,
 // nothing is searched.
-fn write_shown<O: Sink>(solver: &mut Solver, board: &Board, out: &mut O)
+fn write_shown<O: Sink>(solver: &mut PromptSolver<'_>, board: &Board, out: &mut O)
     ensures given { WasGiven O.written O.has_failed out.old out.new (shown_of board.now) }
     ensures handed_on { O.has_failed out.new ≡ false → O.is_handed_on out.new ≡ true }
 {
@@ -35,7 +34,7 @@ fn write_shown<O: Sink>(solver: &mut Solver, board: &Board, out: &mut O)
     if out.failed() {
         return;
     }
-    let values = solver.values(board);
+    let values = solver.values(board, out);
     write_values(out, board, &values);
     flush_unless_failed(out);
 }
@@ -70,6 +69,6 @@ pub(crate) fn run_show<O: Sink, E: Messages>(
     let Ok(mut solver) = new_solver(alloc, table) else {
         return Failure::OutOfMemory.report(err);
     };
-    write_shown(&mut solver, &board, out);
+    write_shown(&mut PromptSolver::new(&mut solver), &board, out);
     status_of(out, err)
 }

@@ -3,5 +3,6 @@ pub(crate) mod answer_lines;
 pub(crate) mod ask_fault;
 pub(crate) mod laws;
 pub(crate) mod line_head;
-pub(crate) mod reading_ahead;
+pub(crate) mod prompt_reader;
+pub(crate) mod prompt_solver;
 pub(crate) mod told;

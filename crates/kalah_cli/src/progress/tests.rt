@@ -112,11 +112,12 @@ fn the_other_lines_take_as_long_as_those_so_far(rt: HostRuntime) {
 
 // Terminals for the answers and for the errors, the lines, how many of them are answered, and what is shown.
 const PLACES: &[((bool, bool), (usize, u32), &str)] = &[
-    // A terminal that doesn't get the answers has one line. It shows what is answered before the thread waits, and is ended.
+    // A terminal that doesn't get the answers has one line. It shows each thousandth, and what is answered before the thread waits,
+    // and is ended.
     (
         (false, true),
-        (2000, 1),
-        "\rkalah: 0 of 2000 lines, 0 %\x1b[K\rkalah: 1 of 2000 lines, 0 %\x1b[K\n",
+        (2000, 3),
+        "\rkalah: 0 of 2000 lines, 0 %\x1b[K\rkalah: 2 of 2000 lines, 0 %\x1b[K\rkalah: 3 of 2000 lines, 0 %\x1b[K\n",
     ),
     ((false, true), (1, 0), "\rkalah: 0 of 1 lines, 0 %\x1b[K\n"),
     (

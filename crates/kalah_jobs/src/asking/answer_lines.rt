@@ -1,11 +1,13 @@
 //! Lines of a reader, answered as they come.
 ghost use Rattle.std.specs.Prelude.{◌≡◌, ◌↔◌, true, false, IfOk, IsErrOf};
 ghost use Rattle.std.specs.Io.Buffered.{reader_remaining};
-ghost use Rattle.kalah_jobs.specs.Asking.Asked.{Asking, IsAnswered, IsBegun, IsCutOff};
+ghost use Rattle.kalah_jobs.specs.Asking.Asked.{IsAnswered, IsBegun, IsCutOff};
+ghost use Rattle.kalah_jobs.specs.Asking.PromptReader.{asking_of, unread};
 
 use crate::asking::ask_fault::AskFault;
 use crate::asking::line_head::LineHead;
-use crate::asking::reading_ahead::{hand_on, next_byte};
+use crate::asking::prompt_reader::PromptReader;
+use crate::asking::prompt_solver::PromptSolver;
 use crate::asking::told::{tell, tell_last};
 use crate::files::file_lines::LINE_FEED;
 use crate::files::question::Question;
@@ -16,38 +18,44 @@ use std::io::{BufReader, Read};
 // Answers the lines of a reader as `answer_lines` does, with the same result.
 #[tactic(auto, using(crate::proofs::AskingLemmas::Underway::answered_so_far))]
 fn answer_each<I: Read + Drop, O: Sink>(
-    input: &mut BufReader<I>,
+    input: &mut PromptReader<'_, I, O>,
     question: Question,
-    solver: &mut Solver,
+    solver: &mut PromptSolver<'_>,
     out: &mut O,
 ) -> Result<bool, AskFault>
-    ghost asking: { Asking }
-    requires asked { asking ≡ record { question = question; before = reader_remaining I.remaining input.old; old = O.written out.old } }
+    requires asked { asking_of I.remaining O.written input.old
+        ≡ record { question = question; before = unread I.remaining input.old; old = O.written out.old } }
     requires sink { O.has_failed out.old ≡ false }
-    ensures answered { IfOk result (λ all_read. IsAnswered question (reader_remaining I.remaining input.old)
-        (reader_remaining I.remaining input.new) (O.written out.old) (O.written out.new) all_read) }
-    ensures cut_off { IsErrOf result AskFault.Read → IsCutOff question (reader_remaining I.remaining input.old)
-        (reader_remaining I.remaining input.new) (O.written out.old) (O.written out.new) }
-    ensures begins { IsBegun question (reader_remaining I.remaining input.old) (reader_remaining I.remaining input.new)
+    ensures same_reference { input.new.input.ghost_name ≡ input.old.input.ghost_name }
+    ensures answered { IfOk result (λ all_read. IsAnswered question (unread I.remaining input.old)
+        (unread I.remaining input.new) (O.written out.old) (O.written out.new) all_read) }
+    ensures cut_off { IsErrOf result AskFault.Read → IsCutOff question (unread I.remaining input.old)
+        (unread I.remaining input.new) (O.written out.old) (O.written out.new) }
+    ensures begins { IsBegun question (unread I.remaining input.old) (unread I.remaining input.new)
         (O.written out.old) (O.written out.new) }
     ensures failed { O.has_failed out.new ≡ true ↔ IsErrOf result AskFault.Write }
     ensures handed_on { O.has_failed out.new ≡ false → O.is_handed_on out.new ≡ true }
+    // A read has failed, or as many bytes were read as a `u64` counts.
+    ensures none_left { IsErrOf result AskFault.Read → input.new.left ≡ 0 }
 {
     let mut line = LineHead::new();
     let mut all_read = true;
-    for _ in 0..u64::MAX {
-        let Some(byte) = next_byte(input, out)? else {
-            return Ok(all_read & tell_last(&line, question, solver, out)?);
-        };
-        if byte == LINE_FEED {
-            all_read &= tell(&line, question, solver, out)?;
-            line = LineHead::new();
-        } else {
+    while let Some(byte) = input.next_byte(out)? {
+        if byte != LINE_FEED {
             line.push(byte);
+            continue;
         }
+        all_read &= tell(&line, question, solver, out);
+        if out.failed() {
+            return Err(AskFault::Write);
+        }
+        line = LineHead::new();
     }
-    hand_on(out)?;
-    Err(AskFault::Read)
+    all_read &= tell_last(&line, question, solver, out);
+    if out.failed() {
+        return Err(AskFault::Write);
+    }
+    Ok(all_read)
 }
 
 /// Answers what is asked of each line of the reader, up to its end, and returns whether each line was read as a position. A line ends
@@ -81,7 +89,8 @@ pub fn answer_lines<I: Read + Drop, O: Sink>(
     // If no write failed, all that was written is flushed.
     ensures handed_on { O.has_failed out.new ≡ false → O.is_handed_on out.new ≡ true }
 {
-    answer_each(input, question, solver, out)
+    let mut reader = PromptReader::new(input, question, out);
+    answer_each(&mut reader, question, &mut PromptSolver::new(solver), out)
 }
 
 #[cfg(test)]

@@ -41,7 +41,7 @@ impl Model for Outcome {
 // Returns the answer to an entry: the solver's to what is asked of a position, and of a line that was not read its fault.
 #[tactic(auto, unfolding(crate::specs::Writing::Answer::answer_of))]
 #[inline(always)]
-fn answer_to(entry: &Entry, solver: &mut Solver) -> Answer
+pub(crate) fn answer_to(entry: &Entry, solver: &mut Solver) -> Answer
     ensures { result ≡ answer_of entry.now }
 {
     match entry {

@@ -1,6 +1,6 @@
 use Rattle.std.specs.Io.KnownBytes.{Keeps}
 use Rattle.std.specs.Io.Buffered.{reader_remaining}
-use Rattle.kalah_jobs.proofs.asking.reading_ahead.read_ahead.Given as goal
+use Rattle.kalah_jobs.proofs.asking.prompt_reader.read_ahead.Given as goal
 
 -- the reader has left what it had
 abbrev pub invariant-loop : goal.invariant-loop
