@@ -12,7 +12,7 @@ use std::rt::Files;
 use std::{fs, io};
 
 /// The most bytes that one read asks for.
-const CHUNK: usize = 4096;
+const CHUNK: usize = 65_536;
 
 /// Why a file was not read.
 #[derive(Clone, Copy)]

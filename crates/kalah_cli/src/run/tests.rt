@@ -1,12 +1,8 @@
 ghost use Rattle.std.specs.Prelude.{◌<◌, vec_len};
 
-mod counting;
 mod help;
 mod hostile;
-mod playing;
-mod showing;
 mod solving;
-mod valuing;
 
 use super::run_words;
 use crate::status::ExitStatus;
@@ -119,8 +115,8 @@ fn assert_said(rt: &impl Host, status: ExitStatus, rows: &[(&[&str], &str)]) {
     }
 }
 
-// Positions, and their moves.
-const MOVES: &[(&[&str], &str)] = &[
+// Arguments with a position, and what is printed for them.
+const WRITTEN: &[(&[&str], &str)] = &[
     (
         &["moves", "1,1/0 1,1/0"],
         "1 1,1/0 0,2/0 turn\n2 1,0/1 1,1/0 again\n",
@@ -130,11 +126,56 @@ const MOVES: &[(&[&str], &str)] = &[
     (&["moves", "8/0 8/0"], "1 11/0 2/3 turn\n"),
     (&["moves", "1,0/0 0,2/0 e"], "1 0,0/1 0,0/2 e over\n"),
     (&["moves", "0/0 1/0"], ""),
+    (
+        &["moves", "1/99 1/99", "--boards"],
+        "1 0/100 0/100 over\n       0\n 100     100\n       0\n",
+    ),
+    (
+        &["play", "--table", "1", "1,1/0 1,1/0"],
+        "2 1,0/1 1,1/0 again\n1 0,0/3 0,0/1 over\n",
+    ),
+    (
+        &["play", "--first", "1", "1,1/0 1,1/0"],
+        "1 1,1/0 0,2/0 turn\n1 0,2/0 0,2/0 turn\n2 0,0/1 0,0/3 over\n",
+    ),
+    (
+        &["show", "0,1,1/0 1,1,3/99"],
+        "       3   1   1\n  99               0\n       0   1   1\n        -104-100\n",
+    ),
+    (
+        &["show", "0,0/5 1,0/1"],
+        "       0   1\n   1           5\n       0   0\nover, margin 3\n",
+    ),
+    (
+        &["count", "3", "1,0,0,1/0 0,1,0,1/0 e"],
+        "1 2\n4 0\ntotal 2\n",
+    ),
 ];
 
 #[test]
-fn prints_the_moves_of_a_position(rt: HostRuntime) {
-    assert_written(&rt, MOVES);
+fn prints_what_is_asked_of_a_position(rt: HostRuntime) {
+    assert_written(&rt, WRITTEN);
+}
+
+// Arguments with a house that may not be moved, and the message.
+const UNMOVED: &[(&[&str], &str)] = &[
+    (
+        &["play", "--first=1", "0,1/0 1,1/0"],
+        "kalah: house 1 can't be moved\n",
+    ),
+    (
+        &["play", "--first=3", "--boards", "1,1/0 1,1/0"],
+        "kalah: house 3 can't be moved\n",
+    ),
+    (
+        &["play", "--first=2", "1,1/0 0,0/0"],
+        "kalah: house 2 can't be moved\n",
+    ),
+];
+
+#[test]
+fn says_which_house_may_not_be_moved(rt: HostRuntime) {
+    assert_said(&rt, ExitStatus::Failed, UNMOVED);
 }
 
 // Arguments with a line that can't be read, and the message.

@@ -1,4 +1,4 @@
-//! Runs of `kalah solve` over files that are written first.
+//! Runs of `kalah solve`, `kalah values` and `kalah steps` over files that are written first.
 use super::{assert_answers, write_file};
 use crate::status::ExitStatus::{Clean, Failed, LineFaults};
 use std::fs;
@@ -78,6 +78,20 @@ fn both_rules_and_many_seeds(rt: HostRuntime) {
     for table in ["1", "1048576"] {
         let words = ["solve", "--table", table, "rules.txt"];
         assert_answers(&rt, &words, LineFaults, (RULES_ANSWERS, ""));
+    }
+}
+
+// A subcommand, and what it prints for the first position and the last of the rules.
+const OF_MOVES: &[(&str, &str)] = &[
+    ("values", "m.txt:1 1:1\nm.txt:2 130 over\n"),
+    ("steps", "m.txt:1 1 0,2/0 0,1/0 turn\nm.txt:2 130 over\n"),
+];
+
+#[test]
+fn values_and_steps_of_each_move(rt: HostRuntime) {
+    write_file(&rt, "m.txt", b"1,0/0 0,2/0\n31/99 0/0\n");
+    for (name, text) in OF_MOVES {
+        assert_answers(&rt, &[*name, "--workers", "2", "m.txt"], Clean, (*text, ""));
     }
 }
 
