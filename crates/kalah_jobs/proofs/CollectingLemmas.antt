@@ -20,7 +20,7 @@ use Rattle.kalah_jobs.specs.declared.collecting.refusal.Refusal.TheVariants.{NoS
 use Rattle.kalah_jobs.specs.Writing.Answer.{answer_of}
 use Rattle.kalah_jobs.specs.Files.JobList.{entries_of, entry_at, line_job, file_jobs, jobs_from, job_list}
 use Rattle.kalah_jobs.specs.Collecting.Refusals.{IsWanted, IsRefusedFor, RefusalsLaw}
-use Rattle.kalah_jobs.specs.Collecting.Held.{IsAnswered, HoldsOffered}
+use Rattle.kalah_jobs.specs.Collecting.Held.{IsAnswered, HoldsOffered, Kept}
 use Rattle.std.proofs.lemmas.List.FromFn.{length-enumerate_from, get_or-enumerate_from}
 use Rattle.kalah_jobs.specs.declared.writing.answer.Taken.{Taken}
 use Rattle.kalah_jobs.specs.Collecting.CollectorEvents.{Event, Offered, Took, Offers, Gives, offers, takes, with_taken, Came, answered_line, answered_lines}
@@ -546,11 +546,6 @@ first_lines_more jobs past files f t holds is_next =
 
 -- ---- any list of events
 
--- What was offered has come, and no more was taken than is ready.
-pub record Kept (jobs : List (List Entry)) (past : List Job) (files : List FileState) : Type 0 where
-  pub offered : HoldsOffered jobs past files
-  pub within : (f : ℕ) → (state_of files f).taken ≤ front (state_of files f)
-
 -- from one state to the other, these were taken of each file: its next lines
 abbrev WereTaken : List (List Entry) → List FileState → (ℕ → List Taken) → List FileState → Type 0
 WereTaken jobs files took after = (f : ℕ) →
@@ -559,7 +554,7 @@ WereTaken jobs files took after = (f : ℕ) →
 -- the state is kept by each event
 module _ {jobs : List (List Entry)} {past : List Job} {files after : List FileState} (kept : Kept jobs past files) where
   -- by an offer, accepted or refused, which takes nothing
-  kept_by_offer : (o : Job) (gave : Result ℕ Refusal) → Offers jobs files o gave after
+  pub kept_by_offer : (o : Job) (gave : Result ℕ Refusal) → Offers jobs files o gave after
       → Kept jobs (past ++ o ∷ []) after × ((f : ℕ) → (state_of after f).taken ≡ (state_of files f).taken)
   kept_by_offer o (Ok ready) step =
       let low = wanted_file jobs files o step.wanted in
@@ -576,7 +571,7 @@ module _ {jobs : List (List Entry)} {past : List Job} {files after : List FileSt
       (record { offered = holds_refused jobs past files o r kept.offered step.cause; within = kept.within }, λ f. refl)
 
   -- by a take of a line
-  kept_by_take : (g : ℕ) (t : Taken) → Gives files g t after → Kept jobs past after
+  pub kept_by_take : (g : ℕ) (t : Taken) → Gives files g t after → Kept jobs past after
   kept_by_take g t step =
       let taken : FileState = with_one_taken (state_of files g) in
       rw step.kept (record {

@@ -23,12 +23,12 @@ use Rattle.std.proofs.lemmas.Grind.{flat_map-append}
 use Rattle.std.proofs.lemmas.List.FromFn.{length-enumerate_from}
 use Rattle.kalah_jobs.specs.declared.writing.answer.Taken.{Taken}
 use Rattle.kalah_jobs.specs.declared.collecting.refusal.Refusal.{Refusal}
-use Rattle.kalah_jobs.specs.Writing.Answer.{answer_of, answer_line}
-use Rattle.kalah_jobs.specs.Collecting.CollectorState.{FileState, state_of, line_count, front, HasEnded, with_one_taken, new_files, after_offer, after_take}
-use Rattle.kalah_jobs.specs.Collecting.Refusals.{IsWanted, IsRefusedFor}
+use Rattle.kalah_jobs.specs.Writing.Answer.{answer_line}
+use Rattle.kalah_jobs.specs.Collecting.CollectorState.{FileState, state_of, front, HasEnded, with_one_taken, new_files, after_take}
 use Rattle.kalah_jobs.specs.Collecting.CollectorEvents.{Offers, Takes, answered_line}
 use Rattle.kalah_jobs.specs.Writing.Output.{text_of_line, text_of_file, text_of_jobs, answer_text_of, output_to, output_of_jobs, names_of, tally_of, LineCounts, is_faulty_job}
-use Rattle.kalah_jobs.proofs.CollectingLemmas.{state_same, state_other, files_many, lines_are, wanted_file, holds_accepted, holds_refused, holds_take, numbered_at, numbered_is, start, taken_is, taken_after_offer, front_after_offer, new_taken, fronts_full, shares_law, as_many_as_numbers}
+use Rattle.kalah_jobs.proofs.CollectingLemmas.{state_same, state_other, files_many, lines_are, numbered_at, numbered_is, start, taken_is, new_taken, fronts_full, shares_law, as_many_as_numbers, kept_by_offer, kept_by_take}
+use Rattle.kalah_jobs.specs.Collecting.Held.{Kept}
 use Rattle.kalah_jobs.specs.Files.Lines.{line_feed}
 use Rattle.kalah_jobs.specs.Files.NamedBytes.{NamedBytes}
 use Rattle.kalah_run.specs.declared.batch.ordered_output.OrderedOutput.{OrderedOutput}
@@ -235,10 +235,8 @@ module _ (text : ℕ → Taken → List ℕ) (jobs : List (List Entry)) where
   -- nothing was offered and nothing taken
   pub progress_start : (begun : Option (List ℕ)) (failed : Bool) → IsUnderWay text jobs [] (new_files jobs) 0 begun begun failed
   progress_start begun failed =
-      let kept = start jobs in
       record {
-        holds = kept.offered;
-        within = kept.within;
+        kept = start jobs;
         before = λ g low. absurd (omega arith);
         later = λ g high. new_taken jobs g;
         written = subst (λ (l : List ℕ). WasGiven begun begun failed l)
@@ -254,35 +252,22 @@ module _ {text : ℕ → Taken → List ℕ} {jobs : List (List Entry)} {past : 
       → ((given : List ℕ) → WasGiven begun out failed given → WasGiven begun more fails (given ++ text f t))
       → IsUnderWay text jobs past after f begun more fails
   wrote_line after t more fails step gives =
-      let low : f < length files = step.file_there in
       let n : ℕ = (state_of files f).taken in
       let now : List FileState = after_take files f in
-      let here : state_of now f ≡ with_one_taken (state_of files f) = state_same files f (with_one_taken (state_of files f)) low in
       let other : (g : ℕ) → (g ≡ f → ⊥) → state_of now g ≡ state_of files g =
       λ g np. state_other files f g (with_one_taken (state_of files f)) np in
-      let w = progress.holds.only f t.line t.answer step.next_line.came in
+      let w = progress.kept.offered.only f t.line t.answer step.next_line.came in
       let line : t.line ≡ n = step.next_line.first in
       let at : entry_at jobs f n ≡ Some w.entry = ap (λ k. entry_at jobs f k) (sym line) ∙ w.at in
-      let is : t ≡ answered_line (n, w.entry) = taken_is t n w.entry line w.is in
-      let taken : (state_of now f).taken ≡ n + 1 = ap (λ (s : FileState). s.taken) here in
+      let taken : (state_of now f).taken ≡ n + 1 =
+      ap (λ (s : FileState). s.taken) (state_same files f (with_one_taken (state_of files f)) step.file_there) in
       let text_is : written_upto text jobs f n ++ text f t ≡ written_upto text jobs f (state_of now f).taken =
-      ap (λ x. written_upto text jobs f n ++ text f x) is
+      ap (λ x. written_upto text jobs f n ++ text f x) (taken_is t n w.entry line w.is)
       ∙ written_line text jobs f n w.entry at
       ∙ ap (λ m. written_upto text jobs f m) (sym taken) in
       let new : IsUnderWay text jobs past now f begun more fails = record {
-        holds = holds_take jobs past files f low progress.holds;
-        within = λ g.
-            ⊎_elim
-            (λ (p : g ≡ f).
-            let a : (state_of now g).taken ≡ n + 1 = ap (λ x. (state_of now x).taken) p ∙ taken in
-            let b : front (state_of now g) ≡ front (state_of files f) = ap (λ x. front (state_of now x)) p
-            ∙ ap (λ (s : FileState). front s) here in
-            let c = step.next_line.ready in
-            omega arith)
-            (λ (np : g ≡ f → ⊥). subst (λ (s : FileState). s.taken ≤ front s) (sym (other g np)) (progress.within g))
-            (cases_eq g f);
-        before = λ g g_low. subst (λ (s : FileState). s.taken ≡ line_count s) (sym (other g (λ q. omega arith)))
-            (progress.before g g_low);
+        kept = subst (λ (s : List FileState). Kept jobs past s) step.kept (kept_by_take progress.kept f t step);
+        before = λ g g_low. ap (λ (s : FileState). s.taken) (other g (λ q. omega arith)) ∙ progress.before g g_low;
         later = λ g g_high. ap (λ (s : FileState). s.taken) (other g (λ q. omega arith)) ∙ progress.later g g_high;
         written = subst (λ (l : List ℕ). WasGiven begun more fails l) text_is (gives (written_upto text jobs f n) progress.written);
       } in
@@ -296,71 +281,37 @@ module _ {text : ℕ → Taken → List ℕ} {jobs : List (List Entry)} {past : 
   pub wrote_file : f < length files → HasEnded (state_of files f) → front (state_of files f) ≤ (state_of files f).taken
       → IsUnderWay text jobs past files (f + 1) begun out failed
   wrote_file low ended all =
-      let up : (state_of files f).taken ≤ front (state_of files f) = progress.within f in
-      let whole : (state_of files f).taken ≡ line_count (state_of files f) = omega arith in
-      let many : line_count (state_of files f) ≡ length (entries_of jobs f) = lines_are jobs files progress.holds.counts f in
-      let jobs_low : f < length jobs = (let m = files_many jobs files progress.holds.counts in omega arith) in
+      let up : (state_of files f).taken ≤ front (state_of files f) = progress.kept.within f in
+      let counts = progress.kept.offered.counts in
+      let whole : (state_of files f).taken ≡ length (entries_of jobs f) = omega (arith, lines_are jobs files counts f) in
+      let jobs_low : f < length jobs = (let m = files_many jobs files counts in omega arith) in
       let none : (state_of files (f + 1)).taken ≡ 0 = progress.later (f + 1) (omega arith) in
       let text_is : written_upto text jobs f (state_of files f).taken ≡ written_upto text jobs (f + 1) (state_of files (f + 1)).taken =
-      ap (λ m. written_upto text jobs f m) (whole ∙ many)
+      ap (λ m. written_upto text jobs f m) whole
       ∙ written_file text jobs f jobs_low
       ∙ ap (λ m. written_upto text jobs (f + 1) m) (sym none) in
       record {
-        holds = progress.holds;
-        within = progress.within;
+        kept = progress.kept;
         before = λ g g_low.
             ⊎_elim
-            (λ (p : g ≡ f). subst (λ x. (state_of files x).taken ≡ line_count (state_of files x)) (sym p) whole)
+            (λ (p : g ≡ f). subst (λ x. (state_of files x).taken ≡ length (entries_of jobs x)) (sym p) whole)
             (λ (np : g ≡ f → ⊥). progress.before g (omega arith))
             (cases_eq g f);
         later = λ g g_high. progress.later g (omega arith);
         written = subst (λ (l : List ℕ). WasGiven begun out failed l) text_is progress.written;
       }
 
-  -- an accepted offer leaves what was written
-  progress_accepted : (o : Job) → IsWanted jobs files o
-      → IsUnderWay text jobs (past ++ o ∷ []) (after_offer files o.file o.line (answer_of o.entry)) f begun out failed
-  progress_accepted o wanted =
-      let low = wanted_file jobs files o wanted in
-      let now : List FileState = after_offer files o.file o.line (answer_of o.entry) in
-      let taken : (g : ℕ) → (state_of now g).taken ≡ (state_of files g).taken =
-      λ g. taken_after_offer files o (answer_of o.entry) low g in
-      let holds = holds_accepted jobs past files o progress.holds wanted in
-      record {
-        holds = holds;
-        within = λ g.
-            let a = taken g in
-            let b = front_after_offer files o (answer_of o.entry) low g in
-            let c = progress.within g in
-            omega arith;
-        before = λ g g_low.
-            let a = lines_are jobs files progress.holds.counts g in
-            let b = lines_are jobs now holds.counts g in
-            taken g ∙ progress.before g g_low ∙ a ∙ sym b;
-        later = λ g g_high. taken g ∙ progress.later g g_high;
-        written = subst (λ n. WasGiven begun out failed (written_upto text jobs f n)) (sym (taken f)) progress.written;
-      }
-
-  -- so does a refused one
-  progress_refused : (o : Job) (r : Refusal) → IsRefusedFor jobs files o r
-      → IsUnderWay text jobs (past ++ o ∷ []) files f begun out failed
-  progress_refused o r refused = record {
-    holds = holds_refused jobs past files o r progress.holds refused;
-    within = progress.within;
-    before = progress.before;
-    later = progress.later;
-    written = progress.written;
-  }
-
-  -- an outcome is offered, and accepted or refused
+  -- an outcome is offered, and accepted or refused: what was written stays
   pub progress_offered : (o : Job) (after : List FileState) (gave : Result ℕ Refusal) → Offers jobs files o gave after
       → IsUnderWay text jobs (past ++ o ∷ []) after f begun out failed
-  progress_offered o after (Ok ready) step =
-      subst (λ (s : List FileState). IsUnderWay text jobs (past ++ o ∷ []) s f begun out failed) (sym step.kept)
-      (progress_accepted o step.wanted)
-  progress_offered o after (Err r) step =
-      subst (λ (s : List FileState). IsUnderWay text jobs (past ++ o ∷ []) s f begun out failed) (sym step.unchanged)
-      (progress_refused o r step.cause)
+  progress_offered o after gave step =
+      let now = kept_by_offer progress.kept o gave step in
+      record {
+        kept = now.0;
+        before = λ g g_low. now.1 g ∙ progress.before g g_low;
+        later = λ g g_high. now.1 g ∙ progress.later g g_high;
+        written = subst (λ n. WasGiven begun out failed (written_upto text jobs f n)) (sym (now.1 f)) progress.written;
+      }
 
   -- a sink that has failed was given all, as far as it took it
   pub progress_failed : failed ≡ true → WasGiven begun out failed (text_of_jobs text jobs)
@@ -374,14 +325,14 @@ module _ {text : ℕ → Taken → List ℕ} {jobs : List (List Entry)} {past : 
     past_all : length files ≤ f
     past_all =
         ⊎_elim
-        (λ (low : f < length files). absurd (waits low (fronts_full jobs past files each progress.holds f)))
+        (λ (low : f < length files). absurd (waits low (fronts_full jobs past files each progress.kept.offered f)))
         (λ (high : length files ≤ f). high)
         (cases_lt f (length files))
 
     -- the sink was given all
     pub progress_end : WasGiven begun out failed (text_of_jobs text jobs)
     progress_end =
-        let many : length files ≡ length jobs = files_many jobs files progress.holds.counts in
+        let many : length files ≡ length jobs = files_many jobs files progress.kept.offered.counts in
         let high : length files ≤ f = past_all in
         subst (λ (l : List ℕ). WasGiven begun out failed l) (written_all text jobs f (state_of files f).taken (omega arith))
         progress.written
@@ -425,8 +376,7 @@ still_written files jobs past begun out later failed fails r keeps sound is = re
   of_files = is.of_files;
   of_jobs = is.of_jobs;
   progress = record {
-    holds = is.progress.holds;
-    within = is.progress.within;
+    kept = is.progress.kept;
     before = is.progress.before;
     later = is.progress.later;
     written = given_kept begun out later failed fails _ is.progress.written keeps sound;

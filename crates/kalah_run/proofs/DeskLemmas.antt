@@ -22,7 +22,7 @@ use Rattle.kalah_jobs.specs.Limits.{most_lines}
 use Rattle.kalah_run.specs.Limits.{most_workers}
 use Rattle.kalah_run.specs.Desk.Steps.{DrawsFrom, Draws, StartsClosing, after_handing_out, pass_handed_out, after_reclaiming_row}
 use Rattle.kalah_run.specs.Desk.States.{as_pass_view, row_in, total_in, number_in, PassState, DeskState, new_pass, AreNewPasses, drawn_rows}
-use Rattle.std.proofs.lemmas.List.{get_or_push, get_or_append_left, length-map}
+use Rattle.std.proofs.lemmas.List.{get_or_push, get_or_append_left, length-map, nil_from_length}
 use Rattle.kalah_run.specs.Desk.Law.{CountsWhatItDeals}
 
 -- ==== Sums over the rows of all seats, and facts of each row: after a change of one seat's view, and after a new seat
@@ -149,11 +149,7 @@ rows_within_passes (x ∷ xs) = omega (
 
 -- if no seat stands for a pass there is no row
 no_passes_no_rows : (views : List DeskView) → sum_by passes_in views ≡ 0 → all_rows views ≡ []
-no_passes_no_rows views no_pass = empty (all_rows views) (omega (arith, rows_within_passes views))
-  where
-    empty : (rows : List DrawnRow) → length rows ≡ 0 → rows ≡ []
-    empty [] short = refl
-    empty (r ∷ rows) short = absurd (omega arith)
+no_passes_no_rows views no_pass = nil_from_length (all_rows views) (omega (arith, rows_within_passes views))
 
 -- a closing seat that took in all passes has all rows
 pub has_all : (views : List DeskView) (seat : ℕ) (rows : List DrawnRow) → get_elem? views seat ≡ some (Closing rows)
@@ -167,13 +163,9 @@ has_all (x ∷ xs) zero rows at whole =
 has_all (x ∷ xs) (suc seat) rows at whole =
     let mine : length rows ≤ sum_by passes_in xs = passes_below xs seat (Closing rows) at in
     let no_pass : passes_in x ≡ 0 = omega (arith, sum_by-cons passes_in x xs) in
-    let short : rows_in x ≡ [] = no_rows (rows_in x) (omega (arith, rows_within_one x)) in
+    let short : rows_in x ≡ [] = nil_from_length (rows_in x) (omega (arith, rows_within_one x)) in
     ap (λ l. l ++ all_rows xs) short ∙ has_all xs seat rows at (omega (arith, sum_by-cons passes_in x xs))
   where
-    no_rows : (rs : List DrawnRow) → length rs ≡ 0 → rs ≡ []
-    no_rows [] h = refl
-    no_rows (r ∷ rs) h = absurd (omega arith)
-
     passes_below : (views : List DeskView) (seat : ℕ) (v : DeskView) → get_elem? views seat ≡ some v
         → passes_in v ≤ sum_by passes_in views
     passes_below [] seat v at = absurd (some-ne-none v (sym at))

@@ -238,9 +238,9 @@ fits_more pairs taken closed passes place x place_is within running j (Getting m
     }
 fits_more pairs taken closed passes place x place_is within running j Ended other h = tt
 
-puts_at : (n place : ℕ) (x : ℕ × Job) (sent : List Job) →
-    Pushes IsLawful n place (Putting x.0 sent) x (λ w. w ≡ Putting x.0 (sent ++ x.1 ∷ []))
-puts_at n place x sent items views room h at =
+pub puts : (n place : ℕ) (v : QueueView) (x : ℕ × Job) (sent : List Job) → v ≡ Putting x.0 sent
+    → Pushes IsLawful n place v x (λ w. w ≡ after_put v x)
+puts n place v x sent e = rw e (λ items views room h at.
     let pairs : List (ℕ × Job) = h.taken ++ items in
     let w : QueueView = Putting x.0 (sent ++ x.1 ∷ []) in
     let mine : FitsPut pairs h.closed place x.0 sent = h.fits place (Putting x.0 sent) at in
@@ -260,12 +260,7 @@ puts_at n place x sent items views room h at =
       lawful (pairs ++ x ∷ []) (items ++ x ∷ []) h.taken h.closed (length views) h.made h.known (set views place w)
           (sym (append_assoc h.taken items (x ∷ []))) (length-set views place w) first all,
       refl,
-    )
-
-pub puts : (n place : ℕ) (v : QueueView) (x : ℕ × Job) (sent : List Job) → v ≡ Putting x.0 sent
-    → Pushes IsLawful n place v x (λ w. w ≡ after_put v x)
-puts n place v x sent e = subst (λ (u : QueueView). Pushes IsLawful n place u x (λ w. w ≡ after_put u x)) (sym e)
-    (puts_at n place x sent)
+    ))
 
 -- ---- the oldest pair is got
 
@@ -276,9 +271,9 @@ fits_taken pairs taken after closed passes place foremost j (Putting number sent
 fits_taken pairs taken after closed passes place foremost j (Getting made got known) other h = absurd (other (h.foremost ∙ sym foremost))
 fits_taken pairs taken after closed passes place foremost j Ended other h = tt
 
-gets_at : (place made : ℕ) (got : List (ℕ × Job)) (known : List (List Job))
-    → Pops IsLawful place (Getting made got known) (IsGot (Getting made got known))
-gets_at place made got known x items views h at =
+pub gets : (place : ℕ) (v : QueueView) (made : ℕ) (got : List (ℕ × Job)) (known : List (List Job)) → v ≡ Getting made got known
+    → Pops IsLawful place v (IsGot v)
+gets place v made got known e = rw e (λ x items views h at.
     let pairs : List (ℕ × Job) = h.taken ++ x ∷ items in
     let after : List (ℕ × Job) = h.taken ++ x ∷ [] in
     let w : QueueView = Getting made (got ++ x ∷ []) known in
@@ -301,11 +296,7 @@ gets_at place made got known x items views h at =
       lawful pairs items after h.closed (length views) made known (set views place w) (append_assoc h.taken (x ∷ []) items)
           (length-set views place w) first all,
       (refl, next_below made h.taken x items mine.accounts.below),
-    )
-
-pub gets : (place : ℕ) (v : QueueView) (made : ℕ) (got : List (ℕ × Job)) (known : List (List Job)) → v ≡ Getting made got known
-    → Pops IsLawful place v (IsGot v)
-gets place v made got known e = subst (λ (u : QueueView). Pops IsLawful place u (IsGot u)) (sym e) (gets_at place made got known)
+    ))
 
 -- ---- a pass is made for the next worker
 
@@ -324,9 +315,9 @@ each_more F views w h fits j u e =
     (λ (x : (j ≡ length views) × (w ≡ u)). subst (λ (y : ℕ × QueueView). F y.0 y.1) (λ i. (sym x.0 i, x.1 i)) fits)
     (at_end views w u j e)
 
-forks_at : (place made : ℕ) (got : List (ℕ × Job)) → Forks IsLawful place (Getting made got []) (Getting (made + 1) got [])
-    (Putting made [])
-forks_at place made got items views h at =
+pub forks : (place : ℕ) (v : QueueView) (made : ℕ) (got : List (ℕ × Job)) → v ≡ Getting made got []
+    → Forks IsLawful place v (after_making_one v) (one_made v)
+forks place v made got e = rw e (λ items views h at.
     let pairs : List (ℕ × Job) = h.taken ++ items in
     let mine : FitsGet pairs h.taken h.closed (length views) place made got [] = h.fits place (Getting made got []) at in
     let count : length views ≡ suc made = mine.count in
@@ -352,12 +343,7 @@ forks_at place made got items views h at =
     let got_now : left ≡ Getting (made + 1) h.taken [] = ap (λ (l : List (ℕ × Job)). Getting (made + 1) l []) mine.all_got in
     let first = first_longer vs _ (Putting made []) (first_set views place _ left mine.foremost h.getter ∙ ap some got_now) in
     lawful pairs items h.taken h.closed (made + 2) (made + 1) [] (vs ++ Putting made [] ∷ []) refl (omega arith) first
-    (each_more F vs (Putting made []) old fresh)
-
-pub forks : (place : ℕ) (v : QueueView) (made : ℕ) (got : List (ℕ × Job)) → v ≡ Getting made got []
-    → Forks IsLawful place v (after_making_one v) (one_made v)
-forks place v made got e = subst (λ (u : QueueView). Forks IsLawful place u (after_making_one u) (one_made u)) (sym e)
-    (forks_at place made got)
+    (each_more F vs (Putting made []) old fresh))
 
 -- ---- a worker's pass is reclaimed
 
@@ -422,15 +408,11 @@ merges place v other u made got known number sent e e' is =
 
 -- ---- what the pass to get learns of the queue
 
-accounts_at : (place made : ℕ) (got : List (ℕ × Job)) (known : List (List Job))
-    → Learns IsLawful place (Getting made got known) (λ items. Accounts made known (got ++ items))
-accounts_at place made got known items views h at =
-    let mine : FitsGet (h.taken ++ items) h.taken h.closed (length views) place made got known = h.fits place (Getting made got known) at in
-    subst (λ (g : List (ℕ × Job)). Accounts made known (g ++ items)) (sym mine.all_got) mine.accounts
-
 pub tells : (place : ℕ) (v : QueueView) (made : ℕ) (got : List (ℕ × Job)) (known : List (List Job)) → v ≡ Getting made got known
     → Learns IsLawful place v (Tells v)
-tells place v made got known e = subst (λ (u : QueueView). Learns IsLawful place u (Tells u)) (sym e) (accounts_at place made got known)
+tells place v made got known e = rw e (λ items views h at.
+    let mine : FitsGet (h.taken ++ items) h.taken h.closed (length views) place made got known = h.fits place (Getting made got known) at in
+    subst (λ (g : List (ℕ × Job)). Accounts made known (g ++ items)) (sym mine.all_got) mine.accounts)
 
 -- the pass to get has reclaimed one pass more
 pub reclaimed : (v u after : QueueView) (made : ℕ) (got : List (ℕ × Job)) (known : List (List Job)) (number : ℕ) (sent : List Job)

@@ -1,11 +1,11 @@
 -- What has come, once these offers were made.
-use Rattle.std.specs.Prelude.{◌≡◌, ℕ, List, Some, Contains}
+use Rattle.std.specs.Prelude.{◌≡◌, ℕ, ◌≤◌, List, Some, Contains}
 use Rattle.kalah_jobs.specs.declared.files.entry.Entry.{Entry}
 use Rattle.kalah_jobs.specs.declared.writing.answer.Answer.{Answer}
 use Rattle.kalah_jobs.specs.Writing.Answer.{answer_of}
 use Rattle.kalah_jobs.specs.declared.files.job.Job.{Job}
 use Rattle.kalah_jobs.specs.Files.JobList.{entry_at, line_job}
-use Rattle.kalah_jobs.specs.Collecting.CollectorState.{FileState, state_of, came_for, HasLinesOf}
+use Rattle.kalah_jobs.specs.Collecting.CollectorState.{FileState, state_of, came_for, front, HasLinesOf}
 
 -- line k of file f is one of the jobs, the answer is that of its entry, and it was offered with that entry
 pub record IsAnswered (jobs : List (List Entry)) (past : List Job) (f k : ℕ) (answer : Answer) : Type 0 where
@@ -20,3 +20,8 @@ pub record HoldsOffered (jobs : List (List Entry)) (past : List Job) (files : Li
   pub came : (f k : ℕ) (e : Entry) → entry_at jobs f k ≡ Some e → Contains past (line_job f k e) →
       came_for (state_of files f) k ≡ Some (answer_of e)
   pub only : (f k : ℕ) (a : Answer) → came_for (state_of files f) k ≡ Some a → IsAnswered jobs past f k a
+
+-- What was offered has come, and no more was taken than is ready.
+pub record Kept (jobs : List (List Entry)) (past : List Job) (files : List FileState) : Type 0 where
+  pub offered : HoldsOffered jobs past files
+  pub within : (f : ℕ) → (state_of files f).taken ≤ front (state_of files f)

@@ -1,13 +1,13 @@
 -- What is known while a batch is under way: what has come, and what was written of it.
-use Rattle.std.specs.Prelude.{◌≡◌, ℕ, ◌<◌, ◌≤◌, List, ◌++◌, take, Bool, false, true, Option}
+use Rattle.std.specs.Prelude.{◌≡◌, ℕ, ◌<◌, List, ◌++◌, length, take, Bool, false, true, Option}
 use Rattle.std.specs.List.{flat_map, enumerate_from}
 use Rattle.std.specs.Io.KnownBytes.{Appends}
 use Rattle.kalah_jobs.specs.declared.files.entry.Entry.{Entry}
 use Rattle.kalah_jobs.specs.declared.writing.answer.Taken.{Taken}
 use Rattle.kalah_jobs.specs.declared.files.job.Job.{Job}
 use Rattle.kalah_jobs.specs.Files.JobList.{entries_of}
-use Rattle.kalah_jobs.specs.Collecting.CollectorState.{FileState, state_of, line_count, front}
-use Rattle.kalah_jobs.specs.Collecting.Held.{HoldsOffered}
+use Rattle.kalah_jobs.specs.Collecting.CollectorState.{FileState, state_of}
+use Rattle.kalah_jobs.specs.Collecting.Held.{Kept}
 use Rattle.kalah_jobs.specs.Writing.Output.{text_of_line, text_of_file}
 use Rattle.kalah_jobs.specs.Writing.Given.{AppendsStart}
 use Rattle.kalah_run.specs.declared.batch.request.Rest.{Rest}
@@ -33,8 +33,7 @@ written_upto text jobs f n =
 -- line that was taken, in order.
 pub record IsUnderWay (text : ℕ → Taken → List ℕ) (jobs : List (List Entry)) (past : List Job) (files : List FileState) (f : ℕ)
     (begun out : Option (List ℕ)) (failed : Bool) : Type 0 where
-  pub holds : HoldsOffered jobs past files
-  pub within : (g : ℕ) → (state_of files g).taken ≤ front (state_of files g)
-  pub before : (g : ℕ) → g < f → (state_of files g).taken ≡ line_count (state_of files g)
+  pub kept : Kept jobs past files
+  pub before : (g : ℕ) → g < f → (state_of files g).taken ≡ length (entries_of jobs g)
   pub later : (g : ℕ) → f < g → (state_of files g).taken ≡ 0
   pub written : WasGiven begun out failed (written_upto text jobs f (state_of files f).taken)

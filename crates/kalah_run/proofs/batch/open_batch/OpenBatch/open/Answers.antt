@@ -8,7 +8,13 @@ use Rattle.kalah_run.proofs.batch.open_batch.OpenBatch.open.Goals as goal
 
 pub returns-clause-asked : goal.returns-clause-asked
 returns-clause-asked g c = record {
-  workers = omega (arith, as_many_workers _ _ _ c.in_ok-workers.ensures.passes c.in_ok-desk.ensures.passes.0, c.max-count.ensures, c.min.ensures, c.total-total.ensures.lines);
+  workers = omega (
+    arith,
+    as_many_workers _ _ _ c.in_ok-workers.ensures.passes c.in_ok-desk.ensures.passes.0,
+    c.max-count.ensures,
+    c.min.ensures,
+    c.total-total.ensures.lines,
+  );
   tables = c.in_ok-workers.ensures.tables;
   of_files = c.in_ok-output.ensures.of.0;
   of_jobs = refl;
