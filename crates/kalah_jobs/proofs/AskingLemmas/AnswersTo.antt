@@ -3,6 +3,7 @@ use Rattle.std.proofs.Common.{◌≡◌, ◌≢◌, ◌∙◌, ℕ, zero, suc, �
 use Rattle.std.specs.Prelude.{Result, Ok, if◌then◌else◌}
 use Rattle.std.specs.List.{flat_map, enumerate_from, join_with_byte, list_any}
 use Rattle.std.proofs.lemmas.Bool.{cases_lt}
+use Rattle.std.proofs.Math.Bool.{and-true}
 use Rattle.std.proofs.lemmas.Grind.{flat_map-append}
 use Rattle.std.proofs.lemmas.List.{length-take-le, take_all}
 use Rattle.std.proofs.lemmas.List.Folds.{list_any-append}
@@ -73,15 +74,14 @@ pub answers_to_more : (question : Question) (lines more line : List ℕ) → End
 answers_to_more question lines more line ends one =
     answers_split question lines more ends ∙ ap (λ l. answers_to question lines ++ l) (answers_to_one question more line one)
 
-both_read : (a b : Bool) → not (a || (b || false)) ≡ (not b && not a)
-both_read true true = refl
-both_read true false = refl
+both_read : (a b : Bool) → not (a || (b || false)) ≡ (not a && not b)
+both_read true b = refl
 both_read false true = refl
 both_read false false = refl
 
 -- all are read if one more is, and those before
 pub all_read_more : (lines more line : List ℕ) → EndsWithItsLine lines → lines_of more ≡ line ∷ []
-    → are_all_read (lines ++ more) ≡ (not (is_faulty line) && are_all_read lines)
+    → are_all_read (lines ++ more) ≡ (are_all_read lines && not (is_faulty line))
 all_read_more lines more line ends one =
     ap (λ (l : List (List ℕ)). not (list_any is_faulty l))
     ((files_split_between_lines.parts lines more ends).lines ∙ ap (λ (l : List (List ℕ)). lines_of lines ++ l) one)
@@ -139,11 +139,11 @@ last_told question (byte ∷ piece) none =
     answers_to_one question (byte ∷ piece) (byte ∷ piece) (lines_of_open byte piece none) ∙ sym (kept_told question (byte ∷ piece))
 
 pub last_read : (lines piece : List ℕ) → EndsWithItsLine lines → HasNoLineFeed piece
-    → are_all_read (lines ++ piece) ≡ (is_last_read (take kept_bytes piece) && are_all_read lines)
-last_read lines [] ends none = ap are_all_read (append-nil lines)
+    → are_all_read (lines ++ piece) ≡ (are_all_read lines && is_last_read (take kept_bytes piece))
+last_read lines [] ends none = ap are_all_read (append-nil lines) ∙ sym (and-true (are_all_read lines))
 last_read lines (byte ∷ piece) ends none =
     all_read_more lines (byte ∷ piece) (byte ∷ piece) ends (lines_of_open byte piece none)
-    ∙ ap (λ b. not b && are_all_read lines) (sym (kept_faulty (byte ∷ piece)))
+    ∙ ap (λ b. are_all_read lines && not b) (sym (kept_faulty (byte ∷ piece)))
 
 -- ---- the law
 

@@ -1,12 +1,12 @@
 -- How far lines that come one after another are answered.
-use Rattle.std.proofs.Common.{◌≡◌, ◌≢◌, ◌∙◌, ℕ, Bool, true, false, List, [], ◌∷◌, ◌++◌, take, inl, inr, refl, sym, ap, ap₂, subst, arith, append-nil, append_assoc, not, ◌&&◌}
+use Rattle.std.proofs.Common.{◌≡◌, ◌≢◌, ◌∙◌, ◌≤◌, ℕ, Bool, true, List, [], ◌∷◌, ◌++◌, length, take, inl, inr, refl, sym, ap, ap₂, subst, arith, append-nil, append_assoc, not, ◌&&◌}
 use Rattle.std.specs.Prelude.{Option}
 use Rattle.std.specs.Io.KnownBytes.{Appends, Consumes, IsAtEnd, Keeps}
 use Rattle.std.proofs.KnownBytes.{Appends-kept, Appends-nil, Appends-trans, Consumes-kept, Consumes-nil, Consumes-trans, Consumes-whole, Keeps-refl}
 use Rattle.std.proofs.lemmas.List.Elements.{All-nil, All-push}
 use Rattle.kalah_jobs.specs.declared.files.question.Question.{Question}
 use Rattle.kalah_jobs.specs.Asking.Asked.{AreAnswered, Asking, IsAnswered, IsBegun, IsCutOff, answers_to, are_all_read, is_last_read, kept_bytes, told, told_last}
-use Rattle.kalah_jobs.specs.Files.Lines.{line_feed, HasNoLineFeed}
+use Rattle.kalah_jobs.specs.Files.Lines.{line_feed, lines_of, HasNoLineFeed}
 use Rattle.kalah_jobs.specs.Writing.Given.{AppendsStart}
 use Rattle.kalah_jobs.specs.Writing.Output.{is_faulty}
 use Rattle.kalah_jobs.specs.Writing.Splitting.{EndsWithItsLine}
@@ -38,16 +38,6 @@ nothing_read question before old line empty = record {
   status = sym none_unread;
 }
 
--- what was read so far, and then one line more
-both : (a b c d : Bool) → a ≡ c → b ≡ d → (a && b) ≡ (d && c)
-both a b c d is too = ap₂ (λ x y. x && y) is too ∙ swapped c d
-  where
-    swapped : (x y : Bool) → (x && y) ≡ (y && x)
-    swapped true true = refl
-    swapped true false = refl
-    swapped false true = refl
-    swapped false false = refl
-
 -- what is underway goes on, or ends
 module _ {question : Question} {before now old new : Option (List ℕ)} {line : List ℕ} {all_read : Bool}
     (u : Underway question before now old new line all_read) where
@@ -67,6 +57,10 @@ module _ {question : Question} {before now old new : Option (List ℕ)} {line : 
   more_taken next bytes taken =
       subst (Consumes before next) (append_assoc u.lines u.part bytes)
       (Consumes-trans before now next (u.lines ++ u.part) bytes u.taken taken)
+
+  -- and nothing is left
+  all_taken : (next : Option (List ℕ)) → Consumes now next [] → Consumes before next (u.lines ++ u.part)
+  all_taken next end = subst (λ l. Consumes before next (u.lines ++ l)) (append-nil u.part) (more_taken next [] end)
 
   -- what was kept of the line is answered as the whole of it
   told_whole : told question line ≡ told question u.part
@@ -108,8 +102,7 @@ module _ {question : Question} {before now old new : Option (List ℕ)} {line : 
             (ap (λ answer. answers_to question u.lines ++ answer) told_whole
             ∙ sym (answers_to_more question u.lines whole u.part u.ended one))
             (more_written kept more (told question line) keeps tells);
-        status = both all_read is_read (are_all_read u.lines) (not (is_faulty u.part)) u.status
-            (read ∙ ap (λ l. not (is_faulty l)) u.kept ∙ ap not (kept_faulty u.part))
+        status = ap₂ (λ a b. a && b) u.status (read ∙ ap (λ l. not (is_faulty l)) u.kept ∙ ap not (kept_faulty u.part))
             ∙ sym (all_read_more u.lines whole u.part u.ended one);
       }
 
@@ -136,37 +129,34 @@ module _ {question : Question} {before now old new : Option (List ℕ)} {line : 
     written = subst (Appends old kept) (sym (append-nil (answers_to question u.lines))) (still_written kept keeps);
   }
 
-  -- a line was read, and its answer was begun
+  -- as much was read as makes one line at most, and its answer was begun
+  begun : {next more : Option (List ℕ)} (kept : Option (List ℕ)) (last answer : List ℕ) → length (lines_of last) ≤ 1
+      → Consumes before next (u.lines ++ last) → answer ≡ answers_to question last → Keeps new kept → AppendsStart kept more answer
+      → IsBegun question before next old more
+  begun {next} {more} kept last answer one taken is keeps start = record {
+    lines = u.lines;
+    last = last;
+    ended = u.ended;
+    one = one;
+    taken = taken;
+    count = start.0;
+    written = more_written kept more (take start.0 (answers_to question last)) keeps
+        (subst (λ l. Appends kept more (take start.0 l)) is start.1);
+  }
+
+  -- of a line that ended
   pub begun_line : {next more : Option (List ℕ)} (kept : Option (List ℕ)) → Consumes now next (line_feed ∷ []) → Keeps new kept
       → AppendsStart kept more (told question line) → IsBegun question before next old more
-  begun_line {next} {more} kept end keeps start =
-      let whole : List ℕ = u.part ++ line_feed ∷ [] in
+  begun_line {next} kept end =
       let one = lines_of_ended u.part u.unended in
-      let answer : told question line ≡ answers_to question whole = told_whole ∙ sym (answers_to_one question whole u.part one) in
-      record {
-        lines = u.lines;
-        last = whole;
-        ended = u.ended;
-        one = rw one (omega arith);
-        taken = more_taken next (line_feed ∷ []) end;
-        count = start.0;
-        written = more_written kept more (take start.0 (answers_to question whole)) keeps
-            (subst (λ l. Appends kept more (take start.0 l)) answer start.1);
-      }
+      begun kept (u.part ++ line_feed ∷ []) (told question line) (rw one (omega arith)) (more_taken next (line_feed ∷ []) end)
+      (told_whole ∙ sym (answers_to_one question (u.part ++ line_feed ∷ []) u.part one))
 
-  -- nothing is left, and a prefix of the answer to what stands after the last line feed was written
+  -- of what stands after the last line feed, where nothing is left
   pub begun_last : {next more : Option (List ℕ)} (kept : Option (List ℕ)) → Consumes now next [] → Keeps new kept
       → AppendsStart kept more (told_last question line) → IsBegun question before next old more
-  begun_last {next} {more} kept end keeps start = record {
-    lines = u.lines;
-    last = u.part;
-    ended = u.ended;
-    one = one_line u.part u.unended;
-    taken = subst (λ l. Consumes before next (u.lines ++ l)) (append-nil u.part) (more_taken next [] end);
-    count = start.0;
-    written = more_written kept more (take start.0 (answers_to question u.part)) keeps
-        (subst (λ l. Appends kept more (take start.0 l)) told_part start.1);
-  }
+  begun_last {next} kept end =
+      begun kept u.part (told_last question line) (one_line u.part u.unended) (all_taken next end) told_part
 
   -- and the whole was written
   pub all_answered : {next more : Option (List ℕ)} {is_read : Bool} (kept : Option (List ℕ)) → Consumes now next [] → IsAtEnd now
@@ -174,12 +164,11 @@ module _ {question : Question} {before now old new : Option (List ℕ)} {line : 
       → IsAnswered question before next old more (all_read && is_read)
   all_answered {next} {more} {is_read} kept end at_end keeps tells read = record {
     read = u.lines ++ u.part;
-    taken = subst (λ l. Consumes before next (u.lines ++ l)) (append-nil u.part) (more_taken next [] end);
+    taken = all_taken next end;
     all = Consumes-whole before now (u.lines ++ u.part) (λ bytes. u.lines ++ u.part ≡ bytes) u.taken at_end refl;
     written = subst (Appends old more) (sym (answers_split question u.lines u.part u.ended))
         (more_written kept more (answers_to question u.part) keeps (subst (Appends kept more) told_part tells));
-    status = both all_read is_read (are_all_read u.lines) (is_last_read (take kept_bytes u.part)) u.status (read ∙ ap is_last_read u.kept)
-        ∙ sym (last_read u.lines u.part u.ended u.unended);
+    status = ap₂ (λ a b. a && b) u.status (read ∙ ap is_last_read u.kept) ∙ sym (last_read u.lines u.part u.ended u.unended);
   }
 
 -- all lines so far are answered

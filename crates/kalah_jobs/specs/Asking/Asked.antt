@@ -2,8 +2,10 @@
 -- sink as those that were written to it, before and after, if these are known.
 use Rattle.std.specs.Prelude.{◌≡◌, ◌≢◌, ℕ, ◌+◌, ◌<◌, ◌≤◌, List, [], ◌∷◌, ◌++◌, Bool, true, not, IfSome, Option, None, Some, length, take, map}
 use Rattle.std.specs.List.{flat_map, enumerate_from, join_with_byte, list_any}
+use Rattle.std.specs.Io.Buffered.{reader_remaining}
 use Rattle.std.specs.Io.KnownBytes.{Appends, Consumes}
 use Rattle.kalah_rules.specs.Position.{seeds_in_houses}
+use Rattle.kalah_jobs.specs.declared.asking.prompt_reader.PromptReader.{PromptReader}
 use Rattle.kalah_jobs.specs.declared.files.entry.Entry.{Entry}
 use Rattle.kalah_jobs.specs.declared.files.entry.Entry.TheVariants.{Position, ValuesOf}
 use Rattle.kalah_jobs.specs.declared.files.question.Question.{Question}
@@ -68,6 +70,14 @@ pub record Asking : Type 0 where
   pub question : Question
   pub before : Option (List ℕ)
   pub old : Option (List ℕ)
+
+-- what a prompt reader has left, and what is asked of its lines, with the reader and the sink as they were when it was made
+module _ {I O : Type 0} (remaining : I → Option (List ℕ)) where
+  abbrev pub unread : PromptReader I O → Option (List ℕ)
+  unread r = reader_remaining remaining r.input.now
+
+  abbrev pub asking_of : (O → Option (List ℕ)) → PromptReader I O → Asking
+  asking_of written r = record { question = r.question; before = reader_remaining remaining r.first.value; old = written r.sink.value }
 
 -- all lines that were read since then are answered
 abbrev pub AreAnswered : Asking → Option (List ℕ) → Option (List ℕ) → Type 0
