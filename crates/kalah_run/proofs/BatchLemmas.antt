@@ -32,13 +32,12 @@ use Rattle.kalah_jobs.specs.Collecting.Held.{Kept}
 use Rattle.kalah_jobs.specs.Files.Lines.{line_feed}
 use Rattle.kalah_jobs.specs.Files.NamedBytes.{NamedBytes}
 use Rattle.kalah_run.specs.declared.batch.ordered_output.OrderedOutput.{OrderedOutput}
-use Rattle.kalah_run.specs.Batch.OrderedOutput.{IsNew, HasWritten, whole_output, outcomes_in, Waits}
-use Rattle.kalah_run.specs.Batch.Texts.{text_of}
+use Rattle.kalah_run.specs.Batch.OrderedOutput.{text_of, IsNew, HasWritten, whole_output, outcomes_in, Waits}
 use Rattle.std.proofs.lemmas.List.Elements.{All-push, All-map}
 use Rattle.kalah_run.specs.Queue.States.{PutState, ArePassesFrom, sent_by}
 use Rattle.kalah_run.specs.Desk.States.{PassState, IsPassAt, AreNewPasses, new_pass, drawn_rows}
 use Rattle.kalah_run.specs.declared.batch.worker.Worker.{Worker}
-use Rattle.kalah_run.specs.Batch.OpenBatch.{HasTable, HaveTables}
+use Rattle.kalah_run.specs.Batch.Running.{HasTable, HaveTables}
 use Rattle.atomic_table.specs.Seated.{TableId}
 use Rattle.kalah_jobs.specs.Files.Jobs.{job_count, jobs_to, lines_in_all}
 use Rattle.kalah_jobs.proofs.FilesLemmas.{length-job_list, job_count-jobs_to}
@@ -499,9 +498,8 @@ drawn_jobs_are : (jobs : List (List Entry)) (numbers : List ℕ) → drawn_jobs 
 unfolding drawn_jobs
 drawn_jobs_are jobs numbers = refl
 
--- Each number below the count of those drawn stands in the rows once, and the pairs that were got and those left inside account for what
--- was
--- sent; as many were got as there are jobs: so each job was got once.
+-- Each number below the count of those drawn stands in the rows once, the pairs that were got and those left inside account for what was
+-- sent, and as many were got as there are jobs: so each job was got once.
 pub each_job_got : {G : Type 0} {knows : G → ℕ → Bool} (shared : SharedWork G) (workers : List Worker) (count drawn : ℕ) (got rest : List (ℕ × Job))
     → AreAtWork knows shared workers
     → length workers ≡ count → DealsEachOnce (job_count shared.jobs.now) drawn (drawn_rows (passes_of workers))

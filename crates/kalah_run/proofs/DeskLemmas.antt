@@ -42,54 +42,46 @@ times_rows x (r ∷ rs) =
       sum_by-cons (times x) r rs,
     )
 
+-- a sum, after a change of one term
+pub sum_set : {X : Type 0} (f : X → ℕ) (xs : List X) (k : ℕ) (v w : X) → get_elem? xs k ≡ some v
+    → sum_by f (set xs k w) + f v ≡ sum_by f xs + f w
+sum_set f [] k v w at = absurd (some-ne-none v (sym at))
+sum_set f (x ∷ xs) zero v w at =
+    omega (arith, ap f (some-injective x v at), sum_by-cons f x xs, sum_by-cons f w xs)
+sum_set f (x ∷ xs) (suc k) v w at = omega (arith, sum_set f xs k v w at, sum_by-cons f x xs, sum_by-cons f x (set xs k w))
+
+-- a term is within the sum
+sum_at : {X : Type 0} (f : X → ℕ) (xs : List X) (k : ℕ) (v : X) → get_elem? xs k ≡ some v → f v ≤ sum_by f xs
+sum_at f [] k v at = absurd (some-ne-none v (sym at))
+sum_at f (x ∷ xs) zero v at = omega (arith, ap f (some-injective x v at), sum_by-cons f x xs)
+sum_at f (x ∷ xs) (suc k) v at = omega (arith, sum_at f xs k v at, sum_by-cons f x xs)
+
+-- the sum over all rows is one over the seats
+rows_sum : (f : DrawnRow → ℕ) (views : List DeskView) → sum_by f (all_rows views) ≡ sum_by (λ v. sum_by f (rows_in v)) views
+rows_sum f [] = refl
+rows_sum f (x ∷ xs) = omega (
+  arith,
+  rows_sum f xs,
+  sum_by-append f (rows_in x) (all_rows xs),
+  sum_by-cons (λ v. sum_by f (rows_in v)) x xs,
+)
+
 -- the sum over all rows, after a change of one view
 pub rows_set : (f : DrawnRow → ℕ) (views : List DeskView) (seat : ℕ) (v w : DeskView) → get_elem? views seat ≡ some v
     → sum_by f (all_rows (set views seat w)) + sum_by f (rows_in v) ≡ sum_by f (all_rows views) + sum_by f (rows_in w)
-rows_set f [] seat v w at = absurd (some-ne-none v (sym at))
-rows_set f (x ∷ xs) zero v w at =
-    let same : sum_by f (rows_in x) ≡ sum_by f (rows_in v) = ap (λ u. sum_by f (rows_in u)) (some-injective x v at) in
-    omega (arith, sum_by-append f (rows_in x) (all_rows xs), sum_by-append f (rows_in w) (all_rows xs))
-rows_set f (x ∷ xs) (suc seat) v w at =
-    omega (
-      arith,
-      rows_set f xs seat v w at,
-      sum_by-append f (rows_in x) (all_rows xs),
-      sum_by-append f (rows_in x) (all_rows (set xs seat w)),
-    )
+rows_set f views seat v w at =
+    omega (arith, rows_sum f (set views seat w), rows_sum f views, sum_set (λ u. sum_by f (rows_in u)) views seat v w at)
 
 -- the same with one seat more
 pub rows_push : (f : DrawnRow → ℕ) (views : List DeskView) (w : DeskView)
     → sum_by f (all_rows (views ++ w ∷ [])) ≡ sum_by f (all_rows views) + sum_by f (rows_in w)
-rows_push f [] w = ap (sum_by f) (append-nil (rows_in w)) ∙ omega arith
-rows_push f (x ∷ xs) w = omega (
-  arith,
-  rows_push f xs w,
-  sum_by-append f (rows_in x) (all_rows xs),
-  sum_by-append f (rows_in x) (all_rows (xs ++ w ∷ [])),
-)
+rows_push f views w =
+    omega (arith, rows_sum f (views ++ w ∷ []), rows_sum f views, sum_by_push (λ u. sum_by f (rows_in u)) views w)
 
 -- the sum over one seat's rows is within that over all
 pub rows_at : (f : DrawnRow → ℕ) (views : List DeskView) (seat : ℕ) (v : DeskView) → get_elem? views seat ≡ some v
     → sum_by f (rows_in v) ≤ sum_by f (all_rows views)
-rows_at f [] seat v at = absurd (some-ne-none v (sym at))
-rows_at f (x ∷ xs) zero v at =
-    let same : sum_by f (rows_in x) ≡ sum_by f (rows_in v) = ap (λ u. sum_by f (rows_in u)) (some-injective x v at) in
-    omega (arith, sum_by-append f (rows_in x) (all_rows xs))
-rows_at f (x ∷ xs) (suc seat) v at = omega (arith, rows_at f xs seat v at, sum_by-append f (rows_in x) (all_rows xs))
-
--- the passes that all seats stand for, after a change of one view
-pub passes_set : (views : List DeskView) (seat : ℕ) (v w : DeskView) → get_elem? views seat ≡ some v
-    → sum_by passes_in (set views seat w) + passes_in v ≡ sum_by passes_in views + passes_in w
-passes_set [] seat v w at = absurd (some-ne-none v (sym at))
-passes_set (x ∷ xs) zero v w at =
-    let same : passes_in x ≡ passes_in v = ap passes_in (some-injective x v at) in
-    omega (arith, sum_by-cons passes_in x xs, sum_by-cons passes_in w xs)
-passes_set (x ∷ xs) (suc seat) v w at = omega (
-  arith,
-  passes_set xs seat v w at,
-  sum_by-cons passes_in x xs,
-  sum_by-cons passes_in x (set xs seat w),
-)
+rows_at f views seat v at = omega (arith, rows_sum f views, sum_at (λ u. sum_by f (rows_in u)) views seat v at)
 
 -- a fact of each row in two lists is one of each row in the second
 all_back : (P : DrawnRow → Type 0) (xs ys : List DrawnRow) → All P (xs ++ ys) → All P ys
@@ -125,10 +117,6 @@ all_at P [] seat v at all = absurd (some-ne-none v (sym at))
 all_at P (x ∷ xs) zero v at all = subst (λ u. All P (rows_in u)) (some-injective x v at) (all_front P (rows_in x) (all_rows xs) all)
 all_at P (x ∷ xs) (suc seat) v at all = all_at P xs seat v at (all_back P (rows_in x) (all_rows xs) all)
 
--- the same with one seat more
-pub passes_push : (views : List DeskView) (w : DeskView) → sum_by passes_in (views ++ w ∷ []) ≡ sum_by passes_in views + passes_in w
-passes_push views w = sum_by_push passes_in views w
-
 -- a seat has no more rows than it stands for passes
 rows_within_one : (v : DeskView) → length (rows_in v) ≤ passes_in v
 rows_within_one (Opening total handed_out left) = omega arith
@@ -161,18 +149,10 @@ has_all (x ∷ xs) zero rows at whole =
     let rest : all_rows xs ≡ [] = no_passes_no_rows xs (omega (arith, sum_by-cons passes_in x xs)) in
     ap (λ u. rows_in u ++ all_rows xs) is ∙ ap (λ l. rows ++ l) rest ∙ append-nil rows
 has_all (x ∷ xs) (suc seat) rows at whole =
-    let mine : length rows ≤ sum_by passes_in xs = passes_below xs seat (Closing rows) at in
+    let mine : length rows ≤ sum_by passes_in xs = sum_at passes_in xs seat (Closing rows) at in
     let no_pass : passes_in x ≡ 0 = omega (arith, sum_by-cons passes_in x xs) in
     let short : rows_in x ≡ [] = nil_from_length (rows_in x) (omega (arith, rows_within_one x)) in
     ap (λ l. l ++ all_rows xs) short ∙ has_all xs seat rows at (omega (arith, sum_by-cons passes_in x xs))
-  where
-    passes_below : (views : List DeskView) (seat : ℕ) (v : DeskView) → get_elem? views seat ≡ some v
-        → passes_in v ≤ sum_by passes_in views
-    passes_below [] seat v at = absurd (some-ne-none v (sym at))
-    passes_below (x ∷ xs) zero v at =
-        let same : passes_in x ≡ passes_in v = ap passes_in (some-injective x v at) in
-        omega (arith, sum_by-cons passes_in x xs)
-    passes_below (x ∷ xs) (suc seat) v at = omega (arith, passes_below xs seat v at, sum_by-cons passes_in x xs)
 
 -- each seat that knows a total knows the plan's
 abbrev HaveTotal : DeskPlan → List DeskView → Type 0
@@ -345,7 +325,7 @@ draws {S} plan slots seat total number numbers s kept homes at fits =
       record {
         few = kept.few;
         word = words ∙ ap (λ m. m ∷ []) (sym some.1);
-        passes = omega (arith, passes_set s.views seat (unspent_view total number numbers) w at, kept.passes);
+        passes = omega (arith, sum_set passes_in s.views seat (unspent_view total number numbers) w at, kept.passes);
         lawful = some.0;
         totals = totals_set plan s.views seat w kept.totals (kept.totals seat (unspent_view total number numbers) at);
       },
@@ -359,7 +339,7 @@ draws {S} plan slots seat total number numbers s kept homes at fits =
       record {
         few = kept.few;
         word = words ∙ ap (λ m. m ∷ []) (sym no_more.1);
-        passes = omega (arith, passes_set s.views seat (unspent_view total number numbers) w at, kept.passes);
+        passes = omega (arith, sum_set passes_in s.views seat (unspent_view total number numbers) w at, kept.passes);
         lawful = no_more.0;
         totals = totals_set plan s.views seat w kept.totals (kept.totals seat (unspent_view total number numbers) at);
       },
@@ -433,7 +413,7 @@ hands_out {S} plan seat total handed_out left some_left s kept at =
     record {
       few = kept.few;
       word = kept.word ∙ ap (λ m. m ∷ []) (omega arith);
-      passes = omega (arith, passes_push now b, passes_set s.views seat v a at, kept.passes);
+      passes = omega (arith, sum_by_push passes_in now b, sum_set passes_in s.views seat v a at, kept.passes);
       lawful = lawful_alike plan.total (all_rows s.views) (all_rows (now ++ b ∷ [])) drawn same spent
           (all_pushed P now b (all_set P s.views seat a kept.lawful.ascending (All-nil P))
           (All-cons P (drawn_row [] false) [] (λ i j d under within. absurd (omega arith)) (All-nil P))) kept.lawful;
@@ -476,7 +456,7 @@ starts_closing {S} plan slots s kept homes fits =
       record {
         few = kept.few;
         word = kept.word ∙ ap (λ m. m ∷ []) (omega arith);
-        passes = omega (arith, passes_push s.views w, kept.passes);
+        passes = omega (arith, sum_by_push passes_in s.views w, kept.passes);
         lawful =
             lawful_alike plan.total (all_rows s.views) (all_rows (s.views ++ w ∷ [])) drawn same spent
             (all_pushed P s.views w kept.lawful.ascending (All-nil P)) kept.lawful;
@@ -503,7 +483,7 @@ reclaims {S} plan seat rows other total number r s kept at apart there =
     record {
       few = kept.few;
       word = kept.word ∙ ap (λ m. m ∷ []) (omega (arith, same (λ q. length q.numbers), same (λ q. cond q.spent 1 0)));
-      passes = omega (arith, passes_set s.views seat v w at, passes_set between other u Ended there, kept.passes);
+      passes = omega (arith, sum_set passes_in s.views seat v w at, sum_set passes_in between other u Ended there, kept.passes);
       lawful = lawful_alike plan.total (all_rows s.views) (all_rows now) (same (λ q. length q.numbers)) (λ x. same (times x))
           (same (λ q. cond q.spent 1 0))
           (all_set P between other Ended (all_set P s.views seat w kept.lawful.ascending (All-append P (r ∷ []) rows theirs own))

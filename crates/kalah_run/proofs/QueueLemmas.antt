@@ -1,7 +1,7 @@
 -- The results queue: its pairs, the views of its passes, and what each step keeps.
 use Rattle.std.proofs.Common.{◌≡◌, ◌≢◌, ℕ, zero, suc, ◌+◌, ◌<◌, ◌≤◌, ◌==◌, if◌then◌else◌, Bool, true, false, List, [], ◌∷◌, ◌++◌, length, All, slice_index_or, refl, sym, ap, ◌∙◌, eq-eqb, ne_eqb, arith, set, subst, ◌⊎◌, ⊎_elim, inl, inr, append_assoc}
 use Rattle.std.proofs.lemmas.List.{append-nil, length-set, length_push}
-use Rattle.std.proofs.lemmas.List.Elements.{All-append}
+use Rattle.std.proofs.lemmas.List.Elements.{All-push}
 use Rattle.kalah_jobs.specs.declared.files.job.Job.{Job}
 use Rattle.kalah_jobs.specs.Collecting.Shares.{of}
 use Rattle.kalah_run.specs.Queue.Lists.{Accounts}
@@ -58,10 +58,6 @@ pub next_below : (workers : ℕ) (taken : List (ℕ × Job)) (t : ℕ × Job) (r
 next_below workers [] t rest below = below 0 t (omega arith)
 next_below workers (x ∷ xs) t rest below = next_below workers xs t rest (λ k d lt. below (suc k) d (omega arith))
 
-one_below : (workers : ℕ) (t : ℕ × Job) → t.0 < workers → All (λ (u : ℕ × Job). u.0 < workers) (t ∷ [])
-one_below workers t h zero d lt = h
-one_below workers t h (suc k) d lt = absurd (omega arith)
-
 known_more : (known : List (List Job)) (s : List Job) (given : ℕ → List Job)
     → ((k : ℕ) → k < length known → given k ≡ slice_index_or known k []) → given (length known) ≡ s
     → (k : ℕ) → k < length (known ++ s ∷ []) → given k ≡ slice_index_or (known ++ s ∷ []) k []
@@ -82,7 +78,7 @@ pub accounts_pair : (workers : ℕ) (known : List (List Job)) (pairs : List (ℕ
     → Accounts workers known pairs → Accounts workers known (pairs ++ x ∷ [])
 accounts_pair workers known pairs x lt le h =
     record {
-      below = All-append (λ (t : ℕ × Job). t.0 < workers) pairs (x ∷ []) h.below (one_below workers x lt);
+      below = All-push (λ (t : ℕ × Job). t.0 < workers) pairs x h.below lt;
       whole = λ w b. let ne : x.0 ≢ w = (λ q. omega arith) in of_same w pairs x ne ∙ h.whole w b;
     }
 
@@ -170,14 +166,6 @@ pub one_pass_more : (id : TableId) (n : ℕ) (ps : List PutState) (p : PutState)
     → ArePassesFrom id n (ps ++ p ∷ [])
 one_pass_more id n [] p h q is = (q, omega arith, tt)
 one_pass_more id n (x ∷ xs) p h q is = (h.0, h.1, one_pass_more id (suc n) xs p h.2 q (omega arith))
-
-all_of_one : {X : Type 0} (P : X → Type 0) (x : X) → P x → All P (x ∷ [])
-all_of_one P x p zero d lt = p
-all_of_one P x p (suc k) d lt = absurd (omega arith)
-
--- what holds of all, and of one more
-pub all_and_one : {X : Type 0} (P : X → Type 0) (xs : List X) (x : X) → All P xs → P x → All P (xs ++ x ∷ [])
-all_and_one P xs x h p = All-append P xs (x ∷ []) h (all_of_one P x p)
 
 -- the passes to put to one queue are all of that queue
 pub all_are_of : (id : TableId) (n : ℕ) (ps : List PutState) → ArePassesFrom id n ps → All (λ p. p.queue ≡ id) ps

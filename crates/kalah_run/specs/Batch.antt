@@ -2,8 +2,6 @@ pub mod Faults
 pub mod Answering
 pub mod NoLine
 pub mod AtWork
-pub mod Texts
 pub mod UnderWay
 pub mod OrderedOutput
-pub mod OpenBatch
 pub mod Running

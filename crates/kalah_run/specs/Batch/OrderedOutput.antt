@@ -4,10 +4,14 @@ use Rattle.kalah_jobs.specs.declared.files.entry.Entry.{Entry}
 use Rattle.kalah_jobs.specs.declared.files.job.Job.{Job}
 use Rattle.kalah_jobs.specs.Files.NamedBytes.{NamedBytes}
 use Rattle.kalah_jobs.specs.Collecting.CollectorState.{state_of, new_files, HasEnded}
-use Rattle.kalah_jobs.specs.Writing.Output.{names_of, output_of_jobs}
+use Rattle.kalah_jobs.specs.Writing.Output.{names_of, output_of_jobs, answer_text_of}
 use Rattle.kalah_run.specs.Batch.UnderWay.{IsUnderWay}
-use Rattle.kalah_run.specs.Batch.Texts.{text_of}
 use Rattle.kalah_run.specs.declared.batch.ordered_output.OrderedOutput.{OrderedOutput}
+use Rattle.kalah_jobs.specs.declared.writing.answer.Taken.{Taken}
+
+-- the answer line of what is taken of file f, followed by a line feed
+unfoldable pub text_of : List NamedBytes → ℕ → Taken → List ℕ
+text_of files = answer_text_of (names_of files)
 
 -- nothing has come, and nothing is written
 abbrev pub IsNew : OrderedOutput → Type 0

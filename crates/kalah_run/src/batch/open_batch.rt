@@ -3,7 +3,7 @@ ghost use Rattle.std.specs.Prelude.{◌≡◌, ◌≤◌, ℕ, ◌<◌, [], leng
 ghost use Rattle.kalah_jobs.specs.Files.Jobs.{job_count};
 ghost use Rattle.kalah_run.specs.Limits.{IsTableSize};
 ghost use Rattle.kalah_run.specs.Batch.AtWork.{passes_of, puts_of};
-ghost use Rattle.kalah_run.specs.Batch.OpenBatch.{IsAsAsked, IsReadyToRun, HaveTables};
+ghost use Rattle.kalah_run.specs.Batch.Running.{IsAsAsked, IsReadyToRun, HaveTables};
 ghost use Rattle.kalah_run.specs.Batch.OrderedOutput.{whole_output};
 ghost use Rattle.kalah_run.specs.Batch.UnderWay.{WasGiven};
 ghost use Rattle.kalah_run.specs.declared.batch.request.Rest.TheVariants.{Solve};

@@ -3,7 +3,7 @@ ghost use Rattle.std.specs.Prelude.{◌≡◌, ◌<◌, Some, slice_get, true, I
 ghost use Rattle.kalah_jobs.specs.Files.JobList.{job_list};
 ghost use Rattle.kalah_jobs.specs.Files.Jobs.{job_count};
 ghost use Rattle.kalah_run.specs.Limits.{IsTableSize};
-ghost use Rattle.kalah_run.specs.Batch.OpenBatch.{HasTable};
+ghost use Rattle.kalah_run.specs.Batch.Running.{HasTable};
 
 use crate::batch::gate::Gate;
 use crate::desk::pass::Pass;

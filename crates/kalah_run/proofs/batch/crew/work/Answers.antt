@@ -3,7 +3,7 @@ use Rattle.std.specs.Prelude.{All}
 use Rattle.kalah_run.specs.declared.desk.rule.DrawnRow.{DrawnRow}
 use Rattle.kalah_run.specs.Desk.States.{PassState}
 use Rattle.kalah_run.specs.Queue.States.{PutState}
-use Rattle.kalah_run.proofs.QueueLemmas.{all_and_one}
+use Rattle.std.proofs.lemmas.List.Elements.{All-push}
 use Rattle.kalah_run.proofs.BatchLemmas.{drawn_jobs-more, less_left}
 use Rattle.kalah_run.proofs.batch.crew.work.Goals as goal
 
@@ -19,7 +19,7 @@ loop-worker-preserved g c =
         draws = rw same.0 c.draw.ensures.own;
         sends = ap (λ (p : PutState). p.queue) (c.put.ensures) ∙ ap (λ (p : PutState). p.queue) same.1 ∙ before.sends;
         known = subst (All Known) (sym drawn)
-            (all_and_one Known c.loop-worker.worker.pass.row.numbers c.in-Some.job before.known (search rules));
+            (All-push Known c.loop-worker.worker.pass.row.numbers c.in-Some.job before.known (search rules));
         sent = drawn_jobs-more c.args.shared.now.jobs.now c.loop-worker.worker.pass.row c.answer-outcome.new.self.pass.row c.in-Some.job
             c.answer-outcome.result
             c.loop-worker.worker.put.sent c.put.new.pass.sent before.sent drawn c.answer-outcome.ensures.answer

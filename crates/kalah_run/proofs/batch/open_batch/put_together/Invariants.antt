@@ -1,7 +1,7 @@
 use Rattle.std.proofs.Common.{◌≡◌, ◌++◌}
 use Rattle.std.specs.Vec.Iter.{into_iter_items}
 use Rattle.kalah_run.specs.Batch.AtWork.{passes_of, puts_of}
-use Rattle.kalah_run.specs.Batch.OpenBatch.{HaveTables}
+use Rattle.kalah_run.specs.Batch.Running.{HaveTables}
 use Rattle.kalah_run.proofs.batch.open_batch.put_together.Given as goal
 
 abbrev pub invariant-loop-pass : goal.invariant-loop-pass

@@ -1,6 +1,7 @@
 use Rattle.std.proofs.Common.{rules, arith, ◌≡◌, [], ap, ◌∙◌}
+use Rattle.std.proofs.lemmas.List.Elements.{All-push}
 use Rattle.kalah_run.specs.Queue.Steps.{sent_in, after_making_one, one_made}
-use Rattle.kalah_run.proofs.QueueLemmas.{begins, forks, one_pass_more, all_and_one}
+use Rattle.kalah_run.proofs.QueueLemmas.{begins, forks, one_pass_more}
 use Rattle.kalah_run.proofs.queue.ResultsQueue.open.Goals as goal
 
 pub ruled-requires-clause-rule : goal.ruled-requires-clause-rule
@@ -19,6 +20,6 @@ loop-number-preserved c =
       room = omega arith;
       passes = rw c.push_reserved.ensures.items (one_pass_more _ 0 _ _ so_far.passes (search rules) (search rules));
       unsent =
-          rw c.push_reserved.ensures.items (all_and_one (λ p. p.sent ≡ []) _ _ so_far.unsent
+          rw c.push_reserved.ensures.items (All-push (λ p. p.sent ≡ []) _ _ so_far.unsent
           (ap sent_in (views.1 ∙ ap one_made so_far.made)));
     }
