@@ -47,8 +47,9 @@ sow_rule p h k = refl
 -- rows from which houses are taken
 taken_off : (rows x y own other own_new other_new : ℕ) → rows % 2 ^ 30 ≡ own → rows / 2 ^ 30 ≡ other →
     own_new + x ≡ own → other_new + y ≡ other →
-    ((rows - x - 2 ^ 30 * y) % 2 ^ 30 ≡ own_new) × ((rows - x - 2 ^ 30 * y) / 2 ^ 30 ≡ other_new)
-taken_off rows x y own other own_new other_new own_is other_is less other_less = (omega arith, omega arith)
+    (x ≤ rows) × (2 ^ 30 * y ≤ rows - x) × ((rows - x - 2 ^ 30 * y) % 2 ^ 30 ≡ own_new)
+    × ((rows - x - 2 ^ 30 * y) / 2 ^ 30 ≡ other_new)
+taken_off rows x y own other own_new other_new own_is other_is less other_less = (omega arith, omega arith, omega arith, omega arith)
 
 -- what is caught of rows: the last seed, if it is alone in its house, and the seeds across, as the rule says
 abbrev pub Caught : Rule → RowNumbers → ℕ → ℕ → ℕ → ℕ → ℕ → Type 0
@@ -265,9 +266,9 @@ module _ (a : Rows) (h : ℕ) (w : IsWithinHouses a) (holds : HoldsSeeds (bare a
             rw (both.1, opposite_is, pow_other (j - 1)) (moved_far _ _ far (omega arith)) in
             let off = taken_off r.rows (32 ^ (i - 1)) (32 ^ (j - 1) * seeds q.other j) _ _ _ _ shows.own shows.other (omega arith) (omega arith) in
             record {
-              here = omega arith;
-              across = omega arith;
-              shows = rw (x, y, some) (record { own = off.0; other = off.1; store = omega arith });
+              here = rw x off.0;
+              across = rw (x, y) off.1;
+              shows = rw (x, y, some) (record { own = off.2; other = off.3; store = omega arith });
             }
       ]
 

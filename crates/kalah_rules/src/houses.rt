@@ -111,6 +111,7 @@ impl Houses {
     ///
     /// Own house i is in the five bits from 5(i - 1) on, and the other player's house i in those from 30 + 5(i - 1) on. Bits 60 to 62
     /// have the number of houses a side, and bit 63 is set for the empty-capture rule.
+    #[tactic(auto, using(crate::proofs::KeyLemmas::pack_of))]
     pub fn key(&self) -> u64
         ensures key { result ≡ key_of self.now }
         ensures limits { IsWithinHouses self.now }
@@ -163,6 +164,7 @@ impl Houses {
     }
 
     /// Returns the mover's houses as a number with five bits for each, house 1 lowest: the lowest 30 bits of the key.
+    #[tactic(auto, using(crate::proofs::KeyLemmas::pack_of, crate::proofs::KeyLemmas::own_number_at))]
     pub fn own_row(&self) -> u64
         ensures value { result ≡ number_of self.now.own }
         ensures small { result < 2 ^ 30 }
@@ -172,6 +174,7 @@ impl Houses {
     }
 
     /// Returns the other player's houses as such a number: bits 30 to 59 of the key.
+    #[tactic(auto, using(crate::proofs::KeyLemmas::pack_of, crate::proofs::KeyLemmas::other_number_at))]
     pub fn other_row(&self) -> u64
         ensures value { result ≡ number_of self.now.other }
         ensures small { result < 2 ^ 30 }
@@ -181,6 +184,7 @@ impl Houses {
     }
 
     /// Returns the number of seeds in the mover's house `i`, which is 1 to `m`.
+    #[tactic(auto, using(crate::proofs::KeyLemmas::read_seeds))]
     pub fn own(&self, i: u8) -> u8
         requires low { 1 ≤ i }
         requires high { i ≤ length self.now.own }
@@ -192,6 +196,7 @@ impl Houses {
 
     // Returns the number of seeds in a house of the mover.
     #[inline(always)]
+    #[tactic(auto, using(crate::proofs::KeyLemmas::read_seeds))]
     fn own_in(&self, house: House) -> u8
         requires { house ≤ length self.now.own }
         ensures value { result ≡ seeds self.now.own house }
@@ -201,6 +206,7 @@ impl Houses {
     }
 
     /// Returns the number of seeds in the other player's house `i`, which is 1 to `m`.
+    #[tactic(auto, using(crate::proofs::KeyLemmas::read_seeds))]
     pub fn other(&self, i: u8) -> u8
         requires low { 1 ≤ i }
         requires high { i ≤ length self.now.own }

@@ -3,6 +3,7 @@ ghost use Rattle.kalah_rules.specs.Laws.{EveryMoveNearsEnd, SowingIsSeedBySeed};
 
 /// Every game ends, for all positions and both rules of capture. Each legal move leaves fewer seeds in houses, or equally many that lie
 /// nearer to their owners' stores.
+#[tactic(auto, using(crate::proofs::PlayLemmas::legal_holds, crate::proofs::PlayLemmas::after_nearer))]
 pub fn every_move_nears_end()
     ensures { EveryMoveNearsEnd }
 {}

@@ -72,6 +72,7 @@ pub(super) fn rule_of(bit: u64) -> Rule
 
 // Returns the number of seeds in a house of a row.
 #[inline(always)]
+#[tactic(auto, using(crate::proofs::KeyLemmas::pow_five))]
 pub(super) fn seeds_at(row: u64, house: House) -> u64
     ensures { result ≡ row / 32 ^ (house - 1) % 32 }
 {
@@ -80,6 +81,7 @@ pub(super) fn seeds_at(row: u64, house: House) -> u64
 
 // Returns a row with `seeds` seeds in this house, and none elsewhere.
 #[inline(always)]
+#[tactic(auto, using(crate::proofs::KeyLemmas::pow_five, crate::proofs::KeyLemmas::moved_small))]
 pub(super) fn alone(house: House, seeds: u64) -> u64
     requires { seeds < 32 }
     ensures { result ≡ 32 ^ (house - 1) * seeds }

@@ -1,8 +1,0 @@
-use Rattle.std.proofs.Common.{arith, ◌∙◌, ◌-◌, ◌/◌, ◌%◌, ◌^◌, ap}
-use Rattle.kalah_rules.proofs.KeyLemmas.{read_seeds}
-use Rattle.kalah_rules.proofs.houses.Houses.own_in.Goals as goal
-
-pub returns-clause-value : goal.returns-clause-value
-returns-clause-value c =
-    c.seeds_at.ensures ∙ ap (λ n. n / 32 ^ (c.args.house - 1) % 32) c.own_row.ensures.value
-    ∙ read_seeds _ _ (omega arith) (omega arith)
