@@ -253,6 +253,12 @@ value_of_over p h e is =
     let step = over_step (is_over (after p h)) (is_again p h) (after p h) e is in
     rw (step.1, step.0) (final_margin-swept (after p h))
 
+-- if the mover moves again
+pub value_of_again : (p : Position) (h : ℕ) (e : Position) → board.Again e ≡ step_of p h → worth e ≡ value_of_move p h
+value_of_again p h e is =
+    let step = again_step (is_over (after p h)) (is_again p h) (after p h) e is in
+    rw (step.2, step.0, step.1) refl
+
 -- if the turn passes
 pub value_of_turn : (p : Position) (h : ℕ) (e : Position) → board.Turn e ≡ step_of p h → neg_ℤ (worth e) ≡ value_of_move p h
 value_of_turn p h e is =

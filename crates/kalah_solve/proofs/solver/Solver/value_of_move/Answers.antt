@@ -1,6 +1,6 @@
 use Rattle.std.proofs.Common.{arith, rules, ◌∙◌, ap, ◌≡◌, to_z, of_z, pos, neg_ℤ, ◌-ℤ◌, w32, SFits}
 use Rattle.std.proofs.lemmas.Int.{ints, to_z-of_z}
-use Rattle.kalah_solve.proofs.WorthLemmas.{over_ends, value_of_over, value_of_turn}
+use Rattle.kalah_solve.proofs.WorthLemmas.{over_ends, value_of_over, value_of_again, value_of_turn}
 use Rattle.kalah_solve.proofs.solver.Solver.value_of_move.Goals as goal
 
 pub returns-requires : goal.returns-requires
@@ -18,3 +18,8 @@ returns-in-Turn-clause-value g c =
     let turned : to_z w32 (of_z w32 (pos 0 -ℤ to_z w32 (of_z w32 c.margin-in-Turn.result))) ≡ neg_ℤ c.margin-in-Turn.result =
     omega (arith, ints) in
     turned ∙ ap neg_ℤ c.margin-in-Turn.ensures.worth ∙ value_of_turn _ _ _ c.in-Turn.ensures.step
+
+pub returns-in-Again-clause-value : goal.returns-in-Again-clause-value
+returns-in-Again-clause-value g c =
+    let fits : SFits w32 c.margin.result = search rules in
+    simp to_z-of_z (c.margin.ensures.worth ∙ value_of_again _ _ _ c.in-Again.ensures.step)
