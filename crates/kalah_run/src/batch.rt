@@ -1,5 +1,5 @@
 //! A batch: the lines of position files, solved by many workers and answered in order.
-ghost use Rattle.std.specs.Prelude.{◌≡◌, ◌↔◌, ◌<◌, ◌≤◌, false};
+ghost use Rattle.std.specs.Prelude.{◌≡◌, ◌<◌, false};
 ghost use Rattle.kalah_run.specs.Limits.{AreWorkers, IsTableSize};
 ghost use Rattle.kalah_jobs.specs.Writing.Output.{output_of, output_to};
 ghost use Rattle.kalah_run.specs.Batch.Answering.{AnswersBatch, SolvesAll};
@@ -76,8 +76,8 @@ pub fn answer_batch<R: Threads + Wait + Sync, G: Gate, V: Watch, W: Sink>(
     requires fresh { W.has_failed out.old ≡ false }
 
     // What Ok means, what was written in any case, and when each fault comes: a field for each.
-    ensures answers { AnswersBatch W.written W.has_failed W.is_handed_on (output_to request.now.question request.now.files.now) request.now.files.now
-        out.old out.new result }
+    ensures answers { AnswersBatch W.written W.has_failed W.is_handed_on (output_to request.now.question request.now.files.now)
+        request.now.files.now out.old out.new result }
 
     // Each line is solved, if the rest is to be solved.
     ensures solved { request.now.rest ≡ Solve → SolvesAll (G.knows gate.now) request.now.files.now result }

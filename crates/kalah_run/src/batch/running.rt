@@ -1,5 +1,5 @@
 //! Runs the workers on further threads, while the calling thread accepts what they send.
-ghost use Rattle.std.specs.Prelude.{◌≡◌, ◌+◌, ◌≤◌, ◌⊎◌, [], length, false, IfErr, IfNone, IfOk, MatchOption, OnErr};
+ghost use Rattle.std.specs.Prelude.{◌≡◌, ◌+◌, ◌⊎◌, [], length, false, IfErr, IfNone, IfOk, MatchOption, OnErr};
 ghost use Rattle.std.specs.Io.KnownBytes.{Keeps};
 ghost use Rattle.std.specs.Thread.{IsSync};
 ghost use Rattle.kalah_jobs.specs.Files.Jobs.{job_count};

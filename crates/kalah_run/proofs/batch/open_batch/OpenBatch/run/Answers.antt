@@ -87,7 +87,8 @@ each_got g c all =
     let ready = c.requires in
     let run = c.in_ok-workers.ensures.ended in
     let get = c.in_ok-workers.get in
-    let as_many = run.all_ran.as_many ∙ sym (run.collected.workers ∙ ap (λ (p : GetState). p.workers) (c.new-receiver.ensures ∙ ready.get)) in
+    let as_many = run.all_ran.as_many
+    ∙ sym (run.collected.workers ∙ ap (λ (p : GetState). p.workers) (c.new-receiver.ensures ∙ ready.get)) in
     let rest = c.close-2.ensures.whole in
     let accounts = subst (λ (l : List PutState). Accounts get.workers (sent_by l) (get.got ++ rest.0))
     c.take_apart-passes.ensures.puts rest.2 in
