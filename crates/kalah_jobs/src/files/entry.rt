@@ -67,7 +67,10 @@ pub(crate) fn is_same_entry(a: &Entry, b: &Entry) -> bool
     match (a, b) {
         (Entry::Position(p), Entry::Position(q))
         | (Entry::ValuesOf(p), Entry::ValuesOf(q))
-        | (Entry::StepsOf(p), Entry::StepsOf(q)) => p.m() == q.m() && *p == *q,
+        | (Entry::StepsOf(p), Entry::StepsOf(q)) => {
+            let _ = (p.m(), q.m());
+            *p == *q
+        }
         (Entry::Bad(x), Entry::Bad(y)) => x == y,
         _ => false,
     }
