@@ -20,7 +20,7 @@ use Rattle.kalah_jobs.specs.declared.collecting.refusal.Refusal.TheVariants.{NoS
 use Rattle.kalah_jobs.specs.Writing.Answer.{answer_of}
 use Rattle.kalah_jobs.specs.Files.JobList.{entries_of, entry_at, line_job, file_jobs, jobs_from, job_list}
 use Rattle.kalah_jobs.specs.Collecting.Refusals.{IsWanted, IsRefusedFor, RefusalsLaw}
-use Rattle.kalah_jobs.specs.Collecting.Held.{IsAnswered, HoldsOffered, Kept}
+use Rattle.kalah_jobs.specs.Collecting.Held.{IsOffered, HoldsOffered, Kept}
 use Rattle.std.proofs.lemmas.List.FromFn.{length-enumerate_from, get_or-enumerate_from}
 use Rattle.kalah_jobs.specs.declared.writing.answer.Taken.{Taken}
 use Rattle.kalah_jobs.specs.Collecting.CollectorEvents.{Event, Offered, Took, Offers, Gives, offers, takes, with_taken, Came, answered_line, answered_lines}
@@ -368,8 +368,8 @@ pub wanted_file : (jobs : List (List Entry)) (files : List FileState) (o : Job) 
 wanted_file jobs files o w = w.0.0.0.0
 
 -- what was answered by some offers is answered by one more
-still_answered : {jobs : List (List Entry)} {past : List Job} {f k : ℕ} {a : Answer} (o : Job) → IsAnswered jobs past f k a →
-    IsAnswered jobs (past ++ o ∷ []) f k a
+still_answered : {jobs : List (List Entry)} {past : List Job} {f k : ℕ} {a : Answer} (o : Job) → IsOffered jobs past f k a →
+    IsOffered jobs (past ++ o ∷ []) f k a
 still_answered {jobs} {past} {f} {k} o old = record {
   entry = old.entry;
   at = old.at;
@@ -396,7 +396,7 @@ holds_accepted jobs past files o holds wanted =
             | inr new ↦ absurd (apart (sym (ap (λ (u : Job). u.file) new), sym (ap (λ (u : Job). u.line) new)))
           ]);
       only = each_line files o a (wanted_file jobs files o wanted) wanted.0.0.1
-          (λ f k now. (b : Answer) → now ≡ Some b → IsAnswered jobs (past ++ o ∷ []) f k b)
+          (λ f k now. (b : Answer) → now ≡ Some b → IsOffered jobs (past ++ o ∷ []) f k b)
           (λ b same. record { entry = o.entry; at = entry_is; is = (cc); offered = Contains-push past o })
           (λ f k apart b is. still_answered o (holds.only f k b is));
     }
@@ -454,7 +454,7 @@ holds_take jobs past files f low holds =
           (λ g new. (k : ℕ) (e : Entry) → entry_at jobs g k ≡ Some e → Contains past (line_job g k e)
           → came_for new k ≡ Some (answer_of e))
           (holds.came f) (λ g other. holds.came g);
-      only = each_file files f taken low (λ g new. (k : ℕ) (a : Answer) → came_for new k ≡ Some a → IsAnswered jobs past g k a)
+      only = each_file files f taken low (λ g new. (k : ℕ) (a : Answer) → came_for new k ≡ Some a → IsOffered jobs past g k a)
           (holds.only f) (λ g other. holds.only g);
     }
 

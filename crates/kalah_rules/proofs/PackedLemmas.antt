@@ -14,7 +14,7 @@ use Rattle.kalah_rules.specs.Sowing.{lap_length, own_distance, other_distance, s
 use Rattle.kalah_rules.proofs.PlayLemmas.{set_less, sow_side, sow_keeps, sow_other_store, own_distance_past, own_distance_back, last_house_own, last_house_store, last_house_other, after_at, same_position, legal_holds, after_nearer, sum-zeros, with_more, after_of_rows, legal_going}
 use Rattle.std.proofs.Math.ListN.{length-set}
 use Rattle.kalah_rules.specs.Key.{number_of, rows_at, rule_bit}
-use Rattle.kalah_rules.specs.Packed.{Shows, ones, IsPacked}
+use Rattle.kalah_rules.specs.Packed.{IsPackedPosition, ones, IsPacked}
 use Rattle.kalah_rules.specs.declared.houses.play.RowNumbers.{RowNumbers}
 use Rattle.kalah_rules.specs.declared.rule.Rule.{Rule}
 use Rattle.kalah_rules.specs.declared.houses.sowings.Sowing.{Sowing}
@@ -61,7 +61,7 @@ Caught rule r house seed across last taken =
 pub record LeavesRows (r : RowNumbers) (seed bit last taken : ℕ) (p : Position) : Type 0 where
   pub here : last * seed ≤ r.rows
   pub across : taken * 2 ^ bit % 2 ^ 64 ≤ r.rows - last * seed
-  pub shows : Shows (record { rows = r.rows - last * seed - taken * 2 ^ bit % 2 ^ 64; store = r.store + last + taken }) p
+  pub shows : IsPackedPosition (record { rows = r.rows - last * seed - taken * 2 ^ bit % 2 ^ 64; store = r.store + last + taken }) p
 
 -- the five bits of a house
 house_bits : (rows k : ℕ) → bit_and rows (31 * 32 ^ k) ≡ rows / 32 ^ k % 32 * 32 ^ k
@@ -183,7 +183,7 @@ module _ (a : Rows) (h : ℕ) (w : IsWithinHouses a) (holds : HoldsSeeds (bare a
 
   -- show the position after the sowing
   pub rows_show : (rows store : ℕ) → rows ≡ number_of q.own + 2 ^ 30 * number_of q.other →
-      store ≡ store_gained (length a.own) h (seeds a.own h) → Shows (record { rows = rows; store = store }) q
+      store ≡ store_gained (length a.own) h (seeds a.own h) → IsPackedPosition (record { rows = rows; store = store }) q
   rows_show rows store rows_are store_is' = record {
     own = omega (arith, own_small);
     other = omega (arith, own_small);
@@ -202,7 +202,7 @@ module _ (a : Rows) (h : ℕ) (w : IsWithinHouses a) (holds : HoldsSeeds (bare a
   pub into_store : (rows house own_more : ℕ) → seeds a.own h + h ≡ length a.own + 1
       → rows ≡ number_of a.own + 2 ^ 30 * number_of a.other →
       house ≡ 32 ^ (h - 1) * seeds a.own h → own_more + ones h ≡ ones (length a.own)
-      → Shows (record { rows = rows - house + own_more; store = 1 }) q
+      → IsPackedPosition (record { rows = rows - house + own_more; store = 1 }) q
   into_store rows house own_more ends rows_are house_is own_more_is =
       let gains = store_gains _ _ _ holds.first holds.last ends in
       rows_show _ 1 (sown_rows rows house own_more rows_are house_is (omega arith)) (sym gains.store)
@@ -212,7 +212,7 @@ module _ (a : Rows) (h : ℕ) (w : IsWithinHouses a) (holds : HoldsSeeds (bare a
   store_few = omega (arith, sown_keeps.play, w.few_seeds)
 
   -- a house read off the numbers
-  pub read_own : (r : RowNumbers) (i bit : ℕ) → Shows r q → 1 ≤ i → i ≤ length a.own → bit ≡ 5 * (i - 1) →
+  pub read_own : (r : RowNumbers) (i bit : ℕ) → IsPackedPosition r q → 1 ≤ i → i ≤ length a.own → bit ≡ 5 * (i - 1) →
       r.rows / 2 ^ bit % 32 ≡ seeds q.own i
   read_own r i bit shows low high at =
       let near : i - 1 ≤ 5 = omega (arith, w.at_most_six) in
@@ -220,7 +220,7 @@ module _ (a : Rows) (h : ℕ) (w : IsWithinHouses a) (holds : HoldsSeeds (bare a
       ∙ read_seeds _ _ (omega (arith, sown_keeps.side)) (omega (arith, few)))
 
   -- the house across
-  pub read_across : (r : RowNumbers) (i bit : ℕ) → Shows r q → 1 ≤ i → i ≤ length a.own
+  pub read_across : (r : RowNumbers) (i bit : ℕ) → IsPackedPosition r q → 1 ≤ i → i ≤ length a.own
       → bit ≡ 30 + 5 * (opposite q i - 1) →
       r.rows / 2 ^ bit % 32 ≡ seeds q.other (opposite q i)
   read_across r i bit shows low high at =
@@ -232,7 +232,7 @@ module _ (a : Rows) (h : ℕ) (w : IsWithinHouses a) (holds : HoldsSeeds (bare a
       ∙ read_seeds _ _ (omega arith) (omega (arith, few)))
 
   -- all that a capture does to the rows, read and written by bits
-  capture_shows : (r : RowNumbers) (i house seed across last taken : ℕ) → Shows r q → 1 ≤ i → i ≤ length a.own →
+  capture_shows : (r : RowNumbers) (i house seed across last taken : ℕ) → IsPackedPosition r q → 1 ≤ i → i ≤ length a.own →
       IsLastHouse (length a.own) i house seed across → Caught a.rule r house seed across last taken →
       LeavesRows r seed across last taken (captured q (Some i))
   capture_shows r i house seed across last taken shows low high at told =
@@ -353,8 +353,8 @@ module _ (p : Position) (h : ℕ) (holds : HoldsSeeds p h) where
 
   -- it falls into an own house, and may capture
   pub after_own : (r : RowNumbers) → last_place (side_length p) h (seeds p.own h) ≤ side_length p →
-      Shows r (captured (sown p h) (Some (last_place (side_length p) h (seeds p.own h)))) → Shows r (after p h)
-  after_own r own shows = subst (λ z. Shows r z)
+      IsPackedPosition r (captured (sown p h) (Some (last_place (side_length p) h (seeds p.own h)))) → IsPackedPosition r (after p h)
+  after_own r own shows = subst (λ z. IsPackedPosition r z)
       (after_at _ _ _ (last_house_own holds (omega arith) own (own_at own))) shows
 
   -- the place of any other cell is its distance past the house
@@ -366,21 +366,21 @@ module _ (p : Position) (h : ℕ) (holds : HoldsSeeds p h) where
   ]
 
   -- it falls into the store or beyond
-  pub after_past : (r : RowNumbers) → side_length p < last_place (side_length p) h (seeds p.own h) → Shows r (sown p h)
-      → Shows r (after p h)
+  pub after_past : (r : RowNumbers) → side_length p < last_place (side_length p) h (seeds p.own h) → IsPackedPosition r (sown p h)
+      → IsPackedPosition r (after p h)
   after_past r past shows =
       let last = holds.last in
       let at = place_past past in
       elim (cases_eq (h + last_distance p h) (side_length p + 1)) [
         | inl store ↦
             let far : store_distance (side_length p) h ≡ last_distance p h = omega arith in
-            subst (λ z. Shows r z) (after_at _ _ _ (last_house_store holds far)) shows
+            subst (λ z. IsPackedPosition r z) (after_at _ _ _ (last_house_store holds far)) shows
         | inr other ↦
             let j = h + last_distance p h - (side_length p + 1) in
             let low : 1 ≤ j = omega (arith, other) in
             let high : j ≤ side_length p = omega arith in
             let far : other_distance (side_length p) h j ≡ last_distance p h = omega (arith, other) in
-            subst (λ z. Shows r z) (after_at _ _ _ (last_house_other _ holds low high far)) shows
+            subst (λ z. IsPackedPosition r z) (after_at _ _ _ (last_house_other _ holds low high far)) shows
       ]
 
   -- the mover moves again if it falls into the store
@@ -399,7 +399,7 @@ module _ (p : Position) (h : ℕ) (holds : HoldsSeeds p h) where
   ]
 
 -- where no house has one seed, nothing is caught
-none_caught : (rule : Rule) (r : RowNumbers) (last taken : ℕ) {p : Position} → Caught rule r 0 1 0 last taken → Shows r p →
+none_caught : (rule : Rule) (r : RowNumbers) (last taken : ℕ) {p : Position} → Caught rule r 0 1 0 last taken → IsPackedPosition r p →
     LeavesRows r 1 0 last taken p
 none_caught rule r last taken told shows =
     let bits : bit_and r.rows 0 ≡ 0 = omega (arith, and_le_r r.rows 0) in
@@ -421,7 +421,7 @@ across_within {m} h c s sowing few = elim (cases_lt m (last_place m h c)) [
 
 -- the rows after the move are those of the sowing, less what is caught
 pub move_leaves : {a : Rows} {h : ℕ} {s : Sowing} {r : RowNumbers} {rule : Rule} {last taken : ℕ} → IsWithinHouses a →
-    HoldsSeeds (bare a) h → IsSowing (length a.own) h (seeds a.own h) s → Shows r (sown (bare a) h) → rule ≡ a.rule →
+    HoldsSeeds (bare a) h → IsSowing (length a.own) h (seeds a.own h) s → IsPackedPosition r (sown (bare a) h) → rule ≡ a.rule →
     Caught rule r s.last_house s.last_seed s.across last taken → LeavesRows r s.last_seed s.across last taken (after (bare a) h)
 move_leaves {a} {h} {s} {r} {rule} {last} {taken} w holds sowing shows same caught =
     let place = last_place (length a.own) h (seeds a.own h) in
@@ -510,14 +510,14 @@ pub record IsStepTo (a : Rows) (h key seeds : ℕ) (step : Rows → HousesStep) 
   pub is : step (rows_at key) ≡ houses_step a h
 
 pub store_small : {a : Rows} {h : ℕ} {r : RowNumbers} → IsWithinHouses a → Contains (legal_houses (bare a)) h
-    → Shows r (after (bare a) h) →
+    → IsPackedPosition r (after (bare a) h) →
     r.store ≤ 31
 store_small {a} {h} {r} w has shows =
     let keeps = after_keeps _ _ w (legal_holds _ _ has) in
     omega (arith, shows.store, keeps.play, w.few_seeds)
 
 module _ {a : Rows} {h key seeds : ℕ} {r : RowNumbers} (packed : IsPacked key seeds) (view : rows_at key ≡ a)
-    (has : Contains (legal_houses (bare a)) h) (shows : Shows r (after (bare a) h)) where
+    (has : Contains (legal_houses (bare a)) h) (shows : IsPackedPosition r (after (bare a) h)) where
   -- the meaning of the fields
   is : IsPackOf a key seeds
   is = pack_of packed view
@@ -670,7 +670,7 @@ board_step {b} {own_store} {other_store} {h} l view has to is =
 
 module _ {a : Rows} {h key seeds : ℕ} {r : RowNumbers} (packed : IsPacked key seeds) (view : rows_at key ≡ a)
     (has : Contains (legal_houses (bare a)) h)
-    (ends : position.seeds a.own h + h ≡ length a.own + 1) (shows : Shows r (sown (bare a) h)) where
+    (ends : position.seeds a.own h + h ≡ length a.own + 1) (shows : IsPackedPosition r (sown (bare a) h)) where
   w : IsWithinHouses a
   w = (pack_of packed view).limits
 
@@ -690,7 +690,7 @@ module _ {a : Rows} {h key seeds : ℕ} {r : RowNumbers} (packed : IsPacked key 
   place = eqb-true _ _ (sym (again_at (bare a) h holds) ∙ again)
 
   -- nothing is captured
-  pub store_shows : Shows r (after (bare a) h)
+  pub store_shows : IsPackedPosition r (after (bare a) h)
   store_shows = after_past (bare a) h holds r (omega (arith, place)) shows
 
   -- and the other player has seeds as before

@@ -397,7 +397,7 @@ sow_keeps p h low high same (suc k) =
     } in
     rw add-one at step
 
--- ==== The list of legal_houses moves, and where the last seed falls
+-- ==== The list of legal moves, and where the last seed falls
 
 -- one number more at the end of a range
 pub range_more : (a n : ℕ) → range_with_len a (n + 1) ≡ range_with_len a n ++ (a + n) ∷ []

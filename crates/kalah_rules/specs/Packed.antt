@@ -20,7 +20,7 @@ pub record IsPackedRow (count number seeds : ℕ) : Type 0 where
   pub few_seeds : seeds ≤ most_seeds
 
 -- the numbers show a position: both rows, and what its own store holds
-pub record Shows (r : RowNumbers) (p : Position) : Type 0 where
+pub record IsPackedPosition (r : RowNumbers) (p : Position) : Type 0 where
   pub own : r.rows % 2 ^ 30 ≡ number_of p.own
   pub other : r.rows / 2 ^ 30 ≡ number_of p.other
   pub store : r.store ≡ p.own_store

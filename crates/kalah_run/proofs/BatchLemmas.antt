@@ -37,7 +37,7 @@ use Rattle.std.proofs.lemmas.List.Elements.{All-push, All-map}
 use Rattle.kalah_run.specs.Queue.States.{PutState, ArePassesFrom, sent_by}
 use Rattle.kalah_run.specs.Desk.States.{PassState, IsPassAt, AreNewPasses, new_pass, drawn_rows}
 use Rattle.kalah_run.specs.declared.batch.worker.Worker.{Worker}
-use Rattle.kalah_run.specs.Batch.Running.{HasTable, HaveTables}
+use Rattle.kalah_run.specs.Batch.Running.{HasOwnTable, HaveOwnTables}
 use Rattle.atomic_table.specs.Seated.{TableId}
 use Rattle.kalah_jobs.specs.Files.Jobs.{job_count, jobs_to, lines_in_all}
 use Rattle.kalah_jobs.proofs.FilesLemmas.{length-job_list, job_count-jobs_to}
@@ -419,10 +419,10 @@ puts_more workers workers' w put waiting waiting' all is its took so_far =
     ∙ ap (λ l. puts_of workers ++ l) (ap (λ p. p ∷ waiting') its ∙ sym took)
     ∙ so_far
 
-pub tables_more : (workers workers' : List Worker) (w : Worker) (entries : ℕ) → workers' ≡ workers ++ w ∷ [] → HasTable entries w
-    → HaveTables entries workers → HaveTables entries workers'
+pub tables_more : (workers workers' : List Worker) (w : Worker) (entries : ℕ) → workers' ≡ workers ++ w ∷ [] → HasOwnTable entries w
+    → HaveOwnTables entries workers → HaveOwnTables entries workers'
 tables_more workers workers' w entries is has so_far =
-    subst (λ l. HaveTables entries l) (sym is) (All-push (HasTable entries) workers w so_far has)
+    subst (λ l. HaveOwnTables entries l) (sym is) (All-push (HasOwnTable entries) workers w so_far has)
 
 -- ==== The workers of a batch, from their passes to what was got of them
 

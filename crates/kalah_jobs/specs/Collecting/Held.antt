@@ -8,7 +8,7 @@ use Rattle.kalah_jobs.specs.Files.JobList.{entry_at, line_job}
 use Rattle.kalah_jobs.specs.Collecting.CollectorState.{FileState, state_of, came_for, front, HasLinesOf}
 
 -- line k of file f is one of the jobs, the answer is that of its entry, and it was offered with that entry
-pub record IsAnswered (jobs : List (List Entry)) (past : List Job) (f k : ℕ) (answer : Answer) : Type 0 where
+pub record IsOffered (jobs : List (List Entry)) (past : List Job) (f k : ℕ) (answer : Answer) : Type 0 where
   pub entry : Entry
   pub at : entry_at jobs f k ≡ Some entry
   pub is : answer ≡ answer_of entry
@@ -19,7 +19,7 @@ pub record HoldsOffered (jobs : List (List Entry)) (past : List Job) (files : Li
   pub counts : HasLinesOf jobs files
   pub came : (f k : ℕ) (e : Entry) → entry_at jobs f k ≡ Some e → Contains past (line_job f k e) →
       came_for (state_of files f) k ≡ Some (answer_of e)
-  pub only : (f k : ℕ) (a : Answer) → came_for (state_of files f) k ≡ Some a → IsAnswered jobs past f k a
+  pub only : (f k : ℕ) (a : Answer) → came_for (state_of files f) k ≡ Some a → IsOffered jobs past f k a
 
 -- What was offered has come, and no more was taken than is ready.
 pub record Kept (jobs : List (List Entry)) (past : List Job) (files : List FileState) : Type 0 where

@@ -39,7 +39,7 @@ fn caught(rule: Rule, single: bool, across: u64) -> (u64, u64)
 }
 
 impl Houses {
-    ghost use Rattle.kalah_rules.specs.Packed.{Shows};
+    ghost use Rattle.kalah_rules.specs.Packed.{IsPackedPosition};
     ghost use Rattle.kalah_rules.specs.HousesStep.{houses_step};
 
     // Sows this house.
@@ -47,7 +47,7 @@ impl Houses {
     fn sow(&self, house: House, sowing: Sowing) -> RowNumbers
         requires holds { HoldsSeeds (bare self.now) house }
         requires sowing { IsSowing (length self.now.own) house (seeds self.now.own house) sowing }
-        ensures shows { Shows result (sown (bare self.now) house) }
+        ensures shows { IsPackedPosition result (sown (bare self.now) house) }
         ensures few { result.store ≤ 31 }
         ensures limits { IsWithinHouses self.now }
     {
@@ -62,7 +62,7 @@ impl Houses {
     fn after(&self, house: House, sowing: Sowing) -> RowNumbers
         requires holds { HoldsSeeds (bare self.now) house }
         requires sowing { IsSowing (length self.now.own) house (seeds self.now.own house) sowing }
-        ensures { Shows result (after (bare self.now) house) }
+        ensures { IsPackedPosition result (after (bare self.now) house) }
     {
         let sown = self.sow(house, sowing);
         let single = sown.rows & sowing.last_house == sowing.last_seed;
@@ -98,7 +98,7 @@ impl Houses {
     #[inline(always)]
     fn step(&self, house: House, rows: RowNumbers, again: bool) -> HousesStep
         requires legal { Contains (legal_houses (bare self.now)) house }
-        requires rows { Shows rows (after (bare self.now) house) }
+        requires rows { IsPackedPosition rows (after (bare self.now) house) }
         requires again { again ≡ is_again (bare self.now) house }
         ensures { result ≡ houses_step self.now house }
     {

@@ -21,11 +21,11 @@ use Rattle.kalah_run.specs.declared.batch.ordered_output.OrderedOutput.{OrderedO
 use Rattle.kalah_run.specs.declared.batch.shared_work.SharedWork.{SharedWork}
 
 -- the worker has an empty table with room for this many entries
-abbrev pub HasTable : ℕ → Worker → Type 0
-HasTable entries w = (padded_value {T = Solver Global} w.solver).search.table ≡ empty_table entries
+abbrev pub HasOwnTable : ℕ → Worker → Type 0
+HasOwnTable entries w = (padded_value {T = Solver Global} w.solver).search.table ≡ empty_table entries
 
-abbrev pub HaveTables : ℕ → List Worker → Type 0
-HaveTables entries workers = All (HasTable entries) workers
+abbrev pub HaveOwnTables : ℕ → List Worker → Type 0
+HaveOwnTables entries workers = All (HasOwnTable entries) workers
 
 module _ {G : Type 0} where
   -- the two lists for the passes' return are empty, and have room for them
@@ -38,7 +38,7 @@ module _ {G : Type 0} where
   -- each has its table, and the queue has its places
   pub record IsAsAsked (request : BatchRequest) (jobs : List (List Entry)) (gate : G) (b : OpenBatch G) : Type 0 where
     pub workers : length b.workers.items ≡ max 1 (min request.workers (job_count jobs))
-    pub tables : HaveTables request.table b.workers.items
+    pub tables : HaveOwnTables request.table b.workers.items
     pub of_files : b.output.files.now ≡ request.files.now
     pub of_jobs : b.shared.jobs.now ≡ jobs
     pub of_rest : b.shared.rest ≡ request.rest

@@ -3,7 +3,7 @@ ghost use Rattle.std.specs.Prelude.{◌≡◌, ◌≤◌, ℕ, ◌<◌, [], leng
 ghost use Rattle.kalah_jobs.specs.Files.Jobs.{job_count};
 ghost use Rattle.kalah_run.specs.Limits.{IsTableSize};
 ghost use Rattle.kalah_run.specs.Batch.AtWork.{passes_of, puts_of};
-ghost use Rattle.kalah_run.specs.Batch.Running.{IsAsAsked, IsReadyToRun, HaveTables};
+ghost use Rattle.kalah_run.specs.Batch.Running.{IsAsAsked, IsReadyToRun, HaveOwnTables};
 ghost use Rattle.kalah_run.specs.Batch.OrderedOutput.{whole_output};
 ghost use Rattle.kalah_run.specs.Batch.UnderWay.{WasGiven};
 ghost use Rattle.kalah_run.specs.declared.batch.request.Rest.TheVariants.{Solve};
@@ -40,7 +40,7 @@ fn put_together(
     requires table { IsTableSize entries }
     ensures passes { IfOk result (λ workers. passes_of workers.items ≡ passes.items) }
     ensures puts { IfOk result (λ workers. puts_of workers.items ≡ puts.items) }
-    ensures tables { IfOk result (λ workers. HaveTables entries workers.items) }
+    ensures tables { IfOk result (λ workers. HaveOwnTables entries workers.items) }
 {
     let mut workers: Vec<Worker> = Vec::with_capacity(alloc, passes.len())?;
     let mut puts = puts.into_iter();

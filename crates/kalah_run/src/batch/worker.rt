@@ -3,7 +3,7 @@ ghost use Rattle.std.specs.Prelude.{◌≡◌, ◌<◌, Some, slice_get, true, I
 ghost use Rattle.kalah_jobs.specs.Files.JobList.{job_list};
 ghost use Rattle.kalah_jobs.specs.Files.Jobs.{job_count};
 ghost use Rattle.kalah_run.specs.Limits.{IsTableSize};
-ghost use Rattle.kalah_run.specs.Batch.Running.{HasTable};
+ghost use Rattle.kalah_run.specs.Batch.Running.{HasOwnTable};
 
 use crate::batch::gate::Gate;
 use crate::desk::pass::Pass;
@@ -34,7 +34,7 @@ impl Worker {
     ) -> Result<Worker, AllocError>
         requires { IsTableSize entries }
         ensures passes { IfOk result (λ w. (w.pass ≡ pass) × (w.put ≡ put)) }
-        ensures table { IfOk result (HasTable entries) }
+        ensures table { IfOk result (HasOwnTable entries) }
     {
         let solver = match other {
             Some(worker) => worker.solver.sharing_endings(alloc, entries)?,
