@@ -1,4 +1,4 @@
-//! The calling thread's end of the queue. Only here its pass is at hand, so what these calls require holds at each wait for an outcome.
+//! The calling thread's end of the queue. No other module can use its pass, so what these calls require holds at each wait for an outcome.
 ghost use Rattle.std.specs.Prelude.{◌≡◌, ◌≤◌, true, IfNone, MatchOption};
 ghost use Rattle.kalah_jobs.specs.Writing.Given.{IsReady};
 ghost use Rattle.kalah_run.specs.Batch.UnderWay.{IsLeft};

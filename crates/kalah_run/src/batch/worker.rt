@@ -1,4 +1,4 @@
-//! A worker of a batch. Only here its solver is at hand.
+//! A worker of a batch. No other module can use its solver.
 ghost use Rattle.std.specs.Prelude.{◌≡◌, ◌<◌, Some, slice_get, true, IfOk};
 ghost use Rattle.kalah_jobs.specs.Files.JobList.{job_list};
 ghost use Rattle.kalah_jobs.specs.Files.Jobs.{job_count};
