@@ -49,9 +49,9 @@ impl Failure<'_> {
 pub(crate) fn report_with_tip<E: Messages>(failure: Failure<'_>, err: &mut E) -> ExitStatus
     ensures { result ≡ ExitStatus.Failed }
 {
-    let _ = failure.report(err);
+    let status = failure.report(err);
     write_tip("", of_failure(failure), err);
-    ExitStatus::Failed
+    status
 }
 
 /// Reports on `err` why a line can't be read, with a tip, and returns the exit status. If the report can't be written, it is dropped.

@@ -69,7 +69,7 @@ pub(crate) fn write_tip<E: Messages>(before: &str, tip: Option<Tip<'_>>, err: &m
 }
 
 /// Returns the tip for a failure, if there is one that its report doesn't have.
-pub(crate) fn of_failure<'a>(failure: Failure<'_>) -> Option<Tip<'a>> {
+pub(crate) fn of_failure(failure: Failure<'_>) -> Option<Tip<'static>> {
     Some(Tip::Words(match failure {
         Failure::Unreadable(name, _) if read_line(name.as_bytes()).is_ok() => return None,
         Failure::Unreadable("-", ReadFault::Missing) => "for standard input, use /dev/stdin",
@@ -77,7 +77,7 @@ pub(crate) fn of_failure<'a>(failure: Failure<'_>) -> Option<Tip<'a>> {
         Failure::TooManyFiles =>
             "at most 256 files a run; give them to several runs (docs/LARGE.md)",
         Failure::TooManyLines =>
-            "at most 1000000 lines a run; use `kalah ask < FILE`, or split the files (docs/LARGE.md)",
+            "at most 1000000 lines a run; `kalah ask` has no limit, or split the files (docs/LARGE.md)",
         _ => return None,
     }))
 }
@@ -89,13 +89,13 @@ fn of_fault(fault: ReadFault) -> &'static str {
         ReadFault::Folder => "it is a folder; name the files in it",
         ReadFault::Forbidden => "you have no permission to read it",
         ReadFault::TooLong =>
-            "it has more than 67108864 bytes; use `kalah ask < FILE`, or split it (docs/LARGE.md)",
+            "it has more than 67108864 bytes; `kalah ask` has no limit, or split it (docs/LARGE.md)",
         ReadFault::Unreadable | ReadFault::OutOfMemory => "it can't be opened, or a read failed",
     }
 }
 
 /// Returns the tip for a line with this fault.
-pub(crate) fn of_line<'a>(line: &str, fault: LineFault) -> Tip<'a> {
+pub(crate) fn of_line(line: &str, fault: LineFault) -> Tip<'static> {
     match fault {
         LineFault::Seeds => Tip::Seeds(seeds_in_houses(line)),
         LineFault::Long => Tip::Words("a line has at most 80 bytes"),

@@ -16,7 +16,7 @@ use Rattle.std.specs.Io.KnownBytes.{Appends, Keeps}
 use Rattle.std.proofs.KnownBytes.{Appends-kept, Appends-nil, Appends-trans}
 use Rattle.kalah_jobs.specs.Writing.Given.{AppendsStart}
 use Rattle.kalah_jobs.proofs.WritingLemmas.Starts.{start_none, start_then, start_longer, start_kept}
-use Rattle.kalah_run.specs.Batch.UnderWay.{WasGiven, written_upto, IsUnderWay, IsLeft}
+use Rattle.kalah_run.specs.Batch.UnderWay.{WasGivenSince, written_upto, IsUnderWay, IsLeft}
 use Rattle.std.specs.List.{flat_map, enumerate_from}
 use Rattle.std.proofs.lemmas.Bool.{cases_eq, cases_lt, lt-ltb}
 use Rattle.std.proofs.lemmas.Grind.{flat_map-append}
@@ -51,6 +51,8 @@ use Rattle.kalah_run.specs.declared.batch.request.Rest.TheVariants.{Solve}
 use Rattle.kalah_jobs.specs.declared.files.question.Question.{Question}
 use Rattle.kalah_jobs.proofs.WritingLemmas.JobOutput.{files_are_their_jobs}
 use Rattle.kalah_jobs.specs.Limits.{most_files, most_lines}
+use Rattle.kalah_run.specs.Batch.Answering.{AnswersBatch}
+use Rattle.kalah_jobs.specs.declared.files.jobs.JobsFault.TheVariants as jobs_fault
 use Rattle.kalah_run.specs.Batch.NoLine.{AnswersNothing}
 use Rattle.kalah_run.specs.declared.batch.run_fault.RunFault.{RunFault}
 use Rattle.kalah_run.specs.declared.batch.run_fault.RunFault.TheVariants.{TooManyFiles, TooManyLines, OutOfMemory, NoWorker, Write}
@@ -103,30 +105,30 @@ less_left numbers more number total is above below =
 -- ==== A sink that is given bytes
 
 -- it was given none yet
-pub given_none : (begun : Option (List ℕ)) (failed : Bool) → WasGiven begun begun failed []
+pub given_none : (begun : Option (List ℕ)) (failed : Bool) → WasGivenSince begun begun failed []
 given_none begun failed = record { start = start_none begun []; whole = λ sound. Appends-nil begun }
 
 -- it is given more, and takes a prefix of it, or all if it has not failed then
-pub given_on : (begun out more : Option (List ℕ)) (failed fails : Bool) (bs cs : List ℕ) → WasGiven begun out failed bs
+pub given_on : (begun out more : Option (List ℕ)) (failed fails : Bool) (bs cs : List ℕ) → WasGivenSince begun out failed bs
     → failed ≡ false
-    → AppendsStart out more cs → (fails ≡ false → Appends out more cs) → WasGiven begun more fails (bs ++ cs)
+    → AppendsStart out more cs → (fails ≡ false → Appends out more cs) → WasGivenSince begun more fails (bs ++ cs)
 given_on begun out more failed fails bs cs given sound start all = record {
   start = start_then begun out more (bs ++ cs) bs cs refl (given.whole sound) start;
   whole = λ still. Appends-trans begun out more bs cs (given.whole sound) (all still);
 }
 
 -- it has failed, and what more there is is not written
-pub given_off : (begun out : Option (List ℕ)) (failed : Bool) (bs cs : List ℕ) → WasGiven begun out failed bs → failed ≡ true
-    → WasGiven begun out failed (bs ++ cs)
+pub given_off : (begun out : Option (List ℕ)) (failed : Bool) (bs cs : List ℕ) → WasGivenSince begun out failed bs → failed ≡ true
+    → WasGivenSince begun out failed (bs ++ cs)
 given_off begun out failed bs cs given broken = record {
   start = start_longer begun out bs cs given.start;
   whole = λ sound. absurd (let both : true ≡ false = sym broken ∙ sound in cc);
 }
 
 -- what it holds is flushed
-pub given_kept : (begun out more : Option (List ℕ)) (failed fails : Bool) (bs : List ℕ) → WasGiven begun out failed bs
+pub given_kept : (begun out more : Option (List ℕ)) (failed fails : Bool) (bs : List ℕ) → WasGivenSince begun out failed bs
     → Keeps out more
-    → (fails ≡ false → failed ≡ false) → WasGiven begun more fails bs
+    → (fails ≡ false → failed ≡ false) → WasGivenSince begun more fails bs
 given_kept begun out more failed fails bs given keeps was_sound = record {
   start = start_kept begun out more bs given.start keeps;
   whole = λ sound. Appends-kept begun out more bs (given.whole (was_sound sound)) keeps;
@@ -238,7 +240,7 @@ module _ (text : ℕ → Taken → List ℕ) (jobs : List (List Entry)) where
         kept = start jobs;
         before = λ g low. absurd (omega arith);
         later = λ g high. new_taken jobs g;
-        written = subst (λ (l : List ℕ). WasGiven begun begun failed l)
+        written = subst (λ (l : List ℕ). WasGivenSince begun begun failed l)
             (sym (ap (λ n. written_upto text jobs 0 n) (new_taken jobs 0) ∙ written_none)) (given_none begun failed);
       }
 
@@ -248,7 +250,7 @@ module _ {text : ℕ → Taken → List ℕ} {jobs : List (List Entry)} {past : 
     {failed : Bool} (progress : IsUnderWay text jobs past files f begun out failed) where
   -- A line is taken, and its text passed to the sink.
   pub wrote_line : (after : List FileState) (t : Taken) (more : Option (List ℕ)) (fails : Bool) → Takes files f (Some t) after
-      → ((given : List ℕ) → WasGiven begun out failed given → WasGiven begun more fails (given ++ text f t))
+      → ((given : List ℕ) → WasGivenSince begun out failed given → WasGivenSince begun more fails (given ++ text f t))
       → IsUnderWay text jobs past after f begun more fails
   wrote_line after t more fails step gives =
       let n : ℕ = (state_of files f).taken in
@@ -268,7 +270,7 @@ module _ {text : ℕ → Taken → List ℕ} {jobs : List (List Entry)} {past : 
         kept = subst (λ (s : List FileState). Kept jobs past s) step.kept (kept_by_take progress.kept f t step);
         before = λ g g_low. ap (λ (s : FileState). s.taken) (other g (λ q. omega arith)) ∙ progress.before g g_low;
         later = λ g g_high. ap (λ (s : FileState). s.taken) (other g (λ q. omega arith)) ∙ progress.later g g_high;
-        written = subst (λ (l : List ℕ). WasGiven begun more fails l) text_is (gives (written_upto text jobs f n) progress.written);
+        written = subst (λ (l : List ℕ). WasGivenSince begun more fails l) text_is (gives (written_upto text jobs f n) progress.written);
       } in
       subst (λ (s : List FileState). IsUnderWay text jobs past s f begun more fails) (sym step.kept) new
 
@@ -297,7 +299,7 @@ module _ {text : ℕ → Taken → List ℕ} {jobs : List (List Entry)} {past : 
             (λ (np : g ≡ f → ⊥). progress.before g (omega arith))
             (cases_eq g f);
         later = λ g g_high. progress.later g (omega arith);
-        written = subst (λ (l : List ℕ). WasGiven begun out failed l) text_is progress.written;
+        written = subst (λ (l : List ℕ). WasGivenSince begun out failed l) text_is progress.written;
       }
 
   -- an outcome is offered, and accepted or refused: what was written stays
@@ -309,14 +311,14 @@ module _ {text : ℕ → Taken → List ℕ} {jobs : List (List Entry)} {past : 
         kept = now.0;
         before = λ g g_low. now.1 g ∙ progress.before g g_low;
         later = λ g g_high. now.1 g ∙ progress.later g g_high;
-        written = subst (λ n. WasGiven begun out failed (written_upto text jobs f n)) (sym (now.1 f)) progress.written;
+        written = subst (λ n. WasGivenSince begun out failed (written_upto text jobs f n)) (sym (now.1 f)) progress.written;
       }
 
   -- a sink that has failed was given all, as far as it took it
-  pub progress_failed : failed ≡ true → WasGiven begun out failed (text_of_jobs text jobs)
+  pub progress_failed : failed ≡ true → WasGivenSince begun out failed (text_of_jobs text jobs)
   progress_failed broken =
       let all = written_first text jobs f (state_of files f).taken in
-      subst (λ (l : List ℕ). WasGiven begun out failed l) all.1 (given_off begun out failed _ all.0 progress.written broken)
+      subst (λ (l : List ℕ). WasGivenSince begun out failed l) all.1 (given_off begun out failed _ all.0 progress.written broken)
 
   -- Each job was offered once, and the current file, if there is one, has not ended.
   module _ (each : AreJobsInSomeOrder jobs past) (waits : f < length files → HasEnded (state_of files f) → ⊥) where
@@ -329,11 +331,11 @@ module _ {text : ℕ → Taken → List ℕ} {jobs : List (List Entry)} {past : 
         (cases_lt f (length files))
 
     -- the sink was given all
-    pub progress_end : WasGiven begun out failed (text_of_jobs text jobs)
+    pub progress_end : WasGivenSince begun out failed (text_of_jobs text jobs)
     progress_end =
         let many : length files ≡ length jobs = files_many jobs files progress.kept.offered.counts in
         let high : length files ≤ f = past_all in
-        subst (λ (l : List ℕ). WasGiven begun out failed l) (written_all text jobs f (state_of files f).taken (omega arith))
+        subst (λ (l : List ℕ). WasGivenSince begun out failed l) (written_all text jobs f (state_of files f).taken (omega arith))
         progress.written
 
 -- ==== What an output writes, line by line
@@ -590,13 +592,13 @@ texts_are_output files jobs = refl
 pub given_whole : (rest : Rest) (output r : OrderedOutput) (past : List Job) (begun out later : Option (List ℕ)) (failed fails : Bool)
     → Keeps out later → (fails ≡ false → failed ≡ false)
     → HasWritten output.files.now output.jobs.now past begun out failed r × Waits r
-    → AreJobsInSomeOrder output.jobs.now past ⊎ IsLeft rest fails → WasGiven begun later fails (whole_output output)
+    → AreJobsInSomeOrder output.jobs.now past ⊎ IsLeft rest fails → WasGivenSince begun later fails (whole_output output)
 given_whole rest output r past begun out later failed fails keeps sound written known =
     let files = output.files.now in
     let so_far = still_written files output.jobs.now past begun out later failed fails r keeps sound written.0 in
     let is : text_of_jobs (text_of files) r.jobs.now ≡ whole_output output =
     ap (λ l. text_of_jobs (text_of files) l) so_far.of_jobs ∙ texts_are_output files output.jobs.now in
-    subst (λ l. WasGiven begun later fails l) is
+    subst (λ l. WasGivenSince begun later fails l) is
     (⊎_elim
     (λ (each : AreJobsInSomeOrder output.jobs.now past). progress_end so_far.progress
     (subst (λ l. AreJobsInSomeOrder l past) (sym so_far.of_jobs) each) written.1)
@@ -606,9 +608,9 @@ given_whole rest output r past begun out later failed fails keeps sound written 
 -- the output of the jobs of the files is that of the files
 pub given_output : (question : Question) (files : List NamedBytes) (r : OrderedOutput) (begun out : Option (List ℕ)) (failed : Bool)
     → r.files.now ≡ files → r.jobs.now ≡ jobs_to question files
-    → WasGiven begun out failed (whole_output r) → WasGiven begun out failed (output_to question files)
+    → WasGivenSince begun out failed (whole_output r) → WasGivenSince begun out failed (output_to question files)
 given_output question files r begun out failed of_files of_jobs given =
-    subst (λ l. WasGiven begun out failed l)
+    subst (λ l. WasGivenSince begun out failed l)
     ((λ i. output_of_jobs (names_of (of_files i)) (of_jobs i)) ∙ sym (files_are_their_jobs.output question files)) given
 
 -- an empty list of jobs has no text
@@ -654,6 +656,34 @@ appends_none (Some xs) (Some ys) bytes none appends = appends ∙ (ap (λ l. xs 
 pub starts_none : (old new : Option (List ℕ)) (bytes : List ℕ) → bytes ≡ [] → AppendsStart old new bytes → Keeps old new
 starts_none old new bytes none start = appends_none old new (take start.0 bytes) (ap (take start.0) none ∙ take_none start.0) start.1
 
+ok_is_no_error : {A E : Type 0} {x : A} {e : E} → Ok x ≡ Err e → ⊥
+ok_is_no_error is = cc
+
+-- a batch whose files have jobs, and that failed without memory or without a thread and left the sink as it was, keeps its promises
+module _ {W : Type 0} (bytes : W → Option (List ℕ)) (has_failed is_handed_on : W → Bool) (output : List ℕ) {files : List NamedBytes}
+    {jobs : List (List Entry)} {old new : W} (kept : new ≡ old) (sound : has_failed old ≡ false)
+    (many_files : (Ok jobs ≡ Err jobs_fault.TooManyFiles) ↔ (most_files < length files))
+    (many_lines : (Ok jobs ≡ Err jobs_fault.TooManyLines) ↔ ((length files ≤ most_files) × (most_lines < lines_in_all files))) where
+  left_as_it_was : (e : RunFault) → e ≢ TooManyFiles → e ≢ TooManyLines → e ≢ Write → (e ≡ NoWorker → 0 < lines_in_all files)
+      → AnswersBatch bytes has_failed is_handed_on output files old new (Err e)
+  left_as_it_was e files_few lines_few unwritten some = record {
+    written = tt;
+    tally = tt;
+    handed_on = tt;
+    start = subst (λ now. AppendsStart (bytes old) now output) (ap bytes (sym kept)) (start_none (bytes old) output);
+    too_many_files = (λ is. absurd (files_few cc), λ many. absurd (ok_is_no_error (many_files.1 many)));
+    too_many_lines = (λ is. absurd (lines_few cc), λ many. absurd (ok_is_no_error (many_lines.1 many)));
+    no_worker = λ is. some cc;
+    write = (λ is. absurd (unwritten cc), λ failed. absurd (let both : true ≡ false = sym failed ∙ ap has_failed kept ∙ sound in cc));
+    untouched = λ other. kept;
+  }
+
+  pub left_without_memory : AnswersBatch bytes has_failed is_handed_on output files old new (Err OutOfMemory)
+  left_without_memory = left_as_it_was OutOfMemory (λ is. cc) (λ is. cc) (λ is. cc) (λ is. absurd cc)
+
+  pub left_without_worker : 0 < lines_in_all files → AnswersBatch bytes has_failed is_handed_on output files old new (Err NoWorker)
+  left_without_worker some = left_as_it_was NoWorker (λ is. cc) (λ is. cc) (λ is. cc) (λ is. some)
+
 -- a fault that is neither of these two is one of the other three
 one_of_three : (e : RunFault) → e ≢ TooManyLines → e ≢ NoWorker → (e ≡ TooManyFiles) ⊎ (e ≡ OutOfMemory) ⊎ (e ≡ Write)
 one_of_three TooManyFiles few some = inl refl
@@ -669,8 +699,8 @@ module _ (question : Question) (files : List NamedBytes) (none : lines_in_all fi
       ∙ no_texts (answer_text_of (names_of files)) 0 (jobs_to question files) (job_count-jobs_to question files ∙ none)
 
   -- and nothing was written
-  pub given_no_output : (begun : Option (List ℕ)) (failed : Bool) → WasGiven begun begun failed (output_to question files)
-  given_no_output begun failed = subst (λ l. WasGiven begun begun failed l) (sym no_output) (given_none begun failed)
+  pub given_no_output : (begun : Option (List ℕ)) (failed : Bool) → WasGivenSince begun begun failed (output_to question files)
+  given_no_output begun failed = subst (λ l. WasGivenSince begun begun failed l) (sym no_output) (given_none begun failed)
 
   no_tally : tally_of files ≡ record { lines = 0; faults = 0 }
   no_tally =

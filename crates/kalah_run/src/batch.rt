@@ -79,7 +79,7 @@ pub fn answer_batch<R: Threads + Wait + Sync, G: Gate, V: Watch, W: Sink>(
     ensures answers { AnswersBatch W.written W.has_failed W.is_handed_on (output_to request.now.question request.now.files.now)
         request.now.files.now out.old out.new result }
 
-    // Each line is solved, if the rest is to be solved.
+    // The gate knows each job, which a worker has drawn, if the rest is to be solved.
     ensures solved { request.now.rest ≡ Solve → SolvesAll (G.knows gate.now) request.now.files.now result }
 {
     let jobs = Jobs::asking(alloc, request.question, request.files)?;

@@ -1,5 +1,5 @@
-//! The search. It closes in on what houses are worth by tests whether the mover takes at least a number of seeds. `search` alone takes
-//! a window of margins and answers a margin; all else counts seeds that the mover takes.
+//! The search. It closes in on what houses are worth by tests whether the mover takes at least a number of seeds. Margins are used at
+//! the root and among the entries; the tests count seeds that the mover takes.
 ghost use Rattle.std.specs.Prelude.{◌≡◌, ◌↔◌, ℕ, ◌+◌, ◌-◌, ◌≤◌, ◌<◌, false, IsTrue, max, min, IfOk, Contains, slice_index};
 ghost use Rattle.kalah_rules.specs.Position.{is_over, bare, seeds_in_houses};
 ghost use Rattle.kalah_rules.specs.Play.{legal_houses};
@@ -34,7 +34,8 @@ const MOST_PLACED: u8 = 20;
 /// An answer that took fewer nodes than this is not worth an entry.
 const LEAST_WORK: u64 = 60;
 
-// Calls a method that has the number of the game of some houses as its constant parameter. It is compiled for each game.
+// Calls a method that has the number of the game of some houses as its constant parameter. It is compiled for each game. The number is
+// that of houses a side, and 8 more under the empty-capture rule.
 macro_rules! in_its_game {
     ($self:ident.$method:ident($houses:ident, $($more:expr),*)) => {
         match ($houses.rule(), $houses.m()) {

@@ -34,7 +34,8 @@ pub fn limit_of_tables()
 /// The most places that a table has until all are laid out: they are made at once, and stay near the processor.
 const FIRST_PLACES: u32 = 8_192;
 
-/// Intervals that hold the worth of houses, by their keys. If the table is full, a new entry replaces the least recently used
+/// What is known of houses: entries, places and endings. Contracts see the entries: intervals that hold the worth of houses, by their
+/// keys. If the table is full, a new entry replaces the least recently used
 /// one.
 #[derive(Drop)]
 pub struct Table<A: Allocator + Clone = Global> {
@@ -125,7 +126,7 @@ impl<A: Allocator + Clone> Table<A> {
         }
     }
 
-    // Returns how many seeds the mover takes from houses with few seeds. It stands apart from the search, whose own functions are
+    // Returns how many seeds the mover takes from an ending. It stands apart from the search, whose own functions are
     // small enough to be inlined then.
     #[inline(never)]
     pub(crate) fn won<const GAME: u8>(&self, houses: Houses) -> u8

@@ -34,7 +34,7 @@ fn answer_each<I: Read + Drop, O: Sink>(
         (O.written out.old) (O.written out.new) }
     ensures failed { O.has_failed out.new ≡ true ↔ IsErrOf result AskFault.Write }
     ensures handed_on { O.has_failed out.new ≡ false → O.is_handed_on out.new ≡ true }
-    // A read has failed, or as many bytes were read as a `u64` counts.
+    // After a read fault no byte is left to give, of the most that a `u64` counts.
     ensures none_left { IsErrOf result AskFault.Read → input.new.left ≡ 0 }
 {
     let mut line = LineHead::new();

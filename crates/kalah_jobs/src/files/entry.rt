@@ -68,6 +68,7 @@ pub(crate) fn is_same_entry(a: &Entry, b: &Entry) -> bool
         (Entry::Position(p), Entry::Position(q))
         | (Entry::ValuesOf(p), Entry::ValuesOf(q))
         | (Entry::StepsOf(p), Entry::StepsOf(q)) => {
+            // Their limits: by these, equal houses have equal keys.
             let _ = (p.m(), q.m());
             *p == *q
         }

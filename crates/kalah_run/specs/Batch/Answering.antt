@@ -9,7 +9,7 @@ use Rattle.kalah_jobs.specs.Writing.Output.{LineCounts, tally_of}
 use Rattle.kalah_run.specs.declared.batch.run_fault.RunFault.{RunFault}
 use Rattle.kalah_run.specs.declared.batch.run_fault.RunFault.TheVariants.{TooManyFiles, TooManyLines, NoWorker, Write}
 
--- Each line is solved, as the gate knows its job, unless the batch failed before a worker began.
+-- The gate knows the job of each line, unless the batch failed otherwise than by a write.
 abbrev pub SolvesAll : (ℕ → Bool) → List NamedBytes → Result LineCounts RunFault → Type 0
 SolvesAll knows files result = IfErr result (λ e. e ≡ Write) → (job : ℕ) → job < lines_in_all files → knows job ≡ true
 

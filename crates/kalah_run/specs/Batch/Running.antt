@@ -15,7 +15,7 @@ use Rattle.kalah_run.specs.declared.limits.TheConstants.{QUEUE_PLACES}
 use Rattle.kalah_run.specs.declared.batch.worker.Worker.{Worker}
 use Rattle.kalah_run.specs.declared.batch.open_batch.OpenBatch.{OpenBatch}
 use Rattle.kalah_jobs.specs.Collecting.Batch.{AreJobsInSomeOrder}
-use Rattle.kalah_run.specs.Batch.UnderWay.{IsLeft, WasGiven}
+use Rattle.kalah_run.specs.Batch.UnderWay.{IsLeft, WasGivenSince}
 use Rattle.kalah_run.specs.declared.batch.request.Rest.{Rest}
 use Rattle.kalah_run.specs.declared.batch.ordered_output.OrderedOutput.{OrderedOutput}
 use Rattle.kalah_run.specs.declared.batch.shared_work.SharedWork.{SharedWork}
@@ -64,7 +64,7 @@ pub record HasCollected (rest : Rest) (output : OrderedOutput) (begun out : Opti
   pub workers : after.workers ≡ before.workers
   pub all_got : (length after.got ≡ job_count output.jobs.now) ⊎ IsLeft rest failed
   pub given : AreJobsInSomeOrder output.jobs.now (outcomes_in after.got) ⊎ IsLeft rest failed
-      → WasGiven begun out failed (whole_output output)
+      → WasGivenSince begun out failed (whole_output output)
 
 module _ {G : Type 0} (knows : G → ℕ → Bool) where
   -- the workers are at work, nothing was got of what they send, and nothing is written
@@ -75,7 +75,7 @@ module _ {G : Type 0} (knows : G → ℕ → Bool) where
     pub nothing_written : IsNew output
 
   -- each worker has run, and what they sent was collected, if a sink was `old` and is `new`
-  pub record HasEnded {W : Type 0} (bytes : W → Option (List ℕ)) (has_failed : W → Bool) (shared : SharedWork G)
+  pub record RunHasEnded {W : Type 0} (bytes : W → Option (List ℕ)) (has_failed : W → Bool) (shared : SharedWork G)
       (workers : List Worker) (get : GetState) (output : OrderedOutput) (old new : W) (workers' : List Worker) (get' : GetState)
       : Type 0 where
     pub all_ran : HaveRun knows shared workers workers'

@@ -19,7 +19,7 @@ IsLeft rest has_failed = (rest ≡ Leave) × (has_failed ≡ true)
 
 -- A sink that had `begun` was given bs, in order. It has all of them after that, unless a call of it has failed; and then it
 -- has a prefix of them, and nothing else.
-pub record WasGiven (begun out : Option (List ℕ)) (failed : Bool) (bs : List ℕ) : Type 0 where
+pub record WasGivenSince (begun out : Option (List ℕ)) (failed : Bool) (bs : List ℕ) : Type 0 where
   pub start : AppendsStart begun out bs
   pub whole : failed ≡ false → Appends begun out bs
 
@@ -36,4 +36,4 @@ pub record IsUnderWay (text : ℕ → Taken → List ℕ) (jobs : List (List Ent
   pub kept : Kept jobs past files
   pub before : (g : ℕ) → g < f → (state_of files g).taken ≡ length (entries_of jobs g)
   pub later : (g : ℕ) → f < g → (state_of files g).taken ≡ 0
-  pub written : WasGiven begun out failed (written_upto text jobs f (state_of files f).taken)
+  pub written : WasGivenSince begun out failed (written_upto text jobs f (state_of files f).taken)

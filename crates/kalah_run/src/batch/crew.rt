@@ -26,7 +26,7 @@ fn work<R: Wait, G: Gate>(rt: &R, shared: &SharedWork<'_, G>, worker: &mut Worke
     }
 }
 
-/// What is known of the workers once they have ended. What is generic over it learns that they have from them alone.
+/// The rule of the word `ended`; it states nothing. Calls are generic over the rule, so they know of a 1 only what the workers' end ensures.
 pub(crate) struct Ended;
 
 impl Rule for Ended {

@@ -5,7 +5,7 @@ ghost use Rattle.kalah_run.specs.Limits.{IsTableSize};
 ghost use Rattle.kalah_run.specs.Batch.AtWork.{passes_of, puts_of};
 ghost use Rattle.kalah_run.specs.Batch.Running.{IsAsAsked, IsReadyToRun, HaveOwnTables};
 ghost use Rattle.kalah_run.specs.Batch.OrderedOutput.{whole_output};
-ghost use Rattle.kalah_run.specs.Batch.UnderWay.{WasGiven};
+ghost use Rattle.kalah_run.specs.Batch.UnderWay.{WasGivenSince};
 ghost use Rattle.kalah_run.specs.declared.batch.request.Rest.TheVariants.{Solve};
 
 use crate::batch::crew::{Crew, Ended};
@@ -86,8 +86,8 @@ pub(crate) struct OpenBatch<'a, G> {
 }
 
 impl<'a, G: Gate> OpenBatch<'a, G> {
-    /// Opens a batch of these jobs, with the workers asked for, but at most one for each job, and one for no job. All its memory is
-    /// allocated here. Fails with `AllocError` only if memory was refused.
+    /// Opens a batch of these jobs, with the workers asked for, but at most one for each job, and one for no job. All memory that it
+    /// can't do without is allocated here. Fails with `AllocError` only if memory was refused.
     pub(crate) fn open(
         alloc: Global,
         request: &BatchRequest<'a>,
@@ -132,7 +132,7 @@ impl<'a, G: Gate> OpenBatch<'a, G> {
         out: &mut W,
     ) -> Result<(), RunFault>
         requires { IsReadyToRun G.knows self }
-        ensures given { OnOk result (WasGiven (W.written out.old) (W.written out.new) (W.has_failed out.new)
+        ensures given { OnOk result (WasGivenSince (W.written out.old) (W.written out.new) (W.has_failed out.new)
             (whole_output self.entry.output)) }
         ensures fault { IfErr result (λ e. e ≡ RunFault.NoWorker) }
         ensures untouched { OnErr result (out.new ≡ out.old) }

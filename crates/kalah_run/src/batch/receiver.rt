@@ -34,6 +34,7 @@ impl<'a, E: Rule> Receiver<'a, E> {
         requires { self.old.pass.queue ≡ queue.now.id }
         ensures got { MatchOption result (self.new.pass ≡ self.old.pass) (λ outcome. HasGot self.old.pass outcome self.new.pass) }
         ensures tries { tries.new ≤ tries.old }
+        ensures spent { IfNone result (tries.new ≡ 0) }
     {
         queue.get_soon(&mut self.pass, tries)
     }

@@ -6,7 +6,7 @@ ghost use Rattle.kalah_jobs.specs.Files.Jobs.{job_count};
 ghost use Rattle.kalah_jobs.specs.Writing.Given.{IsReady};
 ghost use Rattle.kalah_run.specs.Batch.AtWork.{AreAtWork, HaveRun, OnceRun};
 ghost use Rattle.kalah_run.specs.Batch.OrderedOutput.{IsNew};
-ghost use Rattle.kalah_run.specs.Batch.Running.{CanRun, HasCollected, HasEnded};
+ghost use Rattle.kalah_run.specs.Batch.Running.{CanRun, HasCollected, RunHasEnded};
 ghost use Rattle.kalah_run.specs.Batch.UnderWay.{IsLeft};
 ghost use Rattle.kalah_run.specs.Queue.States.{HasGot};
 
@@ -75,7 +75,7 @@ fn flush_and_get<R: Wait, G: Gate, V: Watch, W: Sink, E: Rule>(
     Some(receiver.get(rt, shared, watch, out))
 }
 
-// Accepts the outcome of each job, and writes each line once it is ready and all earlier ones are written; then it flushes the output.
+// Accepts the outcome of each job, and writes each line once it is ready and all earlier ones are written; then the output may flush.
 // If the output fails and the rest is left, it stops the workers, and accepts what they still send. It accepts until they have ended, since
 // a worker may sleep until another outcome is got. Returns the pass, to close the queue.
 fn collect<R: Wait, G: Gate, V: Watch, W: Sink, E: Rule>(
@@ -130,7 +130,7 @@ pub(crate) fn run_and_write<R: Threads + Wait + Sync, G: Gate, V: Watch, W: Sink
 ) -> Result<(Vec<Worker>, GetPass), RunFault>
     requires { CanRun G.knows crew.shared.now crew.workers.items receiver.pass output
         × OnceRun G.knows crew.shared.now crew.workers.items (E.invariant 1) }
-    ensures ended { IfOk result (λ r. HasEnded G.knows W.written W.has_failed crew.entry.shared.now crew.entry.workers.items
+    ensures ended { IfOk result (λ r. RunHasEnded G.knows W.written W.has_failed crew.entry.shared.now crew.entry.workers.items
         receiver.entry.pass output.entry out.old out.new r.0.items r.1) }
     ensures fault { IfErr result (λ e. e ≡ RunFault.NoWorker) }
     ensures untouched { OnErr result (out.new ≡ out.old) }
@@ -142,7 +142,7 @@ pub(crate) fn run_and_write<R: Threads + Wait + Sync, G: Gate, V: Watch, W: Sink
             requires { IsSync R.row × IsSync G.row × CanRun G.knows crew.shared.now crew.workers.items receiver.pass output
                 × OnceRun G.knows crew.shared.now crew.workers.items (E.invariant 1) }
             ensures names { (result.1.ghost_name ≡ watch.entry.ghost_name) × (result.2.ghost_name ≡ out.entry.ghost_name) }
-            ensures ended { IfOk result.0 (λ r. HasEnded G.knows W.written W.has_failed crew.entry.shared.now crew.entry.workers.items
+            ensures ended { IfOk result.0 (λ r. RunHasEnded G.knows W.written W.has_failed crew.entry.shared.now crew.entry.workers.items
                 receiver.entry.pass output.entry out.entry.now result.2.now r.0.items r.1) }
             ensures fault { IfErr result.0 (λ e. e ≡ RunFault.NoWorker) }
             ensures untouched { OnErr result.0 (result.2.now ≡ out.entry.now) }

@@ -1,39 +1,40 @@
+use Rattle.std.proofs.lemmas.Grind.{common_steps}
 use Rattle.std.proofs.Common.{◌≡◌, ◌<◌, ℕ, [], refl, ap, sym, ◌∙◌, arith, length, rules}
-use Rattle.std.specs.Prelude.{count_by, true}
+use Rattle.std.specs.Prelude.{count_by, true, Err}
 use Rattle.kalah_jobs.specs.Files.Jobs.{job_count, lines_in_all}
 use Rattle.kalah_jobs.specs.Files.JobList.{job_list}
 use Rattle.kalah_jobs.specs.Writing.Output.{is_faulty_job, output_to}
 use Rattle.kalah_jobs.proofs.FilesLemmas.{job_count-jobs_to}
 use Rattle.kalah_run.specs.declared.batch.request.Rest.TheVariants.{Solve}
-use Rattle.kalah_run.specs.Batch.UnderWay.{WasGiven}
-use Rattle.kalah_run.proofs.BatchLemmas.{counted_tally, given_kept, given_no_output, given_output, starts_none}
+use Rattle.kalah_run.specs.declared.batch.run_fault.RunFault.TheVariants.{OutOfMemory, NoWorker}
+use Rattle.kalah_run.specs.Batch.UnderWay.{WasGivenSince}
+use Rattle.kalah_run.proofs.BatchLemmas.{counted_tally, given_kept, given_no_output, given_output, left_without_memory, left_without_worker, starts_none}
 use Rattle.kalah_run.proofs.batch.answer_batch.Given.{Over}
 use Rattle.kalah_run.proofs.batch.answer_batch.Goals.{After-failed, then-total-gt0+in_ok-open+in_ok-run, else-total-gt0}
 use Rattle.kalah_run.proofs.batch.answer_batch.Goals as goal
 
+pub returns-in_err-open-clause-answers : goal.returns-in_err-open-clause-answers
+returns-in_err-open-clause-answers g c =
+    let is : c.from_residual-in_err-open.result ≡ Err OutOfMemory = search rules in
+    rw is (left_without_memory g.W.Sink.written g.W.Sink.has_failed g.W.Sink.is_handed_on _ refl c.requires.fresh
+    c.in_ok-jobs.ensures.too_many_files c.in_ok-jobs.ensures.too_many_lines)
+
 pub returns-in_err-run-clause-answers : goal.returns-in_err-run-clause-answers
-returns-in_err-run-clause-answers g c = record {
-  written = search rules;
-  tally = search rules;
-  handed_on = search rules;
-  start = search rules;
-  too_many_files = search rules;
-  too_many_lines = search rules;
-  no_worker = λ _.
-      omega (
-        arith,
-        c.if-total-gt0.true,
-        c.total.ensures.lines,
-        ap job_count c.in_ok-jobs.ensures.value,
-        job_count-jobs_to c.args.request.now.question c.args.request.now.files.now,
-      );
-  write = search rules;
-  untouched = search rules;
-}
+returns-in_err-run-clause-answers g c =
+    let is : c.from_residual-in_err-run.result ≡ Err NoWorker = search rules in
+    rw is (left_without_worker g.W.Sink.written g.W.Sink.has_failed g.W.Sink.is_handed_on _ c.in_err-run.ensures.untouched
+    c.requires.fresh c.in_ok-jobs.ensures.too_many_files c.in_ok-jobs.ensures.too_many_lines
+    (omega (
+      arith,
+      c.if-total-gt0.true,
+      c.total.ensures.lines,
+      ap job_count c.in_ok-jobs.ensures.value,
+      job_count-jobs_to c.args.request.now.question c.args.request.now.files.now,
+    )))
 
 -- the sink was given the answers to all lines, and is flushed
 given : (g : Over) (c : After-failed g)
-    → WasGiven (g.W.Sink.written c.args.out.now) (g.W.Sink.written c.flush_unless_failed.new.out)
+    → WasGivenSince (g.W.Sink.written c.args.out.now) (g.W.Sink.written c.flush_unless_failed.new.out)
     (g.W.Sink.has_failed c.flush_unless_failed.new.out) (output_to c.args.request.now.question c.args.request.now.files.now)
 given g c =
     let flushed = c.flush_unless_failed.ensures.given in
@@ -105,3 +106,9 @@ returns-then-failed-clause-solved g c = λ solve write. solved g c.before.before
 
 pub returns-clause-solved : goal.returns-clause-solved
 returns-clause-solved g c = λ solve ok. solved g c.before.before.before.before.before.before.before solve
+
+pub open-requires-after_bounds : goal.open-requires-after_bounds
+open-requires-after_bounds g c κs within = grind (arith, common_steps)
+
+pub run-requires-after_bounds : goal.run-requires-after_bounds
+run-requires-after_bounds g c κs within = c.in_ok-open.ensures.ready

@@ -1,6 +1,9 @@
+use Rattle.std.proofs.lemmas.Grind.{common_steps}
+use Rattle.std.proofs.Common.{arith}
 use Rattle.std.proofs.Common.{◌∷◌, ◌++◌, [], sym, ap, ◌∙◌, append_assoc}
 use Rattle.std.specs.Vec.Iter.{into_iter_items}
 use Rattle.kalah_run.proofs.BatchLemmas.{passes_more, puts_more, tables_more}
+use Rattle.std.proofs.Common.{rules}
 use Rattle.kalah_run.proofs.batch.open_batch.put_together.Goals as goal
 
 pub loop-pass-preserved : goal.loop-pass-preserved
@@ -17,3 +20,6 @@ loop-pass-preserved c =
           c.args.puts.items is of.passes.1 c.in-Some-next.ensures.items c.loop-pass.invariant.puts;
       tables = tables_more workers more _ _ is of.table c.loop-pass.invariant.tables;
     }
+
+pub returns-clause-puts : goal.returns-clause-puts
+returns-clause-puts c = grind (arith, common_steps)

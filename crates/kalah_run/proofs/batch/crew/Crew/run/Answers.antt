@@ -1,3 +1,5 @@
+use Rattle.std.proofs.lemmas.Grind.{common_steps}
+use Rattle.std.proofs.Common.{arith}
 use denote.Param.Send.{sendable}
 use Rattle.std.proofs.Common.{rules}
 use Rattle.kalah_run.proofs.Crossing.{worker_send}
@@ -8,3 +10,6 @@ for_each_mut-requires-send-T g c κs within = search (sendable, worker_send)
 
 pub end-requires : goal.end-requires
 end-requires g c = search (rules, c.requires.ends)
+
+pub returns : goal.returns
+returns g c = grind (arith, common_steps)

@@ -1,8 +1,9 @@
+use Rattle.std.proofs.lemmas.Grind.{common_steps}
 use Rattle.std.proofs.Common.{arith, refl, rules, List, ℕ, ◌<◌, ◌≤◌, ap, length, subst, sym, ◌++◌, ◌∙◌}
 use Rattle.kalah_jobs.specs.Collecting.CollectorState.{FileState, front, state_of}
 use Rattle.kalah_jobs.specs.Files.NamedBytes.{NamedBytes}
 use Rattle.kalah_jobs.proofs.CollectingLemmas.{files_many}
-use Rattle.kalah_run.specs.Batch.UnderWay.{WasGiven}
+use Rattle.kalah_run.specs.Batch.UnderWay.{WasGivenSince}
 use Rattle.kalah_run.proofs.BatchLemmas.{wrote_file, wrote_line, wrote_nothing, given_off, given_on, written_on, text_of_taken, whole_where_sound}
 use Rattle.kalah_run.proofs.batch.ordered_output.OrderedOutput.write.Goals as goal
 
@@ -20,7 +21,7 @@ loop-self-preserved-then-not-failed g c = record {
       written_on files jobs past begun _ _ _ _ r _ refl refl
       (λ progress. wrote_line progress c.take.new.self c.in-Some.taken
       (g.W.Sink.written c.write_answer.new.out) (g.W.Sink.has_failed c.write_answer.new.out) c.in-Some.ensures.takes
-      (λ given was. subst (λ (l : List ℕ). WasGiven begun (g.W.Sink.written c.write_answer.new.out)
+      (λ given was. subst (λ (l : List ℕ). WasGivenSince begun (g.W.Sink.written c.write_answer.new.out)
       (g.W.Sink.has_failed c.write_answer.new.out) (given ++ l))
       (sym text) (given_on begun _ _ _ _ given _ was (sym c.failed.ensures ∙ c.if-not-failed.true) wrote.start
       (whole_where_sound _ c.write_answer.result _ wrote.fails.0 wrote.adds))))
@@ -62,3 +63,6 @@ returns g c = λ files jobs past begun so_far.
       c.loop-self.invariant.progress files jobs past begun so_far,
       λ low ended. absurd (omega (arith, low, c.loop-self-test.false, c.files.ensures.is, files_many r.jobs.now r.collector r.counts)),
     )
+
+pub loop-self-smaller-then-not-failed : goal.loop-self-smaller-then-not-failed
+loop-self-smaller-then-not-failed g c = grind (arith, common_steps)
