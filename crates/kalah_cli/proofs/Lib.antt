@@ -1,13 +1,4 @@
-pub mod Items
-pub mod Laws
 pub mod ClapLemmas
-pub mod Subcommands
-pub mod Getters
-pub mod Parsed
-pub mod Plain
-pub mod Taken
-pub mod Played
-pub mod Ended
-pub mod Asked
-pub mod Filed
-pub mod Counted
+pub mod RequestLemmas
+pub mod RunLemmas
+pub mod GameLemmas

@@ -1,12 +1,24 @@
 -- What a run printed, and how it ended. Of an output `written` is what it has of the bytes that it was given, `has_failed` whether a call of
 -- it has failed, and `is_handed_on` whether all that was written is flushed.
-use Rattle.std.specs.Prelude.{◌≡◌, ◌≢◌, ℕ, List, Bool, false, true, Option}
+use Rattle.std.specs.Prelude.{◌≡◌, ◌≢◌, ℕ, List, Bool, false, true, Option, Result, Ok, Err}
 use Rattle.std.specs.Io.KnownBytes.{Appends}
 use Rattle.kalah_rules.specs.Position.{Position}
 use Rattle.kalah_jobs.specs.Line.Line.{Reads}
-use Rattle.kalah_jobs.specs.Writing.Given.{AppendsStart}
+use Rattle.kalah_jobs.specs.Writing.Given.{AppendsStart, WasGiven}
+use Rattle.kalah_cli.specs.declared.failure.Failure.{Failure}
 use Rattle.kalah_cli.specs.declared.status.ExitStatus.{ExitStatus}
 use Rattle.kalah_cli.specs.declared.status.ExitStatus.TheVariants.{Failed, LineFaults}
+
+-- the status of a program that ended so, or failed
+abbrev pub ended_by : Result ExitStatus Failure → ExitStatus
+ended_by (Ok status) = status
+ended_by (Err failure) = Failed
+
+-- the text was given to the output, and flushed
+module _ {O : Type 0} (written : O → Option (List ℕ)) (has_failed is_handed_on : O → Bool) (old new : O) where
+  pub record IsPrinted (text : List ℕ) : Type 0 where
+    pub given : WasGiven written has_failed old new text
+    pub handed_on : has_failed new ≡ false → is_handed_on new ≡ true
 
 -- no position is written by the line
 abbrev pub IsUnread : List ℕ → Type 0

@@ -15,7 +15,9 @@ use Rattle.std.specs.declared.alloc.Global.{Global}
 use Rattle.kalah_run.specs.Limits.{AreWorkers, IsTableSize}
 use Rattle.kalah_cli.specs.Command.{default_entries, kalah_app}
 use Rattle.kalah_cli.specs.declared.request.Request.{Request}
-use Rattle.kalah_cli.specs.declared.request.Request.TheVariants.{Moves, Play, Files, Ask, Show, Count, Conflict}
+use Rattle.kalah_cli.specs.declared.request.Request.TheVariants.{Line, Files, Ask, Conflict}
+use Rattle.kalah_cli.specs.declared.request.LineCommand.{LineCommand}
+use Rattle.kalah_cli.specs.declared.request.LineCommand.TheVariants.{Moves, Play, Show, Count}
 use Rattle.kalah_cli.specs.declared.request.FilesRequest.{FilesRequest}
 
 module _ {A : Type 0} where
@@ -135,14 +137,18 @@ IsRefused words = fault_of kalah_app words ≢ []
 abbrev pub AsksNot : ErrorKind → List Text → Type 0
 AsksNot kind words = IsAmong kind (fault_of kalah_app words) → ⊥
 
+-- what a command about a line asks for
+abbrev pub asked_of : LineCommand → Text → Asked
+asked_of (Moves boards) = moves boards
+asked_of (Play table boards first) = play first table boards
+asked_of (Show table plain) = show plain table
+asked_of (Count depth) = count depth
+
 -- what a request asks for
 abbrev pub asked_for : Request → Asked
-asked_for (Moves line boards) = moves boards line.now
-asked_for (Play line table boards first) = play first table boards line.now
+asked_for (Line line command) = asked_of command line.now
 asked_for (Files b) = answers b.question b.workers b.table b.progress (map (λ f. f.now) b.files.items)
 asked_for (Ask question table) = ask question table
-asked_for (Show line table plain) = show plain table line.now
-asked_for (Count depth line) = count depth line.now
 asked_for Conflict = conflict
 
 -- workers and entries are in their ranges, and there is a file
@@ -154,13 +160,16 @@ abbrev pub HasTable : ℕ → Solver Global → Type 0
 HasTable entries solver = solver.search.table ≡ empty_table entries
 
 -- numbers are in their ranges
+abbrev pub IsCommandInRange : LineCommand → Type 0
+IsCommandInRange (Moves boards) = ⊤
+IsCommandInRange (Play table boards first) = IsTableSize table
+IsCommandInRange (Show table plain) = IsTableSize table
+IsCommandInRange (Count depth) = depth ≤ most_depth
+
 abbrev pub IsInRange : Request → Type 0
-IsInRange (Moves line boards) = ⊤
-IsInRange (Play line table boards first) = IsTableSize table
+IsInRange (Line line command) = IsCommandInRange command
 IsInRange (Files b) = IsInLimits b
 IsInRange (Ask question table) = IsTableSize table
-IsInRange (Show line table plain) = IsTableSize table
-IsInRange (Count depth line) = depth ≤ most_depth
 IsInRange Conflict = ⊤
 
 -- an argument that is no flag: it isn't empty and doesn't begin with `-` (45)

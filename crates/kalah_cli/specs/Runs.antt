@@ -1,5 +1,5 @@
 -- What the program does for each request.
-use Rattle.std.specs.Prelude.{◌≡◌, ◌≢◌, ◌++◌, ◌∷◌, ◌⊎◌, ℕ, List, [], Bool, None, Option, codes, false, ⊤}
+use Rattle.std.specs.Prelude.{◌≡◌, ◌≢◌, ◌++◌, ◌∷◌, ◌⊎◌, ℕ, List, [], Bool, Option, codes, false, ⊤}
 use Rattle.std.specs.Io.KnownBytes.{Appends}
 use Rattle.clap.specs.Words.{Text}
 use Rattle.clap.specs.declared.error.kind.ErrorKind.TheVariants.{DisplayHelp, DisplayVersion}
@@ -9,7 +9,7 @@ use Rattle.kalah_cli.specs.Moves.{moves_output}
 use Rattle.kalah_cli.specs.Play.{MayBegin, play_output}
 use Rattle.kalah_cli.specs.Count.{count_output}
 use Rattle.kalah_cli.specs.Request.{Asked, AsksNot, IsPlainWord, IsRefused, IsTakenAs, moves, play, answers, ask, show, count, conflict}
-use Rattle.kalah_cli.specs.Show.{show_output}
+use Rattle.kalah_cli.specs.Line.{show_output}
 use Rattle.kalah_cli.specs.Ask.{AnswersInput}
 use Rattle.kalah_cli.specs.SolveFiles.{AnswersFiles}
 use Rattle.kalah_cli.specs.Ends.{AnswersLine, FailsQuietly, IsUnread}
@@ -34,7 +34,7 @@ module _ {O : Type 0} (written : O → Option (List ℕ)) (has_failed is_handed_
       AnswersLine written has_failed is_handed_on old new status line (play_output first boards)
       × ((p : Position) → Reads line p → (MayBegin first p → ⊥) → FailsQuietly old new status)
   Does (answers question workers table progress names) = AnswersFiles written has_failed is_handed_on old new status question names
-  Does (ask question table) = AnswersInput written has_failed is_handed_on old new status question None
+  Does (ask question table) = (unread : Option (List ℕ)) × AnswersInput written has_failed is_handed_on old new status question unread
   Does (show plain table line) = AnswersLine written has_failed is_handed_on old new status line (show_output plain)
   Does (count depth line) = AnswersLine written has_failed is_handed_on old new status line (count_output depth)
   Does conflict = FailsQuietly old new status

@@ -1,8 +1,9 @@
 //! `kalah ask`.
-ghost use Rattle.std.specs.Prelude.{◌≡◌, IfOk, false};
+ghost use Rattle.std.specs.Prelude.{◌≡◌, ◌↔◌, IfOk, IsErr, false, true};
 ghost use Rattle.std.specs.Io.Buffered.{reader_remaining};
 ghost use Rattle.kalah_run.specs.Limits.{IsTableSize};
 ghost use Rattle.kalah_cli.specs.Ask.{AnswersInput};
+ghost use Rattle.kalah_cli.specs.Ends.{ended_by};
 
 use crate::failure::Failure;
 use crate::solver::new_solver;
@@ -16,19 +17,31 @@ use std::io::{BufReader, Read, Write};
 const HINT: &str = "kalah: waits for positions, one a line, as 1,1/0 1,1/0; Ctrl-D ends\n";
 
 // Returns a reader that reads ahead, with all that the reader has left.
-#[tactic(auto, using(crate::proofs::Asked::all_unread))]
+#[tactic(auto, using(crate::proofs::RunLemmas::all_unread))]
 fn reading_ahead<I: Read + Drop>(alloc: Global, input: I) -> io::Result<BufReader<I>>
     ensures { IfOk result (λ r. I.remaining input ≡ reader_remaining I.remaining r) }
 {
     BufReader::new(alloc, input)
 }
 
+// Returns how the program ends after such an answer to all lines.
+fn ended(answered: Result<bool, AskFault>) -> Result<ExitStatus, Failure<'static>>
+    ensures clean { IfOk answered (λ all_read. ended_by result ≡ ExitStatus.Clean ↔ all_read ≡ true) }
+    ensures failed { IsErr answered ↔ ended_by result ≡ ExitStatus.Failed }
+{
+    match answered {
+        Ok(true) => Ok(ExitStatus::Clean),
+        Ok(false) => Ok(ExitStatus::LineFaults),
+        Err(AskFault::Read) => Err(Failure::StandardInput),
+        Err(AskFault::Write) => Err(Failure::Write),
+    }
+}
+
 /// Answers what is asked of each line of a reader, all with one solver. It reads more only after the answers to all that was read are
 /// written. Memory is requested before the first read, except for what the table takes as it grows. If the reader is a terminal,
 /// it first says on `err` what it waits for.
 ///
-/// Returns `Clean` if each line was read, and `LineFaults` if one was not. Returns `Failed`, and reports it on `err`, if memory was
-/// refused, or a read or a write failed.
+/// Returns `Clean` if each line was read, and `LineFaults` if one was not. Fails if memory was refused, or a read or a write failed.
 pub(crate) fn run_ask<I: Read + Drop, O: Sink, E: Write>(
     alloc: Global,
     input: I,
@@ -37,26 +50,21 @@ pub(crate) fn run_ask<I: Read + Drop, O: Sink, E: Write>(
     table: u32,
     out: &mut O,
     err: &mut E,
-) -> ExitStatus
+) -> Result<ExitStatus, Failure<'static>>
     requires table { IsTableSize table }
     requires sink { O.has_failed out.old ≡ false }
-    ensures { AnswersInput O.written O.has_failed O.is_handed_on out.old out.new result question (I.remaining input) }
+    ensures { AnswersInput O.written O.has_failed O.is_handed_on out.old out.new (ended_by result) question (I.remaining input) }
 {
     let Ok(mut solver) = new_solver(alloc, table) else {
-        return Failure::OutOfMemory.report(err);
+        return Err(Failure::OutOfMemory);
     };
     let Ok(mut input) = reading_ahead(alloc, input) else {
-        return Failure::OutOfMemory.report(err);
+        return Err(Failure::OutOfMemory);
     };
     if is_typed {
         let _ = err.write_all(HINT.as_bytes());
     }
-    match answer_lines(&mut input, question, &mut solver, out) {
-        Ok(true) => ExitStatus::Clean,
-        Ok(false) => ExitStatus::LineFaults,
-        Err(AskFault::Read) => Failure::StandardInput.report(err),
-        Err(AskFault::Write) => Failure::Write.report(err),
-    }
+    ended(answer_lines(&mut input, question, &mut solver, out))
 }
 
 #[cfg(test)]

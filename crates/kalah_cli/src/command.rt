@@ -265,18 +265,12 @@ fn program<'a>(alloc: Global) -> MadeCommand<'a>
     )
 }
 
-// Adds a subcommand that was made.
-fn with_made<'a>(command: MadeCommand<'a>, subcommand: Command<'a>) -> MadeCommand<'a>
-    ensures { AddsSubcommand (Ok subcommand.entry) command.entry result }
-{
-    command?.subcommand(subcommand)
-}
-
 // Adds a subcommand.
 fn with_command<'a>(command: MadeCommand<'a>, subcommand: MadeCommand<'a>) -> MadeCommand<'a>
     ensures { AddsSubcommand subcommand.entry command.entry result }
 {
-    with_made(command, subcommand?)
+    let subcommand = subcommand?;
+    command?.subcommand(subcommand)
 }
 
 /// Returns the command line of the program. It is complete: nothing is added to it before a parse.

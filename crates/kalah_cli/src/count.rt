@@ -1,19 +1,17 @@
 //! `kalah count DEPTH LINE`.
-ghost use Rattle.std.specs.Prelude.{◌≡◌, ◌≤◌, false, true};
+ghost use Rattle.std.specs.Prelude.{◌≡◌, ◌≤◌, false};
 ghost use Rattle.kalah_rules.specs.Limits.{most_depth, most_houses};
 ghost use Rattle.kalah_rules.specs.Ways.{ways};
 ghost use Rattle.kalah_jobs.specs.Writing.Counts.{total_line, ways_line};
 ghost use Rattle.kalah_jobs.specs.Writing.Given.{WasGiven};
-ghost use Rattle.kalah_cli.specs.Ends.{AnswersLine};
+ghost use Rattle.kalah_cli.specs.Ends.{IsPrinted};
 ghost use Rattle.kalah_cli.specs.Count.{count_output, ways_lines};
 
-use crate::failure::{report_fault, status_of};
-use crate::status::ExitStatus;
-use crate::tips::Messages;
-use kalah_jobs::{Sink, flush_unless_failed, read_line, write_total, write_ways};
+use kalah_jobs::{Sink, flush_unless_failed, write_total, write_ways};
 use kalah_rules::Board;
 
 // Writes the line of a house, which is flushed before the next one is counted.
+#[tactic(auto, using(kalah_jobs::proofs::WritingLemmas::given_flushed))]
 fn write_house<O: Sink>(house: u8, ways: u64, out: &mut O)
     requires { house ≤ most_houses }
     ensures { WasGiven O.written O.has_failed out.old out.new (ways_line house ways) }
@@ -46,47 +44,22 @@ fn write_houses<O: Sink>(board: &Board, depth: u8, out: &mut O) -> u64
 }
 
 // Writes the last line, and flushes.
+#[tactic(auto, using(crate::proofs::RunLemmas::printed_flushed))]
 fn write_sum<O: Sink>(ways: u64, out: &mut O)
-    ensures given { WasGiven O.written O.has_failed out.old out.new (total_line ways) }
-    ensures handed_on { O.has_failed out.new ≡ false → O.is_handed_on out.new ≡ true }
+    ensures { IsPrinted O.written O.has_failed O.is_handed_on out.old out.new (total_line ways) }
 {
     write_total(out, ways);
     flush_unless_failed(out);
 }
 
-// Writes the number of ways of `depth` moves, for each first move and in all.
-fn write_count<O: Sink>(board: &Board, depth: u8, out: &mut O)
+/// Prints the number of ways of `depth` moves to play on from a board, for each first move and in all. It allocates nothing.
+pub(crate) fn write_count<O: Sink>(board: &Board, depth: u8, out: &mut O)
     requires { depth ≤ most_depth }
-    ensures given { WasGiven O.written O.has_failed out.old out.new (count_output depth board.now) }
-    ensures handed_on { O.has_failed out.new ≡ false → O.is_handed_on out.new ≡ true }
+    ensures { IsPrinted O.written O.has_failed O.is_handed_on out.old out.new (count_output depth board.now) }
 {
     if depth == 0 {
         return write_sum(board.ways(0), out);
     }
     let total = write_houses(board, depth, out);
     write_sum(total, out);
-}
-
-/// Counts the ways of `depth` moves to play on from the position that the line writes, for each first move and in all. A line that
-/// can't be read is answered by its fault, on `err` only. It allocates nothing.
-///
-/// Returns `Clean`, `LineFaults` for a line that can't be read, or `Failed` if a write failed.
-pub(crate) fn run_count<O: Sink, E: Messages>(
-    depth: u8,
-    line: &str,
-    out: &mut O,
-    err: &mut E,
-) -> ExitStatus
-    requires depth { depth ≤ most_depth }
-    requires sink { O.has_failed out.old ≡ false }
-    ensures line { AnswersLine O.written O.has_failed O.is_handed_on out.old out.new result line.now (count_output depth) }
-    ensures failed { result ≡ ExitStatus.Failed → O.has_failed out.new ≡ true }
-{
-    match read_line(line.as_bytes()) {
-        Ok(board) => {
-            write_count(&board, depth, out);
-            status_of(out, err)
-        }
-        Err(fault) => report_fault(fault, line, err),
-    }
 }

@@ -1,13 +1,13 @@
 //! The failures of the program, and their messages.
 ghost use Rattle.std.specs.Prelude.{◌≡◌, ◌≢◌, ◌↔◌, true};
+ghost use Rattle.kalah_cli.specs.Ends.{ended_by};
 ghost use Rattle.kalah_cli.specs.Failure.{failure_of};
 
 use crate::files::ReadFault;
 use crate::status::ExitStatus;
-use crate::tips::{Messages, Tip, of_failure, of_line, write_tip};
+use crate::tips::{Messages, of_failure, say, write_line_tip, write_position_tip, write_tip};
 use kalah_jobs::{LineFault, Sink, read_line};
 use kalah_run::RunFault;
-use std::fmt;
 use std::io::Write;
 
 /// Why the program failed, except for mistakes in its arguments.
@@ -35,43 +35,71 @@ impl Failure<'_> {
     pub(crate) fn report<E: Write>(self, err: &mut E) -> ExitStatus
         ensures { result ≡ ExitStatus.Failed }
     {
-        let _ = writeln!(err, "kalah: {self}");
-        if let Failure::Unreadable(name, _) = self {
-            if read_line(name.as_bytes()).is_ok() {
-                let _ = writeln!(err, "  tip: {}", Tip::Position(name));
+        let words = match self {
+            Failure::Unreadable(name, _) => {
+                say(&["kalah: cannot read ", name, "\n"], err);
+                if read_line(name.as_bytes()).is_ok() {
+                    write_position_tip(name, err);
+                }
+                return ExitStatus::Failed;
             }
-        }
+            Failure::Unmoved(house) => {
+                let _ = writeln!(err, "kalah: house {house} can't be moved");
+                return ExitStatus::Failed;
+            }
+            Failure::LineFeed => "kalah: line feed in a file name\n",
+            Failure::TooManyFiles => "kalah: too many files\n",
+            Failure::TooManyLines => "kalah: too many lines\n",
+            Failure::OutOfMemory => "kalah: out of memory\n",
+            Failure::NoWorker => "kalah: no worker could be started\n",
+            Failure::StandardInput => "kalah: cannot read standard input\n",
+            Failure::Write => "kalah: write failed\n",
+        };
+        let _ = err.write_all(words.as_bytes());
         ExitStatus::Failed
     }
 }
 
-/// Reports the failure on `err` with its tip, and returns the exit status.
-pub(crate) fn report_with_tip<E: Messages>(failure: Failure<'_>, err: &mut E) -> ExitStatus
-    ensures { result ≡ ExitStatus.Failed }
+/// Returns the exit status of a run that ended so. If it failed, it reports the failure on `err`, with its tip.
+pub(crate) fn status_of<E: Write>(
+    ended: Result<ExitStatus, Failure<'_>>,
+    err: &mut Messages<'_, E>,
+) -> ExitStatus
+    ensures { result ≡ ended_by ended.entry }
 {
-    let status = failure.report(err);
-    write_tip("", of_failure(failure), err);
+    let failure = match ended {
+        Ok(status) => return status,
+        Err(failure) => failure,
+    };
+    let status = failure.report(err.writer);
+    if let Some(words) = of_failure(failure) {
+        write_tip(words, err);
+    }
     status
 }
 
 /// Reports on `err` why a line can't be read, with a tip, and returns the exit status. If the report can't be written, it is dropped.
-pub(crate) fn report_fault<E: Messages>(fault: LineFault, line: &str, err: &mut E) -> ExitStatus
+pub(crate) fn report_fault<E: Write>(
+    fault: LineFault,
+    line: &str,
+    err: &mut Messages<'_, E>,
+) -> ExitStatus
     ensures { result ≡ ExitStatus.LineFaults }
 {
-    let _ = writeln!(err, "fault {}", fault.word());
-    write_tip("", Some(of_line(line, fault)), err);
+    say(&["fault ", fault.word(), "\n"], err.writer);
+    write_line_tip(line, fault, err);
     ExitStatus::LineFaults
 }
 
-/// Returns `Clean` if the output has not failed. Otherwise reports on `err` that a write failed, and returns `Failed`.
-pub(crate) fn status_of<O: Sink, E: Write>(out: &O, err: &mut E) -> ExitStatus
-    ensures failed { O.has_failed out.now ≡ true ↔ result ≡ ExitStatus.Failed }
-    ensures no_line { result ≢ ExitStatus.LineFaults }
+/// Returns `Clean` if the output has not failed. Otherwise fails with `Write`.
+pub(crate) fn written<O: Sink>(out: &O) -> Result<ExitStatus, Failure<'static>>
+    ensures failed { O.has_failed out.now ≡ true ↔ ended_by result ≡ ExitStatus.Failed }
+    ensures no_line { ended_by result ≢ ExitStatus.LineFaults }
 {
     if out.failed() {
-        return Failure::Write.report(err);
+        return Err(Failure::Write);
     }
-    ExitStatus::Clean
+    Ok(ExitStatus::Clean)
 }
 
 impl From<RunFault> for Failure<'_> {
@@ -84,22 +112,6 @@ impl From<RunFault> for Failure<'_> {
             RunFault::OutOfMemory => Failure::OutOfMemory,
             RunFault::NoWorker => Failure::NoWorker,
             RunFault::Write => Failure::Write,
-        }
-    }
-}
-
-impl fmt::Display for Failure<'_> {
-    fn fmt<W: fmt::Write>(&self, f: &mut fmt::Formatter<W>) -> fmt::Result {
-        match self {
-            Failure::LineFeed => f.write_str("line feed in a file name"),
-            Failure::Unreadable(name, _) => write!(f, "cannot read {name}"),
-            Failure::TooManyFiles => f.write_str("too many files"),
-            Failure::TooManyLines => f.write_str("too many lines"),
-            Failure::OutOfMemory => f.write_str("out of memory"),
-            Failure::NoWorker => f.write_str("no worker could be started"),
-            Failure::Unmoved(house) => write!(f, "house {house} can't be moved"),
-            Failure::StandardInput => f.write_str("cannot read standard input"),
-            Failure::Write => f.write_str("write failed"),
         }
     }
 }

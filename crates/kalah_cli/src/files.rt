@@ -74,25 +74,28 @@ pub(crate) fn read_limited<F: Read>(
     Err(ReadFault::TooLong)
 }
 
-/// Returns all bytes of the file of this name.
-///
-/// Fails with `OutOfMemory` if memory was refused, otherwise with `Unreadable`. A file of more than 67,108,864 bytes can't be read.
-fn read_file<'a, R: Files>(rt: &R, alloc: Global, name: &'a str) -> Result<Vec<u8>, Failure<'a>>
-    ensures within { IfOk result (λ bytes. length bytes.items ≤ most_file_bytes) }
-    ensures failure { IfErr result (FailsToRead name.entry) }
+// Returns all bytes of the file of this name. A file of more than 67,108,864 bytes can't be read.
+fn read_file<R: Files>(rt: &R, alloc: Global, name: &str) -> Result<Vec<u8>, ReadFault>
+    ensures { IfOk result (λ bytes. length bytes.items ≤ most_file_bytes) }
 {
-    let mut file = match fs::open(rt, name) {
-        Ok(file) => file,
-        Err(error) => return Err(Failure::Unreadable(name, fault_of(&error))),
-    };
-    match read_limited(alloc, &mut file, MOST_FILE_BYTES) {
-        Ok(bytes) => Ok(bytes),
-        Err(ReadFault::OutOfMemory) => Err(Failure::OutOfMemory),
-        Err(fault) => Err(Failure::Unreadable(name, fault)),
+    match fs::open(rt, name) {
+        Ok(mut file) => read_limited(alloc, &mut file, MOST_FILE_BYTES),
+        Err(error) => Err(fault_of(&error)),
     }
 }
 
-/// Returns the files of these names, in order, each read whole. Fails at the first that can't be read, as `read_file` does.
+// Returns the failure for a file of this name that is not read.
+fn unread<'a>(name: &'a str, fault: ReadFault) -> Failure<'a>
+    ensures { FailsToRead name.entry result }
+{
+    match fault {
+        ReadFault::OutOfMemory => Failure::OutOfMemory,
+        _ => Failure::Unreadable(name, fault),
+    }
+}
+
+/// Returns the files of these names, in order, each read whole. Fails at the first that can't be read, or with `OutOfMemory` if memory
+/// was refused.
 pub(crate) fn read_files<'a, R: Files>(
     rt: &R,
     alloc: Global,
@@ -107,7 +110,7 @@ pub(crate) fn read_files<'a, R: Files>(
     for name in names {
         let bytes = match read_file(rt, alloc, *name) {
             Ok(bytes) => bytes,
-            Err(failure) => return Err(failure),
+            Err(fault) => return Err(unread(*name, fault)),
         };
         let Ok(name) = String::from_str(alloc, *name) else {
             return Err(Failure::OutOfMemory);

@@ -11,6 +11,7 @@ mod failure;
 mod files;
 mod fused;
 mod help;
+mod line;
 mod moves;
 mod play;
 mod progress;
@@ -34,25 +35,32 @@ use std::io::{BufWriter, ErrorKind, Write};
 use std::process::ExitCode;
 use std::{env, io};
 
+// Returns the arguments, of which the first is the program's name.
+fn words_of(rt: &HostRuntime) -> io::Result<Vec<String>> {
+    Ok(env::args(rt)?.collect(rt.alloc())?)
+}
+
 fn main(rt: HostRuntime) -> ExitCode {
     let mut err = rt.stderr();
-    // The first word is the program's name.
-    let words: Vec<String> = match env::args(&rt).and_then(|args| Ok(args.collect(rt.alloc())?)) {
-        Ok(words) => words,
+    let status = match words_of(&rt) {
+        Ok(words) if words.is_empty() => ExitStatus::Failed,
+        Ok(words) => match BufWriter::new(rt.alloc(), Fused::new(io::writer(&rt))) {
+            Ok(out) => run_words(
+                &rt,
+                rt.alloc(),
+                words,
+                &mut PromptStream::new(out),
+                &mut err,
+            ),
+            Err(_) => Failure::OutOfMemory.report(&mut err),
+        },
         Err(error) if error.kind() == ErrorKind::OutOfMemory => {
-            return ExitCode::from(Failure::OutOfMemory.report(&mut err).code());
+            Failure::OutOfMemory.report(&mut err)
         }
         Err(_) => {
-            let _ = writeln!(err, "kalah: a word is not UTF-8");
-            return ExitCode::from(ExitStatus::Failed.code());
+            let _ = err.write_all(b"kalah: a word is not UTF-8\n");
+            ExitStatus::Failed
         }
     };
-    if words.is_empty() {
-        return ExitCode::from(ExitStatus::Failed.code());
-    }
-    let Ok(out) = BufWriter::new(rt.alloc(), Fused::new(io::writer(&rt))) else {
-        return ExitCode::from(Failure::OutOfMemory.report(&mut err).code());
-    };
-    let mut out = PromptStream::new(out);
-    ExitCode::from(run_words(&rt, rt.alloc(), words, &mut out, &mut err).code())
+    ExitCode::from(status.code())
 }

@@ -1,18 +1,13 @@
 //! `kalah play LINE`.
-ghost use Rattle.std.specs.Prelude.{◌≡◌, IfNone, IfSome, false, true};
-ghost use Rattle.kalah_rules.specs.Position.{Position};
-ghost use Rattle.kalah_jobs.specs.Line.Line.{Reads};
-ghost use Rattle.kalah_jobs.specs.Writing.Given.{WasGiven};
+ghost use Rattle.std.specs.Prelude.{◌≡◌, IfNone, IfSome, MatchResult, OnOk};
 ghost use Rattle.kalah_run.specs.Limits.{IsTableSize};
-ghost use Rattle.kalah_cli.specs.Ends.{AnswersLine, FailsQuietly};
+ghost use Rattle.kalah_cli.specs.Ends.{IsPrinted};
 ghost use Rattle.kalah_cli.specs.Play.{MayBegin, best_game, game_lines, play_output};
 
-use crate::failure::{Failure, report_fault, status_of};
+use crate::failure::Failure;
 use crate::moves::{write_board, write_move};
 use crate::solver::new_solver;
-use crate::status::ExitStatus;
-use crate::tips::Messages;
-use kalah_jobs::{PromptSolver, Sink, flush_unless_failed, read_line};
+use kalah_jobs::{PromptSolver, Sink, flush_unless_failed};
 use kalah_rules::{Board, Step};
 use kalah_solve::Verdict;
 use std::alloc::Global;
@@ -20,8 +15,7 @@ use std::alloc::Global;
 // Writes the moves of the game of best play from a board on, each as soon as it is found. If the output has failed, none is sought.
 #[cycle(game)]
 fn write_game<O: Sink>(solver: &mut PromptSolver<'_>, board: &Board, boards: bool, out: &mut O)
-    ensures given { WasGiven O.written O.has_failed out.old out.new (game_lines boards board.now (best_game board.now)) }
-    ensures handed_on { O.has_failed out.new ≡ false → O.is_handed_on out.new ≡ true }
+    ensures { IsPrinted O.written O.has_failed O.is_handed_on out.old out.new (game_lines boards board.now (best_game board.now)) }
 {
     let _side = board.m();
     flush_unless_failed(out);
@@ -49,8 +43,7 @@ fn play<O: Sink>(
     out: &mut O,
 )
     requires { MayBegin first board.now }
-    ensures given { WasGiven O.written O.has_failed out.old out.new (play_output first boards board.now) }
-    ensures handed_on { O.has_failed out.new ≡ false → O.is_handed_on out.new ≡ true }
+    ensures { IsPrinted O.written O.has_failed O.is_handed_on out.old out.new (play_output first boards board.now) }
 {
     let _side = board.m();
     write_board(board, boards, out);
@@ -77,42 +70,34 @@ fn unmoved_house(board: &Board, first: Option<u8>) -> Option<u8>
     }
 }
 
-/// Prints the game that best play leads to from the position that the line writes, each move as soon as it is found. If `first` is a
-/// house, its move comes first, and then the game of best play after it. A line that can't be read is answered by its fault, and a house
-/// that may not be moved by its number, on `err` only. Memory is requested before anything is written, except for what the table
-/// takes as it grows.
-///
-/// Returns `Clean`, `LineFaults` for a line that can't be read, or `Failed` for such a house, if memory was refused or a write failed.
-pub(crate) fn run_play<O: Sink, E: Messages>(
+/// Prints the game that best play leads to from a board, each move as soon as it is found. If `first` is a house, its move comes first,
+/// and then the game of best play after it. Fails, and writes nothing, with `Unmoved` if that house may not be moved, or with
+/// `OutOfMemory` if memory was refused. Memory is requested before anything is written, except for what the table takes as it grows.
+pub(crate) fn run_play<O: Sink>(
     alloc: Global,
-    line: &str,
+    board: &Board,
     table: u32,
     boards: bool,
     first: Option<u8>,
     out: &mut O,
-    err: &mut E,
-) -> ExitStatus
-    requires table { IsTableSize table }
-    requires sink { O.has_failed out.old ≡ false }
-    ensures line { AnswersLine O.written O.has_failed O.is_handed_on out.old out.new result line.now (play_output first boards) }
-    ensures unmoved { (p : Position) → Reads line.now p → (MayBegin first p → ⊥) → FailsQuietly out.old out.new result }
+) -> Result<(), Failure<'static>>
+    requires { IsTableSize table }
+    ensures printed { MatchResult result
+        (λ _. IsPrinted O.written O.has_failed O.is_handed_on out.old out.new (play_output first boards board.now)) (λ _. out.new ≡ out.old) }
+    ensures begins { OnOk result (MayBegin first board.now) }
 {
-    let board = match read_line(line.as_bytes()) {
-        Ok(board) => board,
-        Err(fault) => return report_fault(fault, line, err),
-    };
-    if let Some(h) = unmoved_house(&board, first) {
-        return Failure::Unmoved(h).report(err);
+    if let Some(h) = unmoved_house(board, first) {
+        return Err(Failure::Unmoved(h));
     }
     let Ok(mut solver) = new_solver(alloc, table) else {
-        return Failure::OutOfMemory.report(err);
+        return Err(Failure::OutOfMemory);
     };
     play(
         &mut PromptSolver::new(&mut solver),
-        &board,
+        board,
         first,
         boards,
         out,
     );
-    status_of(out, err)
+    Ok(())
 }

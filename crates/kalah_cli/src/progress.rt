@@ -25,10 +25,11 @@ pub(crate) struct Progress<'a, R, E> {
 
 // Returns how many lines the files have together.
 fn count_lines(files: &[FileText]) -> u64 {
-    files.iter().fold(
-        0,
-        |lines: u64, file| lines.saturating_add(file.lines() as u64),
-    )
+    let mut lines = 0u64;
+    for file in files {
+        lines = lines.saturating_add(file.lines() as u64);
+    }
+    lines
 }
 
 // Returns the share of `parts` that `answered` is of `lines`, rounded down.
@@ -72,10 +73,10 @@ impl<'a, R: Clock + Terminal, E: Write> Progress<'a, R, E> {
         progress
     }
 
-    /// Ends the line that is rewritten, if the batch ended before all lines were answered.
+    /// Ends the line that is rewritten.
     pub(crate) fn end(&mut self) {
-        if self.in_place && self.shown < self.lines {
-            let _ = writeln!(self.err);
+        if self.in_place {
+            let _ = self.err.write_all(b"\n");
         }
     }
 
@@ -84,7 +85,12 @@ impl<'a, R: Clock + Terminal, E: Write> Progress<'a, R, E> {
         let (answered, lines) = (self.answered, self.lines);
         self.shown = answered;
         self.next = self.next_after(answered);
-        let begin = if self.in_place { "\r" } else { "" };
+        // What is left of an earlier and longer text is erased.
+        let (begin, end) = if self.in_place {
+            ("\r", "\x1b[K")
+        } else {
+            ("", "\n")
+        };
         let per_cent = share(answered, lines, 100);
         let _ = write!(
             self.err,
@@ -94,23 +100,17 @@ impl<'a, R: Clock + Terminal, E: Write> Progress<'a, R, E> {
             let (count, unit) = in_units(seconds);
             let _ = write!(self.err, ", {count} {unit} left");
         }
-        // What is left of an earlier and longer text is erased.
-        let end = match self.in_place {
-            true if answered < lines => "\x1b[K",
-            true => "\x1b[K\n",
-            false => "\n",
-        };
         let _ = self.err.write_all(end.as_bytes());
     }
 
     // Returns how long the other lines take at the rate so far, if that is known.
     fn seconds_left(&self) -> Option<u64> {
-        let seconds = self.begun?.elapsed(self.rt).ok()?.as_secs();
+        let time = self.begun?.elapsed(self.rt).ok()?;
         let left = self.lines.saturating_sub(self.answered);
-        if seconds == 0 || left == 0 {
-            return None;
+        match time.as_secs().saturating_mul(left) {
+            0 => None,
+            seconds => seconds.checked_div(self.answered),
         }
-        seconds.saturating_mul(left).checked_div(self.answered)
     }
 
     // Returns the number of answered lines at which the text is shown again.

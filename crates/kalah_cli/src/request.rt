@@ -1,61 +1,60 @@
 //! The requests that a command line can make.
-ghost use Rattle.std.specs.Prelude.{◌≡◌, ℕ, List, [], ◌∷◌, IfErr, IfOk, IfSome, MatchResult, Some, codes, false, is_some, map, option_and_then, true};
-ghost use Rattle.clap.specs.Words.{FailsBy, fault_of, first_of, found_of, kind_of, rows_of, subcommand_rows_of};
+ghost use Rattle.std.specs.Prelude.{◌≡◌, IfErr, IfOk, IfSome, Some, codes, is_some, map, true};
+ghost use Rattle.clap.specs.Words.{FailsBy, fault_of, first_of, found_of, kind_of, rows_of};
 ghost use Rattle.clap.specs.declared.error.kind.ErrorKind.TheVariants.{OutOfMemory};
 ghost use Rattle.kalah_solve.specs.Table.Entries.{most_entries};
 ghost use Rattle.kalah_run.specs.Limits.{IsTableSize};
 ghost use Rattle.kalah_cli.specs.Command.{kalah_app};
-ghost use Rattle.kalah_cli.specs.Request.{AreMatches, Asked, HasNumber, IsInRange, IsPlainWord, IsTakenAs, MayHaveNumber, ask_for, asked_by, asked_for, command_of, files_asked, is_set, moves, number_given};
+ghost use Rattle.kalah_cli.specs.Request.{AreMatches, HasNumber, IsInRange, IsTakenAs, MayHaveNumber, ask_for, asked_by, asked_for, command_of, files_asked, is_set, number_given};
 
 use crate::command::command;
 use clap::{ArgMatches, Error};
 use kalah_jobs::Question;
-use std::alloc::{AllocError, Global};
+use std::alloc::Global;
 use std::convert::AsStr;
 
 // The entries of a table that is not given.
 const DEFAULT_ENTRIES: u32 = 65_536;
 
 /// What the arguments ask the program to do.
-#[derive(Drop, PartialEq, Eq)]
+#[derive(Drop)]
 pub enum Request<'a> {
-    /// Print the moves of the position that this line writes, and draw boards or not.
-    Moves {
-        line: &'a str,
-        boards: bool,
-    },
-    /// Print the game of best play from the position that this line writes, or after its move of house `first`, 1 to 6. The search has
-    /// `table` entries, 1 to 1,048,576.
-    Play {
-        line: &'a str,
-        table: u32,
-        boards: bool,
-        first: Option<u8>,
-    },
+    /// Print something of the position that this line writes.
+    Line { line: &'a str, command: LineCommand },
     /// Answer each line of files.
     Files(FilesRequest<'a>),
     /// Answer each line of the standard input, by a solver with a table of `table` entries, 1 to 1,048,576.
-    Ask {
-        question: Question,
-        table: u32,
-    },
-    /// Draw the position that this line writes, plain or with what its moves are worth. The search has `table` entries, 1 to 1,048,576.
-    Show {
-        line: &'a str,
-        table: u32,
-        plain: bool,
-    },
-    /// Count the ways of `depth` moves, 0 to 20, to play on from the position that this line writes.
-    Count {
-        depth: u8,
-        line: &'a str,
-    },
+    Ask { question: Question, table: u32 },
     /// Refuse options that exclude each other.
     Conflict,
 }
 
+/// What is printed of a position. A search has `table` entries, 1 to 1,048,576.
+#[derive(Clone, Copy)]
+pub enum LineCommand {
+    /// Its moves, with boards drawn or not.
+    Moves {
+        boards: bool,
+    },
+    /// The game of best play from it, or after its move of house `first`, 1 to 6.
+    Play {
+        table: u32,
+        boards: bool,
+        first: Option<u8>,
+    },
+    /// A picture, plain or with what its moves are worth.
+    Show {
+        table: u32,
+        plain: bool,
+    },
+    /// The number of ways of `depth` moves, 0 to 20, to play on from it.
+    Count {
+        depth: u8,
+    },
+}
+
 /// What is asked of the positions of files, and how they are answered.
-#[derive(Drop, PartialEq, Eq)]
+#[derive(Drop)]
 pub struct FilesRequest<'a> {
     /// What is asked of each position.
     pub question: Question,
@@ -116,8 +115,9 @@ fn files_request<'a>(
     alloc: Global,
     question: Question,
     found: &ArgMatches<'a>,
-) -> Result<Request<'a>, AllocError>
+) -> Result<Request<'a>, Error>
     requires { AreMatches (command_of question) (rows_of (found_of found.now)) }
+    ensures memory { IfErr result (λ e. kind_of e ≡ OutOfMemory) }
     ensures asked { IfOk result (λ r. files_asked question (rows_of (found_of found.now)) ≡ Some (asked_for r)) }
     ensures range { IfOk result IsInRange }
 {
@@ -149,25 +149,26 @@ fn ask_request<'a>(values: bool, steps: bool, table: Option<u32>) -> Request<'a>
 }
 
 // Returns the request of the matches of the subcommand of this name.
-fn requested<'a>(
-    alloc: Global,
-    name: &str,
-    found: &ArgMatches<'a>,
-) -> Result<Request<'a>, AllocError>
+fn requested<'a>(alloc: Global, name: &str, found: &ArgMatches<'a>) -> Result<Request<'a>, Error>
     requires { AreMatches name.now (rows_of (found_of found.now)) }
+    ensures memory { IfErr result (λ e. kind_of e ≡ OutOfMemory) }
     ensures asked { IfOk result (λ r. asked_by (name.now, rows_of (found_of found.now)) ≡ Some (asked_for r)) }
     ensures range { IfOk result IsInRange }
 {
     match name {
-        "moves" => Ok(Request::Moves {
+        "moves" => Ok(Request::Line {
             line: line_of(found),
-            boards: is_set(found, "boards"),
+            command: LineCommand::Moves {
+                boards: is_set(found, "boards"),
+            },
         }),
-        "play" => Ok(Request::Play {
+        "play" => Ok(Request::Line {
             line: line_of(found),
-            table: number_of(found, "table"),
-            boards: is_set(found, "boards"),
-            first: given_byte(found, "first"),
+            command: LineCommand::Play {
+                table: number_of(found, "table"),
+                boards: is_set(found, "boards"),
+                first: given_byte(found, "first"),
+            },
         }),
         "solve" => files_request(alloc, Question::BestMove, found),
         "values" => files_request(alloc, Question::Values, found),
@@ -176,14 +177,18 @@ fn requested<'a>(
             Ok(ask_request(values, steps, given_number(found, "table")))
         }
         "steps" => files_request(alloc, Question::Steps, found),
-        "show" => Ok(Request::Show {
+        "show" => Ok(Request::Line {
             line: line_of(found),
-            table: number_of(found, "table"),
-            plain: is_set(found, "plain"),
+            command: LineCommand::Show {
+                table: number_of(found, "table"),
+                plain: is_set(found, "plain"),
+            },
         }),
-        "count" => Ok(Request::Count {
-            depth: given_byte(found, "depth").unwrap(),
+        "count" => Ok(Request::Line {
             line: line_of(found),
+            command: LineCommand::Count {
+                depth: given_byte(found, "depth").unwrap(),
+            },
         }),
         _ => unreachable!(),
     }
@@ -196,19 +201,10 @@ pub(crate) fn parse<'a, S: AsStr>(alloc: Global, words: &'a [S]) -> Result<Reque
         (λ r. IsTakenAs (map S.text words.entry.now) (asked_for r)) }
     ensures range { IfOk result IsInRange }
     ensures kinds { FailsBy (fault_of kalah_app (map S.text words.entry.now)) result }
-
-    // Arguments that the command line accepts fail only if memory was refused.
-    ensures refused { IfErr result (λ e. (a : Asked)
-        → IsTakenAs (map S.text words.entry.now) a → kind_of e ≡ OutOfMemory) }
-
-    // `moves` and an argument that is no flag are always accepted, as the moves of that line, with no board drawn.
-    ensures moves { (name line : List ℕ)
-        → map S.text words.entry.now ≡ name ∷ codes "moves" ∷ line ∷ [] → IsPlainWord line
-        → MatchResult result (λ r. asked_for r ≡ moves false line) (λ e. kind_of e ≡ OutOfMemory) }
 {
     let matches = command(alloc)?.try_get_matches_from(words)?;
     let (name, found) = matches.subcommand().unwrap();
-    Ok(requested(alloc, name, found)?)
+    requested(alloc, name, found)
 }
 
 #[cfg(test)]

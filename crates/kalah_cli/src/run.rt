@@ -1,30 +1,28 @@
 //! The program, run on its arguments.
-ghost use Rattle.std.specs.Prelude.{◌≡◌, ◌≢◌, ◌<◌, ℕ, None, false, true, vec_len};
+ghost use Rattle.std.specs.Prelude.{◌≡◌, ◌≢◌, ◌↔◌, ◌<◌, ℕ, false, true, vec_len};
 ghost use Rattle.std.specs.Io.KnownBytes.{Appends};
 ghost use Rattle.clap.specs.Values.{kind_of};
 ghost use Rattle.clap.specs.declared.error.kind.ErrorKind.TheVariants.{DisplayHelp, DisplayVersion};
 ghost use Rattle.kalah_jobs.specs.declared.files.question.Question.{Question};
 ghost use Rattle.kalah_cli.specs.Ask.{StopsBetweenLines};
+ghost use Rattle.kalah_cli.specs.Ends.{FailsQuietly, ended_by};
 ghost use Rattle.kalah_cli.specs.Play.{PlaysBestGames};
 ghost use Rattle.kalah_cli.specs.Request.{Asked, IsInRange, IsTakenAs, ask, asked_for, texts_of};
 ghost use Rattle.kalah_cli.specs.Runs.{Does, DoesByItsWords, DoesWhatIsAsked, IsOfNoInput, RefusesTheRest, version_line};
 
 use crate::ask::run_ask;
-use crate::count::run_count;
-use crate::failure::{Failure, status_of};
+use crate::failure::{Failure, status_of, written};
 use crate::help;
-use crate::moves::run_moves;
-use crate::play::run_play;
+use crate::line::run_line;
 use crate::request::{Request, parse};
-use crate::show::run_show;
 use crate::solve_files::run_files;
 use crate::status::ExitStatus;
 use crate::terminal::Terminal;
-use crate::tips::{Messages, StandardError, of_arguments, write_tip};
+use crate::tips::{Messages, of_arguments, say, write_position_tip, write_tip};
 use crate::version::VERSION_LINE;
 use clap::Error;
 use clap::error::ErrorKind;
-use kalah_jobs::{Sink, flush_unless_failed, write_unless_failed};
+use kalah_jobs::{Sink, flush_unless_failed, read_line, write_unless_failed};
 use std::alloc::Global;
 use std::io::{Input, Write};
 use std::rt::{Clock, Files};
@@ -32,18 +30,17 @@ use std::sync::Wait;
 use std::thread::Threads;
 
 // Writes the requested help or version.
-fn print_text<O: Sink, E: Write>(text: &str, out: &mut O, err: &mut E) -> ExitStatus
+fn print_text<O: Sink>(text: &str, out: &mut O) -> Result<ExitStatus, Failure<'static>>
     requires { O.has_failed out.old ≡ false }
-    ensures failed { O.has_failed out.new ≡ true → result ≡ ExitStatus.Failed }
-    ensures failed_only { result ≡ ExitStatus.Failed → O.has_failed out.new ≡ true }
-    ensures no_line { result ≢ ExitStatus.LineFaults }
-    ensures shown { result ≡ ExitStatus.Clean
+    ensures failed { O.has_failed out.new ≡ true ↔ ended_by result ≡ ExitStatus.Failed }
+    ensures no_line { ended_by result ≢ ExitStatus.LineFaults }
+    ensures shown { ended_by result ≡ ExitStatus.Clean
         → Appends (O.written out.old) (O.written out.new) text.now }
-    ensures handed_on { result ≢ ExitStatus.Failed → O.is_handed_on out.new ≡ true }
+    ensures handed_on { ended_by result ≢ ExitStatus.Failed → O.is_handed_on out.new ≡ true }
 {
     write_unless_failed(out, text.as_bytes());
     flush_unless_failed(out);
-    status_of(out, err)
+    written(out)
 }
 
 // Returns whether these arguments seem to give `moves`, `play`, `show` or `count` a position without quotes: two adjacent ones each have
@@ -52,76 +49,90 @@ fn lacks_quotes(words: &[String]) -> bool {
     let Some(subcommand) = words.get(1) else {
         return false;
     };
-    ["moves", "play", "show", "count"].contains(&subcommand.as_str())
-        && words
-            .windows(2)
-            .any(|pair| pair.iter().all(|word| word.contains('/')))
+    if !["moves", "play", "show", "count"].contains(&subcommand.as_str()) {
+        return false;
+    }
+    let mut has_slash = false;
+    for word in words {
+        let had_slash = has_slash;
+        has_slash = word.contains('/');
+        if had_slash && has_slash {
+            return true;
+        }
+    }
+    false
 }
 
 // Writes on `err`, after arguments that are refused with this text, that a position needs quotes if they lack them, or else a tip.
-fn advise<E: Messages>(words: &[String], text: &str, err: &mut E) {
+fn advise<E: Write>(words: &[String], text: &str, err: &mut Messages<'_, E>) {
     if lacks_quotes(words) {
-        let _ = err.write_all(help::QUOTES.as_bytes());
-    } else {
-        write_tip("\n", of_arguments(words, text), err);
+        say(&[help::QUOTES], err.writer);
+        return;
+    }
+    if !err.are_shown {
+        return;
+    }
+    match words.get(1) {
+        Some(first) if read_line(first.as_bytes()).is_ok() => {
+            say(&["\n"], err.writer);
+            write_position_tip(first.as_str(), err.writer);
+        }
+        _ => if let Some(tip) = of_arguments(text) {
+            say(&["\n"], err.writer);
+            write_tip(tip, err);
+        },
     }
 }
 
 // Reports a parse that made no request: help or the version on `out`, a mistake in the arguments on `err`.
-fn refuse<O: Sink, E: Messages>(
+fn refuse<O: Sink, E: Write>(
     alloc: Global,
     words: &[String],
     error: &Error,
     out: &mut O,
-    err: &mut E,
-) -> ExitStatus
+    err: &mut Messages<'_, E>,
+) -> Result<ExitStatus, Failure<'static>>
     requires { O.has_failed out.old ≡ false }
     ensures mistake { kind_of error.now ≢ DisplayHelp → kind_of error.now ≢ DisplayVersion
-        → (result ≡ ExitStatus.Failed) × (out.new ≡ out.old) }
-    ensures failed { O.has_failed out.new ≡ true → result ≡ ExitStatus.Failed }
-    ensures unchanged { result ≡ ExitStatus.Failed → O.has_failed out.new ≡ false
+        → FailsQuietly out.old out.new (ended_by result) }
+    ensures failed { O.has_failed out.new ≡ true → ended_by result ≡ ExitStatus.Failed }
+    ensures unchanged { ended_by result ≡ ExitStatus.Failed → O.has_failed out.new ≡ false
         → out.new ≡ out.old }
-    ensures no_line { result ≢ ExitStatus.LineFaults }
-    ensures version { kind_of error.now ≢ DisplayHelp → result ≡ ExitStatus.Clean
+    ensures no_line { ended_by result ≢ ExitStatus.LineFaults }
+    ensures version { kind_of error.now ≢ DisplayHelp → ended_by result ≡ ExitStatus.Clean
         → Appends (O.written out.old) (O.written out.new) version_line }
-    ensures handed_on { result ≢ ExitStatus.Failed → O.is_handed_on out.new ≡ true }
+    ensures handed_on { ended_by result ≢ ExitStatus.Failed → O.is_handed_on out.new ≡ true }
 {
     let Ok(text) = error.to_string(alloc) else {
-        return Failure::OutOfMemory.report(err);
+        return Err(Failure::OutOfMemory);
     };
     match error.kind() {
-        ErrorKind::DisplayHelp => print_text(text.as_str(), out, err),
-        ErrorKind::DisplayVersion => print_text(VERSION_LINE, out, err),
-        ErrorKind::OutOfMemory => Failure::OutOfMemory.report(err),
+        ErrorKind::DisplayHelp => print_text(text.as_str(), out),
+        ErrorKind::DisplayVersion => print_text(VERSION_LINE, out),
+        ErrorKind::OutOfMemory => Err(Failure::OutOfMemory),
         _ => {
-            let _ = err.write_all(text.as_bytes());
+            say(&[text.as_str()], err.writer);
             advise(words, text.as_str(), err);
-            ExitStatus::Failed
+            Ok(ExitStatus::Failed)
         }
     }
 }
 
 // Carries out the request.
-fn run_request<R: Files + Input + Clock + Terminal + Threads + Wait + Sync, O: Sink, E: Messages>(
+fn run_request<'a, R: Files + Input + Clock + Terminal + Threads + Wait + Sync, O: Sink, E: Write>(
     rt: &R,
     alloc: Global,
-    request: &Request<'_>,
+    request: &Request<'a>,
     out: &mut O,
-    err: &mut E,
-) -> ExitStatus
+    err: &mut Messages<'_, E>,
+) -> Result<ExitStatus, Failure<'a>>
     requires range { IsInRange request.now }
     requires sink { O.has_failed out.old ≡ false }
-    ensures { Does O.written O.has_failed O.is_handed_on out.old out.new result (asked_for request.now) }
+    ensures { Does O.written O.has_failed O.is_handed_on out.old out.new (ended_by result) (asked_for request.now) }
 {
     match request {
-        Request::Moves { line, boards } => run_moves(line, *boards, out, err),
-        Request::Play {
-            line,
-            table,
-            boards,
-            first,
-        } => run_play(alloc, line, *table, *boards, *first, out, err),
-        Request::Files(files) => run_files(rt, alloc, files, out, err),
+        Request::Line { line, command } => run_line(alloc, line, command, out, err),
+        Request::Files(files) => run_files(rt, alloc, files, out, err.writer),
         Request::Ask { question, table } => {
             run_ask(
                 alloc,
@@ -130,14 +141,12 @@ fn run_request<R: Files + Input + Clock + Terminal + Threads + Wait + Sync, O: S
                 *question,
                 *table,
                 out,
-                err,
+                err.writer,
             )
         }
-        Request::Show { line, table, plain } => run_show(alloc, line, *table, *plain, out, err),
-        Request::Count { depth, line } => run_count(*depth, line, out, err),
         Request::Conflict => {
-            let _ = err.write_all(help::CONFLICT.as_bytes());
-            ExitStatus::Failed
+            say(&[help::CONFLICT], err.writer);
+            Ok(ExitStatus::Failed)
         }
     }
 }
@@ -175,17 +184,20 @@ pub fn run_words<R: Files + Input + Clock + Terminal + Threads + Wait + Sync, O:
     ensures unchanged { ((a : Asked) → IsTakenAs (texts_of words.items) a → IsOfNoInput a) → result ≡ ExitStatus.Failed
         → O.has_failed out.new ≡ false → out.new ≡ out.old }
     ensures stopped { (question : Question) (table : ℕ) → IsTakenAs (texts_of words.items) (ask question table) → result ≡ ExitStatus.Failed
-        → O.has_failed out.new ≡ false → StopsBetweenLines question None (O.written out.old) (O.written out.new) }
+        → O.has_failed out.new ≡ false → StopsBetweenLines question (O.written out.old) (O.written out.new) }
     // If it did not, all that was written is flushed.
     ensures handed_on { result ≢ ExitStatus.Failed → O.is_handed_on out.old ≡ true → O.is_handed_on out.new ≡ true }
 {
-    let mut err = StandardError {
+    let mut err = Messages {
         writer: err,
-        is_terminal: rt.shows_errors(),
+        are_shown: rt.shows_errors(),
     };
     match parse(alloc, words.as_slice()) {
-        Ok(request) => run_request(rt, alloc, &request, out, &mut err),
-        Err(error) => refuse(alloc, words.as_slice(), &error, out, &mut err),
+        Ok(request) => status_of(run_request(rt, alloc, &request, out, &mut err), &mut err),
+        Err(error) => status_of(
+            refuse(alloc, words.as_slice(), &error, out, &mut err),
+            &mut err,
+        ),
     }
 }
 

@@ -3,16 +3,16 @@ ghost use Rattle.std.specs.Prelude.{◌≡◌, ◌↔◌, IfOk, IsErrOf, false, 
 ghost use Rattle.std.specs.List.{list_any};
 ghost use Rattle.kalah_jobs.specs.Writing.Output.{output_to};
 ghost use Rattle.kalah_run.specs.Batch.Answering.{AnswersBatch};
+ghost use Rattle.kalah_cli.specs.Ends.{ended_by};
 ghost use Rattle.kalah_cli.specs.Request.{IsInLimits};
 ghost use Rattle.kalah_cli.specs.SolveFiles.{AnswersFiles, has_line_feed};
 
-use crate::failure::{Failure, report_with_tip};
+use crate::failure::Failure;
 use crate::files::read_files;
 use crate::progress::Progress;
 use crate::request::FilesRequest;
 use crate::status::ExitStatus;
 use crate::terminal::Terminal;
-use crate::tips::Messages;
 use kalah_jobs::{FileText, Sink};
 use kalah_run::{BatchRequest, OpenGate, Rest, RunFault, Tally, answer_batch};
 use std::alloc::Global;
@@ -29,7 +29,7 @@ fn any_has_line_feed(names: &[&str]) -> bool
 }
 
 // Returns the files of these names, each read whole. Fails with `LineFeed` exactly if one of the names has a line feed in it.
-#[tactic(auto, using(crate::proofs::Filed::texts_have_line_feed))]
+#[tactic(auto, using(crate::proofs::RunLemmas::texts_have_line_feed))]
 fn read_named<'a, R: Files>(
     rt: &R,
     alloc: Global,
@@ -74,26 +74,23 @@ fn answer_files<R: Clock + Terminal + Threads + Wait + Sync, O: Sink, E: Write>(
 
 /// Answers what is asked of each line of the named files.
 ///
-/// Returns `Clean` if each line was read, and `LineFaults` if one was not. Otherwise returns `Failed`, and reports the failure on `err`.
-pub(crate) fn run_files<R: Files + Clock + Terminal + Threads + Wait + Sync, O: Sink, E: Messages>(
+/// Returns `Clean` if each line was read, and `LineFaults` if one was not.
+pub(crate) fn run_files<'a, R: Files + Clock + Terminal + Threads + Wait + Sync, O: Sink, E: Write>(
     rt: &R,
     alloc: Global,
-    request: &FilesRequest<'_>,
+    request: &FilesRequest<'a>,
     out: &mut O,
     err: &mut E,
-) -> ExitStatus
+) -> Result<ExitStatus, Failure<'a>>
     requires limits { IsInLimits request.now }
     requires sink { O.has_failed out.old ≡ false }
-    ensures { AnswersFiles O.written O.has_failed O.is_handed_on out.old out.new result request.now.question
+    ensures { AnswersFiles O.written O.has_failed O.is_handed_on out.old out.new (ended_by result) request.now.question
         (map (λ name. name.now) request.now.files.items) }
 {
-    let files = match read_named(rt, alloc, request.files.as_slice()) {
-        Ok(files) => files,
-        Err(failure) => return report_with_tip(failure, err),
-    };
-    match answer_files(rt, alloc, request, files.as_slice(), out, err) {
-        Ok(tally) if tally.faults == 0 => ExitStatus::Clean,
-        Ok(_) => ExitStatus::LineFaults,
-        Err(fault) => report_with_tip(Failure::from(fault), err),
+    let files = read_named(rt, alloc, request.files.as_slice())?;
+    let tally = answer_files(rt, alloc, request, files.as_slice(), out, err)?;
+    if tally.faults == 0 {
+        return Ok(ExitStatus::Clean);
     }
+    Ok(ExitStatus::LineFaults)
 }

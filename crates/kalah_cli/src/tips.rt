@@ -3,74 +3,38 @@ use crate::failure::Failure;
 use crate::files::ReadFault;
 use kalah_jobs::{LineFault, read_line};
 use std::io::Write;
-use std::{fmt, io};
 
 /// Where messages are written.
-pub(crate) trait Messages: Write {
-    /// Returns whether they are shown on a terminal, so that tips follow refusals.
-    fn are_shown(&self) -> bool;
-}
-
-/// The writer of messages, and whether it is a terminal.
 #[derive(Drop)]
-pub(crate) struct StandardError<'a, E> {
+pub(crate) struct Messages<'a, E> {
     pub(crate) writer: &'a mut E,
-    pub(crate) is_terminal: bool,
+    /// Whether they are shown on a terminal, so that tips follow refusals.
+    pub(crate) are_shown: bool,
 }
 
-impl<E: Write> Write for StandardError<'_, E> {
-    fn write(&mut self, buf: &[u8]) -> io::Result<usize> {
-        self.writer.write(buf)
-    }
-
-    fn flush(&mut self) -> io::Result<()> {
-        self.writer.flush()
+/// Writes texts, one after another. What can't be written is dropped.
+pub(crate) fn say<E: Write>(texts: &[&str], err: &mut E) {
+    for text in texts {
+        let _ = err.write_all(text.as_bytes());
     }
 }
 
-impl<E: Write> Messages for StandardError<'_, E> {
-    fn are_shown(&self) -> bool {
-        self.is_terminal
+/// Writes these words as a tip, if messages are shown on a terminal.
+pub(crate) fn write_tip<E: Write>(words: &str, err: &mut Messages<'_, E>) {
+    if err.are_shown {
+        say(&["  tip: ", words, "\n"], err.writer);
     }
 }
 
-/// What follows a refusal: its cause, or what to do.
-#[derive(Clone, Copy)]
-pub(crate) enum Tip<'a> {
-    /// These words.
-    Words(&'static str),
-    /// What takes this position, which stands where a file or a subcommand should.
-    Position(&'a str),
-    /// How many seeds the houses of a line have.
-    Seeds(u32),
-}
-
-impl fmt::Display for Tip<'_> {
-    fn fmt<W: fmt::Write>(&self, f: &mut fmt::Formatter<W>) -> fmt::Result {
-        match self {
-            Tip::Words(words) => f.write_str(words),
-            Tip::Position(line) => write!(
-                f,
-                "for a position, use `kalah show '{line}'`, or `kalah ask`"
-            ),
-            Tip::Seeds(seeds) => write!(f, "{seeds} seeds in houses; at most 31 are solved"),
-        }
-    }
-}
-
-/// Writes the tip after this text, if there is one and messages are shown on a terminal. If it can't be written, it is dropped.
-pub(crate) fn write_tip<E: Messages>(before: &str, tip: Option<Tip<'_>>, err: &mut E) {
-    match tip {
-        Some(tip) if err.are_shown() => {
-            let _ = writeln!(err, "{before}  tip: {tip}");
-        }
-        _ => {}
-    }
+/// Writes what takes this position, which stands where a file or a subcommand should.
+pub(crate) fn write_position_tip<E: Write>(line: &str, err: &mut E) {
+    let before = "  tip: for a position, use `kalah show '";
+    say(&[before, line, "'`, or `kalah ask`\n"], err);
 }
 
 /// Returns the tip for a failure, if there is one that its report doesn't have.
-pub(crate) fn of_failure(failure: Failure<'_>) -> Option<Tip<'static>> {
-    Some(Tip::Words(match failure {
+pub(crate) fn of_failure(failure: Failure<'_>) -> Option<&'static str> {
+    Some(match failure {
         Failure::Unreadable(name, _) if read_line(name.as_bytes()).is_ok() => return None,
         Failure::Unreadable("-", ReadFault::Missing) => "for standard input, use /dev/stdin",
         Failure::Unreadable(_, fault) => of_fault(fault),
@@ -79,7 +43,7 @@ pub(crate) fn of_failure(failure: Failure<'_>) -> Option<Tip<'static>> {
         Failure::TooManyLines =>
             "at most 1000000 lines a run; `kalah ask` has no limit, or split the files (docs/LARGE.md)",
         _ => return None,
-    }))
+    })
 }
 
 // Returns the words for the cause that a file is not read.
@@ -94,30 +58,39 @@ fn of_fault(fault: ReadFault) -> &'static str {
     }
 }
 
-/// Returns the tip for a line with this fault.
-pub(crate) fn of_line(line: &str, fault: LineFault) -> Tip<'static> {
-    match fault {
-        LineFault::Seeds => Tip::Seeds(seeds_in_houses(line)),
-        LineFault::Long => Tip::Words("a line has at most 80 bytes"),
-        LineFault::Houses => Tip::Words("each side has the same number of houses, 1 to 6"),
-        LineFault::Shape if !line.contains(' ') => Tip::Words(
-            "one space between the sides, as in `1,1/0 1,1/0`",
-        ),
-        LineFault::Shape | LineFault::Empty => Tip::Words(
-            "the form is `1,1/0 1,1/0`; numbers are 0 to 99, without a zero before them",
-        ),
+/// Writes the tip for a line with this fault, if messages are shown on a terminal.
+pub(crate) fn write_line_tip<E: Write>(line: &str, fault: LineFault, err: &mut Messages<'_, E>) {
+    if !err.are_shown {
+        return;
     }
+    let words = match fault {
+        LineFault::Seeds => {
+            let seeds = seeds_in_houses(line);
+            let _ = writeln!(
+                err.writer,
+                "  tip: {seeds} seeds in houses; at most 31 are solved"
+            );
+            return;
+        }
+        LineFault::Long => "a line has at most 80 bytes",
+        LineFault::Houses => "each side has the same number of houses, 1 to 6",
+        LineFault::Shape if !line.contains(' ') =>
+            "one space between the sides, as in `1,1/0 1,1/0`",
+        LineFault::Shape | LineFault::Empty =>
+            "the form is `1,1/0 1,1/0`; numbers are 0 to 99, without a zero before them",
+    };
+    write_tip(words, err);
 }
 
 // Returns the sum of the houses of a line that has the form of a position.
 fn seeds_in_houses(line: &str) -> u32 {
     let mut seeds = 0u32;
-    for side in line.split(' ') {
-        if let Some((houses, _)) = side.split_once('/') {
-            for house in houses.split(',') {
-                seeds = seeds.saturating_add(house.parse().unwrap_or(0));
-            }
-        }
+    for number in line.split([' ', ',']) {
+        let house = match number.split_once('/') {
+            Some((house, _)) => house,
+            None => number,
+        };
+        seeds = seeds.saturating_add(house.parse().unwrap_or(0));
     }
     seeds
 }
@@ -145,14 +118,10 @@ const ARGUMENTS: &[(&str, &str, &str)] = &[
 ];
 
 /// Returns the tip for arguments that the command line refuses with this text, if there is one.
-pub(crate) fn of_arguments<'a>(words: &'a [String], text: &str) -> Option<Tip<'a>> {
-    let first = words.get(1)?.as_str();
-    if read_line(first.as_bytes()).is_ok() {
-        return Some(Tip::Position(first));
-    }
+pub(crate) fn of_arguments(text: &str) -> Option<&'static str> {
     for (one, other, tip) in ARGUMENTS {
         if text.contains(*one) && text.contains(*other) {
-            return Some(Tip::Words(*tip));
+            return Some(*tip);
         }
     }
     None

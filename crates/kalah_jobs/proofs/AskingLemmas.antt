@@ -1,2 +1,373 @@
-pub mod AnswersTo
-pub mod Underway
+-- Lines that come as a stream: what is answered of them, and how far.
+use Rattle.kalah_rules.specs.Position as position
+use Rattle.kalah_jobs.specs.declared.writing.answer.Answer.TheVariants as answer
+use Rattle.std.proofs.Common.{◌≡◌, ◌≢◌, ◌∙◌, ℕ, zero, suc, ◌+◌, ◌≤◌, Bool, true, false, List, [], ◌∷◌, ◌++◌, length, take, inl, inr, refl, sym, ap, ap₂, arith, append-nil, append_assoc, map, Err, not, ◌||◌, ◌&&◌, subst}
+use Rattle.std.specs.Prelude.{Result, Ok, if◌then◌else◌, Option}
+use Rattle.std.specs.List.{flat_map, enumerate_from, join_with_byte, list_any}
+use Rattle.std.proofs.lemmas.Bool.{cases_lt}
+use Rattle.std.proofs.Math.Bool.{and-true}
+use Rattle.std.proofs.lemmas.Grind.{flat_map-append}
+use Rattle.std.proofs.lemmas.List.{length-take-le, take_all}
+use Rattle.std.proofs.lemmas.List.Folds.{list_any-append}
+use Rattle.kalah_rules.specs.Position.{is_over}
+use Rattle.kalah_jobs.specs.declared.files.question.Question.{Question}
+use Rattle.kalah_jobs.specs.declared.files.question.Question.TheVariants.{BestMove, Values, Steps}
+use Rattle.kalah_jobs.specs.declared.writing.answer.Answer.{Answer}
+use Rattle.kalah_jobs.specs.declared.line.line_fault.LineFault.{LineFault}
+use Rattle.kalah_jobs.specs.Asking.Asked.{kept_bytes, told, told_last, is_last_read, answers_to, are_all_read, AnswersAreThoseOfAFile, AreAnswered, Asking, IsAnswered, IsBegun, IsCutOff}
+use Rattle.kalah_jobs.specs.Files.Entry.{entry_of, entry_of_reading}
+use Rattle.kalah_jobs.specs.declared.files.entry.Entry.TheVariants.{Bad}
+use Rattle.kalah_jobs.specs.Files.Lines.{line_feed, lines_of, HasNoLineFeed}
+use Rattle.kalah_jobs.specs.Files.Question.{entry_asked, entry_to}
+use Rattle.kalah_jobs.specs.Line.Line.{without_cr}
+use Rattle.kalah_jobs.specs.Line.Reading.{reading_of}
+use Rattle.kalah_jobs.specs.declared.line.line_fault.LineFault.TheVariants.{Long}
+use Rattle.kalah_jobs.specs.Writing.Answer.{answer_of, answer_texts, answer_words, is_fault, place_words, IsOfOneLine}
+use Rattle.kalah_jobs.specs.Writing.Output.{is_faulty, line_output}
+use Rattle.kalah_jobs.specs.Writing.Splitting.{EndsWithItsLine}
+use Rattle.kalah_jobs.proofs.FilesLemmas.{lines_of-ended, lines_of-open, IsNoFeed}
+use Rattle.kalah_jobs.proofs.LineLemmas.{long_is_read}
+use Rattle.kalah_jobs.proofs.WritingLemmas.{files_split_between_lines}
+use Rattle.std.specs.Io.KnownBytes.{Appends, Consumes, IsAtEnd, Keeps}
+use Rattle.std.proofs.KnownBytes.{Appends-kept, Appends-nil, Appends-trans, Consumes-kept, Consumes-nil, Consumes-trans, Consumes-whole, Keeps-refl}
+use Rattle.std.proofs.lemmas.List.Elements.{All-nil, All-push}
+use Rattle.kalah_jobs.specs.Writing.Given.{AppendsStart}
+
+-- ==== What is answered, line by line
+
+-- ---- the lines of a piece
+
+-- a piece that ends is one line
+pub lines_of_ended : (piece : List ℕ) → HasNoLineFeed piece → lines_of (piece ++ line_feed ∷ []) ≡ piece ∷ []
+unfolding lines_of
+lines_of_ended piece none = lines_of-ended piece [] none
+
+-- a piece that isn't empty is one line if nothing follows
+lines_of_open : (byte : ℕ) (piece : List ℕ) → HasNoLineFeed (byte ∷ piece) → lines_of (byte ∷ piece) ≡ (byte ∷ piece) ∷ []
+lines_of_open byte piece none = lines_of-open (byte ∷ piece) none (λ e. cc)
+
+no_lines : lines_of [] ≡ []
+unfolding lines_of
+no_lines = refl
+
+-- so a piece is one line at most
+pub one_line : (piece : List ℕ) → HasNoLineFeed piece → length (lines_of piece) ≤ 1
+one_line [] none = rw no_lines (omega arith)
+one_line (byte ∷ piece) none = rw (lines_of_open byte piece none) (omega arith)
+
+-- ---- the answers
+
+pub answers_split : (question : Question) (lines more : List ℕ) → EndsWithItsLine lines →
+    answers_to question (lines ++ more) ≡ answers_to question lines ++ answers_to question more
+unfolding answers_to
+answers_split question lines more ends =
+    ap (flat_map (told question)) (files_split_between_lines.parts lines more ends).lines
+    ∙ flat_map-append (told question) (lines_of lines) (lines_of more)
+
+pub no_answers : (question : Question) → answers_to question [] ≡ []
+unfolding answers_to
+no_answers question = ap (flat_map (told question)) no_lines
+
+-- the answer to one line
+pub answers_to_one : (question : Question) (bytes line : List ℕ) → lines_of bytes ≡ line ∷ []
+    → answers_to question bytes ≡ told question line
+unfolding answers_to
+answers_to_one question bytes line one = ap (flat_map (told question)) one ∙ append-nil (told question line)
+
+-- and to whole lines and one more
+pub answers_to_more : (question : Question) (lines more line : List ℕ) → EndsWithItsLine lines → lines_of more ≡ line ∷ []
+    → answers_to question (lines ++ more) ≡ answers_to question lines ++ told question line
+answers_to_more question lines more line ends one =
+    answers_split question lines more ends ∙ ap (λ l. answers_to question lines ++ l) (answers_to_one question more line one)
+
+both_read : (a b : Bool) → not (a || (b || false)) ≡ (not a && not b)
+both_read true b = refl
+both_read false true = refl
+both_read false false = refl
+
+-- all are read if one more is, and those before
+pub all_read_more : (lines more line : List ℕ) → EndsWithItsLine lines → lines_of more ≡ line ∷ []
+    → are_all_read (lines ++ more) ≡ (are_all_read lines && not (is_faulty line))
+all_read_more lines more line ends one =
+    ap (λ (l : List (List ℕ)). not (list_any is_faulty l))
+    ((files_split_between_lines.parts lines more ends).lines ∙ ap (λ (l : List (List ℕ)). lines_of lines ++ l) one)
+    ∙ ap not (list_any-append is_faulty (lines_of lines) (line ∷ []))
+    ∙ both_read (list_any is_faulty (lines_of lines)) (is_faulty line)
+
+pub none_unread : are_all_read [] ≡ true
+unfolding lines_of
+none_unread = refl
+
+-- ---- as many bytes as are kept
+
+-- a line is at most one byte longer than without its CR
+cr_is_one : (line : List ℕ) → length line ≤ length (without_cr line) + 1
+cr_is_one [] = omega arith
+cr_is_one (byte ∷ []) = omega arith
+cr_is_one (byte ∷ more ∷ line) = omega (arith, cr_is_one (more ∷ line))
+
+-- a line of `kept_bytes` bytes is too long
+too_long : (line : List ℕ) → kept_bytes ≤ length line → entry_of line ≡ Bad Long
+unfolding entry_of
+too_long line long = ap entry_of_reading (long_is_read line (omega (arith, cr_is_one line, long)))
+
+-- so the bytes that are kept determine the entry of the line
+pub kept_says : (line : List ℕ) → entry_of (take kept_bytes line) ≡ entry_of line
+kept_says line = elim (cases_lt kept_bytes (length line)) [
+  | inl long ↦
+      too_long (take kept_bytes line) (omega (arith, length-take-le kept_bytes line (omega (arith, long))))
+      ∙ sym (too_long line (omega (arith, long)))
+  | inr short ↦ ap entry_of (take_all kept_bytes line short)
+]
+
+-- and are answered as it is
+pub kept_told : (question : Question) (line : List ℕ) → told question (take kept_bytes line) ≡ told question line
+kept_told question line = ap (λ entry. answer_words (answer_of (entry_asked question entry)) ++ line_feed ∷ []) (kept_says line)
+
+pub kept_faulty : (line : List ℕ) → is_faulty (take kept_bytes line) ≡ is_faulty line
+kept_faulty line = ap (λ entry. is_fault (answer_of entry)) (kept_says line)
+
+-- one byte more of those that are kept
+pub kept_more : (line : List ℕ) (byte : ℕ) → take kept_bytes (take kept_bytes line ++ byte ∷ []) ≡ take kept_bytes
+    (line ++ byte ∷ [])
+kept_more line byte = go kept_bytes line
+  where
+    go : (n : ℕ) (line : List ℕ) → take n (take n line ++ byte ∷ []) ≡ take n (line ++ byte ∷ [])
+    go zero line = refl
+    go (suc n) [] = refl
+    go (suc n) (first ∷ line) = ap (λ l. first ∷ l) (go n line)
+
+-- what stands after the last line feed is answered as its lines are
+pub last_told : (question : Question) (piece : List ℕ) → HasNoLineFeed piece
+    → answers_to question piece ≡ told_last question (take kept_bytes piece)
+last_told question [] none = no_answers question
+last_told question (byte ∷ piece) none =
+    answers_to_one question (byte ∷ piece) (byte ∷ piece) (lines_of_open byte piece none) ∙ sym (kept_told question (byte ∷ piece))
+
+pub last_read : (lines piece : List ℕ) → EndsWithItsLine lines → HasNoLineFeed piece
+    → are_all_read (lines ++ piece) ≡ (are_all_read lines && is_last_read (take kept_bytes piece))
+last_read lines [] ends none = ap are_all_read (append-nil lines) ∙ sym (and-true (are_all_read lines))
+last_read lines (byte ∷ piece) ends none =
+    all_read_more lines (byte ∷ piece) (byte ∷ piece) ends (lines_of_open byte piece none)
+    ∙ ap (λ b. are_all_read lines && not b) (sym (kept_faulty (byte ∷ piece)))
+
+-- ---- the law
+
+-- an answer of one line has one text
+pub one_text : (a : Answer) → IsOfOneLine a → answer_texts a ≡ answer_words a ∷ []
+one_text (answer.Best margin house) one = refl
+one_text (answer.Over margin) one = refl
+one_text (answer.Values values) one = refl
+one_text (answer.Steps p) one = absurd one
+one_text (answer.Fault fault) one = refl
+
+one_of_two : (over : Bool) (a b : Answer) → IsOfOneLine a → IsOfOneLine b → IsOfOneLine (if over then a else b)
+one_of_two true a b one other = one
+one_of_two false a b one other = other
+
+-- where no steps are asked an answer is of one line
+one_line_read : (question : Question) → question ≢ Steps → (r : Result position.Position LineFault) →
+    IsOfOneLine (answer_of (entry_asked question (entry_of_reading r)))
+unfolding answer_of
+one_line_read BestMove other (Ok p) = one_of_two (is_over p) _ _ tt tt
+one_line_read BestMove other (Err fault) = tt
+one_line_read Values other (Ok p) = one_of_two (is_over p) _ _ tt tt
+one_line_read Values other (Err fault) = tt
+one_line_read Steps other r = absurd (other refl)
+
+one_line_asked : (question : Question) → question ≢ Steps → (line : List ℕ) → IsOfOneLine (answer_of (entry_to question line))
+unfolding entry_of
+one_line_asked question other line = one_line_read question other (reading_of line)
+
+-- so its answer line is the place, and then the answer
+line_parts : (question : Question) → question ≢ Steps → (name : List ℕ) (number : ℕ) (line : List ℕ) →
+    line_output question name (number, line) ≡ place_words name number ++ told question line
+line_parts question other name number line =
+    let place = place_words name number in
+    let answer = answer_of (entry_to question line) in
+    ap (λ (texts : List (List ℕ)). join_with_byte line_feed (map (λ text. place ++ text) texts) ++ line_feed ∷ [])
+    (one_text answer (one_line_asked question other line))
+    ∙ append_assoc place (answer_words answer) (line_feed ∷ [])
+
+lines_parts : (question : Question) → question ≢ Steps → (name : List ℕ) (number : ℕ) (lines : List (List ℕ)) →
+    flat_map (line_output question name) (enumerate_from number lines)
+    ≡ flat_map (λ p. place_words name p.0 ++ told question p.1) (enumerate_from number lines)
+lines_parts question other name number [] = refl
+lines_parts question other name number (line ∷ lines) =
+    ap₂ (λ (l m : List ℕ). l ++ m) (line_parts question other name number line) (lines_parts question other name (number + 1) lines)
+
+pub answers_are_those_of_a_file : AnswersAreThoseOfAFile
+answers_are_those_of_a_file = record {
+  lines = line_parts;
+  file = λ question other file.
+      files_split_between_lines.whole question file ∙ lines_parts question other file.name 0 (lines_of file.bytes);
+  texts = λ question line. refl;
+  placed = λ question name number line. refl;
+  parts = answers_split;
+}
+
+-- ==== How far lines that come one after another are answered
+
+-- Lines were read, and a part of the next one, whose first bytes are kept. The lines were answered.
+pub record Underway (question : Question) (before now old new : Option (List ℕ)) (line : List ℕ) (all_read : Bool) : Type 0 where
+  pub lines : List ℕ
+  pub part : List ℕ
+  pub ended : EndsWithItsLine lines
+  pub unended : HasNoLineFeed part
+  pub kept : line ≡ take kept_bytes part
+  pub taken : Consumes before now (lines ++ part)
+  pub written : Appends old new (answers_to question lines)
+  pub status : all_read ≡ are_all_read lines
+
+-- nothing was read yet
+pub nothing_read : (question : Question) (before old : Option (List ℕ)) (line : List ℕ) → line ≡ [] →
+    Underway question before before old old line true
+nothing_read question before old line empty = record {
+  lines = [];
+  part = [];
+  ended = inl refl;
+  unended = All-nil IsNoFeed;
+  kept = empty;
+  taken = Consumes-nil before;
+  written = subst (Appends old old) (sym (no_answers question)) (Appends-nil old);
+  status = sym none_unread;
+}
+
+-- what is underway goes on, or ends
+module _ {question : Question} {before now old new : Option (List ℕ)} {line : List ℕ} {all_read : Bool}
+    (u : Underway question before now old new line all_read) where
+  -- what was written is kept
+  still_written : (kept : Option (List ℕ)) → Keeps new kept → Appends old kept (answers_to question u.lines)
+  still_written kept keeps = Appends-kept old new kept (answers_to question u.lines) u.written keeps
+
+  -- and more is written
+  more_written : (kept more : Option (List ℕ)) (bytes : List ℕ) → Keeps new kept → Appends kept more bytes →
+      Appends old more (answers_to question u.lines ++ bytes)
+  more_written kept more bytes keeps appends =
+      Appends-trans old kept more (answers_to question u.lines) bytes (still_written kept keeps) appends
+
+  -- more is taken
+  more_taken : (next : Option (List ℕ)) (bytes : List ℕ) → Consumes now next bytes →
+      Consumes before next (u.lines ++ (u.part ++ bytes))
+  more_taken next bytes taken =
+      subst (Consumes before next) (append_assoc u.lines u.part bytes)
+      (Consumes-trans before now next (u.lines ++ u.part) bytes u.taken taken)
+
+  -- and nothing is left
+  all_taken : (next : Option (List ℕ)) → Consumes now next [] → Consumes before next (u.lines ++ u.part)
+  all_taken next end = subst (λ l. Consumes before next (u.lines ++ l)) (append-nil u.part) (more_taken next [] end)
+
+  -- what was kept of the line is answered as the whole of it
+  told_whole : told question line ≡ told question u.part
+  told_whole = ap (told question) u.kept ∙ kept_told question u.part
+
+  -- and what stands after the last line feed as its lines
+  told_part : told_last question line ≡ answers_to question u.part
+  told_part = ap (told_last question) u.kept ∙ sym (last_told question u.part u.unended)
+
+  -- a byte more was read, which ends no line
+  pub byte_read : {next kept : Option (List ℕ)} (byte : ℕ) → byte ≢ line_feed → Consumes now next (byte ∷ []) → Keeps new kept
+      → Underway question before next old kept (take kept_bytes (line ++ byte ∷ [])) all_read
+  byte_read {next} {kept} byte other taken keeps = record {
+    lines = u.lines;
+    part = u.part ++ byte ∷ [];
+    ended = u.ended;
+    unended = All-push IsNoFeed u.part byte u.unended other;
+    kept = ap (λ l. take kept_bytes (l ++ byte ∷ [])) u.kept ∙ kept_more u.part byte;
+    taken = more_taken next (byte ∷ []) taken;
+    written = still_written kept keeps;
+    status = u.status;
+  }
+
+  -- a line feed was read, and the line that it ends was answered
+  pub line_read : {next more : Option (List ℕ)} {is_read : Bool} (kept : Option (List ℕ)) → Consumes now next (line_feed ∷ [])
+      → Keeps new kept → Appends kept more (told question line) → is_read ≡ not (is_faulty line)
+      → Underway question before next old more [] (all_read && is_read)
+  line_read {next} {more} {is_read} kept end keeps tells read =
+      let whole : List ℕ = u.part ++ line_feed ∷ [] in
+      let one = lines_of_ended u.part u.unended in
+      record {
+        lines = u.lines ++ whole;
+        part = [];
+        ended = inr (u.lines ++ u.part, sym (append_assoc u.lines u.part (line_feed ∷ [])));
+        unended = All-nil IsNoFeed;
+        kept = refl;
+        taken = subst (Consumes before next) (sym (append-nil (u.lines ++ whole))) (more_taken next (line_feed ∷ []) end);
+        written = subst (Appends old more)
+            (ap (λ answer. answers_to question u.lines ++ answer) told_whole
+            ∙ sym (answers_to_more question u.lines whole u.part u.ended one))
+            (more_written kept more (told question line) keeps tells);
+        status = ap₂ (λ a b. a && b) u.status (read ∙ ap (λ l. not (is_faulty l)) u.kept ∙ ap not (kept_faulty u.part))
+            ∙ sym (all_read_more u.lines whole u.part u.ended one);
+      }
+
+  -- a read failed
+  pub cut_off : {next kept : Option (List ℕ)} → Keeps now next → Keeps new kept → IsCutOff question before next old kept
+  cut_off {next} {kept} left keeps = record {
+    lines = u.lines;
+    part = u.part;
+    ended = u.ended;
+    unended = u.unended;
+    taken = Consumes-kept before now next (u.lines ++ u.part) u.taken left;
+    written = still_written kept keeps;
+  }
+
+  -- nothing more was read or written
+  pub begun_so_far : {next kept : Option (List ℕ)} → Keeps now next → Keeps new kept → IsBegun question before next old kept
+  begun_so_far {next} {kept} left keeps = record {
+    lines = u.lines;
+    last = u.part;
+    ended = u.ended;
+    one = one_line u.part u.unended;
+    taken = Consumes-kept before now next (u.lines ++ u.part) u.taken left;
+    count = 0;
+    written = subst (Appends old kept) (sym (append-nil (answers_to question u.lines))) (still_written kept keeps);
+  }
+
+  -- as much was read as makes one line at most, and its answer was begun
+  begun : {next more : Option (List ℕ)} (kept : Option (List ℕ)) (last answer : List ℕ) → length (lines_of last) ≤ 1
+      → Consumes before next (u.lines ++ last) → answer ≡ answers_to question last → Keeps new kept → AppendsStart kept more answer
+      → IsBegun question before next old more
+  begun {next} {more} kept last answer one taken is keeps start = record {
+    lines = u.lines;
+    last = last;
+    ended = u.ended;
+    one = one;
+    taken = taken;
+    count = start.0;
+    written = more_written kept more (take start.0 (answers_to question last)) keeps
+        (subst (λ l. Appends kept more (take start.0 l)) is start.1);
+  }
+
+  -- of a line that ended
+  pub begun_line : {next more : Option (List ℕ)} (kept : Option (List ℕ)) → Consumes now next (line_feed ∷ []) → Keeps new kept
+      → AppendsStart kept more (told question line) → IsBegun question before next old more
+  begun_line {next} kept end =
+      let one = lines_of_ended u.part u.unended in
+      begun kept (u.part ++ line_feed ∷ []) (told question line) (rw one (omega arith)) (more_taken next (line_feed ∷ []) end)
+      (told_whole ∙ sym (answers_to_one question (u.part ++ line_feed ∷ []) u.part one))
+
+  -- of what stands after the last line feed, where nothing is left
+  pub begun_last : {next more : Option (List ℕ)} (kept : Option (List ℕ)) → Consumes now next [] → Keeps new kept
+      → AppendsStart kept more (told_last question line) → IsBegun question before next old more
+  begun_last {next} kept end =
+      begun kept u.part (told_last question line) (one_line u.part u.unended) (all_taken next end) told_part
+
+  -- and the whole was written
+  pub all_answered : {next more : Option (List ℕ)} {is_read : Bool} (kept : Option (List ℕ)) → Consumes now next [] → IsAtEnd now
+      → Keeps new kept → Appends kept more (told_last question line) → is_read ≡ is_last_read line
+      → IsAnswered question before next old more (all_read && is_read)
+  all_answered {next} {more} {is_read} kept end at_end keeps tells read = record {
+    read = u.lines ++ u.part;
+    taken = all_taken next end;
+    all = Consumes-whole before now (u.lines ++ u.part) (λ bytes. u.lines ++ u.part ≡ bytes) u.taken at_end refl;
+    written = subst (Appends old more) (sym (answers_split question u.lines u.part u.ended))
+        (more_written kept more (answers_to question u.part) keeps (subst (Appends kept more) told_part tells));
+    status = ap₂ (λ a b. a && b) u.status (read ∙ ap is_last_read u.kept) ∙ sym (last_read u.lines u.part u.ended u.unended);
+  }
+
+-- all lines so far are answered
+pub answered_so_far : (asking : Asking) (question : Question) (before now old new : Option (List ℕ)) (line : List ℕ) (all_read : Bool)
+    → asking ≡ record { question = question; before = before; old = old } → Underway question before now old new line all_read
+    → AreAnswered asking now new
+answered_so_far asking question before now old new line all_read is u = rw is (cut_off u (Keeps-refl now) (Keeps-refl new))

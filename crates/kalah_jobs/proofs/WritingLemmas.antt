@@ -1,13 +1,692 @@
-pub mod PlayerHouses
-pub mod Lengths
-pub mod Utf8Texts
-pub mod JobOutput
-pub mod Starts
-pub mod Givings
-pub mod StepLines
-pub mod InOneLine
-pub mod Joined
-pub mod Pictures
-pub mod SplitFiles
-pub mod AnswerTexts
-pub mod Shown
+-- How positions and answers are written: their texts, and what a sink is given.
+use Rattle.std.proofs.Common.{ℕ, ◌<◌, ◌≤◌, ◌^◌, length, arith, ◌≡◌, zero, suc, List, ◌++◌, IsAscii, IsUtf8, subst, sym, refl, ◌+◌, [], ap, ◌∙◌, take, drop, append_assoc, ◌∷◌, map, get_or, flat_map, cond, ◌==◌, append-nil, add-one, Bool, true, false, codes, ap₂, ◌-◌, filter, length-append, inl, inr}
+use Rattle.std.specs.Fmt.{decimal, signed_decimal}
+use Rattle.std.proofs.lemmas.Fmt.{length-decimal-le, IsAscii-decimal, length_signed_le}
+use Rattle.kalah_jobs.specs.Line.LineFault.{word_of}
+use Rattle.kalah_jobs.specs.declared.line.line_fault.LineFault.{LineFault}
+use Rattle.kalah_jobs.specs.declared.line.line_fault.LineFault.TheVariants.{Long, Empty, Shape, Houses, Seeds}
+use Rattle.std.specs.Prelude.{decimal, replicate, Option, ◌↔◌, IsErr, Ok, Err, OnOk, Result, ℤ, pos, negsuc, nat_lt, slice_get, Some, if◌then◌else◌, sum_by, count_by}
+use Rattle.std.proofs.lemmas.Str.{IsUtf8-append, IsUtf8-from_ascii}
+use Rattle.std.proofs.lemmas.Str.Ascii.{IsAscii-nil, IsAscii-cons}
+use Rattle.kalah_jobs.specs.Line.Line.{space}
+use Rattle.kalah_rules.specs.Position.{Position, side_length, IsWithinLimits, IsSmallMargin, is_over, seeds}
+use Rattle.kalah_jobs.specs.Writing.Player.{houses_of}
+use Rattle.kalah_jobs.specs.declared.writing.player.Player.{Player}
+use Rattle.kalah_jobs.specs.declared.writing.player.Player.TheVariants.{Mover, Other}
+use Rattle.std.specs.Io.KnownBytes.{Appends, Keeps}
+use Rattle.std.proofs.KnownBytes.{Appends-kept, Appends-nil, Appends-trans}
+use Rattle.std.proofs.Math.Seq.{take-append-add}
+use Rattle.std.proofs.lemmas.List.{take-append-drop, flat_map_more, take_more, take_all, drop_more}
+use Rattle.kalah_jobs.specs.Writing.Given.{AppendsStart, WasGiven}
+use Rattle.std.specs.List.{join_with_byte, range_with_len, flat_map, enumerate_from, onto_first, count_by}
+use Rattle.std.proofs.lemmas.Bool.{ne_eqb, cases_eq}
+use Rattle.std.proofs.lemmas.Grind.{flat_map-append}
+use Rattle.kalah_jobs.specs.Files.Lines.{line_feed, lines_of}
+use Rattle.kalah_jobs.specs.Writing.Answer.{in_one_line, answer_line, answer_words, place_words, IsOfOneLine, answer_of, is_faulty_entry}
+use Rattle.kalah_jobs.specs.Writing.Picture.{cell, empty_columns}
+use Rattle.kalah_jobs.specs.declared.writing.answer.Answer.{Answer}
+use Rattle.kalah_jobs.specs.declared.writing.answer.Answer.TheVariants.{Best, Over, Values, Steps, Fault}
+use Rattle.std.specs.Int.Signed.{mag}
+use Rattle.std.proofs.lemmas.Int.{ints}
+use Rattle.std.proofs.lemmas.List.Elements.{All-head, All-tail, All-map, All-from_get_or, Contains-get_or}
+use Rattle.std.proofs.lemmas.Option.{get_or_from_slice_get, slice_get_within}
+use Rattle.kalah_rules.specs.Limits.{most_houses}
+use Rattle.kalah_rules.specs.Play.{legal_houses}
+use Rattle.kalah_solve.specs.Solver.MoveValues.{move_value, values_of}
+use Rattle.kalah_solve.specs.declared.solver.move_values.MoveValue.{MoveValue}
+use Rattle.kalah_solve.proofs.SolverLemmas.{value_small, house_small}
+use Rattle.kalah_jobs.specs.Writing.Shown.{AreSmall, AscendFrom, value_cell, value_columns}
+use Rattle.std.proofs.lemmas.List.Sums.{sum_by-cons, sum_by-append}
+use Rattle.kalah_jobs.specs.declared.writing.answer.Taken.{Taken}
+use Rattle.kalah_jobs.specs.Files.NamedBytes.{NamedBytes}
+use Rattle.kalah_jobs.specs.Files.Entry.{entry_of}
+use Rattle.kalah_jobs.specs.Files.Question.{entry_to}
+use Rattle.kalah_jobs.specs.declared.files.question.Question.{Question}
+use Rattle.kalah_jobs.specs.Files.JobList.{job_list}
+use Rattle.kalah_jobs.specs.Files.Jobs.{entries_to, jobs_to}
+use Rattle.kalah_jobs.specs.Writing.Output.{line_output, file_output, output_to, is_faulty, tally_of, text_of_line, text_of_file, answer_text_of, output_of_jobs, names_of, is_faulty_job, FilesAreTheirJobs, LineCounts}
+use Rattle.kalah_jobs.proofs.FilesLemmas.{asked_fault, faulty_jobs, all_entries, count_map, length-job_list, job_count-jobs_to, lines_of-feed, lines_of-byte, length-lines_of}
+use Rattle.kalah_jobs.specs.declared.files.question.Question.TheVariants.{BestMove}
+use Rattle.kalah_jobs.specs.Writing.Splitting.{counted_together, OutputSplitsByFiles, EndsWithItsLine, output_from, tally_in, FilesSplitBetweenLines}
+
+-- ==== How long the parts of lines are at most
+
+pub number_length : (n : ℕ) → n < 2 ^ 64 → length (decimal n) ≤ 20
+number_length n low = length-decimal-le 20 n (omega arith) (omega arith) low
+
+pub margin_length : (n : ℕ) → n < 2 ^ 32 → length (decimal n) ≤ 10
+margin_length n low = length-decimal-le 10 n (omega arith) (omega arith) (omega arith)
+
+pub byte_length : (n : ℕ) → n < 2 ^ 8 → length (decimal n) ≤ 3
+byte_length n low = length-decimal-le 3 n (omega arith) (omega arith) (omega arith)
+
+pub fault_length : (fault : LineFault) → length (word_of fault) ≤ 6
+fault_length Long = omega arith
+fault_length Empty = omega arith
+fault_length Shape = omega arith
+fault_length Houses = omega arith
+fault_length Seeds = omega arith
+
+-- ==== What is put together on the stack is text
+
+-- a piece of text before a text
+pub piece_before : (text piece old : List ℕ) → text ≡ piece ++ old → IsUtf8 piece → IsUtf8 old → IsUtf8 text
+piece_before text piece old is new before = subst IsUtf8 (sym is) (IsUtf8-append piece old new before)
+
+pub number_is_text : (n : ℕ) → n < 2 ^ 64 → IsUtf8 (decimal n)
+number_is_text n low = IsUtf8-from_ascii (decimal n) (IsAscii-decimal n low)
+
+blanks_are_ascii : (n : ℕ) → IsAscii (replicate n space)
+blanks_are_ascii zero = IsAscii-nil
+blanks_are_ascii (suc n) = IsAscii-cons space (replicate n space) (omega arith) (blanks_are_ascii n)
+
+pub blanks_are_text : (n : ℕ) → IsUtf8 (replicate n space)
+blanks_are_text n = IsUtf8-from_ascii (replicate n space) (blanks_are_ascii n)
+
+-- ==== The houses of the two players
+
+pub length-houses_of : (player : Player) (p : Position) → IsWithinLimits p → length (houses_of player p) ≡ side_length p
+length-houses_of Mover p limits = refl
+length-houses_of Other p limits = limits.same_side
+
+-- ==== Prefixes of what was to be written
+
+-- nothing is a prefix of everything
+pub start_none : (old : Option (List ℕ)) (bs : List ℕ) → AppendsStart old old bs
+start_none old bs = (0, Appends-nil old)
+
+-- if the bytes are left as they were
+pub start_kept_all : (old new : Option (List ℕ)) (bs : List ℕ) → Keeps old new → AppendsStart old new bs
+start_kept_all old new bs kept = (0, Appends-kept old old new [] (Appends-nil old) kept)
+
+-- a first part of the bytes, and then a prefix of the rest
+pub start_then : (old between new : Option (List ℕ)) (bs done rest : List ℕ) → bs ≡ done ++ rest → Appends old between done →
+    AppendsStart between new rest
+    → AppendsStart old new bs
+start_then old between new bs done rest parts first start =
+    let is : take (length done + start.0) bs ≡ done ++ take start.0 rest = ap (take (length done + start.0)) parts
+    ∙ take-append-add done rest start.0 in
+    (length done + start.0, subst (λ l. Appends old new l) (sym is) (Appends-trans old between new done (take start.0 rest) first start.1))
+
+-- a prefix is also one of what is longer
+pub start_longer : (old new : Option (List ℕ)) (bs cs : List ℕ) → AppendsStart old new bs → AppendsStart old new (bs ++ cs)
+start_longer old new bs cs start =
+    let all : bs ++ cs ≡ take start.0 bs ++ (drop start.0 bs ++ cs) =
+    ap (λ l. l ++ cs) (sym (take-append-drop start.0 bs)) ∙ append_assoc (take start.0 bs) (drop start.0 bs) cs in
+    start_then old new new (bs ++ cs) (take start.0 bs) (drop start.0 bs ++ cs) all start.1 (start_none new (drop start.0 bs ++ cs))
+
+-- what keeps the bytes keeps the prefix
+pub start_kept : (old between new : Option (List ℕ)) (bs : List ℕ) → AppendsStart old between bs → Keeps between new
+    → AppendsStart old new bs
+start_kept old between new bs start kept = (start.0, Appends-kept old between new (take start.0 bs) start.1 kept)
+
+-- prefixes, by each way to write one
+pub ruleset starts = (start_none, start_kept_all, start_then, start_longer, start_kept)
+
+-- ==== The lines of moves, one after another
+
+-- one move more
+pub one_more : (one : ℕ → List ℕ) (moves : List ℕ) (i house : ℕ) → i < length moves → house ≡ get_or moves i 0
+    → flat_map one (take (i + 1) moves) ≡ flat_map one (take i moves) ++ one house
+one_more one moves i house within is =
+    ap (flat_map one) (take_more moves i 0 within ∙ ap (λ h. take i moves ++ h ∷ []) (sym is))
+    ∙ sym (flat_map_more one [] (take i moves) house)
+
+-- the first moves, and then the others
+pub first_moves : (one : ℕ → List ℕ) (moves others : List ℕ) (i : ℕ) → moves ≡ others →
+    flat_map one (take i moves) ++ flat_map one (drop i moves) ≡ flat_map one others
+first_moves one moves others i same =
+    sym (flat_map-append one (take i moves) (drop i moves)) ∙ ap (flat_map one) (take-append-drop i moves ∙ same)
+
+-- the name and the place of a line, and then the text of a move with a line feed
+pub line_is : (name place text : List ℕ) → ((name ++ place) ++ text) ++ line_feed ∷ [] ≡ name ++
+    (place ++ (text ++ line_feed ∷ []))
+line_is name place text = append_assoc (name ++ place) text (line_feed ∷ []) ∙ append_assoc name place (text ++ line_feed ∷ [])
+
+module _ (between : List ℕ) where
+  -- what stands before text i, with these bytes between any two
+  abbrev pub before_text : ℕ → List ℕ
+  before_text zero = []
+  before_text (suc i) = between
+
+  pub before_by_test : (i : ℕ) → before_text i ≡ cond (i == 0) [] between
+  before_by_test zero = refl
+  before_by_test (suc i) = ap (λ b. cond b [] between) (sym (ne_eqb (suc i) 0 (λ e. omega (arith, e))))
+
+module _ (place : List ℕ) (text : ℕ → List ℕ) where
+  -- the lines of moves, with a line feed between any two
+  abbrev pub joined_lines : List ℕ → List ℕ
+  joined_lines moves = join_with_byte line_feed (map (λ t. place ++ t) (map text moves))
+
+  -- where there are some, each with a line feed
+  pub lines_end : (moves : List ℕ) → 0 < length moves →
+      joined_lines moves ++ line_feed ∷ [] ≡ flat_map (λ h. (place ++ text h) ++ line_feed ∷ []) moves
+  lines_end [] some = absurd (omega (arith, some))
+  lines_end (h ∷ []) some = sym (append-nil ((place ++ text h) ++ line_feed ∷ []))
+  lines_end (h ∷ k ∷ moves) some =
+      append_assoc (place ++ text h) (line_feed ∷ joined_lines (k ∷ moves)) (line_feed ∷ [])
+      ∙ ap (λ l. (place ++ text h) ++ line_feed ∷ l) (lines_end (k ∷ moves) (omega arith))
+      ∙ sym (append_assoc (place ++ text h) (line_feed ∷ []) (flat_map (λ j. (place ++ text j) ++ line_feed ∷ []) (k ∷ moves)))
+
+  one_line_more : (moves : List ℕ) (i : ℕ) → i < length moves →
+      joined_lines (take (suc i) moves) ≡ joined_lines (take i moves) ++
+      (before_text (line_feed ∷ []) i ++ (place ++ text (get_or moves i 0)))
+  one_line_more [] i within = absurd (omega (arith, within))
+  one_line_more (h ∷ moves) zero within = refl
+  one_line_more (h ∷ []) (suc i) within = absurd (omega (arith, within))
+  one_line_more (h ∷ k ∷ moves) (suc zero) within = refl
+  one_line_more (h ∷ k ∷ moves) (suc (suc i)) within =
+      ap (λ l. (place ++ text h) ++ line_feed ∷ l) (one_line_more (k ∷ moves) (suc i) (omega (arith, within)))
+      ∙ sym (append_assoc (place ++ text h) (line_feed ∷ joined_lines (take (suc i) (k ∷ moves)))
+      (line_feed ∷ (place ++ text (get_or moves i 0))))
+
+  -- one line more
+  pub line_more : (moves : List ℕ) (i : ℕ) → i < length moves →
+      joined_lines (take (i + 1) moves) ≡ joined_lines (take i moves) ++
+      (cond (i == 0) [] (line_feed ∷ []) ++ (place ++ text (get_or moves i 0)))
+  line_more moves i within =
+      ap (λ n. joined_lines (take n moves)) (add-one i) ∙ one_line_more moves i within
+      ∙ ap (λ l. joined_lines (take i moves) ++ (l ++ (place ++ text (get_or moves i 0)))) (before_by_test (line_feed ∷ []) i)
+
+-- ==== Texts that are given to a sink, one after another
+
+module _ {O : Type 0} (written : O → Option (List ℕ)) (has_failed : O → Bool) where
+  -- no text
+  pub given_none : (out : O) → WasGiven written has_failed out out []
+  given_none out = record { start = start_none (written out) []; whole = λ sound. (sound, Appends-nil (written out)); quiet = λ failed. refl }
+
+  -- a text by one call, which is not made after a failure
+  pub given_once : {A E : Type 0} (r : Result A E) (old new : O) (text : List ℕ) → has_failed old ≡ false → IsErr r ↔ (has_failed new ≡ true)
+      → OnOk r (Appends (written old) (written new) text) → AppendsStart (written old) (written new) text
+      → WasGiven written has_failed old new text
+  given_once (Ok x) old new text sound fails adds start = record {
+    start = start;
+    whole = λ still. (sound, adds);
+    quiet = λ failed. absurd (let both : true ≡ false = sym failed ∙ sound in cc);
+  }
+  given_once (Err e) old new text sound fails adds start = record {
+    start = start;
+    whole = λ still. absurd (let both : true ≡ false = sym (fails.0 refl) ∙ still in cc);
+    quiet = λ failed. absurd (let both : true ≡ false = sym failed ∙ sound in cc);
+  }
+
+  -- no text by a flush
+  pub given_flush : (old new : O) → has_failed old ≡ false → Keeps (written old) (written new) → WasGiven written has_failed old new []
+  given_flush old new sound keeps = record {
+    start = start_kept_all (written old) (written new) [] keeps;
+    whole = λ still. (sound, Appends-kept (written old) (written old) (written new) [] (Appends-nil (written old)) keeps);
+    quiet = λ failed. absurd (let both : true ≡ false = sym failed ∙ sound in cc);
+  }
+
+  -- a sink that has failed is given any text
+  pub given_off : (out : O) (text : List ℕ) → has_failed out ≡ true → WasGiven written has_failed out out text
+  given_off out text failed = record {
+    start = start_none (written out) text;
+    whole = λ sound. absurd (let both : true ≡ false = sym failed ∙ sound in cc);
+    quiet = λ _. refl;
+  }
+
+  -- a text, and then another
+  pub given_then : (old between new : O) (text more : List ℕ) → WasGiven written has_failed old between text
+      → WasGiven written has_failed between new more → WasGiven written has_failed old new (text ++ more)
+  given_then old between new text more first second = record {
+    start = by (has_failed between) refl;
+    whole = λ sound. (
+      (first.whole (second.whole sound).0).0,
+      Appends-trans _ _ _ text more (first.whole (second.whole sound).0).1 (second.whole sound).1,
+    );
+    quiet = λ failed. let was = first.quiet failed in second.quiet (ap has_failed was ∙ failed) ∙ was;
+  } where
+    by : (b : Bool) → has_failed between ≡ b → AppendsStart (written old) (written new) (text ++ more)
+    by true failed = subst (λ o. AppendsStart (written old) (written o) (text ++ more)) (sym (second.quiet failed))
+        (start_longer _ _ text more first.start)
+    by false sound = start_then _ _ _ (text ++ more) text more refl (first.whole sound).1 second.start
+
+  -- a text, and then another, which needs to be the right one only if no call has failed
+  pub given_on : (old between new : O) (text more right : List ℕ) → WasGiven written has_failed old between text
+      → (has_failed between ≡ false → more ≡ right)
+      → WasGiven written has_failed between new more → WasGiven written has_failed old new (text ++ right)
+  given_on old between new text more right first same second = by (has_failed between) refl where
+    by : (b : Bool) → has_failed between ≡ b → WasGiven written has_failed old new (text ++ right)
+    by true failed = given_then old between new text right first
+        (subst (λ o. WasGiven written has_failed between o right) (sym (second.quiet failed)) (given_off between right failed))
+    by false sound = given_then old between new text right first (subst (WasGiven written has_failed between new) (same sound) second)
+
+  -- a text, and then a flush
+  pub given_flushed : (old between new : O) (text : List ℕ) → WasGiven written has_failed old between text
+      → WasGiven written has_failed between new [] → WasGiven written has_failed old new text
+  given_flushed old between new text first second =
+      subst (WasGiven written has_failed old new) (append-nil text) (given_then old between new text [] first second)
+
+  -- a flush, and then a text
+  pub given_after : (old between new : O) (text : List ℕ) → WasGiven written has_failed old between []
+      → WasGiven written has_failed between new text → WasGiven written has_failed old new text
+  given_after old between new text first second = given_then old between new [] text first second
+
+  -- a text that goes on after a failure
+  pub given_cut_off : (old between : O) (text more : List ℕ) → WasGiven written has_failed old between text → has_failed between ≡ true
+      → WasGiven written has_failed old between (text ++ more)
+  given_cut_off old between text more first failed = given_then old between between text more first (given_off between more failed)
+
+  -- the texts of the first elements were given
+  module _ (one : ℕ → List ℕ) {elements all : List ℕ} (same : elements ≡ all) (i : ℕ) (old between : O)
+      (so_far : WasGiven written has_failed old between (flat_map one (take i elements))) where
+    -- and that of one more
+    pub given_more : (new : O) (element : ℕ) → i < length elements → element ≡ get_or elements i 0
+        → WasGiven written has_failed between new (one element) → WasGiven written has_failed old new (flat_map one (take (i + 1) elements))
+    given_more new element within is more = subst (WasGiven written has_failed old new) (sym (one_more one elements i element within is))
+        (given_then old between new (flat_map one (take i elements)) (one element) so_far more)
+
+    -- and a call had failed, so it was given all
+    pub given_cut : has_failed between ≡ true → WasGiven written has_failed old between (flat_map one all)
+    given_cut failed = subst (WasGiven written has_failed old between) (first_moves one elements all i same)
+        (given_then old between between (flat_map one (take i elements)) (flat_map one (drop i elements)) so_far
+        (given_off between (flat_map one (drop i elements)) failed))
+
+    -- and there are no more
+    pub given_all : length elements ≤ i → WasGiven written has_failed old between (flat_map one all)
+    given_all end = subst (λ l. WasGiven written has_failed old between (flat_map one l)) (take_all i elements end ∙ same) so_far
+
+-- ==== Texts joined in one line
+
+module _ (text : ℕ → List ℕ) where
+  -- the texts of moves
+  abbrev pub texts_in_line : List ℕ → List ℕ
+  texts_in_line moves = in_one_line (map text moves)
+
+  one_text_more : (moves : List ℕ) (i : ℕ) → i < length moves
+      → texts_in_line (take (suc i) moves) ≡ texts_in_line (take i moves) ++ (before_text (codes "; ") i ++ text (get_or moves i 0))
+  one_text_more [] i within = absurd (omega (arith, within))
+  one_text_more (h ∷ moves) zero within = refl
+  one_text_more (h ∷ []) (suc i) within = absurd (omega (arith, within))
+  one_text_more (h ∷ k ∷ moves) (suc zero) within = refl
+  one_text_more (h ∷ k ∷ moves) (suc (suc i)) within =
+      ap (λ l. text h ++ (codes "; " ++ l)) (one_text_more (k ∷ moves) (suc i) (omega (arith, within)))
+      ∙ sym (append_assoc (text h) (codes "; " ++ texts_in_line (take (suc i) (k ∷ moves))) (codes "; " ++ text (get_or moves i 0)))
+
+  -- one text more
+  pub text_more : (moves : List ℕ) (i house : ℕ) → i < length moves → house ≡ get_or moves i 0
+      → texts_in_line (take (i + 1) moves) ≡ texts_in_line (take i moves) ++ (cond (i == 0) [] (codes "; ") ++ text house)
+  text_more moves i house within is =
+      ap (λ n. texts_in_line (take n moves)) (add-one i) ∙ one_text_more moves i within
+      ∙ ap₂ (λ l h. texts_in_line (take i moves) ++ (l ++ text h)) (before_by_test (codes "; ") i) (sym is)
+
+  -- the first texts are followed by the others
+  pub texts_begin : (moves : List ℕ) (i : ℕ) → i < length moves
+      → (rest : List ℕ) × (texts_in_line moves ≡ texts_in_line (take (suc i) moves) ++ rest)
+  texts_begin [] i within = absurd (omega (arith, within))
+  texts_begin (h ∷ []) zero within = ([], sym (append-nil (text h)))
+  texts_begin (h ∷ []) (suc i) within = absurd (omega (arith, within))
+  texts_begin (h ∷ k ∷ moves) zero within = (codes "; " ++ texts_in_line (k ∷ moves), refl)
+  texts_begin (h ∷ k ∷ moves) (suc i) within =
+      let more = texts_begin (k ∷ moves) i (omega (arith, within)) in (
+        more.0,
+        ap (λ l. text h ++ (codes "; " ++ l)) more.1
+            ∙ sym (append_assoc (text h) (codes "; " ++ texts_in_line (take (suc i) (k ∷ moves))) more.0),
+      )
+
+-- ==== Texts with a byte between any two, put together from the last on
+
+module _ {A : Type 0} (byte : ℕ) (text_of : A → List ℕ) where
+  -- the texts of the items from item i on
+  abbrev pub joined_from : List A → ℕ → List ℕ
+  joined_from items i = join_with_byte byte (map text_of (drop i items))
+
+  -- the last text
+  pub last_joined : (items : List A) (i : ℕ) (item other : A) → get_or items i other ≡ item → length items ≡ i + 1 →
+      text_of item ≡ joined_from items i
+  last_joined [] i item other is many = absurd (omega arith)
+  last_joined (x ∷ []) zero item other is many = ap text_of (sym is)
+  last_joined (x ∷ y ∷ items) zero item other is many = absurd (omega arith)
+  last_joined (x ∷ items) (suc i) item other is many = last_joined items i item other is (omega arith)
+
+  -- one text more in front
+  joined_before : (items : List A) (i : ℕ) (item other : A) → get_or items i other ≡ item → suc i < length items →
+      text_of item ++ byte ∷ joined_from items (suc i) ≡ joined_from items i
+  joined_before [] i item other is within = absurd (omega arith)
+  joined_before (x ∷ []) zero item other is within = absurd (omega arith)
+  joined_before (x ∷ y ∷ items) zero item other is within =
+      ap (λ z. text_of z ++ byte ∷ join_with_byte byte (map text_of (y ∷ items))) (sym is)
+  joined_before (x ∷ items) (suc i) item other is within = joined_before items i item other is (omega arith)
+
+  -- one text and the byte before what stands there
+  pub before_those : (items : List A) (i : ℕ) (item other : A) (old after : List ℕ) → get_or items (i - 1) other ≡ item
+      → 0 < i →
+      i < length items →
+      after ≡ text_of item ++ byte ∷ (joined_from items i ++ old) → after ≡ joined_from items (i - 1) ++ old
+  before_those items i item other old after is low within e =
+      let place : suc (i - 1) ≡ i = omega arith in
+      let more = rw place at (joined_before items (i - 1) item other is (omega arith)) in
+      e ∙ sym (append_assoc (text_of item) (byte ∷ joined_from items i) old) ∙ ap (λ ws. ws ++ old) more
+
+-- what joining texts from the last on needs
+pub ruleset joins = (last_joined, before_those)
+
+-- ==== Columns of numbers: one more in front
+
+-- n columns of numbers, from column `from` on
+abbrev pub columns : (ℕ → ℕ) → ℕ → ℕ → List ℕ
+columns f from n = flat_map (λ column. cell (f column)) (range_with_len from n)
+
+-- one more column in front of those that stand there
+pub columns_before : (f : ℕ → ℕ) (m column n : ℕ) (old before after : List ℕ) → n ≡ f column → 0 < column →
+    column ≤ m →
+    before ≡ columns f (column + 1) (m - column) ++ old → after ≡ cell n ++ before →
+    after ≡ columns f (column - 1 + 1) (m - (column - 1)) ++ old
+columns_before f m column n old before after is low high so_far e =
+    let place : column - 1 + 1 ≡ column = omega arith in
+    let count : m - (column - 1) ≡ suc (m - column) = omega arith in
+    e ∙ ap₂ (λ (k : ℕ) (t : List ℕ). cell k ++ t) is so_far
+    ∙ sym (append_assoc (cell (f column)) (columns f (column + 1) (m - column)) old)
+    ∙ ap₂ (λ (i k : ℕ). columns f i k ++ old) (sym place) (sym count)
+
+-- ==== The lines of answers that have one text
+
+-- the answer line of an answer of one line is the place, and then the answer
+pub one_line_parts : (name : List ℕ) (line : ℕ) (a : Answer) → IsOfOneLine a →
+    answer_line name (record { line = line; answer = a }) ≡ place_words name line ++ answer_words a
+one_line_parts name line (Best margin house) one = refl
+one_line_parts name line (Over margin) one = refl
+one_line_parts name line (Values values) one = refl
+one_line_parts name line (Steps p) one = absurd one
+one_line_parts name line (Fault fault) one = refl
+
+-- ==== Values below the houses of a picture
+
+abbrev IsSmallValue : MoveValue → Type 0
+IsSmallValue v = IsSmallMargin v.value × (v.house ≤ most_houses)
+
+small_mag : (z : ℤ) → IsSmallMargin z → mag z < 2 ^ 63
+small_mag (pos n) small = omega (arith, ints, small.high)
+small_mag (negsuc n) small = omega (arith, ints, small.low)
+
+-- each value has a column of its own
+pub record HaveColumns (values : List MoveValue) : Type 0 where
+  pub ascend : AscendFrom 1 values
+  pub small : AreSmall values
+
+-- a value of a game has at most four bytes
+pub value_length : (v : ℤ) → IsSmallMargin v → length (signed_decimal v) ≤ 4
+value_length (pos n) small = length_signed_le 3 (pos n) (omega (arith, ints, small.high)) (small_mag (pos n) small)
+value_length (negsuc n) small = length_signed_le 3 (negsuc n) (omega (arith, ints, small.low)) (small_mag (negsuc n) small)
+
+-- so it takes no more room than a column
+pub value_room : (v : ℤ) (old new : List ℕ) → IsSmallMargin v → new ≡ signed_decimal v ++ old → length new ≤ 4 + length old
+value_room v old new small e = omega (arith, ap length e, length-append (signed_decimal v) old, value_length v small)
+
+-- ---- one value more
+
+-- the values from place i on begin with the one at place i
+pub values_from : (values : List MoveValue) (i : ℕ) (v : MoveValue) → slice_get values i ≡ Some v →
+    drop i values ≡ v ∷ drop (i + 1) values
+values_from values i v is =
+    drop_more values i v (slice_get_within values i v is) ∙ ap (λ w. w ∷ drop (i + 1) values) (get_or_from_slice_get values i v v is)
+
+-- the column of a value before those after it
+pub column_before : (filled : ℕ) (v : MoveValue) (vs : List MoveValue) (old row cell after : List ℕ) →
+    row ≡ value_columns (v.house + 1) vs ++ old
+    → cell ≡ value_cell v.value ++ row → after ≡ empty_columns (v.house - filled) ++ cell →
+    after ≡ value_columns filled (v ∷ vs) ++ old
+column_before filled v vs old row cell after is next e =
+    let below = value_columns (v.house + 1) vs in
+    e ∙ ap (λ ws. empty_columns (v.house - filled) ++ ws)
+    (next ∙ ap (λ ws. value_cell v.value ++ ws) is ∙ sym (append_assoc (value_cell v.value) below old))
+    ∙ sym (append_assoc (empty_columns (v.house - filled)) (value_cell v.value ++ below) old)
+
+-- what is known of the value at place i, and of those after it
+pub record IsNext (filled : ℕ) (values : List MoveValue) (i : ℕ) (v : MoveValue) : Type 0 where
+  pub within : i < length values
+  pub after : filled ≤ v.house
+  pub value : IsSmallMargin v.value
+  pub house : v.house ≤ most_houses
+  pub ascend : AscendFrom (v.house + 1) (drop (i + 1) values)
+  pub small : AreSmall (drop (i + 1) values)
+
+pub next_value : (filled : ℕ) (values : List MoveValue) (i : ℕ) (v : MoveValue) → slice_get values i ≡ Some v →
+    AscendFrom filled (drop i values)
+    → AreSmall (drop i values) → IsNext filled values i v
+next_value filled values i v is ascend small =
+    let front = values_from values i v is in
+    let ascending = subst (AscendFrom filled) front ascend in
+    let smaller = subst AreSmall front small in
+    let here = All-head IsSmallValue v (drop (i + 1) values) smaller in
+    record {
+      within = slice_get_within values i v is;
+      after = ascending.0;
+      value = here.0;
+      house = here.1;
+      ascend = ascending.1;
+      small = All-tail IsSmallValue v (drop (i + 1) values) smaller;
+    }
+
+-- ---- the values of a position have columns
+
+ascend_later : (low high : ℕ) (vs : List MoveValue) → low ≤ high → AscendFrom high vs → AscendFrom low vs
+ascend_later low high [] within ascend = tt
+ascend_later low high (v ∷ vs) within ascend = (omega (arith, within, ascend.0), ascend.1)
+
+-- a house more, if it is kept
+ascend_more : (p : Position) (from : ℕ) (rest : List ℕ) (is_kept : Bool) → AscendFrom (from + 1) (map (move_value p) rest)
+    → AscendFrom from (map (move_value p) (cond is_kept (from ∷ rest) rest))
+ascend_more p from rest true ascend = (omega arith, ascend)
+ascend_more p from rest false ascend = ascend_later from (from + 1) (map (move_value p) rest) (omega arith) ascend
+
+kept_ascend : (f : ℕ → Bool) (p : Position) (from n : ℕ) → AscendFrom from (map (move_value p) (filter f (range_with_len from n)))
+kept_ascend f p from zero = tt
+kept_ascend f p from (suc n) = ascend_more p from (filter f (range_with_len (from + 1) n)) (f from) (kept_ascend f p (from + 1) n)
+
+values_ascend : (p : Position) → AscendFrom 1 (values_of p)
+values_ascend p = go (is_over p)
+  where
+    go : (b : Bool) →
+        AscendFrom 1 (map (move_value p) (if b then [] else filter (λ i. nat_lt 0 (seeds p.own i)) (range_with_len 1 (side_length p))))
+    go true = tt
+    go false = kept_ascend (λ i. nat_lt 0 (seeds p.own i)) p 1 (side_length p)
+
+small_moves : (p : Position) → IsWithinLimits p → AreSmall (values_of p)
+small_moves p limits = All-map IsSmallValue (move_value p) (legal_houses p)
+    (All-from_get_or (λ h. IsSmallValue (move_value p h)) (legal_houses p) 0
+    (λ i within.
+    let has = Contains-get_or (legal_houses p) i 0 within in
+    (value_small p _ limits has, house_small p _ limits has)))
+
+pub have_columns : (p : Position) → IsWithinLimits p → HaveColumns (values_of p)
+have_columns p limits = record { ascend = values_ascend p; small = small_moves p limits }
+
+-- after any column before the first house
+pub ascend_from_none : (vs : List MoveValue) → AscendFrom 1 vs → AscendFrom 0 vs
+ascend_from_none vs ascend = ascend_later 0 1 vs (omega arith) ascend
+
+-- what writing the columns of values needs
+pub ruleset columns_of_values = (column_before, values_from)
+
+-- ==== What is stated of files and what is stated of their jobs is the same
+
+-- the text of what is taken of file n is the answer line under this name
+abbrev IsUnder : (ℕ → Taken → List ℕ) → ℕ → List ℕ → Type 0
+IsUnder text n name = (taken : Taken) → text n taken ≡ answer_line name taken ++ line_feed ∷ []
+
+-- the lines of a file from number k on
+lines_told : (question : Question) (text : ℕ → Taken → List ℕ) (n : ℕ) (name : List ℕ) (k : ℕ) (lines : List (List ℕ))
+    → IsUnder text n name
+    → flat_map (line_output question name) (enumerate_from k lines) ≡ flat_map (text_of_line text n)
+    (enumerate_from k (map (entry_to question) lines))
+lines_told question text n name k [] under = refl
+lines_told question text n name k (line ∷ lines) under =
+    ap (λ bytes. bytes ++ flat_map (line_output question name) (enumerate_from (k + 1) lines))
+    (sym (under (record { line = k; answer = answer_of (entry_to question line) })))
+    ∙ ap (λ bytes. text n (record { line = k; answer = answer_of (entry_to question line) }) ++ bytes)
+    (lines_told question text n name (k + 1) lines under)
+
+file_told : (question : Question) (text : ℕ → Taken → List ℕ) (n : ℕ) (file : NamedBytes) → IsUnder text n file.name
+    → file_output question file ≡ text_of_file text (n, entries_to question file.bytes)
+unfolding entries_to
+file_told question text n file under = lines_told question text n file.name 0 (lines_of file.bytes) under
+
+-- the files from number n on
+files_told : (question : Question) (text : ℕ → Taken → List ℕ) (n : ℕ) (files : List NamedBytes)
+    → ((m i : ℕ) → m ≡ n + i → i < length files → IsUnder text m (get_or (names_of files) i []))
+    → flat_map (file_output question) files ≡ flat_map (text_of_file text) (enumerate_from n (jobs_to question files))
+files_told question text n [] under = refl
+files_told question text n (file ∷ files) under =
+    ap (λ bytes. bytes ++ flat_map (file_output question) files) (file_told question text n file (under n 0 (omega arith) (omega arith)))
+    ∙ ap (λ bytes. text_of_file text (n, entries_to question file.bytes) ++ bytes)
+    (files_told question text (n + 1) files (λ m i is low. under m (suc i) (omega arith) (omega arith)))
+
+same_output : (question : Question) (files : List NamedBytes) →
+    output_to question files ≡ output_of_jobs (names_of files) (jobs_to question files)
+unfolding output_to
+same_output question files =
+    files_told question (answer_text_of (names_of files)) 0 files
+    (λ m i is low taken. ap (λ j. answer_line (get_or (names_of files) j []) taken ++ line_feed ∷ [])
+    (let e : m ≡ i = omega arith in e))
+
+same_lines : (question : Question) (files : List NamedBytes) → (tally_of files).lines ≡ length (job_list (jobs_to question files))
+unfolding tally_of
+same_lines question files = sym (length-job_list (jobs_to question files) ∙ job_count-jobs_to question files)
+
+-- a line is answered by a fault for each question
+faults_of_lines : (question : Question) (lines : List (List ℕ)) →
+    count_by is_faulty_entry (map (entry_to question) lines) ≡ count_by is_faulty lines
+faults_of_lines question lines =
+    count_map is_faulty_entry (entry_to question) lines ∙ (λ i. count_by (λ line. asked_fault question (entry_of line) i) lines)
+
+faults_of_files : (question : Question) (files : List NamedBytes)
+    → sum_by (λ (file : NamedBytes). count_by is_faulty (lines_of file.bytes)) files
+    ≡ count_by is_faulty_entry (all_entries (jobs_to question files))
+unfolding entries_to
+faults_of_files question [] = refl
+faults_of_files question (file ∷ files) =
+    omega (
+      arith,
+      sum_by-cons (λ (x : NamedBytes). count_by is_faulty (lines_of x.bytes)) file files,
+      faults_of_files question files,
+      faults_of_lines question (lines_of file.bytes),
+      sum_by-append (λ entry. cond (is_faulty_entry entry) 1 0) (entries_to question file.bytes) (all_entries (jobs_to question files)),
+    )
+
+same_faults : (question : Question) (files : List NamedBytes) →
+    (tally_of files).faults ≡ count_by is_faulty_job (job_list (jobs_to question files))
+unfolding tally_of
+same_faults question files = faults_of_files question files ∙ sym (faulty_jobs (jobs_to question files))
+
+pub files_are_their_jobs : FilesAreTheirJobs
+files_are_their_jobs = record { output = same_output; lines = same_lines; faults = same_faults }
+
+-- ==== Files and parts of files, one after another
+
+zero-add : (n : ℕ) → 0 + n ≡ n
+zero-add n = omega arith
+
+-- the counts, from their two numbers
+abbrev counts : ℕ → ℕ → LineCounts
+counts lines faults = record { lines = lines; faults = faults }
+
+-- ---- files
+
+output_of_both : (question : Question) (first others : List NamedBytes) →
+    output_to question (first ++ others) ≡ output_to question first ++ output_to question others
+unfolding output_to
+output_of_both question first others = flat_map-append (file_output question) first others
+
+tally_of_both : (first others : List NamedBytes) → tally_of (first ++ others) ≡ counted_together (tally_of first) (tally_of others)
+unfolding tally_of
+tally_of_both first others =
+    ap₂ counts
+    (sum_by-append (λ (file : NamedBytes). length (lines_of file.bytes)) first others)
+    (sum_by-append (λ (file : NamedBytes). count_by is_faulty (lines_of file.bytes)) first others)
+
+pub output_splits_by_files : OutputSplitsByFiles
+output_splits_by_files = record { asked = output_of_both; best_moves = output_of_both BestMove; counts = tally_of_both }
+
+-- ---- lines
+
+onto_first-append : (byte : ℕ) (lines more : List (List ℕ)) → 0 < length lines
+    → onto_first byte (lines ++ more) ≡ onto_first byte lines ++ more
+onto_first-append byte [] more some = absurd (omega arith)
+onto_first-append byte (line ∷ lines) more some = refl
+
+-- bytes that end with a line feed have a line
+some_lines : (front : List ℕ) → 0 < length (lines_of (front ++ line_feed ∷ []))
+some_lines front = omega (arith, length-lines_of front line_feed)
+
+-- a line feed by itself is one line without bytes, and no bytes have no lines
+one_feed : lines_of (line_feed ∷ []) ≡ [] ∷ []
+unfolding lines_of
+one_feed = refl
+
+lines_of_none : (second : List ℕ) → lines_of second ≡ lines_of [] ++ lines_of second
+unfolding lines_of
+lines_of_none second = refl
+
+lines_of_both : (front second : List ℕ) → lines_of ((front ++ line_feed ∷ []) ++ second) ≡ lines_of
+    (front ++ line_feed ∷ []) ++ lines_of second
+lines_of_both [] second =
+    lines_of-feed line_feed second refl ∙ ap (λ (lines : List (List ℕ)). lines ++ lines_of second) (sym one_feed)
+lines_of_both (byte ∷ front) second = elim (cases_eq byte line_feed) [
+  | inl feed ↦
+      lines_of-feed byte ((front ++ line_feed ∷ []) ++ second) feed
+      ∙ ap (λ (lines : List (List ℕ)). [] ∷ lines) (lines_of_both front second)
+      ∙ ap (λ (lines : List (List ℕ)). lines ++ lines_of second) (sym (lines_of-feed byte (front ++ line_feed ∷ []) feed))
+  | inr other ↦
+      lines_of-byte byte ((front ++ line_feed ∷ []) ++ second) other
+      ∙ ap (onto_first byte) (lines_of_both front second)
+      ∙ onto_first-append byte (lines_of (front ++ line_feed ∷ [])) (lines_of second) (some_lines front)
+      ∙ ap (λ (lines : List (List ℕ)). lines ++ lines_of second) (sym (lines_of-byte byte (front ++ line_feed ∷ []) other))
+]
+
+lines_split : (first second : List ℕ) → EndsWithItsLine first → lines_of (first ++ second) ≡ lines_of first ++ lines_of second
+lines_split first second (inl none) = rw none (lines_of_none second)
+lines_split first second (inr ends) = rw ends.1 (lines_of_both ends.0 second)
+
+enumerate_from-append : (number : ℕ) (lines more : List (List ℕ)) →
+    enumerate_from number (lines ++ more) ≡ enumerate_from number lines ++ enumerate_from (number + length lines) more
+enumerate_from-append number [] more = ap (λ k. enumerate_from k more) (let e : number ≡ number + 0 = omega arith in e)
+enumerate_from-append number (line ∷ lines) more =
+    ap (λ (rest : List (ℕ × List ℕ)). (number, line) ∷ rest)
+    (enumerate_from-append (number + 1) lines more
+    ∙ ap (λ k. enumerate_from (number + 1) lines ++ enumerate_from k more)
+    (let e : number + 1 + length lines ≡ number + suc (length lines) = omega arith in e))
+
+output_split : (first second : List ℕ) → EndsWithItsLine first → (number : ℕ) (question : Question) (name : List ℕ) →
+    output_from number question name (first ++ second)
+    ≡ output_from number question name first ++ output_from (number + length (lines_of first)) question name second
+output_split first second ends number question name =
+    ap (λ (lines : List (List ℕ)). flat_map (line_output question name) (enumerate_from number lines)) (lines_split first second ends)
+    ∙ ap (flat_map (line_output question name)) (enumerate_from-append number (lines_of first) (lines_of second))
+    ∙ flat_map-append (line_output question name) (enumerate_from number (lines_of first))
+    (enumerate_from (number + length (lines_of first)) (lines_of second))
+
+whole_file : (question : Question) (file : NamedBytes) → output_to question (file ∷ []) ≡ output_from 0 question file.name file.bytes
+unfolding output_to
+whole_file question file = append-nil (file_output question file)
+
+whole_tally : (file : NamedBytes) → tally_of (file ∷ []) ≡ tally_in file.bytes
+unfolding tally_of
+whole_tally file = refl
+
+tally_is : (bytes : List ℕ) → tally_in bytes ≡ counts (length (lines_of bytes)) (count_by is_faulty (lines_of bytes))
+unfolding tally_of
+tally_is bytes = ap₂ counts (zero-add (length (lines_of bytes))) (zero-add (count_by is_faulty (lines_of bytes)))
+
+tally_split : (first second : List ℕ) → EndsWithItsLine first
+    → tally_in (first ++ second) ≡ counted_together (tally_in first) (tally_in second)
+tally_split first second ends =
+    let lines = lines_split first second ends in
+    tally_is (first ++ second)
+    ∙ ap₂ counts
+    (ap length lines ∙ length-append (lines_of first) (lines_of second))
+    (ap (count_by is_faulty) lines ∙ sum_by-append (λ (line : List ℕ). if is_faulty line then 1 else 0) (lines_of first)
+    (lines_of second))
+    ∙ sym (ap₂ counted_together (tally_is first) (tally_is second))
+
+pub files_split_between_lines : FilesSplitBetweenLines
+files_split_between_lines = record {
+  whole = whole_file;
+  counted = whole_tally;
+  parts = λ first second ends. record {
+    lines = lines_split first second ends;
+    output = output_split first second ends;
+    counts = tally_split first second ends;
+  };
+}

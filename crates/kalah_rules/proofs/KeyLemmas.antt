@@ -1,18 +1,14 @@
 -- Rows as numbers, and what a key determines of its houses.
-use Rattle.std.proofs.Common.{zero, suc, ◌≡◌, ℕ, ◌+◌, ◌-◌, ◌*◌, ◌/◌, ◌%◌, ◌^◌, ◌<◌, ◌≤◌, inl, inr, List, [], ◌∷◌, ◌++◌, length, get_or, arith, ap, sym, ◌∙◌, refl, add-one, subst, ◌≢◌, take, drop, replicate, rules, Option, Some, None, length-take-le, length-append}
-use Rattle.std.specs.Prelude.{slice_set, sum, map, nat_lt, if◌then◌else◌, ◌==◌, bit_and, nat_eq, All, IsSome, IfSome, ◌↔◌}
-use Rattle.std.specs.List.{range_with_len}
-use Rattle.std.proofs.lemmas.Nat.{pow-add, mod_below, mul-le}
+use Rattle.std.proofs.Common.{zero, suc, ◌≡◌, ℕ, ◌+◌, ◌-◌, ◌*◌, ◌/◌, ◌%◌, ◌^◌, ◌<◌, ◌≤◌, inl, inr, List, [], ◌∷◌, ◌++◌, length, get_or, arith, ap, sym, ◌∙◌, refl, add-one, subst, take, drop, replicate, rules, Option, Some, None, length-take-le, length-append, slice_set, sum, nat_lt, if◌then◌else◌, ◌==◌, bit_and, nat_eq, All, IsSome, IfSome, ◌↔◌, length-set}
+use Rattle.std.proofs.lemmas.Nat.{pow-add}
 use Rattle.std.proofs.Math.Nat.{pow-succ', mul_assoc, div-div-eq-div-mul}
 use Rattle.std.proofs.lemmas.List.{map_push, length-drop, drop_more, length-replicate, get_or-replicate, take-append-drop}
 use Rattle.std.proofs.lemmas.List.Sums.{sum_by-cons, sum_by-append, sum_by-take-drop}
-use Rattle.std.proofs.lemmas.Bool.{cases_eq, cases_lt}
-use Rattle.std.proofs.lemmas.Bool.Decides.{nat_tests}
+use Rattle.std.proofs.lemmas.Bool.{cases_eq}
 use Rattle.kalah_rules.specs.Position.{seeds, Rows, IsWithinHouses, seeds_in_houses, bare, without_seeds}
 use Rattle.kalah_rules.specs.Sowing.{row_of, lap_length, gain, own_distance, other_distance}
 use Rattle.kalah_rules.proofs.PlayLemmas.{range_more, length-row_of, same_as_row, row_of_same, seeds-set_same, seeds-set_other, sum-zeros}
-use Rattle.std.proofs.Math.ListN.{length-set}
-use Rattle.kalah_rules.specs.Key.{number_of, cells, rule_bit, key_of, side_at, rule_at, rows_at, IsKey}
+use Rattle.kalah_rules.specs.Key.{number_of, cells, rule_bit, key_of, side_at, rows_at, IsKey}
 use Rattle.kalah_rules.specs.Packed.{ones, up_to, IsPacked, IsPackedRow}
 use Rattle.kalah_rules.specs.Sowings.{own_gained, other_gained, store_gained}
 use Rattle.std.proofs.lemmas.Grind.{same_number_lists}
@@ -30,11 +26,11 @@ pub pow_five : (k : ℕ) → 2 ^ (5 * k) ≡ 32 ^ k
 pow_five zero = refl
 pow_five (suc k) =
     let e : 5 * suc k ≡ 5 + 5 * k = omega arith in
-    rw (e, pow-add 2 5 (5 * k), pow_five k) (sym (pow-succ' 32 k))
+    rw (e, pow-add, pow_five k) (omega arith)
 
 -- and past the own row
 pub pow_other : (k : ℕ) → 2 ^ (30 + 5 * k) ≡ 2 ^ 30 * 32 ^ k
-pow_other k = pow-add 2 30 (5 * k) ∙ ap (λ n. 2 ^ 30 * n) (pow_five k)
+pow_other k = simp (pow-add, pow_five)
 
 -- what holds of the numbers up to 5
 up_to_five : (P : ℕ → Type 0) (k : ℕ) → k ≤ 5 → P 0 → P 1 → P 2 → P 3 → P 4 → P 5 → P k
@@ -53,43 +49,38 @@ low_cell rows k few = up_to_five (λ k. rows / 32 ^ k % 32 ≡ rows % 2 ^ 30 / 3
 
 -- a power more is thirty-two times as much
 pub times_power : (k n : ℕ) → 32 ^ suc k * n ≡ 32 * (32 ^ k * n)
-times_power k n = rw pow-succ' (mul_assoc 32 (32 ^ k) n)
+times_power k n = simp (pow-succ', mul_assoc)
 
 -- a row after another counts from its place
 pub number_of-append : (xs ys : List ℕ) → number_of (xs ++ ys) ≡ number_of xs + 32 ^ length xs * number_of ys
 number_of-append [] ys = omega arith
-number_of-append (x ∷ xs) ys = omega (arith, number_of-append xs ys, times_power (length xs) (number_of ys))
+number_of-append (x ∷ xs) ys = omega (arith, number_of-append xs ys, times_power)
 
 -- a house is read off a row's number
 pub read_seeds : (xs : List ℕ) (k : ℕ) → k < length xs → sum xs ≤ 31 → number_of xs / 32 ^ k % 32 ≡ get_or xs k 0
-read_seeds [] k h few = absurd (omega arith)
-read_seeds (x ∷ xs) zero h few = let cons = sum_by-cons (λ (y : ℕ). y) x xs in omega arith
+read_seeds [] k h few = omega arith
+read_seeds (x ∷ xs) zero h few = omega (arith, sum_by-cons)
 read_seeds (x ∷ xs) (suc k) h few =
     let cons = sum_by-cons (λ (y : ℕ). y) x xs in
     let high : (x + 32 * number_of xs) / 32 ≡ number_of xs = omega arith in
     let past : (x + 32 * number_of xs) / 32 ^ suc k ≡ number_of xs / 32 ^ k =
-    rw (pow-succ', ← div-div-eq-div-mul (x + 32 * number_of xs) 32 (32 ^ k), high) refl in
+    rw (pow-succ', ← div-div-eq-div-mul _ 32 _, high) refl in
     rw past (read_seeds xs k (omega arith) (omega arith))
 
 -- a house is written into a row's number
 pub number_of-set : (xs : List ℕ) (k v : ℕ) → k < length xs
     → number_of (slice_set xs k v) + 32 ^ k * get_or xs k 0 ≡ number_of xs + 32 ^ k * v
-number_of-set [] k v h = absurd (omega arith)
+number_of-set [] k v h = omega arith
 number_of-set (x ∷ xs) zero v h = omega arith
-number_of-set (x ∷ xs) (suc k) v h =
-    omega (arith, number_of-set xs k v (omega arith), times_power k v, times_power k (get_or xs k 0))
+number_of-set (x ∷ xs) (suc k) v h = omega (arith, number_of-set xs k v (omega arith), times_power)
 
 -- ---- rows that are given house by house
 number_of-more : (n : ℕ) (f : ℕ → ℕ) → number_of (row_of (n + 1) f) ≡ number_of (row_of n f) + 32 ^ n * f (n + 1)
-number_of-more n f =
-    let at : 1 + n ≡ n + 1 = omega arith in
-    let one : number_of (f (n + 1) ∷ []) ≡ f (n + 1) = omega arith in
-    let row = ap (map f) (range_more 1 n) ∙ map_push f (range_with_len 1 n) (1 + n) ∙ ap (λ i. row_of n f ++ f i ∷ []) at in
-    rw row (number_of-append (row_of n f) (f (n + 1) ∷ []) ∙ rw (length-row_of n f, one) refl)
+number_of-more n f = grind (arith, range_more, map_push, number_of-append, length-row_of)
 
 -- one house more at the end
 number_of-suc : (n : ℕ) (f : ℕ → ℕ) → number_of (row_of (suc n) f) ≡ number_of (row_of n f) + 32 ^ n * f (suc n)
-number_of-suc n f = let e = add-one n in subst (λ k. number_of (row_of k f) ≡ number_of (row_of n f) + 32 ^ n * f k) e
+number_of-suc n f = subst (λ k. number_of (row_of k f) ≡ number_of (row_of n f) + 32 ^ n * f k) (add-one n)
     (number_of-more n f)
 
 -- rows are added house by house
@@ -98,27 +89,26 @@ pub number_of-plus : (n : ℕ) (f g : ℕ → ℕ) → number_of (row_of n (λ i
 number_of-plus zero f g = refl
 number_of-plus (suc n) f g =
     let before = number_of-plus n f g in
-    number_of-suc n (λ i. f i + g i) ∙ omega (arith, number_of-suc n f, number_of-suc n g)
+    number_of-suc n (λ i. f i + g i) ∙ omega (arith, number_of-suc)
 
 -- a row with as many seeds in each house
 pub number_of-same : (n q : ℕ) → number_of (row_of n (λ i. q)) ≡ q * ones n
 number_of-same zero q = omega arith
 number_of-same (suc n) q =
     let before = number_of-same n q in
-    let times : q * ones (suc n) ≡ q * (ones n + 32 ^ n * 1) = ap (λ z. q * z) (number_of-suc n (λ i. 1)) in
-    number_of-suc n (λ i. q) ∙ omega arith ∙ sym times
+    number_of-suc n (λ i. q) ∙ omega arith ∙ sym (ap (λ z. q * z) (number_of-suc n (λ i. 1)))
 
 -- one seed in each house, if x lies past them all
 pub number_of-all : (n x : ℕ) → n ≤ x → number_of (row_of n (up_to x)) ≡ ones n
-number_of-all n x h = ap number_of (row_of_same n (λ i. 1) (up_to x) (λ j low high. grind (arith, nat_tests)))
+number_of-all n x h = grind (arith, row_of_same)
 
 -- one seed in each house up to x
 pub number_of-up_to : (n x : ℕ) → x ≤ n → number_of (row_of n (up_to x)) ≡ ones x
-number_of-up_to zero x h = let none : x ≡ 0 = omega arith in rw none refl
+number_of-up_to zero x h = grind arith
 number_of-up_to (suc n) x h = elim (cases_eq x (suc n)) [
   | inl all ↦ number_of-all (suc n) x (omega arith) ∙ ap (λ k. ones k) (sym all)
   | inr less ↦
-      let past : up_to x (suc n) ≡ 0 = grind (arith, nat_tests) in
+      let past : up_to x (suc n) ≡ 0 = grind arith in
       let before = number_of-up_to n x (omega arith) in
       number_of-suc n (up_to x) ∙ rw past (omega arith)
 ]
@@ -126,24 +116,16 @@ number_of-up_to (suc n) x h = elim (cases_eq x (suc n)) [
 -- a row whose house h is emptied
 pub lifted_row : (xs : List ℕ) (h : ℕ) → 1 ≤ h → h ≤ length xs →
     row_of (length xs) (λ i. if i == h then 0 else seeds xs i) ≡ slice_set xs (h - 1) 0
-lifted_row xs h low high =
-    sym (same_as_row (slice_set xs (h - 1) 0) (length xs) _ (length-set xs (h - 1) 0) (λ i i_low i_high. elim (cases_eq i h) [
-      | inl here ↦
-          let empty : seeds (slice_set xs (h - 1) 0) i ≡ 0 = rw here (seeds-set_same xs h 0 low high) in
-          grind (arith, nat_tests)
-      | inr there ↦
-          let kept = seeds-set_other xs h i 0 low i_low there in
-          grind (arith, nat_tests)
-    ]))
+lifted_row xs h low high = grind (arith, same_as_row, length-set, seeds-set_same, seeds-set_other)
 
 -- the cells of the last lap, which begins past house h and has r seeds
 pub own_lap : (m h r i : ℕ) → 1 ≤ h → h ≤ m → r < lap_length m → 1 ≤ i → i ≤ m →
     up_to r (own_distance m h i) + up_to h i ≡ up_to (h + r) i + up_to (h + r - lap_length m) i
-own_lap m h r i low high few i_low i_high = grind (arith, nat_tests)
+own_lap m h r i low high few i_low i_high = search rules
 
 -- the same for the other houses
 pub other_lap : (m h r j : ℕ) → 1 ≤ h → h ≤ m → 1 ≤ j → up_to r (other_distance m h j) ≡ up_to (h + r - (m + 1)) j
-other_lap m h r j low high j_low = grind (arith, nat_tests)
+other_lap m h r j low high j_low = grind arith
 
 -- ---- what a sowing adds
 pub own_sown : (xs : List ℕ) (h c : ℕ) → 1 ≤ h → h ≤ length xs →
@@ -151,8 +133,8 @@ pub own_sown : (xs : List ℕ) (h c : ℕ) → 1 ≤ h → h ≤ length xs →
     (row_of (length xs) (λ i. (if i == h then 0 else seeds xs i) + gain (lap_length (length xs)) c (own_distance (length xs) h i)))
     + 32 ^ (h - 1) * seeds xs h ≡ number_of xs + own_gained (length xs) h c
 own_sown xs h c low high =
-    let kept : ℕ → ℕ = λ i. if i == h then 0 else seeds xs i in
-    let plus = number_of-plus (length xs) kept (λ i. gain (lap_length (length xs)) c (own_distance (length xs) h i)) in
+    let plus = number_of-plus (length xs) (λ i. if i == h then 0 else seeds xs i)
+    (λ i. gain (lap_length (length xs)) c (own_distance (length xs) h i)) in
     let lifted = ap number_of (lifted_row xs h low high) in
     let set = number_of-set xs (h - 1) 0 (omega arith) in
     omega arith
@@ -163,14 +145,13 @@ pub other_sown : (ys : List ℕ) (h c : ℕ) →
     ≡ number_of ys + other_gained (length ys) h c
 other_sown ys h c =
     let plus = number_of-plus (length ys) (seeds ys) (λ j. gain (lap_length (length ys)) c (other_distance (length ys) h j)) in
-    let shown = sym (same_as_row ys (length ys) (seeds ys) refl (λ j j_low j_high. refl)) in
-    let kept = ap number_of shown in
+    let kept = ap number_of (sym (same_as_row ys _ (seeds ys) refl (omega arith))) in
     omega arith
 
 module _ (m h c : ℕ) (low : 1 ≤ h) (high : h ≤ m) where
   -- the seeds of the last lap are fewer than a lap
   few : c % lap_length m < lap_length m
-  few = mod_below c (lap_length m) (omega arith)
+  few = omega arith
 
   -- what the own row gains, and one seed more in each house up to the one that is emptied
   pub own_gain : own_gained m h c + ones h ≡ c / lap_length m * ones m + number_of (row_of m (up_to (h + c % lap_length m)))
@@ -181,7 +162,7 @@ module _ (m h c : ℕ) (low : 1 ≤ h) (high : h ≤ m) where
       let past = up_to (h + c % lap_length m) in
       let round = up_to (h + c % lap_length m - lap_length m) in
       let each = row_of_same m (λ i. q + past i + round i) (λ i. gains i + up_to h i)
-      (λ i i_low i_high. omega (arith, own_lap m h (c % lap_length m) i low high few i_low i_high)) in
+      (λ i i_low i_high. omega (arith, own_lap)) in
       let left = number_of-plus m gains (up_to h) in
       let first = number_of-plus m (λ i. q) past in
       let second = number_of-plus m (λ i. q + past i) round in
@@ -196,7 +177,7 @@ module _ (m h c : ℕ) (low : 1 ≤ h) (high : h ≤ m) where
       let q = c / lap_length m in
       let gains : ℕ → ℕ = λ j. gain (lap_length m) c (other_distance m h j) in
       let past = up_to (h + c % lap_length m - (m + 1)) in
-      let each = row_of_same m (λ j. q + past j) gains (λ j j_low j_high. omega (arith, other_lap m h (c % lap_length m) j low high j_low)) in
+      let each = row_of_same m (λ j. q + past j) gains (λ j j_low j_high. omega (arith, other_lap)) in
       let first = number_of-plus m (λ j. q) past in
       let whole = number_of-same m q in
       let rows = ap number_of each in
@@ -204,14 +185,14 @@ module _ (m h c : ℕ) (low : 1 ≤ h) (high : h ≤ m) where
 
   -- what the store gains
   pub store_gain : store_gained m h c ≡ c / lap_length m + (if nat_lt m (h + c % lap_length m) then 1 else 0)
-  store_gain = grind (arith, nat_tests)
+  store_gain = grind arith
 
 -- a few houses hold a small number
 pub ones_le : (a b : ℕ) → a ≤ b → ones a ≤ ones b
-ones_le a zero h = let none : a ≡ 0 = omega arith in rw none (omega arith)
+ones_le a zero h = grind arith
 ones_le a (suc b) h = elim (cases_eq a (suc b)) [
   | inl same ↦ rw same (omega arith)
-  | inr less ↦ let on = ones_le a b (omega arith) in omega (arith, number_of-suc b (λ i. 1))
+  | inr less ↦ let on = ones_le a b (omega arith) in omega (arith, number_of-suc)
 ]
 
 -- the ones of the first houses are those of six that stand below the next house
@@ -235,14 +216,11 @@ placed_small k x h few = up_to_five (λ k. 32 ^ k * x < 2 ^ 30) k h
 
 -- so do a few times as many seeds
 pub product_small : (x y : ℕ) → x ≤ 10 → y ≤ 34636833 → x * y ≤ 346368330
-product_small x y h k = omega (arith, mul-le x y 10 34636833 h k)
+product_small x y h k = grind arith
 
 -- what lies up to x holds what lies up to h
 pub up_to_past : (m h x : ℕ) → h ≤ m → h ≤ x → ones h ≤ number_of (row_of m (up_to x))
-up_to_past m h x within past = elim (cases_lt x m) [
-  | inl less ↦ omega (arith, number_of-up_to m x (omega arith), ones_le h x past)
-  | inr all ↦ omega (arith, number_of-all m x all, ones_le h m within)
-]
+up_to_past m h x within past = grind (arith, number_of-up_to, ones_le, number_of-all)
 
 -- ==== Rows as numbers, and what a key determines of its houses
 
@@ -250,11 +228,10 @@ up_to_past m h x within past = elim (cases_lt x m) [
 pub padded_from_zeros : (m : ℕ) (cells : List ℕ) → length cells ≡ 6 → m ≤ 6 → All (λ x. x ≡ 0) (drop m cells) →
     padded (take m cells) ≡ cells
 padded_from_zeros m cells long high zeros =
-    let shown = length-take-le m cells (omega arith) in
-    let past = same_number_lists _ _ (length-drop m cells ∙ omega (arith, length-replicate {A = ℕ} (6 - m) 0))
+    let past = same_number_lists _ _ (length-drop m _ ∙ omega (arith, length-replicate {A = ℕ} (6 - m) 0))
     (λ k h. let within : k < 6 - m = omega (arith, length-drop m cells) in
-    zeros k 0 h ∙ sym (get_or-replicate (6 - m) k 0 0 within)) in
-    rw (shown, ← past) (take-append-drop m cells)
+    zeros k 0 h ∙ sym (get_or-replicate _ k 0 0 within)) in
+    rw (length-take-le m cells (omega arith), ← past) (take-append-drop m _)
 
 -- empty houses have the number 0
 pub number_of-zeros : (n : ℕ) → number_of (replicate n 0) ≡ 0
@@ -263,11 +240,11 @@ number_of-zeros (suc n) = omega (arith, number_of-zeros n)
 
 -- empty houses at the end of a row do not count
 number_of-append_zeros : (xs : List ℕ) (n : ℕ) → number_of (xs ++ replicate n 0) ≡ number_of xs
-number_of-append_zeros xs n = number_of-append xs (replicate n 0) ∙ rw (number_of-zeros n) (omega arith)
+number_of-append_zeros xs n = rw (number_of-append, number_of-zeros) (omega arith)
 
 -- the cells past the houses do not count
 pub number_of-shown : (m : ℕ) (cells : List ℕ) → padded (take m cells) ≡ cells → number_of (take m cells) ≡ number_of cells
-number_of-shown m cells same = sym (number_of-append_zeros (take m cells) (6 - length (take m cells))) ∙ ap number_of same
+number_of-shown m cells same = grind (arith, number_of-append_zeros)
 
 -- thirty bits are six cells
 pub number_of-cells : (k : ℕ) → number_of (cells 6 k) + 2 ^ 30 * (k / 2 ^ 30) ≡ k
@@ -282,33 +259,32 @@ length-cells (suc n) k = omega (arith, length-cells n (k / 32))
 pub cells-number_of : (n : ℕ) (xs : List ℕ) (rest : ℕ) → length xs ≡ n → sum xs ≤ 31
     → cells n (number_of xs + 32 ^ n * rest) ≡ xs
 cells-number_of zero [] rest long few = refl
-cells-number_of zero (x ∷ xs) rest long few = absurd (omega arith)
-cells-number_of (suc n) [] rest long few = absurd (omega arith)
+cells-number_of zero (x ∷ xs) rest long few = cc
+cells-number_of (suc n) [] rest long few = cc
 cells-number_of (suc n) (x ∷ xs) rest long few =
     let cons = sum_by-cons (λ (y : ℕ). y) x xs in
-    let small : x ≤ 31 = omega arith in
     let rest_few : sum xs ≤ 31 = omega arith in
     let rest_long : length xs ≡ n = omega arith in
     let power = times_power n rest in
-    let low : (x + 32 * number_of xs + 32 ^ suc n * rest) % 32 ≡ x = rw power (omega arith) in
-    let high : (x + 32 * number_of xs + 32 ^ suc n * rest) / 32 ≡ number_of xs + 32 ^ n * rest = rw power (omega arith) in
+    let low : (x + 32 * number_of xs + 32 ^ suc n * rest) % 32 ≡ x = omega arith in
+    let high : (x + 32 * number_of xs + 32 ^ suc n * rest) / 32 ≡ number_of xs + 32 ^ n * rest = omega arith in
     rw (low, high) (ap (λ ys. x ∷ ys) (cells-number_of _ _ _ rest_long rest_few))
 
 -- a padded row has six cells
 pub length-padded : (xs : List ℕ) → length xs ≤ 6 → length (padded xs) ≡ 6
-length-padded xs h = omega (arith, length-append xs (replicate (6 - length xs) 0), length-replicate {A = ℕ} (6 - length xs) 0)
+length-padded xs h = rw (length-append, length-replicate) (omega arith)
 
 -- and no more seeds
 pub sum-padded : (xs : List ℕ) → sum (padded xs) ≡ sum xs
-sum-padded xs = omega (arith, sum_by-append (λ x. x) xs (replicate (6 - length xs) 0), sum_by-replicate (λ x. x) (6 - length xs) 0)
+sum-padded xs = rw (sum_by-append, sum_by-replicate) (omega arith)
 
 -- its first cells are the row
 pub take-padded : (xs : List ℕ) → take (length xs) (padded xs) ≡ xs
-take-padded xs = take-append_seam xs (replicate (6 - length xs) 0)
+take-padded xs = take-append_seam xs _
 
 -- and the others are empty
 pub drop-padded : (xs : List ℕ) → All (λ x. x ≡ 0) (drop (length xs) (padded xs))
-drop-padded xs = rw (drop-append_seam xs (replicate (6 - length xs) 0)) (All-replicate (λ x. x ≡ 0) (6 - length xs) 0 refl)
+drop-padded xs = rw (drop-append_seam xs _) (All-replicate (λ x. x ≡ 0) _ 0 refl)
 
 -- what a key determines of its houses
 pub record KeySays (a : Rows) (k : ℕ) : Type 0 where
@@ -320,12 +296,12 @@ pub record KeySays (a : Rows) (k : ℕ) : Type 0 where
 -- a row with few seeds has a small number
 pub number_of-small : (n : ℕ) (xs : List ℕ) → length xs ≤ n → sum xs ≤ 31 → number_of xs < 32 ^ n
 number_of-small zero [] long few = omega arith
-number_of-small zero (x ∷ xs) long few = absurd (omega arith)
-number_of-small (suc n) [] long few = omega (arith, pow-succ' 32 n, number_of-small n [] (omega arith) few)
+number_of-small zero (x ∷ xs) long few = omega arith
+number_of-small (suc n) [] long few = omega (arith, number_of-small n [] (omega arith) few)
 number_of-small (suc n) (x ∷ xs) long few =
     let cons = sum_by-cons (λ (y : ℕ). y) x xs in
     let here = number_of-small n xs (omega arith) (omega arith) in
-    omega (arith, pow-succ' 32 n)
+    omega arith
 
 -- a rule has one bit
 pub rule_bit-small : (r : Rule) → rule_bit r ≤ 1
@@ -342,15 +318,12 @@ key_says {a} {k} h e =
     let other_small = number_of-small _ _ other_long other_few in
     let own_same = number_of-append_zeros a.own (6 - length a.own) in
     let other_same = number_of-append_zeros a.other (6 - length a.other) in
-    let bit = rule_bit-small a.rule in
-    let top = 2 ^ 30 * length a.own + 2 ^ 33 * rule_bit a.rule in
-    let above = length a.own + 8 * rule_bit a.rule in
-    let own_number : k ≡ number_of (padded a.own) + 32 ^ 6 * (number_of a.other + top) = omega arith in
-    let other_number : k / 2 ^ 30 ≡ number_of (padded a.other) + 32 ^ 6 * above = omega arith in
+    let own_number : k ≡ number_of (padded a.own) + 32 ^ 6 * (number_of a.other + 2 ^ 30 * length a.own + 2 ^ 33 * rule_bit a.rule) = omega arith in
+    let other_number : k / 2 ^ 30 ≡ number_of (padded a.other) + 32 ^ 6 * (length a.own + 8 * rule_bit a.rule) = omega arith in
     record {
-      own_cells = rw own_number (cells-number_of _ _ _ (length-padded _ h.at_most_six) (omega (arith, sum-padded a.own)));
+      own_cells = rw own_number (cells-number_of _ _ _ (length-padded _ h.at_most_six) (omega (arith, sum-padded)));
       other_cells =
-          rw other_number (cells-number_of _ _ _ (length-padded _ other_long) (omega (arith, sum-padded a.other)));
+          rw other_number (cells-number_of _ _ _ (length-padded _ other_long) (omega (arith, sum-padded)));
       side = omega arith;
       rule = omega arith;
     }
@@ -364,29 +337,28 @@ key_holds {a} h e =
       at_most_six = h.at_most_six;
       own_past = drop-padded a.own;
       other_past = rw (sym h.same_side) (drop-padded a.other);
-      few_seeds = omega (arith, sum-padded a.own, sum-padded a.other);
+      few_seeds = omega (arith, sum-padded);
     })
 
 -- rules with one bit are one
 rule_bit-same : (r s : Rule) → rule_bit r ≡ rule_bit s → r ≡ s
 rule_bit-same Classic Classic e = refl
-rule_bit-same Classic EmptyCapture e = absurd (omega arith)
-rule_bit-same EmptyCapture Classic e = absurd (omega arith)
+rule_bit-same Classic EmptyCapture e = cc
+rule_bit-same EmptyCapture Classic e = cc
 rule_bit-same EmptyCapture EmptyCapture e = refl
 
 -- houses with the same parts are the same
 pub same_rows_of : {a b : Rows} → a.own ≡ b.own → a.other ≡ b.other → a.rule ≡ b.rule → a ≡ b
-same_rows_of x y z = λ i. record { own = x i; other = y i; rule = z i }
+same_rows_of x y z = grind arith
 
 -- the houses that have a key, by its parts
 pub rows_of_key : (a : Rows) (k : ℕ) (rule : Rule) → IsWithinHouses a → key_of a ≡ k → rule_bit rule ≡ k / 2 ^ 63 →
     rows_from (side_at k) (cells 6 k) (cells 6 (k / 2 ^ 30)) rule ≡ a
 rows_of_key a k rule h e bit =
     let says = key_says h e in
-    let own_shown : take (side_at k) (cells 6 k) ≡ a.own = rw (says.side, says.own_cells) (take-padded a.own) in
-    let other_shown : take (side_at k) (cells 6 (k / 2 ^ 30)) ≡ a.other =
-    rw (says.side, says.other_cells, sym h.same_side) (take-padded a.other) in
-    same_rows_of own_shown other_shown (rule_bit-same _ _ (bit ∙ says.rule))
+    let other_shown : take _ _ ≡ a.other =
+    rw (says.side, says.other_cells, sym h.same_side) (take-padded _) in
+    same_rows_of (rw (says.side, says.own_cells) (take-padded _)) other_shown (rule_bit-same _ _ (omega arith))
 
 -- the parts of a key make the key
 key_from_parts : (k side : ℕ) (own other : List ℕ) (rule : Rule) → number_of own + 2 ^ 30 * (k / 2 ^ 30) ≡ k →
@@ -395,60 +367,38 @@ key_from_parts : (k side : ℕ) (own other : List ℕ) (rule : Rule) → number_
     → side ≡ k / 2 ^ 60 % 8 →
     rule_bit rule ≡ k / 2 ^ 63 →
     key_of (rows_from side own other rule) ≡ k
-key_from_parts k side own other rule own_is other_is own_padded other_padded long side_is bit =
-    let own_same = number_of-shown side own own_padded in
-    let other_same = number_of-shown side other other_padded in
-    omega arith
+key_from_parts k side own other rule own_is other_is own_padded other_padded long side_is bit = omega (arith, number_of-shown)
 
 -- the key of the houses that a key holds
 pub key_of_rows : {k : ℕ} (rule : Rule) → IsKey k → rule_bit rule ≡ k / 2 ^ 63 →
     key_of (rows_from (side_at k) (cells 6 k) (cells 6 (k / 2 ^ 30)) rule) ≡ k
-key_of_rows {k} rule h bit =
-    let own_long = length-cells 6 k in
-    let other_long = length-cells 6 (k / 2 ^ 30) in
-    key_from_parts k (side_at k) (cells 6 k) (cells 6 (k / 2 ^ 30)) rule (number_of-cells k) (number_of-cells (k / 2 ^ 30))
-    (padded_from_zeros _ _ own_long h.at_most_six h.own_past)
-    (padded_from_zeros _ _ other_long h.at_most_six h.other_past)
-    (length-take-le (side_at k) (cells 6 k) (omega arith)) refl bit
+key_of_rows {k} rule h bit = search (rules, key_from_parts, number_of-cells, padded_from_zeros)
 
 -- the rule that a key names has the key's bit
 rule_at-bit : (bit : ℕ) → bit ≤ 1 → rule_bit (if bit == 0 then Classic else EmptyCapture) ≡ bit
 rule_at-bit zero h = refl
 rule_at-bit (suc zero) h = refl
-rule_at-bit (suc (suc n)) h = absurd (omega arith)
+rule_at-bit (suc (suc n)) h = omega arith
 
 -- the houses of a key are those whose key it is
 pub rows_at_key : {a : Rows} → IsWithinHouses a → rows_at (key_of a) ≡ a
 rows_at_key {a} h =
     let says = key_says h refl in
-    let bit : key_of a / 2 ^ 63 ≤ 1 = omega (arith, rule_bit-small a.rule) in
-    rows_of_key a (key_of a) (rule_at (key_of a)) h refl (rule_at-bit _ bit)
+    let bit : key_of a / 2 ^ 63 ≤ 1 = omega (arith, rule_bit-small) in
+    rows_of_key a _ _ h refl (rule_at-bit _ bit)
 
 -- a key fits sixty-four bits
 key_of-small : (b : Rows) → IsWithinHouses b → key_of b < 2 ^ 64
-key_of-small b h =
-    let own_small = number_of-small 6 b.own h.at_most_six (omega arith) in
-    let other_small = number_of-small 6 b.other (omega arith)
-    (omega arith) in
-    let bit = rule_bit-small b.rule in
-    omega arith
+key_of-small b h = grind (arith, number_of-small)
 
 -- the key of houses, with their number of seeds, is those houses packed
 pub packed_as : (b : Rows) (k s : ℕ) → IsWithinHouses b → k ≡ key_of b → s ≡ seeds_in_houses (bare b) → IsPacked k s
     × (rows_at k ≡ b)
-packed_as b k s h e seeds_are =
-    let rows = ap rows_at e ∙ rows_at_key h in (
-      record {
-        limits = rw rows h;
-        key_is = ap key_of rows ∙ sym e;
-        seeds_are = ap (λ (a : Rows). seeds_in_houses (bare a)) rows ∙ sym seeds_are;
-      },
-      rows,
-    )
+packed_as b k s h e seeds_are = grind (arith, rows_at_key)
 
 -- and fits sixty-four bits
 pub packed_fits : {k s : ℕ} → IsPacked k s → k < 2 ^ 64
-packed_fits {k} is = omega (arith, key_of-small (rows_at k) is.limits)
+packed_fits {k} is = omega (arith, key_of-small)
 
 -- what the fields of packed houses determine of the houses
 pub record IsPackOf (a : Rows) (key seeds : ℕ) : Type 0 where
@@ -457,15 +407,11 @@ pub record IsPackOf (a : Rows) (key seeds : ℕ) : Type 0 where
   pub seeds_are : seeds ≡ seeds_in_houses (bare a)
 
 pub pack_of : {a : Rows} {k s : ℕ} → IsPacked k s → rows_at k ≡ a → IsPackOf a k s
-pack_of is e = record {
-  limits = subst IsWithinHouses e is.limits;
-  key_is = ap key_of (sym e) ∙ is.key_is;
-  seeds_are = sym is.seeds_are ∙ ap (λ (b : Rows). seeds_in_houses (bare b)) e;
-}
+pack_of is e = grind arith
 
 -- what lies above the cells of a key
 pub above_cells : (b : Rows) (k : ℕ) → IsWithinHouses b → key_of b ≡ k → k / 2 ^ 60 ≡ length b.own + 8 * rule_bit b.rule
-above_cells b k h e = let says = key_says h e in let side = says.side in let bit = says.rule in omega arith
+above_cells b k h e = let says = key_says h e in omega arith
 
 -- a row is empty exactly when its number is 0
 pub sum-zero : (xs : List ℕ) → number_of xs ≡ 0 → sum xs ≡ 0
@@ -479,23 +425,15 @@ number_of-zero (x ∷ xs) e = let cons = sum_by-cons (λ (y : ℕ). y) x xs in l
 
 -- a row's number is 0 if its seeds are none
 pub no_seeds : (xs : List ℕ) → nat_eq (number_of xs) 0 ≡ nat_eq (sum xs) 0
-no_seeds xs = elim (cases_eq (sum xs) 0) [
-  | inl none ↦ rw (none, number_of-zero xs none) refl
-  | inr some ↦ let more : number_of xs ≢ 0 = λ e. some (sum-zero _ e) in grind (arith, nat_tests)
-]
+no_seeds xs = grind (arith, number_of-zero, sum-zero)
 
 -- the rows of a key as numbers
 pub own_number_at : (a : Rows) (k : ℕ) → IsWithinHouses a → key_of a ≡ k → number_of a.own ≡ k % 2 ^ 30
-own_number_at a k h e =
-    let small = number_of-small _ _ h.at_most_six (omega arith) in
-    omega arith
+own_number_at a k h e = grind (arith, number_of-small)
 
 -- the other row
 pub other_number_at : (a : Rows) (k : ℕ) → IsWithinHouses a → key_of a ≡ k → number_of a.other ≡ k / 2 ^ 30 % 2 ^ 30
-other_number_at a k h e =
-    let own = number_of-small 6 a.own h.at_most_six (omega arith) in
-    let other = number_of-small 6 a.other (omega arith) (omega arith) in
-    omega arith
+other_number_at a k h e = grind (arith, number_of-small)
 
 -- both rows
 pub rows_number_at : (a : Rows) (k : ℕ) → IsWithinHouses a → key_of a ≡ k
@@ -515,9 +453,9 @@ read_more xs m passed number x few sum_few long more is at =
     let at_k : m - passed - 1 ≡ k = omega arith in
     let over : m - passed ≡ k + 1 = omega arith in
     let step = ap number_of (drop_more xs k 0 (omega arith)) in
-    let rest : number ≡ number_of (drop (k + 1) xs) = rw over at is.value in
+    let rest = rw over at is.value in
     let fewer = sum_by-take-drop (λ (y : ℕ). y) xs k in
-    let here : x ≡ get_or xs k 0 = rw at_k at at in
+    let here = rw at_k at at in
     record {
       value = omega arith;
       small = omega (arith, number_of-small 6 (drop k xs) (omega (arith, length-drop k xs)) (omega arith));
@@ -537,7 +475,7 @@ module _ (k : ℕ) (rule : Rule) (bit : rule_bit rule ≡ k / 2 ^ 63) where
   -- and the houses of a key are found
   pub unpacks_found : (o : Option Rows) → (IsSome o ↔ IsKey k) → IfSome o (λ a. a ≡ parts) → (a : Rows) → IsWithinHouses a →
       key_of a ≡ k → o ≡ Some a
-  unpacks_found None valid value a h e = absurd (grind (arith, valid.1 (key_holds h e)))
+  unpacks_found None valid value a h e = grind (arith, key_holds)
   unpacks_found (Some b) valid value a h e = ap Some (value ∙ rows_of_key _ _ _ h e bit)
 
 -- two values of houses with one key are one
@@ -552,23 +490,15 @@ pub without_seeds_packed : {a : Rows} {k s : ℕ} → IsPackOf a k s →
 without_seeds_packed {a} {k} is =
     let side = length-replicate {A = ℕ} (length a.own) 0 in
     let none = sum-zeros (length a.own) in
-    packed_as (without_seeds a) (k / 2 ^ 60 * 2 ^ 60) 0
-    (record {
-      some_house = omega (arith, side);
-      at_most_six = omega (arith, side);
-      same_side = refl;
-      few_seeds = omega arith;
-    })
-    (omega (arith, side, above_cells a k is.limits is.key_is, number_of-zeros (length a.own)))
+    packed_as _ _ 0
+    (omega arith)
+    (omega (arith, above_cells a k is.limits is.key_is, number_of-zeros))
     (omega arith)
 
 -- ==== The houses of one side in one number
 
 pub row_is_small : {count number seeds : ℕ} → IsPackedRow count number seeds → number < 32 ^ 6
-row_is_small {count} {number} {seeds} row =
-    let short : length (cells count number) ≤ 6 = omega (arith, length-cells count number) in
-    let small = number_of-small _ _ short (omega arith) in
-    omega (arith, small)
+row_is_small {count} {number} {seeds} row = grind (arith, length-cells, number_of-small)
 
 -- ---- one house more
 
@@ -577,30 +507,20 @@ module _ {count number seeds : ℕ} (x : ℕ) (row : IsPackedRow count number se
   houses = cells count number
 
   sum_more : sum (houses ++ x ∷ []) ≡ seeds + x
-  sum_more =
-      let one : sum (x ∷ []) ≡ x = omega (arith, sum_by-cons (λ (y : ℕ). y) x []) in
-      omega (arith, sum_by-append (λ (y : ℕ). y) houses (x ∷ []))
+  sum_more = omega (arith, sum_by-append)
 
   number_more : number_of (houses ++ x ∷ []) ≡ number + 32 ^ count * x
-  number_more =
-      let one : number_of (x ∷ []) ≡ x = omega arith in
-      number_of-append houses (x ∷ []) ∙ rw (length-cells count number, row.number_is, one) refl
+  number_more = rw (number_of-append, length-cells) (omega arith)
 
   -- it stands after the others
   pub houses_pushed : cells (count + 1) (number + 32 ^ count * x) ≡ houses ++ x ∷ []
   houses_pushed =
-      let long : length (houses ++ x ∷ []) ≡ count + 1 = omega (arith, length-append houses (x ∷ []), length-cells count number) in
-      let all = cells-number_of _ _ _ long (omega (arith, sum_more, few)) in
-      let same : number_of (houses ++ x ∷ []) + 32 ^ (count + 1) * 0 ≡ number + 32 ^ count * x = omega (arith, number_more) in
-      ap (cells (count + 1)) (sym same) ∙ all
+      let long : length _ ≡ count + 1 = omega (arith, length-append houses (x ∷ []), length-cells) in
+      let same : number_of _ + 32 ^ _ * 0 ≡ number + 32 ^ _ * x = omega (arith, number_more) in
+      ap (cells _) (sym same) ∙ cells-number_of _ _ _ long (omega (arith, sum_more))
 
   pub row_pushed : count < 6 → IsPackedRow (count + 1) (number + 32 ^ count * x) (seeds + x)
-  row_pushed room = record {
-    few_houses = omega arith;
-    number_is = ap number_of houses_pushed ∙ number_more;
-    seeds_are = ap sum houses_pushed ∙ sum_more;
-    few_seeds = few;
-  }
+  row_pushed room = grind (arith, houses_pushed, number_more, sum_more)
 
 -- ---- two rows
 
@@ -612,13 +532,13 @@ pub packed_rows : (own other : List ℕ) (rule : Rule) (own_number other_number 
     IsPacked (own_number + 2 ^ 30 * other_number + 2 ^ 60 * (m + 8 * bit)) seeds
     × (rows_at (own_number + 2 ^ 30 * other_number + 2 ^ 60 * (m + 8 * bit)) ≡ record { own = own; other = other; rule = rule })
 packed_rows own other rule own_number other_number m bit seeds within own_is other_is m_is bit_is seeds_are =
-    packed_as (record { own = own; other = other; rule = rule }) _ seeds within (omega arith) seeds_are
+    packed_as _ _ _ within (omega arith) seeds_are
 
 -- ==== Houses from six cells a row
 
 -- the cells past the houses hold no seeds
 sum-shown : (m : ℕ) (cells : List ℕ) → padded (take m cells) ≡ cells → sum (take m cells) ≡ sum cells
-sum-shown m cells same = sym (sum-padded (take m cells)) ∙ ap sum same
+sum-shown m cells same = grind (arith, sum-padded)
 
 -- the key that is made of the cells is that of their houses
 pub packed_new : {m : ℕ} {own other : List ℕ} (rule : Rule) (own_number other_number bit seeds : ℕ) → length own ≡ 6 →
@@ -629,17 +549,12 @@ pub packed_new : {m : ℕ} {own other : List ℕ} (rule : Rule) (own_number othe
 packed_new {m} {own} {other} rule own_number other_number bit seeds own_long other_long can own_is other_is bit_is seeds_are =
     let own_shown = length-take-le m own (omega arith) in
     let other_shown = length-take-le m other (omega arith) in
-    let own_padded = padded_from_zeros m own own_long can.at_most_six can.own_past in
-    let other_padded = padded_from_zeros m other other_long can.at_most_six can.other_past in
-    let own_sum = sum-shown m own own_padded in
-    let other_sum = sum-shown m other other_padded in
-    let own_same = number_of-shown m own own_padded in
-    let other_same = number_of-shown m other other_padded in
-    let limits : IsWithinHouses (rows_from m own other rule) = record {
-      some_house = omega arith;
-      at_most_six = omega arith;
-      same_side = other_shown ∙ sym own_shown;
-      few_seeds = omega arith;
-    } in
-    packed_as (rows_from m own other rule) _ seeds limits (omega arith)
-    (omega (arith, seeds_are))
+    let own_padded = padded_from_zeros m _ own_long can.at_most_six can.own_past in
+    let other_padded = padded_from_zeros m _ other_long can.at_most_six can.other_past in
+    let own_sum = sum-shown m _ own_padded in
+    let other_sum = sum-shown m _ other_padded in
+    let own_same = number_of-shown m _ own_padded in
+    let other_same = number_of-shown m _ other_padded in
+    let limits : IsWithinHouses _ = omega arith in
+    packed_as _ _ _ limits (omega arith)
+    (omega arith)

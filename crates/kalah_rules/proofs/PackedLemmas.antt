@@ -1,18 +1,15 @@
 -- Moves on the numbers of two rows.
 use Rattle.kalah_rules.specs.declared.step.Step.TheVariants as step
 use Rattle.kalah_rules.specs.Position as position
-use Rattle.std.proofs.Common.{◌≡◌, ◌≢◌, ℕ, zero, suc, mul_comm, ◌+◌, ◌-◌, ◌*◌, ◌/◌, ◌%◌, ◌^◌, ◌<◌, ◌≤◌, inl, inr, length, arith, ap, sym, ◌∙◌, refl, subst, eq-eqb, List}
-use Rattle.std.specs.Prelude.{Bool, true, false, sum, ◌==◌, ◌&&◌, Option, Some, None, MatchBool, cond, Contains, slice_set}
-use Rattle.std.proofs.lemmas.Nat.{mod_below, mul-le, mod-mul-add, div-add-mod', and_block, and_mask, and_le_r, pow_pos}
-use Rattle.std.specs.Int.Bits.{bit_and}
+use Rattle.std.proofs.Common.{◌≡◌, ◌≢◌, ℕ, zero, suc, ◌+◌, ◌-◌, ◌*◌, ◌/◌, ◌%◌, ◌^◌, ◌<◌, ◌≤◌, inl, inr, length, arith, ap, sym, ◌∙◌, refl, subst, eq-eqb, List, Bool, true, false, sum, ◌==◌, ◌&&◌, Option, Some, None, MatchBool, cond, Contains, slice_set, bit_and, length-set}
+use Rattle.std.proofs.lemmas.Nat.{mod_below, div-add-mod', and_block, and_mask, and_le_r, pow_pos}
 use Rattle.std.proofs.Math.Nat.{div-eq_of_lt, mod-eq_of_lt, div-div-eq-div-mul}
-use Rattle.std.proofs.lemmas.Bool.{cases_Bool, cases_eq, cases_lt, and_parts, eqb-true, eqb-false}
+use Rattle.std.proofs.lemmas.Bool.{cases_Bool, cases_eq, cases_lt, and_parts, eqb-true}
 use Rattle.std.proofs.lemmas.Bool.Decides.{nat_tests}
 use Rattle.kalah_rules.specs.Position.{Position, Rows, IsWithinHouses, side_length, seeds, opposite, seeds_in_houses, bare, IsWithinLimits, is_over, swapped, rows_of, with_stores, without_seeds}
 use Rattle.kalah_rules.specs.Lap.{HoldsSeeds, lifted}
-use Rattle.kalah_rules.specs.Sowing.{lap_length, own_distance, other_distance, store_distance, sow, sown, last_distance, last_house, is_again, captures, can_capture, capture, captured, after}
-use Rattle.kalah_rules.proofs.PlayLemmas.{set_less, sow_side, sow_keeps, sow_other_store, own_distance_past, own_distance_back, last_house_own, last_house_store, last_house_other, after_at, same_position, legal_holds, after_nearer, sum-zeros, with_more, after_of_rows, legal_going}
-use Rattle.std.proofs.Math.ListN.{length-set}
+use Rattle.kalah_rules.specs.Sowing.{lap_length, own_distance, other_distance, store_distance, sow, sown, last_distance, is_again, captures, can_capture, captured, after}
+use Rattle.kalah_rules.proofs.PlayLemmas.{set_less, sow_side, sow_keeps, sow_other_store, own_distance_past, own_distance_back, last_house_own, last_house_store, last_house_other, after_at, legal_holds, after_nearer, sum-zeros, with_more, after_of_rows, legal_going}
 use Rattle.kalah_rules.specs.Key.{number_of, rows_at, rule_bit}
 use Rattle.kalah_rules.specs.Packed.{IsPackedPosition, ones, IsPacked}
 use Rattle.kalah_rules.specs.declared.houses.play.RowNumbers.{RowNumbers}
@@ -49,7 +46,7 @@ taken_off : (rows x y own other own_new other_new : ℕ) → rows % 2 ^ 30 ≡ o
     own_new + x ≡ own → other_new + y ≡ other →
     (x ≤ rows) × (2 ^ 30 * y ≤ rows - x) × ((rows - x - 2 ^ 30 * y) % 2 ^ 30 ≡ own_new)
     × ((rows - x - 2 ^ 30 * y) / 2 ^ 30 ≡ other_new)
-taken_off rows x y own other own_new other_new own_is other_is less other_less = (omega arith, omega arith, omega arith, omega arith)
+taken_off rows x y own other own_new other_new own_is other_is less other_less = omega arith
 
 -- what is caught of rows: the last seed, if it is alone in its house, and the seeds across, as the rule says
 abbrev pub Caught : Rule → RowNumbers → ℕ → ℕ → ℕ → ℕ → ℕ → Type 0
@@ -66,27 +63,25 @@ pub record LeavesRows (r : RowNumbers) (seed bit last taken : ℕ) (p : Position
 -- the five bits of a house
 house_bits : (rows k : ℕ) → bit_and rows (31 * 32 ^ k) ≡ rows / 32 ^ k % 32 * 32 ^ k
 house_bits rows k =
-    let p = 2 ^ (5 * k) in
-    let low = mod_below rows p (pow_pos (5 * k)) in
-    let whole = div-add-mod' rows p in
+    let p = 2 ^ _ in
+    let low = mod_below _ p (pow_pos _) in
     let none : bit_and (rows % p) 0 ≡ 0 = omega (arith, and_le_r (rows % p) 0) in
     let both = and_block (5 * k) (rows / p) 31 (rows % p) 0 low (pow_pos (5 * k)) in
     let mask : 31 * p + 0 ≡ 31 * p = omega arith in
     let all : bit_and rows (31 * p) ≡ rows / p % 32 * p =
-    rw (whole, mask, none, and_mask (rows / p) 5) at both ∙ omega arith in
+    rw (div-add-mod' rows p, mask, and_mask _ 5) at both ∙ omega arith in
     rw (pow_five k) at all
 
 -- are one if the house has one seed
 one_of : (x p : ℕ) → 0 < p → (x * p == p) ≡ (x == 1)
-one_of zero p some = grind (arith, nat_tests)
-one_of (suc zero) p some = grind (arith, nat_tests)
-one_of (suc (suc x)) p some = grind (arith, nat_tests)
+one_of zero p some = grind arith
+one_of (suc zero) p some = grind arith
+one_of (suc (suc x)) p some = grind arith
 
 one_seed_at : (rows k : ℕ) → (bit_and rows (31 * 32 ^ k) == 32 ^ k) ≡ (rows / 32 ^ k % 32 == 1)
 one_seed_at rows k =
     let bits = house_bits rows k in
-    let some : 0 < 32 ^ k = rw (← pow_five k) (pow_pos (5 * k)) in
-    rw bits (one_of _ _ some)
+    rw bits (one_of _ _ (rw (← pow_five k) (pow_pos (5 * k))))
 
 -- what a sowing of c seeds of house h adds if it ends in the store without a lap
 record GainsIntoStore (m h c : ℕ) : Type 0 where
@@ -96,22 +91,7 @@ record GainsIntoStore (m h c : ℕ) : Type 0 where
 
 store_gains : (m h c : ℕ) → 1 ≤ h → h ≤ m → c + h ≡ m + 1 → GainsIntoStore m h c
 store_gains m h c low high ends =
-    let small : c < lap_length m = omega arith in
-    let no_lap = div-eq_of_lt small in
-    let rest = mod-eq_of_lt small in
-    let none : c / lap_length m * ones m ≡ 0 * ones m = ap (λ q. q * ones m) no_lap in
-    let all = number_of-all m (h + c % lap_length m) (omega arith) in
-    let no_round : h + c % lap_length m - lap_length m ≡ 0 = omega arith in
-    let no_other : h + c % lap_length m - (m + 1) ≡ 0 = omega arith in
-    let round = number_of-up_to m (h + c % lap_length m - lap_length m) (omega arith) in
-    let other = number_of-up_to m (h + c % lap_length m - (m + 1)) (omega arith) in
-    let nothing = ap (λ k. ones k) no_round in
-    let nothing' = ap (λ k. ones k) no_other in
-    record {
-      own = omega (arith, own_gain m h c low high);
-      other = omega (arith, other_gain m h c low high, other);
-      store = grind (arith, nat_tests);
-    }
+    grind (arith, div-eq_of_lt, mod-eq_of_lt, number_of-all, number_of-up_to, own_gain, other_gain)
 
 module _ (a : Rows) (h : ℕ) (w : IsWithinHouses a) (holds : HoldsSeeds (bare a) h) where
   -- the position after the sowing
@@ -121,14 +101,14 @@ module _ (a : Rows) (h : ℕ) (w : IsWithinHouses a) (holds : HoldsSeeds (bare a
   -- a sowing loses no seed
   pub sown_keeps : KeepsSeeds (bare a) q
   sown_keeps =
-      let side = sow_side (bare a) h (seeds a.own h) in
+      let side = sow_side _ h _ in
       let keeps = sow_keeps (bare a) h holds.first holds.last w.same_side (seeds a.own h) in
       record {
-        play = omega (arith, keeps.play);
-        other_store = sow_other_store (bare a) h (seeds a.own h);
+        play = omega arith;
+        other_store = sow_other_store _ h _;
         side = side.0;
         other_side = side.1 ∙ sym w.same_side;
-        rule = sow_rule (bare a) h (seeds a.own h);
+        rule = sow_rule _ h _;
       }
 
   -- the rows of the sowing
@@ -148,21 +128,19 @@ module _ (a : Rows) (h : ℕ) (w : IsWithinHouses a) (holds : HoldsSeeds (bare a
 
   -- the seeds that are read off the row are those of the house
   pub house_read : (row n : ℕ) → row ≡ number_of a.own → n ≡ row / 32 ^ (h - 1) % 32 → n ≡ seeds a.own h
-  house_read row n row_is read =
-      read ∙ ap (λ n. n / 32 ^ (h - 1) % 32) row_is ∙ read_seeds _ _ (omega (arith, holds.first, holds.last))
-      (omega (arith, w.few_seeds))
+  house_read row n row_is read = grind (arith, read_seeds)
 
   -- the row without the house's seeds
   pub lifted_is : number_of (lifted (bare a) h).own + 32 ^ (h - 1) * seeds a.own h ≡ number_of a.own
-  lifted_is = omega (arith, number_of-set a.own (h - 1) 0 (omega (arith, holds.first, holds.last)))
+  lifted_is = omega (arith, number_of-set)
 
   -- the sowing leaves few seeds
   few : sum q.own + sum q.other ≤ 31
-  few = omega (arith, sown_keeps.play, w.few_seeds)
+  few = omega (arith, sown_keeps.play)
 
   -- so the own row has a small number
   own_small : number_of q.own < 2 ^ 30
-  own_small = number_of-small 6 q.own (omega (arith, sown_keeps.side, w.at_most_six)) (omega (arith, few))
+  own_small = number_of-small 6 q.own (omega (arith, sown_keeps.side)) (omega (arith, few))
 
   -- both rows without the house's seeds, and with what they gain
   pub sown_rows : (rows house gains : ℕ) → rows ≡ number_of a.own + 2 ^ 30 * number_of a.other
@@ -176,25 +154,18 @@ module _ (a : Rows) (h : ℕ) (w : IsWithinHouses a) (holds : HoldsSeeds (bare a
       loses + (own_gained (length a.own) h (seeds a.own h) + 2 ^ 30 * other_gained (length a.own) h (seeds a.own h))
       ≡ 2 ^ 60 * length a.own + 32 ^ (h - 1) * seeds a.own h →
       (loses ≤ rest) × (rest - loses ≡ number_of q.own + 2 ^ 30 * number_of q.other)
-  sown_less rest loses rest_is loses_is = (
-    omega (arith, own_is, other_is),
-    omega (arith, own_is, other_is),
-  )
+  sown_less rest loses rest_is loses_is = omega (arith, own_is, other_is)
 
   -- show the position after the sowing
   pub rows_show : (rows store : ℕ) → rows ≡ number_of q.own + 2 ^ 30 * number_of q.other →
       store ≡ store_gained (length a.own) h (seeds a.own h) → IsPackedPosition (record { rows = rows; store = store }) q
-  rows_show rows store rows_are store_is' = record {
-    own = omega (arith, own_small);
-    other = omega (arith, own_small);
-    store = store_is' ∙ sym store_is;
-  }
+  rows_show rows store rows_are store_is' = omega (arith, own_small, store_is)
 
   -- and are numbers of 60 bits
   pub sown_small : number_of q.own + 2 ^ 30 * number_of q.other < 2 ^ 60
   sown_small =
       let other_small = number_of-small 6 q.other
-      (omega (arith, sown_keeps.other_side, w.same_side, w.at_most_six))
+      (omega (arith, sown_keeps.other_side, w.same_side))
       (omega (arith, few)) in
       omega (arith, own_small)
 
@@ -205,18 +176,18 @@ module _ (a : Rows) (h : ℕ) (w : IsWithinHouses a) (holds : HoldsSeeds (bare a
       → IsPackedPosition (record { rows = rows - house + own_more; store = 1 }) q
   into_store rows house own_more ends rows_are house_is own_more_is =
       let gains = store_gains _ _ _ holds.first holds.last ends in
-      rows_show _ 1 (sown_rows rows house own_more rows_are house_is (omega arith)) (sym gains.store)
+      rows_show _ 1 (sown_rows _ house _ rows_are house_is (omega arith)) (omega arith)
 
   -- and few in the store
   pub store_few : q.own_store ≤ 31
-  store_few = omega (arith, sown_keeps.play, w.few_seeds)
+  store_few = omega (arith, sown_keeps.play)
 
   -- a house read off the numbers
   pub read_own : (r : RowNumbers) (i bit : ℕ) → IsPackedPosition r q → 1 ≤ i → i ≤ length a.own → bit ≡ 5 * (i - 1) →
       r.rows / 2 ^ bit % 32 ≡ seeds q.own i
   read_own r i bit shows low high at =
-      let near : i - 1 ≤ 5 = omega (arith, w.at_most_six) in
-      rw (at, pow_five (i - 1)) (low_cell _ _ near ∙ ap (λ n. n / 32 ^ (i - 1) % 32) shows.own
+      let near : i - 1 ≤ 5 = omega arith in
+      rw (at, pow_five) (low_cell _ _ near ∙ ap (λ n. n / 32 ^ (i - 1) % 32) shows.own
       ∙ read_seeds _ _ (omega (arith, sown_keeps.side)) (omega (arith, few)))
 
   -- the house across
@@ -226,8 +197,7 @@ module _ (a : Rows) (h : ℕ) (w : IsWithinHouses a) (holds : HoldsSeeds (bare a
   read_across r i bit shows low high at =
       let side = sown_keeps.side in
       let other_side = sown_keeps.other_side in
-      let same = w.same_side in
-      rw (at, pow_other (opposite q i - 1)) (ap (λ n. n % 32) (sym (div-div-eq-div-mul r.rows (2 ^ 30) (32 ^ (opposite q i - 1))))
+      rw (at, pow_other) (ap (λ n. n % 32) (sym (div-div-eq-div-mul _ (2 ^ 30) _))
       ∙ ap (λ n. n / 32 ^ (opposite q i - 1) % 32) shows.other
       ∙ read_seeds _ _ (omega arith) (omega (arith, few)))
 
@@ -253,7 +223,7 @@ module _ (a : Rows) (h : ℕ) (w : IsWithinHouses a) (holds : HoldsSeeds (bare a
             record {
               here = rw none.0 (omega arith);
               across = rw (none.0, none.1) (omega arith);
-              shows = rw kept (record { own = rw same shows.own; other = rw same shows.other; store = omega arith });
+              shows = rw kept (omega arith);
             }
         | inl some ↦
             let both : (last ≡ 1) × (taken ≡ seeds q.other j) = rw some at caught in
@@ -276,21 +246,12 @@ module _ (a : Rows) (h : ℕ) (w : IsWithinHouses a) (holds : HoldsSeeds (bare a
 -- nor does a capture after it
 captured_keeps : {p q : Position} (o : Option ℕ) → KeepsSeeds p q → KeepsSeeds p (captured q o)
 captured_keeps None k = k
-captured_keeps {p} {q} (Some i) k = elim (cases_Bool (can_capture q i)) [
-  | inl taken ↦ rw taken (record {
-    play = omega (arith, k.play, set_less q.own (i - 1), set_less q.other (opposite q i - 1));
-    other_store = k.other_store;
-    side = length-set q.own (i - 1) 0 ∙ k.side;
-    other_side = length-set q.other (opposite q i - 1) 0 ∙ k.other_side;
-    rule = k.rule;
-  })
-  | inr kept ↦ rw kept k
-]
+captured_keeps {p} {q} (Some i) k = grind (arith, cases_Bool, set_less, length-set)
 
 -- no seed is lost in a move
 pub after_keeps : (a : Rows) (h : ℕ) → IsWithinHouses a → HoldsSeeds (bare a) h → KeepsSeeds (bare a) (after (bare a) h)
 unfolding after
-after_keeps a h w holds = captured_keeps (last_house (bare a) h) (sown_keeps a h w holds)
+after_keeps a h w holds = captured_keeps _ (sown_keeps a h w holds)
 
 -- where the last seed falls, by its place
 module _ (p : Position) (h : ℕ) (holds : HoldsSeeds p h) where
@@ -300,56 +261,37 @@ module _ (p : Position) (h : ℕ) (holds : HoldsSeeds p h) where
 
   -- and goes no farther than a lap
   last_high : last_distance p h ≤ lap_length (side_length p)
-  last_high = let below = mod_below (seeds p.own h - 1) (lap_length (side_length p)) (omega arith) in omega arith
+  last_high = omega arith
 
   -- the seeds of less than a lap go as far as there are of them
   pub short_distance : seeds p.own h ≤ lap_length (side_length p) → last_distance p h ≡ seeds p.own h
-  short_distance few =
-      let below : seeds p.own h - 1 < lap_length (side_length p) = omega (arith, few) in
-      let all = mod-eq_of_lt below in
-      let some = holds.some in
-      omega arith
+  short_distance few = omega (arith, mod-eq_of_lt)
 
   -- its seeds are whole laps and the distance of the last one
   laps_and_distance : (seeds p.own h - 1) / lap_length (side_length p) * lap_length (side_length p) + last_distance p h ≡ seeds p.own h
-  laps_and_distance = omega (arith, div-add-mod' (seeds p.own h - 1) (lap_length (side_length p)), holds.some)
+  laps_and_distance = omega arith
 
   -- so much past whole laps is the place
   place_after : (laps at : ℕ) → h + seeds p.own h ≡ laps * lap_length (side_length p) + at → 1 ≤ at
       → at ≤ lap_length (side_length p) →
       last_place (side_length p) h (seeds p.own h) ≡ at
-  place_after laps at whole low high =
-      let n = lap_length (side_length p) in
-      let rest : h - 1 + seeds p.own h ≡ laps * n + (at - 1) = omega (arith, holds.first) in
-      ap (λ x. x % n + 1) rest ∙ ap (λ x. x + 1) (mod-mul-add laps n (at - 1) (omega arith)) ∙ omega arith
+  place_after laps at whole low high = grind arith
 
   -- the place of a last seed that doesn't come round
   place_near : h + last_distance p h ≤ lap_length (side_length p)
       → last_place (side_length p) h (seeds p.own h) ≡ h + last_distance p h
-  place_near near = place_after ((seeds p.own h - 1) / lap_length (side_length p)) (h + last_distance p h)
-      (omega (arith, laps_and_distance)) (omega (arith, last_low)) near
+  place_near near = grind arith
 
   -- and of one that does
   place_round : lap_length (side_length p) < h + last_distance p h →
       last_place (side_length p) h (seeds p.own h) ≡ h + last_distance p h - lap_length (side_length p)
-  place_round round =
-      let n = lap_length (side_length p) in
-      let laps = (seeds p.own h - 1) / n in
-      let next : (laps + 1) * n ≡ laps * n + n = omega arith in
-      place_after (laps + 1) (h + last_distance p h - n) (omega (arith, laps_and_distance)) (omega arith)
-      (omega (arith, last_high, holds.last))
+  place_round round = grind arith
 
   -- an own house where it falls is as far as it goes
   own_at : last_place (side_length p) h (seeds p.own h) ≤ side_length p →
       own_distance (side_length p) h (last_place (side_length p) h (seeds p.own h)) ≡ last_distance p h
-  own_at own = elim (cases_lt (lap_length (side_length p)) (h + last_distance p h)) [
-    | inl round ↦
-        let at = place_round round in
-        own_distance_back _ _ _ (omega (arith, last_high)) ∙ omega arith
-    | inr near ↦
-        let at = place_near (omega arith) in
-        own_distance_past _ _ _ (omega (arith, last_low)) ∙ omega arith
-  ]
+  own_at own =
+      grind (arith, cases_lt, place_round, own_distance_back, last_high, place_near, own_distance_past, last_low)
 
   -- it falls into an own house, and may capture
   pub after_own : (r : RowNumbers) → last_place (side_length p) h (seeds p.own h) ≤ side_length p →
@@ -360,84 +302,56 @@ module _ (p : Position) (h : ℕ) (holds : HoldsSeeds p h) where
   -- the place of any other cell is its distance past the house
   place_past : side_length p < last_place (side_length p) h (seeds p.own h) →
       (last_place (side_length p) h (seeds p.own h) ≡ h + last_distance p h) × (h + last_distance p h ≤ lap_length (side_length p))
-  place_past past = elim (cases_lt (lap_length (side_length p)) (h + last_distance p h)) [
-    | inl round ↦ absurd (omega (arith, place_round round, last_high, holds.last))
-    | inr near ↦ let inside : h + last_distance p h ≤ lap_length (side_length p) = omega arith in (place_near inside, inside)
-  ]
+  place_past past = grind (arith, place_round)
 
   -- it falls into the store or beyond
   pub after_past : (r : RowNumbers) → side_length p < last_place (side_length p) h (seeds p.own h) → IsPackedPosition r (sown p h)
       → IsPackedPosition r (after p h)
   after_past r past shows =
-      let last = holds.last in
       let at = place_past past in
       elim (cases_eq (h + last_distance p h) (side_length p + 1)) [
         | inl store ↦
-            let far : store_distance (side_length p) h ≡ last_distance p h = omega arith in
+            let far : store_distance _ h ≡ last_distance p h = omega arith in
             subst (λ z. IsPackedPosition r z) (after_at _ _ _ (last_house_store holds far)) shows
         | inr other ↦
             let j = h + last_distance p h - (side_length p + 1) in
-            let low : 1 ≤ j = omega (arith, other) in
+            let low : 1 ≤ j = omega arith in
             let high : j ≤ side_length p = omega arith in
-            let far : other_distance (side_length p) h j ≡ last_distance p h = omega (arith, other) in
+            let far : other_distance _ h j ≡ last_distance p h = omega arith in
             subst (λ z. IsPackedPosition r z) (after_at _ _ _ (last_house_other _ holds low high far)) shows
       ]
 
   -- the mover moves again if it falls into the store
   pub again_at : is_again p h ≡ (last_place (side_length p) h (seeds p.own h) == side_length p + 1)
-  again_at = elim (cases_eq (last_place (side_length p) h (seeds p.own h)) (side_length p + 1)) [
-    | inl store ↦
-        let at = place_past (omega (arith, store)) in
-        rw (
-          eq-eqb (last_distance p h) (store_distance (side_length p) h) (omega (arith, store)),
-          eq-eqb (last_place (side_length p) h (seeds p.own h)) (side_length p + 1) store,
-        ) refl
-    | inr elsewhere ↦
-        let apart : last_distance p h ≢ store_distance (side_length p) h = λ far.
-        elsewhere (place_near (omega (arith, holds.last)) ∙ omega (arith, holds.last)) in
-        grind (arith, nat_tests)
-  ]
+  again_at = grind (arith, cases_eq, place_past, eq-eqb, place_near)
 
 -- where no house has one seed, nothing is caught
 none_caught : (rule : Rule) (r : RowNumbers) (last taken : ℕ) {p : Position} → Caught rule r 0 1 0 last taken → IsPackedPosition r p →
     LeavesRows r 1 0 last taken p
-none_caught rule r last taken told shows =
-    let bits : bit_and r.rows 0 ≡ 0 = omega (arith, and_le_r r.rows 0) in
-    let none : (last ≡ 0) × (taken ≡ 0) = rw bits at told in
-    record {
-      here = omega arith;
-      across = omega arith;
-      shows =
-          let same : r.rows - last * 1 - taken * 2 ^ 0 % 2 ^ 64 ≡ r.rows = omega arith in
-          record { own = rw same shows.own; other = rw same shows.other; store = omega (arith, shows.store) };
-    }
+none_caught rule r last taken told shows = grind (arith, and_le_r)
 
 -- the bit across lies within a key
 pub across_within : {m : ℕ} (h c : ℕ) (s : Sowing) → IsSowing m h c s → m ≤ 6 → s.across < 64
-across_within {m} h c s sowing few = elim (cases_lt m (last_place m h c)) [
-  | inl past ↦ omega (arith, (sowing.elsewhere past).across)
-  | inr own ↦ omega (arith, (sowing.own own).across, few)
-]
+across_within {m} h c s sowing few = grind arith
 
 -- the rows after the move are those of the sowing, less what is caught
 pub move_leaves : {a : Rows} {h : ℕ} {s : Sowing} {r : RowNumbers} {rule : Rule} {last taken : ℕ} → IsWithinHouses a →
     HoldsSeeds (bare a) h → IsSowing (length a.own) h (seeds a.own h) s → IsPackedPosition r (sown (bare a) h) → rule ≡ a.rule →
     Caught rule r s.last_house s.last_seed s.across last taken → LeavesRows r s.last_seed s.across last taken (after (bare a) h)
 move_leaves {a} {h} {s} {r} {rule} {last} {taken} w holds sowing shows same caught =
-    let place = last_place (length a.own) h (seeds a.own h) in
-    let told : Caught a.rule r s.last_house s.last_seed s.across last taken = rw same at caught in
-    elim (cases_lt (length a.own) place) [
+    let place = last_place _ h _ in
+    let told = rw same at caught in
+    elim (cases_lt _ place) [
       | inl past ↦
           let no = sowing.elsewhere past in
-          let nothing : Caught a.rule r 0 1 0 last taken = rw (no.house, no.seed, no.across) at told in
-          rw (no.seed, no.across) (none_caught a.rule r last taken nothing (after_past (bare a) h holds r past shows))
+          rw (no.seed, no.across) (none_caught a.rule r last taken (rw (no.house, no.seed, no.across) at told) (after_past _ h holds r past shows))
       | inr own ↦
-          let leaves = capture_shows a h w holds r place s.last_house s.last_seed s.across last taken shows (omega arith) own
+          let leaves = capture_shows a h w holds r place _ s.last_seed _ last _ shows (omega arith) own
           (sowing.own own) told in
           record {
             here = leaves.here;
             across = leaves.across;
-            shows = after_own (bare a) h holds _ own leaves.shows;
+            shows = after_own _ h holds _ own leaves.shows;
           }
     ]
 
@@ -451,12 +365,12 @@ step_over q again over = rw over refl
 -- a game that goes on with the mover
 pub step_again : (q : Position) (again : Bool) → is_over q ≡ false → again ≡ true
     → houses_step_to q again ≡ Again q.own_store (rows_of q)
-step_again q again going more = rw (going, more) refl
+step_again q again going more = cc
 
 -- and with the other player
 pub step_turn : (q : Position) (again : Bool) → is_over q ≡ false → again ≡ false
     → houses_step_to q again ≡ Turn q.own_store (rows_of (swapped q))
-step_turn q again going more = rw (going, more) refl
+step_turn q again going more = cc
 
 -- what holds of both
 pub on_cond : {X : Type 0} (P : X → Type 0) (b : Bool) (s t : X) → (b ≡ true → P s) → (b ≡ false → P t) → P (cond b s t)
@@ -465,43 +379,24 @@ on_cond P false s t h k = k refl
 
 -- a game that goes on also goes on for the other player
 pub over_swapped : (q : Position) → is_over q ≡ false → is_over (swapped q) ≡ false
-over_swapped q going = grind (arith, nat_tests)
+over_swapped q going = grind arith
 
 -- the houses of a board are within their limits
 pub rows_within : (p : Position) → IsWithinLimits p → IsWithinHouses (rows_of p)
-rows_within p l = record { some_house = l.some_house; at_most_six = l.at_most_six; same_side = l.same_side; few_seeds = l.few_seeds }
+rows_within p l = omega arith
 
 -- and with them a board, if each store leaves room for their seeds
 limits_with : {a : Rows} {own other : ℕ} → IsWithinHouses a → own + seeds_in_houses (bare a) ≤ most_in_play →
     other + seeds_in_houses (bare a) ≤ most_in_play → IsWithinLimits (with_stores a own other)
-limits_with w own other = record {
-  some_house = w.some_house;
-  at_most_six = w.at_most_six;
-  same_side = w.same_side;
-  few_seeds = w.few_seeds;
-  own_store_low = own;
-  other_store_low = other;
-}
+limits_with w own other = omega arith
 
 -- a move keeps the houses within the limits
 pub after_within : (a : Rows) (h : ℕ) → IsWithinHouses a → HoldsSeeds (bare a) h → IsWithinHouses (rows_of (after (bare a) h))
-after_within a h w holds =
-    let keeps = after_keeps _ _ w holds in
-    record {
-      some_house = omega (arith, keeps.side, w.some_house);
-      at_most_six = omega (arith, keeps.side, w.at_most_six);
-      same_side = keeps.other_side ∙ w.same_side ∙ sym keeps.side;
-      few_seeds = omega (arith, keeps.play, w.few_seeds);
-    }
+after_within a h w holds = grind (arith, after_keeps)
 
 -- also as the other player sees them
 pub swapped_within : (q : Position) → IsWithinHouses (rows_of q) → IsWithinHouses (rows_of (swapped q))
-swapped_within q w = record {
-  some_house = omega (arith, w.same_side, w.some_house);
-  at_most_six = omega (arith, w.same_side, w.at_most_six);
-  same_side = sym w.same_side;
-  few_seeds = omega (arith, w.few_seeds);
-}
+swapped_within q w = omega arith
 
 -- ---- what `play` computes
 -- the move of house h leads to this step with the houses of a key, which are packed
@@ -514,7 +409,7 @@ pub store_small : {a : Rows} {h : ℕ} {r : RowNumbers} → IsWithinHouses a →
     r.store ≤ 31
 store_small {a} {h} {r} w has shows =
     let keeps = after_keeps _ _ w (legal_holds _ _ has) in
-    omega (arith, shows.store, keeps.play, w.few_seeds)
+    omega (arith, keeps.play)
 
 module _ {a : Rows} {h key seeds : ℕ} {r : RowNumbers} (packed : IsPacked key seeds) (view : rows_at key ≡ a)
     (has : Contains (legal_houses (bare a)) h) (shows : IsPackedPosition r (after (bare a) h)) where
@@ -536,35 +431,29 @@ module _ {a : Rows} {h key seeds : ℕ} {r : RowNumbers} (packed : IsPacked key 
 
   -- what came is among the seeds
   pub store_within : r.store ≤ seeds
-  store_within = omega (arith, shows.store, keeps.play, is.seeds_are)
+  store_within = omega (arith, keeps.play, is.seeds_are)
 
   -- the mover has no seeds left
   pub over_own : r.rows % 2 ^ 30 ≡ 0 → Over r.store (seeds - r.store) ≡ houses_step a h
   over_own none =
       let empty = sum-zero moved.own (sym shows.own ∙ none) in
-      let over : is_over moved ≡ true = rw empty refl in
       let mine : r.store ≡ moved.own_store + sum moved.own = omega (arith, shows.store) in
       let theirs : seeds - r.store ≡ moved.other_store + sum moved.other =
       omega (arith, shows.store, keeps.play, keeps.other_store, is.seeds_are) in
-      ap (λ x. Over x (seeds - r.store)) mine ∙ ap (λ x. Over (moved.own_store + sum moved.own) x) theirs
-      ∙ sym (step_over moved (is_again (bare a) h) over)
+      cc (mine, theirs, step_over moved (is_again (bare a) h) (rw empty refl))
 
   -- or the other player has none
   pub over_other : r.rows / 2 ^ 30 ≡ 0 → Over seeds 0 ≡ houses_step a h
   over_other none =
       let empty = sum-zero moved.other (sym shows.other ∙ none) in
-      let over : is_over moved ≡ true = grind (arith, nat_tests) in
       let mine : seeds ≡ moved.own_store + sum moved.own = omega (arith, keeps.play, is.seeds_are) in
       let theirs : 0 ≡ moved.other_store + sum moved.other = omega (arith, keeps.other_store) in
-      ap (λ x. Over x 0) mine ∙ ap (λ x. Over (moved.own_store + sum moved.own) x) theirs ∙ sym (step_over moved (is_again (bare a) h) over)
+      cc (mine, theirs, step_over moved (is_again (bare a) h) (grind (arith, nat_tests)))
 
   module _ (own_some : r.rows % 2 ^ 30 ≢ 0) (other_some : r.rows / 2 ^ 30 ≢ 0) where
     -- or the game goes on
     going : is_over moved ≡ false
-    going =
-        let own : sum moved.own ≢ 0 = λ e. own_some (shows.own ∙ number_of-zero _ e) in
-        let other : sum moved.other ≢ 0 = λ e. other_some (shows.other ∙ number_of-zero _ e) in
-        grind (arith, nat_tests, own, other)
+    going = grind (arith, number_of-zero)
 
     -- with the mover
     pub again_packed : is_again (bare a) h ≡ true → IsStepTo a h (r.rows + key / 2 ^ 60 * 2 ^ 60) (seeds - r.store) (Again r.store)
@@ -572,20 +461,20 @@ module _ {a : Rows} {h key seeds : ℕ} {r : RowNumbers} (packed : IsPacked key 
         let above = above_cells _ _ is.limits is.key_is in
         let rule = ap rule_bit keeps.rule in
         let there = packed_as _ _ _ within
-        (omega (arith, shows.own, shows.other, keeps.side)) (omega (arith, shows.store, keeps.play, is.seeds_are)) in
+        (omega (arith, shows.own, keeps.side)) (omega (arith, keeps.play, is.seeds_are)) in
         record { packed = there.0; is = rw (shows.store, there.1) (sym (step_again _ _ going more)) }
 
     -- or with the other player
     pub turn_packed : is_again (bare a) h ≡ false →
         IsStepTo a h (r.rows / 2 ^ 30 + 2 ^ 30 * (r.rows % 2 ^ 30) + key / 2 ^ 60 * 2 ^ 60) (seeds - r.store) (Turn r.store)
     turn_packed passed =
-        let above = above_cells a key is.limits is.key_is in
+        let above = above_cells a _ is.limits is.key_is in
         let rule = ap rule_bit keeps.rule in
-        let there = packed_as (rows_of (swapped moved)) (r.rows / 2 ^ 30 + 2 ^ 30 * (r.rows % 2 ^ 30) + key / 2 ^ 60 * 2 ^ 60) (seeds - r.store)
+        let there = packed_as (rows_of (swapped moved)) _ (seeds - _)
         (swapped_within moved within)
-        (omega (arith, shows.own, shows.other, keeps.other_side, is.limits.same_side))
-        (omega (arith, shows.store, keeps.play, is.seeds_are)) in
-        record { packed = there.0; is = rw (shows.store, there.1) (sym (step_turn moved (is_again (bare a) h) going passed)) }
+        (omega (arith, shows.own, keeps.other_side, is.limits.same_side))
+        (omega (arith, keeps.play, is.seeds_are)) in
+        record { packed = there.0; is = rw (shows.store, there.1) (sym (step_turn moved _ going passed)) }
 
 -- ---- a step on houses, applied to a position
 -- the step of a position whose houses make this one
@@ -603,20 +492,17 @@ IsStepWithin p (Turn gained b) = IsWithinLimits (with_stores b p.other_store (p.
 step_with_to : (p q : Position) (over again : Bool) → side_length q ≡ side_length p → q.rule ≡ p.rule → q.other_store ≡ 0
     → is_over q ≡ over →
     step_with p (houses_step_to q again) ≡ step_to (with_more p.own_store p.other_store q) again
-step_with_to p q true again side rule none is =
-    rw (is, side) (ap step.Over (same_position refl (omega arith) refl (omega arith) (sym rule)))
-step_with_to p q false true side rule none is =
-    rw is (ap step.Again (same_position refl (omega arith) refl (omega arith) refl))
-step_with_to p q false false side rule none is =
-    rw is (ap step.Turn (same_position refl (omega arith) refl (omega arith) refl))
+step_with_to p q true again side rule none is = grind arith
+step_with_to p q false true side rule none is = grind arith
+step_with_to p q false false side rule none is = grind arith
 
 -- the step of a board is that of its houses
 pub step_is : (p : Position) (h : ℕ) → IsWithinHouses (rows_of p) → HoldsSeeds (bare (rows_of p)) h →
     step_with p (houses_step (rows_of p) h) ≡ step_of p h
 step_is p h w holds =
-    let q = after (bare (rows_of p)) h in
+    let q = after _ h in
     let keeps = after_keeps _ _ w holds in
-    step_with_to p q (is_over q) (is_again p h) keeps.side keeps.rule keeps.other_store refl
+    step_with_to p q (is_over q) _ keeps.side keeps.rule keeps.other_store refl
     ∙ ap (λ x. step_to x (is_again p h)) (sym (after_of_rows p h))
 
 -- and within the limits
@@ -624,7 +510,7 @@ pub step_within : {p : Position} (h : ℕ) → IsWithinLimits p → HoldsSeeds (
     → IsStepWithin p (houses_step (rows_of p) h)
 step_within {p} h l holds =
     let a = rows_of p in
-    let q = after (bare a) h in
+    let q = after _ h in
     let w = rows_within p l in
     let keeps = after_keeps a h w holds in
     let on = after_within a h w holds in
@@ -633,17 +519,16 @@ step_within {p} h l holds =
     let side = length-replicate {A = ℕ} (side_length p) 0 in
     let none = sum-zeros (side_length p) in
     record {
-      some_house = omega (arith, side);
-      at_most_six = omega (arith, side);
+      some_house = omega arith;
+      at_most_six = omega arith;
       same_side = refl;
       few_seeds = omega arith;
-      own_store_low = omega (arith, keeps.play);
-      other_store_low = omega (arith, keeps.play, keeps.other_store);
+      own_store_low = omega arith;
+      other_store_low = omega (arith, keeps.play);
     })
     (λ going. on_cond (IsStepWithin p) (is_again (bare a) h) _ _
-    (λ again. limits_with on (omega (arith, keeps.play)) (omega (arith, keeps.play)))
-    (λ turn. limits_with (swapped_within q on) (omega (arith, keeps.play))
-    (omega (arith, keeps.play))))
+    (omega arith)
+    (omega arith))
 
 -- all that a board needs of a step of its houses
 pub record IsStepOf (p : Position) (h : ℕ) (s : HousesStep) : Type 0 where
@@ -656,14 +541,14 @@ pub board_step : {b : Rows} {own_store other_store h : ℕ} {p : Position} {s t 
     with_stores b own_store other_store ≡ p → Contains (legal_houses p) h → t ≡ s → t ≡ houses_step b h →
     IsStepOf (with_stores b own_store other_store) h s
 board_step {b} {own_store} {other_store} {h} l view has to is =
-    let p = with_stores b own_store other_store in
+    let p = with_stores b own_store _ in
     let legal = subst (λ (x : Position). Contains (legal_houses x) h) (sym view) has in
     let holds = legal_holds _ _ legal in
     let w = rows_within _ l in
     record {
       same = ap (step_with p) (sym to ∙ is) ∙ step_is _ _ w holds;
       within = subst (IsStepWithin p) (sym is ∙ to) (step_within _ l holds);
-      nearer = after_nearer _ _ (legal_holds _ _ legal) (record { same = l.same_side });
+      nearer = after_nearer _ _ (omega arith) (omega arith);
     }
 
 -- ==== Moves whose last seed falls into the store without a lap
@@ -679,30 +564,27 @@ module _ {a : Rows} {h key seeds : ℕ} {r : RowNumbers} (packed : IsPacked key 
 
   -- the last seed falls as far as the house has seeds
   distance : last_distance (bare a) h ≡ position.seeds a.own h
-  distance = short_distance (bare a) h holds (omega (arith, holds.first, w.some_house))
+  distance = short_distance _ h holds (omega arith)
 
   -- the mover moves again
   again : is_again (bare a) h ≡ true
-  again = eq-eqb _ _ (omega (arith, distance))
+  again = omega (arith, eq-eqb, distance)
 
   -- its place is that of the store
   place : last_place (length a.own) h (position.seeds a.own h) ≡ length a.own + 1
-  place = eqb-true _ _ (sym (again_at (bare a) h holds) ∙ again)
+  place = eqb-true _ _ (sym (again_at _ h holds) ∙ again)
 
   -- nothing is captured
   pub store_shows : IsPackedPosition r (after (bare a) h)
-  store_shows = after_past (bare a) h holds r (omega (arith, place)) shows
+  store_shows = after_past _ h holds r (omega (arith, place)) shows
 
   -- and the other player has seeds as before
   other_some : r.rows / 2 ^ 30 ≢ 0
-  other_some none =
-      let going = legal_going (bare a) h has in
-      let empty = sum-zero a.other (omega (arith, other_is a h w holds, shows.other)) in
-      absurd (grind (arith, nat_tests, going))
+  other_some none = grind (arith, legal_going, sum-zero, other_is, w, holds)
 
   -- so the game goes on with the mover, if the mover has seeds left
   pub store_packed : 0 < r.rows % 2 ^ 30 → IsStepTo a h (r.rows + key / 2 ^ 60 * 2 ^ 60) (seeds - r.store) (Again r.store)
-  store_packed some = again_packed packed view has store_shows (λ none. absurd (omega arith)) other_some again
+  store_packed some = again_packed packed view has store_shows (omega arith) other_some again
 
 -- what a move does to the key whose last seed falls into the store without a lap: `house` are the seeds of the
 -- house where they stand in the row, `own_more` is one seed in each house after it
@@ -721,14 +603,14 @@ moves_into_store {a} {h} {key} {seeds} {house} {own_more} packed view has ends h
     let w = pack.limits in
     let holds = legal_holds _ _ has in
     let rows = rows_number_at _ _ w pack.key_is in
-    let shows = into_store a h w holds (key % 2 ^ 60) house own_more ends rows house_is own_more_is in
+    let shows = into_store a h w holds _ house _ ends rows house_is own_more_is in
     let lies : house ≤ key % 2 ^ 60 = omega (arith, lifted_is a h w holds) in
-    let now : key - house + own_more ≡ (key % 2 ^ 60 - house + own_more) + key / 2 ^ 60 * 2 ^ 60 = omega arith in
+    let now : key - house + own_more ≡ key % 2 ^ 60 - house + own_more + key / 2 ^ 60 * 2 ^ 60 = omega arith in
     let own : (key - house + own_more) % 2 ^ 30 ≡ (key % 2 ^ 60 - house + own_more) % 2 ^ 30 = omega arith in
     record {
       fits = omega arith;
-      goes_on = λ some. rw now (store_packed packed view has ends shows (omega (arith, own)));
-      over = λ none. over_own packed view has (store_shows packed view has ends shows) (sym own ∙ none);
+      goes_on = λ some. rw now (store_packed packed view has ends shows (omega arith));
+      over = λ none. over_own packed view has (store_shows packed view has ends shows) (cc);
     }
 
 -- ==== The cells of the table of sowings
@@ -737,6 +619,6 @@ moves_into_store {a} {h} {key} {seeds} {house} {own_more} packed view has ends h
 pub sowings_more : (cells : List Sowing) (i : ℕ) (s : Sowing) → i < length cells → AreSowings i cells →
     ((m h c : ℕ) → IsSowingCell m h c i → IsSowing m h c s) → AreSowings (i + 1) (slice_set cells i s)
 sowings_more cells i s inside before is m h c k d cell below = elim (cases_eq k i) [
-  | inl same ↦ rw (same, get_or-set_same cells i s d inside) (is m h c (rw same at cell))
-  | inr other ↦ rw (get_or-set_other cells i k s d other) (before m h c k d cell (omega (arith, other)))
+  | inl same ↦ rw (same, get_or-set_same) (is m h c (rw same at cell))
+  | inr other ↦ rw (get_or-set_other cells i k s d other) (before m h c k d cell (omega arith))
 ]

@@ -1,21 +1,18 @@
 -- Moves, house by house: how seeds are sown and captured, which moves there are, and how each nears the end.
-use Rattle.std.proofs.Common.{zero, suc, ◌≡◌, ◌≢◌, ℕ, ◌+◌, ◌-◌, ◌*◌, ◌<◌, ◌≤◌, inl, inr, List, [], ◌∷◌, zero-le, length, replicate, arith, ap, ◌∙◌, refl, ◌/◌, ◌%◌, ◌⊎◌, sym, add-one, ◌++◌, eq-eqb, lt-ltb, ◌^◌, append-nil}
-use Rattle.std.specs.Prelude.{slice_set, slice_index, sum, sum_by, Bool, true, false, cond, Option, Some, None, find, filter, Contains, All, nat_lt, ◌==◌, if◌then◌else◌}
+use Rattle.std.proofs.Common.{zero, suc, ◌≡◌, ◌≢◌, ℕ, ◌+◌, ◌-◌, ◌*◌, ◌<◌, ◌≤◌, inl, inr, List, [], ◌∷◌, zero-le, length, replicate, arith, ap, ◌∙◌, refl, ◌/◌, ◌%◌, ◌⊎◌, sym, add-one, ◌++◌, eq-eqb, lt-ltb, ◌^◌, append-nil, slice_set, slice_index, sum, sum_by, Bool, true, false, cond, Option, Some, None, find, filter, Contains, All, nat_lt, ◌==◌, if◌then◌else◌, length-set}
 use Rattle.std.specs.List.{range_with_len}
-use Rattle.std.proofs.lemmas.Nat.{mul-le, mod-mul-add, div-mul-add, div-add-mod', mod_below, le-div}
-use Rattle.std.proofs.lemmas.Bool.{cases_eq, cases_lt, cases_Bool, ltb-true, ne_eqb, eqb-true, le-leb, le-ltb}
+use Rattle.std.proofs.lemmas.Nat.{mul-le}
+use Rattle.std.proofs.lemmas.Bool.{cases_eq, cases_lt, ltb-true, ne_eqb, le-ltb}
 use Rattle.std.proofs.lemmas.List.{get_or_past, set_past, get_or-set_same, get_or-set_other}
 use Rattle.std.proofs.lemmas.List.Folds.{sum_by-replicate}
 use Rattle.std.proofs.lemmas.List.Sums.{sum_by-set, sum_by-cons, length-filter, count_by-le-length, sum_by_push}
-use Rattle.std.proofs.lemmas.Bool.Decides.{nat_tests}
-use Rattle.kalah_rules.specs.Sowing.{own_distance, gain, row_of, lap_length, store_distance, other_distance, sow, last_distance, last_house, sown, after, captured, can_capture, capture, captures, is_again}
-use Rattle.std.proofs.Math.ListN.{length-set}
+use Rattle.kalah_rules.specs.Sowing.{own_distance, gain, row_of, lap_length, store_distance, other_distance, sow, last_distance, last_house, sown, after, captured, capture, is_again}
 use Rattle.std.proofs.lemmas.Grind.{same_number_lists}
 use Rattle.std.proofs.lemmas.List.FromFn.{length-map-range_with_len, get_or-map-range_with_len, length-range_with_len, get_or-range_with_len}
-use Rattle.kalah_rules.specs.Position.{Position, seeds, side_length, seeds_in_houses, is_over, rows_of, bare, HasEqualSides, opposite, swapped, Rows, swept}
+use Rattle.kalah_rules.specs.Position.{Position, seeds, side_length, seeds_in_houses, is_over, rows_of, bare, HasEqualSides, swapped, Rows, swept}
 use Rattle.kalah_rules.specs.Lap.{Cell, Own, Store, Other, distance, IsCellOf, with_seed, lifted, HoldsSeeds}
 use Rattle.std.proofs.lemmas.List.Elements.{filter-append, filter_passes, All-filter, All-contains, Contains-append_left, Contains-append_right, Contains-push}
-use Rattle.kalah_rules.specs.Play.{legal_houses, position_after, step_of, step_to}
+use Rattle.kalah_rules.specs.Play.{legal_houses, position_after, step_to}
 use Rattle.std.proofs.Math.Nat.{mod-eq_of_lt, mul-le-mul_right, pow-succ', pow-le-pow_right}
 use Rattle.kalah_rules.specs.Measure.{row_distance, distance_to_stores, IsNearerEnd, moves_left}
 use mir.Val.{bool_byte}
@@ -31,31 +28,28 @@ pub sum_range_same : (f g : ℕ → ℕ) (a n : ℕ) → ((j : ℕ) → a ≤ j 
     sum_by f (range_with_len a n) ≡ sum_by g (range_with_len a n)
 sum_range_same f g a zero same = refl
 sum_range_same f g a (suc n) same =
-    let rest = sum_range_same f g (a + 1) n (λ j j_low. same j (omega arith)) in
-    omega (arith, sum_by-cons f a (range_with_len (a + 1) n), sum_by-cons g a (range_with_len (a + 1) n), same a (omega arith))
+    let rest = sum_range_same f g (a + 1) n (omega arith) in
+    omega (arith, sum_by-cons)
 
 -- a sum over a range whose term changes at one place
 pub sum_range_change : (f g : ℕ → ℕ) (a n i : ℕ) → a ≤ i → i < a + n →
     ((j : ℕ) → a ≤ j → j ≢ i → f j ≡ g j) →
     sum_by f (range_with_len a n) + g i ≡ sum_by g (range_with_len a n) + f i
-sum_range_change f g a zero i low high same = absurd (omega arith)
+sum_range_change f g a zero i low high same = omega arith
 sum_range_change f g a (suc n) i low high same =
     let f_cons = sum_by-cons f a (range_with_len (a + 1) n) in
     let g_cons = sum_by-cons g a (range_with_len (a + 1) n) in
     elim (cases_eq a i) [
       | inl e ↦
-          let rest = sum_range_same f g (a + 1) n (λ j j_low. same j (omega arith) (omega arith)) in
+          let rest = sum_range_same f g (a + 1) n (omega arith) in
           rw (← e) (omega arith)
       | inr ne ↦
-          let here = same a (omega arith) ne in
-          let rest = sum_range_change f g (a + 1) n i (omega arith) (omega arith) (λ j j_low. same j (omega arith)) in
+          let rest = sum_range_change f g (a + 1) n i (omega arith) (omega arith) (omega arith) in
           omega arith
     ]
 
 pub fall_all : (w w0 c m h : ℕ) → h ≤ m → 0 < c → w + c * (m + 1 - h) ≤ w0 + c * (m - h) → w < w0
-fall_all w w0 c m h high some falls =
-    let next : m + 1 - h ≡ m - h + 1 = omega arith in
-    omega (arith, rw next at falls)
+fall_all w w0 c m h high some falls = grind arith
 
 -- one seed more that comes no farther than d
 pub fall_step : (w w' a b k d e : ℕ) → w + a ≤ b + k * d → w' ≡ w + e → e ≤ d → w' + a ≤ b + (k + 1) * d
@@ -63,10 +57,7 @@ fall_step w w' a b k d e before more near = omega arith
 
 -- a house that is emptied
 pub set_less : (xs : List ℕ) (k : ℕ) → sum (slice_set xs k 0) + slice_index xs k ≡ sum xs
-set_less xs k = elim (cases_lt k (length xs)) [
-  | inl within ↦ sum_by-set (λ x. x) xs k 0 0 within ∙ omega arith
-  | inr past ↦ rw (set_past xs k 0 past, get_or_past xs k 0 past) (omega arith)
-]
+set_less xs k = grind (arith, sum_by-set, set_past, get_or_past)
 
 -- no seed is farther from the store than its row is long
 pub distance_step : (t fx r n x s sxs : ℕ) → t ≡ fx + r → fx ≤ x * n → r ≤ n * s → sxs ≡ x + s → t ≤ n * sxs
@@ -74,20 +65,17 @@ distance_step t fx r n x s sxs whole first rest sum_is = rw sum_is (omega arith)
 
 pub slice_index_more : (x : ℕ) (xs : List ℕ) (a j : ℕ) → a + 1 ≤ j
     → slice_index (x ∷ xs) (j - a) ≡ slice_index xs (j - (a + 1))
-slice_index_more x xs a j low = let e : j - a ≡ suc (j - (a + 1)) = omega arith in rw e refl
+slice_index_more x xs a j low = grind arith
 
 pub distance_range_le : (row : List ℕ) (a n : ℕ) (w : ℕ → ℕ) → ((i : ℕ) → a ≤ i → w i ≤ n)
     → sum_by (λ i. slice_index row (i - a) * w i) (range_with_len a (length row)) ≤ n * sum row
 distance_range_le [] a n w near = zero-le
 distance_range_le (x ∷ xs) a n w near =
-    let f : ℕ → ℕ = λ i. slice_index (x ∷ xs) (i - a) * w i in
-    let g : ℕ → ℕ = λ i. slice_index xs (i - (a + 1)) * w i in
+    let f : ℕ → ℕ = λ i. slice_index (x ∷ xs) _ * w i in
     let start : a - a ≡ 0 = omega arith in
-    let first : f a ≤ x * n = rw start (mul-le x (w a) x n (omega arith) (near a (omega arith))) in
-    let rest = sum_range_same f g (a + 1) (length xs) (λ j j_low. ap (λ k. k * w j) (slice_index_more _ _ _ _ j_low)) in
-    let below : sum_by f (range_with_len (a + 1) (length xs)) ≤ n * sum xs =
-    rw rest (distance_range_le xs (a + 1) n w (λ i low. near i (omega arith))) in
-    distance_step _ (f a) _ n x (sum xs) _ (sum_by-cons f a (range_with_len (a + 1) (length xs))) first below (sum_by-cons (λ y. y) x xs)
+    let rest = sum_range_same f _ _ (length xs) (λ j j_low. ap (λ k. k * w j) (slice_index_more _ _ _ _ j_low)) in
+    distance_step _ _ _ n x _ _ (sum_by-cons f a (range_with_len _ (length xs))) (rw start (mul-le x _ x n (omega arith) (omega arith)))
+    (rw rest (distance_range_le xs _ n w (omega arith))) (sum_by-cons _ x xs)
 
 pub add_rows : (m a b u v : ℕ) → u ≤ m * a → v ≤ m * b → u + v ≤ m * (a + b)
 add_rows m a b u v one two = omega arith
@@ -99,12 +87,12 @@ swap_sums m a b u v = omega arith
 pub lower_by_seeds : (m s s' w w' : ℕ) → s' < s → w' ≤ m * s' → s' * (m * s' + 1) + w' < s * (m * s + 1) + w
 lower_by_seeds m s s' w w' fewer short =
     let grow : m * (s' + 1) + 1 ≤ m * s + 1 = omega (arith, mul-le m (s' + 1) m s (omega arith) (omega arith)) in
-    let whole = mul-le (s' + 1) (m * (s' + 1) + 1) s (m * s + 1) (omega arith) grow in
+    let whole = mul-le (s' + 1) _ s _ (omega arith) grow in
     omega arith
 
 -- houses without seeds
 pub sum-zeros : (n : ℕ) → sum (replicate n 0) ≡ 0
-sum-zeros n = sum_by-replicate (λ x. x) n 0 ∙ omega arith
+sum-zeros n = omega (arith, sum_by-replicate)
 
 -- ==== Distances on a lap, and what one more seed adds
 
@@ -112,55 +100,36 @@ sum-zeros n = sum_by-replicate (λ x. x) n 0 ∙ omega arith
 pub div-mod-suc : (n k : ℕ) → 0 < n →
     ((k % n + 1 < n) × ((k + 1) % n ≡ k % n + 1) × ((k + 1) / n ≡ k / n))
     ⊎ ((k % n + 1 ≡ n) × ((k + 1) % n ≡ 0) × ((k + 1) / n ≡ k / n + 1))
-div-mod-suc n k pos =
-    let whole = div-add-mod' k n in
-    elim (cases_lt (k % n + 1) n) [
-      | inl small ↦
-          let e : k + 1 ≡ k / n * n + (k % n + 1) = omega arith in
-          inl (
-            small,
-            ap (λ x. x % n) e ∙ mod-mul-add (k / n) n (k % n + 1) small,
-            ap (λ x. x / n) e
-                ∙ div-mul-add (k / n) n (k % n + 1) small,
-          )
-      | inr large ↦
-          let full : k % n + 1 ≡ n = omega (arith, mod_below k n pos) in
-          let e : k + 1 ≡ (k / n + 1) * n + 0 = omega arith in
-          inr (full, ap (λ x. x % n) e ∙ mod-mul-add (k / n + 1) n 0 pos, ap (λ x. x / n) e ∙ div-mul-add (k / n + 1) n 0 pos)
-    ]
+div-mod-suc n k pos = grind arith
 
 -- the seed after k seeds goes to the cell at distance k % n + 1, and to no other
 pub gain_more : (n k d : ℕ) → 1 ≤ d → d ≤ n → d ≡ k % n + 1 → gain n (k + 1) d ≡ gain n k d + 1
-gain_more n k d low high here =
-    let pos : 0 < n = omega arith in
-    elim (div-mod-suc n k pos) [ inl f ↦ grind (arith, nat_tests) | inr f ↦ grind (arith, nat_tests) ]
+gain_more n k d low high here = grind arith
 
 pub gain_same : (n k d : ℕ) → 1 ≤ d → d ≤ n → d ≢ k % n + 1 → gain n (k + 1) d ≡ gain n k d
-gain_same n k d low high elsewhere =
-    let pos : 0 < n = omega arith in
-    elim (div-mod-suc n k pos) [ inl f ↦ grind (arith, nat_tests) | inr f ↦ grind (arith, nat_tests) ]
+gain_same n k d low high elsewhere = grind (arith, div-mod-suc)
 
 pub gain_none : (n d : ℕ) → 0 < n → 1 ≤ d → gain n 0 d ≡ 0
-gain_none n d pos low = grind (arith, nat_tests)
+gain_none n d pos low = grind arith
 
 -- own house i at each side of house h
 pub own_distance_past : (m h i : ℕ) → h < i → own_distance m h i ≡ i - h
-own_distance_past m h i past = grind (arith, nat_tests)
+own_distance_past m h i past = grind arith
 
 pub own_distance_back : (m h i : ℕ) → i ≤ h → own_distance m h i ≡ i + (2 * m + 1) - h
-own_distance_back m h i back = grind (arith, nat_tests)
+own_distance_back m h i back = grind arith
 
 -- ==== Rows of houses, house by house
 
 pub same_position : {p q : Position} → p.own ≡ q.own → p.own_store ≡ q.own_store → p.other ≡ q.other →
     p.other_store ≡ q.other_store → p.rule ≡ q.rule → p ≡ q
-same_position a b c d e = λ i. record { own = a i; own_store = b i; other = c i; other_store = d i; rule = e i }
+same_position a b c d e = grind arith
 
 pub length-row_of : (n : ℕ) (f : ℕ → ℕ) → length (row_of n f) ≡ n
 length-row_of n f = length-map-range_with_len f 1 n
 
 pub seeds-row_of : (n : ℕ) (f : ℕ → ℕ) (i : ℕ) → 1 ≤ i → i ≤ n → seeds (row_of n f) i ≡ f i
-seeds-row_of n f i low high = get_or-map-range_with_len f 1 n (i - 1) i 0 (omega arith) (omega arith)
+seeds-row_of n f i low high = grind (arith, get_or-map-range_with_len)
 
 -- two rows with the same seeds in each house
 pub same_rows : (xs ys : List ℕ) → length xs ≡ length ys → ((i : ℕ) → 1 ≤ i → i ≤ length xs → seeds xs i ≡ seeds ys i)
@@ -169,35 +138,33 @@ same_rows xs ys long each = same_number_lists xs ys long (λ k h.
     let low : 1 ≤ k + 1 = omega arith in
     let high : k + 1 ≤ length xs = omega arith in
     let at : k + 1 - 1 ≡ k = omega arith in
-    rw at at (each (k + 1) low high))
+    rw at at (each _ low high))
 
 pub same_as_row : (xs : List ℕ) (n : ℕ) (f : ℕ → ℕ) → length xs ≡ n →
     ((i : ℕ) → 1 ≤ i → i ≤ n → seeds xs i ≡ f i) →
     xs ≡ row_of n f
-same_as_row xs n f long each = same_rows _ _ (long ∙ sym (length-row_of n f)) (λ i low high.
-    let high' : i ≤ n = omega arith in
-    each i low high' ∙ sym (seeds-row_of n f i low high'))
+same_as_row xs n f long each = grind (arith, same_rows, length-row_of, seeds-row_of)
 
 pub seeds-set_same : (xs : List ℕ) (i v : ℕ) → 1 ≤ i → i ≤ length xs → seeds (slice_set xs (i - 1) v) i ≡ v
-seeds-set_same xs i v low high = get_or-set_same xs (i - 1) v 0 (omega arith)
+seeds-set_same xs i v low high = get_or-set_same xs _ v 0 (omega arith)
 
 pub seeds-set_other : (xs : List ℕ) (i j v : ℕ) → 1 ≤ i → 1 ≤ j → j ≢ i → seeds (slice_set xs (i - 1) v) j ≡ seeds xs j
-seeds-set_other xs i j v i_low j_low other = get_or-set_other xs (i - 1) (j - 1) v 0 (λ e. other (omega arith))
+seeds-set_other xs i j v i_low j_low other = grind (arith, get_or-set_other)
 
 pub sum-slice_set : (xs : List ℕ) (i v : ℕ) → 1 ≤ i → i ≤ length xs → sum (slice_set xs (i - 1) v) + seeds xs i ≡ sum xs + v
-sum-slice_set xs i v low high = sum_by-set (λ x. x) xs (i - 1) v 0 (omega arith)
+sum-slice_set xs i v low high = grind (arith, sum_by-set)
 
 pub row_of_same : (n : ℕ) (f g : ℕ → ℕ) → ((j : ℕ) → 1 ≤ j → j ≤ n → g j ≡ f j) → row_of n g ≡ row_of n f
-row_of_same n f g each = same_as_row (row_of n g) n f (length-row_of n g) (λ j low high. seeds-row_of n g j low high ∙ each j low high)
+row_of_same n f g each = same_as_row _ n f (length-row_of n g) (λ j low high. seeds-row_of n g j low high ∙ each j low high)
 
 -- one seed more in house i
 pub row_of_more : (n : ℕ) (f g : ℕ → ℕ) (i : ℕ) → 1 ≤ i → i ≤ n → g i ≡ f i + 1 →
     ((j : ℕ) → 1 ≤ j → j ≤ n → j ≢ i → g j ≡ f j) →
     row_of n g ≡ slice_set (row_of n f) (i - 1) (seeds (row_of n f) i + 1)
 row_of_more n f g i low high here others =
-    let long : i ≤ length (row_of n f) = omega (arith, length-row_of n f) in
-    sym (same_as_row (slice_set (row_of n f) (i - 1) (seeds (row_of n f) i + 1)) n g
-    (length-set (row_of n f) (i - 1) (seeds (row_of n f) i + 1) ∙ length-row_of n f)
+    let long : i ≤ length _ = omega (arith, length-row_of) in
+    sym (same_as_row _ n g
+    (length-set _ _ _ ∙ length-row_of n f)
     (λ j j_low j_high. elim (cases_eq j i) [
       | inl e ↦ rw e (seeds-set_same _ _ _ low long ∙ ap (λ x. x + 1) (seeds-row_of n f i low high)
           ∙ sym here)
@@ -210,20 +177,20 @@ row_of_more n f g i low high here others =
 -- the cell of each distance is one
 module _ (m h : ℕ) (h_low : 1 ≤ h) (h_high : h ≤ m) where
   pub own_distance_low : (i : ℕ) → 1 ≤ i → i ≤ m → 1 ≤ own_distance m h i
-  own_distance_low i low high = grind (arith, nat_tests)
+  own_distance_low i low high = grind arith
 
   pub own_distance_high : (i : ℕ) → 1 ≤ i → i ≤ m → own_distance m h i ≤ lap_length m
-  own_distance_high i low high = grind (arith, nat_tests)
+  own_distance_high i low high = grind arith
 
   pub own_distance_apart : (i j : ℕ) → 1 ≤ i → i ≤ m → 1 ≤ j → j ≤ m → i ≢ j
       → own_distance m h i ≢ own_distance m h j
-  own_distance_apart i j i_low i_high j_low j_high other = grind (arith, nat_tests)
+  own_distance_apart i j i_low i_high j_low j_high other = grind arith
 
   pub own_from_store : (i : ℕ) → 1 ≤ i → i ≤ m → own_distance m h i ≢ store_distance m h
-  own_from_store i low high = grind (arith, nat_tests)
+  own_from_store i low high = grind arith
 
   pub own_from_other : (i j : ℕ) → 1 ≤ i → i ≤ m → 1 ≤ j → j ≤ m → own_distance m h i ≢ other_distance m h j
-  own_from_other i j i_low i_high j_low j_high = grind (arith, nat_tests)
+  own_from_other i j i_low i_high j_low j_high = grind arith
 
 -- the formula of `sow`, over a fixed position and house
 module _ (p : Position) (h : ℕ) (low : 1 ≤ h) (high : h ≤ side_length p) where
@@ -246,19 +213,18 @@ module _ (p : Position) (h : ℕ) (low : 1 ≤ h) (high : h ≤ side_length p) w
   pub sow_none : length p.other ≡ side_length p → sow p h 0 ≡ lifted p h
   unfolding sow
   sow_none same = same_position
-      (sym (same_as_row (slice_set p.own (h - 1) 0) (side_length p) _ (length-set p.own (h - 1) 0) (λ i i_low i_high.
-      let none = gain_none _ _ lap_pos (own_distance_low (side_length p) h low high i i_low i_high) in
+      (sym (same_as_row _ _ _ (length-set p.own _ 0) (λ i i_low i_high.
       elim (cases_eq i h) [
         | inl here ↦
             let empty : seeds (slice_set p.own (h - 1) 0) i ≡ 0 = rw here (seeds-set_same p.own h 0 low high) in
-            grind (arith, nat_tests)
+            grind arith
         | inr there ↦
             let kept = seeds-set_other p.own h i 0 low i_low there in
-            grind (arith, nat_tests)
+            grind arith
       ])))
-      (omega (arith, gain_none (lap_length (side_length p)) (store_distance (side_length p) h) lap_pos store_low))
-      (sym (same_as_row p.other (side_length p) _ same (λ j j_low j_high.
-      omega (arith, gain_none (lap_length (side_length p)) (other_distance (side_length p) h j) lap_pos (other_low j)))))
+      (omega (arith, gain_none))
+      (sym (same_as_row _ _ _ same (λ j j_low j_high.
+      omega (arith, gain_none))))
       refl refl
 
   -- a cell away from the next distance gets nothing
@@ -266,21 +232,18 @@ module _ (p : Position) (h : ℕ) (low : 1 ≤ h) (high : h ≤ side_length p) w
       own_distance (side_length p) h j ≢ d →
       gain (lap_length (side_length p)) (k + 1) (own_distance (side_length p) h j) ≡ gain (lap_length (side_length p)) k
       (own_distance (side_length p) h j)
-  own_kept k d next j j_low j_high ne =
-      gain_same _ _ _ (own_distance_low (side_length p) h low high j j_low j_high)
-      (own_distance_high (side_length p) h low high j j_low j_high)
-      (λ e. ne (e ∙ sym next))
+  own_kept k d next j j_low j_high ne = grind (arith, gain_same)
 
   store_kept : (k d : ℕ) → d ≡ k % lap_length (side_length p) + 1 → store_distance (side_length p) h ≢ d →
       p.own_store + gain (lap_length (side_length p)) (k + 1) (store_distance (side_length p) h)
       ≡ p.own_store + gain (lap_length (side_length p)) k (store_distance (side_length p) h)
-  store_kept k d next ne = ap (λ x. p.own_store + x) (gain_same _ _ _ store_low store_high (λ e. ne (e ∙ sym next)))
+  store_kept k d next ne = omega (arith, gain_same)
 
   other_kept : (k d : ℕ) → d ≡ k % lap_length (side_length p) + 1 → (j : ℕ) → j ≤ side_length p
       → other_distance (side_length p) h j ≢ d →
       gain (lap_length (side_length p)) (k + 1) (other_distance (side_length p) h j)
       ≡ gain (lap_length (side_length p)) k (other_distance (side_length p) h j)
-  other_kept k d next j j_high ne = gain_same _ _ _ (other_low j) (other_high j j_high) (λ e. ne (e ∙ sym next))
+  other_kept k d next j j_high ne = omega (arith, gain_same)
 
   -- one seed more goes to the cell at the next distance
   pub sow_more : (k : ℕ) (cell : Cell) → IsCellOf (side_length p) cell
@@ -288,59 +251,52 @@ module _ (p : Position) (h : ℕ) (low : 1 ≤ h) (high : h ≤ side_length p) w
       sow p h (k + 1) ≡ with_seed (sow p h k) cell
   unfolding sow
   sow_more k (Own i) is_cell next = same_position
-      (row_of_more (side_length p) _ _ i is_cell.0 is_cell.1
-      (omega (
-        arith,
-        gain_more _ k _ (own_distance_low (side_length p) h low high i is_cell.0 is_cell.1)
-            (own_distance_high (side_length p) h low high i is_cell.0 is_cell.1) next,
-      ))
-      (λ j j_low j_high ne. omega (
-        arith,
-        own_kept k _ next j j_low j_high (own_distance_apart (side_length p) h low high j i j_low j_high is_cell.0 is_cell.1 ne),
-      )))
-      (store_kept k _ next (λ e. own_from_store (side_length p) h low high i is_cell.0 is_cell.1 (sym e)))
-      (row_of_same (side_length p) _ _ (λ j j_low j_high. omega
-      (arith, other_kept k _ next j j_high (λ e. own_from_other (side_length p) h low high i j is_cell.0 is_cell.1 j_low j_high (sym e)))))
+      (row_of_more _ _ _ i is_cell.0 is_cell.1
+      (omega (arith, gain_more))
+      (λ j j_low j_high ne. omega
+      (arith, own_kept k _ next j j_low j_high (own_distance_apart _ h low high j i j_low j_high is_cell.0 is_cell.1 ne))))
+      (store_kept k _ next (λ e. own_from_store _ h low high i is_cell.0 is_cell.1 (sym e)))
+      (row_of_same _ _ _ (λ j j_low j_high. omega
+      (arith, other_kept k _ next j j_high (λ e. own_from_other _ h low high i j is_cell.0 is_cell.1 j_low j_high (sym e)))))
       refl refl
   sow_more k Store is_cell next = same_position
-      (row_of_same (side_length p) _ _ (λ j j_low j_high. omega
-      (arith, own_kept k _ next j j_low j_high (own_from_store (side_length p) h low high j j_low j_high))))
-      (omega (arith, gain_more _ k _ store_low store_high next))
-      (row_of_same (side_length p) _ _ (λ j j_low j_high. omega (arith, other_kept k _ next j j_high (omega arith))))
+      (row_of_same _ _ _ (λ j j_low j_high. omega
+      (arith, own_kept k _ next j j_low j_high (own_from_store _ h low high j j_low j_high))))
+      (omega (arith, gain_more))
+      (row_of_same _ _ _ (λ j j_low j_high. omega (arith, other_kept k _ next j j_high (omega arith))))
       refl refl
   sow_more k (Other i) is_cell next = same_position
-      (row_of_same (side_length p) _ _ (λ j j_low j_high. omega
-      (arith, own_kept k _ next j j_low j_high (own_from_other (side_length p) h low high j i j_low j_high is_cell.0 is_cell.1))))
+      (row_of_same _ _ _ (λ j j_low j_high. omega
+      (arith, own_kept k _ next j j_low j_high (own_from_other _ h low high j i j_low j_high is_cell.0 is_cell.1))))
       (store_kept k _ next (omega arith))
-      (row_of_more (side_length p) _ _ i is_cell.0 is_cell.1
-      (omega (arith, gain_more _ k _ (other_low i) (other_high i is_cell.1) next))
-      (λ j j_low j_high ne. omega (arith, other_kept k _ next j j_high (λ e. ne (omega arith)))))
+      (row_of_more _ _ _ i is_cell.0 is_cell.1
+      (omega (arith, gain_more))
+      (λ j j_low j_high ne. omega (arith, other_kept k _ next j j_high (omega arith))))
       refl refl
 
 -- some cell lies at each distance of a lap
 pub cell_at : (m h d : ℕ) → 1 ≤ h → h ≤ m → 1 ≤ d → d ≤ lap_length m → (cell : Cell) × IsCellOf m cell
     × (distance m h cell ≡ d)
-cell_at m h d low high d_low d_high =
-    elim (cases_lt (m + 1 - h) d) [
-      | inr near ↦ elim (cases_eq (m + 1 - h) d) [
-        | inl store ↦ (Store, tt, store)
-        | inr before ↦ (Own (h + d), (omega arith, omega arith), own_distance_past _ _ _ (omega arith) ∙ omega arith)
-      ]
-      | inl past ↦ elim (cases_lt (2 * m + 1 - h) d) [
-        | inr near ↦ (Other (d - (m + 1 - h)), (omega arith, omega arith), omega arith)
-        | inl far ↦ (
-          Own (d - (2 * m + 1 - h)),
-          (omega arith, omega arith),
-          own_distance_back _ _ _ (omega arith)
-              ∙ omega arith,
-        )
-      ]
-    ]
+cell_at m h d low high d_low d_high = elim (cases_lt (m + 1 - h) d) [
+  | inr near ↦ elim (cases_eq _ d) [
+    | inl store ↦ (Store, tt, store)
+    | inr before ↦ (Own (h + d), (omega arith), own_distance_past _ _ _ (omega arith) ∙ omega arith)
+  ]
+  | inl past ↦ elim (cases_lt (2 * m + 1 - h) d) [
+    | inr near ↦ (Other (d - (m + 1 - h)), (omega arith), omega arith)
+    | inl far ↦ (
+      Own (d - (2 * m + 1 - h)),
+      omega arith,
+      own_distance_back _ _ _ (omega arith)
+          ∙ omega arith,
+    )
+  ]
+]
 
 -- sowing keeps the houses of both sides
 pub sow_side : (p : Position) (h k : ℕ) → (side_length (sow p h k) ≡ side_length p) × (length (sow p h k).other ≡ side_length p)
 unfolding sow
-sow_side p h k = (length-row_of (side_length p) _, length-row_of (side_length p) _)
+sow_side p h k = omega (arith, length-row_of)
 
 pub sow_other_store : (p : Position) (h k : ℕ) → (sow p h k).other_store ≡ p.other_store
 unfolding sow
@@ -353,14 +309,9 @@ pub record AddsOne (p q : Position) : Type 0 where
 
 pub with_seed_adds : (p : Position) (cell : Cell) → length p.other ≡ side_length p → IsCellOf (side_length p) cell
     → AddsOne p (with_seed p cell)
-with_seed_adds p (Own i) same is_cell =
-    let e = sum-slice_set p.own i (seeds p.own i + 1) is_cell.0 is_cell.1 in
-    record { houses = omega arith; play = omega arith }
-with_seed_adds p Store same is_cell = record { houses = omega arith; play = omega arith }
-with_seed_adds p (Other j) same is_cell =
-    let high : j ≤ length p.other = omega arith in
-    let e = sum-slice_set p.other j (seeds p.other j + 1) is_cell.0 high in
-    record { houses = omega arith; play = omega arith }
+with_seed_adds p (Own i) same is_cell = omega (arith, sum-slice_set)
+with_seed_adds p Store same is_cell = omega arith
+with_seed_adds p (Other j) same is_cell = omega (arith, sum-slice_set)
 
 -- after k of the c seeds of house h
 pub record HasSown (p : Position) (c k : ℕ) (q : Position) : Type 0 where
@@ -373,36 +324,28 @@ pub sow_adds : (p : Position) (h : ℕ) → 1 ≤ h → h ≤ side_length p → 
     AddsOne (sow p h k) (sow p h (k + 1))
 sow_adds p h low high k (cell, is_cell, next) =
     let side = sow_side p h k in
-    rw (sow_more p h low high k cell is_cell next) (with_seed_adds _ _ (side.1 ∙ sym side.0) (rw side.0 is_cell))
+    rw (sow_more p h low high k _ is_cell next) (with_seed_adds _ _ (omega arith) (rw side.0 is_cell))
 
 -- the cell of the next seed
 pub next_cell : (p : Position) (h : ℕ) → 1 ≤ h → h ≤ side_length p → (k : ℕ) →
     (cell : Cell) × IsCellOf (side_length p) cell × (distance (side_length p) h cell ≡ k % lap_length (side_length p) + 1)
-next_cell p h low high k =
-    let pos : 0 < lap_length (side_length p) = omega arith in
-    cell_at (side_length p) h (k % lap_length (side_length p) + 1) low high (omega arith)
-    (omega (arith, mod_below k (lap_length (side_length p)) pos))
+next_cell p h low high k = grind (arith, cell_at)
 
 pub sow_keeps : (p : Position) (h : ℕ) → 1 ≤ h → h ≤ side_length p → length p.other ≡ side_length p → (k : ℕ) →
     HasSown p (seeds p.own h) k (sow p h k)
-sow_keeps p h low high same zero =
-    let e = sum-slice_set p.own h 0 low high in
-    rw (sow_none p h low high same) (record { houses = omega arith; play = omega arith })
+sow_keeps p h low high same zero = grind (arith, sum-slice_set, sow_none)
 sow_keeps p h low high same (suc k) =
     let before = sow_keeps p h low high same k in
     let adds = sow_adds p h low high k (next_cell p h low high k) in
-    let step : HasSown p (seeds p.own h) (k + 1) (sow p h (k + 1)) = record {
-      houses = omega arith;
-      play = omega arith;
-    } in
+    let step : HasSown p (seeds p.own h) (k + 1) (sow p h (k + 1)) = omega arith in
     rw add-one at step
 
 -- ==== The list of legal moves, and where the last seed falls
 
 -- one number more at the end of a range
 pub range_more : (a n : ℕ) → range_with_len a (n + 1) ≡ range_with_len a n ++ (a + n) ∷ []
-range_more a zero = ap (λ x. x ∷ []) (omega arith)
-range_more a (suc n) = rw (add-one (suc n))
+range_more a zero = grind arith
+range_more a (suc n) = rw (add-one _)
     (ap (λ xs. a ∷ xs) (rw (add-one n) at (range_more (a + 1) n) ∙ ap (λ x. range_with_len (a + 1) n ++ x ∷ []) (omega arith)))
 
 -- the first number of a range that passes
@@ -413,43 +356,35 @@ find_in_range f a (suc n) i low high here before = elim (cases_eq a i) [
   | inl e ↦ rw (e, here) refl
   | inr ne ↦
       let at : a ≤ a = omega arith in
-      let first = before a at (omega arith) in
-      rw first (find_in_range f (a + 1) n i (omega arith) (omega arith) here (λ j j_low j_high. before j (omega arith) j_high))
+      rw (before a at (omega arith)) (find_in_range f (a + 1) n i (omega arith) (omega arith) here (λ j j_low j_high. before j (omega arith) j_high))
 ]
 
 pub find_none : (f : ℕ → Bool) (a n : ℕ) → ((j : ℕ) → a ≤ j → j < a + n → f j ≡ false)
     → find f (range_with_len a n) ≡ None
 find_none f a zero fails = refl
-find_none f a (suc n) fails =
-    let first = fails a (omega arith) (omega arith) in
-    rw first (find_none f (a + 1) n (λ j low high. fails j (omega arith) (omega arith)))
+find_none f a (suc n) fails = rw (fails a (omega arith) (omega arith)) (find_none f (a + 1) n (λ j low high. fails j (omega arith) (omega arith)))
 
 -- the house in which the last seed falls
 pub last_house_own : {p : Position} {h i : ℕ} → HoldsSeeds p h → 1 ≤ i → i ≤ side_length p →
     own_distance (side_length p) h i ≡ last_distance p h → last_house p h ≡ Some i
-last_house_own {p} {h} {i} holds low high at = find_in_range (λ j. own_distance (side_length p) h j == last_distance p h) 1 (side_length p) i low
+last_house_own {p} {h} {i} holds low high at = find_in_range _ 1 _ i low
     (omega arith)
-    (eq-eqb (own_distance (side_length p) h i) (last_distance p h) at)
-    (λ j j_low j_high. ne_eqb (own_distance (side_length p) h j) (last_distance p h) (λ e.
-    let ne : j ≢ i = λ same. omega arith in
-    own_distance_apart (side_length p) h holds.first holds.last j i j_low (omega arith) low high ne (e ∙ sym at)))
+    (eq-eqb _ _ at)
+    (λ j j_low j_high. ne_eqb _ _ (λ e.
+    own_distance_apart _ h holds.first holds.last j i j_low (omega arith) low high (omega arith) (e ∙ sym at)))
 
 pub last_house_store : {p : Position} {h : ℕ} → HoldsSeeds p h → store_distance (side_length p) h ≡ last_distance p h
     → last_house p h ≡ None
-last_house_store {p} {h} holds at = find_none (λ j. own_distance (side_length p) h j == last_distance p h) 1 (side_length p)
-    (λ j j_low j_high. ne_eqb (own_distance (side_length p) h j) (last_distance p h) (λ e.
-    own_from_store (side_length p) h holds.first holds.last j j_low (omega arith) (e ∙ sym at)))
+last_house_store {p} {h} holds at = grind (arith, find_none)
 
 pub last_house_other : {p : Position} {h : ℕ} (i : ℕ) → HoldsSeeds p h → 1 ≤ i → i ≤ side_length p →
     other_distance (side_length p) h i ≡ last_distance p h → last_house p h ≡ None
-last_house_other {p} {h} i holds low high at = find_none (λ j. own_distance (side_length p) h j == last_distance p h) 1 (side_length p)
-    (λ j j_low j_high. ne_eqb (own_distance (side_length p) h j) (last_distance p h) (λ e.
-    own_from_other (side_length p) h holds.first holds.last j i j_low (omega arith) low high (e ∙ sym at)))
+last_house_other {p} {h} i holds low high at = grind (arith, find_none)
 
 -- the position after the move, by the place of the last seed
 pub after_at : (p : Position) (h : ℕ) (o : Option ℕ) → last_house p h ≡ o → captured (sown p h) o ≡ after p h
 unfolding after
-after_at p h o e = ap (λ x. captured (sown p h) x) (sym e)
+after_at p h o e = cc
 
 -- a number of a range that passes is kept
 contains_kept : (b : Bool) (x : ℕ) (xs : List ℕ) (y : ℕ) → Contains xs y → Contains (cond b (x ∷ xs) xs) y
@@ -459,50 +394,39 @@ contains_kept false x xs y has = has
 contains_range : (f : ℕ → Bool) (a n i : ℕ) → a ≤ i → i < a + n → f i ≡ true → Contains (filter f (range_with_len a n)) i
 contains_range f a zero i low high here = absurd (omega arith)
 contains_range f a (suc n) i low high here = elim (cases_eq a i) [
-  | inl e ↦ rw (e, here) (Contains-append_left (i ∷ []) (filter f (range_with_len (i + 1) n)) i (Contains-push [] i))
+  | inl e ↦ rw (e, here) (Contains-append_left (i ∷ []) _ i (Contains-push [] i))
   | inr ne ↦ contains_kept _ _ _ _ (contains_range f (a + 1) n i (omega arith) (omega arith) here)
 ]
 
 all_range : (a n : ℕ) → All (λ i. (a ≤ i) × (i < a + n)) (range_with_len a n)
-all_range a n = λ k d h.
-    let within : k < n = omega (arith, length-range_with_len a n) in
-    rw (get_or-range_with_len a n k d within) (omega arith, omega arith)
+all_range a n = omega (arith, length-range_with_len, get_or-range_with_len)
 
 -- the legal_houses houses hold seeds, and each house with seeds is legal_houses while the game goes on
 pub legal_going : (p : Position) (h : ℕ) → Contains (legal_houses p) h → is_over p ≡ false
-legal_going p h has = elim (cases_Bool (is_over p)) [
-  | inl over ↦ absurd (let none = rw over at has in omega arith)
-  | inr going ↦ going
-]
+legal_going p h has = grind arith
 
 pub legal_holds : (p : Position) (h : ℕ) → Contains (legal_houses p) h → HoldsSeeds p h
 legal_holds p h has =
-    let going = legal_going p h has in
-    let kept = rw going at has in
-    let InSide : ℕ → Type 0 = λ i. (1 ≤ i) × (i < 1 + side_length p) in
-    let seeded : ℕ → Bool = λ i. nat_lt 0 (seeds p.own i) in
-    let houses = range_with_len 1 (side_length p) in
-    let range = All-contains InSide _ h (All-filter seeded InSide houses (all_range 1 (side_length p))) kept in
+    let kept = rw (legal_going p h has) at has in
+    let InSide : ℕ → Type 0 = λ i. 1 ≤ i × i < 1 + side_length p in
+    let seeded : ℕ → _ = λ i. nat_lt 0 _ in
+    let houses = range_with_len 1 _ in
+    let range = All-contains InSide _ h (All-filter _ InSide houses (all_range 1 _)) kept in
     let some = All-contains (λ i. seeded i ≡ true) _ h (filter_passes seeded houses) kept in
-    record { first = range.0; last = omega arith; some = ltb-true 0 (seeds p.own h) some }
+    record { first = range.0; last = omega arith; some = ltb-true 0 _ some }
 
 pub holds_legal : (p : Position) (h : ℕ) → HoldsSeeds p h → is_over p ≡ false → Contains (legal_houses p) h
 holds_legal p h holds going = rw going
-    (contains_range (λ i. nat_lt 0 (seeds p.own i)) 1 (side_length p) h holds.first (omega arith)
-    (lt-ltb 0 (seeds p.own h) holds.some))
+    (contains_range _ 1 (side_length p) h holds.first (omega arith)
+    (lt-ltb 0 _ holds.some))
 
 -- one house more
 pub filter_range_more : (f : ℕ → Bool) (a n j : ℕ) → a + n ≡ j →
     filter f (range_with_len a (n + 1)) ≡ filter f (range_with_len a n) ++ cond (f j) (j ∷ []) []
-filter_range_more f a n j at = rw (range_more a n, at) (filter-append f (range_with_len a n) (j ∷ []))
+filter_range_more f a n j at = rw (range_more a n, at) (filter-append f _ _)
 
 pub length-filter_range : (f : ℕ → Bool) (a n : ℕ) → length (filter f (range_with_len a n)) ≤ n
-length-filter_range f a n = omega (
-  arith,
-  length-filter f (range_with_len a n),
-  count_by-le-length f (range_with_len a n),
-  length-range_with_len a n,
-)
+length-filter_range f a n = omega (arith, length-filter, count_by-le-length, length-range_with_len)
 
 -- ==== Stores do not influence a move
 
@@ -516,29 +440,25 @@ with_more a b p = record p {
 -- sowing keeps what was added
 sow_with_more : (a b : ℕ) (p : Position) (h c : ℕ) → sow (with_more a b p) h c ≡ with_more a b (sow p h c)
 unfolding sow
-sow_with_more a b p h c = same_position refl (omega arith) refl refl refl
+sow_with_more a b p h c = grind arith
 
 -- a capture keeps what was added
 captured_with_more : (a b : ℕ) (q : Position) (o : Option ℕ) → captured (with_more a b q) o ≡ with_more a b (captured q o)
 captured_with_more a b q None = refl
-captured_with_more a b q (Some i) = elim (cases_Bool (can_capture q i)) [
-  | inl taken ↦ rw taken (same_position refl (omega arith) refl refl refl)
-  | inr kept ↦ rw kept refl
-]
+captured_with_more a b q (Some i) = grind arith
 
 -- a move keeps what was added
 pub after_with_more : (a b : ℕ) (p : Position) (h : ℕ) → after (with_more a b p) h ≡ with_more a b (after p h)
 unfolding after
-after_with_more a b p h = ap (λ q. captured q (last_house p h)) (sow_with_more a b p h (seeds p.own h))
-    ∙ captured_with_more a b (sown p h) (last_house p h)
+after_with_more a b p h = grind (arith, sow_with_more)
 
 -- a position is its houses, with what the stores hold added
 pub is_with_more : (p : Position) → p ≡ with_more p.own_store p.other_store (bare (rows_of p))
-is_with_more p = same_position refl (omega arith) refl (omega arith) refl
+is_with_more p = grind arith
 
 -- a move of a position is that of its houses
 pub after_of_rows : (p : Position) (h : ℕ) → after p h ≡ with_more p.own_store p.other_store (after (bare (rows_of p)) h)
-after_of_rows p h = ap (λ q. after q h) (is_with_more p) ∙ after_with_more p.own_store p.other_store (bare (rows_of p)) h
+after_of_rows p h = ap (λ q. after q h) (is_with_more p) ∙ after_with_more _ _ _ h
 
 -- ==== Every move brings the game nearer to its end
 
@@ -547,22 +467,14 @@ pub row_distance-set : (row : List ℕ) (i v : ℕ) → 1 ≤ i → i ≤ length
     row_distance (slice_set row (i - 1) v) + seeds row i * (length row + 1 - i) ≡ row_distance row + v * (length row + 1 - i)
 unfolding row_distance
 row_distance-set row i v low high =
-    let new = slice_set row (i - 1) v in
-    let change = sum_range_change (λ j. seeds new j * (length row + 1 - j)) (λ j. seeds row j * (length row + 1 - j)) 1 (length row) i low
+    let change = sum_range_change _ _ 1 (length row) i low
     (omega arith)
     (λ j j_low ne. ap (λ x. x * (length row + 1 - j)) (seeds-set_other _ _ _ _ low j_low ne)) in
-    let at : seeds new i * (length row + 1 - i) ≡ v * (length row + 1 - i) =
-    ap (λ x. x * (length row + 1 - i)) (seeds-set_same _ _ _ low high) in
-    rw (length-set row (i - 1) v) (change ∙ ap (λ x. row_distance row + x) at)
+    rw (length-set _ _ v) (change ∙ ap (λ x. row_distance row + x) (ap (λ x. x * _) (seeds-set_same _ _ _ low high)))
 
 -- a cell that c seeds reach gets one at least
 gain_some : (n c d : ℕ) → 0 < n → d ≤ c → 1 ≤ gain n c d
-gain_some n c d pos reach = elim (cases_lt c n) [
-  | inl small ↦
-      let rest = mod-eq_of_lt small in
-      rw (rest, le-leb d c reach) (omega arith)
-  | inr large ↦ omega (arith, le-div 1 c n pos (omega arith))
-]
+gain_some n c d pos reach = grind arith
 
 store_gains : (p : Position) (h : ℕ) →
     (sown p h).own_store ≡ p.own_store + gain (lap_length (side_length p)) (seeds p.own h) (store_distance (side_length p) h)
@@ -571,133 +483,97 @@ store_gains p h = refl
 
 pub row_distance-more : (row : List ℕ) (i : ℕ) → 1 ≤ i → i ≤ length row →
     row_distance (slice_set row (i - 1) (seeds row i + 1)) ≡ row_distance row + (length row + 1 - i)
-row_distance-more row i low high = omega (arith, row_distance-set row i (seeds row i + 1) low high)
+row_distance-more row i low high = omega (arith, row_distance-set)
 
 way_with_seed : (q : Position) (i : ℕ) → 1 ≤ i → i ≤ length q.own →
     distance_to_stores (with_seed q (Own i)) ≡ distance_to_stores q + (length q.own + 1 - i)
-way_with_seed q i low high = ap (λ x. x + row_distance q.other) (row_distance-more _ _ low high)
-    ∙ omega arith
+way_with_seed q i low high = omega (arith, row_distance-more)
 
 -- the cell of the next seed, while sowing has not reached the store
 next_house : (m h k : ℕ) → k + 1 + h ≤ m → own_distance m h (h + (k + 1)) ≡ k % lap_length m + 1
-next_house m h k near =
-    let small : k < 2 * m + 1 = omega arith in
-    let later : h < h + (k + 1) = omega arith in
-    rw (own_distance_past m h (h + (k + 1)) later, mod-eq_of_lt small) (omega arith)
+next_house m h k near = grind (arith, mod-eq_of_lt)
 
 -- sowing that does not reach the store brings each seed nearer
 module _ (p : Position) (h : ℕ) (holds : HoldsSeeds p h) (same : length p.other ≡ side_length p) where
   way_more : (k : ℕ) → k + 1 + h ≤ side_length p →
       distance_to_stores (sow p h (k + 1)) ≡ distance_to_stores (sow p h k) + (side_length p + 1 - (h + (k + 1)))
   way_more k near =
-      let side : length (sow p h k).own ≡ side_length p = (sow_side p h k).0 in
-      let low : 1 ≤ h + (k + 1) = omega arith in
-      let high : h + (k + 1) ≤ side_length p = omega arith in
-      let high' : h + (k + 1) ≤ length (sow p h k).own = omega arith in
-      ap distance_to_stores (sow_more p h holds.first holds.last k (Own (h + (k + 1))) (low, high) (next_house (side_length p) h k near))
-      ∙ way_with_seed (sow p h k) (h + (k + 1)) low high'
+      let side = (sow_side p h k).0 in
+      let low : 1 ≤ h + _ = omega arith in
+      let high : h + _ ≤ side_length p = omega arith in
+      let high' : h + _ ≤ length (sow p h k).own = omega arith in
+      ap distance_to_stores (sow_more p h holds.first holds.last k (Own _) (low, high) (next_house _ h k near))
+      ∙ way_with_seed (sow p h k) _ low high'
       ∙ ap (λ x. distance_to_stores (sow p h k) + (x + 1 - (h + (k + 1)))) side
 
   pub way_falls : (k : ℕ) → k + h ≤ side_length p →
       distance_to_stores (sow p h k) + seeds p.own h * (side_length p + 1 - h) ≤ distance_to_stores p + k * (side_length p - h)
-  way_falls zero near =
-      rw (sow_none p h holds.first holds.last same) (omega (arith, row_distance-set p.own h 0 holds.first holds.last))
-  way_falls (suc k) near =
-      rw (← add-one k) (fall_step _ _ _ _ _ _ _ (way_falls k (omega arith))
-      (way_more k (omega arith)) (omega arith))
+  way_falls zero near = grind (arith, sow_none, row_distance-set)
+  way_falls (suc k) near = rw (← add-one k) (fall_step _ _ _ _ _ _ _ (way_falls k (omega arith))
+      (way_more k (omega arith)) omega arith)
 
   -- all seeds fall before the store
   pub way_falls_all : seeds p.own h + h ≤ side_length p → distance_to_stores (sown p h) < distance_to_stores p
-  way_falls_all near = fall_all _ _ _ _ _ holds.last
-      (holds.some)
-      (way_falls (seeds p.own h) near)
+  way_falls_all near = grind (arith, way_falls)
 
   -- a seed that reaches the store leaves fewer in houses
   pub houses_fall : side_length p < seeds p.own h + h → seeds_in_houses (sown p h) < seeds_in_houses p
-  houses_fall far =
-      let keeps = sow_keeps p h holds.first holds.last same (seeds p.own h) in
-      let some = gain_some (lap_length (side_length p)) (seeds p.own h) (store_distance (side_length p) h) (omega arith) (omega arith) in
-      omega (arith, store_gains p h)
+  houses_fall far = grind (arith, sow_keeps, store_gains)
 
 captures_fall : (q : Position) (i : ℕ) → seeds q.own i ≡ 1 → seeds_in_houses (capture q i) < seeds_in_houses q
-captures_fall q i one = omega (arith, set_less q.own (i - 1), set_less q.other (opposite q i - 1))
+captures_fall q i one = omega (arith, set_less)
 
 -- a capture leaves fewer seeds in houses
 captured_falls : (q : Position) (o : Option ℕ) → (seeds_in_houses (captured q o) < seeds_in_houses q) ⊎ (captured q o ≡ q)
 captured_falls q None = inr refl
-captured_falls q (Some i) = elim (cases_Bool (seeds q.own i == 1)) [
-  | inl one ↦ elim (cases_Bool (captures q.rule (seeds q.other (opposite q i)))) [
-    | inl some ↦ inl (rw (one, some) (captures_fall q i (eqb-true (seeds q.own i) 1 one)))
-    | inr none ↦ inr (rw (one, none) refl)
-  ]
-  | inr more ↦ inr (rw more refl)
-]
+captured_falls q (Some i) = grind (arith, captures_fall)
 
 sown_nearer : (p : Position) (h : ℕ) → HoldsSeeds p h → length p.other ≡ side_length p → IsNearerEnd (sown p h) p
-sown_nearer p h holds same = elim (cases_lt (side_length p) (seeds p.own h + h)) [
-  | inl far ↦ inl (houses_fall p h holds same far)
-  | inr near ↦
-      let keeps = sow_keeps p h holds.first holds.last same (seeds p.own h) in
-      let fewer : seeds_in_houses (sown p h) ≤ seeds_in_houses p = omega arith in
-      elim (cases_lt (seeds_in_houses (sown p h)) (seeds_in_houses p)) [
-        | inl less ↦ inl less
-        | inr not_less ↦ inr (omega arith, way_falls_all p h holds same near)
-      ]
-]
+sown_nearer p h holds same = grind (arith, houses_fall, sow_keeps, way_falls_all)
 
 nearer_by : (p q r : Position) → IsNearerEnd q p → (seeds_in_houses r < seeds_in_houses q) ⊎ (r ≡ q) → IsNearerEnd r p
-nearer_by p q r (inl less) (inl falls) = inl (omega arith)
-nearer_by p q r (inr near) (inl falls) = inl (omega arith)
+nearer_by p q r (inl less) (inl falls) = inl omega arith
+nearer_by p q r (inr near) (inl falls) = inl omega arith
 nearer_by p q r nearer (inr same) = rw same nearer
 
 -- every move
 pub after_nearer : (p : Position) (h : ℕ) → HoldsSeeds p h → HasEqualSides p → IsNearerEnd (after p h) p
 unfolding after
-after_nearer p h holds even = nearer_by p (sown p h) _ (sown_nearer p h holds even.same) (captured_falls (sown p h) (last_house p h))
+after_nearer p h holds even = grind (arith, sown_nearer, captured_falls)
 
 capture_side : (q : Position) (o : Option ℕ) → (side_length (captured q o) ≡ side_length q)
     × (length (captured q o).other ≡ length q.other)
-capture_side q None = (refl, refl)
-capture_side q (Some i) = elim (cases_Bool (can_capture q i)) [
-  | inl taken ↦ rw taken (length-set q.own (i - 1) 0, length-set q.other (opposite q i - 1) 0)
-  | inr kept ↦ rw kept (refl, refl)
-]
+capture_side q None = omega arith
+capture_side q (Some i) = grind (arith, length-set)
 
 -- a move keeps the houses of both sides
 pub after_side : (p : Position) (h : ℕ) → side_length (after p h) ≡ side_length p
 unfolding after
-after_side p h = (capture_side (sown p h) (last_house p h)).0 ∙ (sow_side p h (seeds p.own h)).0
+after_side p h = omega (arith, capture_side, sow_side)
 
 pub after_equal_sides : (p : Position) (h : ℕ) → HasEqualSides (after p h)
 unfolding after
-after_equal_sides p h =
-    let kept = capture_side (sown p h) (last_house p h) in
-    let side = sow_side p h (seeds p.own h) in
-    record { same = kept.1 ∙ side.1 ∙ sym side.0 ∙ sym kept.0 }
+after_equal_sides p h = omega (arith, capture_side, sow_side)
 
 pub row_distance_le : (row : List ℕ) → row_distance row ≤ length row * sum row
 unfolding row_distance
-row_distance_le houses = distance_range_le houses 1 (length houses) (λ i. length houses + 1 - i) (λ i low. omega arith)
+row_distance_le houses = distance_range_le houses 1 _ _ (omega arith)
 
 distance_below : (p : Position) → HasEqualSides p → distance_to_stores p ≤ side_length p * seeds_in_houses p
-distance_below p even =
-    let other = rw even.same at (row_distance_le p.other) in
-    add_rows (side_length p) (sum p.own) (sum p.other) (row_distance p.own) (row_distance p.other) (row_distance_le p.own) other
+distance_below p even = grind (arith, row_distance_le)
 
 pub moves_left_falls : (p q : Position) → HasEqualSides q → side_length q ≡ side_length p → IsNearerEnd q p
     → moves_left q < moves_left p
-moves_left_falls p q even side (inl fewer) =
-    rw side (lower_by_seeds _ _ _ _ _ fewer
-    (rw side at (distance_below _ even)))
-moves_left_falls p q even side (inr near) =
-    rw (side, near.0) (omega arith)
+moves_left_falls p q even side (inl fewer) = rw side (lower_by_seeds _ _ _ _ _ fewer
+    rw side at (distance_below _ even))
+moves_left_falls p q even side (inr near) = grind arith
 
 -- the next position has fewer moves left, with either player to move
 pub after_fewer : (p : Position) (h : ℕ) → HoldsSeeds p h → HasEqualSides p → moves_left (after p h) < moves_left p
-after_fewer p h holds even = moves_left_falls p (after p h) (after_equal_sides p h) (after_side p h) (after_nearer p h holds even)
+after_fewer p h holds even = moves_left_falls p _ (after_equal_sides p h) (after_side p h) (after_nearer p h holds even)
 
 pub swap_fewer : (p : Position) → HasEqualSides p → moves_left (swapped p) ≡ moves_left p
-swap_fewer p even = rw even.same (swap_sums (side_length p) (sum p.own) (sum p.other) (row_distance p.own) (row_distance p.other))
+swap_fewer p even = grind arith
 
 -- ==== The ways to play on: stores do not influence them, and how they are summed up
 
@@ -711,7 +587,7 @@ unfolding ways
 ways_suc n p = refl
 
 pub ways_more : (n : ℕ) (p : Position) → ways (n + 1) p ≡ sum_by (ways_by n p) (legal_houses p)
-ways_more n p = rw (add-one n) (ways_suc n p)
+ways_more n p = simp (add-one, ways_suc)
 
 -- a game that is over has no further way
 pub ways_over : (n : ℕ) (p : Position) → is_over p ≡ true → ways (n + 1) p ≡ 0
@@ -719,30 +595,28 @@ ways_over n p over = ways_more n p ∙ rw over refl
 
 -- the same sum, of numbers that are the same
 sum_same : (f g : ℕ → ℕ) (xs : List ℕ) → ((x : ℕ) → f x ≡ g x) → sum_by f xs ≡ sum_by g xs
-sum_same f g xs same = ap (λ (k : ℕ → ℕ). sum_by k xs) (λ i x. same x i)
+sum_same f g xs same = grind arith
 
 -- ---- stores
 -- what was added stays after a step
 step_with_more : (n a b : ℕ) (q : Position) (over again : Bool) → is_over q ≡ over →
     ((c d : ℕ) (p : Position) → ways n (with_more c d p) ≡ ways n p) →
     ways n (position_after (step_to (with_more a b q) again)) ≡ ways n (position_after (step_to q again))
-step_with_more n a b q true again is same =
-    rw is (ap (ways n) (same_position refl (omega arith) refl (omega arith) refl) ∙ same a b (swept q))
+step_with_more n a b q true again is same = rw is (ap (ways n) (same_position refl (omega arith) refl (omega arith) refl) ∙ same a b _)
 step_with_more n a b q false true is same = rw is (same a b q)
-step_with_more n a b q false false is same = rw is (same b a (swapped q))
+step_with_more n a b q false false is same = rw is (same b a _)
 
 ways_with_more : (n a b : ℕ) (p : Position) → ways n (with_more a b p) ≡ ways n p
-ways_with_more zero a b p = ways_none (with_more a b p) ∙ sym (ways_none p)
-ways_with_more (suc n) a b p =
-    ways_suc n (with_more a b p)
-    ∙ sum_same (ways_by n (with_more a b p)) (ways_by n p) (legal_houses p)
+ways_with_more zero a b p = simp (ways_none)
+ways_with_more (suc n) a b p = ways_suc n _
+    ∙ sum_same _ _ (legal_houses p)
     (λ h. ap (λ (q : Position). ways n (position_after (step_to q (is_again p h)))) (after_with_more a b p h)
-    ∙ step_with_more n a b (after p h) (is_over (after p h)) (is_again p h) refl (ways_with_more n))
+    ∙ step_with_more n a b (after p h) _ _ refl (ways_with_more n))
     ∙ sym (ways_suc n p)
 
 -- the ways of a position are those of its houses
 pub ways_of_rows : (n : ℕ) (p : Position) → ways n p ≡ ways n (bare (rows_of p))
-ways_of_rows n p = ap (ways n) (is_with_more p) ∙ ways_with_more n p.own_store p.other_store (bare (rows_of p))
+ways_of_rows n p = ap (ways n) (is_with_more p) ∙ ways_with_more n _ _ _
 
 -- ---- steps on houses
 -- the ways after a step
@@ -757,52 +631,43 @@ one_if true = refl
 one_if false = refl
 
 ways_swept : (n : ℕ) (q : Position) → ways n (swept q) ≡ (if n == 0 then 1 else 0)
-ways_swept zero q = ways_none (swept q)
-ways_swept (suc n) q =
-    let over : is_over (swept q) ≡ true = rw (sum-zeros (side_length q)) refl in
-    let more : (suc n == 0) ≡ false = grind (arith, nat_tests) in
-    ways_suc n (swept q) ∙ rw (over, more) refl
+ways_swept zero q = ways_none _
+ways_swept (suc n) q = grind (arith, sum-zeros, ways_suc)
 
 ways_step_to : (n : ℕ) (q : Position) (over again : Bool) → is_over q ≡ over →
     ways n (position_after (step_to q again)) ≡ ways_from n (houses_step_to q again)
 ways_step_to n q true again is = rw is (ways_swept n q)
 ways_step_to n q false true is = rw is (ways_of_rows n q)
-ways_step_to n q false false is = rw is (ways_of_rows n (swapped q))
+ways_step_to n q false false is = rw is (ways_of_rows n _)
 
 -- the ways after a move are those after the step of the houses
 pub ways_by_step : (n : ℕ) (a : Rows) (h : ℕ) (s t : HousesStep) → t ≡ houses_step a h → t ≡ s
     → ways_from n s ≡ ways_by n (bare a) h
-ways_by_step n a h s t is to =
-    ap (ways_from n) (sym to ∙ is)
-    ∙ sym (ways_step_to n (after (bare a) h) (is_over (after (bare a) h)) (is_again (bare a) h) refl)
+ways_by_step n a h s t is to = grind (arith, ways_step_to)
 
 -- the ways after a move of a position are those of its houses
 pub ways_by_of_rows : (n : ℕ) (p : Position) (h : ℕ) → ways_by n (bare (rows_of p)) h ≡ ways_by n p h
 ways_by_of_rows n p h =
     let a = p.own_store in
     let b = p.other_store in
-    let q = bare (rows_of p) in
+    let q = bare _ in
     sym (ap (λ (o : Position). ways_by n o h) (is_with_more p)
     ∙ ap (λ (o : Position). ways n (position_after (step_to o (is_again q h)))) (after_with_more a b q h)
-    ∙ step_with_more n a b (after q h) (is_over (after q h)) (is_again q h) refl (ways_with_more n))
+    ∙ step_with_more n a b (after q h) _ _ refl (ways_with_more n))
 
 -- ---- how many there are
 pub legal_few : (p : Position) → length (legal_houses p) ≤ side_length p
-legal_few p = elim (cases_Bool (is_over p)) [
-  | inl over ↦ rw over (omega arith)
-  | inr going ↦ rw going (length-filter_range _ 1 (side_length p))
-]
+legal_few p = grind (arith, length-filter_range)
 
 sum_ones : (xs : List ℕ) → sum_by (λ x. 1) xs ≡ length xs
 sum_ones [] = refl
-sum_ones (x ∷ xs) = omega (arith, sum_by-cons (λ y. 1) x xs, sum_ones xs)
+sum_ones (x ∷ xs) = omega (arith, sum_by-cons, sum_ones xs)
 
 -- with one move there are as many ways as legal moves
 pub ways_one : (p : Position) → ways 1 p ≡ length (legal_houses p)
-ways_one p =
-    ways_suc zero p
-    ∙ sum_same (ways_by zero p) (λ h. 1) (legal_houses p) (λ h. ways_none (position_after (step_of p h)))
-    ∙ sum_ones (legal_houses p)
+ways_one p = ways_suc zero p
+    ∙ sum_same _ _ (legal_houses p) (λ h. ways_none _)
+    ∙ sum_ones _
 
 -- ---- house by house
 -- the houses before house h that hold seeds
@@ -811,29 +676,25 @@ seeded_before row h = filter (λ i. nat_lt 0 (seeds row i)) (range_with_len 1 (h
 
 seeded_next : (row : List ℕ) (h : ℕ) → 1 ≤ h → seeded_before row (h + 1) ≡ filter (λ i. nat_lt 0 (seeds row i))
     (range_with_len 1 (h - 1 + 1))
-seeded_next row h low = ap (λ n. filter (λ i. nat_lt 0 (seeds row i)) (range_with_len 1 n)) (omega arith)
+seeded_next row h low = grind arith
 
 pub seeded_more : (row : List ℕ) (h : ℕ) → 1 ≤ h → 0 < seeds row h
     → seeded_before row (h + 1) ≡ seeded_before row h ++ h ∷ []
-seeded_more row h low some =
-    seeded_next row h low
-    ∙ filter_range_more (λ i. nat_lt 0 (seeds row i)) 1 (h - 1) h (omega arith)
+seeded_more row h low some = seeded_next row h low
+    ∙ filter_range_more _ 1 (h - 1) h (omega arith)
     ∙ rw (lt-ltb _ _ some) refl
 
 pub seeded_same : (row : List ℕ) (h : ℕ) → 1 ≤ h → seeds row h ≤ 0 → seeded_before row (h + 1) ≡ seeded_before row h
-seeded_same row h low none =
-    seeded_next row h low
-    ∙ filter_range_more (λ i. nat_lt 0 (seeds row i)) 1 (h - 1) h (omega arith)
+seeded_same row h low none = seeded_next row h low
+    ∙ filter_range_more _ 1 (h - 1) h (omega arith)
     ∙ rw (le-ltb _ _ none) (append-nil _)
 
 pub seeded_few : (row : List ℕ) (h : ℕ) → length (seeded_before row h) ≤ h - 1
-seeded_few row h = length-filter_range (λ i. nat_lt 0 (seeds row i)) 1 (h - 1)
+seeded_few row h = length-filter_range _ 1 _
 
 -- while the game goes on, all of them are the legal moves
 pub seeded_legal : (p : Position) (h : ℕ) → is_over p ≡ false → h ≡ side_length p + 1 → seeded_before p.own h ≡ legal_houses p
-seeded_legal p h going end =
-    let last : h - 1 ≡ side_length p = omega arith in
-    rw (last, going) refl
+seeded_legal p h going end = grind arith
 
 -- ---- one house more
 -- the ways after the moves of the houses before house h, for n moves more, at most 6 for each of these moves
@@ -845,33 +706,24 @@ pub record AreWaysBefore (n : ℕ) (p : Position) (h : ℕ) (total : ℕ) : Type
 pub six_more : (n h : ℕ) → 1 ≤ h → (h + 1 - 1) * most_houses ^ n ≡ (h - 1) * most_houses ^ n + most_houses ^ n
 six_more n h low =
     let suc_of : h + 1 - 1 ≡ suc (h - 1) = omega arith in
-    rw suc_of (omega arith)
+    rw suc_of omega arith
 
 pub before_none : (n : ℕ) (p : Position) → AreWaysBefore n p 1 0
-before_none n p = record { sum = refl; small = omega arith }
+before_none n p = omega arith
 
 pub before_more : {n : ℕ} {p : Position} {h total : ℕ} (count : ℕ) → AreWaysBefore n p h total → 1 ≤ h → 0 < seeds p.own h →
     count ≡ ways_by n p h → count ≤ most_houses ^ n → AreWaysBefore n p (h + 1) (total + count)
-before_more {n} {p} {h} count before low some is few =
-    let sum = sum_by_push (ways_by n p) (seeded_before p.own h) h in
-    record {
-      sum = rw (seeded_more p.own h low some) (omega (arith, sum));
-      small = omega (arith, six_more n h low);
-    }
+before_more {n} {p} {h} count before low some is few = grind (arith, sum_by_push, seeded_more, six_more)
 
 pub before_same : {n : ℕ} {p : Position} {h total : ℕ} → AreWaysBefore n p h total → 1 ≤ h → seeds p.own h ≤ 0
     → AreWaysBefore n p (h + 1) total
-before_same {n} {p} {h} before low none = record {
-  sum = rw (seeded_same p.own h low none) before.sum;
-  small = omega (arith, six_more n h low);
-}
+before_same {n} {p} {h} before low none = grind (arith, seeded_same)
 
 -- after the last house they are all ways
 pub before_all : {n : ℕ} {p : Position} {h total : ℕ} → AreWaysBefore n p h total → is_over p ≡ false
     → h ≡ side_length p + 1 →
     total ≡ ways (n + 1) p
-before_all {n} {p} {h} before going end =
-    before.sum ∙ ap (sum_by (ways_by n p)) (seeded_legal p h going end) ∙ sym (ways_more n p)
+before_all {n} {p} {h} before going end = grind (arith, ways_more)
 
 -- a sum of at most six powers of six is at most the next one
 pub before_small : {n : ℕ} {p : Position} {h total : ℕ} → AreWaysBefore n p h total → h ≤ 7 → total ≤ most_houses ^ (n + 1)
@@ -883,7 +735,4 @@ before_small {n} {p} {h} before few =
 
 -- which fits into 64 bits, for less than 20 moves
 pub power_fits : (n : ℕ) → n < most_depth → most_houses ^ (n + 1) ≤ 6 ^ 20
-power_fits n below =
-    let pos : 0 < 6 = omega arith in
-    let le : n + 1 ≤ 20 = omega arith in
-    pow-le-pow_right pos le
+power_fits n below = grind (arith, pow-le-pow_right)

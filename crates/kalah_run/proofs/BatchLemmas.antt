@@ -1,57 +1,56 @@
 -- A batch: what its workers send, what is written of it, and what is known when it has ended.
-use Rattle.std.proofs.Common.{◌≡◌, ◌≤◌, ◌<◌, ◌+◌, ◌-◌, ℕ, suc, List, [], ◌∷◌, ◌++◌, arith, sym, ap, ◌∙◌, Bool, true, false, refl, ⊎_elim, length, get_or, take, drop, append_assoc, subst, zero, map, ◌≢◌, ◌==◌, if◌then◌else◌, ne_eqb, ◌⊎◌, inl, inr}
-use Rattle.std.proofs.lemmas.List.{map-append, append-nil, get_or_past, take-append-drop, take_all, take_more, flat_map_more, get_or-map, length-append, length-map}
+use Rattle.std.proofs.Common.{add-one, IfErr, ◌≡◌, ◌≤◌, ◌<◌, ◌+◌, ◌-◌, ℕ, suc, List, [], ◌∷◌, ◌++◌, arith, sym, ap, ◌∙◌, Bool, true, false, refl, ⊎_elim, length, get_or, take, drop, append_assoc, subst, zero, map, reverse, ◌≢◌, ◌==◌, if◌then◌else◌, ne_eqb, ◌⊎◌, inl, inr}
+use Rattle.std.proofs.lemmas.List.{nil_from_length, map-append, reverse-append, append-nil, take-append-drop, take_all, take_more, flat_map_more, get_or-map, length-append, length-map}
 use Rattle.kalah_jobs.specs.declared.files.entry.Entry.{Entry}
 use Rattle.kalah_jobs.specs.declared.files.job.Job.{Job}
 use Rattle.std.specs.Prelude.{◌⊎◌, All, Some, fold, slice_get, Option, None, Result, Ok, Err, sum_by, IsErr, OnOk, count_by, ◌↔◌, IfOk}
 use Rattle.std.proofs.lemmas.List.Sums.{fold-append, sum_by-cons}
 use Rattle.std.proofs.lemmas.Option.{get_or_from_slice_get, slice_get_within}
-use Rattle.kalah_jobs.specs.Files.JobList.{job_list, line_job, entries_of, entry_at}
+use Rattle.kalah_jobs.specs.Files.JobList.{job_list, jobs_from, file_jobs, line_job, entries_of, entry_at}
 use Rattle.kalah_jobs.specs.declared.files.entry.Entry.TheVariants.{Bad}
 use Rattle.kalah_jobs.specs.declared.line.line_fault.LineFault.TheVariants.{Empty}
 use Rattle.kalah_jobs.specs.Collecting.Batch.{job, AreJobsInSomeOrder}
 use Rattle.kalah_run.specs.declared.desk.rule.DrawnRow.{DrawnRow}
 use Rattle.kalah_run.specs.Batch.AtWork.{drawn_jobs, passes_of, puts_of, AreAtWork, HaveRun}
 use Rattle.std.specs.Io.KnownBytes.{Appends, Keeps}
+use Rattle.std.proofs.Math.Seq.{take-nil}
 use Rattle.std.proofs.KnownBytes.{Appends-kept, Appends-nil, Appends-trans}
 use Rattle.kalah_jobs.specs.Writing.Given.{AppendsStart}
-use Rattle.kalah_jobs.proofs.WritingLemmas.Starts.{start_none, start_then, start_longer, start_kept}
-use Rattle.kalah_run.specs.Batch.UnderWay.{WasGivenSince, written_upto, IsUnderWay, IsLeft}
+use Rattle.kalah_jobs.proofs.WritingLemmas.{start_none, start_then, start_longer, start_kept, files_are_their_jobs}
+use Rattle.kalah_run.specs.Batch.UnderWay.{WasGivenSince, text_of_job, written_upto, IsUnderWay, IsLeft}
 use Rattle.std.specs.List.{flat_map, enumerate_from}
 use Rattle.std.proofs.lemmas.Bool.{cases_eq, cases_lt, lt-ltb}
 use Rattle.std.proofs.lemmas.Grind.{flat_map-append}
-use Rattle.std.proofs.lemmas.List.FromFn.{length-enumerate_from}
 use Rattle.kalah_jobs.specs.declared.writing.answer.Taken.{Taken}
 use Rattle.kalah_jobs.specs.declared.collecting.refusal.Refusal.{Refusal}
 use Rattle.kalah_jobs.specs.Writing.Answer.{answer_line}
 use Rattle.kalah_jobs.specs.Collecting.CollectorState.{FileState, state_of, front, HasEnded, with_one_taken, new_files, after_take}
 use Rattle.kalah_jobs.specs.Collecting.CollectorEvents.{Offers, Takes, answered_line}
 use Rattle.kalah_jobs.specs.Writing.Output.{text_of_line, text_of_file, text_of_jobs, answer_text_of, output_to, output_of_jobs, names_of, tally_of, LineCounts, is_faulty_job}
-use Rattle.kalah_jobs.proofs.CollectingLemmas.{state_same, state_other, files_many, lines_are, numbered_at, numbered_is, start, taken_is, new_taken, fronts_full, shares_law, as_many_as_numbers, kept_by_offer, kept_by_take}
+use Rattle.kalah_jobs.proofs.CollectingLemmas.{state_same, state_other, files_many, lines_are, start, taken_is, new_taken, fronts_full, shares_law, as_many_as_numbers, kept_by_offer, kept_by_take}
 use Rattle.kalah_jobs.specs.Collecting.Held.{Kept}
 use Rattle.kalah_jobs.specs.Files.Lines.{line_feed}
 use Rattle.kalah_jobs.specs.Files.NamedBytes.{NamedBytes}
 use Rattle.kalah_run.specs.declared.batch.ordered_output.OrderedOutput.{OrderedOutput}
-use Rattle.kalah_run.specs.Batch.OrderedOutput.{text_of, IsNew, HasWritten, whole_output, outcomes_in, Waits}
-use Rattle.std.proofs.lemmas.List.Elements.{All-push, All-map}
+use Rattle.kalah_run.specs.Batch.OrderedOutput.{text_of, IsNew, HasWritten, whole_output, Waits}
+use Rattle.std.proofs.lemmas.List.Elements.{All-cons, All-map}
 use Rattle.kalah_run.specs.Queue.States.{PutState, ArePassesFrom, sent_by}
 use Rattle.kalah_run.specs.Desk.States.{PassState, IsPassAt, AreNewPasses, new_pass, drawn_rows}
 use Rattle.kalah_run.specs.declared.batch.worker.Worker.{Worker}
 use Rattle.kalah_run.specs.Batch.Running.{HasOwnTable, HaveOwnTables}
 use Rattle.atomic_table.specs.Seated.{TableId}
 use Rattle.kalah_jobs.specs.Files.Jobs.{job_count, jobs_to, lines_in_all}
-use Rattle.kalah_jobs.proofs.FilesLemmas.{length-job_list, job_count-jobs_to}
+use Rattle.kalah_jobs.proofs.FilesLemmas.{length-job_list, job_count-jobs_to, lines_between, slice_get-job_list}
 use Rattle.kalah_jobs.specs.Collecting.Shares.{AreShared, times_in}
 use Rattle.kalah_run.specs.Desk.Rows.{drawn_numbers, DealsEachOnce, spent_in}
-use Rattle.kalah_run.specs.Queue.Lists.{Accounts}
+use Rattle.kalah_run.specs.Queue.Lists.{Accounts, outcomes_in}
 use Rattle.kalah_run.specs.declared.batch.shared_work.SharedWork.{SharedWork}
 use Rattle.kalah_run.proofs.DeskLemmas.{length-drawn_numbers}
 use Rattle.kalah_run.specs.declared.batch.request.Rest.{Rest}
 use Rattle.kalah_run.specs.declared.batch.request.Rest.TheVariants.{Solve}
 use Rattle.kalah_jobs.specs.declared.files.question.Question.{Question}
-use Rattle.kalah_jobs.proofs.WritingLemmas.JobOutput.{files_are_their_jobs}
 use Rattle.kalah_jobs.specs.Limits.{most_files, most_lines}
-use Rattle.kalah_run.specs.Batch.Answering.{AnswersBatch}
+use Rattle.kalah_run.specs.Batch.Answering.{AnswersBatch, counts_of}
 use Rattle.kalah_jobs.specs.declared.files.jobs.JobsFault.TheVariants as jobs_fault
 use Rattle.kalah_run.specs.Batch.NoLine.{AnswersNothing}
 use Rattle.kalah_run.specs.declared.batch.run_fault.RunFault.{RunFault}
@@ -64,23 +63,10 @@ job_at : (jobs : List (List Entry)) (n : ℕ) (o : Job) → slice_get (job_list 
 job_at jobs n o at = get_or_from_slice_get (job_list jobs) n o (line_job 0 0 (Bad Empty)) at
 
 -- the outcome of the job that was drawn stands after those of the row so far
-pub drawn_jobs-more : (jobs : List (List Entry)) (row row' : DrawnRow) (n : ℕ) (o : Job) (sent sent' : List Job) →
-    sent ≡ drawn_jobs jobs row.numbers → row'.numbers ≡ row.numbers ++ n ∷ [] → slice_get (job_list jobs) n ≡ Some o
-    → sent' ≡ sent ++ o ∷ [] →
-    sent' ≡ drawn_jobs jobs row'.numbers
-unfolding drawn_jobs
-drawn_jobs-more jobs row row' n o sent sent' so_far drawn is more =
-    more
-    ∙ ap (λ x. x ++ o ∷ []) so_far
-    ∙ ap (λ x. drawn_jobs jobs row.numbers ++ x ∷ []) (sym (job_at jobs n o is))
-    ∙ sym (map-append (job jobs) row.numbers (n ∷ []))
-    ∙ ap (λ x. drawn_jobs jobs x) (sym drawn)
-
--- nothing is drawn and nothing sent
-pub drawn_jobs-none : (jobs : List (List Entry)) (numbers : List ℕ) (sent : List Job) → numbers ≡ [] → sent ≡ []
-    → sent ≡ drawn_jobs jobs numbers
-unfolding drawn_jobs
-drawn_jobs-none jobs numbers sent none nothing = nothing ∙ sym (ap (λ x. drawn_jobs jobs x) none)
+pub drawn_jobs-more : (jobs : List (List Entry)) (numbers : List ℕ) (n : ℕ) (o : Job) → slice_get (job_list jobs) n ≡ Some o
+    → drawn_jobs jobs (numbers ++ n ∷ []) ≡ drawn_jobs jobs numbers ++ o ∷ []
+drawn_jobs-more jobs numbers n o is =
+    map-append (job jobs) numbers (n ∷ []) ∙ ap (λ x. drawn_jobs jobs numbers ++ x ∷ []) (job_at jobs n o is)
 
 -- one above the last number of a row, and 0 for an empty row: it grows with each draw, so the total bounds the draws of a loop
 abbrev pub least_above : List ℕ → ℕ
@@ -138,95 +124,59 @@ given_kept begun out more failed fails bs given keeps was_sound = record {
 
 -- what is written, line by line and file by file
 module _ (text : ℕ → Taken → List ℕ) (jobs : List (List Entry)) where
+  texts_of_lines : (f n : ℕ) (own : List Entry)
+      → flat_map (text_of_job text) (file_jobs f n own) ≡ flat_map (text_of_line text f) (enumerate_from n own)
+  texts_of_lines f n [] = refl
+  texts_of_lines f n (e ∷ own) = rw add-one (ap (λ l. text_of_line text f (n, e) ++ l) (texts_of_lines f (suc n) own))
+
+  texts_from : (f : ℕ) (files : List (List Entry))
+      → flat_map (text_of_job text) (jobs_from f files) ≡ flat_map (text_of_file text) (enumerate_from f files)
+  texts_from f [] = refl
+  texts_from f (own ∷ files) =
+      rw add-one (flat_map-append (text_of_job text) (file_jobs f 0 own) (jobs_from (suc f) files)
+      ∙ λ i. texts_of_lines f 0 own i ++ texts_from (suc f) files i)
+
   -- one line more
   written_line : (f n : ℕ) (e : Entry) → entry_at jobs f n ≡ Some e
       → written_upto text jobs f n ++ text f (answered_line (n, e)) ≡ written_upto text jobs f (n + 1)
   unfolding written_upto
   written_line f n e is =
-      let entries : List Entry = entries_of jobs f in
-      let low : n < length entries = slice_get_within entries n e is in
-      let xs : List (ℕ × Entry) = enumerate_from 0 entries in
-      let many : length xs ≡ length entries = length-enumerate_from 0 entries in
-      let here : ℕ × Entry = get_or xs n (0, e) in
-      let before : List ℕ = flat_map (text_of_file text) (take f (enumerate_from 0 jobs)) in
-      let t : text_of_line text f here ≡ text f (answered_line (n, e)) = ap (λ r. text_of_line text f r) (numbered_is entries n e is) in
-      let more : take (n + 1) xs ≡ take n xs ++ here ∷ [] = take_more xs n (0, e) (omega arith) in
-      ap (λ l. (before ++ flat_map (text_of_line text f) (take n xs)) ++ l) (sym t)
-      ∙ flat_map_more (text_of_line text f) before (take n xs) here
-      ∙ ap (λ l. before ++ flat_map (text_of_line text f) l) (sym more)
+      let m : ℕ = job_count (take f jobs) + n in
+      let o : Job = line_job f n e in
+      let at : slice_get (job_list jobs) m ≡ Some o = slice_get-job_list jobs f n m e refl is in
+      let next : m + 1 ≡ job_count (take f jobs) + (n + 1) = omega arith in
+      flat_map_more (text_of_job text) [] (take m (job_list jobs)) o
+      ∙ ap (λ x. flat_map (text_of_job text) (take m (job_list jobs) ++ x ∷ [])) (sym (get_or_from_slice_get (job_list jobs) m o o at))
+      ∙ ap (flat_map (text_of_job text)) (sym (take_more (job_list jobs) m o (slice_get_within (job_list jobs) m o at)))
+      ∙ ap (λ k. flat_map (text_of_job text) (take k (job_list jobs))) next
 
   -- one file more
   written_file : (f : ℕ) → f < length jobs → written_upto text jobs f (length (entries_of jobs f)) ≡ written_upto text
       jobs (f + 1) 0
   unfolding written_upto
   written_file f low =
-      let js : List (ℕ × List Entry) = enumerate_from 0 jobs in
-      let here : ℕ × List Entry = get_or js f (0, []) in
-      let xs : List (ℕ × Entry) = enumerate_from 0 (entries_of jobs f) in
-      let many : length js ≡ length jobs = length-enumerate_from 0 jobs in
-      let lines : length xs ≡ length (entries_of jobs f) = length-enumerate_from 0 (entries_of jobs f) in
-      let all : take (length (entries_of jobs f)) xs ≡ xs = take_all (length (entries_of jobs f)) xs (omega arith) in
-      let more : take (f + 1) js ≡ take f js ++ here ∷ [] = take_more js f (0, []) (omega arith) in
-      let before : List ℕ = flat_map (text_of_file text) (take f js) in
-      let one : flat_map (text_of_file text) (take f js ++ here ∷ []) ≡ before ++ text_of_file text here =
-      sym (flat_map_more (text_of_file text) [] (take f js) here) in
-      ap (λ l. before ++ flat_map (text_of_line text f) l) all
-      ∙ ap (λ r. before ++ text_of_file text r) (sym (numbered_at jobs f [] low))
-      ∙ sym one
-      ∙ ap (λ l. flat_map (text_of_file text) l) (sym more)
-      ∙ sym (append-nil (flat_map (text_of_file text) (take (f + 1) js)))
+      let next : job_count (take f jobs) + length (entries_of jobs f) ≡ job_count (take (f + 1) jobs) + 0 =
+      omega (arith, lines_between jobs f low) in
+      ap (λ k. flat_map (text_of_job text) (take k (job_list jobs))) next
 
   -- all files
   written_all : (f n : ℕ) → length jobs ≤ f → written_upto text jobs f n ≡ text_of_jobs text jobs
   unfolding written_upto
   written_all f n high =
-      let js : List (ℕ × List Entry) = enumerate_from 0 jobs in
-      let many : length js ≡ length jobs = length-enumerate_from 0 jobs in
-      let none : entries_of jobs f ≡ [] = get_or_past jobs f [] high in
-      let no_line : take n (enumerate_from 0 (entries_of jobs f)) ≡ [] =
-      ap (λ l. take n (enumerate_from 0 l)) none ∙ take_all n [] (omega arith) in
-      ap (λ l. flat_map (text_of_file text) l ++ flat_map (text_of_line text f) (take n (enumerate_from 0 (entries_of jobs f))))
-      (take_all f js (omega arith))
-      ∙ ap (λ l. text_of_jobs text jobs ++ flat_map (text_of_line text f) l) no_line
-      ∙ append-nil (text_of_jobs text jobs)
-
-  -- the first lines of a file, and then the others
-  written_line_rest : (f n : ℕ) → written_upto text jobs f n ++ flat_map (text_of_line text f)
-      (drop n (enumerate_from 0 (entries_of jobs f)))
-      ≡ written_upto text jobs f (length (entries_of jobs f))
-  unfolding written_upto
-  written_line_rest f n =
-      let T = text_of_line text f in
-      let before : List ℕ = flat_map (text_of_file text) (take f (enumerate_from 0 jobs)) in
-      let xs : List (ℕ × Entry) = enumerate_from 0 (entries_of jobs f) in
-      let many : length xs ≡ length (entries_of jobs f) = length-enumerate_from 0 (entries_of jobs f) in
-      append_assoc before (flat_map T (take n xs)) (flat_map T (drop n xs))
-      ∙ ap (λ l. before ++ l) (sym (flat_map-append T (take n xs) (drop n xs)) ∙ ap (flat_map T) (take-append-drop n xs)
-      ∙ ap (flat_map T) (sym (take_all (length (entries_of jobs f)) xs (omega arith))))
-
-  -- the first files, and then the others
-  written_file_rest : (f : ℕ) → written_upto text jobs f 0 ++ flat_map (text_of_file text) (drop f (enumerate_from 0 jobs)) ≡
-      text_of_jobs text jobs
-  unfolding written_upto
-  written_file_rest f =
-      let js : List (ℕ × List Entry) = enumerate_from 0 jobs in
-      ap (λ l. l ++ flat_map (text_of_file text) (drop f js)) (append-nil (flat_map (text_of_file text) (take f js)))
-      ∙ sym (flat_map-append (text_of_file text) (take f js) (drop f js)) ∙ ap (flat_map (text_of_file text)) (take-append-drop f js)
+      ap (flat_map (text_of_job text)) (take_all (job_count (take f jobs) + n) (job_list jobs)
+      (omega (arith, length-job_list jobs, ap job_count (take_all f jobs high))))
+      ∙ texts_from 0 jobs
 
   -- what is written is the first part of all
   written_first : (f n : ℕ) → (rest : List ℕ) × (written_upto text jobs f n ++ rest ≡ text_of_jobs text jobs)
+  unfolding written_upto
   written_first f n =
-      ⊎_elim
-      (λ (low : f < length jobs).
-      let lines : List ℕ = flat_map (text_of_line text f) (drop n (enumerate_from 0 (entries_of jobs f))) in
-      let later : List ℕ = flat_map (text_of_file text) (drop (f + 1) (enumerate_from 0 jobs)) in (
-        lines ++ later,
-        sym (append_assoc (written_upto text jobs f n) lines later)
-            ∙ ap (λ l. l ++ later) (written_line_rest f n ∙ written_file f low)
-            ∙ written_file_rest (f + 1),
-      ))
-      (λ (high : length jobs ≤ f). ([], append-nil (written_upto text jobs f n) ∙ written_all f n high))
-      (cases_lt f (length jobs))
+      let m : ℕ = job_count (take f jobs) + n in
+      let T = text_of_job text in (
+        flat_map T (drop m (job_list jobs)),
+        sym (flat_map-append T (take m (job_list jobs)) (drop m (job_list jobs)))
+            ∙ ap (flat_map T) (take-append-drop m (job_list jobs)) ∙ texts_from 0 jobs,
+      )
 
   -- nothing yet
   written_none : written_upto text jobs 0 0 ≡ []
@@ -356,17 +306,11 @@ pub written_on : (files : List NamedBytes) (jobs : List (List Entry)) (past : Li
     → IsUnderWay (text_of r.files.now) r.jobs.now past after.collector after.current begun more fails)
     → HasWritten files jobs past begun out failed r → HasWritten files jobs past begun more fails after
 written_on files jobs past begun out more failed fails r after same_files same_jobs on is =
-    let from : IsUnderWay (text_of r.files.now) r.jobs.now past r.collector r.current begun out failed =
-    subst (λ (fs : List NamedBytes). IsUnderWay (text_of fs) r.jobs.now past r.collector r.current begun out failed)
-    (sym is.of_files) is.progress in
     record {
       of_files = same_files ∙ is.of_files;
       of_jobs = same_jobs ∙ is.of_jobs;
-      progress = subst (λ (js : List (List Entry)). IsUnderWay (text_of files) js past after.collector after.current begun more fails)
-          (sym same_jobs)
-          (subst (λ (fs : List NamedBytes). IsUnderWay (text_of fs) r.jobs.now past after.collector after.current begun more fails)
-          is.of_files
-          (on from));
+      progress =
+          rw same_jobs (rw (← is.of_files) (on (rw is.of_files is.progress)));
     }
 
 -- an output stays written if what was written is flushed
@@ -403,28 +347,27 @@ whole_where_sound all (Err e) failed fails wrote sound = absurd (let both : true
 abbrev pub ready_lines : List FileState → ℕ
 ready_lines files = sum_by (λ (s : FileState). front s - s.taken) files
 
--- ==== Workers put together from their passes, one after the other
+-- ==== Workers put together from their passes, the last one first
 
--- one worker more
-pub passes_more : (workers workers' : List Worker) (w : Worker) (pass : PassState) (yielded : List PassState)
-    → workers' ≡ workers ++ w ∷ [] → w.pass ≡ pass → passes_of workers ≡ yielded → passes_of workers' ≡ yielded ++ pass ∷ []
-passes_more workers workers' w pass yielded is its so_far =
-    ap (λ l. passes_of l) is ∙ map-append (λ (x : Worker). x.pass) workers (w ∷ []) ∙ λ i. so_far i ++ its i ∷ []
+last_first : (workers workers' : List Worker) (w : Worker) → workers' ≡ workers ++ w ∷ [] → reverse workers' ≡ w ∷ reverse workers
+last_first workers workers' w is = ap (λ (l : List Worker). reverse l) is ∙ reverse-append workers (w ∷ [])
 
-pub puts_more : (workers workers' : List Worker) (w : Worker) (put : PutState) (waiting waiting' all : List PutState)
-    → workers' ≡ workers ++ w ∷ [] → w.put ≡ put → waiting ≡ put ∷ waiting'
-    → puts_of workers ++ waiting ≡ all → puts_of workers' ++ waiting' ≡ all
-puts_more workers workers' w put waiting waiting' all is its took so_far =
-    ap (λ l. puts_of l ++ waiting') is
-    ∙ ap (λ l. l ++ waiting') (map-append (λ (x : Worker). x.put) workers (w ∷ []))
-    ∙ append_assoc (puts_of workers) (w.put ∷ []) waiting'
-    ∙ ap (λ l. puts_of workers ++ l) (ap (λ p. p ∷ waiting') its ∙ sym took)
+-- the last of what waits is given to one worker more
+pub one_given : {X : Type 0} (f : Worker → X) (workers workers' : List Worker) (w : Worker) (waiting rest all : List X) (x : X)
+    → workers' ≡ workers ++ w ∷ [] → f w ≡ x → waiting ≡ rest ++ x ∷ []
+    → waiting ++ map f (reverse workers) ≡ all → rest ++ map f (reverse workers') ≡ all
+one_given {X} f workers workers' w waiting rest all x is its took so_far =
+    ap (λ (l : List Worker). rest ++ map f l) (last_first workers workers' w is)
+    ∙ ap (λ (y : X). rest ++ y ∷ map f (reverse workers)) its
+    ∙ sym (append_assoc rest (x ∷ []) (map f (reverse workers)))
+    ∙ ap (λ (l : List X). l ++ map f (reverse workers)) (sym took)
     ∙ so_far
 
 pub tables_more : (workers workers' : List Worker) (w : Worker) (entries : ℕ) → workers' ≡ workers ++ w ∷ [] → HasOwnTable entries w
-    → HaveOwnTables entries workers → HaveOwnTables entries workers'
+    → HaveOwnTables entries (reverse workers) → HaveOwnTables entries (reverse workers')
 tables_more workers workers' w entries is has so_far =
-    subst (λ l. HaveOwnTables entries l) (sym is) (All-push (HasOwnTable entries) workers w so_far has)
+    subst (λ l. HaveOwnTables entries l) (sym (last_first workers workers' w is))
+    (All-cons (HasOwnTable entries) w (reverse workers) has so_far)
 
 -- ==== The workers of a batch, from their passes to what was got of them
 
@@ -455,11 +398,10 @@ new_at_work {knows = knows} shared workers count new from unsent = λ k d within
     let put : get_or (puts_of workers) k w.put ≡ w.put = get_or-map (λ (x : Worker). x.put) workers k d w.put within in
     record {
       draws = (ap (λ (p : PassState). p.desk) pass, ap (λ (p : PassState). p.total) pass);
-      known = subst (λ (l : List ℕ). All (λ n. knows shared.gate.now n ≡ true) l) (sym (ap (λ (p : PassState). p.row.numbers) pass))
-          (λ j e low. absurd (omega arith));
+      known = rw pass (λ j e low. absurd (omega arith));
       sends = ap (λ (p : PutState). p.queue) (sym put) ∙ put_queue shared.queue.id 0 (puts_of workers) k w.put from put_low;
-      sent = drawn_jobs-none shared.jobs.now w.pass.row.numbers w.put.sent (ap (λ (p : PassState). p.row.numbers) pass)
-          (ap (λ (p : PutState). p.sent) (sym put) ∙ unsent k w.put put_low);
+      sent = ap (λ (p : PutState). p.sent) (sym put) ∙ unsent k w.put put_low
+          ∙ sym (ap (λ (p : PassState). drawn_jobs shared.jobs.now p.row.numbers) pass);
     }
 
 -- after the run each pass to put is still of the queue, and in its place
@@ -496,13 +438,10 @@ sent_in_order shared (x ∷ xs) zero at_work within = (at_work 0 x (omega arith)
 sent_in_order shared (x ∷ xs) (suc w) at_work within = sent_in_order shared xs w (λ k d low. at_work (suc k) d (omega arith))
     (omega arith)
 
-drawn_jobs_are : (jobs : List (List Entry)) (numbers : List ℕ) → drawn_jobs jobs numbers ≡ map (job jobs) numbers
-unfolding drawn_jobs
-drawn_jobs_are jobs numbers = refl
-
 -- Each number below the count of those drawn stands in the rows once, the pairs that were got and those left inside account for what was
 -- sent, and as many were got as there are jobs: so each job was got once.
-pub each_job_got : {G : Type 0} {knows : G → ℕ → Bool} (shared : SharedWork G) (workers : List Worker) (count drawn : ℕ) (got rest : List (ℕ × Job))
+pub each_job_got : {G : Type 0} {knows : G → ℕ → Bool} (shared : SharedWork G) (workers : List Worker) (count drawn : ℕ)
+    (got rest : List (ℕ × Job))
     → AreAtWork knows shared workers
     → length workers ≡ count → DealsEachOnce (job_count shared.jobs.now) drawn (drawn_rows (passes_of workers))
     → Accounts count (sent_by (puts_of workers)) (got ++ rest) → length got ≡ job_count shared.jobs.now
@@ -520,7 +459,7 @@ each_job_got shared workers count drawn got rest at_work as_many deals accounts 
       workers = subst (λ n. All (λ (t : ℕ × Job). t.0 < n) (got ++ rest)) row_workers accounts.below;
       whole = λ w within.
           let low : w < length workers = omega arith in
-          accounts.whole w (omega arith) ∙ sent_in_order shared workers w at_work low ∙ drawn_jobs_are jobs (get_or rows w []);
+          accounts.whole w (omega arith) ∙ sent_in_order shared workers w at_work low;
     } in
     let many : length (job_list jobs) ≡ job_count jobs = length-job_list jobs in
     let whole : drawn ≡ length (job_list jobs) =
@@ -613,39 +552,19 @@ given_output question files r begun out failed of_files of_jobs given =
     subst (λ l. WasGivenSince begun out failed l)
     ((λ i. output_of_jobs (names_of (of_files i)) (of_jobs i)) ∙ sym (files_are_their_jobs.output question files)) given
 
--- an empty list of jobs has no text
-pub no_texts : (text : ℕ → Taken → List ℕ) (f : ℕ) (jobs : List (List Entry)) → job_count jobs ≡ 0
-    → flat_map (text_of_file text) (enumerate_from f jobs) ≡ []
-no_texts text f [] none = refl
-no_texts text f ([] ∷ jobs) none = no_texts text (f + 1) jobs
-    (let all = sum_by-cons (λ (es : List Entry). length es) [] jobs in omega (arith, all, none))
-no_texts text f ((e ∷ es) ∷ jobs) none =
-    absurd (let all = sum_by-cons (λ (es : List Entry). length es) (e ∷ es) jobs in omega (arith, all, none))
+-- there are as many jobs as lines
+pub as_many_jobs : (question : Question) (files : List NamedBytes) (jobs : List (List Entry)) → jobs ≡ jobs_to question files
+    → job_count jobs ≡ lines_in_all files
+as_many_jobs question files jobs value = ap job_count value ∙ job_count-jobs_to question files
 
--- the lines and the faults that were counted are the tally of the files
-pub counted_tally : (question : Question) (files : List NamedBytes) (lines faults : ℕ)
-    → lines ≡ length (job_list (jobs_to question files))
-    → faults ≡ count_by is_faulty_job (job_list (jobs_to question files)) →
-    (let counts : LineCounts = record { lines = lines; faults = faults } in counts) ≡ tally_of files
-counted_tally question files lines faults all faulty =
-    λ i. record {
-      lines = (all ∙ sym (files_are_their_jobs.lines question files)) i;
-      faults = (faulty ∙ sym (files_are_their_jobs.faults question files)) i;
-    }
-
-no_faults_in : (jobs : List Job) → length jobs ≡ 0 → 0 ≡ count_by is_faulty_job jobs
-no_faults_in [] none = refl
-no_faults_in (j ∷ jobs) none = absurd (omega arith)
-
--- with no job there is no fault
-pub no_faults : (jobs : List (List Entry)) → length (job_list jobs) ≡ 0 → 0 ≡ count_by is_faulty_job (job_list jobs)
-no_faults jobs none = no_faults_in (job_list jobs) none
+-- the lines and the faults of the jobs of the files are the tally of the files
+counted_tally : (question : Question) (files : List NamedBytes) → counts_of (jobs_to question files) ≡ tally_of files
+counted_tally question files = λ i. record {
+  lines = sym (files_are_their_jobs.lines question files) i;
+  faults = sym (files_are_their_jobs.faults question files) i;
+}
 
 -- ==== The result of a batch whose files have no line follows from that of a batch of any files
-
-take_none : (n : ℕ) → take {A = ℕ} n [] ≡ []
-take_none zero = refl
-take_none (suc n) = refl
 
 appends_none : (old new : Option (List ℕ)) (bytes : List ℕ) → bytes ≡ [] → Appends old new bytes → Keeps old new
 appends_none None new bytes none appends = tt
@@ -654,35 +573,74 @@ appends_none (Some xs) (Some ys) bytes none appends = appends ∙ (ap (λ l. xs 
 
 -- a prefix of nothing is nothing
 pub starts_none : (old new : Option (List ℕ)) (bytes : List ℕ) → bytes ≡ [] → AppendsStart old new bytes → Keeps old new
-starts_none old new bytes none start = appends_none old new (take start.0 bytes) (ap (take start.0) none ∙ take_none start.0) start.1
+starts_none old new bytes none start = appends_none old new (take start.0 bytes) (ap (take start.0) none ∙ take-nil start.0) start.1
 
 ok_is_no_error : {A E : Type 0} {x : A} {e : E} → Ok x ≡ Err e → ⊥
 ok_is_no_error is = cc
 
--- a batch whose files have jobs, and that failed without memory or without a thread and left the sink as it was, keeps its promises
-module _ {W : Type 0} (bytes : W → Option (List ℕ)) (has_failed is_handed_on : W → Bool) (output : List ℕ) {files : List NamedBytes}
-    {jobs : List (List Entry)} {old new : W} (kept : new ≡ old) (sound : has_failed old ≡ false)
+-- what a batch promises whose files have jobs
+module _ {W : Type 0} (bytes : W → Option (List ℕ)) (has_failed is_handed_on : W → Bool) (question : Question) {files : List NamedBytes}
+    {jobs : List (List Entry)} {old new : W} (value : jobs ≡ jobs_to question files)
     (many_files : (Ok jobs ≡ Err jobs_fault.TooManyFiles) ↔ (most_files < length files))
     (many_lines : (Ok jobs ≡ Err jobs_fault.TooManyLines) ↔ ((length files ≤ most_files) × (most_lines < lines_in_all files))) where
-  left_as_it_was : (e : RunFault) → e ≢ TooManyFiles → e ≢ TooManyLines → e ≢ Write → (e ≡ NoWorker → 0 < lines_in_all files)
-      → AnswersBatch bytes has_failed is_handed_on output files old new (Err e)
-  left_as_it_was e files_few lines_few unwritten some = record {
+  -- if it fails
+  failed_so : (e : RunFault) → e ≢ TooManyFiles → e ≢ TooManyLines → (e ≡ NoWorker → 0 < lines_in_all files)
+      → AppendsStart (bytes old) (bytes new) (output_to question files) → ((e ≡ Write) ↔ (has_failed new ≡ true))
+      → (e ≢ Write → new ≡ old)
+      → AnswersBatch bytes has_failed is_handed_on (output_to question files) files old new (Err e)
+  failed_so e files_few lines_few some start write kept = record {
     written = tt;
     tally = tt;
     handed_on = tt;
-    start = subst (λ now. AppendsStart (bytes old) now output) (ap bytes (sym kept)) (start_none (bytes old) output);
+    start = start;
     too_many_files = (λ is. absurd (files_few cc), λ many. absurd (ok_is_no_error (many_files.1 many)));
     too_many_lines = (λ is. absurd (lines_few cc), λ many. absurd (ok_is_no_error (many_lines.1 many)));
     no_worker = λ is. some cc;
-    write = (λ is. absurd (unwritten cc), λ failed. absurd (let both : true ≡ false = sym failed ∙ ap has_failed kept ∙ sound in cc));
-    untouched = λ other. kept;
+    write = (λ is. write.0 cc, λ failed. ap (λ (f : RunFault). Err f) (write.1 failed));
+    untouched = kept;
   }
 
-  pub left_without_memory : AnswersBatch bytes has_failed is_handed_on output files old new (Err OutOfMemory)
-  left_without_memory = left_as_it_was OutOfMemory (λ is. cc) (λ is. cc) (λ is. cc) (λ is. absurd cc)
+  -- if it fails without memory or without a thread, and leaves the sink as it was
+  module _ (kept : new ≡ old) (sound : has_failed old ≡ false) {result : Result LineCounts RunFault} where
+    left_as_it_was : (e : RunFault) → result ≡ Err e → e ≢ TooManyFiles → e ≢ TooManyLines → e ≢ Write
+        → (e ≡ NoWorker → 0 < lines_in_all files)
+        → AnswersBatch bytes has_failed is_handed_on (output_to question files) files old new result
+    left_as_it_was e is files_few lines_few unwritten some = rw is (failed_so e files_few lines_few some
+        (subst (λ now. AppendsStart (bytes old) now (output_to question files)) (ap bytes (sym kept))
+        (start_none (bytes old) (output_to question files)))
+        (λ q. absurd (unwritten q), λ failed. absurd (let both : true ≡ false = sym failed ∙ ap has_failed kept ∙ sound in cc))
+        (λ other. kept))
 
-  pub left_without_worker : 0 < lines_in_all files → AnswersBatch bytes has_failed is_handed_on output files old new (Err NoWorker)
-  left_without_worker some = left_as_it_was NoWorker (λ is. cc) (λ is. cc) (λ is. cc) (λ is. some)
+    pub left_without_memory : result ≡ Err OutOfMemory
+        → AnswersBatch bytes has_failed is_handed_on (output_to question files) files old new result
+    left_without_memory is = left_as_it_was OutOfMemory is (λ q. cc) (λ q. cc) (λ q. cc) (λ q. absurd cc)
+
+    pub left_without_worker : result ≡ Err NoWorker → 0 < lines_in_all files
+        → AnswersBatch bytes has_failed is_handed_on (output_to question files) files old new result
+    left_without_worker is some = left_as_it_was NoWorker is (λ q. cc) (λ q. cc) (λ q. cc) (λ q. some)
+
+  -- if the sink was given the answers to all lines, and is flushed
+  pub answered : (result : Result LineCounts RunFault)
+      → WasGivenSince (bytes old) (bytes new) (has_failed new) (output_to question files)
+      → IfOk result (λ tally. tally ≡ counts_of jobs) → OnOk result ((has_failed new ≡ false) × (is_handed_on new ≡ true))
+      → IfErr result (λ e. (e ≡ Write) × (has_failed new ≡ true))
+      → AnswersBatch bytes has_failed is_handed_on (output_to question files) files old new result
+  answered (Ok tally) given counted sound fault = record {
+    written = given.whole sound.0;
+    tally = counted ∙ ap counts_of value ∙ counted_tally question files;
+    handed_on = sound.1;
+    start = given.start;
+    too_many_files = (λ is. cc, λ many. absurd (ok_is_no_error (many_files.1 many)));
+    too_many_lines = (λ is. cc, λ many. absurd (ok_is_no_error (many_lines.1 many)));
+    no_worker = λ is. absurd (ok_is_no_error is);
+    write = (λ is. absurd (ok_is_no_error is), λ failed. absurd (let both : true ≡ false = sym failed ∙ sound.0 in cc));
+    untouched = tt;
+  }
+  answered (Err e) given counted sound fault =
+      let is = fault.0 in
+      failed_so e (λ q. let both : Write ≡ TooManyFiles = sym is ∙ q in cc) (λ q. let both : Write ≡ TooManyLines = sym is ∙ q in cc)
+      (λ q. absurd (let both : Write ≡ NoWorker = sym is ∙ q in cc)) given.start (λ q. fault.1, λ failed. is)
+      (λ other. absurd (other is))
 
 -- a fault that is neither of these two is one of the other three
 one_of_three : (e : RunFault) → e ≢ TooManyLines → e ≢ NoWorker → (e ≡ TooManyFiles) ⊎ (e ≡ OutOfMemory) ⊎ (e ≡ Write)
@@ -693,10 +651,15 @@ one_of_three NoWorker few some = absurd (some refl)
 one_of_three Write few some = inr (inr refl)
 
 module _ (question : Question) (files : List NamedBytes) (none : lines_in_all files ≡ 0) where
+  no_jobs : job_list (jobs_to question files) ≡ []
+  no_jobs = nil_from_length (job_list (jobs_to question files))
+      (length-job_list (jobs_to question files) ∙ job_count-jobs_to question files ∙ none)
+
   no_output : output_to question files ≡ []
   no_output =
       files_are_their_jobs.output question files
-      ∙ no_texts (answer_text_of (names_of files)) 0 (jobs_to question files) (job_count-jobs_to question files ∙ none)
+      ∙ sym (texts_from (answer_text_of (names_of files)) (jobs_to question files) 0 (jobs_to question files))
+      ∙ ap (flat_map (text_of_job (answer_text_of (names_of files)))) no_jobs
 
   -- and nothing was written
   pub given_no_output : (begun : Option (List ℕ)) (failed : Bool) → WasGivenSince begun begun failed (output_to question files)
@@ -704,9 +667,8 @@ module _ (question : Question) (files : List NamedBytes) (none : lines_in_all fi
 
   no_tally : tally_of files ≡ record { lines = 0; faults = 0 }
   no_tally =
-      let empty : length (job_list (jobs_to question files)) ≡ 0 = length-job_list (jobs_to question files)
-      ∙ (job_count-jobs_to question files ∙ none) in
-      sym (counted_tally question files 0 0 (sym empty) (no_faults (jobs_to question files) empty))
+      sym (counted_tally question files)
+      ∙ ap (λ (l : List Job). let c : LineCounts = record { lines = length l; faults = count_by is_faulty_job l } in c) no_jobs
 
   pub nothing_answered : (old new : Option (List ℕ)) (result : Result LineCounts RunFault)
       → AppendsStart old new (output_to question files)

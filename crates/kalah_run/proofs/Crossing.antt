@@ -18,7 +18,7 @@ use Rattle.kalah_jobs.specs.contracts.files.jobs.Jobs as Jobs
 use Rattle.kalah_run.specs.contracts.desk.Desk as Desk
 use Rattle.kalah_run.specs.contracts.queue.ResultsQueue as ResultsQueue
 use Rattle.kalah_run.specs.contracts.batch.shared_work.SharedWork as SharedWork
-use Rattle.kalah_run.specs.contracts.queue.rule.Tagged as Tagged
+use Rattle.kalah_jobs.specs.contracts.collecting.outcome.Outcome as Outcome
 use Rattle.kalah_run.specs.contracts.batch.crew.Crew as Crew
 use Rattle.kalah_run.specs.contracts.batch.worker.Worker as Worker
 
@@ -50,8 +50,8 @@ lease_sync T =
     }
 
 -- outcomes may be handed over
-tagged_send : IsSend Tagged.the_row
-tagged_send = search (sendable, crosses) depth 60
+outcome_send : IsSend Outcome.the_row
+outcome_send = search (sendable, crosses) depth 60
 
 -- jobs, the desk and the results queue may be shared
 jobs_sync : IsSync Jobs.the_row
@@ -61,7 +61,7 @@ desk_sync : IsSync Desk.the_row
 desk_sync = search (sendable, crosses, shared_sync, lease_sync) depth 60
 
 queue_sync : IsSync ResultsQueue.the_row
-queue_sync = search (sendable, crosses, shared_sync, lease_sync, tagged_send) depth 60
+queue_sync = search (sendable, crosses, shared_sync, lease_sync, outcome_send) depth 60
 
 -- so what workers share may be
 shared_work_sync : (κ : NamedLft) (G : RattleType) → IsSync G → IsSync (SharedWork.the_row κ G)
@@ -69,7 +69,7 @@ shared_work_sync κ G s = search (sendable, crosses, jobs_sync, desk_sync, queue
 
 -- and workers may be handed over
 pub worker_send : IsSend Worker.the_row
-worker_send = search (sendable, crosses, seat_send, tagged_send, Solver-send) depth 60
+worker_send = search (sendable, crosses, seat_send, outcome_send, Solver-send) depth 60
 
 -- and all of them with what they share
 pub crew_send : (κ κ' : NamedLft) (G E : RattleType) (g : rule.Ghosts E.Denot) → IsSync G → IsSend (Crew.the_row κ κ' G E g)

@@ -1,11 +1,11 @@
 -- The desk: what is kept of its word and its seats, and what the rows are at the end.
-use Rattle.std.proofs.Common.{◌≡◌, ◌≢◌, ⊎_elim, ℕ, zero, suc, ◌+◌, ◌≤◌, List, [], ◌∷◌, ◌++◌, length, set, refl, sym, ap, ◌∙◌, subst, arith, length-append, append-nil, ◌%◌, ◌^◌, ◌<◌, get_or, true, false, cond, ◌-◌}
-use Rattle.std.specs.Prelude.{◌==◌, sum_by, count_by, All, nat_lt, AllPairs, MatchBool, if◌then◌else◌, slice_index, min, IsTrue, ⊤}
+use Rattle.std.proofs.Common.{◌≡◌, ⊎_elim, ℕ, zero, suc, ◌+◌, ◌≤◌, List, [], ◌∷◌, ◌++◌, length, set, refl, sym, ap, ◌∙◌, subst, arith, length-append, append-nil, ◌%◌, ◌^◌, ◌<◌, get_or, true, false, cond, ◌-◌}
+use Rattle.std.specs.Prelude.{◌==◌, sum_by, count_by, All, nat_lt, AllPairs, if◌then◌else◌, slice_index, min, IsTrue, ⊤}
 use Rattle.std.proofs.lemmas.List.Sums.{sum_by-cons, sum_by-append, sum_by_push, count_by-le-length, get_or-le-sum_by}
 use Rattle.std.proofs.lemmas.List.Elements.{All-append, All-nil, All-cons, All-head, All-tail}
 use mathlib.Core.Option.{some, some-injective, some-ne-none, none}
 use lib.ListN.{get_elem?}
-use Rattle.atomic_table.proofs.Lists.{at_set, at_snoc}
+use Rattle.kalah_run.proofs.ViewLemmas.{Each, each_more, each_set, was_there}
 use Rattle.kalah_run.specs.declared.desk.rule.DrawnRow.{DrawnRow}
 use Rattle.kalah_run.specs.declared.desk.rule.DeskPlan.{DeskPlan}
 use Rattle.kalah_run.specs.declared.desk.rule.DeskView.{DeskView}
@@ -93,29 +93,18 @@ all_front : (P : DrawnRow → Type 0) (xs ys : List DrawnRow) → All P (xs ++ y
 all_front P [] ys h = All-nil P
 all_front P (x ∷ xs) ys h = All-cons P x xs (All-head P x (xs ++ ys) h) (all_front P xs ys (All-tail P x (xs ++ ys) h))
 
--- a fact of each row, after a change of one view
-pub all_set : (P : DrawnRow → Type 0) (views : List DeskView) (seat : ℕ) (w : DeskView) → All P (all_rows views) → All P (rows_in w)
-    → All P (all_rows (set views seat w))
-all_set P [] seat w all mine = all
-all_set P (x ∷ xs) zero w all mine = All-append P (rows_in w) (all_rows xs) mine (all_back P (rows_in x) (all_rows xs) all)
-all_set P (x ∷ xs) (suc seat) w all mine =
-    All-append P (rows_in x) (all_rows (set xs seat w)) (all_front P (rows_in x) (all_rows xs) all)
-    (all_set P xs seat w (all_back P (rows_in x) (all_rows xs) all) mine)
-
--- the same with one seat more
-pub all_pushed : (P : DrawnRow → Type 0) (views : List DeskView) (w : DeskView) → All P (all_rows views) → All P (rows_in w)
-    → All P (all_rows (views ++ w ∷ []))
-all_pushed P [] w all mine = All-append P (rows_in w) [] mine (All-nil P)
-all_pushed P (x ∷ xs) w all mine =
-    All-append P (rows_in x) (all_rows (xs ++ w ∷ [])) (all_front P (rows_in x) (all_rows xs) all)
-    (all_pushed P xs w (all_back P (rows_in x) (all_rows xs) all) mine)
-
 -- a fact of the rows of one seat
 pub all_at : (P : DrawnRow → Type 0) (views : List DeskView) (seat : ℕ) (v : DeskView) → get_elem? views seat ≡ some v
     → All P (all_rows views) → All P (rows_in v)
 all_at P [] seat v at all = absurd (some-ne-none v (sym at))
 all_at P (x ∷ xs) zero v at all = subst (λ u. All P (rows_in u)) (some-injective x v at) (all_front P (rows_in x) (all_rows xs) all)
 all_at P (x ∷ xs) (suc seat) v at all = all_at P xs seat v at (all_back P (rows_in x) (all_rows xs) all)
+
+-- and back: a fact of the rows of each seat is one of all rows
+all_from : (P : DrawnRow → Type 0) (views : List DeskView) → Each (λ seat v. All P (rows_in v)) views → All P (all_rows views)
+all_from P [] each = All-nil P
+all_from P (x ∷ xs) each =
+    All-append P (rows_in x) (all_rows xs) (each 0 x refl) (all_from P xs (λ seat v at. each (suc seat) v at))
 
 -- a seat has no more rows than it stands for passes
 rows_within_one : (v : DeskView) → length (rows_in v) ≤ passes_in v
@@ -154,25 +143,16 @@ has_all (x ∷ xs) (suc seat) rows at whole =
     let short : rows_in x ≡ [] = nil_from_length (rows_in x) (omega (arith, rows_within_one x)) in
     ap (λ l. l ++ all_rows xs) short ∙ has_all xs seat rows at (omega (arith, sum_by-cons passes_in x xs))
 
--- each seat that knows a total knows the plan's
-abbrev HaveTotal : DeskPlan → List DeskView → Type 0
-HaveTotal plan views = (by : ℕ) (v : DeskView) → get_elem? views by ≡ some v → HasTotal plan.total v
+-- the numbers of the row ascend
+abbrev Ascends : DrawnRow → Type 0
+Ascends r = AllPairs (λ x y. x < y) r.numbers
 
--- and does after a change of one view
-pub totals_set : (plan : DeskPlan) (views : List DeskView) (seat : ℕ) (w : DeskView) → HaveTotal plan views → HasTotal plan.total w
-    → HaveTotal plan (set views seat w)
-totals_set plan views seat w others mine by v at =
-    ⊎_elim
-    (λ (t : (by ≡ seat) × (w ≡ v)). subst (HasTotal plan.total) t.1 mine)
-    (λ (t : (by ≢ seat) × (get_elem? views by ≡ some v)). others by v t.1)
-    (at_set views seat by w v at)
+-- what is kept of each view: it has the plan's total, if it has one, and its rows ascend
+abbrev Fits : DeskPlan → ℕ → DeskView → Type 0
+Fits plan seat v = HasTotal plan.total v × All Ascends (rows_in v)
 
--- the same with one seat more
-pub totals_push : (plan : DeskPlan) (views : List DeskView) (w : DeskView) → HaveTotal plan views → HasTotal plan.total w
-    → HaveTotal plan (views ++ w ∷ [])
-totals_push plan views w others mine by v at =
-    ⊎_elim (λ (old : get_elem? views by ≡ some v). others by v old) (λ (new : w ≡ v). subst (HasTotal plan.total) new mine)
-    (at_snoc views w v by at)
+fitting : {S : Type 0} (plan : DeskPlan) (s : State S DeskView) → IsKept plan s → Each (Fits plan) s.views
+fitting plan s kept seat v at = (kept.totals seat v at, all_at Ascends s.views seat v at kept.lawful.ascending)
 
 -- ==== A draw keeps the rule, and returns what it must
 
@@ -212,6 +192,15 @@ module _ {S : Type 0} (plan : DeskPlan) (s : State S DeskView) (seat total numbe
     (kept : IsKept plan s)
     (at : get_elem? s.views seat ≡ some (unspent_view total number numbers))
     (is : n ≡ drawn_in (all_rows s.views) + spent_in (all_rows s.views)) where
+  -- the pass's row ascends, and all rows do after a change of it to one that does
+  ascends : Ascends (drawn_row numbers false)
+  ascends = All-head Ascends (drawn_row numbers false) []
+      (all_at Ascends s.views seat (unspent_view total number numbers) at kept.lawful.ascending)
+
+  stays_ascending : (w : DeskView) → All Ascends (rows_in w) → All Ascends (all_rows (set s.views seat w))
+  stays_ascending w mine = all_from Ascends (set s.views seat w)
+      (each_set (λ k v. All Ascends (rows_in v)) s.views seat w mine (λ j u other there. (fitting plan s kept j u there).1))
+
   -- n is below the total: the rows stay lawful with n at the end of the pass's row, if it is above all others, and the count is
   -- one more
   draws_some : n < total → AreLawful plan.total (all_rows (set s.views seat (drawn_view total number numbers n)))
@@ -237,9 +226,7 @@ module _ {S : Type 0} (plan : DeskPlan) (s : State S DeskView) (seat total numbe
       let low_all : All (λ x. x < drawn_in (all_rows s.views)) numbers =
       stands_below s.views seat total number (drawn_row numbers false) plan.total at kept.lawful in
       let below : All (λ x. x < n) numbers = subst (λ (c : ℕ). All (λ x. x < c) numbers) (sym found) low_all in
-      let P : DrawnRow → Type 0 = λ r. AllPairs (λ x y. x < y) r.numbers in
-      let old : P (drawn_row numbers false) = All-head P (drawn_row numbers false) [] (all_at P s.views seat v at kept.lawful.ascending) in
-      let rises : P (drawn_row (numbers ++ n ∷ []) false) = all_pairs_push (λ x y. x < y) numbers n old below in (
+      let rises : Ascends (drawn_row (numbers ++ n ∷ []) false) = all_pairs_push (λ x y. x < y) numbers n ascends below in (
         record {
           within = omega arith;
           each_once = λ x.
@@ -250,7 +237,7 @@ module _ {S : Type 0} (plan : DeskPlan) (s : State S DeskView) (seat total numbe
               ∙ ap (λ k. k + cond (n == x) 1 0) (sym (times_rows x (all_rows s.views)) ∙ kept.lawful.each_once x)
               ∙ one_more x (drawn_in (all_rows s.views)) n found
               ∙ ap (λ c. if nat_lt x c then 1 else 0) (sym drawn);
-          ascending = all_set P s.views seat w kept.lawful.ascending (All-cons P (drawn_row (numbers ++ n ∷ []) false) [] rises (All-nil P));
+          ascending = stays_ascending w (All-cons Ascends (drawn_row (numbers ++ n ∷ []) false) [] rises (All-nil Ascends));
           spent = λ some_spent. absurd (omega arith);
         },
         omega arith,
@@ -274,9 +261,7 @@ module _ {S : Type 0} (plan : DeskPlan) (s : State S DeskView) (seat total numbe
       let drawn : drawn_in (all_rows (set s.views seat w)) ≡ drawn_in (all_rows s.views) =
       omega (arith, rows_set (λ r. length r.numbers) s.views seat v w at) in
       let spent : spent_in (all_rows (set s.views seat w)) ≡ spent_in (all_rows s.views) + 1 =
-      omega (arith, rows_set (λ r. cond r.spent 1 0) s.views seat v w at) in
-      let P : DrawnRow → Type 0 = λ r. AllPairs (λ x y. x < y) r.numbers in
-      let old : P (drawn_row numbers false) = All-head P (drawn_row numbers false) [] (all_at P s.views seat v at kept.lawful.ascending) in (
+      omega (arith, rows_set (λ r. cond r.spent 1 0) s.views seat v w at) in (
         record {
           within = omega arith;
           each_once = λ x.
@@ -287,7 +272,7 @@ module _ {S : Type 0} (plan : DeskPlan) (s : State S DeskView) (seat total numbe
               ∙ sym (times_rows x (all_rows s.views))
               ∙ kept.lawful.each_once x
               ∙ ap (λ c. if nat_lt x c then 1 else 0) (sym drawn);
-          ascending = all_set P s.views seat w kept.lawful.ascending (All-cons P (drawn_row numbers true) [] old (All-nil P));
+          ascending = stays_ascending w (All-cons Ascends (drawn_row numbers true) [] ascends (All-nil Ascends));
           spent = λ some_spent. omega arith;
         },
         omega arith,
@@ -303,10 +288,10 @@ few_spent plan s kept = omega (
 )
 
 -- a draw of a pass that is not spent
-pub draws : {S : Type 0} (plan : DeskPlan) (slots seat total number : ℕ) (numbers : List ℕ)
+draws_at : {S : Type 0} (plan : DeskPlan) (slots seat total number : ℕ) (numbers : List ℕ)
     → Allows {S = S} (IsKept plan) slots seat (unspent_view total number numbers, []) 0 (λ n. (n + 1) % 2 ^ 64)
     (Draws (step slots 0 1 0 none) (unspent_view total number numbers, []))
-draws {S} plan slots seat total number numbers s kept homes at fits =
+draws_at {S} plan slots seat total number numbers s kept homes at fits =
     let n : ℕ = slice_index s.words 0 in
     let is : n ≡ drawn_in (all_rows s.views) + spent_in (all_rows s.views) = ap (λ ws. slice_index ws 0) kept.word in
     let small : drawn_in (all_rows s.views) ≤ most_lines = omega (arith, kept.lawful.within, kept.few.0) in
@@ -316,63 +301,64 @@ draws {S} plan slots seat total number numbers s kept homes at fits =
     ∙ ap (λ m. m ∷ []) next in
     let after : DeskView → State S DeskView =
     λ w. record { words = set s.words 0 ((n + 1) % 2 ^ 64); homes = s.homes; views = set s.views seat w } in
+    let kept_with : (r : DrawnRow) → AreLawful plan.total (all_rows (set s.views seat (Drawing total number r)))
+    → drawn_in (all_rows (set s.views seat (Drawing total number r)))
+    + spent_in (all_rows (set s.views seat (Drawing total number r))) ≡ n + 1
+    → IsKept {S = S} plan (after (Drawing total number r)) =
+    λ r lawful count. record {
+      few = kept.few;
+      word = words ∙ ap (λ m. m ∷ []) (sym count);
+      passes = omega (
+        arith,
+        sum_set passes_in s.views seat (unspent_view total number numbers) (Drawing total number r) at,
+        kept.passes,
+      );
+      lawful = lawful;
+      totals = each_set (λ k v. HasTotal plan.total v) s.views seat (Drawing total number r)
+          (kept.totals seat (unspent_view total number numbers) at) (λ j u other there. kept.totals j u there);
+    } in
     let done : (w : DeskView) × IsKept {S = S} plan (after w) × DrawsFrom (unspent_view total number numbers) n w =
     ⊎_elim
     (λ (low : n < total).
-    let w : DeskView = drawn_view total number numbers n in
-    let some = draws_some plan s seat total number numbers n kept at is low in (
-      w,
-      record {
-        few = kept.few;
-        word = words ∙ ap (λ m. m ∷ []) (sym some.1);
-        passes = omega (arith, sum_set passes_in s.views seat (unspent_view total number numbers) w at, kept.passes);
-        lawful = some.0;
-        totals = totals_set plan s.views seat w kept.totals (kept.totals seat (unspent_view total number numbers) at);
-      },
-      subst (λ b. MatchBool b ((w ≡ drawn_view total number numbers n) × All (λ x. x < n) numbers)
-          (w ≡ spent_view total number numbers)) (sym (lt-ltb n total low)) (refl, some.2),
-    ))
+    let some = draws_some plan s seat total number numbers n kept at is low in
+    (drawn_view total number numbers n, kept_with _ some.0 some.1, rw (lt-ltb n total low) (refl, some.2)))
     (λ (high : total ≤ n).
-    let w : DeskView = spent_view total number numbers in
-    let no_more = draws_none plan s seat total number numbers n kept at is high in (
-      w,
-      record {
-        few = kept.few;
-        word = words ∙ ap (λ m. m ∷ []) (sym no_more.1);
-        passes = omega (arith, sum_set passes_in s.views seat (unspent_view total number numbers) w at, kept.passes);
-        lawful = no_more.0;
-        totals = totals_set plan s.views seat w kept.totals (kept.totals seat (unspent_view total number numbers) at);
-      },
-      subst (λ b. MatchBool b ((w ≡ drawn_view total number numbers n) × All (λ x. x < n) numbers)
-          (w ≡ spent_view total number numbers)) (sym (le-ltb n total high)) refl,
-    ))
+    let no_more = draws_none plan s seat total number numbers n kept at is high in
+    (spent_view total number numbers, kept_with _ no_more.0 no_more.1, rw (le-ltb n total high) refl))
     (cases_lt n total)
     in (done.0, keeps, tt, done.1, (refl, done.2))
 
--- the same, of a pass whose view is known to be that of one that is not spent
-pub draws_as : {S : Type 0} (plan : DeskPlan) (slots seat : ℕ) (me : Me S DeskView) → me ≡ (as_pass_view me.0, []) →
-    (row_in me.0).spent ≡ false
+pub draws : {S : Type 0} (plan : DeskPlan) (slots seat : ℕ) (me : Me S DeskView) → me ≡ (as_pass_view me.0, [])
+    → (row_in me.0).spent ≡ false
     → Allows {S = S} (IsKept plan) slots seat me 0 (λ n. (n + 1) % 2 ^ 64) (Draws (step slots 0 1 0 none) me)
-draws_as {S} plan slots seat me is unspent =
+draws {S} plan slots seat me is unspent =
     let v = me.0 in
-    let pass : (as_pass_view v, []) ≡ (Drawing (total_in v) (number_in v) (drawn_row (row_in v).numbers false), []) =
-    ap (λ b. (Drawing (total_in v) (number_in v) (drawn_row (row_in v).numbers b), [])) unspent in
-    subst (λ (m : Me S DeskView). Allows {S = S} (IsKept plan) slots seat m 0 (λ n. (n + 1) % 2 ^ 64) (Draws (step slots 0 1 0 none) m))
-    (sym (is ∙ pass)) (draws plan slots seat (total_in v) (number_in v) (row_in v).numbers)
+    let unspent_me : Me S DeskView = (unspent_view (total_in v) (number_in v) (row_in v).numbers, []) in
+    let pass : me ≡ unspent_me = is ∙ ap (λ b. (Drawing (total_in v) (number_in v) (drawn_row (row_in v).numbers b), [])) unspent in
+    rw pass (draws_at plan slots seat (total_in v) (number_in v) (row_in v).numbers)
 
--- ==== The seats that come and go keep the rule: the first one, those of passes that are handed out, the closing one, and those of passes that are reclaimed
+-- ==== The seats that come and go keep the rule: the first one, that of a pass that is handed out, the closing one, that of a pass that ends
 
--- rows with the same counts are as lawful
-lawful_alike : (total : ℕ) (rows others : List DrawnRow) → drawn_in others ≡ drawn_in rows
-    → ((x : ℕ) → sum_by (times x) others ≡ sum_by (times x) rows) → spent_in others ≡ spent_in rows
-    → All (λ r. AllPairs (λ x y. x < y) r.numbers) others → AreLawful total rows → AreLawful total others
-lawful_alike total rows others drawn same spent ascending was = record {
-  within = omega (arith, was.within);
-  each_once = λ x. times_rows x others ∙ same x ∙ sym (times_rows x rows) ∙ was.each_once x
-      ∙ ap (λ c. if nat_lt x c then 1 else 0) (sym drawn);
-  ascending = ascending;
-  spent = λ some_spent. drawn ∙ was.spent (omega arith);
-}
+-- The rule stays if seats change and the sums over all rows don't, and no pass is lost. An empty row that is not spent adds nothing.
+kept_alike : {S : Type 0} (plan : DeskPlan) (s after : State S DeskView) → IsKept plan s → after.words ≡ s.words
+    → ((f : DrawnRow → ℕ) → f (drawn_row [] false) ≡ 0 → sum_by f (all_rows after.views) ≡ sum_by f (all_rows s.views))
+    → sum_by passes_in after.views ≡ sum_by passes_in s.views → Each (Fits plan) after.views → IsKept plan after
+kept_alike plan s after kept words same passes fits =
+    let drawn : drawn_in (all_rows after.views) ≡ drawn_in (all_rows s.views) = same (λ r. length r.numbers) refl in
+    let spent : spent_in (all_rows after.views) ≡ spent_in (all_rows s.views) = same (λ r. cond r.spent 1 0) refl in
+    record {
+      few = kept.few;
+      word = words ∙ kept.word ∙ ap (λ m. m ∷ []) (omega (arith, drawn, spent));
+      passes = passes ∙ kept.passes;
+      lawful = record {
+        within = omega (arith, drawn, kept.lawful.within);
+        each_once = λ x. times_rows x (all_rows after.views) ∙ same (times x) refl ∙ sym (times_rows x (all_rows s.views))
+            ∙ kept.lawful.each_once x ∙ ap (λ c. if nat_lt x c then 1 else 0) (sym drawn);
+        ascending = all_from Ascends after.views (λ seat v at. (fits seat v at).1);
+        spent = λ some_spent. drawn ∙ kept.lawful.spent (omega arith);
+      };
+      totals = λ seat v at. (fits seat v at).0;
+    }
 
 -- the empty desk
 pub begins : {S : Type 0} (plan : DeskPlan) → plan.total ≤ most_lines → plan.passes ≤ most_workers
@@ -395,38 +381,26 @@ begins plan total passes = record {
     only (suc seat) v at = absurd (some-ne-none v (sym at))
 
 -- the next pass is handed out
-pub hands_out : {S : Type 0} (plan : DeskPlan) (seat total handed_out left : ℕ) → 0 < left
-    → Splits {S = S} (IsKept plan) seat (Opening total handed_out left) (after_handing_out (Opening total handed_out left))
-    (pass_handed_out (Opening total handed_out left))
-hands_out {S} plan seat total handed_out left some_left s kept at =
-    let v : DeskView = Opening total handed_out left in
+pub hands_out : {S : Type 0} (plan : DeskPlan) (seat : ℕ) (v : DeskView) (total handed_out left : ℕ) → v ≡ Opening total handed_out left
+    → 0 < left → Splits {S = S} (IsKept plan) seat v (after_handing_out v) (pass_handed_out v)
+hands_out {S} plan seat v total handed_out left is some_left = rw is (λ s kept at.
     let a : DeskView = Opening total (handed_out + 1) (left - 1) in
     let b : DeskView = Drawing total handed_out (drawn_row [] false) in
     let now : List DeskView = set s.views seat a in
-    let P : DrawnRow → Type 0 = λ r. AllPairs (λ x y. x < y) r.numbers in
-    let drawn : drawn_in (all_rows (now ++ b ∷ [])) ≡ drawn_in (all_rows s.views) =
-    omega (arith, rows_push (λ r. length r.numbers) now b, rows_set (λ r. length r.numbers) s.views seat v a at) in
-    let spent : spent_in (all_rows (now ++ b ∷ [])) ≡ spent_in (all_rows s.views) =
-    omega (arith, rows_push (λ r. cond r.spent 1 0) now b, rows_set (λ r. cond r.spent 1 0) s.views seat v a at) in
-    let same : (x : ℕ) → sum_by (times x) (all_rows (now ++ b ∷ [])) ≡ sum_by (times x) (all_rows s.views) =
-    λ x. omega (arith, rows_push (times x) now b, rows_set (times x) s.views seat v a at) in
-    record {
-      few = kept.few;
-      word = kept.word ∙ ap (λ m. m ∷ []) (omega arith);
-      passes = omega (arith, sum_by_push passes_in now b, sum_set passes_in s.views seat v a at, kept.passes);
-      lawful = lawful_alike plan.total (all_rows s.views) (all_rows (now ++ b ∷ [])) drawn same spent
-          (all_pushed P now b (all_set P s.views seat a kept.lawful.ascending (All-nil P))
-          (All-cons P (drawn_row [] false) [] (λ i j d under within. absurd (omega arith)) (All-nil P))) kept.lawful;
-      totals = totals_push plan now b (totals_set plan s.views seat a kept.totals (kept.totals seat v at)) (kept.totals seat v at);
-    }
-
--- the next pass is handed out, at a view that is known
-pub hands_out_as : {S : Type 0} (plan : DeskPlan) (seat : ℕ) (v : DeskView) (total handed_out left : ℕ)
-    → v ≡ Opening total handed_out left → 0 < left
-    → Splits {S = S} (IsKept plan) seat v (after_handing_out v) (pass_handed_out v)
-hands_out_as {S} plan seat v total handed_out left is some_left =
-    subst (λ (u : DeskView). Splits {S = S} (IsKept plan) seat u (after_handing_out u) (pass_handed_out u)) (sym is)
-    (hands_out plan seat total handed_out left some_left)
+    let mine : HasTotal plan.total b = kept.totals seat (Opening total handed_out left) at in
+    let none : Ascends (drawn_row [] false) = λ i j d under within. absurd (omega arith) in
+    kept_alike plan s _ kept refl
+    (λ f nothing. omega (
+      arith,
+      rows_push f now b,
+      rows_set f s.views seat (Opening total handed_out left) a at,
+      sum_by-cons f (drawn_row [] false) [],
+      nothing,
+    ))
+    (omega (arith, sum_by_push passes_in now b, sum_set passes_in s.views seat (Opening total handed_out left) a at))
+    (each_more (Fits plan) now b
+    (each_set (Fits plan) s.views seat a (mine, All-nil Ascends) (λ j u other there. fitting plan s kept j u there))
+    (mine, All-cons Ascends (drawn_row [] false) [] none (All-nil Ascends))))
 
 -- one pass more is handed out
 pub one_pass_more : (desk : DeskState) (count : ℕ) (passes : List PassState) (p : PassState) → AreNewPasses desk count passes
@@ -443,97 +417,58 @@ one_pass_more desk count passes p handed_out is = (
 -- a seat that is to reclaim the passes
 pub starts_closing : {S : Type 0} (plan : DeskPlan) (slots : ℕ)
     → Enters {S = S} (IsKept plan) slots 0 (λ n w. StartsClosing {S = S} (step slots 0 0 0 none) (opening_view plan, []) n (w, []))
-starts_closing {S} plan slots s kept homes fits =
-    let w : DeskView = Closing [] in
-    let P : DrawnRow → Type 0 = λ r. AllPairs (λ x y. x < y) r.numbers in
-    let drawn : drawn_in (all_rows (s.views ++ w ∷ [])) ≡ drawn_in (all_rows s.views) =
-    omega (arith, rows_push (λ r. length r.numbers) s.views w) in
-    let spent : spent_in (all_rows (s.views ++ w ∷ [])) ≡ spent_in (all_rows s.views) =
-    omega (arith, rows_push (λ r. cond r.spent 1 0) s.views w) in
-    let same : (x : ℕ) → sum_by (times x) (all_rows (s.views ++ w ∷ [])) ≡ sum_by (times x) (all_rows s.views) =
-    λ x. omega (arith, rows_push (times x) s.views w) in (
-      w,
-      record {
-        few = kept.few;
-        word = kept.word ∙ ap (λ m. m ∷ []) (omega arith);
-        passes = omega (arith, sum_by_push passes_in s.views w, kept.passes);
-        lawful =
-            lawful_alike plan.total (all_rows s.views) (all_rows (s.views ++ w ∷ [])) drawn same spent
-            (all_pushed P s.views w kept.lawful.ascending (All-nil P)) kept.lawful;
-        totals = totals_push plan s.views w kept.totals tt;
-      },
-      refl,
-    )
+starts_closing {S} plan slots s kept homes fits = (
+  Closing [],
+  kept_alike plan s _ kept refl (λ f nothing. omega (arith, rows_push f s.views (Closing [])))
+      (omega (arith, sum_by_push passes_in s.views (Closing [])))
+      (each_more (Fits plan) s.views (Closing []) (fitting plan s kept) (tt, All-nil Ascends)),
+  refl,
+)
 
 -- a pass is reclaimed
-pub reclaims : {S : Type 0} (plan : DeskPlan) (seat : ℕ) (rows : List DrawnRow) (other total number : ℕ) (r : DrawnRow)
+reclaims_at : {S : Type 0} (plan : DeskPlan) (seat : ℕ) (rows : List DrawnRow) (other total number : ℕ) (r : DrawnRow)
     → Joins {S = S} (IsKept plan) seat (Closing rows) other (Drawing total number r)
     (after_reclaiming_row (Closing rows) (Drawing total number r)) ended_view
-reclaims {S} plan seat rows other total number r s kept at apart there =
-    let v : DeskView = Closing rows in
-    let u : DeskView = Drawing total number r in
+reclaims_at {S} plan seat rows other total number r s kept at apart there =
     let w : DeskView = Closing (r ∷ rows) in
+    let u : DeskView = Drawing total number r in
     let between : List DeskView = set s.views seat w in
-    let now : List DeskView = set between other Ended in
-    let P : DrawnRow → Type 0 = λ q. AllPairs (λ x y. x < y) q.numbers in
-    let own : All P rows = all_at P s.views seat v at kept.lawful.ascending in
-    let theirs : All P (r ∷ []) = all_at P s.views other u (was s.views seat other w u apart there) kept.lawful.ascending in
-    let same : (f : DrawnRow → ℕ) → sum_by f (all_rows now) ≡ sum_by f (all_rows s.views) =
-    λ f. omega (arith, rows_set f s.views seat v w at, rows_set f between other u Ended there, sum_by-cons f r rows) in
-    record {
-      few = kept.few;
-      word = kept.word ∙ ap (λ m. m ∷ []) (omega (arith, same (λ q. length q.numbers), same (λ q. cond q.spent 1 0)));
-      passes = omega (arith, sum_set passes_in s.views seat v w at, sum_set passes_in between other u Ended there, kept.passes);
-      lawful = lawful_alike plan.total (all_rows s.views) (all_rows now) (same (λ q. length q.numbers)) (λ x. same (times x))
-          (same (λ q. cond q.spent 1 0))
-          (all_set P between other Ended (all_set P s.views seat w kept.lawful.ascending (All-append P (r ∷ []) rows theirs own))
-          (All-nil P)) kept.lawful;
-      totals = totals_set plan between other Ended (totals_set plan s.views seat w kept.totals tt) tt;
-    }
-  where
-    was : (views : List DeskView) (seat other : ℕ) (w u : DeskView) → ¬ (other ≡ seat)
-        → get_elem? (set views seat w) other ≡ some u → get_elem? views other ≡ some u
-    was views seat other w u apart there =
-        ⊎_elim
-        (λ (t : (other ≡ seat) × (w ≡ u)). absurd (apart t.0))
-        (λ (t : (other ≢ seat) × (get_elem? views other ≡ some u)). t.1)
-        (at_set views seat other w u there)
+    let own : All Ascends rows = all_at Ascends s.views seat (Closing rows) at kept.lawful.ascending in
+    let theirs : All Ascends (r ∷ []) =
+    all_at Ascends s.views other u (was_there s.views seat other w u apart there) kept.lawful.ascending in
+    kept_alike plan s _ kept refl
+    (λ f nothing. omega (
+      arith,
+      rows_set f s.views seat (Closing rows) w at,
+      rows_set f between other u Ended there,
+      sum_by-cons f r rows,
+    ))
+    (omega (arith, sum_set passes_in s.views seat (Closing rows) w at, sum_set passes_in between other u Ended there))
+    (each_set (Fits plan) between other Ended (tt, All-nil Ascends) (λ i x away here.
+    each_set (Fits plan) s.views seat w (tt, All-append Ascends (r ∷ []) rows theirs own)
+    (λ j y other there. fitting plan s kept j y there) i x here))
 
--- a pass is reclaimed, at views that are known
-pub reclaims_as : {S : Type 0} (plan : DeskPlan) (seat : ℕ) (v : DeskView) (other : ℕ) (w : DeskView)
+pub reclaims : {S : Type 0} (plan : DeskPlan) (seat : ℕ) (v : DeskView) (other : ℕ) (w : DeskView)
     → v ≡ Closing (rows_in v) → w ≡ as_pass_view w → Joins {S = S} (IsKept plan) seat v other w
     (after_reclaiming_row v w) ended_view
-reclaims_as {S} plan seat v other w is pass =
-    subst (λ (u : DeskView). Joins {S = S} (IsKept plan) seat u other w (after_reclaiming_row u w) ended_view) (sym is)
-    (subst (λ (u : DeskView). Joins {S = S} (IsKept plan) seat (Closing (rows_in v)) other u
-    (after_reclaiming_row (Closing (rows_in v)) u) ended_view)
-    (sym pass) (reclaims plan seat (rows_in v) other (total_in w) (number_in w) (row_in w)))
+reclaims plan seat v other w is pass =
+    rw is (rw pass (reclaims_at plan seat (rows_in v) other (total_in w) (number_in w) (row_in w)))
 
 -- ==== What the last word and the closing seat determine of the rows
 
--- if the closing seat has a row for each pass, these rows are lawful, and the word counts them
-settles : {S : Type 0} (plan : DeskPlan) (seat : ℕ) (rows : List DrawnRow) (s : State S DeskView)
-    → Seen {S = S} (IsKept plan) seat (Closing rows) s → length rows ≡ plan.passes
-    → (s.words ≡ (drawn_in rows + spent_in rows) ∷ []) × AreLawful plan.total rows
-settles {S} plan seat rows s seen whole =
-    let kept = seen.0 in
-    let all : all_rows s.views ≡ rows = has_all s.views seat rows seen.1 (whole ∙ sym kept.passes) in
-    subst (λ (rs : List DrawnRow). (s.words ≡ (drawn_in rs + spent_in rs) ∷ []) × AreLawful plan.total rs) all
-    (kept.word, kept.lawful)
-
--- the same of the closed table's word
+-- if the closing seat has a row for each pass, these rows are lawful, and the closed table's word counts them
 pub ends : {S : Type 0} (plan : DeskPlan) (seat : ℕ) (v : DeskView) (rows : List DrawnRow) (ws : List ℕ) (xs : List S) (word : ℕ)
     → v ≡ Closing rows → Final {S = S} (Seen (IsKept plan) seat v) ws xs → length rows ≡ plan.passes
     → get_elem? ws 0 ≡ some word
     → (word ≡ drawn_in rows + spent_in rows) × AreLawful plan.total rows
 ends {S} plan seat v rows ws xs word is last whole found =
     let s = last.0 in
-    let seen : Seen {S = S} (IsKept plan) seat (Closing rows) s =
-    subst (λ (u : DeskView). Seen {S = S} (IsKept plan) seat u s) is last.1 in
-    let t = settles plan seat rows s seen whole in
-    let at : some word ≡ some (drawn_in rows + spent_in rows) =
-    sym found ∙ ap (λ (l : List ℕ). get_elem? l 0) (sym last.2 ∙ t.0) in
-    (some-injective _ _ at, t.1)
+    let kept = last.1.0 in
+    let all : all_rows s.views ≡ rows = has_all s.views seat rows (last.1.1 ∙ ap some is) (whole ∙ sym kept.passes) in
+    let at : some word ≡ some (drawn_in (all_rows s.views) + spent_in (all_rows s.views)) =
+    sym found ∙ ap (λ (l : List ℕ). get_elem? l 0) (sym last.2 ∙ kept.word) in
+    subst (λ (rs : List DrawnRow). (word ≡ drawn_in rs + spent_in rs) × AreLawful plan.total rs) all
+    (some-injective _ _ at, kept.lawful)
 
 -- the last word, cut to the total, is how many numbers were drawn
 pub drawn_at_end : (total word : ℕ) (rows : List DrawnRow) → word ≡ drawn_in rows + spent_in rows → AreLawful total rows

@@ -1,3 +1,4 @@
+pub mod ViewLemmas
 pub mod DeskLemmas
 pub mod QueueLemmas
 pub mod BatchLemmas

@@ -1,13 +1,14 @@
 -- The results queue: its pairs, the views of its passes, and what each step keeps.
-use Rattle.std.proofs.Common.{◌≡◌, ◌≢◌, ℕ, zero, suc, ◌+◌, ◌<◌, ◌≤◌, ◌==◌, if◌then◌else◌, Bool, true, false, List, [], ◌∷◌, ◌++◌, length, All, slice_index_or, refl, sym, ap, ◌∙◌, eq-eqb, ne_eqb, arith, set, subst, ◌⊎◌, ⊎_elim, inl, inr, append_assoc}
-use Rattle.std.proofs.lemmas.List.{append-nil, length-set, length_push}
+use Rattle.std.proofs.Common.{◌≡◌, ◌≢◌, ℕ, zero, suc, ◌+◌, ◌<◌, ◌≤◌, ◌==◌, if◌then◌else◌, Bool, true, false, List, [], ◌∷◌, ◌++◌, length, All, slice_index_or, refl, sym, ap, ◌∙◌, eq-eqb, ne_eqb, arith, set, subst, append_assoc}
+use Rattle.std.proofs.lemmas.List.{append-nil, length-map, length-set, length_push, map-append}
 use Rattle.std.proofs.lemmas.List.Elements.{All-push}
 use Rattle.kalah_jobs.specs.declared.files.job.Job.{Job}
 use Rattle.kalah_jobs.specs.Collecting.Shares.{of}
-use Rattle.kalah_run.specs.Queue.Lists.{Accounts}
-use mathlib.Core.Option.{some, some-injective, some-ne-none}
+use Rattle.kalah_run.specs.Queue.Lists.{Accounts, outcomes_in}
+use mathlib.Core.Option.{some, some-ne-none}
 use lib.ListN.{get_elem?}
-use Rattle.crossbeam_queue.proofs.Lists.{at_set}
+use Rattle.atomic_table.proofs.Lists.{at_longer, set_else, set_here}
+use Rattle.kalah_run.proofs.ViewLemmas.{Each, each_more, each_set, in_views, was_there}
 use Rattle.kalah_run.specs.declared.queue.rule.QueueView.{QueueView}
 use Rattle.kalah_run.specs.declared.queue.rule.QueueView.TheVariants.{Getting, Putting, Ended}
 use Rattle.atomic_table.specs.Seated.{TableId}
@@ -97,68 +98,12 @@ pub accounts_known : (workers : ℕ) (known : List (List Job)) (pairs : List (�
     → Accounts workers known pairs → Accounts workers (known ++ sent ∷ []) pairs
 accounts_known workers known pairs sent e h = record { below = h.below; whole = known_more known sent (λ w. of w pairs) h.whole (sym e) }
 
--- ==== The views of the passes of a queue, each at its place
-
--- a fact of each view at its place
-abbrev pub Each : (ℕ → QueueView → Type 0) → List QueueView → Type 0
-Each F views = (place : ℕ) (v : QueueView) → get_elem? views place ≡ some v → F place v
-
--- a place that has a view is below the number of views
-pub in_views : (views : List QueueView) (place : ℕ) (v : QueueView) → get_elem? views place ≡ some v → place < length views
-in_views [] place v e = absurd (some-ne-none v (sym e))
-in_views (x ∷ xs) zero v e = omega arith
-in_views (x ∷ xs) (suc place) v e = let h = in_views xs place v e in omega arith
-
--- a view of a list with one more stood there before, or is the one more
-pub at_end : (views : List QueueView) (a b : QueueView) (place : ℕ) → get_elem? (views ++ a ∷ []) place ≡ some b
-    → (get_elem? views place ≡ some b) ⊎ ((place ≡ length views) × (a ≡ b))
-at_end [] a b zero e = inr (refl, some-injective a b e)
-at_end [] a b (suc place) e = absurd (some-ne-none b (sym e))
-at_end (x ∷ xs) a b zero e = inl e
-at_end (x ∷ xs) a b (suc place) e =
-    ⊎_elim (λ (h : get_elem? xs place ≡ some b). inl h) (λ (h : (place ≡ length xs) × (a ≡ b)). inr (ap suc h.0, h.1))
-    (at_end xs a b place e)
-
--- if one view changes, its fact is shown anew and the others' may change with it
-pub each_set : (F : ℕ → QueueView → Type 0) (views : List QueueView) (place : ℕ) (w : QueueView) → F place w
-    → ((j : ℕ) (u : QueueView) → j ≢ place → get_elem? views j ≡ some u → F j u) → Each F (set views place w)
-each_set F views place w mine others j u e =
-    ⊎_elim (λ (x : (j ≡ place) × (w ≡ u)). subst (λ (y : ℕ × QueueView). F y.0 y.1) (λ i. (sym x.0 i, x.1 i)) mine)
-    (λ (x : (j ≢ place) × (get_elem? views j ≡ some u)). others j u x.0 x.1) (at_set views place j w u e)
-
--- ---- the first view
-
--- it changes if it is set
-pub first_set : (views : List QueueView) (place : ℕ) (v w : QueueView) → place ≡ 0 → get_elem? views 0 ≡ some v
-    → get_elem? (set views place w) 0 ≡ some w
-first_set [] place v w is e = absurd (some-ne-none v (sym e))
-first_set (x ∷ xs) zero v w is e = refl
-first_set (x ∷ xs) (suc place) v w is e = absurd (omega arith)
-
--- it stays if another is set
-pub first_same : (views : List QueueView) (place : ℕ) (v w : QueueView) → 0 < place → get_elem? views 0 ≡ some v
-    → get_elem? (set views place w) 0 ≡ some v
-first_same [] place v w place_is e = absurd (some-ne-none v (sym e))
-first_same (x ∷ xs) zero v w place_is e = absurd (omega arith)
-first_same (x ∷ xs) (suc place) v w place_is e = e
-
--- and if there is one more
-pub first_longer : (views : List QueueView) (v w : QueueView) → get_elem? views 0 ≡ some v
-    → get_elem? (views ++ w ∷ []) 0 ≡ some v
-first_longer [] v w e = absurd (some-ne-none v (sym e))
-first_longer (x ∷ xs) v w e = e
-
--- a single view
-pub each_one : (F : ℕ → QueueView → Type 0) (v : QueueView) → F 0 v → Each F (v ∷ [])
-each_one F v p zero u e = subst (λ (y : QueueView). F 0 y) (some-injective v u e) p
-each_one F v p (suc place) u e = absurd (some-ne-none u (sym e))
+-- ==== What the pass to get knows, and lists of passes to put
 
 -- what the workers whose passes were reclaimed had sent
 abbrev pub known_in : QueueView → List (List Job)
 known_in (Getting made got known) = known
 known_in _ = []
-
--- ==== Lists of passes to put
 
 -- the pass of the next worker goes last
 pub one_pass_more : (id : TableId) (n : ℕ) (ps : List PutState) (p : PutState) → ArePassesFrom id n ps → p.queue ≡ id
@@ -175,21 +120,24 @@ all_are_of id n (x ∷ xs) h (suc k) d lt = all_are_of id (suc n) xs h.2 k d (om
 
 -- ==== Each step keeps the rule of the results queue
 
+-- the first view changes if it is set
+first_set : (views : List QueueView) (place : ℕ) (w : QueueView) → place ≡ 0 → 0 < length views → get_elem? (set views place w) 0 ≡ some w
+first_set views place w is some_view = ap (λ n. get_elem? (set views n w) 0) is ∙ set_here views 0 w some_view
+
 -- the rule, from what each view fits, how many views there are, and which is the first
-lawful : (pairs items taken : List (ℕ × Job)) (closed passes made : ℕ) (known : List (List Job)) (views : List QueueView)
-    → taken ++ items ≡ pairs → length views ≡ passes
+lawful : {pairs : List (ℕ × Job)} {items : List Job} {passes : ℕ} {views : List QueueView} (taken inside : List (ℕ × Job))
+    (closed made : ℕ) (known : List (List Job)) → outcomes_in inside ≡ items → taken ++ inside ≡ pairs → length views ≡ passes
     → get_elem? views 0 ≡ some (Getting made taken known) → Each (Fits pairs taken closed passes) views → IsLawful items views
-lawful pairs items taken closed passes made known views e size first h =
-    let sized : Each (Fits pairs taken closed (length views)) views =
-    subst (λ (n : ℕ). Each (Fits pairs taken closed n) views) (sym size) h in
-    record {
-      taken = taken;
-      closed = closed;
-      made = made;
-      known = known;
-      getter = first;
-      fits = subst (λ (l : List (ℕ × Job)). Each (Fits l taken closed (length views)) views) (sym e) sized;
-    }
+lawful {views = views} taken inside closed made known held e size first h = record {
+  taken = taken;
+  inside = inside;
+  closed = closed;
+  made = made;
+  known = known;
+  held = held;
+  getter = first;
+  fits = rw e (rw size h);
+}
 
 -- ---- a queue is made
 
@@ -202,7 +150,7 @@ begins =
       ended_known = refl;
       accounts = accounts_none;
     } in
-    record { taken = []; closed = 0; made = 0; known = []; getter = refl; fits = each_one (Fits [] [] 0 1) first_view fits }
+    lawful [] [] 0 0 [] refl refl refl refl (each_more (Fits [] [] 0 1) [] first_view (λ j u e. absurd (some-ne-none u (sym e))) fits)
 
 -- ---- a worker puts an outcome
 
@@ -226,31 +174,34 @@ fits_more pairs taken closed passes place x place_is within running j (Getting m
     }
 fits_more pairs taken closed passes place x place_is within running j Ended other h = tt
 
-pub puts : (n place : ℕ) (v : QueueView) (x : ℕ × Job) (sent : List Job) → v ≡ Putting x.0 sent
+pub puts : (n place : ℕ) (v : QueueView) (x : Job) (number : ℕ) (sent : List Job) → v ≡ Putting number sent
     → Pushes IsLawful n place v x (λ w. w ≡ after_put v x)
-puts n place v x sent e = rw e (λ items views room h at.
-    let pairs : List (ℕ × Job) = h.taken ++ items in
-    let w : QueueView = Putting x.0 (sent ++ x.1 ∷ []) in
-    let mine : FitsPut pairs h.closed place x.0 sent = h.fits place (Putting x.0 sent) at in
-    let fits : FitsPut (pairs ++ x ∷ []) h.closed place x.0 (sent ++ x.1 ∷ []) =
+puts n place v x number sent e = rw e (λ items views room h at.
+    let pair : ℕ × Job = (number, x) in
+    let pairs : List (ℕ × Job) = h.taken ++ h.inside in
+    let w : QueueView = Putting number (sent ++ x ∷ []) in
+    let mine : FitsPut pairs h.closed place number sent = h.fits place (Putting number sent) at in
+    let fits : FitsPut (pairs ++ pair ∷ []) h.closed place number (sent ++ x ∷ []) =
     record {
       place_is = mine.place_is;
       running = mine.running;
-      all_sent = ap (λ (l : List Job). l ++ x.1 ∷ []) mine.all_sent ∙ sym (of_more x.0 pairs x refl);
+      all_sent = ap (λ (l : List Job). l ++ x ∷ []) mine.all_sent ∙ sym (of_more number pairs pair refl);
     } in
-    let within : place < length views = in_views views place (Putting x.0 sent) at in
-    let all : Each (Fits (pairs ++ x ∷ []) h.taken h.closed (length views)) (set views place w) =
-    each_set (Fits (pairs ++ x ∷ []) h.taken h.closed (length views)) views place w fits
-    (λ j u other e. fits_more pairs h.taken h.closed (length views) place x mine.place_is within mine.running j u other (h.fits j u e)) in
-    let place_is : place ≡ suc x.0 = mine.place_is in
-    let first = first_same views place _ w (omega arith) h.getter in (
+    let within : place < length views = in_views views place (Putting number sent) at in
+    let all : Each (Fits (pairs ++ pair ∷ []) h.taken h.closed (length views)) (set views place w) =
+    each_set (Fits (pairs ++ pair ∷ []) h.taken h.closed (length views)) views place w fits
+    (λ j u other e. fits_more pairs h.taken h.closed (length views) place pair mine.place_is within mine.running j u other
+    (h.fits j u e)) in
+    let place_is : place ≡ suc number = mine.place_is in
+    let first = set_else views place 0 w (λ q. omega arith) ∙ h.getter in (
       w,
-      lawful (pairs ++ x ∷ []) (items ++ x ∷ []) h.taken h.closed (length views) h.made h.known (set views place w)
-          (sym (append_assoc h.taken items (x ∷ []))) (length-set views place w) first all,
+      lawful h.taken (h.inside ++ pair ∷ []) h.closed h.made h.known
+          (map-append (λ (p : ℕ × Job). p.1) h.inside (pair ∷ []) ∙ ap (λ (l : List Job). l ++ x ∷ []) h.held)
+          (sym (append_assoc h.taken h.inside (pair ∷ []))) (length-set views place w) first all,
       refl,
     ))
 
--- ---- the oldest pair is got
+-- ---- the oldest outcome is got
 
 -- the view of another pass states nothing of what was taken out
 fits_taken : (pairs taken after : List (ℕ × Job)) (closed passes place : ℕ) → place ≡ 0
@@ -259,31 +210,39 @@ fits_taken pairs taken after closed passes place foremost j (Putting number sent
 fits_taken pairs taken after closed passes place foremost j (Getting made got known) other h = absurd (other (h.foremost ∙ sym foremost))
 fits_taken pairs taken after closed passes place foremost j Ended other h = tt
 
+-- the oldest outcome is that of the first pair inside
+oldest : (x : Job) (items : List Job) (inside : List (ℕ × Job)) → outcomes_in inside ≡ x ∷ items
+    → (worker : ℕ) × (rest : List (ℕ × Job)) × (inside ≡ (worker, x) ∷ rest) × (outcomes_in rest ≡ items)
+oldest x items [] held = absurd (cc)
+oldest x items (p ∷ ps) held = let is : p.1 ≡ x = cc in (p.0, ps, ap (λ (o : Job). (p.0, o) ∷ ps) is, cc)
+
 pub gets : (place : ℕ) (v : QueueView) (made : ℕ) (got : List (ℕ × Job)) (known : List (List Job)) → v ≡ Getting made got known
     → Pops IsLawful place v (IsGot v)
 gets place v made got known e = rw e (λ x items views h at.
-    let pairs : List (ℕ × Job) = h.taken ++ x ∷ items in
-    let after : List (ℕ × Job) = h.taken ++ x ∷ [] in
-    let w : QueueView = Getting made (got ++ x ∷ []) known in
-    let mine : FitsGet pairs h.taken h.closed (length views) place made got known = h.fits place (Getting made got known) at in
-    let fits : FitsGet pairs after h.closed (length views) place made (got ++ x ∷ []) known =
+    let first = oldest x items h.inside h.held in
+    let pair : ℕ × Job = (first.0, x) in
+    let pairs : List (ℕ × Job) = h.taken ++ pair ∷ first.1 in
+    let after : List (ℕ × Job) = h.taken ++ pair ∷ [] in
+    let w : QueueView = Getting made (got ++ pair ∷ []) known in
+    let fitted : Each (Fits pairs h.taken h.closed (length views)) views = rw first.2 at h.fits in
+    let mine : FitsGet pairs h.taken h.closed (length views) place made got known = fitted place (Getting made got known) at in
+    let fits : FitsGet pairs after h.closed (length views) place made (got ++ pair ∷ []) known =
     record {
       foremost = mine.foremost;
       count = mine.count;
-      all_got = ap (λ (l : List (ℕ × Job)). l ++ x ∷ []) mine.all_got;
+      all_got = ap (λ (l : List (ℕ × Job)). l ++ pair ∷ []) mine.all_got;
       ended_known = mine.ended_known;
       accounts = mine.accounts;
     } in
     let all : Each (Fits pairs after h.closed (length views)) (set views place w) =
     each_set (Fits pairs after h.closed (length views)) views place w fits
-    (λ j u other e. fits_taken pairs h.taken after h.closed (length views) place mine.foremost j u other (h.fits j u e)) in
-    let got_now : Getting made (got ++ x ∷ []) known ≡ Getting made after known =
-    ap (λ (l : List (ℕ × Job)). Getting made (l ++ x ∷ []) known) mine.all_got in
-    let first = first_set views place _ w mine.foremost h.getter ∙ ap some got_now in (
+    (λ j u other e. fits_taken pairs h.taken after h.closed (length views) place mine.foremost j u other (fitted j u e)) in
+    let got_now : Getting made (got ++ pair ∷ []) known ≡ Getting made after known =
+    ap (λ (l : List (ℕ × Job)). Getting made (l ++ pair ∷ []) known) mine.all_got in (
       w,
-      lawful pairs items after h.closed (length views) made known (set views place w) (append_assoc h.taken (x ∷ []) items)
-          (length-set views place w) first all,
-      (refl, next_below made h.taken x items mine.accounts.below),
+      lawful after first.1 h.closed made known first.3 (append_assoc h.taken (pair ∷ []) first.1) (length-set views place w)
+          (first_set views place w mine.foremost (in_views views 0 _ h.getter) ∙ ap some got_now) all,
+      (first.0, next_below made h.taken pair first.1 mine.accounts.below, refl),
     ))
 
 -- ---- a pass is made for the next worker
@@ -295,18 +254,10 @@ fits_made pairs taken closed passes after place foremost j (Putting number sent)
 fits_made pairs taken closed passes after place foremost j (Getting made got known) other h = absurd (other (h.foremost ∙ sym foremost))
 fits_made pairs taken closed passes after place foremost j Ended other h = tt
 
--- one view more, at the end
-each_more : (F : ℕ → QueueView → Type 0) (views : List QueueView) (w : QueueView) → Each F views → F (length views) w
-    → Each F (views ++ w ∷ [])
-each_more F views w h fits j u e =
-    ⊎_elim (λ (x : get_elem? views j ≡ some u). h j u x)
-    (λ (x : (j ≡ length views) × (w ≡ u)). subst (λ (y : ℕ × QueueView). F y.0 y.1) (λ i. (sym x.0 i, x.1 i)) fits)
-    (at_end views w u j e)
-
 pub forks : (place : ℕ) (v : QueueView) (made : ℕ) (got : List (ℕ × Job)) → v ≡ Getting made got []
     → Forks IsLawful place v (after_making_one v) (one_made v)
 forks place v made got e = rw e (λ items views h at.
-    let pairs : List (ℕ × Job) = h.taken ++ items in
+    let pairs : List (ℕ × Job) = h.taken ++ h.inside in
     let mine : FitsGet pairs h.taken h.closed (length views) place made got [] = h.fits place (Getting made got []) at in
     let count : length views ≡ suc made = mine.count in
     let ended : 0 ≡ h.closed = mine.ended_known in
@@ -329,8 +280,9 @@ forks place v made got e = rw e (λ items views h at.
     record { place_is = omega arith; running = omega arith; all_sent = sym (of_none made made pairs mine.accounts.below (omega arith)) } in
     let longer : length (vs ++ Putting made [] ∷ []) ≡ length vs + 1 = length_push vs (Putting made []) in
     let got_now : left ≡ Getting (made + 1) h.taken [] = ap (λ (l : List (ℕ × Job)). Getting (made + 1) l []) mine.all_got in
-    let first = first_longer vs _ (Putting made []) (first_set views place _ left mine.foremost h.getter ∙ ap some got_now) in
-    lawful pairs items h.taken h.closed (made + 2) (made + 1) [] (vs ++ Putting made [] ∷ []) refl (omega arith) first
+    let first = at_longer vs (Putting made [] ∷ []) 0 _
+    (first_set views place left mine.foremost (in_views views 0 _ h.getter) ∙ ap some got_now) in
+    lawful h.taken h.inside h.closed (made + 1) [] h.held refl (omega arith) first
     (each_more F vs (Putting made []) old fresh))
 
 -- ---- a worker's pass is reclaimed
@@ -348,21 +300,20 @@ fits_ended pairs taken closed passes place ended foremost is j (Getting made got
     absurd (other (h.foremost ∙ sym foremost))
 fits_ended pairs taken closed passes place ended foremost is j Ended other apart h = tt
 
-merges_at : (place other made : ℕ) (got : List (ℕ × Job)) (known : List (List Job)) (sent : List Job)
-    → Merges IsLawful place (Getting made got known) other (Putting (length known) sent) (Getting made got (known ++ sent ∷ [])) Ended
-merges_at place other made got known sent items views h at two at_other =
+pub merges : (place : ℕ) (v : QueueView) (other : ℕ) (u : QueueView) (made : ℕ) (got : List (ℕ × Job)) (known : List (List Job))
+    (number : ℕ) (sent : List Job)
+    → v ≡ Getting made got known → u ≡ Putting number sent → number ≡ length known
+    → Merges IsLawful place v other u (after_reclaiming_sent v u) Ended
+merges place v other u made got known number sent e e' is = rw e (rw (e' ∙ ap (λ (n : ℕ). Putting n sent) is) (λ items views h at
+    two at_other.
     let both : QueueView = Getting made got (known ++ sent ∷ []) in
     let theirs : QueueView = Putting (length known) sent in
-    let pairs : List (ℕ × Job) = h.taken ++ items in
+    let pairs : List (ℕ × Job) = h.taken ++ h.inside in
     let mine : FitsGet pairs h.taken h.closed (length views) place made got known = h.fits place (Getting made got known) at in
     let ended : length known ≡ h.closed = mine.ended_known in
     let vs : List QueueView = set views place both in
-    let was : get_elem? views other ≡ some theirs =
-    ⊎_elim
-    (λ (x : (other ≡ place) × (both ≡ theirs)). absurd (two x.0))
-    (λ (x : (other ≢ place) × (get_elem? views other ≡ some theirs)). x.1)
-    (at_set views place other both theirs at_other) in
-    let their_fit : FitsPut pairs h.closed other (length known) sent = h.fits other theirs was in
+    let their_fit : FitsPut pairs h.closed other (length known) sent =
+    h.fits other theirs (was_there views place other both theirs two at_other) in
     let last : other ≡ suc h.closed = their_fit.place_is ∙ ap suc ended in
     let longer : length (known ++ sent ∷ []) ≡ length known + 1 = length_push known sent in
     let fits : FitsGet pairs h.taken (h.closed + 1) (length views) place made got (known ++ sent ∷ []) =
@@ -380,58 +331,52 @@ merges_at place other made got known sent items views h at two at_other =
     let done : Each F (set vs other Ended) = each_set F vs other Ended tt (λ j u ne e. apart j u e ne) in
     let got_now : both ≡ Getting made h.taken (known ++ sent ∷ []) =
     ap (λ (l : List (ℕ × Job)). Getting made l (known ++ sent ∷ [])) mine.all_got in
-    let first = first_same vs other _ Ended (omega arith) (first_set views place _ both mine.foremost h.getter ∙ ap some got_now) in
-    lawful pairs items h.taken (h.closed + 1) (length views) made (known ++ sent ∷ []) (set vs other Ended) refl
-    (length-set vs other Ended ∙ length-set views place both) first done
-
-pub merges : (place : ℕ) (v : QueueView) (other : ℕ) (u : QueueView) (made : ℕ) (got : List (ℕ × Job)) (known : List (List Job))
-    (number : ℕ) (sent : List Job)
-    → v ≡ Getting made got known → u ≡ Putting number sent → number ≡ length known
-    → Merges IsLawful place v other u (after_reclaiming_sent v u) Ended
-merges place v other u made got known number sent e e' is =
-    let e'' : u ≡ Putting (length known) sent = e' ∙ ap (λ (n : ℕ). Putting n sent) is in
-    subst (λ (p : QueueView × QueueView). Merges IsLawful place p.0 other p.1 (after_reclaiming_sent p.0 p.1) Ended)
-    (λ i. (sym e i, sym e'' i))
-    (merges_at place other made got known sent)
+    let first = set_else vs other 0 Ended (λ q. omega arith)
+    ∙ first_set views place both mine.foremost (in_views views 0 _ h.getter) ∙ ap some got_now in
+    lawful h.taken h.inside (h.closed + 1) made (known ++ sent ∷ []) h.held refl
+    (length-set vs other Ended ∙ length-set views place both) first done))
 
 -- ---- what the pass to get learns of the queue
 
 pub tells : (place : ℕ) (v : QueueView) (made : ℕ) (got : List (ℕ × Job)) (known : List (List Job)) → v ≡ Getting made got known
     → Learns IsLawful place v (Tells v)
 tells place v made got known e = rw e (λ items views h at.
-    let mine : FitsGet (h.taken ++ items) h.taken h.closed (length views) place made got known = h.fits place (Getting made got known) at in
-    subst (λ (g : List (ℕ × Job)). Accounts made known (g ++ items)) (sym mine.all_got) mine.accounts)
+    let mine : FitsGet (h.taken ++ h.inside) h.taken h.closed (length views) place made got known =
+    h.fits place (Getting made got known) at in
+    (h.inside, h.held, subst (λ (g : List (ℕ × Job)). Accounts made known (g ++ h.inside)) (sym mine.all_got) mine.accounts))
 
 -- the pass to get has reclaimed one pass more
 pub reclaimed : (v u after : QueueView) (made : ℕ) (got : List (ℕ × Job)) (known : List (List Job)) (number : ℕ) (sent : List Job)
-    → v ≡ Getting made got known → u ≡ Putting number sent → after ≡ after_reclaiming_sent v u → after ≡ Getting made got (known ++ sent ∷ [])
+    → v ≡ Getting made got known → u ≡ Putting number sent → after ≡ after_reclaiming_sent v u
+    → after ≡ Getting made got (known ++ sent ∷ [])
 reclaimed v u after made got known number sent getting putting is = is ∙ λ i. after_reclaiming_sent (getting i) (putting i)
 
 -- once it has reclaimed all, it learns what all workers have sent
 pub whole_when_reclaimed : (v : QueueView) (made left : ℕ) (got : List (ℕ × Job)) (known rest all : List (List Job))
     → v ≡ Getting made got known → length rest ≡ 0 → known ++ rest ≡ all → Held left (Tells v)
-    → Held left (λ items. Accounts made all (got ++ items))
+    → (inside : List (ℕ × Job)) × (length inside ≡ left) × Accounts made all (got ++ inside)
 whole_when_reclaimed v made left got known (x ∷ xs) all getting none whole held = absurd (omega arith)
 whole_when_reclaimed v made left got known [] all getting none whole held =
-    let accounts : Accounts made known (got ++ held.0) = subst (λ (u : QueueView). Tells u held.0) getting held.2 in (
-      held.0,
-      held.1,
-      subst (λ (sent : List (List Job)). Accounts made sent (got ++ held.0))
-          (sym (append-nil known) ∙ whole) accounts,
+    let told : Tells (Getting made got known) held.0 = subst (λ (u : QueueView). Tells u held.0) getting held.2 in (
+      told.0,
+      sym (length-map told.0 (λ (p : ℕ × Job). p.1)) ∙ ap (λ (l : List Job). length l) told.1 ∙ held.1,
+      subst (λ (sent : List (List Job)). Accounts made sent (got ++ told.0)) (sym (append-nil known) ∙ whole) told.2,
     )
 
 -- ==== The rule of the results queue, in plain words
 
-pub queue_is_lawful : (items : List (ℕ × Job)) (views : List QueueView) → IsLawful items views → IsWholeAndInOrder items views
+pub queue_is_lawful : (items : List Job) (views : List QueueView) → IsLawful items views → IsWholeAndInOrder items views
 queue_is_lawful items views h =
-    let pairs : List (ℕ × Job) = h.taken ++ items in
+    let pairs : List (ℕ × Job) = h.taken ++ h.inside in
     let first : FitsGet pairs h.taken h.closed (length views) 0 h.made h.taken h.known =
     h.fits 0 (Getting h.made h.taken h.known) h.getter in
     let count : length views ≡ suc h.made = first.count in
     record {
       workers = h.made;
       got = h.taken;
+      inside = h.inside;
       ended = h.known;
+      held = h.held;
       gets = h.getter;
       no_other_gets = λ place others them lists at.
           let fits : FitsGet pairs h.taken h.closed (length views) place others them lists = h.fits place (Getting others them lists) at in

@@ -1,8 +1,9 @@
 //! A batch: the lines of position files, solved by many workers and answered in order.
-ghost use Rattle.std.specs.Prelude.{◌≡◌, ◌<◌, false};
+ghost use Rattle.std.specs.Prelude.{◌≡◌, ◌<◌, [], false, true, IfErr, IfOk, OnOk};
 ghost use Rattle.kalah_run.specs.Limits.{AreWorkers, IsTableSize};
+ghost use Rattle.kalah_jobs.specs.Writing.Given.{WasGiven};
 ghost use Rattle.kalah_jobs.specs.Writing.Output.{output_of, output_to};
-ghost use Rattle.kalah_run.specs.Batch.Answering.{AnswersBatch, SolvesAll};
+ghost use Rattle.kalah_run.specs.Batch.Answering.{AnswersBatch, SolvesAll, counts_of};
 ghost use Rattle.kalah_run.specs.declared.batch.request.Rest.TheVariants.{Solve};
 
 mod crew;
@@ -86,6 +87,16 @@ pub fn answer_batch<R: Threads + Wait + Sync, G: Gate, V: Watch, W: Sink>(
     if jobs.total() > 0 {
         OpenBatch::open(alloc, request, &jobs, gate)?.run(rt, watch, out)?;
     }
+    flush_and_count(&jobs, out)
+}
+
+// Flushes the output, and counts the lines of the jobs. Fails with `Write` if the output has failed.
+fn flush_and_count<W: Sink>(jobs: &Jobs, out: &mut W) -> Result<Tally, RunFault>
+    ensures given { WasGiven W.written W.has_failed out.old out.new [] }
+    ensures counted { IfOk result (λ tally. tally ≡ counts_of jobs.now) }
+    ensures handed_on { OnOk result ((W.has_failed out.new ≡ false) × (W.is_handed_on out.new ≡ true)) }
+    ensures fault { IfErr result (λ e. (e ≡ RunFault.Write) × (W.has_failed out.new ≡ true)) }
+{
     flush_unless_failed(out);
     if out.failed() {
         return Err(RunFault::Write);

@@ -1,5 +1,5 @@
 //! The results queue: outcomes on their way from many workers to one collector.
-ghost use Rattle.std.specs.Prelude.{◌≡◌, ◌≤◌, ◌<◌, ℕ, List, [], ◌∷◌, ◌++◌, length, All, IfNone, IfOk, MatchOption, vec_len};
+ghost use Rattle.std.specs.Prelude.{◌≡◌, ◌≤◌, ◌<◌, ℕ, true, false, List, [], ◌∷◌, ◌++◌, length, All, IfNone, IfOk, MatchOption, vec_len};
 ghost use Rattle.crossbeam_queue.specs.Passes.{view, IsPassOf};
 ghost use Rattle.kalah_jobs.specs.declared.files.job.Job.{Job};
 ghost use Rattle.kalah_run.specs.Limits.{AreQueuePlaces, AreWorkers};
@@ -14,9 +14,7 @@ pub(crate) mod rule;
 mod waiting;
 
 use crate::queue::passes::{GetPass, PutPass};
-use crate::queue::rule::{
-    AnotherWorker, Gets, LeftInside, Puts, Reclaims, RuledPass, RuledQueue, Tagged,
-};
+use crate::queue::rule::{AnotherWorker, Gets, LeftInside, Puts, Reclaims, RuledQueue};
 use crate::queue::waiting::{Waiters, Waiting};
 use crossbeam_utils::{Backoff, CachePadded};
 use kalah_jobs::Outcome;
@@ -29,11 +27,18 @@ use std::sync::atomic::{AtomicIn, Rule};
 #[cfg(test)]
 mod tests;
 
+// The rule of a word that is never 1.
+struct NeverEnds;
+
+impl Rule for NeverEnds {
+    ghost invariant = { λ word. word ≡ 0 };
+}
+
 /// A queue of fixed capacity that threads share: workers put outcomes, and one collector gets them. Contracts see it as its
 /// identity and its capacity.
 #[derive(Drop)]
 pub struct ResultsQueue {
-    pairs: RuledQueue,
+    outcomes: RuledQueue,
     // The threads that wait for an outcome, and those that wait for room. Threads change these all the time, and read what is next to them.
     getters: CachePadded<Waiters>,
     putters: CachePadded<Waiters>,
@@ -47,9 +52,9 @@ impl Model for ResultsQueue {
 
     ghost Value = { QueueState };
 
-    ghost view = { λ q. record { id = q.pairs.table.shared.table_id; capacity = ruled_capacity q.pairs } };
+    ghost view = { λ q. record { id = q.outcomes.table.shared.table_id; capacity = ruled_capacity q.outcomes } };
 
-    ghost invariant = { λ q. ruled_capacity q.pairs ≤ most_places };
+    ghost invariant = { λ q. ruled_capacity q.outcomes ≤ most_places };
 }
 
 impl ResultsQueue {
@@ -69,20 +74,17 @@ impl ResultsQueue {
         ensures get { IfOk result (λ r. r.2 ≡ record { queue = r.0.id; workers = workers; got = [] }) }
     {
         let mut puts = Vec::with_capacity(alloc, workers as usize)?;
-        let (pairs, mut ruled) = RuledQueue::ruled(alloc, capacity as usize)?;
-        for number in 0..workers {
-            let theirs = pairs.another::<AnotherWorker>(&mut ruled);
-            puts.push_reserved(PutPass {
-                ruled: theirs,
-                number,
-            });
+        let (outcomes, mut ruled) = RuledQueue::ruled(alloc, capacity as usize)?;
+        for _ in 0..workers {
+            let theirs = outcomes.another::<AnotherWorker>(&mut ruled);
+            puts.push_reserved(PutPass { ruled: theirs });
         }
         let queue = ResultsQueue {
-            pairs,
+            outcomes,
             getters: CachePadded::new(Waiters::new()),
             putters: CachePadded::new(Waiters::new()),
         };
-        Ok((queue, puts, GetPass { ruled, workers }))
+        Ok((queue, puts, GetPass { ruled }))
     }
 
     /// Puts the outcome after all that this worker has sent. Blocks while the queue is full: first by spinning briefly, then by sleeping.
@@ -91,38 +93,42 @@ impl ResultsQueue {
         requires { pass.old.queue ≡ self.now.id }
         ensures { pass.new ≡ record pass.old { sent = pass.old.sent ++ outcome ∷ [] } }
     {
-        let pair = Tagged {
-            worker: pass.number,
-            outcome,
-        };
-        match self.pairs.try_push_as::<Puts>(&mut pass.ruled, pair) {
-            Ok(()) => self.getters.call_one(),
-            Err(back) => self.put_later(rt, pass, back),
+        if self.try_put(pass, outcome) {
+            self.getters.call_one();
+        } else {
+            self.put_later(rt, pass, outcome);
         }
     }
 
-    // Puts the pair of this worker, for which there was no room.
+    // Puts the outcome, for which there was no room.
     #[cold]
     #[inline(never)]
-    fn put_later<R: Wait>(&self, rt: &R, pass: &mut PutPass, pair: Tagged)
-        requires queue { pass.old.queue ≡ self.now.id }
-        requires own { pair.0 ≡ pass.old.number }
-        ensures { pass.new ≡ record pass.old { sent = pass.old.sent ++ pair.1 ∷ [] } }
+    fn put_later<R: Wait>(&self, rt: &R, pass: &mut PutPass, outcome: Outcome)
+        requires { pass.old.queue ≡ self.now.id }
+        ensures { pass.new ≡ record pass.old { sent = pass.old.sent ++ outcome ∷ [] } }
     {
-        let mut pair = pair;
         let mut waiting = Waiting::new(&self.putters);
         for _ in rt.forever() {
-            match self.pairs.try_push_as::<Puts>(&mut pass.ruled, pair) {
-                Ok(()) => {
-                    drop(waiting);
-                    self.getters.call_one();
-                    return;
-                }
-                Err(back) => pair = back,
+            if self.try_put(pass, outcome) {
+                drop(waiting);
+                self.getters.call_one();
+                return;
             }
             waiting.pause(rt);
         }
         unreachable!()
+    }
+
+    // Puts the outcome if there is room. Returns whether there was.
+    #[inline(always)]
+    fn try_put(&self, pass: &mut PutPass, outcome: Outcome) -> bool
+        requires { pass.old.queue ≡ self.now.id }
+        ensures put { result ≡ true → pass.new ≡ record pass.old { sent = pass.old.sent ++ outcome ∷ [] } }
+        ensures full { result ≡ false → pass.new ≡ pass.old }
+    {
+        self.outcomes
+            .try_push_as::<Puts>(&mut pass.ruled, outcome)
+            .is_ok()
     }
 
     /// Removes an outcome, the next of one of the workers, and returns it. Blocks while there is none: first by spinning briefly, then by
@@ -131,16 +137,19 @@ impl ResultsQueue {
         requires { pass.old.queue ≡ self.now.id }
         ensures { HasGot pass.old result pass.new }
     {
-        let mut waiting = Waiting::new(&self.getters);
-        for _ in rt.forever() {
-            if let Some(pair) = self.pairs.try_pop_as::<Gets>(&mut pass.ruled) {
-                drop(waiting);
-                self.putters.call_one();
-                return pair.outcome;
-            }
-            waiting.pause(rt);
-        }
-        unreachable!()
+        let Some(outcome) = self.get_to_end(rt, pass, None::<&AtomicIn<NeverEnds>>) else {
+            unreachable!()
+        };
+        outcome
+    }
+
+    // Gets an outcome, if there is one.
+    #[inline(always)]
+    fn try_get(&self, pass: &mut GetPass) -> Option<Outcome>
+        requires { pass.old.queue ≡ self.now.id }
+        ensures { MatchOption result (pass.new ≡ pass.old) (λ outcome. HasGot pass.old outcome pass.new) }
+    {
+        self.outcomes.try_pop_as::<Gets>(&mut pass.ruled)
     }
 
     // Says that the workers have ended, so that the collector waits for no further outcome. The word is 1 from then on, and its rule has
@@ -152,12 +161,12 @@ impl ResultsQueue {
         self.getters.call_one();
     }
 
-    // Like `get`, but returns `None`, with nothing got, once the workers have ended and no outcome is left.
+    // Like `get`, but returns `None`, with nothing got, once the workers have ended and no outcome is left, if there is a word for that.
     pub(crate) fn get_to_end<R: Wait, E: Rule>(
         &self,
         rt: &R,
         pass: &mut GetPass,
-        ended: &AtomicIn<E>,
+        ended: Option<&AtomicIn<E>>,
     ) -> Option<Outcome>
         requires { pass.old.queue ≡ self.now.id }
         ensures got { MatchOption result (pass.new ≡ pass.old) (λ outcome. HasGot pass.old outcome pass.new) }
@@ -165,13 +174,16 @@ impl ResultsQueue {
     {
         let mut waiting = Waiting::new(&self.getters);
         for _ in rt.forever() {
-            let has_ended = ended.load(SeqCst);
-            if let Some(pair) = self.pairs.try_pop_as::<Gets>(&mut pass.ruled) {
+            let has_ended = match ended {
+                Some(word) => word.load(SeqCst) == 1,
+                None => false,
+            };
+            if let Some(outcome) = self.try_get(pass) {
                 drop(waiting);
                 self.putters.call_one();
-                return Some(pair.outcome);
+                return Some(outcome);
             }
-            if has_ended == 1 {
+            if has_ended {
                 return None;
             }
             waiting.pause(rt);
@@ -189,9 +201,9 @@ impl ResultsQueue {
     {
         let backoff = Backoff::new();
         while *tries > 0 {
-            if let Some(pair) = self.pairs.try_pop_as::<Gets>(&mut pass.ruled) {
+            if let Some(outcome) = self.try_get(pass) {
                 self.putters.call_one();
-                return Some(pair.outcome);
+                return Some(outcome);
             }
             *tries -= 1;
             if backoff.is_completed() {
@@ -212,22 +224,16 @@ impl ResultsQueue {
         ensures few { result.left ≤ self.capacity }
     {
         let ResultsQueue {
-            pairs,
+            outcomes,
             getters: _,
             putters: _,
         } = self;
-        let GetPass {
-            mut ruled,
-            workers: _,
-        } = pass;
+        let GetPass { mut ruled } = pass;
         for put in puts {
-            let PutPass {
-                ruled: theirs,
-                number: _,
-            } = put;
-            pairs.absorb::<Reclaims>(&mut ruled, theirs);
+            let PutPass { ruled: theirs } = put;
+            outcomes.absorb::<Reclaims>(&mut ruled, theirs);
         }
-        let left = pairs.len_as::<LeftInside, R>(rt, &mut ruled);
+        let left = outcomes.len_as::<LeftInside, R>(rt, &mut ruled);
         ClosedQueue { left: left as u32 }
     }
 }

@@ -1,11 +1,10 @@
 -- Shares of seeds, and the margins and windows that they make.
-use Rattle.std.proofs.Common.{◌≡◌, ℕ, ◌+◌, ◌*◌, ◌≤◌, arith, zero, suc, ◌-◌, ◌/◌, ◌<◌, inl, inr, ◌∙◌, ◌*ℤ◌, ap, w32, to_z, of_z}
-use Rattle.std.specs.Prelude.{max, min, ℤ, pos, ◌+ℤ◌, ◌-ℤ◌, ◌≤ℤ◌, false, sum, Contains, ◌<ℤ◌}
+use Rattle.std.proofs.Common.{◌≡◌, ℕ, ◌+◌, ◌*◌, ◌≤◌, arith, zero, suc, ◌-◌, ◌/◌, ◌<◌, inl, inr, ◌∙◌, ap, max, min, ℤ, pos, ◌+ℤ◌, ◌-ℤ◌, ◌≤ℤ◌, false, sum, Contains, ◌<ℤ◌}
 use Rattle.std.specs.Int.{int_max, int_min}
 use Rattle.std.proofs.lemmas.Int.{ints, clamps}
 use Rattle.kalah_rules.specs.Limits.{most_seeds}
 use Rattle.kalah_solve.specs.declared.bounds.window.Window.{Window}
-use Rattle.kalah_solve.specs.Bounds.Intervals.{within, least_margin, most_margin, Encloses}
+use Rattle.kalah_solve.specs.Bounds.Intervals.{IsHalf, within, least_margin, most_margin, Encloses}
 use Rattle.std.proofs.lemmas.Bool.{cases_Bool}
 use Rattle.kalah_rules.specs.Position.{Rows, IsWithinHouses, seeds_in_houses, is_over, bare}
 use Rattle.kalah_rules.specs.Measure.{moves_left}
@@ -21,13 +20,8 @@ use Rattle.kalah_solve.specs.declared.bounds.seed_bounds.SeedBounds.{SeedBounds}
 
 -- ==== Shares of seeds and the margins that they make
 
--- half of a number, rounded down, and 0 for one below 0
-pub record IsHalf (z : ℤ) (half : ℕ) : Type 0 where
-  pub low : pos (half + half) ≤ℤ int_max (pos 0) z
-  pub high : z ≤ℤ pos (half + half + 1)
-
 module _ (window : Window) (n low high : ℕ) (is_low : IsHalf (window.lo +ℤ pos n) low)
-    (is_high : IsHalf (window.hi +ℤ pos n +ℤ pos 1) high) where
+    (is_high : IsHalf (window.hi +ℤ pos 1 +ℤ pos n) high) where
   -- the shares of a window's ends are in order
   pub shares_ordered : low ≤ high
   shares_ordered = omega (arith, ints, clamps)
@@ -40,6 +34,18 @@ module _ (window : Window) (n low high : ℕ) (is_low : IsHalf (window.lo +ℤ p
   pub shares_apart : (t : ℕ) → t ≤ n → within window.lo window.hi (pos (2 * max low (min high t)) -ℤ pos n)
       ≡ within window.lo window.hi (pos (2 * t) -ℤ pos n)
   shares_apart t few = omega (arith, ints, clamps)
+
+-- the shares of an interval's ends
+module _ (interval : Interval) (n least most : ℕ) (few : n ≤ most_seeds) (is_least : IsHalf (interval.lo +ℤ pos 1 +ℤ pos n) least)
+    (is_most : IsHalf (interval.hi +ℤ pos n) most) where
+  -- bound the shares whose margins are in it
+  pub share_held : (t : ℕ) → t ≤ n → Encloses interval (pos (t + t) -ℤ pos n) → (least ≤ t) × (t ≤ min most most_seeds)
+  share_held t all holds = omega (arith, ints, clamps)
+
+  -- and no others
+  pub share_exact : pos 0 ≤ℤ (interval.hi +ℤ pos n) → (t : ℕ) → t ≤ n → least ≤ t → t ≤ min most most_seeds →
+      Encloses interval (pos (t + t) -ℤ pos n)
+  share_exact some t all low high = omega (arith, ints, clamps)
 
 -- ==== How many seeds a player takes: by houses, by a step, and by the best move
 
@@ -54,23 +60,22 @@ step_share : (a : Rows) (s : HousesStep) → LeadsOn a s →
     (t : ℕ) × IsShare (seeds_in_houses (bare a)) (worth_of_step s) t
 step_share a (Over own other) leads each = (own, record { few = omega arith; is = omega (arith, ints) })
 step_share a (Again gained b) leads each =
-    let on = each b gained leads in
+    let on = each b _ leads in
     (gained + on.0, record { few = omega arith; is = omega (arith, ints) })
 step_share a (Turn gained b) leads each =
-    let on = each b gained leads in
-    let left = seeds_in_houses (bare b) - on.0 in
-    (gained + left, record { few = omega arith; is = omega (arith, ints) })
+    let on = each b _ leads in
+    (gained + seeds_in_houses (bare b) - on.0, record { few = omega arith; is = omega (arith, ints) })
 
 -- what houses are worth is the margin of some share of their seeds, by the moves left
 share_by : (n : ℕ) (a : Rows) → IsWithinHouses a → moves_left (bare a) < n → (t : ℕ)
     × IsShare (seeds_in_houses (bare a)) (houses_worth a) t
 share_by zero a w few = absurd (omega arith)
-share_by (suc n) a w few = elim (cases_Bool (is_over (bare a))) [
-  | inl over ↦ (sum a.own, rw (worth_of_over (bare a) over) (record { few = omega arith; is = omega (arith, ints) }))
+share_by (suc n) a w few = elim (cases_Bool _) [
+  | inl over ↦ (sum a.own, rw (worth_of_over _ over) (record { few = omega arith; is = omega (arith, ints) }))
   | inr going ↦
       let at = worth_reached a w going in
-      rw (at.2, value_is a at.0 w at.1) (step_share a (houses_step a at.0) (leads_on a at.0 w at.1)
-      (λ b gained on. share_by n b on.limits (omega arith)))
+      rw (at.2, value_is a at.0 w at.1) (step_share a _ (leads_on a at.0 w at.1)
+      (λ b _ on. share_by n b on.limits (omega arith)))
 ]
 
 -- and the share is the one that the definition names
@@ -81,7 +86,7 @@ pub taken_share : {a : Rows} → IsWithinHouses a → IsShare (seeds_in_houses (
 unfolding won
 taken_share {a} w =
     let bounds = share_by (suc (moves_left (bare a))) a w (omega arith) in
-    rw (share_is (seeds_in_houses (bare a)) (houses_worth a) bounds.0 bounds.1) bounds.1
+    rw (share_is _ _ _ bounds.1) bounds.1
 
 -- so houses are worth what the mover takes less the others
 pub worth_of_taken : (a : Rows) → IsWithinHouses a → houses_worth a ≡ pos (won a + won a) -ℤ pos (seeds_in_houses (bare a))
@@ -107,11 +112,11 @@ worth_high a w = omega (arith, ints, (worth_up_to w).high)
 -- and the mover takes half of what they are worth and hold together
 pub half_is : (a : Rows) (worth : ℤ) (half : ℕ) → IsWithinHouses a → worth ≡ houses_worth a →
     IsHalf (worth +ℤ pos (seeds_in_houses (bare a))) half → half ≡ won a
-half_is a worth half w e is = omega (arith, ints, clamps, (taken_share w).is, is.low, is.high)
+half_is a worth half w e is = grind (arith, taken_share)
 
 -- the share of a move
 taken_of : (a : Rows) (s : HousesStep) → LeadsOn a s → IsShare (seeds_in_houses (bare a)) (worth_of_step s) (won_by_step s)
-taken_of a (Over own other) leads = record { few = omega arith; is = omega (arith, ints) }
+taken_of a (Over own other) leads = omega (arith, ints)
 taken_of a (Again gained b) leads =
     let on = taken_share leads.limits in
     record { few = omega arith; is = omega (arith, ints) }
@@ -123,7 +128,7 @@ module _ (a : Rows) (w : IsWithinHouses a) where
   -- the share of the move of house h
   pub taken_by_move : (h : ℕ) → Contains (legal_houses (bare a)) h →
       IsShare (seeds_in_houses (bare a)) (value_of_move (bare a) h) (won_by_step (houses_step a h))
-  taken_by_move h has = rw (value_is a h w has) (taken_of a (houses_step a h) (leads_on a h w has))
+  taken_by_move h has = rw (value_is a h w has) (taken_of a _ (leads_on a h w has))
 
   -- no move takes more than best play
   pub taken_most : (h : ℕ) → Contains (legal_houses (bare a)) h → won_by_step (houses_step a h) ≤ won a
@@ -132,11 +137,13 @@ module _ (a : Rows) (w : IsWithinHouses a) where
   -- and some move takes as many
   pub taken_reached : is_over (bare a) ≡ false → (h : ℕ) × Contains (legal_houses (bare a)) h
       × (won_by_step (houses_step a h) ≡ won a)
-  taken_reached going =
-      let at = worth_reached _ w going in
-      (at.0, at.1, omega (arith, ints, (taken_by_move at.0 at.1).is, (taken_share w).is))
+  taken_reached going = grind (arith, worth_reached, taken_by_move, taken_share)
 
 -- ==== The answer of the search in a window
+
+-- which is in it
+pub within_both : (lo hi z : ℤ) → lo <ℤ hi → (lo ≤ℤ within lo hi z) × (within lo hi z ≤ℤ hi)
+within_both lo hi z ordered = omega (arith, ints, clamps)
 
 -- an interval that leaves nothing of it open answers
 pub known_answers : (lo hi z : ℤ) (k : Interval) → lo <ℤ hi → Encloses k z → int_min hi k.hi ≤ℤ int_max lo k.lo →
@@ -144,26 +151,16 @@ pub known_answers : (lo hi z : ℤ) (k : Interval) → lo <ℤ hi → Encloses k
 known_answers lo hi z k ordered holds none = omega (arith, ints, clamps)
 
 -- what the mover takes, raised and lowered to the shares that a window distinguishes, makes the worth in the window
-pub won_by_bounds : (a : Rows) (lo hi : ℤ) (n t : ℕ) (asked : SeedBounds) → IsWithinHouses a → n ≡ seeds_in_houses (bare a) →
+pub won_by_bounds : {a : Rows} (lo hi : ℤ) (asked : SeedBounds) {m : ℤ} {n t : ℕ} → IsWithinHouses a → n ≡ seeds_in_houses (bare a) →
     asked.least ≤ asked.most →
     ((u : ℕ) → u ≤ n → within lo hi (pos (2 * max asked.least (min asked.most u)) -ℤ pos n) ≡ within lo hi
     (pos (2 * u) -ℤ pos n)) →
-    t ≡ max asked.least (min asked.most (won a)) → {answer : ℤ} →
-    answer ≡ within lo hi (to_z w32 (of_z w32 (to_z w32 (of_z w32 (pos 2 *ℤ to_z w32 t)) -ℤ to_z w32 n))) →
-    answer ≡ within lo hi (houses_worth a)
-won_by_bounds a lo hi n t asked w all ordered apart is e =
-    let margin : to_z w32 (of_z w32 (to_z w32 (of_z w32 (pos 2 *ℤ to_z w32 t)) -ℤ to_z w32 n)) ≡ pos (2 * t) -ℤ pos n =
-    omega (arith, ints, is) in
+    t ≡ max asked.least (min asked.most (won a)) → m ≡ pos (2 * t) -ℤ pos n → within lo hi m ≡ within lo hi (houses_worth a)
+won_by_bounds {a} lo hi asked {n = n} w all ordered apart is m_is =
     let worth_is : pos (2 * won a) -ℤ pos n ≡ houses_worth a = omega (arith, ints, worth_of_taken a w) in
-    e ∙ ap (within lo hi) margin ∙ ap (λ s. within lo hi (pos (2 * s) -ℤ pos n)) is
-    ∙ apart (won a) (omega (arith, (taken_share w).few)) ∙ ap (within lo hi) worth_is
+    rw (m_is, is) (apart _ (omega (arith, (taken_share w).few)) ∙ ap (within lo hi) worth_is)
 
 -- so does what the mover takes of an ending
-pub told_by_taken : {a : Rows} (lo hi : ℤ) (n t : ℕ) → IsWithinHouses a → n ≡ seeds_in_houses (bare a) → t ≡ won a →
-    {answer : ℤ} → answer ≡ within lo hi (to_z w32 (of_z w32 (to_z w32 (of_z w32 (pos 2 *ℤ to_z w32 t)) -ℤ to_z w32 n))) →
-    answer ≡ within lo hi (houses_worth a)
-told_by_taken {a} lo hi n t w all is e =
-    let few = (taken_share w).few in
-    let margin : to_z w32 (of_z w32 (to_z w32 (of_z w32 (pos 2 *ℤ to_z w32 t)) -ℤ to_z w32 n)) ≡ houses_worth a =
-    omega (arith, ints, is, few, worth_of_taken a w) in
-    e ∙ ap (within lo hi) margin
+pub told_by_taken : {a : Rows} {m : ℤ} {n t : ℕ} → IsWithinHouses a → n ≡ seeds_in_houses (bare a) → t ≡ won a →
+    m ≡ pos (2 * t) -ℤ pos n → m ≡ houses_worth a
+told_by_taken {a} w all is m_is = omega (arith, ints, worth_of_taken a w)

@@ -1,12 +1,10 @@
 -- Marks of houses, and the moves that were tried.
-use Rattle.std.proofs.Common.{◌≡◌, ◌≢◌, ℕ, zero, suc, ◌+◌, ◌*◌, ◌/◌, ◌%◌, ◌^◌, ◌-◌, ◌<◌, ◌≤◌, inl, inr, List, [], ◌∷◌, get_or, arith, sym, refl, ap, ◌∙◌, length, subst}
-use Rattle.std.specs.Prelude.{min, sum, ◌↔◌, slice_index, Bool, true, false, IsTrue, Contains, max, slice_set}
-use Rattle.std.specs.Int.Bits.{bit_and, bit_or, bit_xor, xor_add_and, xor_self, xor_zero_r}
+use Rattle.std.proofs.Common.{◌≡◌, ◌≢◌, ℕ, zero, suc, ◌+◌, ◌*◌, ◌/◌, ◌%◌, ◌^◌, ◌-◌, ◌<◌, ◌≤◌, inl, inr, List, [], ◌∷◌, get_or, arith, sym, refl, ap, ◌∙◌, length, subst, min, sum, ◌↔◌, slice_index, Bool, true, false, IsTrue, Contains, max, slice_set, pow_mono, length-set}
+use Rattle.std.specs.Int.Bits.{bit_and, bit_or, bit_xor, xor_add_and, xor_self}
 use Rattle.std.proofs.lemmas.Nat.{leading_top, xor_lt, and_block, or_block, and_mask, and_le_l, and_le_r, or_lt, le_or_l, le_or_r, xor_mod, xor_shr}
 use Rattle.std.proofs.lemmas.List.Sums.{sum_by-cons}
 use Rattle.std.proofs.lemmas.Bool.{cases_lt, cases_eq}
 use Rattle.std.specs.Int.Count.{count_leading_zeros}
-use Rattle.std.proofs.Math.Pow.{pow_mono}
 use Rattle.kalah_rules.specs.Key.{number_of}
 use Rattle.kalah_rules.specs.Packed.{BeginsHouse}
 use Rattle.kalah_rules.proofs.KeyLemmas.{pow_five}
@@ -14,7 +12,6 @@ use Rattle.kalah_solve.specs.RowMarks.{cell, each, distances, AreMarks, IsLastMa
 use Rattle.std.proofs.lemmas.List.{get_or_past, get_or-set_same, get_or-set_other, get_or_default}
 use Rattle.kalah_rules.specs.Position.{Rows, IsWithinHouses, seeds, seeds_in_houses, is_over, bare}
 use Rattle.kalah_solve.specs.Search.Tried.{EndsInStore, IsSoftBound, WinsAtMost, IsTurnOf, AreWaiting}
-use Rattle.std.proofs.Math.ListN.{length-set}
 use Rattle.kalah_rules.specs.Play.{legal_houses}
 use Rattle.kalah_rules.specs.HousesStep.{houses_step}
 use Rattle.kalah_rules.specs.declared.step.HousesStep.TheVariants.{Turn}
@@ -38,31 +35,31 @@ next_power q = omega arith
 -- the highest cell with something
 pub top_cell : (q n : ℕ) → 32 ^ q ≤ n → n < 32 ^ suc q → 0 < cell n q
 top_cell zero n low high = omega arith
-top_cell (suc q) n low high = top_cell q (n / 32) (omega (arith, next_power q)) (omega (arith, next_power (suc q)))
+top_cell (suc q) n low high = top_cell q _ (omega arith) (omega arith)
 
 -- one less there leaves the others
 pub others_stay : (q i n : ℕ) → 32 ^ q ≤ n → n < 32 ^ suc q → i ≢ q → cell (n - 32 ^ q) i ≡ cell n i
-others_stay zero zero n low high other = absurd (other refl)
-others_stay zero (suc i) n low high other = let same : (n - 1) / 32 ≡ n / 32 = omega arith in ap (λ k. cell k i) same
-others_stay (suc q) zero n low high other = omega (arith, next_power q)
+others_stay zero zero n low high other = omega arith
+others_stay zero (suc i) n low high other = grind arith
+others_stay (suc q) zero n low high other = omega arith
 others_stay (suc q) (suc i) n low high other =
-    let rest : (n - 32 ^ suc q) / 32 ≡ n / 32 - 32 ^ q = omega (arith, next_power q) in
-    ap (λ k. cell k i) rest ∙ others_stay q i (n / 32) (omega (arith, next_power q)) (omega (arith, next_power (suc q)))
-    (λ same. other (ap suc same))
+    let rest : _ / 32 ≡ n / 32 - 32 ^ q = omega arith in
+    ap (λ k. cell k i) rest ∙ others_stay q i _ (omega arith) (omega arith)
+    (omega arith)
 
 -- and no more of it
 top_less : (q n : ℕ) → 32 ^ q ≤ n → n < 32 ^ suc q → cell (n - 32 ^ q) q ≤ cell n q
 top_less zero n low high = omega arith
 top_less (suc q) n low high =
-    let rest : (n - 32 ^ suc q) / 32 ≡ n / 32 - 32 ^ q = omega (arith, next_power q) in
-    rw rest (top_less q (n / 32) (omega (arith, next_power q)) (omega (arith, next_power (suc q))))
+    let rest : (n - 32 ^ suc q) / 32 ≡ n / 32 - 32 ^ q = omega arith in
+    rw rest (top_less q _ (omega arith) (omega arith))
 
 -- the highest cell with one bounds the number
 top_single : (q n : ℕ) → n < 32 ^ suc q → cell n q ≤ 1 → n < 2 * 32 ^ q
 top_single zero n high single = omega arith
 top_single (suc q) n high single =
-    let rest = top_single q (n / 32) (omega (arith, next_power (suc q))) single in
-    omega (arith, next_power q)
+    let rest = top_single q _ (omega arith) single in
+    omega arith
 
 -- so what is left of some marks without the last was there before, and each that is missing was that one or was not marked
 module _ (marks h : ℕ) (is : IsLastMark marks h) where
@@ -70,39 +67,36 @@ module _ (marks h : ℕ) (is : IsLastMark marks h) where
   last_marked = top_cell _ _ is.low is.high
 
   pub left_before : (i : ℕ) → 0 < cell (marks - 32 ^ (h - 1)) i → 0 < cell marks i
-  left_before i some = elim (cases_eq i (h - 1)) [
-    | inl same ↦ rw same last_marked
-    | inr other ↦ omega (arith, others_stay (h - 1) i marks is.low is.high other)
-  ]
+  left_before i some = grind (arith, cases_eq, last_marked, others_stay)
 
   pub gone_before : (i : ℕ) → i ≢ h - 1 → cell (marks - 32 ^ (h - 1)) i ≡ 0 → cell marks i ≡ 0
-  gone_before i other none = sym (others_stay _ _ _ is.low is.high other) ∙ none
+  gone_before i other none = omega (arith, others_stay)
 
 -- and there are fewer
 power_some : (q : ℕ) → 0 < 32 ^ q
 power_some zero = omega arith
-power_some (suc q) = omega (arith, next_power q, power_some q)
+power_some (suc q) = omega (arith, power_some q)
 
 pub marks_fall : {marks h : ℕ} → IsLastMark marks h → marks - 32 ^ (h - 1) < marks
-marks_fall {marks} {h} is = omega (arith, power_some (h - 1))
+marks_fall {marks} {h} is = omega arith
 
 -- the last mark is found by the leading zeros
 pub last_by_zeros : {marks : ℕ} (zeros : ℕ) → 0 < marks → marks < 2 ^ 30 → zeros ≡ count_leading_zeros 64 marks
     → IsLastMark marks ((63 - zeros) / 5 + 1)
 last_by_zeros {marks} zeros some small is =
-    let top = leading_top 64 marks some (omega arith) in
+    let top = leading_top 64 _ some (omega arith) in
     let q = (63 - zeros) / 5 in
     let at : q + 1 - 1 ≡ q = omega arith in
     let place : 63 - zeros ≡ top.0 = omega arith in
-    let low : 32 ^ q ≤ marks = let power : 2 ^ (5 * q) ≤ 2 ^ top.0 = pow_mono {i = 5 * q} (omega (arith, place)) in
-    omega (arith, pow_five q) in
-    let high : marks < 32 ^ suc q = let power : 2 ^ suc top.0 ≤ 2 ^ (5 * suc q) = pow_mono {i = suc top.0} (omega (arith, place)) in
-    omega (arith, pow_five (suc q)) in
+    let low : 32 ^ q ≤ marks = let power : 2 ^ _ ≤ 2 ^ top.0 = pow_mono {i = 5 * q} (omega arith) in
+    omega (arith, pow_five) in
+    let high : marks < 32 ^ suc q = let power : 2 ^ suc _ ≤ 2 ^ (5 * suc q) = pow_mono {i = suc top.0} (omega arith) in
+    omega (arith, pow_five) in
     record {
       first = omega arith;
       last = elim (cases_lt q 6) [
         | inl less ↦ omega arith
-        | inr many ↦ absurd (let power : 2 ^ 30 ≤ 2 ^ (5 * q) = pow_mono {i = 30} (omega arith) in omega (arith, pow_five q))
+        | inr many ↦ absurd (let power : 2 ^ 30 ≤ 2 ^ (5 * q) = pow_mono {i = 30} (omega arith) in omega (arith, pow_five))
       ];
       low = rw at low;
       high = rw at high;
@@ -119,7 +113,7 @@ last_begins {marks} zeros some are is =
     let few = top_single _ _ (rw at at last.high) (are.single q) in
     let place : 63 - zeros ≡ top.0 = omega arith in
     let whole : 5 * q ≡ 63 - zeros = elim (cases_lt (5 * q) (63 - zeros)) [
-      | inl less ↦ absurd (let power : 2 ^ suc (5 * q) ≤ 2 ^ top.0 = pow_mono {i = suc (5 * q)} (omega (arith, place)) in
+      | inl less ↦ absurd (let power : 2 ^ suc (5 * q) ≤ 2 ^ top.0 = pow_mono {i = suc (5 * q)} (omega arith) in
           omega (arith, pow_five q))
       | inr same ↦ omega arith
     ] in
@@ -128,25 +122,17 @@ last_begins {marks} zeros some are is =
 -- and worth so much
 pub last_is_worth : {marks bit : ℕ} → marks < 2 ^ 30 → IsLastMark marks (bit / 5 + 1) → BeginsHouse bit →
     1 * 2 ^ bit % 2 ^ 64 ≡ 32 ^ (bit / 5 + 1 - 1)
-last_is_worth {marks} {bit} small is begins =
-    let power = ap (λ n. 2 ^ n) begins.whole in
-    omega (arith, pow_five (bit / 5 + 1 - 1))
+last_is_worth {marks} {bit} small is begins = grind (arith, pow_five)
 
 -- the others are marks still
 pub marks_fewer : {marks h : ℕ} → AreMarks marks → IsLastMark marks h → AreMarks (marks - 32 ^ (h - 1))
-marks_fewer {marks} {h} are is = record {
-  small = omega (arith, are.small);
-  single = λ i. elim (cases_eq i (h - 1)) [
-    | inl same ↦ rw same (omega (arith, top_less (h - 1) marks is.low is.high, are.single (h - 1)))
-    | inr other ↦ rw (others_stay (h - 1) i marks is.low is.high other) (are.single i)
-  ];
-}
+marks_fewer {marks} {h} are is = grind (arith, cases_eq, top_less, others_stay)
 
 -- cells past a small row are empty
 pub cell_past : (k i n : ℕ) → n < 32 ^ k → k ≤ i → cell n i ≡ 0
 cell_past zero i n small past = let none : n ≡ 0 = omega arith in ap (λ j. cell j i) none ∙ cell_none i
-cell_past (suc k) zero n small past = absurd (omega arith)
-cell_past (suc k) (suc i) n small past = cell_past k i (n / 32) (omega (arith, next_power k)) (omega arith)
+cell_past (suc k) zero n small past = omega arith
+cell_past (suc k) (suc i) n small past = cell_past k i _ (omega arith) (omega arith)
 
 -- six cells with one at most are marks
 pub six_marks : {n : ℕ} → n < 2 ^ 30 → ((i : ℕ) → i < 6 → cell n i ≤ 1) → AreMarks n
@@ -158,10 +144,10 @@ six_marks {n} small single = record {
 -- ---- the cells of rows
 pub cell_of_row : (xs : List ℕ) (i : ℕ) → sum xs ≤ 31 → cell (number_of xs) i ≡ get_or xs i 0
 cell_of_row [] i few = cell_none i
-cell_of_row (x ∷ xs) zero few = let cons = sum_by-cons (λ (y : ℕ). y) x xs in omega arith
+cell_of_row (x ∷ xs) zero few = omega (arith, sum_by-cons)
 cell_of_row (x ∷ xs) (suc i) few =
     let cons = sum_by-cons (λ (y : ℕ). y) x xs in
-    let rest : (x + 32 * number_of xs) / 32 ≡ number_of xs = omega arith in
+    let rest : _ / 32 ≡ number_of xs = omega arith in
     ap (λ k. cell k i) rest ∙ cell_of_row xs i (omega arith)
 
 -- a cell before others
@@ -169,7 +155,7 @@ first_cell : (d r : ℕ) → d < 32 → (r * 32 + d) % 32 ≡ d
 first_cell d r small = omega arith
 
 later_cell : (d r i : ℕ) → d < 32 → cell (r * 32 + d) (suc i) ≡ cell r i
-later_cell d r i small = let rest : (r * 32 + d) / 32 ≡ r = omega arith in ap (λ j. cell j i) rest
+later_cell d r i small = grind arith
 
 -- ---- cells that hold something
 -- of one cell: whether it holds something, by its top bit once fifteen were added
@@ -179,7 +165,7 @@ one_filled x small = elim (cases_eq x 0) [
   | inr some ↦
       let low = and_mask x 4 in
       let most = or_lt 5 (bit_and x 15 + 15) x (omega arith) small in
-      omega (arith, le_or_l (bit_and x 15 + 15) x, le_or_r (bit_and x 15 + 15) x)
+      omega (arith, le_or_l, le_or_r)
 ]
 
 -- of the first k cells
@@ -201,10 +187,9 @@ filled_step k x r small =
     let either = or_block 5 (high + fifteens) r (low + 15) x (omega arith) small in
     let halved : (rest * 32 + d) / 16 ≡ rest / 16 * 32 + (rest % 16 * 2 + d / 16) = omega arith in
     let marks = and_block 5 (rest / 16) (each k 1) (rest % 16 * 2 + d / 16) 1 (omega arith) (omega arith) in
-    let parity = and_mask (rest % 16 * 2 + d / 16) 1 in
     let one = one_filled _ small in
     let last : (rest % 16 * 2 + d / 16) % 2 ≡ min 1 x = omega arith in
-    rw (both, added, either, halved, marks, parity, last) refl
+    rw (both, added, either, halved, marks, and_mask (rest % 16 * 2 + d / 16) 1, last) refl
 
 filled_next : (k n : ℕ) → filled_cells (suc k) n ≡ filled_cells k (n / 32) * 32 + min 1 (n % 32)
 filled_next k n =
@@ -212,126 +197,85 @@ filled_next k n =
     ap (λ j. filled_cells (suc k) j) parts ∙ filled_step _ _ _ (omega arith)
 
 pub filled_cell : (k n i : ℕ) → i < k → cell (filled_cells k n) i ≡ min 1 (cell n i)
-filled_cell zero n i inside = absurd (omega arith)
-filled_cell (suc k) n zero inside =
-    ap (λ j. j % 32) (filled_next k n) ∙ first_cell (min 1 (n % 32)) (filled_cells k (n / 32)) (omega arith)
+filled_cell zero n i inside = omega arith
+filled_cell (suc k) n zero inside = omega (arith, filled_next)
 filled_cell (suc k) n (suc i) inside =
-    ap (λ j. cell j (suc i)) (filled_next k n) ∙ later_cell (min 1 (n % 32)) (filled_cells k (n / 32)) i (omega arith)
-    ∙ filled_cell k (n / 32) i (omega arith)
+    ap (λ j. cell j (suc i)) (filled_next k n) ∙ later_cell (min 1 _) _ i (omega arith)
+    ∙ filled_cell k _ i (omega arith)
 
 -- ---- cells that are compared
 pub cell_xor : (i a b : ℕ) → cell (bit_xor a b) i ≡ bit_xor (cell a i) (cell b i)
 cell_xor zero a b = xor_mod a b 5
-cell_xor (suc i) a b = ap (λ k. cell k i) (xor_shr a b 5) ∙ cell_xor i (a / 32) (b / 32)
+cell_xor (suc i) a b = ap (λ k. cell k i) (xor_shr a b 5) ∙ cell_xor i (a / 32) _
 
 -- two numbers are apart by nothing only if they are equal
 xor_apart : (a b : ℕ) → bit_xor a b ≡ 0 → a ≡ b
-xor_apart a b none = omega (arith, xor_add_and a b, and_le_l a b, and_le_r a b)
+xor_apart a b none = omega (arith, xor_add_and, and_le_l, and_le_r)
 
 pub cell_of_each : (k i : ℕ) → i < k → cell (each k 1) i ≡ 1
-cell_of_each zero i inside = absurd (omega arith)
+cell_of_each zero i inside = omega arith
 cell_of_each (suc k) zero inside = omega arith
-cell_of_each (suc k) (suc i) inside = later_cell 1 (each k 1) i (omega arith) ∙ cell_of_each k i (omega arith)
+cell_of_each (suc k) (suc i) inside = later_cell 1 _ i (omega arith) ∙ cell_of_each k i (omega arith)
 
 pub past_each : (k i : ℕ) → k ≤ i → cell (each k 1) i ≡ 0
 past_each zero i past = cell_none i
-past_each (suc k) zero past = absurd (omega arith)
-past_each (suc k) (suc i) past = later_cell 1 (each k 1) i (omega arith) ∙ past_each k i (omega arith)
+past_each (suc k) zero past = omega arith
+past_each (suc k) (suc i) past = later_cell 1 _ i (omega arith) ∙ past_each k i (omega arith)
 
 pub cell_of_distances : (m i : ℕ) → m ≤ 6 → cell (distances m) i ≡ m - i
 cell_of_distances zero i few = cell_none i ∙ omega arith
 cell_of_distances (suc m) zero few = omega arith
-cell_of_distances (suc m) (suc i) few = later_cell (suc m) (distances m) i (omega arith)
+cell_of_distances (suc m) (suc i) few = later_cell (suc m) _ i (omega arith)
     ∙ cell_of_distances m i (omega arith) ∙ omega arith
 
 -- one mark, of a cell whose value equals its distance
 one_ending : (x d : ℕ) → (0 < bit_xor (min 1 (bit_xor x d)) 1) ↔ (x ≡ d)
-one_ending x d = elim (cases_eq x d) [
-  | inl same ↦
-      let none : bit_xor x d ≡ 0 = rw same (xor_self d) in
-      let marked : bit_xor (min 1 (bit_xor x d)) 1 ≡ 1 = rw none refl in
-      (λ some. same, λ is. omega arith)
-  | inr other ↦
-      let some : 0 < bit_xor x d = elim (cases_eq (bit_xor x d) 0)
-      [ inl none ↦ absurd (other (xor_apart _ _ none)) | inr more ↦ omega arith ] in
-      let full : min 1 (bit_xor x d) ≡ 1 = omega arith in
-      let none : bit_xor (min 1 (bit_xor x d)) 1 ≡ 0 = rw full refl in
-      (λ marked. absurd (omega arith), λ is. absurd (other is))
-]
+one_ending x d = grind (arith, cases_eq, bit_xor, xor_self, min, xor_apart)
 
 -- the marks of a row of m cells, by what was found of all of them at once
 module _ (f d e m n i : ℕ) (few : m ≤ 6) (d_is : d ≡ distances m) (e_is : e ≡ each m 1)
     (f_is : cell f i ≡ min 1 (cell (bit_xor n d) i)) where
   ending_cell : cell (bit_xor f e) i ≡ bit_xor (min 1 (bit_xor (cell n i) (m - i))) (cell (each m 1) i)
-  ending_cell =
-      let compared = cell_xor i n d ∙ ap (λ j. bit_xor (cell n i) j) (ap (λ k. cell k i) d_is ∙ cell_of_distances _ _ few) in
-      cell_xor i f e ∙ ap (λ k. bit_xor (cell f i) (cell k i)) e_is
-      ∙ ap (λ j. bit_xor j (cell (each m 1) i)) (f_is ∙ ap (λ j. min 1 j) compared)
+  ending_cell = grind (arith, cell_xor, bit_xor, cell, cell_of_distances, each, min)
 
   pub ending_marked : i < m → (0 < cell (bit_xor f e) i) ↔ (cell n i + i ≡ m)
-  ending_marked inside =
-      let is = ending_cell ∙ ap (λ j. bit_xor (min 1 (bit_xor (cell n i) (m - i))) j) (cell_of_each _ _ inside) in
-      let one = one_ending (cell n i) (m - i) in (
-        λ some. omega (arith, one.0 (omega arith)),
-        λ ends. let same : cell n i ≡ m - i = omega arith in
-            omega (arith, one.1 same),
-      )
+  ending_marked inside = grind (arith, ending_cell, cell_of_each, one_ending)
 
   pub ending_past : m ≤ i → cell n i ≡ 0 → cell (bit_xor f e) i ≡ 0
-  ending_past past none =
-      let at : m - i ≡ 0 = omega arith in
-      ending_cell ∙ rw (none, at, past_each m i past) refl
+  ending_past past none = grind (arith, ending_cell, past_each)
 
   pub ending_single : cell (bit_xor f e) i ≤ 1
-  ending_single =
-      let one : cell (each m 1) i < 2 = elim
-      (cases_lt i m) [ inl inside ↦ omega (arith, cell_of_each m i inside) | inr past ↦ omega (arith, past_each m i past) ] in
-      omega (arith, ending_cell, xor_lt 1 (min 1 (bit_xor (cell n i) (m - i))) (cell (each m 1) i) (omega arith) one)
+  ending_single = grind (arith, cases_lt, cell_of_each, past_each, ending_cell, xor_lt)
 
 -- one mark, of a cell that is filled and not among others that are
 pub one_other : (x f e : ℕ) → f ≡ min 1 x → e ≤ 1 → (0 < e → 0 < x) → (0 < bit_xor f e) ↔ ((0 < x) × ¬ (0 < e))
-one_other x f e f_is single within = elim (cases_eq e 0) [
-  | inl none ↦
-      let is : bit_xor f e ≡ f = ap (λ k. bit_xor f k) none ∙ xor_zero_r f in (
-        λ some. (omega arith, λ marked. omega arith),
-        λ both. let some = both.0 in omega arith,
-      )
-  | inr some ↦
-      let full : f ≡ 1 = let has = within (omega arith) in omega arith in
-      let one : e ≡ 1 = omega arith in
-      let none : bit_xor f e ≡ 0 = rw (full, one) refl in
-      (λ marked. absurd (omega arith), λ both. absurd (both.1 (omega arith)))
-]
+one_other x f e f_is single within = grind arith
 
 -- ==== Marks of a player's houses, by the cells of their row
 
 module _ (a : Rows) (row : ℕ) (w : IsWithinHouses a) (row_is : row ≡ number_of a.own) where
   -- the cells of the mover's row
   own_cell : (i : ℕ) → cell row i ≡ slice_index a.own i
-  own_cell i = ap (λ n. cell n i) row_is ∙ cell_of_row a.own i (omega arith)
+  own_cell i = grind (arith, cell_of_row)
 
   -- past the last house there is none
   own_past : (i : ℕ) → length a.own ≤ i → slice_index a.own i ≡ 0
-  own_past i past = get_or_past a.own i 0 past
+  own_past i past = simp (get_or_past)
 
   -- the last seed of a house falls into the store if its number of seeds equals its distance
   ends_at : (i : ℕ) → EndsInStore a (i + 1) ↔ (slice_index a.own i + i ≡ length a.own)
-  ends_at i =
-      let at : slice_index a.own (i + 1 - 1) ≡ slice_index a.own i = let place : i + 1 - 1 ≡ i = omega arith in
-      ap (λ j. slice_index a.own j) place in
-      (λ ends. omega arith, λ is. omega arith)
+  ends_at i = grind arith
 
   -- what is marked has seeds
   pub filled_marked : (n i : ℕ) → n < 2 ^ 30 → ((j : ℕ) → j < 6 → cell n j ≡ min 1 (cell row j)) →
       (0 < cell n i) ↔ (0 < slice_index a.own i)
   filled_marked n i small cells = elim (cases_lt i 6) [
     | inl inside ↦
-        let is = cells i inside in
         (λ some. omega (arith, own_cell i), λ some. omega (arith, own_cell i))
     | inr past ↦
         let none = cell_past _ _ _ small past in
         let nothing = own_past i (omega arith) in
-        (λ some. absurd (omega arith), λ some. absurd (omega arith))
+        (omega arith)
   ]
 
   -- the marks of those that end in the store
@@ -394,49 +338,32 @@ pub enough_of : (r : Bool) (bar x : ℕ) → (IsTrue r ↔ bar ≤ x) → r ≡ 
 enough_of r bar x says here = says.0 here
 
 pub short_of : (r : Bool) (bar x : ℕ) → (IsTrue r ↔ bar ≤ x) → r ≡ false → x < bar
-short_of r bar x says fails = elim (cases_lt x bar) [
-  | inl less ↦ less
-  | inr enough ↦ absurd (let here = says.1 (omega arith) in cc)
-]
+short_of r bar x says fails = grind arith
 
 -- a bound is at most the greater of `bar` and the number
 pub bound_up_to : {bar number bound : ℕ} → IsSoftBound bar number bound → bound ≤ max bar number
-bound_up_to {bar} {number} {bound} is = elim (cases_lt bound bar) [
-  | inl less ↦ omega arith
-  | inr enough ↦ omega (arith, is.lower enough)
-]
+bound_up_to {bar} {number} {bound} is = grind arith
 
 -- the most of some bounds that fall short falls short too, unless it is 0
 pub low_more : (bar most bound new : ℕ) → (bar ≤ most → most ≡ 0) → bound < bar → new ≡ max most bound → bar ≤ new
     → new ≡ 0
-low_more bar most bound new low short is enough = elim (cases_lt most bar) [
-  | inl less ↦ absurd (omega arith)
-  | inr more ↦ absurd (omega (arith, low more))
-]
+low_more bar most bound new low short is enough = omega arith
 
 -- what is left of all is bounded by what the bound leaves
 pub bound_left : (bar all seeds gained number bound : ℕ) → all ≡ gained + seeds → number ≤ seeds → gained < bar
     → bar ≤ all →
     IsSoftBound (all - bar + 1) number bound → IsSoftBound bar (gained + (seeds - number)) (all - bound)
-bound_left bar all seeds gained number bound is few low high b = elim (cases_lt bound (all - bar + 1)) [
-  | inl less ↦ let most = b.upper less in
-      record { lower = λ enough. omega arith; upper = λ short. absurd (omega arith) }
-  | inr enough ↦ let least = b.lower (omega arith) in
-      record {
-        lower = λ reached. absurd (omega arith);
-        upper = λ short. omega arith;
-      }
-]
+bound_left bar all seeds gained number bound is few low high b = omega arith
 
 -- a house with seeds may be moved, if the game goes on
 pub filled_legal : (a : Rows) (h : ℕ) → is_over (bare a) ≡ false → 1 ≤ h → h ≤ length a.own → 0 < seeds a.own h →
     Contains (legal_houses (bare a)) h
-filled_legal a h going first last some = holds_legal (bare a) h (record { first = first; last = last; some = some }) going
+filled_legal a h going first last some = holds_legal (bare a) h (omega arith) going
 
 -- a bound of a move that is enough is no more than best play takes
 pub move_enough : (a : Rows) (bar h bound : ℕ) → IsWithinHouses a → Contains (legal_houses (bare a)) h →
     IsSoftBound bar (won_by_step (houses_step a h)) bound → bar ≤ bound → bound ≤ won a
-move_enough a bar h bound w has is enough = omega (arith, is.lower enough, taken_most a w h has)
+move_enough a bar h bound w has is enough = omega (arith, taken_most a w h has)
 
 -- the same of a turn that was kept
 turn_bound : (a : Rows) (bar h priority bound : ℕ) (b : Rows) → IsTurnOf a h priority b →
@@ -452,7 +379,7 @@ turn_enough bound b w turn is = move_enough _ _ _ _ w turn.legal (turn_bound _ _
 pub turn_at_most : {a : Rows} {bar h priority : ℕ} (bound : ℕ) (b : Rows) → IsTurnOf a h priority b →
     IsSoftBound bar (seeds_in_houses (bare a) - seeds_in_houses (bare b) + (seeds_in_houses (bare b) - won b)) bound → bound < bar
     → WinsAtMost a bound h
-turn_at_most bound b turn is short = (turn_bound _ _ _ _ _ _ turn is).upper short
+turn_at_most bound b turn is short = grind arith
 
 -- a turn that was played waits
 pub turn_of : {a : Rows} {h priority gained : ℕ} {b : Rows} → IsWithinHouses a → Contains (legal_houses (bare a)) h →
@@ -472,7 +399,7 @@ turn_keeps a h priority b w turn =
 -- best play takes no more than each legal move does
 pub all_at_most : (a : Rows) (most : ℕ) → IsWithinHouses a → is_over (bare a) ≡ false →
     ((h : ℕ) → Contains (legal_houses (bare a)) h → WinsAtMost a most h) → won a ≤ most
-all_at_most a most w going each = let best = taken_reached a w going in omega (arith, each best.0 best.1)
+all_at_most a most w going each = grind (arith, taken_reached)
 
 -- each house with a priority waits with its turn
 pub record AreTurns (a : Rows) (priorities : List ℕ) (turns : List Rows) : Type 0 where
@@ -483,29 +410,17 @@ pub record AreTurns (a : Rows) (priorities : List ℕ) (turns : List Rows) : Typ
 turns_more : (a : Rows) (h : ℕ) (priorities : List ℕ) (turns : List Rows) (v : ℕ) (b : Rows) → AreTurns a priorities turns →
     length turns ≡ 6 → 1 ≤ h → h ≤ 6 → IsTurnOf a h v b →
     AreTurns a (slice_set priorities (h - 1) v) (slice_set turns (h - 1) b)
-turns_more a h priorities turns v b are places low last is = let inside : h - 1 < length turns =
-    omega (arith, places) in record {
-      cells = length-set priorities (h - 1) v ∙ are.cells;
-      each = λ k high d. elim (cases_eq k (h - 1)) [
-        | inl same ↦
-            let at : h ≡ k + 1 = omega arith in
-            let place : h - 1 < length priorities = omega (arith, are.cells) in
-            rw (same, get_or-set_same priorities (h - 1) v 0 place, get_or-set_same turns (h - 1) b d inside)
-            (subst (λ i. IsTurnOf a i v b) (at ∙ ap (λ i. i + 1) same) is)
-        | inr other ↦
-            rw (get_or-set_other priorities (h - 1) k v 0 other, get_or-set_other turns (h - 1) k b d other)
-            (are.each k (rw (get_or-set_other priorities (h - 1) k v 0 other) at high) d)
-      ];
-    }
+turns_more a h priorities turns v b are places low last is =
+    grind (arith, length-set, cases_eq, get_or-set_same, get_or-set_other)
 
 -- one that waits no more
 turns_fewer : (a : Rows) (priorities : List ℕ) (turns : List Rows) (at : ℕ) → AreTurns a priorities turns → at < 6 →
     AreTurns a (slice_set priorities at 0) turns
-turns_fewer a priorities turns at are place = let inside : at < length priorities = omega (arith, are.cells) in record {
-  cells = length-set priorities at 0 ∙ are.cells;
+turns_fewer a priorities turns at are place = let inside : at < length _ = omega arith in record {
+  cells = length-set _ at 0 ∙ are.cells;
   each = λ k high. elim (cases_eq k at) [
     | inl same ↦
-        let none : get_or (slice_set priorities at 0) k 0 ≡ 0 = rw same (get_or-set_same priorities at 0 0 inside) in
+        let none : get_or (slice_set priorities at 0) k 0 ≡ 0 = rw same (get_or-set_same _ at 0 0 inside) in
         absurd (omega arith)
     | inr other ↦ λ d. rw (get_or-set_other priorities at k 0 0 other)
         (are.each k (rw (get_or-set_other priorities at k 0 0 other) at high) d)
@@ -532,19 +447,19 @@ module _ (a : Rows) (most marks h : ℕ) (priorities : List ℕ) (turns : List R
   -- and waits with a priority
   pub played_more : (v : ℕ) (b : Rows) → 0 < v → IsTurnOf a h v b →
       ArePlayed a most (marks - 32 ^ (h - 1)) (slice_set priorities (h - 1) v) (slice_set turns (h - 1) b)
-  played_more v b some turn = let inside : h - 1 < length priorities = omega arith in record {
+  played_more v b some turn = let inside : h - 1 < length _ = omega arith in record {
     waiting = turns_more _ _ _ _ _ _ is.waiting is.places last.first last.last turn;
-    places = length-set turns (h - 1) b ∙ is.places;
+    places = length-set turns _ b ∙ is.places;
     others = λ i may gone none apart. elim (cases_eq i h) [
       | inl same ↦
-          let at = sym (get_or-set_same priorities (h - 1) v 0 inside)
+          let at = sym (get_or-set_same _ (h - 1) v 0 inside)
           ∙ subst (λ j. get_or (slice_set priorities (h - 1) v) (j - 1) 0 ≡ 0) same none in
           absurd (omega arith)
       | inr other ↦
           let first = (legal_holds (bare a) i may).first in
           let place : i - 1 ≢ h - 1 = omega arith in
-          is.others i may (gone_before marks h last (i - 1) place gone)
-          (rw (get_or-set_other priorities (h - 1) (i - 1) v 0 place) at none) apart
+          is.others i may (gone_before marks h last _ place gone)
+          (rw (get_or-set_other _ (h - 1) _ v 0 place) at none) apart
     ];
   }
 
@@ -559,7 +474,7 @@ module _ (a : Rows) (most marks h : ℕ) (priorities : List ℕ) (turns : List R
       | inr other ↦
           let first = (legal_holds (bare a) i may).first in
           let place : i - 1 ≢ h - 1 = omega arith in
-          omega (arith, is.others i may (gone_before marks h last (i - 1) place gone) none apart)
+          omega (arith, is.others i may (gone_before marks h last _ place gone) none apart)
     ];
   }
 
@@ -569,12 +484,12 @@ pub played_none : {a : Rows} {most marks : ℕ} {priorities : List ℕ} {turns :
     ((k : ℕ) → get_or priorities k 0 ≡ 0) →
     ((i : ℕ) → (0 < cell marks i) ↔ ((0 < get_or a.own i 0) × ¬ EndsInStore a (i + 1))) → ArePlayed a most marks priorities turns
 played_none {a} cells places empty marked = record {
-  waiting = record { cells = cells; each = λ k some. absurd (omega (arith, empty k)) };
+  waiting = record { cells = cells; each = λ k some. absurd (omega arith) };
   places = places;
   others = λ i may gone none apart. absurd (
       let holds = legal_holds (bare a) i may in
       let at : i - 1 + 1 ≡ i = omega arith in
-      let some = (marked (i - 1)).1 (holds.some, λ ends. apart (subst (EndsInStore a) at ends)) in
+      let some = (marked _).1 (holds.some, λ ends. apart (subst (EndsInStore a) at ends)) in
       omega arith);
 }
 
@@ -584,7 +499,7 @@ pub marked_legal : {a : Rows} (i : ℕ) → IsWithinHouses a → is_over (bare a
 marked_legal {a} i w going some = elim (cases_lt i (length a.own)) [
   | inl inside ↦
       let at : i + 1 - 1 ≡ i = omega arith in
-      filled_legal a (i + 1) going (omega arith) (omega arith) (rw at some)
+      filled_legal a _ going (omega arith) (omega arith) (rw at some)
   | inr past ↦ absurd (omega (arith, get_or_past a.own i 0 past))
 ]
 
@@ -592,7 +507,7 @@ marked_legal {a} i w going some = elim (cases_lt i (length a.own)) [
 pub ending_legal : {a : Rows} (i : ℕ) → IsWithinHouses a → is_over (bare a) ≡ false → i < length a.own
     → EndsInStore a (i + 1) →
     Contains (legal_houses (bare a)) (i + 1)
-ending_legal {a} i w going inside ends = filled_legal a (i + 1) going (omega arith) (omega arith) (omega arith)
+ending_legal {a} i w going inside ends = grind (arith, filled_legal)
 
 -- what holds of each marked house holds of those that stay marked
 pub each_fewer : (P : ℕ → Type 0) (marks h : ℕ) → IsLastMark marks h → ((i : ℕ) → 0 < cell marks i → P (i + 1)) →
@@ -601,9 +516,7 @@ each_fewer P marks h last each i some = each i (left_before marks h last i some)
 
 -- and of the last one
 pub each_last : (P : ℕ → Type 0) (marks h : ℕ) → IsLastMark marks h → ((i : ℕ) → 0 < cell marks i → P (i + 1)) → P h
-each_last P marks h last each =
-    let at : h - 1 + 1 ≡ h = omega arith in
-    subst P at (each (h - 1) (last_marked marks h last))
+each_last P marks h last each = grind (arith, last_marked)
 
 -- marked houses that may all be moved
 pub record MayMove (a : Rows) (marks : ℕ) : Type 0 where
@@ -612,13 +525,13 @@ pub record MayMove (a : Rows) (marks : ℕ) : Type 0 where
 
 -- the last of them
 pub last_legal : {a : Rows} {marks h : ℕ} → MayMove a marks → IsLastMark marks h → Contains (legal_houses (bare a)) h
-last_legal {a} {marks} {h} may last = each_last (Contains (legal_houses (bare a))) marks h last may.legal
+last_legal {a} {marks} {h} may last = each_last (Contains _) marks h last may.legal
 
 -- and those before it
 pub moves_fewer : {a : Rows} {marks h : ℕ} → MayMove a marks → IsLastMark marks h → MayMove a (marks - 32 ^ (h - 1))
 moves_fewer {a} {marks} {h} may last = record {
   are = marks_fewer may.are last;
-  legal = each_fewer (Contains (legal_houses (bare a))) marks h last may.legal;
+  legal = each_fewer (Contains _) marks h last may.legal;
 }
 
 -- each house that ends in the store is still marked, or takes at most `most` seeds
@@ -631,7 +544,7 @@ pub again_none : (a : Rows) (most marks : ℕ) → ((i : ℕ) → (0 < cell mark
 again_none a most marks marked h may ends gone = absurd (
     let holds = legal_holds (bare a) h may in
     let at : h ≡ h - 1 + 1 = omega arith in
-    let some = (marked (h - 1)).1 (omega arith, subst (EndsInStore a) at ends) in
+    let some = (marked _).1 (omega arith, subst (EndsInStore a) at ends) in
     omega arith)
 
 pub again_fewer : (a : Rows) (most marks h bound new : ℕ) → AreAgain a most marks → IsLastMark marks h → WinsAtMost a bound h →
@@ -642,7 +555,7 @@ again_fewer a most marks h bound new are last takes new_is i may ends gone = eli
   | inr other ↦
       let first = (legal_holds (bare a) i may).first in
       let place : i - 1 ≢ h - 1 = omega arith in
-      omega (arith, are i may ends (gone_before marks h last (i - 1) place gone))
+      omega (arith, are i may ends (gone_before marks h last _ place gone))
 ]
 
 -- the moves with a priority are still to be tried, and the others take at most `most` seeds
@@ -656,11 +569,11 @@ pub turn_at : {a : Rows} {most : ℕ} {priorities : List ℕ} {turns : List Rows
 turn_at {a} {most} {priorities} {turns} {priority} w untried found some =
     let are = untried.waiting in
     let k = found.0 in
-    let here = get_or_default priorities k 0 priority found.1 ∙ found.2 in
-    let turn : (d : Rows) → IsTurnOf a (k + 1) priority (get_or turns k d) =
+    let here = get_or_default _ k 0 _ found.1 ∙ found.2 in
+    let turn : (d : Rows) → IsTurnOf a _ priority _ =
     λ d. subst (λ r. IsTurnOf a (k + 1) r (get_or turns k d)) here (are.each k (omega arith) d) in
     let same : priority % 8 ≡ k = omega (arith, (turn a).house) in
-    let holds = legal_holds (bare a) (k + 1) (turn a).legal in
+    let holds = legal_holds (bare a) _ (turn a).legal in
     record { place = omega arith; priority = rw same here; turn = rw same turn }
 
 -- before any was tried, but those that end in the store
@@ -669,26 +582,20 @@ pub untried_first : (a : Rows) (bar again others : ℕ) (priorities : List ℕ) 
     AreWaiting a bar others priorities turns → ((h : ℕ) → Contains (legal_houses (bare a)) h → EndsInStore a h
     → WinsAtMost a again h) →
     others < bar → new ≡ max again others → AreUntried a new priorities turns
-untried_first a bar again others priorities turns new cells are ends short new_is = record {
-  waiting = record { cells = cells; each = are.waiting };
-  tried = λ h has none. elim (cases_eq (seeds a.own h + h) (length a.own + 1)) [
-    | inl is ↦ omega (arith, ends h has is)
-    | inr apart ↦ omega (arith, are.others short h has none apart)
-  ];
-}
+untried_first a bar again others priorities turns new cells are ends short new_is = grind arith
 
 -- one move more was tried
 pub untried_fewer : (a : Rows) (most : ℕ) (priorities : List ℕ) (turns : List Rows) (at bound new : ℕ)
     → AreUntried a most priorities turns →
     at < 6 → WinsAtMost a bound (at + 1) → new ≡ max most bound → AreUntried a new (slice_set priorities at 0) turns
 untried_fewer a most priorities turns at bound new is place takes new_is = record {
-  waiting = turns_fewer a priorities turns at is.waiting place;
+  waiting = turns_fewer a _ turns at is.waiting place;
   tried = λ h has none. elim (cases_eq (h - 1) at) [
     | inl same ↦
         let first = (legal_holds (bare a) h has).first in
         let house : at + 1 ≡ h = omega arith in
         omega (arith, subst (WinsAtMost a bound) house takes)
-    | inr other ↦ omega (arith, is.tried h has (rw (get_or-set_other priorities at (h - 1) 0 0 other) at none))
+    | inr other ↦ omega (arith, is.tried h has (rw (get_or-set_other priorities at _ 0 0 other) at none))
   ];
 }
 
@@ -696,5 +603,4 @@ untried_fewer a most priorities turns at bound new is place takes new_is = recor
 pub none_untried : {a : Rows} {most : ℕ} {priorities : List ℕ} {turns : List Rows} (highest : ℕ) → IsWithinHouses a
     → is_over (bare a) ≡ false →
     AreUntried a most priorities turns → ((k : ℕ) → get_or priorities k 0 ≤ highest) → highest ≡ 0 → won a ≤ most
-none_untried {a} {most} highest w going is above none =
-    all_at_most a most w going (λ h has. is.tried h has (let below = above (h - 1) in omega arith))
+none_untried {a} {most} highest w going is above none = all_at_most a _ w going (omega arith)

@@ -1,9 +1,8 @@
 -- Games, best play, and what a solver says of it.
-use Rattle.std.proofs.Common.{zero, suc, ◌≡◌, ℕ, ◌<◌, ◌≤◌, inl, inr, List, [], ◌∷◌, length, get_or, arith, ap, sym, subst, ◌∙◌, refl, ◌+◌, w32, to_z, of_z, FitsSigned, ◌-◌, ◌++◌, take, length-append, length-take-le}
-use Rattle.std.specs.Prelude.{false, Contains, ℤ, ◌≤ℤ◌, Bool, if◌then◌else◌, filter, nat_lt, neg_ℤ, true, map, pos, ◌<ℤ◌, All, find, option_map, unwrap_or, Some, ◌+ℤ◌, ◌-ℤ◌, replicate, slice_set}
+use Rattle.std.proofs.Common.{zero, suc, ◌≡◌, ℕ, ◌<◌, ◌≤◌, inl, inr, List, [], ◌∷◌, length, get_or, arith, ap, sym, subst, ◌∙◌, refl, ◌+◌, w32, to_z, of_z, FitsSigned, ◌++◌, take, length-append, length-take-le, false, Contains, ℤ, ◌≤ℤ◌, Bool, if◌then◌else◌, filter, nat_lt, neg_ℤ, true, map, pos, ◌<ℤ◌, All, find, option_map, Some, ◌+ℤ◌, ◌-ℤ◌, replicate, slice_set, int_eq}
 use Rattle.std.proofs.lemmas.Bool.{cases_Bool, cases_eq}
 use Rattle.kalah_rules.specs.Position.{Position, HasEqualSides, is_over, swapped, final_margin, side_length, seeds, IsWithinLimits, IsSmallMargin, Rows, IsWithinHouses, rows_of, bare}
-use Rattle.kalah_rules.specs.Sowing.{after, is_again}
+use Rattle.kalah_rules.specs.Sowing.{after}
 use Rattle.kalah_rules.specs.Play.{legal_houses}
 use Rattle.kalah_rules.specs.Measure.{moves_left}
 use Rattle.kalah_rules.proofs.PlayLemmas.{legal_holds, after_equal_sides, after_fewer, swap_fewer}
@@ -13,9 +12,8 @@ use Rattle.kalah_solve.specs.Solver.Laws.{EndsInTime, StrategiesPlayAGame, Strat
 use Rattle.kalah_solve.proofs.WorthLemmas.{swapped_equal_sides, over_at_end, over_for_other, worth_of_over, final_swapped, value_going_on, value_passing, best_found, best_attains, value_most, eq_yes, lowest_of, worth_of_going, eq_no, greatest_is_one, worth_of_rows, value_of_rows}
 use Rattle.lru.proofs.Splits.{Contains-head}
 use Rattle.std.proofs.lemmas.Int.{ints, clamps}
-use Rattle.kalah_solve.specs.Solver.Worth.{worth, value_of_move, best_house, greatest, houses_worth}
+use Rattle.kalah_solve.specs.Solver.Worth.{worth, value_of_move, best_house, houses_worth}
 use Rattle.std.specs.List.{range_with_len}
-use Rattle.std.specs.Ordering.{int_eq}
 use Rattle.std.proofs.lemmas.List.{get_or_default, take_more_set, length-set}
 use Rattle.kalah_solve.specs.Solver.Verdict.{verdict_of, IsSmallBest, TellsBestPlay}
 use Rattle.kalah_solve.specs.declared.solver.Verdict.TheVariants.{Best, Over}
@@ -43,21 +41,20 @@ pub ends_within : (n : ℕ) (mine theirs : Strategy) → IsStrategy mine → IsS
     → moves_left p ≤ n →
     (houses : List ℕ) × (final : Position) × Game (follow mine) (follow theirs) p houses final
 ends_within zero mine theirs m t p even few = ([], p, is_at_end (over_at_end p (omega arith)))
-ends_within (suc n) mine theirs m t p even few = elim (cases_Bool (is_over p)) [
+ends_within (suc n) mine theirs m t p even few = elim (cases_Bool _) [
   | inl over ↦ ([], p, is_at_end over)
   | inr going ↦
-      let is_legal = m.moves p even going in
-      let fewer = after_fewer p (mine p) (legal_holds p (mine p) is_legal) even in
-      let next_even = after_equal_sides p (mine p) in
-      elim (cases_Bool (is_again p (mine p))) [
+      let fewer = after_fewer p (mine p) (legal_holds p (mine p) (m.moves p even going)) even in
+      let next_even = after_equal_sides p _ in
+      elim (cases_Bool _) [
         | inl again ↦
-            let rest = ends_within n mine theirs m t (after p (mine p)) next_even (omega arith) in
-            (mine p ∷ rest.0, rest.1, moves_on going (Contains-head (mine p) []) again rest.2)
+            let rest = ends_within n mine theirs m t _ next_even (omega arith) in
+            (mine p ∷ rest.0, rest.1, moves_on going (Contains-head _ []) again rest.2)
         | inr turn ↦
-            let turned = swap_fewer (after p (mine p)) next_even in
-            let rest = ends_within n theirs mine t m (swapped (after p (mine p))) (swapped_equal_sides (after p (mine p)) next_even)
+            let turned = swap_fewer _ next_even in
+            let rest = ends_within n theirs mine t m _ (omega arith)
             (omega arith) in
-            (mine p ∷ rest.0, swapped rest.1, passes_turn going (Contains-head (mine p) []) turn rest.2)
+            (mine p ∷ rest.0, swapped rest.1, passes_turn going (Contains-head _ []) turn rest.2)
       ]
 ]
 
@@ -69,20 +66,20 @@ game_ends mine theirs m t p even = ends_within (moves_left p) mine theirs m t p 
 pub ends_in_time : {mine theirs : Way} {p : Position} {houses : List ℕ} {final : Position} → KeepsRules mine → KeepsRules theirs
     → HasEqualSides p →
     Game mine theirs p houses final → EndsInTime p houses final
-ends_in_time m t even (is_at_end over) = record { over = over; short = omega arith }
+ends_in_time m t even (is_at_end over) = grind arith
 ends_in_time {mine} {theirs} {p} m t even (moves_on {h = h} going has again rest) =
     let fewer = after_fewer p h (legal_holds p h (m.legal_only p h even going has)) even in
     let inner = ends_in_time m t (after_equal_sides p h) rest in
     record { over = inner.over; short = omega arith }
 ends_in_time {mine} {theirs} {p} m t even (passes_turn {h = h} {final = final} going has turn rest) =
     let fewer = after_fewer p h (legal_holds p h (m.legal_only p h even going has)) even in
-    let turned = swap_fewer (after p h) (after_equal_sides p h) in
-    let inner = ends_in_time t m (swapped_equal_sides (after p h) (after_equal_sides p h)) rest in
+    let turned = swap_fewer _ (after_equal_sides p h) in
+    let inner = ends_in_time t m (swapped_equal_sides _ (after_equal_sides p h)) rest in
     record { over = over_for_other final inner.over; short = omega arith }
 
 -- a player whom only the rules bind keeps to them
 pub legal_keeps : KeepsRules legal_houses
-legal_keeps = record { legal_only = λ p h even going has. has }
+legal_keeps = grind arith
 
 -- the law on how games end
 pub games_end : GamesEnd
@@ -95,7 +92,7 @@ pub record HasNoChoice (way : Way) : Type 0 where
 -- a list of one number contains only that
 pub contains_only : (x h i : ℕ) → i < length (x ∷ []) → get_or (x ∷ []) i h ≡ h → x ≡ h
 contains_only x h zero within at = at
-contains_only x h (suc i) within at = absurd (omega arith)
+contains_only x h (suc i) within at = omega arith
 
 -- who follows a strategy moves its house
 pub followed : (s : Strategy) (p : Position) (h : ℕ) → Contains (follow s p) h → s p ≡ h
@@ -103,7 +100,7 @@ followed s p h has = contains_only _ _ _ has.1 has.2
 
 -- so there is no choice
 pub follow_one : (s : Strategy) → HasNoChoice (follow s)
-follow_one s = record { one = λ p h k has also. sym (followed s p h has) ∙ followed s p k also }
+follow_one s = grind arith
 
 -- two games without a choice are the same
 pub game_is_one : {mine theirs : Way} {p : Position} {houses others : List ℕ} {final other : Position} → HasNoChoice mine
@@ -117,10 +114,10 @@ game_is_one {mine} {theirs} {p} m t (moves_on {h = h} going has again rest)
     (moves_on {h = k} {houses = houses} {final = final} going' has' again' rest') =
     let e = m.one p k h has' has in
     let same = game_is_one m t rest (subst (λ x. Game mine theirs (after p x) houses final) e rest') in
-    (cc (same.0, e), same.1)
+    (cc same.0, same.1)
 game_is_one {mine} {theirs} {p} m t (moves_on {h = h} going has again rest) (passes_turn {h = k} going' has' turn rest') =
     let e = m.one p k h has' has in
-    absurd (let differs = rw e at turn in cc)
+    absurd cc
 game_is_one m t (passes_turn going has turn rest) (is_at_end over) = cc
 game_is_one {mine} {theirs} {p} m t (passes_turn {h = h} going has turn rest) (moves_on {h = k} going' has' again rest') =
     let e = m.one p k h has' has in
@@ -129,7 +126,7 @@ game_is_one {mine} {theirs} {p} m t (passes_turn {h = h} going has turn rest)
     (passes_turn {h = k} {houses = houses} {final = final} going' has' turn' rest') =
     let e = m.one p k h has' has in
     let same = game_is_one t m rest (subst (λ x. Game theirs mine (swapped (after p x)) houses final) e rest') in
-    (cc (same.0, e), ap swapped same.1)
+    (cc same.0, ap swapped same.1)
 
 -- the law on one game
 pub the_game_is_one : StrategiesPlayOneGame
@@ -151,15 +148,15 @@ widened {mine} {theirs} {mine'} {theirs'} {p} m t even (passes_turn {h = h} goin
 
 -- a way is as wide as itself
 pub same_way : (way : Way) → IsWithin way way
-same_way way = record { widens = λ p h even going has. has }
+same_way way = grind arith
 
 -- a strategy is within the rules
 pub strategy_within : {s : Strategy} → IsStrategy s → IsWithin (follow s) legal_houses
-strategy_within {s} ok = record { widens = λ p h even going has. rw (← followed s p h has) (ok.moves p even going) }
+strategy_within {s} ok = grind arith
 
 -- so it keeps to them
 pub strategy_keeps : (s : Strategy) → IsStrategy s → KeepsRules (follow s)
-strategy_keeps s ok = record { legal_only = (strategy_within ok).widens }
+strategy_keeps s ok = grind arith
 
 -- ==== What players who play best secure
 
@@ -177,25 +174,22 @@ pub record IsBounded (mine theirs : Way) (p : Position) (z : ℤ) : Type 0 where
 pub bounds : {mine theirs : Way} {p : Position} {houses : List ℕ} {final : Position} → KeepsRules mine → KeepsRules theirs
     → HasEqualSides p →
     Game mine theirs p houses final → IsBounded mine theirs p (final_margin final)
-bounds {p = p} m t even (is_at_end over) = record {
-  low = λ best. omega (arith, ints, worth_of_over p over);
-  high = λ best. omega (arith, ints, worth_of_over p over);
-}
+bounds {p = p} m t even (is_at_end over) = grind (arith, worth_of_over)
 bounds {p = p} {final = final} m t even (moves_on {h = h} going has again rest) =
     let inner = bounds m t (after_equal_sides p h) rest in
     let value = value_going_on p h again in
     let most = value_most p h even going (m.legal_only p h even going has) in
     record {
-      low = λ best. omega (arith, ints, best.attains p h even going has, inner.low best);
-      high = λ best. omega (arith, ints, inner.high best);
+      low = λ best. omega (arith, ints, best.attains p h even going has);
+      high = λ best. omega (arith, ints);
     }
 bounds {p = p} m t even (passes_turn {h = h} {final = final} going has turn rest) =
-    let inner = bounds t m (swapped_equal_sides (after p h) (after_equal_sides p h)) rest in
+    let inner = bounds t m (swapped_equal_sides _ (after_equal_sides p h)) rest in
     let value = value_passing p h turn in
     let most = value_most p h even going (m.legal_only p h even going has) in
-    rw (← final_swapped (swapped final)) (record {
-      low = λ best. omega (arith, ints, best.attains p h even going has, inner.high best);
-      high = λ best. omega (arith, ints, inner.low best);
+    rw (← final_swapped _) (record {
+      low = λ best. omega (arith, ints, best.attains p h even going has);
+      high = λ best. omega (arith, ints);
     })
 
 -- always moving the lowest best house is best for either side
@@ -204,7 +198,7 @@ best_is_strategy = record { moves = λ p even going. (best_found _ even going).0
 
 -- the best house has the greatest value
 pub best_plays : PlaysBest (follow best_house)
-best_plays = record { attains = λ p h even going has. rw (← followed best_house p h has) (best_attains even going) }
+best_plays = grind (arith, best_attains)
 
 -- it gets the mover at least the worth
 pub best_secures : (p : Position) → HasEqualSides p → Secures best_house p (worth p)
@@ -212,32 +206,29 @@ best_secures p even = λ houses final game. (bounds (strategy_keeps _ best_is_st
 
 -- and holds the mover to it when the other player moves so
 pub best_holds : (p : Position) → HasEqualSides p → HoldsTo best_house p (worth p)
-best_holds p even = λ houses final game. (bounds legal_keeps (strategy_keeps _ best_is_strategy) even game).high best_plays
+best_holds p even = grind (arith, bounds, legal_keeps, strategy_keeps, best_is_strategy, best_plays)
 
 -- the law on the best house
 pub best_house_is_best_play : BestHouseIsBestPlay
-best_house_is_best_play = record { is_strategy = best_is_strategy; secures = best_secures; holds = best_holds }
+best_house_is_best_play = grind (arith, best_is_strategy, best_secures, best_holds)
 
 -- the law on the worth
 pub worth_is_best : WorthIsBestPlay
-worth_is_best p even = record {
-  secured = (best_house, best_is_strategy, best_secures _ even);
-  held = (best_house, best_is_strategy, best_holds _ even);
-}
+worth_is_best p even = grind (arith, best_is_strategy, best_secures, best_holds)
 
 -- a game of two strategies is one of either against any play
 module _ (mine theirs : Strategy) (m : IsStrategy mine) (t : IsStrategy theirs) (p : Position) (even : HasEqualSides p) (v : ℤ) where
   -- so what a strategy secures, the game brings
   pub ends_at_least : Secures mine p v → EndsWithAtLeast mine theirs p v
   ends_at_least secures =
-      let game = game_ends mine theirs m t p even in
-      (game.0, game.1, game.2, secures game.0 game.1 (widened (same_way (follow mine)) (strategy_within t) even game.2))
+      let game = game_ends mine _ m t p even in
+      (game.0, game.1, game.2, secures _ game.1 (widened (same_way _) (strategy_within t) even game.2))
 
   -- and what a strategy of the opponent allows is the most
   pub ends_at_most : HoldsTo theirs p v → EndsWithAtMost mine theirs p v
   ends_at_most holds =
-      let game = game_ends mine theirs m t p even in
-      (game.0, game.1, game.2, holds game.0 game.1 (widened (strategy_within m) (same_way (follow theirs)) even game.2))
+      let game = game_ends mine _ m t p even in
+      (game.0, game.1, game.2, holds _ game.1 (widened (strategy_within m) (same_way _) even game.2))
 
 -- the law on two strategies
 pub best_against_strategies : BestPlayAgainstStrategies
@@ -245,13 +236,13 @@ best_against_strategies = record {
   secured = λ p even. (
     best_house,
     best_is_strategy,
-    λ theirs t. ends_at_least best_house theirs best_is_strategy t p even (worth p)
+    λ theirs t. ends_at_least _ theirs best_is_strategy t p even _
         (best_secures _ even),
   );
   held = λ p even. (
     best_house,
     best_is_strategy,
-    λ mine m. ends_at_most mine best_house m best_is_strategy p even (worth p)
+    λ mine m. ends_at_most mine _ m best_is_strategy p even _
         (best_holds _ even),
   );
 }
@@ -259,10 +250,10 @@ best_against_strategies = record {
 -- so of two margins of best play neither is above the other
 pub secured_at_most : (p : Position) (v w : ℤ) → HasEqualSides p → IsBestPlay p v → IsBestPlay p w → v ≤ℤ w
 secured_at_most p v w even a b =
-    let low = ends_at_least a.secured.0 b.held.0 a.secured.1 b.held.1 p even v a.secured.2 in
-    let high = ends_at_most a.secured.0 b.held.0 a.secured.1 b.held.1 p even w b.held.2 in
-    let same = ap final_margin (the_game_is_one a.secured.0 b.held.0 p low.0 high.0 low.1 high.1 low.2 high.2).1 in
-    omega (arith, ints, low.3, high.3)
+    let low = ends_at_least _ b.held.0 a.secured.1 b.held.1 p even v a.secured.2 in
+    let high = ends_at_most _ b.held.0 a.secured.1 b.held.1 p even w b.held.2 in
+    let same = ap final_margin (the_game_is_one _ b.held.0 p low.0 _ low.1 _ low.2 high.2).1 in
+    omega (arith, ints, low.3)
 
 -- the law on one margin
 pub best_play_is_one : BestPlayIsOne
@@ -273,19 +264,19 @@ best_play_is_one p v w even a b = omega (arith, ints, secured_at_most p v w even
 -- the value of a move is the margin of best play after it
 pub move_worth : (p : Position) (h : ℕ) → IsWorthOfMove p h (value_of_move p h)
 move_worth p h = record {
-  again = λ more. subst (IsBestPlay (after p h)) (sym (value_going_on _ _ more)) (worth_is_best (after p h) (after_equal_sides p h));
+  again = λ more. subst (IsBestPlay _) (sym (value_going_on _ _ more)) (worth_is_best _ (after_equal_sides p h));
   turn = λ passed.
-      let other = swapped (after p h) in
-      let same : worth other ≡ neg_ℤ (value_of_move p h) = omega (arith, ints, value_passing p h passed) in
+      let other = swapped _ in
+      let same : worth other ≡ neg_ℤ _ = omega (arith, ints, value_passing p h passed) in
       subst (IsBestPlay other) same (worth_is_best other (swapped_equal_sides _ (after_equal_sides p h)));
 }
 
 -- and no other number is
 pub move_worth_is_one : {p : Position} {h : ℕ} {v w : ℤ} → IsWorthOfMove p h v → IsWorthOfMove p h w → v ≡ w
-move_worth_is_one {p} {h} {v} {w} a b = elim (cases_Bool (is_again p h)) [
-  | inl more ↦ best_play_is_one (after p h) v w (after_equal_sides p h) (a.again more) (b.again more)
+move_worth_is_one {p} {h} {v} {w} a b = elim (cases_Bool _) [
+  | inl more ↦ best_play_is_one _ v w (after_equal_sides p h) (a.again more) (b.again more)
   | inr passed ↦
-      let same = best_play_is_one (swapped (after p h)) (neg_ℤ v) (neg_ℤ w)
+      let same = best_play_is_one _ (neg_ℤ v) _
       (swapped_equal_sides _ (after_equal_sides p h)) (a.turn passed) (b.turn passed) in
       omega (arith, ints)
 ]
@@ -293,11 +284,7 @@ move_worth_is_one {p} {h} {v} {w} a b = elim (cases_Bool (is_again p h)) [
 -- a legal house that attains the worth is a best move
 attaining_is_best : (p : Position) (h : ℕ) → HasEqualSides p → Contains (legal_houses p) h → value_of_move p h ≡ worth p →
     IsBestMove p h (worth p)
-attaining_is_best p h even has attains = record {
-  best_play = worth_is_best p even;
-  legal = has;
-  worth = subst (IsWorthOfMove p h) attains (move_worth p h);
-}
+attaining_is_best p h even has attains = grind (arith, worth_is_best, worth, move_worth)
 
 -- and so each best move does
 attains_if_best : (p : Position) (h : ℕ) → IsBestMove p h (worth p) → value_of_move p h ≡ worth p
@@ -311,7 +298,7 @@ best_move p even going = attaining_is_best _ _ even (best_found _ even going).0 
 pub best_lowest : (p : Position) (h : ℕ) → is_over p ≡ false → Contains (legal_houses p) h → value_of_move p h ≡ worth p
     → best_house p ≤ h
 best_lowest p h going is_legal attains =
-    let ascending : legal_houses p ≡ filter (λ i. nat_lt 0 (seeds p.own i)) (range_with_len 1 (side_length p)) =
+    let ascending =
     ap (λ (b : Bool). if b then [] else filter (λ i. nat_lt 0 (seeds p.own i)) (range_with_len 1 (side_length p))) going in
     lowest_of (λ k. int_eq (value_of_move p k) (worth p)) (λ i. nat_lt 0 (seeds p.own i)) 1 (side_length p) h (legal_houses p) ascending
     is_legal (eq_yes _ _ attains)
@@ -337,22 +324,18 @@ best_moves p h even going = (λ is. (is.legal, attains_if_best _ _ is), λ is. a
 -- the verdict of a position that is not over, by its parts
 pub verdict_by : (p : Position) (margin : ℤ) (house : ℕ) → is_over p ≡ false → margin ≡ worth p → house ≡ best_house p →
     Best margin house ≡ verdict_of p
-verdict_by p margin house going margin_at house_at =
-    ap (λ (b : Bool). if b then Over (final_margin p) else Best margin house) (sym going)
-    ∙ ap (λ v. if is_over p then Over (final_margin p) else Best v house) margin_at
-    ∙ ap (λ h. if is_over p then Over (final_margin p) else Best (worth p) h) house_at
+verdict_by p margin house going margin_at house_at = cc
 
 -- the verdict of a position that is over
 pub verdict_of_over : (p : Position) (margin : ℤ) → is_over p ≡ true → margin ≡ final_margin p → Over margin ≡ verdict_of p
-verdict_of_over p margin over is =
-    ap Over is ∙ ap (λ (b : Bool). if b then Over (final_margin p) else Best (worth p) (best_house p)) (sym over)
+verdict_of_over p margin over is = cc
 
 -- a legal house with a margin that a player can have
 pub small_best : (p : Position) (margin : ℤ) (house : ℕ) → IsWithinLimits p → Contains (legal_houses p) house
     → IsSmallMargin margin →
     IsSmallBest margin house
 small_best p margin house limits is_legal is_small =
-    let holds = legal_holds p house is_legal in
+    let holds = legal_holds p _ is_legal in
     record { small = is_small; first = holds.first; last = omega arith }
 
 -- the two verdicts, by whether the game is over
@@ -365,7 +348,7 @@ tells_either p false at_end going = going refl
 -- the verdict states how best play ends
 pub verdict_tells : (p : Position) (v : Verdict) → HasEqualSides p → v ≡ verdict_of p → TellsBestPlay p v
 verdict_tells p v even is =
-    let tells = tells_either p (is_over p)
+    let tells = tells_either p _
     (λ over. record { over = over; final = refl; best_play = rw (worth_of_over p over) at (worth_is_best p even) })
     (λ going. record { going = going; best = best_move p even going; lowest = λ h is. best_house_lowest p h going is }) in
     subst (λ u. TellsBestPlay p u) (sym is) tells
@@ -373,17 +356,16 @@ verdict_tells p v even is =
 -- and each that states it is the verdict
 verdict_told : (p : Position) (v : Verdict) → HasEqualSides p → TellsBestPlay p v → v ≡ verdict_of p
 verdict_told p (Best margin house) even tells =
-    let margin_is = best_play_is_one p margin (worth p) even tells.best.best_play (worth_is_best p even) in
-    let moves : IsBestMove p house (worth p) = rw margin_is at tells.best in
-    let low = best_house_lowest p house tells.going moves in
+    let margin_is = best_play_is_one p margin _ even tells.best.best_play (worth_is_best p even) in
+    let low = best_house_lowest p house tells.going (rw margin_is at tells.best) in
     let high = tells.lowest (best_house p) (rw margin_is (best_move p even tells.going)) in
     let house_is : house ≡ best_house p = omega arith in
-    cc (margin_is, house_is) ∙ ap (λ (b : Bool). if b then Over (final_margin p) else Best (worth p) (best_house p)) (sym tells.going)
-verdict_told p (Over margin) even tells = verdict_of_over p margin tells.over tells.final
+    cc (margin_is, house_is)
+verdict_told p (Over margin) even tells = cc
 
 -- the law on one verdict
 pub verdict_is_one : BestVerdictIsOne
-verdict_is_one p v w even one other = verdict_told _ _ even one ∙ sym (verdict_told _ _ even other)
+verdict_is_one p v w even one other = grind (arith, verdict_told)
 
 -- ==== What a move secures, and that the values of the moves determine the verdict
 
@@ -404,17 +386,17 @@ houses_of p (x ∷ xs) = ap (λ ys. x ∷ ys) (houses_of p xs)
 
 -- no values state nothing
 tell_none : (p : Position) → All (λ (v : MoveValue). IsWorthOfMove p v.house v.value) []
-tell_none p = All-from_get_or (λ (v : MoveValue). IsWorthOfMove p v.house v.value) [] (move_value p 0) (λ i within. absurd (omega arith))
+tell_none p = grind arith
 
 -- the values of the moves are what these secure; if the game is over there are none
 pub values_tell : {p : Position} → HasEqualSides p → TellMoves p (values_of p)
 values_tell {p} even = record {
-  houses = houses_of p (legal_houses p);
+  houses = houses_of p _;
   worth = elim (cases_Bool (is_over p)) [
     | inl over ↦ rw over (tell_none p)
-    | inr going ↦ All-map (λ (v : MoveValue). IsWorthOfMove p v.house v.value) (move_value p) (legal_houses p)
-        (All-from_get_or (λ h. IsWorthOfMove p h (value_of_move p h)) (legal_houses p) 0
-        (λ i within. value_is_worth p _ even going (Contains-get_or (legal_houses p) i 0 within)))
+    | inr going ↦ All-map (λ (v : MoveValue). IsWorthOfMove p v.house v.value) (move_value p) _
+        (All-from_get_or (λ h. IsWorthOfMove p h (value_of_move p h)) _ 0
+        (λ i within. value_is_worth p _ even going (Contains-get_or _ i 0 within)))
   ];
 }
 
@@ -436,12 +418,7 @@ first_with p m (x ∷ xs) = elim (cases_Bool (int_eq (value_of_move p x) m)) [
 -- the law on the verdict
 pub values_tell_verdict : ValuesTellVerdict
 values_tell_verdict p even going =
-    let most = ap greatest (values_alone p (legal_houses p))
-    ∙ sym (worth_of_going _ even going) in
-    let first = first_with p (worth p) (legal_houses p) in
-    ap (λ m. Best m (unwrap_or (option_map (λ v. v.house) (find (λ v. int_eq v.value m) (values_of p))) 0)) most
-    ∙ ap (λ o. Best (worth p) (unwrap_or o 0)) first
-    ∙ ap (λ (b : Bool). if b then Over (final_margin p) else Best (worth p) (best_house p)) (sym going)
+    grind (arith, values_alone, worth_of_going, first_with)
 
 -- ==== The first house that attains the margin of best play, and the margin with the stores
 
@@ -451,8 +428,7 @@ find_at : (p : ℕ → Bool) (xs : List ℕ) (i : ℕ) → i < length xs → ((k
 find_at p [] i within fails here = absurd (omega arith)
 find_at p (x ∷ xs) zero within fails here = rw here refl
 find_at p (x ∷ xs) (suc i) within fails here =
-    let first = fails 0 (omega arith) in
-    rw first (find_at p xs i (omega arith) (λ k low. fails (suc k) (omega arith)) here)
+    rw (fails 0 (omega arith)) (find_at p xs i (omega arith) (λ k low. fails (suc k) (omega arith)) here)
 
 -- in the whole window the answer is the worth
 pub whole_window : {a : Rows} (found lo hi : ℤ) → IsWithinHouses a → lo ≡ least_margin → hi ≡ most_margin →
@@ -467,49 +443,40 @@ module _ (a : Rows) (w : IsWithinHouses a) where
   -- a house that takes as many seeds as best play is worth as much
   enough_is : (h : ℕ) → Contains (legal_houses (bare a)) h → won a ≤ won_by_step (houses_step a h)
       → value_of_move (bare a) h ≡ houses_worth a
-  enough_is h has enough =
-      let most = taken_most a w h has in
-      omega (arith, ints, (taken_by_move a w h has).is, (taken_share w).is)
+  enough_is h has enough = grind (arith, taken_most, taken_by_move, taken_share)
 
   -- and one that takes fewer is worth less
   short_is : (h : ℕ) → Contains (legal_houses (bare a)) h → won_by_step (houses_step a h) < won a
       → value_of_move (bare a) h <ℤ houses_worth a
-  short_is h has less = omega (arith, ints, (taken_by_move a w h has).is, (taken_share w).is)
+  short_is h has less = grind (arith, taken_by_move, taken_share)
 
   -- the first house that is worth the margin is the one
   root_is : (i : ℕ) → i < length (legal_houses (bare a)) → FallShort a i →
       value_of_move (bare a) (get_or (legal_houses (bare a)) i 0) ≡ houses_worth a →
       get_or (legal_houses (bare a)) i 0 ≡ best_house (bare a)
-  root_is i inside short is =
-      sym
-      (ap (λ o. unwrap_or o 0) (find_at (λ h. int_eq (value_of_move (bare a) h) (houses_worth a))
-      (legal_houses (bare a)) i inside short (eq_yes _ _ is)))
+  root_is i inside short is = grind (arith, find_at)
 
   -- a house that takes enough, if those before it fall short
   pub root_found : (i : ℕ) → i < length (legal_houses (bare a)) → FallShort a i →
       won a ≤ won_by_step (houses_step a (get_or (legal_houses (bare a)) i 0)) →
       get_or (legal_houses (bare a)) i 0 ≡ best_house (bare a)
-  root_found i inside short enough = root_is i inside short (enough_is _ (Contains-get_or (legal_houses (bare a)) i 0 inside) enough)
+  root_found i inside short enough = root_is i inside short (enough_is _ (Contains-get_or _ i 0 inside) enough)
 
   -- one that falls short, too
   pub root_short : (i : ℕ) → i < length (legal_houses (bare a)) → FallShort a i →
       won_by_step (houses_step a (get_or (legal_houses (bare a)) i 0)) < won a →
       FallShort a (i + 1)
-  root_short i inside short less k low = elim (cases_eq k i) [
-    | inl same ↦ rw same (eq_no _ _ (short_is _ (Contains-get_or (legal_houses (bare a)) i 0 inside) less))
-    | inr other ↦ short k (omega arith)
-  ]
+  root_short i inside short less k low = grind (arith, cases_eq, eq_no, short_is, Contains-get_or)
 
   -- if all but the last fall short, it is the last
   pub root_last : (n : ℕ) → is_over (bare a) ≡ false → length (legal_houses (bare a)) ≡ n + 1 → FallShort a n →
       get_or (legal_houses (bare a)) n 0 ≡ best_house (bare a)
   root_last n going many short =
-      let one = greatest_is_one (value_of_move (bare a)) (legal_houses (bare a)) (omega arith) in
-      let worth_is = worth_of_going _ (record { same = w.same_side }) going in
+      let one = greatest_is_one (value_of_move _) _ (omega arith) in
       let inside = one.1.1 in
       let place = get_or_default (legal_houses (bare a)) one.1.0 0 one.0 inside
       ∙ one.1.2 in
-      let is = ap (value_of_move (bare a)) place ∙ one.2 ∙ sym worth_is in
+      let is = ap (value_of_move (bare a)) place ∙ one.2 ∙ sym (worth_of_going _ (record { same = w.same_side }) going) in
       elim (cases_eq one.1.0 n) [
         | inl same ↦ root_is n (omega arith) short (rw same at is)
         | inr other ↦ absurd (let here = eq_yes _ _ is in let there = short one.1.0 (omega arith) in cc)
@@ -518,7 +485,7 @@ module _ (a : Rows) (w : IsWithinHouses a) where
 -- ---- with the stores
 margin_is : (p : Position) (best margin : ℤ) → best ≡ houses_worth (rows_of p) →
     margin ≡ best +ℤ (pos p.own_store -ℤ pos p.other_store) → margin ≡ worth p
-margin_is p best margin best_is e = e ∙ ap (λ z. z +ℤ (pos p.own_store -ℤ pos p.other_store)) best_is ∙ sym (worth_of_rows p)
+margin_is p best margin best_is e = grind (arith, worth_of_rows)
 
 -- the margin is one that a player can have
 pub margin_small : (p : Position) (best margin : ℤ) → IsWithinLimits p → best ≡ houses_worth (rows_of p) →
@@ -527,8 +494,8 @@ pub margin_small : (p : Position) (best margin : ℤ) → IsWithinLimits p → b
 margin_small p best margin limits best_is e =
     let bounds = worth_up_to (rows_within p limits) in
     record {
-      low = omega (arith, ints, bounds.low);
-      high = omega (arith, ints, bounds.high);
+      low = omega (arith, ints);
+      high = omega (arith, ints);
     }
 
 -- the reported margin of the best of the houses: with the difference of the stores, in thirty-two bits
@@ -541,20 +508,20 @@ module _ (p : Position) (best : ℤ) (own other : ℕ) (limits : IsWithinLimits 
   pub told_fits : FitsSigned w32 (to_z w32 (of_z w32 best) +ℤ to_z w32 (of_z w32 (to_z w32 own -ℤ to_z w32 other)))
   told_fits =
       let rows = rows_within p limits in
-      omega (arith, ints, worth_low (rows_of p) rows, worth_high (rows_of p) rows)
+      omega (arith, ints, worth_low _ rows, worth_high _ rows)
 
   told_is : stored best own other ≡ best +ℤ (pos p.own_store -ℤ pos p.other_store)
   told_is =
       let rows = rows_within p limits in
-      omega (arith, ints, worth_low (rows_of p) rows, worth_high (rows_of p) rows)
+      omega (arith, ints, worth_low _ rows, worth_high _ rows)
 
   -- so it is the worth of the position
   pub told_worth : stored best own other ≡ worth p
-  told_worth = margin_is p best (stored best own other) best_is told_is
+  told_worth = margin_is p best _ best_is told_is
 
   -- and small
   pub told_small : IsSmallMargin (stored best own other)
-  told_small = margin_small p best (stored best own other) limits best_is told_is
+  told_small = margin_small p best _ limits best_is told_is
 
 -- ==== The value of a move, and its house, are numbers that a game can have
 
@@ -563,7 +530,7 @@ pub value_small : (p : Position) (h : ℕ) → IsWithinLimits p → Contains (le
 value_small p h limits has =
     let bounds = taken_by_move (rows_of p) (rows_within p limits) h has in
     record {
-      low = omega (arith, ints, value_of_rows p h, bounds.few, bounds.is);
+      low = omega (arith, ints, value_of_rows p h, bounds.is);
       high = omega (arith, ints, value_of_rows p h, bounds.few, bounds.is);
     }
 
@@ -582,21 +549,10 @@ set_behind (x ∷ xs) n v = ap (λ ys. x ∷ ys) (set_behind xs n v)
 -- padded values, and one more
 padded_more : (xs : List MoveValue) (v : MoveValue) → length xs < 6
     → slice_set (padded_with no_value xs) (length xs) v ≡ padded_with no_value (xs ++ v ∷ [])
-padded_more xs v few =
-    let before : 6 - length xs ≡ suc (5 - length xs) = omega arith in
-    let after : 6 - length (xs ++ v ∷ []) ≡ 5 - length xs = omega (arith, length-append xs (v ∷ [])) in
-    ap (λ n. slice_set (xs ++ replicate n no_value) (length xs) v) before ∙ set_behind xs (5 - length xs) v
-    ∙ ap (λ n. (xs ++ v ∷ []) ++ replicate n no_value) (sym after)
+padded_more xs v few = grind (arith, length, after, length-append, slice_set, replicate, no_value, set_behind)
 
 -- the cells after a push
 pub six_more : (count : ℕ) (cells : List MoveValue) (v : MoveValue) → IsSixAtMost no_value count cells → count < 6 →
     IsSixAtMost no_value (count + 1) (slice_set cells count v)
 six_more count cells v six few =
-    let long = length-take-le count cells (omega arith) in
-    let more = take_more_set cells count v (omega arith) in
-    record {
-      cells_are_six = length-set cells count v ∙ six.cells_are_six;
-      few = omega arith;
-      rest_is_none = ap (padded_with no_value) more ∙ sym (padded_more _ _ (omega arith))
-          ∙ ap (λ n. slice_set (padded_with no_value (take count cells)) n v) long ∙ ap (λ cs. slice_set cs count v) six.rest_is_none;
-    }
+    grind (arith, length-take-le, take_more_set, length-set, padded_with, no_value, padded_more, slice_set, take)

@@ -1,16 +1,14 @@
 -- What a table keeps, and the places of endings and of houses.
-use Rattle.std.proofs.Common.{◌≡◌, ◌≢◌, ℕ, zero, suc, ◌+◌, ◌*◌, ◌/◌, ◌%◌, ◌^◌, ◌-◌, ◌<◌, ◌≤◌, inl, inr, arith, sym, refl, ap, List, [], ◌∷◌, ◌++◌, length, get_or, drop, length-append, ◌∙◌, lit<, lit≤, true, eqb-true, Option, Some, None, Result, Ok, Err, nat_eq, IfSome, IsSome, IsOk, OnOk, OnErr, ◌⊎◌, subst}
-use Rattle.std.proofs.Math.Nat.{add-mul-div_right, div-div-eq-div-mul, mul_assoc, pow-succ', mul_comm, zero-div, mul-le-mul_right, add-mul}
-use Rattle.std.proofs.lemmas.Nat.{pow_pos, pow-add, mul-le, mul-mod_first}
+use Rattle.std.proofs.Common.{◌≡◌, ◌≢◌, ℕ, zero, suc, ◌+◌, ◌*◌, ◌/◌, ◌%◌, ◌^◌, ◌-◌, ◌<◌, ◌≤◌, inl, inr, arith, sym, refl, ap, List, [], ◌∷◌, ◌++◌, length, get_or, drop, length-append, ◌∙◌, lit<, lit≤, true, eqb-true, Option, Some, None, Result, Ok, Err, nat_eq, IfSome, IsSome, IsOk, OnOk, OnErr, ◌⊎◌, subst, pow_mono, sum, slice_set, slice_index, false, Contains, max, ◌↔◌}
+use Rattle.std.proofs.Math.Nat.{add-mul-div_right, div-div-eq-div-mul, mul_comm, add-mul}
+use Rattle.std.proofs.lemmas.Nat.{pow_pos, pow-add, mul-le}
 use Rattle.std.proofs.lemmas.Bool.{cases_lt, cases_eq}
-use Rattle.std.proofs.Math.Pow.{pow_mono}
-use Rattle.std.specs.Prelude.{sum, slice_set, slice_index, false, Contains, max, ◌↔◌}
 use Rattle.std.proofs.lemmas.List.{append_cancel_left, drop_more, length-drop, get_or-set_same, get_or-set_other, get_or-replicate, get_or_past}
 use Rattle.std.proofs.Math.Seq.{take-append_seam}
 use Rattle.std.proofs.Math.ListN.{take, replicate, length-replicate, length-set}
 use Rattle.std.proofs.lemmas.List.Sums.{sum_by-cons, sum_by-take-drop, sum_by-append}
 use Rattle.kalah_rules.specs.Position.{Rows, IsWithinHouses, bare, is_over, seeds_in_houses}
-use Rattle.kalah_rules.specs.Key.{number_of, game_of, rule_bit, key_of}
+use Rattle.kalah_rules.specs.Key.{number_of, game_of, key_of}
 use Rattle.kalah_rules.proofs.KeyLemmas.{same_key, number_of-append, pow_five, rule_bit-small, packed_as, packed_fits}
 use Rattle.kalah_solve.specs.Table.RowRank.{choose, row_rank, sums_number, rank_of_houses}
 use Rattle.kalah_solve.specs.Table.EndgameTable.{choice_at, AreChoices, pair_at, ArePairs, IsEnding, StoresWon, AreTrueWords, word_of, stored_at}
@@ -39,29 +37,26 @@ use Rattle.kalah_solve.specs.declared.table.direct_table.Place.{Place}
 
 -- a place more is worth sixteen times as much
 next_place : (k : ℕ) → 2 ^ (4 * suc k) ≡ 16 * 2 ^ (4 * k)
-next_place k = let more : 4 * suc k ≡ 4 + 4 * k = omega arith in rw (more, pow-add 2 4 (4 * k)) refl
+next_place k = let more : 4 * suc k ≡ 4 + 4 * k = omega arith in rw (more, pow-add) refl
 
 -- what stands from the next place on stands so in a sixteenth
 higher : (n k : ℕ) → n / 2 ^ (4 * suc k) ≡ n / 16 / 2 ^ (4 * k)
-higher n k = rw (next_place k) (sym (div-div-eq-div-mul n 16 (2 ^ (4 * k))))
+higher n k = simp (next_place, div-div-eq-div-mul)
 
 -- a digit put at an empty place leaves all from a later place on
 pub same_past : (k e n d : ℕ) → k < e → n / 2 ^ (4 * k) % 16 ≡ 0 → d < 16 →
     (n + d * 2 ^ (4 * k)) / 2 ^ (4 * e) ≡ n / 2 ^ (4 * e)
-same_past k zero n d later none small = absurd (omega arith)
-same_past zero (suc e) n d later none small =
-    let first : (n + d * 1) / 16 ≡ n / 16 = omega (arith, small) in
-    rw (higher (n + d * 1) e, higher n e, first) refl
+same_past k zero n d later none small = omega arith
+same_past zero (suc e) n d later none small = grind (arith, higher)
 same_past (suc k) (suc e) n d later none small =
     let more : d * 2 ^ (4 * suc k) ≡ d * 2 ^ (4 * k) * 16 = rw (next_place k) (omega arith) in
-    let digit : n / 16 / 2 ^ (4 * k) % 16 ≡ 0 = rw (higher n k) at none in
     let sixteenth : (n + d * 2 ^ (4 * k) * 16) / 16 ≡ n / 16 + d * 2 ^ (4 * k) = omega arith in
     rw (more, higher (n + d * 2 ^ (4 * k) * 16) e, higher n e, sixteenth)
-    (same_past k e (n / 16) d (omega arith) digit small)
+    (same_past k e (n / 16) d (omega arith) (rw (higher n k) at none) small)
 
 -- and is found there
 pub put_there : (k n d : ℕ) → n / 2 ^ (4 * k) % 16 ≡ 0 → d < 16 → (n + d * 2 ^ (4 * k)) / 2 ^ (4 * k) % 16 ≡ d
-put_there k n d none small = rw (add-mul-div_right n d (pow_pos (4 * k))) (omega (arith, small))
+put_there k n d none small = omega (arith, add-mul-div_right, pow_pos)
 
 -- what is put at a later place leaves all digits before it
 pub same_before : (j k n d : ℕ) → j < k → (n + d * 2 ^ (4 * k)) / 2 ^ (4 * j) % 16 ≡ n / 2 ^ (4 * j) % 16
@@ -70,28 +65,21 @@ same_before j k n d before =
     let places : 4 * k ≡ 4 * suc past + 4 * j = omega arith in
     let worth : 2 ^ (4 * k) ≡ 16 * 2 ^ (4 * past) * 2 ^ (4 * j) = rw (places, pow-add 2 (4 * suc past) (4 * j), next_place past) refl in
     let all : d * 2 ^ (4 * k) ≡ d * (16 * 2 ^ (4 * past)) * 2 ^ (4 * j) =
-    rw worth (sym (mul_assoc d (16 * 2 ^ (4 * past)) (2 ^ (4 * j)))) in
+    rw worth (omega arith) in
     rw (all, add-mul-div_right n (d * (16 * 2 ^ (4 * past))) (pow_pos (4 * j))) (omega arith)
 
 -- so a digit put at an empty place leaves each other digit
 pub same_elsewhere : (j k n d : ℕ) → j ≢ k → n / 2 ^ (4 * k) % 16 ≡ 0 → d < 16 →
     (n + d * 2 ^ (4 * k)) / 2 ^ (4 * j) % 16 ≡ n / 2 ^ (4 * j) % 16
-same_elsewhere j k n d other none small = elim (cases_lt j k) [
-  | inl before ↦ same_before _ _ _ _ before
-  | inr after ↦ ap (λ m. m % 16) (same_past _ _ _ _ (omega arith) none small)
-]
+same_elsewhere j k n d other none small = grind (arith, cases_lt, same_before, same_past)
 
 -- a digit of a word is no more than a word
 pub digit_small : (k d : ℕ) → k < 16 → d < 16 → d * 2 ^ (4 * k) < 2 ^ 64
-digit_small k d place small =
-    let power : 2 ^ (4 * k) ≤ 2 ^ 60 = pow_mono {j = 60} (omega arith) in
-    omega (arith, mul-le d (2 ^ (4 * k)) 15 (2 ^ 60) (omega (arith, small)) power)
+digit_small k d place small = omega (arith, mul-le d (2 ^ (4 * k)) 15 (2 ^ 60) (omega (arith, small)) (pow_mono {j = 60} (omega arith)))
 
 -- and with it a word stays a word
 pub put_fits : (k n d : ℕ) → k < 16 → n / 2 ^ (4 * k) % 16 ≡ 0 → d < 16 → n < 2 ^ 64 → n + d * 2 ^ (4 * k) < 2 ^ 64
-put_fits k n d place none small fits =
-    let past = same_past _ _ _ _ place none small in
-    omega (arith, past)
+put_fits k n d place none small fits = omega (arith, same_past _ _ _ _ place none small)
 
 -- ==== The rank of a row determines the row
 
@@ -102,10 +90,10 @@ choose_up n zero = omega arith
 choose_up n (suc k) = omega arith
 
 choose_more : (n d k : ℕ) → choose n k ≤ choose (n + d) k
-choose_more n zero k = let same : n + zero ≡ n = omega arith in rw same (omega arith)
+choose_more n zero k = grind arith
 choose_more n (suc d) k =
     let next : n + suc d ≡ suc (n + d) = omega arith in
-    rw next (omega (arith, choose_more n d k, choose_up (n + d) k))
+    rw next (omega (arith, choose_more n d k, choose_up))
 
 pub choose_rises : (n m k : ℕ) → n ≤ m → choose n k ≤ choose m k
 choose_rises n m k few = let all : n + (m - n) ≡ m = omega arith in rw all at (choose_more n (m - n) k)
@@ -115,7 +103,7 @@ choose_below : (n k : ℕ) → choose n k ≤ 2 ^ n
 unfolding choose
 choose_below n zero = omega (arith, pow_pos n)
 choose_below zero (suc k) = omega arith
-choose_below (suc n) (suc k) = omega (arith, pow-succ' 2 n, choose_below n k, choose_below n (suc k))
+choose_below (suc n) (suc k) = omega (arith, choose_below n k, choose_below n (suc k))
 
 pub choose_small : (n b k : ℕ) → n ≤ b → choose n k ≤ 2 ^ b
 choose_small n b k few = omega (arith, choose_rises n b k few, choose_below b k)
@@ -129,7 +117,7 @@ choose_one (suc n) = omega (arith, choose_one n)
 -- and none to choose more than there are
 pub choose_none : (n k : ℕ) → n < k → choose n k ≡ 0
 unfolding choose
-choose_none n zero more = absurd (omega arith)
+choose_none n zero more = omega arith
 choose_none zero (suc k) more = refl
 choose_none (suc n) (suc k) more = omega (arith, choose_none n k (omega arith), choose_none n (suc k) (omega arith))
 
@@ -148,11 +136,11 @@ rank_below (x ∷ xs) =
     rw all (omega (arith, rank_below xs, choose_rises (sum xs + length xs) (x + sum xs + length xs) (length xs) (omega arith)))
 
 rank_small : (xs : List ℕ) → sum xs + length xs ≤ 21 → row_rank xs < 2 ^ 21
-rank_small xs few = omega (arith, rank_below xs, choose_small (sum xs + length xs) 21 (length xs) few)
+rank_small xs few = omega (arith, rank_below xs, choose_small _ 21 (length xs) few)
 
 -- of two rows with as many cells the one with fewer seeds has the lower rank
 rank_apart : (xs ys : List ℕ) → length xs ≡ length ys → sum xs < sum ys → row_rank xs < row_rank ys
-rank_apart xs [] long less = absurd (omega arith)
+rank_apart xs [] long less = omega arith
 rank_apart xs (y ∷ ys) long less =
     let cons = sum_by-cons (λ (z : ℕ). z) y ys in
     let cells : length xs ≡ suc (length ys) = omega arith in
@@ -165,13 +153,7 @@ rank_apart xs (y ∷ ys) long less =
 
 -- so rows with one rank have as many seeds
 rank_seeds : (xs ys : List ℕ) → length xs ≡ length ys → row_rank xs ≡ row_rank ys → sum xs ≡ sum ys
-rank_seeds xs ys long same = elim (cases_lt (sum xs) (sum ys)) [
-  | inl less ↦ absurd (omega (arith, rank_apart xs ys long less))
-  | inr others ↦ elim (cases_lt (sum ys) (sum xs)) [
-    | inl more ↦ absurd (omega (arith, rank_apart ys xs (sym long) more))
-    | inr equal ↦ omega arith
-  ]
-]
+rank_seeds xs ys long same = grind (arith, rank_apart)
 
 -- and are one row
 pub rank_same : (xs ys : List ℕ) → length xs ≡ length ys → row_rank xs ≡ row_rank ys → xs ≡ ys
@@ -186,7 +168,7 @@ rank_same (x ∷ xs) (y ∷ ys) long same =
     let places : x + sum xs + length xs ≡ y + sum ys + length ys = omega arith in
     let first : choose (x + sum xs + length xs) (suc (length xs)) ≡ choose (y + sum ys + length ys) (suc (length ys)) =
     rw (places, cells) refl in
-    let rest = rank_same xs ys cells (omega (arith, first)) in
+    let rest = rank_same xs ys cells (omega arith) in
     let here : x ≡ y = omega (arith, ap sum rest) in
     rw (here, rest) refl
 
@@ -198,7 +180,7 @@ same_houses a b ha hb game rank =
     let cells : length (a.own ++ a.other) ≡ length (b.own ++ b.other) =
     omega (arith, length-append a.own a.other, length-append b.own b.other) in
     let row = rank_same _ _ cells rank in
-    let own : a.own ≡ b.own = rw (take-append_seam a.own a.other, side, take-append_seam b.own b.other) at
+    let own = rw (take-append_seam a.own a.other, side, take-append_seam b.own b.other) at
     (ap (take (length a.own)) row) in
     let other = append_cancel_left a.own a.other b.other (rw (← own) at row) in
     same_key a b ha hb (omega (arith, ap number_of own, ap number_of other))
@@ -206,7 +188,7 @@ same_houses a b ha hb game rank =
 -- a row's number determines its sums
 sums_by_number : (xs : List ℕ) → 31 * sums_number xs + sum xs ≡ 32 * number_of xs
 sums_by_number [] = refl
-sums_by_number (x ∷ xs) = omega (arith, sums_by_number xs, sum_by-cons (λ (y : ℕ). y) x xs)
+sums_by_number (x ∷ xs) = omega (arith, sums_by_number xs, sum_by-cons)
 
 -- the sums, by a division by 31 that is a multiplication
 pub record AreSums (row : List ℕ) (number seeds : ℕ) : Type 0 where
@@ -217,14 +199,13 @@ pub record AreSums (row : List ℕ) (number seeds : ℕ) : Type 0 where
 pub sums_are : (row : List ℕ) (number seeds : ℕ) → 1 ≤ length row → number ≡ number_of row → seeds ≡ sum row
     → number < 2 ^ 60 →
     AreSums row number seeds
-sums_are [] number seeds some is all below = absurd (omega arith)
+sums_are [] number seeds some is all below = omega arith
 sums_are (x ∷ xs) number seeds some is all below =
-    let whole : number ≡ seeds + 31 * sums_number xs = omega (arith, all, sums_by_number xs, sum_by-cons (λ (y : ℕ). y) x xs) in
-    let divided : (number - seeds) * 17256631552825064415 % 2 ^ 64 ≡ sums_number xs = omega arith in
+    let whole : number ≡ seeds + 31 * sums_number xs = omega (arith, sums_by_number, sum_by-cons) in
     record {
       few = omega arith;
       small = omega arith;
-      sums = omega (arith, all, sum_by-cons (λ (y : ℕ). y) x xs);
+      sums = omega (arith, sum_by-cons);
     }
 
 -- both rows of houses in one number
@@ -233,11 +214,7 @@ pub both_rows : {a : Rows} (own other m : ℕ) → IsWithinHouses a → own ≡ 
     other < 2 ^ 30 → m ≡ length a.own →
     (own + other * 2 ^ (5 * m) % 2 ^ 64 ≡ number_of (a.own ++ a.other)) × (own + other * 2 ^ (5 * m) % 2 ^ 64 < 2 ^ 60)
 both_rows {a} own other m within own_is other_is own_small other_small side =
-    let power = pow_mono {i = 5 * m} {j = 30} (omega arith) in
-    let below = mul-le other (2 ^ (5 * m)) (2 ^ 30 - 1) (2 ^ 30) (omega arith) power in
-    let shifted : other * 2 ^ (5 * m) ≡ 32 ^ length a.own * number_of a.other =
-    rw (pow_five m, side, other_is) (mul_comm (number_of a.other) (32 ^ length a.own)) in
-    (omega (arith, number_of-append a.own a.other), omega arith)
+    grind (arith, pow_mono, mul-le, length, number_of, pow_five, mul_comm, number_of-append)
 
 -- the sums of a row of few from its cell 2 * passed on, and what the cells before it add to its rank
 pub record IsRanked (row : List ℕ) (passed sums at : ℕ) : Type 0 where
@@ -251,10 +228,7 @@ record AreTwo (sums : ℕ) (x y : ℕ) (ys : List ℕ) : Type 0 where
   past : sums / 1024 ≡ sums_number ys
 
 two_sums : (x y : ℕ) (ys : List ℕ) → sum (x ∷ y ∷ ys) ≤ 9 → AreTwo (sums_number (x ∷ y ∷ ys)) x y ys
-two_sums x y ys few =
-    let cons = sum_by-cons (λ (z : ℕ). z) x (y ∷ ys) in
-    let cons' = sum_by-cons (λ (z : ℕ). z) y ys in
-    record { first = omega (arith, few); second = omega (arith, few); past = omega (arith, few) }
+two_sums x y ys few = omega (arith, sum_by-cons)
 
 -- two cells more of a row
 module _ (row : List ℕ) (few : sum row ≤ 9) (m passed sums at : ℕ) (long : length row ≡ 2 * m) (most : m ≤ 6) (more : passed < m)
@@ -269,14 +243,11 @@ module _ (row : List ℕ) (few : sum row ≤ 9) (m passed sums at : ℕ) (long :
   two_past = drop (2 * (passed + 1)) row
 
   two_more : drop (2 * passed) row ≡ two_first ∷ two_second ∷ two_past
-  two_more =
-      let twice : 2 * passed + 1 + 1 ≡ 2 * (passed + 1) = omega arith in
-      rw (drop_more row (2 * passed) 0 (omega arith), drop_more row (2 * passed + 1) 0 (omega arith), twice)
-      refl
+  two_more = grind (arith, drop_more)
 
   two_less : sum (two_first ∷ two_second ∷ two_past) ≤ 9
   two_less =
-      let less : sum (drop (2 * passed) row) ≤ 9 = omega (arith, few, sum_by-take-drop (λ (y : ℕ). y) row (2 * passed)) in
+      let less : sum (drop (2 * passed) row) ≤ 9 = omega (arith, sum_by-take-drop (λ (y : ℕ). y) row (2 * passed)) in
       rw two_more at less
 
   two_are : AreTwo sums two_first two_second two_past
@@ -292,7 +263,7 @@ module _ (row : List ℕ) (few : sum row ≤ 9) (m passed sums at : ℕ) (long :
       let rest = two_second ∷ two_past in
       let cells : length two_past ≡ 2 * past = omega (arith, length-drop (2 * (passed + 1)) row) in
       let first : two_first + sum rest + length rest ≡ sums % 1024 % 32 + 2 * past + 1 =
-      omega (arith, two_are.first, sum_by-cons (λ (z : ℕ). z) two_second two_past) in
+      omega (arith, two_are.first, sum_by-cons) in
       let first_cells : suc (length rest) ≡ 2 * past + 2 = omega arith in
       let second : two_second + sum two_past + length two_past ≡ sums % 1024 / 32 + 2 * past = omega (arith, two_are.second) in
       let second_cells : suc (length two_past) ≡ 2 * past + 1 = omega arith in
@@ -301,7 +272,7 @@ module _ (row : List ℕ) (few : sum row ≤ 9) (m passed sums at : ℕ) (long :
       rw (first, first_cells) refl in
       let ways' : choose (two_second + sum two_past + length two_past) (suc (length two_past))
       ≡ choose (sums % 1024 / 32 + 2 * past) (2 * past + 1) = rw (second, second_cells) refl in
-      let added : row_rank (drop (2 * passed) row) ≡ c + row_rank two_past = rw two_more (omega (arith, ways)) in
+      let added : row_rank (drop (2 * passed) row) ≡ c + row_rank two_past = rw two_more (omega arith) in
       record { left = two_are.past; rank = omega arith }
 
   -- no more seeds are there than few
@@ -314,17 +285,16 @@ module _ (row : List ℕ) (few : sum row ≤ 9) (m passed sums at : ℕ) (long :
 -- what is added so far is small
 pub ranked_small : (row : List ℕ) (passed sums at : ℕ) → sum row ≤ 9 → length row ≤ 12 → IsRanked row passed sums at
     → at < 2 ^ 21
-ranked_small row passed sums at few long is = omega (arith, rank_small row (omega (arith, few)))
+ranked_small row passed sums at few long is = omega (arith, rank_small)
 
 rank_none : (xs : List ℕ) → length xs ≡ 0 → row_rank xs ≡ 0
 rank_none [] none = refl
-rank_none (x ∷ xs) none = absurd (omega arith)
+rank_none (x ∷ xs) none = omega arith
 
 -- and is the rank once all cells are passed
 pub ranked_all : (row : List ℕ) (passed sums at : ℕ) → length row ≤ 2 * passed → IsRanked row passed sums at
     → at ≡ row_rank row
-ranked_all row passed sums at all is =
-    omega (arith, rank_none (drop (2 * passed) row) (omega (arith, all, length-drop (2 * passed) row)))
+ranked_all row passed sums at all is = grind (arith, rank_none, drop, length-drop)
 
 -- ==== The choices, cell by cell
 
@@ -343,32 +313,26 @@ choice_none i none = choose_none _ _ (omega arith)
 pub choice_next : (i : ℕ) → 10 ≤ i → i % 10 ≢ 0 → choice_at i ≡ choice_at (i - 10) + choice_at (i - 1)
 choice_next i past some =
     let n = i % 10 + i / 10 - 1 in
-    let here : i % 10 + i / 10 ≡ suc n = omega (arith, past) in
-    let left : (i - 10) % 10 + (i - 10) / 10 ≡ n = omega (arith, past) in
-    let left_cells : suc ((i - 10) / 10) ≡ i / 10 = omega (arith, past) in
-    let up : (i - 1) % 10 + (i - 1) / 10 ≡ n = omega (arith, past) in
-    let up_cells : suc ((i - 1) / 10) ≡ suc (i / 10) = omega (arith, past) in
-    rw (here, left, left_cells, up, up_cells) (choose_next n (i / 10))
+    let here : i % 10 + i / 10 ≡ suc n = omega arith in
+    let left : (i - 10) % 10 + (i - 10) / 10 ≡ n = omega arith in
+    let left_cells : suc ((i - 10) / 10) ≡ i / 10 = omega arith in
+    let up : (i - 1) % 10 + (i - 1) / 10 ≡ n = omega arith in
+    let up_cells : suc ((i - 1) / 10) ≡ suc _ = omega arith in
+    rw (here, left, left_cells, up, up_cells) (choose_next n _)
 
 -- all are small
 pub choice_small : (i : ℕ) → i < 120 → choice_at i ≤ 2 ^ 20
-choice_small i few = choose_small (i % 10 + i / 10) 20 (suc (i / 10)) (omega (arith, few))
+choice_small i few = choose_small _ 20 _ (omega arith)
 
 -- one cell more is right
 pub choices_more : (choices : List ℕ) (i v : ℕ) → i < length choices → AreChoices i choices → v ≡ choice_at i →
     AreChoices (i + 1) (slice_set choices i v)
-choices_more choices i v inside before is k below = elim (cases_eq k i) [
-  | inl same ↦ rw same (get_or-set_same choices i v 0 inside ∙ is)
-  | inr other ↦ get_or-set_other choices i k v 0 other ∙ before k (omega arith)
-]
+choices_more choices i v inside before is k below = grind (arith, cases_eq, get_or-set_same, get_or-set_other)
 
 -- one pair more is right
 pub pairs_more : (pairs : List ℕ) (i v : ℕ) → i < length pairs → ArePairs i pairs → (i % 32 < 10 → v ≡ pair_at i) →
     ArePairs (i + 1) (slice_set pairs i v)
-pairs_more pairs i v inside before is k below few = elim (cases_eq k i) [
-  | inl same ↦ rw same (get_or-set_same pairs i v 0 inside ∙ is (rw same at few))
-  | inr other ↦ get_or-set_other pairs i k v 0 other ∙ before k (omega arith) few
-]
+pairs_more pairs i v inside before is k below few = grind (arith, cases_eq, get_or-set_same, get_or-set_other)
 
 -- ==== What words of endings state stays true
 
@@ -390,23 +354,20 @@ one_more_long before (w ∷ ws) = ap suc (one_more_long w ws)
 
 ways_long : (n : ℕ) → length (ways n) ≡ 13
 ways_long zero = refl
-ways_long (suc n) = one_more_long 0 (ways n) ∙ ways_long n
+ways_long (suc n) = one_more_long 0 _ ∙ ways_long n
 
 one_more_at : (before : ℕ) (ws : List ℕ) (k : ℕ) → suc k < length ws →
     get_or (one_more before ws) (suc k) 0 ≡ get_or ws k 0 + get_or ws (suc k) 0
-one_more_at before [] k inside = absurd (omega arith)
-one_more_at before (w ∷ []) k inside = absurd (omega arith)
+one_more_at before [] k inside = refl
+one_more_at before (w ∷ []) k inside = omega arith
 one_more_at before (w ∷ v ∷ ws) zero inside = refl
 one_more_at before (w ∷ v ∷ ws) (suc k) inside = one_more_at w (v ∷ ws) k (omega arith)
 
 none_at : (k : ℕ) → get_or (ways zero) (suc k) 0 ≡ 0
-none_at k = elim (cases_lt k 12) [
-  | inl inside ↦ get_or-replicate {A = ℕ} 12 k 0 0 inside
-  | inr past ↦ get_or_past {X = ℕ} (replicate 12 0) k 0 (omega (arith, past))
-]
+none_at k = grind arith
 
 first_way : (before : ℕ) (ws : List ℕ) → 1 ≤ length ws → get_or (one_more before ws) 0 0 ≡ before + get_or ws 0 0
-first_way before [] some = absurd (omega arith)
+first_way before [] some = omega arith
 first_way before (w ∷ ws) some = refl
 
 ways_are : (n k : ℕ) → k < 13 → get_or (ways n) k 0 ≡ choose n k
@@ -415,10 +376,10 @@ ways_are zero zero few = refl
 ways_are zero (suc k) few = none_at k
 ways_are (suc n) zero few =
     let some : 1 ≤ length (ways n) = omega (arith, ways_long n) in
-    omega (arith, first_way 0 (ways n) some, ways_are n zero few)
+    omega (arith, first_way, ways_are n zero few)
 ways_are (suc n) (suc k) few =
     let inside : suc k < length (ways n) = omega (arith, ways_long n, few) in
-    omega (arith, one_more_at 0 (ways n) k inside, ways_are n k (omega (arith, few)), ways_are n (suc k) few)
+    omega (arith, one_more_at, ways_are n k (omega (arith, few)), ways_are n (suc k) few)
 
 -- the first word of those games of the classic rule that have m houses a side
 abbrev first : ℕ → ℕ
@@ -426,14 +387,14 @@ first m = slice_index FIRST_WORDS m
 
 -- a game has a word for each sixteen of its endings
 enough : (m : ℕ) → 1 ≤ m → m ≤ 6 → choose (9 + 2 * m) (2 * m) + 16 * first m ≤ 16 * first (suc m)
-enough zero some most = absurd (omega arith)
+enough zero some most = omega arith
 enough (suc zero) some most = omega (arith, ways_are 11 2 (lit< tt))
 enough (suc (suc zero)) some most = omega (arith, ways_are 13 4 (lit< tt))
 enough (suc (suc (suc zero))) some most = omega (arith, ways_are 15 6 (lit< tt))
 enough (suc (suc (suc (suc zero)))) some most = omega (arith, ways_are 17 8 (lit< tt))
 enough (suc (suc (suc (suc (suc zero))))) some most = omega (arith, ways_are 19 10 (lit< tt))
 enough (suc (suc (suc (suc (suc (suc zero)))))) some most = omega (arith, ways_are 21 12 (lit< tt))
-enough (suc (suc (suc (suc (suc (suc (suc m))))))) some most = absurd (omega arith)
+enough (suc (suc (suc (suc (suc (suc (suc m))))))) some most = omega arith
 
 first_up : (m : ℕ) → m ≤ 6 → first m ≤ first (suc m)
 first_up zero most = omega arith
@@ -443,17 +404,16 @@ first_up (suc (suc (suc zero))) most = omega arith
 first_up (suc (suc (suc (suc zero)))) most = omega arith
 first_up (suc (suc (suc (suc (suc zero))))) most = omega arith
 first_up (suc (suc (suc (suc (suc (suc zero)))))) most = omega arith
-first_up (suc (suc (suc (suc (suc (suc (suc m))))))) most = absurd (omega arith)
+first_up (suc (suc (suc (suc (suc (suc (suc m))))))) most = omega arith
 
 first_more : (m d : ℕ) → m + d ≤ 7 → first m ≤ first (m + d)
-first_more m zero most = let same : m + zero ≡ m = omega arith in rw same (omega arith)
+first_more m zero most = grind arith
 first_more m (suc d) most =
     let next : m + suc d ≡ suc (m + d) = omega arith in
-    rw next (omega (arith, first_more m d (omega arith), first_up (m + d) (omega arith)))
+    rw next (omega (arith, first_more m d (omega arith), first_up))
 
 first_rises : (m n : ℕ) → m ≤ n → n ≤ 7 → first m ≤ first n
-first_rises m n below most =
-    let all : m + (n - m) ≡ n = omega arith in rw all at (first_more m (n - m) (omega (arith, all)))
+first_rises m n below most = grind arith
 
 -- so an ending's word is one of its game's
 pub its_game : (a : Rows) → IsWithinHouses a → IsEnding a → first (length a.own) + rank_of_houses a / 16 < first (suc (length a.own))
@@ -464,42 +424,24 @@ its_game a within few =
     let seeds : sum row ≤ 9 = omega (arith, few, sum_by-append (λ x. x) a.own a.other) in
     let all : rank_of_houses a < choose (9 + length row) (length row) =
     omega (arith, rank_below row, choose_rises (sum row + length row) (9 + length row) (length row) (omega arith)) in
-    let below : rank_of_houses a < choose (9 + 2 * m) (2 * m) = rw cells at all in
+    let below = rw cells at all in
     omega (arith, enough m within.some_house within.at_most_six)
 
 pub word_inside : {a : Rows} → IsWithinHouses a → IsEnding a → word_of a < 52054
-word_inside {a} within few =
-    omega (arith, its_game a within few, first_rises (suc (length a.own)) 7 (omega arith) (lit≤ tt), rule_bit-small a.rule)
+word_inside {a} within few = grind (arith, its_game)
 
 -- endings of one word and one place in it are the same
 same_told : (a b : Rows) → IsWithinHouses a → IsWithinHouses b → IsEnding a → IsEnding b → word_of a ≡ word_of b →
     rank_of_houses a % 16 ≡ rank_of_houses b % 16 → a ≡ b
 same_told a b ha hb few few_b word place =
-    let m = length a.own in
-    let n = length b.own in
-    let here = its_game a ha few in
-    let there = its_game b hb few_b in
-    let end = first_rises (suc m) 7 (omega arith) (lit≤ tt) in
-    let end_b = first_rises (suc n) 7 (omega arith) (lit≤ tt) in
-    let rule : rule_bit a.rule ≡ rule_bit b.rule =
-    omega (arith, rule_bit-small a.rule, rule_bit-small b.rule) in
-    let side : m ≡ n = elim (cases_lt m n) [
-      | inl less ↦ absurd (omega (arith, first_rises (suc m) n less (omega arith)))
-      | inr others ↦ elim (cases_lt n m) [
-        | inl more ↦ absurd (omega (arith, first_rises (suc n) m more (omega arith)))
-        | inr equal ↦ omega arith
-      ]
-    ] in
-    let firsts = ap first side in
-    same_houses a b ha hb (omega arith) (omega arith)
+    grind (arith, its_game, first_rises, lit≤, rule_bit-small, cases_lt, same_houses)
 
 -- ---- what the words state
 
 -- an empty word states nothing
 pub states_nothing : (i : ℕ) → StoresWon i 0
 unfolding StoresWon
-states_nothing i a within few is stored =
-    absurd (stored (ap (λ n. n % 16) (zero-div (2 ^ (4 * (rank_of_houses a % 16))))))
+states_nothing i a within few is stored = omega arith
 
 -- after one more ending is stored
 pub states_more : (word : ℕ) (a : Rows) → StoresWon (word_of a) word → IsWithinHouses a → IsEnding a →
@@ -507,16 +449,7 @@ pub states_more : (word : ℕ) (a : Rows) → StoresWon (word_of a) word → IsW
     StoresWon (word_of a) (word + suc (won a) * 2 ^ (4 * (rank_of_houses a % 16)))
 unfolding StoresWon
 states_more word a before ha few none small b hb few_b one stored =
-    let place = rank_of_houses a % 16 in
-    let d = suc (won a) in
-    elim (cases_eq (rank_of_houses b % 16) place) [
-      | inl same ↦
-          let is = same_told a b ha hb few few_b (sym one) (sym same) in
-          rw same (put_there place word d none (omega (arith, small)) ∙ ap (λ c. suc (won c)) is)
-      | inr other ↦
-          let there = same_elsewhere (rank_of_houses b % 16) place word d other none (omega (arith, small)) in
-          rw there (before b hb few_b one (rw there at stored))
-    ]
+    grind (arith, rank_of_houses, won, cases_eq, same_told, put_there, same_elsewhere, stored)
 
 -- a stored ending is right
 pub stored : (word : ℕ) (a : Rows) → StoresWon (word_of a) word → IsWithinHouses a → IsEnding a →
@@ -528,10 +461,7 @@ stored word a states within few some = states a within few refl some
 
 -- words that are all empty are true
 pub begins : (n : ℕ) → AreTrueWords (replicate n 0)
-begins n i = elim (cases_lt i n) [
-  | inl inside ↦ rw (get_or-replicate {A = ℕ} n i 0 0 inside) (states_nothing i)
-  | inr past ↦ rw (get_or_past {X = ℕ} (replicate n 0) i 0 (omega (arith, past, length-replicate {A = ℕ} n 0))) (states_nothing i)
-]
+begins n i = grind (arith, cases_lt, get_or-replicate, states_nothing, get_or_past, length-replicate)
 
 -- a new seat may read each word
 pub reads : (slots i : ℕ) → Enters (λ (s : State (Unit {0}) (Unit {0})). AreTrueWords s.words) slots i (λ n w. StoresWon i n)
@@ -564,7 +494,7 @@ pub record IsMost (a : Rows) (marks most : ℕ) : Type 0 where
 pub most_of_none : {a : Rows} {marks : ℕ} → ((i : ℕ) → (0 < cell marks i) ↔ (0 < get_or a.own i 0)) → IsMost a marks 0
 most_of_none {a} marked = record {
   reached = omega arith;
-  all = λ i has gone. absurd (let some = (marked (i - 1)).1 (legal_holds (bare a) i has).some in omega arith);
+  all = λ i has gone. absurd (let some = (marked _).1 (legal_holds (bare a) i has).some in omega arith);
 }
 
 -- the last marked house, with what it takes
@@ -576,9 +506,8 @@ most_more {a} {marks} {most} {h} v new w is last has v_is new_is = record {
   all = λ i may gone. elim (cases_eq i h) [
     | inl same ↦ rw same (omega arith)
     | inr other ↦
-        let first = (legal_holds (bare a) i may).first in
-        let place : i - 1 ≢ h - 1 = omega (arith, first) in
-        omega (arith, is.all i may (gone_before marks h last (i - 1) place gone))
+        let place : i - 1 ≢ h - 1 = omega (arith, (legal_holds (bare a) i may).first) in
+        omega (arith, is.all i may (gone_before marks h last _ place gone))
   ];
 }
 
@@ -590,9 +519,7 @@ most_all a marks most w is full = omega (arith, (taken_share w).few)
 -- and so it does once no house is marked
 pub most_won : (a : Rows) (marks most : ℕ) → IsWithinHouses a → is_over (bare a) ≡ false → IsMost a marks most → marks ≡ 0
     → most ≡ won a
-most_won a marks most w going is none =
-    let best = taken_reached a w going in
-    omega (arith, is.all best.0 best.1 (rw none (cell_none (best.0 - 1))))
+most_won a marks most w going is none = grind (arith, taken_reached, cell_none)
 
 -- ==== What a table keeps, over the list of its entries
 
@@ -606,20 +533,20 @@ pub found_holds : (es : List (ℕ × Interval)) (a : Rows) (k : ℕ) → AreTrue
     → IfSome o (λ i. Encloses i (houses_worth a))
 found_holds es a k entries within key None h = tt
 found_holds es a k entries within key (Some i) h =
-    let at = Contains-lookup (nat_eq k) es i h in
-    let entry = entries (at.0, i) at.1 in
-    let same = same_key entry.0 a entry.1 within (entry.2 ∙ sym (same_number _ _ at.2) ∙ key) in
+    let at = Contains-lookup _ es i h in
+    let entry = entries _ at.1 in
+    let same = same_key _ a entry.1 within (entry.2 ∙ sym (same_number _ _ at.2) ∙ key) in
     subst (λ b. Encloses i (houses_worth b)) same entry.3
 
 -- a use changes only the order
 pub true_promoted : (es : List (ℕ × Interval)) (k : ℕ) → AreTrue es → AreTrue (promoted (nat_eq k) es)
-true_promoted es k entries = λ e h. entries e (Contains-promoted (nat_eq k) es e h)
+true_promoted es k entries = λ e h. entries e (Contains-promoted _ es e h)
 
 module _ (c : LruCache ℕ Interval) (a : Rows) (k : ℕ) (i : Interval) (entries : AreTrue c.entries) (within : IsWithinHouses a)
     (key : k ≡ key_of a) (holds : Encloses i (houses_worth a)) where
   -- the new entry is true
   put_entry : (e : ℕ × Interval) → e.1 ≡ i → e.0 ≡ k → IsTrueEntry e
-  put_entry e value at = (a, within, sym (at ∙ key), subst (λ j. Encloses j (houses_worth a)) (sym value) holds)
+  put_entry e value at = grind arith
 
   -- and so are all after a put
   pub true_put : AreTrue (put_entries nat_eq c k i)
@@ -635,8 +562,8 @@ module _ (c : LruCache ℕ Interval) (a : Rows) (k : ℕ) (i : Interval) (entrie
   pub true_after : {X E : Type 0} (r : Result X E) (new : LruCache ℕ Interval)
       → OnOk r (new ≡ lru_cache (put_entries nat_eq c k i) c.cap) →
       OnErr r (new ≡ c) → AreTrue new.entries
-  true_after (Ok x) new ok err = subst (λ (d : LruCache ℕ Interval). AreTrue d.entries) (sym ok) true_put
-  true_after (Err x) new ok err = subst (λ (d : LruCache ℕ Interval). AreTrue d.entries) (sym err) entries
+  true_after (Ok x) new ok err = grind (arith, true_put)
+  true_after (Err x) new ok err = grind arith
 
 -- a cache as its table is known
 abbrev pub state_of : LruCache ℕ Interval → TableState
@@ -662,37 +589,26 @@ put_again (Err x) c new k i ok succeeds some = cc (succeeds some)
 -- a mixed key determines the key
 unmixed : (k : ℕ) → k < 2 ^ 64 → (mixed k * 17428512612931826493) % 2 ^ 64 ≡ k
 unfolding mixed
-unmixed k small = mul-mod_first (k * 11400714819323198485) 17428512612931826493 (2 ^ 64) ∙ omega (arith, small)
+unmixed k small = omega arith
 
 same_unmixed : (k l : ℕ) → k < 2 ^ 64 → l < 2 ^ 64 → mixed k ≡ mixed l → k ≡ l
 same_unmixed k l hk hl same = sym (unmixed _ hk) ∙ ap (λ x. (x * 17428512612931826493) % 2 ^ 64) same ∙ unmixed _ hl
 
 -- of two numbers that leave the same open the greater has a later place
 place_later : (n x y : ℕ) → 1024 ≤ n → left_open x ≡ left_open y → x < y → place_among n x < place_among n y
-place_later n x y enough rest less =
-    let apart : x / 2 ^ 32 + 2 ^ 22 ≤ y / 2 ^ 32 = omega arith in
-    let later = mul-le-mul_right n apart in
-    let sum = add-mul (x / 2 ^ 32) (2 ^ 22) n in
-    omega (arith, sum, enough)
+place_later n x y enough rest less = grind (arith, add-mul)
 
 -- so two with one place are one
 place_same : (n x y : ℕ) → 1024 ≤ n → left_open x ≡ left_open y → place_among n x ≡ place_among n y → x ≡ y
-place_same n x y enough rest same = elim (cases_lt x y) [
-  | inl less ↦ absurd (omega (arith, place_later n x y enough rest less))
-  | inr others ↦ elim (cases_lt y x) [
-    | inl more ↦ absurd (omega (arith, place_later n y x enough (sym rest) more))
-    | inr equal ↦ omega arith
-  ]
-]
+place_same n x y enough rest same = grind (arith, place_later)
 
 key_fits : (a : Rows) → IsWithinHouses a → key_of a < 2 ^ 64
-key_fits a within = packed_fits (packed_as a (key_of a) (seeds_in_houses (bare a)) within refl refl).0
+key_fits a within = packed_fits (packed_as a (key_of a) _ within refl refl).0
 
 same_placed : (n : ℕ) (a b : Rows) → 1024 ≤ n → IsWithinHouses a → IsWithinHouses b →
     left_open (mixed (key_of a)) ≡ left_open (mixed (key_of b)) →
     place_among n (mixed (key_of a)) ≡ place_among n (mixed (key_of b)) → a ≡ b
-same_placed n a b enough ha hb rest place =
-    same_key a b ha hb (same_unmixed (key_of a) (key_of b) (key_fits a ha) (key_fits b hb) (place_same n _ _ enough rest place))
+same_placed n a b enough ha hb rest place = grind (arith, same_key, same_unmixed, key_fits, place_same)
 
 -- after more is kept
 pub shares_more : (places : List Place) (a : Rows) (number at : ℕ) (p : Place) → AreEnough (length places) → StoreBounds places
@@ -701,25 +617,9 @@ pub shares_more : (places : List Place) (a : Rows) (number at : ℕ) (p : Place)
     → stored_rest p ≡ left_open number →
     IsWithinPlace p (won a) → StoreBounds (slice_set places at p)
 shares_more places a number at p enough before within is place inside rest known b number_b d within_b is_b inside_b rest_b =
-    let count = length-set places at p in
-    let at_b = place_among (length places) number_b in
-    let after_b : IsWithinPlace (get_or (slice_set places at p) at_b d) (won b) = elim (cases_eq at_b at) [
-      | inl same ↦
-          let here : get_or (slice_set places at p) at_b d ≡ p = rw same (get_or-set_same places at p d inside) in
-          let rest : left_open number ≡ left_open number_b = sym rest ∙ rw (count, here) at rest_b in
-          let houses = same_placed (length places) a b enough.least within within_b (rw (← is, ← is_b) rest)
-          (rw (← is, ← is_b) (sym place ∙ sym same)) in
-          rw here (subst (λ c. IsWithinPlace p (won c)) houses known)
-      | inr other ↦
-          let there = get_or-set_other places at at_b p d other in
-          rw there (before b number_b d within_b is_b (rw count at inside_b) (rw (count, there) at rest_b))
-    ] in
-    rw count after_b
+    grind (arith, length-set, cases_eq, get_or-set_same, same_placed, get_or-set_other)
 
 -- places that all hold what is known of all houses
 pub shares_unknown : (count : ℕ) (p : Place) → stored_least p ≡ 0 → stored_most p ≡ most_seeds → StoreBounds (replicate count p)
 shares_unknown count p none all a number d within is inside rest =
-    let at = place_among (length (replicate count p)) number in
-    let few = (taken_share within).few in
-    let here = get_or-replicate count at p d (omega (arith, length-replicate count p)) in
-    rw here (record { least = omega arith; most = omega (arith, all, few) })
+    grind (arith, taken_share, get_or-replicate, length-replicate)

@@ -1,7 +1,6 @@
 -- What positions, moves and steps are worth.
 use Rattle.kalah_rules.specs.declared.step.Step.TheVariants as board
-use Rattle.std.proofs.Common.{zero, suc, ◌≡◌, ℕ, ◌+◌, ◌<◌, ◌≤◌, inl, inr, List, [], ◌∷◌, length, get_or, arith, sym, ◌∙◌, refl, ap, rules, IsTrue, ◌-◌, ◌*◌, subst}
-use Rattle.std.specs.Prelude.{Bool, true, false, Contains, map, filter, find, unwrap_or, ℤ, if◌then◌else◌, pos, ◌≤ℤ◌, ◌<ℤ◌, sum, neg_ℤ, replicate, ◌||◌, ◌==◌, ◌+ℤ◌, ◌-ℤ◌, fold}
+use Rattle.std.proofs.Common.{zero, suc, ◌≡◌, ℕ, ◌+◌, ◌<◌, ◌≤◌, inl, inr, List, [], ◌∷◌, length, get_or, arith, sym, ◌∙◌, refl, ap, IsTrue, ◌-◌, ◌*◌, Bool, true, false, Contains, map, filter, find, unwrap_or, ℤ, if◌then◌else◌, pos, ◌≤ℤ◌, ◌<ℤ◌, sum, neg_ℤ, ◌||◌, ◌+ℤ◌, ◌-ℤ◌, fold, int_eq}
 use Rattle.std.specs.List.{range_with_len}
 use Rattle.std.proofs.lemmas.Bool.{cases_Bool, cases_lt}
 use Rattle.std.proofs.lemmas.Int.{fold-int_max_reached, ints, fold-int_max_bounds}
@@ -9,14 +8,13 @@ use Rattle.std.proofs.lemmas.List.{length-map, get_or-map, get_or_default}
 use Rattle.std.proofs.lemmas.List.Elements.{Contains-get_or, Contains-append_right, Contains-append_left, Contains-push, All-from_get_or}
 use Rattle.lru.proofs.Splits.{Contains-head, Contains-tail, Contains-cons}
 use Rattle.kalah_solve.specs.Solver.Worth.{greatest, worth, best_house, value_by, worth_within, value_of_move, houses_worth}
-use Rattle.std.specs.Ordering.{int_eq}
 use Rattle.std.proofs.lemmas.Bool.Decides.{Decides-int_eq}
-use Rattle.kalah_rules.specs.Position.{Position, IsWithinLimits, is_over, final_margin, HasEqualSides, side_length, seeds_in_houses, swapped, swept, rows_of, bare, Rows, IsWithinHouses}
+use Rattle.kalah_rules.specs.Position.{Position, IsWithinLimits, is_over, final_margin, HasEqualSides, seeds_in_houses, swapped, swept, rows_of, bare, Rows, IsWithinHouses}
 use Rattle.kalah_rules.specs.Play.{legal_houses, step_of}
 use Rattle.kalah_rules.proofs.PlayLemmas.{legal_holds, holds_legal, sum-zeros, after_equal_sides, after_fewer, swap_fewer, with_more, after_with_more, is_with_more, legal_going}
 use Rattle.std.proofs.lemmas.List.Sums.{sum_by-le}
 use Rattle.kalah_rules.specs.Sowing.{after, is_again}
-use Rattle.kalah_rules.specs.Measure.{moves_left, distance_to_stores}
+use Rattle.kalah_rules.specs.Measure.{moves_left}
 use Rattle.kalah_rules.specs.declared.step.Step.{Step}
 use Rattle.kalah_solve.specs.Solver.Laws.{CountPlaysNoPart, WorthIsMostOfMoves}
 use Rattle.std.specs.Int.{int_max}
@@ -36,9 +34,9 @@ greatest_is_one f (x ∷ xs) some = elim (fold-int_max_reached (f x) (map f xs) 
   | inl start ↦ (x, Contains-head x xs, sym start)
   | inr later ↦
       let within : later.0 < length xs = omega (arith, length-map xs f) in (
-        get_or xs later.0 0,
-        Contains-tail x xs _ (Contains-get_or xs later.0 0 within),
-        sym (get_or-map f xs later.0 0 _ within)
+        get_or xs _ 0,
+        Contains-tail x xs _ (Contains-get_or xs _ 0 within),
+        sym (get_or-map f xs _ 0 _ within)
             ∙ later.2,
       )
 ]
@@ -50,7 +48,7 @@ find_passes t [] k has passes = absurd (omega arith)
 find_passes t (x ∷ xs) k has passes = elim (cases_Bool (t x)) [
   | inl here ↦ rw here (Contains-head x xs, here)
   | inr later ↦ elim (Contains-cons x xs k has) [
-    | inl same ↦ absurd (let fails : t k ≡ false = rw same at later in cc)
+    | inl same ↦ cc
     | inr rest ↦
         let found = find_passes t xs k rest passes in
         rw later (Contains-tail x xs _ found.0, found.1)
@@ -73,15 +71,14 @@ filter_low g a (suc n) h has = elim (cases_Bool (g a)) [
 -- so the first that is found is the lowest that passes
 pub find_lowest : (t g : ℕ → Bool) (a n h : ℕ) → Contains (filter g (range_with_len a n)) h → t h ≡ true →
     unwrap_or (find t (filter g (range_with_len a n))) 0 ≤ h
-find_lowest t g a zero h has passes = absurd (omega arith)
+find_lowest t g a zero h has passes = omega arith
 find_lowest t g a (suc n) h has passes = elim (cases_Bool (g a)) [
   | inl kept ↦
-      let low = filter_low g a (suc n) h has in
       let has' = rw kept at has in
       elim (cases_Bool (t a)) [
-        | inl here ↦ rw (kept, here) low
-        | inr later ↦ elim (Contains-cons a (filter g (range_with_len (a + 1) n)) h has') [
-          | inl same ↦ absurd (let fails : t h ≡ false = rw same at later in cc)
+        | inl here ↦ rw (kept, here) (filter_low g a (suc n) h has)
+        | inr later ↦ elim (Contains-cons a _ h has') [
+          | inl same ↦ cc
           | inr rest ↦ rw (kept, later) (find_lowest t g (a + 1) n h rest passes)
         ]
       ]
@@ -92,7 +89,7 @@ find_lowest t g a (suc n) h has passes = elim (cases_Bool (g a)) [
 pub lowest_of : (t g : ℕ → Bool) (a n h : ℕ) (xs : List ℕ) → xs ≡ filter g (range_with_len a n) → Contains xs h
     → t h ≡ true →
     unwrap_or (find t xs) 0 ≤ h
-lowest_of t g a n h xs is has passes = rw is (find_lowest t g a n h (rw is at has) passes)
+lowest_of t g a n h xs is has passes = grind (arith, find_lowest)
 
 -- ==== The lowest house that attains the greatest value, one house more at a time
 
@@ -101,7 +98,7 @@ pub value_le : (f : ℕ → ℤ) (xs : List ℕ) (k : ℕ) → k < length xs →
 value_le f [] k within = absurd (omega arith)
 value_le f (x ∷ xs) zero within = (fold-int_max_bounds (f x) (map f xs) _ refl).0
 value_le f (x ∷ xs) (suc k) within =
-    rw (get_or-map f xs k 0 (pos 0) (omega arith)) at ((fold-int_max_bounds (f x) (map f xs) _ refl).1 k (pos 0)
+    rw (get_or-map f xs k 0 _ (omega arith)) at ((fold-int_max_bounds (f x) (map f xs) _ refl).1 k (pos 0)
     (omega (arith, length-map xs f)))
 
 -- equal numbers pass the test
@@ -110,10 +107,7 @@ eq_yes a b e = (Decides-int_eq a b).1 e
 
 -- and a lower one fails it
 pub eq_no : (a b : ℤ) → a <ℤ b → int_eq a b ≡ false
-eq_no a b less = elim (cases_Bool (int_eq a b)) [
-  | inl same ↦ let e = (Decides-int_eq a b).0 same in absurd (omega (arith, ints))
-  | inr differ ↦ differ
-]
+eq_no a b less = grind arith
 
 -- ==== Best play does not depend on the count of moves, once it is high enough
 
@@ -123,18 +117,15 @@ none_left s m w none = omega arith
 
 -- a position with no moves left is over
 pub over_at_end : (p : Position) → moves_left p ≡ 0 → is_over p ≡ true
-over_at_end p none =
-    let no_seeds = none_left _ _ _ none in
-    let empty : sum p.own ≡ 0 = omega arith in
-    rw empty refl
+over_at_end p none = grind arith
 
 -- both sides of a board have as many houses
 pub board_equal_sides : (p : Position) → IsWithinLimits p → HasEqualSides p
-board_equal_sides p limits = record { same = limits.same_side }
+board_equal_sides p limits = omega arith
 
 -- and from the other side
 pub swapped_equal_sides : (p : Position) → HasEqualSides p → HasEqualSides (swapped p)
-swapped_equal_sides p even = record { same = sym even.same }
+swapped_equal_sides p even = omega arith
 
 -- the same list if two functions agree on each element
 map_same : (f g : ℕ → ℤ) (xs : List ℕ) → ((h : ℕ) → Contains xs h → f h ≡ g h) → map f xs ≡ map g xs
@@ -142,45 +133,40 @@ map_same f g [] same = refl
 map_same f g (x ∷ xs) same =
     let first = same x (Contains-append_left (x ∷ []) xs x (Contains-push [] x)) in
     let rest = map_same f g xs (λ h has. same h (Contains-append_right (x ∷ []) xs h has)) in
-    cc (first, rest)
+    cc rest
 
 -- a value depends only on the worth of what follows
 value_same : (v w : Position → ℤ) (p : Position) (h : ℕ) → v (after p h) ≡ w (after p h) →
     v (swapped (after p h)) ≡ w (swapped (after p h)) → value_by v p h ≡ value_by w p h
-value_same v w p h again turn = rw (again, turn) refl
+value_same v w p h again turn = cc
 
 -- one move more, if the game goes on
 pub worth_more : (n : ℕ) (p : Position) → is_over p ≡ false
     → worth_within (suc n) p ≡ greatest (map (value_by (worth_within n) p) (legal_houses p))
 unfolding worth_within
-worth_more n p going = ap (λ (b : Bool). if b then final_margin p else greatest (map (value_by (worth_within n) p) (legal_houses p))) going
+worth_more n p going = cc
 
 -- the final margin, if it does not
 pub worth_over : (n : ℕ) (p : Position) → is_over p ≡ true → worth_within n p ≡ final_margin p
 unfolding worth_within
 worth_over zero p over = refl
-worth_over (suc n) p over = ap (λ (b : Bool). if b then final_margin p else greatest (map (value_by (worth_within n) p) (legal_houses p)))
-    over
+worth_over (suc n) p over = cc
 
 -- two counts that are high enough give the same worth
 pub worth_same : (n k : ℕ) (p : Position) → HasEqualSides p → moves_left p ≤ n → moves_left p ≤ k
     → worth_within n p ≡ worth_within k p
-worth_same zero k p even n_high k_high =
-    let over = over_at_end p (omega arith) in
-    worth_over zero p over ∙ sym (worth_over k p over)
-worth_same (suc n) zero p even n_high k_high =
-    let over = over_at_end p (omega arith) in
-    worth_over (suc n) p over ∙ sym (worth_over zero p over)
-worth_same (suc n) (suc k) p even n_high k_high = elim (cases_Bool (is_over p)) [
-  | inl over ↦ worth_over (suc n) p over ∙ sym (worth_over (suc k) p over)
-  | inr going ↦ worth_more n p going ∙ ap greatest (map_same (value_by (worth_within n) p) (value_by (worth_within k) p)
-      (legal_houses p) (λ h is_legal.
+worth_same zero k p even n_high k_high = grind (arith, over_at_end, worth_over)
+worth_same (suc n) zero p even n_high k_high = grind (arith, over_at_end, worth_over)
+worth_same (suc n) (suc k) p even n_high k_high = elim (cases_Bool _) [
+  | inl over ↦ worth_over _ p over ∙ sym (worth_over _ p over)
+  | inr going ↦ worth_more n p going ∙ ap greatest (map_same _ (value_by (worth_within k) p)
+      _ (λ h is_legal.
       let fewer = after_fewer p h (legal_holds p h is_legal) even in
       let next_even = after_equal_sides p h in
-      let turned = swap_fewer (after p h) next_even in
+      let turned = swap_fewer _ next_even in
       value_same (worth_within n) (worth_within k) p h
-      (worth_same n k (after p h) next_even (omega arith) (omega arith))
-      (worth_same n k (swapped (after p h)) (swapped_equal_sides (after p h) next_even) (omega arith) (omega arith))))
+      (worth_same n k _ next_even (omega arith) (omega arith))
+      (worth_same n k _ (omega arith) (omega arith) (omega arith))))
       ∙ sym (worth_more k p going)
 ]
 
@@ -213,11 +199,7 @@ worth_of_going p even going =
 
 -- a sweep keeps the margin
 final_margin-swept : (q : Position) → final_margin (swept q) ≡ final_margin q
-final_margin-swept q =
-    let none = sum-zeros (side_length q) in
-    let own : sum (replicate (side_length q) 0) + (q.own_store + sum q.own) ≡ sum q.own + q.own_store = omega arith in
-    let other : sum (replicate (side_length q) 0) + (q.other_store + sum q.other) ≡ sum q.other + q.other_store = omega arith in
-    rw (own, other) refl
+final_margin-swept q = omega (arith, ints)
 
 -- the step of a move
 abbrev step_by : Bool → Bool → Position → Step
@@ -243,63 +225,47 @@ turn_step false false q e is = (refl, refl, cc)
 
 -- a move that ends the game leaves it over
 pub over_ends : (p : Position) (h : ℕ) (e : Position) → board.Over e ≡ step_of p h → IsTrue (is_over e)
-over_ends p h e is =
-    let step = over_step (is_over (after p h)) (is_again p h) (after p h) e is in
-    rw (step.1, sum-zeros (side_length (after p h))) (search rules)
+over_ends p h e is = grind (arith, sum-zeros)
 
 -- the value of a move, by its step
 pub value_of_over : (p : Position) (h : ℕ) (e : Position) → board.Over e ≡ step_of p h → final_margin e ≡ value_of_move p h
-value_of_over p h e is =
-    let step = over_step (is_over (after p h)) (is_again p h) (after p h) e is in
-    rw (step.1, step.0) (final_margin-swept (after p h))
+value_of_over p h e is = grind (arith, final_margin-swept)
 
 -- if the mover moves again
 pub value_of_again : (p : Position) (h : ℕ) (e : Position) → board.Again e ≡ step_of p h → worth e ≡ value_of_move p h
-value_of_again p h e is =
-    let step = again_step (is_over (after p h)) (is_again p h) (after p h) e is in
-    rw (step.2, step.0, step.1) refl
+value_of_again p h e is = grind arith
 
 -- if the turn passes
 pub value_of_turn : (p : Position) (h : ℕ) (e : Position) → board.Turn e ≡ step_of p h → neg_ℤ (worth e) ≡ value_of_move p h
-value_of_turn p h e is =
-    let step = turn_step (is_over (after p h)) (is_again p h) (after p h) e is in
-    rw (step.2, step.0, step.1) refl
+value_of_turn p h e is = grind arith
 
 -- and how many moves it leaves
 pub again_fewer : (p : Position) (h : ℕ) (e : Position) → HasEqualSides p → Contains (legal_houses p) h
     → board.Again e ≡ step_of p h →
     moves_left e < moves_left p
-again_fewer p h e even is_legal is =
-    let step = again_step (is_over (after p h)) (is_again p h) (after p h) e is in
-    rw step.2 (after_fewer p h (legal_holds p h is_legal) even)
+again_fewer p h e even is_legal is = grind (arith, again_step, after_fewer, legal_holds)
 
 -- if the turn passes
 pub turn_fewer : (p : Position) (h : ℕ) (e : Position) → HasEqualSides p → Contains (legal_houses p) h → board.Turn e ≡ step_of p h →
     moves_left e < moves_left p
 turn_fewer p h e even is_legal is =
-    let step = turn_step (is_over (after p h)) (is_again p h) (after p h) e is in
-    rw (step.2, swap_fewer (after p h) (after_equal_sides p h)) (after_fewer p h (legal_holds p h is_legal) even)
+    grind (arith, turn_step, swap_fewer, after_equal_sides, after_fewer, legal_holds)
 
 -- a game that goes on has a move
 row_empty : (p : Position) → is_over p ≡ false → length (legal_houses p) ≤ 0 → sum p.own ≡ 0
 row_empty p going none =
-    let each = All-from_get_or (λ x. x ≤ 0) p.own 0 (λ i within. elim (cases_lt 0 (get_or p.own i 0)) [
+    let each = All-from_get_or (λ x. x ≤ 0) p.own 0 (λ i within. elim (cases_lt 0 _) [
       | inl some ↦
           let at : i + 1 - 1 ≡ i = omega arith in
           let has = holds_legal p (i + 1) (record { first = omega arith; last = omega arith; some = rw at some }) going in
           absurd (omega arith)
       | inr empty ↦ empty
     ]) in
-    omega (arith, sum_by-le (λ x. x) 0 p.own each)
+    omega (arith, sum_by-le (λ x. x) 0 _ each)
 
 -- so one has a legal house
 pub legal_some : (p : Position) → is_over p ≡ false → 0 < length (legal_houses p)
-legal_some p going = elim (cases_lt 0 (length (legal_houses p))) [
-  | inl some ↦ some
-  | inr none ↦
-      let empty = row_empty p going none in
-      absurd (let over : is_over p ≡ true = rw empty refl in cc)
-]
+legal_some p going = grind (arith, row_empty)
 
 -- ==== The value of a move and the worth of what follows
 
@@ -312,7 +278,7 @@ or_swapped false false is = is
 
 -- a game that is over is over from the other side
 pub over_for_other : (q : Position) → is_over q ≡ true → is_over (swapped q) ≡ true
-over_for_other q over = or_swapped (sum q.own == 0) (sum q.other == 0) over
+over_for_other q over = simp or_swapped
 
 -- with the opposite margin
 pub final_swapped : (q : Position) → neg_ℤ (final_margin (swapped q)) ≡ final_margin q
@@ -320,38 +286,31 @@ final_swapped q = omega (arith, ints)
 
 -- the value of a move is the worth of what follows, over or not
 pub value_going_on : (p : Position) (h : ℕ) → is_again p h ≡ true → value_of_move p h ≡ worth (after p h)
-value_going_on p h again = elim (cases_Bool (is_over (after p h))) [
-  | inl over ↦ rw over (sym (worth_of_over _ over))
-  | inr going ↦ rw (going, again) refl
-]
+value_going_on p h again = grind (arith, worth_of_over)
 
 -- and with the turn passed, its negative
 pub value_passing : (p : Position) (h : ℕ) → is_again p h ≡ false → value_of_move p h ≡ neg_ℤ (worth (swapped (after p h)))
-value_passing p h turn = elim (cases_Bool (is_over (after p h))) [
-  | inl over ↦ rw over
-      (sym (ap neg_ℤ (worth_of_over (swapped (after p h)) (over_for_other (after p h) over)) ∙ final_swapped (after p h)))
-  | inr going ↦ rw (going, turn) refl
-]
+value_passing p h turn = grind (arith, cases_Bool, worth_of_over, over_for_other, final_swapped)
 
 -- the best house is legal, and attains the worth
 pub best_found : (p : Position) → HasEqualSides p → is_over p ≡ false →
     Contains (legal_houses p) (best_house p) × (int_eq (value_of_move p (best_house p)) (worth p) ≡ true)
 best_found p even going =
-    let best = greatest_is_one (value_of_move p) (legal_houses p) (legal_some p going) in
+    let best = greatest_is_one _ (legal_houses p) (legal_some p going) in
     let attains = best.2 ∙ sym (worth_of_going p even going) in
-    find_passes (λ h. int_eq (value_of_move p h) (worth p)) (legal_houses p) best.0 best.1
-    (eq_yes (value_of_move p best.0) (worth p) attains)
+    find_passes _ (legal_houses p) _ best.1
+    (eq_yes _ (worth p) attains)
 
 -- so its value is the worth
 pub best_attains : {p : Position} → HasEqualSides p → is_over p ≡ false → value_of_move p (best_house p) ≡ worth p
-best_attains {p} even going = (Decides-int_eq (value_of_move p (best_house p)) (worth p)).0 (best_found _ even going).1
+best_attains {p} even going = grind (arith, best_found)
 
 -- and no legal house gets more
 pub value_most : (p : Position) (h : ℕ) → HasEqualSides p → is_over p ≡ false → Contains (legal_houses p) h
     → value_of_move p h ≤ℤ worth p
 value_most p h even going has =
-    let at = get_or_default (legal_houses p) has.0 0 h has.1 ∙ has.2 in
-    rw (worth_of_going p even going) (rw at at (value_le (value_of_move p) (legal_houses p) has.0 has.1))
+    let at = get_or_default _ has.0 0 h has.1 ∙ has.2 in
+    rw (worth_of_going p even going) (rw at at (value_le (value_of_move p) _ has.0 has.1))
 
 -- the law on the worth in plain words
 pub worth_is_most : WorthIsMostOfMoves
@@ -402,9 +361,7 @@ value_with_more : (v w : Position → ℤ) (a b : ℕ) (p : Position) (h : ℕ) 
     v (with_more a b (after p h)) ≡ w (after p h) +ℤ (pos a -ℤ pos b) →
     v (with_more b a (swapped (after p h))) ≡ w (swapped (after p h)) +ℤ (pos b -ℤ pos a) →
     value_by v (with_more a b p) h ≡ value_by w p h +ℤ (pos a -ℤ pos b)
-value_with_more v w a b p h again turn =
-    let q = after p h in
-    rw (after_with_more a b p h) (shift_by_step (is_over q) (is_again p h) _ _ _ _ _ _ a b (final_with_more a b q) again turn)
+value_with_more v w a b p h again turn = grind (arith, after_with_more, shift_by_step, final_with_more)
 
 -- with no move left the worth is the final margin
 worth_zero : (p : Position) → worth_within zero p ≡ final_margin p
@@ -413,28 +370,27 @@ worth_zero p = refl
 
 -- the worth is shifted by what was added, for any count of moves
 worth_with_more : (n a b : ℕ) (p : Position) → worth_within n (with_more a b p) ≡ worth_within n p +ℤ (pos a -ℤ pos b)
-worth_with_more zero a b p = worth_zero (with_more a b p) ∙ final_with_more a b p
-    ∙ ap (λ z. z +ℤ (pos a -ℤ pos b)) (sym (worth_zero p))
-worth_with_more (suc n) a b p = elim (cases_Bool (is_over p)) [
-  | inl over ↦ worth_over (suc n) (with_more a b p) over ∙ final_with_more a b p
-      ∙ ap (λ z. z +ℤ (pos a -ℤ pos b)) (sym (worth_over (suc n) p over))
+worth_with_more zero a b p = simp (worth_zero, final_with_more)
+worth_with_more (suc n) a b p = elim (cases_Bool _) [
+  | inl over ↦ worth_over (suc n) _ over ∙ final_with_more a b p
+      ∙ ap (λ z. z +ℤ (pos a -ℤ pos b)) (sym (worth_over _ p over))
   | inr going ↦
-      worth_more n (with_more a b p) going
-      ∙ greatest_shift (value_by (worth_within n) (with_more a b p)) (value_by (worth_within n) p) (pos a -ℤ pos b) (legal_houses p)
+      worth_more n _ going
+      ∙ greatest_shift _ (value_by (worth_within n) p) _ (legal_houses p)
       (legal_some p going)
-      (λ h. value_with_more (worth_within n) (worth_within n) a b p h (worth_with_more n a b (after p h))
-      (worth_with_more n b a (swapped (after p h))))
+      (λ h. value_with_more (worth_within n) (worth_within n) a b p h (worth_with_more n a b _)
+      (worth_with_more n b a _))
       ∙ ap (λ z. z +ℤ (pos a -ℤ pos b)) (sym (worth_more n p going))
 ]
 
 -- the worth is shifted by what was added
 worth_shift : (a b : ℕ) (p : Position) → worth (with_more a b p) ≡ worth p +ℤ (pos a -ℤ pos b)
 unfolding worth
-worth_shift a b p = worth_with_more (moves_left p) a b p
+worth_shift a b p = worth_with_more _ a b p
 
 -- the margin of best play is that of the houses, moved by the stores
 pub worth_of_rows : (p : Position) → worth p ≡ houses_worth (rows_of p) +ℤ (pos p.own_store -ℤ pos p.other_store)
-worth_of_rows p = ap worth (is_with_more p) ∙ worth_shift p.own_store p.other_store (bare (rows_of p))
+worth_of_rows p = ap worth (is_with_more p) ∙ worth_shift _ p.other_store _
 
 -- the law on the worth
 pub worth_by_stores : (p : Position) → worth p ≡ pos p.own_store -ℤ pos p.other_store +ℤ houses_worth (rows_of p)
@@ -443,7 +399,7 @@ worth_by_stores p = omega (arith, ints, worth_of_rows p)
 -- the same search by tests that agree
 find_same : (p q : ℕ → Bool) (xs : List ℕ) → ((h : ℕ) → p h ≡ q h) → find p xs ≡ find q xs
 find_same p q [] same = refl
-find_same p q (x ∷ xs) same = rw (same x, find_same p q xs same) refl
+find_same p q (x ∷ xs) same = grind arith
 
 -- two shifted numbers are equal if the two were
 int_eq_shift : (x y d : ℤ) → int_eq (x +ℤ d) (y +ℤ d) ≡ int_eq x y
@@ -452,12 +408,12 @@ int_eq_shift x y d = grind (arith, ints)
 -- the best house is the same, for any stores added
 best_with_more : (a b : ℕ) (p : Position) → best_house (with_more a b p) ≡ best_house p
 best_with_more a b p = ap (λ o. unwrap_or o 0) (find_same _ _ (legal_houses p) (λ h.
-    let value = value_with_more worth worth a b p h (worth_shift a b (after p h)) (worth_shift b a (swapped (after p h))) in
-    rw (value, worth_shift a b p) (int_eq_shift (value_of_move p h) (worth p) (pos a -ℤ pos b))))
+    let value = value_with_more worth worth a b p h (worth_shift a b _) (worth_shift b a _) in
+    rw (value, worth_shift a b p) (int_eq_shift _ (worth p) _)))
 
 -- the best house is that of the houses
 pub best_of_rows : (p : Position) → best_house p ≡ best_house (bare (rows_of p))
-best_of_rows p = ap best_house (is_with_more p) ∙ best_with_more p.own_store p.other_store (bare (rows_of p))
+best_of_rows p = ap best_house (is_with_more p) ∙ best_with_more p.own_store _ (bare (rows_of p))
 
 -- the value of a move is that of the move of the houses, moved by the stores
 pub value_of_rows : (p : Position) (h : ℕ) → value_of_move p h ≡ value_of_move (bare (rows_of p)) h +ℤ
@@ -465,9 +421,9 @@ pub value_of_rows : (p : Position) (h : ℕ) → value_of_move p h ≡ value_of_
 value_of_rows p h =
     let a = p.own_store in
     let b = p.other_store in
-    let q = after (bare (rows_of p)) h in
+    let q = after _ h in
     ap (λ (o : Position). value_of_move o h) (is_with_more p)
-    ∙ value_with_more worth worth a b (bare (rows_of p)) h (worth_shift a b q) (worth_shift b a (swapped q))
+    ∙ value_with_more worth worth a b _ h (worth_shift a b q) (worth_shift b a _)
 
 -- ==== What a step is worth, and where it leads
 
@@ -506,39 +462,31 @@ worth_again q none = worth_of_rows q ∙ omega (arith, ints)
 -- the same if the turn passes
 worth_turn : (q : Position) → q.other_store ≡ 0 → neg_ℤ (worth (swapped q)) ≡ pos q.own_store -ℤ houses_worth
     (rows_of (swapped q))
-worth_turn q none = ap neg_ℤ (worth_of_rows (swapped q)) ∙ omega (arith, ints)
+worth_turn q none = ap neg_ℤ (worth_of_rows _) ∙ omega (arith, ints)
 
 -- what a position after a move is worth, by its step
 worth_by_step : (q : Position) (again : Bool) → q.other_store ≡ 0 →
     (if is_over q then final_margin q else (if again then worth q else neg_ℤ (worth (swapped q)))) ≡ worth_of_step
     (houses_step_to q again)
-worth_by_step q again none = elim (cases_Bool (is_over q)) [
-  | inl over ↦ rw over (omega (arith, ints))
-  | inr going ↦ elim (cases_Bool again) [
-    | inl more ↦ rw (going, more) (worth_again _ none)
-    | inr passed ↦ rw (going, passed) (worth_turn _ none)
-  ]
-]
+worth_by_step q again none = grind (arith, cases_Bool, worth_again, worth_turn)
 
 -- what a move is worth, by its step
 pub value_is : (a : Rows) (h : ℕ) → IsWithinHouses a → Contains (legal_houses (bare a)) h
     → value_of_move (bare a) h ≡ worth_of_step (houses_step a h)
-value_is a h w has = worth_by_step (after (bare a) h) (is_again (bare a) h) (after_keeps a h w (legal_holds (bare a) h has)).other_store
+value_is a h w has = worth_by_step (after _ h) _ (after_keeps a h w (legal_holds _ h has)).other_store
 
 -- ---- where it leads
 -- each step leads to houses of the game with fewer moves left
 pub leads_on : (a : Rows) (h : ℕ) → IsWithinHouses a → Contains (legal_houses (bare a)) h → LeadsOn a (houses_step a h)
 leads_on a h w has =
-    let holds = legal_holds (bare a) h has in
-    let q = after (bare a) h in
+    let holds = legal_holds _ h has in
+    let q = after _ h in
     let keeps = after_keeps a h w holds in
-    let sides : HasEqualSides (bare a) = record { same = w.same_side } in
-    let fewer = after_fewer (bare a) h holds sides in
+    let fewer = after_fewer (bare a) h holds (record { same = w.same_side }) in
     let play = keeps.play in
-    let none = keeps.other_store in
     let within = after_within a h w holds in
     let rule = ap rule_bit keeps.rule in
-    on_cond (LeadsOn a) (is_over q) _ _ (λ over. omega arith) (λ going. on_cond (LeadsOn a) (is_again (bare a) h) _ _
+    on_cond (LeadsOn a) (is_over q) _ _ (omega arith) (λ going. on_cond (LeadsOn a) (is_again (bare a) h) _ _
     (λ again. record {
       kept = omega arith;
       fewer = fewer;
@@ -548,7 +496,7 @@ leads_on a h w has =
     })
     (λ turn. record {
       kept = omega arith;
-      fewer = omega (arith, swap_fewer q (after_equal_sides (bare a) h));
+      fewer = omega (arith, swap_fewer q (omega arith));
       going = over_swapped q going;
       limits = swapped_within q within;
       same = omega arith;
@@ -557,12 +505,11 @@ leads_on a h w has =
 -- a step that was played leads there
 pub leads_by : {a : Rows} (h : ℕ) (s : HousesStep) → IsWithinHouses a → Contains (legal_houses (bare a)) h → s ≡ houses_step a h
     → LeadsOn a s
-leads_by {a} h s w has e = subst (LeadsOn a) (sym e) (leads_on _ _ w has)
+leads_by {a} h s w has e = grind (arith, leads_on)
 
 -- ---- what the search needs of a step
 goes_on_to : {a b : Rows} {game gained : ℕ} → IsWithinHouses a → game_of a ≡ game → LeadsTo a gained b → GoesOnAt game gained b
-goes_on_to w is leads =
-    record { same = leads.same ∙ is; few = omega arith; going = leads.going; limits = leads.limits }
+goes_on_to w is leads = grind arith
 
 goes_on_of : (a : Rows) (game : ℕ) (s : HousesStep) → IsWithinHouses a → game_of a ≡ game → LeadsOn a s → GoesOn game s
 goes_on_of a game (Over own other) w is leads = omega arith
@@ -593,11 +540,11 @@ step_falls a h s w has e =
 -- no move is worth more
 pub value_le_worth : (a : Rows) (h : ℕ) → IsWithinHouses a → Contains (legal_houses (bare a)) h
     → value_of_move (bare a) h ≤ℤ houses_worth a
-value_le_worth a h w has = value_most _ _ (record { same = w.same_side }) (legal_going (bare a) h has) has
+value_le_worth a h w has = value_most _ _ (omega arith) (legal_going (bare a) h has) has
 
 -- and some move is worth as much
 pub worth_reached : (a : Rows) → IsWithinHouses a → is_over (bare a) ≡ false →
     (h : ℕ) × Contains (legal_houses (bare a)) h × (houses_worth a ≡ value_of_move (bare a) h)
 worth_reached a w going =
-    let even : HasEqualSides (bare a) = record { same = w.same_side } in
+    let even : HasEqualSides _ = omega arith in
     (best_house (bare a), (best_found _ even going).0, sym (best_attains even going))

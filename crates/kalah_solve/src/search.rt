@@ -19,13 +19,13 @@ mod tests;
 mod work;
 
 use crate::bounds::interval::Interval;
-use crate::bounds::seed_bounds::SeedBounds;
+use crate::bounds::seed_bounds::{SeedBounds, margin_of};
 use crate::bounds::window::Window;
 use crate::marks::{again_houses, other_houses, split_last};
 use crate::search::move_order::{MoveOrder, Priorities, highest};
-use crate::search::work::{EndingLimit, Work};
+use crate::search::work::{EndingLimit, SEEDS_THAT_ALWAYS_PAY, Work};
 use crate::table::Table;
-use kalah_rules::{House, Houses, HousesStep, Rule};
+use kalah_rules::{House, Houses, HousesStep};
 use std::alloc::{AllocError, Allocator, Global};
 
 /// What is known of houses with at most this many seeds is kept in their place, and of others among the entries.
@@ -38,19 +38,19 @@ const LEAST_WORK: u64 = 60;
 // that of houses a side, and 8 more under the empty-capture rule.
 macro_rules! in_its_game {
     ($self:ident.$method:ident($houses:ident, $($more:expr),*)) => {
-        match ($houses.rule(), $houses.m()) {
-            (Rule::Classic, 1) => $self.$method::<1>($houses, $($more),*),
-            (Rule::Classic, 2) => $self.$method::<2>($houses, $($more),*),
-            (Rule::Classic, 3) => $self.$method::<3>($houses, $($more),*),
-            (Rule::Classic, 4) => $self.$method::<4>($houses, $($more),*),
-            (Rule::Classic, 5) => $self.$method::<5>($houses, $($more),*),
-            (Rule::Classic, _) => $self.$method::<6>($houses, $($more),*),
-            (Rule::EmptyCapture, 1) => $self.$method::<9>($houses, $($more),*),
-            (Rule::EmptyCapture, 2) => $self.$method::<10>($houses, $($more),*),
-            (Rule::EmptyCapture, 3) => $self.$method::<11>($houses, $($more),*),
-            (Rule::EmptyCapture, 4) => $self.$method::<12>($houses, $($more),*),
-            (Rule::EmptyCapture, 5) => $self.$method::<13>($houses, $($more),*),
-            (Rule::EmptyCapture, _) => $self.$method::<14>($houses, $($more),*),
+        match $houses.game() {
+            1 => $self.$method::<1>($houses, $($more),*),
+            2 => $self.$method::<2>($houses, $($more),*),
+            3 => $self.$method::<3>($houses, $($more),*),
+            4 => $self.$method::<4>($houses, $($more),*),
+            5 => $self.$method::<5>($houses, $($more),*),
+            6 => $self.$method::<6>($houses, $($more),*),
+            9 => $self.$method::<9>($houses, $($more),*),
+            10 => $self.$method::<10>($houses, $($more),*),
+            11 => $self.$method::<11>($houses, $($more),*),
+            12 => $self.$method::<12>($houses, $($more),*),
+            13 => $self.$method::<13>($houses, $($more),*),
+            _ => $self.$method::<14>($houses, $($more),*),
         }
     };
 }
@@ -139,11 +139,13 @@ impl<A: Allocator + Clone> Search<A> {
         ensures { result ≡ within window.lo window.hi (houses_worth houses.now) }
     {
         let seeds = houses.seeds();
-        self.work.turn_to(houses);
-        self.grow_endings();
+        if seeds > SEEDS_THAT_ALWAYS_PAY {
+            self.work.turn_to(houses);
+            self.grow_endings();
+        }
         if seeds <= self.ending_limit.seeds {
             let won = self.table.won::<GAME>(*houses);
-            return window.clamp(2 * won as i32 - seeds as i32);
+            return window.clamp(margin_of(won, seeds));
         }
         let known = self.known_margins(houses);
         let Some(narrow) = window.narrowed(known) else {
@@ -151,7 +153,7 @@ impl<A: Allocator + Clone> Search<A> {
         };
         let before = self.work.nodes();
         let won = self.won_within::<GAME>(houses, SeedBounds::of_window(narrow, seeds));
-        let answer = narrow.clamp(2 * won as i32 - seeds as i32);
+        let answer = narrow.clamp(margin_of(won, seeds));
         let work = self.work.nodes().saturating_sub(before);
         self.learn_margins(
             *houses,

@@ -13,7 +13,7 @@ pub(crate) mod move_values;
 pub(crate) mod tests;
 mod values;
 
-use crate::bounds::seed_bounds::half;
+use crate::bounds::seed_bounds::share_of;
 use crate::bounds::window::Window;
 use crate::search::Search;
 use crate::table::Table;
@@ -73,7 +73,7 @@ impl<A: Allocator + Clone> Solver<A> {
         }
         let houses = board.houses();
         let best = self.worth(&houses);
-        let bar = half(best + houses.seeds() as i32);
+        let bar = share_of(best, houses.seeds());
         let house = self.first_house(&houses, &board.legal(), bar);
         let margin = best + (board.own_store() as i32 - board.other_store() as i32);
         Verdict::Best { margin, house }

@@ -22,7 +22,7 @@ fn assert_asked(
             &mut out,
             &mut err,
         );
-        assert!(rt; end == status, "{text}");
+        assert!(rt; end.is_ok_and(|end| end == status), "{text}");
         assert!(rt; out.into_inner().as_slice() == text.as_bytes(), "{text}");
         let said = if is_typed { HINT } else { "" };
         assert!(rt; err.as_slice() == said.as_bytes(), "{text}");

@@ -1,133 +1,75 @@
-use crate::request::{FilesRequest, Request, parse};
-use kalah_jobs::Question;
+use crate::request::{LineCommand, Request, parse};
 use std::process::Abort;
 
-// The arguments are accepted, and ask for this.
-fn assert_asks(rt: &(impl Abort + AllocGlobal), words: &[&str], request: Request<'_>) {
-    let is_asked = parse(rt.alloc(), words).is_ok_and(|asked| asked == request);
-    assert!(rt; is_asked, "{words:?}");
+// A request in words: the subcommand, the question or the line, and the options in the order of the request.
+fn told(rt: &(impl Abort + AllocGlobal), request: &Request<'_>) -> String {
+    let told = match request {
+        Request::Line { line, command } => match command {
+            LineCommand::Moves { boards } => format!(in rt.alloc(); "moves {line} {boards}"),
+            LineCommand::Play {
+                table,
+                boards,
+                first,
+            } => format!(in rt.alloc(); "play {line} {table} {boards} {first:?}"),
+            LineCommand::Show { table, plain } => {
+                format!(in rt.alloc(); "show {line} {table} {plain}")
+            }
+            LineCommand::Count { depth } => format!(in rt.alloc(); "count {line} {depth}"),
+        },
+        Request::Files(b) => format!(in rt.alloc();
+            "{:?} {} {} {} {:?}",
+            b.question, b.workers, b.table, b.progress, b.files
+        ),
+        Request::Ask { question, table } => format!(in rt.alloc(); "ask {question:?} {table}"),
+        Request::Conflict => format!(in rt.alloc(); "conflict"),
+    };
+    told.expect(rt, "no memory")
 }
 
-const LINE: &str = "1,1/0 1,1/0";
-
-#[test]
-fn reads_moves_and_play(rt: HostRuntime) {
-    for (words, boards) in [
-        (["k", "moves", LINE].as_slice(), false),
-        (&["k", "moves", LINE, "--boards"], true),
-    ] {
-        assert_asks(&rt, words, Request::Moves { line: LINE, boards });
+// The words after the program's name ask for this.
+fn assert_asks(rt: &(impl Abort + AllocGlobal), text: &str, asked: &str) {
+    let mut words = vec![in rt.alloc(); "kalah"].expect(rt, "no memory");
+    for word in text.split(' ') {
+        words.push(word).expect(rt, "no memory");
     }
-    for (words, table, boards, first) in [
-        (["k", "play", LINE].as_slice(), 65_536, false, None),
-        (
-            &["k", "play", "--table=1048576", "--", LINE],
-            1_048_576,
-            false,
-            None,
-        ),
-        (
-            &["k", "play", LINE, "--boards", "--first=1"],
-            65_536,
-            true,
-            Some(1),
-        ),
-        (
-            &["k", "play", "--first", "6", "--table", "1", LINE],
-            1,
-            false,
-            Some(6),
-        ),
-    ] {
-        let line = LINE;
-        let game = Request::Play {
-            line,
-            table,
-            boards,
-            first,
-        };
-        assert_asks(&rt, words, game);
-    }
+    let Ok(request) = parse(rt.alloc(), words.as_slice()) else {
+        panic!(rt; "{text}");
+    };
+    assert!(rt; told(rt, &request).as_str() == asked, "{text}");
 }
 
-#[test]
-fn reads_show_and_count(rt: HostRuntime) {
-    for (words, table, plain) in [
-        (["k", "show", LINE].as_slice(), 65_536, false),
-        (&["k", "show", "--plain", LINE], 65_536, true),
-        (&["k", "show", LINE, "--table=1"], 1, false),
-    ] {
-        let line = LINE;
-        assert_asks(&rt, words, Request::Show { line, table, plain });
-    }
-    for (word, depth) in [("0", 0), ("20", 20), ("+007", 7)] {
-        let line = LINE;
-        let words = ["k", "count", word, LINE];
-        assert_asks(&rt, &words, Request::Count { depth, line });
-    }
-}
+// Words, and what they ask for.
+const ASKED: &[(&str, &str)] = &[
+    ("moves x", "moves x false"),
+    ("moves x --boards", "moves x true"),
+    ("play x", "play x 65536 false None"),
+    ("play --table=1048576 -- -x", "play -x 1048576 false None"),
+    ("play x --boards --first=1", "play x 65536 true Some(1)"),
+    ("play --first 6 --table 1 x", "play x 1 false Some(6)"),
+    ("show x", "show x 65536 false"),
+    ("show --plain x", "show x 65536 true"),
+    ("show x --table=1", "show x 1 false"),
+    ("count 0 x", "count x 0"),
+    ("count 20 x", "count x 20"),
+    ("count +007 x", "count x 7"),
+    ("solve a b", "BestMove 4 65536 false [\"a\", \"b\"]"),
+    ("solve --workers 64 a", "BestMove 64 65536 false [\"a\"]"),
+    ("values a --table=1 b", "Values 4 1 false [\"a\", \"b\"]"),
+    ("steps a b", "Steps 4 1 false [\"a\", \"b\"]"),
+    ("steps a --workers=64 --progress", "Steps 64 1 true [\"a\"]"),
+    ("ask", "ask BestMove 65536"),
+    ("ask --table=1", "ask BestMove 1"),
+    ("ask --table 1048576 --values", "ask Values 1048576"),
+    ("ask --steps", "ask Steps 1"),
+    ("ask --steps --values", "conflict"),
+    ("ask --values --steps", "conflict"),
+    ("ask --steps --table=65536", "conflict"),
+    ("ask --table=65536 --steps", "conflict"),
+];
 
 #[test]
-fn reads_what_is_asked_of_files(rt: HostRuntime) {
-    for (words, question, workers, table, progress) in [
-        (
-            ["k", "solve", "a", "b"].as_slice(),
-            Question::BestMove,
-            4,
-            65_536,
-            false,
-        ),
-        (
-            &["k", "solve", "--workers", "64", "a", "b"],
-            Question::BestMove,
-            64,
-            65_536,
-            false,
-        ),
-        (
-            &["k", "values", "a", "--table=1", "b"],
-            Question::Values,
-            4,
-            1,
-            false,
-        ),
-        (&["k", "steps", "a", "b"], Question::Steps, 4, 1, false),
-        (
-            &["k", "steps", "a", "--workers=64", "b", "--progress"],
-            Question::Steps,
-            64,
-            1,
-            true,
-        ),
-    ] {
-        let files = ["a", "b"].to_vec(rt.alloc()).expect(&rt, "no memory");
-        let asked = FilesRequest {
-            question,
-            workers,
-            table,
-            progress,
-            files,
-        };
-        assert_asks(&rt, words, Request::Files(asked));
-    }
-}
-
-#[test]
-fn reads_what_is_asked_of_the_standard_input(rt: HostRuntime) {
-    for (words, question, table) in [
-        (["k", "ask"].as_slice(), Question::BestMove, 65_536),
-        (&["k", "ask", "--table=1"], Question::BestMove, 1),
-        (
-            &["k", "ask", "--table", "1048576", "--values"],
-            Question::Values,
-            1_048_576,
-        ),
-        (&["k", "ask", "--steps"], Question::Steps, 1),
-    ] {
-        assert_asks(&rt, words, Request::Ask { question, table });
-    }
-    for other in ["--values", "--table=65536"] {
-        assert_asks(&rt, &["k", "ask", "--steps", other], Request::Conflict);
-        assert_asks(&rt, &["k", "ask", other, "--steps"], Request::Conflict);
+fn arguments_ask_for_a_request(rt: HostRuntime) {
+    for (words, request) in ASKED {
+        assert_asks(&rt, *words, *request);
     }
 }

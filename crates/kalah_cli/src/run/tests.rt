@@ -127,14 +127,6 @@ const WRITTEN: &[(&[&str], &str)] = &[
     (&["moves", "1,0/0 0,2/0 e"], "1 0,0/1 0,0/2 e over\n"),
     (&["moves", "0/0 1/0"], ""),
     (
-        &["moves", "1/99 1/99", "--boards"],
-        "1 0/100 0/100 over\n       0\n 100     100\n       0\n",
-    ),
-    (
-        &["play", "--table", "1", "1,1/0 1,1/0"],
-        "2 1,0/1 1,1/0 again\n1 0,0/3 0,0/1 over\n",
-    ),
-    (
         &["play", "--first", "1", "1,1/0 1,1/0"],
         "1 1,1/0 0,2/0 turn\n1 0,2/0 0,2/0 turn\n2 0,0/1 0,0/3 over\n",
     ),
@@ -143,44 +135,14 @@ const WRITTEN: &[(&[&str], &str)] = &[
         "       3   1   1\n  99               0\n       0   1   1\n        -104-100\n",
     ),
     (
-        &["show", "0,0/5 1,0/1"],
-        "       0   1\n   1           5\n       0   0\nover, margin 3\n",
-    ),
-    (
-        &["show", "--plain", "3,3,3/0 3,3,3/0"],
-        "       3   3   3\n   0               0\n       3   3   3\n",
-    ),
-    (
         &["count", "3", "1,0,0,1/0 0,1,0,1/0 e"],
         "1 2\n4 0\ntotal 2\n",
     ),
-    (&["count", "0", "1,1/0 1,1/0"], "total 1\n"),
 ];
 
 #[test]
 fn prints_what_is_asked_of_a_position(rt: HostRuntime) {
     assert_written(&rt, WRITTEN);
-}
-
-// Arguments with a house that may not be moved, and the message.
-const UNMOVED: &[(&[&str], &str)] = &[
-    (
-        &["play", "--first=1", "0,1/0 1,1/0"],
-        "kalah: house 1 can't be moved\n",
-    ),
-    (
-        &["play", "--first=3", "--boards", "1,1/0 1,1/0"],
-        "kalah: house 3 can't be moved\n",
-    ),
-    (
-        &["play", "--first=2", "1,1/0 0,0/0"],
-        "kalah: house 2 can't be moved\n",
-    ),
-];
-
-#[test]
-fn says_which_house_may_not_be_moved(rt: HostRuntime) {
-    assert_said(&rt, ExitStatus::Failed, UNMOVED);
 }
 
 // Arguments with a line that can't be read, and the message.
@@ -189,14 +151,8 @@ const UNREAD: &[(&[&str], &str)] = &[
     (&["moves", ""], "fault empty\n"),
     (&["moves", "1,1/0 1/0"], "fault houses\n"),
     (&["moves", "16/0 16/0"], "fault seeds\n"),
-    (&["moves", "--boards", "1/0 1,1/0"], "fault houses\n"),
-    (&["play", "01/0 1/0"], "fault shape\n"),
-    (&["play", "--boards", ""], "fault empty\n"),
-    (&["play", "--", "-1/0 1/0"], "fault shape\n"),
     (&["play", "--first=3", "01/0 1/0"], "fault shape\n"),
-    (&["show", "--plain", "01/0 1/0"], "fault shape\n"),
-    (&["show", "--table=1", "01/0 1/0"], "fault shape\n"),
-    (&["count", "0", "01/0 1/0"], "fault shape\n"),
+    (&["show", "01/0 1/0"], "fault shape\n"),
     (&["count", "20", "01/0 1/0"], "fault shape\n"),
 ];
 
@@ -210,56 +166,10 @@ const MISTAKES: &[&[&str]] = &[
     &[],
     &["stop"],
     &["solve"],
-    &["moves"],
-    &["help"],
-    &["-x"],
-    &["--version=1"],
-    &["stop", "--version"],
-    &["moves", "-V"],
-    &["solve", "--version", "a.txt"],
     &["solve", "--workers", "0", "a.txt"],
     &["solve", "--workers", "65", "a.txt"],
-    &["solve", "--workers", "four", "a.txt"],
-    &["solve", "--workers", "-1", "a.txt"],
-    &["solve", "--workers", "", "a.txt"],
     &["solve", "--table", "0", "a.txt"],
     &["solve", "--table", "1048577", "a.txt"],
-    &["values"],
-    &["values", "--workers", "0", "a.txt"],
-    &["values", "--workers", "65", "a.txt"],
-    &["values", "--table", "0", "a.txt"],
-    &["values", "--table", "1048577", "a.txt"],
-    &["steps", "--table", "1", "a.txt"],
-    &["ask", "a.txt"],
-    &["ask", "--values=1"],
-    &["moves", "-1/0 1/0"],
-    &["moves", "1/0 1/0", "1/0 1/0"],
-    &["moves", "--boards=yes", "1/0 1/0"],
-    &["play"],
-    &["play", "--workers", "1", "1/0 1/0"],
-    &["play", "--table", "0", "1/0 1/0"],
-    &["play", "--boards", "--boards", "1/0 1/0"],
-    // A house is a number from 1 to 6, and `show` takes no boards.
-    &["play", "--first=0", "1/0 1/0"],
-    &["play", "--first=7", "1/0 1/0"],
-    &["play", "--first", "1/0 1/0"],
-    &["show", "--boards", "1/0 1/0"],
-    &["show", "--table=0", "1/0 1/0"],
-    &["show"],
-    // A depth is a number from 0 to 20, and after it stands one line.
-    &["count", "21", "1/0 1/0"],
-    &["count", "-1", "1/0 1/0"],
-    &["count", "", "1/0 1/0"],
-    &["count", "two", "1/0 1/0"],
-    &["count", "1.0", "1/0 1/0"],
-    &["count", "256", "1/0 1/0"],
-    &["count", "18446744073709551617", "1/0 1/0"],
-    &["count", "1/0 1/0", "1"],
-    &["count", "1/0 1/0"],
-    &["count", "1"],
-    &["count"],
-    &["count", "1", "1/0 1/0", "1/0 1/0"],
-    &["count", "--table=1", "1", "1/0 1/0"],
 ];
 
 #[test]
@@ -284,12 +194,6 @@ const NOT_READ: &[(&[&str], &str)] = &[
         &["solve", "kalah_run_none.txt", "x\ny"],
         "kalah: line feed in a file name\n",
     ),
-    (&["values", "/", "x.txt"], "kalah: cannot read /\n"),
-    (
-        &["values", "/", "x\ny"],
-        "kalah: line feed in a file name\n",
-    ),
-    (&["steps", "/", "x.txt"], "kalah: cannot read /\n"),
 ];
 
 #[test]

@@ -1,4 +1,4 @@
-use super::{StandardError, of_line, write_tip};
+use super::{Messages, write_line_tip};
 use kalah_jobs::LineFault;
 
 #[test]
@@ -21,12 +21,12 @@ fn a_line_that_is_not_read_has_a_tip_on_a_terminal(rt: HostRuntime) {
         ),
     ] {
         let mut said = Vec::<u8>::new(rt.alloc());
-        for is_terminal in [false, true] {
-            let mut err = StandardError {
+        for are_shown in [false, true] {
+            let mut err = Messages {
                 writer: &mut said,
-                is_terminal,
+                are_shown,
             };
-            write_tip("", Some(of_line(line, fault)), &mut err);
+            write_line_tip(line, fault, &mut err);
         }
         let wanted = format!(in rt.alloc(); "  tip: {text}\n").expect(&rt, "no memory");
         assert!(rt; said.as_slice() == wanted.as_bytes(), "{line}");

@@ -15,7 +15,7 @@ use kalah_solve::Solver;
 use std::io::{BufReader, Read};
 
 // Answers the lines of a reader as `answer_lines` does, with the same result.
-#[tactic(auto, using(crate::proofs::AskingLemmas::Underway::answered_so_far))]
+#[tactic(auto, using(crate::proofs::AskingLemmas::answered_so_far))]
 fn answer_each<I: Read + Drop, O: Sink>(
     input: &mut PromptReader<'_, I, O>,
     question: Question,

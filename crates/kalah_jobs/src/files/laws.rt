@@ -16,7 +16,7 @@ pub fn entries_are_one()
 {}
 
 /// What a batch of files must write and count is the same, whether stated by its files or by its jobs.
-#[tactic(auto, using(crate::proofs::WritingLemmas::JobOutput::files_are_their_jobs))]
+#[tactic(auto, using(crate::proofs::WritingLemmas::files_are_their_jobs))]
 pub fn files_are_their_jobs()
     ensures { FilesAreTheirJobs }
 {}

@@ -75,7 +75,7 @@ fn prepend_words(text: &mut StackText, answer: &Answer)
 }
 
 // Puts what stands between the name of the file and the answer in words in front of the text.
-#[tactic(auto, using(crate::proofs::WritingLemmas::Lengths::number_length))]
+#[tactic(auto, using(crate::proofs::WritingLemmas::number_length))]
 #[inline]
 fn prepend_place(text: &mut StackText, line: u32)
     requires { length text.old + 22 ≤ ROOM }
@@ -113,7 +113,7 @@ pub fn answer_text(alloc: Global, name: &str, taken: &Taken) -> Result<String, A
 }
 
 // Writes the answer line of a line of the file `name`, and a line feed; of steps the line of each.
-#[tactic(auto, using(crate::proofs::WritingLemmas::AnswerTexts::one_line_parts))]
+#[tactic(auto, using(crate::proofs::WritingLemmas::one_line_parts))]
 #[inline(always)]
 fn write_texts<W: Sink>(out: &mut W, name: &str, taken: &Taken)
     ensures { WasGiven W.written W.has_failed out.old out.new (answer_line name.now taken.now ++ line_feed ∷ []) }

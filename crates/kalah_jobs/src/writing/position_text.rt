@@ -86,7 +86,7 @@ fn parts_of_step(step: &Step) -> (&Board, &'static str)
 }
 
 // Puts the text of a move in front of the text.
-#[tactic(auto, unfolding(crate::specs::Line::Line::step_text_of), using(crate::proofs::WritingLemmas::Lengths::byte_length))]
+#[tactic(auto, unfolding(crate::specs::Line::Line::step_text_of), using(crate::proofs::WritingLemmas::byte_length))]
 fn prepend_step(text: &mut StackText, h: u8, step: &Step)
     requires { length text.old ≤ 1 }
     ensures step { text.new ≡ step_text_of h step.now ++ text.old }

@@ -51,7 +51,7 @@ pub trait Sink {
 }
 
 /// Writes the bytes. If the sink has failed it is not called, and the bytes are dropped.
-#[tactic(auto, using(crate::proofs::WritingLemmas::Givings::given_once, crate::proofs::WritingLemmas::Givings::given_off))]
+#[tactic(auto, using(crate::proofs::WritingLemmas::given_once, crate::proofs::WritingLemmas::given_off))]
 #[inline(always)]
 pub fn write_unless_failed<O: Sink>(out: &mut O, bytes: &[u8])
     ensures { WasGiven O.written O.has_failed out.old out.new bytes.now }
@@ -62,7 +62,7 @@ pub fn write_unless_failed<O: Sink>(out: &mut O, bytes: &[u8])
 }
 
 /// Flushes the sink. If it has failed it is not called.
-#[tactic(auto, using(crate::proofs::WritingLemmas::Givings::given_flush, crate::proofs::WritingLemmas::Givings::given_off))]
+#[tactic(auto, using(crate::proofs::WritingLemmas::given_flush, crate::proofs::WritingLemmas::given_off))]
 pub fn flush_unless_failed<O: Sink>(out: &mut O)
     ensures given { WasGiven O.written O.has_failed out.old out.new [] }
     ensures handed_on { O.has_failed out.new ≡ false → O.is_handed_on out.new ≡ true }

@@ -1,13 +1,19 @@
 -- What a batch promises, for each question.
-use Rattle.std.specs.Prelude.{◌≡◌, ◌≢◌, ◌↔◌, ◌<◌, ◌≤◌, ℕ, List, Option, Bool, Result, Err, length, true, IfOk, IfErr, OnOk}
+use Rattle.std.specs.Prelude.{◌≡◌, ◌≢◌, ◌↔◌, ◌<◌, ◌≤◌, ℕ, List, Option, Bool, Result, Err, length, count_by, true, IfOk, IfErr, OnOk}
 use Rattle.std.specs.Io.KnownBytes.{Appends}
 use Rattle.kalah_jobs.specs.Writing.Given.{AppendsStart}
 use Rattle.kalah_jobs.specs.Limits.{most_files, most_lines}
 use Rattle.kalah_jobs.specs.Files.Jobs.{lines_in_all}
+use Rattle.kalah_jobs.specs.declared.files.entry.Entry.{Entry}
+use Rattle.kalah_jobs.specs.Files.JobList.{job_list}
 use Rattle.kalah_jobs.specs.Files.NamedBytes.{NamedBytes}
-use Rattle.kalah_jobs.specs.Writing.Output.{LineCounts, tally_of}
+use Rattle.kalah_jobs.specs.Writing.Output.{LineCounts, tally_of, is_faulty_job}
 use Rattle.kalah_run.specs.declared.batch.run_fault.RunFault.{RunFault}
 use Rattle.kalah_run.specs.declared.batch.run_fault.RunFault.TheVariants.{TooManyFiles, TooManyLines, NoWorker, Write}
+
+-- the lines of these jobs, and those of them that are answered by a fault
+abbrev pub counts_of : List (List Entry) → LineCounts
+counts_of jobs = record { lines = length (job_list jobs); faults = count_by is_faulty_job (job_list jobs) }
 
 -- The gate knows the job of each line, unless the batch failed otherwise than by a write.
 abbrev pub SolvesAll : (ℕ → Bool) → List NamedBytes → Result LineCounts RunFault → Type 0

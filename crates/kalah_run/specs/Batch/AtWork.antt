@@ -11,7 +11,7 @@ use Rattle.kalah_run.specs.declared.batch.shared_work.SharedWork.{SharedWork}
 use Rattle.kalah_run.specs.declared.batch.worker.Worker.{Worker}
 
 -- the jobs of the numbers that were drawn, in order: their outcomes are sent
-unfoldable pub drawn_jobs : List (List Entry) → List ℕ → List Job
+abbrev pub drawn_jobs : List (List Entry) → List ℕ → List Job
 drawn_jobs jobs numbers = map (job jobs) numbers
 
 -- the passes by which the workers draw, and those by which they send

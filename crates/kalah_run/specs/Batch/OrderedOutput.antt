@@ -1,5 +1,5 @@
 -- What is known of the output of a batch.
-use Rattle.std.specs.Prelude.{◌≡◌, ℕ, ◌<◌, List, Option, Bool, length, map}
+use Rattle.std.specs.Prelude.{◌≡◌, ℕ, ◌<◌, List, Option, Bool, length}
 use Rattle.kalah_jobs.specs.declared.files.entry.Entry.{Entry}
 use Rattle.kalah_jobs.specs.declared.files.job.Job.{Job}
 use Rattle.kalah_jobs.specs.Files.NamedBytes.{NamedBytes}
@@ -32,10 +32,6 @@ pub record HasWritten (files : List NamedBytes) (jobs : List (List Entry)) (past
 -- the current file, if there is one, has a line that is still to come
 abbrev pub Waits : OrderedOutput → Type 0
 Waits r = r.current < length r.collector → HasEnded (state_of r.collector r.current) → ⊥
-
--- the outcomes of pairs of a worker and an outcome
-abbrev pub outcomes_in : List (ℕ × Job) → List Job
-outcomes_in pairs = map (λ pair. pair.1) pairs
 
 -- ---- an output before and after, each with what the sink has then, and whether it has failed
 

@@ -1,15 +1,18 @@
 -- What is known of a batch: once it is open, while it is run, and when it has ended.
-use Rattle.std.specs.Prelude.{◌≡◌, ℕ, ◌<◌, ◌≤◌, Bool, max, min, List, [], length, vec_capacity, ◌⊎◌, Option}
+use Rattle.std.specs.Prelude.{◌≡◌, ℕ, ◌<◌, ◌≤◌, Bool, max, min, List, [], length, vec_capacity, ◌⊎◌, Option, MatchOption, IfNone, false}
 use Rattle.std.specs.List.{All}
+use Rattle.std.specs.Io.KnownBytes.{Keeps}
 use Rattle.std.specs.declared.alloc.Global.{Global}
 use Rattle.crossbeam_utils.specs.Padded.{padded_value}
 use Rattle.kalah_solve.specs.declared.solver.Solver.{Solver}
 use Rattle.kalah_jobs.specs.declared.files.entry.Entry.{Entry}
+use Rattle.kalah_jobs.specs.declared.files.job.Job.{Job}
 use Rattle.kalah_jobs.specs.Files.Jobs.{job_count}
 use Rattle.kalah_solve.specs.Table.Entries.{empty_table}
-use Rattle.kalah_run.specs.Queue.States.{ArePassesFrom, GetState}
+use Rattle.kalah_run.specs.Queue.States.{ArePassesFrom, GetState, HasGot}
+use Rattle.kalah_run.specs.Queue.Lists.{outcomes_in}
 use Rattle.kalah_run.specs.Batch.AtWork.{puts_of, AreAtWork, HaveRun}
-use Rattle.kalah_run.specs.Batch.OrderedOutput.{IsNew, whole_output, outcomes_in}
+use Rattle.kalah_run.specs.Batch.OrderedOutput.{IsNew, whole_output}
 use Rattle.kalah_run.specs.declared.batch.request.BatchRequest.{BatchRequest}
 use Rattle.kalah_run.specs.declared.limits.TheConstants.{QUEUE_PLACES}
 use Rattle.kalah_run.specs.declared.batch.worker.Worker.{Worker}
@@ -55,6 +58,15 @@ module _ {G : Type 0} where
     pub output : IsNew b.output
     pub jobs : b.output.jobs.now ≡ b.shared.jobs.now
     pub room : HasRoom b
+
+-- The outcome was got, or none if the rest is left and the workers have ended. What was written stays, and a failure isn't undone.
+pub record MayHaveGot {W : Type 0} (bytes : W → Option (List ℕ)) (has_failed : W → Bool) (rest : Rest) (Ended : Type 0)
+    (before after : GetState) (old new : W) (result : Option Job) : Type 0 where
+  pub got : MatchOption result (after ≡ before) (λ outcome. HasGot before outcome after)
+  pub left : IfNone result (IsLeft rest (has_failed new))
+  pub ended : IfNone result Ended
+  pub keeps : Keeps (bytes old) (bytes new)
+  pub sound : has_failed new ≡ false → has_failed old ≡ false
 
 -- One outcome was got for each job, unless the rest is left. If they are those of all jobs, or the rest is left, the sink was given
 -- what is to be written.

@@ -1,14 +1,15 @@
 -- What is known while a batch is under way: what has come, and what was written of it.
-use Rattle.std.specs.Prelude.{◌≡◌, ℕ, ◌<◌, List, ◌++◌, length, take, Bool, false, true, Option}
-use Rattle.std.specs.List.{flat_map, enumerate_from}
+use Rattle.std.specs.Prelude.{◌≡◌, ℕ, ◌+◌, ◌<◌, List, length, take, Bool, false, true, Option}
+use Rattle.std.specs.List.{flat_map}
 use Rattle.std.specs.Io.KnownBytes.{Appends}
 use Rattle.kalah_jobs.specs.declared.files.entry.Entry.{Entry}
 use Rattle.kalah_jobs.specs.declared.writing.answer.Taken.{Taken}
 use Rattle.kalah_jobs.specs.declared.files.job.Job.{Job}
-use Rattle.kalah_jobs.specs.Files.JobList.{entries_of}
+use Rattle.kalah_jobs.specs.Files.JobList.{entries_of, job_list}
+use Rattle.kalah_jobs.specs.Files.Jobs.{job_count}
 use Rattle.kalah_jobs.specs.Collecting.CollectorState.{FileState, state_of}
 use Rattle.kalah_jobs.specs.Collecting.Held.{Kept}
-use Rattle.kalah_jobs.specs.Writing.Output.{text_of_line, text_of_file}
+use Rattle.kalah_jobs.specs.Writing.Output.{text_of_line}
 use Rattle.kalah_jobs.specs.Writing.Given.{AppendsStart}
 use Rattle.kalah_run.specs.declared.batch.request.Rest.{Rest}
 use Rattle.kalah_run.specs.declared.batch.request.Rest.TheVariants.{Leave}
@@ -23,11 +24,13 @@ pub record WasGivenSince (begun out : Option (List ℕ)) (failed : Bool) (bs : L
   pub start : AppendsStart begun out bs
   pub whole : failed ≡ false → Appends begun out bs
 
--- the texts of the files before f, and of the first n lines of f
+-- the text of a job, if `text` gives the text of what is taken of a file
+abbrev pub text_of_job : (ℕ → Taken → List ℕ) → Job → List ℕ
+text_of_job text job = text_of_line text job.file (job.line, job.entry)
+
+-- the texts of the jobs of the files before f, and of the first n lines of f
 unfoldable pub written_upto : (ℕ → Taken → List ℕ) → List (List Entry) → ℕ → ℕ → List ℕ
-written_upto text jobs f n =
-    flat_map (text_of_file text) (take f (enumerate_from 0 jobs)) ++ flat_map (text_of_line text f)
-    (take n (enumerate_from 0 (entries_of jobs f)))
+written_upto text jobs f n = flat_map (text_of_job text) (take (job_count (take f jobs) + n) (job_list jobs))
 
 -- With these offers made, the files before f are completely taken and those after it not at all. The sink was given the text of each
 -- line that was taken, in order.

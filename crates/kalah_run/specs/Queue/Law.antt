@@ -6,22 +6,25 @@ use Rattle.kalah_jobs.specs.declared.files.job.Job.{Job}
 use Rattle.kalah_jobs.specs.Collecting.Shares.{of}
 use Rattle.kalah_run.specs.declared.queue.rule.QueueView.{QueueView}
 use Rattle.kalah_run.specs.declared.queue.rule.QueueView.TheVariants.{Getting, Putting}
+use Rattle.kalah_run.specs.Queue.Lists.{outcomes_in}
 use Rattle.kalah_run.specs.Queue.Rule.{IsLawful}
 
--- One pass gets, and it stands first. Each pair that was got or is inside is of one of the workers, and of each worker these pairs
--- are, in its order, what it sent: as its own pass knows while it runs, and as the pass to get knows once it was reclaimed.
-pub record IsWholeAndInOrder (items : List (ℕ × Job)) (views : List QueueView) : Type 0 where
+-- One pass gets, and it stands first. Each outcome that was got or is inside is of one of the workers, and of each worker these are,
+-- in its order, what it sent: as its own pass knows while it runs, and as the pass to get knows once it was reclaimed.
+pub record IsWholeAndInOrder (items : List Job) (views : List QueueView) : Type 0 where
   pub workers : ℕ
   pub got : List (ℕ × Job)
+  pub inside : List (ℕ × Job)
   pub ended : List (List Job)
+  pub held : outcomes_in inside ≡ items
   pub gets : get_elem? views 0 ≡ some (Getting workers got ended)
   pub no_other_gets : (place others : ℕ) (pairs : List (ℕ × Job)) (lists : List (List Job))
       → get_elem? views place ≡ some (Getting others pairs lists) → place ≡ 0
-  pub below : All (λ pair. pair.0 < workers) (got ++ items)
+  pub below : All (λ pair. pair.0 < workers) (got ++ inside)
   pub running : (place worker : ℕ) (sent : List Job) → get_elem? views place ≡ some (Putting worker sent)
-      → (worker < workers) × (of worker (got ++ items) ≡ sent)
-  pub reclaimed : (worker : ℕ) → worker < length ended → of worker (got ++ items) ≡ slice_index_or ended worker []
+      → (worker < workers) × (of worker (got ++ inside) ≡ sent)
+  pub reclaimed : (worker : ℕ) → worker < length ended → of worker (got ++ inside) ≡ slice_index_or ended worker []
 
 -- between any two steps of any threads, for any contents of the queue
 abbrev pub QueueIsLawful : Type 0
-QueueIsLawful = (items : List (ℕ × Job)) (views : List QueueView) → IsLawful items views → IsWholeAndInOrder items views
+QueueIsLawful = (items : List Job) (views : List QueueView) → IsLawful items views → IsWholeAndInOrder items views

@@ -1,7 +1,11 @@
 -- What was sent through the results queue, worker by worker.
-use Rattle.std.specs.Prelude.{◌≡◌, ℕ, ◌<◌, List, [], length, slice_index_or, All}
+use Rattle.std.specs.Prelude.{◌≡◌, ℕ, ◌<◌, List, [], length, slice_index_or, All, map}
 use Rattle.kalah_jobs.specs.declared.files.job.Job.{Job}
 use Rattle.kalah_jobs.specs.Collecting.Shares.{of}
+
+-- the outcomes of pairs of a worker and its outcome
+abbrev pub outcomes_in : List (ℕ × Job) → List Job
+outcomes_in pairs = map (λ pair. pair.1) pairs
 
 -- The pairs of a worker and its outcome are all that was sent: each is of a worker below `workers`, and those of a worker in list `sent`
 -- are what it sent, whole and in its order.

@@ -6,7 +6,7 @@ use Rattle.kalah_jobs.specs.declared.files.job.Job.{Job}
 use Rattle.kalah_jobs.specs.Collecting.Shares.{of}
 use Rattle.kalah_run.specs.declared.queue.rule.QueueView.{QueueView}
 use Rattle.kalah_run.specs.declared.queue.rule.QueueView.TheVariants.{Getting, Putting, Ended}
-use Rattle.kalah_run.specs.Queue.Lists.{Accounts}
+use Rattle.kalah_run.specs.Queue.Lists.{Accounts, outcomes_in}
 
 -- A pass to put stands after the one to get, at the place of its worker's number, and knows what that worker has sent. The first `closed`
 -- workers have ended.
@@ -31,13 +31,15 @@ Fits pairs taken closed passes place (Putting number sent) = FitsPut pairs close
 Fits pairs taken closed passes place (Getting made got known) = FitsGet pairs taken closed passes place made got known
 Fits pairs taken closed passes place Ended = Unit {0}
 
--- Each pass knows the truth: some pairs were taken out, some workers have ended, and each view fits them and what the queue holds.
--- The pass to get is there, and stands first.
-pub record IsLawful (items : List (ℕ × Job)) (views : List QueueView) : Type 0 where
+-- Each pass knows the truth: some pairs were taken out, others are inside and have the outcomes that the queue holds, some workers have
+-- ended, and each view fits all pairs. The pass to get is there, and stands first.
+pub record IsLawful (items : List Job) (views : List QueueView) : Type 0 where
   pub taken : List (ℕ × Job)
+  pub inside : List (ℕ × Job)
   pub closed : ℕ
   pub made : ℕ
   pub known : List (List Job)
+  pub held : outcomes_in inside ≡ items
   pub getter : get_elem? views 0 ≡ some (Getting made taken known)
   pub fits : (place : ℕ) (v : QueueView) → get_elem? views place ≡ some v
-      → Fits (taken ++ items) taken closed (length views) place v
+      → Fits (taken ++ inside) taken closed (length views) place v

@@ -3,11 +3,16 @@ use Rattle.std.specs.Prelude.{◌≡◌, ℕ, ◌+◌, ◌<◌, List, [], ◌∷
 use Rattle.kalah_jobs.specs.declared.files.job.Job.{Job}
 use Rattle.kalah_run.specs.declared.queue.rule.QueueView.{QueueView}
 use Rattle.kalah_run.specs.declared.queue.rule.QueueView.TheVariants.{Getting, Putting, Ended}
-use Rattle.kalah_run.specs.Queue.Lists.{Accounts}
+use Rattle.kalah_run.specs.Queue.Lists.{Accounts, outcomes_in}
 
 -- the one pass of a new queue is the one to get
 abbrev pub first_view : QueueView
 first_view = Getting 0 [] []
+
+-- the number of the worker whose pass it is
+abbrev pub worker_in : QueueView → ℕ
+worker_in (Putting number sent) = number
+worker_in _ = 0
 
 -- what was put through the pass
 abbrev pub sent_in : QueueView → List Job
@@ -35,18 +40,18 @@ one_made (Getting made got known) = Putting made []
 one_made _ = Ended
 
 -- the outcome is put after what was sent
-abbrev pub after_put : QueueView → ℕ × Job → QueueView
-after_put (Putting number sent) pair = Putting number (sent ++ pair.1 ∷ [])
-after_put view pair = view
+abbrev pub after_put : QueueView → Job → QueueView
+after_put (Putting number sent) outcome = Putting number (sent ++ outcome ∷ [])
+after_put view outcome = view
 
 -- the pair stands after what was got
 abbrev pub after_get : QueueView → ℕ × Job → QueueView
 after_get (Getting made got known) pair = Getting made (got ++ pair ∷ []) known
 after_get view pair = view
 
--- the pair is got: it is of a worker for whom a pass was made
-abbrev pub IsGot : QueueView → ℕ × Job → QueueView → Type 0
-IsGot before pair after = (after ≡ after_get before pair) × (pair.0 < made_in before)
+-- the outcome is got: it is of a worker for whom a pass was made
+abbrev pub IsGot : QueueView → Job → QueueView → Type 0
+IsGot before outcome after = (worker : ℕ) × (worker < made_in before) × (after ≡ after_get before (worker, outcome))
 
 -- what the reclaimed pass has sent is known
 abbrev pub after_reclaiming_sent : QueueView → QueueView → QueueView
@@ -54,6 +59,6 @@ after_reclaiming_sent (Getting made got known) other = Getting made got (known +
 after_reclaiming_sent view other = view
 
 -- what was got, followed by what the queue holds, is all that is known
-abbrev pub Tells : QueueView → List (ℕ × Job) → Type 0
-Tells (Getting made got known) items = Accounts made known (got ++ items)
+abbrev pub Tells : QueueView → List Job → Type 0
+Tells (Getting made got known) items = (inside : List (ℕ × Job)) × (outcomes_in inside ≡ items) × Accounts made known (got ++ inside)
 Tells _ items = Unit {0}

@@ -29,52 +29,49 @@ use std::sync::Wait;
 use std::sync::atomic::{AtomicBool, AtomicIn};
 use std::thread::Threads;
 
-// Makes a worker for each pair of passes, in their order. All share what they learn of endings.
+// Makes a worker for each pair of passes, in their order, and leaves the lists empty. All workers share what they learn of endings.
 fn put_together(
     alloc: Global,
-    passes: Vec<Pass>,
-    puts: Vec<PutPass>,
+    passes: &mut Vec<Pass>,
+    puts: &mut Vec<PutPass>,
     entries: u32,
 ) -> Result<Vec<Worker>, AllocError>
-    requires as_many { length passes.items ≡ length puts.items }
+    requires as_many { vec_len passes.old ≡ vec_len puts.old }
     requires table { IsTableSize entries }
-    ensures passes { IfOk result (λ workers. passes_of workers.items ≡ passes.items) }
-    ensures puts { IfOk result (λ workers. puts_of workers.items ≡ puts.items) }
+    ensures passes { IfOk result (λ workers. passes_of workers.items ≡ passes.old.items) }
+    ensures puts { IfOk result (λ workers. puts_of workers.items ≡ puts.old.items) }
     ensures tables { IfOk result (λ workers. HaveOwnTables entries workers.items) }
+    ensures empty { IfOk result (λ _. (passes.new.items ≡ []) × (puts.new.items ≡ [])) }
+    ensures room { (vec_capacity passes.new ≡ vec_capacity passes.old) × (vec_capacity puts.new ≡ vec_capacity puts.old) }
 {
     let mut workers: Vec<Worker> = Vec::with_capacity(alloc, passes.len())?;
-    let mut puts = puts.into_iter();
-    for pass in passes {
-        let Some(put) = puts.next() else {
+    while let Some(pass) = passes.pop() {
+        let Some(put) = puts.pop() else {
             unreachable!()
         };
         let worker = Worker::new(alloc, pass, put, entries, workers.last())?;
-        workers.push(worker)?;
+        workers.push_reserved(worker);
     }
+    workers.reverse();
     Ok(workers)
 }
 
 // Moves the passes of the workers, in their order, into two lists that have room for them.
-fn take_apart(
-    workers: Vec<Worker>,
-    mut passes: Vec<Pass>,
-    mut puts: Vec<PutPass>,
-) -> (Vec<Pass>, Vec<PutPass>)
-    requires empty { (passes.items ≡ []) × (puts.items ≡ []) }
-    requires passes_room { vec_len workers ≤ vec_capacity passes }
-    requires puts_room { vec_len workers ≤ vec_capacity puts }
-    ensures passes { result.0.items ≡ passes_of workers.items }
-    ensures puts { result.1.items ≡ puts_of workers.items }
+fn take_apart(workers: Vec<Worker>, passes: &mut Vec<Pass>, puts: &mut Vec<PutPass>)
+    requires empty { (passes.old.items ≡ []) × (puts.old.items ≡ []) }
+    requires passes_room { vec_len workers ≤ vec_capacity passes.old }
+    requires puts_room { vec_len workers ≤ vec_capacity puts.old }
+    ensures passes { passes.new.items ≡ passes_of workers.items }
+    ensures puts { puts.new.items ≡ puts_of workers.items }
 {
     for worker in workers {
         passes.push_reserved(worker.pass);
         puts.push_reserved(worker.put);
     }
-    (passes, puts)
 }
 
-/// A batch that is open: what its workers share, the workers, the pass to get what they send, and what is written of it. Two lists have
-/// room for the return of the workers' passes.
+/// A batch that is open: what its workers share, the workers, the pass to get what they send, and what is written of it. The two lists
+/// from which the workers took their passes have room for their return.
 #[derive(Drop)]
 pub(crate) struct OpenBatch<'a, G> {
     shared: SharedWork<'a, G>,
@@ -101,11 +98,9 @@ impl<'a, G: Gate> OpenBatch<'a, G> {
         let output = OrderedOutput::new(alloc, request.files, jobs)?;
         let total = jobs.total();
         let count = request.workers.min(total).max(1);
-        let (desk, passes) = Desk::open(alloc, total, count)?;
-        let (queue, puts, get) = ResultsQueue::open(alloc, QUEUE_PLACES, count)?;
-        let workers = put_together(alloc, passes, puts, request.table)?;
-        let passes = Vec::with_capacity(alloc, count as usize)?;
-        let puts = Vec::with_capacity(alloc, count as usize)?;
+        let (desk, mut passes) = Desk::open(alloc, total, count)?;
+        let (queue, mut puts, get) = ResultsQueue::open(alloc, QUEUE_PLACES, count)?;
+        let workers = put_together(alloc, &mut passes, &mut puts, request.table)?;
         Ok(OpenBatch {
             shared: SharedWork {
                 desk,
@@ -144,8 +139,8 @@ impl<'a, G: Gate> OpenBatch<'a, G> {
             workers,
             get,
             output,
-            passes,
-            puts,
+            mut passes,
+            mut puts,
         } = self;
         let ended = AtomicIn::<Ended>::new(0);
         let crew = Crew {
@@ -155,7 +150,7 @@ impl<'a, G: Gate> OpenBatch<'a, G> {
         };
         let receiver = Receiver::new(get, &ended);
         let (workers, get) = run_and_write(rt, crew, receiver, output, watch, out)?;
-        let (passes, puts) = take_apart(workers, passes, puts);
+        take_apart(workers, &mut passes, &mut puts);
         let SharedWork { desk, queue, .. } = shared;
         desk.close(passes);
         queue.close(rt, puts, get);

@@ -74,7 +74,7 @@ impl<'a, E: Rule> Receiver<'a, E> {
         ensures ended { IfNone result (E.invariant 1) }
     {
         let _ = out;
-        queue.get_to_end(rt, &mut self.pass, self.ended)
+        queue.get_to_end(rt, &mut self.pass, Some(self.ended))
     }
 
     /// Returns the pass, to close the queue.

@@ -1,14 +1,12 @@
 //! Runs the workers on further threads, while the calling thread accepts what they send.
-ghost use Rattle.std.specs.Prelude.{◌≡◌, ◌+◌, ◌⊎◌, [], length, false, IfErr, IfNone, IfOk, MatchOption, OnErr};
+ghost use Rattle.std.specs.Prelude.{◌≡◌, ◌+◌, ◌⊎◌, [], length, false, IfErr, IfOk, OnErr};
 ghost use Rattle.std.specs.Io.KnownBytes.{Keeps};
 ghost use Rattle.std.specs.Thread.{IsSync};
 ghost use Rattle.kalah_jobs.specs.Files.Jobs.{job_count};
 ghost use Rattle.kalah_jobs.specs.Writing.Given.{IsReady};
 ghost use Rattle.kalah_run.specs.Batch.AtWork.{AreAtWork, HaveRun, OnceRun};
 ghost use Rattle.kalah_run.specs.Batch.OrderedOutput.{IsNew};
-ghost use Rattle.kalah_run.specs.Batch.Running.{CanRun, HasCollected, RunHasEnded};
-ghost use Rattle.kalah_run.specs.Batch.UnderWay.{IsLeft};
-ghost use Rattle.kalah_run.specs.Queue.States.{HasGot};
+ghost use Rattle.kalah_run.specs.Batch.Running.{CanRun, HasCollected, MayHaveGot, RunHasEnded};
 
 use crate::batch::crew::Crew;
 use crate::batch::gate::Gate;
@@ -29,12 +27,15 @@ use std::thread::{Promise, Threads};
 
 // The thread returns the list of workers that it was given, and each has run.
 #[derive(Drop)]
-struct AllHaveRun<'a, 'b, G, E: Rule>(Snapshot<Crew<'a, 'b, G, E>>);
+struct AllHaveRun<'a, 'b, G> {
+    shared: &'a SharedWork<'b, G>,
+    workers: Snapshot<Vec<Worker>>,
+}
 
-impl<'a, 'b, G: Gate, E: Rule> Promise<Vec<Worker>> for AllHaveRun<'a, 'b, G, E> {
+impl<'a, 'b, G: Gate> Promise<Vec<Worker>> for AllHaveRun<'a, 'b, G> {
     ghost use Rattle.kalah_run.specs.Batch.AtWork.{HaveRun};
 
-    ghost kept_by = { λ p r. HaveRun G.knows p.0.value.shared.now p.0.value.workers.items r.items };
+    ghost kept_by = { λ p r. HaveRun G.knows p.shared.now p.workers.value.items r.items };
 }
 
 // Lets the output flush what it buffers, as its caller may wait then.
@@ -60,12 +61,7 @@ fn flush_and_get<R: Wait, G: Gate, V: Watch, W: Sink, E: Rule>(
     out: &mut W,
 ) -> Option<Outcome>
     requires queue { receiver.old.pass.queue ≡ shared.now.queue.id }
-    ensures got { MatchOption result (receiver.new.pass ≡ receiver.old.pass)
-        (λ outcome. HasGot receiver.old.pass outcome receiver.new.pass) }
-    ensures left { IfNone result (IsLeft shared.now.rest (W.has_failed out.new)) }
-    ensures ended { IfNone result (E.invariant 1) }
-    ensures keeps { Keeps (W.written out.old) (W.written out.new) }
-    ensures sound { W.has_failed out.new ≡ false → W.has_failed out.old ≡ false }
+    ensures { MayHaveGot W.written W.has_failed shared.now.rest (E.invariant 1) receiver.old.pass receiver.new.pass out.old out.new result }
 {
     flush_to_wait(out);
     if shared.stop_after(out.failed()) {
@@ -148,8 +144,12 @@ pub(crate) fn run_and_write<R: Threads + Wait + Sync, G: Gate, V: Watch, W: Sink
             ensures untouched { OnErr result.0 (result.2.now ≡ out.entry.now) }
         {
             let shared = crew.shared;
+            let all_have_run = AllHaveRun {
+                shared,
+                workers: Snapshot::of(&crew.workers),
+            };
             let started = scope.spawn_with(
-                AllHaveRun(Snapshot::of(&crew)),
+                all_have_run,
                 move || -> Vec<Worker>
                     requires { IsSync R.row × IsSync G.row × AreAtWork G.knows crew.shared.now crew.workers.items
                         × OnceRun G.knows crew.shared.now crew.workers.items (E.invariant 1) }

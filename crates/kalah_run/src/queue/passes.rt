@@ -7,7 +7,6 @@ use std::marker::Model;
 #[derive(Drop)]
 pub struct PutPass {
     pub(crate) ruled: RuledPass,
-    pub(crate) number: u32,
 }
 
 impl Model for PutPass {
@@ -15,13 +14,13 @@ impl Model for PutPass {
     ghost use Rattle.crossbeam_queue.specs.Passes.{view as view_of};
     ghost use Rattle.kalah_run.specs.declared.queue.rule.QueueView.TheVariants.{Putting};
     ghost use Rattle.kalah_run.specs.Queue.States.{PutState};
-    ghost use Rattle.kalah_run.specs.Queue.Steps.{sent_in};
+    ghost use Rattle.kalah_run.specs.Queue.Steps.{sent_in, worker_in};
 
     ghost Value = { PutState };
 
-    ghost view = { λ p. record { queue = p.ruled.table_id; number = p.number; sent = sent_in (view_of p.ruled) } };
+    ghost view = { λ p. record { queue = p.ruled.table_id; number = worker_in (view_of p.ruled); sent = sent_in (view_of p.ruled) } };
 
-    ghost invariant = { λ p. (p.ruled.me.1 ≡ []) × (view_of p.ruled ≡ Putting p.number (sent_in (view_of p.ruled))) };
+    ghost invariant = { λ p. (p.ruled.me.1 ≡ []) × (view_of p.ruled ≡ Putting (worker_in (view_of p.ruled)) (sent_in (view_of p.ruled))) };
 }
 
 /// The one right to get. Contracts see it as the identity of its queue, the number of workers, and what was got, in order: pairs of a
@@ -29,7 +28,6 @@ impl Model for PutPass {
 #[derive(Drop)]
 pub struct GetPass {
     pub(crate) ruled: RuledPass,
-    pub(crate) workers: u32,
 }
 
 impl Model for GetPass {
@@ -37,11 +35,11 @@ impl Model for GetPass {
     ghost use Rattle.crossbeam_queue.specs.Passes.{view as view_of};
     ghost use Rattle.kalah_run.specs.declared.queue.rule.QueueView.TheVariants.{Getting};
     ghost use Rattle.kalah_run.specs.Queue.States.{GetState};
-    ghost use Rattle.kalah_run.specs.Queue.Steps.{got_in};
+    ghost use Rattle.kalah_run.specs.Queue.Steps.{got_in, made_in};
 
     ghost Value = { GetState };
 
-    ghost view = { λ p. record { queue = p.ruled.table_id; workers = p.workers; got = got_in (view_of p.ruled) } };
+    ghost view = { λ p. record { queue = p.ruled.table_id; workers = made_in (view_of p.ruled); got = got_in (view_of p.ruled) } };
 
-    ghost invariant = { λ p. (p.ruled.me.1 ≡ []) × (view_of p.ruled ≡ Getting p.workers (got_in (view_of p.ruled)) []) };
+    ghost invariant = { λ p. (p.ruled.me.1 ≡ []) × (view_of p.ruled ≡ Getting (made_in (view_of p.ruled)) (got_in (view_of p.ruled)) []) };
 }

@@ -1,31 +1,13 @@
-//! The rule of the results queue, over the pairs that it holds and what each pass knows.
+//! The rule of the results queue, over the outcomes that it holds and what each pass knows.
 use crossbeam_queue::{Pass, RuledArrayQueue, protocol};
 use kalah_jobs::Outcome;
 use std::collections::LinkedList;
-use std::marker::Model;
-
-/// An outcome with the number of the worker that put it. Contracts see it as that pair.
-#[derive(Clone, Copy)]
-pub struct Tagged {
-    pub worker: u32,
-    pub outcome: Outcome,
-}
-
-impl Model for Tagged {
-    ghost use Rattle.std.specs.Prelude.{ℕ};
-    ghost use Rattle.kalah_jobs.specs.declared.files.job.Job.{Job};
-
-    ghost Value = { ℕ × Job };
-
-    ghost view = { λ t. (t.worker, t.outcome) };
-
-    ghost inverse = { λ pair. record { worker = pair.0; outcome = pair.1 } };
-}
 
 /// What one pass of the queue knows. It is used in contracts only; no program makes one.
 pub enum QueueView {
-    /// The pass to get: how many passes to put were made, the pairs that were got, and what the workers of reclaimed passes had sent.
-    Getting(u32, LinkedList<Tagged>, LinkedList<LinkedList<Outcome>>),
+    /// The pass to get: how many passes to put were made, what was got, as pairs of a worker and its outcome, and what the workers of
+    /// reclaimed passes had sent.
+    Getting(u32, LinkedList<(u32, Outcome)>, LinkedList<LinkedList<Outcome>>),
     /// The pass to put of one worker: the worker's number, and what it has sent.
     Putting(u32, LinkedList<Outcome>),
     /// A pass to put that was reclaimed.
@@ -36,7 +18,7 @@ pub enum QueueView {
 /// sent, in its order.
 pub struct WholeAndInOrder;
 
-impl protocol::Protocol<Tagged, QueueView> for WholeAndInOrder {
+impl protocol::Protocol<Outcome, QueueView> for WholeAndInOrder {
     ghost use Rattle.kalah_run.specs.Queue.Rule.{IsLawful};
     ghost use Rattle.kalah_run.specs.Queue.Steps.{first_view};
 
@@ -59,17 +41,17 @@ impl protocol::Split<QueueView> for AnotherWorker {
 /// A worker puts an outcome.
 pub struct Puts;
 
-impl protocol::Outcome<Tagged, QueueView> for Puts {
+impl protocol::Outcome<Outcome, QueueView> for Puts {
     ghost use Rattle.std.specs.Prelude.{◌≡◌};
     ghost use Rattle.kalah_run.specs.Queue.Steps.{after_put};
 
-    ghost then = { λ before pair after. after ≡ after_put before pair };
+    ghost then = { λ before outcome after. after ≡ after_put before outcome };
 }
 
-/// The oldest pair is got.
+/// The oldest outcome is got.
 pub struct Gets;
 
-impl protocol::Outcome<Tagged, QueueView> for Gets {
+impl protocol::Outcome<Outcome, QueueView> for Gets {
     ghost use Rattle.kalah_run.specs.Queue.Steps.{IsGot};
 
     ghost then = { IsGot };
@@ -90,12 +72,12 @@ impl protocol::Join<QueueView> for Reclaims {
 /// What was got, followed by what the queue holds, is all that the workers whose passes were reclaimed have sent.
 pub struct LeftInside;
 
-impl protocol::Lesson<Tagged, QueueView> for LeftInside {
+impl protocol::Lesson<Outcome, QueueView> for LeftInside {
     ghost use Rattle.kalah_run.specs.Queue.Steps.{Tells};
 
     ghost fact = { Tells };
 }
 
-pub(crate) type RuledQueue = RuledArrayQueue<Tagged, QueueView, WholeAndInOrder>;
+pub(crate) type RuledQueue = RuledArrayQueue<Outcome, QueueView, WholeAndInOrder>;
 
-pub(crate) type RuledPass = Pass<Tagged, QueueView>;
+pub(crate) type RuledPass = Pass<Outcome, QueueView>;

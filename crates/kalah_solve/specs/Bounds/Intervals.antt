@@ -1,5 +1,5 @@
 -- Intervals of margins, and the numbers that a window distinguishes.
-use Rattle.std.specs.Prelude.{ℤ, pos, neg_ℤ, ◌≤ℤ◌}
+use Rattle.std.specs.Prelude.{ℕ, ◌+◌, ℤ, pos, neg_ℤ, ◌≤ℤ◌}
 use Rattle.std.specs.Int.{int_max, int_min}
 use Rattle.kalah_rules.specs.Limits.{most_seeds}
 use Rattle.kalah_solve.specs.declared.bounds.interval.Interval.{Interval}
@@ -23,3 +23,8 @@ pub record Encloses (i : Interval) (z : ℤ) : Type 0 where
 -- the number, raised to lo and lowered to hi
 abbrev pub within : ℤ → ℤ → ℤ → ℤ
 within lo hi z = int_max lo (int_min z hi)
+
+-- half of a number, rounded down, and 0 for one below 0
+pub record IsHalf (z : ℤ) (half : ℕ) : Type 0 where
+  pub low : pos (half + half) ≤ℤ int_max (pos 0) z
+  pub high : z ≤ℤ pos (half + half + 1)

@@ -1,11 +1,10 @@
 //! Bounds on the number of seeds that a player takes.
 ghost use Rattle.std.specs.Prelude.{◌≡◌, ◌+◌, ◌*◌, max, min, ◌≤◌, ◌≤ℤ◌, ◌+ℤ◌, ◌-ℤ◌, ℕ, ℤ, pos};
-ghost use Rattle.std.specs.Int.{int_max};
 ghost use Rattle.kalah_rules.specs.Limits.{most_seeds};
 ghost use Rattle.kalah_rules.specs.Position.{bare, seeds_in_houses};
-ghost use Rattle.kalah_solve.specs.Bounds.Intervals.{Encloses, within};
+ghost use Rattle.kalah_solve.specs.Bounds.Intervals.{Encloses, IsHalf, within};
 
-use crate::bounds::interval::{Interval, MOST_MARGIN};
+use crate::bounds::interval::Interval;
 use crate::bounds::window::Window;
 use kalah_rules::{Houses, MOST_SEEDS};
 
@@ -17,13 +16,21 @@ pub(crate) struct SeedBounds {
     ghost few: { most ≤ most_seeds },
 }
 
-// Returns half of a number, rounded down, or 0 if it is negative.
-pub(crate) fn half(number: i32) -> u8
-    requires { number ≤ℤ pos 255 }
-    ensures low { pos (result + result) ≤ℤ int_max (pos 0) number }
-    ensures high { number ≤ℤ pos (result + result + 1) }
+// Returns how many of `seeds` seeds a player takes who has this margin: half of both together, rounded down, or 0 if that is negative.
+pub(crate) fn share_of(margin: i32, seeds: u8) -> u8
+    requires { (margin +ℤ pos seeds) ≤ℤ pos 255 }
+    ensures { IsHalf (margin +ℤ pos seeds) result }
 {
+    let number = margin + seeds as i32;
     if number <= 0 { 0 } else { number as u8 / 2 }
+}
+
+// Returns the margin of a player who takes `won` of `seeds` seeds.
+#[inline(always)]
+pub(crate) fn margin_of(won: u8, seeds: u8) -> i32
+    ensures { result ≡ pos (2 * won) -ℤ pos seeds }
+{
+    2 * won as i32 - seeds as i32
 }
 
 impl SeedBounds {
@@ -49,8 +56,8 @@ impl SeedBounds {
             ≡ within window.lo window.hi (pos (2 * t) -ℤ pos seeds) }
     {
         SeedBounds {
-            least: half(window.lo + seeds as i32),
-            most: half(window.hi + seeds as i32 + 1),
+            least: share_of(window.lo, seeds),
+            most: share_of(window.hi + 1, seeds),
         }
     }
 
@@ -62,8 +69,8 @@ impl SeedBounds {
             → (t : ℕ) → t ≤ seeds → IsWithinBounds result t → Encloses interval (pos (t + t) -ℤ pos seeds) }
     {
         SeedBounds {
-            least: half(interval.lo as i32 + seeds as i32 + 1),
-            most: half(interval.hi as i32 + seeds as i32).min(MOST_SEEDS as u8),
+            least: share_of(interval.lo as i32 + 1, seeds),
+            most: share_of(interval.hi as i32, seeds).min(MOST_SEEDS as u8),
         }
     }
 
@@ -74,11 +81,10 @@ impl SeedBounds {
         ensures no_more { self.least ≤ seeds
             → (t : ℕ) → t ≤ seeds → Encloses result (pos (t + t) -ℤ pos seeds) → IsWithinBounds self t }
     {
-        let least = 2 * self.least as i32 - seeds as i32;
-        let most = 2 * self.most as i32 - seeds as i32;
+        let least = self.least.min(MOST_SEEDS as u8);
         Interval {
-            lo: least.clamp(-MOST_MARGIN as i32, MOST_MARGIN as i32) as i8,
-            hi: most.clamp(-MOST_MARGIN as i32, MOST_MARGIN as i32) as i8,
+            lo: margin_of(least, seeds) as i8,
+            hi: margin_of(self.most, seeds) as i8,
         }
     }
 }

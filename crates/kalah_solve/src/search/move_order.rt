@@ -53,8 +53,8 @@ impl MoveOrder {
     /// The estimate counts what came to the store, the place of the house, and each house that is left, by its place and its seeds.
     #[inline(always)]
     pub(crate) fn priority(&self, m: u8, house: House, gained: u8, next: &Houses) -> u16
-        requires side { m ≤ 6 }
-        requires last { house ≤ m }
+        requires first { 1 ≤ m }
+        requires last { m ≤ 6 }
         requires few { gained ≤ most_seeds }
         ensures some { 0 < result }
         ensures house { result % 8 + 1 ≡ house }
@@ -67,12 +67,12 @@ impl MoveOrder {
 // Returns what this house of `m` adds to the priority of its turn.
 #[inline(always)]
 fn turn_of(m: u8, house: House) -> u16
-    requires side { m ≤ 6 }
-    requires last { house ≤ m }
+    requires first { 1 ≤ m }
+    requires last { m ≤ 6 }
     ensures house { result % 8 + 1 ≡ house }
     ensures small { result ≤ 413 }
 {
-    TURNS[(m + house.bit() - 1) as usize]
+    TURNS[(m / 6) as usize][(m + house.bit() - 1) as usize]
 }
 
 /// As many priorities as the processor compares at once, house 1 first: those past the last house are 0.

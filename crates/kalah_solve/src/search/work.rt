@@ -5,11 +5,14 @@ ghost use Rattle.kalah_solve.specs.Table.EndgameTable.{most_ending_seeds};
 use crate::table::endgame_table::MOST_ENDING_SEEDS;
 use kalah_rules::Houses;
 
+/// Endings of up to this many seeds pay in each game from its first node on.
+pub(super) const SEEDS_THAT_ALWAYS_PAY: u8 = 7;
+
 // The nodes of a game from which on all places pay.
 const SOME_NODES: u64 = 8_000;
 
-// The nodes of a game from which on endings of 8 seeds pay, not only those of up to 7. To find an ending costs as much as a node, and
-// with six houses a side there are 75,582 of 8 seeds.
+// The nodes of a game from which on endings of 8 seeds pay. To find an ending costs as much as a node, and with six houses a side there
+// are 75,582 of 8 seeds.
 const MORE_NODES: u64 = 42_000;
 
 // The nodes of a game from which on all endings pay, once houses with `MANY_SEEDS` seeds were searched. There are 167,960 of 9 seeds.
@@ -72,7 +75,7 @@ impl Work {
     pub(super) fn ending_limit(&self) -> EndingLimit {
         EndingLimit {
             seeds: if self.nodes < MORE_NODES {
-                7
+                SEEDS_THAT_ALWAYS_PAY
             } else if self.nodes < MANY_NODES || !self.seen_many_seeds {
                 8
             } else {

@@ -8,8 +8,8 @@ use Rattle.kalah_rules.proofs.PlayLemmas.{legal_few}
 use Rattle.kalah_solve.proofs.SolverLemmas.{house_small}
 use Rattle.kalah_jobs.specs.Writing.Counts.{ways_line}
 use Rattle.kalah_jobs.specs.Writing.Given.{WasGiven}
-use Rattle.kalah_cli.proofs.Counted.{few_ways, line_of, lines_are, sum_is}
-use Rattle.kalah_jobs.proofs.WritingLemmas.Givings.{given_all, given_cut, given_more}
+use Rattle.kalah_cli.proofs.RunLemmas.{few_ways, line_of, lines_are, sum_is}
+use Rattle.kalah_jobs.proofs.WritingLemmas.{given_all, given_cut, given_more}
 use Rattle.kalah_cli.proofs.count.write_houses.Goals as goal
 
 pub loop-i-preserved : goal.loop-i-preserved

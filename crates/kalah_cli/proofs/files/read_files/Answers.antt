@@ -19,4 +19,4 @@ returns-in_default-clause-failure g c =
     (one.0, (one.1, tt))
 
 pub returns-in-Err-clause-failure : goal.returns-in-Err-clause-failure
-returns-in-Err-clause-failure g c = (_, (Contains-get_or c.args.names.now c.loop-name.name-index _ c.loop-name-test.true, c.in-Err.ensures.failure))
+returns-in-Err-clause-failure g c = (_, (Contains-get_or c.args.names.now c.loop-name.name-index _ c.loop-name-test.true, c.unread.ensures))

@@ -1,8 +1,9 @@
 use Rattle.std.proofs.Common.{ℕ, List, arith, subst}
 use Rattle.kalah_rules.specs.Play.{step_of}
 use Rattle.kalah_jobs.specs.Writing.Given.{WasGiven}
-use Rattle.kalah_jobs.proofs.WritingLemmas.Givings.{given_all, given_flushed, given_more}
+use Rattle.kalah_jobs.proofs.WritingLemmas.{given_all, given_more}
 use Rattle.kalah_cli.specs.Moves.{move_lines}
+use Rattle.kalah_cli.proofs.RunLemmas.{printed_flushed}
 use Rattle.kalah_cli.proofs.moves.write_moves.Goals as goal
 
 pub loop-i-preserved : goal.loop-i-preserved
@@ -16,8 +17,8 @@ loop-i-preserved g c =
           (omega (arith, c.loop-i-test.true, c.len-i-end.ensures)) c.get-house.ensures line;
     }
 
-pub returns-clause-given : goal.returns-clause-given
-returns-clause-given g c =
+pub returns : goal.returns
+returns g c =
     let one : ℕ → List ℕ = λ h. move_lines c.args.boards h (step_of c.args.board.now h) in
-    given_flushed _ _ _ _ _ _ (given_all _ _ one c.loop-i.invariant.same c.loop-i.i _ _ c.loop-i.invariant.given
-    (omega (arith, c.loop-i-test.false, c.len-i-end.ensures))) c.flush_unless_failed.ensures.given
+    printed_flushed _ _ _ _ _ _ _ (given_all _ _ one c.loop-i.invariant.same c.loop-i.i _ _ c.loop-i.invariant.given
+    (omega (arith, c.loop-i-test.false, c.len-i-end.ensures))) c.flush_unless_failed.ensures.given c.flush_unless_failed.ensures.handed_on

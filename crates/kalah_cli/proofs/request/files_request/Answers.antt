@@ -5,8 +5,7 @@ use Rattle.clap.proofs.WalkLemmas.{raw_values-rows}
 use Rattle.kalah_solve.specs.Table.Entries.{most_entries}
 use Rattle.kalah_run.specs.Limits.{IsTableSize, most_workers}
 use Rattle.kalah_cli.specs.Request.{table_asked}
-use Rattle.kalah_cli.proofs.Getters.{is_there, number_in_range, values_are}
-use Rattle.kalah_cli.proofs.Subcommands.{given, has_number, may_have_number, takes_files, takes_table}
+use Rattle.kalah_cli.proofs.RequestLemmas.{is_there, number_in_range, values_are, given, has_number, may_have_number, takes_files, takes_table}
 use Rattle.kalah_cli.proofs.request.files_request.Goals.{in-BestMove, in-Steps}
 use Rattle.kalah_cli.proofs.request.files_request.Goals as goal
 

@@ -1,6 +1,6 @@
 use Rattle.std.proofs.Common.{arith}
 use Rattle.clap.specs.Words.{found_of}
-use Rattle.kalah_cli.proofs.Getters.{number_read}
+use Rattle.kalah_cli.proofs.RequestLemmas.{number_read}
 use Rattle.kalah_cli.proofs.request.given_byte.Goals as goal
 
 pub returns : goal.returns

@@ -4,7 +4,7 @@ use Rattle.clap.specs.Words.{Row, Text, found_of, rows_of}
 use Rattle.kalah_solve.specs.Table.Entries.{most_entries}
 use Rattle.kalah_run.specs.Limits.{IsTableSize}
 use Rattle.kalah_cli.specs.Request.{MayHaveNumber, number_given}
-use Rattle.kalah_cli.proofs.Getters.{number_in_range, number_read}
+use Rattle.kalah_cli.proofs.RequestLemmas.{number_in_range, number_read}
 use Rattle.kalah_cli.proofs.request.given_number.Goals as goal
 
 pub returns-clause-given : goal.returns-clause-given

@@ -1,6 +1,6 @@
 use Rattle.std.proofs.Common.{◌∙◌}
 use Rattle.clap.specs.Words.{found_of}
-use Rattle.kalah_cli.proofs.Getters.{flag_read}
+use Rattle.kalah_cli.proofs.RequestLemmas.{flag_read}
 use Rattle.kalah_cli.proofs.request.is_set.Goals as goal
 
 pub returns : goal.returns

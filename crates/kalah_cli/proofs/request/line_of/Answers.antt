@@ -2,7 +2,7 @@ use Rattle.std.proofs.Common.{◌∙◌, ap, codes, is_some, sym}
 use Rattle.std.specs.Prelude.{option_map}
 use Rattle.clap.specs.Words.{found_of}
 use Rattle.clap.proofs.WalkLemmas.{first_value-rows}
-use Rattle.kalah_cli.proofs.Getters.{is_there}
+use Rattle.kalah_cli.proofs.RequestLemmas.{is_there}
 use Rattle.kalah_cli.proofs.request.line_of.Goals as goal
 
 pub unwrap-requires : goal.unwrap-requires

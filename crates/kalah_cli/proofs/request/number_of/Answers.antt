@@ -1,7 +1,7 @@
 use Rattle.std.proofs.Common.{◌∙◌, sym}
 use Rattle.clap.specs.Words.{found_of, rows_of}
 use Rattle.kalah_solve.specs.Table.Entries.{most_entries}
-use Rattle.kalah_cli.proofs.Getters.{number_in_range}
+use Rattle.kalah_cli.proofs.RequestLemmas.{number_in_range}
 use Rattle.kalah_cli.proofs.request.number_of.Goals as goal
 
 pub returns-clause-range : goal.returns-clause-range

@@ -2,8 +2,7 @@ use Rattle.std.proofs.Common.{◌∙◌, ap, arith, codes, is_some, refl, sym}
 use Rattle.clap.specs.Words.{found_of, rows_of}
 use Rattle.kalah_rules.specs.Limits.{most_depth}
 use Rattle.kalah_solve.specs.Table.Entries.{most_entries}
-use Rattle.kalah_cli.proofs.Getters.{number_in_range}
-use Rattle.kalah_cli.proofs.Subcommands.{given, has_number, may_have_number}
+use Rattle.kalah_cli.proofs.RequestLemmas.{number_in_range, given, has_number, may_have_number}
 use Rattle.kalah_cli.proofs.request.requested.Goals as goal
 
 pub line_of-requires : goal.line_of-requires

@@ -1,16 +1,14 @@
-use Rattle.std.proofs.Common.{◌≡◌, ◌≢◌, ◌∙◌, [], ap, inl, inr, subst, sym, None}
-use Rattle.clap.specs.Words.{HasKind, fault_of}
-use Rattle.clap.specs.declared.error.kind.ErrorKind.TheVariants.{DisplayHelp, DisplayVersion, OutOfMemory}
-use Rattle.clap.specs.declared.error.kind.ErrorKind.{ErrorKind}
+use Rattle.std.proofs.Common.{◌≡◌, ◌≢◌, ◌∙◌, [], ap, inl, inr, refl, subst, sym}
+use Rattle.clap.specs.Words.{HasKind, IsAmong, fault_of, kind_of}
+use Rattle.clap.specs.declared.error.kind.ErrorKind.TheVariants.{DisplayHelp, DisplayVersion}
 use Rattle.kalah_cli.specs.Ask.{StopsBetweenLines}
 use Rattle.kalah_cli.specs.Command.{kalah_app}
 use Rattle.kalah_cli.specs.Ends.{FailsQuietly}
-use Rattle.kalah_cli.specs.Request.{Asked, IsTakenAs, ask, asked_for, texts_of}
+use Rattle.kalah_cli.specs.Request.{Asked, AsksNot, IsTakenAs, ask, asked_for, texts_of}
 use Rattle.kalah_cli.specs.Runs.{Does}
-use Rattle.kalah_cli.proofs.Asked.{stops_before_lines}
-use Rattle.kalah_cli.proofs.Laws.{taken_at, taken_once}
-use Rattle.kalah_cli.proofs.Taken.{by_words, no_request, run_ends, run_fails, run_hands_on}
-use Rattle.kalah_cli.proofs.Played.{plays_best}
+use Rattle.kalah_cli.proofs.RunLemmas.{stops_at_once, by_words, no_request, run_ends, run_fails, run_hands_on}
+use Rattle.kalah_cli.proofs.RequestLemmas.{taken_at, taken_once}
+use Rattle.kalah_cli.proofs.GameLemmas.{plays_best}
 use Rattle.kalah_cli.proofs.run.run_words.Goals.{After-drop-words, After-drop-words-2}
 use Rattle.kalah_cli.proofs.run.run_words.Given.{Over}
 use Rattle.kalah_cli.proofs.run.run_words.Goals as goal
@@ -25,10 +23,15 @@ request_taken g c = taken_at (ap texts_of (sym c.as_slice.ensures.value)) c.in-O
 is_asked : (g : Over) (c : After-drop-words g) (a : Asked) → IsTakenAs (texts_of c.args.words.items) a → asked_for c.in-Ok.request ≡ a
 is_asked g c a taken = taken_once (texts_of c.args.words.items) (asked_for c.in-Ok.request) a (request_taken g c) taken
 
+-- which is done
+does : (g : Over) (c : After-drop-words g) (a : Asked) → asked_for c.in-Ok.request ≡ a
+    → Does g.O.Sink.written g.O.Sink.has_failed g.O.Sink.is_handed_on c.args.out.now c.run_request.new.out c.status_of.result a
+does g c a is =
+    subst (Does g.O.Sink.written g.O.Sink.has_failed g.O.Sink.is_handed_on c.args.out.now c.run_request.new.out c.status_of.result) is
+    (rw c.status_of.ensures c.run_request.ensures)
+
 pub returns-in-Ok-clause-accepted : goal.returns-in-Ok-clause-accepted
-returns-in-Ok-clause-accepted g c = λ a taken. inl
-    (subst (Does g.O.Sink.written g.O.Sink.has_failed g.O.Sink.is_handed_on c.args.out.now c.run_request.new.out c.run_request.result)
-    (is_asked g c a taken) c.run_request.ensures)
+returns-in-Ok-clause-accepted g c = λ a taken. inl (does g c a (is_asked g c a taken))
 
 pub returns-in-Ok-clause-by_words : goal.returns-in-Ok-clause-by_words
 returns-in-Ok-clause-by_words g c = by_words _ _ _ _ _ _ _ (returns-in-Ok-clause-accepted g c)
@@ -48,44 +51,43 @@ returns-in-Ok-clause-refused g c = record {
 }
 
 pub returns-in-Ok-clause-failed : goal.returns-in-Ok-clause-failed
-returns-in-Ok-clause-failed g c = run_fails _ _ _ c.requires.sink _ c.run_request.ensures
+returns-in-Ok-clause-failed g c = run_fails _ _ _ c.requires.sink _ (does g c _ refl)
 
 pub returns-in-Ok-clause-unchanged : goal.returns-in-Ok-clause-unchanged
 returns-in-Ok-clause-unchanged g c = λ none.
-    (run_ends _ _ _ c.requires.sink _ (none _ (request_taken g c)) c.run_request.ensures).unchanged
+    (run_ends _ _ _ c.requires.sink _ (none _ (request_taken g c)) (does g c _ refl)).unchanged
 
 pub returns-in-Ok-clause-stopped : goal.returns-in-Ok-clause-stopped
-returns-in-Ok-clause-stopped g c = λ question table taken.
-    let does = subst (Does g.O.Sink.written g.O.Sink.has_failed g.O.Sink.is_handed_on c.args.out.now c.run_request.new.out
-    c.run_request.result) (is_asked g c (ask question table) taken) c.run_request.ensures in
-    does.stopped
+returns-in-Ok-clause-stopped g c = λ question table taken failed sound.
+    let does = does g c (ask question table) (is_asked g c (ask question table) taken) in
+    (does.0, does.1.left, does.1.stopped failed sound)
 
 pub returns-in-Ok-clause-handed_on : goal.returns-in-Ok-clause-handed_on
-returns-in-Ok-clause-handed_on g c = run_hands_on _ _ _ c.requires.sink _ c.run_request.ensures
+returns-in-Ok-clause-handed_on g c = run_hands_on _ _ _ c.requires.sink _ (does g c _ refl)
 
 -- ---- the parse failed
 
 pub returns-clause-unchanged : goal.returns-clause-unchanged
-returns-clause-unchanged g c = λ none. c.refuse.ensures.unchanged
+returns-clause-unchanged g c = λ none failed. c.refuse.ensures.unchanged (sym c.status_of-in-Err.ensures ∙ failed)
 
 -- the error has a kind of the arguments' fault
 has_kind : (g : Over) (c : After-drop-words-2 g) → HasKind (fault_of kalah_app (texts_of c.args.words.items)) c.in-Err.error
 has_kind g c = subst (λ words. HasKind (fault_of kalah_app (texts_of words)) c.in-Err.error) c.as_slice.ensures.value
     c.in-Err.ensures.kinds
 
--- out of memory is no request for help or the version
-is_no_help : {k : ErrorKind} → k ≡ OutOfMemory → k ≢ DisplayHelp
-is_no_help memory help = let both : OutOfMemory ≡ DisplayHelp = sym memory ∙ help in cc
+-- so the error is no request for help or the version, if the arguments aren't
+no_help : (g : Over) (c : After-drop-words-2 g) → AsksNot DisplayHelp (texts_of c.args.words.items) → kind_of c.in-Err.error ≢ DisplayHelp
+no_help g c = no_request DisplayHelp (texts_of c.args.words.items) c.in-Err.error (λ e. cc) (has_kind g c)
 
-is_no_version : {k : ErrorKind} → k ≡ OutOfMemory → k ≢ DisplayVersion
-is_no_version memory version = let both : OutOfMemory ≡ DisplayVersion = sym memory ∙ version in cc
+quietly : (g : Over) (c : After-drop-words-2 g) → AsksNot DisplayHelp (texts_of c.args.words.items)
+    → AsksNot DisplayVersion (texts_of c.args.words.items) → FailsQuietly c.args.out.now c.refuse.new.out c.status_of-in-Err.result
+quietly g c help version = rw c.status_of-in-Err.ensures (c.refuse.ensures.mistake (no_help g c help)
+    (no_request DisplayVersion (texts_of c.args.words.items) c.in-Err.error (λ e. cc) (has_kind g c) version))
 
--- if the arguments are accepted, but memory was refused
+-- as arguments that are accepted are not
 failed : (g : Over) (c : After-drop-words-2 g) (a : Asked) → IsTakenAs (texts_of c.args.words.items) a
-    → FailsQuietly c.args.out.now c.refuse.new.out c.refuse.result
-failed g c a taken =
-    let memory = c.in-Err.ensures.refused a (taken_at (ap texts_of c.as_slice.ensures.value) taken) in
-    c.refuse.ensures.mistake (is_no_help memory) (is_no_version memory)
+    → FailsQuietly c.args.out.now c.refuse.new.out c.status_of-in-Err.result
+failed g c a taken = quietly g c (subst (IsAmong DisplayHelp) taken.0) (subst (IsAmong DisplayVersion) taken.0)
 
 pub returns-clause-accepted : goal.returns-clause-accepted
 returns-clause-accepted g c = λ a taken. inr (failed g c a taken)
@@ -97,18 +99,13 @@ pub returns-clause-best_play : goal.returns-clause-best_play
 returns-clause-best_play g c = plays_best
 
 pub returns-clause-refused : goal.returns-clause-refused
-returns-clause-refused g c =
-    let words = texts_of c.args.words.items in
-    record {
-      usage = λ faulty no_help no_version. c.refuse.ensures.mistake
-          (no_request DisplayHelp words c.in-Err.error (λ e. cc) (has_kind g c) no_help)
-          (no_request DisplayVersion words c.in-Err.error (λ e. cc) (has_kind g c) no_version);
-      version = λ faulty no_help. c.refuse.ensures.version (no_request DisplayHelp words c.in-Err.error (λ e. cc) (has_kind g c) no_help);
-      no_line = λ faulty. c.refuse.ensures.no_line;
-    }
+returns-clause-refused g c = record {
+  usage = λ faulty. quietly g c;
+  version = λ faulty help clean. c.refuse.ensures.version (no_help g c help) (sym c.status_of-in-Err.ensures ∙ clean);
+  no_line = λ faulty line. c.refuse.ensures.no_line (sym c.status_of-in-Err.ensures ∙ line);
+}
 
 pub returns-clause-stopped : goal.returns-clause-stopped
 returns-clause-stopped g c = λ question table taken stopped kept.
-    subst (λ o. StopsBetweenLines question None (g.O.Sink.written c.args.out.now) (g.O.Sink.written o))
-    (sym (failed g c (ask question table) taken).1)
-    (stops_before_lines question None (g.O.Sink.written c.args.out.now))
+    subst (λ o. StopsBetweenLines question (g.O.Sink.written c.args.out.now) (g.O.Sink.written o))
+    (sym (failed g c (ask question table) taken).1) (stops_at_once question (g.O.Sink.written c.args.out.now))

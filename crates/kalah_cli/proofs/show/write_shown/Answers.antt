@@ -4,7 +4,9 @@ use Rattle.kalah_jobs.specs.Files.Lines.{line_feed}
 use Rattle.kalah_jobs.specs.Writing.Given.{WasGiven}
 use Rattle.kalah_jobs.specs.Writing.Picture.{picture_of}
 use Rattle.kalah_jobs.specs.Writing.Shown.{shown_of, values_line}
-use Rattle.kalah_jobs.proofs.WritingLemmas.Givings.{given_cut_off, given_flushed, given_then}
+use Rattle.kalah_jobs.proofs.WritingLemmas.{given_cut_off, given_then}
+use Rattle.kalah_cli.specs.Ends.{IsPrinted}
+use Rattle.kalah_cli.proofs.RunLemmas.{printed_flushed}
 use Rattle.kalah_cli.proofs.show.write_shown.Goals as goal
 
 -- the picture, and then the line below it
@@ -12,13 +14,16 @@ shown_parts : (p : Position) → shown_of p ≡ picture_of p ++ (values_line p +
 unfolding shown_of
 shown_parts p = refl
 
-pub returns-then-failed-clause-given : goal.returns-then-failed-clause-given
-returns-then-failed-clause-given g c =
-    subst (WasGiven g.O.Sink.written g.O.Sink.has_failed c.args.out.now c.write_plain.new.out) (sym (shown_parts c.args.board.now))
-    (given_cut_off _ _ _ _ _ _ c.write_plain.ensures.given (sym c.failed.ensures ∙ c.if-failed.true))
+pub returns-then-failed : goal.returns-then-failed
+returns-then-failed g c = record {
+  given = subst (WasGiven g.O.Sink.written g.O.Sink.has_failed c.args.out.now c.write_plain.new.out) (sym (shown_parts c.args.board.now))
+      (given_cut_off _ _ _ _ _ _ c.write_plain.ensures.given (sym c.failed.ensures ∙ c.if-failed.true));
+  handed_on = c.write_plain.ensures.handed_on;
+}
 
-pub returns-clause-given : goal.returns-clause-given
-returns-clause-given g c =
-    subst (WasGiven g.O.Sink.written g.O.Sink.has_failed c.args.out.now c.flush_unless_failed.new.out) (sym (shown_parts c.args.board.now))
-    (given_flushed _ _ _ _ _ _ (given_then _ _ _ _ _ _ _ c.write_plain.ensures.given c.write_values.ensures)
-    c.flush_unless_failed.ensures.given)
+pub returns : goal.returns
+returns g c =
+    subst (IsPrinted g.O.Sink.written g.O.Sink.has_failed g.O.Sink.is_handed_on c.args.out.now c.flush_unless_failed.new.out)
+    (sym (shown_parts c.args.board.now))
+    (printed_flushed _ _ _ _ _ _ _ (given_then _ _ _ _ _ _ _ c.write_plain.ensures.given c.write_values.ensures)
+    c.flush_unless_failed.ensures.given c.flush_unless_failed.ensures.handed_on)

@@ -1,5 +1,5 @@
-use Rattle.kalah_cli.proofs.Filed.{files_refused}
+use Rattle.kalah_cli.proofs.RunLemmas.{ended_err, files_refused}
 use Rattle.kalah_cli.proofs.solve_files.run_files.Goals as goal
 
-pub returns-in-Err : goal.returns-in-Err
-returns-in-Err g c = files_refused _ _ _ c.report_with_tip.ensures c.requires.sink
+pub returns-in_err-files : goal.returns-in_err-files
+returns-in_err-files g c = files_refused _ _ _ (ended_err c.from_residual.result c.from_residual.ensures.0) c.requires.sink

@@ -81,33 +81,6 @@ fn both_rules_and_many_seeds(rt: HostRuntime) {
     }
 }
 
-// A subcommand, and what it prints for a position with one move by both rules, one that is over, and a line that is not read.
-const OF_MOVES: &[(&str, &str)] = &[
-    (
-        "values",
-        "m.txt:1 1:1\nm.txt:2 1:-1\nm.txt:3 130 over\nm.txt:4 fault shape\n",
-    ),
-    (
-        "steps",
-        "m.txt:1 1 0,2/0 0,1/0 turn\nm.txt:2 1 0,0/1 0,0/2 e over\nm.txt:3 130 over\nm.txt:4 fault shape\n",
-    ),
-];
-
-#[test]
-fn values_and_steps_of_each_move(rt: HostRuntime) {
-    write_file(
-        &rt,
-        "m.txt",
-        b"1,0/0 0,2/0\n1,0/0 0,2/0 e\n31/99 0/0\n01/0 1/0\n",
-    );
-    for (name, text) in OF_MOVES {
-        for workers in ["1", "64"] {
-            let words = [*name, "--workers", workers, "m.txt"];
-            assert_answers(&rt, &words, LineFaults, (*text, ""));
-        }
-    }
-}
-
 #[test]
 fn too_many_files(rt: HostRuntime) {
     write_file(&rt, "many_a.txt", b"");

@@ -4,10 +4,17 @@
 pub(super) const GAIN: u32 = 64;
 
 /// What the house of a turn adds to its priority: 8 times what its place counts, and its number less 1. Places count 51, 43, 36, 26, 25 and
-/// 0, from the store on. House `h` of `m` has cell `m + 5 * (h - 1) - 1`, and the other cells are no house's.
-pub(super) static TURNS: [u16; 31] = [
-    408, 344, 288, 208, 200, 0, 409, 345, 289, 209, 201, 2, 410, 346, 290, 210, 3, 3, 411, 347,
-    291, 4, 4, 4, 412, 348, 5, 5, 5, 5, 413,
+/// 0, from the store on. House `h` of `m` has cell `m + 5 * (h - 1) - 1`, for sides of up to 5 houses in the first row, and for those of 6
+/// in the second. What is no house of its side has only the number.
+pub(super) static TURNS: [[u16; 31]; 2] = [
+    [
+        408, 344, 288, 208, 200, 1, 409, 345, 289, 209, 2, 2, 410, 346, 290, 3, 3, 3, 411, 347, 4,
+        4, 4, 4, 412, 5, 5, 5, 5, 5, 6,
+    ],
+    [
+        0, 0, 0, 0, 0, 0, 0, 0, 0, 0, 201, 1, 1, 1, 1, 210, 2, 2, 2, 2, 291, 3, 3, 3, 3, 348, 4, 4,
+        4, 4, 413,
+    ],
 ];
 
 /// What a house counts after a turn, by the number of its seeds modulo 16, as hardly any holds more. First come the houses of the player

@@ -1,7 +1,7 @@
 use Rattle.std.proofs.Common.{rules, ◌≡◌, ◌∙◌, List, ℕ, Option, Some, ap, refl, subst, sym}
 use Rattle.std.specs.Io.KnownBytes.{Consumes}
 use Rattle.kalah_jobs.specs.Asking.Asked.{bytes_of}
-use Rattle.kalah_jobs.proofs.AskingLemmas.Underway.{all_answered, begun_last, begun_line, begun_so_far, byte_read, cut_off, line_read, nothing_read}
+use Rattle.kalah_jobs.proofs.AskingLemmas.{all_answered, begun_last, begun_line, begun_so_far, byte_read, cut_off, line_read, nothing_read}
 use Rattle.kalah_jobs.proofs.asking.answer_lines.answer_each.Goals as goal
 
 -- what was taken is this byte, or none

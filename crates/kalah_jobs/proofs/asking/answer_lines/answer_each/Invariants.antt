@@ -1,6 +1,6 @@
 use Rattle.std.proofs.Common.{◌≡◌, false}
 use Rattle.kalah_jobs.specs.Asking.Asked.{asking_of, unread}
-use Rattle.kalah_jobs.proofs.AskingLemmas.Underway.{Underway}
+use Rattle.kalah_jobs.proofs.AskingLemmas.{Underway}
 use Rattle.kalah_jobs.proofs.asking.answer_lines.answer_each.Given as goal
 
 -- the lines that were read are answered

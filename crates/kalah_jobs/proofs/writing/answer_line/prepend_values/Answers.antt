@@ -2,7 +2,7 @@ use Rattle.std.proofs.Common.{◌++◌, ◌-◌, ◌≡◌, ◌+◌, arith, ap, 
 use Rattle.std.proofs.lemmas.Option.{get_or_from_slice_get}
 use Rattle.kalah_jobs.specs.Line.Line.{space}
 use Rattle.kalah_jobs.specs.Writing.Answer.{value_words}
-use Rattle.kalah_jobs.proofs.WritingLemmas.Joined.{last_joined, before_those}
+use Rattle.kalah_jobs.proofs.WritingLemmas.{last_joined, before_those}
 use Rattle.kalah_jobs.proofs.writing.answer_line.prepend_values.Goals as goal
 
 pub loop-i-init : goal.loop-i-init

@@ -1,7 +1,7 @@
 use Rattle.std.proofs.Common.{◌≡◌, ◌++◌, ◌+◌, ◌*◌, ◌≤◌, ◌<◌, length}
 use Rattle.kalah_jobs.specs.Line.Line.{space}
 use Rattle.kalah_jobs.specs.Writing.Answer.{value_words}
-use Rattle.kalah_jobs.proofs.WritingLemmas.Joined.{joined_from}
+use Rattle.kalah_jobs.proofs.WritingLemmas.{joined_from}
 use Rattle.kalah_jobs.proofs.writing.answer_line.prepend_values.Given as goal
 
 abbrev pub invariant-loop-i : goal.invariant-loop-i

@@ -1,6 +1,6 @@
 use Rattle.std.proofs.Common.{arith}
 use Rattle.std.proofs.lemmas.Grind.{common_steps}
-use Rattle.kalah_jobs.proofs.WritingLemmas.Lengths.{byte_length}
+use Rattle.kalah_jobs.proofs.WritingLemmas.{byte_length}
 use Rattle.kalah_jobs.proofs.writing.answer_line.prepend_words.Goals as goal
 
 pub prepend_number-requires : goal.prepend_number-requires

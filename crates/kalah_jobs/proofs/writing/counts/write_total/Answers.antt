@@ -1,5 +1,5 @@
 use Rattle.std.proofs.Common.{arith}
-use Rattle.kalah_jobs.proofs.WritingLemmas.Lengths.{number_length}
+use Rattle.kalah_jobs.proofs.WritingLemmas.{number_length}
 use Rattle.kalah_jobs.proofs.writing.counts.write_total.Goals as goal
 
 pub prepend_number-requires : goal.prepend_number-requires

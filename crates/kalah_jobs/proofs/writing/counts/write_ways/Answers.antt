@@ -1,5 +1,5 @@
 use Rattle.std.proofs.Common.{arith}
-use Rattle.kalah_jobs.proofs.WritingLemmas.Lengths.{number_length, byte_length}
+use Rattle.kalah_jobs.proofs.WritingLemmas.{number_length, byte_length}
 use Rattle.kalah_jobs.proofs.writing.counts.write_ways.Goals as goal
 
 pub prepend_number-requires : goal.prepend_number-requires

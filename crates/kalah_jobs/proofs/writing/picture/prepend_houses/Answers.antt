@@ -2,7 +2,7 @@ use Rattle.std.proofs.Common.{◌∙◌, ap, arith}
 use Rattle.kalah_rules.specs.Position.{seeds, side_length}
 use Rattle.kalah_jobs.specs.Writing.Picture.{seeds_in}
 use Rattle.kalah_jobs.specs.Writing.Player.{houses_of}
-use Rattle.kalah_jobs.proofs.WritingLemmas.Pictures.{columns_before}
+use Rattle.kalah_jobs.proofs.WritingLemmas.{columns_before}
 use Rattle.kalah_jobs.proofs.writing.picture.prepend_houses.Goals as goal
 
 pub loop-column-preserved : goal.loop-column-preserved

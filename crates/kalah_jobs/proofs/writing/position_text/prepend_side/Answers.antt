@@ -3,8 +3,7 @@ use Rattle.std.proofs.lemmas.Grind.{common_steps}
 use Rattle.kalah_rules.specs.Position.{seeds}
 use Rattle.kalah_jobs.specs.Line.Line.{comma, slash}
 use Rattle.kalah_jobs.specs.Writing.Player.{houses_of, store_of}
-use Rattle.kalah_jobs.proofs.WritingLemmas.Joined.{before_those, joins}
-use Rattle.kalah_jobs.proofs.WritingLemmas.Lengths.{byte_length}
+use Rattle.kalah_jobs.proofs.WritingLemmas.{before_those, joins, byte_length}
 use Rattle.kalah_jobs.proofs.writing.position_text.prepend_side.Goals as goal
 
 pub loop-i-preserved : goal.loop-i-preserved

@@ -1,7 +1,7 @@
 use Rattle.std.proofs.Common.{◌≡◌, ◌++◌, ◌+◌, ◌*◌, ◌-◌, ◌≤◌, ◌∷◌, length, decimal}
 use Rattle.kalah_jobs.specs.Line.Line.{comma, slash}
 use Rattle.kalah_jobs.specs.Writing.Player.{houses_of, store_of}
-use Rattle.kalah_jobs.proofs.WritingLemmas.Joined.{joined_from}
+use Rattle.kalah_jobs.proofs.WritingLemmas.{joined_from}
 use Rattle.kalah_jobs.proofs.writing.position_text.prepend_side.Given as goal
 
 abbrev pub invariant-loop-i : goal.invariant-loop-i

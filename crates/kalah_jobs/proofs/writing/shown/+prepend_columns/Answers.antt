@@ -1,5 +1,5 @@
 use Rattle.std.proofs.Common.{arith}
-use Rattle.kalah_jobs.proofs.WritingLemmas.Shown.{next_value}
+use Rattle.kalah_jobs.proofs.WritingLemmas.{next_value}
 use Rattle.kalah_jobs.proofs.writing.shown.+prepend_columns.Goals as goal
 
 pub prepend_columns-requires : goal.prepend_columns-requires

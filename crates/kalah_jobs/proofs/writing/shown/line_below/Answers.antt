@@ -1,5 +1,5 @@
 use Rattle.std.proofs.Common.{subst, sym}
-use Rattle.kalah_jobs.proofs.WritingLemmas.Shown.{HaveColumns, have_columns, ascend_from_none}
+use Rattle.kalah_jobs.proofs.WritingLemmas.{HaveColumns, have_columns, ascend_from_none}
 use Rattle.kalah_jobs.proofs.writing.shown.line_below.Goals as goal
 
 pub prepend_columns-requires-clause-ascend : goal.prepend_columns-requires-clause-ascend

@@ -1,6 +1,6 @@
 use Rattle.std.proofs.Common.{arith}
 use Rattle.std.proofs.lemmas.Grind.{common_steps}
-use Rattle.kalah_jobs.proofs.WritingLemmas.Shown.{value_room}
+use Rattle.kalah_jobs.proofs.WritingLemmas.{value_room}
 use Rattle.kalah_jobs.proofs.writing.shown.prepend_value_cell.Goals as goal
 
 pub overflow_sub-end : goal.overflow_sub-end

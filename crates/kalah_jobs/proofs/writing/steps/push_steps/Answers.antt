@@ -3,7 +3,7 @@ use Rattle.std.specs.Prelude.{string_bytes}
 use Rattle.std.proofs.lemmas.Grind.{common_steps}
 use Rattle.kalah_rules.specs.Play.{step_of}
 use Rattle.kalah_jobs.specs.Line.Line.{step_text_of}
-use Rattle.kalah_jobs.proofs.WritingLemmas.StepLines.{joined_lines, line_more}
+use Rattle.kalah_jobs.proofs.WritingLemmas.{joined_lines, line_more}
 use Rattle.kalah_jobs.proofs.writing.steps.push_steps.Goals as goal
 
 -- four pieces after what is there

@@ -2,7 +2,7 @@ use Rattle.std.proofs.Common.{◌≡◌, ◌++◌, take}
 use Rattle.std.specs.Prelude.{string_bytes}
 use Rattle.kalah_rules.specs.Play.{legal_houses, step_of}
 use Rattle.kalah_jobs.specs.Line.Line.{step_text_of}
-use Rattle.kalah_jobs.proofs.WritingLemmas.StepLines.{joined_lines}
+use Rattle.kalah_jobs.proofs.WritingLemmas.{joined_lines}
 use Rattle.kalah_jobs.proofs.writing.steps.push_steps.Given as goal
 
 abbrev pub invariant-loop-i : goal.invariant-loop-i

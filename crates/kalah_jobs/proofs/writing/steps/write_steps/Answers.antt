@@ -4,8 +4,7 @@ use Rattle.kalah_rules.specs.Play.{step_of}
 use Rattle.kalah_jobs.specs.Files.Lines.{line_feed}
 use Rattle.kalah_jobs.specs.Line.Line.{step_text_of}
 use Rattle.kalah_jobs.specs.Writing.Given.{WasGiven}
-use Rattle.kalah_jobs.proofs.WritingLemmas.Givings.{given_all, given_more}
-use Rattle.kalah_jobs.proofs.WritingLemmas.StepLines.{lines_end}
+use Rattle.kalah_jobs.proofs.WritingLemmas.{given_all, given_more, lines_end}
 use Rattle.kalah_jobs.proofs.writing.steps.write_steps.Goals as goal
 
 pub loop-i-preserved : goal.loop-i-preserved

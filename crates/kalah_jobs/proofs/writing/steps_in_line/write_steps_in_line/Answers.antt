@@ -4,8 +4,7 @@ use Rattle.kalah_rules.specs.Play.{step_of}
 use Rattle.kalah_jobs.specs.Files.Lines.{line_feed}
 use Rattle.kalah_jobs.specs.Line.Line.{step_text_of}
 use Rattle.kalah_jobs.specs.Writing.Given.{WasGiven}
-use Rattle.kalah_jobs.proofs.WritingLemmas.Givings.{given_then}
-use Rattle.kalah_jobs.proofs.WritingLemmas.InOneLine.{text_more, texts_in_line}
+use Rattle.kalah_jobs.proofs.WritingLemmas.{given_then, text_more, texts_in_line}
 use Rattle.kalah_jobs.proofs.writing.steps_in_line.write_steps_in_line.Goals as goal
 
 pub loop-i-preserved : goal.loop-i-preserved

@@ -2,7 +2,7 @@ use Rattle.std.proofs.Common.{◌≡◌, take}
 use Rattle.kalah_rules.specs.Play.{legal_houses, step_of}
 use Rattle.kalah_jobs.specs.Line.Line.{step_text_of}
 use Rattle.kalah_jobs.specs.Writing.Given.{WasGiven}
-use Rattle.kalah_jobs.proofs.WritingLemmas.InOneLine.{texts_in_line}
+use Rattle.kalah_jobs.proofs.WritingLemmas.{texts_in_line}
 use Rattle.kalah_jobs.proofs.writing.steps_in_line.write_steps_in_line.Given as goal
 
 abbrev pub invariant-loop-i : goal.invariant-loop-i

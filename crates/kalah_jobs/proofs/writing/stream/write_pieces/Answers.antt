@@ -4,7 +4,7 @@ use Rattle.std.specs.Io.KnownBytes.{Appends}
 use Rattle.std.proofs.lemmas.Grind.{common_steps}
 use Rattle.std.proofs.lemmas.List.{length-drop, take-append-drop, take_all}
 use Rattle.kalah_jobs.specs.Writing.Given.{AppendsStart}
-use Rattle.kalah_jobs.proofs.WritingLemmas.Starts.{start_then}
+use Rattle.kalah_jobs.proofs.WritingLemmas.{start_then}
 use Rattle.kalah_jobs.proofs.writing.stream.write_pieces.Goals as goal
 
 -- a part was taken, and then a prefix of the rest

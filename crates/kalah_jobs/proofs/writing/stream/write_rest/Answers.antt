@@ -3,7 +3,7 @@ use Rattle.std.specs.Io.KnownBytes.{WriteAppends}
 use Rattle.std.proofs.lemmas.Grind.{common_steps}
 use Rattle.std.proofs.KnownBytes.{Appends-kept, Appends-trans}
 use Rattle.std.proofs.lemmas.List.{length-drop, take-append-drop, take_all}
-use Rattle.kalah_jobs.proofs.WritingLemmas.Starts.{start_kept_all, start_none, start_then}
+use Rattle.kalah_jobs.proofs.WritingLemmas.{start_kept_all, start_none, start_then}
 use Rattle.kalah_jobs.proofs.writing.stream.write_rest.Goals as goal
 use Rattle.kalah_jobs.proofs.writing.stream.write_rest.Goals.{in-Ok, in-Err}
 

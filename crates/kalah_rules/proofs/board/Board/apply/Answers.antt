@@ -14,13 +14,10 @@ pub invariant_of-result : goal.invariant_of-result
 invariant_of-result c =
     rw c.without_seeds.ensures (board_step c.self.invariant c.self.view_is c.requires c.in-Over.is c.play.ensures).within
 
-pub returns-in-Over-clause-step : goal.returns-in-Over-clause-step
-returns-in-Over-clause-step c = rw (← c.self.view_is, c.without_seeds.ensures)
-    (board_step c.self.invariant c.self.view_is c.requires c.in-Over.is c.play.ensures).same
-
-pub returns-in-Over-clause-nearer_end : goal.returns-in-Over-clause-nearer_end
-returns-in-Over-clause-nearer_end c =
-    rw (← c.self.view_is) (board_step c.self.invariant c.self.view_is c.requires c.in-Over.is c.play.ensures).nearer
+pub returns-in-Over : goal.returns-in-Over
+returns-in-Over c =
+    let is = board_step c.self.invariant c.self.view_is c.requires c.in-Over.is c.play.ensures in
+    rw (← c.self.view_is, c.without_seeds.ensures) (record { step = is.same; nearer_end = is.nearer; limits = c.self.invariant })
 
 pub overflow_add-result-in-Again : goal.overflow_add-result-in-Again
 overflow_add-result-in-Again c =
@@ -29,13 +26,10 @@ overflow_add-result-in-Again c =
 pub invariant_of-result-in-Again : goal.invariant_of-result-in-Again
 invariant_of-result-in-Again c = (board_step c.self.invariant c.self.view_is c.requires c.in-Again.is c.play.ensures).within
 
-pub returns-in-Again-clause-step : goal.returns-in-Again-clause-step
-returns-in-Again-clause-step c =
-    rw (← c.self.view_is) (board_step c.self.invariant c.self.view_is c.requires c.in-Again.is c.play.ensures).same
-
-pub returns-in-Again-clause-nearer_end : goal.returns-in-Again-clause-nearer_end
-returns-in-Again-clause-nearer_end c =
-    rw (← c.self.view_is) (board_step c.self.invariant c.self.view_is c.requires c.in-Again.is c.play.ensures).nearer
+pub returns-in-Again : goal.returns-in-Again
+returns-in-Again c =
+    let is = board_step c.self.invariant c.self.view_is c.requires c.in-Again.is c.play.ensures in
+    rw (← c.self.view_is) (record { step = is.same; nearer_end = is.nearer; limits = c.self.invariant })
 
 pub overflow_add-result-in-Turn : goal.overflow_add-result-in-Turn
 overflow_add-result-in-Turn c =
@@ -44,10 +38,7 @@ overflow_add-result-in-Turn c =
 pub invariant_of-result-in-Turn : goal.invariant_of-result-in-Turn
 invariant_of-result-in-Turn c = (board_step c.self.invariant c.self.view_is c.requires c.in-Turn.is c.play.ensures).within
 
-pub returns-in-Turn-clause-step : goal.returns-in-Turn-clause-step
-returns-in-Turn-clause-step c =
-    rw (← c.self.view_is) (board_step c.self.invariant c.self.view_is c.requires c.in-Turn.is c.play.ensures).same
-
-pub returns-in-Turn-clause-nearer_end : goal.returns-in-Turn-clause-nearer_end
-returns-in-Turn-clause-nearer_end c =
-    rw (← c.self.view_is) (board_step c.self.invariant c.self.view_is c.requires c.in-Turn.is c.play.ensures).nearer
+pub returns-in-Turn : goal.returns-in-Turn
+returns-in-Turn c =
+    let is = board_step c.self.invariant c.self.view_is c.requires c.in-Turn.is c.play.ensures in
+    rw (← c.self.view_is) (record { step = is.same; nearer_end = is.nearer; limits = c.self.invariant })

@@ -1,5 +1,4 @@
-use Rattle.std.proofs.Common.{◌∙◌, sym, arith, lt-ltb}
-use Rattle.std.proofs.lemmas.Bool.{ltb-true}
+use Rattle.std.proofs.Common.{◌∙◌, sym, arith, lt-ltb, ltb-true}
 use Rattle.kalah_rules.proofs.PlayLemmas.{legal_holds, legal_going, holds_legal}
 use Rattle.kalah_rules.proofs.board.Board.is_legal.Goals as goal
 use Rattle.kalah_rules.proofs.board.Board.is_legal.Goals.{then-h-lt1-via-then-h-lt1, then-h-lt1-via-else-h-lt1+then-h-m, then-h-lt1-via-else-h-lt1+else-h-m+then-is_over}

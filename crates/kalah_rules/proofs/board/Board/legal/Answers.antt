@@ -1,7 +1,5 @@
-use Rattle.std.proofs.Common.{◌≡◌, ◌+◌, ◌-◌, sym, arith, refl, lt-ltb, append-nil}
-use Rattle.std.specs.Prelude.{nat_lt, true, false}
+use Rattle.std.proofs.Common.{◌≡◌, ◌+◌, ◌-◌, sym, arith, refl, lt-ltb, append-nil, nat_lt, true, false, le-ltb}
 use Rattle.kalah_rules.specs.Position.{seeds}
-use Rattle.std.proofs.lemmas.Bool.{le-ltb}
 use Rattle.kalah_rules.proofs.PlayLemmas.{filter_range_more, length-filter_range}
 use Rattle.kalah_rules.proofs.board.Board.legal.Goals as goal
 use Rattle.kalah_rules.proofs.board.Board.legal.Goals.{then-own-gt0, else-own-gt0}

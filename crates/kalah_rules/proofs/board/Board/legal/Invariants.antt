@@ -1,5 +1,4 @@
-use Rattle.std.proofs.Common.{◌≡◌, ◌-◌}
-use Rattle.std.specs.Prelude.{filter, nat_lt}
+use Rattle.std.proofs.Common.{◌≡◌, ◌-◌, filter, nat_lt}
 use Rattle.std.specs.List.{range_with_len}
 use Rattle.kalah_rules.specs.Position.{seeds}
 use Rattle.kalah_rules.proofs.board.Board.legal.Given as goal

@@ -1,5 +1,4 @@
-use Rattle.std.proofs.Common.{arith, ap, ◌∙◌, ◌∷◌, [], length, sym}
-use Rattle.std.proofs.lemmas.List.{length-append}
+use Rattle.std.proofs.Common.{arith, ap, ◌∙◌, ◌∷◌, [], length, sym, length-append}
 use Rattle.kalah_rules.specs.Position.{bare}
 use Rattle.kalah_rules.proofs.PlayLemmas.{seeded_before, seeded_few, seeded_legal, seeded_more, seeded_same}
 use Rattle.kalah_rules.proofs.houses.Houses.legal_count.Goals as goal

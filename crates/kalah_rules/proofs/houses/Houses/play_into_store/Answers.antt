@@ -1,5 +1,5 @@
 use Rattle.std.proofs.Common.{arith, ap, ◌∙◌, ◌-◌, ◌*◌, ◌^◌, ◌≤◌, length}
-use Rattle.kalah_rules.specs.Position.{bare, seeds}
+use Rattle.kalah_rules.specs.Position.{bare}
 use Rattle.kalah_rules.proofs.PlayLemmas.{legal_holds}
 use Rattle.kalah_rules.proofs.KeyLemmas.{ones_le}
 use Rattle.kalah_rules.proofs.PackedLemmas.{house_read, MovesIntoStore, moves_into_store}

@@ -1,5 +1,4 @@
-use Rattle.std.proofs.Common.{arith, rules, ap, get_or, ◌≡◌, ◌-◌}
-use Rattle.std.specs.Prelude.{slice_index}
+use Rattle.std.proofs.Common.{arith, rules, ap, get_or, ◌≡◌, ◌-◌, slice_index}
 use Rattle.kalah_rules.proofs.KeyLemmas.{read_more}
 use Rattle.kalah_rules.proofs.houses.numbers.number_of.Goals as goal
 

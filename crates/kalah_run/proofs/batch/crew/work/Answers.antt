@@ -1,5 +1,4 @@
-use Rattle.std.proofs.Common.{◌≡◌, ℕ, ◌∷◌, ◌++◌, [], true, rules, sym, ap, ◌∙◌, subst}
-use Rattle.std.specs.Prelude.{All}
+use Rattle.std.proofs.Common.{◌≡◌, ℕ, ◌∷◌, ◌++◌, [], true, rules, sym, ap, ◌∙◌}
 use Rattle.kalah_run.specs.declared.desk.rule.DrawnRow.{DrawnRow}
 use Rattle.kalah_run.specs.Desk.States.{PassState}
 use Rattle.kalah_run.specs.Queue.States.{PutState}
@@ -18,12 +17,11 @@ loop-worker-preserved g c =
       at_work = record {
         draws = rw same.0 c.draw.ensures.own;
         sends = ap (λ (p : PutState). p.queue) (c.put.ensures) ∙ ap (λ (p : PutState). p.queue) same.1 ∙ before.sends;
-        known = subst (All Known) (sym drawn)
-            (All-push Known c.loop-worker.worker.pass.row.numbers c.in-Some.job before.known (search rules));
-        sent = drawn_jobs-more c.args.shared.now.jobs.now c.loop-worker.worker.pass.row c.answer-outcome.new.self.pass.row c.in-Some.job
-            c.answer-outcome.result
-            c.loop-worker.worker.put.sent c.put.new.pass.sent before.sent drawn c.answer-outcome.ensures.answer
-            (ap (λ (p : PutState). p.sent) c.put.ensures ∙ ap (λ (p : PutState). p.sent ++ c.answer-outcome.result ∷ []) same.1);
+        known = rw drawn (All-push Known c.loop-worker.worker.pass.row.numbers c.in-Some.job before.known (search rules));
+        sent = ap (λ (p : PutState). p.sent) c.put.ensures
+            ∙ ap (λ (p : PutState). p.sent ++ c.answer-outcome.result ∷ []) same.1
+            ∙ rw before.sent (rw drawn (sym (drawn_jobs-more c.args.shared.now.jobs.now c.loop-worker.worker.pass.row.numbers _ _
+            c.answer-outcome.ensures.answer)));
       };
       number = ap (λ (p : PutState). p.number) c.put.ensures ∙ ap (λ (p : PutState). p.number) same.1 ∙ c.loop-worker.invariant.number;
     }

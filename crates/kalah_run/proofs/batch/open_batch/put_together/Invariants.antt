@@ -1,13 +1,19 @@
-use Rattle.std.proofs.Common.{◌≡◌, ◌++◌}
-use Rattle.std.specs.Vec.Iter.{into_iter_items}
+use Rattle.std.proofs.Common.{◌≡◌, ◌≤◌, ◌+◌, ◌++◌, reverse, vec_len}
+use Rattle.std.specs.Prelude.{vec_capacity}
 use Rattle.kalah_run.specs.Batch.AtWork.{passes_of, puts_of}
 use Rattle.kalah_run.specs.Batch.Running.{HaveOwnTables}
 use Rattle.kalah_run.proofs.batch.open_batch.put_together.Given as goal
 
 abbrev pub invariant-loop-pass : goal.invariant-loop-pass
 invariant-loop-pass l = record {
-  order : l.yielded ++ into_iter_items l.pass-iterator ≡ l.fn.passes.items;
-  passes : passes_of l.workers.items ≡ l.yielded;
-  puts : puts_of l.workers.items ++ into_iter_items l.puts ≡ l.fn.puts.items;
-  tables : HaveOwnTables l.fn.entries l.workers.items;
+  as_many : vec_len l.passes ≡ vec_len l.puts;
+  passes : l.passes.items ++ passes_of (reverse l.workers.items) ≡ l.fn.passes.items;
+  puts : l.puts.items ++ puts_of (reverse l.workers.items) ≡ l.fn.puts.items;
+  tables : HaveOwnTables l.fn.entries (reverse l.workers.items);
+  passes_room : vec_capacity l.passes ≡ vec_capacity l.fn.passes;
+  puts_room : vec_capacity l.puts ≡ vec_capacity l.fn.puts;
+  room : vec_len l.passes + vec_len l.workers ≤ vec_capacity l.workers;
 }
+
+abbrev pub decreases-loop-pass : goal.decreases-loop-pass
+decreases-loop-pass l = vec_len l.passes

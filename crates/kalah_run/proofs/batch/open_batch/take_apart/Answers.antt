@@ -1,6 +1,5 @@
 use Rattle.std.proofs.lemmas.Grind.{common_steps}
 use Rattle.std.proofs.Common.{arith}
-use Rattle.std.proofs.Common.{rules}
 use Rattle.kalah_run.proofs.batch.open_batch.take_apart.Goals as goal
 
 pub loop-worker-preserved : goal.loop-worker-preserved

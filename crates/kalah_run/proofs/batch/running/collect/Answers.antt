@@ -1,9 +1,11 @@
-use Rattle.std.proofs.Common.{◌≡◌, ◌∷◌, [], ℕ, List, inl, inr, length, false, refl, sym, ap, subst, ◌∙◌, arith, rules}
-use Rattle.std.specs.Io.KnownBytes.{Keeps}
+use Rattle.std.proofs.Common.{◌∷◌, [], ℕ, List, inl, inr, length, refl, sym, ap, subst, ◌∙◌, arith, rules}
+use Rattle.std.specs.Prelude.{Some}
 use Rattle.std.proofs.lemmas.List.{map-append, length-append}
 use Rattle.kalah_jobs.specs.declared.files.job.Job.{Job}
-use Rattle.kalah_run.specs.Queue.States.{GetState, HasGot}
-use Rattle.kalah_run.specs.Batch.OrderedOutput.{HasWritten, Waits, outcomes_in}
+use Rattle.kalah_run.specs.Queue.States.{GetState}
+use Rattle.kalah_run.specs.Batch.Running.{MayHaveGot}
+use Rattle.kalah_run.specs.Queue.Lists.{outcomes_in}
+use Rattle.kalah_run.specs.Batch.OrderedOutput.{HasWritten, Waits}
 use Rattle.kalah_run.proofs.BatchLemmas.{given_whole, new_written, progress_offered, still_written}
 use Rattle.kalah_run.proofs.batch.running.collect.Given as given
 use Rattle.kalah_run.proofs.batch.running.collect.Goals as goal
@@ -18,33 +20,22 @@ loop-init g c = record {
   progress = rw c.requires.first (c.write.ensures _ _ [] _ (new_written _ _ _ c.requires.new));
 }
 
--- an outcome was got
-got : (g : given.Over) (c : goal.After-accepts g) → HasGot c.loop.receiver.pass c.match-get_soon.outcome c.match-get_soon.receiver.pass
-got g c = elim c.match-get_soon.branch [
-  | in-Some w ↦ search rules
-  | in-None+in-Some-flush_and_get w ↦ search rules
-]
-
--- what was written stays
-keeps : (g : given.Over) (c : goal.After-accepts g) → Keeps (g.W.Sink.written c.loop.out) (g.W.Sink.written c.match-get_soon.out)
-keeps g c = elim c.match-get_soon.branch [
-  | in-Some w ↦ search rules
-  | in-None+in-Some-flush_and_get w ↦ search rules
-]
-
--- and a failure is not undone
-sound : (g : given.Over) (c : goal.After-accepts g) → g.W.Sink.has_failed c.match-get_soon.out ≡ false
-    → g.W.Sink.has_failed c.loop.out ≡ false
-sound g c = elim c.match-get_soon.branch [
-  | in-Some w ↦ search rules
-  | in-None+in-Some-flush_and_get w ↦ search rules
+-- an outcome was got, soon or later
+next : (g : given.Over) (c : goal.After-accepts g) → MayHaveGot g.W.Sink.written g.W.Sink.has_failed c.args.shared.now.rest
+    (g.E.Rule.invariant 1) c.loop.receiver.pass c.match-get_soon.receiver.pass c.loop.out c.match-get_soon.out
+    (Some c.match-get_soon.outcome)
+next g c = elim c.match-get_soon.branch [
+  | in-Some w ↦ rw (w.out-is, w.receiver-is, w.outcome-is)
+      (record { got = w.in-Some.ensures.got; left = tt; ended = tt; keeps = search rules; sound = λ still. still })
+  | in-None+in-Some-flush_and_get w ↦ rw (w.out-is, w.receiver-is, w.outcome-is, ← w.in-None.ensures.got) w.in-Some-flush_and_get.ensures
 ]
 
 pub loop-preserved : goal.loop-preserved
 loop-preserved g c =
     let outcome = c.match-get_soon.outcome in
-    let worker = (got g c).0 in
-    let is = (got g c).2 in
+    let next = next g c in
+    let worker = next.got.0 in
+    let is = next.got.2 in
     let more = ap (λ (p : GetState). p.got) is in
     record {
       queue = ap (λ (p : GetState). p.queue) is ∙ c.loop.invariant.queue;
@@ -58,7 +49,7 @@ loop-preserved g c =
           × Waits c.write-in-loop.new.self)
           (sym (ap (λ (l : List (ℕ × Job)). outcomes_in l) more
           ∙ map-append (λ (p : ℕ × Job). p.1) c.loop.receiver.pass.got ((worker, outcome) ∷ [])))
-          (let so_far = still_written _ _ _ _ _ _ _ _ _ (keeps g c) (sound g c) c.loop.invariant.progress.0 in
+          (let so_far = still_written _ _ _ _ _ _ _ _ _ next.keeps next.sound c.loop.invariant.progress.0 in
           c.write-in-loop.ensures _ _ _ _ (record {
             of_files = so_far.of_files;
             of_jobs = so_far.of_jobs;
@@ -68,13 +59,12 @@ loop-preserved g c =
 
 pub returns-in-None-flush_and_get-clause-collected : goal.returns-in-None-flush_and_get-clause-collected
 returns-in-None-flush_and_get-clause-collected g c =
-    let flushed = c.flush_and_get.ensures in
     let left = c.in-None-flush_and_get.ensures in
     rw (c.into_pass.ensures ∙ left.got ∙ c.in-None.ensures.got) (record {
       queue = c.loop.invariant.queue;
       workers = c.loop.invariant.workers;
       all_got = inr left.left;
-      given = given_whole _ c.args.output _ _ _ _ _ _ _ flushed.keeps flushed.sound c.loop.invariant.progress;
+      given = given_whole _ c.args.output _ _ _ _ _ _ _ left.keeps left.sound c.loop.invariant.progress;
     })
 
 pub returns-clause-collected : goal.returns-clause-collected

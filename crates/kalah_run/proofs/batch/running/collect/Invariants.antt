@@ -1,6 +1,7 @@
 use Rattle.std.proofs.Common.{◌≡◌, ◌≤◌, length}
 use Rattle.kalah_run.specs.declared.limits.TheConstants.{MOST_TRIES}
-use Rattle.kalah_run.specs.Batch.OrderedOutput.{HasWritten, Waits, outcomes_in}
+use Rattle.kalah_run.specs.Queue.Lists.{outcomes_in}
+use Rattle.kalah_run.specs.Batch.OrderedOutput.{HasWritten, Waits}
 use Rattle.kalah_run.proofs.batch.running.collect.Given as goal
 
 abbrev pub invariant-loop : goal.invariant-loop

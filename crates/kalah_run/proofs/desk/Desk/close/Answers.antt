@@ -4,7 +4,7 @@ use Rattle.kalah_run.specs.Desk.Rows.{drawn_in, spent_in, AreLawful, DealsEachOn
 use Rattle.kalah_run.specs.Desk.Kept.{rows_in}
 use Rattle.kalah_run.specs.Desk.States.{PassState, drawn_rows}
 use Rattle.kalah_run.specs.declared.desk.rule.DeskView.TheVariants.{Closing}
-use Rattle.kalah_run.proofs.DeskLemmas.{deals_each_once, reclaims_as, starts_closing, ends, drawn_at_end, spent_at_end}
+use Rattle.kalah_run.proofs.DeskLemmas.{deals_each_once, reclaims, starts_closing, ends, drawn_at_end, spent_at_end}
 use Rattle.kalah_run.proofs.desk.Desk.close.Goals as goal
 
 pub load_new_seat-closer-requires : goal.load_new_seat-closer-requires
@@ -44,7 +44,7 @@ join_seat-requires c = (
   search rules,
   search rules,
   search rules,
-  reclaims_as _ _ _ _ _ c.loop-pass.invariant.closing
+  reclaims _ _ _ _ _ c.loop-pass.invariant.closing
       (ap (λ m. m.0) c.pass.invariant.0),
 )
 

@@ -1,5 +1,5 @@
 use Rattle.std.proofs.Common.{◌∙◌, ◌+◌, List, [], rules, ap, arith, subst, sym}
-use Rattle.kalah_run.proofs.DeskLemmas.{begins, hands_out_as, one_pass_more}
+use Rattle.kalah_run.proofs.DeskLemmas.{begins, hands_out, one_pass_more}
 use Rattle.kalah_run.specs.Desk.Steps.{after_handing_out, pass_handed_out}
 use Rattle.kalah_run.specs.Desk.States.{DeskState, PassState, AreNewPasses, number_in, row_in, total_in}
 use Rattle.kalah_run.specs.declared.desk.rule.DeskView.TheVariants.{Opening}
@@ -9,7 +9,7 @@ pub of_words-requires : goal.of_words-requires
 of_words-requires c = begins _ (search rules) (search rules)
 
 pub split_seat-seat-requires : goal.split_seat-seat-requires
-split_seat-seat-requires c = (search rules, search rules, hands_out_as _ _ _ _ _ _ (ap (λ m. m.0) c.loop.invariant.opener) (omega arith))
+split_seat-seat-requires c = (search rules, search rules, hands_out _ _ _ _ _ _ (ap (λ m. m.0) c.loop.invariant.opener) (omega arith))
 
 pub loop-preserved : goal.loop-preserved
 loop-preserved c =

@@ -10,8 +10,8 @@ abbrev pub invariant-loop-put : goal.invariant-loop-put
 invariant-loop-put g l =
     let rest = into_iter_items l.put-iterator in
     let known = known_in (view l.ruled) in record {
-      place : IsPassOf l.pairs l.ruled;
+      place : IsPassOf l.outcomes l.ruled;
       getting : view l.ruled ≡ Getting l.fn.pass.workers l.fn.pass.got known;
-      passes : ArePassesFrom l.pairs.table.shared.table_id (length known) rest;
+      passes : ArePassesFrom l.outcomes.table.shared.table_id (length known) rest;
       known : known ++ sent_by rest ≡ sent_by l.fn.puts.items;
     }

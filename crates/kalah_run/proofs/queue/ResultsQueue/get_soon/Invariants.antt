@@ -1,16 +1,8 @@
-use Rattle.std.proofs.Common.{◌≡◌, ◌≤◌, []}
-use Rattle.crossbeam_queue.specs.Passes.{view}
-use Rattle.kalah_run.specs.declared.queue.rule.QueueView.TheVariants.{Getting}
+use Rattle.std.proofs.Common.{◌≡◌, ◌≤◌}
 use Rattle.kalah_run.proofs.queue.ResultsQueue.get_soon.Given as goal
 
 abbrev pub invariant-loop-tries : goal.invariant-loop-tries
-invariant-loop-tries l = record {
-  queue : l.pass-inside.ruled.table_id ≡ l.fn.pass.queue;
-  none_out : l.pass-inside.ruled.me.1 ≡ [];
-  workers : l.pass-inside.workers ≡ l.fn.pass.workers;
-  view : view l.pass-inside.ruled ≡ Getting l.fn.pass.workers l.fn.pass.got [];
-  spent : l.tries ≤ l.fn.tries;
-}
+invariant-loop-tries l = record { same : l.pass ≡ l.fn.pass; spent : l.tries ≤ l.fn.tries }
 
 abbrev pub decreases-loop-tries : goal.decreases-loop-tries
 decreases-loop-tries l = l.tries

@@ -8,11 +8,11 @@ pub ruled-requires-clause-rule : goal.ruled-requires-clause-rule
 ruled-requires-clause-rule c = begins
 
 pub another-theirs-requires-clause-rule : goal.another-theirs-requires-clause-rule
-another-theirs-requires-clause-rule c = forks _ _ _ _ c.loop-number.invariant.made
+another-theirs-requires-clause-rule c = forks _ _ _ _ c.loop.invariant.made
 
-pub loop-number-preserved : goal.loop-number-preserved
-loop-number-preserved c =
-    let so_far = c.loop-number.invariant in
+pub loop-preserved : goal.loop-preserved
+loop-preserved c =
+    let so_far = c.loop.invariant in
     let views = c.another-theirs.ensures.rule in record {
       place = search rules;
       made = views.0 ∙ ap after_making_one so_far.made;

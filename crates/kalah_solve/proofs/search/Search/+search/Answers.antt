@@ -1,8 +1,5 @@
-use Rattle.std.proofs.Common.{arith, rules, refl, sym, ◌∙◌, ◌≡◌, ◌+◌, ◌-◌, ◌%◌, subst, length}
-use Rattle.std.specs.Prelude.{max}
+use Rattle.std.proofs.Common.{arith, rules, refl, sym, ◌∙◌, ◌≡◌, ◌+◌, ◌-◌, ◌%◌, subst, length, max}
 use Rattle.std.proofs.lemmas.List.Sums.{sum_by-set}
-use Rattle.kalah_rules.specs.Position.{bare}
-use Rattle.kalah_rules.proofs.PlayLemmas.{legal_holds}
 use Rattle.kalah_rules.specs.declared.step.HousesStep.TheVariants.{Turn}
 use Rattle.kalah_solve.specs.Solver.StepWorth.{GoesOn}
 use Rattle.kalah_solve.specs.Bounds.Won.{won}
@@ -133,10 +130,6 @@ explore-returns g t c =
           _ c.seeds-seeds.ensures.limits c.requires.going
           is.untried is.highest (omega arith);
     }
-
-pub look-priority-priority-requires-clause-last : goal.look-priority-priority-requires-clause-last
-look-priority-priority-requires-clause-last g t c =
-    omega (arith, (legal_holds (bare c.args.houses.now) c.args.house c.requires.legal).last)
 
 pub look-priority-priority-requires-clause-few : goal.look-priority-priority-requires-clause-few
 look-priority-priority-requires-clause-few g t c =

@@ -1,6 +1,5 @@
 use Rattle.kalah_rules.specs.Position.{bare}
-use Rattle.std.proofs.Common.{◌+◌, ◌*◌, ◌<◌, ◌≤◌, ◌≡◌, ℕ, get_or}
-use Rattle.std.specs.Prelude.{sum}
+use Rattle.std.proofs.Common.{◌+◌, ◌*◌, ◌<◌, ◌≤◌, ◌≡◌, ℕ, get_or, sum}
 use Rattle.kalah_rules.specs.Measure.{moves_left}
 use Rattle.kalah_solve.proofs.WorthLemmas.{moves_after}
 use Rattle.kalah_solve.specs.RowMarks.{cell}

@@ -1,24 +1,30 @@
-use Rattle.std.proofs.Common.{arith, rules, ◌≡◌, ◌∙◌, w32, to_z, of_z, SFits}
-use Rattle.std.proofs.lemmas.Int.{ints, clamps, to_z-of_z}
+use Rattle.std.proofs.Common.{ap, refl, rules, ◌≡◌, ◌∙◌, w8, w32, to_z, of_z, SFits, to_z-of_z}
 use Rattle.kalah_solve.specs.Bounds.Intervals.{within}
 use Rattle.kalah_solve.specs.Solver.Worth.{houses_worth}
-use Rattle.kalah_solve.proofs.BoundsLemmas.{won_by_bounds, told_by_taken}
+use Rattle.kalah_solve.proofs.BoundsLemmas.{within_both, won_by_bounds, told_by_taken}
 use Rattle.kalah_solve.proofs.search.Search.search_game.Given.{Over}
 use Rattle.kalah_solve.proofs.search.Search.search_game.Goals as goal
 
 pub interval_of-requires-clause-least : goal.interval_of-requires-clause-least
-interval_of-requires-clause-least g c = omega (arith, ints, clamps)
+interval_of-requires-clause-least g c =
+    let fits : SFits w32 c.clamp-answer.result = search rules in
+    simp to_z-of_z (rw c.clamp-answer.ensures (within_both _ _ _ c.in-Some.narrow.ordered).0)
 
 pub interval_of-requires-clause-most : goal.interval_of-requires-clause-most
-interval_of-requires-clause-most g c = omega (arith, ints, clamps)
+interval_of-requires-clause-most g c =
+    let fits : SFits w32 c.clamp-answer.result = search rules in
+    simp to_z-of_z (rw c.clamp-answer.ensures (within_both _ _ _ c.in-Some.narrow.ordered).1)
 
 -- the answer is the worth in the window
 found : (g : Over) (c : goal.After-intersection g) →
     to_z w32 (of_z w32 c.clamp-answer.result) ≡ within c.in-Some.narrow.lo c.in-Some.narrow.hi (houses_worth c.args.houses.now)
 found g c =
+    let seeds = c.seeds-seeds.ensures in
     let fits : SFits w32 c.clamp-answer.result = search rules in
-    to_z-of_z w32 _ fits ∙ won_by_bounds c.args.houses.now _ _ _ c.won_within-won.result c.of_window.result c.seeds-seeds.ensures.limits
-    c.seeds-seeds.ensures.seeds c.of_window.ensures.ordered c.of_window.ensures.apart c.won_within-won.ensures c.clamp-answer.ensures
+    let margin_fits : SFits w32 c.margin_of-2.result = search rules in
+    simp to_z-of_z (simp to_z-of_z at c.clamp-answer.ensures
+    ∙ won_by_bounds _ _ c.of_window.result seeds.limits seeds.seeds c.of_window.ensures.ordered c.of_window.ensures.apart
+    c.won_within-won.ensures c.margin_of-2.ensures)
 
 pub learn_margins-requires : goal.learn_margins-requires
 learn_margins-requires g c =
@@ -31,7 +37,15 @@ returns g c = found g c.before ∙ c.in-Some.ensures.some (houses_worth c.args.h
 
 pub returns-then-seeds-self : goal.returns-then-seeds-self
 returns-then-seeds-self g c =
-    let fits : SFits w32 c.clamp.result = search rules in
     let seeds = c.seeds-seeds.ensures in
-    to_z-of_z w32 _ fits ∙ told_by_taken _ _ _ _ seeds.limits seeds.seeds c.won-won.ensures
-    c.clamp.ensures
+    let fits : SFits w32 c.clamp.result = search rules in
+    let margin_fits : SFits w32 c.margin_of.result = search rules in
+    simp to_z-of_z (simp to_z-of_z at c.clamp.ensures
+    ∙ ap (within _ _) (told_by_taken seeds.limits seeds.seeds c.won-won.ensures c.margin_of.ensures))
+
+pub returns-in_default : goal.returns-in_default
+returns-in_default g c =
+    let fits : SFits w32 c.clamp-in_default.result = search rules in
+    let lo : SFits w8 c.known_margins-known.result.lo = search rules in
+    let lo_wide : SFits w32 c.known_margins-known.result.lo = search (rules, lo) in
+    simp to_z-of_z (simp to_z-of_z at c.clamp-in_default.ensures ∙ c.in_default.ensures.none refl _ c.known_margins-known.ensures.holds)

@@ -1,5 +1,4 @@
-use Rattle.std.proofs.Common.{◌-◌, ◌≤◌, ◌≡◌}
-use Rattle.std.specs.Prelude.{max, min}
+use Rattle.std.proofs.Common.{◌-◌, ◌≤◌, ◌≡◌, max, min}
 use Rattle.kalah_solve.specs.Bounds.Won.{won}
 use Rattle.kalah_solve.proofs.search.Search.won_within.Given as goal
 

@@ -1,6 +1,5 @@
-use Rattle.std.proofs.Common.{arith, ◌≡◌, ◌≤◌, ◌<◌, ◌+◌, ℕ, List, length, get_or, inl, inr}
-use Rattle.std.specs.Prelude.{Contains, max}
-use Rattle.std.proofs.lemmas.Bool.{cases_eq, cases_lt}
+use Rattle.std.proofs.Common.{arith, ◌≡◌, ◌≤◌, ◌<◌, ◌+◌, ℕ, List, length, get_or, inl, inr, Contains, max}
+use Rattle.std.proofs.lemmas.Bool.{cases_lt}
 use Rattle.std.proofs.lemmas.List.{get_or_past}
 use Rattle.std.proofs.lemmas.List.Elements.{Contains-get_or}
 use Rattle.kalah_solve.proofs.search.move_order.highest.Goals as goal
@@ -17,29 +16,20 @@ found_more xs most i new found inside is = elim (cases_lt most (get_or xs i 0)) 
 highest_more : (xs : List ℕ) (most i new : ℕ) → ((k : ℕ) → k < i → get_or xs k 0 ≤ most)
     → new ≡ max most (get_or xs i 0) →
     (k : ℕ) → k < i + 1 → get_or xs k 0 ≤ new
-highest_more xs most i new highest is k below = elim (cases_eq k i) [
-  | inl same ↦ rw same (omega arith)
-  | inr other ↦ omega (arith, highest k (omega arith))
-]
+highest_more xs most i new highest is k below = grind arith
 
 pub loop-i-init : goal.loop-i-init
-loop-i-init c = record {
-  found = Contains-get_or c.args.priorities.now 0 0 (omega arith);
-  highest = λ k below. let first : k ≡ 0 = omega arith in rw first (omega arith);
-}
+loop-i-init c = grind (arith, Contains-get_or)
 
 pub loop-i-preserved : goal.loop-i-preserved
 loop-i-preserved c = record {
-  found = found_more c.args.priorities.now c.loop-i.most c.loop-i.i c.max-most.result c.loop-i.invariant.found
+  found = found_more _ c.loop-i.most c.loop-i.i _ c.loop-i.invariant.found
       (omega arith) c.max-most.ensures;
-  highest = highest_more c.args.priorities.now c.loop-i.most c.loop-i.i c.max-most.result c.loop-i.invariant.highest c.max-most.ensures;
+  highest = highest_more _ c.loop-i.most c.loop-i.i _ c.loop-i.invariant.highest c.max-most.ensures;
 }
 
 pub returns-clause-found : goal.returns-clause-found
 returns-clause-found c = c.loop-i.invariant.found
 
 pub returns-clause-highest : goal.returns-clause-highest
-returns-clause-highest c = λ k. elim (cases_lt k 8) [
-  | inl inside ↦ c.loop-i.invariant.highest k (omega arith)
-  | inr past ↦ rw (get_or_past c.args.priorities.now k 0 (omega arith)) (omega arith)
-]
+returns-clause-highest c = grind (arith, get_or_past)

@@ -1,5 +1,4 @@
-use Rattle.std.proofs.Common.{◌≤◌, ◌<◌, ℕ, get_or}
-use Rattle.std.specs.Prelude.{Contains}
+use Rattle.std.proofs.Common.{◌≤◌, ◌<◌, ℕ, get_or, Contains}
 use Rattle.kalah_solve.proofs.search.move_order.highest.Given as goal
 
 abbrev pub invariant-loop-i : goal.invariant-loop-i

@@ -1,23 +1,20 @@
-use Rattle.std.proofs.Common.{arith, refl, ◌≡◌, ◌<◌, ◌+◌, ◌-◌, ◌/◌, ◌%◌, ℕ, get_or}
-use Rattle.std.specs.Prelude.{true, ◌==◌, nat_lt}
-use Rattle.std.proofs.lemmas.Bool.{agree_below_at, eqb-true, ltb-true}
+use Rattle.std.proofs.Common.{arith, refl, ◌≡◌, ◌<◌, ◌+◌, ◌-◌, ◌/◌, ◌%◌, ◌==◌, ◌&&◌, [], Bool, ℕ, zero, suc, true, nat_lt, get_or}
+use Rattle.std.proofs.lemmas.Bool.{agree_below_at}
+use Rattle.std.proofs.lemmas.Bool.Decides.{nat_tests}
 use Rattle.kalah_solve.specs.declared.search.move_order.weights.TheConstants.{TURNS}
 use Rattle.kalah_solve.proofs.search.move_order.turn_of.Goals as goal
 
--- each cell names the house of its turn
-names_house : (k : ℕ) → k < 31 → get_or TURNS k 0 % 8 ≡ (k - 1) / 5
-names_house k within = eqb-true _ _ (agree_below_at (λ k. get_or TURNS k 0 % 8 == (k - 1) / 5) (λ k. true) 31 k refl within)
+-- a cell names the house of its turn, and is small
+abbrev is_right : ℕ → ℕ → Bool
+is_right row k = (get_or (get_or TURNS row []) k 0 % 8 == k / 5 - row) && nat_lt (get_or (get_or TURNS row []) k 0) 414
 
--- and is small
-is_small : (k : ℕ) → k < 31 → get_or TURNS k 0 < 414
-is_small k within = ltb-true _ _ (agree_below_at (λ k. nat_lt (get_or TURNS k 0) 414) (λ k. true) 31 k refl within)
+all_right : (row k : ℕ) → row < 2 → k < 31 → is_right row k ≡ true
+all_right zero k few within = agree_below_at (is_right 0) (λ k. true) 31 k refl within
+all_right (suc zero) k few within = agree_below_at (is_right 1) (λ k. true) 31 k refl within
+all_right (suc (suc row)) k few within = absurd (omega arith)
 
 pub returns-clause-house : goal.returns-clause-house
-returns-clause-house c =
-    let within : c.args.m + c.bit.result - 1 < 31 = omega arith in
-    omega (arith, names_house (c.args.m + c.bit.result - 1) within)
+returns-clause-house c = grind (arith, nat_tests, all_right (c.args.m / 6) (c.args.m + c.bit.result - 1) (omega arith) (omega arith))
 
 pub returns-clause-small : goal.returns-clause-small
-returns-clause-small c =
-    let within : c.args.m + c.bit.result - 1 < 31 = omega arith in
-    omega (arith, is_small (c.args.m + c.bit.result - 1) within)
+returns-clause-small c = grind (arith, nat_tests, all_right (c.args.m / 6) (c.args.m + c.bit.result - 1) (omega arith) (omega arith))

@@ -1,5 +1,4 @@
-use Rattle.std.proofs.Common.{rules, sym, ap, ◌∙◌, ◌≡◌, w32, SFits}
-use Rattle.std.proofs.lemmas.Int.{to_z-of_z}
+use Rattle.std.proofs.Common.{rules, sym, ap, ◌∙◌, ◌≡◌, w32, SFits, to_z-of_z}
 use Rattle.kalah_rules.specs.Position.{rows_of}
 use Rattle.kalah_solve.specs.Solver.Worth.{houses_worth}
 use Rattle.kalah_solve.proofs.SolverLemmas.{told_fits, told_small, told_worth}

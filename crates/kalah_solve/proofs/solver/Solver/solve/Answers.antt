@@ -1,7 +1,7 @@
-use Rattle.std.proofs.Common.{arith, rules, refl, sym, ap, ◌∙◌, ◌≡◌, w32, to_z, of_z, SFits, pos, ◌+ℤ◌}
+use Rattle.std.proofs.Common.{arith, rules, sym, ap, ◌∙◌, ◌≡◌, w32, SFits}
 use Rattle.std.proofs.lemmas.Int.{ints, to_z-of_z}
 use Rattle.kalah_rules.specs.Play.{legal_houses}
-use Rattle.kalah_rules.specs.Position.{Rows, rows_of, bare, seeds_in_houses}
+use Rattle.kalah_rules.specs.Position.{Rows, rows_of, bare}
 use Rattle.kalah_solve.specs.Solver.Worth.{houses_worth, best_house}
 use Rattle.kalah_solve.specs.declared.solver.Verdict.TheVariants.{Best, Over}
 use Rattle.kalah_solve.proofs.SolverLemmas.{verdict_by, verdict_of_over, small_best, stored, told_fits, told_small, told_worth, verdict_tells}
@@ -20,28 +20,17 @@ returns-then-is_over-clause-best_play g c =
 pub first_house-house-requires-clause-moves : goal.first_house-house-requires-clause-moves
 first_house-house-requires-clause-moves g c = c.legal.ensures ∙ sym (ap (λ (a : Rows). legal_houses (bare a)) c.houses-houses.ensures)
 
-pub overflow_add-best : goal.overflow_add-best
-overflow_add-best g c =
-    let a = c.houses-houses.result in
-    let limits = c.seeds.ensures.limits in
-    omega (arith, ints, worth_low a limits, worth_high a limits)
-
-pub half-bar-requires : goal.half-bar-requires
-half-bar-requires g c =
+pub share_of-bar-requires : goal.share_of-bar-requires
+share_of-bar-requires g c =
     let a = c.houses-houses.result in
     let limits = c.seeds.ensures.limits in
     omega (arith, ints, worth_low a limits, worth_high a limits)
 
 pub first_house-house-requires-clause-best : goal.first_house-house-requires-clause-best
 first_house-house-requires-clause-best g c =
-    let a = c.houses-houses.result in
-    let limits = c.seeds.ensures.limits in
-    let best = c.worth-best.ensures in
-    let sum : to_z w32 (of_z w32 (to_z w32 (of_z w32 c.worth-best.result) +ℤ to_z w32 c.seeds.result))
-    ≡ houses_worth a +ℤ pos (seeds_in_houses (bare a)) =
-    omega (arith, ints, worth_low a limits, worth_high a limits) in
-    half_is a (houses_worth a) c.half-bar.result limits refl
-    (record { low = rw sum at c.half-bar.ensures.low; high = rw sum at c.half-bar.ensures.high })
+    let fits : SFits w32 c.worth-best.result = search rules in
+    half_is c.houses-houses.result _ _ c.seeds.ensures.limits c.worth-best.ensures
+    (rw c.seeds.ensures.seeds at (simp to_z-of_z at c.share_of-bar.ensures))
 
 -- what the search finds is the worth of the houses
 found : (g : given.Over) (c : goal.After-other_store g) → c.worth-best.result ≡ houses_worth (rows_of c.args.board.now)

@@ -1,7 +1,5 @@
-use Rattle.std.proofs.Common.{sym, ◌∙◌, ap, arith, subst}
-use Rattle.std.specs.Prelude.{map}
+use Rattle.std.proofs.Common.{sym, ◌∙◌, ap, arith, subst, map, take_all}
 use Rattle.std.proofs.lemmas.Grind.{common_steps}
-use Rattle.std.proofs.lemmas.List.{take_all}
 use Rattle.kalah_solve.specs.Solver.MoveValues.{move_value, TellMoves}
 use Rattle.kalah_solve.proofs.SolverLemmas.{values_tell}
 use Rattle.kalah_solve.proofs.WorthLemmas.{board_equal_sides}

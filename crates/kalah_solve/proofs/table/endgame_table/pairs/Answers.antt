@@ -1,5 +1,4 @@
-use Rattle.std.proofs.Common.{arith, ◌∙◌}
-use Rattle.std.proofs.Math.ListN.{length-set}
+use Rattle.std.proofs.Common.{arith, ◌∙◌, length-set}
 use Rattle.kalah_solve.proofs.TableLemmas.{pairs_more}
 use Rattle.kalah_solve.proofs.table.endgame_table.pairs.Goals as goal
 

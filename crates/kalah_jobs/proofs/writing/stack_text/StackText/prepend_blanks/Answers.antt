@@ -2,7 +2,7 @@ use Rattle.std.proofs.Common.{drop, arith}
 use Rattle.std.specs.Prelude.{replicate}
 use Rattle.std.proofs.lemmas.Grind.{common_steps}
 use Rattle.kalah_jobs.specs.Line.Line.{space}
-use Rattle.kalah_jobs.proofs.WritingLemmas.Utf8Texts.{piece_before, blanks_are_text}
+use Rattle.kalah_jobs.proofs.WritingLemmas.{piece_before, blanks_are_text}
 use Rattle.kalah_jobs.proofs.writing.stack_text.StackText.prepend_blanks.Goals as goal
 
 pub invariant_of-self : goal.invariant_of-self

@@ -1,5 +1,5 @@
 use Rattle.std.proofs.Common.{arith}
-use Rattle.kalah_jobs.proofs.WritingLemmas.Lengths.{margin_length}
+use Rattle.kalah_jobs.proofs.WritingLemmas.{margin_length}
 use Rattle.kalah_jobs.proofs.writing.stack_text.StackText.prepend_margin.Goals as goal
 
 pub prepend_number-requires : goal.prepend_number-requires

@@ -1,5 +1,4 @@
-use Rattle.std.proofs.Common.{◌≡◌, ◌-◌, ◌∷◌, [], ◌++◌, ap, refl, sym, ◌∙◌, length, arith}
-use Rattle.std.specs.Prelude.{sum}
+use Rattle.std.proofs.Common.{◌≡◌, ◌-◌, ◌∷◌, [], ◌++◌, ap, refl, sym, ◌∙◌, length, arith, sum}
 use Rattle.kalah_rules.proofs.KeyLemmas.{length-cells, row_is_small, houses_pushed, row_pushed}
 use Rattle.kalah_rules.proofs.houses.house_row.HouseRow.push.Goals as goal
 

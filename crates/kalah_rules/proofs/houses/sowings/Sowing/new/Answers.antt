@@ -1,6 +1,4 @@
-use Rattle.std.proofs.Common.{arith, refl, lt-ltb, ◌≡◌, ◌+◌, ◌-◌, ◌*◌, ◌^◌, ◌%◌, nat_lt}
-use Rattle.std.specs.Prelude.{if◌then◌else◌}
-use Rattle.std.proofs.lemmas.Bool.{le-ltb}
+use Rattle.std.proofs.Common.{arith, refl, lt-ltb, ◌≡◌, ◌+◌, ◌-◌, ◌*◌, ◌^◌, ◌%◌, nat_lt, if◌then◌else◌, le-ltb}
 use Rattle.kalah_rules.specs.Sowings.{own_gained, other_gained}
 use Rattle.kalah_rules.proofs.KeyLemmas.{own_gain, other_gain, store_gain, placed_small}
 use Rattle.kalah_rules.proofs.houses.sowings.Sowing.new.Goals as goal

@@ -1,5 +1,4 @@
-use Rattle.std.proofs.Common.{arith, rules, ◌∙◌}
-use Rattle.std.proofs.Math.ListN.{length-set}
+use Rattle.std.proofs.Common.{arith, rules, ◌∙◌, length-set}
 use Rattle.kalah_rules.proofs.PackedLemmas.{sowings_more}
 use Rattle.kalah_rules.proofs.houses.sowings.Sowings.new.Goals as goal
 

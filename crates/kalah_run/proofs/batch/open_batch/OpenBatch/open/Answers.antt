@@ -1,7 +1,6 @@
-use Rattle.std.proofs.Common.{◌≡◌, ◌≤◌, List, [], refl, sym, ap, ◌∙◌, subst, arith}
-use Rattle.std.specs.Prelude.{All, vec_capacity}
-use Rattle.kalah_run.specs.Desk.States.{PassState, AreNewPasses}
-use Rattle.kalah_run.specs.Queue.States.{GetState, PutState, ArePassesFrom}
+use Rattle.std.proofs.Common.{List, [], refl, sym, ap, ◌∙◌, arith}
+use Rattle.kalah_run.specs.Queue.States.{GetState, ArePassesFrom}
+use Rattle.kalah_run.specs.Batch.AtWork.{puts_of}
 use Rattle.kalah_run.specs.declared.batch.worker.Worker.{Worker}
 use Rattle.kalah_run.proofs.BatchLemmas.{as_many_workers, new_at_work}
 use Rattle.kalah_run.proofs.batch.open_batch.OpenBatch.open.Goals as goal
@@ -31,21 +30,20 @@ returns-clause-ready g c =
     let queue = c.in_ok-queue.queue.id in
     let opened = c.in_ok-queue.ensures.puts in
     let count = as_many_workers _ _ _ are.passes desk.passes.0 in
-    let puts = subst (λ (l : List PutState). ArePassesFrom queue 0 l) (sym are.puts) opened.1 in
+    let puts : ArePassesFrom queue 0 (puts_of workers) = rw are.puts opened.1 in
     record {
       some = omega (arith, count, c.max-count.ensures);
       passes = count ∙ sym desk.desk.1;
       at_work = new_at_work _ workers c.max-count.result
-          (subst (λ (l : List PassState). AreNewPasses c.in_ok-desk.desk c.max-count.result l) (sym are.passes) desk.passes) puts
-          (subst (λ (l : List PutState). All (λ p. p.sent ≡ []) l) (sym are.puts) opened.2);
+          (rw are.passes desk.passes) puts (rw are.puts opened.2);
       puts = puts;
       get = c.in_ok-queue.ensures.get
           ∙ ap (λ n. let p : GetState = record { queue = queue; workers = n; got = [] } in p) (sym count);
       output = c.in_ok-output.ensures.new;
       jobs = c.in_ok-output.ensures.of.1;
       room = record {
-        empty = (c.in_ok-passes.ensures.items, c.in_ok-puts.ensures.items);
-        passes = subst (λ n. n ≤ vec_capacity c.in_ok-passes.passes) (sym count) c.in_ok-passes.ensures.capacity;
-        puts = subst (λ n. n ≤ vec_capacity c.in_ok-puts.puts) (sym count) c.in_ok-puts.ensures.capacity;
+        empty = are.empty;
+        passes = omega (arith, count, are.room.0, desk.passes.0);
+        puts = omega (arith, count, are.room.1, opened.0);
       };
     }

@@ -1,14 +1,12 @@
-use Rattle.std.proofs.Common.{◌≡◌, ℕ, ⊎_elim, inl, inr, List, ◌++◌, length, sym, ap, ◌∙◌, subst, arith}
-use Rattle.std.specs.Prelude.{All}
+use Rattle.std.proofs.Common.{◌≡◌, ⊎_elim, inl, inr, List, length, sym, ap, ◌∙◌, arith}
 use Rattle.std.proofs.lemmas.List.{length-map}
 use Rattle.kalah_jobs.specs.Collecting.Batch.{AreJobsInSomeOrder}
 use Rattle.kalah_jobs.specs.Files.Jobs.{job_count}
 use Rattle.kalah_run.specs.Desk.Rows.{DealsEachOnce}
-use Rattle.kalah_run.specs.Desk.States.{PassState, IsPassAt, drawn_rows}
-use Rattle.kalah_run.specs.Queue.States.{GetState, PutState, ArePassesFrom, sent_by}
-use Rattle.kalah_run.specs.Queue.Lists.{Accounts}
+use Rattle.kalah_run.specs.Desk.States.{PassState, drawn_rows}
+use Rattle.kalah_run.specs.Queue.States.{GetState, PutState}
+use Rattle.kalah_run.specs.Queue.Lists.{outcomes_in}
 use Rattle.kalah_run.specs.Batch.AtWork.{passes_of}
-use Rattle.kalah_run.specs.Batch.OrderedOutput.{outcomes_in}
 use Rattle.kalah_run.specs.declared.batch.worker.Worker.{Worker}
 use Rattle.kalah_run.proofs.BatchLemmas.{each_job_known, each_job_got, puts_after, run_at_work, run_passes}
 use Rattle.kalah_run.proofs.batch.open_batch.OpenBatch.run.Given.{Over}
@@ -29,19 +27,19 @@ run_and_write-requires-after_bounds g c κs within =
 
 -- ---- the passes come back
 
-pub take_apart-passes-requires-clause-passes_room : goal.take_apart-passes-requires-clause-passes_room
-take_apart-passes-requires-clause-passes_room g c =
+pub take_apart-requires-clause-passes_room : goal.take_apart-requires-clause-passes_room
+take_apart-requires-clause-passes_room g c =
     omega (arith, c.in_ok-workers.workers.ok, c.in_ok-workers.ensures.ended.all_ran.as_many, c.requires.room.passes)
 
-pub take_apart-passes-requires-clause-puts_room : goal.take_apart-passes-requires-clause-puts_room
-take_apart-passes-requires-clause-puts_room g c =
+pub take_apart-requires-clause-puts_room : goal.take_apart-requires-clause-puts_room
+take_apart-requires-clause-puts_room g c =
     omega (arith, c.in_ok-workers.workers.ok, c.in_ok-workers.ensures.ended.all_ran.as_many, c.requires.room.puts)
 
 pub close-requires-clause-all : goal.close-requires-clause-all
 close-requires-clause-all g c =
     omega (
       arith,
-      ap (λ (l : List PassState). length l) c.take_apart-passes.ensures.passes,
+      ap (λ (l : List PassState). length l) c.take_apart.ensures.passes,
       length-map c.in_ok-workers.workers.items (λ (w : Worker). w.pass),
       c.in_ok-workers.ensures.ended.all_ran.as_many,
       c.requires.passes,
@@ -49,24 +47,22 @@ close-requires-clause-all g c =
 
 pub close-requires-clause-own : goal.close-requires-clause-own
 close-requires-clause-own g c =
-    subst (λ (l : List PassState). All (IsPassAt c.args.self.shared.desk) l) (sym c.take_apart-passes.ensures.passes)
-    (run_passes _ _ _ c.in_ok-workers.ensures.ended.all_ran)
+    rw c.take_apart.ensures.passes (run_passes _ _ _ c.in_ok-workers.ensures.ended.all_ran)
 
 pub close-requires-2-clause-puts : goal.close-requires-2-clause-puts
 close-requires-2-clause-puts g c =
     let run = c.in_ok-workers.ensures.ended in
-    let puts = c.take_apart-passes.ensures.puts in (
+    let puts = c.take_apart.ensures.puts in (
       omega (
         arith,
-        c.take_apart-passes.result.1.ok,
+        c.take_apart.new.puts.ok,
         ap (λ (l : List PutState). length l) puts,
         length-map c.in_ok-workers.workers.items (λ (w : Worker). w.put),
         run.all_ran.as_many,
         run.collected.workers,
         ap (λ (p : GetState). p.workers) (c.new-receiver.ensures ∙ c.requires.get),
       ),
-      subst (λ (l : List PutState). ArePassesFrom c.args.self.shared.queue.id 0 l) (sym puts)
-          (puts_after _ _ _ 0 run.all_ran c.requires.puts),
+      rw puts (puts_after _ _ _ 0 run.all_ran c.requires.puts),
     )
 
 -- ---- what has come is written
@@ -75,10 +71,7 @@ close-requires-2-clause-puts g c =
 dealt : (g : Over) (c : goal.After-drop-shared-2 g) → DealsEachOnce (job_count c.args.self.shared.jobs.now)
     c.close.result.drawn (drawn_rows (passes_of c.in_ok-workers.workers.items))
 dealt g c =
-    let shared = c.args.self.shared in
-    subst (λ (n : ℕ). DealsEachOnce n c.close.result.drawn (drawn_rows (passes_of c.in_ok-workers.workers.items))) shared.each_job
-    (subst (λ (l : List PassState). DealsEachOnce shared.desk.total c.close.result.drawn (drawn_rows l))
-    c.take_apart-passes.ensures.passes c.close.ensures.deals)
+    rw c.args.self.shared.each_job at (rw c.take_apart.ensures.passes at c.close.ensures.deals)
 
 -- each job's outcome was got once, if as many were got as there are jobs
 each_got : (g : Over) (c : goal.After-drop-shared-2 g) → length c.in_ok-workers.get.got ≡ job_count c.args.self.output.jobs.now
@@ -90,8 +83,7 @@ each_got g c all =
     let as_many = run.all_ran.as_many
     ∙ sym (run.collected.workers ∙ ap (λ (p : GetState). p.workers) (c.new-receiver.ensures ∙ ready.get)) in
     let rest = c.close-2.ensures.whole in
-    let accounts = subst (λ (l : List PutState). Accounts get.workers (sent_by l) (get.got ++ rest.0))
-    c.take_apart-passes.ensures.puts rest.2 in
+    let accounts = rw c.take_apart.ensures.puts at rest.2 in
     rw ready.jobs (each_job_got c.args.self.shared c.in_ok-workers.workers.items get.workers c.close.result.drawn get.got rest.0
     (run_at_work _ _ _ run.all_ran) as_many (dealt g c) accounts (all ∙ ap job_count ready.jobs))
 

@@ -1,32 +1,24 @@
-use Rattle.std.proofs.Common.{◌≡◌, arith, w32, to_z, of_z}
-use Rattle.std.specs.Prelude.{pos, ◌+ℤ◌}
-use Rattle.std.proofs.lemmas.Int.{ints}
-use Rattle.kalah_solve.proofs.BoundsLemmas.{IsHalf, shares_ordered, shares_high, shares_apart}
+use Rattle.std.proofs.Common.{arith, pos, ◌+ℤ◌, w32, SFits}
+use Rattle.std.proofs.lemmas.Int.{ints, to_z-of_z}
+use Rattle.kalah_solve.specs.Bounds.Intervals.{IsHalf}
+use Rattle.kalah_solve.proofs.BoundsLemmas.{shares_ordered, shares_high, shares_apart}
 use Rattle.kalah_solve.proofs.bounds.seed_bounds.SeedBounds.of_window.Goals as goal
-use Rattle.kalah_solve.proofs.bounds.seed_bounds.SeedBounds.of_window.Goals.{After-half-2}
 
-module _ (c : After-half-2) where
-  low_half : IsHalf (c.args.window.lo +ℤ pos c.args.seeds) c.half.result
-  low_half =
-      let sum : to_z w32 (of_z w32 (to_z w32 (of_z w32 c.args.window.lo) +ℤ to_z w32 c.args.seeds)) ≡ c.args.window.lo +ℤ pos
-      c.args.seeds =
-      omega (arith, ints) in
-      record { low = rw sum at c.half.ensures.low; high = rw sum at c.half.ensures.high }
+module _ (c : goal.After-share_of-2) where
+  low_half : IsHalf (c.args.window.lo +ℤ pos c.args.seeds) c.share_of.result
+  low_half = let fits : SFits w32 c.args.window.lo = omega (arith, ints) in simp to_z-of_z at c.share_of.ensures
 
-  high_half : IsHalf (c.args.window.hi +ℤ pos c.args.seeds +ℤ pos 1) c.half-2.result
+  high_half : IsHalf (c.args.window.hi +ℤ pos 1 +ℤ pos c.args.seeds) c.share_of-2.result
   high_half =
-      let sum : to_z w32 (of_z w32 (to_z w32 (of_z w32 (to_z w32 (of_z w32 c.args.window.hi) +ℤ to_z w32 c.args.seeds)) +ℤ pos 1))
-      ≡ c.args.window.hi +ℤ pos c.args.seeds +ℤ pos 1 =
-      omega (arith, ints) in
-      record { low = rw sum at c.half-2.ensures.low; high = rw sum at c.half-2.ensures.high }
+      let fits : SFits w32 c.args.window.hi = omega (arith, ints) in
+      let more_fits : SFits w32 (c.args.window.hi +ℤ pos 1) = omega (arith, ints) in
+      simp to_z-of_z at c.share_of-2.ensures
 
 pub returns-clause-ordered : goal.returns-clause-ordered
-returns-clause-ordered c = shares_ordered c.args.window c.args.seeds c.half.result c.half-2.result (low_half c.before) (high_half c.before)
+returns-clause-ordered c = shares_ordered c.args.window c.args.seeds _ _ (low_half c.before) (high_half c.before)
 
 pub invariant_of-result : goal.invariant_of-result
-invariant_of-result c = record {
-  few = shares_high c.args.window c.args.seeds c.half.result c.half-2.result (low_half c) (high_half c) c.requires;
-}
+invariant_of-result c = record { few = shares_high c.args.window c.args.seeds _ _ (low_half c) (high_half c) c.requires }
 
 pub returns-clause-apart : goal.returns-clause-apart
-returns-clause-apart c = shares_apart c.args.window c.args.seeds c.half.result c.half-2.result (low_half c.before) (high_half c.before)
+returns-clause-apart c = shares_apart c.args.window c.args.seeds _ _ (low_half c.before) (high_half c.before)

@@ -1,5 +1,4 @@
-use Rattle.std.proofs.Common.{arith, ◌∙◌, ◌≡◌, length}
-use Rattle.std.proofs.Math.ListN.{length-set}
+use Rattle.std.proofs.Common.{arith, ◌∙◌, ◌≡◌, length, length-set}
 use Rattle.kalah_solve.specs.Table.DirectTable.{IsWithinPlace}
 use Rattle.kalah_solve.specs.Bounds.Won.{won}
 use Rattle.kalah_solve.proofs.TableLemmas.{shares_more}

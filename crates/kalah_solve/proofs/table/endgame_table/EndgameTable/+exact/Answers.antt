@@ -1,5 +1,4 @@
 use Rattle.std.proofs.Common.{arith, rules, ◌-◌, ◌^◌, sym, ◌∙◌}
-use Rattle.kalah_rules.specs.declared.step.HousesStep.TheVariants.{Again, Turn}
 use Rattle.kalah_solve.proofs.BoundsLemmas.{taken_share}
 use Rattle.kalah_solve.proofs.WorthLemmas.{leads_by}
 use Rattle.kalah_solve.proofs.SearchLemmas.{marks_fall, marked_legal, moves_fewer, last_legal}

@@ -1,5 +1,4 @@
-use Rattle.std.proofs.Common.{arith, ◌++◌, ◌+◌, ◌-◌, ◌<◌, ◌≤◌, ◌*◌, ◌%◌, ◌/◌, ◌≡◌, ℕ, length, length-append}
-use Rattle.std.specs.Prelude.{sum}
+use Rattle.std.proofs.Common.{arith, ◌++◌, ◌+◌, ◌-◌, ◌<◌, ◌≤◌, ◌*◌, ◌%◌, ◌/◌, ◌≡◌, ℕ, length, length-append, sum}
 use Rattle.std.proofs.lemmas.List.Sums.{sum_by-append}
 use Rattle.kalah_rules.specs.Position.{Rows, IsWithinHouses, bare, seeds_in_houses}
 use Rattle.kalah_solve.specs.Table.RowRank.{choose}

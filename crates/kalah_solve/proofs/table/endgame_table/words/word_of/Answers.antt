@@ -1,5 +1,4 @@
-use Rattle.std.proofs.Common.{arith, ap, sym, ◌∙◌}
-use Rattle.std.specs.Prelude.{slice_index}
+use Rattle.std.proofs.Common.{arith, ap, sym, ◌∙◌, slice_index}
 use Rattle.kalah_rules.specs.Key.{rule_bit}
 use Rattle.kalah_solve.specs.declared.table.endgame_table.words.TheConstants.{FIRST_WORDS}
 use Rattle.kalah_solve.proofs.TableLemmas.{word_inside}

@@ -1,0 +1,258 @@
+-- What arguments are accepted, and the request that they make.
+use Rattle.std.proofs.Common.{◌≡◌, ◌⊎◌, ◌≤◌, ℕ, true, refl, ap, subst, inl, inr, List, Some, is_some, codes, arith, ◌∙◌, ◌<◌, ◌^◌, Bool, false, Option, None, map, sym, [], ◌∷◌, Result, Ok, Err, ◌≢◌, ◌==◌, ◌++◌, cond}
+use Rattle.std.specs.List.{AllByRecursion as AllOf}
+use Rattle.std.specs.Prelude.{option_map, unwrap_or, IfErr, IsErrAnd, MatchResult, option_and_then}
+use Rattle.clap.specs.Facts.{parser_of_value}
+use Rattle.clap.specs.Words.{Accepts, Row, Rule, Text, reading_of, IsUnsignedIn, ReadsOne, all_of, matched_of, one_of, one_text, raw_values, rows_of, App, HasKind, fault_of, is_simple, is_simple_and_free, kind_of, subcommand_of, FailsBy, Kinds}
+use Rattle.clap.specs.Simple.{Shape, built, filled, with_index}
+use Rattle.clap.specs.declared.builder.value_parser.ValueParser.TheVariants.{Unsigned}
+use Rattle.clap.proofs.OnLiterals.{clap_on_literals}
+use Rattle.kalah_jobs.specs.declared.files.question.Question.{Question}
+use Rattle.kalah_jobs.specs.declared.files.question.Question.TheVariants.{BestMove, Steps, Values}
+use Rattle.kalah_cli.specs.Command.{file_rule, kalah_app, table_rule, workers_rule}
+use Rattle.kalah_cli.specs.Request.{AreMatches, HasNumber, MayHaveNumber, command_of, number_written, is_set, number_given, Asked, IsPlainWord, IsTakenAs, moves, asked, asked_by}
+use Rattle.kalah_cli.proofs.ClapLemmas.{Given, HasOf, IsUsableIn, accepted_in, arg_in, given_in, is_wanted, taken_has, cases_Option}
+use Rattle.std.specs.Str.{bytes_eq}
+use Rattle.std.proofs.lemmas.Bool.{false_from_ne_true, ne_eqb}
+use Rattle.std.proofs.lemmas.Slice.Eq.{bytes_eq-Decides}
+use Rattle.std.specs.Str.Parse.{ExplainsUnsignedError, HasUnsignedDigitsIfOk, ParsesBool, ParsesUnsigned, digits_value, without_leading_plus}
+use Rattle.std.specs.Borrow.{Bor}
+use Rattle.clap.specs.declared.parser.matches.Found.{Found}
+use Rattle.clap.proofs.WalkLemmas.{one_text-rows, raw_values-rows}
+use Rattle.clap.specs.declared.error.Error.{Error}
+use Rattle.clap.specs.declared.error.kind.ErrorKind.TheVariants.{OutOfMemory}
+use Rattle.kalah_rules.specs.Position.{Position}
+use Rattle.kalah_jobs.specs.Line.Line.{AreHouses, IsNumber, IsSide, Reads, without_cr}
+
+-- ---- what the matches of each subcommand have of its arguments
+
+-- the subcommands, as they are built
+abbrev subs : List Shape
+subs = (built kalah_app).subs
+
+-- each of them is found by its name, and each of its arguments by its id
+pub usable : AllOf (IsUsableIn subs) subs
+unfolding clap_on_literals
+usable = assumption
+
+-- so the matches of a subcommand have what its arguments promise
+has_of : (name : Text) (rows : List Row) → AreMatches name rows → HasOf subs name rows
+has_of name rows m =
+    let met = taken_has kalah_app m.0 usable refl m.1 in
+    let same : (met.0, met.1) ≡ (name, rows) = (let other = m.2 in let one = met.2 in cc) in
+    subst (λ (p : Text × List Row). HasOf subs p.0 p.1) same met.3
+
+-- the argument of the id, of the subcommand of the name
+abbrev pub Takes : Text → Text → Rule → Type 0
+Takes name id a = arg_in subs name id ≡ Some a
+
+-- a number is in the range of its argument
+pub may_have_number : {name : Text} {rows : List Row} (id : Text) {a : Rule} {low high : ℕ} (least most : ℕ) → AreMatches name rows
+    → Takes name id a
+    → a.parser ≡ Some (Unsigned low high) → least ≤ low → high ≤ most → MayHaveNumber id least most rows
+may_have_number {name} {rows} id {a} least most m takes parser lower higher t e =
+    let written = ap (λ p. reading_of (parser_of_value p)) parser in
+    let range = subst (λ p. Accepts a.ignore_case (parser_of_value p) t) parser
+    (accepted_in rows id a (has_of name rows m id a takes) written t e) in
+    (range.0, range.1, omega (arith, range.2, lower), omega (arith, range.3, higher))
+
+-- an argument that is required or has a default has a value
+pub given : {name : Text} {rows : List Row} (id : Text) {a : Rule} → AreMatches name rows → Takes name id a → is_wanted a ≡ true
+    → Given rows id a
+given {name} {rows} id {a} m takes wanted = given_in rows id a (has_of name rows m id a takes) wanted
+
+-- so a number is there, in its range
+pub has_number : {name : Text} {rows : List Row} (id : Text) {a : Rule} {low high : ℕ} (least most : ℕ) → AreMatches name rows
+    → Takes name id a
+    → a.parser ≡ Some (Unsigned low high) → least ≤ low → high ≤ most → is_wanted a ≡ true → HasNumber id least most rows
+has_number id least most m takes parser lower higher wanted = (
+  may_have_number id least most m takes parser lower higher,
+  ap (λ o. is_some (option_map number_written o)) ((given id m takes wanted).one (ap (λ p. reading_of (parser_of_value p)) parser)),
+)
+
+-- an argument of a subcommand with files, as it is built
+abbrev pub built_rule : Rule → Rule
+built_rule a = with_index 1 (filled a)
+
+-- the arguments of the subcommands with files
+pub takes_files : (question : Question) → Takes (command_of question) (codes "workers") (built_rule workers_rule)
+    × Takes (command_of question) (codes "file") (built_rule file_rule)
+takes_files BestMove = (refl, refl)
+takes_files question = (refl, refl)
+
+-- and of those that search
+pub takes_table : (question : Question) → (question ≡ BestMove) ⊎ (question ≡ Values)
+    → Takes (command_of question) (codes "table") (built_rule table_rule)
+takes_table BestMove searches = refl
+takes_table Values searches = refl
+takes_table Steps searches = elim searches [ inl best ↦ cc | inr values ↦ cc ]
+
+-- ---- what the getters of matches return, by the rows of the matches
+
+-- an option that maps to a value has one
+pub is_there : {A B : Type 0} (f : A → B) (o : Option A) → is_some (option_map f o) ≡ true → is_some o ≡ true
+is_there f None e = cc
+is_there f (Some x) e = refl
+
+-- what was copied from the getter of values are all values under the name
+pub values_are : (f : Found) (id : Text) (o : Option (Bor (List (Bor Text)))) (s : Bor (List (Bor Text))) (copied : List (Bor Text))
+    → option_map (λ s. map (λ v. v.now) s.now) o ≡ option_map raw_values (matched_of f id) → o ≡ Some s → copied ≡ s.now
+    → all_of id (rows_of f) ≡ Some (map (λ v. v.now) copied)
+values_are f id o s copied read is same =
+    sym (raw_values-rows f id) ∙ sym read ∙ ap (option_map (λ s. map (λ v. v.now) s.now)) is
+    ∙ ap (λ vs. Some (map (λ v. v.now) vs)) (sym same)
+
+-- the getter of a type of numbers of this width returns the number under the name
+pub number_read : (width low high : ℕ) (f : Found) (id : Text) (r : Option ℕ)
+    → (one_text f id ≡ None → r ≡ None)
+    → ((t : Text) → one_text f id ≡ Some t
+    → ReadsOne (λ t x. ParsesUnsigned width 10 t x × ExplainsUnsignedError 10 t x × HasUnsignedDigitsIfOk t x) t r)
+    → high < 2 ^ width → MayHaveNumber id low high (rows_of f) → r ≡ number_given id (rows_of f)
+number_read width low high f id r absent value fits may = elim (cases_Option (one_of id (rows_of f))) [
+  | inl none ↦ rw none (absent (one_text-rows f id ∙ none))
+  | inr some ↦ rw some.1 (go r some.0 (may some.0 some.1) (value some.0 (one_text-rows f id ∙ some.1)))
+]
+  where
+    go : (r : Option ℕ) (t : Text) → IsUnsignedIn low high t
+        → ReadsOne (λ t x. ParsesUnsigned width 10 t x × ExplainsUnsignedError 10 t x × HasUnsignedDigitsIfOk t x) t r
+        → r ≡ Some (number_written t)
+    go (Some n) t range read = ap (λ n. Some n) read.0.1
+    go None t range read = absurd (read.1.0 (range.0, omega (arith, range.3, fits)))
+
+-- the number is in the range of those that may be there
+pub number_in_range : (id : Text) (low high : ℕ) (rows : List Row) (n : ℕ) → MayHaveNumber id low high rows
+    → number_given id rows ≡ Some n
+    → (low ≤ n) × (n ≤ high)
+number_in_range id low high rows n may is = elim (cases_Option (one_of id rows)) [
+  | inl none ↦ absurd (let bad : None ≡ Some n = rw none at is in cc)
+  | inr some ↦
+      let same : n ≡ digits_value 10 (without_leading_plus some.0) = (let read = rw some.1 at is in cc) in
+      let range = may some.0 some.1 in
+      (rw same range.2, rw same range.3)
+]
+
+-- the getter of a flag returns whether it is set
+pub flag_read : (E : Type 0) (f : Found) (id : Text) (r : Option Bool) → (one_text f id ≡ None → r ≡ None)
+    → ((t : Text) → one_text f id ≡ Some t → ReadsOne {E = E} ParsesBool t r) → unwrap_or r false ≡ is_set id (rows_of f)
+flag_read E f id r absent value = elim (cases_Option (one_of id (rows_of f))) [
+  | inl none ↦ rw (none, absent (one_text-rows f id ∙ none)) refl
+  | inr some ↦ rw some.1 (go r some.0 (value some.0 (one_text-rows f id ∙ some.1)))
+]
+  where
+    go : (r : Option Bool) (t : Text) → ReadsOne {E = E} ParsesBool t r → unwrap_or r false ≡ bytes_eq t (codes "true")
+    go (Some true) t read = sym ((bytes_eq-Decides t (codes "true")).1 read)
+    go (Some false) t read = rw read refl
+    go None t read = sym (false_from_ne_true _ (λ is. read.1.0 ((bytes_eq-Decides t (codes "true")).0 is)))
+
+-- ---- how the command line reads arguments, as laws over the definitions
+
+-- equal arguments ask for the same
+pub taken_at : {words given : List Text} {a : Asked} → words ≡ given → IsTakenAs given a → IsTakenAs words a
+taken_at {a = a} same taken = subst (λ ws. IsTakenAs ws a) (sym same) taken
+
+-- arguments are accepted as one request
+pub taken_once : (words : List Text) (a b : Asked) → IsTakenAs words a → IsTakenAs words b → a ≡ b
+taken_once words a b p q =
+    let x = p.1 in
+    let y = q.1 in
+    cc
+
+-- `moves` and a plain argument are accepted as the moves of that line, with no boards
+pub moves_taken : (name line : Text) → IsPlainWord line → IsTakenAs (name ∷ codes "moves" ∷ line ∷ []) (moves false line)
+unfolding clap_on_literals
+moves_taken name [] plain = absurd plain
+moves_taken name (x ∷ xs) plain = let no_flag = ne_eqb _ _ plain in (simp no_flag refl, simp no_flag refl)
+
+-- ---- what a parse of the program's arguments makes of them
+
+-- the parse of the program is exact, in both outcomes
+app_is_simple : is_simple_and_free kalah_app ≡ true
+unfolding clap_on_literals
+app_is_simple = refl
+
+kalah_is_simple : is_simple kalah_app ≡ true
+unfolding clap_on_literals
+kalah_is_simple = refl
+
+-- what is known of a parse that succeeds: the arguments have no fault, the matches are theirs, and they have a subcommand
+pub record IsParsed (words : List Text) (o : Option (Text × List Row)) : Type 0 where
+  pub none : fault_of kalah_app words ≡ []
+  pub same : o ≡ subcommand_of kalah_app words
+  pub taken : (name : Text) × (rows : List Row) × (o ≡ Some (name, rows)) × AreMatches name rows
+
+pub parsed : (a : App) (words : List Text) (o : Option (Text × List Row)) → a ≡ kalah_app →
+    (is_simple_and_free a ≡ true → fault_of a words ≡ [])
+    → (is_simple a ≡ true → o ≡ subcommand_of a words) → IsParsed words o
+parsed a words o is none rows =
+    let none : fault_of kalah_app words ≡ [] = subst (λ b. fault_of b words ≡ []) is
+    (none (ap is_simple_and_free is ∙ app_is_simple)) in
+    let same : o ≡ subcommand_of kalah_app words = rows (ap is_simple is ∙ kalah_is_simple) ∙ ap (λ b. subcommand_of b words) is in
+    let met = taken_has kalah_app words usable refl none in
+    record { none = none; same = same; taken = (met.0, met.1, same ∙ met.2, (words, none, met.2)) }
+
+-- and what its matches ask for is what the arguments ask for
+pub asked_is : (words : List Text) (o : Option (Text × List Row)) (a : Asked) → o ≡ subcommand_of kalah_app words
+    → option_and_then asked_by o ≡ Some a
+    → asked words ≡ Some a
+asked_is words o a same is = ap (option_and_then asked_by) (sym same) ∙ is
+
+-- if it fails, the error has a kind of the arguments' fault
+pub faulty : (a : App) (words : List Text) (e : Error) → a ≡ kalah_app →
+    (is_simple_and_free a ≡ true → HasKind (fault_of a words) e)
+    → HasKind (fault_of kalah_app words) e
+faulty a words e is has = subst (λ b. HasKind (fault_of b words) e) is (has (ap is_simple_and_free is ∙ app_is_simple))
+
+-- without a fault it is out of memory
+pub fails_by_memory : {T : Type 0} {kinds : Kinds} (r : Result T Error) → kinds ≡ [] → IfErr r (λ e. kind_of e ≡ OutOfMemory)
+    → FailsBy kinds r
+fails_by_memory (Ok x) none memory = none
+fails_by_memory (Err e) none memory = inl memory
+
+-- what holds of each error that a call may return holds of its result
+pub on_error : {T E : Type 0} (r : Result T E) (P : T → Type 0) (S Q : E → Type 0) → IsErrAnd r S → ((e : E) → S e → Q e)
+    → MatchResult r P Q
+on_error (Ok x) P S Q is all = absurd is
+on_error (Err e) P S Q is all = all e is
+
+-- ---- a line that is read begins with a digit, so it is no flag
+
+-- a number begins with a digit
+plain_number : (text : List ℕ) (n : ℕ) → IsNumber text n → IsPlainWord text
+plain_number [] n h = h
+plain_number (ones ∷ []) n h = λ e. absurd (omega arith)
+plain_number (tens ∷ ones ∷ []) n h = λ e. absurd (omega arith)
+plain_number (a ∷ b ∷ c ∷ rest) n h = absurd h
+
+-- what begins with a plain argument is a plain argument
+plain_front : (text front rest : List ℕ) → text ≡ front ++ rest → IsPlainWord front → IsPlainWord text
+plain_front text front rest is h = subst IsPlainWord (sym is) (go front h)
+  where
+    go : (xs : List ℕ) → IsPlainWord xs → IsPlainWord (xs ++ rest)
+    go [] bad = absurd bad
+    go (x ∷ xs) good = good
+
+-- houses begin with a number
+plain_houses : (text : List ℕ) (houses : List ℕ) → AreHouses text houses → IsPlainWord text
+plain_houses text [] h = absurd h
+plain_houses text (house ∷ []) h = plain_number text house h
+plain_houses text (house ∷ other ∷ houses) h = plain_front _ _ _ h.1.1.0 (plain_number h.0 house h.1.1.1)
+
+-- a side begins with its houses
+plain_side : (text houses : List ℕ) (store : ℕ) → IsSide text houses store → IsPlainWord text
+plain_side text houses store s = plain_front _ _ _ s.parts (plain_houses s.houses_text houses s.houses_written)
+
+-- dropping the CR at the end keeps the first byte
+plain_with_cr : (line : List ℕ) → IsPlainWord (without_cr line) → IsPlainWord line
+plain_with_cr [] h = h
+plain_with_cr (byte ∷ []) h = go (byte == 13) h
+  where
+    go : (b : Bool) → IsPlainWord (cond b [] (byte ∷ [])) → byte ≢ 45
+    go true bad = absurd bad
+    go false good = good
+plain_with_cr (byte ∷ more ∷ rest) h = h
+
+-- a line that is read begins with the mover's side
+pub read_is_plain : (line : List ℕ) (p : Position) → Reads line p → IsPlainWord line
+read_is_plain line p reads =
+    let own = plain_side reads.form.own_text p.own p.own_store reads.form.own_side in
+    plain_with_cr line (plain_front _ _ _ reads.form.parts (plain_front _ reads.form.own_text _ refl own))

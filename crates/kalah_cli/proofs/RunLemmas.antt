@@ -1,0 +1,309 @@
+-- What the program has done for a request.
+use Rattle.std.proofs.Common.{◌≡◌, ◌≢◌, ◌∙◌, ℕ, List, Bool, true, false, Option, refl, sym, subst, [], ◌∷◌, ap, map, inl, ◌≤◌, ◌-◌, ◌^◌, arith, flat_map, suc, zero, inr}
+use Rattle.std.specs.Prelude.{◌↔◌, IfOk, IsErr, IsErrOf, Result, Ok, Err, None, Some, ◌==◌, if◌then◌else◌, sum_by}
+use Rattle.std.proofs.lemmas.Bool.{false_from_ne_true}
+use Rattle.kalah_rules.specs.Position.{Position}
+use Rattle.kalah_jobs.specs.Line.Line.{Reads}
+use Rattle.kalah_jobs.specs.Writing.Given.{WasGiven}
+use Rattle.kalah_jobs.proofs.LineLemmas.{reads_once}
+use Rattle.kalah_jobs.proofs.WritingLemmas.{given_flushed, start_none}
+use Rattle.kalah_cli.specs.Ends.{AnswersLine, Ends, FailsQuietly, IsPrinted, IsUnread, Prints, ended_by}
+use Rattle.kalah_cli.specs.declared.failure.Failure.{Failure}
+use Rattle.kalah_cli.specs.Line.{MayPrint, output_of}
+use Rattle.kalah_cli.specs.declared.request.LineCommand.{LineCommand}
+use Rattle.kalah_cli.specs.declared.request.LineCommand.TheVariants.{Moves, Play, Show, Count}
+use Rattle.kalah_jobs.specs.declared.asking.ask_fault.AskFault.{AskFault}
+use Rattle.kalah_jobs.specs.declared.asking.ask_fault.AskFault.TheVariants.{Read, Write}
+use Rattle.kalah_cli.specs.declared.status.ExitStatus.{ExitStatus}
+use Rattle.kalah_cli.specs.declared.status.ExitStatus.TheVariants.{Failed, LineFaults, Clean}
+use Rattle.std.specs.Borrow.{Bor}
+use Rattle.std.specs.List.{list_any}
+use Rattle.clap.proofs.WalkLemmas.{list_any-map}
+use Rattle.kalah_jobs.specs.Files.NamedBytes.{NamedBytes}
+use Rattle.kalah_jobs.specs.declared.files.question.Question.{Question}
+use Rattle.kalah_cli.specs.SolveFiles.{AnswersFiles, has_line_feed}
+use Rattle.std.specs.Io.Buffered.{reader_buffer, reader_capacity, reader_inner, reader_remaining}
+use Rattle.std.specs.Io.KnownBytes.{prepend_known}
+use Rattle.std.specs.declared.io.buffered.BufReader.{BufReader}
+use Rattle.std.proofs.KnownBytes.{Keeps-refl}
+use Rattle.kalah_jobs.specs.Asking.Asked.{IsAnswered, IsBegun, IsCutOff}
+use Rattle.kalah_jobs.proofs.AskingLemmas.{begun_so_far, cut_off, nothing_read}
+use Rattle.kalah_cli.specs.Ask.{AnswersInput, StopsBetweenLines}
+use Rattle.std.proofs.Math.Nat.{le_trans, pow-le-pow_right}
+use Rattle.kalah_rules.specs.Limits.{most_depth, most_houses}
+use Rattle.kalah_rules.specs.Play.{legal_houses}
+use Rattle.kalah_rules.specs.Ways.{ways, ways_by}
+use Rattle.kalah_jobs.specs.Writing.Counts.{ways_line}
+use Rattle.kalah_cli.specs.Count.{ways_lines}
+use Rattle.clap.specs.Words.{HasKind, IsAmong, Text, fault_of, kind_of}
+use Rattle.clap.specs.declared.error.Error.{Error}
+use Rattle.clap.specs.declared.error.kind.ErrorKind.{ErrorKind}
+use Rattle.clap.specs.declared.error.kind.ErrorKind.TheVariants.{OutOfMemory}
+use Rattle.kalah_cli.specs.Command.{kalah_app}
+use Rattle.kalah_cli.specs.Request.{Asked, asked_of, answers, ask, conflict, count, moves, play, show}
+use Rattle.kalah_cli.specs.Runs.{Does, DoesByItsWords, DoesWhatIsAsked, IsOfNoInput}
+use Rattle.kalah_cli.proofs.RequestLemmas.{moves_taken, taken_at, read_is_plain}
+
+-- ---- how runs end that answer a line
+
+-- equal lines read as the same position
+read_at : {bytes line : List ℕ} → bytes ≡ line → (p : Position) → Reads bytes p → Reads line p
+read_at same p reads = subst (λ l. Reads l p) same reads
+
+-- an error is a failure
+pub ended_err : (ended : Result ExitStatus Failure) → IsErr ended → ended_by ended ≡ Failed
+ended_err (Ok status) bad = cc
+ended_err (Err failure) is = refl
+
+-- the text was given, and then flushed
+pub printed_flushed : {O : Type 0} (written : O → Option (List ℕ)) (has_failed is_handed_on : O → Bool) (old between new : O)
+    (text : List ℕ) → WasGiven written has_failed old between text → WasGiven written has_failed between new []
+    → (has_failed new ≡ false → is_handed_on new ≡ true) → IsPrinted written has_failed is_handed_on old new text
+printed_flushed written has_failed is_handed_on old between new text given flushed handed_on =
+    record { given = given_flushed written has_failed old between new text given flushed; handed_on = handed_on }
+
+module _ {O : Type 0} (written : O → Option (List ℕ)) (has_failed is_handed_on : O → Bool) {status : ExitStatus} where
+  -- nothing was written
+  pub ends_unchanged : {out : O} → has_failed out ≡ false → Ends written has_failed is_handed_on out out status
+  ends_unchanged sound = record {
+    failed = λ failed. absurd (let both : true ≡ false = sym failed ∙ sound in cc);
+    unchanged = λ _ _. refl;
+    handed_on = λ _ was. was;
+  }
+
+  pub prints_nothing : {out : O} {text : List ℕ} → status ≡ Failed → Prints written has_failed is_handed_on out out status text
+  prints_nothing {out} {text} failed = record { start = start_none (written out) text; whole = λ went. absurd (went failed) }
+
+  -- it prints its text of the position of its line, and fails quietly if it may not be printed
+  line_done : {line : List ℕ} (command : LineCommand) {old new : O}
+      → AnswersLine written has_failed is_handed_on old new status line (output_of command)
+      → ((p : Position) → Reads line p → (MayPrint command p → ⊥) → FailsQuietly old new status)
+      → Does written has_failed is_handed_on old new status (asked_of command line)
+  line_done (Moves boards) is quietly = is
+  line_done (Play table boards first) is quietly = (is, quietly)
+  line_done (Show table plain) is quietly = is
+  line_done (Count depth) is quietly = is
+
+  module _ (command : LineCommand) {line bytes : List ℕ} (same : bytes ≡ line) where
+    module _ (p : Position) (reads : Reads bytes p) where
+      -- the text of the position was printed
+      pub line_answered : {old new : O} → IsPrinted written has_failed is_handed_on old new (output_of command p) → MayPrint command p
+          → (has_failed new ≡ true) ↔ (status ≡ Failed) → status ≢ LineFaults
+          → Does written has_failed is_handed_on old new status (asked_of command line)
+      line_answered {old} {new} printed may fails no_fault =
+          let sound : status ≢ Failed → has_failed new ≡ false =
+          λ went. false_from_ne_true (has_failed new) (λ failed. went (fails.0 failed)) in
+          let prints : Prints written has_failed is_handed_on old new status (output_of command p) =
+          record { start = printed.given.start; whole = λ went. (printed.given.whole (sound went)).1 } in
+          let is : (q : Position) → Reads line q → p ≡ q = λ q other. reads_once line p q (read_at same p reads) other in
+          line_done command (record {
+            read = λ q other. (
+              no_fault,
+              subst (λ r. Prints written has_failed is_handed_on old new status (output_of command r)) (is q other) prints,
+            );
+            unread = λ none. absurd (none p (read_at same p reads));
+            ends = record {
+              failed = fails.0;
+              unchanged = λ failed still. absurd (let both : true ≡ false = sym (fails.1 failed) ∙ still in cc);
+              handed_on = λ went _. printed.handed_on (sound went);
+            };
+          }) (λ q other never. absurd (never (subst (MayPrint command) (is q other) may)))
+
+      -- the command failed before anything was written
+      pub line_refused : {old new : O} → status ≡ Failed → has_failed old ≡ false → new ≡ old
+          → Does written has_failed is_handed_on old new status (asked_of command line)
+      line_refused {old} failed sound still =
+          subst (λ new. Does written has_failed is_handed_on old new status (asked_of command line)) (sym still) (line_done command (record {
+            read = λ q other. (λ fault. let both : Failed ≡ LineFaults = sym failed ∙ fault in cc, prints_nothing failed);
+            unread = λ none. absurd (none p (read_at same p reads));
+            ends = ends_unchanged sound;
+          }) (λ _ _ _. (failed, refl)))
+
+    -- the line writes no position
+    pub line_unread : {out : O} → IsUnread bytes → status ≡ LineFaults → has_failed out ≡ false
+        → Does written has_failed is_handed_on out out status (asked_of command line)
+    line_unread none fault sound = line_done command (record {
+      read = λ p reads. absurd (none p (read_at (sym same) p reads));
+      unread = λ _. (fault, refl);
+      ends = ends_unchanged sound;
+    }) (λ p reads. absurd (none p (read_at (sym same) p reads)))
+
+-- ---- what is answered of files
+
+-- one of the names has a line feed exactly when one of their texts has
+pub texts_have_line_feed : (names : List (Bor (List ℕ)))
+    → list_any (λ name. has_line_feed name.now) names ≡ list_any has_line_feed (map (λ name. name.now) names)
+texts_have_line_feed names = list_any-map has_line_feed (λ name. name.now) names
+
+-- files of these names
+empty_files : List (List ℕ) → List NamedBytes
+empty_files names = map (λ name. let file : NamedBytes = record { name = name; bytes = [] } in file) names
+
+their_names : (names : List (List ℕ)) → map (λ (file : NamedBytes). file.name) (empty_files names) ≡ names
+unfolding empty_files
+their_names [] = refl
+their_names (name ∷ names) = ap (λ l. name ∷ l) (their_names names)
+
+-- the program failed before anything was written
+pub files_refused : {O : Type 0} (written : O → Option (List ℕ)) (has_failed is_handed_on : O → Bool) {status : ExitStatus} {out : O}
+    {question : Question} {names : List (List ℕ)} → status ≡ Failed → has_failed out ≡ false
+    → AnswersFiles written has_failed is_handed_on out out status question names
+files_refused written has_failed is_handed_on {names = names} failed sound = record {
+  files = empty_files names;
+  named = their_names names;
+  printed = prints_nothing written has_failed is_handed_on failed;
+  one_line = λ went. absurd (went failed);
+  clean = λ went. absurd (went failed);
+  ends = ends_unchanged written has_failed is_handed_on sound;
+}
+
+-- ---- what `ask` has answered
+
+-- a reader that reads ahead has at first all that the other has
+pub all_unread : {T A : Type 0} (remaining : T → Option (List ℕ)) (r : BufReader T A) (inner : T) → reader_inner r ≡ inner
+    → reader_buffer r ≡ []
+    → reader_capacity r ≡ 8192 → remaining inner ≡ reader_remaining remaining r
+all_unread {T} {A} remaining r inner is empty capacity =
+    sym (ap (λ n. if n == 0 then None else prepend_known (reader_buffer r) (remaining r.inner)) capacity
+    ∙ ap (λ l. prepend_known l (remaining r.inner)) empty
+    ∙ none_before (remaining r.inner)
+    ∙ ap remaining is)
+  where
+    none_before : (known : Option (List ℕ)) → prepend_known [] known ≡ known
+    none_before None = refl
+    none_before (Some xs) = refl
+
+-- nothing was read
+pub stops_at_once : (question : Question) (old : Option (List ℕ)) → StopsBetweenLines question old old
+stops_at_once question old = (None, None, cut_off (nothing_read question None old [] refl) tt (Keeps-refl old))
+
+module _ {O : Type 0} (written : O → Option (List ℕ)) (has_failed is_handed_on : O → Bool) {status : ExitStatus} {question : Question}
+    {unread : Option (List ℕ)} where
+  pub input_refused : {out : O} → status ≡ Failed → has_failed out ≡ false
+      → AnswersInput written has_failed is_handed_on out out status question unread
+  input_refused {out} failed sound =
+      let none = nothing_read question unread (written out) [] refl in
+      record {
+        left = unread;
+        all_read = true;
+        asked = λ went. absurd (went failed);
+        begins = begun_so_far none (Keeps-refl unread) (Keeps-refl (written out));
+        failed = λ has. absurd (let both : true ≡ false = sym has ∙ sound in cc);
+        stopped = λ _ _. cut_off none (Keeps-refl unread) (Keeps-refl (written out));
+        handed_on = λ _ was. was;
+      }
+
+  -- all was read, or a read or a write failed
+  pub input_answered : {left : Option (List ℕ)} {old new : O} (answered : Result Bool AskFault)
+      → IfOk answered (λ all_read. IsAnswered question unread left (written old) (written new) all_read)
+      → (IsErrOf answered Read → IsCutOff question unread left (written old) (written new))
+      → IsBegun question unread left (written old) (written new) → (has_failed new ≡ true) ↔ IsErrOf answered Write
+      → (has_failed new ≡ false → is_handed_on new ≡ true) → IfOk answered (λ all_read. (status ≡ Clean) ↔ (all_read ≡ true))
+      → IsErr answered ↔ (status ≡ Failed) → AnswersInput written has_failed is_handed_on old new status question unread
+  input_answered {left} (Ok all_read) is cut begins wrote handed_on clean failed = record {
+    left = left;
+    all_read = all_read;
+    asked = λ _. (is, clean);
+    begins = begins;
+    failed = λ has. absurd (let bad = wrote.0 has in cc);
+    stopped = λ fails _. absurd (let bad = failed.1 fails in cc);
+    handed_on = λ sound _. handed_on sound;
+  }
+  input_answered {left} (Err fault) is cut begins wrote handed_on clean failed = record {
+    left = left;
+    all_read = true;
+    asked = λ went. absurd (went (failed.0 refl));
+    begins = begins;
+    failed = λ _. failed.0 refl;
+    stopped = λ _ sound. by fault (λ e. cut (ap (λ f. Err f) e))
+        (λ e. let both : true ≡ false = sym (wrote.1 (ap (λ f. Err f) e)) ∙ sound in cc);
+    handed_on = λ sound _. handed_on sound;
+  } where
+    by : {P : Type 0} (f : AskFault) → (f ≡ Read → P) → (f ≡ Write → ⊥) → P
+    by Read read write = read refl
+    by Write read write = absurd (write refl)
+
+-- ---- the lines of `count`, and the sum below them
+
+-- the line of a house, for ways of that many moves in all
+abbrev pub line_of : ℕ → Position → ℕ → List ℕ
+line_of depth p h = ways_line h (ways_by (depth - 1) p h)
+
+-- if there is a move, there is a line for each legal one
+pub lines_are : (depth : ℕ) (p : Position) → 1 ≤ depth → ways_lines depth p ≡ flat_map (line_of depth p) (legal_houses p)
+lines_are zero p low = absurd (omega arith)
+lines_are (suc n) p low =
+    let same : n ≡ suc n - 1 = omega arith in
+    ap (λ k. flat_map (λ h. ways_line h (ways_by k p h)) (legal_houses p)) same
+
+-- and all ways begin with one of them
+pub sum_is : (depth : ℕ) (p : Position) → 1 ≤ depth → ways depth p ≡ sum_by (ways_by (depth - 1) p) (legal_houses p)
+unfolding ways
+sum_is zero p low = absurd (omega arith)
+sum_is (suc n) p low =
+    let same : n ≡ suc n - 1 = omega arith in
+    ap (λ k. sum_by (ways_by k p) (legal_houses p)) same
+
+-- no house begins more ways than its line can have
+pub few_ways : (n depth : ℕ) → n ≤ most_houses ^ (depth - 1) → depth ≤ most_depth → n ≤ 6 ^ 19
+few_ways n depth few high = le_trans few (pow-le-pow_right {n = 6} (omega arith) {i = depth - 1} {j = 19} (omega (arith, high)))
+
+-- ---- what arguments are accepted as, and what is done for them
+
+module _ {O : Type 0} (written : O → Option (List ℕ)) (has_failed is_handed_on : O → Bool) {old new : O} {status : ExitStatus}
+    (sound : has_failed old ≡ false) where
+  -- a run that fails quietly ends as any
+  pub ends_quietly : FailsQuietly old new status → Ends written has_failed is_handed_on old new status
+  ends_quietly quiet = subst (λ o. Ends written has_failed is_handed_on old o status) (sym quiet.1)
+      (ends_unchanged written has_failed is_handed_on sound)
+
+  -- how a run ends that does what is asked, unless lines of the standard input are to be answered
+  pub run_ends : (a : Asked) → IsOfNoInput a → Does written has_failed is_handed_on old new status a
+      → Ends written has_failed is_handed_on old new status
+  run_ends (moves boards line) _ does = does.ends
+  run_ends (play first table boards line) _ does = does.0.ends
+  run_ends (answers question workers table progress names) _ does = does.ends
+  run_ends (ask question table) none does = absurd none
+  run_ends (show plain table line) _ does = does.ends
+  run_ends (count depth line) _ does = does.ends
+  run_ends conflict _ does = ends_quietly does
+
+  pub run_fails : (a : Asked) → Does written has_failed is_handed_on old new status a → has_failed new ≡ true → status ≡ Failed
+  run_fails (ask question table) does = does.1.failed
+  run_fails a does = (run_ends a tt does).failed
+
+  pub run_hands_on : (a : Asked) → Does written has_failed is_handed_on old new status a → status ≢ Failed → is_handed_on old ≡ true
+      → is_handed_on new ≡ true
+  run_hands_on (ask question table) does = λ went.
+      does.1.handed_on (false_from_ne_true (has_failed new) (λ failed. went (does.1.failed failed)))
+  run_hands_on a does = (run_ends a tt does).handed_on
+
+-- so what is promised of arguments that are accepted covers those of `moves`
+pub by_words : {O : Type 0} (written : O → Option (List ℕ)) (has_failed is_handed_on : O → Bool) (words : List Text) (old new : O)
+    (status : ExitStatus) → DoesWhatIsAsked written has_failed is_handed_on old new status words
+    → DoesByItsWords written words old new status
+by_words written has_failed is_handed_on words old new status accepted = record {
+  moves = λ name line is p reads.
+      elim (accepted (moves false line) (taken_at is (moves_taken name line (read_is_plain line p reads)))) [
+        | inl does ↦
+            let printed = does.read p reads in
+            (printed.0, λ clean. printed.1.whole (λ failed. let both : Failed ≡ Clean = sym failed ∙ clean in cc))
+        | inr quiet ↦ (
+          λ fault. let both : Failed ≡ LineFaults = sym quiet.0 ∙ fault in cc,
+          λ clean. absurd (let both : Failed ≡ Clean = sym quiet.0 ∙ clean in cc),
+        )
+      ];
+  unread = λ name line is plain none. elim (accepted (moves false line) (taken_at is (moves_taken name line plain))) [
+    | inl does ↦ (λ clean. let both : LineFaults ≡ Clean = sym (does.unread none).0 ∙ clean in cc, (does.unread none).1)
+    | inr quiet ↦ (λ clean. let both : Failed ≡ Clean = sym quiet.0 ∙ clean in cc, quiet.1)
+  ];
+}
+
+-- an error of arguments that ask for no help, or for no version, is no such request
+pub no_request : (k : ErrorKind) (words : List Text) (e : Error) → OutOfMemory ≢ k → HasKind (fault_of kalah_app words) e
+    → (IsAmong k (fault_of kalah_app words) → ⊥) → kind_of e ≢ k
+no_request k words e other has unasked = λ asked.
+    elim has [
+      | inl memory ↦ other (sym memory ∙ asked)
+      | inr among ↦ unasked (subst (λ x. IsAmong x (fault_of kalah_app words)) asked among)
+    ]

@@ -1,0 +1,71 @@
+//! `kalah moves LINE`, `kalah play LINE`, `kalah show LINE` and `kalah count DEPTH LINE`.
+ghost use Rattle.std.specs.Prelude.{◌≡◌, IsErr, MatchResult, OnOk, false};
+ghost use Rattle.kalah_cli.specs.Ends.{IsPrinted, ended_by};
+ghost use Rattle.kalah_cli.specs.Line.{MayPrint, SearchesNothing, output_of};
+ghost use Rattle.kalah_cli.specs.Request.{IsCommandInRange, asked_of};
+ghost use Rattle.kalah_cli.specs.Runs.{Does};
+
+use crate::count::write_count;
+use crate::failure::{Failure, report_fault, written};
+use crate::moves::write_moves;
+use crate::play::run_play;
+use crate::request::LineCommand;
+use crate::show::run_show;
+use crate::status::ExitStatus;
+use crate::tips::Messages;
+use kalah_jobs::{Sink, read_line};
+use kalah_rules::Board;
+use std::alloc::Global;
+use std::io::Write;
+
+// Prints what the command prints of a board. Fails as `run_play` and `run_show` do, and then writes nothing.
+fn print<O: Sink>(
+    alloc: Global,
+    command: &LineCommand,
+    board: &Board,
+    out: &mut O,
+) -> Result<(), Failure<'static>>
+    requires { IsCommandInRange command.now }
+    ensures printed { MatchResult result
+        (λ _. IsPrinted O.written O.has_failed O.is_handed_on out.old out.new (output_of command.now board.now)) (λ _. out.new ≡ out.old) }
+    ensures begins { OnOk result (MayPrint command.now board.now) }
+    // A command for which nothing is searched never fails.
+    ensures searchless { SearchesNothing command.now → IsErr result → ⊥ }
+{
+    match command {
+        LineCommand::Moves { boards } => write_moves(board, *boards, out),
+        LineCommand::Play {
+            table,
+            boards,
+            first,
+        } => return run_play(alloc, board, *table, *boards, *first, out),
+        LineCommand::Show { table, plain } => return run_show(alloc, board, *table, *plain, out),
+        LineCommand::Count { depth } => write_count(board, *depth, out),
+    }
+    Ok(())
+}
+
+/// Prints what the command prints of the position that the line writes. A line that can't be read is answered by its fault, on `err` only.
+///
+/// Returns `Clean`, or `LineFaults` for a line that can't be read. Fails for a house that may not be moved, or if memory was refused or a
+/// write failed.
+pub(crate) fn run_line<O: Sink, E: Write>(
+    alloc: Global,
+    line: &str,
+    command: &LineCommand,
+    out: &mut O,
+    err: &mut Messages<'_, E>,
+) -> Result<ExitStatus, Failure<'static>>
+    requires range { IsCommandInRange command.now }
+    requires sink { O.has_failed out.old ≡ false }
+    ensures { Does O.written O.has_failed O.is_handed_on out.old out.new (ended_by result) (asked_of command.now line.now) }
+{
+    let board = match read_line(line.as_bytes()) {
+        Ok(board) => board,
+        Err(fault) => return Ok(report_fault(fault, line, err)),
+    };
+    match print(alloc, command, &board, out) {
+        Ok(()) => written(out),
+        Err(failure) => Err(failure),
+    }
+}

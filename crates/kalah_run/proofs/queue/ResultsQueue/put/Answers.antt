@@ -1,5 +1,0 @@
-use Rattle.kalah_run.proofs.QueueLemmas.{puts}
-use Rattle.kalah_run.proofs.queue.ResultsQueue.put.Goals as goal
-
-pub try_push_as-requires-clause-rule : goal.try_push_as-requires-clause-rule
-try_push_as-requires-clause-rule g c = puts _ _ _ _ _ c.pass.invariant.1
