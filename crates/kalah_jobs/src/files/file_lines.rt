@@ -1,12 +1,32 @@
 //! The lines of a file.
-ghost use Rattle.std.specs.Prelude.{◌≡◌, ◌<◌, ◌≤◌, ◌==◌, ◌∷◌, length, count_by};
-ghost use Rattle.kalah_jobs.specs.Files.Lines.{line_feed, lines_of};
+ghost use Rattle.std.specs.Prelude.{◌≡◌, ◌+◌, ◌<◌, ◌≤◌, ◌==◌, ◌∷◌, length, take, get_or, count_by, IfSome, None};
+ghost use Rattle.kalah_jobs.specs.Files.Lines.{line_feed, lines_of, HasNoLineFeed};
 
 // The byte that ends a line.
 pub(crate) const LINE_FEED: u8 = b'\n';
 
 // The most bytes whose line feeds are counted in a byte.
 const BLOCK: usize = 255;
+
+// The bytes that are compared between two tests of the end.
+const STEP: usize = 8;
+
+// Returns the index of the first line feed of `bytes[from..from + count]`, if there is one.
+#[inline(always)]
+#[tactic(auto)]
+fn feed_among(bytes: &[u8], from: usize, count: usize) -> Option<usize>
+    requires before { HasNoLineFeed (take from bytes.now) }
+    requires range { from + count ≤ length bytes.now }
+    ensures found { IfSome result (λ feed. (feed < length bytes.now) × HasNoLineFeed (take feed bytes.now) × (get_or bytes.now feed 0 ≡ line_feed)) }
+    ensures none { result ≡ None → HasNoLineFeed (take (from + count) bytes.now) }
+{
+    for i in 0..count {
+        if bytes[from + i] == LINE_FEED {
+            return Some(from + i);
+        }
+    }
+    None
+}
 
 // Returns the first line of some bytes, and the bytes after it.
 #[inline(always)]
@@ -16,12 +36,17 @@ pub(crate) fn first_line(bytes: &[u8]) -> (&[u8], &[u8])
     ensures lines { lines_of bytes.now ≡ result.0.now ∷ lines_of result.1.now }
     ensures shorter { length result.1.now < length bytes.now }
 {
-    for (i, byte) in bytes.iter().enumerate() {
-        if *byte == LINE_FEED {
-            return (&bytes[..i], &bytes[i + 1..]);
+    let mut from = 0;
+    while bytes.len() - from >= STEP {
+        if let Some(feed) = feed_among(bytes, from, STEP) {
+            return (&bytes[..feed], &bytes[feed + 1..]);
         }
+        from += STEP;
     }
-    (bytes, &bytes[bytes.len()..])
+    match feed_among(bytes, from, bytes.len() - from) {
+        Some(feed) => (&bytes[..feed], &bytes[feed + 1..]),
+        None => (bytes, &bytes[bytes.len()..]),
+    }
 }
 
 // Returns the number of line feeds in a block of bytes. It counts in a byte, so that the processor compares many bytes at once.
