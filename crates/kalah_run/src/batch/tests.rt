@@ -89,7 +89,7 @@ impl Gate for Counting {
     }
 }
 
-// The batch writes these bytes and has this tally.
+// Returns the tally of the batch and what it writes, or nothing if it fails.
 fn answers<R: Threads + Wait + Sync, G: Gate>(
     rt: &R,
     alloc: Global,
@@ -97,21 +97,21 @@ fn answers<R: Threads + Wait + Sync, G: Gate>(
     workers: u32,
     table: u32,
     gate: &G,
-    text: &str,
-    faults: u32,
-) -> bool
+) -> Option<(Tally, Vec<u8>)>
     requires workers { (0 < workers) × (workers ≤ 64) }
     requires table { (0 < table) × (table ≤ 1048576) }
 {
     let mut out = Stream::new(Vec::<u8>::new(alloc));
-    let tally = solve_batch(rt, alloc, files, workers, table, gate, &mut out);
-    let written = out.into_inner();
-    let Ok(tally) = tally else {
-        return false;
-    };
-    tally.lines as usize == text.lines().count()
-        && tally.faults == faults
-        && written.as_slice() == text.as_bytes()
+    let tally = solve_batch(rt, alloc, files, workers, table, gate, &mut out).ok()?;
+    Some((tally, out.into_inner()))
+}
+
+// The answers are these bytes, with this tally.
+fn are(answers: Option<(Tally, Vec<u8>)>, text: &str, tally: Tally) -> bool {
+    match answers {
+        Some((of_batch, written)) => of_batch == tally && written.as_slice() == text.as_bytes(),
+        None => false,
+    }
 }
 
 // The batch of `lines` lines `1/0 1/0` writes their answers.
@@ -131,7 +131,8 @@ fn lines_are_answered<R: Abort + Threads + Wait + Sync, G: Gate>(
         let answer = answer.expect(rt, "no memory");
         text.push_str(answer.as_str()).expect(rt, "no memory");
     }
-    answers(rt, alloc, &files, workers, 16, gate, text.as_str(), 0)
+    let got = answers(rt, alloc, &files, workers, 16, gate);
+    are(got, text.as_str(), Tally { lines, faults: 0 })
 }
 
 #[test]
@@ -140,22 +141,12 @@ fn lines_are_answered_in_order_by_any_number_of_workers(rt: HostRuntime) {
     let files = four_files(alloc).expect(&rt, "no memory");
     for workers in [1, 2, 64] {
         for table in [1, 65_536] {
-            assert!(rt;
-                answers(
-                    &rt,
-                    alloc,
-                    files.as_slice(),
-                    workers,
-                    table,
-                    &OpenGate,
-                    ANSWERS,
-                    2
-                ),
-                "{workers} {table}"
-            );
+            let got = answers(&rt, alloc, files.as_slice(), workers, table, &OpenGate);
+            assert!(rt; are(got, ANSWERS, SEVEN_LINES), "{workers} {table}");
         }
     }
-    assert!(rt; answers(&rt, alloc, &[], 3, 1, &OpenGate, "", 0));
+    let got = answers(&rt, alloc, &[], 3, 1, &OpenGate);
+    assert!(rt; are(got, "", Tally { lines: 0, faults: 0 }));
 }
 
 // More lines than there are workers, and more than the queue has places.

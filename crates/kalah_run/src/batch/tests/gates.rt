@@ -1,6 +1,6 @@
 //! Batches in which workers wait for one another: jobs are solved in parallel, drawn by any free worker, and written
 //! while later ones are under way. The watch learns of an answer once it is written.
-use super::{ONE_AND_TWO, answers, file_of, lines_are_answered};
+use super::{ONE_AND_TWO, answers, are, file_of, lines_are_answered};
 use crate::{BatchRequest, Gate, Rest, Tally, Watch, answer_batch};
 use kalah_jobs::{FileText, Question, Stream};
 use std::alloc::Global;
@@ -85,7 +85,8 @@ fn a_later_job_is_done_while_an_earlier_one_waits(rt: HostRuntime) {
         done: Events::none(),
     };
     let files = two_lines(&rt, rt.alloc());
-    assert!(rt; answers(&rt, rt.alloc(), &files, 2, 16, &gate, TWO, 0));
+    let got = answers(&rt, rt.alloc(), &files, 2, 16, &gate);
+    assert!(rt; are(got, TWO, Tally { lines: 2, faults: 0 }));
     assert!(rt; gate.done.came());
 }
 
