@@ -6,14 +6,17 @@ use Rattle.kalah_run.specs.declared.limits.TheConstants.{MOST_PLACES, MOST_WORKE
 abbrev pub most_workers : ℕ
 most_workers = MOST_WORKERS
 
+-- a number of workers that a batch may have
 abbrev pub AreWorkers : ℕ → Type 0
 AreWorkers workers = (0 < workers) × (workers ≤ most_workers)
 
+-- a number of entries that a table may have
 abbrev pub IsTableSize : ℕ → Type 0
 IsTableSize entries = (0 < entries) × (entries ≤ most_entries)
 
 abbrev pub most_places : ℕ
 most_places = MOST_PLACES
 
+-- a number of places that a queue may have
 abbrev pub AreQueuePlaces : ℕ → Type 0
 AreQueuePlaces places = (0 < places) × (places ≤ most_places)

@@ -1,4 +1,4 @@
-//! The results queue: outcomes on their way from many workers to one collector.
+//! The results queue: outcomes on their way from many workers to one thread.
 ghost use Rattle.std.specs.Prelude.{◌≡◌, ◌≤◌, ◌<◌, ℕ, true, false, List, [], ◌∷◌, ◌++◌, length, All, IfNone, IfOk, MatchOption, vec_len};
 ghost use Rattle.crossbeam_queue.specs.Passes.{view, IsPassOf};
 ghost use Rattle.kalah_jobs.specs.declared.files.job.Job.{Job};
@@ -34,7 +34,7 @@ impl Rule for NeverEnds {
     ghost invariant = { λ word. word ≡ 0 };
 }
 
-/// A queue of fixed capacity that threads share: workers put outcomes, and one collector gets them. Contracts see it as its
+/// A queue of fixed capacity that threads share: workers put outcomes, and one thread gets them. Contracts see it as its
 /// identity and its capacity.
 #[derive(Drop)]
 pub struct ResultsQueue {
@@ -152,7 +152,7 @@ impl ResultsQueue {
         self.outcomes.try_pop_as::<Gets>(&mut pass.ruled)
     }
 
-    // Says that the workers have ended, so that the collector waits for no further outcome. The word is 1 from then on, and its rule has
+    // Says that the workers have ended, so that the thread that gets waits for no further outcome. The word is 1 from then on, and its rule has
     // what is known of them then.
     pub(crate) fn end<E: Rule>(&self, ended: &AtomicIn<E>)
         requires { E.invariant 1 }

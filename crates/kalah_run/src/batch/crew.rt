@@ -26,7 +26,8 @@ fn work<R: Wait, G: Gate>(rt: &R, shared: &SharedWork<'_, G>, worker: &mut Worke
     }
 }
 
-/// The rule of the word `ended`; it states nothing. Calls are generic over the rule, so they know of a 1 only what the workers' end ensures.
+/// The rule of the word `ended`. It states nothing: calls are proved for every rule, so what a 1 means comes only from `requires ends` of
+/// `Crew::run`.
 pub(crate) struct Ended;
 
 impl Rule for Ended {

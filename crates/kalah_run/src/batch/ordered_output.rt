@@ -50,6 +50,7 @@ impl<'a> OrderedOutput<'a> {
                 if !out.failed() {
                     let files = self.files;
                     let file = &files[f as usize];
+                    // If it fails, the output has failed, and gets nothing more.
                     let _ = write_answer(out, file.name.as_str(), &taken);
                 }
             } else if self.collector.ended(f) {

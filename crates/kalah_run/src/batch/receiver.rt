@@ -55,6 +55,7 @@ impl<'a, E: Rule> Receiver<'a, E> {
         requires ready { IsReady (W.has_failed out.now) (W.may_hold_back out.now) (W.is_handed_on out.now) }
         ensures { HasGot self.old.pass result self.new.pass }
     {
+        // Only the contract reads these.
         let _ = watch;
         let _ = out;
         shared.queue.get(rt, &mut self.pass)
@@ -73,6 +74,7 @@ impl<'a, E: Rule> Receiver<'a, E> {
         ensures got { MatchOption result (self.new.pass ≡ self.old.pass) (λ outcome. HasGot self.old.pass outcome self.new.pass) }
         ensures ended { IfNone result (E.invariant 1) }
     {
+        // Only the contract reads it.
         let _ = out;
         queue.get_to_end(rt, &mut self.pass, Some(self.ended))
     }

@@ -102,10 +102,11 @@ fn collect<R: Wait, G: Gate, V: Watch, W: Sink, E: Rule>(
             Some(outcome) => outcome,
             None => match flush_and_get(rt, shared, &mut receiver, watch, out) {
                 Some(outcome) => outcome,
-                None => return receiver.into_pass(),
+                None => break,
             },
         };
         let jobs = output.jobs;
+        // It is refused only if its job had an outcome, and each has one.
         let _ = output.collector.offer(jobs, outcome);
         output.write(out);
         watch.accepts();

@@ -146,7 +146,16 @@ fn lines_are_answered_in_order_by_any_number_of_workers(rt: HostRuntime) {
         }
     }
     let got = answers(&rt, alloc, &[], 3, 1, &OpenGate);
-    assert!(rt; are(got, "", Tally { lines: 0, faults: 0 }));
+    assert!(rt;
+        are(
+            got,
+            "",
+            Tally {
+                lines: 0,
+                faults: 0
+            }
+        )
+    );
 }
 
 // More lines than there are workers, and more than the queue has places.

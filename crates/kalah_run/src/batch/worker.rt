@@ -55,6 +55,7 @@ impl Worker {
         ensures answer { slice_get (job_list jobs.now) job ≡ Some result }
         ensures same { (self.new.pass ≡ self.old.pass) × (self.new.put ≡ self.old.put) }
     {
+        // Only the contract reads it.
         let _ = gate;
         Outcome::of_job(jobs, job, &mut self.solver)
     }

@@ -86,7 +86,16 @@ fn a_later_job_is_done_while_an_earlier_one_waits(rt: HostRuntime) {
     };
     let files = two_lines(&rt, rt.alloc());
     let got = answers(&rt, rt.alloc(), &files, 2, 16, &gate);
-    assert!(rt; are(got, TWO, Tally { lines: 2, faults: 0 }));
+    assert!(rt;
+        are(
+            got,
+            TWO,
+            Tally {
+                lines: 2,
+                faults: 0
+            }
+        )
+    );
     assert!(rt; gate.done.came());
 }
 

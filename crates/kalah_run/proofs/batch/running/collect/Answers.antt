@@ -9,7 +9,7 @@ use Rattle.kalah_run.specs.Batch.OrderedOutput.{HasWritten, Waits}
 use Rattle.kalah_run.proofs.BatchLemmas.{given_whole, new_written, progress_offered, still_written}
 use Rattle.kalah_run.proofs.batch.running.collect.Given as given
 use Rattle.kalah_run.proofs.batch.running.collect.Goals as goal
-use Rattle.kalah_run.proofs.batch.running.collect.Goals.{in-Some, in-None+in-Some-flush_and_get}
+use Rattle.kalah_run.proofs.batch.running.collect.Goals.{in-Some, in-None+in-Some-flush_and_get, else-loop-test, then-loop-test+in-None+in-None-flush_and_get}
 
 pub loop-init : goal.loop-init
 loop-init g c = record {
@@ -57,22 +57,28 @@ loop-preserved g c =
           }));
     }
 
-pub returns-in-None-flush_and_get-clause-collected : goal.returns-in-None-flush_and_get-clause-collected
-returns-in-None-flush_and_get-clause-collected g c =
-    let left = c.in-None-flush_and_get.ensures in
-    rw (c.into_pass.ensures ∙ left.got ∙ c.in-None.ensures.got) (record {
-      queue = c.loop.invariant.queue;
-      workers = c.loop.invariant.workers;
-      all_got = inr left.left;
-      given = given_whole _ c.args.output _ _ _ _ _ _ _ left.keeps left.sound c.loop.invariant.progress;
-    })
-
+-- the last outcome was got, or the rest is left
 pub returns-clause-collected : goal.returns-clause-collected
 returns-clause-collected g c =
     let flushed = c.flush_to_wait.ensures in
-    rw c.into_pass-2.ensures (record {
-      queue = c.loop.invariant.queue;
-      workers = c.loop.invariant.workers;
-      all_got = inl (omega (arith, c.loop.invariant.all, c.loop-test.false, c.total-total.ensures.lines));
-      given = given_whole _ c.args.output _ _ _ _ _ _ _ flushed.keeps flushed.sound c.loop.invariant.progress;
-    })
+    rw c.into_pass.ensures (elim c.loop-test.branch [
+      | else-loop-test w ↦
+          rw w.receiver-is (record {
+            queue = c.loop.invariant.queue;
+            workers = c.loop.invariant.workers;
+            all_got = inl (omega (arith, c.loop.invariant.all, w.loop-test.false, c.total-total.ensures.lines));
+            given = given_whole _ c.args.output _ _ _ _ _ _ _ (rw (← w.out-is) flushed.keeps)
+                (λ still. rw (← w.out-is) (flushed.sound still)) c.loop.invariant.progress;
+          })
+      | then-loop-test+in-None+in-None-flush_and_get w ↦
+          let left = w.in-None-flush_and_get.ensures in
+          let before = c.loop.invariant.progress in
+          let so_far = still_written _ _ _ _ _ _ _ _ _ left.keeps left.sound before.0 in
+          rw (w.receiver-is, left.got ∙ w.in-None.ensures.got) (record {
+            queue = c.loop.invariant.queue;
+            workers = c.loop.invariant.workers;
+            all_got = inr (left.left.0, grind (arith, flushed.sound, left.left.1, w.out-is));
+            given = given_whole _ c.args.output _ _ _ _ _ _ _ (rw (← w.out-is) flushed.keeps)
+                (λ still. rw (← w.out-is) (flushed.sound still)) (so_far, before.1);
+          })
+    ])
