@@ -152,8 +152,8 @@ impl ResultsQueue {
         self.outcomes.try_pop_as::<Gets>(&mut pass.ruled)
     }
 
-    // Says that the workers have ended, so that the thread that gets waits for no further outcome. The word is 1 from then on, and its rule has
-    // what is known of them then.
+    // Says that the workers have ended, so that no further outcome is waited for. The word is 1 from then on, and its rule has what is
+    // known of them then.
     pub(crate) fn end<E: Rule>(&self, ended: &AtomicIn<E>)
         requires { E.invariant 1 }
     {
