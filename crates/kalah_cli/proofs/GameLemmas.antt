@@ -76,7 +76,7 @@ fewer_left p q h s first (inl again) =
 fewer_left p q h s first (inr turn) =
     turn_fewer p h q first.even (best_is_legal p h first.even first.going first.best) (sym turn ∙ first.step)
 
--- a strategy's way has its house
+-- the policy of a strategy has its house
 followed_best : (p : Position) (h : ℕ) → h ≡ best_house p → Contains (follow best_house p) h
 followed_best p h best = rw best (Contains-push [] (best_house p))
 

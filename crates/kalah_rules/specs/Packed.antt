@@ -25,7 +25,7 @@ pub record IsPackedPosition (r : RowNumbers) (p : Position) : Type 0 where
   pub other : r.rows / 2 ^ 30 ≡ number_of p.other
   pub store : r.store ≡ p.own_store
 
--- a house of a row begins at this bit of its number
+-- a house of a row begins at this bit of its number: the bit is a multiple of five, written for house bit / 5 + 1
 pub record BeginsHouse (bit : ℕ) : Type 0 where
   pub whole : 5 * (bit / 5 + 1 - 1) ≡ bit
   pub last : bit ≤ 25

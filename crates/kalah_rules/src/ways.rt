@@ -65,7 +65,7 @@ impl Houses {
         ensures ways { result ≡ ways_by depth (bare self.now) h }
         ensures small { result ≤ most_houses ^ depth }
     {
-        let _side = self.m();
+        let _side = self.m(); // For its clause: the houses are within the limits.
         match self.play_by(sowings, House::new(h)) {
             HousesStep::Over { .. } => u64::from(depth == 0),
             HousesStep::Again(_, next) | HousesStep::Turn(_, next) => next.ways(sowings, depth),

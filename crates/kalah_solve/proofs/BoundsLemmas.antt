@@ -1,4 +1,4 @@
--- Shares of seeds, and the margins and windows that they make.
+-- How many seeds are won, and the margins and windows that they make.
 use Rattle.std.proofs.Common.{◌≡◌, ℕ, ◌+◌, ◌*◌, ◌≤◌, arith, zero, suc, ◌-◌, ◌/◌, ◌<◌, inl, inr, ◌∙◌, ap, max, min, ℤ, pos, ◌+ℤ◌, ◌-ℤ◌, ◌≤ℤ◌, false, sum, Contains, ◌<ℤ◌}
 use Rattle.std.specs.Int.{int_max, int_min}
 use Rattle.std.proofs.lemmas.Int.{ints, clamps}
@@ -18,79 +18,79 @@ use Rattle.kalah_solve.specs.Bounds.Won.{count, won, won_by_step}
 use Rattle.kalah_solve.specs.declared.bounds.interval.Interval.{Interval}
 use Rattle.kalah_solve.specs.declared.bounds.seed_bounds.SeedBounds.{SeedBounds}
 
--- ==== Shares of seeds and the margins that they make
+-- ==== Bounds of seeds and the margins that they make
 
 module _ (window : Window) (n low high : ℕ) (is_low : IsHalf (window.lo +ℤ pos n) low)
     (is_high : IsHalf (window.hi +ℤ pos 1 +ℤ pos n) high) where
-  -- the shares of a window's ends are in order
-  pub shares_ordered : low ≤ high
-  shares_ordered = omega (arith, ints, clamps)
+  -- the bounds of a window's ends are in order
+  pub bounds_ordered : low ≤ high
+  bounds_ordered = omega (arith, ints, clamps)
 
   -- and no more than all
-  pub shares_high : n ≤ most_seeds → high ≤ most_seeds
-  shares_high few = omega (arith, ints, clamps)
+  pub bounds_high : n ≤ most_seeds → high ≤ most_seeds
+  bounds_high few = omega (arith, ints, clamps)
 
-  -- a share that is raised and lowered to them makes the same margin in the window
-  pub shares_apart : (t : ℕ) → t ≤ n → within window.lo window.hi (pos (2 * max low (min high t)) -ℤ pos n)
+  -- a number that is raised and lowered to them makes the same margin in the window
+  pub bounds_apart : (t : ℕ) → t ≤ n → within window.lo window.hi (pos (2 * max low (min high t)) -ℤ pos n)
       ≡ within window.lo window.hi (pos (2 * t) -ℤ pos n)
-  shares_apart t few = omega (arith, ints, clamps)
+  bounds_apart t few = omega (arith, ints, clamps)
 
--- the shares of an interval's ends
+-- the bounds of an interval's ends
 module _ (interval : Interval) (n least most : ℕ) (few : n ≤ most_seeds) (is_least : IsHalf (interval.lo +ℤ pos 1 +ℤ pos n) least)
     (is_most : IsHalf (interval.hi +ℤ pos n) most) where
-  -- bound the shares whose margins are in it
-  pub share_held : (t : ℕ) → t ≤ n → Encloses interval (pos (t + t) -ℤ pos n) → (least ≤ t) × (t ≤ min most most_seeds)
-  share_held t all holds = omega (arith, ints, clamps)
+  -- hold each number whose margin is in it
+  pub bounds_held : (t : ℕ) → t ≤ n → Encloses interval (pos (t + t) -ℤ pos n) → (least ≤ t) × (t ≤ min most most_seeds)
+  bounds_held t all holds = omega (arith, ints, clamps)
 
   -- and no others
-  pub share_exact : pos 0 ≤ℤ (interval.hi +ℤ pos n) → (t : ℕ) → t ≤ n → least ≤ t → t ≤ min most most_seeds →
+  pub bounds_exact : pos 0 ≤ℤ (interval.hi +ℤ pos n) → (t : ℕ) → t ≤ n → least ≤ t → t ≤ min most most_seeds →
       Encloses interval (pos (t + t) -ℤ pos n)
-  share_exact some t all low high = omega (arith, ints, clamps)
+  bounds_exact some t all low high = omega (arith, ints, clamps)
 
--- ==== How many seeds a player takes: by houses, by a step, and by the best move
+-- ==== How many seeds a player wins: by houses, by a step, and by the best move
 
--- a margin is that of a player who takes t of n seeds
-pub record IsShare (n : ℕ) (z : ℤ) (t : ℕ) : Type 0 where
+-- a margin is that of a player who wins t of n seeds
+pub record IsWonOf (n : ℕ) (z : ℤ) (t : ℕ) : Type 0 where
   pub few : t ≤ n
   pub is : z +ℤ pos n ≡ pos (t + t)
 
--- the share of a step, by those of the houses that it leads to
-step_share : (a : Rows) (s : HousesStep) → LeadsOn a s →
-    ((b : Rows) (gained : ℕ) → LeadsTo a gained b → (t : ℕ) × IsShare (seeds_in_houses (bare b)) (houses_worth b) t) →
-    (t : ℕ) × IsShare (seeds_in_houses (bare a)) (worth_of_step s) t
-step_share a (Over own other) leads each = (own, record { few = omega arith; is = omega (arith, ints) })
-step_share a (Again gained b) leads each =
+-- some number is won by a step, if some is of the houses that it leads to
+some_won_by_step : (a : Rows) (s : HousesStep) → LeadsOn a s →
+    ((b : Rows) (gained : ℕ) → LeadsTo a gained b → (t : ℕ) × IsWonOf (seeds_in_houses (bare b)) (houses_worth b) t) →
+    (t : ℕ) × IsWonOf (seeds_in_houses (bare a)) (worth_of_step s) t
+some_won_by_step a (Over own other) leads each = (own, record { few = omega arith; is = omega (arith, ints) })
+some_won_by_step a (Again gained b) leads each =
     let on = each b _ leads in
     (gained + on.0, record { few = omega arith; is = omega (arith, ints) })
-step_share a (Turn gained b) leads each =
+some_won_by_step a (Turn gained b) leads each =
     let on = each b _ leads in
     (gained + seeds_in_houses (bare b) - on.0, record { few = omega arith; is = omega (arith, ints) })
 
--- what houses are worth is the margin of some share of their seeds, by the moves left
-share_by : (n : ℕ) (a : Rows) → IsWithinHouses a → moves_left (bare a) < n → (t : ℕ)
-    × IsShare (seeds_in_houses (bare a)) (houses_worth a) t
-share_by zero a w few = absurd (omega arith)
-share_by (suc n) a w few = elim (cases_Bool _) [
+-- what houses are worth is the margin of some number of their seeds, by the moves left
+some_won : (n : ℕ) (a : Rows) → IsWithinHouses a → moves_left (bare a) < n → (t : ℕ)
+    × IsWonOf (seeds_in_houses (bare a)) (houses_worth a) t
+some_won zero a w few = absurd (omega arith)
+some_won (suc n) a w few = elim (cases_Bool _) [
   | inl over ↦ (sum a.own, rw (worth_of_over _ over) (record { few = omega arith; is = omega (arith, ints) }))
   | inr going ↦
       let at = worth_reached a w going in
-      rw (at.2, value_is a at.0 w at.1) (step_share a _ (leads_on a at.0 w at.1)
-      (λ b _ on. share_by n b on.limits (omega arith)))
+      rw (at.2, value_is a at.0 w at.1) (some_won_by_step a _ (leads_on a at.0 w at.1)
+      (λ b _ on. some_won n b on.limits (omega arith)))
 ]
 
--- and the share is the one that the definition names
-share_is : (n : ℕ) (z : ℤ) (t : ℕ) → IsShare n z t → count (z +ℤ pos n) / 2 ≡ t
-share_is n z t bounds = rw bounds.is (omega arith)
+-- and the number is the one that the definition names
+won_is_one : (n : ℕ) (z : ℤ) (t : ℕ) → IsWonOf n z t → count (z +ℤ pos n) / 2 ≡ t
+won_is_one n z t bounds = rw bounds.is (omega arith)
 
-pub taken_share : {a : Rows} → IsWithinHouses a → IsShare (seeds_in_houses (bare a)) (houses_worth a) (won a)
+pub won_of_houses : {a : Rows} → IsWithinHouses a → IsWonOf (seeds_in_houses (bare a)) (houses_worth a) (won a)
 unfolding won
-taken_share {a} w =
-    let bounds = share_by (suc (moves_left (bare a))) a w (omega arith) in
-    rw (share_is _ _ _ bounds.1) bounds.1
+won_of_houses {a} w =
+    let bounds = some_won (suc (moves_left (bare a))) a w (omega arith) in
+    rw (won_is_one _ _ _ bounds.1) bounds.1
 
--- so houses are worth what the mover takes less the others
-pub worth_of_taken : (a : Rows) → IsWithinHouses a → houses_worth a ≡ pos (won a + won a) -ℤ pos (seeds_in_houses (bare a))
-worth_of_taken a w = omega (arith, ints, (taken_share w).is)
+-- so houses are worth what the mover wins less the others
+pub worth_of_won : (a : Rows) → IsWithinHouses a → houses_worth a ≡ pos (won a + won a) -ℤ pos (seeds_in_houses (bare a))
+worth_of_won a w = omega (arith, ints, (won_of_houses w).is)
 
 -- and so no more than their seeds
 pub record IsUpTo (n : ℕ) (z : ℤ) : Type 0 where
@@ -99,7 +99,7 @@ pub record IsUpTo (n : ℕ) (z : ℤ) : Type 0 where
 
 pub worth_up_to : {a : Rows} → IsWithinHouses a → IsUpTo (seeds_in_houses (bare a)) (houses_worth a)
 worth_up_to w =
-    let bounds = taken_share w in
+    let bounds = won_of_houses w in
     record { low = omega (arith, ints); high = omega (arith, ints) }
 
 -- which lies in the widest window
@@ -109,35 +109,35 @@ worth_low a w = omega (arith, ints, (worth_up_to w).low)
 pub worth_high : (a : Rows) → IsWithinHouses a → houses_worth a ≤ℤ most_margin
 worth_high a w = omega (arith, ints, (worth_up_to w).high)
 
--- and the mover takes half of what they are worth and hold together
+-- and the mover wins half of what they are worth and hold together
 pub half_is : (a : Rows) (worth : ℤ) (half : ℕ) → IsWithinHouses a → worth ≡ houses_worth a →
     IsHalf (worth +ℤ pos (seeds_in_houses (bare a))) half → half ≡ won a
-half_is a worth half w e is = grind (arith, taken_share)
+half_is a worth half w e is = grind (arith, won_of_houses)
 
--- the share of a move
-taken_of : (a : Rows) (s : HousesStep) → LeadsOn a s → IsShare (seeds_in_houses (bare a)) (worth_of_step s) (won_by_step s)
-taken_of a (Over own other) leads = omega (arith, ints)
-taken_of a (Again gained b) leads =
-    let on = taken_share leads.limits in
+-- what is won by a step
+won_of_step : (a : Rows) (s : HousesStep) → LeadsOn a s → IsWonOf (seeds_in_houses (bare a)) (worth_of_step s) (won_by_step s)
+won_of_step a (Over own other) leads = omega (arith, ints)
+won_of_step a (Again gained b) leads =
+    let on = won_of_houses leads.limits in
     record { few = omega arith; is = omega (arith, ints) }
-taken_of a (Turn gained b) leads =
-    let on = taken_share leads.limits in
+won_of_step a (Turn gained b) leads =
+    let on = won_of_houses leads.limits in
     record { few = omega arith; is = omega (arith, ints) }
 
 module _ (a : Rows) (w : IsWithinHouses a) where
-  -- the share of the move of house h
-  pub taken_by_move : (h : ℕ) → Contains (legal_houses (bare a)) h →
-      IsShare (seeds_in_houses (bare a)) (value_of_move (bare a) h) (won_by_step (houses_step a h))
-  taken_by_move h has = rw (value_is a h w has) (taken_of a _ (leads_on a h w has))
+  -- what is won by the move of house h
+  pub won_of_move : (h : ℕ) → Contains (legal_houses (bare a)) h →
+      IsWonOf (seeds_in_houses (bare a)) (value_of_move (bare a) h) (won_by_step (houses_step a h))
+  won_of_move h has = rw (value_is a h w has) (won_of_step a _ (leads_on a h w has))
 
-  -- no move takes more than best play
-  pub taken_most : (h : ℕ) → Contains (legal_houses (bare a)) h → won_by_step (houses_step a h) ≤ won a
-  taken_most h has = omega (arith, ints, (taken_by_move h has).is, (taken_share w).is, value_le_worth a h w has)
+  -- no move wins more than best play
+  pub won_at_most : (h : ℕ) → Contains (legal_houses (bare a)) h → won_by_step (houses_step a h) ≤ won a
+  won_at_most h has = omega (arith, ints, (won_of_move h has).is, (won_of_houses w).is, value_le_worth a h w has)
 
-  -- and some move takes as many
-  pub taken_reached : is_over (bare a) ≡ false → (h : ℕ) × Contains (legal_houses (bare a)) h
+  -- and some move wins as many
+  pub won_reached : is_over (bare a) ≡ false → (h : ℕ) × Contains (legal_houses (bare a)) h
       × (won_by_step (houses_step a h) ≡ won a)
-  taken_reached going = grind (arith, worth_reached, taken_by_move, taken_share)
+  won_reached going = grind (arith, worth_reached, won_of_move, won_of_houses)
 
 -- ==== The answer of the search in a window
 
@@ -150,17 +150,17 @@ pub known_answers : (lo hi z : ℤ) (k : Interval) → lo <ℤ hi → Encloses k
     within lo hi k.lo ≡ within lo hi z
 known_answers lo hi z k ordered holds none = omega (arith, ints, clamps)
 
--- what the mover takes, raised and lowered to the shares that a window distinguishes, makes the worth in the window
+-- what the mover wins, raised and lowered to the bounds that a window distinguishes, makes the worth in the window
 pub won_by_bounds : {a : Rows} (lo hi : ℤ) (asked : SeedBounds) {m : ℤ} {n t : ℕ} → IsWithinHouses a → n ≡ seeds_in_houses (bare a) →
     asked.least ≤ asked.most →
     ((u : ℕ) → u ≤ n → within lo hi (pos (2 * max asked.least (min asked.most u)) -ℤ pos n) ≡ within lo hi
     (pos (2 * u) -ℤ pos n)) →
     t ≡ max asked.least (min asked.most (won a)) → m ≡ pos (2 * t) -ℤ pos n → within lo hi m ≡ within lo hi (houses_worth a)
 won_by_bounds {a} lo hi asked {n = n} w all ordered apart is m_is =
-    let worth_is : pos (2 * won a) -ℤ pos n ≡ houses_worth a = omega (arith, ints, worth_of_taken a w) in
-    rw (m_is, is) (apart _ (omega (arith, (taken_share w).few)) ∙ ap (within lo hi) worth_is)
+    let worth_is : pos (2 * won a) -ℤ pos n ≡ houses_worth a = omega (arith, ints, worth_of_won a w) in
+    rw (m_is, is) (apart _ (omega (arith, (won_of_houses w).few)) ∙ ap (within lo hi) worth_is)
 
--- so does what the mover takes of an ending
-pub told_by_taken : {a : Rows} {m : ℤ} {n t : ℕ} → IsWithinHouses a → n ≡ seeds_in_houses (bare a) → t ≡ won a →
+-- so does what the mover wins of an ending
+pub told_by_won : {a : Rows} {m : ℤ} {n t : ℕ} → IsWithinHouses a → n ≡ seeds_in_houses (bare a) → t ≡ won a →
     m ≡ pos (2 * t) -ℤ pos n → m ≡ houses_worth a
-told_by_taken {a} w all is m_is = omega (arith, ints, worth_of_taken a w)
+told_by_won {a} w all is m_is = omega (arith, ints, worth_of_won a w)

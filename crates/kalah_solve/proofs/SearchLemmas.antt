@@ -18,7 +18,7 @@ use Rattle.kalah_rules.specs.declared.step.HousesStep.TheVariants.{Turn}
 use Rattle.kalah_rules.proofs.PlayLemmas.{holds_legal, legal_holds}
 use Rattle.kalah_solve.specs.Bounds.Won.{won, won_by_step}
 use Rattle.kalah_solve.proofs.WorthLemmas.{leads_by}
-use Rattle.kalah_solve.proofs.BoundsLemmas.{taken_most, taken_reached}
+use Rattle.kalah_solve.proofs.BoundsLemmas.{won_at_most, won_reached}
 
 -- ==== Cells of a row, all at once
 
@@ -360,10 +360,10 @@ pub filled_legal : (a : Rows) (h : ℕ) → is_over (bare a) ≡ false → 1 ≤
     Contains (legal_houses (bare a)) h
 filled_legal a h going first last some = holds_legal (bare a) h (omega arith) going
 
--- a bound of a move that is enough is no more than best play takes
+-- a bound of a move that is enough is no more than best play wins
 pub move_enough : (a : Rows) (bar h bound : ℕ) → IsWithinHouses a → Contains (legal_houses (bare a)) h →
     IsSoftBound bar (won_by_step (houses_step a h)) bound → bar ≤ bound → bound ≤ won a
-move_enough a bar h bound w has is enough = omega (arith, taken_most a w h has)
+move_enough a bar h bound w has is enough = omega (arith, won_at_most a w h has)
 
 -- the same of a turn that was kept
 turn_bound : (a : Rows) (bar h priority bound : ℕ) (b : Rows) → IsTurnOf a h priority b →
@@ -396,10 +396,10 @@ turn_keeps a h priority b w turn =
     let on = leads_by _ _ w turn.legal (sym turn.step) in
     omega arith
 
--- best play takes no more than each legal move does
+-- best play wins no more than each legal move does
 pub all_at_most : (a : Rows) (most : ℕ) → IsWithinHouses a → is_over (bare a) ≡ false →
     ((h : ℕ) → Contains (legal_houses (bare a)) h → WinsAtMost a most h) → won a ≤ most
-all_at_most a most w going each = grind (arith, taken_reached)
+all_at_most a most w going each = grind (arith, won_reached)
 
 -- each house with a priority waits with its turn
 pub record AreTurns (a : Rows) (priorities : List ℕ) (turns : List Rows) : Type 0 where
@@ -433,7 +433,7 @@ pub record WaitsWith (a : Rows) (priorities : List ℕ) (turns : List Rows) (r :
   pub priority : get_or priorities (r % 8) 0 ≡ r
   pub turn : (d : Rows) → IsTurnOf a (r % 8 + 1) r (get_or turns (r % 8) d)
 
--- each house with a priority waits, and each other one that may be moved takes at most `most` seeds, or ends in the store, or is
+-- each house with a priority waits, and each other one that may be moved wins at most `most` seeds, or ends in the store, or is
 -- still marked
 pub record ArePlayed (a : Rows) (most marks : ℕ) (priorities : List ℕ) (turns : List Rows) : Type 0 where
   pub waiting : AreTurns a priorities turns
@@ -463,7 +463,7 @@ module _ (a : Rows) (most marks h : ℕ) (priorities : List ℕ) (turns : List R
     ];
   }
 
-  -- or takes at most `bound`
+  -- or wins at most `bound`
   pub played_bound : (bound new : ℕ) → WinsAtMost a bound h → new ≡ max most bound
       → ArePlayed a new (marks - 32 ^ (h - 1)) priorities turns
   played_bound bound new takes new_is = record {
@@ -534,7 +534,7 @@ moves_fewer {a} {marks} {h} may last = record {
   legal = each_fewer (Contains _) marks h last may.legal;
 }
 
--- each house that ends in the store is still marked, or takes at most `most` seeds
+-- each house that ends in the store is still marked, or wins at most `most` seeds
 abbrev pub AreAgain : Rows → ℕ → ℕ → Type 0
 AreAgain a most marks = (h : ℕ) → Contains (legal_houses (bare a)) h → EndsInStore a h → cell marks (h - 1) ≡ 0
     → WinsAtMost a most h
@@ -558,7 +558,7 @@ again_fewer a most marks h bound new are last takes new_is i may ends gone = eli
       omega (arith, are i may ends (gone_before marks h last _ place gone))
 ]
 
--- the moves with a priority are still to be tried, and the others take at most `most` seeds
+-- the moves with a priority are still to be tried, and the others win at most `most` seeds
 pub record AreUntried (a : Rows) (most : ℕ) (priorities : List ℕ) (turns : List Rows) : Type 0 where
   pub waiting : AreTurns a priorities turns
   pub tried : (h : ℕ) → Contains (legal_houses (bare a)) h → get_or priorities (h - 1) 0 ≡ 0 → WinsAtMost a most h
@@ -599,7 +599,7 @@ untried_fewer a most priorities turns at bound new is place takes new_is = recor
   ];
 }
 
--- if no priority is left, best play takes at most as many
+-- if no priority is left, best play wins at most as many
 pub none_untried : {a : Rows} {most : ℕ} {priorities : List ℕ} {turns : List Rows} (highest : ℕ) → IsWithinHouses a
     → is_over (bare a) ≡ false →
     AreUntried a most priorities turns → ((k : ℕ) → get_or priorities k 0 ≤ highest) → highest ≡ 0 → won a ≤ most

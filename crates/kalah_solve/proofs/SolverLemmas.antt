@@ -6,7 +6,7 @@ use Rattle.kalah_rules.specs.Sowing.{after}
 use Rattle.kalah_rules.specs.Play.{legal_houses}
 use Rattle.kalah_rules.specs.Measure.{moves_left}
 use Rattle.kalah_rules.proofs.PlayLemmas.{legal_holds, after_equal_sides, after_fewer, swap_fewer}
-use Rattle.kalah_solve.specs.Solver.BestPlay.{Strategy, IsStrategy, Way, follow, Game, Secures, HoldsTo, IsBestPlay, IsBestMove, IsWorthOfMove}
+use Rattle.kalah_solve.specs.Solver.BestPlay.{Strategy, IsStrategy, Policy, follow, Game, Secures, HoldsTo, IsBestPlay, IsBestMove, IsWorthOfMove}
 use Rattle.kalah_solve.specs.Solver.BestPlay.Game.{is_at_end, moves_on, passes_turn}
 use Rattle.kalah_solve.specs.Solver.Laws.{EndsInTime, StrategiesPlayAGame, StrategiesPlayOneGame, GamesEnd, WorthIsBestPlay, BestPlayIsOne, BestHouseIsBestPlay, EndsWithAtLeast, EndsWithAtMost, BestPlayAgainstStrategies, BestHouseIsLowest, BestMovesAttain, BestVerdictIsOne}
 use Rattle.kalah_solve.proofs.WorthLemmas.{swapped_equal_sides, over_at_end, over_for_other, worth_of_over, final_swapped, value_going_on, value_passing, best_found, best_attains, value_most, eq_yes, lowest_of, worth_of_going, eq_no, greatest_is_one, worth_of_rows, value_of_rows}
@@ -25,15 +25,15 @@ use Rattle.kalah_rules.proofs.PackedLemmas.{rows_within}
 use Rattle.kalah_solve.specs.Bounds.Intervals.{least_margin, most_margin, within}
 use Rattle.kalah_rules.specs.HousesStep.{houses_step}
 use Rattle.kalah_solve.specs.Bounds.Won.{won, won_by_step}
-use Rattle.kalah_solve.proofs.BoundsLemmas.{worth_up_to, worth_low, worth_high, taken_share, taken_by_move, taken_most}
+use Rattle.kalah_solve.proofs.BoundsLemmas.{worth_up_to, worth_low, worth_high, won_of_houses, won_of_move, won_at_most}
 use Rattle.kalah_rules.specs.Limits.{most_houses}
 use Rattle.kalah_rules.specs.Cells.{padded_with, IsSixAtMost}
 
 -- ==== The games that players play
 
--- a way that moves only legal houses
-pub record KeepsRules (way : Way) : Type 0 where
-  pub legal_only : (p : Position) (h : ℕ) → HasEqualSides p → is_over p ≡ false → Contains (way p) h
+-- a policy that moves only legal houses
+pub record KeepsRules (policy : Policy) : Type 0 where
+  pub legal_only : (p : Position) (h : ℕ) → HasEqualSides p → is_over p ≡ false → Contains (policy p) h
       → Contains (legal_houses p) h
 
 -- two strategies play a game to its end
@@ -63,7 +63,7 @@ pub game_ends : StrategiesPlayAGame
 game_ends mine theirs m t p even = ends_within (moves_left p) mine theirs m t p even (omega arith)
 
 -- each move leaves fewer, and the last position is over
-pub ends_in_time : {mine theirs : Way} {p : Position} {houses : List ℕ} {final : Position} → KeepsRules mine → KeepsRules theirs
+pub ends_in_time : {mine theirs : Policy} {p : Position} {houses : List ℕ} {final : Position} → KeepsRules mine → KeepsRules theirs
     → HasEqualSides p →
     Game mine theirs p houses final → EndsInTime p houses final
 ends_in_time m t even (is_at_end over) = grind arith
@@ -85,9 +85,9 @@ legal_keeps = grind arith
 pub games_end : GamesEnd
 games_end p houses final even game = ends_in_time legal_keeps legal_keeps even game
 
--- a way that has one house at most
-pub record HasNoChoice (way : Way) : Type 0 where
-  pub one : (p : Position) (h k : ℕ) → Contains (way p) h → Contains (way p) k → h ≡ k
+-- a policy that has one house at most
+pub record HasNoChoice (policy : Policy) : Type 0 where
+  pub one : (p : Position) (h k : ℕ) → Contains (policy p) h → Contains (policy p) k → h ≡ k
 
 -- a list of one number contains only that
 pub contains_only : (x h i : ℕ) → i < length (x ∷ []) → get_or (x ∷ []) i h ≡ h → x ≡ h
@@ -103,7 +103,7 @@ pub follow_one : (s : Strategy) → HasNoChoice (follow s)
 follow_one s = grind arith
 
 -- two games without a choice are the same
-pub game_is_one : {mine theirs : Way} {p : Position} {houses others : List ℕ} {final other : Position} → HasNoChoice mine
+pub game_is_one : {mine theirs : Policy} {p : Position} {houses others : List ℕ} {final other : Position} → HasNoChoice mine
     → HasNoChoice theirs →
     Game mine theirs p houses final → Game mine theirs p others other → (houses ≡ others) × (final ≡ other)
 game_is_one m t (is_at_end over) (is_at_end over') = (refl, refl)
@@ -132,12 +132,12 @@ game_is_one {mine} {theirs} {p} m t (passes_turn {h = h} going has turn rest)
 pub the_game_is_one : StrategiesPlayOneGame
 the_game_is_one mine theirs p houses others final other one two = game_is_one (follow_one mine) (follow_one theirs) one two
 
--- a way whose houses are all of a wider way
-pub record IsWithin (way wider : Way) : Type 0 where
-  pub widens : (p : Position) (h : ℕ) → HasEqualSides p → is_over p ≡ false → Contains (way p) h → Contains (wider p) h
+-- a policy whose houses are all of a wider policy
+pub record IsWithin (policy wider : Policy) : Type 0 where
+  pub widens : (p : Position) (h : ℕ) → HasEqualSides p → is_over p ≡ false → Contains (policy p) h → Contains (wider p) h
 
--- a game is one of wider ways, too
-pub widened : {mine theirs mine' theirs' : Way} {p : Position} {houses : List ℕ} {final : Position} → IsWithin mine mine' →
+-- a game is one of wider policies, too
+pub widened : {mine theirs mine' theirs' : Policy} {p : Position} {houses : List ℕ} {final : Position} → IsWithin mine mine' →
     IsWithin theirs theirs' → HasEqualSides p →
     Game mine theirs p houses final → Game mine' theirs' p houses final
 widened m t even (is_at_end over) = is_at_end over
@@ -146,9 +146,9 @@ widened {mine} {theirs} {mine'} {theirs'} {p} m t even (moves_on {h = h} going h
 widened {mine} {theirs} {mine'} {theirs'} {p} m t even (passes_turn {h = h} going has turn rest) =
     passes_turn going (m.widens p h even going has) turn (widened t m (swapped_equal_sides _ (after_equal_sides p h)) rest)
 
--- a way is as wide as itself
-pub same_way : (way : Way) → IsWithin way way
-same_way way = grind arith
+-- a policy is as wide as itself
+pub same_policy : (policy : Policy) → IsWithin policy policy
+same_policy policy = grind arith
 
 -- a strategy is within the rules
 pub strategy_within : {s : Strategy} → IsStrategy s → IsWithin (follow s) legal_houses
@@ -160,18 +160,18 @@ strategy_keeps s ok = grind arith
 
 -- ==== What players who play best secure
 
--- a way that moves only houses of the greatest value
-pub record PlaysBest (way : Way) : Type 0 where
-  pub attains : (p : Position) (h : ℕ) → HasEqualSides p → is_over p ≡ false → Contains (way p) h
+-- a policy that moves only houses of the greatest value
+pub record PlaysBest (policy : Policy) : Type 0 where
+  pub attains : (p : Position) (h : ℕ) → HasEqualSides p → is_over p ≡ false → Contains (policy p) h
       → value_of_move p h ≡ worth p
 
 -- the player who plays best gets at least the worth, and the opponent of one who does at most that
-pub record IsBounded (mine theirs : Way) (p : Position) (z : ℤ) : Type 0 where
+pub record IsBounded (mine theirs : Policy) (p : Position) (z : ℤ) : Type 0 where
   pub low : PlaysBest mine → worth p ≤ℤ z
   pub high : PlaysBest theirs → z ≤ℤ worth p
 
 -- along a whole game, for both players at once
-pub bounds : {mine theirs : Way} {p : Position} {houses : List ℕ} {final : Position} → KeepsRules mine → KeepsRules theirs
+pub bounds : {mine theirs : Policy} {p : Position} {houses : List ℕ} {final : Position} → KeepsRules mine → KeepsRules theirs
     → HasEqualSides p →
     Game mine theirs p houses final → IsBounded mine theirs p (final_margin final)
 bounds {p = p} m t even (is_at_end over) = grind (arith, worth_of_over)
@@ -222,13 +222,13 @@ module _ (mine theirs : Strategy) (m : IsStrategy mine) (t : IsStrategy theirs) 
   pub ends_at_least : Secures mine p v → EndsWithAtLeast mine theirs p v
   ends_at_least secures =
       let game = game_ends mine _ m t p even in
-      (game.0, game.1, game.2, secures _ game.1 (widened (same_way _) (strategy_within t) even game.2))
+      (game.0, game.1, game.2, secures _ game.1 (widened (same_policy _) (strategy_within t) even game.2))
 
   -- and what a strategy of the opponent allows is the most
   pub ends_at_most : HoldsTo theirs p v → EndsWithAtMost mine theirs p v
   ends_at_most holds =
       let game = game_ends mine _ m t p even in
-      (game.0, game.1, game.2, holds _ game.1 (widened (strategy_within m) (same_way _) even game.2))
+      (game.0, game.1, game.2, holds _ game.1 (widened (strategy_within m) (same_policy _) even game.2))
 
 -- the law on two strategies
 pub best_against_strategies : BestPlayAgainstStrategies
@@ -440,15 +440,15 @@ abbrev pub FallShort : Rows → ℕ → Type 0
 FallShort a i = (k : ℕ) → k < i → int_eq (value_of_move (bare a) (get_or (legal_houses (bare a)) k 0)) (houses_worth a) ≡ false
 
 module _ (a : Rows) (w : IsWithinHouses a) where
-  -- a house that takes as many seeds as best play is worth as much
+  -- a house that wins as many seeds as best play is worth as much
   enough_is : (h : ℕ) → Contains (legal_houses (bare a)) h → won a ≤ won_by_step (houses_step a h)
       → value_of_move (bare a) h ≡ houses_worth a
-  enough_is h has enough = grind (arith, taken_most, taken_by_move, taken_share)
+  enough_is h has enough = grind (arith, won_at_most, won_of_move, won_of_houses)
 
-  -- and one that takes fewer is worth less
+  -- and one that wins fewer is worth less
   short_is : (h : ℕ) → Contains (legal_houses (bare a)) h → won_by_step (houses_step a h) < won a
       → value_of_move (bare a) h <ℤ houses_worth a
-  short_is h has less = grind (arith, taken_by_move, taken_share)
+  short_is h has less = grind (arith, won_of_move, won_of_houses)
 
   -- the first house that is worth the margin is the one
   root_is : (i : ℕ) → i < length (legal_houses (bare a)) → FallShort a i →
@@ -456,7 +456,7 @@ module _ (a : Rows) (w : IsWithinHouses a) where
       get_or (legal_houses (bare a)) i 0 ≡ best_house (bare a)
   root_is i inside short is = grind (arith, find_at)
 
-  -- a house that takes enough, if those before it fall short
+  -- a house that wins enough, if those before it fall short
   pub root_found : (i : ℕ) → i < length (legal_houses (bare a)) → FallShort a i →
       won a ≤ won_by_step (houses_step a (get_or (legal_houses (bare a)) i 0)) →
       get_or (legal_houses (bare a)) i 0 ≡ best_house (bare a)
@@ -528,7 +528,7 @@ module _ (p : Position) (best : ℤ) (own other : ℕ) (limits : IsWithinLimits 
 -- the value of a move
 pub value_small : (p : Position) (h : ℕ) → IsWithinLimits p → Contains (legal_houses p) h → IsSmallMargin (value_of_move p h)
 value_small p h limits has =
-    let bounds = taken_by_move (rows_of p) (rows_within p limits) h has in
+    let bounds = won_of_move (rows_of p) (rows_within p limits) h has in
     record {
       low = omega (arith, ints, value_of_rows p h, bounds.is);
       high = omega (arith, ints, value_of_rows p h, bounds.few, bounds.is);

@@ -20,7 +20,7 @@ use Rattle.kalah_rules.specs.HousesStep.{houses_step}
 use Rattle.kalah_rules.proofs.PlayLemmas.{legal_holds}
 use Rattle.kalah_solve.specs.RowMarks.{cell, IsLastMark}
 use Rattle.kalah_solve.proofs.SearchLemmas.{cell_none, gone_before}
-use Rattle.kalah_solve.proofs.BoundsLemmas.{taken_most, taken_reached, taken_share}
+use Rattle.kalah_solve.proofs.BoundsLemmas.{won_at_most, won_reached, won_of_houses}
 use Rattle.std.specs.Map.{lookup}
 use Rattle.lru.specs.LruCache.{LruCache, lru_cache, put_entries, promoted}
 use Rattle.std.specs.Cmp.{nat_eq_equiv}
@@ -483,9 +483,9 @@ writes slots i word states s holds homes small =
       | inr other ↦ rw (get_or-set_other s.words i j word 0 other) (holds j)
     ]
 
--- ==== The most that a move takes
+-- ==== The most that a move wins
 
--- no move takes more but of the houses that are still marked, nor does best play take fewer
+-- no move wins more but of the houses that are still marked, nor does best play win fewer
 pub record IsMost (a : Rows) (marks most : ℕ) : Type 0 where
   pub reached : most ≤ won a
   pub all : (i : ℕ) → Contains (legal_houses (bare a)) i → cell marks (i - 1) ≡ 0 → won_by_step (houses_step a i) ≤ most
@@ -497,12 +497,12 @@ most_of_none {a} marked = record {
   all = λ i has gone. absurd (let some = (marked _).1 (legal_holds (bare a) i has).some in omega arith);
 }
 
--- the last marked house, with what it takes
+-- the last marked house, with what it wins
 pub most_more : {a : Rows} {marks most h : ℕ} (v new : ℕ) → IsWithinHouses a → IsMost a marks most → IsLastMark marks h →
     Contains (legal_houses (bare a)) h →
     v ≡ won_by_step (houses_step a h) → new ≡ max most v → IsMost a (marks - 32 ^ (h - 1)) new
 most_more {a} {marks} {most} {h} v new w is last has v_is new_is = record {
-  reached = omega (arith, taken_most a w h has);
+  reached = omega (arith, won_at_most a w h has);
   all = λ i may gone. elim (cases_eq i h) [
     | inl same ↦ rw same (omega arith)
     | inr other ↦
@@ -511,15 +511,15 @@ most_more {a} {marks} {most} {h} v new w is last has v_is new_is = record {
   ];
 }
 
--- if all seeds are taken, best play takes as many
+-- if all seeds are won, best play wins as many
 pub most_all : (a : Rows) (marks most : ℕ) → IsWithinHouses a → IsMost a marks most → seeds_in_houses (bare a) ≤ most
     → most ≡ won a
-most_all a marks most w is full = omega (arith, (taken_share w).few)
+most_all a marks most w is full = omega (arith, (won_of_houses w).few)
 
 -- and so it does once no house is marked
 pub most_won : (a : Rows) (marks most : ℕ) → IsWithinHouses a → is_over (bare a) ≡ false → IsMost a marks most → marks ≡ 0
     → most ≡ won a
-most_won a marks most w going is none = grind (arith, taken_reached, cell_none)
+most_won a marks most w going is none = grind (arith, won_reached, cell_none)
 
 -- ==== What a table keeps, over the list of its entries
 
@@ -611,15 +611,15 @@ same_placed : (n : ℕ) (a b : Rows) → 1024 ≤ n → IsWithinHouses a → IsW
 same_placed n a b enough ha hb rest place = grind (arith, same_key, same_unmixed, key_fits, place_same)
 
 -- after more is kept
-pub shares_more : (places : List Place) (a : Rows) (number at : ℕ) (p : Place) → AreEnough (length places) → StoreBounds places
+pub bounds_more : (places : List Place) (a : Rows) (number at : ℕ) (p : Place) → AreEnough (length places) → StoreBounds places
     → IsWithinHouses a →
     number ≡ mixed (key_of a) → at ≡ place_among (length places) number → at < length places
     → stored_rest p ≡ left_open number →
     IsWithinPlace p (won a) → StoreBounds (slice_set places at p)
-shares_more places a number at p enough before within is place inside rest known b number_b d within_b is_b inside_b rest_b =
+bounds_more places a number at p enough before within is place inside rest known b number_b d within_b is_b inside_b rest_b =
     grind (arith, length-set, cases_eq, get_or-set_same, same_placed, get_or-set_other)
 
 -- places that all hold what is known of all houses
-pub shares_unknown : (count : ℕ) (p : Place) → stored_least p ≡ 0 → stored_most p ≡ most_seeds → StoreBounds (replicate count p)
-shares_unknown count p none all a number d within is inside rest =
-    grind (arith, taken_share, get_or-replicate, length-replicate)
+pub bounds_unknown : (count : ℕ) (p : Place) → stored_least p ≡ 0 → stored_most p ≡ most_seeds → StoreBounds (replicate count p)
+bounds_unknown count p none all a number d within is inside rest =
+    grind (arith, won_of_houses, get_or-replicate, length-replicate)

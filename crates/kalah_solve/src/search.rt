@@ -1,5 +1,5 @@
-//! The search. It closes in on what houses are worth by tests whether the mover takes at least a number of seeds. Margins are used at
-//! the root and among the entries; the tests count seeds that the mover takes.
+//! The search. It closes in on what houses are worth by tests whether the mover wins at least a number of seeds. Margins are used at
+//! the root and among the entries; the tests count seeds that the mover wins.
 ghost use Rattle.std.specs.Prelude.{◌≡◌, ◌↔◌, ℕ, ◌+◌, ◌-◌, ◌≤◌, ◌<◌, false, IsTrue, max, min, IfOk, Contains, slice_index};
 ghost use Rattle.kalah_rules.specs.Position.{is_over, bare, seeds_in_houses};
 ghost use Rattle.kalah_rules.specs.Play.{legal_houses};
@@ -66,7 +66,7 @@ pub struct Search<A: Allocator + Clone = Global> {
     work: Work,
 }
 
-// What is known of a move once it was played: a bound of what it takes, or that its turn waits to be searched. Then it has the priority
+// What is known of a move once it was played: a bound of what it wins, or that its turn waits to be searched. Then it has the priority
 // of the turn, and the houses from which the other player would move.
 #[derive(Clone, Copy)]
 enum Look {
@@ -132,7 +132,7 @@ impl<A: Allocator + Clone> Search<A> {
         in_its_game!(self.search_game(houses, window))
     }
 
-    // The same, in a game that is known.
+    // Returns the worth of houses of this game, raised to the window's lower end and lowered to its upper one.
     fn search_game<const GAME: u8>(&mut self, houses: &Houses, window: Window) -> i32
         requires going { is_over (bare houses.now) ≡ false }
         requires game { game_of houses.now ≡ GAME }
@@ -163,7 +163,7 @@ impl<A: Allocator + Clone> Search<A> {
         answer
     }
 
-    // Returns how many seeds the mover takes, raised to the least that is asked and lowered to the most. Tests close in on it, the first a
+    // Returns how many seeds the mover wins, raised to the least that is asked and lowered to the most. Tests close in on it, the first a
     // little above half of all.
     fn won_within<const GAME: u8>(&mut self, houses: &Houses, asked: SeedBounds) -> u8
         requires going { is_over (bare houses.now) ≡ false }
@@ -189,7 +189,7 @@ impl<A: Allocator + Clone> Search<A> {
         low
     }
 
-    /// Returns whether house `h` takes at least `bar` seeds.
+    /// Returns whether house `h` wins at least `bar` seeds.
     pub fn move_reaches(&mut self, houses: &Houses, h: u8, bar: u8) -> bool
         requires legal { Contains (legal_houses (bare houses.now)) h }
         ensures { IsTrue result ↔ bar ≤ won_by_step (houses_step houses.now h) }
@@ -197,17 +197,17 @@ impl<A: Allocator + Clone> Search<A> {
         in_its_game!(self.move_reaches_game(houses, h, bar))
     }
 
-    // The same, in a game that is known.
+    // Returns whether house `h` wins at least `bar` seeds, for houses of this game.
     fn move_reaches_game<const GAME: u8>(&mut self, houses: &Houses, h: u8, bar: u8) -> bool
         requires legal { Contains (legal_houses (bare houses.now)) h }
         requires game { game_of houses.now ≡ GAME }
         ensures { IsTrue result ↔ bar ≤ won_by_step (houses_step houses.now h) }
     {
-        let _seeds = houses.seeds();
+        let _seeds = houses.seeds(); // For its clause: the houses are within the limits.
         bar <= self.bound_step::<GAME>(houses.play(h), bar)
     }
 
-    // Returns a fail-soft bound of how many seeds the mover takes. From `bar` on it is a lower bound, and below `bar` an upper one.
+    // Returns a fail-soft bound of how many seeds the mover wins. From `bar` on it is a lower bound, and below `bar` an upper one.
     #[inline(always)]
     #[cycle(search)]
     fn bound<const GAME: u8>(&mut self, houses: Houses, bar: u8) -> u8
@@ -221,7 +221,7 @@ impl<A: Allocator + Clone> Search<A> {
         self.bound_by_search::<GAME>(houses, bar)
     }
 
-    // The same, if the houses are no ending in use.
+    // Returns a fail-soft bound of how many seeds the mover wins. The houses are no ending that is looked up.
     #[cycle(search)]
     #[inline(never)]
     fn bound_by_search<const GAME: u8>(&mut self, houses: Houses, bar: u8) -> u8
@@ -255,7 +255,7 @@ impl<A: Allocator + Clone> Search<A> {
         bound
     }
 
-    // The same, by trying the moves.
+    // Returns a fail-soft bound of how many seeds the mover wins, found by trying the moves.
     #[inline(always)]
     #[cycle(search)]
     fn explore<const GAME: u8>(&mut self, houses: &Houses, bar: u8) -> u8
@@ -291,7 +291,7 @@ impl<A: Allocator + Clone> Search<A> {
         most
     }
 
-    // Tries the moves that end in the store, the nearest to it first. Returns the most that they take, or a bound that is enough.
+    // Tries the moves that end in the store, the nearest to it first. Returns the most that they win, or a bound that is enough.
     #[inline(always)]
     #[cycle(search)]
     fn bound_again<const GAME: u8>(&mut self, houses: &Houses, bar: u8) -> u8
@@ -301,7 +301,7 @@ impl<A: Allocator + Clone> Search<A> {
         ensures upper { result < bar → (h : ℕ) → Contains (legal_houses (bare houses.now)) h → EndsInStore houses.now h →
             WinsAtMost houses.now result h }
     {
-        let _seeds = houses.seeds();
+        let _seeds = houses.seeds(); // For its clause: the houses are within the limits.
         let mut left = again_houses(houses);
         let mut most = 0;
         while left > 0 {
@@ -316,7 +316,7 @@ impl<A: Allocator + Clone> Search<A> {
         most
     }
 
-    // Plays each of the other moves once. Returns the most that they take, or a bound that is enough. The turns that wait are written
+    // Plays each of the other moves once. Returns the most that they win, or a bound that is enough. The turns that wait are written
     // down, each with its priority, which is 0 for the others.
     #[inline(always)]
     #[cycle(search)]
@@ -362,7 +362,7 @@ impl<A: Allocator + Clone> Search<A> {
         requires game { game_of houses.now ≡ GAME }
         ensures { IsLook houses.now bar house result }
     {
-        let _seeds = houses.seeds();
+        let _seeds = houses.seeds(); // For its clause: the houses are within the limits.
         let step = houses.play_by(&self.table.endings.sowings, house);
         match step {
             HousesStep::Turn(gained, next) => {
@@ -376,7 +376,7 @@ impl<A: Allocator + Clone> Search<A> {
         }
     }
 
-    // Returns a fail-soft bound of what a step takes.
+    // Returns a fail-soft bound of what a step wins.
     #[inline(always)]
     #[cycle(search)]
     fn bound_step<const GAME: u8>(&mut self, step: HousesStep, bar: u8) -> u8
@@ -396,7 +396,7 @@ impl<A: Allocator + Clone> Search<A> {
         }
     }
 
-    // Returns a fail-soft bound of what a turn takes: the `gained` seeds that it brought to the store, and what the other player leaves.
+    // Returns a fail-soft bound of what a turn wins: the `gained` seeds that it brought to the store, and what the other player leaves.
     #[inline(always)]
     #[cycle(search)]
     fn bound_turn<const GAME: u8>(&mut self, gained: u8, next: Houses, bar: u8) -> u8

@@ -13,7 +13,7 @@ pub(crate) mod move_values;
 pub(crate) mod tests;
 mod values;
 
-use crate::bounds::seed_bounds::share_of;
+use crate::bounds::seed_bounds::won_of;
 use crate::bounds::window::Window;
 use crate::search::Search;
 use crate::table::Table;
@@ -73,7 +73,7 @@ impl<A: Allocator + Clone> Solver<A> {
         }
         let houses = board.houses();
         let best = self.worth(&houses);
-        let bar = share_of(best, houses.seeds());
+        let bar = won_of(best, houses.seeds());
         let house = self.first_house(&houses, &board.legal(), bar);
         let margin = best + (board.own_store() as i32 - board.other_store() as i32);
         Verdict::Best { margin, house }
@@ -84,18 +84,18 @@ impl<A: Allocator + Clone> Solver<A> {
         requires { is_over (bare houses.now) ≡ false }
         ensures { result ≡ houses_worth houses.now }
     {
-        let _seeds = houses.seeds();
+        let _seeds = houses.seeds(); // For its clause: the houses are within the limits.
         self.search.search(houses, Window::whole())
     }
 
-    // Returns the lowest-numbered house that takes as many seeds as best play. If all but the last fall short, it is the last.
+    // Returns the lowest-numbered house that wins as many seeds as best play. If all but the last fall short, it is the last.
     fn first_house(&mut self, houses: &Houses, moves: &Moves, bar: u8) -> u8
         requires moves { moves.now ≡ legal_houses (bare houses.now) }
         requires going { is_over (bare houses.now) ≡ false }
         requires best { bar ≡ won houses.now }
         ensures { result ≡ best_house (bare houses.now) }
     {
-        let _seeds = houses.seeds();
+        let _seeds = houses.seeds(); // For its clause: the houses are within the limits.
         let last = moves.len() - 1;
         for i in 0..last {
             let h = moves.get(i);

@@ -35,14 +35,13 @@ pub fn limit_of_tables()
 const FIRST_PLACES: u32 = 8_192;
 
 /// What is known of houses: entries, places and endings. Contracts see the entries: intervals that hold the worth of houses, by their
-/// keys. If the table is full, a new entry replaces the least recently used
-/// one.
+/// keys. If the table is full, a new entry replaces the least recently used one.
 #[derive(Drop)]
 pub struct Table<A: Allocator + Clone = Global> {
     entries: LruCache<u64, Interval, DefaultHasher, A>,
     // What is known of houses with few seeds, each in its place.
     pub(crate) places: DirectTable<A>,
-    // How many seeds the mover takes of endings, which have still fewer. Tables may share them.
+    // How many seeds the mover wins of endings, which have still fewer. Tables may share them.
     pub(crate) endings: Arc<EndgameTable<A>, A>,
 }
 
@@ -126,7 +125,7 @@ impl<A: Allocator + Clone> Table<A> {
         }
     }
 
-    // Returns how many seeds the mover takes from an ending. It stands apart from the search, whose own functions are
+    // Returns how many seeds the mover wins of an ending. It stands apart from the search, whose own functions are
     // small enough to be inlined then.
     #[inline(never)]
     pub(crate) fn won<const GAME: u8>(&self, houses: Houses) -> u8

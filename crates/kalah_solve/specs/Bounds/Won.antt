@@ -6,22 +6,22 @@ use Rattle.kalah_rules.specs.declared.step.HousesStep.TheVariants.{Over, Again, 
 use Rattle.kalah_solve.specs.Solver.Worth.{houses_worth}
 use Rattle.kalah_solve.specs.declared.bounds.seed_bounds.SeedBounds.{SeedBounds}
 
--- a number as a count, and none for one below 0
+-- an integer as a natural number, 0 if below 0
 abbrev pub count : ℤ → ℕ
 count (pos n) = n
 count (negsuc n) = 0
 
--- the seeds in the houses that the mover takes in best play: the houses are worth these less the others
+-- the seeds in the houses that the mover wins in best play: the houses are worth these less the others
 unfoldable pub won : Rows → ℕ
 won a = count (houses_worth a +ℤ pos (seeds_in_houses (bare a))) / 2
 
--- what the mover takes by a step, if best play follows; after a turn it is what the other player leaves
+-- what the mover wins by a step, if best play follows; after a turn it is what the other player leaves
 abbrev pub won_by_step : HousesStep → ℕ
 won_by_step (Over own other) = own
 won_by_step (Again gained b) = gained + won b
 won_by_step (Turn gained b) = gained + (seeds_in_houses (bare b) - won b)
 
--- the number is in the share
+-- the number is within the bounds
 pub record IsWithinBounds (s : SeedBounds) (t : ℕ) : Type 0 where
   pub least : s.least ≤ t
   pub most : t ≤ s.most

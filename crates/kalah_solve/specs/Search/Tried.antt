@@ -13,7 +13,7 @@ pub record IsSoftBound (bar number bound : ℕ) : Type 0 where
   pub lower : bar ≤ bound → bound ≤ number
   pub upper : bound < bar → number ≤ bound
 
--- the move of house h takes at most `most` seeds
+-- the move of house h wins at most `most` seeds
 abbrev pub WinsAtMost : Rows → ℕ → ℕ → Type 0
 WinsAtMost a most h = won_by_step (houses_step a h) ≤ most
 
@@ -27,12 +27,12 @@ pub record IsTurnOf (a : Rows) (h priority : ℕ) (b : Rows) : Type 0 where
   pub step : houses_step a h ≡ Turn (seeds_in_houses (bare a) - seeds_in_houses (bare b)) b
   pub house : priority % 8 + 1 ≡ h
 
--- what is known of the move of house h once it was played: a bound of what it takes, or a priority with which its turn waits
+-- what is known of the move of house h once it was played: a bound of what it wins, or a priority with which its turn waits
 abbrev pub IsLook : Rows → ℕ → ℕ → Look → Type 0
 IsLook a bar h (Bounded bound) = IsSoftBound bar (won_by_step (houses_step a h)) bound
 IsLook a bar h (Waits priority b) = (0 < priority) × IsTurnOf a h priority b
 
--- each house with a priority waits with its turn, and of the others, but those that end in the store, none takes more than `most`,
+-- each house with a priority waits with its turn, and of the others, but those that end in the store, none wins more than `most`,
 -- unless that is enough
 pub record AreWaiting (a : Rows) (bar most : ℕ) (priorities : List ℕ) (turns : List Rows) : Type 0 where
   pub lower : bar ≤ most → most ≤ won a

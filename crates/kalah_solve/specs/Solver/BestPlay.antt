@@ -12,22 +12,22 @@ Strategy = Position → ℕ
 pub record IsStrategy (s : Strategy) : Type 0 where
   pub moves : (p : Position) → HasEqualSides p → is_over p ≡ false → Contains (legal_houses p) (s p)
 
--- a way to play: the houses that a player may choose from at each position. A player whom the rules alone bind chooses
--- from `legal_houses`, may remember and change his mind, and one who follows a strategy has no choice
-abbrev pub Way : Type 0
-Way = Position → List ℕ
+-- a policy: the houses that a player may choose from at each position. A player whom the rules alone bind chooses from
+-- `legal_houses`, and may remember and change plans; one who follows a strategy has no choice
+abbrev pub Policy : Type 0
+Policy = Position → List ℕ
 
-abbrev pub follow : Strategy → Way
+abbrev pub follow : Strategy → Policy
 follow s p = s p ∷ []
 
--- a game from p, in which the player to move plays the way `mine` and the opponent the way `theirs`: the houses that are
+-- a game from p, in which the player to move plays by the policy `mine` and the opponent by `theirs`: the houses that are
 -- moved, in order, and the position at the end, seen by the player who is to move at p
-pub data Game : Way → Way → Position → List ℕ → Position → Type 0 where
-  is_at_end : {mine theirs : Way} {p : Position} → is_over p ≡ true → Game mine theirs p [] p
-  moves_on : {mine theirs : Way} {p : Position} {h : ℕ} {houses : List ℕ} {final : Position} →
+pub data Game : Policy → Policy → Position → List ℕ → Position → Type 0 where
+  is_at_end : {mine theirs : Policy} {p : Position} → is_over p ≡ true → Game mine theirs p [] p
+  moves_on : {mine theirs : Policy} {p : Position} {h : ℕ} {houses : List ℕ} {final : Position} →
       is_over p ≡ false → Contains (mine p) h → is_again p h ≡ true →
       Game mine theirs (after p h) houses final → Game mine theirs p (h ∷ houses) final
-  passes_turn : {mine theirs : Way} {p : Position} {h : ℕ} {houses : List ℕ} {final : Position} →
+  passes_turn : {mine theirs : Policy} {p : Position} {h : ℕ} {houses : List ℕ} {final : Position} →
       is_over p ≡ false → Contains (mine p) h → is_again p h ≡ false →
       Game theirs mine (swapped (after p h)) houses final → Game mine theirs p (h ∷ houses) (swapped final)
 

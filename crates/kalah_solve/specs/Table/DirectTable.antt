@@ -5,11 +5,12 @@ use Rattle.kalah_rules.specs.Key.{key_of}
 use Rattle.kalah_solve.specs.Bounds.Won.{won}
 use Rattle.kalah_solve.specs.Table.Entries.{most_entries}
 use Rattle.kalah_solve.specs.declared.table.TheConstants.{FIRST_PLACES}
+use Rattle.kalah_solve.specs.declared.table.direct_table.TheConstants.{LEAST_PLACES, MIX}
 use Rattle.kalah_solve.specs.declared.table.direct_table.Place.{Place}
 
 -- a key, mixed: each key has a number of its own
 unfoldable pub mixed : ℕ → ℕ
-mixed key = key * 11400714819323198485 % 2 ^ 64
+mixed key = key * MIX % 2 ^ 64
 
 -- the place of a mixed key among `count` places, by its first half
 abbrev pub place_among : ℕ → ℕ → ℕ
@@ -23,7 +24,7 @@ left_open number = number % 2 ^ 54
 abbrev pub stored_rest : Place → ℕ
 stored_rest p = p.stored / 1024
 
--- the least that is known of their share
+-- the least that the mover is known to win of them
 abbrev pub stored_least : Place → ℕ
 stored_least p = p.stored % 32
 
@@ -31,7 +32,7 @@ stored_least p = p.stored % 32
 abbrev pub stored_most : Place → ℕ
 stored_most p = p.stored / 32 % 32
 
--- the number is in the share that the place states
+-- the number is within the bounds that the place states
 pub record IsWithinPlace (p : Place) (t : ℕ) : Type 0 where
   pub least : stored_least p ≤ t
   pub most : t ≤ stored_most p
@@ -45,7 +46,7 @@ StoreBounds places = (a : Rows) (number : ℕ) (d : Place) → IsWithinHouses a 
 
 -- how many places there are beside a number of entries: that many, and never fewer than 1,024
 abbrev pub places_for : ℕ → ℕ
-places_for entries = max 1024 entries
+places_for entries = max LEAST_PLACES entries
 
 -- the places of a table with room for this many entries: its first ones, or all
 abbrev pub ArePlaces : ℕ → List Place → Type 0
@@ -54,5 +55,5 @@ ArePlaces entries places = (length places ≡ places_for (min entries FIRST_PLAC
 
 -- enough places that no two keys share a place and what it leaves open
 pub record AreEnough (count : ℕ) : Type 0 where
-  pub least : 1024 ≤ count
+  pub least : LEAST_PLACES ≤ count
   pub most : count ≤ 2 ^ 32

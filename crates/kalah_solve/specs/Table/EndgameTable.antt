@@ -3,13 +3,13 @@ use Rattle.std.specs.Prelude.{◌≡◌, ℕ, ◌+◌, ◌*◌, ◌/◌, ◌%◌
 use Rattle.kalah_rules.specs.Position.{Rows, bare, seeds_in_houses, IsWithinHouses}
 use Rattle.kalah_rules.specs.Key.{rule_bit}
 use Rattle.kalah_solve.specs.Table.RowRank.{choose, rank_of_houses}
-use Rattle.kalah_solve.specs.declared.table.endgame_table.TheConstants.{COUNTS, PAIR}
+use Rattle.kalah_solve.specs.declared.table.endgame_table.TheConstants.{MOST_ENDING_SEEDS, COUNTS, PAIR}
 use Rattle.kalah_solve.specs.declared.table.endgame_table.words.TheConstants.{FIRST_WORDS, RULE_WORDS}
 use Rattle.kalah_solve.specs.Bounds.Won.{won}
 
 -- the most seeds of an ending
 abbrev pub most_ending_seeds : ℕ
-most_ending_seeds = 9
+most_ending_seeds = MOST_ENDING_SEEDS
 
 -- houses with so few seeds are an ending
 abbrev pub IsEnding : Rows → Type 0
@@ -37,11 +37,11 @@ ArePairs n pairs = (k : ℕ) → k < n → k % 32 < COUNTS → slice_index pairs
 abbrev pub word_of : Rows → ℕ
 word_of a = slice_index FIRST_WORDS (length a.own) + RULE_WORDS * rule_bit a.rule + rank_of_houses a / 16
 
--- a word stores in four bits, for each ending of it, nothing or one more than the mover takes
+-- a word stores in four bits, for each ending of it, nothing or one more than the mover wins
 abbrev pub stored_at : ℕ → ℕ → ℕ
 stored_at word at = word / 2 ^ (4 * at) % 16
 
--- what word i states is what the mover takes
+-- what word i states is what the mover wins
 unfoldable pub StoresWon : ℕ → ℕ → Type 0
 StoresWon i word = (a : Rows) → IsWithinHouses a → IsEnding a → word_of a ≡ i → stored_at word (rank_of_houses a % 16) ≢ 0 →
     stored_at word (rank_of_houses a % 16) ≡ suc (won a)

@@ -1,4 +1,4 @@
-//! Bounds on the number of seeds that a player takes.
+//! Bounds on the number of seeds that a player wins.
 ghost use Rattle.std.specs.Prelude.{◌≡◌, ◌+◌, ◌*◌, max, min, ◌≤◌, ◌≤ℤ◌, ◌+ℤ◌, ◌-ℤ◌, ℕ, ℤ, pos};
 ghost use Rattle.kalah_rules.specs.Limits.{most_seeds};
 ghost use Rattle.kalah_rules.specs.Position.{bare, seeds_in_houses};
@@ -8,7 +8,7 @@ use crate::bounds::interval::Interval;
 use crate::bounds::window::Window;
 use kalah_rules::{Houses, MOST_SEEDS};
 
-/// Bounds on the number of seeds in houses that a player takes, both inclusive.
+/// Bounds on the number of seeds in houses that a player wins, both inclusive.
 #[derive(Clone, Copy)]
 pub(crate) struct SeedBounds {
     pub least: u8,
@@ -16,8 +16,8 @@ pub(crate) struct SeedBounds {
     ghost few: { most ≤ most_seeds },
 }
 
-// Returns how many of `seeds` seeds a player takes who has this margin: half of both together, rounded down, or 0 if that is negative.
-pub(crate) fn share_of(margin: i32, seeds: u8) -> u8
+// Returns how many of `seeds` seeds a player wins who has this margin: half of both together, rounded down, or 0 if that is negative.
+pub(crate) fn won_of(margin: i32, seeds: u8) -> u8
     requires { (margin +ℤ pos seeds) ≤ℤ pos 255 }
     ensures { IsHalf (margin +ℤ pos seeds) result }
 {
@@ -25,7 +25,7 @@ pub(crate) fn share_of(margin: i32, seeds: u8) -> u8
     if number <= 0 { 0 } else { number as u8 / 2 }
 }
 
-// Returns the margin of a player who takes `won` of `seeds` seeds.
+// Returns the margin of a player who wins `won` of `seeds` seeds.
 #[inline(always)]
 pub(crate) fn margin_of(won: u8, seeds: u8) -> i32
     ensures { result ≡ pos (2 * won) -ℤ pos seeds }
@@ -36,7 +36,7 @@ pub(crate) fn margin_of(won: u8, seeds: u8) -> i32
 impl SeedBounds {
     ghost use Rattle.kalah_solve.specs.Bounds.Won.{won, IsWithinBounds};
 
-    // Returns what the mover can take of the seeds in these houses.
+    // Returns what the mover can win of the seeds in these houses.
     pub(crate) fn unknown(houses: &Houses) -> SeedBounds
         ensures least { result.least ≡ 0 }
         ensures most { result.most ≡ seeds_in_houses (bare houses.now) }
@@ -48,7 +48,7 @@ impl SeedBounds {
         }
     }
 
-    // Returns the shares of `seeds` seeds that a window of margins distinguishes.
+    // Returns the bounds of what is won of `seeds` seeds that a window of margins distinguishes.
     pub(crate) fn of_window(window: Window, seeds: u8) -> SeedBounds
         requires { seeds ≤ most_seeds }
         ensures ordered { result.least ≤ result.most }
@@ -56,12 +56,12 @@ impl SeedBounds {
             ≡ within window.lo window.hi (pos (2 * t) -ℤ pos seeds) }
     {
         SeedBounds {
-            least: share_of(window.lo, seeds),
-            most: share_of(window.hi + 1, seeds),
+            least: won_of(window.lo, seeds),
+            most: won_of(window.hi + 1, seeds),
         }
     }
 
-    // Returns the share of `seeds` seeds that a margin in the interval allows.
+    // Returns the bounds of what is won of `seeds` seeds that a margin in the interval allows.
     pub(crate) fn of_margins(interval: Interval, seeds: u8) -> SeedBounds
         requires { seeds ≤ most_seeds }
         ensures held { (t : ℕ) → t ≤ seeds → Encloses interval (pos (t + t) -ℤ pos seeds) → IsWithinBounds result t }
@@ -69,12 +69,12 @@ impl SeedBounds {
             → (t : ℕ) → t ≤ seeds → IsWithinBounds result t → Encloses interval (pos (t + t) -ℤ pos seeds) }
     {
         SeedBounds {
-            least: share_of(interval.lo as i32 + 1, seeds),
-            most: share_of(interval.hi as i32, seeds).min(MOST_SEEDS as u8),
+            least: won_of(interval.lo as i32 + 1, seeds),
+            most: won_of(interval.hi as i32, seeds).min(MOST_SEEDS as u8),
         }
     }
 
-    // Returns the margins of the shares of `seeds` seeds.
+    // Returns the margins of what is won of `seeds` seeds within these bounds.
     pub(crate) fn margins(self, seeds: u8) -> Interval
         requires { seeds ≤ most_seeds }
         ensures held { (t : ℕ) → t ≤ seeds → IsWithinBounds self t → Encloses result (pos (t + t) -ℤ pos seeds) }

@@ -17,14 +17,14 @@ impl<A: Allocator + Clone> Search<A> {
         ensures least { least_margin ≤ℤ houses_worth houses.now }
         ensures most { houses_worth houses.now ≤ℤ most_margin }
     {
-        let _seeds = houses.seeds();
+        let _seeds = houses.seeds(); // For its clause: the houses are within the limits.
         match self.table.look_up(houses) {
             Some(interval) => interval,
             None => Interval::whole(),
         }
     }
 
-    // Returns what is known of the seeds that the mover takes.
+    // Returns what is known of the seeds that the mover wins.
     pub(super) fn known(&mut self, houses: &Houses) -> SeedBounds
         ensures { IsWithinBounds result (won houses.now) }
     {
@@ -35,7 +35,7 @@ impl<A: Allocator + Clone> Search<A> {
         }
     }
 
-    // The same, from the entries.
+    // Returns what the entries know of the seeds that the mover wins.
     #[inline(never)]
     fn known_by_entry(&mut self, houses: Houses) -> SeedBounds
         ensures { IsWithinBounds result (won houses) }

@@ -79,7 +79,7 @@ fn places_are_laid_out_once(rt: HostRuntime) {
     let houses = Houses::new(m, own, other, Rule::Classic).expect(&rt, "beyond the limits");
     assert!(rt; !houses.is_over());
     search.table.grow();
-    // The mover takes 10 of the 12 seeds.
+    // The mover wins 10 of the 12 seeds.
     let _ = search.bound_by_search::<6>(houses, 10);
     assert!(rt; search.known(&houses).least == 10);
     search.table.grow();

@@ -9,18 +9,20 @@ use kalah_rules::Houses;
 pub(super) const SEEDS_THAT_ALWAYS_PAY: u8 = 7;
 
 // The nodes of a game from which on all places pay.
-const SOME_NODES: u64 = 8_000;
+const NODES_FOR_ALL_PLACES: u64 = 8_000;
 
 // The nodes of a game from which on endings of 8 seeds pay. To find an ending costs as much as a node, and with six houses a side there
 // are 75,582 of 8 seeds.
-const MORE_NODES: u64 = 42_000;
+const NODES_FOR_8_SEEDS: u64 = 42_000;
 
-// The nodes of a game from which on all endings pay, once houses with `MANY_SEEDS` seeds were searched. There are 167,960 of 9 seeds.
-const MANY_NODES: u64 = 120_000;
+// The nodes of a game from which on endings of 9 seeds pay, the most, once houses with many seeds were asked about. There are 167,960 of
+// 9 seeds.
+const NODES_FOR_9_SEEDS: u64 = 120_000;
 
+// Houses with this many seeds or more have many.
 const MANY_SEEDS: u8 = 17;
 
-/// The most seeds for which a search looks up what the mover takes among the endings.
+/// The most seeds for which a search looks up what the mover wins among the endings.
 #[derive(Clone, Copy)]
 pub(super) struct EndingLimit {
     pub(super) seeds: u8,
@@ -57,7 +59,7 @@ impl Work {
             game: 0,
             nodes: 0,
             nodes_before: [0; 16],
-            next_event: SOME_NODES,
+            next_event: NODES_FOR_ALL_PLACES,
             seen_many_seeds: false,
         }
     }
@@ -74,9 +76,10 @@ impl Work {
     /// Returns the limit of endings that pays now.
     pub(super) fn ending_limit(&self) -> EndingLimit {
         EndingLimit {
-            seeds: if self.nodes < MORE_NODES {
+            seeds: if self.nodes < NODES_FOR_8_SEEDS {
                 SEEDS_THAT_ALWAYS_PAY
-            } else if self.nodes < MANY_NODES || !self.seen_many_seeds {
+            } else if self.nodes < NODES_FOR_9_SEEDS || !self.seen_many_seeds {
+                // Endings of 8 seeds pay, and those of 9 don't yet.
                 8
             } else {
                 MOST_ENDING_SEEDS
@@ -91,12 +94,12 @@ impl Work {
 
     // Sets the number of nodes from which on more may pay.
     fn set_next_event(&mut self) {
-        self.next_event = if self.nodes < SOME_NODES {
-            SOME_NODES
-        } else if self.nodes < MORE_NODES {
-            MORE_NODES
-        } else if self.nodes < MANY_NODES {
-            MANY_NODES
+        self.next_event = if self.nodes < NODES_FOR_ALL_PLACES {
+            NODES_FOR_ALL_PLACES
+        } else if self.nodes < NODES_FOR_8_SEEDS {
+            NODES_FOR_8_SEEDS
+        } else if self.nodes < NODES_FOR_9_SEEDS {
+            NODES_FOR_9_SEEDS
         } else {
             u64::MAX
         };

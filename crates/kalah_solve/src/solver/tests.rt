@@ -17,7 +17,7 @@ pub(crate) fn solver_with(table: Table, keeps_all: bool) -> Solver {
     }
 }
 
-// The same with a table of this size.
+// A solver with a table of this size.
 fn solver_of(rt: &impl Abort, alloc: Global, entries: u32, keeps_all: bool) -> Solver {
     assert!(rt; 1 <= entries && entries <= 1_048_576);
     let table = Table::new(alloc, entries).expect(rt, "no memory for a table");

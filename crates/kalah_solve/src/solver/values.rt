@@ -18,7 +18,7 @@ impl<A: Allocator + Clone> Solver<A> {
         ensures values { result ≡ values_of board.now }
         ensures best_play { TellMoves board.now result }
     {
-        let _side = board.m();
+        let _side = board.m(); // For its clause: the board is within the limits.
         let moves = board.legal();
         let mut values = MoveValues::none();
         for i in 0..moves.len() {

@@ -21,7 +21,7 @@ const MIX: u64 = 0x9E37_79B9_7F4A_7C15;
 const OPEN: u64 = 0x40_0000_0000_0000;
 
 // What is known of some houses that have this place, as one number. From bit 10 on it has what the place leaves open of their key, and
-// below that the most and the least that the mover takes. Initially it holds what is known of all houses.
+// below that the most and the least that the mover wins. Initially it holds what is known of all houses.
 #[derive(Clone, Copy)]
 struct Place {
     stored: u64,
@@ -128,7 +128,7 @@ impl<A: Allocator> DirectTable<A> {
         self.places.len()
     }
 
-    /// Returns what the place of the houses states of them: bounds of the seeds that the mover takes. They are 0 and all seeds if it is
+    /// Returns what the place of the houses states of them: bounds of the seeds that the mover wins. They are 0 and all seeds if it is
     /// about others.
     pub(crate) fn look_up(&self, houses: &Houses) -> SeedBounds
         ensures { IsWithinBounds result (won houses.now) }
@@ -142,7 +142,7 @@ impl<A: Allocator> DirectTable<A> {
         }
     }
 
-    /// Stores in the place of the houses that what the mover takes is within these bounds.
+    /// Stores in the place of the houses that what the mover wins is within these bounds.
     pub(crate) fn keep(&mut self, houses: &Houses, bounds: SeedBounds)
         requires { IsWithinBounds bounds (won houses.now) }
         ensures { length self.new ≡ length self.old }

@@ -1,4 +1,4 @@
-//! The exact number of seeds that the mover takes from houses with few seeds, kept once it is known.
+//! The exact number of seeds that the mover wins of houses with few seeds, kept once it is known.
 ghost use Rattle.std.specs.Prelude.{◌≡◌, ◌<◌, ◌+◌, ◌*◌, ◌/◌, ◌%◌, ◌^◌, ◌++◌, IfSome};
 ghost use Rattle.kalah_rules.specs.Position.{IsWithinHouses};
 ghost use Rattle.kalah_rules.specs.Key.{number_of};
@@ -172,7 +172,7 @@ impl<A: Allocator + Clone> EndgameTable<A> {
         rank
     }
 
-    // Returns how many seeds the mover takes, if it is known.
+    // Returns how many seeds the mover wins, if it is known.
     fn get(&self, houses: &Houses, rank: u32) -> Option<u8>
         requires rank { rank ≡ rank_of_houses houses.now }
         requires few { IsEnding houses.now }
@@ -187,7 +187,7 @@ impl<A: Allocator + Clone> EndgameTable<A> {
         Some(stored as u8 - 1)
     }
 
-    // Stores how many seeds the mover takes.
+    // Stores how many seeds the mover wins.
     fn keep(&self, houses: &Houses, rank: u32, known: u8)
         requires rank { rank ≡ rank_of_houses houses.now }
         requires known { known ≡ won houses.now }

@@ -1,4 +1,4 @@
-//! The number of seeds that the mover takes from houses with few seeds, by trying each move to the end.
+//! The number of seeds that the mover wins of houses with few seeds, by trying each move to the end.
 ghost use Rattle.std.specs.Prelude.{◌≡◌, ◌<◌, ◌^◌, false, Contains};
 ghost use Rattle.kalah_rules.specs.Position.{bare, is_over};
 ghost use Rattle.kalah_rules.specs.Play.{legal_houses};
@@ -14,7 +14,7 @@ use kalah_rules::{House, Houses, HousesStep};
 use std::alloc::Allocator;
 
 impl<A: Allocator + Clone> EndgameTable<A> {
-    /// Returns how many of the seeds in the houses the mover takes in best play.
+    /// Returns how many of the seeds in the houses the mover wins in best play.
     #[cycle(exact)]
     #[inline(always)]
     pub(crate) fn won<const GAME: u8>(&self, houses: Houses) -> u8
@@ -31,7 +31,7 @@ impl<A: Allocator + Clone> EndgameTable<A> {
         self.learn::<GAME>(houses, rank)
     }
 
-    // The same, by trying the moves. What it finds is kept.
+    // Returns how many the mover wins, found by trying the moves, and keeps it.
     #[cycle(exact)]
     #[inline(never)]
     fn learn<const GAME: u8>(&self, houses: Houses, rank: u32) -> u8
@@ -47,7 +47,7 @@ impl<A: Allocator + Clone> EndgameTable<A> {
         won
     }
 
-    // Tries the moves from the one nearest the store on, until one takes all.
+    // Returns how many the mover wins. Tries the moves from the one nearest the store on, until one wins all.
     #[cycle(exact)]
     fn most_won<const GAME: u8>(&self, houses: &Houses) -> u8
         requires going { is_over (bare houses.now) ≡ false }
@@ -69,7 +69,7 @@ impl<A: Allocator + Clone> EndgameTable<A> {
         most
     }
 
-    // Returns how many seeds the move of this house takes.
+    // Returns how many seeds the move of this house wins.
     #[cycle(exact)]
     fn move_wins<const GAME: u8>(&self, houses: &Houses, house: House) -> u8
         requires legal { Contains (legal_houses (bare houses.now)) house }
@@ -77,7 +77,7 @@ impl<A: Allocator + Clone> EndgameTable<A> {
         requires few { IsEnding houses.now }
         ensures { result ≡ won_by_step (houses_step houses.now house) }
     {
-        let _seeds = houses.seeds();
+        let _seeds = houses.seeds(); // For its clause: the houses are within the limits.
         match houses.play_by(&self.sowings, house) {
             HousesStep::Over { own, .. } => own,
             HousesStep::Again(gained, next) => gained + self.won::<GAME>(next),

@@ -1,4 +1,4 @@
-//! Words of endings: each stores how many seeds the mover takes, for sixteen values of houses.
+//! Words of endings: each stores how many seeds the mover wins, for sixteen values of houses.
 ghost use Rattle.std.specs.Prelude.{◌≡◌, ◌<◌, ◌+◌, ◌*◌, ◌^◌, IfOk};
 ghost use Rattle.kalah_rules.specs.Position.{IsWithinHouses};
 ghost use Rattle.kalah_solve.specs.Table.RowRank.{rank_of_houses};
@@ -65,7 +65,7 @@ pub(super) fn word_of(houses: &Houses, rank: u32) -> usize
     (of_rule + rank / 16) as usize
 }
 
-// Returns what a word stores at `at`: 0 if nothing is known, otherwise one more than the mover takes.
+// Returns what a word stores at `at`: 0 if nothing is known, otherwise one more than the mover wins.
 pub(super) fn stored_at(word: u64, at: u32) -> u64
     requires { at < 16 }
     ensures { result ≡ stored_at word at }

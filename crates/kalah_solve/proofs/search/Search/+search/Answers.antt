@@ -6,7 +6,7 @@ use Rattle.kalah_solve.specs.Bounds.Won.{won}
 use Rattle.kalah_solve.specs.Search.Tried.{EndsInStore, WinsAtMost}
 use Rattle.kalah_solve.proofs.SearchLemmas.{cell_none, marks_fall, move_enough, turn_enough, turn_at_most, turn_of, turn_keeps, turn_at, bound_up_to, bound_left, low_more, played_none, played_more, played_bound, ending_legal, marked_legal, moves_fewer, last_legal, each_fewer, each_last, again_none, again_fewer, untried_first, untried_fewer, none_untried}
 use Rattle.kalah_solve.proofs.WorthLemmas.{goes_on, leads_by, step_falls}
-use Rattle.kalah_solve.proofs.BoundsLemmas.{taken_share}
+use Rattle.kalah_solve.proofs.BoundsLemmas.{won_of_houses}
 use Rattle.kalah_solve.proofs.search.Search.+search.Goals as goal
 
 pub look-bound_step-requires : goal.look-bound_step-requires
@@ -41,16 +41,16 @@ look-bound_turn-requires g t c κs within =
 pub bound_step-overflow_add-result : goal.bound_step-overflow_add-result
 bound_step-overflow_add-result g t c =
     let on = subst (GoesOn _) c.in-Again.is c.requires.on in
-    omega (arith, (taken_share on.limits).few, bound_up_to c.bound.ensures)
+    omega (arith, (won_of_houses on.limits).few, bound_up_to c.bound.ensures)
 
 pub bound_turn-overflow_sub-result : goal.bound_turn-overflow_sub-result
 bound_turn-overflow_sub-result g t c =
-    let few = (taken_share c.requires.on.limits).few in
+    let few = (won_of_houses c.requires.on.limits).few in
     omega (arith, bound_up_to c.bound.ensures)
 
 pub bound_turn-returns-else-all-bar : goal.bound_turn-returns-else-all-bar
 bound_turn-returns-else-all-bar g t c =
-    let few = (taken_share c.requires.on.limits).few in
+    let few = (won_of_houses c.requires.on.limits).few in
     bound_left c.args.bar (c.args.gained + c.seeds.result) _ c.args.gained (won c.args.next) c.bound.result
     (omega arith) few
     c.if-bar-gained.false c.if-all-bar.false c.bound.ensures

@@ -20,8 +20,8 @@ returns-then-is_over-clause-best_play g c =
 pub first_house-house-requires-clause-moves : goal.first_house-house-requires-clause-moves
 first_house-house-requires-clause-moves g c = c.legal.ensures ∙ sym (ap (λ (a : Rows). legal_houses (bare a)) c.houses-houses.ensures)
 
-pub share_of-bar-requires : goal.share_of-bar-requires
-share_of-bar-requires g c =
+pub won_of-bar-requires : goal.won_of-bar-requires
+won_of-bar-requires g c =
     let a = c.houses-houses.result in
     let limits = c.seeds.ensures.limits in
     omega (arith, ints, worth_low a limits, worth_high a limits)
@@ -30,7 +30,7 @@ pub first_house-house-requires-clause-best : goal.first_house-house-requires-cla
 first_house-house-requires-clause-best g c =
     let fits : SFits w32 c.worth-best.result = search rules in
     half_is c.houses-houses.result _ _ c.seeds.ensures.limits c.worth-best.ensures
-    (rw c.seeds.ensures.seeds at (simp to_z-of_z at c.share_of-bar.ensures))
+    (rw c.seeds.ensures.seeds at (simp to_z-of_z at c.won_of-bar.ensures))
 
 -- what the search finds is the worth of the houses
 found : (g : given.Over) (c : goal.After-other_store g) → c.worth-best.result ≡ houses_worth (rows_of c.args.board.now)

@@ -1,28 +1,28 @@
 use Rattle.std.proofs.Common.{arith, pos, ◌+ℤ◌, w8, w32, SFits, rules}
 use Rattle.std.proofs.lemmas.Int.{ints, to_z-of_z}
 use Rattle.kalah_solve.specs.Bounds.Intervals.{IsHalf}
-use Rattle.kalah_solve.proofs.BoundsLemmas.{share_held, share_exact}
+use Rattle.kalah_solve.proofs.BoundsLemmas.{bounds_held, bounds_exact}
 use Rattle.kalah_solve.proofs.bounds.seed_bounds.SeedBounds.of_margins.Goals as goal
 
 module _ (c : goal.After-result-1) where
-  least_half : IsHalf (c.args.interval.lo +ℤ pos 1 +ℤ pos c.args.seeds) c.share_of.result
+  least_half : IsHalf (c.args.interval.lo +ℤ pos 1 +ℤ pos c.args.seeds) c.won_of.result
   least_half =
       let fits : SFits w8 c.args.interval.lo = search rules in
       let wide : SFits w32 c.args.interval.lo = search (rules, fits) in
       let more : SFits w32 (c.args.interval.lo +ℤ pos 1) = omega (arith, ints) in
-      simp to_z-of_z at c.share_of.ensures
+      simp to_z-of_z at c.won_of.ensures
 
-  most_half : IsHalf (c.args.interval.hi +ℤ pos c.args.seeds) c.share_of-2.result
+  most_half : IsHalf (c.args.interval.hi +ℤ pos c.args.seeds) c.won_of-2.result
   most_half =
       let fits : SFits w8 c.args.interval.hi = search rules in
       let wide : SFits w32 c.args.interval.hi = search (rules, fits) in
-      simp to_z-of_z at c.share_of-2.ensures
+      simp to_z-of_z at c.won_of-2.ensures
 
 pub returns-clause-held : goal.returns-clause-held
 returns-clause-held c = λ t few h.
-    let both = share_held c.args.interval c.args.seeds _ _ c.requires (least_half c) (most_half c) t few h in
+    let both = bounds_held c.args.interval c.args.seeds _ _ c.requires (least_half c) (most_half c) t few h in
     record { least = both.0; most = rw c.min.ensures both.1 }
 
 pub returns-clause-no_more : goal.returns-clause-no_more
 returns-clause-no_more c = λ some t few h.
-    share_exact c.args.interval c.args.seeds _ _ c.requires (least_half c) (most_half c) some t few h.least (rw c.min.ensures at h.most)
+    bounds_exact c.args.interval c.args.seeds _ _ c.requires (least_half c) (most_half c) some t few h.least (rw c.min.ensures at h.most)

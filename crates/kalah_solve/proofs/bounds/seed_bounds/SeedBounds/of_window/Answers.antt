@@ -1,24 +1,24 @@
 use Rattle.std.proofs.Common.{arith, pos, ◌+ℤ◌, w32, SFits}
 use Rattle.std.proofs.lemmas.Int.{ints, to_z-of_z}
 use Rattle.kalah_solve.specs.Bounds.Intervals.{IsHalf}
-use Rattle.kalah_solve.proofs.BoundsLemmas.{shares_ordered, shares_high, shares_apart}
+use Rattle.kalah_solve.proofs.BoundsLemmas.{bounds_ordered, bounds_high, bounds_apart}
 use Rattle.kalah_solve.proofs.bounds.seed_bounds.SeedBounds.of_window.Goals as goal
 
-module _ (c : goal.After-share_of-2) where
-  low_half : IsHalf (c.args.window.lo +ℤ pos c.args.seeds) c.share_of.result
-  low_half = let fits : SFits w32 c.args.window.lo = omega (arith, ints) in simp to_z-of_z at c.share_of.ensures
+module _ (c : goal.After-won_of-2) where
+  low_half : IsHalf (c.args.window.lo +ℤ pos c.args.seeds) c.won_of.result
+  low_half = let fits : SFits w32 c.args.window.lo = omega (arith, ints) in simp to_z-of_z at c.won_of.ensures
 
-  high_half : IsHalf (c.args.window.hi +ℤ pos 1 +ℤ pos c.args.seeds) c.share_of-2.result
+  high_half : IsHalf (c.args.window.hi +ℤ pos 1 +ℤ pos c.args.seeds) c.won_of-2.result
   high_half =
       let fits : SFits w32 c.args.window.hi = omega (arith, ints) in
       let more_fits : SFits w32 (c.args.window.hi +ℤ pos 1) = omega (arith, ints) in
-      simp to_z-of_z at c.share_of-2.ensures
+      simp to_z-of_z at c.won_of-2.ensures
 
 pub returns-clause-ordered : goal.returns-clause-ordered
-returns-clause-ordered c = shares_ordered c.args.window c.args.seeds _ _ (low_half c.before) (high_half c.before)
+returns-clause-ordered c = bounds_ordered c.args.window c.args.seeds _ _ (low_half c.before) (high_half c.before)
 
 pub invariant_of-result : goal.invariant_of-result
-invariant_of-result c = record { few = shares_high c.args.window c.args.seeds _ _ (low_half c) (high_half c) c.requires }
+invariant_of-result c = record { few = bounds_high c.args.window c.args.seeds _ _ (low_half c) (high_half c) c.requires }
 
 pub returns-clause-apart : goal.returns-clause-apart
-returns-clause-apart c = shares_apart c.args.window c.args.seeds _ _ (low_half c.before) (high_half c.before)
+returns-clause-apart c = bounds_apart c.args.window c.args.seeds _ _ (low_half c.before) (high_half c.before)

@@ -1,14 +1,14 @@
 use Rattle.std.proofs.Common.{arith, ◌∙◌, ◌≡◌, length, length-set}
 use Rattle.kalah_solve.specs.Table.DirectTable.{IsWithinPlace}
 use Rattle.kalah_solve.specs.Bounds.Won.{won}
-use Rattle.kalah_solve.proofs.TableLemmas.{shares_more}
-use Rattle.kalah_solve.proofs.BoundsLemmas.{taken_share}
+use Rattle.kalah_solve.proofs.TableLemmas.{bounds_more}
+use Rattle.kalah_solve.proofs.BoundsLemmas.{won_of_houses}
 use Rattle.kalah_solve.proofs.table.direct_table.DirectTable.keep.Goals as goal
 
 pub of-stored-requires-clause-least : goal.of-stored-requires-clause-least
 of-stored-requires-clause-least g c =
     let limits = c.mixed_key-mixed.ensures.limits in
-    omega (arith, (taken_share limits).few)
+    omega (arith, (won_of_houses limits).few)
 
 pub invariant_of-self : goal.invariant_of-self
 invariant_of-self g c =
@@ -22,7 +22,7 @@ invariant_of-self g c =
       most = rw c.of-stored.ensures.most c.requires.most;
     } in (
       rw count c.self.invariant.0,
-      shares_more _ _ _ _ _ c.self.invariant.0 c.self.invariant.1
+      bounds_more _ _ _ _ _ c.self.invariant.0 c.self.invariant.1
           mixed.ensures.limits mixed.ensures.mixed (rw length_is at at.ensures.place) (omega arith)
           (c.of-stored.ensures.rest ∙ c.rest_of.ensures.rest) known,
     )

@@ -1,6 +1,6 @@
 use Rattle.std.proofs.Common.{arith}
 use Rattle.std.proofs.lemmas.List.{length-replicate}
-use Rattle.kalah_solve.proofs.TableLemmas.{shares_unknown}
+use Rattle.kalah_solve.proofs.TableLemmas.{bounds_unknown}
 use Rattle.kalah_solve.proofs.table.direct_table.DirectTable.new.Goals as goal
 
 pub invariant_of-result : goal.invariant_of-result
@@ -14,5 +14,5 @@ invariant_of-result g c =
         least = omega (arith, length-replicate count unknown);
         most = omega (arith, length-replicate count unknown);
       },
-      shares_unknown _ _ c.of.ensures.least c.of.ensures.most,
+      bounds_unknown _ _ c.of.ensures.least c.of.ensures.most,
     )

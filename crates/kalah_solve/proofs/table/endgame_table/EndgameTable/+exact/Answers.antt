@@ -1,5 +1,5 @@
 use Rattle.std.proofs.Common.{arith, rules, ◌-◌, ◌^◌, sym, ◌∙◌}
-use Rattle.kalah_solve.proofs.BoundsLemmas.{taken_share}
+use Rattle.kalah_solve.proofs.BoundsLemmas.{won_of_houses}
 use Rattle.kalah_solve.proofs.WorthLemmas.{leads_by}
 use Rattle.kalah_solve.proofs.SearchLemmas.{marks_fall, marked_legal, moves_fewer, last_legal}
 use Rattle.kalah_solve.proofs.TableLemmas.{most_of_none, most_more, most_all, most_won}
@@ -69,7 +69,7 @@ move_wins-overflow_add-result g t c =
     let next = leads_by _ _ c.seeds-seeds.ensures.limits
     c.requires.legal
     (sym c.in-Again.is ∙ c.play_by.ensures) in
-    omega (arith, (taken_share next.limits).few)
+    omega (arith, (won_of_houses next.limits).few)
 
 pub move_wins-won-requires-in-Turn : goal.move_wins-won-requires-in-Turn
 move_wins-won-requires-in-Turn g t c κs within =
@@ -81,7 +81,7 @@ pub move_wins-overflow_sub-result : goal.move_wins-overflow_sub-result
 move_wins-overflow_sub-result g t c =
     let next = leads_by _ _ c.seeds-seeds.ensures.limits c.requires.legal
     (sym c.in-Turn.is ∙ c.play_by.ensures) in
-    omega (arith, (taken_share next.limits).few)
+    omega (arith, (won_of_houses next.limits).few)
 
 pub move_wins-overflow_add-result-in-Turn : goal.move_wins-overflow_add-result-in-Turn
 move_wins-overflow_add-result-in-Turn g t c =

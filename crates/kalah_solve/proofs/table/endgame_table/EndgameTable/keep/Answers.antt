@@ -3,12 +3,12 @@ use Rattle.kalah_solve.specs.Table.RowRank.{rank_of_houses}
 use Rattle.kalah_solve.specs.Table.EndgameTable.{StoresWon, stored_at}
 use Rattle.kalah_solve.specs.Bounds.Won.{won}
 use Rattle.kalah_solve.proofs.TableLemmas.{states_more, writes}
-use Rattle.kalah_solve.proofs.BoundsLemmas.{taken_share}
+use Rattle.kalah_solve.proofs.BoundsLemmas.{won_of_houses}
 use Rattle.kalah_solve.proofs.table.endgame_table.EndgameTable.keep.Goals as goal
 
 pub with_stored-word-requires-clause-small : goal.with_stored-word-requires-clause-small
 with_stored-word-requires-clause-small g c =
-    omega (arith, (taken_share c.word_of-at.ensures.limits).few)
+    omega (arith, (won_of_houses c.word_of-at.ensures.limits).few)
 
 pub swap_new_seat-requires : goal.swap_new_seat-requires
 swap_new_seat-requires g c =
@@ -18,7 +18,7 @@ swap_new_seat-requires g c =
     let before = subst (λ i. StoresWon i word) at.word c.load_new_seat-word.ensures.2 in
     let none : stored_at word (rank_of_houses a % 16) ≡ 0 =
     rw (← c.requires.rank) (sym c.stored_at.ensures ∙ c.if-stored_at-eq0.true) in
-    let few : won a ≤ 9 = omega (arith, (taken_share at.limits).few) in
+    let few : won a ≤ 9 = omega (arith, (won_of_houses at.limits).few) in
     let one_more : c.args.known + 1 ≡ suc (won a) = omega arith in
     let after : StoresWon c.word_of-at.result c.with_stored-word.result =
     rw (at.word, c.with_stored-word.ensures, one_more, c.requires.rank) (states_more _ _ before at.limits c.requires.few none few) in
