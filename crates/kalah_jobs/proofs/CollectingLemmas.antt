@@ -10,7 +10,7 @@ use Rattle.kalah_jobs.specs.declared.files.job.Job.{Job}
 use Rattle.std.specs.List.{All, flat_map, enumerate_from, range_with_len}
 use Rattle.std.proofs.lemmas.List.Sums.{sum_by-cons, sum_by-append, get_or-le-sum_by, sum_by-le, sum_by-set, sum-map}
 use Rattle.std.proofs.lemmas.List.Elements.{All-nil, All-cons, All-head, All-tail, Contains-append_left, Contains-push, Contains-push_cases, Contains-append_right}
-use Rattle.std.proofs.lemmas.List.{length-map, length-append, nil_from_length, get_or_default, length-replicate, append-nil, append_assoc, take_all, take_more, get_or-map}
+use Rattle.std.proofs.lemmas.List.{length-map, length-append, nil_from_length, get_or_default, length-replicate, get_or-replicate, get_or_past, append-nil, append_assoc, take_all, take_more, get_or-map}
 use Rattle.kalah_jobs.specs.Collecting.Shares.{times_in, of, AreShared}
 use Rattle.kalah_jobs.proofs.FilesLemmas.{count_map, slice_get-job_list, count_flat}
 use Rattle.std.proofs.lemmas.Bool.Decides.{nat_tests}
@@ -203,12 +203,6 @@ as_many_as_numbers {X} n f rows got s =
     ∙ got_all_once (λ (x : X). true) n f rows got s
     ∙ count_true (range_with_len 0 n) ∙ length-range_with_len 0 n
 
--- if as many were got as there are, nothing is left
-pub nothing_left : {X : Type 0} (n : ℕ) (f : ℕ → X) (rows : List (List ℕ)) (got rest : List (ℕ × X)) →
-    AreShared n f rows (got ++ rest) → length got ≡ n → rest ≡ []
-nothing_left n f rows got rest s whole =
-    nil_from_length rest (omega (arith, as_many_as_numbers n f rows (got ++ rest) s, length-append got rest, whole))
-
 -- ==== Each offer and each take keeps the state that the offers determine
 
 -- ---- one file is changed
@@ -274,18 +268,6 @@ pub some_value : {X : Type 0} (x : Option X) → IsSome x → (a : X) × (x ≡ 
 some_value None h = absurd (false≢true h)
 some_value (Some a) h = (a, refl)
 
--- what is equal to a Some is Some
-pub is_some_of : {X : Type 0} (x : Option X) (a : X) → x ≡ Some a → IsSome x
-is_some_of {X} x a e = ap (λ (o : Option X). is_some o) e
-
--- a line has one entry
-pub one_entry : (o : Option Entry) (x y : Entry) → o ≡ Some x → o ≡ Some y → x ≡ y
-one_entry o x y p q = cc
-
--- the file of an accepted offer is there
-pub wanted_file : (jobs : List (List Entry)) (files : List FileState) (o : Job) → IsWanted jobs files o → o.file < length files
-wanted_file jobs files o w = w.0.0.0.0
-
 -- what was answered by some offers is answered by one more
 still_answered : {jobs : List (List Entry)} {past : List Job} {f k : ℕ} {a : Answer} (o : Job) → IsOffered jobs past f k a →
     IsOffered jobs (past ++ o ∷ []) f k a
@@ -306,15 +288,15 @@ holds_accepted jobs past files o holds wanted =
     record {
       counts = counts_set files o.file (with_answer (state_of files o.file) o.line a)
           (length-set (state_of files o.file).arrived o.line (Some a)) ∙ holds.counts;
-      came = each_line files o a (wanted_file jobs files o wanted) wanted.0.0.1
+      came = each_line files o a wanted.0.0.0.0 wanted.0.0.1
           (λ f k now. (e : Entry) → entry_at jobs f k ≡ Some e → Contains (past ++ o ∷ []) (line_job f k e)
           → now ≡ Some (answer_of e))
-          (λ e is has. ap (λ x. Some (answer_of x)) (one_entry (entry_at jobs o.file o.line) o.entry e entry_is is))
+          (λ e is has. ap (λ x. Some (answer_of x)) (cc (entry_is, is)))
           (λ f k apart e is has. elim (Contains-push_cases past o (line_job f k e) has) [
             | inl old ↦ holds.came f k e is old
             | inr new ↦ absurd (apart (sym (ap (λ (u : Job). u.file) new), sym (ap (λ (u : Job). u.line) new)))
           ]);
-      only = each_line files o a (wanted_file jobs files o wanted) wanted.0.0.1
+      only = each_line files o a wanted.0.0.0.0 wanted.0.0.1
           (λ f k now. (b : Answer) → now ≡ Some b → IsOffered jobs (past ++ o ∷ []) f k b)
           (λ b same. record { entry = o.entry; at = entry_is; is = (cc); offered = Contains-push past o })
           (λ f k apart b is. still_answered o (holds.only f k b is));
@@ -327,9 +309,7 @@ line_there jobs files f k e h is = omega (arith, lines_are jobs files h f, slice
 
 -- a file with a line is there
 file_there : (files : List FileState) (f k : ℕ) → k < line_count (state_of files f) → f < length files
-file_there [] f k low = absurd (omega arith)
-file_there (s ∷ files) zero k low = omega arith
-file_there (s ∷ files) (suc f) k low = omega (arith, file_there files f k low)
+file_there files f k low = grind (arith, get_or_past files f no_file)
 
 -- if a line is offered with its entry and refused, it had come before
 pub refused_came : (jobs : List (List Entry)) (files : List FileState) (f k : ℕ) (e : Entry) (r : Refusal) → HasLinesOf jobs files →
@@ -356,7 +336,7 @@ holds_refused jobs past files o r holds refused = record {
         let full = refused_came jobs files f k e r holds.counts is (subst (λ (u : Job). IsRefusedFor jobs files u r) new refused) in
         let v = some_value (came_for (state_of files f) k) full in
         let w = holds.only f k v.0 v.1 in
-        let e_is : w.entry ≡ e = one_entry (entry_at jobs f k) w.entry e w.at is in
+        let e_is : w.entry ≡ e = cc (w.at, is) in
         v.1 ∙ ap (λ x. Some x) (w.is ∙ ap answer_of e_is)
   ];
   only = λ f k a is. still_answered o (holds.only f k a is);
@@ -385,21 +365,12 @@ pub ruleset counts = (counts_set, get_or_default, length-set, lines_are)
 -- an offer that is wanted meets no refusal
 wanted_or_refused : (jobs : List (List Entry)) (files : List FileState) (o : Job) (r : Refusal) → IsWanted jobs files o →
     IsRefusedFor jobs files o r → ⊥
-wanted_or_refused jobs files o WrongPosition wanted refused = refused.1 wanted.0.1
-wanted_or_refused jobs files o Double wanted refused = false≢true (rw wanted.1 at refused.1)
-wanted_or_refused jobs files o r wanted refused = omega arith
+wanted_or_refused jobs files o r wanted refused = grind arith
 
 -- and no offer meets two
 refused_for_one : (jobs : List (List Entry)) (files : List FileState) (o : Job) (q r : Refusal) → IsRefusedFor jobs files o q →
     IsRefusedFor jobs files o r → q ≡ r
-refused_for_one jobs files o NoSuchFile NoSuchFile a b = refl
-refused_for_one jobs files o FileEnded FileEnded a b = refl
-refused_for_one jobs files o NoSuchLine NoSuchLine a b = refl
-refused_for_one jobs files o WrongPosition WrongPosition a b = refl
-refused_for_one jobs files o Double Double a b = refl
-refused_for_one jobs files o WrongPosition Double a b = absurd (a.1 b.0.1)
-refused_for_one jobs files o Double WrongPosition a b = absurd (b.1 a.0.1)
-refused_for_one jobs files o q r a b = absurd (omega arith)
+refused_for_one jobs files o q r a b = grind arith
 
 pub refusals_law : RefusalsLaw
 refusals_law = record { wanted = wanted_or_refused; one = refused_for_one }
@@ -426,21 +397,7 @@ front_after_offer files o a low =
 
 -- a line that was taken, by its parts
 pub taken_is : (t : Taken) (k : ℕ) (e : Entry) → t.line ≡ k → t.answer ≡ answer_of e → t ≡ answered_line (k, e)
-taken_is t k e p q = ap (λ x. let r : Taken = record { line = x; answer = t.answer } in r) p
-    ∙ ap (λ y. let r : Taken = record { line = k; answer = y } in r) q
-
--- a numbered list has each element with its number
-pub numbered_at : {X : Type 0} (xs : List X) (n : ℕ) (d : X) → n < length xs →
-    get_or (enumerate_from 0 xs) n (0, d) ≡ (n, get_or xs n d)
-numbered_at {X} xs n d low =
-    let from_none : 0 + n ≡ n = omega arith in
-    get_or-enumerate_from 0 xs n (0, d) low ∙ ap {B = ℕ × X} (λ m. (m, get_or xs n d)) from_none
-
--- and so the element that is at a place
-pub numbered_is : {X : Type 0} (xs : List X) (n : ℕ) (x : X) → slice_get xs n ≡ Some x →
-    get_or (enumerate_from 0 xs) n (0, x) ≡ (n, x)
-numbered_is {X} xs n x is =
-    numbered_at xs n x (slice_get_within xs n x is) ∙ ap {B = ℕ × X} (λ y. (n, y)) (get_or_from_slice_get xs n x x is)
+taken_is t k e p q = λ i. record { line = p i; answer = q i }
 
 -- the lines of file f, each with its answer
 abbrev lines_of : List (List Entry) → ℕ → List Taken
@@ -457,9 +414,11 @@ first_lines_more jobs past files f t holds is_next =
     let at : entry_at jobs f n ≡ Some w.entry = ap (λ k. entry_at jobs f k) (sym is_next.first) ∙ w.at in
     let low : n < length xs =
     omega (arith, slice_get_within (entries_of jobs f) n w.entry at, length-enumerate_from 0 (entries_of jobs f)) in
+    let numbered = get_or-enumerate_from 0 (entries_of jobs f) n (0, w.entry) (omega (arith, low, length-enumerate_from 0 (entries_of jobs f))) in
+    let entry = get_or_from_slice_get (entries_of jobs f) n w.entry w.entry at in
     let here : get_or (lines_of jobs f) n t ≡ t =
-    get_or-map answered_line xs n (0, w.entry) t low ∙ ap answered_line (numbered_is (entries_of jobs f) n w.entry at)
-    ∙ sym (taken_is t n w.entry is_next.first w.is) in
+    get_or-map answered_line xs n (0, w.entry) t low ∙ ap answered_line numbered
+    ∙ sym (taken_is t (0 + n) _ (is_next.first ∙ omega arith) (w.is ∙ ap answer_of (sym entry))) in
     ap (λ x. take n (lines_of jobs f) ++ x ∷ []) (sym here)
     ∙ sym (take_more (lines_of jobs f) n t (omega (arith, length-map xs answered_line)))
 
@@ -476,7 +435,7 @@ module _ {jobs : List (List Entry)} {past : List Job} {files after : List FileSt
   pub kept_by_offer : (o : Job) (gave : Result ℕ Refusal) → Offers jobs files o gave after
       → Kept jobs (past ++ o ∷ []) after × ((f : ℕ) → (state_of after f).taken ≡ (state_of files f).taken)
   kept_by_offer o (Ok ready) step =
-      let low = wanted_file jobs files o step.wanted in
+      let low : o.file < length files = step.wanted.0.0.0.0 in
       let taken = taken_after_offer files o (answer_of o.entry) low in
       rw step.kept (
         record {
@@ -509,11 +468,7 @@ module _ {jobs : List (List Entry)} {past : List Job} {files after : List FileSt
 
 -- what is taken at first stands before what is taken later
 taken_first : (f g : ℕ) (t : Taken) (rest : List Taken) → with_taken f g (Some t) [] ++ rest ≡ with_taken f g (Some t) rest
-taken_first f g t rest = go (g == f)
-  where
-    go : (b : Bool) → (if b then t ∷ [] else []) ++ rest ≡ (if b then t ∷ rest else rest)
-    go true = refl
-    go false = refl
+taken_first f g t rest = grind arith
 
 -- any list of events
 runs : (jobs : List (List Entry)) (past : List Job) (events : List Event) (files after : List FileState)
@@ -545,21 +500,13 @@ runs jobs past (Took g (Some t) ∷ events) files after run kept =
 -- no answer has come for new files
 new_none : (jobs : List (List Entry)) (f k : ℕ) → came_for (state_of (new_files jobs) f) k ≡ None
 new_none [] f k = refl
-new_none (entries ∷ jobs) zero k = none_of (length entries) k
-  where
-    none_of : (n k : ℕ) → get_or (replicate n (let x : Option Answer = None in x)) k None ≡ None
-    none_of zero k = refl
-    none_of (suc n) zero = refl
-    none_of (suc n) (suc k) = none_of n k
+new_none (entries ∷ jobs) zero k = grind (arith, get_or-replicate, get_or_past, length-replicate)
 new_none (entries ∷ jobs) (suc f) k = new_none jobs f k
 
 -- new files have the jobs' lines
 pub new_lines : (jobs : List (List Entry)) → HasLinesOf jobs (new_files jobs)
 new_lines [] = refl
-new_lines (entries ∷ jobs) =
-    let nothing : Option Answer = None in
-    ap (λ n. n ∷ map line_count (new_files jobs)) (length-replicate (length entries) nothing)
-    ∙ ap (λ l. length entries ∷ l) (new_lines jobs)
+new_lines (entries ∷ jobs) = grind (arith, new_lines jobs, length-replicate)
 
 -- nothing was taken of new files
 pub new_taken : (jobs : List (List Entry)) (f : ℕ) → (state_of (new_files jobs) f).taken ≡ 0
@@ -585,25 +532,14 @@ pub offers_held : (jobs : List (List Entry)) (events : List Event) (files : List
     → HoldsOffered jobs (offers events) files
 offers_held jobs events files run = (runs jobs [] events (new_files jobs) files run (start jobs)).0.offered
 
--- a fact of the value, if there is one
-some_and : {X : Type 0} (o : Option X) (P : X → Type 0) (x : X) → o ≡ Some x → P x → IsSomeAnd o P
-some_and {X} o P x e p = subst (λ (y : Option X). IsSomeAnd y P) (sym e) p
-
--- the value, and the fact of it
-parts_of_some : {X : Type 0} (o : Option X) (P : X → Type 0) → IsSomeAnd o P → (x : X) × (o ≡ Some x) × P x
-parts_of_some None P h = absurd h
-parts_of_some (Some x) P h = (x, refl, h)
-
 pub law_holds : CollectorLaw
 law_holds jobs events files run =
     let all = runs jobs [] events (new_files jobs) files run (start jobs) in
     let holds = all.0.offered in
     let came : (f k : ℕ) → Came jobs events f k → IsSome (came_for (state_of files f) k) =
-    λ f k c. let v = parts_of_some (entry_at jobs f k) (λ e. Contains (offers events) (line_job f k e)) c in
-    is_some_of (came_for (state_of files f) k) (answer_of v.0) (holds.came f k v.0 v.1 v.2) in
+    λ f k c. grind (arith, c, holds.came f k) in
     let only : (f k : ℕ) → IsSome (came_for (state_of files f) k) → Came jobs events f k =
-    λ f k here. let v = some_value (came_for (state_of files f) k) here in let w = holds.only f k v.0 v.1 in
-    some_and (entry_at jobs f k) (λ e. Contains (offers events) (line_job f k e)) w.entry w.at w.offered in
+    λ f k here. let v = some_value (came_for (state_of files f) k) here in let w = holds.only f k v.0 v.1 in rw w.at w.offered in
     record {
       counts = holds.counts;
       came = λ f k. (only f k, came f k);
@@ -715,7 +651,7 @@ fronts_full jobs past files h holds f =
     let e : Entry = get_or (entries_of jobs f) k (Bad Empty) in
     let is : entry_at jobs f k ≡ Some e =
     slice_get-get_or (entries_of jobs f) k (Bad Empty) (omega (arith, lines_are jobs files holds.counts f)) in
-    is_some_of (came_for (state_of files f) k) _ (holds.came f k e is (each_came jobs past h f k e is))) in
+    ap (λ (o : Option Answer). is_some o) (holds.came f k e is (each_came jobs past h f k e is))) in
     omega (arith, all, front_within arrived)
 
 -- ---- the three laws
@@ -723,7 +659,8 @@ fronts_full jobs past files h holds f =
 pub shares_law : SharesLaw
 shares_law jobs rows got rest shared whole =
     let n : ℕ = length (job_list jobs) in
-    let none : rest ≡ [] = nothing_left n (job jobs) rows got rest shared whole in
+    let none : rest ≡ [] =
+    nil_from_length rest (omega (arith, as_many_as_numbers n (job jobs) rows (got ++ rest) shared, length-append got rest, whole)) in
     let mine : AreShared n (job jobs) rows got =
     subst (AreShared n (job jobs) rows) (ap (λ (l : List (ℕ × Job)). got ++ l) none ∙ append-nil got) shared in
     record {
