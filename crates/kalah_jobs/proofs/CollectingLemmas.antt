@@ -219,8 +219,8 @@ state_other files f g s ne = get_or-set_other files f g s no_file ne
 pub each_file : (files : List FileState) (f : ℕ) (s : FileState) → f < length files → (P : ℕ → FileState → Type 0) → P f s →
     ((g : ℕ) → g ≢ f → P g (state_of files g)) → (g : ℕ) → P g (state_of (set files f s) g)
 each_file files f s low P here others g = elim (cases_eq g f) [
-  | inl same ↦ subst (λ h. P h (state_of (set files f s) h)) (sym same) (subst (P f) (sym (state_same files f s low)) here)
-  | inr other ↦ subst (P g) (sym (state_other files f g s other)) (others g other)
+  | inl same ↦ rw (same, state_same files f s low) here
+  | inr other ↦ rw (state_other files f g s other) (others g other)
 ]
 
 -- after an answer for one line, what holds of that line, and of each other as it was, holds of each
@@ -232,11 +232,8 @@ each_line files o a file_low line_low P here others =
     let s : FileState = state_of files o.file in
     each_file files o.file (with_answer s o.line a) file_low (λ f new. (k : ℕ) → P f k (came_for new k))
     (λ k. elim (cases_eq k o.line) [
-      | inl same ↦
-          subst (λ j. P o.file j (came_for (with_answer s o.line a) j)) (sym same)
-          (subst (P o.file o.line) (sym (get_or-set_same s.arrived o.line (Some a) None line_low)) here)
-      | inr other ↦
-          subst (P o.file k) (sym (get_or-set_other s.arrived o.line k (Some a) None other)) (others o.file k (λ h. other h.1))
+      | inl same ↦ rw (same, get_or-set_same s.arrived o.line (Some a) None line_low) here
+      | inr other ↦ rw (get_or-set_other s.arrived o.line k (Some a) None other) (others o.file k (λ h. other h.1))
     ])
     (λ f ne k. others f k (λ h. ne h.0))
 
@@ -291,21 +288,13 @@ holds_accepted jobs past files o holds wanted =
       came = each_line files o a wanted.0.0.0.0 wanted.0.0.1
           (λ f k now. (e : Entry) → entry_at jobs f k ≡ Some e → Contains (past ++ o ∷ []) (line_job f k e)
           → now ≡ Some (answer_of e))
-          (λ e is has. ap (λ x. Some (answer_of x)) (cc (entry_is, is)))
-          (λ f k apart e is has. elim (Contains-push_cases past o (line_job f k e) has) [
-            | inl old ↦ holds.came f k e is old
-            | inr new ↦ absurd (apart (sym (ap (λ (u : Job). u.file) new), sym (ap (λ (u : Job). u.line) new)))
-          ]);
+          (λ e is has. cc (entry_is, is))
+          (λ f k apart e is has. grind (arith, apart, Contains-push_cases past o (line_job f k e) has, holds.came f k e is));
       only = each_line files o a wanted.0.0.0.0 wanted.0.0.1
           (λ f k now. (b : Answer) → now ≡ Some b → IsOffered jobs (past ++ o ∷ []) f k b)
           (λ b same. record { entry = o.entry; at = entry_is; is = (cc); offered = Contains-push past o })
           (λ f k apart b is. still_answered o (holds.only f k b is));
     }
-
--- a line of the jobs is a line of the files
-line_there : (jobs : List (List Entry)) (files : List FileState) (f k : ℕ) (e : Entry) → HasLinesOf jobs files →
-    entry_at jobs f k ≡ Some e → k < line_count (state_of files f)
-line_there jobs files f k e h is = omega (arith, lines_are jobs files h f, slice_get_within (entries_of jobs f) k e is)
 
 -- a file with a line is there
 file_there : (files : List FileState) (f k : ℕ) → k < line_count (state_of files f) → f < length files
@@ -315,13 +304,14 @@ file_there files f k low = grind (arith, get_or_past files f no_file)
 pub refused_came : (jobs : List (List Entry)) (files : List FileState) (f k : ℕ) (e : Entry) (r : Refusal) → HasLinesOf jobs files →
     entry_at jobs f k ≡ Some e
     → IsRefusedFor jobs files (line_job f k e) r → IsSome (came_for (state_of files f) k)
-refused_came jobs files f k e NoSuchFile h is refused =
-    absurd (omega (arith, file_there files f k (line_there jobs files f k e h is)))
-refused_came jobs files f k e FileEnded h is refused =
-    front_came (state_of files f).arrived k None (omega (arith, line_there jobs files f k e h is))
-refused_came jobs files f k e NoSuchLine h is refused = absurd (omega (arith, line_there jobs files f k e h is))
-refused_came jobs files f k e WrongPosition h is refused = absurd (refused.1 is)
-refused_came jobs files f k e Double h is refused = refused.1
+refused_came jobs files f k e r h is refused =
+    grind (
+      arith,
+      lines_are jobs files h f,
+      slice_get_within (entries_of jobs f) k e is,
+      file_there files f k,
+      front_came (state_of files f).arrived k None,
+    )
 
 -- a refused offer changes nothing, and what holds stays true with one more offer
 pub holds_refused : (jobs : List (List Entry)) (past : List Job) (files : List FileState) (o : Job) (r : Refusal) →
@@ -336,8 +326,7 @@ holds_refused jobs past files o r holds refused = record {
         let full = refused_came jobs files f k e r holds.counts is (subst (λ (u : Job). IsRefusedFor jobs files u r) new refused) in
         let v = some_value (came_for (state_of files f) k) full in
         let w = holds.only f k v.0 v.1 in
-        let e_is : w.entry ≡ e = cc (w.at, is) in
-        v.1 ∙ ap (λ x. Some x) (w.is ∙ ap answer_of e_is)
+        cc (v.1, w.is, w.at, is)
   ];
   only = λ f k a is. still_answered o (holds.only f k a is);
 }
@@ -376,22 +365,6 @@ pub refusals_law : RefusalsLaw
 refusals_law = record { wanted = wanted_or_refused; one = refused_for_one }
 
 -- ==== After any list of offers and takes a collector has the state that the list determines
-
--- ---- an offer is accepted
-
--- it leaves what was taken
-pub taken_after_offer : (files : List FileState) (o : Job) (a : Answer) → o.file < length files → (f : ℕ) →
-    (state_of (after_offer files o.file o.line a) f).taken ≡ (state_of files f).taken
-taken_after_offer files o a low =
-    each_file files o.file (with_answer (state_of files o.file) o.line a) low (λ f new. new.taken ≡ (state_of files f).taken)
-    refl (λ f other. refl)
-
--- and moves no front back
-pub front_after_offer : (files : List FileState) (o : Job) (a : Answer) → o.file < length files → (f : ℕ) →
-    front (state_of files f) ≤ front (state_of (after_offer files o.file o.line a) f)
-front_after_offer files o a low =
-    each_file files o.file (with_answer (state_of files o.file) o.line a) low (λ f new. front (state_of files f) ≤ front new)
-    (front_set (state_of files o.file).arrived o.line a) (λ f other. omega arith)
 
 -- ---- a line is taken
 
@@ -436,11 +409,14 @@ module _ {jobs : List (List Entry)} {past : List Job} {files after : List FileSt
       → Kept jobs (past ++ o ∷ []) after × ((f : ℕ) → (state_of after f).taken ≡ (state_of files f).taken)
   kept_by_offer o (Ok ready) step =
       let low : o.file < length files = step.wanted.0.0.0.0 in
-      let taken = taken_after_offer files o (answer_of o.entry) low in
+      let new : FileState = with_answer (state_of files o.file) o.line (answer_of o.entry) in
+      let taken = each_file files o.file new low (λ f s. s.taken ≡ (state_of files f).taken) refl (λ f other. refl) in
+      let ahead = each_file files o.file new low (λ f s. front (state_of files f) ≤ front s)
+      (front_set (state_of files o.file).arrived o.line (answer_of o.entry)) (λ f other. omega arith) in
       rw step.kept (
         record {
           offered = holds_accepted jobs past files o kept.offered step.wanted;
-          within = λ f. omega (arith, taken f, front_after_offer files o (answer_of o.entry) low f, kept.within f);
+          within = λ f. omega (arith, taken f, ahead f, kept.within f);
         },
         taken,
       )
