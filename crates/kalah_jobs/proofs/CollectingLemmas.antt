@@ -442,10 +442,6 @@ module _ {jobs : List (List Entry)} {past : List Job} {files after : List FileSt
       (rw (eq-eqb g g refl) (first_lines_more jobs past files g t kept.offered step.next_line))
       (λ f other. rw (ne_eqb g f (λ same. other (sym same))) (append-nil (take (state_of files f).taken (lines_of jobs f)))))
 
--- what is taken at first stands before what is taken later
-taken_first : (f g : ℕ) (t : Taken) (rest : List Taken) → with_taken f g (Some t) [] ++ rest ≡ with_taken f g (Some t) rest
-taken_first f g t rest = grind arith
-
 -- any list of events
 runs : (jobs : List (List Entry)) (past : List Job) (events : List Event) (files after : List FileState)
     → Runs jobs files events after → Kept jobs past files →
@@ -462,14 +458,8 @@ runs jobs past (Took g None ∷ events) files after run kept =
     let step = run.1 in
     runs jobs past events files after (subst (λ (s : List FileState). Runs jobs s events after) step.unchanged run.2) kept
 runs jobs past (Took g (Some t) ∷ events) files after run kept =
-    let rest = runs jobs past events run.0 after run.2 (kept_by_take kept g t run.1) in (
-      rest.0,
-      λ f.
-          let before : List Taken = take (state_of files f).taken (lines_of jobs f) in
-          ap (λ l. before ++ l) (sym (taken_first f g t (takes f events)))
-          ∙ sym (append_assoc before (with_taken f g (Some t) []) (takes f events))
-          ∙ ap (λ l. l ++ takes f events) (taken_next kept g t run.1 f) ∙ rest.1 f,
-    )
+    let rest = runs jobs past events run.0 after run.2 (kept_by_take kept g t run.1) in
+    (rest.0, λ f. grind (arith, append_assoc, taken_next kept g t run.1 f, rest.1 f))
 
 -- ---- new files
 

@@ -17,6 +17,7 @@ use Rattle.kalah_jobs.specs.declared.files.entry.Entry.{Entry}
 use Rattle.kalah_jobs.specs.declared.files.entry.Entry.TheVariants.{Position, ValuesOf, StepsOf, Bad}
 use Rattle.kalah_jobs.specs.Files.Entry.{Says, entry_of_reading, entry_of, EntriesAreOne}
 use Rattle.kalah_jobs.proofs.LineLemmas.{IsReading, is_reading, only_reading}
+use Rattle.std.proofs.lemmas.Bool.Decides.{nat_tests}
 use Rattle.std.proofs.lemmas.Option.{slice_get_within}
 use Rattle.std.proofs.lemmas.List.Concat.{length-flat_map}
 use Rattle.kalah_jobs.specs.declared.files.job.Job.{Job}
@@ -252,20 +253,15 @@ lines_are_one = record { some = are_lines_of; one = no_others }
 
 -- ==== Each line has one entry
 
-says_by_case : (line : List ℕ) (r : Result position.Position LineFault) → IsReading line r → Says line (entry_of_reading r)
-says_by_case line (Ok p) is = is
-says_by_case line (Err fault) is = is
-
 says : (line : List ℕ) → Says line (entry_of line)
 unfolding entry_of
-says line = says_by_case line (reading_of line) (is_reading line)
+says line = grind (arith, is_reading line)
 
 says_once : (line : List ℕ) (entry : Entry) → Says line entry → entry ≡ entry_of line
 unfolding entry_of
 says_once line (Position p) is = ap entry_of_reading (sym (only_reading line (Ok p) is))
-says_once line (ValuesOf p) is = absurd is
-says_once line (StepsOf p) is = absurd is
 says_once line (Bad fault) is = ap entry_of_reading (sym (only_reading line (Err fault) is))
+says_once line entry is = absurd is
 
 pub entries_are_one : EntriesAreOne
 entries_are_one = record { some = says; one = says_once }
@@ -312,8 +308,7 @@ entries_of_file f k (e ∷ own) = ap (λ others. e ∷ others) (entries_of_file 
 entries_from : (f : ℕ) (jobs : List (List Entry)) → map (λ (o : Job). o.entry) (jobs_from f jobs) ≡ all_entries jobs
 entries_from f [] = refl
 entries_from f (own ∷ jobs) =
-    map-append (λ (o : Job). o.entry) (file_jobs f 0 own) (jobs_from (suc f) jobs)
-    ∙ ap₂ (λ (first others : List Entry). first ++ others) (entries_of_file f 0 own) (entries_from (suc f) jobs)
+    grind (arith, map-append (λ (o : Job). o.entry) (file_jobs f 0 own), entries_of_file f 0 own, entries_from (suc f) jobs)
 
 -- they are those of the jobs, in order
 pub entries_of_jobs : (jobs : List (List Entry)) → map (λ (o : Job). o.entry) (job_list jobs) ≡ all_entries jobs
@@ -484,11 +479,6 @@ pub ruleset counts_of_jobs = (get_or-map, length-map, length-job_list, lines_bet
 
 -- ==== The lines that are answered by a fault are those that are not read
 
--- one of two answers that are no faults
-no_fault : (b : Bool) (x y : Answer) → is_fault x ≡ false → is_fault y ≡ false → is_fault (if b then x else y) ≡ false
-no_fault true x y one other = one
-no_fault false x y one other = other
-
 -- the line is not read
 abbrev pub is_bad : Entry → Bool
 is_bad (Position p) = false
@@ -498,19 +488,11 @@ is_bad (Bad fault) = true
 
 pub bad_is_fault : (entry : Entry) → is_fault (answer_of entry) ≡ is_bad entry
 unfolding answer_of
-bad_is_fault (Position p) = no_fault (is_over p) (answer.Over (final_margin p)) (answer.Best (worth p) (best_house p)) refl refl
-bad_is_fault (ValuesOf p) = no_fault (is_over p) (answer.Over (final_margin p)) (answer.Values (values_of p)) refl refl
-bad_is_fault (StepsOf p) = no_fault (is_over p) (answer.Over (final_margin p)) (answer.Steps p) refl refl
-bad_is_fault (Bad fault) = refl
-
-bad_if_asked : (question : Question) (entry : Entry) → is_bad (entry_asked question entry) ≡ is_bad entry
-bad_if_asked BestMove entry = refl
-bad_if_asked question (Bad fault) = refl
-bad_if_asked question entry = refl
+bad_is_fault entry = grind arith
 
 -- what is asked of a position makes no fault of it
 pub asked_fault : (question : Question) (entry : Entry) → is_fault (answer_of (entry_asked question entry)) ≡ is_fault (answer_of entry)
-asked_fault question entry = bad_is_fault (entry_asked question entry) ∙ bad_if_asked question entry ∙ sym (bad_is_fault entry)
+asked_fault question entry = grind (arith, bad_is_fault)
 
 -- as many jobs are answered by a fault as entries
 pub faulty_jobs : (jobs : List (List Entry)) → count_by is_faulty_job (job_list jobs) ≡ count_by is_faulty_entry (all_entries jobs)
@@ -528,38 +510,16 @@ abbrev pub same_board : position.Position → position.Position → Bool
 same_board p q = (board_eq.ghosts).eq p q
 
 -- boards that are equal by `==` show the same position
-same_board_means : (p q : position.Position) → IsWithinLimits p → IsWithinLimits q → same_board p q ≡ true → p ≡ q
+pub same_board_means : (p q : position.Position) → IsWithinLimits p → IsWithinLimits q → same_board p q ≡ true → p ≡ q
 same_board_means p q p_limits q_limits h =
-    let x_key : Bool = key_of (rows_of p) == key_of (rows_of q) in
-    let x_seeds : Bool = seeds_in_houses p == seeds_in_houses q in
-    let a = and_parts (x_key && x_seeds) ((p.own_store == q.own_store) && (p.other_store == q.other_store)) h in
-    let b = and_parts x_key x_seeds a.0 in
-    let c = and_parts (p.own_store == q.own_store) (p.other_store == q.other_store) a.1 in
     let rows : rows_of p ≡ rows_of q = same_key (rows_of p) (rows_of q) (rows_within p p_limits) (rows_within q q_limits)
-    (eqb-true (key_of (rows_of p)) (key_of (rows_of q)) b.0) in
-    let own_store : p.own_store ≡ q.own_store = eqb-true p.own_store q.own_store c.0 in
-    let other_store : p.other_store ≡ q.other_store = eqb-true p.other_store q.other_store c.1 in
+    (grind (arith, nat_tests)) in
+    let own_store : p.own_store ≡ q.own_store = grind (arith, nat_tests) in
+    let other_store : p.other_store ≡ q.other_store = grind (arith, nat_tests) in
     λ i. record { own = (rows i).own; own_store = own_store i; other = (rows i).other; other_store = other_store i; rule = (rows i).rule }
 
--- a board is equal to itself
-same_board_itself : (p : position.Position) → same_board p p ≡ true
+-- and boards that show the same position are equal
+pub same_board_itself : (p : position.Position) → same_board p p ≡ true
 same_board_itself p = laws-law.refl p
 
--- the position in an entry, or else this one
-abbrev position_in : position.Position → Entry → position.Position
-position_in d (Position p) = p
-position_in d (ValuesOf p) = p
-position_in d (StepsOf p) = p
-position_in d (Bad fault) = d
-
--- entries that ask the same of two boards are equal if and only if the boards are
-pub same_entries : {a b : Entry} {p q : position.Position} {result : Bool} (asks : position.Position → Entry) →
-    ((x d : position.Position) → position_in d (asks x) ≡ x)
-    → IsWithinLimits p → IsWithinLimits q → result ≡ same_board p q → a ≡ asks p → b ≡ asks q → (result ≡ true)
-    ↔ (a ≡ b)
-same_entries {a} {b} {p} {q} asks of p_limits q_limits is a_is b_is = (
-  λ yes. a_is ∙ ap asks (same_board_means p q p_limits q_limits (sym is ∙ yes)) ∙ sym b_is,
-  λ same.
-      let boards : p ≡ q = sym (of p p) ∙ ap (position_in p) (sym a_is ∙ same ∙ b_is) ∙ of q p in
-      is ∙ sym (ap (same_board p) boards) ∙ same_board_itself p,
-)
+pub ruleset same_boards = (same_board_means, same_board_itself)
