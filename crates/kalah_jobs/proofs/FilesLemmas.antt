@@ -331,42 +331,37 @@ slice_get-append_right [] ys n i is = ap (λ m. slice_get ys m) (let e : n ≡ i
 slice_get-append_right (x ∷ xs) ys zero i is = absurd (omega arith)
 slice_get-append_right (x ∷ xs) ys (suc n) i is = slice_get-append_right xs ys n i (omega arith)
 
-slice_get-file_jobs : (f k i n : ℕ) (entries : List Entry) (e : Entry) → n ≡ k + i → slice_get entries i ≡ Some e
-    → slice_get (file_jobs f k entries) i ≡ Some (line_job f n e)
-slice_get-file_jobs f k i n [] e same is = cc
-slice_get-file_jobs f k zero n (x ∷ entries) e same is =
-    let number : k ≡ n = omega arith in
-    ap (λ (y : Entry). Some (line_job f k y)) (let said : x ≡ e = cc in said) ∙ ap (λ m. Some (line_job f m e)) number
-slice_get-file_jobs f k (suc i) n (x ∷ entries) e same is = slice_get-file_jobs f (suc k) i n entries e (omega arith) is
+slice_get-file_jobs : (f k i : ℕ) (entries : List Entry) (e : Entry) → slice_get entries i ≡ Some e
+    → slice_get (file_jobs f k entries) i ≡ Some (line_job f (k + i) e)
+slice_get-file_jobs f k i [] e is = cc
+slice_get-file_jobs f k zero (x ∷ entries) e is = grind arith
+slice_get-file_jobs f k (suc i) (x ∷ entries) e is = grind (arith, slice_get-file_jobs f (suc k) i entries e is)
 
-slice_get-jobs_from : (f g h k n : ℕ) (jobs : List (List Entry)) (e : Entry) → h ≡ f + g → n ≡ job_count (take g jobs) + k
-    → slice_get (slice_index_or jobs g []) k ≡ Some e → slice_get (jobs_from f jobs) n ≡ Some (line_job h k e)
-slice_get-jobs_from f g h k n [] e file number is = cc
-slice_get-jobs_from f zero h k n (entries ∷ jobs) e file number is =
-    let here : slice_get (file_jobs f 0 entries) k ≡ Some (line_job f k e) = slice_get-file_jobs f 0 k k entries e (omega arith) is in
-    let n_is : n ≡ k = omega arith in
-    let f_is : f ≡ h = omega arith in
-    ap (λ m. slice_get (file_jobs f 0 entries ++ jobs_from (suc f) jobs) m) n_is
-    ∙ slice_get-left (file_jobs f 0 entries) (jobs_from (suc f) jobs) k
-    (slice_get_within (file_jobs f 0 entries) k (line_job f k e) here) ∙ here
-    ∙ ap (λ m. Some (line_job m k e)) f_is
-slice_get-jobs_from f (suc g) h k n (entries ∷ jobs) e file number is =
-    let m : ℕ = job_count (take g jobs) + k in
-    let past : n ≡ length (file_jobs f 0 entries) + m =
-    omega (
+slice_get-jobs_from : (f g k : ℕ) (jobs : List (List Entry)) (e : Entry) → slice_get (entries_of jobs g) k ≡ Some e
+    → slice_get (jobs_from f jobs) (job_count (take g jobs) + k) ≡ Some (line_job (f + g) k e)
+slice_get-jobs_from f g k [] e is = cc
+slice_get-jobs_from f zero k (entries ∷ jobs) e is =
+    grind (
       arith,
+      slice_get-left (file_jobs f 0 entries) (jobs_from (suc f) jobs) k,
+      slice_get_within (file_jobs f 0 entries) k (line_job f (0 + k) e),
+      slice_get-file_jobs f 0 k entries e is,
+    )
+slice_get-jobs_from f (suc g) k (entries ∷ jobs) e is =
+    grind (
+      arith,
+      slice_get-append_right (file_jobs f 0 entries) (jobs_from (suc f) jobs),
+      slice_get-jobs_from (suc f) g k jobs e is,
       length-map (file_jobs f 0 entries) (λ (o : Job). o.entry),
-      ap length (entries_of_file f 0 entries),
+      entries_of_file f 0 entries,
       job_count-cons entries (take g jobs),
-    ) in
-    slice_get-append_right (file_jobs f 0 entries) (jobs_from (suc f) jobs) n m past
-    ∙ slice_get-jobs_from (suc f) g h k m jobs e (omega arith) refl is
+    )
 
 -- line k of file f comes after the jobs of the files before f
 pub slice_get-job_list : (jobs : List (List Entry)) (f k n : ℕ) (e : Entry) → n ≡ job_count (take f jobs) + k →
     slice_get (entries_of jobs f) k ≡ Some e
     → slice_get (job_list jobs) n ≡ Some (line_job f k e)
-slice_get-job_list jobs f k n e number is = slice_get-jobs_from 0 f f k n jobs e (omega arith) number is
+slice_get-job_list jobs f k n e number is = grind (arith, slice_get-jobs_from 0 f k jobs e is)
 
 -- ---- the place of a job among the files
 
