@@ -8,7 +8,7 @@ use Rattle.std.specs.List.{onto_first, flat_map}
 use Rattle.std.proofs.lemmas.List.{take_all, drop_all, drop_more, append-nil, take_more, take-take, take-append-le, get_or_append_left, get_or_default, length-map, map-append, get_or-map, length-take-le}
 use Rattle.std.proofs.lemmas.List.Elements.{All-head, All-tail, All-nil, All-cons}
 use Rattle.std.proofs.Math.Seq.{take-nil, get_or-append_seam}
-use Rattle.std.proofs.lemmas.List.Sums.{sum_by-cons, sum_by-append, sum_by_push, sum_by-take-le, get_or-le-sum_by, count_by-le-length}
+use Rattle.std.proofs.lemmas.List.Sums.{sum_by-cons, sum_by-append, sum_by_push, sum_by-drop_more, get_or-le-sum_by, count_by-le-length}
 use Rattle.kalah_jobs.specs.Files.Lines.{line_feed, lines_of, HasNoLineFeed, with_line_feeds, EndsInOpenLine, AreLines, LinesAreOne}
 use Rattle.std.proofs.lemmas.Bool.{cases_eq, cases_lt, and_parts, eqb-true}
 use Rattle.kalah_jobs.specs.Line.Reading.{reading_of}
@@ -376,7 +376,7 @@ file_low jobs f within = get_or-le-sum_by length jobs f [] within
 
 -- ---- while the files are read
 
-length-entries_to : (question : Question) (bytes : List ℕ) → length (entries_to question bytes) ≡ length (lines_of bytes)
+pub length-entries_to : (question : Question) (bytes : List ℕ) → length (entries_to question bytes) ≡ length (lines_of bytes)
 unfolding entries_to
 length-entries_to question bytes = length-map (lines_of bytes) (entry_to question)
 
@@ -392,37 +392,6 @@ job_count-jobs_to question (file ∷ files) =
       job_count-jobs_to question files,
     )
 
--- the jobs so far are no more than the lines of all files
-pub counted_low : (question : Question) (files : List NamedBytes) (i : ℕ) →
-    job_count (jobs_to question (take i files)) ≤ lines_in_all files
-counted_low question files i =
-    let all : job_count (jobs_to question (take i files)) ≡ sum_by lines_in (take i files) = job_count-jobs_to question (take i files) in
-    omega (arith, all, sum_by-take-le lines_in files i)
-
--- nor are those of them that pass a test
-passing_low : (p : Entry → Bool) (jobs : List (List Entry)) → sum_by (count_by p) jobs ≤ job_count jobs
-passing_low p [] = omega arith
-passing_low p (own ∷ jobs) =
-    omega (arith, passing_low p jobs, count_by-le-length p own, sum_by-cons (count_by p) own jobs, job_count-cons own jobs)
-
--- nor are those among the files so far
-pub passing_so_far : (p : Entry → Bool) (question : Question) (files : List NamedBytes) (i : ℕ) {jobs : List (List Entry)} {n : ℕ}
-    → jobs ≡ jobs_to question (take i files) → n ≡ sum_by (count_by p) jobs → n ≤ lines_in_all files
-passing_so_far p question files i {jobs} {n} are is =
-    omega (arith, is, passing_low p jobs, ap job_count are, counted_low question files i)
-
--- there is room for one file more
-pub room_for_more : (question : Question) (files : List NamedBytes) (i : ℕ) {jobs : List (List Entry)} →
-    jobs ≡ jobs_to question (take i files) → i < length files → length jobs < length files
-room_for_more question files i is low =
-    omega (
-      arith,
-      low,
-      ap length is,
-      length-map (take i files) (λ (file : NamedBytes). entries_to question file.bytes),
-      length-take-le i files (omega (arith, low)),
-    )
-
 -- after the last file all are read
 pub all_read : (question : Question) (files : List NamedBytes) (i : ℕ) {jobs : List (List Entry)} →
     jobs ≡ jobs_to question (take i files) → length files ≤ i → jobs ≡ jobs_to question files
@@ -436,7 +405,7 @@ stored_lines items files f own is at within =
     ∙ get_or-map items files f own [] (omega (arith, within, ap length is, length-map files items)) ∙ ap items (sym at)
 
 -- nothing starts before the first file
-pub starts_none : AreStarts [] []
+starts_none : AreStarts [] []
 starts_none = record { as_many = refl; before = λ f low. absurd (omega (arith, low)) }
 
 -- one file more starts after all jobs so far
