@@ -132,85 +132,53 @@ pub ruleset no_line = (lines_of-empty, append-nil)
 
 whole_after_byte : (byte : ℕ) (lines : List (List ℕ)) → byte ≢ line_feed → All HasNoLineFeed lines →
     All HasNoLineFeed (onto_first byte lines)
-whole_after_byte byte [] not whole =
-    All-cons HasNoLineFeed (byte ∷ []) [] (All-cons IsNoFeed byte [] not (All-nil IsNoFeed)) (All-nil HasNoLineFeed)
+whole_after_byte byte [] not whole = All-cons HasNoLineFeed (byte ∷ []) [] (All-cons IsNoFeed byte [] not (All-nil IsNoFeed)) whole
 whole_after_byte byte (line ∷ lines) not whole =
     All-cons HasNoLineFeed (byte ∷ line) lines
     (All-cons IsNoFeed byte line not (All-head HasNoLineFeed line lines whole))
     (All-tail HasNoLineFeed line lines whole)
 
--- a byte before closed lines stands in a closed line, if there is a line
-parts_after_byte : (byte : ℕ) (bytes : List ℕ) (lines : List (List ℕ)) → bytes ≡ with_line_feeds lines
-    → (byte ∷ bytes ≡ with_line_feeds (onto_first byte lines)) ⊎ EndsInOpenLine (byte ∷ bytes) (onto_first byte lines)
-parts_after_byte byte bytes [] is =
-    inr (record {
-      before = [];
-      last = byte ∷ [];
-      pieces_are = refl;
-      bytes_are = ap (λ rest. byte ∷ rest) is;
-      some_bytes = (λ e. cc);
-    })
-parts_after_byte byte bytes (line ∷ lines) is = inl (ap (λ rest. byte ∷ rest) is)
+-- lines before a last one that is not ended
+open_lines : {bytes : List ℕ} {lines : List (List ℕ)} (before : List (List ℕ)) (last : List ℕ) → last ≢ [] →
+    lines ≡ before ++ last ∷ [] → bytes ≡ with_line_feeds before ++ last → (bytes ≡ with_line_feeds lines) ⊎ EndsInOpenLine bytes lines
+open_lines before last some pieces_are bytes_are =
+    inr (record { before = before; last = last; pieces_are = pieces_are; bytes_are = bytes_are; some_bytes = some })
 
-open_after_byte : (byte : ℕ) (bytes : List ℕ) (lines before : List (List ℕ)) (last : List ℕ) → lines ≡ before ++ last ∷ []
-    → bytes ≡ with_line_feeds before ++ last → last ≢ [] → EndsInOpenLine (byte ∷ bytes) (onto_first byte lines)
-open_after_byte byte bytes lines [] last pieces_are bytes_are some = record {
-  before = [];
-  last = byte ∷ last;
-  pieces_are = ap (λ ls. onto_first byte ls) pieces_are;
-  bytes_are = ap (λ rest. byte ∷ rest) bytes_are;
-  some_bytes = (λ e. cc);
-}
-open_after_byte byte bytes lines (line ∷ before) last pieces_are bytes_are some = record {
-  before = (byte ∷ line) ∷ before;
-  last = last;
-  pieces_are = ap (λ ls. onto_first byte ls) pieces_are;
-  bytes_are = ap (λ rest. byte ∷ rest) bytes_are;
-  some_bytes = some;
-}
+-- a byte before lines stands in the first, or in one of its own
+parts_after_byte : (byte : ℕ) (bytes : List ℕ) (lines : List (List ℕ)) → (bytes ≡ with_line_feeds lines) ⊎ EndsInOpenLine bytes lines →
+    (byte ∷ bytes ≡ with_line_feeds (onto_first byte lines)) ⊎ EndsInOpenLine (byte ∷ bytes) (onto_first byte lines)
+parts_after_byte byte bytes [] (inl closed) = open_lines [] (byte ∷ []) (λ e. cc) refl (ap (λ rest. byte ∷ rest) closed)
+parts_after_byte byte bytes (line ∷ lines) (inl closed) = inl (ap (λ rest. byte ∷ rest) closed)
+parts_after_byte byte bytes lines (inr h) = go h.before h.pieces_are h.bytes_are
+  where
+    go : (before : List (List ℕ)) → lines ≡ before ++ h.last ∷ [] → bytes ≡ with_line_feeds before ++ h.last →
+        (byte ∷ bytes ≡ with_line_feeds (onto_first byte lines)) ⊎ EndsInOpenLine (byte ∷ bytes) (onto_first byte lines)
+    go [] pieces_are bytes_are =
+        open_lines [] (byte ∷ h.last) (λ e. cc) (ap (onto_first byte) pieces_are) (ap (λ rest. byte ∷ rest) bytes_are)
+    go (line ∷ before) pieces_are bytes_are =
+        open_lines ((byte ∷ line) ∷ before) h.last h.some_bytes (ap (onto_first byte) pieces_are) (ap (λ rest. byte ∷ rest) bytes_are)
 
-are_lines_after_feed : (bytes : List ℕ) (lines : List (List ℕ)) → AreLines bytes lines →
-    AreLines (line_feed ∷ bytes) ([] ∷ lines)
-are_lines_after_feed bytes lines are = record {
-  whole = All-cons HasNoLineFeed [] lines (All-nil IsNoFeed) are.whole;
-  parts =
-      ⊎_elim
-      (λ closed. inl (ap (λ rest. line_feed ∷ rest) closed))
-      (λ (unended : EndsInOpenLine bytes lines). inr (record {
-        before = [] ∷ unended.before;
-        last = unended.last;
-        pieces_are = ap (λ ls. [] ∷ ls) unended.pieces_are;
-        bytes_are = ap (λ rest. line_feed ∷ rest) unended.bytes_are;
-        some_bytes = unended.some_bytes;
-      }))
-      are.parts;
-}
-
-are_lines_after_byte : (byte : ℕ) (bytes : List ℕ) (lines : List (List ℕ)) → byte ≢ line_feed → AreLines bytes lines
-    → AreLines (byte ∷ bytes) (onto_first byte lines)
-are_lines_after_byte byte bytes lines not are = record {
-  whole = whole_after_byte byte lines not are.whole;
-  parts =
-      ⊎_elim
-      (λ closed. parts_after_byte byte bytes lines closed)
-      (λ (unended : EndsInOpenLine bytes lines).
-      inr (open_after_byte byte bytes lines unended.before unended.last unended.pieces_are unended.bytes_are unended.some_bytes))
-      are.parts;
-}
+-- a line feed before lines is an empty line
+parts_after_feed : (bytes : List ℕ) (lines : List (List ℕ)) → (bytes ≡ with_line_feeds lines) ⊎ EndsInOpenLine bytes lines →
+    (line_feed ∷ bytes ≡ with_line_feeds ([] ∷ lines)) ⊎ EndsInOpenLine (line_feed ∷ bytes) ([] ∷ lines)
+parts_after_feed bytes lines (inl closed) = inl (ap (λ rest. line_feed ∷ rest) closed)
+parts_after_feed bytes lines (inr h) =
+    open_lines ([] ∷ h.before) h.last h.some_bytes (ap (λ ls. [] ∷ ls) h.pieces_are) (ap (λ rest. line_feed ∷ rest) h.bytes_are)
 
 pub are_lines_of : (bytes : List ℕ) → AreLines bytes (lines_of bytes)
 unfolding lines_of
 are_lines_of [] = record { whole = All-nil HasNoLineFeed; parts = inl refl }
 are_lines_of (byte ∷ bytes) =
-    ⊎_elim
-    (λ (is : byte ≡ line_feed).
-    subst (λ lines. AreLines (byte ∷ bytes) lines) (sym (lines_of-feed byte bytes is))
-    (subst (λ b. AreLines (b ∷ bytes) ([] ∷ lines_of bytes)) (sym is)
-    (are_lines_after_feed bytes (lines_of bytes) (are_lines_of bytes))))
-    (λ (not : byte ≡ line_feed → ⊥).
-    subst (λ lines. AreLines (byte ∷ bytes) lines) (sym (lines_of-byte byte bytes not))
-    (are_lines_after_byte byte bytes (lines_of bytes) not (are_lines_of bytes)))
-    (cases_eq byte line_feed)
+    let lines = lines_of bytes in
+    let rest = are_lines_of bytes in
+    elim (cases_eq byte line_feed) [
+      | inl is ↦
+          rw (lines_of-feed byte bytes is, is)
+          (record { whole = All-cons HasNoLineFeed [] lines (All-nil IsNoFeed) rest.whole; parts = parts_after_feed bytes lines rest.parts })
+      | inr not ↦
+          rw (lines_of-byte byte bytes not)
+          (record { whole = whole_after_byte byte lines not rest.whole; parts = parts_after_byte byte bytes lines rest.parts })
+    ]
 
 -- ---- and no others are
 
