@@ -186,10 +186,12 @@ lines_of-feeds : (pieces : List (List ℕ)) (rest : List ℕ) → All HasNoLineF
     lines_of (with_line_feeds pieces ++ rest) ≡ pieces ++ lines_of rest
 lines_of-feeds [] rest whole = refl
 lines_of-feeds (piece ∷ pieces) rest whole =
-    ap lines_of (append_assoc (piece ++ line_feed ∷ []) (with_line_feeds pieces) rest
-    ∙ append_assoc piece (line_feed ∷ []) (with_line_feeds pieces ++ rest))
-    ∙ lines_of-ended piece (with_line_feeds pieces ++ rest) (All-head HasNoLineFeed piece pieces whole)
-    ∙ ap (λ lines. piece ∷ lines) (lines_of-feeds pieces rest (All-tail HasNoLineFeed piece pieces whole))
+    grind (
+      arith,
+      append_assoc,
+      lines_of-ended piece (with_line_feeds pieces ++ rest) (All-head HasNoLineFeed piece pieces whole),
+      lines_of-feeds pieces rest (All-tail HasNoLineFeed piece pieces whole),
+    )
 
 All-before : (before : List (List ℕ)) (last : List ℕ) → All HasNoLineFeed (before ++ last ∷ []) →
     All HasNoLineFeed before × HasNoLineFeed last
@@ -200,21 +202,12 @@ All-before (piece ∷ before) last whole =
 
 no_others : (bytes : List ℕ) (pieces : List (List ℕ)) → AreLines bytes pieces → pieces ≡ lines_of bytes
 unfolding lines_of
-no_others bytes pieces are =
-    ⊎_elim
-    (λ (closed : bytes ≡ with_line_feeds pieces).
-    sym
-    (ap lines_of (closed ∙ sym (append-nil (with_line_feeds pieces)))
-    ∙ lines_of-feeds pieces [] are.whole
-    ∙ append-nil pieces))
-    (λ (unended : EndsInOpenLine bytes pieces).
-    let whole = All-before unended.before unended.last (subst (λ ps. All HasNoLineFeed ps) unended.pieces_are are.whole) in
-    unended.pieces_are
-    ∙ sym
-    (ap lines_of unended.bytes_are
-    ∙ lines_of-feeds unended.before unended.last whole.0
-    ∙ ap (λ lines. unended.before ++ lines) (lines_of-open unended.last whole.1 unended.some_bytes)))
-    are.parts
+no_others bytes pieces are = elim are.parts [
+  | inl closed ↦ grind (arith, append-nil, closed, lines_of-feeds pieces [] are.whole)
+  | inr unended ↦
+      let whole = All-before unended.before unended.last (rw unended.pieces_are at are.whole) in
+      grind (arith, lines_of-feeds unended.before unended.last whole.0, lines_of-open unended.last whole.1 unended.some_bytes)
+]
 
 pub lines_are_one : LinesAreOne
 lines_are_one = record { some = are_lines_of; one = no_others }
@@ -338,10 +331,6 @@ pub lines_between : (jobs : List (List Entry)) (f : ℕ) → f < length jobs
     → job_count (take (f + 1) jobs) ≡ job_count (take f jobs) + length (entries_of jobs f)
 lines_between jobs f within = ap job_count (take_more jobs f [] within) ∙ sum_by_push length (take f jobs) (entries_of jobs f)
 
--- a file has no more lines than all together
-file_low : (jobs : List (List Entry)) (f : ℕ) → f < length jobs → length (entries_of jobs f) ≤ job_count jobs
-file_low jobs f within = get_or-le-sum_by length jobs f [] within
-
 -- ---- while the files are read
 
 pub length-entries_to : (question : Question) (bytes : List ℕ) → length (entries_to question bytes) ≡ length (lines_of bytes)
@@ -360,11 +349,6 @@ job_count-jobs_to question (file ∷ files) =
       job_count-jobs_to question files,
     )
 
--- after the last file all are read
-pub all_read : (question : Question) (files : List NamedBytes) (i : ℕ) {jobs : List (List Entry)} →
-    jobs ≡ jobs_to question (take i files) → length files ≤ i → jobs ≡ jobs_to question files
-all_read question files i is past = is ∙ ap (jobs_to question) (take_all i files past)
-
 -- the entries of a file, as they are stored
 pub stored_lines : {V : Type 0} (items : V → List Entry) (files : List V) {jobs : List (List Entry)} (f : ℕ) (own : V) →
     map items files ≡ jobs → own ≡ get_or files f own → f < length jobs → entries_of jobs f ≡ items own
@@ -372,25 +356,24 @@ stored_lines items files f own is at within =
     ap (λ jobs. entries_of jobs f) (sym is)
     ∙ get_or-map items files f own [] (omega (arith, within, ap length is, length-map files items)) ∙ ap items (sym at)
 
--- nothing starts before the first file
-starts_none : AreStarts [] []
-starts_none = record { as_many = refl; before = λ f low. absurd (omega (arith, low)) }
-
 -- one file more starts after all jobs so far
 pub starts_more : {jobs : List (List Entry)} {starts : List ℕ} {start : ℕ} (own : List Entry) → AreStarts jobs starts →
     start ≡ job_count jobs → AreStarts (jobs ++ own ∷ []) (starts ++ start ∷ [])
 starts_more {jobs} {starts} {start} own so_far is = record {
   as_many = omega (arith, so_far.as_many, length-append starts (start ∷ []), length-append jobs (own ∷ []));
   before = λ f low.
-      let end : f ≤ length jobs = omega (arith, low, length-append jobs (own ∷ [])) in
-      let first = ap job_count (take-append-le f jobs (own ∷ []) end) in
-      elim (cases_lt f (length jobs)) [
-        | inl old ↦
-            get_or_append_left starts (start ∷ []) 0 f (omega (arith, so_far.as_many, old)) ∙ so_far.before f old ∙ sym first
-        | inr new ↦
-            ap (λ n. get_or (starts ++ start ∷ []) n 0) (let at : f ≡ length starts = omega (arith, so_far.as_many, end, new) in at)
-            ∙ get_or-append_seam starts start [] 0 ∙ is ∙ sym (first ∙ ap job_count (take_all f jobs new))
-      ];
+      grind (
+        arith,
+        low,
+        length-append starts (start ∷ []),
+        length-append jobs (own ∷ []),
+        take-append-le f jobs (own ∷ []),
+        take_all f jobs,
+        get_or_append_left starts (start ∷ []) 0 f,
+        get_or-append_seam starts start [] 0,
+        so_far.as_many,
+        so_far.before f,
+      );
 }
 
 -- a start, read for any default
@@ -404,7 +387,7 @@ pub stored_few : {V : Type 0} (items : V → List Entry) (files : List V) {jobs 
     map items files ≡ jobs → own ≡ get_or files f own → f < length jobs → job_count (map items files) ≤ most_lines →
     length (items own) ≤ most_lines
 stored_few items files {jobs} f own is at within few =
-    omega (arith, ap length (stored_lines items files f own is at within), file_low jobs f within, ap job_count is, few)
+    omega (arith, ap length (stored_lines items files f own is at within), get_or-le-sum_by length jobs f [] within, ap job_count is, few)
 
 -- what the functions of jobs need of what is counted
 pub ruleset counts_of_jobs = (get_or-map, length-map, length-job_list, lines_between)

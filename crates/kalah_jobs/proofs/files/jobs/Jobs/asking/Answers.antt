@@ -1,9 +1,9 @@
 use Rattle.std.proofs.Common.{◌≡◌, ◌+◌, ◌∷◌, [], ◌∙◌, ap, sym, length, arith}
 use Rattle.std.proofs.lemmas.Grind.{common_steps}
-use Rattle.std.proofs.lemmas.List.{drop_all, length_push, length-map, map-append}
+use Rattle.std.proofs.lemmas.List.{drop_all, take_all, length_push, length-map, map-append}
 use Rattle.std.proofs.lemmas.List.Sums.{count_by-le-length, sum_by-drop_more}
-use Rattle.kalah_jobs.specs.Files.Jobs.{lines_in, lines_in_all}
-use Rattle.kalah_jobs.proofs.FilesLemmas.{all_read, length-entries_to, starts_more}
+use Rattle.kalah_jobs.specs.Files.Jobs.{jobs_to, lines_in, lines_in_all}
+use Rattle.kalah_jobs.proofs.FilesLemmas.{length-entries_to, starts_more}
 use Rattle.kalah_jobs.proofs.files.jobs.Jobs.asking.Goals as goal
 
 pub overflow_add-faults : goal.overflow_add-faults
@@ -37,7 +37,7 @@ invariant_of-result c =
 
 pub returns-clause-value : goal.returns-clause-value
 returns-clause-value c =
-    all_read c.args.question c.args.files.now c.loop-file.file-index c.loop-file.invariant.read (omega (arith, c.loop-file-test.false))
+    c.loop-file.invariant.read ∙ ap (jobs_to c.args.question) (take_all c.loop-file.file-index c.args.files.now (omega (arith, c.loop-file-test.false)))
 
 pub push_reserved-requires : goal.push_reserved-requires
 push_reserved-requires c =
