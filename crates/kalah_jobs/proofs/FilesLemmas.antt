@@ -349,13 +349,6 @@ job_count-jobs_to question (file ∷ files) =
       job_count-jobs_to question files,
     )
 
--- the entries of a file, as they are stored
-pub stored_lines : {V : Type 0} (items : V → List Entry) (files : List V) {jobs : List (List Entry)} (f : ℕ) (own : V) →
-    map items files ≡ jobs → own ≡ get_or files f own → f < length jobs → entries_of jobs f ≡ items own
-stored_lines items files f own is at within =
-    ap (λ jobs. entries_of jobs f) (sym is)
-    ∙ get_or-map items files f own [] (omega (arith, within, ap length is, length-map files items)) ∙ ap items (sym at)
-
 -- one file more starts after all jobs so far
 pub starts_more : {jobs : List (List Entry)} {starts : List ℕ} {start : ℕ} (own : List Entry) → AreStarts jobs starts →
     start ≡ job_count jobs → AreStarts (jobs ++ own ∷ []) (starts ++ start ∷ [])
@@ -376,18 +369,9 @@ starts_more {jobs} {starts} {start} own so_far is = record {
       );
 }
 
--- a start, read for any default
-pub start_is : {jobs : List (List Entry)} {starts : List ℕ} → AreStarts jobs starts → (f x : ℕ) → f < length jobs →
-    x ≡ get_or starts f x → x ≡ job_count (take f jobs)
-start_is {jobs} {starts} of f x low is =
-    is ∙ get_or_default starts f x 0 (omega (arith, of.as_many, low)) ∙ of.before f low
-
--- they are no more than all lines of a batch
-pub stored_few : {V : Type 0} (items : V → List Entry) (files : List V) {jobs : List (List Entry)} (f : ℕ) (own : V) →
-    map items files ≡ jobs → own ≡ get_or files f own → f < length jobs → job_count (map items files) ≤ most_lines →
-    length (items own) ≤ most_lines
-stored_few items files {jobs} f own is at within few =
-    omega (arith, ap length (stored_lines items files f own is at within), get_or-le-sum_by length jobs f [] within, ap job_count is, few)
+-- a file has no more lines than all together
+pub file_low : (jobs : List (List Entry)) (f : ℕ) → f < length jobs → length (entries_of jobs f) ≤ job_count jobs
+file_low jobs f within = get_or-le-sum_by length jobs f [] within
 
 -- what the functions of jobs need of what is counted
 pub ruleset counts_of_jobs = (get_or-map, length-map, length-job_list, lines_between)
