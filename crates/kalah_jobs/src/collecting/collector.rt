@@ -35,6 +35,7 @@ impl Collector {
     /// Makes a collector for these jobs, to which nothing has come. It allocates all its memory here.
     ///
     /// Fails with `AllocError` only if memory was refused.
+    #[tactic(auto, using(crate::proofs::CollectingLemmas::new_counts))]
     pub fn new(alloc: Global, jobs: &Jobs) -> Result<Collector, AllocError>
         ensures empty { IfOk result (λ c. c ≡ new_files jobs.now) }
         ensures counts { IfOk result (λ c. HasLinesOf jobs.now c) }
