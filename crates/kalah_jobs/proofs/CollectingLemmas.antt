@@ -168,11 +168,11 @@ rows_count n rows q once =
     let many : length (map worth (range_with_len 0 n)) ≡ n = length-map-range_with_len worth 0 n in
     sym (count_flat q rows)
     ∙ by_class (λ y. y) q flat (map worth (range_with_len 0 n))
-      (λ k d within. let z = get_or flat k d in
-      let some = rw (eq-eqb z z refl) at (get_or-le-sum_by (λ y. cond (y == z) 1 0) flat k d within) in
-      let low : z < n = grind (arith, times z, some, nat_tests) in omega (arith, many))
-      (λ x low. class_of_number q x flat ∙ ap (λ c. if q x then c else 0) (times x ∙ rw (lt-ltb x n (omega (arith, low, many))) refl)
-      ∙ sym (get_or-map-range_with_len worth 0 n x x 0 (omega (arith, low, many)) (omega arith)))
+    (λ k d within. let z = get_or flat k d in
+    let some = rw (eq-eqb z z refl) at (get_or-le-sum_by (λ y. cond (y == z) 1 0) flat k d within) in
+    let low : z < n = grind (arith, times z, some, nat_tests) in omega (arith, many))
+    (λ x low. class_of_number q x flat ∙ ap (λ c. if q x then c else 0) (times x ∙ rw (lt-ltb x n (omega (arith, low, many))) refl)
+    ∙ sym (get_or-map-range_with_len worth 0 n x x 0 (omega (arith, low, many)) (omega arith)))
     ∙ sum-map worth (range_with_len 0 n)
 
 -- for each test, the number of received results that pass it equals that of the results of all numbers
@@ -185,8 +185,8 @@ got_all_once {X} p n f rows got s =
     count_map p (λ (t : ℕ × X). t.1) got
     ∙ by_class (λ t. t.0) (λ t. p t.1) got counts (rw many s.workers)
     (λ w low.
-      let within : w < length rows = omega (arith, low, many) in
-      class_of p w got ∙ ap (count_by p) (s.whole w within) ∙ count_map p f (slice_index_or rows w []) ∙ sym (get_or-map (count_by q) rows w [] 0 within))
+    let within : w < length rows = omega (arith, low, many) in
+    class_of p w got ∙ ap (count_by p) (s.whole w within) ∙ count_map p f (slice_index_or rows w []) ∙ sym (get_or-map (count_by q) rows w [] 0 within))
     ∙ sum-map (count_by q) rows ∙ rows_count n rows q s.each_once
 
 -- each passes a test that all pass

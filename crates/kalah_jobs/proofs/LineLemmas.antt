@@ -303,6 +303,7 @@ module _ {bytes : List ℕ} {side : Side} {rest : List ℕ} {n : ℕ} {after : L
     where
       shorter : length after < length rest
       shorter = number_shorter rest (n, after) house
+
 -- ==== What writes a position, and what it is read as
 
 -- ---- endings

@@ -24,8 +24,7 @@ pub invariant_of-result : goal.invariant_of-result
 invariant_of-result c =
     let so_far = c.loop-file.invariant in
     let none = ap lines_in_all (drop_all c.loop-file.file-index c.args.files.now (omega (arith, c.loop-file-test.false))) in
-    let many = length-map c.loop-file.read.items (λ own. own.items) in
-    (
+    let many = length-map c.loop-file.read.items (λ own. own.items) in (
       record {
         few_files = omega (arith, many, so_far.many, c.loop-file.auto.file-index-end, c.if-files-gt-MOST_FILES.false);
         few_lines = omega (arith, none, so_far.before, so_far.lines, c.in-Some.ensures.some);
