@@ -1,7 +1,7 @@
 -- The collector: how far each file has come, and what any list of offers and takes makes of it.
 use Rattle.std.proofs.Common.{◌≡◌, ◌⊎◌, ℕ, zero, suc, ◌+◌, ◌-◌, ◌<◌, ◌≤◌, List, [], ◌∷◌, length, set, get_or, replicate, true, false, refl, arith, ⊎_elim, Bool, ◌&&◌, ◌==◌, ap, ap₂, eq-eqb, ◌≢◌, inl, inr, if◌then◌else◌, cond, ◌++◌, map, slice_index_or, ◌∙◌, sym, ne_eqb, subst, length-set, get_or-set_other, get_or-set_same, take}
-use Rattle.std.specs.Prelude.{Option, Some, None, is_some, sum_by, count_by, nat_lt, IsSome, Contains, Result, Ok, Err, sum, not, IsSomeAnd, slice_get, IsOk}
-use Rattle.std.proofs.lemmas.Bool.{cases_lt, and_parts, and_from, eqb-true, false≢true, lt-ltb, le-ltb, cases_eq, cases_Bool}
+use Rattle.std.specs.Prelude.{Option, Some, None, is_some, sum_by, count_by, nat_lt, IsSome, Contains, Result, Ok, Err, sum, not, slice_get, IsOk}
+use Rattle.std.proofs.lemmas.Bool.{false≢true, lt-ltb, cases_eq, cases_Bool}
 use Rattle.kalah_jobs.specs.declared.writing.answer.Answer.{Answer}
 use Rattle.kalah_jobs.specs.Collecting.CollectorState.{front_of, FileState, no_file, state_of, line_count, came_for, HasLinesOf, with_answer, with_one_taken, after_offer, after_take, new_files, front, IsNext, HasEnded}
 use Rattle.std.specs.Coded.{Coded, codes}
@@ -9,15 +9,14 @@ use base.Stored.{Gv, gnil, gnum, gcons}
 use Rattle.kalah_jobs.specs.declared.files.job.Job.{Job}
 use Rattle.std.specs.List.{All, flat_map, enumerate_from, range_with_len}
 use Rattle.std.proofs.lemmas.List.Sums.{sum_by-cons, sum_by-append, get_or-le-sum_by, sum_by-le, sum_by-set, sum-map}
-use Rattle.std.proofs.lemmas.List.Elements.{All-nil, All-cons, All-head, All-tail, Contains-append_left, Contains-push, Contains-push_cases, Contains-append_right}
+use Rattle.std.proofs.lemmas.List.Elements.{All-head, All-tail, Contains-append_left, Contains-push, Contains-push_cases, Contains-append_right}
 use Rattle.std.proofs.lemmas.List.{length-map, length-append, nil_from_length, get_or_default, length-replicate, get_or-replicate, get_or_past, append-nil, append_assoc, take_all, take_more, get_or-map}
 use Rattle.kalah_jobs.specs.Collecting.Shares.{times_in, of, AreShared}
-use Rattle.kalah_jobs.proofs.FilesLemmas.{count_map, slice_get-job_list, count_flat}
+use Rattle.kalah_jobs.proofs.FilesLemmas.{count_map, count_flat}
 use Rattle.std.proofs.lemmas.Bool.Decides.{nat_tests}
 use Rattle.std.proofs.lemmas.Option.{slice_get_within, get_or_from_slice_get, slice_get-get_or}
 use Rattle.kalah_jobs.specs.declared.files.entry.Entry.{Entry}
 use Rattle.kalah_jobs.specs.declared.collecting.refusal.Refusal.{Refusal}
-use Rattle.kalah_jobs.specs.declared.collecting.refusal.Refusal.TheVariants.{NoSuchFile, FileEnded, NoSuchLine, WrongPosition, Double}
 use Rattle.kalah_jobs.specs.Writing.Answer.{answer_of}
 use Rattle.kalah_jobs.specs.Files.JobList.{entries_of, entry_at, line_job, file_jobs, jobs_from, job_list}
 use Rattle.kalah_jobs.specs.Collecting.Refusals.{IsWanted, IsRefusedFor, RefusalsLaw}
@@ -28,7 +27,6 @@ use Rattle.kalah_jobs.specs.Collecting.CollectorEvents.{Event, Offered, Took, Of
 use Rattle.kalah_jobs.specs.Collecting.CollectorLaw.{Runs, CollectorLaw}
 use Rattle.kalah_jobs.specs.declared.files.entry.Entry.TheVariants.{Bad}
 use Rattle.kalah_jobs.specs.declared.line.line_fault.LineFault.TheVariants.{Empty}
-use Rattle.kalah_jobs.specs.Files.Jobs.{job_count}
 use Rattle.kalah_jobs.specs.Collecting.Batch.{job, AreJobsInSomeOrder, SharesLaw, OffersLaw, FrontsLaw}
 
 -- ==== How many of the first lines of a file have come without a gap

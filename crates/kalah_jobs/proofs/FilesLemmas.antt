@@ -1,40 +1,31 @@
 -- The lines of files, their entries, and the jobs of a batch.
 use Rattle.kalah_rules.specs.Position as position
-use Rattle.kalah_jobs.specs.declared.writing.answer.Answer.TheVariants as answer
 use Rattle.kalah_rules.specs.contracts.board.BoardPartialEq.TheImpl as board_eq
 use Rattle.std.proofs.Common.{◌≡◌, ◌≢◌, ℕ, ◌+◌, ◌<◌, ◌≤◌, List, [], ◌∷◌, ◌++◌, length, get_or, take, drop, take-append-drop, refl, ap, sym, ◌∙◌, arith, length-drop, ◌⊎◌, inl, inr, ⊎_elim, subst, append_assoc, Result, Ok, Err, zero, suc, ◌-◌, Bool, true, false, cond, map, ap₂, length-append, ◌&&◌, ◌==◌}
-use Rattle.std.specs.Prelude.{if◌then◌else◌, All, Some, slice_get, slice_index_or, sum_by, count_by, ◌↔◌}
+use Rattle.std.specs.Prelude.{if◌then◌else◌, All, Some, slice_get, sum_by, count_by}
 use Rattle.std.specs.List.{onto_first, flat_map}
 use Rattle.std.proofs.lemmas.List.{take_all, drop_all, drop_more, append-nil, take_more, take-take, take-append-le, get_or_append_left, get_or_default, length-map, map-append, get_or-map, length-take-le}
 use Rattle.std.proofs.lemmas.List.Elements.{All-head, All-tail, All-nil, All-cons}
 use Rattle.std.proofs.Math.Seq.{take-nil, get_or-append_seam}
-use Rattle.std.proofs.lemmas.List.Sums.{sum_by-cons, sum_by-append, sum_by_push, sum_by-drop_more, get_or-le-sum_by, count_by-le-length}
+use Rattle.std.proofs.lemmas.List.Sums.{sum_by-cons, sum_by-append, sum_by_push, get_or-le-sum_by}
 use Rattle.kalah_jobs.specs.Files.Lines.{line_feed, lines_of, HasNoLineFeed, with_line_feeds, EndsInOpenLine, AreLines, LinesAreOne}
-use Rattle.std.proofs.lemmas.Bool.{cases_eq, cases_lt, and_parts, eqb-true}
-use Rattle.kalah_jobs.specs.Line.Reading.{reading_of}
-use Rattle.kalah_jobs.specs.declared.line.line_fault.LineFault.{LineFault}
+use Rattle.std.proofs.lemmas.Bool.{cases_eq}
 use Rattle.kalah_jobs.specs.declared.files.entry.Entry.{Entry}
 use Rattle.kalah_jobs.specs.declared.files.entry.Entry.TheVariants.{Position, ValuesOf, StepsOf, Bad}
 use Rattle.kalah_jobs.specs.Files.Entry.{Says, entry_of_reading, entry_of, EntriesAreOne}
-use Rattle.kalah_jobs.proofs.LineLemmas.{IsReading, is_reading, only_reading}
+use Rattle.kalah_jobs.proofs.LineLemmas.{is_reading, only_reading}
 use Rattle.std.proofs.lemmas.Bool.Decides.{nat_tests}
 use Rattle.std.proofs.lemmas.Option.{slice_get_within}
 use Rattle.std.proofs.lemmas.List.Concat.{length-flat_map}
 use Rattle.kalah_jobs.specs.declared.files.job.Job.{Job}
 use Rattle.kalah_jobs.specs.Files.NamedBytes.{NamedBytes}
 use Rattle.kalah_jobs.specs.Files.JobList.{entries_of, line_job, file_jobs, jobs_from, job_list}
-use Rattle.kalah_jobs.specs.Limits.{most_lines}
 use Rattle.kalah_jobs.specs.Files.Jobs.{lines_in_all, lines_in, entries_to, jobs_to, job_count, AreStarts}
 use Rattle.kalah_jobs.specs.Files.Question.{entry_to, entry_asked}
 use Rattle.kalah_jobs.specs.declared.files.question.Question.{Question}
 use Rattle.kalah_rules.specs.Position.{is_over, final_margin, IsWithinLimits, rows_of, seeds_in_houses}
-use Rattle.kalah_solve.specs.Solver.Worth.{worth, best_house}
-use Rattle.kalah_solve.specs.Solver.MoveValues.{values_of}
-use Rattle.kalah_jobs.specs.declared.writing.answer.Answer.{Answer}
-use Rattle.kalah_jobs.specs.declared.files.question.Question.TheVariants.{BestMove}
 use Rattle.kalah_jobs.specs.Writing.Answer.{answer_of, is_fault, is_faulty_entry}
 use Rattle.kalah_jobs.specs.Writing.Output.{is_faulty_job}
-use Rattle.kalah_rules.specs.Key.{key_of}
 use Rattle.kalah_rules.proofs.KeyLemmas.{same_key}
 use Rattle.kalah_rules.proofs.PackedLemmas.{rows_within}
 use Rattle.kalah_rules.specs.contracts.board.BoardEq.TheImpl.Laws.{laws-law}

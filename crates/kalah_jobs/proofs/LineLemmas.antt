@@ -1,9 +1,8 @@
 -- The text of a line: its grammar, how it is read, and how it is written.
-use Rattle.std.proofs.Common.{◌≡◌, ℕ, ◌+◌, ◌-◌, ◌/◌, ◌%◌, ◌<◌, ◌≤◌, inl, inr, true, false, List, [], ◌∷◌, ◌++◌, length, Some, refl, sym, ap, ap₂, subst, ◌∙◌, length-append, arith, zero, suc, pred, ◌==◌, Bool, cond, Option, None, append_assoc, eqb-true, Result, Ok, Err, ◌≢◌, ◌*◌, map, All, append-nil, lit<, ◌↔◌}
+use Rattle.std.proofs.Common.{◌≡◌, ℕ, ◌+◌, ◌-◌, ◌<◌, ◌≤◌, inl, inr, true, List, [], ◌∷◌, ◌++◌, length, Some, refl, sym, ap, ap₂, subst, ◌∙◌, length-append, arith, zero, suc, pred, ◌==◌, Bool, cond, Option, None, append_assoc, eqb-true, Result, Ok, Err, ◌≢◌, ◌*◌, map, append-nil, lit<, ◌↔◌}
 use Rattle.std.specs.Prelude.{decimal, ◌&&◌, nat_lt, ⊤, codes, sum, IfOk, IfErr}
 use Rattle.std.specs.Char.{is_ascii_digit, IsAsciiDigit}
-use Rattle.std.specs.Cmp.Derive.{both_true}
-use Rattle.std.proofs.lemmas.Bool.{cases_lt, cases_Bool, and_parts, and_right, lt-ltb, cond-true, cond-false, le-ltb, ne_eqb}
+use Rattle.std.proofs.lemmas.Bool.{cases_lt, cases_Bool, lt-ltb, cond-true, cond-false, le-ltb, ne_eqb}
 use Rattle.std.proofs.lemmas.Bool.Decides.{nat_tests, eqb_tells}
 use Rattle.std.proofs.lemmas.Option.{cond_some}
 use Rattle.std.proofs.lemmas.Fmt.{decimal_digit, decimal_step, length-decimal-le}
@@ -21,7 +20,6 @@ use Rattle.kalah_jobs.specs.Limits.{most_bytes}
 use Rattle.kalah_jobs.specs.declared.line.line_fault.LineFault.{LineFault}
 use Rattle.kalah_jobs.specs.declared.line.line_fault.LineFault.TheVariants.{Long, Empty, Shape, Houses, Seeds}
 use Rattle.std.specs.List.{join_with_byte}
-use Rattle.std.proofs.lemmas.List.Elements.{All-head, All-tail, All-from_get_or}
 use Rattle.std.proofs.lemmas.List.Sums.{sum_by-cons}
 
 -- ==== What writes a number, what it is read as, and its text
