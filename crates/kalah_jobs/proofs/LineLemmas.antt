@@ -312,14 +312,6 @@ ending_is_read rule = grind arith
 ending_is_written : (bytes : List ℕ) (rule : Rule) → rule_of bytes ≡ Some rule → bytes ≡ ending_of rule
 ending_is_written bytes rule e = grind (arith, nat_tests)
 
--- bytes that are no ending name no rule
-pub no_rule : (bytes : List ℕ) → ((rule : Rule) → bytes ≡ ending_of rule → ⊥) → rule_of bytes ≡ None
-no_rule bytes none =
-    (elim (rule_of bytes) as (λ (r : Option Rule). rule_of bytes ≡ r → r ≡ None) [
-      | None ↦ λ e. refl
-      | Some rule ↦ λ e. absurd (none rule (ending_is_written bytes rule e))
-    ]) refl
-
 ending_ends : (rule : Rule) → EndsNumber (ending_of rule)
 ending_ends rule = grind arith
 
