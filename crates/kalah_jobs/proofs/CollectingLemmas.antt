@@ -76,6 +76,9 @@ pub front_least : (xs : List (Option Answer)) (m : ℕ) → ((k : ℕ) → k < m
     → m ≤ front_of xs
 front_least xs m all = grind (arith, front_more xs (front_of xs), all (front_of xs))
 
+-- what taking an answer needs
+pub ruleset fronts = (front_within, front_came, front_more)
+
 -- ==== A test by which one offer is found in a list: it holds only of that offer
 
 -- entries distinguished by a code
