@@ -138,7 +138,14 @@ by_class {T} class p (t ∷ ts) counts below own =
     let at : ℕ → ℕ = λ w. in_class class p w ts in
     let rest : List ℕ = set counts (class t) (at (class t)) in
     let others : (w : ℕ) → w < length rest → at w ≡ get_or rest w 0 =
-    λ w within. grind (arith, own w, length-set counts, get_or-set_same counts (class t) (at (class t)) 0, get_or-set_other counts (class t) w (at (class t)) 0, nat_tests) in
+    λ w within. grind (
+      arith,
+      own w,
+      length-set counts,
+      get_or-set_same counts (class t) (at (class t)) 0,
+      get_or-set_other counts (class t) w (at (class t)) 0,
+      nat_tests,
+    ) in
     grind (
       arith,
       count_by-cons p t ts,
@@ -187,7 +194,8 @@ got_all_once {X} p n f rows got s =
     ∙ by_class (λ t. t.0) (λ t. p t.1) got counts (rw many s.workers)
     (λ w low.
     let within : w < length rows = omega (arith, low, many) in
-    class_of p w got ∙ ap (count_by p) (s.whole w within) ∙ count_map p f (slice_index_or rows w []) ∙ sym (get_or-map (count_by q) rows w [] 0 within))
+    class_of p w got ∙ ap (count_by p) (s.whole w within) ∙ count_map p f (slice_index_or rows w [])
+    ∙ sym (get_or-map (count_by q) rows w [] 0 within))
     ∙ sum-map (count_by q) rows ∙ rows_count n rows q s.each_once
 
 -- each passes a test that all pass
@@ -388,7 +396,8 @@ first_lines_more jobs past files f t holds is_next =
     let at : entry_at jobs f n ≡ Some w.entry = ap (λ k. entry_at jobs f k) (sym is_next.first) ∙ w.at in
     let low : n < length xs =
     omega (arith, slice_get_within (entries_of jobs f) n w.entry at, length-enumerate_from 0 (entries_of jobs f)) in
-    let numbered = get_or-enumerate_from 0 (entries_of jobs f) n (0, w.entry) (omega (arith, low, length-enumerate_from 0 (entries_of jobs f))) in
+    let numbered = get_or-enumerate_from 0 (entries_of jobs f) n (0, w.entry)
+    (omega (arith, low, length-enumerate_from 0 (entries_of jobs f))) in
     let entry = get_or_from_slice_get (entries_of jobs f) n w.entry w.entry at in
     let here : get_or (lines_of jobs f) n t ≡ t =
     get_or-map answered_line xs n (0, w.entry) t low ∙ ap answered_line numbered
@@ -566,7 +575,8 @@ jobs_times : (o : Job) (f : ℕ) (jobs : List (List Entry)) → times o (jobs_fr
     ≡ (if not (nat_lt o.file f) then hits o.entry (entry_at jobs (o.file - f) o.line) else 0)
 jobs_times o f [] = grind arith
 jobs_times o f (entries ∷ jobs) =
-    grind (arith, nat_tests, file_times o f 0 entries, jobs_times o (suc f) jobs, sum_by-append (λ x. cond (same_job o x) 1 0) (file_jobs f 0 entries) (jobs_from (suc f) jobs))
+    let all = sum_by-append (λ x. cond (same_job o x) 1 0) (file_jobs f 0 entries) (jobs_from (suc f) jobs) in
+    grind (arith, nat_tests, all, file_times o f 0 entries, jobs_times o (suc f) jobs)
 
 -- an offer stands among the jobs once if it is one of them, and else never
 job_times : (o : Job) (jobs : List (List Entry)) → times o (job_list jobs) ≡ hits o.entry (entry_at jobs o.file o.line)

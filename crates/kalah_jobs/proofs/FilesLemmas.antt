@@ -165,7 +165,10 @@ are_lines_of (byte ∷ bytes) =
     elim (cases_eq byte line_feed) [
       | inl is ↦
           rw (lines_of-feed byte bytes is, is)
-          (record { whole = All-cons HasNoLineFeed [] lines (All-nil IsNoFeed) rest.whole; parts = parts_after_feed bytes lines rest.parts })
+          (record {
+            whole = All-cons HasNoLineFeed [] lines (All-nil IsNoFeed) rest.whole;
+            parts = parts_after_feed bytes lines rest.parts;
+          })
       | inr not ↦
           rw (lines_of-byte byte bytes not)
           (record { whole = whole_after_byte byte lines not rest.whole; parts = parts_after_byte byte bytes lines rest.parts })

@@ -36,12 +36,14 @@ invariant_of-result c =
 
 pub returns-clause-value : goal.returns-clause-value
 returns-clause-value c =
-    c.loop-file.invariant.read ∙ ap (jobs_to c.args.question) (take_all c.loop-file.file-index c.args.files.now (omega (arith, c.loop-file-test.false)))
+    let all = take_all c.loop-file.file-index c.args.files.now (omega (arith, c.loop-file-test.false)) in
+    c.loop-file.invariant.read ∙ ap (jobs_to c.args.question) all
 
 pub push_reserved-requires : goal.push_reserved-requires
 push_reserved-requires c =
     let so_far = c.loop-file.invariant in
-    omega (arith, so_far.many, so_far.starts.as_many, length-map c.loop-file.read.items (λ own. own.items), so_far.starts_room, c.loop-file-test.true)
+    let same = length-map c.loop-file.read.items (λ own. own.items) in
+    omega (arith, same, so_far.many, so_far.starts.as_many, so_far.starts_room, c.loop-file-test.true)
 
 pub push_reserved-requires-in-loop-file : goal.push_reserved-requires-in-loop-file
 push_reserved-requires-in-loop-file c = omega (arith, c.loop-file.invariant.many, c.loop-file.invariant.room, c.loop-file-test.true)
@@ -59,7 +61,8 @@ loop-file-preserved c =
       lines = grind (arith, sum_by-drop_more lines_in c.args.files.now c.loop-file.file-index, length-entries_to);
       faults = grind (arith, common_steps);
       fewer = grind (arith, count_by-le-length);
-      many = omega (arith, ap length c.push_reserved-in-loop-file.ensures.items, length_push c.loop-file.read.items c.read_entries.new.entries, so_far.many);
+      many = ap length c.push_reserved-in-loop-file.ensures.items
+          ∙ omega (arith, length_push c.loop-file.read.items c.read_entries.new.entries, so_far.many);
       room = omega (arith, c.push_reserved-in-loop-file.ensures.capacity, so_far.room);
       starts_room = omega (arith, c.push_reserved.ensures.capacity, so_far.starts_room);
     }
