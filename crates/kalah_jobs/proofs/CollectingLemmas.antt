@@ -1,33 +1,32 @@
 -- The collector: how far each file has come, and what any list of offers and takes makes of it.
-use Rattle.std.proofs.Common.{◌≡◌, ℕ, zero, suc, ◌+◌, ◌<◌, ◌≤◌, List, [], ◌∷◌, length, set, get_or, replicate, true, false, refl, arith, ⊎_elim, Bool, ◌&&◌, ◌==◌, ap, ap₂, eq-eqb, ◌≢◌, inl, inr, if◌then◌else◌, cond, ◌++◌, map, slice_index_or, ◌∙◌, sym, ne_eqb, subst, length-set, get_or-set_other, get_or-set_same, take}
-use Rattle.std.specs.Prelude.{Option, Some, None, is_some, sum_by, count_by, nat_lt, IsSome, Contains, Result, Ok, Err, IsSomeAnd, slice_get, IsOk}
-use Rattle.std.proofs.lemmas.Bool.{cases_lt, and_parts, and_from, eqb-true, false≢true, lt-ltb, le-ltb, cases_eq, cases_Bool}
+use Rattle.std.proofs.Common.{◌≡◌, ◌⊎◌, ℕ, zero, suc, ◌+◌, ◌-◌, ◌<◌, ◌≤◌, List, [], ◌∷◌, length, set, get_or, replicate, true, false, refl, arith, ⊎_elim, Bool, ◌&&◌, ◌==◌, ap, ap₂, eq-eqb, ◌≢◌, inl, inr, if◌then◌else◌, cond, ◌++◌, map, slice_index_or, ◌∙◌, sym, ne_eqb, subst, length-set, get_or-set_other, get_or-set_same, take}
+use Rattle.std.specs.Prelude.{Option, Some, None, is_some, sum_by, count_by, nat_lt, IsSome, Contains, Result, Ok, Err, sum, not, slice_get, IsOk}
+use Rattle.std.proofs.lemmas.Bool.{false≢true, lt-ltb, cases_eq, cases_Bool}
 use Rattle.kalah_jobs.specs.declared.writing.answer.Answer.{Answer}
 use Rattle.kalah_jobs.specs.Collecting.CollectorState.{front_of, FileState, no_file, state_of, line_count, came_for, HasLinesOf, with_answer, with_one_taken, after_offer, after_take, new_files, front, IsNext, HasEnded}
 use Rattle.std.specs.Coded.{Coded, codes}
 use base.Stored.{Gv, gnil, gnum, gcons}
 use Rattle.kalah_jobs.specs.declared.files.job.Job.{Job}
-use Rattle.std.specs.List.{All, flat_map, enumerate_from}
-use Rattle.std.proofs.lemmas.List.Sums.{sum_by-cons, sum_by-append, get_or-le-sum_by}
-use Rattle.std.proofs.lemmas.List.Elements.{All-nil, All-cons, All-head, All-tail, Contains-append_left, Contains-push, Contains-push_cases, Contains-append_right}
-use Rattle.std.proofs.lemmas.List.{length-map, length-append, nil_from_length, get_or_default, length-replicate, append-nil, append_assoc, take_all, take_more, get_or-map}
+use Rattle.std.specs.List.{All, flat_map, enumerate_from, range_with_len}
+use Rattle.std.proofs.lemmas.List.Sums.{sum_by-cons, sum_by-append, get_or-le-sum_by, sum_by-le, sum_by-set, sum-map}
+use Rattle.std.proofs.lemmas.List.Elements.{All-head, All-tail, Contains-append_left, Contains-push, Contains-push_cases, Contains-append_right}
+use Rattle.std.proofs.lemmas.List.{length-map, length-append, nil_from_length, get_or_default, length-replicate, get_or-replicate, get_or_past, append-nil, append_assoc, take_all, take_more, get_or-map}
 use Rattle.kalah_jobs.specs.Collecting.Shares.{times_in, of, AreShared}
-use Rattle.kalah_jobs.proofs.FilesLemmas.{count_map, slice_get-job_list, count_flat}
+use Rattle.kalah_jobs.proofs.FilesLemmas.{count_map, count_flat}
+use Rattle.std.proofs.lemmas.Bool.Decides.{nat_tests}
 use Rattle.std.proofs.lemmas.Option.{slice_get_within, get_or_from_slice_get, slice_get-get_or}
 use Rattle.kalah_jobs.specs.declared.files.entry.Entry.{Entry}
 use Rattle.kalah_jobs.specs.declared.collecting.refusal.Refusal.{Refusal}
-use Rattle.kalah_jobs.specs.declared.collecting.refusal.Refusal.TheVariants.{NoSuchFile, FileEnded, NoSuchLine, WrongPosition, Double}
 use Rattle.kalah_jobs.specs.Writing.Answer.{answer_of}
 use Rattle.kalah_jobs.specs.Files.JobList.{entries_of, entry_at, line_job, file_jobs, jobs_from, job_list}
 use Rattle.kalah_jobs.specs.Collecting.Refusals.{IsWanted, IsRefusedFor, RefusalsLaw}
 use Rattle.kalah_jobs.specs.Collecting.Held.{IsOffered, HoldsOffered, Kept}
-use Rattle.std.proofs.lemmas.List.FromFn.{length-enumerate_from, get_or-enumerate_from}
+use Rattle.std.proofs.lemmas.List.FromFn.{fill_by_all, length-range_with_len, length-map-range_with_len, get_or-map-range_with_len, length-enumerate_from, get_or-enumerate_from}
 use Rattle.kalah_jobs.specs.declared.writing.answer.Taken.{Taken}
 use Rattle.kalah_jobs.specs.Collecting.CollectorEvents.{Event, Offered, Took, Offers, Gives, offers, takes, with_taken, Came, answered_line, answered_lines}
 use Rattle.kalah_jobs.specs.Collecting.CollectorLaw.{Runs, CollectorLaw}
 use Rattle.kalah_jobs.specs.declared.files.entry.Entry.TheVariants.{Bad}
 use Rattle.kalah_jobs.specs.declared.line.line_fault.LineFault.TheVariants.{Empty}
-use Rattle.kalah_jobs.specs.Files.Jobs.{job_count}
 use Rattle.kalah_jobs.specs.Collecting.Batch.{job, AreJobsInSomeOrder, SharesLaw, OffersLaw, FrontsLaw}
 
 -- ==== How many of the first lines of a file have come without a gap
@@ -72,208 +71,137 @@ pub front_none : (n : ℕ) → front_of (replicate n None) ≡ 0
 front_none zero = refl
 front_none (suc n) = refl
 
--- if all lines came the front is at the end
-pub front_full : (xs : List (Option Answer)) → ((k : ℕ) → k < length xs → is_some (get_or xs k None) ≡ true)
-    → front_of xs ≡ length xs
-front_full [] all = refl
-front_full (None ∷ xs) all = let h = all 0 (omega arith) in cc
-front_full (Some a ∷ xs) all = omega (arith, front_full xs (λ k low. all (suc k) (omega arith)))
-
 -- if the first m lines have come, the front has come so far
 pub front_least : (xs : List (Option Answer)) (m : ℕ) → ((k : ℕ) → k < m → is_some (get_or xs k None) ≡ true)
     → m ≤ front_of xs
-front_least xs m all =
-    ⊎_elim
-    (λ (short : front_of xs < m). let more : front_of xs + 1 ≤ front_of xs = front_more xs (front_of xs) (omega arith)
-    (all (front_of xs) short) in
-    absurd (omega arith))
-    (λ (long : m ≤ front_of xs). long)
-    (cases_lt (front_of xs) m)
+front_least xs m all = grind (arith, front_more xs (front_of xs), all (front_of xs))
+
+-- what taking an answer needs
+pub ruleset fronts = (front_within, front_came, front_more)
 
 -- ==== A test by which one offer is found in a list: it holds only of that offer
 
--- jobs distinguished by a code
-coded_job : Coded Job
-coded_job = hlevel codes
+-- entries distinguished by a code
+coded_entry : Coded Entry
+coded_entry = hlevel codes
 
--- the same code
-same_code : Gv → Gv → Bool
-same_code gnil gnil = true
-same_code (gnum m) (gnum n) = m == n
-same_code (gcons a b) (gcons c d) = same_code a c && same_code b d
-same_code x y = false
+-- two codes are the same, or not
+same_or_not : (x y : Gv) → (x ≡ y) ⊎ (x ≢ y)
+same_or_not gnil gnil = inl refl
+same_or_not (gnum m) (gnum n) = grind (arith, cases_eq m n)
+same_or_not (gcons a b) (gcons c d) = grind (arith, same_or_not a c, same_or_not b d)
+same_or_not x y = inr (λ e. cc)
 
--- which are then equal
-same_code_means : (x y : Gv) → same_code x y ≡ true → x ≡ y
-unfolding same_code
-same_code_means gnil gnil h = refl
-same_code_means (gnum m) (gnum n) h = ap gnum (eqb-true m n h)
-same_code_means (gcons a b) (gcons c d) h =
-    let parts = and_parts (same_code a c) (same_code b d) h in
-    ap₂ gcons (same_code_means a c parts.0) (same_code_means b d parts.1)
-same_code_means x y h = absurd (false≢true h)
+-- the tests
+same_entry : Entry → Entry → Bool
+same_entry a b = elim (same_or_not (coded_entry.code a) (coded_entry.code b)) [ inl same ↦ true | inr other ↦ false ]
 
--- a code is the same as itself
-same_code_itself : (x : Gv) → same_code x x ≡ true
-unfolding same_code
-same_code_itself gnil = refl
-same_code_itself (gnum n) = eq-eqb n n refl
-same_code_itself (gcons a b) = and_from (same_code a a) (same_code b b) (same_code_itself a) (same_code_itself b)
+abbrev same_job : Job → Job → Bool
+same_job a b = a.file == b.file && (a.line == b.line && same_entry a.entry b.entry)
 
--- the test
-pub same_job : Job → Job → Bool
-same_job a b = same_code (coded_job.code b) (coded_job.code a)
-
--- an offer passes its own test
-pub same_itself : (o : Job) → same_job o o ≡ true
-unfolding same_job
-same_itself o = same_code_itself (coded_job.code o)
+-- an entry passes its own test
+same_itself : (e : Entry) → same_entry e e ≡ true
+unfolding same_entry
+same_itself e = grind arith
 
 -- and no other does
-pub same_means : (a b : Job) → same_job a b ≡ true → b ≡ a
-unfolding same_job
-same_means a b h = coded_job.inj b a (same_code_means (coded_job.code b) (coded_job.code a) h)
+same_means : (a b : Entry) → same_entry a b ≡ true → a ≡ b
+unfolding same_entry
+same_means a b h = coded_entry.inj a b (grind arith)
+
+-- so a job passes the test of no other
+same_job_means : (a b : Job) → same_job a b ≡ true → b ≡ a
+same_job_means a b h =
+    let file : b.file ≡ a.file = grind (arith, nat_tests) in
+    let line : b.line ≡ a.line = grind (arith, nat_tests) in
+    let entry : b.entry ≡ a.entry = grind (arith, nat_tests, same_means) in
+    λ i. record { file = file i; line = line i; entry = entry i }
 
 -- ==== What is got of jobs that were shared out: each job's result, once
 
--- ---- sums
+-- the count of a list with one element more
+count_by-cons : {X : Type 0} (p : X → Bool) (x : X) (xs : List X) → count_by p (x ∷ xs) ≡ cond (p x) 1 0 + count_by p xs
+count_by-cons p x xs = sum_by-cons (λ y. cond (p y) 1 0) x xs
 
--- f of each number below n, added up
-abbrev pub total : ℕ → (ℕ → ℕ) → ℕ
-total zero f = 0
-total (suc n) f = f 0 + total n (λ w. f (suc w))
+-- how many of the elements of class w pass a test
+abbrev in_class : {T : Type 0} → (T → ℕ) → (T → Bool) → ℕ → List T → ℕ
+in_class class p w [] = 0
+in_class class p w (t ∷ ts) = cond (class t == w && p t) 1 0 + in_class class p w ts
 
--- the same terms
-total_same : (n : ℕ) (f g : ℕ → ℕ) → ((w : ℕ) → w < n → f w ≡ g w) → total n f ≡ total n g
-total_same zero f g same = refl
-total_same (suc n) f g same =
-    omega (arith, same 0 (omega arith), total_same n (λ w. f (suc w)) (λ w. g (suc w)) (λ w low. same (suc w) (omega arith)))
-
--- one term is greater by d
-total_one : (n : ℕ) (f g : ℕ → ℕ) (k d : ℕ) → k < n → f k ≡ g k + d → ((w : ℕ) → w ≢ k → f w ≡ g w) →
-    total n f ≡ total n g + d
-total_one zero f g k d low more others = absurd (omega arith)
-total_one (suc n) f g zero d low more others =
-    omega (arith, total_same n (λ w. f (suc w)) (λ w. g (suc w)) (λ w _. others (suc w) (λ e. omega arith)))
-total_one (suc n) f g (suc k) d low more others =
-    let first = others 0 (λ e. omega arith) in
-    omega (
+-- as many elements pass as pass of all classes
+by_class : {T : Type 0} (class : T → ℕ) (p : T → Bool) (ts : List T) (counts : List ℕ) → All (λ t. class t < length counts) ts →
+    ((w : ℕ) → w < length counts → in_class class p w ts ≡ get_or counts w 0) → count_by p ts ≡ sum counts
+by_class class p [] counts below own =
+    omega (arith, sum_by-le (λ n. n) 0 counts (λ k d low. omega (arith, get_or_default counts k d 0 low, own k low)))
+by_class {T} class p (t ∷ ts) counts below own =
+    let low = All-head (λ u. class u < length counts) t ts below in
+    let at : ℕ → ℕ = λ w. in_class class p w ts in
+    let rest : List ℕ = set counts (class t) (at (class t)) in
+    let others : (w : ℕ) → w < length rest → at w ≡ get_or rest w 0 =
+    λ w within. grind (
       arith,
-      first,
-      total_one n (λ w. f (suc w)) (λ w. g (suc w)) k d (omega arith) more
-          (λ w apart. others (suc w) (λ e. apart (omega arith))),
+      own w,
+      length-set counts,
+      get_or-set_same counts (class t) (at (class t)) 0,
+      get_or-set_other counts (class t) w (at (class t)) 0,
+      nat_tests,
+    ) in
+    grind (
+      arith,
+      count_by-cons p t ts,
+      own (class t) low,
+      nat_tests,
+      sum_by-set (λ n. n) counts (class t) (at (class t)) 0 low,
+      by_class class p ts rest (rw length-set (All-tail (λ u. class u < length counts) t ts below)) others,
     )
 
--- no terms but zeros
-total_zero : (n : ℕ) → total n (λ w. 0) ≡ 0
-total_zero zero = refl
-total_zero (suc n) = omega (arith, total_zero n)
+-- of the pairs of a worker, what it sent
+class_of : {X : Type 0} (p : X → Bool) (w : ℕ) (got : List (ℕ × X)) → in_class (λ t. t.0) (λ t. p t.1) w got ≡ count_by p (of w got)
+class_of p w [] = refl
+class_of p w (t ∷ ts) = grind (arith, class_of p w ts, count_by-cons p t.1 (of w ts))
 
--- a sum over a list, by place
-pub total_rows : {X : Type 0} (g : X → ℕ) (d : X) (rows : List X)
-    → total (length rows) (λ w. g (slice_index_or rows w d)) ≡ sum_by g rows
-total_rows g d [] = refl
-total_rows g d (r ∷ rs) = omega (arith, total_rows g d rs, sum_by-cons g r rs)
-
--- ---- what was received, worker by worker
-
-counted : {X : Type 0} (p : X → Bool) (n : ℕ) (pairs : List (ℕ × X)) → All (λ t. t.0 < n) pairs
-    → count_by p (map (λ t. t.1) pairs) ≡ total n (λ w. count_by p (of w pairs))
-counted p n [] below = sym (total_zero n)
-counted {X} p n (t ∷ ts) below =
-    let P : ℕ × X → Type 0 = λ u. u.0 < n in
-    let f : ℕ → ℕ = λ w. count_by p (of w (t ∷ ts)) in
-    let g : ℕ → ℕ = λ w. count_by p (of w ts) in
-    let one : f t.0 ≡ g t.0 + cond (p t.1) 1 0 =
-    rw (eq-eqb t.0 t.0 refl) (omega (arith, sum_by-cons (λ (x : X). cond (p x) 1 0) t.1 (of t.0 ts))) in
-    let other : (w : ℕ) → w ≢ t.0 → f w ≡ g w = λ w apart. rw (ne_eqb t.0 w (λ e. apart (sym e))) refl in
-    omega (
-      arith,
-      total_one n f g t.0 (cond (p t.1) 1 0) (All-head P t ts below) one other,
-      counted p n ts (All-tail P t ts below),
-      sum_by-cons (λ (x : X). cond (p x) 1 0) t.1 (map (λ (u : ℕ × X). u.1) ts),
-    )
-
--- ---- what was drawn, number by number
-
--- how often x stands in a list, with one number more
-times_more : (x z : ℕ) (zs : List ℕ) → count_by (λ y. y == x) (z ∷ zs) ≡ cond (z == x) 1 0 + count_by (λ y. y == x) zs
-times_more x z zs = sum_by-cons (λ y. cond (y == x) 1 0) z zs
-
--- once more if it is that number
-times_same : (z : ℕ) (zs : List ℕ) → count_by (λ y. y == z) (z ∷ zs) ≡ 1 + count_by (λ y. y == z) zs
-times_same z zs = times_more z z zs ∙ ap (λ b. cond b 1 0 + count_by (λ y. y == z) zs) (eq-eqb z z refl)
-
--- c, if the test is passed
-chosen : Bool → ℕ → ℕ
-chosen b c = cond b c 0
-
--- as many pass as there are numbers that pass, each as often as it stands in the list
-count_split : (q : ℕ → Bool) (m : ℕ) (xs : List ℕ) → All (λ x. x < m) xs →
-    count_by q xs ≡ total m (λ x. chosen (q x) (count_by (λ y. y == x) xs))
-unfolding chosen
-count_split q m [] below = sym (total_same m (λ x. chosen (q x) 0) (λ x. 0)
-    (λ x low. elim (q x) as (λ (b : Bool). chosen b 0 ≡ 0) [ true ↦ refl | false ↦ refl ]) ∙ total_zero m)
-count_split q m (z ∷ zs) below =
-    let P : ℕ → Type 0 = λ x. x < m in
-    let f : ℕ → ℕ = λ x. chosen (q x) (count_by (λ y. y == x) (z ∷ zs)) in
-    let g : ℕ → ℕ = λ x. chosen (q x) (count_by (λ y. y == x) zs) in
-    let one : f z ≡ g z + cond (q z) 1 0 = ap (chosen (q z)) (times_same z zs) ∙ more (q z) (count_by (λ y. y == z) zs) in
-    let other : (x : ℕ) → x ≢ z → f x ≡ g x =
-    λ x apart. ap (chosen (q x)) (times_more x z zs
-    ∙ ap (λ b. cond b 1 0 + count_by (λ y. y == x) zs) (ne_eqb z x (λ e. apart (sym e))) ∙ omega arith) in
-    omega (
-      arith,
-      total_one m f g z (cond (q z) 1 0) (All-head P z zs below) one other,
-      count_split q m zs (All-tail P z zs below),
-      sum_by-cons (λ y. cond (q y) 1 0) z zs,
-    )
-  where
-    more : (b : Bool) (c : ℕ) → chosen b (1 + c) ≡ chosen b c + cond b 1 0
-    more true c = omega arith
-    more false c = refl
-
--- if no number from n on stands in the list, all are below n
-all_below : (n : ℕ) (xs : List ℕ) → ((x : ℕ) → n ≤ x → count_by (λ y. y == x) xs ≡ 0) → All (λ x. x < n) xs
-all_below n [] none = All-nil (λ x. x < n)
-all_below n (z ∷ zs) none =
-    let low : z < n = elim (cases_lt z n) [ inl low ↦ low | inr high ↦ absurd (omega (arith, none z high, times_same z zs)) ] in
-    All-cons (λ x. x < n) z zs low (all_below n zs (λ x high. omega (arith, none x high, times_more x z zs)))
+-- of numbers, each as often as it stands there
+class_of_number : (q : ℕ → Bool) (x : ℕ) (xs : List ℕ) →
+    in_class (λ y. y) q x xs ≡ (if q x then count_by (λ y. y == x) xs else 0)
+class_of_number q x [] = grind arith
+class_of_number q x (y ∷ ys) = grind (arith, class_of_number q x ys, count_by-cons (λ z. z == x) y ys, nat_tests)
 
 -- in lawful rows, as many numbers pass a test as among all numbers below n
 rows_count : (n : ℕ) (rows : List (List ℕ)) (q : ℕ → Bool) → ((x : ℕ) → times_in x rows ≡ (if nat_lt x n then 1 else 0)) →
-    sum_by (λ r. count_by q r) rows ≡ total n (λ x. cond (q x) 1 0)
-unfolding chosen
+    sum_by (count_by q) rows ≡ count_by q (range_with_len 0 n)
 rows_count n rows q once =
     let flat : List ℕ = flat_map (λ r. r) rows in
-    let times : (x : ℕ) → count_by (λ y. y == x) flat ≡ (if nat_lt x n then 1 else 0) = λ x. count_flat (λ y. y == x) rows
-    ∙ once x in
-    let low : All (λ x. x < n) flat = all_below n flat (λ x high. times x ∙ rw (le-ltb x n high) refl) in
-    sym (count_flat q rows) ∙ count_split q n flat low
-    ∙ total_same n (λ x. chosen (q x) (count_by (λ y. y == x) flat)) (λ x. cond (q x) 1 0)
-    (λ x low. ap (chosen (q x)) (times x ∙ rw (lt-ltb x n low) refl))
-
--- ---- what was received, of all numbers
+    let times : (x : ℕ) → count_by (λ y. y == x) flat ≡ (if nat_lt x n then 1 else 0) = λ x. count_flat (λ y. y == x) rows ∙ once x in
+    let worth : ℕ → ℕ = λ x. cond (q x) 1 0 in
+    let many : length (map worth (range_with_len 0 n)) ≡ n = length-map-range_with_len worth 0 n in
+    sym (count_flat q rows)
+    ∙ by_class (λ y. y) q flat (map worth (range_with_len 0 n))
+    (λ k d within. let z = get_or flat k d in
+    let some = rw (eq-eqb z z refl) at (get_or-le-sum_by (λ y. cond (y == z) 1 0) flat k d within) in
+    let low : z < n = grind (arith, times z, some, nat_tests) in omega (arith, many))
+    (λ x low. class_of_number q x flat ∙ ap (λ c. if q x then c else 0) (times x ∙ rw (lt-ltb x n (omega (arith, low, many))) refl)
+    ∙ sym (get_or-map-range_with_len worth 0 n x x 0 (omega (arith, low, many)) (omega arith)))
+    ∙ sum-map worth (range_with_len 0 n)
 
 -- for each test, the number of received results that pass it equals that of the results of all numbers
-pub got_all_once : {X : Type 0} (p : X → Bool) (n : ℕ) (f : ℕ → X) (rows : List (List ℕ)) (got : List (ℕ × X))
-    → AreShared n f rows got → count_by p (map (λ t. t.1) got) ≡ total n (λ x. cond (p (f x)) 1 0)
+got_all_once : {X : Type 0} (p : X → Bool) (n : ℕ) (f : ℕ → X) (rows : List (List ℕ)) (got : List (ℕ × X))
+    → AreShared n f rows got → count_by p (map (λ t. t.1) got) ≡ count_by (λ x. p (f x)) (range_with_len 0 n)
 got_all_once {X} p n f rows got s =
     let q : ℕ → Bool = λ x. p (f x) in
-    counted p (length rows) got s.workers
-    ∙ total_same (length rows) (λ w. count_by p (of w got)) (λ w. count_by q (slice_index_or rows w []))
-    (λ w low. ap (λ (xs : List X). count_by p xs) (s.whole w low) ∙ count_map p f (slice_index_or rows w []))
-    ∙ total_rows (λ r. count_by q r) [] rows
-    ∙ rows_count n rows q s.each_once
+    let counts : List ℕ = map (count_by q) rows in
+    let many : length counts ≡ length rows = length-map rows (count_by q) in
+    count_map p (λ (t : ℕ × X). t.1) got
+    ∙ by_class (λ t. t.0) (λ t. p t.1) got counts (rw many s.workers)
+    (λ w low.
+    let within : w < length rows = omega (arith, low, many) in
+    class_of p w got ∙ ap (count_by p) (s.whole w within) ∙ count_map p f (slice_index_or rows w [])
+    ∙ sym (get_or-map (count_by q) rows w [] 0 within))
+    ∙ sum-map (count_by q) rows ∙ rows_count n rows q s.each_once
 
 -- each passes a test that all pass
 count_true : {X : Type 0} (xs : List X) → count_by (λ (x : X). true) xs ≡ length xs
 count_true [] = refl
-count_true {X} (x ∷ xs) = omega (arith, count_true xs, sum_by-cons (λ (y : X). cond true 1 0) x xs)
-
-total_ones : (n : ℕ) → total n (λ x. 1) ≡ n
-total_ones zero = refl
-total_ones (suc n) = omega (arith, total_ones n)
+count_true {X} (x ∷ xs) = omega (arith, count_true xs, count_by-cons (λ (y : X). true) x xs)
 
 -- as many were received as there are numbers
 pub as_many_as_numbers : {X : Type 0} (n : ℕ) (f : ℕ → X) (rows : List (List ℕ)) (got : List (ℕ × X)) → AreShared n f rows got
@@ -282,13 +210,7 @@ as_many_as_numbers {X} n f rows got s =
     sym (length-map got (λ (t : ℕ × X). t.1))
     ∙ sym (count_true (map (λ (t : ℕ × X). t.1) got))
     ∙ got_all_once (λ (x : X). true) n f rows got s
-    ∙ total_ones n
-
--- if as many were got as there are, nothing is left
-pub nothing_left : {X : Type 0} (n : ℕ) (f : ℕ → X) (rows : List (List ℕ)) (got rest : List (ℕ × X)) →
-    AreShared n f rows (got ++ rest) → length got ≡ n → rest ≡ []
-nothing_left n f rows got rest s whole =
-    nil_from_length rest (omega (arith, as_many_as_numbers n f rows (got ++ rest) s, length-append got rest, whole))
+    ∙ count_true (range_with_len 0 n) ∙ length-range_with_len 0 n
 
 -- ==== Each offer and each take keeps the state that the offers determine
 
@@ -306,8 +228,8 @@ state_other files f g s ne = get_or-set_other files f g s no_file ne
 pub each_file : (files : List FileState) (f : ℕ) (s : FileState) → f < length files → (P : ℕ → FileState → Type 0) → P f s →
     ((g : ℕ) → g ≢ f → P g (state_of files g)) → (g : ℕ) → P g (state_of (set files f s) g)
 each_file files f s low P here others g = elim (cases_eq g f) [
-  | inl same ↦ subst (λ h. P h (state_of (set files f s) h)) (sym same) (subst (P f) (sym (state_same files f s low)) here)
-  | inr other ↦ subst (P g) (sym (state_other files f g s other)) (others g other)
+  | inl same ↦ rw (same, state_same files f s low) here
+  | inr other ↦ rw (state_other files f g s other) (others g other)
 ]
 
 -- after an answer for one line, what holds of that line, and of each other as it was, holds of each
@@ -319,11 +241,8 @@ each_line files o a file_low line_low P here others =
     let s : FileState = state_of files o.file in
     each_file files o.file (with_answer s o.line a) file_low (λ f new. (k : ℕ) → P f k (came_for new k))
     (λ k. elim (cases_eq k o.line) [
-      | inl same ↦
-          subst (λ j. P o.file j (came_for (with_answer s o.line a) j)) (sym same)
-          (subst (P o.file o.line) (sym (get_or-set_same s.arrived o.line (Some a) None line_low)) here)
-      | inr other ↦
-          subst (P o.file k) (sym (get_or-set_other s.arrived o.line k (Some a) None other)) (others o.file k (λ h. other h.1))
+      | inl same ↦ rw (same, get_or-set_same s.arrived o.line (Some a) None line_low) here
+      | inr other ↦ rw (get_or-set_other s.arrived o.line k (Some a) None other) (others o.file k (λ h. other h.1))
     ])
     (λ f ne k. others f k (λ h. ne h.0))
 
@@ -355,18 +274,6 @@ pub some_value : {X : Type 0} (x : Option X) → IsSome x → (a : X) × (x ≡ 
 some_value None h = absurd (false≢true h)
 some_value (Some a) h = (a, refl)
 
--- what is equal to a Some is Some
-pub is_some_of : {X : Type 0} (x : Option X) (a : X) → x ≡ Some a → IsSome x
-is_some_of {X} x a e = ap (λ (o : Option X). is_some o) e
-
--- a line has one entry
-pub one_entry : (o : Option Entry) (x y : Entry) → o ≡ Some x → o ≡ Some y → x ≡ y
-one_entry o x y p q = cc
-
--- the file of an accepted offer is there
-pub wanted_file : (jobs : List (List Entry)) (files : List FileState) (o : Job) → IsWanted jobs files o → o.file < length files
-wanted_file jobs files o w = w.0.0.0.0
-
 -- what was answered by some offers is answered by one more
 still_answered : {jobs : List (List Entry)} {past : List Job} {f k : ℕ} {a : Answer} (o : Job) → IsOffered jobs past f k a →
     IsOffered jobs (past ++ o ∷ []) f k a
@@ -387,42 +294,33 @@ holds_accepted jobs past files o holds wanted =
     record {
       counts = counts_set files o.file (with_answer (state_of files o.file) o.line a)
           (length-set (state_of files o.file).arrived o.line (Some a)) ∙ holds.counts;
-      came = each_line files o a (wanted_file jobs files o wanted) wanted.0.0.1
+      came = each_line files o a wanted.0.0.0.0 wanted.0.0.1
           (λ f k now. (e : Entry) → entry_at jobs f k ≡ Some e → Contains (past ++ o ∷ []) (line_job f k e)
           → now ≡ Some (answer_of e))
-          (λ e is has. ap (λ x. Some (answer_of x)) (one_entry (entry_at jobs o.file o.line) o.entry e entry_is is))
-          (λ f k apart e is has. elim (Contains-push_cases past o (line_job f k e) has) [
-            | inl old ↦ holds.came f k e is old
-            | inr new ↦ absurd (apart (sym (ap (λ (u : Job). u.file) new), sym (ap (λ (u : Job). u.line) new)))
-          ]);
-      only = each_line files o a (wanted_file jobs files o wanted) wanted.0.0.1
+          (λ e is has. cc (entry_is, is))
+          (λ f k apart e is has. grind (arith, apart, Contains-push_cases past o (line_job f k e) has, holds.came f k e is));
+      only = each_line files o a wanted.0.0.0.0 wanted.0.0.1
           (λ f k now. (b : Answer) → now ≡ Some b → IsOffered jobs (past ++ o ∷ []) f k b)
           (λ b same. record { entry = o.entry; at = entry_is; is = (cc); offered = Contains-push past o })
           (λ f k apart b is. still_answered o (holds.only f k b is));
     }
 
--- a line of the jobs is a line of the files
-line_there : (jobs : List (List Entry)) (files : List FileState) (f k : ℕ) (e : Entry) → HasLinesOf jobs files →
-    entry_at jobs f k ≡ Some e → k < line_count (state_of files f)
-line_there jobs files f k e h is = omega (arith, lines_are jobs files h f, slice_get_within (entries_of jobs f) k e is)
-
 -- a file with a line is there
 file_there : (files : List FileState) (f k : ℕ) → k < line_count (state_of files f) → f < length files
-file_there [] f k low = absurd (omega arith)
-file_there (s ∷ files) zero k low = omega arith
-file_there (s ∷ files) (suc f) k low = omega (arith, file_there files f k low)
+file_there files f k low = grind (arith, get_or_past files f no_file)
 
 -- if a line is offered with its entry and refused, it had come before
 pub refused_came : (jobs : List (List Entry)) (files : List FileState) (f k : ℕ) (e : Entry) (r : Refusal) → HasLinesOf jobs files →
     entry_at jobs f k ≡ Some e
     → IsRefusedFor jobs files (line_job f k e) r → IsSome (came_for (state_of files f) k)
-refused_came jobs files f k e NoSuchFile h is refused =
-    absurd (omega (arith, file_there files f k (line_there jobs files f k e h is)))
-refused_came jobs files f k e FileEnded h is refused =
-    front_came (state_of files f).arrived k None (omega (arith, line_there jobs files f k e h is))
-refused_came jobs files f k e NoSuchLine h is refused = absurd (omega (arith, line_there jobs files f k e h is))
-refused_came jobs files f k e WrongPosition h is refused = absurd (refused.1 is)
-refused_came jobs files f k e Double h is refused = refused.1
+refused_came jobs files f k e r h is refused =
+    grind (
+      arith,
+      lines_are jobs files h f,
+      slice_get_within (entries_of jobs f) k e is,
+      file_there files f k,
+      front_came (state_of files f).arrived k None,
+    )
 
 -- a refused offer changes nothing, and what holds stays true with one more offer
 pub holds_refused : (jobs : List (List Entry)) (past : List Job) (files : List FileState) (o : Job) (r : Refusal) →
@@ -437,8 +335,7 @@ holds_refused jobs past files o r holds refused = record {
         let full = refused_came jobs files f k e r holds.counts is (subst (λ (u : Job). IsRefusedFor jobs files u r) new refused) in
         let v = some_value (came_for (state_of files f) k) full in
         let w = holds.only f k v.0 v.1 in
-        let e_is : w.entry ≡ e = one_entry (entry_at jobs f k) w.entry e w.at is in
-        v.1 ∙ ap (λ x. Some x) (w.is ∙ ap answer_of e_is)
+        cc (v.1, w.is, w.at, is)
   ];
   only = λ f k a is. still_answered o (holds.only f k a is);
 }
@@ -466,62 +363,23 @@ pub ruleset counts = (counts_set, get_or_default, length-set, lines_are)
 -- an offer that is wanted meets no refusal
 wanted_or_refused : (jobs : List (List Entry)) (files : List FileState) (o : Job) (r : Refusal) → IsWanted jobs files o →
     IsRefusedFor jobs files o r → ⊥
-wanted_or_refused jobs files o WrongPosition wanted refused = refused.1 wanted.0.1
-wanted_or_refused jobs files o Double wanted refused = false≢true (rw wanted.1 at refused.1)
-wanted_or_refused jobs files o r wanted refused = omega arith
+wanted_or_refused jobs files o r wanted refused = grind arith
 
 -- and no offer meets two
 refused_for_one : (jobs : List (List Entry)) (files : List FileState) (o : Job) (q r : Refusal) → IsRefusedFor jobs files o q →
     IsRefusedFor jobs files o r → q ≡ r
-refused_for_one jobs files o NoSuchFile NoSuchFile a b = refl
-refused_for_one jobs files o FileEnded FileEnded a b = refl
-refused_for_one jobs files o NoSuchLine NoSuchLine a b = refl
-refused_for_one jobs files o WrongPosition WrongPosition a b = refl
-refused_for_one jobs files o Double Double a b = refl
-refused_for_one jobs files o WrongPosition Double a b = absurd (a.1 b.0.1)
-refused_for_one jobs files o Double WrongPosition a b = absurd (b.1 a.0.1)
-refused_for_one jobs files o q r a b = absurd (omega arith)
+refused_for_one jobs files o q r a b = grind arith
 
 pub refusals_law : RefusalsLaw
 refusals_law = record { wanted = wanted_or_refused; one = refused_for_one }
 
 -- ==== After any list of offers and takes a collector has the state that the list determines
 
--- ---- an offer is accepted
-
--- it leaves what was taken
-pub taken_after_offer : (files : List FileState) (o : Job) (a : Answer) → o.file < length files → (f : ℕ) →
-    (state_of (after_offer files o.file o.line a) f).taken ≡ (state_of files f).taken
-taken_after_offer files o a low =
-    each_file files o.file (with_answer (state_of files o.file) o.line a) low (λ f new. new.taken ≡ (state_of files f).taken)
-    refl (λ f other. refl)
-
--- and moves no front back
-pub front_after_offer : (files : List FileState) (o : Job) (a : Answer) → o.file < length files → (f : ℕ) →
-    front (state_of files f) ≤ front (state_of (after_offer files o.file o.line a) f)
-front_after_offer files o a low =
-    each_file files o.file (with_answer (state_of files o.file) o.line a) low (λ f new. front (state_of files f) ≤ front new)
-    (front_set (state_of files o.file).arrived o.line a) (λ f other. omega arith)
-
 -- ---- a line is taken
 
 -- a line that was taken, by its parts
 pub taken_is : (t : Taken) (k : ℕ) (e : Entry) → t.line ≡ k → t.answer ≡ answer_of e → t ≡ answered_line (k, e)
-taken_is t k e p q = ap (λ x. let r : Taken = record { line = x; answer = t.answer } in r) p
-    ∙ ap (λ y. let r : Taken = record { line = k; answer = y } in r) q
-
--- a numbered list has each element with its number
-pub numbered_at : {X : Type 0} (xs : List X) (n : ℕ) (d : X) → n < length xs →
-    get_or (enumerate_from 0 xs) n (0, d) ≡ (n, get_or xs n d)
-numbered_at {X} xs n d low =
-    let from_none : 0 + n ≡ n = omega arith in
-    get_or-enumerate_from 0 xs n (0, d) low ∙ ap {B = ℕ × X} (λ m. (m, get_or xs n d)) from_none
-
--- and so the element that is at a place
-pub numbered_is : {X : Type 0} (xs : List X) (n : ℕ) (x : X) → slice_get xs n ≡ Some x →
-    get_or (enumerate_from 0 xs) n (0, x) ≡ (n, x)
-numbered_is {X} xs n x is =
-    numbered_at xs n x (slice_get_within xs n x is) ∙ ap {B = ℕ × X} (λ y. (n, y)) (get_or_from_slice_get xs n x x is)
+taken_is t k e p q = λ i. record { line = p i; answer = q i }
 
 -- the lines of file f, each with its answer
 abbrev lines_of : List (List Entry) → ℕ → List Taken
@@ -538,9 +396,12 @@ first_lines_more jobs past files f t holds is_next =
     let at : entry_at jobs f n ≡ Some w.entry = ap (λ k. entry_at jobs f k) (sym is_next.first) ∙ w.at in
     let low : n < length xs =
     omega (arith, slice_get_within (entries_of jobs f) n w.entry at, length-enumerate_from 0 (entries_of jobs f)) in
+    let numbered = get_or-enumerate_from 0 (entries_of jobs f) n (0, w.entry)
+    (omega (arith, low, length-enumerate_from 0 (entries_of jobs f))) in
+    let entry = get_or_from_slice_get (entries_of jobs f) n w.entry w.entry at in
     let here : get_or (lines_of jobs f) n t ≡ t =
-    get_or-map answered_line xs n (0, w.entry) t low ∙ ap answered_line (numbered_is (entries_of jobs f) n w.entry at)
-    ∙ sym (taken_is t n w.entry is_next.first w.is) in
+    get_or-map answered_line xs n (0, w.entry) t low ∙ ap answered_line numbered
+    ∙ sym (taken_is t (0 + n) _ (is_next.first ∙ omega arith) (w.is ∙ ap answer_of (sym entry))) in
     ap (λ x. take n (lines_of jobs f) ++ x ∷ []) (sym here)
     ∙ sym (take_more (lines_of jobs f) n t (omega (arith, length-map xs answered_line)))
 
@@ -557,12 +418,15 @@ module _ {jobs : List (List Entry)} {past : List Job} {files after : List FileSt
   pub kept_by_offer : (o : Job) (gave : Result ℕ Refusal) → Offers jobs files o gave after
       → Kept jobs (past ++ o ∷ []) after × ((f : ℕ) → (state_of after f).taken ≡ (state_of files f).taken)
   kept_by_offer o (Ok ready) step =
-      let low = wanted_file jobs files o step.wanted in
-      let taken = taken_after_offer files o (answer_of o.entry) low in
+      let low : o.file < length files = step.wanted.0.0.0.0 in
+      let new : FileState = with_answer (state_of files o.file) o.line (answer_of o.entry) in
+      let taken = each_file files o.file new low (λ f s. s.taken ≡ (state_of files f).taken) refl (λ f other. refl) in
+      let ahead = each_file files o.file new low (λ f s. front (state_of files f) ≤ front s)
+      (front_set (state_of files o.file).arrived o.line (answer_of o.entry)) (λ f other. omega arith) in
       rw step.kept (
         record {
           offered = holds_accepted jobs past files o kept.offered step.wanted;
-          within = λ f. omega (arith, taken f, front_after_offer files o (answer_of o.entry) low f, kept.within f);
+          within = λ f. omega (arith, taken f, ahead f, kept.within f);
         },
         taken,
       )
@@ -588,14 +452,6 @@ module _ {jobs : List (List Entry)} {past : List Job} {files after : List FileSt
       (rw (eq-eqb g g refl) (first_lines_more jobs past files g t kept.offered step.next_line))
       (λ f other. rw (ne_eqb g f (λ same. other (sym same))) (append-nil (take (state_of files f).taken (lines_of jobs f)))))
 
--- what is taken at first stands before what is taken later
-taken_first : (f g : ℕ) (t : Taken) (rest : List Taken) → with_taken f g (Some t) [] ++ rest ≡ with_taken f g (Some t) rest
-taken_first f g t rest = go (g == f)
-  where
-    go : (b : Bool) → (if b then t ∷ [] else []) ++ rest ≡ (if b then t ∷ rest else rest)
-    go true = refl
-    go false = refl
-
 -- any list of events
 runs : (jobs : List (List Entry)) (past : List Job) (events : List Event) (files after : List FileState)
     → Runs jobs files events after → Kept jobs past files →
@@ -612,35 +468,21 @@ runs jobs past (Took g None ∷ events) files after run kept =
     let step = run.1 in
     runs jobs past events files after (subst (λ (s : List FileState). Runs jobs s events after) step.unchanged run.2) kept
 runs jobs past (Took g (Some t) ∷ events) files after run kept =
-    let rest = runs jobs past events run.0 after run.2 (kept_by_take kept g t run.1) in (
-      rest.0,
-      λ f.
-          let before : List Taken = take (state_of files f).taken (lines_of jobs f) in
-          ap (λ l. before ++ l) (sym (taken_first f g t (takes f events)))
-          ∙ sym (append_assoc before (with_taken f g (Some t) []) (takes f events))
-          ∙ ap (λ l. l ++ takes f events) (taken_next kept g t run.1 f) ∙ rest.1 f,
-    )
+    let rest = runs jobs past events run.0 after run.2 (kept_by_take kept g t run.1) in
+    (rest.0, λ f. grind (arith, append_assoc, taken_next kept g t run.1 f, rest.1 f))
 
 -- ---- new files
 
 -- no answer has come for new files
 new_none : (jobs : List (List Entry)) (f k : ℕ) → came_for (state_of (new_files jobs) f) k ≡ None
 new_none [] f k = refl
-new_none (entries ∷ jobs) zero k = none_of (length entries) k
-  where
-    none_of : (n k : ℕ) → get_or (replicate n (let x : Option Answer = None in x)) k None ≡ None
-    none_of zero k = refl
-    none_of (suc n) zero = refl
-    none_of (suc n) (suc k) = none_of n k
+new_none (entries ∷ jobs) zero k = grind (arith, get_or-replicate, get_or_past, length-replicate)
 new_none (entries ∷ jobs) (suc f) k = new_none jobs f k
 
 -- new files have the jobs' lines
 pub new_lines : (jobs : List (List Entry)) → HasLinesOf jobs (new_files jobs)
 new_lines [] = refl
-new_lines (entries ∷ jobs) =
-    let nothing : Option Answer = None in
-    ap (λ n. n ∷ map line_count (new_files jobs)) (length-replicate (length entries) nothing)
-    ∙ ap (λ l. length entries ∷ l) (new_lines jobs)
+new_lines (entries ∷ jobs) = grind (arith, new_lines jobs, length-replicate)
 
 -- nothing was taken of new files
 pub new_taken : (jobs : List (List Entry)) (f : ℕ) → (state_of (new_files jobs) f).taken ≡ 0
@@ -666,25 +508,14 @@ pub offers_held : (jobs : List (List Entry)) (events : List Event) (files : List
     → HoldsOffered jobs (offers events) files
 offers_held jobs events files run = (runs jobs [] events (new_files jobs) files run (start jobs)).0.offered
 
--- a fact of the value, if there is one
-some_and : {X : Type 0} (o : Option X) (P : X → Type 0) (x : X) → o ≡ Some x → P x → IsSomeAnd o P
-some_and {X} o P x e p = subst (λ (y : Option X). IsSomeAnd y P) (sym e) p
-
--- the value, and the fact of it
-parts_of_some : {X : Type 0} (o : Option X) (P : X → Type 0) → IsSomeAnd o P → (x : X) × (o ≡ Some x) × P x
-parts_of_some None P h = absurd h
-parts_of_some (Some x) P h = (x, refl, h)
-
 pub law_holds : CollectorLaw
 law_holds jobs events files run =
     let all = runs jobs [] events (new_files jobs) files run (start jobs) in
     let holds = all.0.offered in
     let came : (f k : ℕ) → Came jobs events f k → IsSome (came_for (state_of files f) k) =
-    λ f k c. let v = parts_of_some (entry_at jobs f k) (λ e. Contains (offers events) (line_job f k e)) c in
-    is_some_of (came_for (state_of files f) k) (answer_of v.0) (holds.came f k v.0 v.1 v.2) in
+    λ f k c. grind (arith, c, holds.came f k) in
     let only : (f k : ℕ) → IsSome (came_for (state_of files f) k) → Came jobs events f k =
-    λ f k here. let v = some_value (came_for (state_of files f) k) here in let w = holds.only f k v.0 v.1 in
-    some_and (entry_at jobs f k) (λ e. Contains (offers events) (line_job f k e)) w.entry w.at w.offered in
+    λ f k here. let v = some_value (came_for (state_of files f) k) here in let w = holds.only f k v.0 v.1 in rw w.at w.offered in
     record {
       counts = holds.counts;
       came = λ f k. (only f k, came f k);
@@ -704,117 +535,52 @@ pub ruleset new_counts = (new_lines, take_all)
 
 -- ---- how often an offer stands in a list
 
-times : Job → List Job → ℕ
-times o xs = count_by (λ x. same_job o x) xs
-
--- never in the empty list
-times_nil : (o : Job) → times o [] ≡ 0
-unfolding times
-times_nil o = refl
-
--- with one offer more
-times_cons : (o x : Job) (xs : List Job) → times o (x ∷ xs) ≡ cond (same_job o x) 1 0 + times o xs
-unfolding times
-times_cons o x xs = sum_by-cons (λ x. cond (same_job o x) 1 0) x xs
-
--- in two lists
-times_append : (o : Job) (xs ys : List Job) → times o (xs ++ ys) ≡ times o xs + times o ys
-unfolding times
-times_append o xs ys = sum_by-append (λ x. cond (same_job o x) 1 0) xs ys
-
--- as often as among the jobs, if the list has each of them once
-same_times : (jobs : List (List Entry)) (got : List Job) → AreJobsInSomeOrder jobs got → (o : Job) →
-    times o got ≡ times o (job_list jobs)
-unfolding times
-same_times jobs got h o = h.same_counts (λ x. same_job o x)
+abbrev times : Job → List Job → ℕ
+times o xs = count_by (same_job o) xs
 
 -- what stands in a list is found in it
 contains_from_times : (o : Job) (xs : List Job) → 0 < times o xs → Contains xs o
-contains_from_times o [] some = absurd (omega (arith, times_nil o))
+contains_from_times o [] some = absurd (omega arith)
 contains_from_times o (x ∷ xs) some = elim (cases_Bool (same_job o x)) [
-  | inl same ↦ (0, omega arith, same_means o x same)
+  | inl same ↦ (0, omega arith, same_job_means o x same)
   | inr other ↦
-      let later = rw other at (times_cons o x xs) in
-      Contains-append_right (x ∷ []) xs o (contains_from_times o xs (omega arith))
+      let later : 0 < times o xs = grind (arith, count_by-cons (same_job o) x xs) in
+      Contains-append_right (x ∷ []) xs o (contains_from_times o xs later)
 ]
 
 -- and the other way round
 times_from_contains : (o : Job) (xs : List Job) → Contains xs o → 0 < times o xs
-unfolding times
 times_from_contains o xs has =
     let least = get_or-le-sum_by (λ x. cond (same_job o x) 1 0) xs has.0 o has.1 in
-    subst (λ b. cond b 1 0 ≤ times o xs) (ap (same_job o) has.2 ∙ same_itself o) least
+    grind (arith, nat_tests, has.2, least, same_itself o.entry)
 
--- ---- no job stands twice
+-- how often it stands at a place with this entry
+abbrev hits : Entry → Option Entry → ℕ
+hits e None = 0
+hits e (Some at) = cond (same_entry e at) 1 0
 
--- an offer stands in a list at most once, and if it does, this holds of it
-record IsOnce (o : Job) (xs : List Job) (Means : Type 0) : Type 0 where
-  once : times o xs ≤ 1
-  means : 0 < times o xs → Means
+hit : (e : Entry) (r : Option Entry) → 0 < hits e r → (r ≡ Some e) × (hits e r ≤ 1)
+hit e None some = absurd (omega arith)
+hit e (Some at) some = grind (arith, same_means e at)
 
--- an offer among a file's lines is that of a line, with its entry
-record IsLineFrom (f k : ℕ) (entries : List Entry) (o : Job) : Type 0 where
-  place : ℕ
-  file_is : o.file ≡ f
-  line_is : o.line ≡ k + place
-  entry_is : slice_get entries place ≡ Some o.entry
+-- at its place in a file's lines, and nowhere else
+file_times : (o : Job) (f k : ℕ) (entries : List Entry) → times o (file_jobs f k entries)
+    ≡ (if o.file == f && not (nat_lt o.line k) then hits o.entry (slice_get entries (o.line - k)) else 0)
+file_times o f k [] = grind arith
+file_times o f k (e ∷ entries) =
+    grind (arith, nat_tests, file_times o f (suc k) entries, count_by-cons (same_job o) (line_job f k e) (file_jobs f (suc k) entries))
 
-line_once : (o : Job) (f k : ℕ) (entries : List Entry) → IsOnce o (file_jobs f k entries) (IsLineFrom f k entries o)
-line_once o f k [] = record { once = omega (arith, times_nil o); means = λ some. absurd (omega (arith, times_nil o)) }
-line_once o f k (e ∷ entries) =
-    let later = line_once o f (suc k) entries in
-    let beyond : 0 < times o (file_jobs f (suc k) entries) → k < o.line = λ some. omega (arith, (later.means some).line_is) in
-    let all = times_cons o (line_job f k e) (file_jobs f (suc k) entries) in
-    elim (cases_Bool (same_job o (line_job f k e))) [
-      | inl same ↦
-          let is : line_job f k e ≡ o = same_means o (line_job f k e) same in
-          let here : k ≡ o.line = ap (λ (u : Job). u.line) is in
-          let one = rw same at all in
-          record {
-            once = grind (arith, beyond);
-            means = λ some. record {
-              place = 0;
-              file_is = sym (ap (λ (u : Job). u.file) is);
-              line_is = omega arith;
-              entry_is = ap (λ (u : Job). Some u.entry) is;
-            };
-          }
-      | inr other ↦
-          let none = rw other at all in
-          record {
-            once = omega (arith, later.once);
-            means = λ some.
-                let h = later.means (omega arith) in
-                record { place = suc h.place; file_is = h.file_is; line_is = omega (arith, h.line_is); entry_is = h.entry_is };
-          }
-    ]
+-- at its place in the files' lines
+jobs_times : (o : Job) (f : ℕ) (jobs : List (List Entry)) → times o (jobs_from f jobs)
+    ≡ (if not (nat_lt o.file f) then hits o.entry (entry_at jobs (o.file - f) o.line) else 0)
+jobs_times o f [] = grind arith
+jobs_times o f (entries ∷ jobs) =
+    let all = sum_by-append (λ x. cond (same_job o x) 1 0) (file_jobs f 0 entries) (jobs_from (suc f) jobs) in
+    grind (arith, nat_tests, all, file_times o f 0 entries, jobs_times o (suc f) jobs)
 
--- an offer among the files from f on is that of a line, with its entry
-record IsJobFrom (f : ℕ) (jobs : List (List Entry)) (o : Job) : Type 0 where
-  place : ℕ
-  file_is : o.file ≡ f + place
-  entry_is : entry_at jobs place o.line ≡ Some o.entry
-
-job_once : (o : Job) (f : ℕ) (jobs : List (List Entry)) → IsOnce o (jobs_from f jobs) (IsJobFrom f jobs o)
-job_once o f [] = record { once = omega (arith, times_nil o); means = λ some. absurd (omega (arith, times_nil o)) }
-job_once o f (entries ∷ jobs) =
-    let own = line_once o f 0 entries in
-    let later = job_once o (suc f) jobs in
-    let all = times_append o (file_jobs f 0 entries) (jobs_from (suc f) jobs) in
-    let here : 0 < times o (file_jobs f 0 entries) → o.file ≡ f = λ some. (own.means some).file_is in
-    let beyond : 0 < times o (jobs_from (suc f) jobs) → f < o.file = λ some. omega (arith, (later.means some).file_is) in
-    record {
-      once = grind (arith, own.once, later.once, here, beyond);
-      means = λ some. elim (cases_lt 0 (times o (file_jobs f 0 entries))) [
-        | inl found ↦
-            let h = own.means found in
-            let at : h.place ≡ o.line = omega (arith, h.line_is) in
-            record { place = 0; file_is = omega (arith, h.file_is); entry_is = ap (λ j. slice_get entries j) (sym at) ∙ h.entry_is }
-        | inr none ↦
-            let h = later.means (omega arith) in
-            record { place = suc h.place; file_is = omega (arith, h.file_is); entry_is = h.entry_is }
-      ];
-    }
+-- an offer stands among the jobs once if it is one of them, and else never
+job_times : (o : Job) (jobs : List (List Entry)) → times o (job_list jobs) ≡ hits o.entry (entry_at jobs o.file o.line)
+job_times o jobs = grind (arith, nat_tests, jobs_times o 0 jobs)
 
 -- ---- each job once, in any order
 
@@ -823,11 +589,7 @@ pub each_came : (jobs : List (List Entry)) (got : List Job) → AreJobsInSomeOrd
     entry_at jobs f k ≡ Some e → Contains got (line_job f k e)
 each_came jobs got h f k e is =
     let o : Job = line_job f k e in
-    let n : ℕ = job_count (take f jobs) + k in
-    let at = slice_get-job_list jobs f k n e refl is in
-    let among = times_from_contains o (job_list jobs)
-    (n, slice_get_within (job_list jobs) n o at, get_or_from_slice_get (job_list jobs) n o o at) in
-    contains_from_times o got (omega (arith, among, same_times jobs got h o))
+    contains_from_times o got (grind (arith, h.same_counts (same_job o), job_times o jobs, same_itself e, is))
 
 -- an offer among the jobs that was not offered before
 module _ {jobs : List (List Entry)} {past : List Job} {files : List FileState} (o : Job) (rest : List Job)
@@ -835,19 +597,22 @@ module _ {jobs : List (List Entry)} {past : List Job} {files : List FileState} (
   -- it is refused for nothing
   not_refused : (r : Refusal) → IsRefusedFor jobs files o r → ⊥
   not_refused r refused =
-      let all = times_append o past (o ∷ rest) in
-      let here = rw (same_itself o) at (times_cons o o rest) in
-      let same = same_times jobs (past ++ o ∷ rest) h o in
-      let among = job_once o 0 jobs in
-      let means = among.means (omega arith) in
-      let at : means.place ≡ o.file = omega (arith, means.file_is) in
-      let entry_is : entry_at jobs o.file o.line ≡ Some o.entry = ap (λ g. entry_at jobs g o.line) (sym at) ∙ means.entry_is in
-      let full = refused_came jobs files o.file o.line o.entry r holds.counts entry_is refused in
+      let once : times o past + times o rest + 1 ≡ hits o.entry (entry_at jobs o.file o.line) =
+      grind (
+        arith,
+        nat_tests,
+        sum_by-append (λ x. cond (same_job o x) 1 0) past (o ∷ rest),
+        count_by-cons (same_job o) o rest,
+        same_itself o.entry,
+        h.same_counts (same_job o),
+        job_times o jobs,
+      ) in
+      let is = hit o.entry (entry_at jobs o.file o.line) (omega (arith, once)) in
+      let full = refused_came jobs files o.file o.line o.entry r holds.counts is.0 refused in
       let v = some_value (came_for (state_of files o.file) o.line) full in
       let w = holds.only o.file o.line v.0 v.1 in
-      let e_is : w.entry ≡ o.entry = one_entry (entry_at jobs o.file o.line) w.entry o.entry w.at entry_is in
-      let has : Contains past o = subst (λ x. Contains past (line_job o.file o.line x)) e_is w.offered in
-      omega (arith, among.once, times_from_contains o past has)
+      let same : w.entry ≡ o.entry = cc (w.at, is.0) in
+      omega (arith, once, is.1, times_from_contains o past (rw same at w.offered))
 
   -- so it is accepted
   each_accepted : (after : List FileState) (gave : Result ℕ Refusal) → Offers jobs files o gave after → IsOk gave
@@ -858,24 +623,28 @@ module _ {jobs : List (List Entry)} {past : List Job} {files : List FileState} (
 pub fronts_full : (jobs : List (List Entry)) (past : List Job) (files : List FileState) → AreJobsInSomeOrder jobs past
     → HoldsOffered jobs past files → (f : ℕ) → HasEnded (state_of files f)
 fronts_full jobs past files h holds f =
-    front_full (state_of files f).arrived (λ k low.
+    let arrived = (state_of files f).arrived in
+    let all = front_least arrived (length arrived) (λ k low.
     let e : Entry = get_or (entries_of jobs f) k (Bad Empty) in
     let is : entry_at jobs f k ≡ Some e =
     slice_get-get_or (entries_of jobs f) k (Bad Empty) (omega (arith, lines_are jobs files holds.counts f)) in
-    is_some_of (came_for (state_of files f) k) _ (holds.came f k e is (each_came jobs past h f k e is)))
+    ap (λ (o : Option Answer). is_some o) (holds.came f k e is (each_came jobs past h f k e is))) in
+    omega (arith, all, front_within arrived)
 
 -- ---- the three laws
 
 pub shares_law : SharesLaw
 shares_law jobs rows got rest shared whole =
     let n : ℕ = length (job_list jobs) in
-    let none : rest ≡ [] = nothing_left n (job jobs) rows got rest shared whole in
+    let none : rest ≡ [] =
+    nil_from_length rest (omega (arith, as_many_as_numbers n (job jobs) rows (got ++ rest) shared, length-append got rest, whole)) in
     let mine : AreShared n (job jobs) rows got =
     subst (AreShared n (job jobs) rows) (ap (λ (l : List (ℕ × Job)). got ++ l) none ∙ append-nil got) shared in
     record {
       same_counts = λ p.
           got_all_once p n (job jobs) rows got mine
-          ∙ total_rows (λ (o : Job). cond (p o) 1 0) (line_job 0 0 (Bad Empty)) (job_list jobs);
+          ∙ sym (ap (count_by p) (fill_by_all (job jobs) (job_list jobs) n (line_job 0 0 (Bad Empty)) refl (λ k low. refl))
+          ∙ count_map p (job jobs) (range_with_len 0 n));
     }
 
 pub offers_law : OffersLaw

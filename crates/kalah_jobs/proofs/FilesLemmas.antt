@@ -1,39 +1,31 @@
 -- The lines of files, their entries, and the jobs of a batch.
 use Rattle.kalah_rules.specs.Position as position
-use Rattle.kalah_jobs.specs.declared.writing.answer.Answer.TheVariants as answer
 use Rattle.kalah_rules.specs.contracts.board.BoardPartialEq.TheImpl as board_eq
 use Rattle.std.proofs.Common.{◌≡◌, ◌≢◌, ℕ, ◌+◌, ◌<◌, ◌≤◌, List, [], ◌∷◌, ◌++◌, length, get_or, take, drop, take-append-drop, refl, ap, sym, ◌∙◌, arith, length-drop, ◌⊎◌, inl, inr, ⊎_elim, subst, append_assoc, Result, Ok, Err, zero, suc, ◌-◌, Bool, true, false, cond, map, ap₂, length-append, ◌&&◌, ◌==◌}
-use Rattle.std.specs.Prelude.{if◌then◌else◌, All, Some, slice_get, slice_index_or, sum_by, count_by, ◌↔◌}
+use Rattle.std.specs.Prelude.{if◌then◌else◌, All, Some, slice_get, sum_by, count_by}
 use Rattle.std.specs.List.{onto_first, flat_map}
 use Rattle.std.proofs.lemmas.List.{take_all, drop_all, drop_more, append-nil, take_more, take-take, take-append-le, get_or_append_left, get_or_default, length-map, map-append, get_or-map, length-take-le}
 use Rattle.std.proofs.lemmas.List.Elements.{All-head, All-tail, All-nil, All-cons}
 use Rattle.std.proofs.Math.Seq.{take-nil, get_or-append_seam}
-use Rattle.std.proofs.lemmas.List.Sums.{sum_by-cons, sum_by-append, sum_by_push, sum_by-take-le, get_or-le-sum_by, count_by-le-length}
+use Rattle.std.proofs.lemmas.List.Sums.{sum_by-cons, sum_by-append, sum_by_push, get_or-le-sum_by}
 use Rattle.kalah_jobs.specs.Files.Lines.{line_feed, lines_of, HasNoLineFeed, with_line_feeds, EndsInOpenLine, AreLines, LinesAreOne}
-use Rattle.std.proofs.lemmas.Bool.{cases_eq, cases_lt, and_parts, eqb-true}
-use Rattle.kalah_jobs.specs.Line.Reading.{reading_of}
-use Rattle.kalah_jobs.specs.declared.line.line_fault.LineFault.{LineFault}
+use Rattle.std.proofs.lemmas.Bool.{cases_eq}
 use Rattle.kalah_jobs.specs.declared.files.entry.Entry.{Entry}
 use Rattle.kalah_jobs.specs.declared.files.entry.Entry.TheVariants.{Position, ValuesOf, StepsOf, Bad}
 use Rattle.kalah_jobs.specs.Files.Entry.{Says, entry_of_reading, entry_of, EntriesAreOne}
-use Rattle.kalah_jobs.proofs.LineLemmas.{IsReading, is_reading, only_reading}
+use Rattle.kalah_jobs.proofs.LineLemmas.{is_reading, only_reading}
+use Rattle.std.proofs.lemmas.Bool.Decides.{nat_tests}
 use Rattle.std.proofs.lemmas.Option.{slice_get_within}
 use Rattle.std.proofs.lemmas.List.Concat.{length-flat_map}
 use Rattle.kalah_jobs.specs.declared.files.job.Job.{Job}
 use Rattle.kalah_jobs.specs.Files.NamedBytes.{NamedBytes}
 use Rattle.kalah_jobs.specs.Files.JobList.{entries_of, line_job, file_jobs, jobs_from, job_list}
-use Rattle.kalah_jobs.specs.Limits.{most_lines}
 use Rattle.kalah_jobs.specs.Files.Jobs.{lines_in_all, lines_in, entries_to, jobs_to, job_count, AreStarts}
 use Rattle.kalah_jobs.specs.Files.Question.{entry_to, entry_asked}
 use Rattle.kalah_jobs.specs.declared.files.question.Question.{Question}
 use Rattle.kalah_rules.specs.Position.{is_over, final_margin, IsWithinLimits, rows_of, seeds_in_houses}
-use Rattle.kalah_solve.specs.Solver.Worth.{worth, best_house}
-use Rattle.kalah_solve.specs.Solver.MoveValues.{values_of}
-use Rattle.kalah_jobs.specs.declared.writing.answer.Answer.{Answer}
-use Rattle.kalah_jobs.specs.declared.files.question.Question.TheVariants.{BestMove}
 use Rattle.kalah_jobs.specs.Writing.Answer.{answer_of, is_fault, is_faulty_entry}
 use Rattle.kalah_jobs.specs.Writing.Output.{is_faulty_job}
-use Rattle.kalah_rules.specs.Key.{key_of}
 use Rattle.kalah_rules.proofs.KeyLemmas.{same_key}
 use Rattle.kalah_rules.proofs.PackedLemmas.{rows_within}
 use Rattle.kalah_rules.specs.contracts.board.BoardEq.TheImpl.Laws.{laws-law}
@@ -131,85 +123,56 @@ pub ruleset no_line = (lines_of-empty, append-nil)
 
 whole_after_byte : (byte : ℕ) (lines : List (List ℕ)) → byte ≢ line_feed → All HasNoLineFeed lines →
     All HasNoLineFeed (onto_first byte lines)
-whole_after_byte byte [] not whole =
-    All-cons HasNoLineFeed (byte ∷ []) [] (All-cons IsNoFeed byte [] not (All-nil IsNoFeed)) (All-nil HasNoLineFeed)
+whole_after_byte byte [] not whole = All-cons HasNoLineFeed (byte ∷ []) [] (All-cons IsNoFeed byte [] not (All-nil IsNoFeed)) whole
 whole_after_byte byte (line ∷ lines) not whole =
     All-cons HasNoLineFeed (byte ∷ line) lines
     (All-cons IsNoFeed byte line not (All-head HasNoLineFeed line lines whole))
     (All-tail HasNoLineFeed line lines whole)
 
--- a byte before closed lines stands in a closed line, if there is a line
-parts_after_byte : (byte : ℕ) (bytes : List ℕ) (lines : List (List ℕ)) → bytes ≡ with_line_feeds lines
-    → (byte ∷ bytes ≡ with_line_feeds (onto_first byte lines)) ⊎ EndsInOpenLine (byte ∷ bytes) (onto_first byte lines)
-parts_after_byte byte bytes [] is =
-    inr (record {
-      before = [];
-      last = byte ∷ [];
-      pieces_are = refl;
-      bytes_are = ap (λ rest. byte ∷ rest) is;
-      some_bytes = (λ e. cc);
-    })
-parts_after_byte byte bytes (line ∷ lines) is = inl (ap (λ rest. byte ∷ rest) is)
+-- lines before a last one that is not ended
+open_lines : {bytes : List ℕ} {lines : List (List ℕ)} (before : List (List ℕ)) (last : List ℕ) → last ≢ [] →
+    lines ≡ before ++ last ∷ [] → bytes ≡ with_line_feeds before ++ last → (bytes ≡ with_line_feeds lines) ⊎ EndsInOpenLine bytes lines
+open_lines before last some pieces_are bytes_are =
+    inr (record { before = before; last = last; pieces_are = pieces_are; bytes_are = bytes_are; some_bytes = some })
 
-open_after_byte : (byte : ℕ) (bytes : List ℕ) (lines before : List (List ℕ)) (last : List ℕ) → lines ≡ before ++ last ∷ []
-    → bytes ≡ with_line_feeds before ++ last → last ≢ [] → EndsInOpenLine (byte ∷ bytes) (onto_first byte lines)
-open_after_byte byte bytes lines [] last pieces_are bytes_are some = record {
-  before = [];
-  last = byte ∷ last;
-  pieces_are = ap (λ ls. onto_first byte ls) pieces_are;
-  bytes_are = ap (λ rest. byte ∷ rest) bytes_are;
-  some_bytes = (λ e. cc);
-}
-open_after_byte byte bytes lines (line ∷ before) last pieces_are bytes_are some = record {
-  before = (byte ∷ line) ∷ before;
-  last = last;
-  pieces_are = ap (λ ls. onto_first byte ls) pieces_are;
-  bytes_are = ap (λ rest. byte ∷ rest) bytes_are;
-  some_bytes = some;
-}
+-- a byte before lines stands in the first, or in one of its own
+parts_after_byte : (byte : ℕ) (bytes : List ℕ) (lines : List (List ℕ)) → (bytes ≡ with_line_feeds lines) ⊎ EndsInOpenLine bytes lines →
+    (byte ∷ bytes ≡ with_line_feeds (onto_first byte lines)) ⊎ EndsInOpenLine (byte ∷ bytes) (onto_first byte lines)
+parts_after_byte byte bytes [] (inl closed) = open_lines [] (byte ∷ []) (λ e. cc) refl (ap (λ rest. byte ∷ rest) closed)
+parts_after_byte byte bytes (line ∷ lines) (inl closed) = inl (ap (λ rest. byte ∷ rest) closed)
+parts_after_byte byte bytes lines (inr h) = go h.before h.pieces_are h.bytes_are
+  where
+    go : (before : List (List ℕ)) → lines ≡ before ++ h.last ∷ [] → bytes ≡ with_line_feeds before ++ h.last →
+        (byte ∷ bytes ≡ with_line_feeds (onto_first byte lines)) ⊎ EndsInOpenLine (byte ∷ bytes) (onto_first byte lines)
+    go [] pieces_are bytes_are =
+        open_lines [] (byte ∷ h.last) (λ e. cc) (ap (onto_first byte) pieces_are) (ap (λ rest. byte ∷ rest) bytes_are)
+    go (line ∷ before) pieces_are bytes_are =
+        open_lines ((byte ∷ line) ∷ before) h.last h.some_bytes (ap (onto_first byte) pieces_are) (ap (λ rest. byte ∷ rest) bytes_are)
 
-are_lines_after_feed : (bytes : List ℕ) (lines : List (List ℕ)) → AreLines bytes lines →
-    AreLines (line_feed ∷ bytes) ([] ∷ lines)
-are_lines_after_feed bytes lines are = record {
-  whole = All-cons HasNoLineFeed [] lines (All-nil IsNoFeed) are.whole;
-  parts =
-      ⊎_elim
-      (λ closed. inl (ap (λ rest. line_feed ∷ rest) closed))
-      (λ (unended : EndsInOpenLine bytes lines). inr (record {
-        before = [] ∷ unended.before;
-        last = unended.last;
-        pieces_are = ap (λ ls. [] ∷ ls) unended.pieces_are;
-        bytes_are = ap (λ rest. line_feed ∷ rest) unended.bytes_are;
-        some_bytes = unended.some_bytes;
-      }))
-      are.parts;
-}
-
-are_lines_after_byte : (byte : ℕ) (bytes : List ℕ) (lines : List (List ℕ)) → byte ≢ line_feed → AreLines bytes lines
-    → AreLines (byte ∷ bytes) (onto_first byte lines)
-are_lines_after_byte byte bytes lines not are = record {
-  whole = whole_after_byte byte lines not are.whole;
-  parts =
-      ⊎_elim
-      (λ closed. parts_after_byte byte bytes lines closed)
-      (λ (unended : EndsInOpenLine bytes lines).
-      inr (open_after_byte byte bytes lines unended.before unended.last unended.pieces_are unended.bytes_are unended.some_bytes))
-      are.parts;
-}
+-- a line feed before lines is an empty line
+parts_after_feed : (bytes : List ℕ) (lines : List (List ℕ)) → (bytes ≡ with_line_feeds lines) ⊎ EndsInOpenLine bytes lines →
+    (line_feed ∷ bytes ≡ with_line_feeds ([] ∷ lines)) ⊎ EndsInOpenLine (line_feed ∷ bytes) ([] ∷ lines)
+parts_after_feed bytes lines (inl closed) = inl (ap (λ rest. line_feed ∷ rest) closed)
+parts_after_feed bytes lines (inr h) =
+    open_lines ([] ∷ h.before) h.last h.some_bytes (ap (λ ls. [] ∷ ls) h.pieces_are) (ap (λ rest. line_feed ∷ rest) h.bytes_are)
 
 pub are_lines_of : (bytes : List ℕ) → AreLines bytes (lines_of bytes)
 unfolding lines_of
 are_lines_of [] = record { whole = All-nil HasNoLineFeed; parts = inl refl }
 are_lines_of (byte ∷ bytes) =
-    ⊎_elim
-    (λ (is : byte ≡ line_feed).
-    subst (λ lines. AreLines (byte ∷ bytes) lines) (sym (lines_of-feed byte bytes is))
-    (subst (λ b. AreLines (b ∷ bytes) ([] ∷ lines_of bytes)) (sym is)
-    (are_lines_after_feed bytes (lines_of bytes) (are_lines_of bytes))))
-    (λ (not : byte ≡ line_feed → ⊥).
-    subst (λ lines. AreLines (byte ∷ bytes) lines) (sym (lines_of-byte byte bytes not))
-    (are_lines_after_byte byte bytes (lines_of bytes) not (are_lines_of bytes)))
-    (cases_eq byte line_feed)
+    let lines = lines_of bytes in
+    let rest = are_lines_of bytes in
+    elim (cases_eq byte line_feed) [
+      | inl is ↦
+          rw (lines_of-feed byte bytes is, is)
+          (record {
+            whole = All-cons HasNoLineFeed [] lines (All-nil IsNoFeed) rest.whole;
+            parts = parts_after_feed bytes lines rest.parts;
+          })
+      | inr not ↦
+          rw (lines_of-byte byte bytes not)
+          (record { whole = whole_after_byte byte lines not rest.whole; parts = parts_after_byte byte bytes lines rest.parts })
+    ]
 
 -- ---- and no others are
 
@@ -217,10 +180,12 @@ lines_of-feeds : (pieces : List (List ℕ)) (rest : List ℕ) → All HasNoLineF
     lines_of (with_line_feeds pieces ++ rest) ≡ pieces ++ lines_of rest
 lines_of-feeds [] rest whole = refl
 lines_of-feeds (piece ∷ pieces) rest whole =
-    ap lines_of (append_assoc (piece ++ line_feed ∷ []) (with_line_feeds pieces) rest
-    ∙ append_assoc piece (line_feed ∷ []) (with_line_feeds pieces ++ rest))
-    ∙ lines_of-ended piece (with_line_feeds pieces ++ rest) (All-head HasNoLineFeed piece pieces whole)
-    ∙ ap (λ lines. piece ∷ lines) (lines_of-feeds pieces rest (All-tail HasNoLineFeed piece pieces whole))
+    grind (
+      arith,
+      append_assoc,
+      lines_of-ended piece (with_line_feeds pieces ++ rest) (All-head HasNoLineFeed piece pieces whole),
+      lines_of-feeds pieces rest (All-tail HasNoLineFeed piece pieces whole),
+    )
 
 All-before : (before : List (List ℕ)) (last : List ℕ) → All HasNoLineFeed (before ++ last ∷ []) →
     All HasNoLineFeed before × HasNoLineFeed last
@@ -231,41 +196,27 @@ All-before (piece ∷ before) last whole =
 
 no_others : (bytes : List ℕ) (pieces : List (List ℕ)) → AreLines bytes pieces → pieces ≡ lines_of bytes
 unfolding lines_of
-no_others bytes pieces are =
-    ⊎_elim
-    (λ (closed : bytes ≡ with_line_feeds pieces).
-    sym
-    (ap lines_of (closed ∙ sym (append-nil (with_line_feeds pieces)))
-    ∙ lines_of-feeds pieces [] are.whole
-    ∙ append-nil pieces))
-    (λ (unended : EndsInOpenLine bytes pieces).
-    let whole = All-before unended.before unended.last (subst (λ ps. All HasNoLineFeed ps) unended.pieces_are are.whole) in
-    unended.pieces_are
-    ∙ sym
-    (ap lines_of unended.bytes_are
-    ∙ lines_of-feeds unended.before unended.last whole.0
-    ∙ ap (λ lines. unended.before ++ lines) (lines_of-open unended.last whole.1 unended.some_bytes)))
-    are.parts
+no_others bytes pieces are = elim are.parts [
+  | inl closed ↦ grind (arith, append-nil, closed, lines_of-feeds pieces [] are.whole)
+  | inr unended ↦
+      let whole = All-before unended.before unended.last (rw unended.pieces_are at are.whole) in
+      grind (arith, lines_of-feeds unended.before unended.last whole.0, lines_of-open unended.last whole.1 unended.some_bytes)
+]
 
 pub lines_are_one : LinesAreOne
 lines_are_one = record { some = are_lines_of; one = no_others }
 
 -- ==== Each line has one entry
 
-says_by_case : (line : List ℕ) (r : Result position.Position LineFault) → IsReading line r → Says line (entry_of_reading r)
-says_by_case line (Ok p) is = is
-says_by_case line (Err fault) is = is
-
 says : (line : List ℕ) → Says line (entry_of line)
 unfolding entry_of
-says line = says_by_case line (reading_of line) (is_reading line)
+says line = grind (arith, is_reading line)
 
 says_once : (line : List ℕ) (entry : Entry) → Says line entry → entry ≡ entry_of line
 unfolding entry_of
 says_once line (Position p) is = ap entry_of_reading (sym (only_reading line (Ok p) is))
-says_once line (ValuesOf p) is = absurd is
-says_once line (StepsOf p) is = absurd is
 says_once line (Bad fault) is = ap entry_of_reading (sym (only_reading line (Err fault) is))
+says_once line entry is = absurd is
 
 pub entries_are_one : EntriesAreOne
 entries_are_one = record { some = says; one = says_once }
@@ -312,8 +263,7 @@ entries_of_file f k (e ∷ own) = ap (λ others. e ∷ others) (entries_of_file 
 entries_from : (f : ℕ) (jobs : List (List Entry)) → map (λ (o : Job). o.entry) (jobs_from f jobs) ≡ all_entries jobs
 entries_from f [] = refl
 entries_from f (own ∷ jobs) =
-    map-append (λ (o : Job). o.entry) (file_jobs f 0 own) (jobs_from (suc f) jobs)
-    ∙ ap₂ (λ (first others : List Entry). first ++ others) (entries_of_file f 0 own) (entries_from (suc f) jobs)
+    grind (arith, map-append (λ (o : Job). o.entry) (file_jobs f 0 own), entries_of_file f 0 own, entries_from (suc f) jobs)
 
 -- they are those of the jobs, in order
 pub entries_of_jobs : (jobs : List (List Entry)) → map (λ (o : Job). o.entry) (job_list jobs) ≡ all_entries jobs
@@ -336,42 +286,37 @@ slice_get-append_right [] ys n i is = ap (λ m. slice_get ys m) (let e : n ≡ i
 slice_get-append_right (x ∷ xs) ys zero i is = absurd (omega arith)
 slice_get-append_right (x ∷ xs) ys (suc n) i is = slice_get-append_right xs ys n i (omega arith)
 
-slice_get-file_jobs : (f k i n : ℕ) (entries : List Entry) (e : Entry) → n ≡ k + i → slice_get entries i ≡ Some e
-    → slice_get (file_jobs f k entries) i ≡ Some (line_job f n e)
-slice_get-file_jobs f k i n [] e same is = cc
-slice_get-file_jobs f k zero n (x ∷ entries) e same is =
-    let number : k ≡ n = omega arith in
-    ap (λ (y : Entry). Some (line_job f k y)) (let said : x ≡ e = cc in said) ∙ ap (λ m. Some (line_job f m e)) number
-slice_get-file_jobs f k (suc i) n (x ∷ entries) e same is = slice_get-file_jobs f (suc k) i n entries e (omega arith) is
+slice_get-file_jobs : (f k i : ℕ) (entries : List Entry) (e : Entry) → slice_get entries i ≡ Some e
+    → slice_get (file_jobs f k entries) i ≡ Some (line_job f (k + i) e)
+slice_get-file_jobs f k i [] e is = cc
+slice_get-file_jobs f k zero (x ∷ entries) e is = grind arith
+slice_get-file_jobs f k (suc i) (x ∷ entries) e is = grind (arith, slice_get-file_jobs f (suc k) i entries e is)
 
-slice_get-jobs_from : (f g h k n : ℕ) (jobs : List (List Entry)) (e : Entry) → h ≡ f + g → n ≡ job_count (take g jobs) + k
-    → slice_get (slice_index_or jobs g []) k ≡ Some e → slice_get (jobs_from f jobs) n ≡ Some (line_job h k e)
-slice_get-jobs_from f g h k n [] e file number is = cc
-slice_get-jobs_from f zero h k n (entries ∷ jobs) e file number is =
-    let here : slice_get (file_jobs f 0 entries) k ≡ Some (line_job f k e) = slice_get-file_jobs f 0 k k entries e (omega arith) is in
-    let n_is : n ≡ k = omega arith in
-    let f_is : f ≡ h = omega arith in
-    ap (λ m. slice_get (file_jobs f 0 entries ++ jobs_from (suc f) jobs) m) n_is
-    ∙ slice_get-left (file_jobs f 0 entries) (jobs_from (suc f) jobs) k
-    (slice_get_within (file_jobs f 0 entries) k (line_job f k e) here) ∙ here
-    ∙ ap (λ m. Some (line_job m k e)) f_is
-slice_get-jobs_from f (suc g) h k n (entries ∷ jobs) e file number is =
-    let m : ℕ = job_count (take g jobs) + k in
-    let past : n ≡ length (file_jobs f 0 entries) + m =
-    omega (
+slice_get-jobs_from : (f g k : ℕ) (jobs : List (List Entry)) (e : Entry) → slice_get (entries_of jobs g) k ≡ Some e
+    → slice_get (jobs_from f jobs) (job_count (take g jobs) + k) ≡ Some (line_job (f + g) k e)
+slice_get-jobs_from f g k [] e is = cc
+slice_get-jobs_from f zero k (entries ∷ jobs) e is =
+    grind (
       arith,
+      slice_get-left (file_jobs f 0 entries) (jobs_from (suc f) jobs) k,
+      slice_get_within (file_jobs f 0 entries) k (line_job f (0 + k) e),
+      slice_get-file_jobs f 0 k entries e is,
+    )
+slice_get-jobs_from f (suc g) k (entries ∷ jobs) e is =
+    grind (
+      arith,
+      slice_get-append_right (file_jobs f 0 entries) (jobs_from (suc f) jobs),
+      slice_get-jobs_from (suc f) g k jobs e is,
       length-map (file_jobs f 0 entries) (λ (o : Job). o.entry),
-      ap length (entries_of_file f 0 entries),
+      entries_of_file f 0 entries,
       job_count-cons entries (take g jobs),
-    ) in
-    slice_get-append_right (file_jobs f 0 entries) (jobs_from (suc f) jobs) n m past
-    ∙ slice_get-jobs_from (suc f) g h k m jobs e (omega arith) refl is
+    )
 
 -- line k of file f comes after the jobs of the files before f
 pub slice_get-job_list : (jobs : List (List Entry)) (f k n : ℕ) (e : Entry) → n ≡ job_count (take f jobs) + k →
     slice_get (entries_of jobs f) k ≡ Some e
     → slice_get (job_list jobs) n ≡ Some (line_job f k e)
-slice_get-job_list jobs f k n e number is = slice_get-jobs_from 0 f f k n jobs e (omega arith) number is
+slice_get-job_list jobs f k n e number is = grind (arith, slice_get-jobs_from 0 f k jobs e is)
 
 -- ---- the place of a job among the files
 
@@ -380,13 +325,9 @@ pub lines_between : (jobs : List (List Entry)) (f : ℕ) → f < length jobs
     → job_count (take (f + 1) jobs) ≡ job_count (take f jobs) + length (entries_of jobs f)
 lines_between jobs f within = ap job_count (take_more jobs f [] within) ∙ sum_by_push length (take f jobs) (entries_of jobs f)
 
--- a file has no more lines than all together
-file_low : (jobs : List (List Entry)) (f : ℕ) → f < length jobs → length (entries_of jobs f) ≤ job_count jobs
-file_low jobs f within = get_or-le-sum_by length jobs f [] within
-
 -- ---- while the files are read
 
-length-entries_to : (question : Question) (bytes : List ℕ) → length (entries_to question bytes) ≡ length (lines_of bytes)
+pub length-entries_to : (question : Question) (bytes : List ℕ) → length (entries_to question bytes) ≡ length (lines_of bytes)
 unfolding entries_to
 length-entries_to question bytes = length-map (lines_of bytes) (entry_to question)
 
@@ -402,92 +343,34 @@ job_count-jobs_to question (file ∷ files) =
       job_count-jobs_to question files,
     )
 
--- the jobs so far are no more than the lines of all files
-pub counted_low : (question : Question) (files : List NamedBytes) (i : ℕ) →
-    job_count (jobs_to question (take i files)) ≤ lines_in_all files
-counted_low question files i =
-    let all : job_count (jobs_to question (take i files)) ≡ sum_by lines_in (take i files) = job_count-jobs_to question (take i files) in
-    omega (arith, all, sum_by-take-le lines_in files i)
-
--- nor are those of them that pass a test
-passing_low : (p : Entry → Bool) (jobs : List (List Entry)) → sum_by (count_by p) jobs ≤ job_count jobs
-passing_low p [] = omega arith
-passing_low p (own ∷ jobs) =
-    omega (arith, passing_low p jobs, count_by-le-length p own, sum_by-cons (count_by p) own jobs, job_count-cons own jobs)
-
--- nor are those among the files so far
-pub passing_so_far : (p : Entry → Bool) (question : Question) (files : List NamedBytes) (i : ℕ) {jobs : List (List Entry)} {n : ℕ}
-    → jobs ≡ jobs_to question (take i files) → n ≡ sum_by (count_by p) jobs → n ≤ lines_in_all files
-passing_so_far p question files i {jobs} {n} are is =
-    omega (arith, is, passing_low p jobs, ap job_count are, counted_low question files i)
-
--- there is room for one file more
-pub room_for_more : (question : Question) (files : List NamedBytes) (i : ℕ) {jobs : List (List Entry)} →
-    jobs ≡ jobs_to question (take i files) → i < length files → length jobs < length files
-room_for_more question files i is low =
-    omega (
-      arith,
-      low,
-      ap length is,
-      length-map (take i files) (λ (file : NamedBytes). entries_to question file.bytes),
-      length-take-le i files (omega (arith, low)),
-    )
-
--- after the last file all are read
-pub all_read : (question : Question) (files : List NamedBytes) (i : ℕ) {jobs : List (List Entry)} →
-    jobs ≡ jobs_to question (take i files) → length files ≤ i → jobs ≡ jobs_to question files
-all_read question files i is past = is ∙ ap (jobs_to question) (take_all i files past)
-
--- the entries of a file, as they are stored
-pub stored_lines : {V : Type 0} (items : V → List Entry) (files : List V) {jobs : List (List Entry)} (f : ℕ) (own : V) →
-    map items files ≡ jobs → own ≡ get_or files f own → f < length jobs → entries_of jobs f ≡ items own
-stored_lines items files f own is at within =
-    ap (λ jobs. entries_of jobs f) (sym is)
-    ∙ get_or-map items files f own [] (omega (arith, within, ap length is, length-map files items)) ∙ ap items (sym at)
-
--- nothing starts before the first file
-pub starts_none : AreStarts [] []
-starts_none = record { as_many = refl; before = λ f low. absurd (omega (arith, low)) }
-
 -- one file more starts after all jobs so far
 pub starts_more : {jobs : List (List Entry)} {starts : List ℕ} {start : ℕ} (own : List Entry) → AreStarts jobs starts →
     start ≡ job_count jobs → AreStarts (jobs ++ own ∷ []) (starts ++ start ∷ [])
 starts_more {jobs} {starts} {start} own so_far is = record {
   as_many = omega (arith, so_far.as_many, length-append starts (start ∷ []), length-append jobs (own ∷ []));
   before = λ f low.
-      let end : f ≤ length jobs = omega (arith, low, length-append jobs (own ∷ [])) in
-      let first = ap job_count (take-append-le f jobs (own ∷ []) end) in
-      elim (cases_lt f (length jobs)) [
-        | inl old ↦
-            get_or_append_left starts (start ∷ []) 0 f (omega (arith, so_far.as_many, old)) ∙ so_far.before f old ∙ sym first
-        | inr new ↦
-            ap (λ n. get_or (starts ++ start ∷ []) n 0) (let at : f ≡ length starts = omega (arith, so_far.as_many, end, new) in at)
-            ∙ get_or-append_seam starts start [] 0 ∙ is ∙ sym (first ∙ ap job_count (take_all f jobs new))
-      ];
+      grind (
+        arith,
+        low,
+        length-append starts (start ∷ []),
+        length-append jobs (own ∷ []),
+        take-append-le f jobs (own ∷ []),
+        take_all f jobs,
+        get_or_append_left starts (start ∷ []) 0 f,
+        get_or-append_seam starts start [] 0,
+        so_far.as_many,
+        so_far.before f,
+      );
 }
 
--- a start, read for any default
-pub start_is : {jobs : List (List Entry)} {starts : List ℕ} → AreStarts jobs starts → (f x : ℕ) → f < length jobs →
-    x ≡ get_or starts f x → x ≡ job_count (take f jobs)
-start_is {jobs} {starts} of f x low is =
-    is ∙ get_or_default starts f x 0 (omega (arith, of.as_many, low)) ∙ of.before f low
-
--- they are no more than all lines of a batch
-pub stored_few : {V : Type 0} (items : V → List Entry) (files : List V) {jobs : List (List Entry)} (f : ℕ) (own : V) →
-    map items files ≡ jobs → own ≡ get_or files f own → f < length jobs → job_count (map items files) ≤ most_lines →
-    length (items own) ≤ most_lines
-stored_few items files {jobs} f own is at within few =
-    omega (arith, ap length (stored_lines items files f own is at within), file_low jobs f within, ap job_count is, few)
+-- a file has no more lines than all together
+pub file_low : (jobs : List (List Entry)) (f : ℕ) → f < length jobs → length (entries_of jobs f) ≤ job_count jobs
+file_low jobs f within = get_or-le-sum_by length jobs f [] within
 
 -- what the functions of jobs need of what is counted
 pub ruleset counts_of_jobs = (get_or-map, length-map, length-job_list, lines_between)
 
 -- ==== The lines that are answered by a fault are those that are not read
-
--- one of two answers that are no faults
-no_fault : (b : Bool) (x y : Answer) → is_fault x ≡ false → is_fault y ≡ false → is_fault (if b then x else y) ≡ false
-no_fault true x y one other = one
-no_fault false x y one other = other
 
 -- the line is not read
 abbrev pub is_bad : Entry → Bool
@@ -498,19 +381,11 @@ is_bad (Bad fault) = true
 
 pub bad_is_fault : (entry : Entry) → is_fault (answer_of entry) ≡ is_bad entry
 unfolding answer_of
-bad_is_fault (Position p) = no_fault (is_over p) (answer.Over (final_margin p)) (answer.Best (worth p) (best_house p)) refl refl
-bad_is_fault (ValuesOf p) = no_fault (is_over p) (answer.Over (final_margin p)) (answer.Values (values_of p)) refl refl
-bad_is_fault (StepsOf p) = no_fault (is_over p) (answer.Over (final_margin p)) (answer.Steps p) refl refl
-bad_is_fault (Bad fault) = refl
-
-bad_if_asked : (question : Question) (entry : Entry) → is_bad (entry_asked question entry) ≡ is_bad entry
-bad_if_asked BestMove entry = refl
-bad_if_asked question (Bad fault) = refl
-bad_if_asked question entry = refl
+bad_is_fault entry = grind arith
 
 -- what is asked of a position makes no fault of it
 pub asked_fault : (question : Question) (entry : Entry) → is_fault (answer_of (entry_asked question entry)) ≡ is_fault (answer_of entry)
-asked_fault question entry = bad_is_fault (entry_asked question entry) ∙ bad_if_asked question entry ∙ sym (bad_is_fault entry)
+asked_fault question entry = grind (arith, bad_is_fault)
 
 -- as many jobs are answered by a fault as entries
 pub faulty_jobs : (jobs : List (List Entry)) → count_by is_faulty_job (job_list jobs) ≡ count_by is_faulty_entry (all_entries jobs)
@@ -528,38 +403,16 @@ abbrev pub same_board : position.Position → position.Position → Bool
 same_board p q = (board_eq.ghosts).eq p q
 
 -- boards that are equal by `==` show the same position
-same_board_means : (p q : position.Position) → IsWithinLimits p → IsWithinLimits q → same_board p q ≡ true → p ≡ q
+pub same_board_means : (p q : position.Position) → IsWithinLimits p → IsWithinLimits q → same_board p q ≡ true → p ≡ q
 same_board_means p q p_limits q_limits h =
-    let x_key : Bool = key_of (rows_of p) == key_of (rows_of q) in
-    let x_seeds : Bool = seeds_in_houses p == seeds_in_houses q in
-    let a = and_parts (x_key && x_seeds) ((p.own_store == q.own_store) && (p.other_store == q.other_store)) h in
-    let b = and_parts x_key x_seeds a.0 in
-    let c = and_parts (p.own_store == q.own_store) (p.other_store == q.other_store) a.1 in
     let rows : rows_of p ≡ rows_of q = same_key (rows_of p) (rows_of q) (rows_within p p_limits) (rows_within q q_limits)
-    (eqb-true (key_of (rows_of p)) (key_of (rows_of q)) b.0) in
-    let own_store : p.own_store ≡ q.own_store = eqb-true p.own_store q.own_store c.0 in
-    let other_store : p.other_store ≡ q.other_store = eqb-true p.other_store q.other_store c.1 in
+    (grind (arith, nat_tests)) in
+    let own_store : p.own_store ≡ q.own_store = grind (arith, nat_tests) in
+    let other_store : p.other_store ≡ q.other_store = grind (arith, nat_tests) in
     λ i. record { own = (rows i).own; own_store = own_store i; other = (rows i).other; other_store = other_store i; rule = (rows i).rule }
 
--- a board is equal to itself
-same_board_itself : (p : position.Position) → same_board p p ≡ true
+-- and boards that show the same position are equal
+pub same_board_itself : (p : position.Position) → same_board p p ≡ true
 same_board_itself p = laws-law.refl p
 
--- the position in an entry, or else this one
-abbrev position_in : position.Position → Entry → position.Position
-position_in d (Position p) = p
-position_in d (ValuesOf p) = p
-position_in d (StepsOf p) = p
-position_in d (Bad fault) = d
-
--- entries that ask the same of two boards are equal if and only if the boards are
-pub same_entries : {a b : Entry} {p q : position.Position} {result : Bool} (asks : position.Position → Entry) →
-    ((x d : position.Position) → position_in d (asks x) ≡ x)
-    → IsWithinLimits p → IsWithinLimits q → result ≡ same_board p q → a ≡ asks p → b ≡ asks q → (result ≡ true)
-    ↔ (a ≡ b)
-same_entries {a} {b} {p} {q} asks of p_limits q_limits is a_is b_is = (
-  λ yes. a_is ∙ ap asks (same_board_means p q p_limits q_limits (sym is ∙ yes)) ∙ sym b_is,
-  λ same.
-      let boards : p ≡ q = sym (of p p) ∙ ap (position_in p) (sym a_is ∙ same ∙ b_is) ∙ of q p in
-      is ∙ sym (ap (same_board p) boards) ∙ same_board_itself p,
-)
+pub ruleset same_boards = (same_board_means, same_board_itself)

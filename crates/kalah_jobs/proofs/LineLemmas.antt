@@ -1,9 +1,8 @@
 -- The text of a line: its grammar, how it is read, and how it is written.
-use Rattle.std.proofs.Common.{◌≡◌, ℕ, ◌+◌, ◌-◌, ◌/◌, ◌%◌, ◌<◌, ◌≤◌, inl, inr, true, false, List, [], ◌∷◌, ◌++◌, length, Some, refl, sym, ap, ap₂, subst, ◌∙◌, length-append, arith, zero, suc, pred, ◌==◌, Bool, cond, Option, None, append_assoc, eqb-true, Result, Ok, Err, ◌≢◌, ◌*◌, map, All, append-nil, lit<, ◌↔◌}
+use Rattle.std.proofs.Common.{◌≡◌, ℕ, ◌+◌, ◌-◌, ◌<◌, ◌≤◌, inl, inr, true, List, [], ◌∷◌, ◌++◌, length, Some, refl, sym, ap, ap₂, subst, ◌∙◌, length-append, arith, zero, suc, pred, ◌==◌, Bool, cond, Option, None, append_assoc, eqb-true, Result, Ok, Err, ◌≢◌, ◌*◌, map, append-nil, lit<, ◌↔◌}
 use Rattle.std.specs.Prelude.{decimal, ◌&&◌, nat_lt, ⊤, codes, sum, IfOk, IfErr}
 use Rattle.std.specs.Char.{is_ascii_digit, IsAsciiDigit}
-use Rattle.std.specs.Cmp.Derive.{both_true}
-use Rattle.std.proofs.lemmas.Bool.{cases_lt, cases_Bool, and_parts, and_right, lt-ltb, cond-true, cond-false, le-ltb, ne_eqb}
+use Rattle.std.proofs.lemmas.Bool.{cases_lt, cases_Bool, lt-ltb, cond-true, cond-false, le-ltb, ne_eqb}
 use Rattle.std.proofs.lemmas.Bool.Decides.{nat_tests, eqb_tells}
 use Rattle.std.proofs.lemmas.Option.{cond_some}
 use Rattle.std.proofs.lemmas.Fmt.{decimal_digit, decimal_step, length-decimal-le}
@@ -21,8 +20,7 @@ use Rattle.kalah_jobs.specs.Limits.{most_bytes}
 use Rattle.kalah_jobs.specs.declared.line.line_fault.LineFault.{LineFault}
 use Rattle.kalah_jobs.specs.declared.line.line_fault.LineFault.TheVariants.{Long, Empty, Shape, Houses, Seeds}
 use Rattle.std.specs.List.{join_with_byte}
-use Rattle.std.proofs.lemmas.List.Elements.{All-head, All-tail, All-from_get_or}
-use Rattle.std.proofs.lemmas.List.Sums.{get_or-le-sum_by}
+use Rattle.std.proofs.lemmas.List.Sums.{sum_by-cons}
 
 -- ==== What writes a number, what it is read as, and its text
 
@@ -30,15 +28,6 @@ use Rattle.std.proofs.lemmas.List.Sums.{get_or-le-sum_by}
 
 is_digit : (byte : ℕ) → is_ascii_digit byte ≡ true → IsAsciiDigit byte
 is_digit byte passes = grind (arith, nat_tests)
-
-passes_as_digit : (byte : ℕ) → IsAsciiDigit byte → is_ascii_digit byte ≡ true
-passes_as_digit byte digit = grind (arith, nat_tests)
-
-fails_as_digit : (byte : ℕ) → ¬ IsAsciiDigit byte → is_ascii_digit byte ≡ false
-fails_as_digit byte other = grind (arith, nat_tests)
-
-is_some : (n : ℕ) → nat_lt 0 n ≡ true → 0 < n
-is_some n passes = grind (arith, nat_tests)
 
 -- ---- reading
 
@@ -53,13 +42,7 @@ digits_written : (first : ℕ) (rest : List ℕ) → IsAsciiDigit first →
 digits_written first [] digit = record { text = first ∷ []; parts = refl; number = (digit, refl) }
 digits_written first (byte ∷ rest) digit = elim (cases_Bool (nat_lt 0 (first - 48) && is_ascii_digit byte)) [
   | inl both ↦
-      let tests = and_parts (nat_lt 0 (first - 48)) (is_ascii_digit byte) both in
-      let high = is_some (first - 48) tests.0 in
-      rw both (record {
-        text = first ∷ byte ∷ [];
-        parts = refl;
-        number = (digit, (λ zero. omega (arith, high, zero)), is_digit byte tests.1, refl);
-      })
+      rw both (record { text = first ∷ byte ∷ []; parts = refl; number = grind (arith, nat_tests) })
   | inr one ↦ rw one (record { text = first ∷ []; parts = refl; number = (digit, refl) })
 ]
 
@@ -79,20 +62,10 @@ EndsNumber (byte ∷ rest) = ¬ IsAsciiDigit byte
 -- what is written is read
 pub number_is_read : (text : List ℕ) (n : ℕ) (rest : List ℕ) → IsNumber text n → EndsNumber rest →
     number_at (text ++ rest) ≡ Some (n, rest)
-number_is_read [] n rest h ends = absurd h
-number_is_read (ones ∷ []) n [] h ends = rw (passes_as_digit ones h.0) (ap (λ (m : ℕ). Some (m, [])) (sym h.1))
-number_is_read (ones ∷ []) n (byte ∷ rest) h ends =
-    rw (passes_as_digit ones h.0, and_right (nat_lt 0 (ones - 48)) (is_ascii_digit byte) (fails_as_digit byte ends))
-    (ap (λ (m : ℕ). Some (m, byte ∷ rest)) (sym h.1))
-number_is_read (tens ∷ ones ∷ []) n rest h ends =
-    let some : 0 < tens - 48 = omega (arith, h.0, h.1) in
-    rw (passes_as_digit tens h.0, both_true (lt-ltb 0 (tens - 48) some) (passes_as_digit ones h.2))
-    (ap (λ (m : ℕ). Some (m, rest)) (sym h.3))
-number_is_read (a ∷ b ∷ c ∷ text) n rest h ends = absurd h
+number_is_read text n rest h ends = grind (arith, nat_tests)
 
 pub number_has_bytes : (text : List ℕ) (n : ℕ) → IsNumber text n → 0 < length text
-number_has_bytes [] n h = absurd h
-number_has_bytes (byte ∷ text) n h = omega arith
+number_has_bytes text n h = grind arith
 
 -- the bytes after a number are fewer
 pub number_shorter : (bytes : List ℕ) (found : ℕ × List ℕ) → number_at bytes ≡ Some found → length found.1 < length bytes
@@ -104,35 +77,14 @@ number_shorter bytes found e =
 
 -- a number is written in its decimal digits
 pub number_text : (text : List ℕ) (n : ℕ) → IsNumber text n → text ≡ decimal n
-number_text [] n h = absurd h
-number_text (ones ∷ []) n h =
-    let digit : ones ≡ 48 + n = omega (arith, h.0, h.1) in
-    ap (λ d. d ∷ []) digit ∙ sym (decimal_digit n (omega (arith, h.0, h.1)))
-number_text (tens ∷ ones ∷ []) n h =
-    let high : n / 10 ≡ tens - 48 = omega (arith, h.0, h.1, h.2, h.3) in
-    let first : tens ≡ 48 + n / 10 = omega (arith, h.0, high) in
-    let second : ones ≡ 48 + n % 10 = omega (arith, h.0, h.1, h.2, h.3) in
-    let front : decimal (n / 10) ≡ (48 + n / 10) ∷ [] = decimal_digit (n / 10) (omega (arith, h.0, high)) in
-    let step : decimal n ≡ decimal (n / 10) ++ ((48 + n % 10) ∷ []) =
-    decimal_step n (omega (arith, h.0, h.1, h.3)) (omega (arith, h.0, h.2, h.3)) in
-    ap₂ (λ (a b : ℕ). a ∷ b ∷ []) first second ∙ sym (step ∙ ap (λ (t : List ℕ). t ++ ((48 + n % 10) ∷ [])) front)
-number_text (a ∷ b ∷ c ∷ rest) n h = absurd h
+number_text text n h = grind (arith, decimal_digit, decimal_step)
 
 pub number_low : (text : List ℕ) (n : ℕ) → IsNumber text n → n ≤ 99
-number_low [] n h = absurd h
-number_low (ones ∷ []) n h = omega (arith, h.0, h.1)
-number_low (tens ∷ ones ∷ []) n h = omega (arith, h.0, h.2, h.3)
-number_low (a ∷ b ∷ c ∷ rest) n h = absurd h
+number_low text n h = grind arith
 
 -- the decimal digits of a number of at most two write it
 pub decimal_is_number : (n : ℕ) → n ≤ 99 → IsNumber (decimal n) n
-decimal_is_number n low = elim (cases_lt n 10) [
-  | inl lt ↦ rw (decimal_digit n lt) ((omega arith, omega arith), omega arith)
-  | inr le ↦
-      let high : n / 10 < 10 = omega arith in
-      rw (decimal_step n le (omega arith), decimal_digit (n / 10) high)
-      ((omega arith, omega arith), (λ z. omega arith), (omega arith, omega arith), omega arith)
-]
+decimal_is_number n low = grind (arith, decimal_digit, decimal_step)
 
 -- ==== What writes a side, and how it is read, house by house
 
@@ -141,13 +93,11 @@ decimal_is_number n low = elim (cases_lt n 10) [
 -- the value of a step that succeeded
 pub bind_some : {A B : Type 0} (r : Option A) (f : A → Option B) (y : B) → (r >>= f) ≡ Some y → (x : A)
     × ((r ≡ Some x) × (f x ≡ Some y))
-bind_some None f y e = absurd cc
-bind_some (Some x) f y e = (x, (refl, e))
+bind_some r f y e = grind arith
 
 -- a test that passed
 pub test_some : {A : Type 0} (b : Bool) (r : Option A) (y : A) → cond b r None ≡ Some y → (b ≡ true) × (r ≡ Some y)
-test_some true r y e = (refl, e)
-test_some false r y e = absurd cc
+test_some b r y e = grind arith
 
 -- ---- what is read is written
 
@@ -314,11 +264,7 @@ begins_taking bytes side has none = record {
 -- no number follows
 pub no_house : {bytes : List ℕ} {side : Side} {rest : List ℕ} → IsTaking bytes side rest → number_at rest ≡ None →
     side_at bytes ≡ None
-no_house {bytes} {side} {rest} so_far none = so_far.goes_on ∙ go so_far.steps
-  where
-    go : (i : ℕ) → side_from i so_far.houses rest ≡ None
-    go zero = refl
-    go (suc i) = rw none refl
+no_house so_far none = grind (arith, so_far.goes_on)
 
 -- a number follows
 module _ {bytes : List ℕ} {side : Side} {rest : List ℕ} {n : ℕ} {after : List ℕ} (so_far : IsTaking bytes side rest)
@@ -327,13 +273,9 @@ module _ {bytes : List ℕ} {side : Side} {rest : List ℕ} {n : ℕ} {after : L
   houses = so_far.houses ++ n ∷ []
 
   pub goes_on_after : side_at bytes ≡ house_followed (store_at houses) (side_from (pred so_far.steps) houses) after
-  goes_on_after = so_far.goes_on ∙ go rest so_far.steps so_far.enough house
-    where
-      go : (r : List ℕ) (i : ℕ) → length r ≤ i → number_at r ≡ Some (n, after) →
-          side_from i so_far.houses r ≡ house_followed (store_at houses) (side_from (pred i) houses) after
-      go [] zero enough read = absurd cc
-      go (byte ∷ r) zero enough read = absurd (omega (arith, enough))
-      go r (suc i) enough read = rw read refl
+  goes_on_after =
+      let some = number_shorter rest (n, after) house in
+      grind (arith, some, so_far.goes_on, so_far.enough)
 
   pub nothing_follows : length after ≡ 0 → side_at bytes ≡ None
   nothing_follows none =
@@ -352,7 +294,7 @@ module _ {bytes : List ℕ} {side : Side} {rest : List ℕ} {n : ℕ} {after : L
     houses = houses;
     steps = pred so_far.steps;
     room = omega (arith, so_far.room, one, shorter, ap length is);
-    enough = go so_far.steps so_far.enough;
+    enough = omega (arith, so_far.enough, shorter, ap length is);
     has = has;
     goes_on = goes_on_after ∙ rw (is, comma_is) refl;
   }
@@ -360,40 +302,18 @@ module _ {bytes : List ℕ} {side : Side} {rest : List ℕ} {n : ℕ} {after : L
       shorter : length after < length rest
       shorter = number_shorter rest (n, after) house
 
-      go : (i : ℕ) → length rest ≤ i → length more ≤ pred i
-      go zero enough = omega (arith, enough, shorter)
-      go (suc i) enough = omega (arith, enough, shorter, ap length is)
-
 -- ==== What writes a position, and what it is read as
 
 -- ---- endings
 
 pub ending_is_read : (rule : Rule) → rule_of (ending_of rule) ≡ Some rule
-ending_is_read Classic = refl
-ending_is_read EmptyCapture = refl
+ending_is_read rule = grind arith
 
 ending_is_written : (bytes : List ℕ) (rule : Rule) → rule_of bytes ≡ Some rule → bytes ≡ ending_of rule
-ending_is_written [] rule e = let is : Classic ≡ rule = cc e in ap ending_of is
-ending_is_written (mark ∷ []) rule e = absurd cc
-ending_is_written (mark ∷ byte ∷ []) rule e =
-    let read = cond_some (mark == space && byte == 101) EmptyCapture rule e in
-    let tests = and_parts (mark == space) (byte == 101) read.0 in
-    let first : mark ≡ space = eqb-true mark space tests.0 in
-    let second : byte ≡ 101 = eqb-true byte 101 tests.1 in
-    rw (first, second) (ap ending_of read.1)
-ending_is_written (a ∷ b ∷ c ∷ rest) rule e = absurd cc
-
--- bytes that are no ending name no rule
-pub no_rule : (bytes : List ℕ) → ((rule : Rule) → bytes ≡ ending_of rule → ⊥) → rule_of bytes ≡ None
-no_rule bytes none =
-    (elim (rule_of bytes) as (λ (r : Option Rule). rule_of bytes ≡ r → r ≡ None) [
-      | None ↦ λ e. refl
-      | Some rule ↦ λ e. absurd (none rule (ending_is_written bytes rule e))
-    ]) refl
+ending_is_written bytes rule e = grind (arith, nat_tests)
 
 ending_ends : (rule : Rule) → EndsNumber (ending_of rule)
-ending_ends Classic = tt
-ending_ends EmptyCapture = λ digit. omega (arith, digit)
+ending_ends rule = grind arith
 
 -- ---- positions
 
@@ -482,20 +402,14 @@ IsReading line (Err fault) = HasFault line fault
 -- ---- every line is read, or has a fault
 
 same_order : (a b : LineFault) → order_of a ≡ order_of b → a ≡ b
-same_order Long Long same = refl
-same_order Empty Empty same = refl
-same_order Shape Shape same = refl
-same_order Houses Houses same = refl
-same_order Seeds Seeds same = refl
-same_order a b same = absurd (omega arith)
+same_order a b same = grind arith
 
 -- none of the faults before this place holds
 abbrev NoneBefore : List ℕ → ℕ → Type 0
 NoneBefore text n = (earlier : LineFault) → order_of earlier < n → ¬ Holds earlier text
 
 none_at_first : (text : List ℕ) → NoneBefore text 1
-none_at_first text Long low = absurd (omega arith)
-none_at_first text earlier low = absurd (omega arith)
+none_at_first text earlier low = grind arith
 
 -- nor does the one at it
 nor_this : {text : List ℕ} (fault : LineFault) → NoneBefore text (order_of fault) → ¬ Holds fault text →
@@ -583,13 +497,8 @@ no_fault line p reads Seeds many =
     omega (arith, ap seeds_in_houses same, many.1.1, reads.few_seeds)
 
 one_fault : (line : List ℕ) (a b : LineFault) → HasFault line a → HasFault line b → a ≡ b
-one_fault line a b first second = elim (cases_lt (order_of a) (order_of b)) [
-  | inl less ↦ absurd (second.first a less first.holds)
-  | inr more ↦ elim (cases_lt (order_of b) (order_of a)) [
-    | inl less ↦ absurd (first.first b less second.holds)
-    | inr same ↦ same_order a b (omega arith)
-  ]
-]
+one_fault line a b first second =
+    grind (arith, same_order a b, first.first b, second.first a, first.holds, second.holds)
 
 one_reading : (line : List ℕ) (r s : Result Position LineFault) → IsReading line r → IsReading line s → r ≡ s
 one_reading line (Ok p) (Ok q) first second = ap (λ (p : Position). Ok p) (reads_once line p q first second)
@@ -627,10 +536,7 @@ without_cr-append (first ∷ second ∷ text) byte rest =
 
 -- a number does not end in a CR
 pub number_ends_without_cr : (byte : ℕ) (text : List ℕ) (n : ℕ) → IsNumber text n → without_cr (byte ∷ text) ≡ byte ∷ text
-number_ends_without_cr byte [] n h = absurd h
-number_ends_without_cr byte (ones ∷ []) n h = rw (ne_eqb ones 13 (λ e. omega (arith, h.0))) refl
-number_ends_without_cr byte (tens ∷ ones ∷ []) n h = rw (ne_eqb ones 13 (λ e. omega (arith, h.2))) refl
-number_ends_without_cr byte (a ∷ b ∷ c ∷ rest) n h = absurd h
+number_ends_without_cr byte text n h = grind (arith, nat_tests)
 
 -- ==== The text of a position is the line that writes it
 
@@ -677,30 +583,16 @@ result_of_reading line (Err fault) is = record { reads = tt; text = tt; stores =
 
 -- ---- the text of a position writes it
 
--- every number has at most two digits
-abbrev pub AllShort : List ℕ → Type 0
-AllShort houses = All (λ n. n ≤ 99) houses
-
-first_short : (n : ℕ) (houses : List ℕ) → AllShort (n ∷ houses) → n ≤ 99
-first_short n houses short = All-head (λ (x : ℕ). x ≤ 99) n houses short
-
-others_short : (n : ℕ) (houses : List ℕ) → AllShort (n ∷ houses) → AllShort houses
-others_short n houses short = All-tail (λ (x : ℕ). x ≤ 99) n houses short
-
-short_from_sum : (houses : List ℕ) → sum houses ≤ 99 → AllShort houses
-short_from_sum houses few =
-    All-from_get_or (λ (n : ℕ). n ≤ 99) houses 0
-    (λ i within. omega (arith, few, get_or-le-sum_by (λ (n : ℕ). n) houses i 0 within))
-
-text_are_houses : (houses : List ℕ) → 1 ≤ length houses → AllShort houses →
+text_are_houses : (houses : List ℕ) → 1 ≤ length houses → sum houses ≤ 99 →
     AreHouses (join_with_byte comma (map decimal houses)) houses
-text_are_houses [] some short = absurd (omega (arith, some))
-text_are_houses (n ∷ []) some short = decimal_is_number n (first_short n [] short)
-text_are_houses (n ∷ m ∷ houses) some short =
-    let rest = text_are_houses (m ∷ houses) (omega arith) (others_short n (m ∷ houses) short) in
-    (decimal n, (join_with_byte comma (map decimal (m ∷ houses)), (refl, decimal_is_number n (first_short n (m ∷ houses) short), rest)))
+text_are_houses [] some few = absurd (omega (arith, some))
+text_are_houses (n ∷ []) some few = decimal_is_number n (omega arith)
+text_are_houses (n ∷ m ∷ houses) some few =
+    let all = sum_by-cons (λ (x : ℕ). x) n (m ∷ houses) in
+    let rest = text_are_houses (m ∷ houses) (omega arith) (omega (arith, all)) in
+    (decimal n, (join_with_byte comma (map decimal (m ∷ houses)), (refl, decimal_is_number n (omega (arith, all)), rest)))
 
-pub text_is_side : (houses : List ℕ) (store : ℕ) → 1 ≤ length houses → AllShort houses → store ≤ 99 →
+pub text_is_side : (houses : List ℕ) (store : ℕ) → 1 ≤ length houses → sum houses ≤ 99 → store ≤ 99 →
     IsSide (side_text houses store) houses store
 text_is_side houses store some short low = record {
   houses_text = join_with_byte comma (map decimal houses);
@@ -716,34 +608,34 @@ text_is_line p limits own_low other_low = record {
   own_text = side_text p.own p.own_store;
   other_text = side_text p.other p.other_store;
   parts = refl;
-  own_side = text_is_side p.own p.own_store limits.some_house (short_from_sum p.own (omega (arith, limits.few_seeds))) own_low;
+  own_side = text_is_side p.own p.own_store limits.some_house (omega (arith, limits.few_seeds)) own_low;
   other_side = text_is_side p.other p.other_store (omega (arith, limits.some_house, limits.same_side))
-      (short_from_sum p.other (omega (arith, limits.few_seeds))) other_low;
+      (omega (arith, limits.few_seeds)) other_low;
 }
 
 -- ---- how long a text is
 
-houses_text_length : (houses : List ℕ) → AllShort houses → length (join_with_byte comma (map decimal houses)) ≤ 3 * length houses
-houses_text_length [] short = omega arith
-houses_text_length (n ∷ []) short =
-    let low = first_short n [] short in
-    omega (arith, length-decimal-le 2 n (lit< tt) (omega (arith, low)) (omega (arith, low)))
-houses_text_length (n ∷ m ∷ houses) short =
-    let low = first_short n (m ∷ houses) short in
-    let first = length-decimal-le 2 n (lit< tt) (omega (arith, low)) (omega (arith, low)) in
-    let rest = houses_text_length (m ∷ houses) (others_short n (m ∷ houses) short) in
+number_length : (n : ℕ) → n ≤ 99 → length (decimal n) ≤ 2
+number_length n low = length-decimal-le 2 n (lit< tt) (omega (arith, low)) (omega (arith, low))
+
+houses_text_length : (houses : List ℕ) → sum houses ≤ 99 → length (join_with_byte comma (map decimal houses)) ≤ 3 * length houses
+houses_text_length [] few = omega arith
+houses_text_length (n ∷ []) few = omega (arith, number_length n (omega arith))
+houses_text_length (n ∷ m ∷ houses) few =
+    let all = sum_by-cons (λ (x : ℕ). x) n (m ∷ houses) in
+    let rest = houses_text_length (m ∷ houses) (omega (arith, all)) in
+    let first = number_length n (omega (arith, all)) in
     omega (arith, first, rest, length-append (decimal n) (comma ∷ join_with_byte comma (map decimal (m ∷ houses))))
 
-side_text_length : (houses : List ℕ) (store : ℕ) → length houses ≤ 6 → AllShort houses → store ≤ 99 →
+side_text_length : (houses : List ℕ) (store : ℕ) → length houses ≤ 6 → sum houses ≤ 99 → store ≤ 99 →
     length (side_text houses store) ≤ 21
 side_text_length houses store few short low =
     let own = houses_text_length houses short in
-    let last = length-decimal-le 2 store (lit< tt) (omega (arith, low)) (omega (arith, low)) in
+    let last = number_length store low in
     omega (arith, few, own, last, length-append (join_with_byte comma (map decimal houses)) (slash ∷ decimal store))
 
 ending_length : (rule : Rule) → length (ending_of rule) ≤ 2
-ending_length Classic = omega arith
-ending_length EmptyCapture = omega arith
+ending_length rule = grind arith
 
 -- ---- the text of a position is read back
 
@@ -755,9 +647,9 @@ text_has_few_bytes p limits own_low other_low =
     let other = side_text p.other p.other_store in
     omega (
       arith,
-      side_text_length p.own p.own_store limits.at_most_six (short_from_sum p.own (omega (arith, limits.few_seeds))) own_low,
+      side_text_length p.own p.own_store limits.at_most_six (omega (arith, limits.few_seeds)) own_low,
       side_text_length p.other p.other_store (omega (arith, limits.at_most_six, limits.same_side))
-          (short_from_sum p.other (omega (arith, limits.few_seeds))) other_low,
+          (omega (arith, limits.few_seeds)) other_low,
       ending_length p.rule,
       length-append (own ++ space ∷ other) (ending_of p.rule),
       length-append own (space ∷ other),
@@ -801,10 +693,7 @@ last_or-append byte (other ∷ front) first rest = last_or-append other front fi
 
 -- a number ends in a digit
 number_ends_in_digit : (byte : ℕ) (text : List ℕ) (n : ℕ) → IsNumber text n → last_or byte text ≤ 57
-number_ends_in_digit byte [] n h = absurd h
-number_ends_in_digit byte (ones ∷ []) n h = omega (arith, h.0)
-number_ends_in_digit byte (tens ∷ ones ∷ []) n h = omega (arith, h.2)
-number_ends_in_digit byte (a ∷ b ∷ c ∷ rest) n h = absurd h
+number_ends_in_digit byte text n h = grind arith
 
 -- so does a side
 side_ends_in_digit : (byte : ℕ) (text houses : List ℕ) (store : ℕ) → IsSide text houses store → last_or byte text ≤ 57

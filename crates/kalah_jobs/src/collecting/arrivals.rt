@@ -89,6 +89,7 @@ impl Arrivals {
     }
 
     // Returns the next line that is ready and was not taken.
+    #[tactic(auto, using(crate::proofs::CollectingLemmas::fronts))]
     pub(crate) fn take(&mut self) -> Option<Taken>
         ensures { MatchOption result (HasNoNext self.old × (self.new ≡ self.old))
             (λ taken. IsNext self.old taken × (self.new ≡ with_one_taken self.old)) }

@@ -1,6 +1,7 @@
 //! The collector: outcomes come in any order, and the answers of each file are returned in the order of its lines.
-ghost use Rattle.std.specs.Prelude.{◌≡◌, ◌<◌, ◌↔◌, IfOk, IsTrue, All, length, map};
+ghost use Rattle.std.specs.Prelude.{◌≡◌, ◌<◌, ◌↔◌, IfOk, IsTrue, MatchOption, All, length, map};
 ghost use Rattle.kalah_jobs.specs.Collecting.CollectorState.{state_of, line_count, HasEnded, new_files, HasLinesOf};
+ghost use Rattle.kalah_jobs.specs.Collecting.Refusals.{IsWanted, IsRefusedFor};
 ghost use Rattle.kalah_jobs.specs.Collecting.CollectorEvents.{Offers, Takes};
 
 use crate::collecting::arrivals::Arrivals;
@@ -34,6 +35,7 @@ impl Collector {
     /// Makes a collector for these jobs, to which nothing has come. It allocates all its memory here.
     ///
     /// Fails with `AllocError` only if memory was refused.
+    #[tactic(auto, using(crate::proofs::CollectingLemmas::new_counts))]
     pub fn new(alloc: Global, jobs: &Jobs) -> Result<Collector, AllocError>
         ensures empty { IfOk result (λ c. c ≡ new_files jobs.now) }
         ensures counts { IfOk result (λ c. HasLinesOf jobs.now c) }
@@ -50,33 +52,50 @@ impl Collector {
     ///
     /// Fails with the first `Refusal` that holds, and then changes nothing: `NoSuchFile`, `FileEnded`, `NoSuchLine`, `WrongPosition`,
     /// `Double`.
+    #[tactic(auto, using(crate::proofs::CollectingLemmas::counts))]
     pub fn offer(&mut self, jobs: &Jobs, outcome: Outcome) -> Result<u32, Refusal>
         requires { HasLinesOf jobs.now self.old }
         ensures offers { Offers jobs.now self.old outcome result self.new }
         ensures counts { HasLinesOf jobs.now self.new }
     {
-        if outcome.file() as usize >= self.files.len() {
-            return Err(Refusal::NoSuchFile);
+        match self.refusal(jobs, &outcome) {
+            Some(refusal) => Err(refusal),
+            None => {
+                let file = &mut self.files[outcome.file() as usize];
+                Ok(file.accept(outcome.line(), outcome.answer()))
+            }
         }
-        let file = &mut self.files[outcome.file() as usize];
+    }
+
+    // Returns the first refusal of an outcome that holds, or `None` if it is wanted.
+    fn refusal(&self, jobs: &Jobs, outcome: &Outcome) -> Option<Refusal>
+        requires { HasLinesOf jobs.now self.now }
+        ensures { MatchOption result (IsWanted jobs.now self.now outcome.now)
+            (λ refusal. IsRefusedFor jobs.now self.now outcome.now refusal) }
+    {
+        let (f, line) = (outcome.file(), outcome.line());
+        if f as usize >= self.files.len() {
+            return Some(Refusal::NoSuchFile);
+        }
+        let file = &self.files[f as usize];
         if file.ended() {
-            return Err(Refusal::FileEnded);
+            return Some(Refusal::FileEnded);
         }
-        if !file.has_line(outcome.line()) {
-            return Err(Refusal::NoSuchLine);
+        if !file.has_line(line) {
+            return Some(Refusal::NoSuchLine);
         }
-        let own = jobs.entry(outcome.file(), outcome.line());
-        if !is_same_entry(own, &outcome.entry()) {
-            return Err(Refusal::WrongPosition);
+        if !is_same_entry(jobs.entry(f, line), &outcome.entry()) {
+            return Some(Refusal::WrongPosition);
         }
-        if file.has_come(outcome.line()) {
-            return Err(Refusal::Double);
+        if file.has_come(line) {
+            return Some(Refusal::Double);
         }
-        Ok(file.accept(outcome.line(), outcome.answer()))
+        None
     }
 
     /// Takes the first line of a file that is ready and was not taken, with its answer. Returns `None`, with nothing changed, if there
     /// is no such line or no such file.
+    #[tactic(auto, using(crate::proofs::CollectingLemmas::counts))]
     pub fn take(&mut self, f: u32) -> Option<Taken>
         ensures takes { Takes self.old f result self.new }
         ensures counts { map line_count self.new ≡ map line_count self.old }

@@ -10,6 +10,7 @@ pub fn answers_in_one_way()
 {}
 
 /// After any list of offers and takes, what came, how far each file has come and what was taken are as the list determines.
+#[tactic(auto, using(crate::proofs::CollectingLemmas::law_holds))]
 pub fn keeps_its_law()
     ensures { CollectorLaw }
 {}
@@ -21,6 +22,7 @@ pub fn gets_each_job_once()
 {}
 
 /// If each job is offered once, in any order, all offers are accepted, and in the end every line is ready.
+#[tactic(auto, using(crate::proofs::CollectingLemmas::offers_law, crate::proofs::CollectingLemmas::fronts_law))]
 pub fn accepts_each_job_once()
     ensures accepted { OffersLaw }
     ensures ready { FrontsLaw }

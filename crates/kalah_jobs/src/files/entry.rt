@@ -60,6 +60,17 @@ impl Entry {
     }
 }
 
+// Returns whether two boards are equal.
+#[tactic(auto, using(crate::proofs::FilesLemmas::same_boards))]
+#[inline(always)]
+fn is_same_board(p: &Board, q: &Board) -> bool
+    ensures { IsTrue result ↔ (p.now ≡ q.now) }
+{
+    // Their limits: by these, equal houses have equal keys.
+    let _ = (p.m(), q.m());
+    *p == *q
+}
+
 // Returns whether two entries are equal.
 pub(crate) fn is_same_entry(a: &Entry, b: &Entry) -> bool
     ensures { IsTrue result ↔ (a.now ≡ b.now) }
@@ -67,11 +78,7 @@ pub(crate) fn is_same_entry(a: &Entry, b: &Entry) -> bool
     match (a, b) {
         (Entry::Position(p), Entry::Position(q))
         | (Entry::ValuesOf(p), Entry::ValuesOf(q))
-        | (Entry::StepsOf(p), Entry::StepsOf(q)) => {
-            // Their limits: by these, equal houses have equal keys.
-            let _ = (p.m(), q.m());
-            *p == *q
-        }
+        | (Entry::StepsOf(p), Entry::StepsOf(q)) => is_same_board(p, q),
         (Entry::Bad(x), Entry::Bad(y)) => x == y,
         _ => false,
     }

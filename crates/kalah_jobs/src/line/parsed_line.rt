@@ -2,6 +2,7 @@
 ghost use Rattle.std.specs.Prelude.{◌≡◌, ◌≤◌, length, IfSome, IfNone, Some, None};
 ghost use Rattle.kalah_rules.specs.declared.rule.Rule.{Rule as AnyRule};
 ghost use Rattle.kalah_jobs.specs.Line.Line.{ending_of};
+ghost use Rattle.kalah_jobs.specs.Line.Reading.{rule_of};
 
 use crate::line::line_fault::LineFault;
 use crate::line::side::Side;
@@ -19,6 +20,7 @@ pub(crate) struct ParsedLine {
 fn read_rule(ending: &[u8]) -> Option<Rule>
     ensures is { IfSome result (λ rule. ending.now ≡ ending_of rule) }
     ensures every { (rule : AnyRule) → ending.now ≡ ending_of rule → result ≡ Some rule }
+    ensures exact { result ≡ rule_of ending.now }
 {
     match ending {
         [] => Some(Rule::Classic),

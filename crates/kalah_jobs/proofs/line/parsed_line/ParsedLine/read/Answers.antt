@@ -1,6 +1,5 @@
-use Rattle.std.proofs.Common.{◌∙◌, length, refl, ap, arith}
-use Rattle.kalah_jobs.proofs.LineLemmas.{made, no_rule, ending_is_read, sides_are_no_line, sides_are_written, written_is_line, number_low, houses_are_some, side_shorter}
-use Rattle.kalah_jobs.specs.Line.Reading.{rule_of}
+use Rattle.std.proofs.Common.{length, refl, ap, sym, arith}
+use Rattle.kalah_jobs.proofs.LineLemmas.{made, sides_are_no_line, sides_are_written, written_is_line, number_low, houses_are_some, side_shorter}
 use Rattle.kalah_jobs.proofs.line.parsed_line.ParsedLine.read.Goals as goal
 
 pub take-requires-2 : goal.take-requires-2
@@ -9,10 +8,9 @@ take-requires-2 c =
 
 pub returns-in_err-rule-clause-none : goal.returns-in_err-rule-clause-none
 returns-in_err-rule-clause-none c =
-    let none = no_rule c.in_ok-other.rest.now (λ rule is. absurd (cc (c.in_err-rule.ensures.every rule is))) in
     rw c.from_residual-in_err-rule.ensures
     (sides_are_no_line c.args.text.now c.in_ok-mark.rest.now c.in_ok-own.ensures.is.1.1 c.in_ok-mark.ensures.cases.0
-    c.if-mark-ne32.false c.in_ok-other.ensures.is.1.1 none)
+    c.if-mark-ne32.false c.in_ok-other.ensures.is.1.1 (sym c.in_err-rule.ensures.exact))
 
 pub returns-clause-is : goal.returns-clause-is
 returns-clause-is c =
@@ -20,10 +18,9 @@ returns-clause-is c =
     let other = c.in_ok-other.ensures.is in
     let p = made (own.0, c.in_ok-own.own.store, c.in_ok-own.rest.now) (other.0, c.in_ok-other.other.store, c.in_ok-other.rest.now)
     c.in_ok-rule.rule in
-    let rule = ap rule_of c.in_ok-rule.ensures.is ∙ ending_is_read p.rule in
     let written =
     sides_are_written c.args.text.now c.in_ok-mark.rest.now own.1.1 c.in_ok-mark.ensures.cases.0 c.if-mark-ne32.false other.1.1
-    rule in
+    (sym c.in_ok-rule.ensures.exact) in
     let form = written_is_line c.args.text.now p written in (
       p,
       (
