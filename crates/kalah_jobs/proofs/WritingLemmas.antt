@@ -2,17 +2,11 @@
 use Rattle.std.proofs.Common.{ℕ, ◌<◌, ◌≤◌, ◌^◌, length, arith, ◌≡◌, zero, suc, List, ◌++◌, IsAscii, IsUtf8, subst, sym, refl, ◌+◌, [], ap, ◌∙◌, take, drop, append_assoc, ◌∷◌, map, get_or, flat_map, cond, ◌==◌, append-nil, add-one, Bool, true, false, codes, ap₂, ◌-◌, filter, length-append, inl, inr}
 use Rattle.std.specs.Fmt.{decimal, signed_decimal}
 use Rattle.std.proofs.lemmas.Fmt.{length-decimal-le, IsAscii-decimal, length_signed_le}
-use Rattle.kalah_jobs.specs.Line.LineFault.{word_of}
-use Rattle.kalah_jobs.specs.declared.line.line_fault.LineFault.{LineFault}
-use Rattle.kalah_jobs.specs.declared.line.line_fault.LineFault.TheVariants.{Long, Empty, Shape, Houses, Seeds}
 use Rattle.std.specs.Prelude.{decimal, replicate, Option, ◌↔◌, IsErr, Ok, Err, OnOk, Result, ℤ, pos, negsuc, nat_lt, slice_get, Some, if◌then◌else◌, sum_by, count_by}
 use Rattle.std.proofs.lemmas.Str.{IsUtf8-append, IsUtf8-from_ascii}
 use Rattle.std.proofs.lemmas.Str.Ascii.{IsAscii-nil, IsAscii-cons}
 use Rattle.kalah_jobs.specs.Line.Line.{space}
 use Rattle.kalah_rules.specs.Position.{Position, side_length, IsWithinLimits, IsSmallMargin, is_over, seeds}
-use Rattle.kalah_jobs.specs.Writing.Player.{houses_of}
-use Rattle.kalah_jobs.specs.declared.writing.player.Player.{Player}
-use Rattle.kalah_jobs.specs.declared.writing.player.Player.TheVariants.{Mover, Other}
 use Rattle.std.specs.Io.KnownBytes.{Appends, Keeps}
 use Rattle.std.proofs.KnownBytes.{Appends-kept, Appends-nil, Appends-trans}
 use Rattle.std.proofs.Math.Seq.{take-append-add}
@@ -60,13 +54,6 @@ margin_length n low = length-decimal-le 10 n (omega arith) (omega arith) (omega 
 pub byte_length : (n : ℕ) → n < 2 ^ 8 → length (decimal n) ≤ 3
 byte_length n low = length-decimal-le 3 n (omega arith) (omega arith) (omega arith)
 
-pub fault_length : (fault : LineFault) → length (word_of fault) ≤ 6
-fault_length Long = omega arith
-fault_length Empty = omega arith
-fault_length Shape = omega arith
-fault_length Houses = omega arith
-fault_length Seeds = omega arith
-
 -- ==== What is put together on the stack is text
 
 -- a piece of text before a text
@@ -82,12 +69,6 @@ blanks_are_ascii (suc n) = IsAscii-cons space (replicate n space) (omega arith) 
 
 pub blanks_are_text : (n : ℕ) → IsUtf8 (replicate n space)
 blanks_are_text n = IsUtf8-from_ascii (replicate n space) (blanks_are_ascii n)
-
--- ==== The houses of the two players
-
-pub length-houses_of : (player : Player) (p : Position) → IsWithinLimits p → length (houses_of player p) ≡ side_length p
-length-houses_of Mover p limits = refl
-length-houses_of Other p limits = limits.same_side
 
 -- ==== Prefixes of what was to be written
 
@@ -119,9 +100,6 @@ start_longer old new bs cs start =
 pub start_kept : (old between new : Option (List ℕ)) (bs : List ℕ) → AppendsStart old between bs → Keeps between new
     → AppendsStart old new bs
 start_kept old between new bs start kept = (start.0, Appends-kept old between new (take start.0 bs) start.1 kept)
-
--- prefixes, by each way to write one
-pub ruleset starts = (start_none, start_kept_all, start_then, start_longer, start_kept)
 
 -- ==== The lines of moves, one after another
 
@@ -310,20 +288,6 @@ module _ (text : ℕ → List ℕ) where
   text_more moves i house within is =
       ap (λ n. texts_in_line (take n moves)) (add-one i) ∙ one_text_more moves i within
       ∙ ap₂ (λ l h. texts_in_line (take i moves) ++ (l ++ text h)) (before_by_test (codes "; ") i) (sym is)
-
-  -- the first texts are followed by the others
-  pub texts_begin : (moves : List ℕ) (i : ℕ) → i < length moves
-      → (rest : List ℕ) × (texts_in_line moves ≡ texts_in_line (take (suc i) moves) ++ rest)
-  texts_begin [] i within = absurd (omega (arith, within))
-  texts_begin (h ∷ []) zero within = ([], sym (append-nil (text h)))
-  texts_begin (h ∷ []) (suc i) within = absurd (omega (arith, within))
-  texts_begin (h ∷ k ∷ moves) zero within = (codes "; " ++ texts_in_line (k ∷ moves), refl)
-  texts_begin (h ∷ k ∷ moves) (suc i) within =
-      let more = texts_begin (k ∷ moves) i (omega (arith, within)) in (
-        more.0,
-        ap (λ l. text h ++ (codes "; " ++ l)) more.1
-            ∙ sym (append_assoc (text h) (codes "; " ++ texts_in_line (take (suc i) (k ∷ moves))) more.0),
-      )
 
 -- ==== Texts with a byte between any two, put together from the last on
 
