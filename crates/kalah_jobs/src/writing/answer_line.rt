@@ -19,6 +19,7 @@ use std::alloc::{AllocError, Global};
 use std::io;
 
 // Puts the value of a move, with its house before it, in front of the text.
+#[tactic(auto, using(crate::proofs::WritingLemmas::byte_length))]
 fn prepend_value(text: &mut StackText, value: MoveValue)
     requires { length text.old + 15 ≤ ROOM }
     ensures value { text.new ≡ value_words value ++ text.old }
@@ -48,6 +49,7 @@ fn prepend_values(text: &mut StackText, values: &MoveValues)
 }
 
 // Puts an answer in words in front of the text.
+#[tactic(auto, using(crate::proofs::WritingLemmas::byte_length))]
 #[inline(always)]
 fn prepend_words(text: &mut StackText, answer: &Answer)
     requires room { length text.old + 96 ≤ ROOM }

@@ -101,6 +101,7 @@ impl StackText {
     }
 
     // Puts a margin in digits, with `-` before it if it is negative, in front of the text.
+    #[tactic(auto, using(crate::proofs::WritingLemmas::margin_length))]
     #[inline]
     pub(crate) fn prepend_margin(&mut self, margin: i32)
         requires { length self.old + 11 ≤ ROOM }
