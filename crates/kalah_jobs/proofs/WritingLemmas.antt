@@ -8,15 +8,19 @@ use Rattle.std.proofs.lemmas.Str.Ascii.{IsAscii-nil, IsAscii-cons}
 use Rattle.kalah_jobs.specs.Line.Line.{space}
 use Rattle.kalah_rules.specs.Position.{Position, side_length, IsWithinLimits, IsSmallMargin, is_over, seeds}
 use Rattle.std.specs.Io.KnownBytes.{Appends, Keeps}
+use Rattle.kalah_jobs.specs.Writing.Player.{houses_of}
+use Rattle.kalah_jobs.specs.declared.writing.player.Player.{Player}
+use Rattle.kalah_jobs.specs.declared.writing.player.Player.TheVariants.{Mover, Other}
 use Rattle.std.proofs.KnownBytes.{Appends-kept, Appends-nil, Appends-trans}
 use Rattle.std.proofs.Math.Seq.{take-append-add}
+use Rattle.std.proofs.Math.ListN.{drop_of_length-le}
 use Rattle.std.proofs.lemmas.List.{take-append-drop, flat_map_more, take_more, take_all, drop_more}
 use Rattle.kalah_jobs.specs.Writing.Given.{AppendsStart, WasGiven}
 use Rattle.std.specs.List.{join_with_byte, range_with_len, flat_map, enumerate_from, onto_first, count_by}
 use Rattle.std.proofs.lemmas.Bool.{ne_eqb, cases_eq}
 use Rattle.std.proofs.lemmas.Grind.{flat_map-append}
 use Rattle.kalah_jobs.specs.Files.Lines.{line_feed, lines_of}
-use Rattle.kalah_jobs.specs.Writing.Answer.{in_one_line, answer_line, answer_words, place_words, IsOfOneLine, answer_of, is_faulty_entry}
+use Rattle.kalah_jobs.specs.Writing.Answer.{in_one_line, answer_line, answer_words, place_words, value_words, values_words, IsOfOneLine, answer_of, is_faulty_entry}
 use Rattle.kalah_jobs.specs.Writing.Picture.{cell, empty_columns}
 use Rattle.kalah_jobs.specs.declared.writing.answer.Answer.{Answer}
 use Rattle.kalah_jobs.specs.declared.writing.answer.Answer.TheVariants.{Best, Over, Values, Steps, Fault}
@@ -291,40 +295,28 @@ module _ (text : ℕ → List ℕ) where
 
 -- ==== Texts with a byte between any two, put together from the last on
 
-module _ {A : Type 0} (byte : ℕ) (text_of : A → List ℕ) where
-  -- the texts of the items from item i on
-  abbrev pub joined_from : List A → ℕ → List ℕ
-  joined_from items i = join_with_byte byte (map text_of (drop i items))
+-- the items from place i on begin with the one at place i
+pub items_from : {A : Type 0} (items : List A) (i : ℕ) (item : A) → slice_get items i ≡ Some item → drop i items ≡ item ∷ drop (i + 1) items
+items_from items i item is =
+    drop_more items i item (slice_get_within items i item is)
+    ∙ ap (λ x. x ∷ drop (i + 1) items) (get_or_from_slice_get items i item item is)
 
-  -- the last text
-  pub last_joined : (items : List A) (i : ℕ) (item other : A) → get_or items i other ≡ item → length items ≡ i + 1 →
-      text_of item ≡ joined_from items i
-  last_joined [] i item other is many = absurd (omega arith)
-  last_joined (x ∷ []) zero item other is many = ap text_of (sym is)
-  last_joined (x ∷ y ∷ items) zero item other is many = absurd (omega arith)
-  last_joined (x ∷ items) (suc i) item other is many = last_joined items i item other is (omega arith)
+module _ (values : List MoveValue) (i : ℕ) (v : MoveValue) (is : slice_get values i ≡ Some v) where
+  pub last_value : i + 1 ≡ length values → values_words (drop i values) ≡ value_words v
+  last_value many = rw (items_from values i v is, drop_of_length-le values {i = i + 1} (omega arith)) refl
 
-  -- one text more in front
-  joined_before : (items : List A) (i : ℕ) (item other : A) → get_or items i other ≡ item → suc i < length items →
-      text_of item ++ byte ∷ joined_from items (suc i) ≡ joined_from items i
-  joined_before [] i item other is within = absurd (omega arith)
-  joined_before (x ∷ []) zero item other is within = absurd (omega arith)
-  joined_before (x ∷ y ∷ items) zero item other is within =
-      ap (λ z. text_of z ++ byte ∷ join_with_byte byte (map text_of (y ∷ items))) (sym is)
-  joined_before (x ∷ items) (suc i) item other is within = joined_before items i item other is (omega arith)
+  pub value_before : i + 1 < length values → values_words (drop i values) ≡ value_words v ++ space ∷ values_words (drop (i + 1) values)
+  value_before within = rw (items_from values i v is, drop_more values (i + 1) v within) refl
 
-  -- one text and the byte before what stands there
-  pub before_those : (items : List A) (i : ℕ) (item other : A) (old after : List ℕ) → get_or items (i - 1) other ≡ item
-      → 0 < i →
-      i < length items →
-      after ≡ text_of item ++ byte ∷ (joined_from items i ++ old) → after ≡ joined_from items (i - 1) ++ old
-  before_those items i item other old after is low within e =
-      let place : suc (i - 1) ≡ i = omega arith in
-      let more = rw place at (joined_before items (i - 1) item other is (omega arith)) in
-      e ∙ sym (append_assoc (text_of item) (byte ∷ joined_from items i) old) ∙ ap (λ ws. ws ++ old) more
+-- the number at place j, which is i, before those after it
+pub number_before : (byte : ℕ) (numbers : List ℕ) (i j n : ℕ) → n ≡ get_or numbers j 0 → j ≡ i → i + 1 < length numbers →
+    join_with_byte byte (map decimal (drop i numbers)) ≡ decimal n ++ byte ∷ join_with_byte byte (map decimal (drop (i + 1) numbers))
+number_before byte numbers i j n is same within =
+    rw (drop_more numbers i 0 (omega arith), drop_more numbers (i + 1) 0 within, is, same) refl
 
--- what joining texts from the last on needs
-pub ruleset joins = (last_joined, before_those)
+pub length-houses_of : (player : Player) (p : Position) → IsWithinLimits p → length (houses_of player p) ≡ side_length p
+length-houses_of Mover p limits = refl
+length-houses_of Other p limits = limits.same_side
 
 -- ==== Columns of numbers: one more in front
 
@@ -380,12 +372,6 @@ value_room v old new small e = omega (arith, ap length e, length-append (signed_
 
 -- ---- one value more
 
--- the values from place i on begin with the one at place i
-pub values_from : (values : List MoveValue) (i : ℕ) (v : MoveValue) → slice_get values i ≡ Some v →
-    drop i values ≡ v ∷ drop (i + 1) values
-values_from values i v is =
-    drop_more values i v (slice_get_within values i v is) ∙ ap (λ w. w ∷ drop (i + 1) values) (get_or_from_slice_get values i v v is)
-
 -- the column of a value before those after it
 pub column_before : (filled : ℕ) (v : MoveValue) (vs : List MoveValue) (old row cell after : List ℕ) →
     row ≡ value_columns (v.house + 1) vs ++ old
@@ -410,7 +396,7 @@ pub next_value : (filled : ℕ) (values : List MoveValue) (i : ℕ) (v : MoveVal
     AscendFrom filled (drop i values)
     → AreSmall (drop i values) → IsNext filled values i v
 next_value filled values i v is ascend small =
-    let front = values_from values i v is in
+    let front = items_from values i v is in
     let ascending = subst (AscendFrom filled) front ascend in
     let smaller = subst AreSmall front small in
     let here = All-head IsSmallValue v (drop (i + 1) values) smaller in
@@ -462,7 +448,7 @@ pub ascend_from_none : (vs : List MoveValue) → AscendFrom 1 vs → AscendFrom 
 ascend_from_none vs ascend = ascend_later 0 1 vs (omega arith) ascend
 
 -- what writing the columns of values needs
-pub ruleset columns_of_values = (column_before, values_from)
+pub ruleset columns_of_values = (column_before, items_from)
 
 -- ==== What is stated of files and what is stated of their jobs is the same
 
