@@ -19,7 +19,6 @@ use std::alloc::{AllocError, Global};
 use std::io;
 
 // Puts the value of a move, with its house before it, in front of the text.
-#[tactic(auto, using(crate::proofs::WritingLemmas::byte_length))]
 fn prepend_value(text: &mut StackText, value: MoveValue)
     requires { length text.old + 15 ≤ ROOM }
     ensures value { text.new ≡ value_words value ++ text.old }
@@ -27,7 +26,7 @@ fn prepend_value(text: &mut StackText, value: MoveValue)
 {
     text.prepend_margin(i32::from(value.value));
     text.prepend(":");
-    text.prepend_number(u64::from(value.house));
+    text.prepend_byte(value.house);
 }
 
 // Puts the values of the moves from place `i` on, with a space between any two, in front of the text.
@@ -51,7 +50,6 @@ fn prepend_values(text: &mut StackText, values: &MoveValues, i: u8)
 }
 
 // Puts an answer in words in front of the text.
-#[tactic(auto, using(crate::proofs::WritingLemmas::byte_length))]
 #[inline(always)]
 fn prepend_words(text: &mut StackText, answer: &Answer)
     requires room { length text.old + 96 ≤ ROOM }
@@ -61,7 +59,7 @@ fn prepend_words(text: &mut StackText, answer: &Answer)
 {
     match *answer {
         Answer::Best { margin, house } => {
-            text.prepend_number(u64::from(house));
+            text.prepend_byte(house);
             text.prepend(" house ");
             text.prepend_margin(margin);
         }

@@ -9,7 +9,7 @@ use crate::writing::stack_text::StackText;
 
 /// Writes a house, which is at most 6, and the number of ways to play on after its move, as the line `1 42`. It allocates
 /// nothing. If the sink has failed it is not called. If it fails, a prefix of the line was written, and nothing else.
-#[tactic(auto, using(crate::proofs::WritingLemmas::number_length, crate::proofs::WritingLemmas::byte_length))]
+#[tactic(auto, using(crate::proofs::WritingLemmas::number_length))]
 pub fn write_ways<W: Sink>(out: &mut W, house: u8, ways: u64)
     requires { house ≤ most_houses }
     ensures { WasGiven W.written W.has_failed out.old out.new (ways_line house ways) }
@@ -18,7 +18,7 @@ pub fn write_ways<W: Sink>(out: &mut W, house: u8, ways: u64)
     text.prepend("\n");
     text.prepend_number(ways);
     text.prepend(" ");
-    text.prepend_number(u64::from(house));
+    text.prepend_byte(house);
     write_unless_failed(out, text.bytes());
 }
 

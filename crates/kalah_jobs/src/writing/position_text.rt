@@ -1,5 +1,5 @@
 //! Positions and steps as text.
-ghost use Rattle.std.specs.Prelude.{◌≡◌, ◌<◌, ◌≤◌, ◌+◌, ◌-◌, ◌*◌, ◌∷◌, [], ◌++◌, IfOk, drop, length, string_bytes};
+ghost use Rattle.std.specs.Prelude.{◌≡◌, ◌<◌, ◌≤◌, ◌+◌, ◌*◌, ◌∷◌, [], ◌++◌, IfOk, drop, length, string_bytes};
 ghost use Rattle.kalah_jobs.specs.Writing.Given.{WasGiven};
 ghost use Rattle.kalah_rules.specs.Limits.{most_in_store};
 ghost use Rattle.kalah_rules.specs.Play.{position_after};
@@ -15,23 +15,22 @@ use kalah_rules::{Board, Rule, Step};
 use std::alloc::{AllocError, Global};
 
 // Puts a player's houses after the first `i`, a slash and the player's store in front of the text.
-#[tactic(auto, using(crate::proofs::WritingLemmas::byte_length))]
 fn prepend_side(text: &mut StackText, board: &Board, player: Player, i: u8)
     requires within { i < side_length board.now }
     requires room { length text.old + 27 ≤ ROOM }
     ensures side { text.new ≡ side_text (drop i (houses_of player board.now)) (store_of player board.now) ++ text.old }
-    ensures short { length text.new ≤ length text.old + 3 + 4 * (side_length board.now - i) }
+    ensures short { length text.new + 4 * i ≤ length text.old + 3 + 4 * side_length board.now }
 {
     let m = board.m();
     let seeds = player.seeds(board, i + 1);
     if i + 1 == m {
-        text.prepend_number(u64::from(player.store(board)));
+        text.prepend_byte(player.store(board));
         text.prepend("/");
-        return text.prepend_number(u64::from(seeds));
+        return text.prepend_byte(seeds);
     }
     prepend_side(text, board, player, i + 1);
     text.prepend(",");
-    text.prepend_number(u64::from(seeds));
+    text.prepend_byte(seeds);
 }
 
 // Returns the ending of a line, which names its rule.
@@ -89,7 +88,7 @@ fn parts_of_step(step: &Step) -> (&Board, &'static str)
 }
 
 // Puts the text of a move in front of the text.
-#[tactic(auto, unfolding(crate::specs::Line::Line::step_text_of), using(crate::proofs::WritingLemmas::byte_length))]
+#[tactic(auto, unfolding(crate::specs::Line::Line::step_text_of))]
 fn prepend_step(text: &mut StackText, h: u8, step: &Step)
     requires { length text.old ≤ 1 }
     ensures step { text.new ≡ step_text_of h step.now ++ text.old }
@@ -100,7 +99,7 @@ fn prepend_step(text: &mut StackText, h: u8, step: &Step)
     text.prepend(" ");
     prepend_board(text, board);
     text.prepend(" ");
-    text.prepend_number(u64::from(h));
+    text.prepend_byte(h);
 }
 
 // Returns the text of a move, followed by `end`.

@@ -9,4 +9,4 @@ pub returns-clause-side : goal.returns-clause-side
 returns-clause-side t c =
     let houses = houses_of c.args.player c.args.board.now in
     let many = length-houses_of c.args.player c.args.board.now c.m-m.ensures.limits in
-    grind (arith, common_steps, number_before comma houses c.args.i (c.args.i + 1 - 1) c.from-2.result (cc) (omega arith) (omega (arith, many)))
+    grind (arith, common_steps, number_before comma houses c.args.i (c.args.i + 1 - 1) c.seeds-seeds.result (cc) (omega arith) (omega (arith, many)))
