@@ -14,7 +14,7 @@ use Rattle.kalah_jobs.specs.declared.writing.player.Player.TheVariants.{Mover, O
 use Rattle.std.proofs.KnownBytes.{Appends-kept, Appends-nil, Appends-trans}
 use Rattle.std.proofs.Math.Seq.{take-append-add}
 use Rattle.std.proofs.Math.ListN.{drop_of_length-le}
-use Rattle.std.proofs.lemmas.List.{take-append-drop, flat_map_more, take_more, take_all, drop_more}
+use Rattle.std.proofs.lemmas.List.{take-append-drop, length-drop, flat_map_more, take_more, take_all, drop_more}
 use Rattle.kalah_jobs.specs.Writing.Given.{AppendsStart, WasGiven}
 use Rattle.std.specs.List.{join_with_byte, range_with_len, flat_map, enumerate_from, onto_first, count_by}
 use Rattle.std.proofs.lemmas.Bool.{ne_eqb, cases_eq}
@@ -104,6 +104,44 @@ start_longer old new bs cs start =
 pub start_kept : (old between new : Option (List ℕ)) (bs : List ℕ) → AppendsStart old between bs → Keeps between new
     → AppendsStart old new bs
 start_kept old between new bs start kept = (start.0, Appends-kept old between new (take start.0 bs) start.1 kept)
+
+-- ==== Bytes of which a part was written
+
+pub record IsLeft (old now : Option (List ℕ)) (bytes rest : List ℕ) : Type 0 where
+  pub done : List ℕ
+  pub is : bytes ≡ done ++ rest
+  pub written : Appends old now done
+
+-- nothing was written yet
+pub left_all : (old : Option (List ℕ)) (bytes : List ℕ) → IsLeft old old bytes bytes
+left_all old bytes = record { done = []; is = refl; written = Appends-nil old }
+
+module _ (old now next : Option (List ℕ)) (bytes rest : List ℕ) (left : IsLeft old now bytes rest) where
+  -- a prefix of the rest was written
+  pub left_start : AppendsStart now next rest → AppendsStart old next bytes
+  left_start start = start_then old now next bytes left.done rest left.is left.written start
+
+  -- the rest was written
+  pub left_whole : Appends now next rest → Appends old next bytes
+  left_whole adds = subst (Appends old next) (sym left.is) (Appends-trans old now next left.done rest left.written adds)
+
+  -- nothing was written
+  pub left_kept : Keeps now next → IsLeft old next bytes rest
+  left_kept keeps = record { done = left.done; is = left.is; written = Appends-kept old now next left.done left.written keeps }
+
+  -- a part of the rest was written
+  pub left_part : (taken : ℕ) → Appends now next (take taken rest) → IsLeft old next bytes (take (length rest - taken) (drop taken rest))
+  left_part taken part =
+      let others = take_all (length rest - taken) (drop taken rest) (omega (arith, length-drop taken rest)) in
+      let parts = ap (λ l. take taken rest ++ l) others ∙ take-append-drop taken rest in
+      record {
+        done = left.done ++ take taken rest;
+        is = left.is ∙ ap (λ l. left.done ++ l) (sym parts) ∙ sym (append_assoc left.done (take taken rest) _);
+        written = Appends-trans old now next left.done (take taken rest) left.written part;
+      }
+
+-- what writing bytes in parts needs
+pub ruleset parts_written = (left_all, left_whole, left_kept, left_part)
 
 -- ==== The lines of moves, one after another
 
