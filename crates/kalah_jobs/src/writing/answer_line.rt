@@ -5,9 +5,6 @@ ghost use Rattle.kalah_jobs.specs.Files.Lines.{line_feed};
 ghost use Rattle.kalah_jobs.specs.Writing.Answer.{answer_line, answer_words, value_words, values_words, IsOfOneLine};
 ghost use Rattle.kalah_jobs.specs.Writing.Given.{AppendsStart, WasGiven};
 
-#[cfg(test)]
-mod tests;
-
 use crate::writing::answer::{Answer, Taken};
 use crate::writing::named_text::write_named;
 use crate::writing::sink::{Sink, write_unless_failed};
