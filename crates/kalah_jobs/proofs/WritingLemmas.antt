@@ -394,11 +394,6 @@ small_mag : (z : ℤ) → IsSmallMargin z → mag z < 2 ^ 63
 small_mag (pos n) small = omega (arith, ints, small.high)
 small_mag (negsuc n) small = omega (arith, ints, small.low)
 
--- each value has a column of its own
-pub record HaveColumns (values : List MoveValue) : Type 0 where
-  pub ascend : AscendFrom 1 values
-  pub small : AreSmall values
-
 -- a value of a game has at most four bytes
 pub value_length : (v : ℤ) → IsSmallMargin v → length (signed_decimal v) ≤ 4
 value_length (pos n) small = length_signed_le 3 (pos n) (omega (arith, ints, small.high)) (small_mag (pos n) small)
@@ -471,19 +466,15 @@ values_ascend p = go (is_over p)
     go true = tt
     go false = kept_ascend (λ i. nat_lt 0 (seeds p.own i)) p 1 (side_length p)
 
-small_moves : (p : Position) → IsWithinLimits p → AreSmall (values_of p)
-small_moves p limits = All-map IsSmallValue (move_value p) (legal_houses p)
+pub have_columns : (p : Position) (values : List MoveValue) → values ≡ values_of p → AscendFrom 0 values
+have_columns p values is = subst (AscendFrom 0) (sym is) (ascend_later 0 1 (values_of p) (omega arith) (values_ascend p))
+
+pub are_small : (p : Position) (values : List MoveValue) → values ≡ values_of p → IsWithinLimits p → AreSmall values
+are_small p values is limits = subst AreSmall (sym is) (All-map IsSmallValue (move_value p) (legal_houses p)
     (All-from_get_or (λ h. IsSmallValue (move_value p h)) (legal_houses p) 0
     (λ i within.
     let has = Contains-get_or (legal_houses p) i 0 within in
-    (value_small p _ limits has, house_small p _ limits has)))
-
-pub have_columns : (p : Position) → IsWithinLimits p → HaveColumns (values_of p)
-have_columns p limits = record { ascend = values_ascend p; small = small_moves p limits }
-
--- after any column before the first house
-pub ascend_from_none : (vs : List MoveValue) → AscendFrom 1 vs → AscendFrom 0 vs
-ascend_from_none vs ascend = ascend_later 0 1 vs (omega arith) ascend
+    (value_small p _ limits has, house_small p _ limits has))))
 
 -- what writing the columns of values needs
 pub ruleset columns_of_values = (column_before, items_from)

@@ -47,6 +47,7 @@ fn prepend_columns(text: &mut StackText, values: &MoveValues, i: u8, filled: u8)
 }
 
 // Returns the line below the picture of a board with these values.
+#[tactic(auto, using(crate::proofs::WritingLemmas::have_columns))]
 fn line_below(board: &Board, values: &MoveValues) -> StackText
     requires { values.now ≡ values_of board.now }
     ensures { result ≡ values_line board.now ++ line_feed ∷ [] }
