@@ -28,14 +28,11 @@ loop-i-preserved c =
     ∙ ap₂ step_text_of c.get-h.ensures (c.apply.ensures.step ∙ ap (step_of c.args.board.now) c.get-h.ensures) in
     let done = pushed_four _ (joined_lines place text (take c.loop-i.i moves)) _ c.args.name.now c.args.place.now
     c.as_str.result.now _ _ _ _ _
-    c.loop-i.invariant.pushed c.in_ok-push_str.ensures.bytes c.in_ok-push_str-2.ensures.bytes c.in_ok-push_str-3.ensures.bytes
+    c.loop-i.invariant c.in_ok-push_str.ensures.bytes c.in_ok-push_str-2.ensures.bytes c.in_ok-push_str-3.ensures.bytes
     c.in_ok-push_str-4.ensures.bytes in
-    record {
-      same = c.loop-i.invariant.same;
-      pushed = done ∙ ap (λ l. string_bytes c.args.text.now ++ l)
-          (ap₂ (λ b s. joined_lines place text (take c.loop-i.i moves) ++ (b ++ (place ++ s))) c.before_line.ensures step
-          ∙ sym (line_more place text moves c.loop-i.i low));
-    }
+    done ∙ ap (λ l. string_bytes c.args.text.now ++ l)
+    (ap₂ (λ b s. joined_lines place text (take c.loop-i.i moves) ++ (b ++ (place ++ s))) c.before_line.ensures step
+    ∙ sym (line_more place text moves c.loop-i.i low))
 
 pub returns : goal.returns
 returns c = grind (arith, common_steps)

@@ -11,18 +11,15 @@ pub loop-i-preserved : goal.loop-i-preserved
 loop-i-preserved g c =
     let text : ℕ → List ℕ = λ h. step_text_of h (step_of c.args.board.now h) in
     let low : c.loop-i.i < length c.legal-moves.result = omega (arith, c.loop-i-test.true, c.len-i-end.ensures) in
-    record {
-      same = c.loop-i.invariant.same;
-      given = subst (WasGiven g.W.Sink.written g.W.Sink.has_failed c.args.out.now c.write_next.new.out)
-          (sym (text_more text c.legal-moves.result c.loop-i.i c.get.result low c.get.ensures))
-          (given_then _ _ _ _ _ _ _ c.loop-i.invariant.given c.write_next.ensures);
-    }
+    subst (WasGiven g.W.Sink.written g.W.Sink.has_failed c.args.out.now c.write_next.new.out)
+    (sym (text_more text c.legal-moves.result c.loop-i.i c.get.result low c.get.ensures))
+    (given_then _ _ _ _ _ _ _ c.loop-i.invariant c.write_next.ensures)
 
 pub returns : goal.returns
 returns g c =
     let text : ℕ → List ℕ = λ h. step_text_of h (step_of c.args.board.now h) in
     let moves = c.legal-moves.result in
-    let all = take_all c.loop-i.i moves (omega (arith, c.loop-i-test.false, c.len-i-end.ensures)) ∙ c.loop-i.invariant.same in
+    let all = take_all c.loop-i.i moves (omega (arith, c.loop-i-test.false, c.len-i-end.ensures)) ∙ c.legal-moves.ensures in
     subst (WasGiven g.W.Sink.written g.W.Sink.has_failed c.args.out.now c.write_unless_failed.new.out)
     (ap (λ ms. texts_in_line text ms ++ line_feed ∷ []) all)
-    (given_then _ _ _ _ _ _ _ c.loop-i.invariant.given c.write_unless_failed.ensures)
+    (given_then _ _ _ _ _ _ _ c.loop-i.invariant c.write_unless_failed.ensures)
