@@ -158,11 +158,6 @@ pub first_moves : (one : ℕ → List ℕ) (moves others : List ℕ) (i : ℕ) �
 first_moves one moves others i same =
     sym (flat_map-append one (take i moves) (drop i moves)) ∙ ap (flat_map one) (take-append-drop i moves ∙ same)
 
--- the name and the place of a line, and then the text of a move with a line feed
-pub line_is : (name place text : List ℕ) → ((name ++ place) ++ text) ++ line_feed ∷ [] ≡ name ++
-    (place ++ (text ++ line_feed ∷ []))
-line_is name place text = append_assoc (name ++ place) text (line_feed ∷ []) ∙ append_assoc name place (text ++ line_feed ∷ [])
-
 module _ (between : List ℕ) where
   -- what stands before text i, with these bytes between any two
   abbrev pub before_text : ℕ → List ℕ
@@ -183,10 +178,7 @@ module _ (place : List ℕ) (text : ℕ → List ℕ) where
       joined_lines moves ++ line_feed ∷ [] ≡ flat_map (λ h. (place ++ text h) ++ line_feed ∷ []) moves
   lines_end [] some = absurd (omega (arith, some))
   lines_end (h ∷ []) some = sym (append-nil ((place ++ text h) ++ line_feed ∷ []))
-  lines_end (h ∷ k ∷ moves) some =
-      append_assoc (place ++ text h) (line_feed ∷ joined_lines (k ∷ moves)) (line_feed ∷ [])
-      ∙ ap (λ l. (place ++ text h) ++ line_feed ∷ l) (lines_end (k ∷ moves) (omega arith))
-      ∙ sym (append_assoc (place ++ text h) (line_feed ∷ []) (flat_map (λ j. (place ++ text j) ++ line_feed ∷ []) (k ∷ moves)))
+  lines_end (h ∷ k ∷ moves) some = simp (append_assoc, lines_end (k ∷ moves) (omega arith))
 
   one_line_more : (moves : List ℕ) (i : ℕ) → i < length moves →
       joined_lines (take (suc i) moves) ≡ joined_lines (take i moves) ++
@@ -195,18 +187,13 @@ module _ (place : List ℕ) (text : ℕ → List ℕ) where
   one_line_more (h ∷ moves) zero within = refl
   one_line_more (h ∷ []) (suc i) within = absurd (omega (arith, within))
   one_line_more (h ∷ k ∷ moves) (suc zero) within = refl
-  one_line_more (h ∷ k ∷ moves) (suc (suc i)) within =
-      ap (λ l. (place ++ text h) ++ line_feed ∷ l) (one_line_more (k ∷ moves) (suc i) (omega (arith, within)))
-      ∙ sym (append_assoc (place ++ text h) (line_feed ∷ joined_lines (take (suc i) (k ∷ moves)))
-      (line_feed ∷ (place ++ text (get_or moves i 0))))
+  one_line_more (h ∷ k ∷ moves) (suc (suc i)) within = simp (one_line_more (k ∷ moves) (suc i) (omega (arith, within)), append_assoc)
 
   -- one line more
   pub line_more : (moves : List ℕ) (i : ℕ) → i < length moves →
       joined_lines (take (i + 1) moves) ≡ joined_lines (take i moves) ++
       (cond (i == 0) [] (line_feed ∷ []) ++ (place ++ text (get_or moves i 0)))
-  line_more moves i within =
-      ap (λ n. joined_lines (take n moves)) (add-one i) ∙ one_line_more moves i within
-      ∙ ap (λ l. joined_lines (take i moves) ++ (l ++ (place ++ text (get_or moves i 0)))) (before_by_test (line_feed ∷ []) i)
+  line_more moves i within = simp (add-one, one_line_more moves i within, before_by_test)
 
 -- ==== Texts that are given to a sink, one after another
 
@@ -320,16 +307,12 @@ module _ (text : ℕ → List ℕ) where
   one_text_more (h ∷ moves) zero within = refl
   one_text_more (h ∷ []) (suc i) within = absurd (omega (arith, within))
   one_text_more (h ∷ k ∷ moves) (suc zero) within = refl
-  one_text_more (h ∷ k ∷ moves) (suc (suc i)) within =
-      ap (λ l. text h ++ (codes "; " ++ l)) (one_text_more (k ∷ moves) (suc i) (omega (arith, within)))
-      ∙ sym (append_assoc (text h) (codes "; " ++ texts_in_line (take (suc i) (k ∷ moves))) (codes "; " ++ text (get_or moves i 0)))
+  one_text_more (h ∷ k ∷ moves) (suc (suc i)) within = simp (one_text_more (k ∷ moves) (suc i) (omega (arith, within)), append_assoc)
 
   -- one text more
   pub text_more : (moves : List ℕ) (i house : ℕ) → i < length moves → house ≡ get_or moves i 0
       → texts_in_line (take (i + 1) moves) ≡ texts_in_line (take i moves) ++ (cond (i == 0) [] (codes "; ") ++ text house)
-  text_more moves i house within is =
-      ap (λ n. texts_in_line (take n moves)) (add-one i) ∙ one_text_more moves i within
-      ∙ ap₂ (λ l h. texts_in_line (take i moves) ++ (l ++ text h)) (before_by_test (codes "; ") i) (sym is)
+  text_more moves i house within is = simp (add-one, one_text_more moves i within, before_by_test, is)
 
 -- ==== Texts with a byte between any two, put together from the last on
 
@@ -370,9 +353,7 @@ pub columns_before : (f : ℕ → ℕ) (m column n : ℕ) (old before after : Li
 columns_before f m column n old before after is low high so_far e =
     let place : column - 1 + 1 ≡ column = omega arith in
     let count : m - (column - 1) ≡ suc (m - column) = omega arith in
-    e ∙ ap₂ (λ (k : ℕ) (t : List ℕ). cell k ++ t) is so_far
-    ∙ sym (append_assoc (cell (f column)) (columns f (column + 1) (m - column)) old)
-    ∙ ap₂ (λ (i k : ℕ). columns f i k ++ old) (sym place) (sym count)
+    rw (place, count) (e ∙ simp (is, so_far, append_assoc))
 
 -- ==== The lines of answers that have one text
 
@@ -410,11 +391,7 @@ pub column_before : (filled : ℕ) (v : MoveValue) (vs : List MoveValue) (old ro
     row ≡ value_columns (v.house + 1) vs ++ old
     → cell ≡ value_cell v.value ++ row → after ≡ empty_columns (v.house - filled) ++ cell →
     after ≡ value_columns filled (v ∷ vs) ++ old
-column_before filled v vs old row cell after is next e =
-    let below = value_columns (v.house + 1) vs in
-    e ∙ ap (λ ws. empty_columns (v.house - filled) ++ ws)
-    (next ∙ ap (λ ws. value_cell v.value ++ ws) is ∙ sym (append_assoc (value_cell v.value) below old))
-    ∙ sym (append_assoc (empty_columns (v.house - filled)) (value_cell v.value ++ below) old)
+column_before filled v vs old row cell after is next e = e ∙ simp (next, is, append_assoc)
 
 -- what is known of the value at place i, and of those after it
 pub record IsNext (filled : ℕ) (values : List MoveValue) (i : ℕ) (v : MoveValue) : Type 0 where

@@ -11,12 +11,7 @@ pushed_four : (first lines before name place step old a b c d : List ℕ) → ol
     → b ≡ a ++ name →
     c ≡ b ++ place → d ≡ c ++ step
     → d ≡ first ++ (lines ++ (before ++ ((name ++ place) ++ step)))
-pushed_four first lines before name place step old a b c d is one two three four =
-    let there = (first ++ lines) ++ before in
-    let line = (name ++ place) ++ step in
-    let start : a ≡ there = one ∙ ap (λ l. l ++ before) is in
-    four ∙ ap (λ l. l ++ step) (three ∙ ap (λ l. l ++ place) (two ∙ ap (λ l. l ++ name) start) ∙ append_assoc there name place)
-    ∙ append_assoc there (name ++ place) step ∙ append_assoc (first ++ lines) before line ∙ append_assoc first lines (before ++ line)
+pushed_four first lines before name place step old a b c d is one two three four = four ∙ simp (three, two, one, is, append_assoc)
 
 pub loop-i-preserved : goal.loop-i-preserved
 loop-i-preserved c =
