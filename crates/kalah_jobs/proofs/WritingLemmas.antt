@@ -158,15 +158,8 @@ pub first_moves : (one : ℕ → List ℕ) (moves others : List ℕ) (i : ℕ) �
 first_moves one moves others i same =
     sym (flat_map-append one (take i moves) (drop i moves)) ∙ ap (flat_map one) (take-append-drop i moves ∙ same)
 
-module _ (between : List ℕ) where
-  -- what stands before text i, with these bytes between any two
-  abbrev pub before_text : ℕ → List ℕ
-  before_text zero = []
-  before_text (suc i) = between
-
-  pub before_by_test : (i : ℕ) → before_text i ≡ cond (i == 0) [] between
-  before_by_test zero = refl
-  before_by_test (suc i) = ap (λ b. cond b [] between) (sym (ne_eqb (suc i) 0 (λ e. omega (arith, e))))
+later : (i : ℕ) → (suc i == 0) ≡ false
+later i = ne_eqb (suc i) 0 (λ e. omega (arith, e))
 
 module _ (place : List ℕ) (text : ℕ → List ℕ) where
   -- the lines of moves, with a line feed between any two
@@ -180,20 +173,16 @@ module _ (place : List ℕ) (text : ℕ → List ℕ) where
   lines_end (h ∷ []) some = sym (append-nil ((place ++ text h) ++ line_feed ∷ []))
   lines_end (h ∷ k ∷ moves) some = simp (append_assoc, lines_end (k ∷ moves) (omega arith))
 
-  one_line_more : (moves : List ℕ) (i : ℕ) → i < length moves →
-      joined_lines (take (suc i) moves) ≡ joined_lines (take i moves) ++
-      (before_text (line_feed ∷ []) i ++ (place ++ text (get_or moves i 0)))
-  one_line_more [] i within = absurd (omega (arith, within))
-  one_line_more (h ∷ moves) zero within = refl
-  one_line_more (h ∷ []) (suc i) within = absurd (omega (arith, within))
-  one_line_more (h ∷ k ∷ moves) (suc zero) within = refl
-  one_line_more (h ∷ k ∷ moves) (suc (suc i)) within = simp (one_line_more (k ∷ moves) (suc i) (omega (arith, within)), append_assoc)
-
   -- one line more
   pub line_more : (moves : List ℕ) (i : ℕ) → i < length moves →
       joined_lines (take (i + 1) moves) ≡ joined_lines (take i moves) ++
       (cond (i == 0) [] (line_feed ∷ []) ++ (place ++ text (get_or moves i 0)))
-  line_more moves i within = simp (add-one, one_line_more moves i within, before_by_test)
+  line_more [] i within = absurd (omega (arith, within))
+  line_more (h ∷ moves) zero within = refl
+  line_more (h ∷ []) (suc i) within = absurd (omega (arith, within))
+  line_more (h ∷ k ∷ moves) (suc zero) within = refl
+  line_more (h ∷ k ∷ moves) (suc (suc i)) within =
+      let rest = rw add-one at (line_more (k ∷ moves) (suc i) (omega (arith, within))) in rw add-one (simp (rest, later, append_assoc))
 
 -- ==== Texts that are given to a sink, one after another
 
@@ -301,18 +290,15 @@ module _ (text : ℕ → List ℕ) where
   abbrev pub texts_in_line : List ℕ → List ℕ
   texts_in_line moves = in_one_line (map text moves)
 
-  one_text_more : (moves : List ℕ) (i : ℕ) → i < length moves
-      → texts_in_line (take (suc i) moves) ≡ texts_in_line (take i moves) ++ (before_text (codes "; ") i ++ text (get_or moves i 0))
-  one_text_more [] i within = absurd (omega (arith, within))
-  one_text_more (h ∷ moves) zero within = refl
-  one_text_more (h ∷ []) (suc i) within = absurd (omega (arith, within))
-  one_text_more (h ∷ k ∷ moves) (suc zero) within = refl
-  one_text_more (h ∷ k ∷ moves) (suc (suc i)) within = simp (one_text_more (k ∷ moves) (suc i) (omega (arith, within)), append_assoc)
-
   -- one text more
-  pub text_more : (moves : List ℕ) (i house : ℕ) → i < length moves → house ≡ get_or moves i 0
-      → texts_in_line (take (i + 1) moves) ≡ texts_in_line (take i moves) ++ (cond (i == 0) [] (codes "; ") ++ text house)
-  text_more moves i house within is = simp (add-one, one_text_more moves i within, before_by_test, is)
+  pub text_more : (moves : List ℕ) (i : ℕ) → i < length moves →
+      texts_in_line (take (i + 1) moves) ≡ texts_in_line (take i moves) ++ (cond (i == 0) [] (codes "; ") ++ text (get_or moves i 0))
+  text_more [] i within = absurd (omega (arith, within))
+  text_more (h ∷ moves) zero within = refl
+  text_more (h ∷ []) (suc i) within = absurd (omega (arith, within))
+  text_more (h ∷ k ∷ moves) (suc zero) within = refl
+  text_more (h ∷ k ∷ moves) (suc (suc i)) within =
+      let rest = rw add-one at (text_more (k ∷ moves) (suc i) (omega (arith, within))) in rw add-one (simp (rest, later, append_assoc))
 
 -- ==== Texts with a byte between any two, put together from the last on
 
