@@ -455,9 +455,7 @@ lines_told : (question : Question) (text : ℕ → Taken → List ℕ) (n : ℕ)
     (enumerate_from k (map (entry_to question) lines))
 lines_told question text n name k [] under = refl
 lines_told question text n name k (line ∷ lines) under =
-    ap (λ bytes. bytes ++ flat_map (line_output question name) (enumerate_from (k + 1) lines))
-    (sym (under (record { line = k; answer = answer_of (entry_to question line) })))
-    ∙ ap (λ bytes. text n (record { line = k; answer = answer_of (entry_to question line) }) ++ bytes)
+    ap₂ (λ (l m : List ℕ). l ++ m) (sym (under (record { line = k; answer = answer_of (entry_to question line) })))
     (lines_told question text n name (k + 1) lines under)
 
 file_told : (question : Question) (text : ℕ → Taken → List ℕ) (n : ℕ) (file : NamedBytes) → IsUnder text n file.name
@@ -471,8 +469,7 @@ files_told : (question : Question) (text : ℕ → Taken → List ℕ) (n : ℕ)
     → flat_map (file_output question) files ≡ flat_map (text_of_file text) (enumerate_from n (jobs_to question files))
 files_told question text n [] under = refl
 files_told question text n (file ∷ files) under =
-    ap (λ bytes. bytes ++ flat_map (file_output question) files) (file_told question text n file (under n 0 (omega arith) (omega arith)))
-    ∙ ap (λ bytes. text_of_file text (n, entries_to question file.bytes) ++ bytes)
+    ap₂ (λ (l m : List ℕ). l ++ m) (file_told question text n file (under n 0 (omega arith) (omega arith)))
     (files_told question text (n + 1) files (λ m i is low. under m (suc i) (omega arith) (omega arith)))
 
 same_output : (question : Question) (files : List NamedBytes) →
@@ -566,15 +563,8 @@ lines_of_both : (front second : List ℕ) → lines_of ((front ++ line_feed ∷ 
 lines_of_both [] second =
     lines_of-feed line_feed second refl ∙ ap (λ (lines : List (List ℕ)). lines ++ lines_of second) (sym one_feed)
 lines_of_both (byte ∷ front) second = elim (cases_eq byte line_feed) [
-  | inl feed ↦
-      lines_of-feed byte ((front ++ line_feed ∷ []) ++ second) feed
-      ∙ ap (λ (lines : List (List ℕ)). [] ∷ lines) (lines_of_both front second)
-      ∙ ap (λ (lines : List (List ℕ)). lines ++ lines_of second) (sym (lines_of-feed byte (front ++ line_feed ∷ []) feed))
-  | inr other ↦
-      lines_of-byte byte ((front ++ line_feed ∷ []) ++ second) other
-      ∙ ap (onto_first byte) (lines_of_both front second)
-      ∙ onto_first-append byte (lines_of (front ++ line_feed ∷ [])) (lines_of second) (some_lines front)
-      ∙ ap (λ (lines : List (List ℕ)). lines ++ lines_of second) (sym (lines_of-byte byte (front ++ line_feed ∷ []) other))
+  | inl feed ↦ simp (lines_of-feed, lines_of_both front second)
+  | inr other ↦ let some = some_lines front in simp (lines_of-byte, lines_of_both front second, onto_first-append)
 ]
 
 lines_split : (first second : List ℕ) → EndsWithItsLine first → lines_of (first ++ second) ≡ lines_of first ++ lines_of second
@@ -585,19 +575,13 @@ enumerate_from-append : (number : ℕ) (lines more : List (List ℕ)) →
     enumerate_from number (lines ++ more) ≡ enumerate_from number lines ++ enumerate_from (number + length lines) more
 enumerate_from-append number [] more = ap (λ k. enumerate_from k more) (let e : number ≡ number + 0 = omega arith in e)
 enumerate_from-append number (line ∷ lines) more =
-    ap (λ (rest : List (ℕ × List ℕ)). (number, line) ∷ rest)
-    (enumerate_from-append (number + 1) lines more
-    ∙ ap (λ k. enumerate_from (number + 1) lines ++ enumerate_from k more)
-    (let e : number + 1 + length lines ≡ number + suc (length lines) = omega arith in e))
+    let e : number + 1 + length lines ≡ number + suc (length lines) = omega arith in simp (enumerate_from-append (number + 1) lines more, e)
 
 output_split : (first second : List ℕ) → EndsWithItsLine first → (number : ℕ) (question : Question) (name : List ℕ) →
     output_from number question name (first ++ second)
     ≡ output_from number question name first ++ output_from (number + length (lines_of first)) question name second
 output_split first second ends number question name =
-    ap (λ (lines : List (List ℕ)). flat_map (line_output question name) (enumerate_from number lines)) (lines_split first second ends)
-    ∙ ap (flat_map (line_output question name)) (enumerate_from-append number (lines_of first) (lines_of second))
-    ∙ flat_map-append (line_output question name) (enumerate_from number (lines_of first))
-    (enumerate_from (number + length (lines_of first)) (lines_of second))
+    simp (lines_split first second ends, enumerate_from-append number (lines_of first) (lines_of second), flat_map-append)
 
 whole_file : (question : Question) (file : NamedBytes) → output_to question (file ∷ []) ≡ output_from 0 question file.name file.bytes
 unfolding output_to
