@@ -60,8 +60,7 @@ pub answers_split : (question : Question) (lines more : List ℕ) → EndsWithIt
     answers_to question (lines ++ more) ≡ answers_to question lines ++ answers_to question more
 unfolding answers_to
 answers_split question lines more ends =
-    ap (flat_map (told question)) (files_split_between_lines.parts lines more ends).lines
-    ∙ flat_map-append (told question) (lines_of lines) (lines_of more)
+    simp ((files_split_between_lines.parts lines more ends).lines, flat_map-append)
 
 pub no_answers : (question : Question) → answers_to question [] ≡ []
 unfolding answers_to
@@ -88,10 +87,7 @@ both_read false false = refl
 pub all_read_more : (lines more line : List ℕ) → EndsWithItsLine lines → lines_of more ≡ line ∷ []
     → are_all_read (lines ++ more) ≡ (are_all_read lines && not (is_faulty line))
 all_read_more lines more line ends one =
-    ap (λ (l : List (List ℕ)). not (list_any is_faulty l))
-    ((files_split_between_lines.parts lines more ends).lines ∙ ap (λ (l : List (List ℕ)). lines_of lines ++ l) one)
-    ∙ ap not (list_any-append is_faulty (lines_of lines) (line ∷ []))
-    ∙ both_read (list_any is_faulty (lines_of lines)) (is_faulty line)
+    simp ((files_split_between_lines.parts lines more ends).lines, one, list_any-append, both_read)
 
 pub none_unread : are_all_read [] ≡ true
 unfolding lines_of

@@ -545,18 +545,10 @@ onto_first-append : (byte : ℕ) (lines more : List (List ℕ)) → 0 < length l
 onto_first-append byte [] more some = absurd (omega arith)
 onto_first-append byte (line ∷ lines) more some = refl
 
--- bytes that end with a line feed have a line
-some_lines : (front : List ℕ) → 0 < length (lines_of (front ++ line_feed ∷ []))
-some_lines front = omega (arith, length-lines_of front line_feed)
-
 -- a line feed by itself is one line without bytes, and no bytes have no lines
 one_feed : lines_of (line_feed ∷ []) ≡ [] ∷ []
 unfolding lines_of
 one_feed = refl
-
-lines_of_none : (second : List ℕ) → lines_of second ≡ lines_of [] ++ lines_of second
-unfolding lines_of
-lines_of_none second = refl
 
 lines_of_both : (front second : List ℕ) → lines_of ((front ++ line_feed ∷ []) ++ second) ≡ lines_of
     (front ++ line_feed ∷ []) ++ lines_of second
@@ -564,11 +556,12 @@ lines_of_both [] second =
     lines_of-feed line_feed second refl ∙ ap (λ (lines : List (List ℕ)). lines ++ lines_of second) (sym one_feed)
 lines_of_both (byte ∷ front) second = elim (cases_eq byte line_feed) [
   | inl feed ↦ simp (lines_of-feed, lines_of_both front second)
-  | inr other ↦ let some = some_lines front in simp (lines_of-byte, lines_of_both front second, onto_first-append)
+  | inr other ↦ let some : 0 < length (lines_of (front ++ line_feed ∷ [])) = omega (arith, length-lines_of front line_feed) in simp (lines_of-byte, lines_of_both front second, onto_first-append)
 ]
 
 lines_split : (first second : List ℕ) → EndsWithItsLine first → lines_of (first ++ second) ≡ lines_of first ++ lines_of second
-lines_split first second (inl none) = rw none (lines_of_none second)
+unfolding lines_of
+lines_split first second (inl none) = rw none refl
 lines_split first second (inr ends) = rw ends.1 (lines_of_both ends.0 second)
 
 enumerate_from-append : (number : ℕ) (lines more : List (List ℕ)) →
@@ -591,20 +584,10 @@ whole_tally : (file : NamedBytes) → tally_of (file ∷ []) ≡ tally_in file.b
 unfolding tally_of
 whole_tally file = refl
 
-tally_is : (bytes : List ℕ) → tally_in bytes ≡ counts (length (lines_of bytes)) (count_by is_faulty (lines_of bytes))
-unfolding tally_of
-tally_is bytes = ap₂ counts (zero-add (length (lines_of bytes))) (zero-add (count_by is_faulty (lines_of bytes)))
-
 tally_split : (first second : List ℕ) → EndsWithItsLine first
     → tally_in (first ++ second) ≡ counted_together (tally_in first) (tally_in second)
-tally_split first second ends =
-    let lines = lines_split first second ends in
-    tally_is (first ++ second)
-    ∙ ap₂ counts
-    (ap length lines ∙ length-append (lines_of first) (lines_of second))
-    (ap (count_by is_faulty) lines ∙ sum_by-append (λ (line : List ℕ). if is_faulty line then 1 else 0) (lines_of first)
-    (lines_of second))
-    ∙ sym (ap₂ counted_together (tally_is first) (tally_is second))
+unfolding tally_of
+tally_split first second ends = simp (lines_split first second ends, zero-add, length-append, sum_by-append)
 
 pub files_split_between_lines : FilesSplitBetweenLines
 files_split_between_lines = record {
