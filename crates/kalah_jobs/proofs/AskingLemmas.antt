@@ -2,7 +2,7 @@
 use Rattle.kalah_rules.specs.Position as position
 use Rattle.std.proofs.Common.{◌≡◌, ◌≢◌, ◌∙◌, ℕ, zero, suc, ◌+◌, ◌≤◌, Bool, true, false, List, [], ◌∷◌, ◌++◌, length, take, inl, inr, refl, sym, ap, ap₂, arith, append-nil, append_assoc, Err, not, ◌||◌, ◌&&◌, subst}
 use Rattle.std.specs.Prelude.{Result, Ok, if◌then◌else◌, Option}
-use Rattle.std.specs.List.{flat_map, enumerate_from, list_any}
+use Rattle.std.specs.List.{flat_map, enumerate_from}
 use Rattle.std.proofs.lemmas.Bool.{cases_lt}
 use Rattle.std.proofs.Math.Bool.{and-true}
 use Rattle.std.proofs.lemmas.Grind.{flat_map-append}

@@ -195,32 +195,21 @@ module _ {O : Type 0} (written : O → Option (List ℕ)) (has_failed : O → Bo
   pub given_once : {A E : Type 0} (r : Result A E) (old new : O) (text : List ℕ) → has_failed old ≡ false → IsErr r ↔ (has_failed new ≡ true)
       → OnOk r (Appends (written old) (written new) text) → AppendsStart (written old) (written new) text
       → WasGiven written has_failed old new text
-  given_once (Ok x) old new text sound fails adds start = record {
-    start = start;
-    whole = λ still. (sound, adds);
-    quiet = λ failed. absurd (let both : true ≡ false = sym failed ∙ sound in cc);
-  }
-  given_once (Err e) old new text sound fails adds start = record {
-    start = start;
-    whole = λ still. absurd (let both : true ≡ false = sym (fails.0 refl) ∙ still in cc);
-    quiet = λ failed. absurd (let both : true ≡ false = sym failed ∙ sound in cc);
-  }
+  given_once (Ok x) old new text sound fails adds start = record { start = start; whole = λ still. (sound, adds); quiet = λ failed. cc }
+  given_once (Err e) old new text sound fails adds start =
+      record { start = start; whole = λ still. absurd (cc (fails.0 refl)); quiet = λ failed. cc }
 
   -- no text by a flush
   pub given_flush : (old new : O) → has_failed old ≡ false → Keeps (written old) (written new) → WasGiven written has_failed old new []
   given_flush old new sound keeps = record {
     start = start_kept_all (written old) (written new) [] keeps;
     whole = λ still. (sound, Appends-kept (written old) (written old) (written new) [] (Appends-nil (written old)) keeps);
-    quiet = λ failed. absurd (let both : true ≡ false = sym failed ∙ sound in cc);
+    quiet = λ failed. cc;
   }
 
   -- a sink that has failed is given any text
   pub given_off : (out : O) (text : List ℕ) → has_failed out ≡ true → WasGiven written has_failed out out text
-  given_off out text failed = record {
-    start = start_none (written out) text;
-    whole = λ sound. absurd (let both : true ≡ false = sym failed ∙ sound in cc);
-    quiet = λ _. refl;
-  }
+  given_off out text failed = record { start = start_none (written out) text; whole = λ sound. absurd cc; quiet = λ _. refl }
 
   -- a text, and then another
   pub given_then : (old between new : O) (text more : List ℕ) → WasGiven written has_failed old between text
@@ -380,30 +369,16 @@ pub column_before : (filled : ℕ) (v : MoveValue) (vs : List MoveValue) (old ro
 column_before filled v vs old row cell after is next e = e ∙ simp (next, is, append_assoc)
 
 -- what is known of the value at place i, and of those after it
-pub record IsNext (filled : ℕ) (values : List MoveValue) (i : ℕ) (v : MoveValue) : Type 0 where
-  pub within : i < length values
-  pub after : filled ≤ v.house
-  pub value : IsSmallMargin v.value
-  pub house : v.house ≤ most_houses
-  pub ascend : AscendFrom (v.house + 1) (drop (i + 1) values)
-  pub small : AreSmall (drop (i + 1) values)
-
 pub next_value : (filled : ℕ) (values : List MoveValue) (i : ℕ) (v : MoveValue) → slice_get values i ≡ Some v →
-    AscendFrom filled (drop i values)
-    → AreSmall (drop i values) → IsNext filled values i v
+    AscendFrom filled (drop i values) → AreSmall (drop i values)
+    → (v.house ≤ most_houses) × AscendFrom (v.house + 1) (drop (i + 1) values) × AreSmall (drop (i + 1) values)
 next_value filled values i v is ascend small =
     let front = items_from values i v is in
-    let ascending = subst (AscendFrom filled) front ascend in
-    let smaller = subst AreSmall front small in
-    let here = All-head IsSmallValue v (drop (i + 1) values) smaller in
-    record {
-      within = slice_get_within values i v is;
-      after = ascending.0;
-      value = here.0;
-      house = here.1;
-      ascend = ascending.1;
-      small = All-tail IsSmallValue v (drop (i + 1) values) smaller;
-    }
+    let smaller = subst AreSmall front small in (
+      (All-head IsSmallValue v (drop (i + 1) values) smaller).1,
+      (subst (AscendFrom filled) front ascend).1,
+      All-tail IsSmallValue v (drop (i + 1) values) smaller,
+    )
 
 -- ---- the values of a position have columns
 
