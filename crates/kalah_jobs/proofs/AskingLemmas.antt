@@ -1,9 +1,8 @@
 -- Lines that come as a stream: what is answered of them, and how far.
 use Rattle.kalah_rules.specs.Position as position
-use Rattle.kalah_jobs.specs.declared.writing.answer.Answer.TheVariants as answer
-use Rattle.std.proofs.Common.{◌≡◌, ◌≢◌, ◌∙◌, ℕ, zero, suc, ◌+◌, ◌≤◌, Bool, true, false, List, [], ◌∷◌, ◌++◌, length, take, inl, inr, refl, sym, ap, ap₂, arith, append-nil, append_assoc, map, Err, not, ◌||◌, ◌&&◌, subst}
+use Rattle.std.proofs.Common.{◌≡◌, ◌≢◌, ◌∙◌, ℕ, zero, suc, ◌+◌, ◌≤◌, Bool, true, false, List, [], ◌∷◌, ◌++◌, length, take, inl, inr, refl, sym, ap, ap₂, arith, append-nil, append_assoc, Err, not, ◌||◌, ◌&&◌, subst}
 use Rattle.std.specs.Prelude.{Result, Ok, if◌then◌else◌, Option}
-use Rattle.std.specs.List.{flat_map, enumerate_from, join_with_byte, list_any}
+use Rattle.std.specs.List.{flat_map, enumerate_from}
 use Rattle.std.proofs.lemmas.Bool.{cases_lt}
 use Rattle.std.proofs.Math.Bool.{and-true}
 use Rattle.std.proofs.lemmas.Grind.{flat_map-append}
@@ -22,12 +21,12 @@ use Rattle.kalah_jobs.specs.Files.Question.{entry_asked, entry_to}
 use Rattle.kalah_jobs.specs.Line.Line.{without_cr}
 use Rattle.kalah_jobs.specs.Line.Reading.{reading_of}
 use Rattle.kalah_jobs.specs.declared.line.line_fault.LineFault.TheVariants.{Long}
-use Rattle.kalah_jobs.specs.Writing.Answer.{answer_of, answer_texts, answer_words, is_fault, place_words, IsOfOneLine}
+use Rattle.kalah_jobs.specs.Writing.Answer.{answer_of, answer_words, is_fault, place_words, IsOfOneLine}
 use Rattle.kalah_jobs.specs.Writing.Output.{is_faulty, line_output}
 use Rattle.kalah_jobs.specs.Writing.Splitting.{EndsWithItsLine}
 use Rattle.kalah_jobs.proofs.FilesLemmas.{lines_of-ended, lines_of-open, IsNoFeed}
 use Rattle.kalah_jobs.proofs.LineLemmas.{long_is_read}
-use Rattle.kalah_jobs.proofs.WritingLemmas.{files_split_between_lines}
+use Rattle.kalah_jobs.proofs.WritingLemmas.{files_split_between_lines, one_line_parts}
 use Rattle.std.specs.Io.KnownBytes.{Appends, Consumes, IsAtEnd, Keeps}
 use Rattle.std.proofs.KnownBytes.{Appends-kept, Appends-nil, Appends-trans, Consumes-kept, Consumes-nil, Consumes-trans, Consumes-whole, Keeps-refl}
 use Rattle.std.proofs.lemmas.List.Elements.{All-nil, All-push}
@@ -61,8 +60,7 @@ pub answers_split : (question : Question) (lines more : List ℕ) → EndsWithIt
     answers_to question (lines ++ more) ≡ answers_to question lines ++ answers_to question more
 unfolding answers_to
 answers_split question lines more ends =
-    ap (flat_map (told question)) (files_split_between_lines.parts lines more ends).lines
-    ∙ flat_map-append (told question) (lines_of lines) (lines_of more)
+    simp ((files_split_between_lines.parts lines more ends).lines, flat_map-append)
 
 pub no_answers : (question : Question) → answers_to question [] ≡ []
 unfolding answers_to
@@ -89,10 +87,7 @@ both_read false false = refl
 pub all_read_more : (lines more line : List ℕ) → EndsWithItsLine lines → lines_of more ≡ line ∷ []
     → are_all_read (lines ++ more) ≡ (are_all_read lines && not (is_faulty line))
 all_read_more lines more line ends one =
-    ap (λ (l : List (List ℕ)). not (list_any is_faulty l))
-    ((files_split_between_lines.parts lines more ends).lines ∙ ap (λ (l : List (List ℕ)). lines_of lines ++ l) one)
-    ∙ ap not (list_any-append is_faulty (lines_of lines) (line ∷ []))
-    ∙ both_read (list_any is_faulty (lines_of lines)) (is_faulty line)
+    simp ((files_split_between_lines.parts lines more ends).lines, one, list_any-append, both_read)
 
 pub none_unread : are_all_read [] ≡ true
 unfolding lines_of
@@ -153,14 +148,6 @@ last_read lines (byte ∷ piece) ends none =
 
 -- ---- the law
 
--- an answer of one line has one text
-pub one_text : (a : Answer) → IsOfOneLine a → answer_texts a ≡ answer_words a ∷ []
-one_text (answer.Best margin house) one = refl
-one_text (answer.Over margin) one = refl
-one_text (answer.Values values) one = refl
-one_text (answer.Steps p) one = absurd one
-one_text (answer.Fault fault) one = refl
-
 one_of_two : (over : Bool) (a b : Answer) → IsOfOneLine a → IsOfOneLine b → IsOfOneLine (if over then a else b)
 one_of_two true a b one other = one
 one_of_two false a b one other = other
@@ -183,11 +170,9 @@ one_line_asked question other line = one_line_read question other (reading_of li
 line_parts : (question : Question) → question ≢ Steps → (name : List ℕ) (number : ℕ) (line : List ℕ) →
     line_output question name (number, line) ≡ place_words name number ++ told question line
 line_parts question other name number line =
-    let place = place_words name number in
     let answer = answer_of (entry_to question line) in
-    ap (λ (texts : List (List ℕ)). join_with_byte line_feed (map (λ text. place ++ text) texts) ++ line_feed ∷ [])
-    (one_text answer (one_line_asked question other line))
-    ∙ append_assoc place (answer_words answer) (line_feed ∷ [])
+    ap (λ l. l ++ line_feed ∷ []) (one_line_parts name number answer (one_line_asked question other line))
+    ∙ append_assoc (place_words name number) (answer_words answer) (line_feed ∷ [])
 
 lines_parts : (question : Question) → question ≢ Steps → (name : List ℕ) (number : ℕ) (lines : List (List ℕ)) →
     flat_map (line_output question name) (enumerate_from number lines)

@@ -2,27 +2,25 @@
 use Rattle.std.proofs.Common.{ℕ, ◌<◌, ◌≤◌, ◌^◌, length, arith, ◌≡◌, zero, suc, List, ◌++◌, IsAscii, IsUtf8, subst, sym, refl, ◌+◌, [], ap, ◌∙◌, take, drop, append_assoc, ◌∷◌, map, get_or, flat_map, cond, ◌==◌, append-nil, add-one, Bool, true, false, codes, ap₂, ◌-◌, filter, length-append, inl, inr}
 use Rattle.std.specs.Fmt.{decimal, signed_decimal}
 use Rattle.std.proofs.lemmas.Fmt.{length-decimal-le, IsAscii-decimal, length_signed_le}
-use Rattle.kalah_jobs.specs.Line.LineFault.{word_of}
-use Rattle.kalah_jobs.specs.declared.line.line_fault.LineFault.{LineFault}
-use Rattle.kalah_jobs.specs.declared.line.line_fault.LineFault.TheVariants.{Long, Empty, Shape, Houses, Seeds}
 use Rattle.std.specs.Prelude.{decimal, replicate, Option, ◌↔◌, IsErr, Ok, Err, OnOk, Result, ℤ, pos, negsuc, nat_lt, slice_get, Some, if◌then◌else◌, sum_by, count_by}
 use Rattle.std.proofs.lemmas.Str.{IsUtf8-append, IsUtf8-from_ascii}
 use Rattle.std.proofs.lemmas.Str.Ascii.{IsAscii-nil, IsAscii-cons}
 use Rattle.kalah_jobs.specs.Line.Line.{space}
 use Rattle.kalah_rules.specs.Position.{Position, side_length, IsWithinLimits, IsSmallMargin, is_over, seeds}
+use Rattle.std.specs.Io.KnownBytes.{Appends, Keeps}
 use Rattle.kalah_jobs.specs.Writing.Player.{houses_of}
 use Rattle.kalah_jobs.specs.declared.writing.player.Player.{Player}
 use Rattle.kalah_jobs.specs.declared.writing.player.Player.TheVariants.{Mover, Other}
-use Rattle.std.specs.Io.KnownBytes.{Appends, Keeps}
 use Rattle.std.proofs.KnownBytes.{Appends-kept, Appends-nil, Appends-trans}
 use Rattle.std.proofs.Math.Seq.{take-append-add}
-use Rattle.std.proofs.lemmas.List.{take-append-drop, flat_map_more, take_more, take_all, drop_more}
+use Rattle.std.proofs.Math.ListN.{drop_of_length-le}
+use Rattle.std.proofs.lemmas.List.{take-append-drop, length-drop, flat_map_more, take_more, take_all, drop_more}
 use Rattle.kalah_jobs.specs.Writing.Given.{AppendsStart, WasGiven}
 use Rattle.std.specs.List.{join_with_byte, range_with_len, flat_map, enumerate_from, onto_first, count_by}
 use Rattle.std.proofs.lemmas.Bool.{ne_eqb, cases_eq}
 use Rattle.std.proofs.lemmas.Grind.{flat_map-append}
 use Rattle.kalah_jobs.specs.Files.Lines.{line_feed, lines_of}
-use Rattle.kalah_jobs.specs.Writing.Answer.{in_one_line, answer_line, answer_words, place_words, IsOfOneLine, answer_of, is_faulty_entry}
+use Rattle.kalah_jobs.specs.Writing.Answer.{in_one_line, answer_line, answer_words, place_words, value_words, values_words, IsOfOneLine, answer_of, is_faulty_entry}
 use Rattle.kalah_jobs.specs.Writing.Picture.{cell, empty_columns}
 use Rattle.kalah_jobs.specs.declared.writing.answer.Answer.{Answer}
 use Rattle.kalah_jobs.specs.declared.writing.answer.Answer.TheVariants.{Best, Over, Values, Steps, Fault}
@@ -60,13 +58,6 @@ margin_length n low = length-decimal-le 10 n (omega arith) (omega arith) (omega 
 pub byte_length : (n : ℕ) → n < 2 ^ 8 → length (decimal n) ≤ 3
 byte_length n low = length-decimal-le 3 n (omega arith) (omega arith) (omega arith)
 
-pub fault_length : (fault : LineFault) → length (word_of fault) ≤ 6
-fault_length Long = omega arith
-fault_length Empty = omega arith
-fault_length Shape = omega arith
-fault_length Houses = omega arith
-fault_length Seeds = omega arith
-
 -- ==== What is put together on the stack is text
 
 -- a piece of text before a text
@@ -82,12 +73,6 @@ blanks_are_ascii (suc n) = IsAscii-cons space (replicate n space) (omega arith) 
 
 pub blanks_are_text : (n : ℕ) → IsUtf8 (replicate n space)
 blanks_are_text n = IsUtf8-from_ascii (replicate n space) (blanks_are_ascii n)
-
--- ==== The houses of the two players
-
-pub length-houses_of : (player : Player) (p : Position) → IsWithinLimits p → length (houses_of player p) ≡ side_length p
-length-houses_of Mover p limits = refl
-length-houses_of Other p limits = limits.same_side
 
 -- ==== Prefixes of what was to be written
 
@@ -120,8 +105,43 @@ pub start_kept : (old between new : Option (List ℕ)) (bs : List ℕ) → Appen
     → AppendsStart old new bs
 start_kept old between new bs start kept = (start.0, Appends-kept old between new (take start.0 bs) start.1 kept)
 
--- prefixes, by each way to write one
-pub ruleset starts = (start_none, start_kept_all, start_then, start_longer, start_kept)
+-- ==== Bytes of which a part was written
+
+pub record IsLeft (old now : Option (List ℕ)) (bytes rest : List ℕ) : Type 0 where
+  pub done : List ℕ
+  pub is : bytes ≡ done ++ rest
+  pub written : Appends old now done
+
+-- nothing was written yet
+pub left_all : (old : Option (List ℕ)) (bytes : List ℕ) → IsLeft old old bytes bytes
+left_all old bytes = record { done = []; is = refl; written = Appends-nil old }
+
+module _ (old now next : Option (List ℕ)) (bytes rest : List ℕ) (left : IsLeft old now bytes rest) where
+  -- a prefix of the rest was written
+  pub left_start : AppendsStart now next rest → AppendsStart old next bytes
+  left_start start = start_then old now next bytes left.done rest left.is left.written start
+
+  -- the rest was written
+  pub left_whole : Appends now next rest → Appends old next bytes
+  left_whole adds = subst (Appends old next) (sym left.is) (Appends-trans old now next left.done rest left.written adds)
+
+  -- nothing was written
+  pub left_kept : Keeps now next → IsLeft old next bytes rest
+  left_kept keeps = record { done = left.done; is = left.is; written = Appends-kept old now next left.done left.written keeps }
+
+  -- a part of the rest was written
+  pub left_part : (taken : ℕ) → Appends now next (take taken rest) → IsLeft old next bytes (take (length rest - taken) (drop taken rest))
+  left_part taken part =
+      let others = take_all (length rest - taken) (drop taken rest) (omega (arith, length-drop taken rest)) in
+      let parts = ap (λ l. take taken rest ++ l) others ∙ take-append-drop taken rest in
+      record {
+        done = left.done ++ take taken rest;
+        is = left.is ∙ ap (λ l. left.done ++ l) (sym parts) ∙ sym (append_assoc left.done (take taken rest) _);
+        written = Appends-trans old now next left.done (take taken rest) left.written part;
+      }
+
+-- what writing bytes in parts needs
+pub ruleset parts_written = (left_all, left_whole, left_kept, left_part)
 
 -- ==== The lines of moves, one after another
 
@@ -138,20 +158,8 @@ pub first_moves : (one : ℕ → List ℕ) (moves others : List ℕ) (i : ℕ) �
 first_moves one moves others i same =
     sym (flat_map-append one (take i moves) (drop i moves)) ∙ ap (flat_map one) (take-append-drop i moves ∙ same)
 
--- the name and the place of a line, and then the text of a move with a line feed
-pub line_is : (name place text : List ℕ) → ((name ++ place) ++ text) ++ line_feed ∷ [] ≡ name ++
-    (place ++ (text ++ line_feed ∷ []))
-line_is name place text = append_assoc (name ++ place) text (line_feed ∷ []) ∙ append_assoc name place (text ++ line_feed ∷ [])
-
-module _ (between : List ℕ) where
-  -- what stands before text i, with these bytes between any two
-  abbrev pub before_text : ℕ → List ℕ
-  before_text zero = []
-  before_text (suc i) = between
-
-  pub before_by_test : (i : ℕ) → before_text i ≡ cond (i == 0) [] between
-  before_by_test zero = refl
-  before_by_test (suc i) = ap (λ b. cond b [] between) (sym (ne_eqb (suc i) 0 (λ e. omega (arith, e))))
+later : (i : ℕ) → (suc i == 0) ≡ false
+later i = ne_eqb (suc i) 0 (λ e. omega (arith, e))
 
 module _ (place : List ℕ) (text : ℕ → List ℕ) where
   -- the lines of moves, with a line feed between any two
@@ -163,30 +171,18 @@ module _ (place : List ℕ) (text : ℕ → List ℕ) where
       joined_lines moves ++ line_feed ∷ [] ≡ flat_map (λ h. (place ++ text h) ++ line_feed ∷ []) moves
   lines_end [] some = absurd (omega (arith, some))
   lines_end (h ∷ []) some = sym (append-nil ((place ++ text h) ++ line_feed ∷ []))
-  lines_end (h ∷ k ∷ moves) some =
-      append_assoc (place ++ text h) (line_feed ∷ joined_lines (k ∷ moves)) (line_feed ∷ [])
-      ∙ ap (λ l. (place ++ text h) ++ line_feed ∷ l) (lines_end (k ∷ moves) (omega arith))
-      ∙ sym (append_assoc (place ++ text h) (line_feed ∷ []) (flat_map (λ j. (place ++ text j) ++ line_feed ∷ []) (k ∷ moves)))
-
-  one_line_more : (moves : List ℕ) (i : ℕ) → i < length moves →
-      joined_lines (take (suc i) moves) ≡ joined_lines (take i moves) ++
-      (before_text (line_feed ∷ []) i ++ (place ++ text (get_or moves i 0)))
-  one_line_more [] i within = absurd (omega (arith, within))
-  one_line_more (h ∷ moves) zero within = refl
-  one_line_more (h ∷ []) (suc i) within = absurd (omega (arith, within))
-  one_line_more (h ∷ k ∷ moves) (suc zero) within = refl
-  one_line_more (h ∷ k ∷ moves) (suc (suc i)) within =
-      ap (λ l. (place ++ text h) ++ line_feed ∷ l) (one_line_more (k ∷ moves) (suc i) (omega (arith, within)))
-      ∙ sym (append_assoc (place ++ text h) (line_feed ∷ joined_lines (take (suc i) (k ∷ moves)))
-      (line_feed ∷ (place ++ text (get_or moves i 0))))
+  lines_end (h ∷ k ∷ moves) some = simp (append_assoc, lines_end (k ∷ moves) (omega arith))
 
   -- one line more
   pub line_more : (moves : List ℕ) (i : ℕ) → i < length moves →
       joined_lines (take (i + 1) moves) ≡ joined_lines (take i moves) ++
       (cond (i == 0) [] (line_feed ∷ []) ++ (place ++ text (get_or moves i 0)))
-  line_more moves i within =
-      ap (λ n. joined_lines (take n moves)) (add-one i) ∙ one_line_more moves i within
-      ∙ ap (λ l. joined_lines (take i moves) ++ (l ++ (place ++ text (get_or moves i 0)))) (before_by_test (line_feed ∷ []) i)
+  line_more [] i within = absurd (omega (arith, within))
+  line_more (h ∷ moves) zero within = refl
+  line_more (h ∷ []) (suc i) within = absurd (omega (arith, within))
+  line_more (h ∷ k ∷ moves) (suc zero) within = refl
+  line_more (h ∷ k ∷ moves) (suc (suc i)) within =
+      let rest = rw add-one at (line_more (k ∷ moves) (suc i) (omega (arith, within))) in rw add-one (simp (rest, later, append_assoc))
 
 -- ==== Texts that are given to a sink, one after another
 
@@ -199,32 +195,21 @@ module _ {O : Type 0} (written : O → Option (List ℕ)) (has_failed : O → Bo
   pub given_once : {A E : Type 0} (r : Result A E) (old new : O) (text : List ℕ) → has_failed old ≡ false → IsErr r ↔ (has_failed new ≡ true)
       → OnOk r (Appends (written old) (written new) text) → AppendsStart (written old) (written new) text
       → WasGiven written has_failed old new text
-  given_once (Ok x) old new text sound fails adds start = record {
-    start = start;
-    whole = λ still. (sound, adds);
-    quiet = λ failed. absurd (let both : true ≡ false = sym failed ∙ sound in cc);
-  }
-  given_once (Err e) old new text sound fails adds start = record {
-    start = start;
-    whole = λ still. absurd (let both : true ≡ false = sym (fails.0 refl) ∙ still in cc);
-    quiet = λ failed. absurd (let both : true ≡ false = sym failed ∙ sound in cc);
-  }
+  given_once (Ok x) old new text sound fails adds start = record { start = start; whole = λ still. (sound, adds); quiet = λ failed. cc }
+  given_once (Err e) old new text sound fails adds start =
+      record { start = start; whole = λ still. absurd (cc (fails.0 refl)); quiet = λ failed. cc }
 
   -- no text by a flush
   pub given_flush : (old new : O) → has_failed old ≡ false → Keeps (written old) (written new) → WasGiven written has_failed old new []
   given_flush old new sound keeps = record {
     start = start_kept_all (written old) (written new) [] keeps;
     whole = λ still. (sound, Appends-kept (written old) (written old) (written new) [] (Appends-nil (written old)) keeps);
-    quiet = λ failed. absurd (let both : true ≡ false = sym failed ∙ sound in cc);
+    quiet = λ failed. cc;
   }
 
   -- a sink that has failed is given any text
   pub given_off : (out : O) (text : List ℕ) → has_failed out ≡ true → WasGiven written has_failed out out text
-  given_off out text failed = record {
-    start = start_none (written out) text;
-    whole = λ sound. absurd (let both : true ≡ false = sym failed ∙ sound in cc);
-    quiet = λ _. refl;
-  }
+  given_off out text failed = record { start = start_none (written out) text; whole = λ sound. absurd cc; quiet = λ _. refl }
 
   -- a text, and then another
   pub given_then : (old between new : O) (text more : List ℕ) → WasGiven written has_failed old between text
@@ -294,73 +279,40 @@ module _ (text : ℕ → List ℕ) where
   abbrev pub texts_in_line : List ℕ → List ℕ
   texts_in_line moves = in_one_line (map text moves)
 
-  one_text_more : (moves : List ℕ) (i : ℕ) → i < length moves
-      → texts_in_line (take (suc i) moves) ≡ texts_in_line (take i moves) ++ (before_text (codes "; ") i ++ text (get_or moves i 0))
-  one_text_more [] i within = absurd (omega (arith, within))
-  one_text_more (h ∷ moves) zero within = refl
-  one_text_more (h ∷ []) (suc i) within = absurd (omega (arith, within))
-  one_text_more (h ∷ k ∷ moves) (suc zero) within = refl
-  one_text_more (h ∷ k ∷ moves) (suc (suc i)) within =
-      ap (λ l. text h ++ (codes "; " ++ l)) (one_text_more (k ∷ moves) (suc i) (omega (arith, within)))
-      ∙ sym (append_assoc (text h) (codes "; " ++ texts_in_line (take (suc i) (k ∷ moves))) (codes "; " ++ text (get_or moves i 0)))
-
   -- one text more
-  pub text_more : (moves : List ℕ) (i house : ℕ) → i < length moves → house ≡ get_or moves i 0
-      → texts_in_line (take (i + 1) moves) ≡ texts_in_line (take i moves) ++ (cond (i == 0) [] (codes "; ") ++ text house)
-  text_more moves i house within is =
-      ap (λ n. texts_in_line (take n moves)) (add-one i) ∙ one_text_more moves i within
-      ∙ ap₂ (λ l h. texts_in_line (take i moves) ++ (l ++ text h)) (before_by_test (codes "; ") i) (sym is)
-
-  -- the first texts are followed by the others
-  pub texts_begin : (moves : List ℕ) (i : ℕ) → i < length moves
-      → (rest : List ℕ) × (texts_in_line moves ≡ texts_in_line (take (suc i) moves) ++ rest)
-  texts_begin [] i within = absurd (omega (arith, within))
-  texts_begin (h ∷ []) zero within = ([], sym (append-nil (text h)))
-  texts_begin (h ∷ []) (suc i) within = absurd (omega (arith, within))
-  texts_begin (h ∷ k ∷ moves) zero within = (codes "; " ++ texts_in_line (k ∷ moves), refl)
-  texts_begin (h ∷ k ∷ moves) (suc i) within =
-      let more = texts_begin (k ∷ moves) i (omega (arith, within)) in (
-        more.0,
-        ap (λ l. text h ++ (codes "; " ++ l)) more.1
-            ∙ sym (append_assoc (text h) (codes "; " ++ texts_in_line (take (suc i) (k ∷ moves))) more.0),
-      )
+  pub text_more : (moves : List ℕ) (i : ℕ) → i < length moves →
+      texts_in_line (take (i + 1) moves) ≡ texts_in_line (take i moves) ++ (cond (i == 0) [] (codes "; ") ++ text (get_or moves i 0))
+  text_more [] i within = absurd (omega (arith, within))
+  text_more (h ∷ moves) zero within = refl
+  text_more (h ∷ []) (suc i) within = absurd (omega (arith, within))
+  text_more (h ∷ k ∷ moves) (suc zero) within = refl
+  text_more (h ∷ k ∷ moves) (suc (suc i)) within =
+      let rest = rw add-one at (text_more (k ∷ moves) (suc i) (omega (arith, within))) in rw add-one (simp (rest, later, append_assoc))
 
 -- ==== Texts with a byte between any two, put together from the last on
 
-module _ {A : Type 0} (byte : ℕ) (text_of : A → List ℕ) where
-  -- the texts of the items from item i on
-  abbrev pub joined_from : List A → ℕ → List ℕ
-  joined_from items i = join_with_byte byte (map text_of (drop i items))
+-- the items from place i on begin with the one at place i
+pub items_from : {A : Type 0} (items : List A) (i : ℕ) (item : A) → slice_get items i ≡ Some item → drop i items ≡ item ∷ drop (i + 1) items
+items_from items i item is =
+    drop_more items i item (slice_get_within items i item is)
+    ∙ ap (λ x. x ∷ drop (i + 1) items) (get_or_from_slice_get items i item item is)
 
-  -- the last text
-  pub last_joined : (items : List A) (i : ℕ) (item other : A) → get_or items i other ≡ item → length items ≡ i + 1 →
-      text_of item ≡ joined_from items i
-  last_joined [] i item other is many = absurd (omega arith)
-  last_joined (x ∷ []) zero item other is many = ap text_of (sym is)
-  last_joined (x ∷ y ∷ items) zero item other is many = absurd (omega arith)
-  last_joined (x ∷ items) (suc i) item other is many = last_joined items i item other is (omega arith)
+module _ (values : List MoveValue) (i : ℕ) (v : MoveValue) (is : slice_get values i ≡ Some v) where
+  pub last_value : i + 1 ≡ length values → values_words (drop i values) ≡ value_words v
+  last_value many = rw (items_from values i v is, drop_of_length-le values {i = i + 1} (omega arith)) refl
 
-  -- one text more in front
-  joined_before : (items : List A) (i : ℕ) (item other : A) → get_or items i other ≡ item → suc i < length items →
-      text_of item ++ byte ∷ joined_from items (suc i) ≡ joined_from items i
-  joined_before [] i item other is within = absurd (omega arith)
-  joined_before (x ∷ []) zero item other is within = absurd (omega arith)
-  joined_before (x ∷ y ∷ items) zero item other is within =
-      ap (λ z. text_of z ++ byte ∷ join_with_byte byte (map text_of (y ∷ items))) (sym is)
-  joined_before (x ∷ items) (suc i) item other is within = joined_before items i item other is (omega arith)
+  pub value_before : i + 1 < length values → values_words (drop i values) ≡ value_words v ++ space ∷ values_words (drop (i + 1) values)
+  value_before within = rw (items_from values i v is, drop_more values (i + 1) v within) refl
 
-  -- one text and the byte before what stands there
-  pub before_those : (items : List A) (i : ℕ) (item other : A) (old after : List ℕ) → get_or items (i - 1) other ≡ item
-      → 0 < i →
-      i < length items →
-      after ≡ text_of item ++ byte ∷ (joined_from items i ++ old) → after ≡ joined_from items (i - 1) ++ old
-  before_those items i item other old after is low within e =
-      let place : suc (i - 1) ≡ i = omega arith in
-      let more = rw place at (joined_before items (i - 1) item other is (omega arith)) in
-      e ∙ sym (append_assoc (text_of item) (byte ∷ joined_from items i) old) ∙ ap (λ ws. ws ++ old) more
+-- the number at place j, which is i, before those after it
+pub number_before : (byte : ℕ) (numbers : List ℕ) (i j n : ℕ) → n ≡ get_or numbers j 0 → j ≡ i → i + 1 < length numbers →
+    join_with_byte byte (map decimal (drop i numbers)) ≡ decimal n ++ byte ∷ join_with_byte byte (map decimal (drop (i + 1) numbers))
+number_before byte numbers i j n is same within =
+    rw (drop_more numbers i 0 (omega arith), drop_more numbers (i + 1) 0 within, is, same) refl
 
--- what joining texts from the last on needs
-pub ruleset joins = (last_joined, before_those)
+pub length-houses_of : (player : Player) (p : Position) → IsWithinLimits p → length (houses_of player p) ≡ side_length p
+length-houses_of Mover p limits = refl
+length-houses_of Other p limits = limits.same_side
 
 -- ==== Columns of numbers: one more in front
 
@@ -376,9 +328,7 @@ pub columns_before : (f : ℕ → ℕ) (m column n : ℕ) (old before after : Li
 columns_before f m column n old before after is low high so_far e =
     let place : column - 1 + 1 ≡ column = omega arith in
     let count : m - (column - 1) ≡ suc (m - column) = omega arith in
-    e ∙ ap₂ (λ (k : ℕ) (t : List ℕ). cell k ++ t) is so_far
-    ∙ sym (append_assoc (cell (f column)) (columns f (column + 1) (m - column)) old)
-    ∙ ap₂ (λ (i k : ℕ). columns f i k ++ old) (sym place) (sym count)
+    rw (place, count) (e ∙ simp (is, so_far, append_assoc))
 
 -- ==== The lines of answers that have one text
 
@@ -400,11 +350,6 @@ small_mag : (z : ℤ) → IsSmallMargin z → mag z < 2 ^ 63
 small_mag (pos n) small = omega (arith, ints, small.high)
 small_mag (negsuc n) small = omega (arith, ints, small.low)
 
--- each value has a column of its own
-pub record HaveColumns (values : List MoveValue) : Type 0 where
-  pub ascend : AscendFrom 1 values
-  pub small : AreSmall values
-
 -- a value of a game has at most four bytes
 pub value_length : (v : ℤ) → IsSmallMargin v → length (signed_decimal v) ≤ 4
 value_length (pos n) small = length_signed_le 3 (pos n) (omega (arith, ints, small.high)) (small_mag (pos n) small)
@@ -416,48 +361,24 @@ value_room v old new small e = omega (arith, ap length e, length-append (signed_
 
 -- ---- one value more
 
--- the values from place i on begin with the one at place i
-pub values_from : (values : List MoveValue) (i : ℕ) (v : MoveValue) → slice_get values i ≡ Some v →
-    drop i values ≡ v ∷ drop (i + 1) values
-values_from values i v is =
-    drop_more values i v (slice_get_within values i v is) ∙ ap (λ w. w ∷ drop (i + 1) values) (get_or_from_slice_get values i v v is)
-
 -- the column of a value before those after it
 pub column_before : (filled : ℕ) (v : MoveValue) (vs : List MoveValue) (old row cell after : List ℕ) →
     row ≡ value_columns (v.house + 1) vs ++ old
     → cell ≡ value_cell v.value ++ row → after ≡ empty_columns (v.house - filled) ++ cell →
     after ≡ value_columns filled (v ∷ vs) ++ old
-column_before filled v vs old row cell after is next e =
-    let below = value_columns (v.house + 1) vs in
-    e ∙ ap (λ ws. empty_columns (v.house - filled) ++ ws)
-    (next ∙ ap (λ ws. value_cell v.value ++ ws) is ∙ sym (append_assoc (value_cell v.value) below old))
-    ∙ sym (append_assoc (empty_columns (v.house - filled)) (value_cell v.value ++ below) old)
+column_before filled v vs old row cell after is next e = e ∙ simp (next, is, append_assoc)
 
 -- what is known of the value at place i, and of those after it
-pub record IsNext (filled : ℕ) (values : List MoveValue) (i : ℕ) (v : MoveValue) : Type 0 where
-  pub within : i < length values
-  pub after : filled ≤ v.house
-  pub value : IsSmallMargin v.value
-  pub house : v.house ≤ most_houses
-  pub ascend : AscendFrom (v.house + 1) (drop (i + 1) values)
-  pub small : AreSmall (drop (i + 1) values)
-
 pub next_value : (filled : ℕ) (values : List MoveValue) (i : ℕ) (v : MoveValue) → slice_get values i ≡ Some v →
-    AscendFrom filled (drop i values)
-    → AreSmall (drop i values) → IsNext filled values i v
+    AscendFrom filled (drop i values) → AreSmall (drop i values)
+    → (v.house ≤ most_houses) × AscendFrom (v.house + 1) (drop (i + 1) values) × AreSmall (drop (i + 1) values)
 next_value filled values i v is ascend small =
-    let front = values_from values i v is in
-    let ascending = subst (AscendFrom filled) front ascend in
-    let smaller = subst AreSmall front small in
-    let here = All-head IsSmallValue v (drop (i + 1) values) smaller in
-    record {
-      within = slice_get_within values i v is;
-      after = ascending.0;
-      value = here.0;
-      house = here.1;
-      ascend = ascending.1;
-      small = All-tail IsSmallValue v (drop (i + 1) values) smaller;
-    }
+    let front = items_from values i v is in
+    let smaller = subst AreSmall front small in (
+      (All-head IsSmallValue v (drop (i + 1) values) smaller).1,
+      (subst (AscendFrom filled) front ascend).1,
+      All-tail IsSmallValue v (drop (i + 1) values) smaller,
+    )
 
 -- ---- the values of a position have columns
 
@@ -483,22 +404,18 @@ values_ascend p = go (is_over p)
     go true = tt
     go false = kept_ascend (λ i. nat_lt 0 (seeds p.own i)) p 1 (side_length p)
 
-small_moves : (p : Position) → IsWithinLimits p → AreSmall (values_of p)
-small_moves p limits = All-map IsSmallValue (move_value p) (legal_houses p)
+pub have_columns : (p : Position) (values : List MoveValue) → values ≡ values_of p → AscendFrom 0 values
+have_columns p values is = subst (AscendFrom 0) (sym is) (ascend_later 0 1 (values_of p) (omega arith) (values_ascend p))
+
+pub are_small : (p : Position) (values : List MoveValue) → values ≡ values_of p → IsWithinLimits p → AreSmall values
+are_small p values is limits = subst AreSmall (sym is) (All-map IsSmallValue (move_value p) (legal_houses p)
     (All-from_get_or (λ h. IsSmallValue (move_value p h)) (legal_houses p) 0
     (λ i within.
     let has = Contains-get_or (legal_houses p) i 0 within in
-    (value_small p _ limits has, house_small p _ limits has)))
-
-pub have_columns : (p : Position) → IsWithinLimits p → HaveColumns (values_of p)
-have_columns p limits = record { ascend = values_ascend p; small = small_moves p limits }
-
--- after any column before the first house
-pub ascend_from_none : (vs : List MoveValue) → AscendFrom 1 vs → AscendFrom 0 vs
-ascend_from_none vs ascend = ascend_later 0 1 vs (omega arith) ascend
+    (value_small p _ limits has, house_small p _ limits has))))
 
 -- what writing the columns of values needs
-pub ruleset columns_of_values = (column_before, values_from)
+pub ruleset columns_of_values = (column_before, items_from)
 
 -- ==== What is stated of files and what is stated of their jobs is the same
 
@@ -513,9 +430,7 @@ lines_told : (question : Question) (text : ℕ → Taken → List ℕ) (n : ℕ)
     (enumerate_from k (map (entry_to question) lines))
 lines_told question text n name k [] under = refl
 lines_told question text n name k (line ∷ lines) under =
-    ap (λ bytes. bytes ++ flat_map (line_output question name) (enumerate_from (k + 1) lines))
-    (sym (under (record { line = k; answer = answer_of (entry_to question line) })))
-    ∙ ap (λ bytes. text n (record { line = k; answer = answer_of (entry_to question line) }) ++ bytes)
+    ap₂ (λ (l m : List ℕ). l ++ m) (sym (under (record { line = k; answer = answer_of (entry_to question line) })))
     (lines_told question text n name (k + 1) lines under)
 
 file_told : (question : Question) (text : ℕ → Taken → List ℕ) (n : ℕ) (file : NamedBytes) → IsUnder text n file.name
@@ -529,8 +444,7 @@ files_told : (question : Question) (text : ℕ → Taken → List ℕ) (n : ℕ)
     → flat_map (file_output question) files ≡ flat_map (text_of_file text) (enumerate_from n (jobs_to question files))
 files_told question text n [] under = refl
 files_told question text n (file ∷ files) under =
-    ap (λ bytes. bytes ++ flat_map (file_output question) files) (file_told question text n file (under n 0 (omega arith) (omega arith)))
-    ∙ ap (λ bytes. text_of_file text (n, entries_to question file.bytes) ++ bytes)
+    ap₂ (λ (l m : List ℕ). l ++ m) (file_told question text n file (under n 0 (omega arith) (omega arith)))
     (files_told question text (n + 1) files (λ m i is low. under m (suc i) (omega arith) (omega arith)))
 
 same_output : (question : Question) (files : List NamedBytes) →
@@ -606,56 +520,36 @@ onto_first-append : (byte : ℕ) (lines more : List (List ℕ)) → 0 < length l
 onto_first-append byte [] more some = absurd (omega arith)
 onto_first-append byte (line ∷ lines) more some = refl
 
--- bytes that end with a line feed have a line
-some_lines : (front : List ℕ) → 0 < length (lines_of (front ++ line_feed ∷ []))
-some_lines front = omega (arith, length-lines_of front line_feed)
-
 -- a line feed by itself is one line without bytes, and no bytes have no lines
 one_feed : lines_of (line_feed ∷ []) ≡ [] ∷ []
 unfolding lines_of
 one_feed = refl
-
-lines_of_none : (second : List ℕ) → lines_of second ≡ lines_of [] ++ lines_of second
-unfolding lines_of
-lines_of_none second = refl
 
 lines_of_both : (front second : List ℕ) → lines_of ((front ++ line_feed ∷ []) ++ second) ≡ lines_of
     (front ++ line_feed ∷ []) ++ lines_of second
 lines_of_both [] second =
     lines_of-feed line_feed second refl ∙ ap (λ (lines : List (List ℕ)). lines ++ lines_of second) (sym one_feed)
 lines_of_both (byte ∷ front) second = elim (cases_eq byte line_feed) [
-  | inl feed ↦
-      lines_of-feed byte ((front ++ line_feed ∷ []) ++ second) feed
-      ∙ ap (λ (lines : List (List ℕ)). [] ∷ lines) (lines_of_both front second)
-      ∙ ap (λ (lines : List (List ℕ)). lines ++ lines_of second) (sym (lines_of-feed byte (front ++ line_feed ∷ []) feed))
-  | inr other ↦
-      lines_of-byte byte ((front ++ line_feed ∷ []) ++ second) other
-      ∙ ap (onto_first byte) (lines_of_both front second)
-      ∙ onto_first-append byte (lines_of (front ++ line_feed ∷ [])) (lines_of second) (some_lines front)
-      ∙ ap (λ (lines : List (List ℕ)). lines ++ lines_of second) (sym (lines_of-byte byte (front ++ line_feed ∷ []) other))
+  | inl feed ↦ simp (lines_of-feed, lines_of_both front second)
+  | inr other ↦ let some : 0 < length (lines_of (front ++ line_feed ∷ [])) = omega (arith, length-lines_of front line_feed) in simp (lines_of-byte, lines_of_both front second, onto_first-append)
 ]
 
 lines_split : (first second : List ℕ) → EndsWithItsLine first → lines_of (first ++ second) ≡ lines_of first ++ lines_of second
-lines_split first second (inl none) = rw none (lines_of_none second)
+unfolding lines_of
+lines_split first second (inl none) = rw none refl
 lines_split first second (inr ends) = rw ends.1 (lines_of_both ends.0 second)
 
 enumerate_from-append : (number : ℕ) (lines more : List (List ℕ)) →
     enumerate_from number (lines ++ more) ≡ enumerate_from number lines ++ enumerate_from (number + length lines) more
 enumerate_from-append number [] more = ap (λ k. enumerate_from k more) (let e : number ≡ number + 0 = omega arith in e)
 enumerate_from-append number (line ∷ lines) more =
-    ap (λ (rest : List (ℕ × List ℕ)). (number, line) ∷ rest)
-    (enumerate_from-append (number + 1) lines more
-    ∙ ap (λ k. enumerate_from (number + 1) lines ++ enumerate_from k more)
-    (let e : number + 1 + length lines ≡ number + suc (length lines) = omega arith in e))
+    let e : number + 1 + length lines ≡ number + suc (length lines) = omega arith in simp (enumerate_from-append (number + 1) lines more, e)
 
 output_split : (first second : List ℕ) → EndsWithItsLine first → (number : ℕ) (question : Question) (name : List ℕ) →
     output_from number question name (first ++ second)
     ≡ output_from number question name first ++ output_from (number + length (lines_of first)) question name second
 output_split first second ends number question name =
-    ap (λ (lines : List (List ℕ)). flat_map (line_output question name) (enumerate_from number lines)) (lines_split first second ends)
-    ∙ ap (flat_map (line_output question name)) (enumerate_from-append number (lines_of first) (lines_of second))
-    ∙ flat_map-append (line_output question name) (enumerate_from number (lines_of first))
-    (enumerate_from (number + length (lines_of first)) (lines_of second))
+    simp (lines_split first second ends, enumerate_from-append number (lines_of first) (lines_of second), flat_map-append)
 
 whole_file : (question : Question) (file : NamedBytes) → output_to question (file ∷ []) ≡ output_from 0 question file.name file.bytes
 unfolding output_to
@@ -665,20 +559,10 @@ whole_tally : (file : NamedBytes) → tally_of (file ∷ []) ≡ tally_in file.b
 unfolding tally_of
 whole_tally file = refl
 
-tally_is : (bytes : List ℕ) → tally_in bytes ≡ counts (length (lines_of bytes)) (count_by is_faulty (lines_of bytes))
-unfolding tally_of
-tally_is bytes = ap₂ counts (zero-add (length (lines_of bytes))) (zero-add (count_by is_faulty (lines_of bytes)))
-
 tally_split : (first second : List ℕ) → EndsWithItsLine first
     → tally_in (first ++ second) ≡ counted_together (tally_in first) (tally_in second)
-tally_split first second ends =
-    let lines = lines_split first second ends in
-    tally_is (first ++ second)
-    ∙ ap₂ counts
-    (ap length lines ∙ length-append (lines_of first) (lines_of second))
-    (ap (count_by is_faulty) lines ∙ sum_by-append (λ (line : List ℕ). if is_faulty line then 1 else 0) (lines_of first)
-    (lines_of second))
-    ∙ sym (ap₂ counted_together (tally_is first) (tally_is second))
+unfolding tally_of
+tally_split first second ends = simp (lines_split first second ends, zero-add, length-append, sum_by-append)
 
 pub files_split_between_lines : FilesSplitBetweenLines
 files_split_between_lines = record {

@@ -11,6 +11,3 @@ pub enum AskFault {
     #[error("write failed")]
     Write,
 }
-
-#[cfg(test)]
-mod tests;

@@ -1,12 +1,9 @@
 //! Answer lines, as text and written to a sink.
-ghost use Rattle.std.specs.Prelude.{◌≡◌, ◌+◌, ◌≤◌, ◌↔◌, ◌∷◌, [], ◌++◌, true, false, IfOk, IsErr, OnOk, length, codes, decimal, string_bytes};
+ghost use Rattle.std.specs.Prelude.{◌≡◌, ◌+◌, ◌*◌, ◌≤◌, ◌↔◌, ◌∷◌, [], ◌++◌, true, false, IfOk, IsErr, OnOk, drop, length, codes, decimal, string_bytes};
 ghost use Rattle.std.specs.Io.KnownBytes.{Appends};
 ghost use Rattle.kalah_jobs.specs.Files.Lines.{line_feed};
 ghost use Rattle.kalah_jobs.specs.Writing.Answer.{answer_line, answer_words, value_words, values_words, IsOfOneLine};
 ghost use Rattle.kalah_jobs.specs.Writing.Given.{AppendsStart, WasGiven};
-
-#[cfg(test)]
-mod tests;
 
 use crate::writing::answer::{Answer, Taken};
 use crate::writing::named_text::write_named;
@@ -26,25 +23,27 @@ fn prepend_value(text: &mut StackText, value: MoveValue)
 {
     text.prepend_margin(i32::from(value.value));
     text.prepend(":");
-    text.prepend_number(u64::from(value.house));
+    text.prepend_byte(value.house);
 }
 
-// Puts the values of the moves, with a space between any two, in front of the text.
-fn prepend_values(text: &mut StackText, values: &MoveValues)
-    requires { length text.old + 96 ≤ ROOM }
-    ensures values { text.new ≡ values_words values.now ++ text.old }
-    ensures short { length text.new ≤ length text.old + 96 }
+// Puts the values of the moves from place `i` on, with a space between any two, in front of the text.
+#[tactic(auto, using(crate::proofs::WritingLemmas::last_value))]
+fn prepend_values(text: &mut StackText, values: &MoveValues, i: u8)
+    requires within { i ≤ length values.now }
+    requires room { length text.old + 96 ≤ ROOM }
+    ensures values { text.new ≡ values_words (drop i values.now) ++ text.old }
+    ensures short { length text.new + 16 * i ≤ length text.old + 96 }
 {
-    if values.len() == 0 {
+    if i == values.len() {
         return;
     }
-    let mut i = values.len() - 1;
-    prepend_value(text, values.get(i));
-    while i > 0 {
-        i -= 1;
-        text.prepend(" ");
-        prepend_value(text, values.get(i));
+    let value = values.get(i);
+    if i + 1 == values.len() {
+        return prepend_value(text, value);
     }
+    prepend_values(text, values, i + 1);
+    text.prepend(" ");
+    prepend_value(text, value);
 }
 
 // Puts an answer in words in front of the text.
@@ -57,7 +56,7 @@ fn prepend_words(text: &mut StackText, answer: &Answer)
 {
     match *answer {
         Answer::Best { margin, house } => {
-            text.prepend_number(u64::from(house));
+            text.prepend_byte(house);
             text.prepend(" house ");
             text.prepend_margin(margin);
         }
@@ -65,7 +64,7 @@ fn prepend_words(text: &mut StackText, answer: &Answer)
             text.prepend(" over");
             text.prepend_margin(margin);
         }
-        Answer::Values(values) => prepend_values(text, &values),
+        Answer::Values(values) => prepend_values(text, &values, 0),
         Answer::Steps(_) => {}
         Answer::Fault(fault) => {
             text.prepend(fault.word());

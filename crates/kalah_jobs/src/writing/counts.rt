@@ -9,6 +9,7 @@ use crate::writing::stack_text::StackText;
 
 /// Writes a house, which is at most 6, and the number of ways to play on after its move, as the line `1 42`. It allocates
 /// nothing. If the sink has failed it is not called. If it fails, a prefix of the line was written, and nothing else.
+#[tactic(auto, using(crate::proofs::WritingLemmas::number_length))]
 pub fn write_ways<W: Sink>(out: &mut W, house: u8, ways: u64)
     requires { house ≤ most_houses }
     ensures { WasGiven W.written W.has_failed out.old out.new (ways_line house ways) }
@@ -17,12 +18,13 @@ pub fn write_ways<W: Sink>(out: &mut W, house: u8, ways: u64)
     text.prepend("\n");
     text.prepend_number(ways);
     text.prepend(" ");
-    text.prepend_number(u64::from(house));
+    text.prepend_byte(house);
     write_unless_failed(out, text.bytes());
 }
 
 /// Writes the number of all ways to play on, as the line `total 42`. It allocates nothing. If the sink has failed it is not called.
 /// If it fails, a prefix of the line was written, and nothing else.
+#[tactic(auto, using(crate::proofs::WritingLemmas::number_length))]
 pub fn write_total<W: Sink>(out: &mut W, ways: u64)
     ensures { WasGiven W.written W.has_failed out.old out.new (total_line ways) }
 {

@@ -1,9 +1,9 @@
 //! Positions and steps as text.
-ghost use Rattle.std.specs.Prelude.{◌≡◌, ◌≤◌, ◌+◌, ◌∷◌, [], ◌++◌, IfOk, length, string_bytes};
+ghost use Rattle.std.specs.Prelude.{◌≡◌, ◌<◌, ◌≤◌, ◌+◌, ◌*◌, ◌∷◌, [], ◌++◌, IfOk, drop, length, string_bytes};
 ghost use Rattle.kalah_jobs.specs.Writing.Given.{WasGiven};
 ghost use Rattle.kalah_rules.specs.Limits.{most_in_store};
 ghost use Rattle.kalah_rules.specs.Play.{position_after};
-ghost use Rattle.kalah_rules.specs.Position.{IsWithinLimits};
+ghost use Rattle.kalah_rules.specs.Position.{IsWithinLimits, side_length};
 ghost use Rattle.kalah_jobs.specs.Files.Lines.{line_feed};
 ghost use Rattle.kalah_jobs.specs.Line.Line.{Reads, ending_of, side_text, line_text_of, word_of_step, step_text_of};
 ghost use Rattle.kalah_jobs.specs.Writing.Player.{houses_of, store_of};
@@ -14,21 +14,23 @@ use crate::writing::stack_text::{ROOM, StackText};
 use kalah_rules::{Board, Rule, Step};
 use std::alloc::{AllocError, Global};
 
-// Puts a player's houses, a slash and the player's store in front of the text.
-fn prepend_side(text: &mut StackText, board: &Board, player: Player)
-    requires { length text.old + 27 ≤ ROOM }
-    ensures side { text.new ≡ side_text (houses_of player board.now) (store_of player board.now) ++ text.old }
-    ensures short { length text.new ≤ length text.old + 27 }
+// Puts a player's houses after the first `i`, a slash and the player's store in front of the text.
+fn prepend_side(text: &mut StackText, board: &Board, player: Player, i: u8)
+    requires within { i < side_length board.now }
+    requires room { length text.old + 27 ≤ ROOM }
+    ensures side { text.new ≡ side_text (drop i (houses_of player board.now)) (store_of player board.now) ++ text.old }
+    ensures short { length text.new + 4 * i ≤ length text.old + 3 + 4 * side_length board.now }
 {
-    let mut i = board.m();
-    text.prepend_number(u64::from(player.store(board)));
-    text.prepend("/");
-    text.prepend_number(u64::from(player.seeds(board, i)));
-    while i > 1 {
-        i -= 1;
-        text.prepend(",");
-        text.prepend_number(u64::from(player.seeds(board, i)));
+    let m = board.m();
+    let seeds = player.seeds(board, i + 1);
+    if i + 1 == m {
+        text.prepend_byte(player.store(board));
+        text.prepend("/");
+        return text.prepend_byte(seeds);
     }
+    prepend_side(text, board, player, i + 1);
+    text.prepend(",");
+    text.prepend_byte(seeds);
 }
 
 // Returns the ending of a line, which names its rule.
@@ -52,9 +54,9 @@ fn prepend_board(text: &mut StackText, board: &Board)
 {
     let _side = board.m();
     text.prepend(ending(board.rule()));
-    prepend_side(text, board, Player::Other);
+    prepend_side(text, board, Player::Other, 0);
     text.prepend(" ");
-    prepend_side(text, board, Player::Mover);
+    prepend_side(text, board, Player::Mover, 0);
 }
 
 /// Returns the line that writes a board, as `read_line` reads it: `1,1/0 1,1/0`, with ` e` at its end if the rule is
@@ -86,7 +88,7 @@ fn parts_of_step(step: &Step) -> (&Board, &'static str)
 }
 
 // Puts the text of a move in front of the text.
-#[tactic(auto, unfolding(crate::specs::Line::Line::step_text_of), using(crate::proofs::WritingLemmas::byte_length))]
+#[tactic(auto, unfolding(crate::specs::Line::Line::step_text_of))]
 fn prepend_step(text: &mut StackText, h: u8, step: &Step)
     requires { length text.old ≤ 1 }
     ensures step { text.new ≡ step_text_of h step.now ++ text.old }
@@ -97,7 +99,7 @@ fn prepend_step(text: &mut StackText, h: u8, step: &Step)
     text.prepend(" ");
     prepend_board(text, board);
     text.prepend(" ");
-    text.prepend_number(u64::from(h));
+    text.prepend_byte(h);
 }
 
 // Returns the text of a move, followed by `end`.

@@ -14,6 +14,7 @@ use kalah_rules::Board;
 use kalah_solve::{MoveValue, MoveValues};
 
 // Puts the value of a move, at the right of a column, in front of the text.
+#[tactic(auto, using(crate::proofs::WritingLemmas::value_room))]
 fn prepend_value_cell(text: &mut StackText, value: MoveValue)
     requires small { IsSmallMargin value.value }
     requires room { length text.old + 11 ≤ ROOM }
@@ -46,6 +47,7 @@ fn prepend_columns(text: &mut StackText, values: &MoveValues, i: u8, filled: u8)
 }
 
 // Returns the line below the picture of a board with these values.
+#[tactic(auto, using(crate::proofs::WritingLemmas::have_columns))]
 fn line_below(board: &Board, values: &MoveValues) -> StackText
     requires { values.now ≡ values_of board.now }
     ensures { result ≡ values_line board.now ++ line_feed ∷ [] }

@@ -100,7 +100,18 @@ impl StackText {
         self.start = write_digits(n, &mut self.bytes, self.start);
     }
 
+    // Puts a small number in digits in front of the text.
+    #[tactic(auto, using(crate::proofs::WritingLemmas::byte_length))]
+    pub(crate) fn prepend_byte(&mut self, n: u8)
+        requires { length self.old + 3 ≤ ROOM }
+        ensures number { self.new ≡ decimal n ++ self.old }
+        ensures short { length self.new ≤ length self.old + 3 }
+    {
+        self.prepend_number(u64::from(n));
+    }
+
     // Puts a margin in digits, with `-` before it if it is negative, in front of the text.
+    #[tactic(auto, using(crate::proofs::WritingLemmas::margin_length))]
     #[inline]
     pub(crate) fn prepend_margin(&mut self, margin: i32)
         requires { length self.old + 11 ≤ ROOM }

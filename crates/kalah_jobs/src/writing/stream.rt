@@ -9,6 +9,7 @@ use std::io;
 use std::io::{ErrorKind, Write};
 
 // Writes all the bytes as `write_pieces` does.
+#[tactic(auto, using(crate::proofs::WritingLemmas::parts_written))]
 #[cold]
 #[inline(never)]
 fn write_rest<W: Write>(writer: &mut W, bytes: &[u8]) -> io::Result<()>
@@ -24,7 +25,7 @@ fn write_rest<W: Write>(writer: &mut W, bytes: &[u8]) -> io::Result<()>
         match writer.write(rest) {
             Ok(0) => return Err(io::Error::from(ErrorKind::WriteZero)),
             Ok(taken) => rest = &rest[taken..],
-            Err(error) if error.kind() == ErrorKind::Interrupted => {}
+            Err(error) if error.kind() == ErrorKind::Interrupted => continue,
             Err(error) => return Err(error),
         }
     }

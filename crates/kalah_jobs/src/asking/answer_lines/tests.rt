@@ -17,18 +17,6 @@ fn told(
     (out.into_inner(), end)
 }
 
-// These bytes are answered by this text, and each line of them is read or not.
-fn is_told(
-    rt: &(impl Abort + AllocGlobal),
-    question: Question,
-    bytes: &[u8],
-    text: &str,
-    all_read: bool,
-) -> bool {
-    let (out, end) = told(rt, question, bytes);
-    out.as_slice() == text.as_bytes() && end == Ok(all_read)
-}
-
 // What is asked, the bytes, what is written for them, and whether each line is read.
 const LINES: &[(Question, &[u8], &str, bool)] = &[
     (Question::BestMove, b"", "", true),
@@ -36,12 +24,6 @@ const LINES: &[(Question, &[u8], &str, bool)] = &[
         Question::BestMove,
         b"1/0 1/0\n\n3/0 3/0\r\n",
         "0 house 1\nfault empty\n6 house 1\n",
-        false,
-    ),
-    (
-        Question::BestMove,
-        b"x\n1/0 1/0\n\r",
-        "fault shape\n0 house 1\nfault empty\n",
         false,
     ),
     (
@@ -61,26 +43,10 @@ const LINES: &[(Question, &[u8], &str, bool)] = &[
 #[test]
 fn each_line_is_answered(rt: HostRuntime) {
     for (question, bytes, text, all_read) in LINES {
-        assert!(rt; is_told(&rt, *question, *bytes, *text, *all_read), "{text}");
-    }
-}
-
-// Bytes with a long line, and what is written for them. The rest of a long line is no line.
-#[test]
-fn a_line_may_have_eighty_bytes(rt: HostRuntime) {
-    let bytes = [b'x'; 5000];
-    for (n, text) in [
-        (80, "fault shape\n0 house 1\n"),
-        (81, "fault long\n0 house 1\n"),
-        (4996, "fault long\n0 house 1\n"),
-    ] {
-        let mut lines = bytes[..n].to_vec(rt.alloc()).expect(&rt, "no memory");
-        lines
-            .extend_from_slice(b"\r\n1/0 1/0")
-            .expect(&rt, "no memory");
+        let (out, end) = told(&rt, *question, *bytes);
         assert!(rt;
-            is_told(&rt, Question::BestMove, lines.as_slice(), text, false),
-            "{n}"
+            out.as_slice() == text.as_bytes() && end == Ok(*all_read),
+            "{text}"
         );
     }
 }
@@ -123,4 +89,15 @@ fn lines_before_a_read_that_fails_are_answered(rt: HostRuntime) {
     let (out, end) = told(&rt, Question::BestMove, reader);
     assert!(rt; out.as_slice() == "2 house 2\nfault shape\n".as_bytes());
     assert!(rt; end == Err(AskFault::Read));
+}
+
+#[test]
+fn each_fault_is_told_in_its_words(rt: HostRuntime) {
+    for (fault, words) in [
+        (AskFault::Read, "cannot read"),
+        (AskFault::Write, "write failed"),
+    ] {
+        let told = fault.to_string(rt.alloc()).expect(&rt, "no memory");
+        assert!(rt; told.as_str() == words);
+    }
 }

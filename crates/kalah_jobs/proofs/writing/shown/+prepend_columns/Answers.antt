@@ -6,6 +6,6 @@ pub prepend_columns-requires : goal.prepend_columns-requires
 prepend_columns-requires t c =
     let next = next_value c.args.filled c.args.values.now c.args.i c.get-value.result c.get-value.ensures c.requires.ascend
     c.requires.small in (
-      omega (arith, c.decreases, next.within),
-      (c.requires.room, (omega (arith, next.within), (omega (arith, next.house), (next.ascend, next.small)))),
+      omega (arith, c.decreases),
+      (c.requires.room, (omega arith, (omega (arith, next.0), (next.1, next.2)))),
     )

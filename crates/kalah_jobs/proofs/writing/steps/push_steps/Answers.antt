@@ -11,12 +11,7 @@ pushed_four : (first lines before name place step old a b c d : List ℕ) → ol
     → b ≡ a ++ name →
     c ≡ b ++ place → d ≡ c ++ step
     → d ≡ first ++ (lines ++ (before ++ ((name ++ place) ++ step)))
-pushed_four first lines before name place step old a b c d is one two three four =
-    let there = (first ++ lines) ++ before in
-    let line = (name ++ place) ++ step in
-    let start : a ≡ there = one ∙ ap (λ l. l ++ before) is in
-    four ∙ ap (λ l. l ++ step) (three ∙ ap (λ l. l ++ place) (two ∙ ap (λ l. l ++ name) start) ∙ append_assoc there name place)
-    ∙ append_assoc there (name ++ place) step ∙ append_assoc (first ++ lines) before line ∙ append_assoc first lines (before ++ line)
+pushed_four first lines before name place step old a b c d is one two three four = four ∙ simp (three, two, one, is, append_assoc)
 
 pub loop-i-preserved : goal.loop-i-preserved
 loop-i-preserved c =
@@ -28,14 +23,11 @@ loop-i-preserved c =
     ∙ ap₂ step_text_of c.get-h.ensures (c.apply.ensures.step ∙ ap (step_of c.args.board.now) c.get-h.ensures) in
     let done = pushed_four _ (joined_lines place text (take c.loop-i.i moves)) _ c.args.name.now c.args.place.now
     c.as_str.result.now _ _ _ _ _
-    c.loop-i.invariant.pushed c.in_ok-push_str.ensures.bytes c.in_ok-push_str-2.ensures.bytes c.in_ok-push_str-3.ensures.bytes
+    c.loop-i.invariant c.in_ok-push_str.ensures.bytes c.in_ok-push_str-2.ensures.bytes c.in_ok-push_str-3.ensures.bytes
     c.in_ok-push_str-4.ensures.bytes in
-    record {
-      same = c.loop-i.invariant.same;
-      pushed = done ∙ ap (λ l. string_bytes c.args.text.now ++ l)
-          (ap₂ (λ b s. joined_lines place text (take c.loop-i.i moves) ++ (b ++ (place ++ s))) c.before_line.ensures step
-          ∙ sym (line_more place text moves c.loop-i.i low));
-    }
+    done ∙ ap (λ l. string_bytes c.args.text.now ++ l)
+    (ap₂ (λ b s. joined_lines place text (take c.loop-i.i moves) ++ (b ++ (place ++ s))) c.before_line.ensures step
+    ∙ sym (line_more place text moves c.loop-i.i low))
 
 pub returns : goal.returns
 returns c = grind (arith, common_steps)

@@ -13,11 +13,8 @@ loop-i-preserved g c =
     let one : ℕ → List ℕ = λ h. (place ++ step_text_of h (step_of c.args.board.now h)) ++ line_feed ∷ [] in
     let line = subst (λ s. WasGiven g.W.Sink.written g.W.Sink.has_failed c.loop-i.out c.write_step_line.new.out
     ((place ++ step_text_of c.get-h.result s) ++ line_feed ∷ [])) c.apply.ensures.step c.write_step_line.ensures in
-    record {
-      same = c.loop-i.invariant.same;
-      given = given_more _ _ one c.loop-i.invariant.same c.loop-i.i _ _ c.loop-i.invariant.given _ c.get-h.result
-          (omega (arith, c.loop-i-test.true, c.len-i-end.ensures)) c.get-h.ensures line;
-    }
+    given_more _ _ one c.legal-moves.ensures c.loop-i.i _ _ c.loop-i.invariant _ c.get-h.result
+    (omega (arith, c.loop-i-test.true, c.len-i-end.ensures)) c.get-h.ensures line
 
 pub returns : goal.returns
 returns g c =
@@ -27,6 +24,6 @@ returns g c =
     let some : 0 < length moves = omega (arith, c.if-len-eq0.false, c.len.ensures) in
     subst (WasGiven g.W.Sink.written g.W.Sink.has_failed c.args.out.now c.loop-i.out)
     (sym (lines_end place text moves some)
-    ∙ ap (λ ms. join_with_byte line_feed (map (λ t. place ++ t) (map text ms)) ++ line_feed ∷ []) c.loop-i.invariant.same)
+    ∙ ap (λ ms. join_with_byte line_feed (map (λ t. place ++ t) (map text ms)) ++ line_feed ∷ []) c.legal-moves.ensures)
     (given_all _ _ (λ h. (place ++ text h) ++ line_feed ∷ []) (let same : moves ≡ moves = λ _. moves in same) c.loop-i.i _ _
-    c.loop-i.invariant.given (omega (arith, c.loop-i-test.false, c.len-i-end.ensures)))
+    c.loop-i.invariant (omega (arith, c.loop-i-test.false, c.len-i-end.ensures)))

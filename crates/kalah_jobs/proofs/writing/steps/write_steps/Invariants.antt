@@ -1,13 +1,10 @@
-use Rattle.std.proofs.Common.{◌≡◌, ◌++◌, ◌∷◌, [], flat_map, take}
-use Rattle.kalah_rules.specs.Play.{legal_houses, step_of}
+use Rattle.std.proofs.Common.{◌++◌, ◌∷◌, [], flat_map, take}
+use Rattle.kalah_rules.specs.Play.{step_of}
 use Rattle.kalah_jobs.specs.Files.Lines.{line_feed}
 use Rattle.kalah_jobs.specs.Line.Line.{step_text_of}
 use Rattle.kalah_jobs.specs.Writing.Given.{WasGiven}
 use Rattle.kalah_jobs.proofs.writing.steps.write_steps.Given as goal
 
 abbrev pub invariant-loop-i : goal.invariant-loop-i
-invariant-loop-i g l = record {
-  same : l.moves ≡ legal_houses l.board;
-  given : WasGiven g.W.Sink.written g.W.Sink.has_failed l.initial.out l.out
-      (flat_map (λ h. ((l.fn.name ++ l.fn.place) ++ step_text_of h (step_of l.board h)) ++ line_feed ∷ []) (take l.i l.moves));
-}
+invariant-loop-i g l = WasGiven g.W.Sink.written g.W.Sink.has_failed l.initial.out l.out
+    (flat_map (λ h. ((l.fn.name ++ l.fn.place) ++ step_text_of h (step_of l.board h)) ++ line_feed ∷ []) (take l.i l.moves))

@@ -1,4 +1,4 @@
-use Rattle.std.proofs.Common.{◌++◌, ◌∷◌, [], ◌<◌, ◌∙◌, ℕ, List, ap, arith, length, subst, sym}
+use Rattle.std.proofs.Common.{◌++◌, ◌∷◌, [], ◌==◌, ◌∙◌, ℕ, List, ap, arith, codes, cond, subst, sym, take}
 use Rattle.std.proofs.lemmas.List.{take_all}
 use Rattle.kalah_rules.specs.Play.{step_of}
 use Rattle.kalah_jobs.specs.Files.Lines.{line_feed}
@@ -10,19 +10,18 @@ use Rattle.kalah_jobs.proofs.writing.steps_in_line.write_steps_in_line.Goals as 
 pub loop-i-preserved : goal.loop-i-preserved
 loop-i-preserved g c =
     let text : ℕ → List ℕ = λ h. step_text_of h (step_of c.args.board.now h) in
-    let low : c.loop-i.i < length c.legal-moves.result = omega (arith, c.loop-i-test.true, c.len-i-end.ensures) in
-    record {
-      same = c.loop-i.invariant.same;
-      given = subst (WasGiven g.W.Sink.written g.W.Sink.has_failed c.args.out.now c.write_next.new.out)
-          (sym (text_more text c.legal-moves.result c.loop-i.i c.get.result low c.get.ensures))
-          (given_then _ _ _ _ _ _ _ c.loop-i.invariant.given c.write_next.ensures);
-    }
+    let moves = c.legal-moves.result in
+    let i = c.loop-i.i in
+    let more = text_more text moves i (omega (arith, c.loop-i-test.true, c.len-i-end.ensures)) in
+    subst (WasGiven g.W.Sink.written g.W.Sink.has_failed c.args.out.now c.write_next.new.out)
+    (sym (more ∙ ap (λ h. texts_in_line text (take i moves) ++ (cond (i == 0) [] (codes "; ") ++ text h)) (sym c.get.ensures)))
+    (given_then _ _ _ _ _ _ _ c.loop-i.invariant c.write_next.ensures)
 
 pub returns : goal.returns
 returns g c =
     let text : ℕ → List ℕ = λ h. step_text_of h (step_of c.args.board.now h) in
     let moves = c.legal-moves.result in
-    let all = take_all c.loop-i.i moves (omega (arith, c.loop-i-test.false, c.len-i-end.ensures)) ∙ c.loop-i.invariant.same in
+    let all = take_all c.loop-i.i moves (omega (arith, c.loop-i-test.false, c.len-i-end.ensures)) ∙ c.legal-moves.ensures in
     subst (WasGiven g.W.Sink.written g.W.Sink.has_failed c.args.out.now c.write_unless_failed.new.out)
     (ap (λ ms. texts_in_line text ms ++ line_feed ∷ []) all)
-    (given_then _ _ _ _ _ _ _ c.loop-i.invariant.given c.write_unless_failed.ensures)
+    (given_then _ _ _ _ _ _ _ c.loop-i.invariant c.write_unless_failed.ensures)

@@ -1,8 +1,5 @@
-use Rattle.std.proofs.Common.{◌≡◌, ℕ, List, ◌++◌}
-use Rattle.std.specs.Io.KnownBytes.{Appends}
+use Rattle.kalah_jobs.proofs.WritingLemmas.{IsLeft}
 use Rattle.kalah_jobs.proofs.writing.stream.write_rest.Given as goal
 
--- what is no longer left was written
 abbrev pub invariant-loop : goal.invariant-loop
-invariant-loop g l = (done : List ℕ) × (l.fn.bytes ≡ done ++ l.rest)
-    × Appends (g.W.Write.contents l.fn.writer) (g.W.Write.contents l.writer) done
+invariant-loop g l = IsLeft (g.W.Write.contents l.fn.writer) (g.W.Write.contents l.writer) l.fn.bytes l.rest

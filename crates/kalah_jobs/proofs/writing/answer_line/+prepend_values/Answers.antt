@@ -1,0 +1,7 @@
+use Rattle.std.proofs.Common.{arith}
+use Rattle.std.proofs.lemmas.Grind.{common_steps}
+use Rattle.kalah_jobs.proofs.WritingLemmas.{value_before}
+use Rattle.kalah_jobs.proofs.writing.answer_line.+prepend_values.Goals as goal
+
+pub returns-clause-values : goal.returns-clause-values
+returns-clause-values t c = grind (arith, common_steps, value_before c.args.values.now c.args.i c.get-value.result)

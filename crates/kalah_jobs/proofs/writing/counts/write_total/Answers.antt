@@ -1,9 +1,0 @@
-use Rattle.std.proofs.Common.{arith}
-use Rattle.kalah_jobs.proofs.WritingLemmas.{number_length}
-use Rattle.kalah_jobs.proofs.writing.counts.write_total.Goals as goal
-
-pub prepend_number-requires : goal.prepend_number-requires
-prepend_number-requires g c = grind (arith, number_length)
-
-pub prepend-requires-2 : goal.prepend-requires-2
-prepend-requires-2 g c = grind (arith, number_length)
