@@ -5,7 +5,7 @@ ghost use Rattle.kalah_cli.specs.Failure.{failure_of};
 
 use crate::files::ReadFault;
 use crate::status::ExitStatus;
-use crate::tips::{Messages, of_failure, say, write_line_tip, write_position_tip, write_tip};
+use crate::tips::{Messages, say, tip_for_failure, write_line_tip, write_position_tip, write_tip};
 use kalah_jobs::{LineFault, Sink, read_line};
 use kalah_run::RunFault;
 use std::io::Write;
@@ -61,7 +61,7 @@ impl Failure<'_> {
 }
 
 /// Returns the exit status of a run that ended so. If it failed, it reports the failure on `err`, with its tip.
-pub(crate) fn status_of<E: Write>(
+pub(crate) fn report_end<E: Write>(
     ended: Result<ExitStatus, Failure<'_>>,
     err: &mut Messages<'_, E>,
 ) -> ExitStatus
@@ -72,7 +72,7 @@ pub(crate) fn status_of<E: Write>(
         Err(failure) => failure,
     };
     let status = failure.report(err.writer);
-    if let Some(words) = of_failure(failure) {
+    if let Some(words) = tip_for_failure(failure) {
         write_tip(words, err);
     }
     status
@@ -92,7 +92,7 @@ pub(crate) fn report_fault<E: Write>(
 }
 
 /// Returns `Clean` if the output has not failed. Otherwise fails with `Write`.
-pub(crate) fn written<O: Sink>(out: &O) -> Result<ExitStatus, Failure<'static>>
+pub(crate) fn status_of_sink<O: Sink>(out: &O) -> Result<ExitStatus, Failure<'static>>
     ensures failed { O.has_failed out.now ≡ true ↔ ended_by result ≡ ExitStatus.Failed }
     ensures no_line { ended_by result ≢ ExitStatus.LineFaults }
 {

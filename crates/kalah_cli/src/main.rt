@@ -43,6 +43,7 @@ fn words_of(rt: &HostRuntime) -> io::Result<Vec<String>> {
 fn main(rt: HostRuntime) -> ExitCode {
     let mut err = rt.stderr();
     let status = match words_of(&rt) {
+        // There is not even the program's name: it ends without a message.
         Ok(words) if words.is_empty() => ExitStatus::Failed,
         Ok(words) => match BufWriter::new(rt.alloc(), Fused::new(io::writer(&rt))) {
             Ok(out) => run_words(
@@ -58,6 +59,7 @@ fn main(rt: HostRuntime) -> ExitCode {
             Failure::OutOfMemory.report(&mut err)
         }
         Err(_) => {
+            // If the message can't be written, it is dropped.
             let _ = err.write_all(b"kalah: a word is not UTF-8\n");
             ExitStatus::Failed
         }

@@ -8,8 +8,8 @@ use std::io::Write;
 #[derive(Drop)]
 pub(crate) struct Messages<'a, E> {
     pub(crate) writer: &'a mut E,
-    /// Whether they are shown on a terminal, so that tips follow refusals.
-    pub(crate) are_shown: bool,
+    /// Whether this writer is a terminal, so that tips follow refusals.
+    pub(crate) on_terminal: bool,
 }
 
 /// Writes texts, one after another. What can't be written is dropped.
@@ -19,9 +19,9 @@ pub(crate) fn say<E: Write>(texts: &[&str], err: &mut E) {
     }
 }
 
-/// Writes these words as a tip, if messages are shown on a terminal.
+/// Writes these words as a tip, if messages go to a terminal.
 pub(crate) fn write_tip<E: Write>(words: &str, err: &mut Messages<'_, E>) {
-    if err.are_shown {
+    if err.on_terminal {
         say(&["  tip: ", words, "\n"], err.writer);
     }
 }
@@ -33,11 +33,11 @@ pub(crate) fn write_position_tip<E: Write>(line: &str, err: &mut E) {
 }
 
 /// Returns the tip for a failure, if there is one that its report doesn't have.
-pub(crate) fn of_failure(failure: Failure<'_>) -> Option<&'static str> {
+pub(crate) fn tip_for_failure(failure: Failure<'_>) -> Option<&'static str> {
     Some(match failure {
         Failure::Unreadable(name, _) if read_line(name.as_bytes()).is_ok() => return None,
         Failure::Unreadable("-", ReadFault::Missing) => "for standard input, use /dev/stdin",
-        Failure::Unreadable(_, fault) => of_fault(fault),
+        Failure::Unreadable(_, fault) => tip_for_fault(fault),
         Failure::TooManyFiles =>
             "at most 256 files a run; give them to several runs (docs/LARGE.md)",
         Failure::TooManyLines =>
@@ -47,7 +47,7 @@ pub(crate) fn of_failure(failure: Failure<'_>) -> Option<&'static str> {
 }
 
 // Returns the words for the cause that a file is not read.
-fn of_fault(fault: ReadFault) -> &'static str {
+fn tip_for_fault(fault: ReadFault) -> &'static str {
     match fault {
         ReadFault::Missing => "there is no such file",
         ReadFault::Folder => "it is a folder; name the files in it",
@@ -58,9 +58,9 @@ fn of_fault(fault: ReadFault) -> &'static str {
     }
 }
 
-/// Writes the tip for a line with this fault, if messages are shown on a terminal.
+/// Writes the tip for a line with this fault, if messages go to a terminal.
 pub(crate) fn write_line_tip<E: Write>(line: &str, fault: LineFault, err: &mut Messages<'_, E>) {
-    if !err.are_shown {
+    if !err.on_terminal {
         return;
     }
     let words = match fault {
@@ -118,7 +118,7 @@ const ARGUMENTS: &[(&str, &str, &str)] = &[
 ];
 
 /// Returns the tip for arguments that the command line refuses with this text, if there is one.
-pub(crate) fn of_arguments(text: &str) -> Option<&'static str> {
+pub(crate) fn tip_for_arguments(text: &str) -> Option<&'static str> {
     for (one, other, tip) in ARGUMENTS {
         if text.contains(*one) && text.contains(*other) {
             return Some(*tip);
