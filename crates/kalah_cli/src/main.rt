@@ -31,9 +31,10 @@ use fused::Fused;
 use prompt_stream::PromptStream;
 use run::run_words;
 use status::ExitStatus;
-use std::io::{BufWriter, ErrorKind, Write};
+use std::io::{BufWriter, ErrorKind};
 use std::process::ExitCode;
 use std::{env, io};
+use tips::say;
 
 // Returns the arguments, of which the first is the program's name.
 fn words_of(rt: &HostRuntime) -> io::Result<Vec<String>> {
@@ -59,8 +60,7 @@ fn main(rt: HostRuntime) -> ExitCode {
             Failure::OutOfMemory.report(&mut err)
         }
         Err(_) => {
-            // If the message can't be written, it is dropped.
-            let _ = err.write_all(b"kalah: a word is not UTF-8\n");
+            say(&["kalah: a word is not UTF-8\n"], &mut err);
             ExitStatus::Failed
         }
     };

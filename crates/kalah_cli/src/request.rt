@@ -155,43 +155,35 @@ fn requested<'a>(alloc: Global, name: &str, found: &ArgMatches<'a>) -> Result<Re
     ensures asked { IfOk result (λ r. matches_ask (name.now, rows_of (found_of found.now)) ≡ Some (request_asks r)) }
     ensures range { IfOk result IsInRange }
 {
-    match name {
-        "moves" => Ok(Request::Line {
-            line: line_of(found),
-            command: LineCommand::Moves {
-                boards: is_set(found, "boards"),
-            },
-        }),
-        "play" => Ok(Request::Line {
-            line: line_of(found),
-            command: LineCommand::Play {
-                table: number_of(found, "table"),
-                boards: is_set(found, "boards"),
-                first: given_byte(found, "first"),
-            },
-        }),
-        "solve" => files_request(alloc, Question::BestMove, found),
-        "values" => files_request(alloc, Question::Values, found),
+    let command = match name {
+        "solve" => return files_request(alloc, Question::BestMove, found),
+        "values" => return files_request(alloc, Question::Values, found),
+        "steps" => return files_request(alloc, Question::Steps, found),
         "ask" => {
             let (values, steps) = (is_set(found, "values"), is_set(found, "steps"));
-            Ok(ask_request(values, steps, given_number(found, "table")))
+            return Ok(ask_request(values, steps, given_number(found, "table")));
         }
-        "steps" => files_request(alloc, Question::Steps, found),
-        "show" => Ok(Request::Line {
-            line: line_of(found),
-            command: LineCommand::Show {
-                table: number_of(found, "table"),
-                plain: is_set(found, "plain"),
-            },
-        }),
-        "count" => Ok(Request::Line {
-            line: line_of(found),
-            command: LineCommand::Count {
-                depth: given_byte(found, "depth").unwrap(),
-            },
-        }),
+        "moves" => LineCommand::Moves {
+            boards: is_set(found, "boards"),
+        },
+        "play" => LineCommand::Play {
+            table: number_of(found, "table"),
+            boards: is_set(found, "boards"),
+            first: given_byte(found, "first"),
+        },
+        "show" => LineCommand::Show {
+            table: number_of(found, "table"),
+            plain: is_set(found, "plain"),
+        },
+        "count" => LineCommand::Count {
+            depth: given_byte(found, "depth").unwrap(),
+        },
         _ => unreachable!(),
-    }
+    };
+    Ok(Request::Line {
+        line: line_of(found),
+        command,
+    })
 }
 
 /// Parses the arguments, whose first is the program's name. Fails with the command line's own

@@ -32,18 +32,22 @@ pub(crate) fn write_position_tip<E: Write>(line: &str, err: &mut E) {
     say(&[before, line, "'`, or `kalah ask`\n"], err);
 }
 
-/// Returns the tip for a failure, if there is one that its report doesn't have.
-pub(crate) fn tip_for_failure(failure: Failure<'_>) -> Option<&'static str> {
-    Some(match failure {
-        Failure::Unreadable(name, _) if read_line(name.as_bytes()).is_ok() => return None,
+/// Writes the tip for a failure, if it has one and messages go to a terminal. If a file can't be read whose name is a position, the tip
+/// is always written, and says what prints that.
+pub(crate) fn write_failure_tip<E: Write>(failure: Failure<'_>, err: &mut Messages<'_, E>) {
+    let words = match failure {
+        Failure::Unreadable(name, _) if read_line(name.as_bytes()).is_ok() => {
+            return write_position_tip(name, err.writer);
+        }
         Failure::Unreadable("-", ReadFault::Missing) => "for standard input, use /dev/stdin",
         Failure::Unreadable(_, fault) => tip_for_fault(fault),
         Failure::TooManyFiles =>
             "at most 256 files a run; give them to several runs (docs/LARGE.md)",
         Failure::TooManyLines =>
             "at most 1000000 lines a run; `kalah ask` has no limit, or split the files (docs/LARGE.md)",
-        _ => return None,
-    })
+        _ => return,
+    };
+    write_tip(words, err);
 }
 
 // Returns the words for the cause that a file is not read.
