@@ -84,14 +84,14 @@ table_asked BestMove rows = number_given (codes "table") rows
 table_asked Values rows = number_given (codes "table") rows
 table_asked Steps rows = Some (table_of Steps)
 
--- what they ask for
+-- what these matches ask for
 abbrev pub files_ask : Question → List Row → Option Asked
 files_ask question rows = option_and_then (λ table. option_and_then (λ workers.
     option_map (answers question workers table (is_set (codes "progress") rows)) (all_of (codes "file") rows))
     (number_given (codes "workers") rows))
     (table_asked question rows)
 
--- what `ask` with the flags `--values` and `--steps` asks for, and with this table: steps exclude the other two
+-- what `ask` asks for, with `--values` and `--steps` set or not, and with this table, if one is given: steps exclude the other two
 abbrev pub flags_ask : Bool → Bool → Option ℕ → Asked
 flags_ask false false table = ask BestMove (unwrap_or table default_entries)
 flags_ask true false table = ask Values (unwrap_or table default_entries)
