@@ -10,7 +10,7 @@ use Rattle.clap.proofs.OnLiterals.{clap_on_literals}
 use Rattle.kalah_jobs.specs.declared.files.question.Question.{Question}
 use Rattle.kalah_jobs.specs.declared.files.question.Question.TheVariants.{BestMove, Steps, Values}
 use Rattle.kalah_cli.specs.Command.{file_rule, kalah_app, table_rule, workers_rule}
-use Rattle.kalah_cli.specs.Request.{AreMatches, HasNumber, MayHaveNumber, command_of, number_written, is_set, number_given, Asked, IsPlainWord, IsTakenAs, moves, asked, asked_by}
+use Rattle.kalah_cli.specs.Request.{AreMatches, HasNumber, MayHaveNumber, command_of, number_written, is_set, number_given, Asked, IsPlainWord, IsTakenAs, moves, words_ask, matches_ask}
 use Rattle.kalah_cli.proofs.ClapLemmas.{Given, HasOf, IsUsableIn, accepted_in, arg_in, given_in, is_wanted, taken_has, cases_Option}
 use Rattle.std.specs.Str.{bytes_eq}
 use Rattle.std.proofs.lemmas.Bool.{false_from_ne_true, ne_eqb}
@@ -191,10 +191,10 @@ parsed a words o is none rows =
     record { none = none; same = same; taken = (met.0, met.1, same ∙ met.2, (words, none, met.2)) }
 
 -- and what its matches ask for is what the arguments ask for
-pub asked_is : (words : List Text) (o : Option (Text × List Row)) (a : Asked) → o ≡ subcommand_of kalah_app words
-    → option_and_then asked_by o ≡ Some a
-    → asked words ≡ Some a
-asked_is words o a same is = ap (option_and_then asked_by) (sym same) ∙ is
+pub words_ask_as_matches : (words : List Text) (o : Option (Text × List Row)) (a : Asked) → o ≡ subcommand_of kalah_app words
+    → option_and_then matches_ask o ≡ Some a
+    → words_ask words ≡ Some a
+words_ask_as_matches words o a same is = ap (option_and_then matches_ask) (sym same) ∙ is
 
 -- if it fails, the error has a kind of the arguments' fault
 pub faulty : (a : App) (words : List Text) (e : Error) → a ≡ kalah_app →

@@ -7,9 +7,9 @@ use Rattle.kalah_jobs.specs.Line.Line.{Reads}
 use Rattle.kalah_jobs.specs.Writing.Given.{WasGiven}
 use Rattle.kalah_jobs.proofs.LineLemmas.{reads_once}
 use Rattle.kalah_jobs.proofs.WritingLemmas.{given_flushed, start_none}
-use Rattle.kalah_cli.specs.Ends.{AnswersLine, Ends, FailsQuietly, IsPrinted, IsUnread, Prints, ended_by}
+use Rattle.kalah_cli.specs.Ends.{AnswersLine, Ends, FailsWithoutOutput, IsPrinted, IsUnread, Prints, ended_by}
 use Rattle.kalah_cli.specs.declared.failure.Failure.{Failure}
-use Rattle.kalah_cli.specs.Line.{MayPrint, output_of}
+use Rattle.kalah_cli.specs.Line.{MayPrint, command_output}
 use Rattle.kalah_cli.specs.declared.request.LineCommand.{LineCommand}
 use Rattle.kalah_cli.specs.declared.request.LineCommand.TheVariants.{Moves, Play, Show, Count}
 use Rattle.kalah_jobs.specs.declared.asking.ask_fault.AskFault.{AskFault}
@@ -40,8 +40,8 @@ use Rattle.clap.specs.declared.error.Error.{Error}
 use Rattle.clap.specs.declared.error.kind.ErrorKind.{ErrorKind}
 use Rattle.clap.specs.declared.error.kind.ErrorKind.TheVariants.{OutOfMemory}
 use Rattle.kalah_cli.specs.Command.{kalah_app}
-use Rattle.kalah_cli.specs.Request.{Asked, asked_of, answers, ask, conflict, count, moves, play, show}
-use Rattle.kalah_cli.specs.Runs.{Does, DoesByItsWords, DoesWhatIsAsked, IsOfNoInput}
+use Rattle.kalah_cli.specs.Request.{Asked, command_asks, answers, ask, conflict, count, moves, play, show}
+use Rattle.kalah_cli.specs.Runs.{Does, DoesWhatIsAsked, IsOfNoInput, MovesByItsWords}
 use Rattle.kalah_cli.proofs.RequestLemmas.{moves_taken, taken_at, read_is_plain}
 
 -- ---- how runs end that answer a line
@@ -74,32 +74,32 @@ module _ {O : Type 0} (written : O → Option (List ℕ)) (has_failed is_handed_
   pub prints_nothing : {out : O} {text : List ℕ} → status ≡ Failed → Prints written has_failed is_handed_on out out status text
   prints_nothing {out} {text} failed = record { start = start_none (written out) text; whole = λ went. absurd (went failed) }
 
-  -- it prints its text of the position of its line, and fails quietly if it may not be printed
+  -- it prints its text of the position of its line, and fails without output if it may not be printed
   line_done : {line : List ℕ} (command : LineCommand) {old new : O}
-      → AnswersLine written has_failed is_handed_on old new status line (output_of command)
-      → ((p : Position) → Reads line p → (MayPrint command p → ⊥) → FailsQuietly old new status)
-      → Does written has_failed is_handed_on old new status (asked_of command line)
-  line_done (Moves boards) is quietly = is
-  line_done (Play table boards first) is quietly = (is, quietly)
-  line_done (Show table plain) is quietly = is
-  line_done (Count depth) is quietly = is
+      → AnswersLine written has_failed is_handed_on old new status line (command_output command)
+      → ((p : Position) → Reads line p → (MayPrint command p → ⊥) → FailsWithoutOutput old new status)
+      → Does written has_failed is_handed_on old new status (command_asks command line)
+  line_done (Moves boards) is fails = is
+  line_done (Play table boards first) is fails = (is, fails)
+  line_done (Show table plain) is fails = is
+  line_done (Count depth) is fails = is
 
   module _ (command : LineCommand) {line bytes : List ℕ} (same : bytes ≡ line) where
     module _ (p : Position) (reads : Reads bytes p) where
       -- the text of the position was printed
-      pub line_answered : {old new : O} → IsPrinted written has_failed is_handed_on old new (output_of command p) → MayPrint command p
+      pub line_answered : {old new : O} → IsPrinted written has_failed is_handed_on old new (command_output command p) → MayPrint command p
           → (has_failed new ≡ true) ↔ (status ≡ Failed) → status ≢ LineFaults
-          → Does written has_failed is_handed_on old new status (asked_of command line)
+          → Does written has_failed is_handed_on old new status (command_asks command line)
       line_answered {old} {new} printed may fails no_fault =
           let sound : status ≢ Failed → has_failed new ≡ false =
           λ went. false_from_ne_true (has_failed new) (λ failed. went (fails.0 failed)) in
-          let prints : Prints written has_failed is_handed_on old new status (output_of command p) =
+          let prints : Prints written has_failed is_handed_on old new status (command_output command p) =
           record { start = printed.given.start; whole = λ went. (printed.given.whole (sound went)).1 } in
           let is : (q : Position) → Reads line q → p ≡ q = λ q other. reads_once line p q (read_at same p reads) other in
           line_done command (record {
             read = λ q other. (
               no_fault,
-              subst (λ r. Prints written has_failed is_handed_on old new status (output_of command r)) (is q other) prints,
+              subst (λ r. Prints written has_failed is_handed_on old new status (command_output command r)) (is q other) prints,
             );
             unread = λ none. absurd (none p (read_at same p reads));
             ends = record {
@@ -111,9 +111,10 @@ module _ {O : Type 0} (written : O → Option (List ℕ)) (has_failed is_handed_
 
       -- the command failed before anything was written
       pub line_refused : {old new : O} → status ≡ Failed → has_failed old ≡ false → new ≡ old
-          → Does written has_failed is_handed_on old new status (asked_of command line)
+          → Does written has_failed is_handed_on old new status (command_asks command line)
       line_refused {old} failed sound still =
-          subst (λ new. Does written has_failed is_handed_on old new status (asked_of command line)) (sym still) (line_done command (record {
+          subst (λ new. Does written has_failed is_handed_on old new status (command_asks command line)) (sym still)
+          (line_done command (record {
             read = λ q other. (λ fault. let both : Failed ≡ LineFaults = sym failed ∙ fault in cc, prints_nothing failed);
             unread = λ none. absurd (none p (read_at same p reads));
             ends = ends_unchanged sound;
@@ -121,7 +122,7 @@ module _ {O : Type 0} (written : O → Option (List ℕ)) (has_failed is_handed_
 
     -- the line writes no position
     pub line_unread : {out : O} → IsUnread bytes → status ≡ LineFaults → has_failed out ≡ false
-        → Does written has_failed is_handed_on out out status (asked_of command line)
+        → Does written has_failed is_handed_on out out status (command_asks command line)
     line_unread none fault sound = line_done command (record {
       read = λ p reads. absurd (none p (read_at (sym same) p reads));
       unread = λ _. (fault, refl);
@@ -252,9 +253,9 @@ few_ways n depth few high = le_trans few (pow-le-pow_right {n = 6} (omega arith)
 
 module _ {O : Type 0} (written : O → Option (List ℕ)) (has_failed is_handed_on : O → Bool) {old new : O} {status : ExitStatus}
     (sound : has_failed old ≡ false) where
-  -- a run that fails quietly ends as any
-  pub ends_quietly : FailsQuietly old new status → Ends written has_failed is_handed_on old new status
-  ends_quietly quiet = subst (λ o. Ends written has_failed is_handed_on old o status) (sym quiet.1)
+  -- a run that fails without output ends as any
+  pub ends_without_output : FailsWithoutOutput old new status → Ends written has_failed is_handed_on old new status
+  ends_without_output fails = subst (λ o. Ends written has_failed is_handed_on old o status) (sym fails.1)
       (ends_unchanged written has_failed is_handed_on sound)
 
   -- how a run ends that does what is asked, unless lines of the standard input are to be answered
@@ -266,7 +267,7 @@ module _ {O : Type 0} (written : O → Option (List ℕ)) (has_failed is_handed_
   run_ends (ask question table) none does = absurd none
   run_ends (show plain table line) _ does = does.ends
   run_ends (count depth line) _ does = does.ends
-  run_ends conflict _ does = ends_quietly does
+  run_ends conflict _ does = ends_without_output does
 
   pub run_fails : (a : Asked) → Does written has_failed is_handed_on old new status a → has_failed new ≡ true → status ≡ Failed
   run_fails (ask question table) does = does.1.failed
@@ -281,21 +282,21 @@ module _ {O : Type 0} (written : O → Option (List ℕ)) (has_failed is_handed_
 -- so what is promised of arguments that are accepted covers those of `moves`
 pub by_words : {O : Type 0} (written : O → Option (List ℕ)) (has_failed is_handed_on : O → Bool) (words : List Text) (old new : O)
     (status : ExitStatus) → DoesWhatIsAsked written has_failed is_handed_on old new status words
-    → DoesByItsWords written words old new status
+    → MovesByItsWords written words old new status
 by_words written has_failed is_handed_on words old new status accepted = record {
   moves = λ name line is p reads.
       elim (accepted (moves false line) (taken_at is (moves_taken name line (read_is_plain line p reads)))) [
         | inl does ↦
             let printed = does.read p reads in
             (printed.0, λ clean. printed.1.whole (λ failed. let both : Failed ≡ Clean = sym failed ∙ clean in cc))
-        | inr quiet ↦ (
-          λ fault. let both : Failed ≡ LineFaults = sym quiet.0 ∙ fault in cc,
-          λ clean. absurd (let both : Failed ≡ Clean = sym quiet.0 ∙ clean in cc),
+        | inr fails ↦ (
+          λ fault. let both : Failed ≡ LineFaults = sym fails.0 ∙ fault in cc,
+          λ clean. absurd (let both : Failed ≡ Clean = sym fails.0 ∙ clean in cc),
         )
       ];
   unread = λ name line is plain none. elim (accepted (moves false line) (taken_at is (moves_taken name line plain))) [
     | inl does ↦ (λ clean. let both : LineFaults ≡ Clean = sym (does.unread none).0 ∙ clean in cc, (does.unread none).1)
-    | inr quiet ↦ (λ clean. let both : Failed ≡ Clean = sym quiet.0 ∙ clean in cc, quiet.1)
+    | inr fails ↦ (λ clean. let both : Failed ≡ Clean = sym fails.0 ∙ clean in cc, fails.1)
   ];
 }
 

@@ -1,5 +1,5 @@
--- What a run printed, and how it ended. Of an output `written` is what it has of the bytes that it was given, `has_failed` whether a call of
--- it has failed, and `is_handed_on` whether all that was written is flushed.
+-- What a run printed, and how it ended. Of an output `written` is what it has of the bytes that it was given, `has_failed` whether a call
+-- of it has failed, and `is_handed_on` whether all that was written is flushed.
 use Rattle.std.specs.Prelude.{◌≡◌, ◌≢◌, ℕ, List, Bool, false, true, Option, Result, Ok, Err}
 use Rattle.std.specs.Io.KnownBytes.{Appends}
 use Rattle.kalah_rules.specs.Position.{Position}
@@ -24,9 +24,9 @@ module _ {O : Type 0} (written : O → Option (List ℕ)) (has_failed is_handed_
 abbrev pub IsUnread : List ℕ → Type 0
 IsUnread line = (p : Position) → Reads line p → ⊥
 
--- the program failed, and nothing was written
-abbrev pub FailsQuietly : {O : Type 0} → O → O → ExitStatus → Type 0
-FailsQuietly old new status = (status ≡ Failed) × (new ≡ old)
+-- the program failed, and its output is as it was
+abbrev pub FailsWithoutOutput : {O : Type 0} → O → O → ExitStatus → Type 0
+FailsWithoutOutput old new status = (status ≡ Failed) × (new ≡ old)
 
 module _ {O : Type 0} (written : O → Option (List ℕ)) (has_failed is_handed_on : O → Bool) (old new : O) (status : ExitStatus) where
   -- If a write failed, the program failed. If it failed for another cause, nothing was written. If it did not fail, all that was written

@@ -13,11 +13,11 @@ use Rattle.kalah_cli.specs.declared.request.LineCommand.TheVariants.{Moves, Play
 abbrev pub show_output : Bool → Position → List ℕ
 show_output plain p = if plain then picture_of p else shown_of p
 
-abbrev pub output_of : LineCommand → Position → List ℕ
-output_of (Moves boards) = moves_output boards
-output_of (Play table boards first) = play_output first boards
-output_of (Show table plain) = show_output plain
-output_of (Count depth) = count_output depth
+abbrev pub command_output : LineCommand → Position → List ℕ
+command_output (Moves boards) = moves_output boards
+command_output (Play table boards first) = play_output first boards
+command_output (Show table plain) = show_output plain
+command_output (Count depth) = count_output depth
 
 -- it is printed: a game can't begin with a house that may not be moved
 abbrev pub MayPrint : LineCommand → Position → Type 0

@@ -54,6 +54,8 @@ table_of BestMove = default_entries
 table_of Values = default_entries
 table_of Steps = 1
 
+-- ---- what arguments ask for: their matches are rows of values, each under the name of an argument
+
 -- the number that a text of digits writes
 abbrev pub number_written : Text → ℕ
 number_written text = digits_value 10 (without_leading_plus text)
@@ -67,12 +69,12 @@ abbrev pub is_set : Text → List Row → Bool
 is_set id rows = option_map_or (λ t. bytes_eq t (codes "true")) (one_of id rows) false
 
 -- what the matches of `moves` ask for
-abbrev pub moves_asked : List Row → Option Asked
-moves_asked rows = option_map (moves (is_set (codes "boards") rows)) (first_of (codes "line") rows)
+abbrev pub moves_asks : List Row → Option Asked
+moves_asks rows = option_map (moves (is_set (codes "boards") rows)) (first_of (codes "line") rows)
 
 -- what the matches of `play` ask for
-abbrev pub play_asked : List Row → Option Asked
-play_asked rows = option_and_then (λ table.
+abbrev pub play_asks : List Row → Option Asked
+play_asks rows = option_and_then (λ table.
     option_map (play (number_given (codes "first") rows) table (is_set (codes "boards") rows)) (first_of (codes "line") rows))
     (number_given (codes "table") rows)
 
@@ -82,52 +84,53 @@ table_asked BestMove rows = number_given (codes "table") rows
 table_asked Values rows = number_given (codes "table") rows
 table_asked Steps rows = Some (table_of Steps)
 
--- what they ask for
-abbrev pub files_asked : Question → List Row → Option Asked
-files_asked question rows = option_and_then (λ table. option_and_then (λ workers.
+-- what these matches ask for
+abbrev pub files_ask : Question → List Row → Option Asked
+files_ask question rows = option_and_then (λ table. option_and_then (λ workers.
     option_map (answers question workers table (is_set (codes "progress") rows)) (all_of (codes "file") rows))
     (number_given (codes "workers") rows))
     (table_asked question rows)
 
--- what `ask` asks for with these flags `--values` and `--steps`, and with this table: steps exclude the other two
-abbrev pub ask_for : Bool → Bool → Option ℕ → Asked
-ask_for false false table = ask BestMove (unwrap_or table default_entries)
-ask_for true false table = ask Values (unwrap_or table default_entries)
-ask_for false true None = ask Steps (table_of Steps)
-ask_for false true (Some entries) = conflict
-ask_for true true table = conflict
+-- what `ask` asks for, with `--values` and `--steps` set or not, and with this table, if one is given: steps exclude the other two
+abbrev pub flags_ask : Bool → Bool → Option ℕ → Asked
+flags_ask false false table = ask BestMove (unwrap_or table default_entries)
+flags_ask true false table = ask Values (unwrap_or table default_entries)
+flags_ask false true None = ask Steps (table_of Steps)
+flags_ask false true (Some entries) = conflict
+flags_ask true true table = conflict
 
 -- what the matches of `ask` ask for
-abbrev pub ask_asked : List Row → Asked
-ask_asked rows = ask_for (is_set (codes "values") rows) (is_set (codes "steps") rows) (number_given (codes "table") rows)
+abbrev pub ask_asks : List Row → Asked
+ask_asks rows = flags_ask (is_set (codes "values") rows) (is_set (codes "steps") rows) (number_given (codes "table") rows)
 
 -- what the matches of `show` ask for
-abbrev pub show_asked : List Row → Option Asked
-show_asked rows = option_and_then (λ table. option_map (show (is_set (codes "plain") rows) table) (first_of (codes "line") rows))
+abbrev pub show_asks : List Row → Option Asked
+show_asks rows = option_and_then (λ table. option_map (show (is_set (codes "plain") rows) table) (first_of (codes "line") rows))
     (number_given (codes "table") rows)
 
 -- what the matches of `count` ask for
-abbrev pub count_asked : List Row → Option Asked
-count_asked rows = option_and_then (λ depth. option_map (count depth) (first_of (codes "line") rows)) (number_given (codes "depth") rows)
+abbrev pub count_asks : List Row → Option Asked
+count_asks rows = option_and_then (λ depth. option_map (count depth) (first_of (codes "line") rows)) (number_given (codes "depth") rows)
 
--- what a subcommand with its matches asks for
-abbrev pub asked_by : Text × List Row → Option Asked
-asked_by p =
-    if bytes_eq p.0 (codes "moves") then moves_asked p.1
-    else (if bytes_eq p.0 (codes "play") then play_asked p.1
-    else (if bytes_eq p.0 (codes "solve") then files_asked BestMove p.1
-    else (if bytes_eq p.0 (codes "values") then files_asked Values p.1
-    else (if bytes_eq p.0 (codes "ask") then Some (ask_asked p.1)
-    else (if bytes_eq p.0 (codes "steps") then files_asked Steps p.1
-    else (if bytes_eq p.0 (codes "show") then show_asked p.1 else count_asked p.1))))))
+-- what the matches of the subcommand of this name ask for. There is no other name, so the last is `count`
+abbrev pub matches_ask : Text × List Row → Option Asked
+matches_ask (name, rows) =
+    if bytes_eq name (codes "moves") then moves_asks rows
+    else if bytes_eq name (codes "play") then play_asks rows
+    else if bytes_eq name (codes "solve") then files_ask BestMove rows
+    else if bytes_eq name (codes "values") then files_ask Values rows
+    else if bytes_eq name (codes "ask") then Some (ask_asks rows)
+    else if bytes_eq name (codes "steps") then files_ask Steps rows
+    else if bytes_eq name (codes "show") then show_asks rows
+    else count_asks rows
 
--- what the arguments ask for, read by the command line
-abbrev pub asked : List Text → Option Asked
-asked words = option_and_then asked_by (subcommand_of kalah_app words)
+-- what the arguments ask for: the command line finds their subcommand and its matches
+abbrev pub words_ask : List Text → Option Asked
+words_ask words = option_and_then matches_ask (subcommand_of kalah_app words)
 
 -- the command line accepts the arguments, without a fault, as asking for this
 abbrev pub IsTakenAs : List Text → Asked → Type 0
-IsTakenAs words a = (fault_of kalah_app words ≡ []) × (asked words ≡ Some a)
+IsTakenAs words a = (fault_of kalah_app words ≡ []) × (words_ask words ≡ Some a)
 
 -- the command line refuses the arguments
 abbrev pub IsRefused : List Text → Type 0
@@ -137,19 +140,23 @@ IsRefused words = fault_of kalah_app words ≢ []
 abbrev pub AsksNot : ErrorKind → List Text → Type 0
 AsksNot kind words = IsAmong kind (fault_of kalah_app words) → ⊥
 
--- what a command about a line asks for
-abbrev pub asked_of : LineCommand → Text → Asked
-asked_of (Moves boards) = moves boards
-asked_of (Play table boards first) = play first table boards
-asked_of (Show table plain) = show plain table
-asked_of (Count depth) = count depth
+-- ---- what a value of the code asks for: it is parsed from arguments that ask for the same
+
+-- what a command asks for, of this line
+abbrev pub command_asks : LineCommand → Text → Asked
+command_asks (Moves boards) = moves boards
+command_asks (Play table boards first) = play first table boards
+command_asks (Show table plain) = show plain table
+command_asks (Count depth) = count depth
 
 -- what a request asks for
-abbrev pub asked_for : Request → Asked
-asked_for (Line line command) = asked_of command line.now
-asked_for (Files b) = answers b.question b.workers b.table b.progress (map (λ f. f.now) b.files.items)
-asked_for (Ask question table) = ask question table
-asked_for Conflict = conflict
+abbrev pub request_asks : Request → Asked
+request_asks (Line line command) = command_asks command line.now
+request_asks (Files b) = answers b.question b.workers b.table b.progress (map (λ f. f.now) b.files.items)
+request_asks (Ask question table) = ask question table
+request_asks Conflict = conflict
+
+-- ---- what is in its range
 
 -- workers and entries are in their ranges, and there is a file
 abbrev pub IsInLimits : FilesRequest → Type 0

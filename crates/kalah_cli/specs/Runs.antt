@@ -4,6 +4,7 @@ use Rattle.std.specs.Io.KnownBytes.{Appends}
 use Rattle.clap.specs.Words.{Text}
 use Rattle.clap.specs.declared.error.kind.ErrorKind.TheVariants.{DisplayHelp, DisplayVersion}
 use Rattle.kalah_rules.specs.Position.{Position}
+use Rattle.kalah_jobs.specs.Files.Lines.{line_feed}
 use Rattle.kalah_jobs.specs.Line.Line.{Reads}
 use Rattle.kalah_cli.specs.Moves.{moves_output}
 use Rattle.kalah_cli.specs.Play.{MayBegin, play_output}
@@ -12,7 +13,7 @@ use Rattle.kalah_cli.specs.Request.{Asked, AsksNot, IsPlainWord, IsRefused, IsTa
 use Rattle.kalah_cli.specs.Line.{show_output}
 use Rattle.kalah_cli.specs.Ask.{AnswersInput}
 use Rattle.kalah_cli.specs.SolveFiles.{AnswersFiles}
-use Rattle.kalah_cli.specs.Ends.{AnswersLine, FailsQuietly, IsUnread}
+use Rattle.kalah_cli.specs.Ends.{AnswersLine, FailsWithoutOutput, IsUnread}
 use Rattle.kalah_cli.specs.declared.status.ExitStatus.{ExitStatus}
 use Rattle.kalah_cli.specs.declared.status.ExitStatus.TheVariants.{Clean, LineFaults, Failed}
 
@@ -21,33 +22,33 @@ abbrev pub IsOfNoInput : Asked → Type 0
 IsOfNoInput (ask question table) = ⊥
 IsOfNoInput _ = ⊤
 
--- what is written if the version is asked for: the program's name, its version and a line feed (10)
+-- what is written if the version is asked for: the program's name, its version and a line feed
 abbrev pub version_line : Text
-version_line = codes "kalah 1.3.0" ++ 10 ∷ []
+version_line = codes "kalah 1.3.0" ++ line_feed ∷ []
 
 module _ {O : Type 0} (written : O → Option (List ℕ)) (has_failed is_handed_on : O → Bool) (old new : O) (status : ExitStatus) where
-  -- what the program does for each request. A game that is asked to begin with a house that may not be moved fails quietly, and so do
-  -- options that exclude each other
+  -- what the program does for each request. A game that is asked to begin with a house that may not be moved fails without output, and
+  -- so do options that exclude each other
   abbrev pub Does : Asked → Type 0
   Does (moves boards line) = AnswersLine written has_failed is_handed_on old new status line (moves_output boards)
   Does (play first table boards line) =
       AnswersLine written has_failed is_handed_on old new status line (play_output first boards)
-      × ((p : Position) → Reads line p → (MayBegin first p → ⊥) → FailsQuietly old new status)
+      × ((p : Position) → Reads line p → (MayBegin first p → ⊥) → FailsWithoutOutput old new status)
   Does (answers question workers table progress names) = AnswersFiles written has_failed is_handed_on old new status question names
   Does (ask question table) = (unread : Option (List ℕ)) × AnswersInput written has_failed is_handed_on old new status question unread
   Does (show plain table line) = AnswersLine written has_failed is_handed_on old new status line (show_output plain)
   Does (count depth line) = AnswersLine written has_failed is_handed_on old new status line (count_output depth)
-  Does conflict = FailsQuietly old new status
+  Does conflict = FailsWithoutOutput old new status
 
-  -- accepted arguments: the program does what they ask for, or it fails quietly
+  -- accepted arguments: the program does what they ask for, or it fails without output
   abbrev pub DoesWhatIsAsked : List Text → Type 0
-  DoesWhatIsAsked words = (a : Asked) → IsTakenAs words a → Does a ⊎ FailsQuietly old new status
+  DoesWhatIsAsked words = (a : Asked) → IsTakenAs words a → Does a ⊎ FailsWithoutOutput old new status
 
 -- ---- what a run promises for its arguments, where `written` is what an output has of the bytes that it was given
 
 module _ {O : Type 0} (written : O → Option (List ℕ)) (words : List Text) (old new : O) (status : ExitStatus) where
   -- the arguments of `moves` without options
-  pub record DoesByItsWords : Type 0 where
+  pub record MovesByItsWords : Type 0 where
     -- `moves` and a line that can be read: its moves are written, if nothing fails
     pub moves : (name line : Text) → words ≡ name ∷ codes "moves" ∷ line ∷ [] → (p : Position) → Reads line p
         → (status ≢ LineFaults) × (status ≡ Clean → Appends (written old) (written new) (moves_output false p))
@@ -56,7 +57,7 @@ module _ {O : Type 0} (written : O → Option (List ℕ)) (words : List Text) (o
         → (status ≢ Clean) × (new ≡ old)
 
   -- arguments that are refused
-  pub record RefusesTheRest : Type 0 where
+  pub record RefusesArguments : Type 0 where
     -- they ask for neither help nor the version
     pub usage : IsRefused words → AsksNot DisplayHelp words → AsksNot DisplayVersion words → (status ≡ Failed) × (new ≡ old)
     -- they don't ask for help: with status 0 the version was written, and no more

@@ -1,6 +1,7 @@
 -- What `kalah solve`, `kalah values` and `kalah steps` write, by the names of its files. What is in a file on the disk no contract knows.
 use Rattle.std.specs.Prelude.{◌≡◌, ◌≢◌, ◌↔◌, ◌==◌, ℕ, Bool, false, List, Option, map}
 use Rattle.std.specs.List.{list_any}
+use Rattle.kalah_jobs.specs.Files.Lines.{line_feed}
 use Rattle.kalah_jobs.specs.Files.NamedBytes.{NamedBytes}
 use Rattle.kalah_jobs.specs.Writing.Output.{output_to, tally_of}
 use Rattle.kalah_jobs.specs.declared.files.question.Question.{Question}
@@ -8,13 +9,13 @@ use Rattle.kalah_cli.specs.declared.status.ExitStatus.{ExitStatus}
 use Rattle.kalah_cli.specs.declared.status.ExitStatus.TheVariants.{Clean, Failed}
 use Rattle.kalah_cli.specs.Ends.{Ends, Prints}
 
--- the name has a line feed (10) in it
+-- the name has a line feed in it
 abbrev pub has_line_feed : List ℕ → Bool
-has_line_feed name = list_any (λ byte. byte == 10) name
+has_line_feed name = list_any (λ byte. byte == line_feed) name
 
--- what a request about files does: files of these names, in order, hold bytes, and a prefix of their output, if this is asked of their
--- positions, was written, and nothing else was. Unless the program failed, all of it was, no name has a line feed in it, and the status is
--- clean exactly when no line of the files is a fault
+-- what a request about files does: there are bytes for files of these names, in order, and a prefix of their output, if this is asked of
+-- their positions, was written, and nothing else was. Unless the program failed, all of it was, no name has a line feed in it, and the
+-- status is clean exactly when no line of the files is a fault
 module _ {O : Type 0} (written : O → Option (List ℕ)) (has_failed is_handed_on : O → Bool) (old new : O) (status : ExitStatus) where
   pub record AnswersFiles (question : Question) (names : List (List ℕ)) : Type 0 where
     pub files : List NamedBytes

@@ -8,6 +8,7 @@ ghost use Rattle.kalah_cli.specs.Ends.{ended_by};
 use crate::failure::Failure;
 use crate::solver::new_solver;
 use crate::status::ExitStatus;
+use crate::tips::say;
 use kalah_jobs::{AskFault, Question, Sink, answer_lines};
 use std::alloc::Global;
 use std::io;
@@ -62,7 +63,7 @@ pub(crate) fn run_ask<I: Read + Drop, O: Sink, E: Write>(
         return Err(Failure::OutOfMemory);
     };
     if is_typed {
-        let _ = err.write_all(HINT.as_bytes());
+        say(&[HINT], err);
     }
     ended(answer_lines(&mut input, question, &mut solver, out))
 }

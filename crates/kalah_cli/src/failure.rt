@@ -5,8 +5,8 @@ ghost use Rattle.kalah_cli.specs.Failure.{failure_of};
 
 use crate::files::ReadFault;
 use crate::status::ExitStatus;
-use crate::tips::{Messages, of_failure, say, write_line_tip, write_position_tip, write_tip};
-use kalah_jobs::{LineFault, Sink, read_line};
+use crate::tips::{Messages, say, write_failure_tip, write_line_tip};
+use kalah_jobs::{LineFault, Sink};
 use kalah_run::RunFault;
 use std::io::Write;
 
@@ -30,17 +30,13 @@ pub(crate) enum Failure<'a> {
 }
 
 impl Failure<'_> {
-    /// Reports the failure on `err`, and returns the exit status. If a file can't be read whose name is a position, it says what
-    /// prints that. If the report can't be written, it is dropped.
+    /// Reports the failure on `err`, and returns the exit status. If the report can't be written, it is dropped.
     pub(crate) fn report<E: Write>(self, err: &mut E) -> ExitStatus
         ensures { result ≡ ExitStatus.Failed }
     {
         let words = match self {
             Failure::Unreadable(name, _) => {
                 say(&["kalah: cannot read ", name, "\n"], err);
-                if read_line(name.as_bytes()).is_ok() {
-                    write_position_tip(name, err);
-                }
                 return ExitStatus::Failed;
             }
             Failure::Unmoved(house) => {
@@ -55,27 +51,26 @@ impl Failure<'_> {
             Failure::StandardInput => "kalah: cannot read standard input\n",
             Failure::Write => "kalah: write failed\n",
         };
-        let _ = err.write_all(words.as_bytes());
+        say(&[words], err);
         ExitStatus::Failed
     }
 }
 
 /// Returns the exit status of a run that ended so. If it failed, it reports the failure on `err`, with its tip.
-pub(crate) fn status_of<E: Write>(
+pub(crate) fn report_end<E: Write>(
     ended: Result<ExitStatus, Failure<'_>>,
     err: &mut Messages<'_, E>,
 ) -> ExitStatus
     ensures { result ≡ ended_by ended.entry }
 {
-    let failure = match ended {
-        Ok(status) => return status,
-        Err(failure) => failure,
-    };
-    let status = failure.report(err.writer);
-    if let Some(words) = of_failure(failure) {
-        write_tip(words, err);
+    match ended {
+        Ok(status) => status,
+        Err(failure) => {
+            let status = failure.report(err.writer);
+            write_failure_tip(failure, err);
+            status
+        }
     }
-    status
 }
 
 /// Reports on `err` why a line can't be read, with a tip, and returns the exit status. If the report can't be written, it is dropped.
@@ -92,7 +87,7 @@ pub(crate) fn report_fault<E: Write>(
 }
 
 /// Returns `Clean` if the output has not failed. Otherwise fails with `Write`.
-pub(crate) fn written<O: Sink>(out: &O) -> Result<ExitStatus, Failure<'static>>
+pub(crate) fn status_of_sink<O: Sink>(out: &O) -> Result<ExitStatus, Failure<'static>>
     ensures failed { O.has_failed out.now ≡ true ↔ ended_by result ≡ ExitStatus.Failed }
     ensures no_line { ended_by result ≢ ExitStatus.LineFaults }
 {

@@ -31,7 +31,8 @@ pub(crate) enum ReadFault {
     OutOfMemory,
 }
 
-// Returns the fault that an error of the system is. Memory that the system lacks is none of the program's.
+// Returns the fault that an error of the system is. If the system lacks memory, the file is unreadable; `OutOfMemory` is for the
+// program's own.
 fn fault_of(error: &io::Error) -> ReadFault
     ensures { result ≢ ReadFault.TooLong }
 {

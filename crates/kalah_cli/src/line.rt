@@ -1,12 +1,12 @@
 //! `kalah moves LINE`, `kalah play LINE`, `kalah show LINE` and `kalah count DEPTH LINE`.
 ghost use Rattle.std.specs.Prelude.{◌≡◌, IsErr, MatchResult, OnOk, false};
 ghost use Rattle.kalah_cli.specs.Ends.{IsPrinted, ended_by};
-ghost use Rattle.kalah_cli.specs.Line.{MayPrint, SearchesNothing, output_of};
-ghost use Rattle.kalah_cli.specs.Request.{IsCommandInRange, asked_of};
+ghost use Rattle.kalah_cli.specs.Line.{MayPrint, SearchesNothing, command_output};
+ghost use Rattle.kalah_cli.specs.Request.{IsCommandInRange, command_asks};
 ghost use Rattle.kalah_cli.specs.Runs.{Does};
 
 use crate::count::write_count;
-use crate::failure::{Failure, report_fault, written};
+use crate::failure::{Failure, report_fault, status_of_sink};
 use crate::moves::write_moves;
 use crate::play::run_play;
 use crate::request::LineCommand;
@@ -27,7 +27,8 @@ fn print<O: Sink>(
 ) -> Result<(), Failure<'static>>
     requires { IsCommandInRange command.now }
     ensures printed { MatchResult result
-        (λ _. IsPrinted O.written O.has_failed O.is_handed_on out.old out.new (output_of command.now board.now)) (λ _. out.new ≡ out.old) }
+        (λ _. IsPrinted O.written O.has_failed O.is_handed_on out.old out.new (command_output command.now board.now))
+        (λ _. out.new ≡ out.old) }
     ensures begins { OnOk result (MayPrint command.now board.now) }
     // A command for which nothing is searched never fails.
     ensures searchless { SearchesNothing command.now → IsErr result → ⊥ }
@@ -58,14 +59,14 @@ pub(crate) fn run_line<O: Sink, E: Write>(
 ) -> Result<ExitStatus, Failure<'static>>
     requires range { IsCommandInRange command.now }
     requires sink { O.has_failed out.old ≡ false }
-    ensures { Does O.written O.has_failed O.is_handed_on out.old out.new (ended_by result) (asked_of command.now line.now) }
+    ensures { Does O.written O.has_failed O.is_handed_on out.old out.new (ended_by result) (command_asks command.now line.now) }
 {
     let board = match read_line(line.as_bytes()) {
         Ok(board) => board,
         Err(fault) => return Ok(report_fault(fault, line, err)),
     };
     match print(alloc, command, &board, out) {
-        Ok(()) => written(out),
+        Ok(()) => status_of_sink(out),
         Err(failure) => Err(failure),
     }
 }

@@ -31,9 +31,10 @@ use fused::Fused;
 use prompt_stream::PromptStream;
 use run::run_words;
 use status::ExitStatus;
-use std::io::{BufWriter, ErrorKind, Write};
+use std::io::{BufWriter, ErrorKind};
 use std::process::ExitCode;
 use std::{env, io};
+use tips::say;
 
 // Returns the arguments, of which the first is the program's name.
 fn words_of(rt: &HostRuntime) -> io::Result<Vec<String>> {
@@ -43,6 +44,7 @@ fn words_of(rt: &HostRuntime) -> io::Result<Vec<String>> {
 fn main(rt: HostRuntime) -> ExitCode {
     let mut err = rt.stderr();
     let status = match words_of(&rt) {
+        // There is not even the program's name: it ends without a message.
         Ok(words) if words.is_empty() => ExitStatus::Failed,
         Ok(words) => match BufWriter::new(rt.alloc(), Fused::new(io::writer(&rt))) {
             Ok(out) => run_words(
@@ -58,7 +60,7 @@ fn main(rt: HostRuntime) -> ExitCode {
             Failure::OutOfMemory.report(&mut err)
         }
         Err(_) => {
-            let _ = err.write_all(b"kalah: a word is not UTF-8\n");
+            say(&["kalah: a word is not UTF-8\n"], &mut err);
             ExitStatus::Failed
         }
     };

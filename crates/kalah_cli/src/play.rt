@@ -17,7 +17,7 @@ use std::alloc::Global;
 fn write_game<O: Sink>(solver: &mut PromptSolver<'_>, board: &Board, boards: bool, out: &mut O)
     ensures { IsPrinted O.written O.has_failed O.is_handed_on out.old out.new (game_lines boards board.now (best_game board.now)) }
 {
-    let _side = board.m();
+    let _side = board.m(); // for its clause
     flush_unless_failed(out);
     if out.failed() {
         return;
@@ -45,7 +45,7 @@ fn play<O: Sink>(
     requires { MayBegin first board.now }
     ensures { IsPrinted O.written O.has_failed O.is_handed_on out.old out.new (play_output first boards board.now) }
 {
-    let _side = board.m();
+    let _side = board.m(); // for its clause
     write_board(board, boards, out);
     let Some(h) = first else {
         return write_game(solver, board, boards, out);
@@ -83,7 +83,8 @@ pub(crate) fn run_play<O: Sink>(
 ) -> Result<(), Failure<'static>>
     requires { IsTableSize table }
     ensures printed { MatchResult result
-        (λ _. IsPrinted O.written O.has_failed O.is_handed_on out.old out.new (play_output first boards board.now)) (λ _. out.new ≡ out.old) }
+        (λ _. IsPrinted O.written O.has_failed O.is_handed_on out.old out.new (play_output first boards board.now))
+        (λ _. out.new ≡ out.old) }
     ensures begins { OnOk result (MayBegin first board.now) }
 {
     if let Some(h) = unmoved_house(board, first) {

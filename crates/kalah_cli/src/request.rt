@@ -5,7 +5,7 @@ ghost use Rattle.clap.specs.declared.error.kind.ErrorKind.TheVariants.{OutOfMemo
 ghost use Rattle.kalah_solve.specs.Table.Entries.{most_entries};
 ghost use Rattle.kalah_run.specs.Limits.{IsTableSize};
 ghost use Rattle.kalah_cli.specs.Command.{kalah_app};
-ghost use Rattle.kalah_cli.specs.Request.{AreMatches, HasNumber, IsInRange, IsTakenAs, MayHaveNumber, ask_for, asked_by, asked_for, command_of, files_asked, is_set, number_given};
+ghost use Rattle.kalah_cli.specs.Request.{AreMatches, HasNumber, IsInRange, IsTakenAs, MayHaveNumber, command_of, files_ask, flags_ask, is_set, matches_ask, number_given, request_asks};
 
 use crate::command::command;
 use clap::{ArgMatches, Error};
@@ -13,7 +13,7 @@ use kalah_jobs::Question;
 use std::alloc::Global;
 use std::convert::AsStr;
 
-// The entries of a table that is not given.
+// The entries of the table of `ask`, if `--table` is not given.
 const DEFAULT_ENTRIES: u32 = 65_536;
 
 /// What the arguments ask the program to do.
@@ -118,7 +118,7 @@ fn files_request<'a>(
 ) -> Result<Request<'a>, Error>
     requires { AreMatches (command_of question) (rows_of (found_of found.now)) }
     ensures memory { IfErr result (λ e. kind_of e ≡ OutOfMemory) }
-    ensures asked { IfOk result (λ r. files_asked question (rows_of (found_of found.now)) ≡ Some (asked_for r)) }
+    ensures asked { IfOk result (λ r. files_ask question (rows_of (found_of found.now)) ≡ Some (request_asks r)) }
     ensures range { IfOk result IsInRange }
 {
     Ok(Request::Files(FilesRequest {
@@ -136,7 +136,7 @@ fn files_request<'a>(
 // Returns the request of `ask` with these flags `--values` and `--steps`, and with this table.
 fn ask_request<'a>(values: bool, steps: bool, table: Option<u32>) -> Request<'a>
     requires { IfSome table IsTableSize }
-    ensures asked { asked_for result ≡ ask_for values steps table }
+    ensures asked { request_asks result ≡ flags_ask values steps table }
     ensures range { IsInRange result }
 {
     let (question, table) = match (values, steps, table) {
@@ -152,53 +152,45 @@ fn ask_request<'a>(values: bool, steps: bool, table: Option<u32>) -> Request<'a>
 fn requested<'a>(alloc: Global, name: &str, found: &ArgMatches<'a>) -> Result<Request<'a>, Error>
     requires { AreMatches name.now (rows_of (found_of found.now)) }
     ensures memory { IfErr result (λ e. kind_of e ≡ OutOfMemory) }
-    ensures asked { IfOk result (λ r. asked_by (name.now, rows_of (found_of found.now)) ≡ Some (asked_for r)) }
+    ensures asked { IfOk result (λ r. matches_ask (name.now, rows_of (found_of found.now)) ≡ Some (request_asks r)) }
     ensures range { IfOk result IsInRange }
 {
-    match name {
-        "moves" => Ok(Request::Line {
-            line: line_of(found),
-            command: LineCommand::Moves {
-                boards: is_set(found, "boards"),
-            },
-        }),
-        "play" => Ok(Request::Line {
-            line: line_of(found),
-            command: LineCommand::Play {
-                table: number_of(found, "table"),
-                boards: is_set(found, "boards"),
-                first: given_byte(found, "first"),
-            },
-        }),
-        "solve" => files_request(alloc, Question::BestMove, found),
-        "values" => files_request(alloc, Question::Values, found),
+    let command = match name {
+        "solve" => return files_request(alloc, Question::BestMove, found),
+        "values" => return files_request(alloc, Question::Values, found),
+        "steps" => return files_request(alloc, Question::Steps, found),
         "ask" => {
             let (values, steps) = (is_set(found, "values"), is_set(found, "steps"));
-            Ok(ask_request(values, steps, given_number(found, "table")))
+            return Ok(ask_request(values, steps, given_number(found, "table")));
         }
-        "steps" => files_request(alloc, Question::Steps, found),
-        "show" => Ok(Request::Line {
-            line: line_of(found),
-            command: LineCommand::Show {
-                table: number_of(found, "table"),
-                plain: is_set(found, "plain"),
-            },
-        }),
-        "count" => Ok(Request::Line {
-            line: line_of(found),
-            command: LineCommand::Count {
-                depth: given_byte(found, "depth").unwrap(),
-            },
-        }),
+        "moves" => LineCommand::Moves {
+            boards: is_set(found, "boards"),
+        },
+        "play" => LineCommand::Play {
+            table: number_of(found, "table"),
+            boards: is_set(found, "boards"),
+            first: given_byte(found, "first"),
+        },
+        "show" => LineCommand::Show {
+            table: number_of(found, "table"),
+            plain: is_set(found, "plain"),
+        },
+        "count" => LineCommand::Count {
+            depth: given_byte(found, "depth").unwrap(),
+        },
         _ => unreachable!(),
-    }
+    };
+    Ok(Request::Line {
+        line: line_of(found),
+        command,
+    })
 }
 
 /// Parses the arguments, whose first is the program's name. Fails with the command line's own
 /// error and its text: help or the version was asked for, an argument is wrong, or memory was refused.
 pub(crate) fn parse<'a, S: AsStr>(alloc: Global, words: &'a [S]) -> Result<Request<'a>, Error>
     ensures taken { IfOk result
-        (λ r. IsTakenAs (map S.text words.entry.now) (asked_for r)) }
+        (λ r. IsTakenAs (map S.text words.entry.now) (request_asks r)) }
     ensures range { IfOk result IsInRange }
     ensures kinds { FailsBy (fault_of kalah_app (map S.text words.entry.now)) result }
 {

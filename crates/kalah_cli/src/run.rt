@@ -5,20 +5,20 @@ ghost use Rattle.clap.specs.Values.{kind_of};
 ghost use Rattle.clap.specs.declared.error.kind.ErrorKind.TheVariants.{DisplayHelp, DisplayVersion};
 ghost use Rattle.kalah_jobs.specs.declared.files.question.Question.{Question};
 ghost use Rattle.kalah_cli.specs.Ask.{StopsBetweenLines};
-ghost use Rattle.kalah_cli.specs.Ends.{FailsQuietly, ended_by};
+ghost use Rattle.kalah_cli.specs.Ends.{FailsWithoutOutput, ended_by};
 ghost use Rattle.kalah_cli.specs.Play.{PlaysBestGames};
-ghost use Rattle.kalah_cli.specs.Request.{Asked, IsInRange, IsTakenAs, ask, asked_for, texts_of};
-ghost use Rattle.kalah_cli.specs.Runs.{Does, DoesByItsWords, DoesWhatIsAsked, IsOfNoInput, RefusesTheRest, version_line};
+ghost use Rattle.kalah_cli.specs.Request.{Asked, IsInRange, IsTakenAs, ask, request_asks, texts_of};
+ghost use Rattle.kalah_cli.specs.Runs.{Does, DoesWhatIsAsked, IsOfNoInput, MovesByItsWords, RefusesArguments, version_line};
 
 use crate::ask::run_ask;
-use crate::failure::{Failure, status_of, written};
+use crate::failure::{Failure, report_end, status_of_sink};
 use crate::help;
 use crate::line::run_line;
 use crate::request::{Request, parse};
 use crate::solve_files::run_files;
 use crate::status::ExitStatus;
 use crate::terminal::Terminal;
-use crate::tips::{Messages, of_arguments, say, write_position_tip, write_tip};
+use crate::tips::{Messages, say, tip_for_arguments, write_position_tip, write_tip};
 use crate::version::VERSION_LINE;
 use clap::Error;
 use clap::error::ErrorKind;
@@ -40,7 +40,7 @@ fn print_text<O: Sink>(text: &str, out: &mut O) -> Result<ExitStatus, Failure<'s
 {
     write_unless_failed(out, text.as_bytes());
     flush_unless_failed(out);
-    written(out)
+    status_of_sink(out)
 }
 
 // Returns whether these arguments seem to give `moves`, `play`, `show` or `count` a position without quotes: two adjacent ones each have
@@ -69,7 +69,7 @@ fn advise<E: Write>(words: &[String], text: &str, err: &mut Messages<'_, E>) {
         say(&[help::QUOTES], err.writer);
         return;
     }
-    if !err.are_shown {
+    if !err.on_terminal {
         return;
     }
     match words.get(1) {
@@ -77,7 +77,7 @@ fn advise<E: Write>(words: &[String], text: &str, err: &mut Messages<'_, E>) {
             say(&["\n"], err.writer);
             write_position_tip(first.as_str(), err.writer);
         }
-        _ => if let Some(tip) = of_arguments(text) {
+        _ => if let Some(tip) = tip_for_arguments(text) {
             say(&["\n"], err.writer);
             write_tip(tip, err);
         },
@@ -94,7 +94,7 @@ fn refuse<O: Sink, E: Write>(
 ) -> Result<ExitStatus, Failure<'static>>
     requires { O.has_failed out.old ≡ false }
     ensures mistake { kind_of error.now ≢ DisplayHelp → kind_of error.now ≢ DisplayVersion
-        → FailsQuietly out.old out.new (ended_by result) }
+        → FailsWithoutOutput out.old out.new (ended_by result) }
     ensures failed { O.has_failed out.new ≡ true → ended_by result ≡ ExitStatus.Failed }
     ensures unchanged { ended_by result ≡ ExitStatus.Failed → O.has_failed out.new ≡ false
         → out.new ≡ out.old }
@@ -128,7 +128,7 @@ fn run_request<'a, R: Files + Input + Clock + Terminal + Threads + Wait + Sync, 
 ) -> Result<ExitStatus, Failure<'a>>
     requires range { IsInRange request.now }
     requires sink { O.has_failed out.old ≡ false }
-    ensures { Does O.written O.has_failed O.is_handed_on out.old out.new (ended_by result) (asked_for request.now) }
+    ensures { Does O.written O.has_failed O.is_handed_on out.old out.new (ended_by result) (request_asks request.now) }
 {
     match request {
         Request::Line { line, command } => run_line(alloc, line, command, out, err),
@@ -172,13 +172,13 @@ pub fn run_words<R: Files + Input + Clock + Terminal + Threads + Wait + Sync, O:
 ) -> ExitStatus
     requires sink { O.has_failed out.old ≡ false }
     requires named { 0 < vec_len words }
-    // Accepted arguments, in general, and by their words.
+    // Accepted arguments, in general; those of `moves LINE` also by their words.
     ensures accepted { DoesWhatIsAsked O.written O.has_failed O.is_handed_on out.old out.new result (texts_of words.items) }
-    ensures by_words { DoesByItsWords O.written (texts_of words.items) out.old out.new result }
+    ensures by_words { MovesByItsWords O.written (texts_of words.items) out.old out.new result }
     // The game of `play` is one of best play.
     ensures best_play { PlaysBestGames }
     // Arguments that are refused, as those that ask for help or for the version.
-    ensures refused { RefusesTheRest O.written (texts_of words.items) out.old out.new result }
+    ensures refused { RefusesArguments O.written (texts_of words.items) out.old out.new result }
     // If a write failed, the program failed. If it failed for another cause, nothing was written, except for answers of `ask`.
     ensures failed { O.has_failed out.new ≡ true → result ≡ ExitStatus.Failed }
     ensures unchanged { ((a : Asked) → IsTakenAs (texts_of words.items) a → IsOfNoInput a) → result ≡ ExitStatus.Failed
@@ -190,11 +190,11 @@ pub fn run_words<R: Files + Input + Clock + Terminal + Threads + Wait + Sync, O:
 {
     let mut err = Messages {
         writer: err,
-        are_shown: rt.shows_errors(),
+        on_terminal: rt.shows_errors(),
     };
     match parse(alloc, words.as_slice()) {
-        Ok(request) => status_of(run_request(rt, alloc, &request, out, &mut err), &mut err),
-        Err(error) => status_of(
+        Ok(request) => report_end(run_request(rt, alloc, &request, out, &mut err), &mut err),
+        Err(error) => report_end(
             refuse(alloc, words.as_slice(), &error, out, &mut err),
             &mut err,
         ),

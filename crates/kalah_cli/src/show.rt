@@ -47,7 +47,8 @@ pub(crate) fn run_show<O: Sink>(
 ) -> Result<(), Failure<'static>>
     requires { IsTableSize table }
     ensures printed { MatchResult result
-        (λ _. IsPrinted O.written O.has_failed O.is_handed_on out.old out.new (show_output plain board.now)) (λ _. out.new ≡ out.old) }
+        (λ _. IsPrinted O.written O.has_failed O.is_handed_on out.old out.new (show_output plain board.now))
+        (λ _. out.new ≡ out.old) }
     ensures searchless { plain ≡ true → IsErr result → ⊥ }
 {
     if plain {

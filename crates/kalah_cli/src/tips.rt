@@ -8,8 +8,8 @@ use std::io::Write;
 #[derive(Drop)]
 pub(crate) struct Messages<'a, E> {
     pub(crate) writer: &'a mut E,
-    /// Whether they are shown on a terminal, so that tips follow refusals.
-    pub(crate) are_shown: bool,
+    /// Whether this writer is a terminal, so that tips follow refusals.
+    pub(crate) on_terminal: bool,
 }
 
 /// Writes texts, one after another. What can't be written is dropped.
@@ -19,9 +19,9 @@ pub(crate) fn say<E: Write>(texts: &[&str], err: &mut E) {
     }
 }
 
-/// Writes these words as a tip, if messages are shown on a terminal.
+/// Writes these words as a tip, if messages go to a terminal.
 pub(crate) fn write_tip<E: Write>(words: &str, err: &mut Messages<'_, E>) {
-    if err.are_shown {
+    if err.on_terminal {
         say(&["  tip: ", words, "\n"], err.writer);
     }
 }
@@ -32,22 +32,26 @@ pub(crate) fn write_position_tip<E: Write>(line: &str, err: &mut E) {
     say(&[before, line, "'`, or `kalah ask`\n"], err);
 }
 
-/// Returns the tip for a failure, if there is one that its report doesn't have.
-pub(crate) fn of_failure(failure: Failure<'_>) -> Option<&'static str> {
-    Some(match failure {
-        Failure::Unreadable(name, _) if read_line(name.as_bytes()).is_ok() => return None,
+/// Writes the tip for a failure, if it has one and messages go to a terminal. If a file can't be read whose name is a position, the tip
+/// is always written, and says what prints that.
+pub(crate) fn write_failure_tip<E: Write>(failure: Failure<'_>, err: &mut Messages<'_, E>) {
+    let words = match failure {
+        Failure::Unreadable(name, _) if read_line(name.as_bytes()).is_ok() => {
+            return write_position_tip(name, err.writer);
+        }
         Failure::Unreadable("-", ReadFault::Missing) => "for standard input, use /dev/stdin",
-        Failure::Unreadable(_, fault) => of_fault(fault),
+        Failure::Unreadable(_, fault) => tip_for_fault(fault),
         Failure::TooManyFiles =>
             "at most 256 files a run; give them to several runs (docs/LARGE.md)",
         Failure::TooManyLines =>
             "at most 1000000 lines a run; `kalah ask` has no limit, or split the files (docs/LARGE.md)",
-        _ => return None,
-    })
+        _ => return,
+    };
+    write_tip(words, err);
 }
 
 // Returns the words for the cause that a file is not read.
-fn of_fault(fault: ReadFault) -> &'static str {
+fn tip_for_fault(fault: ReadFault) -> &'static str {
     match fault {
         ReadFault::Missing => "there is no such file",
         ReadFault::Folder => "it is a folder; name the files in it",
@@ -58,9 +62,9 @@ fn of_fault(fault: ReadFault) -> &'static str {
     }
 }
 
-/// Writes the tip for a line with this fault, if messages are shown on a terminal.
+/// Writes the tip for a line with this fault, if messages go to a terminal.
 pub(crate) fn write_line_tip<E: Write>(line: &str, fault: LineFault, err: &mut Messages<'_, E>) {
-    if !err.are_shown {
+    if !err.on_terminal {
         return;
     }
     let words = match fault {
@@ -118,7 +122,7 @@ const ARGUMENTS: &[(&str, &str, &str)] = &[
 ];
 
 /// Returns the tip for arguments that the command line refuses with this text, if there is one.
-pub(crate) fn of_arguments(text: &str) -> Option<&'static str> {
+pub(crate) fn tip_for_arguments(text: &str) -> Option<&'static str> {
     for (one, other, tip) in ARGUMENTS {
         if text.contains(*one) && text.contains(*other) {
             return Some(*tip);

@@ -21,10 +21,10 @@ fn a_line_that_is_not_read_has_a_tip_on_a_terminal(rt: HostRuntime) {
         ),
     ] {
         let mut said = Vec::<u8>::new(rt.alloc());
-        for are_shown in [false, true] {
+        for on_terminal in [false, true] {
             let mut err = Messages {
                 writer: &mut said,
-                are_shown,
+                on_terminal,
             };
             write_line_tip(line, fault, &mut err);
         }

@@ -5,7 +5,7 @@ use Rattle.kalah_cli.proofs.line.run_line.Goals as goal
 pub returns-in-Ok-print : goal.returns-in-Ok-print
 returns-in-Ok-print g c =
     line_answered _ _ _ c.args.command.now c.as_bytes.ensures.value c.in-Ok.board c.in-Ok.ensures.reads c.in-Ok-print.ensures.printed
-    c.in-Ok-print.ensures.begins c.written.ensures.failed c.written.ensures.no_line
+    c.in-Ok-print.ensures.begins c.status_of_sink.ensures.failed c.status_of_sink.ensures.no_line
 
 pub returns-in-Err-print : goal.returns-in-Err-print
 returns-in-Err-print g c =

@@ -3,8 +3,8 @@ use Rattle.std.proofs.lemmas.Result.{IfOk-weaker}
 use Rattle.clap.specs.Words.{HasKind, fault_of}
 use Rattle.clap.specs.declared.error.Error.{Error}
 use Rattle.kalah_cli.specs.Command.{kalah_app}
-use Rattle.kalah_cli.specs.Request.{IsTakenAs, asked_for}
-use Rattle.kalah_cli.proofs.RequestLemmas.{asked_is, faulty, on_error, parsed, fails_by_memory}
+use Rattle.kalah_cli.specs.Request.{IsTakenAs, request_asks}
+use Rattle.kalah_cli.proofs.RequestLemmas.{words_ask_as_matches, faulty, on_error, parsed, fails_by_memory}
 use Rattle.kalah_cli.proofs.request.parse.Given.{Over}
 use Rattle.kalah_cli.proofs.request.parse.Goals as goal
 
@@ -27,8 +27,8 @@ returns-clause-taken g c =
     let words = map g.S.AsStr.text c.args.words.now in
     let read = parsed _ words _ c.in_ok-command.ensures c.in_ok-matches.ensures.kinds
     (λ simple. (c.in_ok-matches.ensures.matches simple).1) in
-    IfOk-weaker c.requested.result _ (λ r. IsTakenAs words (asked_for r))
-    (λ r asked. (read.none, asked_is words _ _ read.same (search rules))) c.requested.ensures.asked
+    IfOk-weaker c.requested.result _ (λ r. IsTakenAs words (request_asks r))
+    (λ r asked. (read.none, words_ask_as_matches words _ _ read.same (search rules))) c.requested.ensures.asked
 
 pub returns-clause-kinds : goal.returns-clause-kinds
 returns-clause-kinds g c =

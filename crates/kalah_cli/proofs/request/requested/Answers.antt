@@ -3,13 +3,8 @@ use Rattle.clap.specs.Words.{found_of, rows_of}
 use Rattle.kalah_rules.specs.Limits.{most_depth}
 use Rattle.kalah_solve.specs.Table.Entries.{most_entries}
 use Rattle.kalah_cli.proofs.RequestLemmas.{number_in_range, given, has_number, may_have_number}
+use Rattle.kalah_cli.proofs.request.requested.Goals.{in-count, in-moves, in-play, in-show}
 use Rattle.kalah_cli.proofs.request.requested.Goals as goal
-
-pub line_of-requires : goal.line_of-requires
-line_of-requires c = ap is_some (given (codes "line") (rw c.in-moves.is at c.requires) refl refl).first
-
-pub line_of-requires-in-play : goal.line_of-requires-in-play
-line_of-requires-in-play c = ap is_some (given (codes "line") (rw c.in-play.is at c.requires) refl refl).first
 
 pub number_of-requires : goal.number_of-requires
 number_of-requires c = has_number (codes "table") 1 most_entries (rw c.in-play.is at c.requires) refl refl (omega arith) (omega arith) refl
@@ -20,9 +15,6 @@ given_byte-requires c = may_have_number (codes "first") 0 255 (rw c.in-play.is a
 pub given_number-requires : goal.given_number-requires
 given_number-requires c = may_have_number (codes "table") 1 most_entries (rw c.in-ask.is at c.requires) refl refl (omega arith)
     (omega arith)
-
-pub line_of-requires-in-show : goal.line_of-requires-in-show
-line_of-requires-in-show c = ap is_some (given (codes "line") (rw c.in-show.is at c.requires) refl refl).first
 
 pub number_of-requires-in-show : goal.number_of-requires-in-show
 number_of-requires-in-show c =
@@ -36,13 +28,25 @@ pub unwrap-requires : goal.unwrap-requires
 unwrap-requires c = ap is_some c.given_byte-in-count.ensures
     ∙ (has_number (codes "depth") 0 most_depth (rw c.in-count.is at c.requires) refl refl (omega arith) (omega arith) refl).1
 
-pub line_of-requires-in-count : goal.line_of-requires-in-count
-line_of-requires-in-count c = ap is_some (given (codes "line") (rw c.in-count.is at c.requires) refl refl).first
-
-pub returns-in-count-clause-range : goal.returns-in-count-clause-range
-returns-in-count-clause-range c = (number_in_range (codes "depth") 0 most_depth (rows_of (found_of c.args.found.now)) c.unwrap.result
-    (may_have_number (codes "depth") 0 most_depth (rw c.in-count.is at c.requires) refl refl (omega arith) (omega arith))
-    (sym c.given_byte-in-count.ensures ∙ c.unwrap.ensures)).1
+pub line_of-requires : goal.line_of-requires
+line_of-requires c = elim c.match-name.branch [
+  | in-moves w ↦ ap is_some (given (codes "line") (rw w.in-moves.is at c.requires) refl refl).first
+  | in-play w ↦ ap is_some (given (codes "line") (rw w.in-play.is at c.requires) refl refl).first
+  | in-show w ↦ ap is_some (given (codes "line") (rw w.in-show.is at c.requires) refl refl).first
+  | in-count w ↦ ap is_some (given (codes "line") (rw w.in-count.is at c.requires) refl refl).first
+]
 
 pub returns-in-values-clause-asked : goal.returns-in-values-clause-asked
 returns-in-values-clause-asked c = rw c.in-values.is c.files_request-in-values.ensures.asked
+
+pub returns-clause-range : goal.returns-clause-range
+returns-clause-range c = elim c.match-name.branch [
+  | in-moves w ↦ rw w.command-is tt
+  | in-play w ↦ rw w.command-is w.number_of.ensures.range
+  | in-show w ↦ rw w.command-is w.number_of-in-show.ensures.range
+  | in-count w ↦
+      let depth = number_in_range (codes "depth") 0 most_depth (rows_of (found_of c.args.found.now)) w.unwrap.result
+      (may_have_number (codes "depth") 0 most_depth (rw w.in-count.is at c.requires) refl refl (omega arith) (omega arith))
+      (sym w.given_byte-in-count.ensures ∙ w.unwrap.ensures) in
+      rw w.command-is depth.1
+]

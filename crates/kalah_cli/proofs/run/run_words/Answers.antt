@@ -3,8 +3,8 @@ use Rattle.clap.specs.Words.{HasKind, IsAmong, fault_of, kind_of}
 use Rattle.clap.specs.declared.error.kind.ErrorKind.TheVariants.{DisplayHelp, DisplayVersion}
 use Rattle.kalah_cli.specs.Ask.{StopsBetweenLines}
 use Rattle.kalah_cli.specs.Command.{kalah_app}
-use Rattle.kalah_cli.specs.Ends.{FailsQuietly}
-use Rattle.kalah_cli.specs.Request.{Asked, AsksNot, IsTakenAs, ask, asked_for, texts_of}
+use Rattle.kalah_cli.specs.Ends.{FailsWithoutOutput}
+use Rattle.kalah_cli.specs.Request.{Asked, AsksNot, IsTakenAs, ask, request_asks, texts_of}
 use Rattle.kalah_cli.specs.Runs.{Does}
 use Rattle.kalah_cli.proofs.RunLemmas.{stops_at_once, by_words, no_request, run_ends, run_fails, run_hands_on}
 use Rattle.kalah_cli.proofs.RequestLemmas.{taken_at, taken_once}
@@ -16,19 +16,19 @@ use Rattle.kalah_cli.proofs.run.run_words.Goals as goal
 -- ---- the arguments are accepted
 
 -- as the request
-request_taken : (g : Over) (c : After-drop-words g) → IsTakenAs (texts_of c.args.words.items) (asked_for c.in-Ok.request)
+request_taken : (g : Over) (c : After-drop-words g) → IsTakenAs (texts_of c.args.words.items) (request_asks c.in-Ok.request)
 request_taken g c = taken_at (ap texts_of (sym c.as_slice.ensures.value)) c.in-Ok.ensures.taken
 
 -- and as nothing else
-is_asked : (g : Over) (c : After-drop-words g) (a : Asked) → IsTakenAs (texts_of c.args.words.items) a → asked_for c.in-Ok.request ≡ a
-is_asked g c a taken = taken_once (texts_of c.args.words.items) (asked_for c.in-Ok.request) a (request_taken g c) taken
+is_asked : (g : Over) (c : After-drop-words g) (a : Asked) → IsTakenAs (texts_of c.args.words.items) a → request_asks c.in-Ok.request ≡ a
+is_asked g c a taken = taken_once (texts_of c.args.words.items) (request_asks c.in-Ok.request) a (request_taken g c) taken
 
 -- which is done
-does : (g : Over) (c : After-drop-words g) (a : Asked) → asked_for c.in-Ok.request ≡ a
-    → Does g.O.Sink.written g.O.Sink.has_failed g.O.Sink.is_handed_on c.args.out.now c.run_request.new.out c.status_of.result a
+does : (g : Over) (c : After-drop-words g) (a : Asked) → request_asks c.in-Ok.request ≡ a
+    → Does g.O.Sink.written g.O.Sink.has_failed g.O.Sink.is_handed_on c.args.out.now c.run_request.new.out c.report_end.result a
 does g c a is =
-    subst (Does g.O.Sink.written g.O.Sink.has_failed g.O.Sink.is_handed_on c.args.out.now c.run_request.new.out c.status_of.result) is
-    (rw c.status_of.ensures c.run_request.ensures)
+    subst (Does g.O.Sink.written g.O.Sink.has_failed g.O.Sink.is_handed_on c.args.out.now c.run_request.new.out c.report_end.result) is
+    (rw c.report_end.ensures c.run_request.ensures)
 
 pub returns-in-Ok-clause-accepted : goal.returns-in-Ok-clause-accepted
 returns-in-Ok-clause-accepted g c = λ a taken. inl (does g c a (is_asked g c a taken))
@@ -68,7 +68,7 @@ returns-in-Ok-clause-handed_on g c = run_hands_on _ _ _ c.requires.sink _ (does 
 -- ---- the parse failed
 
 pub returns-clause-unchanged : goal.returns-clause-unchanged
-returns-clause-unchanged g c = λ none failed. c.refuse.ensures.unchanged (sym c.status_of-in-Err.ensures ∙ failed)
+returns-clause-unchanged g c = λ none failed. c.refuse.ensures.unchanged (sym c.report_end-in-Err.ensures ∙ failed)
 
 -- the error has a kind of the arguments' fault
 has_kind : (g : Over) (c : After-drop-words-2 g) → HasKind (fault_of kalah_app (texts_of c.args.words.items)) c.in-Err.error
@@ -79,15 +79,15 @@ has_kind g c = subst (λ words. HasKind (fault_of kalah_app (texts_of words)) c.
 no_help : (g : Over) (c : After-drop-words-2 g) → AsksNot DisplayHelp (texts_of c.args.words.items) → kind_of c.in-Err.error ≢ DisplayHelp
 no_help g c = no_request DisplayHelp (texts_of c.args.words.items) c.in-Err.error (λ e. cc) (has_kind g c)
 
-quietly : (g : Over) (c : After-drop-words-2 g) → AsksNot DisplayHelp (texts_of c.args.words.items)
-    → AsksNot DisplayVersion (texts_of c.args.words.items) → FailsQuietly c.args.out.now c.refuse.new.out c.status_of-in-Err.result
-quietly g c help version = rw c.status_of-in-Err.ensures (c.refuse.ensures.mistake (no_help g c help)
+without_output : (g : Over) (c : After-drop-words-2 g) → AsksNot DisplayHelp (texts_of c.args.words.items)
+    → AsksNot DisplayVersion (texts_of c.args.words.items) → FailsWithoutOutput c.args.out.now c.refuse.new.out c.report_end-in-Err.result
+without_output g c help version = rw c.report_end-in-Err.ensures (c.refuse.ensures.mistake (no_help g c help)
     (no_request DisplayVersion (texts_of c.args.words.items) c.in-Err.error (λ e. cc) (has_kind g c) version))
 
 -- as arguments that are accepted are not
 failed : (g : Over) (c : After-drop-words-2 g) (a : Asked) → IsTakenAs (texts_of c.args.words.items) a
-    → FailsQuietly c.args.out.now c.refuse.new.out c.status_of-in-Err.result
-failed g c a taken = quietly g c (subst (IsAmong DisplayHelp) taken.0) (subst (IsAmong DisplayVersion) taken.0)
+    → FailsWithoutOutput c.args.out.now c.refuse.new.out c.report_end-in-Err.result
+failed g c a taken = without_output g c (subst (IsAmong DisplayHelp) taken.0) (subst (IsAmong DisplayVersion) taken.0)
 
 pub returns-clause-accepted : goal.returns-clause-accepted
 returns-clause-accepted g c = λ a taken. inr (failed g c a taken)
@@ -100,9 +100,9 @@ returns-clause-best_play g c = plays_best
 
 pub returns-clause-refused : goal.returns-clause-refused
 returns-clause-refused g c = record {
-  usage = λ faulty. quietly g c;
-  version = λ faulty help clean. c.refuse.ensures.version (no_help g c help) (sym c.status_of-in-Err.ensures ∙ clean);
-  no_line = λ faulty line. c.refuse.ensures.no_line (sym c.status_of-in-Err.ensures ∙ line);
+  usage = λ faulty. without_output g c;
+  version = λ faulty help clean. c.refuse.ensures.version (no_help g c help) (sym c.report_end-in-Err.ensures ∙ clean);
+  no_line = λ faulty line. c.refuse.ensures.no_line (sym c.report_end-in-Err.ensures ∙ line);
 }
 
 pub returns-clause-stopped : goal.returns-clause-stopped
