@@ -71,6 +71,21 @@ fn small_positions_take_few_nodes(rt: HostRuntime) {
     assert!(rt; places_after(&rt, &SMALL, 428) == 8_192);
 }
 
+// Houses with so many seeds get no place. The second search finds nothing kept, and keeps nothing, either.
+#[test]
+fn answers_after_few_nodes_get_no_entry(rt: HostRuntime) {
+    let table = Table::new(rt.alloc(), 1).expect(&rt, "no memory for a table");
+    let mut search = Search::new(table);
+    let own = [16, 0, 0, 0, 0, 0];
+    let other = [15, 0, 0, 0, 0, 0];
+    let houses = Houses::new(1, own, other, Rule::Classic).expect(&rt, "beyond the limits");
+    assert!(rt; !houses.is_over());
+    for _ in 0..2u8 {
+        assert!(rt; search.search(&houses, Window::whole()) == 7);
+        assert!(rt; search.entry(&houses) == None);
+    }
+}
+
 #[test]
 fn places_are_laid_out_once(rt: HostRuntime) {
     let table = Table::new(rt.alloc(), 65_536).expect(&rt, "no memory for a table");
