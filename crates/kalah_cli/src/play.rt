@@ -17,7 +17,7 @@ use std::alloc::Global;
 fn write_game<O: Sink>(solver: &mut PromptSolver<'_>, board: &Board, boards: bool, out: &mut O)
     ensures { IsPrinted O.written O.has_failed O.is_handed_on out.old out.new (game_lines boards board.now (best_game board.now)) }
 {
-    let _side = board.m(); // for its clause
+    let _side = board.m(); // For its clause: the board is within the limits.
     flush_unless_failed(out);
     if out.failed() {
         return;
@@ -45,7 +45,7 @@ fn play<O: Sink>(
     requires { MayBegin first board.now }
     ensures { IsPrinted O.written O.has_failed O.is_handed_on out.old out.new (play_output first boards board.now) }
 {
-    let _side = board.m(); // for its clause
+    let _side = board.m(); // For its clause: the board is within the limits.
     write_board(board, boards, out);
     let Some(h) = first else {
         return write_game(solver, board, boards, out);

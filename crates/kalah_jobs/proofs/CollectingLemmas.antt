@@ -11,7 +11,7 @@ use Rattle.std.specs.List.{All, flat_map, enumerate_from, range_with_len}
 use Rattle.std.proofs.lemmas.List.Sums.{sum_by-cons, sum_by-append, get_or-le-sum_by, sum_by-le, sum_by-set, sum-map}
 use Rattle.std.proofs.lemmas.List.Elements.{All-head, All-tail, Contains-append_left, Contains-push, Contains-push_cases, Contains-append_right}
 use Rattle.std.proofs.lemmas.List.{length-map, length-append, nil_from_length, get_or_default, length-replicate, get_or-replicate, get_or_past, append-nil, append_assoc, take_all, take_more, get_or-map}
-use Rattle.kalah_jobs.specs.Collecting.Shares.{times_in, of, AreShared}
+use Rattle.kalah_jobs.specs.Collecting.Shares.{times_in, sent_by_worker, AreShared}
 use Rattle.kalah_jobs.proofs.FilesLemmas.{count_map, count_flat}
 use Rattle.std.proofs.lemmas.Bool.Decides.{nat_tests}
 use Rattle.std.proofs.lemmas.Option.{slice_get_within, get_or_from_slice_get, slice_get-get_or}
@@ -19,15 +19,15 @@ use Rattle.kalah_jobs.specs.declared.files.entry.Entry.{Entry}
 use Rattle.kalah_jobs.specs.declared.collecting.refusal.Refusal.{Refusal}
 use Rattle.kalah_jobs.specs.Writing.Answer.{answer_of}
 use Rattle.kalah_jobs.specs.Files.JobList.{entries_of, entry_at, line_job, file_jobs, jobs_from, job_list}
-use Rattle.kalah_jobs.specs.Collecting.Refusals.{IsWanted, IsRefusedFor, RefusalsLaw}
+use Rattle.kalah_jobs.specs.Collecting.Refusals.{IsWanted, IsRefusedFor, AnswersInOneWay}
 use Rattle.kalah_jobs.specs.Collecting.Held.{IsOffered, HoldsOffered, Kept}
 use Rattle.std.proofs.lemmas.List.FromFn.{fill_by_all, length-range_with_len, length-map-range_with_len, get_or-map-range_with_len, length-enumerate_from, get_or-enumerate_from}
 use Rattle.kalah_jobs.specs.declared.writing.answer.Taken.{Taken}
 use Rattle.kalah_jobs.specs.Collecting.CollectorEvents.{Event, Offered, Took, Offers, Gives, offers, takes, with_taken, Came, answered_line, answered_lines}
-use Rattle.kalah_jobs.specs.Collecting.CollectorLaw.{Runs, CollectorLaw}
+use Rattle.kalah_jobs.specs.Collecting.CollectorLaw.{Runs, KeepsItsLaw}
 use Rattle.kalah_jobs.specs.declared.files.entry.Entry.TheVariants.{Bad}
 use Rattle.kalah_jobs.specs.declared.line.line_fault.LineFault.TheVariants.{Empty}
-use Rattle.kalah_jobs.specs.Collecting.Batch.{job, AreJobsInSomeOrder, SharesLaw, OffersLaw, FrontsLaw}
+use Rattle.kalah_jobs.specs.Collecting.Batch.{job, AreJobsInSomeOrder, GetsEachJobOnce, AcceptsEachJob, MakesEveryLineReady}
 
 -- ==== How many of the first lines of a file have come without a gap
 
@@ -156,9 +156,9 @@ by_class {T} class p (t ∷ ts) counts below own =
     )
 
 -- of the pairs of a worker, what it sent
-class_of : {X : Type 0} (p : X → Bool) (w : ℕ) (got : List (ℕ × X)) → in_class (λ t. t.0) (λ t. p t.1) w got ≡ count_by p (of w got)
+class_of : {X : Type 0} (p : X → Bool) (w : ℕ) (got : List (ℕ × X)) → in_class (λ t. t.0) (λ t. p t.1) w got ≡ count_by p (sent_by_worker w got)
 class_of p w [] = refl
-class_of p w (t ∷ ts) = grind (arith, class_of p w ts, count_by-cons p t.1 (of w ts))
+class_of p w (t ∷ ts) = grind (arith, class_of p w ts, count_by-cons p t.1 (sent_by_worker w ts))
 
 -- of numbers, each as often as it stands there
 class_of_number : (q : ℕ → Bool) (x : ℕ) (xs : List ℕ) →
@@ -370,8 +370,8 @@ refused_for_one : (jobs : List (List Entry)) (files : List FileState) (o : Job) 
     IsRefusedFor jobs files o r → q ≡ r
 refused_for_one jobs files o q r a b = grind arith
 
-pub refusals_law : RefusalsLaw
-refusals_law = record { wanted = wanted_or_refused; one = refused_for_one }
+pub answers_in_one_way : AnswersInOneWay
+answers_in_one_way = record { wanted = wanted_or_refused; one = refused_for_one }
 
 -- ==== After any list of offers and takes a collector has the state that the list determines
 
@@ -508,7 +508,7 @@ pub offers_held : (jobs : List (List Entry)) (events : List Event) (files : List
     → HoldsOffered jobs (offers events) files
 offers_held jobs events files run = (runs jobs [] events (new_files jobs) files run (start jobs)).0.offered
 
-pub law_holds : CollectorLaw
+pub law_holds : KeepsItsLaw
 law_holds jobs events files run =
     let all = runs jobs [] events (new_files jobs) files run (start jobs) in
     let holds = all.0.offered in
@@ -633,8 +633,8 @@ fronts_full jobs past files h holds f =
 
 -- ---- the three laws
 
-pub shares_law : SharesLaw
-shares_law jobs rows got rest shared whole =
+pub gets_each_job_once : GetsEachJobOnce
+gets_each_job_once jobs rows got rest shared whole =
     let n : ℕ = length (job_list jobs) in
     let none : rest ≡ [] =
     nil_from_length rest (omega (arith, as_many_as_numbers n (job jobs) rows (got ++ rest) shared, length-append got rest, whole)) in
@@ -647,9 +647,9 @@ shares_law jobs rows got rest shared whole =
           ∙ count_map p (job jobs) (range_with_len 0 n));
     }
 
-pub offers_law : OffersLaw
-offers_law jobs past o rest files after gave h run step =
+pub accepts_each_job : AcceptsEachJob
+accepts_each_job jobs past o rest files after gave h run step =
     each_accepted o rest h (offers_held jobs past files run) after gave step
 
-pub fronts_law : FrontsLaw
-fronts_law jobs events files h run = fronts_full jobs (offers events) files h (offers_held jobs events files run)
+pub makes_every_line_ready : MakesEveryLineReady
+makes_every_line_ready jobs events files h run = fronts_full jobs (offers events) files h (offers_held jobs events files run)

@@ -27,7 +27,7 @@ use Rattle.kalah_jobs.specs.Writing.Answer.{answer_line}
 use Rattle.kalah_jobs.specs.Collecting.CollectorState.{FileState, state_of, front, HasEnded, with_one_taken, new_files, after_take}
 use Rattle.kalah_jobs.specs.Collecting.CollectorEvents.{Offers, Takes, answered_line}
 use Rattle.kalah_jobs.specs.Writing.Output.{text_of_line, text_of_file, text_of_jobs, answer_text_of, output_to, output_of_jobs, names_of, tally_of, LineCounts, is_faulty_job}
-use Rattle.kalah_jobs.proofs.CollectingLemmas.{state_same, state_other, files_many, lines_are, start, taken_is, new_taken, fronts_full, shares_law, as_many_as_numbers, kept_by_offer, kept_by_take}
+use Rattle.kalah_jobs.proofs.CollectingLemmas.{state_same, state_other, files_many, lines_are, start, taken_is, new_taken, fronts_full, gets_each_job_once, as_many_as_numbers, kept_by_offer, kept_by_take}
 use Rattle.kalah_jobs.specs.Collecting.Held.{Kept}
 use Rattle.kalah_jobs.specs.Files.Lines.{line_feed}
 use Rattle.kalah_jobs.specs.Files.NamedBytes.{NamedBytes}
@@ -464,7 +464,7 @@ each_job_got shared workers count drawn got rest at_work as_many deals accounts 
     let many : length (job_list jobs) ≡ job_count jobs = length-job_list jobs in
     let whole : drawn ≡ length (job_list jobs) =
     omega (arith, as_many_as_numbers drawn (job jobs) rows (got ++ rest) are_shared, length-append got rest, all, deals.within, many) in
-    shares_law jobs rows got rest (subst (λ n. AreShared n (job jobs) rows (got ++ rest)) whole are_shared) (all ∙ sym many)
+    gets_each_job_once jobs rows got rest (subst (λ n. AreShared n (job jobs) rows (got ++ rest)) whole are_shared) (all ∙ sym many)
 
 -- ==== The gate knows each job, if all are drawn
 

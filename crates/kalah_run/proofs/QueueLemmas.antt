@@ -3,7 +3,7 @@ use Rattle.std.proofs.Common.{◌≡◌, ◌≢◌, ℕ, zero, suc, ◌+◌, ◌
 use Rattle.std.proofs.lemmas.List.{append-nil, length-map, length-set, length_push, map-append}
 use Rattle.std.proofs.lemmas.List.Elements.{All-push}
 use Rattle.kalah_jobs.specs.declared.files.job.Job.{Job}
-use Rattle.kalah_jobs.specs.Collecting.Shares.{of}
+use Rattle.kalah_jobs.specs.Collecting.Shares.{sent_by_worker}
 use Rattle.kalah_run.specs.Queue.Lists.{Accounts, outcomes_in}
 use mathlib.Core.Option.{some, some-ne-none}
 use lib.ListN.{get_elem?}
@@ -25,32 +25,32 @@ joined true x xs ys = refl
 joined false x xs ys = refl
 
 -- lists of pairs are joined worker by worker
-pub of_append : (w : ℕ) (xs ys : List (ℕ × Job)) → of w (xs ++ ys) ≡ of w xs ++ of w ys
+pub of_append : (w : ℕ) (xs ys : List (ℕ × Job)) → sent_by_worker w (xs ++ ys) ≡ sent_by_worker w xs ++ sent_by_worker w ys
 of_append w [] ys = refl
 of_append w (t ∷ ts) ys =
-    ap (λ (l : List Job). if t.0 == w then t.1 ∷ l else l) (of_append w ts ys) ∙ joined (t.0 == w) t.1 (of w ts) (of w ys)
+    ap (λ (l : List Job). if t.0 == w then t.1 ∷ l else l) (of_append w ts ys) ∙ joined (t.0 == w) t.1 (sent_by_worker w ts) (sent_by_worker w ys)
 
-own_pair : (w : ℕ) (t : ℕ × Job) → t.0 ≡ w → of w (t ∷ []) ≡ t.1 ∷ []
+own_pair : (w : ℕ) (t : ℕ × Job) → t.0 ≡ w → sent_by_worker w (t ∷ []) ≡ t.1 ∷ []
 own_pair w t e = ap (λ (b : Bool). if b then t.1 ∷ [] else []) (eq-eqb t.0 w e)
 
 other_pair : (w : ℕ) (t : ℕ × Job) (l : List Job) → t.0 ≢ w → (if t.0 == w then t.1 ∷ l else l) ≡ l
 other_pair w t l e = ap (λ (b : Bool). if b then t.1 ∷ l else l) (ne_eqb t.0 w e)
 
 -- the worker's own pair goes after what it sent
-pub of_more : (w : ℕ) (xs : List (ℕ × Job)) (t : ℕ × Job) → t.0 ≡ w → of w (xs ++ t ∷ []) ≡ of w xs ++ t.1 ∷ []
-of_more w xs t e = of_append w xs (t ∷ []) ∙ ap (λ (l : List Job). of w xs ++ l) (own_pair w t e)
+pub of_more : (w : ℕ) (xs : List (ℕ × Job)) (t : ℕ × Job) → t.0 ≡ w → sent_by_worker w (xs ++ t ∷ []) ≡ sent_by_worker w xs ++ t.1 ∷ []
+of_more w xs t e = of_append w xs (t ∷ []) ∙ ap (λ (l : List Job). sent_by_worker w xs ++ l) (own_pair w t e)
 
 -- another worker's pair changes nothing
-pub of_same : (w : ℕ) (xs : List (ℕ × Job)) (t : ℕ × Job) → t.0 ≢ w → of w (xs ++ t ∷ []) ≡ of w xs
-of_same w xs t e = of_append w xs (t ∷ []) ∙ (ap (λ (l : List Job). of w xs ++ l) (other_pair w t [] e) ∙ append-nil (of w xs))
+pub of_same : (w : ℕ) (xs : List (ℕ × Job)) (t : ℕ × Job) → t.0 ≢ w → sent_by_worker w (xs ++ t ∷ []) ≡ sent_by_worker w xs
+of_same w xs t e = of_append w xs (t ∷ []) ∙ (ap (λ (l : List Job). sent_by_worker w xs ++ l) (other_pair w t [] e) ∙ append-nil (sent_by_worker w xs))
 
 -- a worker beyond all has no pair
 pub of_none : (workers w : ℕ) (xs : List (ℕ × Job)) → All (λ (t : ℕ × Job). t.0 < workers) xs → workers ≤ w
-    → of w xs ≡ []
+    → sent_by_worker w xs ≡ []
 of_none workers w [] below le = refl
 of_none workers w (t ∷ ts) below le =
     let h : t.0 < workers = below 0 t (omega arith) in
-    other_pair w t (of w ts) (λ e. omega arith) ∙ of_none workers w ts (λ k d lt. below (suc k) d (omega arith)) le
+    other_pair w t (sent_by_worker w ts) (λ e. omega arith) ∙ of_none workers w ts (λ k d lt. below (suc k) d (omega arith)) le
 
 -- of pairs that are all of workers, the one that comes next is
 pub next_below : (workers : ℕ) (taken : List (ℕ × Job)) (t : ℕ × Job) (rest : List (ℕ × Job))
@@ -94,9 +94,9 @@ accounts_worker workers known pairs h =
 
 -- a list more that is known: what the worker with the number after those known has sent
 pub accounts_known : (workers : ℕ) (known : List (List Job)) (pairs : List (ℕ × Job)) (sent : List Job)
-    → sent ≡ of (length known) pairs
+    → sent ≡ sent_by_worker (length known) pairs
     → Accounts workers known pairs → Accounts workers (known ++ sent ∷ []) pairs
-accounts_known workers known pairs sent e h = record { below = h.below; whole = known_more known sent (λ w. of w pairs) h.whole (sym e) }
+accounts_known workers known pairs sent e h = record { below = h.below; whole = known_more known sent (λ w. sent_by_worker w pairs) h.whole (sym e) }
 
 -- ==== What the pass to get knows, and lists of passes to put
 

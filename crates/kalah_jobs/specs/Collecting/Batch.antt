@@ -20,19 +20,19 @@ pub record AreJobsInSomeOrder (jobs : List (List Entry)) (got : List Job) : Type
   pub same_counts : (p : Job → Bool) → count_by p got ≡ count_by p (job_list jobs)
 
 -- If each job was drawn once and sent by the worker that drew it, and all jobs were received, each job was received once.
-abbrev pub SharesLaw : Type 0
-SharesLaw = (jobs : List (List Entry)) (rows : List (List ℕ)) (got rest : List (ℕ × Job))
+abbrev pub GetsEachJobOnce : Type 0
+GetsEachJobOnce = (jobs : List (List Entry)) (rows : List (List ℕ)) (got rest : List (ℕ × Job))
     → AreShared (length (job_list jobs)) (job jobs) rows (got ++ rest) → length got ≡ length (job_list jobs) →
     AreJobsInSomeOrder jobs (map (λ t. t.1) got)
 
 -- If each job is offered once, in any order and with any takes between, each offer is accepted.
-abbrev pub OffersLaw : Type 0
-OffersLaw = (jobs : List (List Entry)) (past : List Event) (o : Job) (rest : List Job) (files after : List FileState)
+abbrev pub AcceptsEachJob : Type 0
+AcceptsEachJob = (jobs : List (List Entry)) (past : List Event) (o : Job) (rest : List Job) (files after : List FileState)
     (gave : Result ℕ Refusal)
     → AreJobsInSomeOrder jobs (offers past ++ o ∷ rest) → Runs jobs (new_files jobs) past files → Offers jobs files o gave after
     → IsOk gave
 
 -- And in the end every line of every file is ready.
-abbrev pub FrontsLaw : Type 0
-FrontsLaw = (jobs : List (List Entry)) (events : List Event) (files : List FileState) → AreJobsInSomeOrder jobs (offers events)
+abbrev pub MakesEveryLineReady : Type 0
+MakesEveryLineReady = (jobs : List (List Entry)) (events : List Event) (files : List FileState) → AreJobsInSomeOrder jobs (offers events)
     → Runs jobs (new_files jobs) events files → (f : ℕ) → HasEnded (state_of files f)

@@ -25,6 +25,6 @@ pub record Meets (jobs : List (List Entry)) (events : List Event) (files : List 
   pub taken_within : (f : ℕ) → (state_of files f).taken ≤ front (state_of files f)
 
 -- the law, over every list of offers and takes
-abbrev pub CollectorLaw : Type 0
-CollectorLaw = (jobs : List (List Entry)) (events : List Event) (files : List FileState) → Runs jobs (new_files jobs) events files
+abbrev pub KeepsItsLaw : Type 0
+KeepsItsLaw = (jobs : List (List Entry)) (events : List Event) (files : List FileState) → Runs jobs (new_files jobs) events files
     → Meets jobs events files

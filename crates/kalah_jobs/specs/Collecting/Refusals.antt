@@ -11,19 +11,19 @@ use Rattle.kalah_jobs.specs.Collecting.CollectorState.{FileState, state_of, line
 abbrev pub HasFile : List FileState → Job → Type 0
 HasFile files o = o.file < length files
 
--- and of one that has not ended
+-- the offer is of a file that is there and has not ended
 abbrev pub HasOpenFile : List FileState → Job → Type 0
 HasOpenFile files o = HasFile files o × ¬ HasEnded (state_of files o.file)
 
--- and of a line that the file has
+-- the offer is of a file that has not ended, and of a line of it
 abbrev pub HasLine : List FileState → Job → Type 0
 HasLine files o = HasOpenFile files o × (o.line < line_count (state_of files o.file))
 
--- and has that line's entry
+-- the offer is of such a line, and has its entry
 abbrev pub HasEntry : List (List Entry) → List FileState → Job → Type 0
 HasEntry jobs files o = HasLine files o × (entry_at jobs o.file o.line ≡ Some o.entry)
 
--- and is the first of its line: none of the refusals holds
+-- the offer has its line's entry, and is the first of it: none of the refusals holds
 abbrev pub IsWanted : List (List Entry) → List FileState → Job → Type 0
 IsWanted jobs files o = HasEntry jobs files o × (came_for (state_of files o.file) o.line ≡ None)
 
@@ -36,7 +36,7 @@ IsRefusedFor jobs files o WrongPosition = HasLine files o × (entry_at jobs o.fi
 IsRefusedFor jobs files o Double = HasEntry jobs files o × IsSome (came_for (state_of files o.file) o.line)
 
 -- An offer that is wanted meets no refusal, and no offer meets two: so each is answered in one way only.
-pub record RefusalsLaw : Type 0 where
+pub record AnswersInOneWay : Type 0 where
   pub wanted : (jobs : List (List Entry)) (files : List FileState) (o : Job) (r : Refusal) → IsWanted jobs files o
       → IsRefusedFor jobs files o r → ⊥
   pub one : (jobs : List (List Entry)) (files : List FileState) (o : Job) (q r : Refusal) → IsRefusedFor jobs files o q →

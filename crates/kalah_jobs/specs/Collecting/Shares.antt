@@ -6,12 +6,12 @@ abbrev pub times_in : ℕ → List (List ℕ) → ℕ
 times_in x rows = sum_by (λ r. count_by (λ y. y == x) r) rows
 
 -- what worker w sent, of all that was received: pairs of a worker and what it sent
-abbrev pub of : {X : Type 0} → ℕ → List (ℕ × X) → List X
-of w [] = []
-of w (t ∷ ts) = if t.0 == w then t.1 ∷ of w ts else of w ts
+abbrev pub sent_by_worker : {X : Type 0} → ℕ → List (ℕ × X) → List X
+sent_by_worker w [] = []
+sent_by_worker w (t ∷ ts) = if t.0 == w then t.1 ∷ sent_by_worker w ts else sent_by_worker w ts
 
 -- Each number below n stands in the rows once and no other does; what was received is, of each worker, f of its row, in order.
 pub record AreShared {X : Type 0} (n : ℕ) (f : ℕ → X) (rows : List (List ℕ)) (got : List (ℕ × X)) : Type 0 where
   pub each_once : (x : ℕ) → times_in x rows ≡ (if nat_lt x n then 1 else 0)
   pub workers : All (λ t. t.0 < length rows) got
-  pub whole : (w : ℕ) → w < length rows → of w got ≡ map f (slice_index_or rows w [])
+  pub whole : (w : ℕ) → w < length rows → sent_by_worker w got ≡ map f (slice_index_or rows w [])

@@ -1,5 +1,6 @@
 //! One side of a position line: its houses and its store.
 ghost use Rattle.std.specs.Prelude.{◌≤◌};
+ghost use Rattle.kalah_jobs.specs.Limits.{most_bytes};
 
 use crate::line::number::take_number;
 use kalah_rules::HouseRow;
@@ -12,12 +13,11 @@ pub(crate) struct Side {
     // The number of the others.
     pub(crate) left_out: u8,
     pub(crate) store: u8,
-    ghost few: { left_out ≤ 80 },
+    ghost few: { left_out ≤ most_bytes },
 }
 
 impl Side {
     ghost use Rattle.std.specs.Prelude.{◌≡◌, ◌≤◌, ◌<◌, ◌+◌, ◌∷◌, [], ◌++◌, ℕ, List, length, IfSome, IfNone, Some, None};
-    ghost use Rattle.kalah_jobs.specs.Limits.{most_bytes};
     ghost use Rattle.kalah_jobs.specs.Line.Reading.{side_at};
     ghost use Rattle.kalah_jobs.specs.Line.Side.{AreKept};
 

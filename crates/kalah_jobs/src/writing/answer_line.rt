@@ -26,7 +26,8 @@ fn prepend_value(text: &mut StackText, value: MoveValue)
     text.prepend_byte(value.house);
 }
 
-// Puts the values of the moves from place `i` on, with a space between any two, in front of the text.
+// Puts the values of the moves from place `i` on, with a space between any two, in front of the text. A value takes at most 16 bytes with
+// its space.
 #[tactic(auto, using(crate::proofs::WritingLemmas::last_value))]
 fn prepend_values(text: &mut StackText, values: &MoveValues, i: u8)
     requires within { i ≤ length values.now }

@@ -3,7 +3,7 @@ use Rattle.std.specs.Prelude.{◌≡◌, ℕ, ◌<◌, List, ◌++◌, length, A
 use mathlib.Core.Option.{some}
 use lib.ListN.{get_elem?}
 use Rattle.kalah_jobs.specs.declared.files.job.Job.{Job}
-use Rattle.kalah_jobs.specs.Collecting.Shares.{of}
+use Rattle.kalah_jobs.specs.Collecting.Shares.{sent_by_worker}
 use Rattle.kalah_run.specs.declared.queue.rule.QueueView.{QueueView}
 use Rattle.kalah_run.specs.declared.queue.rule.QueueView.TheVariants.{Getting, Putting}
 use Rattle.kalah_run.specs.Queue.Lists.{outcomes_in}
@@ -22,8 +22,8 @@ pub record IsWholeAndInOrder (items : List Job) (views : List QueueView) : Type 
       → get_elem? views place ≡ some (Getting others pairs lists) → place ≡ 0
   pub below : All (λ pair. pair.0 < workers) (got ++ inside)
   pub running : (place worker : ℕ) (sent : List Job) → get_elem? views place ≡ some (Putting worker sent)
-      → (worker < workers) × (of worker (got ++ inside) ≡ sent)
-  pub reclaimed : (worker : ℕ) → worker < length ended → of worker (got ++ inside) ≡ slice_index_or ended worker []
+      → (worker < workers) × (sent_by_worker worker (got ++ inside) ≡ sent)
+  pub reclaimed : (worker : ℕ) → worker < length ended → sent_by_worker worker (got ++ inside) ≡ slice_index_or ended worker []
 
 -- between any two steps of any threads, for any contents of the queue
 abbrev pub QueueIsLawful : Type 0

@@ -3,7 +3,7 @@ use Rattle.std.specs.Prelude.{◌≡◌, ℕ, suc, ◌≤◌, List, ◌++◌, le
 use mathlib.Core.Option.{some}
 use lib.ListN.{get_elem?}
 use Rattle.kalah_jobs.specs.declared.files.job.Job.{Job}
-use Rattle.kalah_jobs.specs.Collecting.Shares.{of}
+use Rattle.kalah_jobs.specs.Collecting.Shares.{sent_by_worker}
 use Rattle.kalah_run.specs.declared.queue.rule.QueueView.{QueueView}
 use Rattle.kalah_run.specs.declared.queue.rule.QueueView.TheVariants.{Getting, Putting, Ended}
 use Rattle.kalah_run.specs.Queue.Lists.{Accounts, outcomes_in}
@@ -13,7 +13,7 @@ use Rattle.kalah_run.specs.Queue.Lists.{Accounts, outcomes_in}
 pub record FitsPut (pairs : List (ℕ × Job)) (closed place number : ℕ) (sent : List Job) : Type 0 where
   pub place_is : place ≡ suc number
   pub running : closed ≤ number
-  pub all_sent : sent ≡ of number pairs
+  pub all_sent : sent ≡ sent_by_worker number pairs
 
 -- The one pass to get stands first. It knows how many passes to put were made, what was taken out, and what the workers sent that have
 -- ended.

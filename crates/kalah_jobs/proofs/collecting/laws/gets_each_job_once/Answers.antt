@@ -1,5 +1,5 @@
-use Rattle.kalah_jobs.proofs.CollectingLemmas.{shares_law}
+use Rattle.kalah_jobs.proofs.CollectingLemmas.{gets_each_job_once}
 use Rattle.kalah_jobs.proofs.collecting.laws.gets_each_job_once.Goals as goal
 
 pub returns : goal.returns
-returns c = shares_law
+returns c = gets_each_job_once
