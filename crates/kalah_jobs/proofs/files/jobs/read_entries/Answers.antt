@@ -1,0 +1,10 @@
+use Rattle.std.proofs.Common.{arith}
+use Rattle.std.proofs.lemmas.List.Sums.{count_by-le-length}
+use Rattle.kalah_jobs.specs.Writing.Answer.{is_faulty_entry}
+use Rattle.kalah_jobs.proofs.files.jobs.read_entries.Goals as goal
+
+-- there are no more faults than entries
+pub overflow_add-faults : goal.overflow_add-faults
+overflow_add-faults c =
+    let few = count_by-le-length is_faulty_entry c.loop-rest.entries.items in
+    omega (arith, few, c.loop-rest.invariant.faults, c.loop-rest.entries.ok, c.loop-rest.entries.small)
