@@ -105,7 +105,7 @@ pub start_kept : (old between new : Option (List ℕ)) (bs : List ℕ) → Appen
     → AppendsStart old new bs
 start_kept old between new bs start kept = (start.0, Appends-kept old between new (take start.0 bs) start.1 kept)
 
--- ==== Bytes of which a part was written
+-- ==== Bytes that are written in part
 
 pub record IsLeft (old now : Option (List ℕ)) (bytes rest : List ℕ) : Type 0 where
   pub done : List ℕ
@@ -531,7 +531,9 @@ lines_of_both [] second =
     lines_of-feed line_feed second refl ∙ ap (λ (lines : List (List ℕ)). lines ++ lines_of second) (sym one_feed)
 lines_of_both (byte ∷ front) second = elim (cases_eq byte line_feed) [
   | inl feed ↦ simp (lines_of-feed, lines_of_both front second)
-  | inr other ↦ let some : 0 < length (lines_of (front ++ line_feed ∷ [])) = omega (arith, length-lines_of front line_feed) in simp (lines_of-byte, lines_of_both front second, onto_first-append)
+  | inr other ↦
+      let some : 0 < length (lines_of (front ++ line_feed ∷ [])) = omega (arith, length-lines_of front line_feed) in
+      simp (lines_of-byte, lines_of_both front second, onto_first-append)
 ]
 
 lines_split : (first second : List ℕ) → EndsWithItsLine first → lines_of (first ++ second) ≡ lines_of first ++ lines_of second

@@ -71,7 +71,7 @@ fn small_positions_take_few_nodes(rt: HostRuntime) {
     assert!(rt; places_after(&rt, &SMALL, 428) == 8_192);
 }
 
-// Houses with so many seeds get no place. The second search finds nothing kept, and keeps nothing, either.
+// Houses with that many seeds get no place. The second search finds nothing kept, and keeps nothing, either.
 #[test]
 fn answers_after_few_nodes_get_no_entry(rt: HostRuntime) {
     let table = Table::new(rt.alloc(), 1).expect(&rt, "no memory for a table");
