@@ -1,7 +1,7 @@
 use Rattle.std.proofs.Common.{rules, ◌≡◌, ◌∙◌, List, ℕ, Option, Some, ap, refl, subst, sym}
 use Rattle.std.specs.Io.KnownBytes.{Consumes}
 use Rattle.kalah_jobs.specs.Asking.Asked.{bytes_of}
-use Rattle.kalah_jobs.proofs.AskingLemmas.{all_answered, begun_last, begun_line, begun_so_far, byte_read, cut_off, line_read, nothing_read}
+use Rattle.kalah_jobs.proofs.AskingLemmas.{all_answered, begun_last, begun_line, begun_so_far, byte_read, cut_off, line_read, nothing_read, fine_is_not_read, written_is_not_read}
 use Rattle.kalah_jobs.proofs.asking.answer_lines.answer_each.Goals as goal
 
 -- what was taken is this byte, or none
@@ -65,3 +65,21 @@ pub returns-clause-begins : goal.returns-clause-begins
 returns-clause-begins g c =
     begun_last c.loop-byte.invariant.0 _ (taken_is _ _ _ _ c.in_default.is c.in_ok-byte.ensures.taken) c.in_ok-byte.ensures.keeps
     c.tell_last-all_read.ensures.given.start
+
+pub returns-then-failed-clause-cut_off : goal.returns-then-failed-clause-cut_off
+returns-then-failed-clause-cut_off g c = written_is_not_read
+
+pub returns-then-failed-2-clause-cut_off : goal.returns-then-failed-2-clause-cut_off
+returns-then-failed-2-clause-cut_off g c = written_is_not_read
+
+pub returns-clause-cut_off : goal.returns-clause-cut_off
+returns-clause-cut_off g c = fine_is_not_read
+
+pub returns-then-failed-clause-none_left : goal.returns-then-failed-clause-none_left
+returns-then-failed-clause-none_left g c = written_is_not_read
+
+pub returns-then-failed-2-clause-none_left : goal.returns-then-failed-2-clause-none_left
+returns-then-failed-2-clause-none_left g c = written_is_not_read
+
+pub returns-clause-none_left : goal.returns-clause-none_left
+returns-clause-none_left g c = fine_is_not_read
