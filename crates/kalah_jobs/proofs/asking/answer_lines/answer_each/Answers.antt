@@ -1,7 +1,7 @@
 use Rattle.std.proofs.Common.{rules, ◌≡◌, ◌∙◌, List, ℕ, Option, Some, ap, refl, subst, sym}
 use Rattle.std.specs.Io.KnownBytes.{Consumes}
 use Rattle.kalah_jobs.specs.Asking.Asked.{bytes_of}
-use Rattle.kalah_jobs.proofs.AskingLemmas.{all_answered, begun_last, begun_line, begun_so_far, byte_read, cut_off, line_read, nothing_read, fine_is_not_read, written_is_not_read}
+use Rattle.kalah_jobs.proofs.AskingLemmas.{all_answered, begun_last, begun_line, begun_so_far, byte_read, cut_off, line_read, nothing_read, failed_is_not_sound, fine_is_no_fault, written_is_not_read}
 use Rattle.kalah_jobs.proofs.asking.answer_lines.answer_each.Goals as goal
 
 -- what was taken is this byte, or none
@@ -31,12 +31,6 @@ loop-byte-preserved-then-byte-ne-LINE_FEED g c =
       c.in_ok-byte.ensures.same_reference ∙ c.loop-byte.invariant.3,
     )
 
-pub returns-then-failed-clause-begins : goal.returns-then-failed-clause-begins
-returns-then-failed-clause-begins g c =
-    let is = c.in-Some.is ∙ ap (λ byte. Some byte) c.if-byte-ne-LINE_FEED.false in
-    begun_line c.loop-byte.invariant.0 _ (taken_is _ _ _ _ is c.in_ok-byte.ensures.taken) c.in_ok-byte.ensures.keeps
-    c.tell-all_read.ensures.given.start
-
 pub loop-byte-preserved : goal.loop-byte-preserved
 loop-byte-preserved g c =
     let is = c.in-Some.is ∙ ap (λ byte. Some byte) c.if-byte-ne-LINE_FEED.false in
@@ -50,36 +44,47 @@ loop-byte-preserved g c =
       c.in_ok-byte.ensures.same_reference ∙ c.loop-byte.invariant.3,
     )
 
-pub returns-then-failed-2-clause-begins : goal.returns-then-failed-2-clause-begins
-returns-then-failed-2-clause-begins g c =
-    begun_last c.loop-byte.invariant.0 _ (taken_is _ _ _ _ c.in_default.is c.in_ok-byte.ensures.taken) c.in_ok-byte.ensures.keeps
-    c.tell_last-all_read.ensures.given.start
+pub returns-then-failed : goal.returns-then-failed
+returns-then-failed g c =
+    let is = c.in-Some.is ∙ ap (λ byte. Some byte) c.if-byte-ne-LINE_FEED.false in
+    let has_failed = sym c.failed.ensures ∙ c.if-failed.true in
+    record {
+      same_reference = c.in_ok-byte.ensures.same_reference ∙ c.loop-byte.invariant.3;
+      answered = tt;
+      cut_off = written_is_not_read;
+      begins = begun_line c.loop-byte.invariant.0 _ (taken_is _ _ _ _ is c.in_ok-byte.ensures.taken) c.in_ok-byte.ensures.keeps
+          c.tell-all_read.ensures.given.start;
+      failed = (λ _. refl, λ _. has_failed);
+      handed_on = failed_is_not_sound has_failed;
+      none_left = written_is_not_read;
+    }
 
-pub returns-clause-answered : goal.returns-clause-answered
-returns-clause-answered g c =
+pub returns-then-failed-2 : goal.returns-then-failed-2
+returns-then-failed-2 g c =
+    let has_failed = sym c.failed-2.ensures ∙ c.if-failed-2.true in
+    record {
+      same_reference = c.in_ok-byte.ensures.same_reference ∙ c.loop-byte.invariant.3;
+      answered = tt;
+      cut_off = written_is_not_read;
+      begins = begun_last c.loop-byte.invariant.0 _ (taken_is _ _ _ _ c.in_default.is c.in_ok-byte.ensures.taken)
+          c.in_ok-byte.ensures.keeps c.tell_last-all_read.ensures.given.start;
+      failed = (λ _. refl, λ _. has_failed);
+      handed_on = failed_is_not_sound has_failed;
+      none_left = written_is_not_read;
+    }
+
+pub returns : goal.returns
+returns g c =
+    let taken = taken_is _ _ _ _ c.in_default.is c.in_ok-byte.ensures.taken in
+    let told = c.tell_last-all_read.ensures in
     let sound = sym c.failed-2.ensures ∙ c.if-failed-2.false in
-    all_answered c.loop-byte.invariant.0 _ (taken_is _ _ _ _ c.in_default.is c.in_ok-byte.ensures.taken)
-    (c.in_ok-byte.ensures.end c.in_default.is) c.in_ok-byte.ensures.keeps (c.tell_last-all_read.ensures.given.whole sound).1 c.tell_last-all_read.ensures.read
-
-pub returns-clause-begins : goal.returns-clause-begins
-returns-clause-begins g c =
-    begun_last c.loop-byte.invariant.0 _ (taken_is _ _ _ _ c.in_default.is c.in_ok-byte.ensures.taken) c.in_ok-byte.ensures.keeps
-    c.tell_last-all_read.ensures.given.start
-
-pub returns-then-failed-clause-cut_off : goal.returns-then-failed-clause-cut_off
-returns-then-failed-clause-cut_off g c = written_is_not_read
-
-pub returns-then-failed-2-clause-cut_off : goal.returns-then-failed-2-clause-cut_off
-returns-then-failed-2-clause-cut_off g c = written_is_not_read
-
-pub returns-clause-cut_off : goal.returns-clause-cut_off
-returns-clause-cut_off g c = fine_is_not_read
-
-pub returns-then-failed-clause-none_left : goal.returns-then-failed-clause-none_left
-returns-then-failed-clause-none_left g c = written_is_not_read
-
-pub returns-then-failed-2-clause-none_left : goal.returns-then-failed-2-clause-none_left
-returns-then-failed-2-clause-none_left g c = written_is_not_read
-
-pub returns-clause-none_left : goal.returns-clause-none_left
-returns-clause-none_left g c = fine_is_not_read
+    record {
+      same_reference = c.in_ok-byte.ensures.same_reference ∙ c.loop-byte.invariant.3;
+      answered = all_answered c.loop-byte.invariant.0 _ taken (c.in_ok-byte.ensures.end c.in_default.is) c.in_ok-byte.ensures.keeps
+          (told.given.whole sound).1 told.read;
+      cut_off = fine_is_no_fault;
+      begins = begun_last c.loop-byte.invariant.0 _ taken c.in_ok-byte.ensures.keeps told.given.start;
+      failed = (λ failed. failed_is_not_sound failed sound, fine_is_no_fault);
+      handed_on = told.handed_on;
+      none_left = fine_is_no_fault;
+    }
