@@ -352,10 +352,7 @@ module _ {question : Question} {before now old new : Option (List ℕ)} {line : 
     status = ap₂ (λ a b. a && b) u.status (read ∙ ap is_last_read u.kept) ∙ sym (last_read u.lines u.part u.ended u.unended);
   }
 
--- no sink has failed and has not, a failed write is no failed read, and a result is no fault
-pub failed_is_not_sound : {A : Type 0} {has_failed : Bool} → has_failed ≡ true → has_failed ≡ false → A
-failed_is_not_sound failed sound = absurd (cc)
-
+-- a failed write is no failed read, and a result is no fault
 pub written_is_not_read : {A : Type 0} → IsErrOf {T = Bool} (Err Write) Read → A
 written_is_not_read is = absurd (cc)
 

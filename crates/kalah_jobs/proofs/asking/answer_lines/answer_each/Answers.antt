@@ -1,7 +1,8 @@
 use Rattle.std.proofs.Common.{rules, ◌≡◌, ◌∙◌, List, ℕ, Option, Some, ap, refl, subst, sym}
+use Rattle.std.proofs.lemmas.Bool.{both_ways}
 use Rattle.std.specs.Io.KnownBytes.{Consumes}
 use Rattle.kalah_jobs.specs.Asking.Asked.{bytes_of}
-use Rattle.kalah_jobs.proofs.AskingLemmas.{all_answered, begun_last, begun_line, begun_so_far, byte_read, cut_off, line_read, nothing_read, failed_is_not_sound, fine_is_no_fault, written_is_not_read}
+use Rattle.kalah_jobs.proofs.AskingLemmas.{all_answered, begun_last, begun_line, begun_so_far, byte_read, cut_off, fine_is_no_fault, line_read, nothing_read, written_is_not_read}
 use Rattle.kalah_jobs.proofs.asking.answer_lines.answer_each.Goals as goal
 
 -- what was taken is this byte, or none
@@ -55,7 +56,7 @@ returns-then-failed g c =
       begins = begun_line c.loop-byte.invariant.0 _ (taken_is _ _ _ _ is c.in_ok-byte.ensures.taken) c.in_ok-byte.ensures.keeps
           c.tell-all_read.ensures.given.start;
       failed = (λ _. refl, λ _. has_failed);
-      handed_on = failed_is_not_sound has_failed;
+      handed_on = λ sound. absurd (both_ways _ sound has_failed);
       none_left = written_is_not_read;
     }
 
@@ -69,7 +70,7 @@ returns-then-failed-2 g c =
       begins = begun_last c.loop-byte.invariant.0 _ (taken_is _ _ _ _ c.in_default.is c.in_ok-byte.ensures.taken)
           c.in_ok-byte.ensures.keeps c.tell_last-all_read.ensures.given.start;
       failed = (λ _. refl, λ _. has_failed);
-      handed_on = failed_is_not_sound has_failed;
+      handed_on = λ sound. absurd (both_ways _ sound has_failed);
       none_left = written_is_not_read;
     }
 
@@ -84,7 +85,7 @@ returns g c =
           (told.given.whole sound).1 told.read;
       cut_off = fine_is_no_fault;
       begins = begun_last c.loop-byte.invariant.0 _ taken c.in_ok-byte.ensures.keeps told.given.start;
-      failed = (λ failed. failed_is_not_sound failed sound, fine_is_no_fault);
+      failed = (λ failed. absurd (both_ways _ sound failed), fine_is_no_fault);
       handed_on = told.handed_on;
       none_left = fine_is_no_fault;
     }
