@@ -6,6 +6,3 @@ loop-preserved g c = Keeps-trans _ _ _ c.loop.invariant c.fill_buf.follows.holds
 
 pub returns-in-Err-2-clause-keeps : goal.returns-in-Err-2-clause-keeps
 returns-in-Err-2-clause-keeps g c = Keeps-trans _ _ _ c.loop.invariant c.fill_buf.follows.holds-at-none.0
-
-pub returns-in-Ok-clause-keeps : goal.returns-in-Ok-clause-keeps
-returns-in-Ok-clause-keeps g c = Keeps-trans _ _ _ c.loop.invariant c.fill_buf.follows.holds-at-none.0
