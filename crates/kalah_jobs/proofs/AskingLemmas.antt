@@ -1,7 +1,7 @@
 -- Lines that come as a stream: what is answered of them, and how far.
 use Rattle.kalah_rules.specs.Position as position
 use Rattle.std.proofs.Common.{◌≡◌, ◌≢◌, ◌∙◌, ℕ, zero, suc, ◌+◌, ◌≤◌, Bool, true, false, List, [], ◌∷◌, ◌++◌, length, take, inl, inr, refl, sym, ap, ap₂, arith, append-nil, append_assoc, Err, not, ◌||◌, ◌&&◌, subst}
-use Rattle.std.specs.Prelude.{Result, Ok, if◌then◌else◌, Option}
+use Rattle.std.specs.Prelude.{IsErrOf, Result, Ok, if◌then◌else◌, Option}
 use Rattle.std.specs.List.{flat_map, enumerate_from}
 use Rattle.std.proofs.lemmas.Bool.{cases_lt}
 use Rattle.std.proofs.Math.Bool.{and-true}
@@ -11,6 +11,7 @@ use Rattle.std.proofs.lemmas.List.Folds.{list_any-append}
 use Rattle.kalah_rules.specs.Position.{is_over}
 use Rattle.kalah_jobs.specs.declared.files.question.Question.{Question}
 use Rattle.kalah_jobs.specs.declared.files.question.Question.TheVariants.{BestMove, Values, Steps}
+use Rattle.kalah_jobs.specs.declared.asking.ask_fault.AskFault.TheVariants.{Read, Write}
 use Rattle.kalah_jobs.specs.declared.writing.answer.Answer.{Answer}
 use Rattle.kalah_jobs.specs.declared.line.line_fault.LineFault.{LineFault}
 use Rattle.kalah_jobs.specs.Asking.Asked.{kept_bytes, told, told_last, is_last_read, answers_to, are_all_read, AnswersAreThoseOfAFile, AreAnswered, Asking, IsAnswered, IsBegun, IsCutOff}
@@ -350,6 +351,13 @@ module _ {question : Question} {before now old new : Option (List ℕ)} {line : 
         (more_written kept more (answers_to question u.part) keeps (subst (Appends kept more) told_part tells));
     status = ap₂ (λ a b. a && b) u.status (read ∙ ap is_last_read u.kept) ∙ sym (last_read u.lines u.part u.ended u.unended);
   }
+
+-- a failed write is no failed read, and a result is no fault
+pub written_is_not_read : {A : Type 0} → IsErrOf {T = Bool} (Err Write) Read → A
+written_is_not_read is = absurd (cc)
+
+pub fine_is_no_fault : {A E : Type 0} {all_read : Bool} {fault : E} → IsErrOf (Ok all_read) fault → A
+fine_is_no_fault is = absurd (cc)
 
 -- all lines so far are answered
 pub answered_so_far : (asking : Asking) (question : Question) (before now old new : Option (List ℕ)) (line : List ℕ) (all_read : Bool)

@@ -1,20 +1,13 @@
-use Rattle.std.proofs.Common.{rules, ◌≡◌, ◌∙◌, List, ℕ, Option, Some, ap, refl, subst, sym}
-use Rattle.std.specs.Io.KnownBytes.{Consumes}
-use Rattle.kalah_jobs.specs.Asking.Asked.{bytes_of}
-use Rattle.kalah_jobs.proofs.AskingLemmas.{all_answered, begun_last, begun_line, begun_so_far, byte_read, cut_off, line_read, nothing_read}
+use Rattle.std.proofs.Common.{rules, ◌∙◌, refl, sym}
+use Rattle.std.proofs.lemmas.Bool.{both_ways}
+use Rattle.kalah_jobs.proofs.AskingLemmas.{all_answered, begun_last, begun_line, begun_so_far, byte_read, cut_off, fine_is_no_fault, line_read, nothing_read, written_is_not_read}
 use Rattle.kalah_jobs.proofs.asking.answer_lines.answer_each.Goals as goal
-
--- what was taken is this byte, or none
-taken_is : (before after : Option (List ℕ)) (byte other : Option ℕ) → byte ≡ other → Consumes before after (bytes_of byte) →
-    Consumes before after (bytes_of other)
-taken_is before after byte other is taken = subst (λ b. Consumes before after (bytes_of b)) is taken
 
 pub loop-byte-init : goal.loop-byte-init
 loop-byte-init g c = (nothing_read _ _ _ _ c.new-line.ensures, c.requires.sink, refl, refl)
 
 pub returns-in_err-byte-clause-cut_off : goal.returns-in_err-byte-clause-cut_off
-returns-in_err-byte-clause-cut_off g c = λ _.
-    cut_off c.loop-byte.invariant.0 c.in_err-byte.ensures.untaken c.in_err-byte.ensures.keeps
+returns-in_err-byte-clause-cut_off g c = λ _. cut_off c.loop-byte.invariant.0 c.in_err-byte.ensures.untaken c.in_err-byte.ensures.keeps
 
 pub returns-in_err-byte-clause-begins : goal.returns-in_err-byte-clause-begins
 returns-in_err-byte-clause-begins g c =
@@ -22,7 +15,7 @@ returns-in_err-byte-clause-begins g c =
 
 pub loop-byte-preserved-then-byte-ne-LINE_FEED : goal.loop-byte-preserved-then-byte-ne-LINE_FEED
 loop-byte-preserved-then-byte-ne-LINE_FEED g c =
-    let taken = taken_is _ _ _ _ c.in-Some.is c.in_ok-byte.ensures.taken in
+    let taken = rw c.in-Some.is at c.in_ok-byte.ensures.taken in
     let read = byte_read c.loop-byte.invariant.0 _ c.if-byte-ne-LINE_FEED.true taken c.in_ok-byte.ensures.keeps in
     rw c.push.ensures (
       read,
@@ -31,17 +24,11 @@ loop-byte-preserved-then-byte-ne-LINE_FEED g c =
       c.in_ok-byte.ensures.same_reference ∙ c.loop-byte.invariant.3,
     )
 
-pub returns-then-failed-clause-begins : goal.returns-then-failed-clause-begins
-returns-then-failed-clause-begins g c =
-    let is = c.in-Some.is ∙ ap (λ byte. Some byte) c.if-byte-ne-LINE_FEED.false in
-    begun_line c.loop-byte.invariant.0 _ (taken_is _ _ _ _ is c.in_ok-byte.ensures.taken) c.in_ok-byte.ensures.keeps
-    c.tell-all_read.ensures.given.start
-
 pub loop-byte-preserved : goal.loop-byte-preserved
 loop-byte-preserved g c =
-    let is = c.in-Some.is ∙ ap (λ byte. Some byte) c.if-byte-ne-LINE_FEED.false in
+    let taken = rw (c.in-Some.is, c.if-byte-ne-LINE_FEED.false) at c.in_ok-byte.ensures.taken in
     let sound = sym c.failed.ensures ∙ c.if-failed.false in
-    let read = line_read c.loop-byte.invariant.0 _ (taken_is _ _ _ _ is c.in_ok-byte.ensures.taken) c.in_ok-byte.ensures.keeps
+    let read = line_read c.loop-byte.invariant.0 _ taken c.in_ok-byte.ensures.keeps
     (c.tell-all_read.ensures.given.whole sound).1 c.tell-all_read.ensures.read in
     rw c.new-line-in-Some.ensures (
       read,
@@ -50,18 +37,47 @@ loop-byte-preserved g c =
       c.in_ok-byte.ensures.same_reference ∙ c.loop-byte.invariant.3,
     )
 
-pub returns-then-failed-2-clause-begins : goal.returns-then-failed-2-clause-begins
-returns-then-failed-2-clause-begins g c =
-    begun_last c.loop-byte.invariant.0 _ (taken_is _ _ _ _ c.in_default.is c.in_ok-byte.ensures.taken) c.in_ok-byte.ensures.keeps
-    c.tell_last-all_read.ensures.given.start
+pub returns-then-failed : goal.returns-then-failed
+returns-then-failed g c =
+    let taken = rw (c.in-Some.is, c.if-byte-ne-LINE_FEED.false) at c.in_ok-byte.ensures.taken in
+    let has_failed = sym c.failed.ensures ∙ c.if-failed.true in
+    record {
+      same_reference = c.in_ok-byte.ensures.same_reference ∙ c.loop-byte.invariant.3;
+      answered = tt;
+      cut_off = written_is_not_read;
+      begins = begun_line c.loop-byte.invariant.0 _ taken c.in_ok-byte.ensures.keeps c.tell-all_read.ensures.given.start;
+      failed = (λ _. refl, λ _. has_failed);
+      handed_on = λ sound. absurd (both_ways _ sound has_failed);
+      none_left = written_is_not_read;
+    }
+
+pub returns-then-failed-2 : goal.returns-then-failed-2
+returns-then-failed-2 g c =
+    let has_failed = sym c.failed-2.ensures ∙ c.if-failed-2.true in
+    record {
+      same_reference = c.in_ok-byte.ensures.same_reference ∙ c.loop-byte.invariant.3;
+      answered = tt;
+      cut_off = written_is_not_read;
+      begins = begun_last c.loop-byte.invariant.0 _ (rw c.in_default.is at c.in_ok-byte.ensures.taken)
+          c.in_ok-byte.ensures.keeps c.tell_last-all_read.ensures.given.start;
+      failed = (λ _. refl, λ _. has_failed);
+      handed_on = λ sound. absurd (both_ways _ sound has_failed);
+      none_left = written_is_not_read;
+    }
 
 pub returns-clause-answered : goal.returns-clause-answered
 returns-clause-answered g c =
     let sound = sym c.failed-2.ensures ∙ c.if-failed-2.false in
-    all_answered c.loop-byte.invariant.0 _ (taken_is _ _ _ _ c.in_default.is c.in_ok-byte.ensures.taken)
-    (c.in_ok-byte.ensures.end c.in_default.is) c.in_ok-byte.ensures.keeps (c.tell_last-all_read.ensures.given.whole sound).1 c.tell_last-all_read.ensures.read
+    all_answered c.loop-byte.invariant.0 _ (rw c.in_default.is at c.in_ok-byte.ensures.taken) (c.in_ok-byte.ensures.end c.in_default.is)
+    c.in_ok-byte.ensures.keeps (c.tell_last-all_read.ensures.given.whole sound).1 c.tell_last-all_read.ensures.read
+
+pub returns-clause-cut_off : goal.returns-clause-cut_off
+returns-clause-cut_off g c = fine_is_no_fault
 
 pub returns-clause-begins : goal.returns-clause-begins
 returns-clause-begins g c =
-    begun_last c.loop-byte.invariant.0 _ (taken_is _ _ _ _ c.in_default.is c.in_ok-byte.ensures.taken) c.in_ok-byte.ensures.keeps
+    begun_last c.loop-byte.invariant.0 _ (rw c.in_default.is at c.in_ok-byte.ensures.taken) c.in_ok-byte.ensures.keeps
     c.tell_last-all_read.ensures.given.start
+
+pub returns-clause-none_left : goal.returns-clause-none_left
+returns-clause-none_left g c = fine_is_no_fault

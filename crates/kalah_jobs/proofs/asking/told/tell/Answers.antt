@@ -1,7 +1,18 @@
-use Rattle.std.proofs.Common.{[]}
+use Rattle.std.proofs.Common.{◌∙◌, [], ap, not, sym}
+use Rattle.kalah_jobs.specs.Writing.Answer.{is_faulty_entry}
+use Rattle.kalah_jobs.specs.Writing.Output.{is_faulty}
+use Rattle.kalah_jobs.proofs.FilesLemmas.{asked_fault}
 use Rattle.kalah_jobs.proofs.WritingLemmas.{given_cut_off}
 use Rattle.kalah_jobs.proofs.asking.told.tell.Goals as goal
 
 pub returns-then-failed-clause-given : goal.returns-then-failed-clause-given
 returns-then-failed-clause-given g c =
-    given_cut_off _ _ _ _ [] _ c.flush_unless_failed.ensures.given (cc)
+    given_cut_off _ _ _ _ [] _ c.flush_unless_failed.ensures.given (sym c.failed.ensures ∙ c.if-failed.true)
+
+pub returns-then-failed-clause-read : goal.returns-then-failed-clause-read
+returns-then-failed-clause-read g c = ap not (c.is_bad-is_read.ensures ∙ ap is_faulty_entry c.of_line-entry.ensures
+    ∙ asked_fault c.args.question _ ∙ ap is_faulty c.bytes.ensures)
+
+pub returns-clause-read : goal.returns-clause-read
+returns-clause-read g c = ap not (c.is_bad-is_read.ensures ∙ ap is_faulty_entry c.of_line-entry.ensures
+    ∙ asked_fault c.args.question _ ∙ ap is_faulty c.bytes.ensures)
