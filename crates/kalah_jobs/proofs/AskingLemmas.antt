@@ -172,7 +172,7 @@ line_parts : (question : Question) → question ≢ Steps → (name : List ℕ) 
     line_output question name (number, line) ≡ place_words name number ++ told question line
 line_parts question other name number line =
     let answer = answer_of (entry_to question line) in
-    ap (λ l. l ++ line_feed ∷ []) (one_line_parts name number answer (one_line_asked question other line))
+    ap (λ l. l ++ line_feed ∷ []) (one_line_parts name number answer (λ p e. subst IsOfOneLine e (one_line_asked question other line)))
     ∙ append_assoc (place_words name number) (answer_words answer) (line_feed ∷ [])
 
 lines_parts : (question : Question) → question ≢ Steps → (name : List ℕ) (number : ℕ) (lines : List (List ℕ)) →

@@ -5,7 +5,7 @@ use Rattle.std.proofs.lemmas.Fmt.{length-decimal-le, IsAscii-decimal, length_sig
 use Rattle.std.specs.Prelude.{decimal, replicate, Option, ◌↔◌, IsErr, Ok, Err, OnOk, Result, ℤ, pos, negsuc, nat_lt, slice_get, Some, if◌then◌else◌, sum_by, count_by}
 use Rattle.std.proofs.lemmas.Str.{IsUtf8-append, IsUtf8-from_ascii}
 use Rattle.std.proofs.lemmas.Str.Ascii.{IsAscii-nil, IsAscii-cons}
-use Rattle.kalah_jobs.specs.Line.Line.{space}
+use Rattle.kalah_jobs.specs.Line.Line.{comma, space, side_text}
 use Rattle.kalah_rules.specs.Position.{Position, side_length, IsWithinLimits, IsSmallMargin, is_over, seeds}
 use Rattle.std.specs.Io.KnownBytes.{Appends, Keeps}
 use Rattle.kalah_jobs.specs.Writing.Player.{houses_of}
@@ -14,13 +14,13 @@ use Rattle.kalah_jobs.specs.declared.writing.player.Player.TheVariants.{Mover, O
 use Rattle.std.proofs.KnownBytes.{Appends-kept, Appends-nil, Appends-trans}
 use Rattle.std.proofs.Math.Seq.{take-append-add}
 use Rattle.std.proofs.Math.ListN.{drop_of_length-le}
-use Rattle.std.proofs.lemmas.List.{take-append-drop, length-drop, flat_map_more, take_more, take_all, drop_more}
+use Rattle.std.proofs.lemmas.List.{take-append-drop, length-take-le, length-drop, drop_at, drop-drop, flat_map_more, take_more, take_all, drop_more}
 use Rattle.kalah_jobs.specs.Writing.Given.{AppendsStart, WasGiven}
 use Rattle.std.specs.List.{join_with_byte, range_with_len, flat_map, enumerate_from, onto_first, count_by}
 use Rattle.std.proofs.lemmas.Bool.{ne_eqb, cases_eq}
 use Rattle.std.proofs.lemmas.Grind.{flat_map-append}
 use Rattle.kalah_jobs.specs.Files.Lines.{line_feed, lines_of}
-use Rattle.kalah_jobs.specs.Writing.Answer.{in_one_line, answer_line, answer_words, place_words, value_words, values_words, IsOfOneLine, answer_of, is_faulty_entry}
+use Rattle.kalah_jobs.specs.Writing.Answer.{in_one_line, answer_line, answer_words, place_words, value_words, values_words, answer_of, is_faulty_entry}
 use Rattle.kalah_jobs.specs.Writing.Picture.{cell, empty_columns}
 use Rattle.kalah_jobs.specs.declared.writing.answer.Answer.{Answer}
 use Rattle.kalah_jobs.specs.declared.writing.answer.Answer.TheVariants.{Best, Over, Values, Steps, Fault}
@@ -73,6 +73,18 @@ blanks_are_ascii (suc n) = IsAscii-cons space (replicate n space) (omega arith) 
 
 pub blanks_are_text : (n : ℕ) → IsUtf8 (replicate n space)
 blanks_are_text n = IsUtf8-from_ascii (replicate n space) (blanks_are_ascii n)
+
+-- blanks were put in front of a text that the bytes end with
+pub blanks_before : (bytes part old : List ℕ) (start n : ℕ) → length bytes ≡ 128 → start ≤ 128 → drop start bytes ≡ old → n + length old ≤ 128
+    → part ≡ replicate (length (take (start - (start - n)) (drop (start - n) bytes))) space
+    → drop (start - n) (take (start - n) bytes ++ (part ++ drop (start - (start - n)) (drop (start - n) bytes)))
+    ≡ replicate n space ++ old
+blanks_before bytes part old start n many low is room blank =
+    let back : start - (start - n) ≡ n = omega (arith, length-drop start bytes, ap length is) in
+    let end : start - n + n ≡ start = omega (arith, back) in
+    let blanks : length (take n (drop (start - n) bytes)) ≡ n = length-take-le n _ (omega (arith, length-drop (start - n) bytes)) in
+    drop_at _ _ (start - n) (length-take-le (start - n) bytes (omega arith))
+    ∙ rw (blank, back, blanks, drop-drop n (start - n) bytes, end, is) refl
 
 -- ==== Prefixes of what was to be written
 
@@ -304,11 +316,12 @@ module _ (values : List MoveValue) (i : ℕ) (v : MoveValue) (is : slice_get val
   pub value_before : i + 1 < length values → values_words (drop i values) ≡ value_words v ++ space ∷ values_words (drop (i + 1) values)
   value_before within = rw (items_from values i v is, drop_more values (i + 1) v within) refl
 
--- the number at place j, which is i, before those after it
-pub number_before : (byte : ℕ) (numbers : List ℕ) (i j n : ℕ) → n ≡ get_or numbers j 0 → j ≡ i → i + 1 < length numbers →
-    join_with_byte byte (map decimal (drop i numbers)) ≡ decimal n ++ byte ∷ join_with_byte byte (map decimal (drop (i + 1) numbers))
-number_before byte numbers i j n is same within =
-    rw (drop_more numbers i 0 (omega arith), drop_more numbers (i + 1) 0 within, is, same) refl
+-- a side with the number at place j, which is i, from those after it
+pub side_before : (numbers : List ℕ) (store i j n : ℕ) (old others text all : List ℕ) → j ≡ i → i + 1 < length numbers
+    → n ≡ get_or numbers j 0 → others ≡ side_text (drop (i + 1) numbers) store ++ old → text ≡ comma ∷ others → all ≡ decimal n ++ text
+    → all ≡ side_text (drop i numbers) store ++ old
+side_before numbers store i j n old others text all same within is after next last =
+    rw (last, next, after, drop_more numbers i 0 (omega arith), drop_more numbers (i + 1) 0 within, is, same) (simp append_assoc)
 
 pub length-houses_of : (player : Player) (p : Position) → IsWithinLimits p → length (houses_of player p) ≡ side_length p
 length-houses_of Mover p limits = refl
@@ -332,14 +345,21 @@ columns_before f m column n old before after is low high so_far e =
 
 -- ==== The lines of answers that have one text
 
--- the answer line of an answer of one line is the place, and then the answer
-pub one_line_parts : (name : List ℕ) (line : ℕ) (a : Answer) → IsOfOneLine a →
+-- the answer line of an answer that isn't of steps is the place, and then the answer
+pub one_line_parts : (name : List ℕ) (line : ℕ) (a : Answer) → ((p : Position) → a ≡ Steps p → ⊥) →
     answer_line name (record { line = line; answer = a }) ≡ place_words name line ++ answer_words a
-one_line_parts name line (Best margin house) one = refl
-one_line_parts name line (Over margin) one = refl
-one_line_parts name line (Values values) one = refl
-one_line_parts name line (Steps p) one = absurd one
-one_line_parts name line (Fault fault) one = refl
+one_line_parts name line (Best margin house) other = refl
+one_line_parts name line (Over margin) other = refl
+one_line_parts name line (Values values) other = refl
+one_line_parts name line (Steps p) other = absurd (other p refl)
+one_line_parts name line (Fault fault) other = refl
+
+-- it is put together from its end, before what follows it
+pub line_before : (name : List ℕ) (taken : Taken) (after words text : List ℕ) → ((p : Position) → taken.answer ≡ Steps p → ⊥)
+    → words ≡ answer_words taken.answer ++ after → text ≡ codes ":" ++ (decimal (taken.line + 1) ++ (codes " " ++ words))
+    → name ++ text ≡ answer_line name taken ++ after
+line_before name taken after words text other is place =
+    rw (place, is, one_line_parts name taken.line taken.answer other) (simp append_assoc)
 
 -- ==== Values below the houses of a picture
 
@@ -371,11 +391,11 @@ column_before filled v vs old row cell after is next e = e ∙ simp (next, is, a
 -- what is known of the value at place i, and of those after it
 pub next_value : (filled : ℕ) (values : List MoveValue) (i : ℕ) (v : MoveValue) → slice_get values i ≡ Some v →
     AscendFrom filled (drop i values) → AreSmall (drop i values)
-    → (v.house ≤ most_houses) × AscendFrom (v.house + 1) (drop (i + 1) values) × AreSmall (drop (i + 1) values)
+    → IsSmallValue v × AscendFrom (v.house + 1) (drop (i + 1) values) × AreSmall (drop (i + 1) values)
 next_value filled values i v is ascend small =
     let front = items_from values i v is in
     let smaller = subst AreSmall front small in (
-      (All-head IsSmallValue v (drop (i + 1) values) smaller).1,
+      All-head IsSmallValue v (drop (i + 1) values) smaller,
       (subst (AscendFrom filled) front ascend).1,
       All-tail IsSmallValue v (drop (i + 1) values) smaller,
     )
@@ -413,9 +433,6 @@ are_small p values is limits = subst AreSmall (sym is) (All-map IsSmallValue (mo
     (λ i within.
     let has = Contains-get_or (legal_houses p) i 0 within in
     (value_small p _ limits has, house_small p _ limits has))))
-
--- what writing the columns of values needs
-pub ruleset columns_of_values = (column_before, items_from)
 
 -- ==== What is stated of files and what is stated of their jobs is the same
 

@@ -113,7 +113,6 @@ pub fn answer_text(alloc: Global, name: &str, taken: &Taken) -> Result<String, A
 }
 
 // Writes the answer line of a line of the file `name`, and a line feed; of steps the line of each.
-#[tactic(auto, using(crate::proofs::WritingLemmas::one_line_parts))]
 #[inline(always)]
 fn write_texts<W: Sink>(out: &mut W, name: &str, taken: &Taken)
     ensures { WasGiven W.written W.has_failed out.old out.new (answer_line name.now taken.now ++ line_feed ∷ []) }

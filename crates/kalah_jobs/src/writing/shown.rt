@@ -27,7 +27,6 @@ fn prepend_value_cell(text: &mut StackText, value: MoveValue)
 }
 
 // Puts the values from place `i` on in front of the text, each in the column of its house. `filled` columns come before them.
-#[tactic(auto, using(crate::proofs::WritingLemmas::columns_of_values))]
 fn prepend_columns(text: &mut StackText, values: &MoveValues, i: u8, filled: u8)
     requires room { length text.old + 39 ≤ ROOM }
     requires within { i ≤ length values.now }

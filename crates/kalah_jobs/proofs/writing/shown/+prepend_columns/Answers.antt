@@ -1,11 +1,31 @@
-use Rattle.std.proofs.Common.{arith}
-use Rattle.kalah_jobs.proofs.WritingLemmas.{next_value}
+use Rattle.std.proofs.Common.{◌++◌, ◌+◌, ◌∙◌, ap, arith, drop, sym}
+use Rattle.kalah_jobs.specs.Writing.Picture.{empty_columns}
+use Rattle.kalah_jobs.specs.Writing.Shown.{value_columns}
+use Rattle.kalah_jobs.proofs.WritingLemmas.{column_before, items_from, next_value}
 use Rattle.kalah_jobs.proofs.writing.shown.+prepend_columns.Goals as goal
+
+pub overflow_add-value : goal.overflow_add-value
+overflow_add-value t c =
+    let next = next_value c.args.filled c.args.values.now c.args.i c.get-value.result c.get-value.ensures c.requires.ascend c.requires.small in
+    omega (arith, next.0.1)
 
 pub prepend_columns-requires : goal.prepend_columns-requires
 prepend_columns-requires t c =
     let next = next_value c.args.filled c.args.values.now c.args.i c.get-value.result c.get-value.ensures c.requires.ascend
     c.requires.small in (
       omega (arith, c.decreases),
-      (c.requires.room, (omega arith, (omega (arith, next.0), (next.1, next.2)))),
+      (c.requires.room, (omega arith, (omega (arith, next.0.1), (next.1, next.2)))),
     )
+
+pub prepend_value_cell-requires-clause-small : goal.prepend_value_cell-requires-clause-small
+prepend_value_cell-requires-clause-small t c =
+    (next_value c.args.filled c.args.values.now c.args.i c.get-value.result c.get-value.ensures c.requires.ascend c.requires.small).0.0
+
+pub returns-clause-row : goal.returns-clause-row
+returns-clause-row t c =
+    let value = c.get-value.result in
+    let old = c.args.text.now in
+    column_before c.args.filled value (drop (c.args.i + 1) c.args.values.now) old _ _ _ c.prepend_columns.ensures.row
+    c.prepend_value_cell.ensures.cell
+    (c.prepend_blanks.ensures.blanks ∙ ap (λ n. empty_columns n ++ c.prepend_value_cell.new.text) c.from.ensures)
+    ∙ ap (λ values. value_columns c.args.filled values ++ old) (sym (items_from c.args.values.now c.args.i value c.get-value.ensures))

@@ -1,6 +1,6 @@
 use Rattle.std.proofs.Common.{arith}
 use Rattle.std.proofs.lemmas.Grind.{common_steps}
-use Rattle.kalah_jobs.proofs.WritingLemmas.{left_start, start_kept_all, start_none}
+use Rattle.kalah_jobs.proofs.WritingLemmas.{left_part, left_start, start_kept_all, start_none}
 use Rattle.kalah_jobs.proofs.writing.stream.write_rest.Goals as goal
 
 pub returns-then-is_empty-clause-start : goal.returns-then-is_empty-clause-start
@@ -15,3 +15,6 @@ returns-in-Err-2-clause-start g c = left_start _ _ _ _ _ c.loop.invariant (start
 
 pub returns-clause-start : goal.returns-clause-start
 returns-clause-start g c = left_start _ _ _ _ _ c.loop.invariant (start_none _ _)
+
+pub loop-preserved : goal.loop-preserved
+loop-preserved g c = left_part _ _ _ _ _ c.loop.invariant _ c.in-Ok.ensures.bytes

@@ -1,23 +1,19 @@
-use Rattle.std.proofs.Common.{drop, arith}
-use Rattle.std.specs.Prelude.{replicate}
+use Rattle.std.proofs.Common.{IsUtf8, arith, subst}
 use Rattle.std.proofs.lemmas.Grind.{common_steps}
-use Rattle.kalah_jobs.specs.Line.Line.{space}
-use Rattle.kalah_jobs.proofs.WritingLemmas.{piece_before, blanks_are_text}
+use Rattle.kalah_jobs.proofs.WritingLemmas.{piece_before, blanks_are_text, blanks_before}
 use Rattle.kalah_jobs.proofs.writing.stack_text.StackText.prepend_blanks.Goals as goal
+
+pub returns-clause-blanks : goal.returns-clause-blanks
+returns-clause-blanks c =
+    blanks_before c.self.inside.bytes c.fill.new.self _ c.self.inside.start c.args.n c.self.invariant.0 c.self.invariant.1 c.self.view_is
+    c.requires (c.fill.ensures.after (λ y is. is))
+
+pub returns-clause-longer : goal.returns-clause-longer
+returns-clause-longer c = grind (arith, common_steps)
 
 pub invariant_of-self : goal.invariant_of-self
 invariant_of-self c = (
   grind (arith, common_steps),
   omega (arith, c.self.invariant.1),
-  piece_before _ (replicate c.args.n space) (drop c.self.inside.start c.self.inside.bytes) (grind (arith, common_steps))
-      (blanks_are_text c.args.n) c.self.invariant.2,
+  piece_before _ _ c.args.self.now (returns-clause-blanks c) (blanks_are_text c.args.n) (subst IsUtf8 c.self.view_is c.self.invariant.2),
 )
-
-pub overflow_sub-self : goal.overflow_sub-self
-overflow_sub-self c = grind (arith, common_steps)
-
-pub returns-clause-blanks : goal.returns-clause-blanks
-returns-clause-blanks c = grind (arith, common_steps)
-
-pub returns-clause-longer : goal.returns-clause-longer
-returns-clause-longer c = grind (arith, common_steps)
