@@ -1,5 +1,5 @@
 -- How positions and answers are written: their texts, and what a sink is given.
-use Rattle.std.proofs.Common.{ℕ, ◌<◌, ◌≤◌, ◌^◌, length, arith, ◌≡◌, zero, suc, List, ◌++◌, IsAscii, IsUtf8, subst, sym, refl, ◌+◌, [], ap, ◌∙◌, take, drop, append_assoc, ◌∷◌, map, get_or, flat_map, cond, ◌==◌, append-nil, add-one, Bool, true, false, codes, ap₂, ◌-◌, filter, length-append, inl, inr}
+use Rattle.std.proofs.Common.{SFits, of_z, to_z, w16, w32, ℕ, ◌<◌, ◌≤◌, ◌^◌, length, arith, ◌≡◌, zero, suc, List, ◌++◌, IsAscii, IsUtf8, subst, sym, refl, ◌+◌, [], ap, ◌∙◌, take, drop, append_assoc, ◌∷◌, map, get_or, flat_map, cond, ◌==◌, append-nil, add-one, Bool, true, false, codes, ap₂, ◌-◌, filter, length-append, inl, inr}
 use Rattle.std.specs.Fmt.{decimal, signed_decimal}
 use Rattle.std.proofs.lemmas.Fmt.{length-decimal-le, IsAscii-decimal, length_signed_le}
 use Rattle.std.specs.Prelude.{decimal, replicate, Option, ◌↔◌, IsErr, Ok, Err, OnOk, Result, ℤ, pos, negsuc, nat_lt, slice_get, Some, if◌then◌else◌, sum_by, count_by}
@@ -21,11 +21,11 @@ use Rattle.std.proofs.lemmas.Bool.{ne_eqb, cases_eq}
 use Rattle.std.proofs.lemmas.Grind.{flat_map-append}
 use Rattle.kalah_jobs.specs.Files.Lines.{line_feed, lines_of}
 use Rattle.kalah_jobs.specs.Writing.Answer.{in_one_line, answer_line, answer_words, place_words, value_words, values_words, answer_of, is_faulty_entry}
-use Rattle.kalah_jobs.specs.Writing.Picture.{cell, empty_columns}
+use Rattle.kalah_jobs.specs.Writing.Picture.{cell, column_width, empty_columns}
 use Rattle.kalah_jobs.specs.declared.writing.answer.Answer.{Answer}
 use Rattle.kalah_jobs.specs.declared.writing.answer.Answer.TheVariants.{Best, Over, Values, Steps, Fault}
 use Rattle.std.specs.Int.Signed.{mag}
-use Rattle.std.proofs.lemmas.Int.{ints}
+use Rattle.std.proofs.lemmas.Int.{ints, to_z-of_z}
 use Rattle.std.proofs.lemmas.List.Elements.{All-head, All-tail, All-map, All-from_get_or, Contains-get_or}
 use Rattle.std.proofs.lemmas.Option.{get_or_from_slice_get, slice_get_within}
 use Rattle.kalah_rules.specs.Limits.{most_houses}
@@ -309,6 +309,17 @@ items_from items i item is =
     drop_more items i item (slice_get_within items i item is)
     ∙ ap (λ x. x ∷ drop (i + 1) items) (get_or_from_slice_get items i item item is)
 
+-- a number of 16 bits is read back from its bits, and from those that it is widened to
+read_back : (v z : ℤ) → SFits w16 v → z ≡ to_z w16 (of_z w16 v) → to_z w32 (of_z w32 z) ≡ v
+read_back v z fits is =
+    ap (λ x. to_z w32 (of_z w32 x)) (is ∙ to_z-of_z w16 v fits) ∙ to_z-of_z w32 v (omega (arith, ints, fits))
+
+-- an answer that begins with its margin
+pub from_margin : (answer : Answer) (margin : ℤ) (rest old text all : List ℕ) → SFits w32 margin
+    → answer_words answer ≡ signed_decimal margin ++ rest
+    → text ≡ rest ++ old → all ≡ signed_decimal (to_z w32 (of_z w32 margin)) ++ text → all ≡ answer_words answer ++ old
+from_margin answer margin rest old text all fits words is last = rw (last, is, words, to_z-of_z w32 margin fits) (simp append_assoc)
+
 module _ (values : List MoveValue) (i : ℕ) (v : MoveValue) (is : slice_get values i ≡ Some v) where
   pub last_value : i + 1 ≡ length values → values_words (drop i values) ≡ value_words v
   last_value many = rw (items_from values i v is, drop_of_length-le values {i = i + 1} (omega arith)) refl
@@ -375,9 +386,26 @@ pub value_length : (v : ℤ) → IsSmallMargin v → length (signed_decimal v) �
 value_length (pos n) small = length_signed_le 3 (pos n) (omega (arith, ints, small.high)) (small_mag (pos n) small)
 value_length (negsuc n) small = length_signed_le 3 (negsuc n) (omega (arith, ints, small.low)) (small_mag (negsuc n) small)
 
--- so it takes no more room than a column
-pub value_room : (v : ℤ) (old new : List ℕ) → IsSmallMargin v → new ≡ signed_decimal v ++ old → length new ≤ 4 + length old
-value_room v old new small e = omega (arith, ap length e, length-append (signed_decimal v) old, value_length v small)
+-- it is put in front of a text, from its bits, and then blanks
+module _ (v z : ℤ) (end len : ℕ) (old text : List ℕ) (small : IsSmallMargin v) (read : z ≡ to_z w16 (of_z w16 v))
+    (is : text ≡ signed_decimal (to_z w32 (of_z w32 z)) ++ old) (end_is : end ≡ length old) (len_is : len ≡ length text) where
+  same_value : to_z w32 (of_z w32 z) ≡ v
+  same_value = read_back v z (omega (arith, ints, small.low, small.high)) read
+
+  length_now : length text ≡ length (signed_decimal v) + length old
+  length_now = ap length is ∙ length-append (signed_decimal (to_z w32 (of_z w32 z))) old
+      ∙ ap (λ x. length (signed_decimal x) + length old) same_value
+
+  pub value_room : len ≤ end + column_width
+  value_room = omega (arith, length_now, value_length v small)
+
+  pub value_longer : (n : ℕ) → n ≡ end + column_width - len + length text → n ≡ column_width + length old
+  value_longer n e = omega (arith, e, length_now, value_length v small)
+
+  pub value_at_right : (all : List ℕ) → all ≡ replicate (end + column_width - len) space ++ text → all ≡ value_cell v ++ old
+  value_at_right all e =
+      let blanks : end + column_width - len ≡ column_width - length (signed_decimal v) = omega (arith, length_now) in
+      rw (e, blanks, is, same_value) (simp append_assoc)
 
 -- ---- one value more
 

@@ -14,7 +14,6 @@ use kalah_rules::Board;
 use kalah_solve::{MoveValue, MoveValues};
 
 // Puts the value of a move, at the right of a column, in front of the text.
-#[tactic(auto, using(crate::proofs::WritingLemmas::value_room))]
 fn prepend_value_cell(text: &mut StackText, value: MoveValue)
     requires small { IsSmallMargin value.value }
     requires room { length text.old + 11 ≤ ROOM }
