@@ -156,7 +156,8 @@ by_class {T} class p (t ∷ ts) counts below own =
     )
 
 -- of the pairs of a worker, what it sent
-class_of : {X : Type 0} (p : X → Bool) (w : ℕ) (got : List (ℕ × X)) → in_class (λ t. t.0) (λ t. p t.1) w got ≡ count_by p (sent_by_worker w got)
+class_of : {X : Type 0} (p : X → Bool) (w : ℕ) (got : List (ℕ × X))
+    → in_class (λ t. t.0) (λ t. p t.1) w got ≡ count_by p (sent_by_worker w got)
 class_of p w [] = refl
 class_of p w (t ∷ ts) = grind (arith, class_of p w ts, count_by-cons p t.1 (sent_by_worker w ts))
 

@@ -75,7 +75,8 @@ pub blanks_are_text : (n : ℕ) → IsUtf8 (replicate n space)
 blanks_are_text n = IsUtf8-from_ascii (replicate n space) (blanks_are_ascii n)
 
 -- blanks were put in front of a text that the bytes end with
-pub blanks_before : (bytes part old : List ℕ) (start n : ℕ) → length bytes ≡ 128 → start ≤ 128 → drop start bytes ≡ old → n + length old ≤ 128
+pub blanks_before : (bytes part old : List ℕ) (start n : ℕ) → length bytes ≡ 128 → start ≤ 128 → drop start bytes ≡ old
+    → n + length old ≤ 128
     → part ≡ replicate (length (take (start - (start - n)) (drop (start - n) bytes))) space
     → drop (start - n) (take (start - n) bytes ++ (part ++ drop (start - (start - n)) (drop (start - n) bytes)))
     ≡ replicate n space ++ old
@@ -590,7 +591,8 @@ enumerate_from-append : (number : ℕ) (lines more : List (List ℕ)) →
     enumerate_from number (lines ++ more) ≡ enumerate_from number lines ++ enumerate_from (number + length lines) more
 enumerate_from-append number [] more = ap (λ k. enumerate_from k more) (let e : number ≡ number + 0 = omega arith in e)
 enumerate_from-append number (line ∷ lines) more =
-    let e : number + 1 + length lines ≡ number + suc (length lines) = omega arith in simp (enumerate_from-append (number + 1) lines more, e)
+    let e : number + 1 + length lines ≡ number + suc (length lines) = omega arith in
+    simp (enumerate_from-append (number + 1) lines more, e)
 
 output_split : (first second : List ℕ) → EndsWithItsLine first → (number : ℕ) (question : Question) (name : List ℕ) →
     output_from number question name (first ++ second)

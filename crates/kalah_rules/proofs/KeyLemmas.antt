@@ -318,7 +318,8 @@ key_says {a} {k} h e =
     let other_small = number_of-small _ _ other_long other_few in
     let own_same = number_of-append_zeros a.own (6 - length a.own) in
     let other_same = number_of-append_zeros a.other (6 - length a.other) in
-    let own_number : k ≡ number_of (padded a.own) + 32 ^ 6 * (number_of a.other + 2 ^ 30 * length a.own + 2 ^ 33 * rule_bit a.rule) = omega arith in
+    let own_number : k ≡ number_of (padded a.own) + 32 ^ 6 * (number_of a.other + 2 ^ 30 * length a.own + 2 ^ 33 * rule_bit a.rule) =
+    omega arith in
     let other_number : k / 2 ^ 30 ≡ number_of (padded a.other) + 32 ^ 6 * (length a.own + 8 * rule_bit a.rule) = omega arith in
     record {
       own_cells = rw own_number (cells-number_of _ _ _ (length-padded _ h.at_most_six) (omega (arith, sum-padded)));

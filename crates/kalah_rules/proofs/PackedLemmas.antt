@@ -344,7 +344,8 @@ move_leaves {a} {h} {s} {r} {rule} {last} {taken} w holds sowing shows same caug
     elim (cases_lt _ place) [
       | inl past ↦
           let no = sowing.elsewhere past in
-          rw (no.seed, no.across) (none_caught a.rule r last taken (rw (no.house, no.seed, no.across) at told) (after_past _ h holds r past shows))
+          rw (no.seed, no.across)
+          (none_caught a.rule r last taken (rw (no.house, no.seed, no.across) at told) (after_past _ h holds r past shows))
       | inr own ↦
           let leaves = capture_shows a h w holds r place _ s.last_seed _ last _ shows (omega arith) own
           (sowing.own own) told in

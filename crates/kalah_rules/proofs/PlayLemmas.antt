@@ -356,13 +356,15 @@ find_in_range f a (suc n) i low high here before = elim (cases_eq a i) [
   | inl e ↦ rw (e, here) refl
   | inr ne ↦
       let at : a ≤ a = omega arith in
-      rw (before a at (omega arith)) (find_in_range f (a + 1) n i (omega arith) (omega arith) here (λ j j_low j_high. before j (omega arith) j_high))
+      rw (before a at (omega arith))
+      (find_in_range f (a + 1) n i (omega arith) (omega arith) here (λ j j_low j_high. before j (omega arith) j_high))
 ]
 
 pub find_none : (f : ℕ → Bool) (a n : ℕ) → ((j : ℕ) → a ≤ j → j < a + n → f j ≡ false)
     → find f (range_with_len a n) ≡ None
 find_none f a zero fails = refl
-find_none f a (suc n) fails = rw (fails a (omega arith) (omega arith)) (find_none f (a + 1) n (λ j low high. fails j (omega arith) (omega arith)))
+find_none f a (suc n) fails =
+    rw (fails a (omega arith) (omega arith)) (find_none f (a + 1) n (λ j low high. fails j (omega arith) (omega arith)))
 
 -- the house in which the last seed falls
 pub last_house_own : {p : Position} {h i : ℕ} → HoldsSeeds p h → 1 ≤ i → i ≤ side_length p →

@@ -337,7 +337,7 @@ draws {S} plan slots seat me is unspent =
     let pass : me ≡ unspent_me = is ∙ ap (λ b. (Drawing (total_in v) (number_in v) (drawn_row (row_in v).numbers b), [])) unspent in
     rw pass (draws_at plan slots seat (total_in v) (number_in v) (row_in v).numbers)
 
--- ==== The seats that come and go keep the rule: the first one, that of a pass that is handed out, the closing one, that of a pass that ends
+-- ==== The seats that come and go keep the rule: the first one, that of a pass handed out, the closing one, that of a pass that ends
 
 -- The rule stays if seats change and the sums over all rows don't, and no pass is lost. An empty row that is not spent adds nothing.
 kept_alike : {S : Type 0} (plan : DeskPlan) (s after : State S DeskView) → IsKept plan s → after.words ≡ s.words

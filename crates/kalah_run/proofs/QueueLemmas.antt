@@ -28,7 +28,8 @@ joined false x xs ys = refl
 pub of_append : (w : ℕ) (xs ys : List (ℕ × Job)) → sent_by_worker w (xs ++ ys) ≡ sent_by_worker w xs ++ sent_by_worker w ys
 of_append w [] ys = refl
 of_append w (t ∷ ts) ys =
-    ap (λ (l : List Job). if t.0 == w then t.1 ∷ l else l) (of_append w ts ys) ∙ joined (t.0 == w) t.1 (sent_by_worker w ts) (sent_by_worker w ys)
+    ap (λ (l : List Job). if t.0 == w then t.1 ∷ l else l) (of_append w ts ys)
+    ∙ joined (t.0 == w) t.1 (sent_by_worker w ts) (sent_by_worker w ys)
 
 own_pair : (w : ℕ) (t : ℕ × Job) → t.0 ≡ w → sent_by_worker w (t ∷ []) ≡ t.1 ∷ []
 own_pair w t e = ap (λ (b : Bool). if b then t.1 ∷ [] else []) (eq-eqb t.0 w e)
@@ -42,7 +43,9 @@ of_more w xs t e = of_append w xs (t ∷ []) ∙ ap (λ (l : List Job). sent_by_
 
 -- another worker's pair changes nothing
 pub of_same : (w : ℕ) (xs : List (ℕ × Job)) (t : ℕ × Job) → t.0 ≢ w → sent_by_worker w (xs ++ t ∷ []) ≡ sent_by_worker w xs
-of_same w xs t e = of_append w xs (t ∷ []) ∙ (ap (λ (l : List Job). sent_by_worker w xs ++ l) (other_pair w t [] e) ∙ append-nil (sent_by_worker w xs))
+of_same w xs t e =
+    of_append w xs (t ∷ [])
+    ∙ (ap (λ (l : List Job). sent_by_worker w xs ++ l) (other_pair w t [] e) ∙ append-nil (sent_by_worker w xs))
 
 -- a worker beyond all has no pair
 pub of_none : (workers w : ℕ) (xs : List (ℕ × Job)) → All (λ (t : ℕ × Job). t.0 < workers) xs → workers ≤ w
@@ -96,7 +99,8 @@ accounts_worker workers known pairs h =
 pub accounts_known : (workers : ℕ) (known : List (List Job)) (pairs : List (ℕ × Job)) (sent : List Job)
     → sent ≡ sent_by_worker (length known) pairs
     → Accounts workers known pairs → Accounts workers (known ++ sent ∷ []) pairs
-accounts_known workers known pairs sent e h = record { below = h.below; whole = known_more known sent (λ w. sent_by_worker w pairs) h.whole (sym e) }
+accounts_known workers known pairs sent e h =
+    record { below = h.below; whole = known_more known sent (λ w. sent_by_worker w pairs) h.whole (sym e) }
 
 -- ==== What the pass to get knows, and lists of passes to put
 

@@ -48,7 +48,7 @@ impl Collector {
     }
 
     /// Accepts an outcome, and returns how many lines of its file became ready by it. A line is ready once it and all lines
-    /// before it have been accepted. The jobs must have as many lines in each file as those that the collector was made for, which are meant.
+    /// before it have been accepted. The jobs are those that the collector was made for, or others with as many lines in each file.
     ///
     /// Fails with the first `Refusal` that holds, and then changes nothing: `NoSuchFile`, `FileEnded`, `NoSuchLine`, `WrongPosition`,
     /// `Double`.

@@ -17,7 +17,8 @@ const STEP: usize = 8;
 fn feed_among(bytes: &[u8], from: usize, count: usize) -> Option<usize>
     requires before { HasNoLineFeed (take from bytes.now) }
     requires range { from + count ≤ length bytes.now }
-    ensures found { IfSome result (λ feed. (feed < length bytes.now) × HasNoLineFeed (take feed bytes.now) × (get_or bytes.now feed 0 ≡ line_feed)) }
+    ensures found { IfSome result (λ feed. (feed < length bytes.now) × HasNoLineFeed (take feed bytes.now)
+        × (get_or bytes.now feed 0 ≡ line_feed)) }
     ensures none { result ≡ None → HasNoLineFeed (take (from + count) bytes.now) }
 {
     for i in 0..count {
