@@ -7,7 +7,7 @@ use Rattle.kalah_jobs.proofs.writing.shown.+prepend_columns.Goals as goal
 pub overflow_add-value : goal.overflow_add-value
 overflow_add-value t c =
     let next = next_value c.args.filled c.args.values.now c.args.i c.get-value.result c.get-value.ensures c.requires.ascend
-        c.requires.small in
+    c.requires.small in
     omega (arith, next.0.1)
 
 pub prepend_columns-requires : goal.prepend_columns-requires
