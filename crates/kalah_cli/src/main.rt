@@ -36,7 +36,7 @@ use std::process::ExitCode;
 use std::{env, io};
 use tips::say;
 
-// Returns the arguments, of which the first is the program's name.
+// Returns the arguments. The first is the program's name.
 fn words_of(rt: &HostRuntime) -> io::Result<Vec<String>> {
     Ok(env::args(rt)?.collect(rt.alloc())?)
 }
