@@ -1,4 +1,5 @@
 pub mod ClapLemmas
+pub mod CommandLemmas
 pub mod RequestLemmas
 pub mod RunLemmas
 pub mod GameLemmas

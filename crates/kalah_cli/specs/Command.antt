@@ -1,28 +1,18 @@
 -- The command line of the program, as data that a parse reads.
-use Rattle.std.specs.Prelude.{◌≡◌, ℕ, false, true, [], ◌∷◌, IfOk, Result, Some, codes}
-use Rattle.std.specs.declared.alloc.AllocError.{AllocError}
-use Rattle.clap.specs.Words.{App, Rule, Text, app_of, new_app, new_rule, rule_of, with_rule, with_subcommand}
+use Rattle.std.specs.Prelude.{◌≡◌, ℕ, false, true, [], ◌∷◌, Some, codes, map}
+use Rattle.std.specs.List.{fold}
+use Rattle.clap.specs.Words.{App, Rule, Text, new_app, new_rule, rule_of, with_rule, with_subcommand}
 use Rattle.clap.specs.Simple.{on_top}
 use Rattle.clap.specs.declared.builder.action.ArgAction.TheVariants.{Append, Set, SetTrue}
 use Rattle.clap.specs.declared.builder.arg.Arg.{Arg}
-use Rattle.clap.specs.declared.builder.command.Command.{Command}
 use Rattle.clap.specs.declared.builder.value_parser.ValueParser.TheVariants.{Unsigned}
+use Rattle.kalah_cli.specs.declared.subcommands.Argument.{Argument}
+use Rattle.kalah_cli.specs.declared.subcommands.Kind.{Kind}
+use Rattle.kalah_cli.specs.declared.subcommands.Kind.TheVariants.{Flag, NumberOption, PositionalNumber, PositionalText}
+use Rattle.kalah_cli.specs.declared.subcommands.Subcommand.{Subcommand}
 use Rattle.kalah_rules.specs.Limits.{most_depth, most_houses}
 use Rattle.kalah_solve.specs.Table.Entries.{most_entries}
 use Rattle.kalah_run.specs.Limits.{most_workers}
-
--- if the command could be made, it is this one
-abbrev pub IsMadeAs : App → Result Command AllocError → Type 0
-IsMadeAs app made = IfOk made (λ command. app_of command ≡ app)
-
--- an argument that is read by this rule is added to a command, if that could be made
-abbrev pub AddsRule : Rule → Result Command AllocError → Result Command AllocError → Type 0
-AddsRule rule before after = (app : App) → IsMadeAs app before → IsMadeAs (with_rule app rule) after
-
--- a subcommand is added to a command, if both could be made
-abbrev pub AddsSubcommand : Result Command AllocError → Result Command AllocError → Result Command AllocError → Type 0
-AddsSubcommand subcommand before after = (app sub : App) → sub.top.is_plain ≡ true → IsMadeAs sub subcommand → IsMadeAs app before
-    → IsMadeAs (with_subcommand app sub.top) after
 
 -- the argument is read by this rule, and no subcommand inherits it
 abbrev pub IsReadBy : Rule → Arg → Type 0
@@ -130,3 +120,21 @@ abbrev pub kalah_app : App
 kalah_app =
     with_subcommand
     (with_subcommand (with_subcommand (with_subcommand first_app moves_app.top) ask_app.top) steps_app.top) count_app.top
+
+-- ---- what the table of subcommands says
+
+-- the rule by which an argument of this name and kind is read
+abbrev pub kind_rule : Text → Kind → Rule
+kind_rule name Flag = flag_rule name
+kind_rule name (NumberOption value_name most defaults long_help) =
+    record (limited_rule name most) { defaults = map (λ text. text.now) defaults.now }
+kind_rule name (PositionalNumber value_name most) = record (ranged_rule name 0 most) { required = true }
+kind_rule name (PositionalText value_name action) = record (value_rule name) { required = true; action = Some action }
+
+-- the rule of an argument
+abbrev pub argument_rule : Argument → Rule
+argument_rule a = kind_rule a.name.now a.kind
+
+-- a subcommand with its arguments, in order
+abbrev pub subcommand_app : Subcommand → App
+subcommand_app s = fold (λ app a. with_rule app (argument_rule a)) (new_app s.name.now) s.arguments.now

@@ -22,6 +22,7 @@ mod show;
 mod solve_files;
 mod solver;
 mod status;
+mod subcommands;
 mod terminal;
 mod tips;
 mod version;

@@ -1,0 +1,211 @@
+//! The subcommands of the program, with their arguments.
+use crate::help;
+use clap::ArgAction;
+use kalah_rules::{MOST_DEPTH, MOST_HOUSES};
+use kalah_run::MOST_WORKERS;
+use kalah_solve::MOST_ENTRIES;
+
+/// A subcommand of the program.
+pub(crate) struct Subcommand {
+    pub(crate) name: &'static str,
+    /// What it does, in one line.
+    pub(crate) about: &'static str,
+    /// What its long help ends in.
+    pub(crate) long_help: &'static str,
+    /// Its arguments, in the order of its help.
+    pub(crate) arguments: &'static [Argument],
+}
+
+/// An argument of a subcommand.
+pub(crate) struct Argument {
+    pub(crate) name: &'static str,
+    pub(crate) help: &'static str,
+    pub(crate) kind: Kind,
+}
+
+/// How an argument is given.
+pub(crate) enum Kind {
+    /// `--NAME`.
+    Flag,
+    /// `--NAME N`, with a number from 1 to the most. If it isn't given, the defaults, one or none, are taken.
+    NumberOption {
+        value_name: &'static str,
+        most: u32,
+        defaults: &'static [&'static str],
+        long_help: Option<&'static str>,
+    },
+    /// A number from 0 to the most. It is required.
+    PositionalNumber {
+        value_name: &'static str,
+        most: u8,
+    },
+    /// A text, or several texts, by the action. One is required.
+    PositionalText {
+        value_name: &'static str,
+        action: ArgAction,
+    },
+}
+
+const LONG_HELP_OF_TABLE: &str =
+    "Use tables of N entries, 1 to 1048576.\nLeave it at 65536 unless memory is short";
+
+const WORKERS: Argument = Argument {
+    name: "workers",
+    help: "Solve up to N lines in parallel, 1 to 64",
+    kind: Kind::NumberOption {
+        value_name: "N",
+        most: MOST_WORKERS,
+        defaults: &["4"],
+        long_help: None,
+    },
+};
+
+const TABLE: Argument = Argument {
+    name: "table",
+    help: "Use tables of N entries, 1 to 1048576",
+    kind: Kind::NumberOption {
+        value_name: "N",
+        most: MOST_ENTRIES,
+        defaults: &["65536"],
+        long_help: Some(LONG_HELP_OF_TABLE),
+    },
+};
+
+const PROGRESS: Argument = Argument {
+    name: "progress",
+    help: "Show on standard error how many lines are answered",
+    kind: Kind::Flag,
+};
+
+const FILES: Argument = Argument {
+    name: "file",
+    help: "Files of positions, one a line; /dev/stdin for standard input",
+    kind: Kind::PositionalText {
+        value_name: "FILE",
+        action: ArgAction::Append,
+    },
+};
+
+const BOARDS: Argument = Argument {
+    name: "boards",
+    help: "Draw each position below its line",
+    kind: Kind::Flag,
+};
+
+const LINE: Argument = Argument {
+    name: "line",
+    help: "Position in quotes, such as '1,1/0 1,1/0'",
+    kind: Kind::PositionalText {
+        value_name: "LINE",
+        action: ArgAction::Set,
+    },
+};
+
+pub(crate) const SOLVE: &Subcommand = &Subcommand {
+    name: "solve",
+    about: "Print the best house and the margin of best play of each position",
+    long_help: help::LONG_OF_SOLVE,
+    arguments: &[WORKERS, TABLE, PROGRESS, FILES],
+};
+
+pub(crate) const VALUES: &Subcommand = &Subcommand {
+    name: "values",
+    about: "Print what each move of each position is worth",
+    long_help: help::LONG_OF_VALUES,
+    arguments: &[WORKERS, TABLE, PROGRESS, FILES],
+};
+
+pub(crate) const SHOW: &Subcommand = &Subcommand {
+    name: "show",
+    about: "Draw a position, and below each house what its move is worth",
+    long_help: help::LONG_OF_SHOW,
+    arguments: &[
+        Argument {
+            name: "plain",
+            help: "Draw the position alone, and search nothing",
+            kind: Kind::Flag,
+        },
+        TABLE,
+        LINE,
+    ],
+};
+
+pub(crate) const PLAY: &Subcommand = &Subcommand {
+    name: "play",
+    about: "Print the game that best play leads to from a position, move by move",
+    long_help: help::LONG_OF_PLAY,
+    arguments: &[
+        TABLE,
+        BOARDS,
+        Argument {
+            name: "first",
+            help: "Begin with house H, 1 to 6, and go on with best play",
+            kind: Kind::NumberOption {
+                value_name: "H",
+                most: MOST_HOUSES as u32,
+                defaults: &[],
+                long_help: None,
+            },
+        },
+        LINE,
+    ],
+};
+
+pub(crate) const MOVES: &Subcommand = &Subcommand {
+    name: "moves",
+    about: "Print each legal move of a position, and the position after it",
+    long_help: help::LONG_OF_MOVES,
+    arguments: &[BOARDS, LINE],
+};
+
+pub(crate) const ASK: &Subcommand = &Subcommand {
+    name: "ask",
+    about: "Answer each line of standard input before reading the next",
+    long_help: help::LONG_OF_ASK,
+    arguments: &[
+        Argument {
+            name: "values",
+            help: "Print what each move is worth, as `values`",
+            kind: Kind::Flag,
+        },
+        Argument {
+            name: "steps",
+            help: "Print each legal move, as `steps`, with `; ` between any two",
+            kind: Kind::Flag,
+        },
+        Argument {
+            name: "table",
+            help: "Use tables of N entries, 1 to 1048576 [default: 65536]",
+            kind: Kind::NumberOption {
+                value_name: "N",
+                most: MOST_ENTRIES,
+                defaults: &[],
+                long_help: Some(LONG_HELP_OF_TABLE),
+            },
+        },
+    ],
+};
+
+pub(crate) const STEPS: &Subcommand = &Subcommand {
+    name: "steps",
+    about: "Print each legal move of each position, and what it leads to",
+    long_help: help::LONG_OF_STEPS,
+    arguments: &[WORKERS, PROGRESS, FILES],
+};
+
+pub(crate) const COUNT: &Subcommand = &Subcommand {
+    name: "count",
+    about: "Count the ways to play on from a position, for each first move",
+    long_help: help::LONG_OF_COUNT,
+    arguments: &[
+        Argument {
+            name: "depth",
+            help: "How many moves each way has, 0 to 20",
+            kind: Kind::PositionalNumber {
+                value_name: "DEPTH",
+                most: MOST_DEPTH,
+            },
+        },
+        LINE,
+    ],
+};
