@@ -89,7 +89,7 @@ def promises_differ():
                 return f"{PROMISES}: {promise}: there is no {place}"
             code += "\n".join(there)
         for name in re.findall(r"`(\w+)`", carried):
-            if not (re.search(rf"\bensures {name} ", code) or re.search(rf"\bfn {name}\b", laws) or re.search(rf"\bpub (record )?{name}\b", specs)):
+            if not (re.search(rf"\b(requires|ensures) {name} ", code) or re.search(rf"\bfn {name}\b", laws) or re.search(rf"\bpub (record )?{name}\b", specs)):
                 return f"{PROMISES}: {promise}: there is no {name}"
     return None if rows else f"{PROMISES}: no promise"
 

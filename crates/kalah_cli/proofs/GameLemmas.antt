@@ -1,12 +1,12 @@
 -- The game of best play, move by move.
 use Rattle.std.proofs.Common.{◌⊎◌, ◌<◌, ◌≤◌, ◌-◌, ◌≡◌, ℕ, zero, suc, List, [], ◌∷◌, ◌++◌, Bool, true, false, inl, inr, refl, sym, subst, ap, ◌∙◌, arith}
-use Rattle.std.specs.Prelude.{Contains, ℤ, if◌then◌else◌}
+use Rattle.std.specs.Prelude.{Contains, Option, ℤ, if◌then◌else◌}
 use Rattle.std.proofs.lemmas.Bool.{cases_Bool}
 use Rattle.std.proofs.lemmas.Int.{ints}
 use Rattle.kalah_rules.specs.Position.{Position, HasEqualSides, final_margin, is_over, swapped, swept}
 use Rattle.kalah_rules.specs.Sowing.{after, is_again}
 use Rattle.kalah_rules.specs.Measure.{moves_left}
-use Rattle.kalah_rules.proofs.PlayLemmas.{after_equal_sides}
+use Rattle.kalah_rules.proofs.PlayLemmas.{after_equal_sides, row_distance_le, sum-zeros}
 use Rattle.kalah_rules.specs.Play.{legal_houses, position_after, step_of}
 use Rattle.kalah_rules.specs.declared.step.Step.TheVariants as step
 use Rattle.kalah_rules.specs.declared.step.Step.{Step}
@@ -18,8 +18,12 @@ use Rattle.kalah_solve.specs.declared.solver.Verdict.TheVariants.{Best, Over}
 use Rattle.std.proofs.lemmas.List.Elements.{Contains-push}
 use Rattle.kalah_solve.proofs.SolverLemmas.{strategy_keeps, best_is_strategy, best_plays, bounds}
 use Rattle.kalah_solve.proofs.WorthLemmas.{over_for_other, again_fewer, again_step, over_at_end, over_ends, over_step, swapped_equal_sides, turn_fewer, turn_step}
-use Rattle.kalah_cli.specs.Moves.{move_lines}
+use Rattle.kalah_jobs.specs.Writing.Given.{WasGiven}
+use Rattle.kalah_jobs.proofs.WritingLemmas.{given_flushed}
+use Rattle.kalah_cli.specs.Moves.{board_lines, move_lines}
 use Rattle.kalah_cli.specs.Play.{PlaysBestGames, best_game, best_moves, game_lines}
+use Rattle.kalah_cli.specs.Solver.{Begun, IsShown}
+use Rattle.kalah_cli.specs.Solver.IsShown.{begins, moves}
 
 -- both players always move the lowest best house
 abbrev pub BestGame : Position → List ℕ → Position → Type 0
@@ -32,6 +36,10 @@ pub record IsFirst (p : Position) (h : ℕ) (s : Step) : Type 0 where
   pub best : h ≡ best_house p
   pub step : s ≡ step_of p h
 
+-- its house is legal
+first_is_legal : {p : Position} {h : ℕ} {s : Step} → IsFirst p h s → Contains (legal_houses p) h
+first_is_legal {p} first = rw first.best (best_is_strategy.moves p first.even first.going)
+
 -- the solver's verdict has the best house, if the game goes on
 pub best_told : (p : Position) (margin : ℤ) (house : ℕ) → is_over p ≡ false → Best margin house ≡ verdict_of p
     → house ≡ best_house p
@@ -40,21 +48,12 @@ best_told p margin house going is =
     is ∙ ap (λ b. if b then Over (final_margin p) else Best (worth p) (best_house p)) going in
     cc
 
--- the best house is legal
-pub best_is_legal : (p : Position) (house : ℕ) → HasEqualSides p → is_over p ≡ false → house ≡ best_house p
-    → Contains (legal_houses p) house
-best_is_legal p house even going best = rw best (best_is_strategy.moves p even going)
-
 -- the position after a step, in each case
 pub after_step : (s : Step) (p : Position) → (s ≡ step.Again p) ⊎ ((s ≡ step.Turn p) ⊎ (s ≡ step.Over p))
     → p ≡ position_after s
 after_step s p (inl again) = sym (ap position_after again)
 after_step s p (inr (inl turn)) = sym (ap position_after turn)
 after_step s p (inr (inr over)) = sym (ap position_after over)
-
-pub after_going : (s : Step) (p : Position) → (s ≡ step.Again p) ⊎ (s ≡ step.Turn p) → p ≡ position_after s
-after_going s p (inl again) = sym (ap position_after again)
-after_going s p (inr turn) = sym (ap position_after turn)
 
 -- the position after any move has as many houses on each side
 even_after : (p : Position) (h : ℕ) → HasEqualSides (position_after (step_of p h))
@@ -68,13 +67,19 @@ even_after p h = go (is_over (after p h)) (is_again p h)
 
 -- ---- a move more in front
 
--- after a move that does not end the game, fewer moves are left
-pub fewer_left : (p q : Position) (h : ℕ) (s : Step) → IsFirst p h s → (s ≡ step.Again q) ⊎ (s ≡ step.Turn q)
-    → moves_left q < moves_left p
-fewer_left p q h s first (inl again) =
-    again_fewer p h q first.even (best_is_legal p h first.even first.going first.best) (sym again ∙ first.step)
-fewer_left p q h s first (inr turn) =
-    turn_fewer p h q first.even (best_is_legal p h first.even first.going first.best) (sym turn ∙ first.step)
+-- a move that ends the game leaves none
+none_after : (p : Position) (h : ℕ) (e : Position) → step.Over e ≡ step_of p h → moves_left e ≡ 0
+none_after p h e is = grind (arith, sum-zeros, row_distance_le)
+
+-- if the game goes on, one is left
+some_left : (p : Position) → is_over p ≡ false → 0 < moves_left p
+some_left p going = grind (arith, over_at_end)
+
+-- after a move fewer are left
+pub fewer_left : {p : Position} {h : ℕ} (s : Step) → IsFirst p h s → moves_left (position_after s) < moves_left p
+fewer_left {p} {h} (step.Again q) first = again_fewer p h q first.even (first_is_legal first) first.step
+fewer_left {p} {h} (step.Turn q) first = turn_fewer p h q first.even (first_is_legal first) first.step
+fewer_left {p} {h} (step.Over q) first = omega (arith, none_after p h q first.step, some_left p first.going)
 
 -- the policy of a strategy has its house
 followed_best : (p : Position) (h : ℕ) → h ≡ best_house p → Contains (follow best_house p) h
@@ -126,15 +131,8 @@ module _ (p : Position) (even : HasEqualSides p) (going : is_over p ≡ false) w
   even_next : (s : Step) → s ≡ step_of p (best_house p) → HasEqualSides (position_after s)
   even_next s is = subst (λ x. HasEqualSides (position_after x)) (sym is) (even_after p (best_house p))
 
-  -- what holds of all positions with fewer moves left, and of those that are over, holds of the next one
-  next_holds : (Holds : Position → Type 0) (s : Step) → s ≡ step_of p (best_house p)
-      → ((q : Position) → HasEqualSides q → moves_left q < moves_left p → Holds q)
-      → ((q : Position) → is_over q ≡ true → Holds q) → Holds (position_after s)
-  next_holds Holds (step.Again q) is fewer over =
-      fewer q (even_next (step.Again q) is) (fewer_left p q (best_house p) (step.Again q) (first_step (step.Again q) is) (inl refl))
-  next_holds Holds (step.Turn q) is fewer over =
-      fewer q (even_next (step.Turn q) is) (fewer_left p q (best_house p) (step.Turn q) (first_step (step.Turn q) is) (inr refl))
-  next_holds Holds (step.Over q) is fewer over = over q (over_ends p (best_house p) q is)
+  fewer_next : moves_left (position_after (step_of p (best_house p))) < moves_left p
+  fewer_next = fewer_left _ (first_step _ refl)
 
 -- more moves than are left make no difference
 same_moves : (n m : ℕ) (p : Position) → HasEqualSides p → moves_left p ≤ n → moves_left p ≤ m → best_moves n p ≡ best_moves m p
@@ -147,9 +145,8 @@ same_moves (suc n) zero p even low high =
 same_moves (suc n) (suc m) p even low high = elim (cases_Bool (is_over p)) [
   | inl over ↦ none_left (suc n) p over ∙ sym (none_left (suc m) p over)
   | inr going ↦
-      let next = next_holds p even going (λ q. best_moves n q ≡ best_moves m q) (step_of p (best_house p)) refl
-      (λ q even_q fewer. same_moves n m q even_q (omega (arith, low, fewer)) (omega (arith, high, fewer)))
-      (λ q over. none_left n q over ∙ sym (none_left m q over)) in
+      let fewer = fewer_next p even going in
+      let next = same_moves n m _ (even_next p even going _ refl) (omega (arith, low, fewer)) (omega (arith, high, fewer)) in
       one_left n p going ∙ ap (λ moves. best_house p ∷ moves) next ∙ sym (one_left m p going)
 ]
 
@@ -157,20 +154,10 @@ same_moves (suc n) (suc m) p even low high = elim (cases_Bool (is_over p)) [
 game_goes_on : (p : Position) → HasEqualSides p → is_over p ≡ false
     → best_game p ≡ best_house p ∷ best_game (position_after (step_of p (best_house p)))
 game_goes_on p even going =
-    let some : 0 < moves_left p = elim (moves_or_none (moves_left p)) [
-      | inl none ↦ absurd (let both : true ≡ false = sym (over_at_end p none) ∙ going in cc)
-      | inr some ↦ some
-    ] in
     let n = moves_left p - 1 in
-    let more : moves_left p ≡ suc n = omega (arith, some) in
-    let next = next_holds p even going (λ q. best_moves n q ≡ best_game q) (step_of p (best_house p)) refl
-    (λ q even_q fewer. same_moves n (moves_left q) q even_q (omega (arith, fewer)) (omega arith))
-    (λ q over. none_left n q over ∙ sym (none_left (moves_left q) q over)) in
+    let more : moves_left p ≡ suc n = omega (arith, some_left p going) in
+    let next = same_moves n _ _ (even_next p even going _ refl) (omega (arith, fewer_next p even going)) (omega arith) in
     ap (λ k. best_moves k p) more ∙ one_left n p going ∙ ap (λ moves. best_house p ∷ moves) next
-  where
-    moves_or_none : (n : ℕ) → (n ≡ 0) ⊎ (0 < n)
-    moves_or_none zero = inl refl
-    moves_or_none (suc n) = inr (omega arith)
 
 -- and so are their lines
 pub lines_go_on : (boards : Bool) {p : Position} {h : ℕ} {s : Step} → IsFirst p h s → game_lines boards p (best_game p)
@@ -207,11 +194,11 @@ is_game (suc n) p even low = elim (cases_Bool (is_over p)) [
         → (final : Position) × BestGame p (best_house p ∷ best_moves n (position_after s)) final
     begins_game p n even going (step.Again q) is rest =
         let first = first_step p even going (step.Again q) is in
-        let game = rest q (even_next p even going (step.Again q) is) (fewer_left p q (best_house p) (step.Again q) first (inl refl)) in
+        let game = rest q (even_next p even going (step.Again q) is) (fewer_left (step.Again q) first) in
         next_game p q (best_house p) (step.Again q) (best_moves n q) game.0 first (inl refl) game.1
     begins_game p n even going (step.Turn q) is rest =
         let first = first_step p even going (step.Turn q) is in
-        let game = rest q (even_next p even going (step.Turn q) is) (fewer_left p q (best_house p) (step.Turn q) first (inr refl)) in
+        let game = rest q (even_next p even going (step.Turn q) is) (fewer_left (step.Turn q) first) in
         next_game p q (best_house p) (step.Turn q) (best_moves n q) game.0 first (inr refl) game.1
     begins_game p n even going (step.Over q) is rest =
         let game = over_game p q (best_house p) (step.Over q) (first_step p even going (step.Over q) is) refl in (
@@ -226,3 +213,29 @@ plays_best p even =
     let keeps = strategy_keeps best_house best_is_strategy in
     let bounded = bounds keeps keeps even game.1 in
     (game.0, record { game = game.1; margin = omega (ints, arith, bounded.low best_plays, bounded.high best_plays) })
+
+-- ---- the positions that are shown
+
+module _ {O : Type 0} (written : O → Option (List ℕ)) (has_failed : O → Bool) where
+  -- the first one, once it was given
+  pub shown_first : {game : Begun O} {boards : Bool} {p : Position} {old new : O}
+      → game ≡ record { boards = boards; first = p; sink = old } → WasGiven written has_failed old new (board_lines boards p)
+      → IsShown written has_failed game new p
+  shown_first {p = p} {new = new} begun given = subst (λ game. IsShown written has_failed game new p) (sym begun) (begins given)
+
+  module _ {game : Begun O} {p : Position} {between new : O} (shown : IsShown written has_failed game between p) where
+    -- one that was shown, after a flush
+    pub shown_flushed : WasGiven written has_failed between new [] → IsShown written has_failed game new p
+    shown_flushed flushed = by shown flushed where
+      by : {q : Position} {o : O} → IsShown written has_failed game o q → WasGiven written has_failed o new []
+          → IsShown written has_failed game new q
+      by (begins given) flushed = begins (given_flushed written has_failed _ _ _ _ given flushed)
+      by (moves o q h shown given) flushed = moves o q h shown (given_flushed written has_failed _ _ _ _ given flushed)
+
+    -- the next one, once its move was given
+    pub shown_next : {now : Begun O} {boards : Bool} {s : Step} {q : Position} (h : ℕ) → game.boards ≡ boards → s ≡ step_of p h
+        → q ≡ position_after s → now ≡ game → WasGiven written has_failed between new (move_lines boards h s)
+        → IsShown written has_failed now new q
+    shown_next {boards = boards} {s = s} h drawn step next same given = rw (same, next, step)
+        (moves between p h shown (subst (λ b. WasGiven written has_failed between new (move_lines b h (step_of p h))) (sym drawn)
+        (subst (λ s. WasGiven written has_failed between new (move_lines boards h s)) step given)))

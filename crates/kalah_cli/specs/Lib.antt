@@ -5,6 +5,7 @@ pub mod Failure
 pub mod Ends
 pub mod Moves
 pub mod Play
+pub mod Solver
 pub mod Line
 pub mod Count
 pub mod SolveFiles

@@ -3,21 +3,23 @@ ghost use Rattle.std.specs.Prelude.{◌≡◌, IfNone, IfSome, MatchResult, OnOk
 ghost use Rattle.kalah_run.specs.Limits.{IsTableSize};
 ghost use Rattle.kalah_cli.specs.Ends.{IsPrinted};
 ghost use Rattle.kalah_cli.specs.Play.{MayBegin, best_game, game_lines, play_output};
+ghost use Rattle.kalah_cli.specs.Solver.{IsShown, begun};
 
 use crate::failure::Failure;
 use crate::moves::{write_board, write_move};
-use crate::solver::new_solver;
-use kalah_jobs::{PromptSolver, Sink, flush_unless_failed};
+use crate::solver::GameSolver;
+use kalah_jobs::{Sink, flush_unless_failed};
 use kalah_rules::{Board, Step};
 use kalah_solve::Verdict;
 use std::alloc::Global;
 
 // Writes the moves of the game of best play from a board on, each as soon as it is found. If the output has failed, none is sought.
 #[cycle(game)]
-fn write_game<O: Sink>(solver: &mut PromptSolver<'_>, board: &Board, boards: bool, out: &mut O)
+fn write_game<O: Sink>(solver: &mut GameSolver<O>, board: &Board, boards: bool, out: &mut O)
+    requires boards { solver.old.boards ≡ boards }
+    requires shown { IsShown O.written O.has_failed (begun solver.old) out.old board.now }
     ensures { IsPrinted O.written O.has_failed O.is_handed_on out.old out.new (game_lines boards board.now (best_game board.now)) }
 {
-    let _side = board.m(); // For its clause: the board is within the limits.
     flush_unless_failed(out);
     if out.failed() {
         return;
@@ -29,23 +31,24 @@ fn write_game<O: Sink>(solver: &mut PromptSolver<'_>, board: &Board, boards: boo
     let step = board.apply(house);
     write_move(house, &step, boards, out);
     match step {
-        Step::Again(next) | Step::Turn(next) => write_game(solver, &next, boards, out),
-        Step::Over(_) => flush_unless_failed(out),
+        Step::Again(next) | Step::Turn(next) | Step::Over(next) => {
+            write_game(solver, &next, boards, out);
+        }
     }
 }
 
 // Writes the game of best play from a board on, or after the move of the first house, below the board if boards are drawn.
 fn play<O: Sink>(
-    solver: &mut PromptSolver<'_>,
+    solver: &mut GameSolver<O>,
     board: &Board,
     first: Option<u8>,
     boards: bool,
     out: &mut O,
 )
-    requires { MayBegin first board.now }
+    requires begins { MayBegin first board.now }
+    requires begun { begun solver.old ≡ record { boards = boards; first = board.now; sink = out.old } }
     ensures { IsPrinted O.written O.has_failed O.is_handed_on out.old out.new (play_output first boards board.now) }
 {
-    let _side = board.m(); // For its clause: the board is within the limits.
     write_board(board, boards, out);
     let Some(h) = first else {
         return write_game(solver, board, boards, out);
@@ -90,15 +93,9 @@ pub(crate) fn run_play<O: Sink>(
     if let Some(h) = unmoved_house(board, first) {
         return Err(Failure::Unmoved(h));
     }
-    let Ok(mut solver) = new_solver(alloc, table) else {
+    let Ok(mut solver) = GameSolver::new(alloc, table, board, boards, out) else {
         return Err(Failure::OutOfMemory);
     };
-    play(
-        &mut PromptSolver::new(&mut solver),
-        board,
-        first,
-        boards,
-        out,
-    );
+    play(&mut solver, board, first, boards, out);
     Ok(())
 }

@@ -7,8 +7,8 @@ ghost use Rattle.kalah_cli.specs.Ends.{IsPrinted};
 ghost use Rattle.kalah_cli.specs.Line.{show_output};
 
 use crate::failure::Failure;
-use crate::solver::new_solver;
-use kalah_jobs::{PromptSolver, Sink, flush_unless_failed, write_picture, write_values};
+use crate::solver::GameSolver;
+use kalah_jobs::{Sink, flush_unless_failed, write_picture, write_values};
 use kalah_rules::Board;
 use std::alloc::Global;
 
@@ -23,7 +23,8 @@ fn write_plain<O: Sink>(board: &Board, out: &mut O)
 
 // Draws a board, which is flushed before the search begins, and writes below it what each move is worth. If the output has failed,
 // nothing is searched.
-fn write_shown<O: Sink>(solver: &mut PromptSolver<'_>, board: &Board, out: &mut O)
+fn write_shown<O: Sink>(solver: &mut GameSolver<O>, board: &Board, out: &mut O)
+    requires { solver.old.sink.value ≡ out.old }
     ensures { IsPrinted O.written O.has_failed O.is_handed_on out.old out.new (shown_of board.now) }
 {
     write_plain(board, out);
@@ -55,9 +56,9 @@ pub(crate) fn run_show<O: Sink>(
         write_plain(board, out);
         return Ok(());
     }
-    let Ok(mut solver) = new_solver(alloc, table) else {
+    let Ok(mut solver) = GameSolver::new(alloc, table, board, true, out) else {
         return Err(Failure::OutOfMemory);
     };
-    write_shown(&mut PromptSolver::new(&mut solver), board, out);
+    write_shown(&mut solver, board, out);
     Ok(())
 }

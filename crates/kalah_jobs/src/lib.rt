@@ -13,7 +13,6 @@ mod writing;
 pub use asking::answer_lines::answer_lines;
 pub use asking::ask_fault::AskFault;
 pub use asking::laws::answers_are_those_of_a_file;
-pub use asking::prompt_solver::PromptSolver;
 pub use collecting::collector::Collector;
 pub use collecting::laws::{
     accepts_each_job_once, answers_in_one_way, gets_each_job_once, keeps_its_law,

@@ -1,7 +1,5 @@
-//! A solver for callers who show what they have before they search.
+//! A solver that is asked for the answer to a line once earlier answers are flushed, if that may take a while.
 ghost use Rattle.std.specs.Prelude.{◌≡◌, ◌↔◌, true};
-ghost use Rattle.kalah_solve.specs.Solver.MoveValues.{values_of};
-ghost use Rattle.kalah_solve.specs.Solver.Verdict.{TellsBestPlay, verdict_of};
 ghost use Rattle.kalah_jobs.specs.Asking.Asked.{TakesLong};
 ghost use Rattle.kalah_jobs.specs.Writing.Answer.{answer_of};
 
@@ -9,15 +7,14 @@ use crate::collecting::outcome::answer_to;
 use crate::files::entry::Entry;
 use crate::writing::answer::Answer;
 use crate::writing::sink::Sink;
-use kalah_rules::Board;
-use kalah_solve::{MoveValues, Solver, Verdict};
+use kalah_solve::Solver;
 
 // The most seeds in houses of a position that is solved before earlier answers are flushed.
 const QUICK_SEEDS: u8 = 9;
 
-/// Solves positions once all that was written to a sink is flushed. There is no other way to its solver.
+/// Answers lines once all that was written to a sink is flushed, if an answer may take a while. There is no other way to its solver.
 #[derive(Drop)]
-pub struct PromptSolver<'a> {
+pub(crate) struct PromptSolver<'a> {
     solver: &'a mut Solver,
 }
 
@@ -32,26 +29,9 @@ pub(crate) fn takes_long(entry: &Entry) -> bool
 }
 
 impl<'a> PromptSolver<'a> {
-    /// Makes a prompt solver of a solver, which keeps what it has learned.
-    pub fn new(solver: &'a mut Solver) -> PromptSolver<'a> {
+    // Makes a prompt solver of a solver, which keeps what it has learned.
+    pub(crate) fn new(solver: &'a mut Solver) -> PromptSolver<'a> {
         PromptSolver { solver }
-    }
-
-    /// Finds the best move of a board, as `Solver::solve` does.
-    pub fn solve<O: Sink>(&mut self, board: &Board, _out: &O) -> Verdict
-        requires handed_on { O.is_handed_on _out.now ≡ true }
-        ensures verdict { result ≡ verdict_of board.now }
-        ensures best_play { TellsBestPlay board.now result }
-    {
-        self.solver.solve(board)
-    }
-
-    /// Finds what each move of a board is worth, as `Solver::values` does.
-    pub fn values<O: Sink>(&mut self, board: &Board, _out: &O) -> MoveValues
-        requires handed_on { O.is_handed_on _out.now ≡ true }
-        ensures { result ≡ values_of board.now }
-    {
-        self.solver.values(board)
     }
 
     // Finds the answer to what a line asks. Only if that may take a while is all flushed.

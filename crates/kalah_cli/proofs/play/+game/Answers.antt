@@ -1,16 +1,17 @@
-use Rattle.std.proofs.Common.{◌≡◌, ◌∙◌, [], ◌++◌, ℕ, true, ap, arith, subst, sym}
+use Rattle.std.proofs.Common.{◌<◌, ◌≡◌, ◌∙◌, [], ◌++◌, ℕ, ap, arith, subst, sym}
 use Rattle.std.specs.Prelude.{ℤ}
-use Rattle.kalah_rules.specs.Play.{position_after, step_of}
-use Rattle.kalah_rules.specs.Position.{IsWithinLimits, Position, is_over}
+use Rattle.kalah_rules.specs.Measure.{moves_left}
+use Rattle.kalah_rules.specs.Play.{step_of}
+use Rattle.kalah_rules.specs.Position.{IsWithinLimits, Position}
 use Rattle.kalah_rules.specs.declared.step.Step.{Step}
 use Rattle.kalah_solve.specs.Solver.Verdict.{TellsBestMove, verdict_of}
 use Rattle.kalah_solve.specs.declared.solver.Verdict.TheVariants.{Best}
-use Rattle.kalah_solve.proofs.WorthLemmas.{board_equal_sides, over_ends}
+use Rattle.kalah_solve.proofs.WorthLemmas.{board_equal_sides}
 use Rattle.kalah_jobs.specs.Writing.Given.{WasGiven}
 use Rattle.kalah_jobs.proofs.WritingLemmas.{given_after, given_cut_off, given_then}
 use Rattle.kalah_cli.specs.Moves.{move_lines}
 use Rattle.kalah_cli.specs.Play.{best_game, game_lines}
-use Rattle.kalah_cli.proofs.GameLemmas.{IsFirst, after_going, best_is_legal, best_told, fewer_left, lines_go_on, no_lines}
+use Rattle.kalah_cli.proofs.GameLemmas.{IsFirst, after_step, best_told, fewer_left, lines_go_on, no_lines, shown_flushed, shown_next}
 use Rattle.kalah_cli.proofs.play.+game.Goals as goal
 
 -- the solver's best move is the first move of the game
@@ -33,43 +34,38 @@ returns-in-Over g t c = record {
   handed_on = c.flush_unless_failed.ensures.handed_on;
 }
 
+pub solve-requires-clause-shown : goal.solve-requires-clause-shown
+solve-requires-clause-shown g t c = shown_flushed _ _ c.requires.shown c.flush_unless_failed.ensures.given
+
 pub apply-step-requires : goal.apply-step-requires
-apply-step-requires g t c =
-    let told = c.in-Best.ensures.best_play in
-    best_is_legal c.args.board.now c.in-Best.house (board_equal_sides c.args.board.now c.m-side.ensures.limits) told.going
-    (best_told c.args.board.now c.in-Best.margin c.in-Best.house told.going c.in-Best.ensures.verdict)
+apply-step-requires g t c = c.in-Best.ensures.best_play.best.legal
 
 pub write_game-requires : goal.write_game-requires
 write_game-requires g t c κs within =
-    let first = first_of c.m-side.ensures.limits c.in-Best.ensures.best_play c.in-Best.ensures.verdict c.apply-step.ensures.step in (
-      omega (arith, fewer_left c.args.board.now c.in-Again.next c.in-Best.house c.apply-step.result first c.in-Again.is),
-      within,
+    let first = first_of c.apply-step.ensures.limits c.in-Best.ensures.best_play c.in-Best.ensures.verdict c.apply-step.ensures.step in
+    let next = after_step c.apply-step.result c.in-Again.next c.in-Again.is in
+    let fewer : moves_left c.in-Again.next < moves_left c.args.board.now =
+    subst (λ q. moves_left q < moves_left c.args.board.now) (sym next) (fewer_left c.apply-step.result first) in (
+      omega (arith, fewer),
+      (
+        within,
+        (
+          ap (λ game. game.boards) c.solve.ensures.begun ∙ c.requires.boards,
+          shown_next _ _ (shown_flushed _ _ c.requires.shown c.flush_unless_failed.ensures.given) c.in-Best.house c.requires.boards
+              c.apply-step.ensures.step next c.solve.ensures.begun c.write_move.ensures,
+        ),
+      ),
     )
 
-pub returns-in-Again : goal.returns-in-Again
-returns-in-Again g t c =
-    let first = first_of c.m-side.ensures.limits c.in-Best.ensures.best_play c.in-Best.ensures.verdict c.apply-step.ensures.step in
+pub returns : goal.returns
+returns g t c =
+    let first = first_of c.apply-step.ensures.limits c.in-Best.ensures.best_play c.in-Best.ensures.verdict c.apply-step.ensures.step in
     let lines = move_lines c.args.boards c.in-Best.house c.apply-step.result in
-    let next = after_going c.apply-step.result c.in-Again.next c.in-Again.is in
+    let next = after_step c.apply-step.result c.in-Again.next c.in-Again.is in
     record {
       given = subst (WasGiven g.O.Sink.written g.O.Sink.has_failed c.args.out.now c.write_game.new.out)
           (ap (λ q. lines ++ game_lines c.args.boards q (best_game q)) next ∙ sym (lines_go_on c.args.boards first))
           (given_after _ _ _ _ _ _ c.flush_unless_failed.ensures.given
           (given_then _ _ _ _ _ lines _ c.write_move.ensures c.write_game.ensures.given));
       handed_on = c.write_game.ensures.handed_on;
-    }
-
-pub returns-in-Over-step : goal.returns-in-Over-step
-returns-in-Over-step g t c =
-    let first = first_of c.m-side.ensures.limits c.in-Best.ensures.best_play c.in-Best.ensures.verdict c.apply-step.ensures.step in
-    let lines = move_lines c.args.boards c.in-Best.house c.apply-step.result in
-    let end = position_after c.apply-step.result in
-    let over = subst (λ q. is_over q ≡ true) (sym (ap position_after c.in-Over-step.is))
-    (over_ends c.args.board.now c.in-Best.house _ (sym c.in-Over-step.is ∙ c.apply-step.ensures.step)) in
-    record {
-      given = subst (WasGiven g.O.Sink.written g.O.Sink.has_failed c.args.out.now c.flush_unless_failed-in-Over-step.new.out)
-          (ap (λ rest. lines ++ rest) (sym (no_lines c.args.boards end over)) ∙ sym (lines_go_on c.args.boards first))
-          (given_after _ _ _ _ _ _ c.flush_unless_failed.ensures.given
-          (given_then _ _ _ _ _ lines [] c.write_move.ensures c.flush_unless_failed-in-Over-step.ensures.given));
-      handed_on = c.flush_unless_failed-in-Over-step.ensures.handed_on;
     }

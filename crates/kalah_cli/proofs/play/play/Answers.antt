@@ -1,12 +1,20 @@
-use Rattle.std.proofs.Common.{◌++◌, ◌∙◌, ap, subst, sym}
+use Rattle.std.proofs.Common.{◌++◌, ◌∙◌, ap, refl, subst, sym}
 use Rattle.kalah_rules.specs.Play.{position_after}
 use Rattle.kalah_jobs.specs.Writing.Given.{WasGiven}
 use Rattle.kalah_jobs.proofs.WritingLemmas.{given_then}
 use Rattle.kalah_cli.specs.Ends.{IsPrinted}
 use Rattle.kalah_cli.specs.Moves.{board_lines, move_lines}
 use Rattle.kalah_cli.specs.Play.{best_game, game_lines, play_output}
-use Rattle.kalah_cli.proofs.GameLemmas.{after_step}
+use Rattle.kalah_cli.proofs.GameLemmas.{after_step, shown_first, shown_next}
 use Rattle.kalah_cli.proofs.play.play.Goals as goal
+
+pub write_game-requires-clause-shown : goal.write_game-requires-clause-shown
+write_game-requires-clause-shown g c = shown_first _ _ c.requires.begun c.write_board.ensures
+
+pub write_game-requires-in-Again-clause-shown : goal.write_game-requires-in-Again-clause-shown
+write_game-requires-in-Again-clause-shown g c =
+    shown_next _ _ (shown_first _ _ c.requires.begun c.write_board.ensures) c.in-Some.h (ap (λ game. game.boards) c.requires.begun)
+    c.apply-step.ensures.step (after_step c.apply-step.result c.in-Again.next c.in-Again.is) refl c.write_move.ensures
 
 pub returns-in_default : goal.returns-in_default
 returns-in_default g c =
