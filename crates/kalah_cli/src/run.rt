@@ -82,6 +82,7 @@ fn run_request<'a, R: Files + Input + Clock + Terminal + Threads + Wait + Sync, 
     rt: &R,
     alloc: Global,
     request: &Request<'a>,
+    with_tips: bool,
     out: &mut O,
     err: &mut E,
 ) -> Result<ExitStatus, Failure<'a>>
@@ -90,14 +91,7 @@ fn run_request<'a, R: Files + Input + Clock + Terminal + Threads + Wait + Sync, 
     ensures { Does O.written O.has_failed O.is_handed_on out.old out.new (ended_by result) (request_asks request.now) }
 {
     match request {
-        Request::Line { line, command } => run_line(
-            alloc,
-            line,
-            command,
-            rt.shows_errors(),
-            out,
-            err,
-        ),
+        Request::Line { line, command } => run_line(alloc, line, command, with_tips, out, err),
         Request::Files(files) => run_files(rt, alloc, files, out, err),
         Request::Ask { question, table } => {
             run_ask(
@@ -153,13 +147,13 @@ pub fn run_words<R: Files + Input + Clock + Terminal + Threads + Wait + Sync, O:
 {
     let with_tips = rt.shows_errors();
     match parse(alloc, words.as_slice()) {
-        Ok(request) => report_end(run_request(rt, alloc, &request, out, err), with_tips, err),
+        Ok(request) => {
+            let ended = run_request(rt, alloc, &request, with_tips, out, err);
+            report_end(ended, with_tips, err)
+        }
         Err(error) => {
-            report_end(
-                refuse(alloc, words.as_slice(), &error, with_tips, out, err),
-                with_tips,
-                err,
-            )
+            let ended = refuse(alloc, words.as_slice(), &error, with_tips, out, err);
+            report_end(ended, with_tips, err)
         }
     }
 }

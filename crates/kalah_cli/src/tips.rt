@@ -103,14 +103,14 @@ const ARGUMENTS: &[(&str, &str, &str)] = &[
     ),
 ];
 
-// Returns the tip for arguments that the command line refuses with this text, if there is one.
-fn tip_for_arguments(text: &str) -> Option<&'static str> {
+// Returns the tip for arguments that the command line refuses with this text. If there is none, it is empty.
+fn tip_for_arguments(text: &str) -> &'static str {
     for (one, other, tip) in ARGUMENTS {
         if text.contains(*one) && text.contains(*other) {
-            return Some(*tip);
+            return *tip;
         }
     }
-    None
+    ""
 }
 
 // The subcommands that have one argument LINE.
@@ -131,11 +131,10 @@ fn has_parts(words: &[String]) -> bool {
 /// Writes, after arguments that are refused with this text, that a position needs quotes if they lack them, or else a tip if tips are
 /// shown.
 pub(crate) fn advise<E: Write>(words: &[String], text: &str, with_tips: bool, err: &mut E) {
-    let subcommand = match words.get(1) {
-        Some(word) => word.as_str(),
-        None => return,
+    let [_, subcommand, ..] = words else {
+        return;
     };
-    if WITH_LINE.contains(&subcommand) && has_parts(words) {
+    if WITH_LINE.contains(&subcommand.as_str()) && has_parts(words) {
         let _ = err.write_all(help::QUOTES);
     } else if with_tips {
         if read_line(subcommand.as_bytes()).is_ok() {
@@ -143,8 +142,8 @@ pub(crate) fn advise<E: Write>(words: &[String], text: &str, with_tips: bool, er
                 err,
                 "\n  tip: for a position, use `kalah show '{subcommand}'`, or `kalah ask`"
             );
-        } else if let Some(tip) = tip_for_arguments(text) {
-            let _ = err.write_all(tip.as_bytes());
+        } else {
+            let _ = err.write_all(tip_for_arguments(text).as_bytes());
         }
     }
 }
