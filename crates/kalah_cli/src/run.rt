@@ -145,7 +145,7 @@ pub fn run_words<R: Files + Input + Clock + Terminal + Threads + Wait + Sync, O:
     // If it did not, all that was written is flushed.
     ensures handed_on { result ≢ ExitStatus.Failed → O.is_handed_on out.old ≡ true → O.is_handed_on out.new ≡ true }
 {
-    let with_tips = rt.shows_errors();
+    let with_tips = rt.shows_errors(); // Tips go only to a terminal.
     match parse(alloc, words.as_slice()) {
         Ok(request) => {
             let ended = run_request(rt, alloc, &request, with_tips, out, err);

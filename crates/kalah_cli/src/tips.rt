@@ -1,4 +1,4 @@
-//! The tips that follow a refusal if standard error is a terminal.
+//! Why a line can't be read, and the tips that follow a refusal if standard error is a terminal.
 use crate::failure::Failure;
 use crate::files::ReadFault;
 use crate::help;
